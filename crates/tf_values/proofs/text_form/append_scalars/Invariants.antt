@@ -1,0 +1,7 @@
+use Rattle.std.proofs.Common.{◌≡◌, ◌++◌, take}
+use Rattle.std.specs.List.{flat_map}
+use Rattle.tf_values.specs.TextForm.{further_text}
+use Rattle.tf_values.proofs.text_form.append_scalars.Given as goal
+
+abbrev pub invariant-loop-scalar : goal.invariant-loop-scalar
+invariant-loop-scalar l = l.out.items ≡ l.initial.out.items ++ flat_map further_text (take l.scalar-index l.others)

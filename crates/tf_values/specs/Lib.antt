@@ -1,0 +1,6 @@
+pub mod Name
+pub mod Text
+pub mod ByteForm
+pub mod Scalars
+pub mod TextForm
+pub mod Growth

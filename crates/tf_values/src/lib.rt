@@ -1,0 +1,15 @@
+//! Names, texts and values, with their text form and their byte form.
+#![tactic(auto)]
+
+mod elements;
+mod faults;
+mod identifier;
+mod text_form;
+mod utf8;
+mod value;
+
+pub use elements::{Scalar, Scalars};
+pub use faults::{MakeFault, Memory};
+pub use identifier::{Name, Names};
+pub use utf8::{Text, Texts};
+pub use value::Val;
