@@ -1,0 +1,10 @@
+//! The ports: what a run asks of the outside beside its desk.
+#![tactic(auto)]
+
+mod folder;
+mod memory;
+mod reading;
+
+pub use folder::Folder;
+pub use memory::{MemorySource, MemorySources};
+pub use reading::{SourceFault, Sources};
