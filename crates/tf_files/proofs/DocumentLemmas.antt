@@ -1,0 +1,16 @@
+-- When bytes are a document.
+use Rattle.std.proofs.Common.{◌≡◌, ℕ, List, Bool, true, false, None, refl}
+use Rattle.std.proofs.lemmas.Str.{IsUtf8-from_is_utf8, is_utf8-from_IsUtf8}
+use Rattle.std.specs.Str.{IsUtf8, is_utf8}
+use Rattle.toml.specs.Parse.{parse_document}
+use Rattle.tf_files.specs.Document.{document_of}
+
+pub utf8_document : (bytes : List ℕ) → IsUtf8 bytes → document_of bytes ≡ parse_document bytes
+utf8_document bytes utf8 = rw (is_utf8-from_IsUtf8 bytes utf8)
+
+not_true : (b : Bool) → ¬ (b ≡ true) → b ≡ false
+not_true true refuted = absurd (refuted refl)
+not_true false _ = refl
+
+pub other_document : (bytes : List ℕ) → ¬ (IsUtf8 bytes) → document_of bytes ≡ None
+other_document bytes refuted = rw (not_true (is_utf8 bytes) (λ is. refuted (IsUtf8-from_is_utf8 bytes is)))
