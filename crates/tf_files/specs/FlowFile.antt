@@ -1,5 +1,5 @@
 -- The plan that a flow file spells, or the first reason why it spells none.
-use Rattle.std.specs.Prelude.{◌≡◌, ℕ, List, [], ◌∷◌, codes, Option, Some, None, option_map, option_and_then, if◌then◌else◌, ◌==◌, ◌&&◌, Bool, false, Result, Ok, Err}
+use Rattle.std.specs.Prelude.{◌≡◌, ℕ, List, [], ◌∷◌, codes, Option, Some, None, option_map, option_and_then, if◌then◌else◌, ◌==◌, ◌&&◌, Bool, true, false, Result, Ok, Err}
 use Rattle.std.specs.Cmp.Lexicographic.{pointwise}
 use Rattle.tf_values.specs.Name.{is_name}
 use Rattle.tf_values.specs.Text.{is_text}
@@ -47,7 +47,10 @@ inject_form (Some found) = option_map (λ bind. bind ∷ []) (bind_form found)
 
 -- the kind of task that a word is
 abbrev pub kind_form : List ℕ → Option TaskKind
-kind_form word = if pointwise ◌==◌ word (codes "echo") then Some kind.Echo else None
+kind_form word =
+    if pointwise ◌==◌ word (codes "echo") then Some kind.Echo
+    else if pointwise ◌==◌ word (codes "fail") then Some kind.Fail
+    else None
 
 -- the keys of a task and of a flow
 abbrev pub task_keys : List (List ℕ)
@@ -116,6 +119,11 @@ documented (Some members) = planned (flow_form members)
 -- TOML, they are of another form, or the flow breaks a rule of plans
 abbrev pub flow_of : List ℕ → Result PlanValue FileFault
 flow_of bytes = documented (document_of bytes)
+
+-- the fault is want of memory
+abbrev pub is_memory : FileFault → Bool
+is_memory fault.Memory = true
+is_memory _ = false
 
 -- the fault is the reason why the bytes spell no plan, or want of memory
 abbrev pub Refuses : Result PlanValue FileFault → FileFault → Type 0

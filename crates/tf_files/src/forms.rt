@@ -116,10 +116,10 @@ fn kind_at(table: &Table) -> Option<TaskKind>
 fn kind_form(word: &str) -> Option<TaskKind>
     ensures { result ≡ kind_of word.now }
 {
-    if word == "echo" {
-        Some(TaskKind::Echo)
-    } else {
-        None
+    match word {
+        "echo" => Some(TaskKind::Echo),
+        "fail" => Some(TaskKind::Fail),
+        _ => None,
     }
 }
 

@@ -18,6 +18,20 @@ pub enum FileFault {
     Memory,
 }
 
+impl FileFault {
+    ghost use Rattle.tf_files.specs.FlowFile.{is_memory as is_want_of_memory};
+
+    /// Whether memory ran out.
+    pub fn is_memory(&self) -> bool
+        ensures { result ≡ is_want_of_memory self.now }
+    {
+        match self {
+            FileFault::Memory => true,
+            FileFault::NotBuilt | FileFault::NotToml | FileFault::Plan(_) => false,
+        }
+    }
+}
+
 /// The plan that the bytes of a flow file spell, or the first reason why they spell none.
 pub fn read_flow(alloc: Global, bytes: &[u8]) -> Result<Plan, FileFault>
     ensures ok { IfOk result (λ plan. flow_of bytes.now ≡ Ok plan) }

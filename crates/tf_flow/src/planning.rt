@@ -1,7 +1,7 @@
-ghost use Rattle.std.specs.Prelude.{◌≡◌, ◌==◌, IfOk, IfErr, map, Some, None};
+ghost use Rattle.std.specs.Prelude.{◌≡◌, ◌<◌, ◌≤◌, ◌==◌, IfOk, IfErr, length, map, Some, None};
 ghost use Rattle.std.specs.List.{list_any};
 ghost use Rattle.std.specs.Cmp.Lexicographic.{pointwise};
-ghost use Rattle.tf_flow.specs.Plan.{first_fault, item_name, names_of};
+ghost use Rattle.tf_flow.specs.Plan.{first_fault, item_name, names_of, tasks_of};
 ghost use Rattle.tf_flow.specs.Names.{first_repeat};
 
 use crate::pattern::{Flow, Item};
@@ -71,6 +71,15 @@ impl Plan {
         ensures accepted { first_fault self.now.root ≡ None }
     {
         &self.root
+    }
+
+    /// How many atoms the plan has.
+    pub fn atoms(&self) -> u16
+        ensures count { result ≡ length (tasks_of self.now.root) }
+        ensures some { 0 < result }
+        ensures limit { result ≤ ATOM_LIMIT }
+    {
+        self.root.items.items().len() as u16
     }
 }
 

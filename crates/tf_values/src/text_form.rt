@@ -6,6 +6,7 @@ ghost use Rattle.tf_values.specs.Growth.{KeepsFront};
 
 use crate::elements::Scalar;
 use crate::faults::Memory;
+use crate::utf8::Text;
 use crate::value::Val;
 use itoa::Buffer;
 use std::alloc::AllocError;
@@ -18,6 +19,23 @@ impl Val {
     {
         let before = out.len();
         match append_value(self, out) {
+            Ok(()) => Ok(()),
+            Err(_) => {
+                out.truncate(before);
+                Err(Memory)
+            }
+        }
+    }
+}
+
+impl Text {
+    /// Appends the text form: the text in double quotes.
+    pub fn print(&self, out: &mut Vec<u8>) -> Result<(), Memory>
+        ensures ok { OnOk result (out.new.items ≡ out.old.items ++ quoted self.now) }
+        ensures err { OnErr result (out.new.items ≡ out.old.items) }
+    {
+        let before = out.len();
+        match append_quoted(self.bytes(), out) {
             Ok(()) => Ok(()),
             Err(_) => {
                 out.truncate(before);

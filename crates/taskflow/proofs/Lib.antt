@@ -1,0 +1,4 @@
+pub mod SituationLemmas
+pub mod StepLemmas
+pub mod StandingLemmas
+pub mod CourseLemmas

@@ -1,0 +1,50 @@
+//! The program: it reads a flow file, runs the flow and says each transition.
+#![tactic(auto)]
+
+mod built_in;
+mod command;
+mod engine;
+mod lines;
+mod log;
+mod top;
+mod words;
+
+use crate::top::{Outside, taskflow};
+use crate::words::Word;
+use std::env::Env;
+use std::process::ExitCode;
+use std::{env, io};
+use tf_desk::FileDesk;
+use tf_ports::Folder;
+
+/// The status where memory ran out.
+const OUT_OF_MEMORY: u8 = 9;
+
+fn main(rt: HostRuntime) -> ExitCode {
+    let alloc = rt.alloc();
+    let words = match read_arguments(&rt) {
+        Ok(words) => words,
+        Err(fault) => {
+            if fault.kind() == io::ErrorKind::OutOfMemory {
+                return ExitCode::from(OUT_OF_MEMORY);
+            }
+            // A word that isn't UTF-8 makes the words no command, as no words do.
+            Vec::new(alloc)
+        }
+    };
+    let outside = Outside {
+        desk: FileDesk::make(rt),
+        sources: Folder::make(rt),
+    };
+    let ended = taskflow(alloc, &words, outside);
+    ExitCode::from(ended.status)
+}
+
+/// The words after the program's own name.
+fn read_arguments(rt: &(impl Env + AllocGlobal)) -> io::Result<Vec<Word>> {
+    let mut words = Vec::new(rt.alloc());
+    for text in env::args(rt)?.skip(1) {
+        words.push(Word::make(text))?;
+    }
+    Ok(words)
+}
