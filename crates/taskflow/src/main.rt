@@ -48,3 +48,6 @@ fn read_arguments(rt: &(impl Env + AllocGlobal)) -> io::Result<Vec<Word>> {
     }
     Ok(words)
 }
+
+#[cfg(test)]
+mod tests;

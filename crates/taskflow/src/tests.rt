@@ -1,0 +1,190 @@
+use crate::top::{Outside, taskflow};
+use crate::words::Word;
+use std::alloc::Global;
+use std::test::Fail;
+use tf_desk::MemoryDesk;
+use tf_ports::{MemorySource, MemorySources};
+use tf_values::Text;
+
+/// A flow file, what is said of it, and the status.
+struct Case {
+    shows: &'static str,
+    file: &'static str,
+    says: &'static str,
+    status: u8,
+}
+
+const TWO_ECHOES: &str =
+    "name = \"main\"\nkind = \"linear\"\n[[items]]\ntask = \"a\"\nkind = \"echo\"\ninject = { value = 1 }\n[[items]]\ntask = \"b\"\nkind = \"echo\"\ninject = { value = \"two\" }\n";
+
+const RUNS: [Case; 3] = [
+    Case {
+        shows: "two echoes",
+        file: TWO_ECHOES,
+        says: "1 0 flow main RUNNING\n2 0 task a RUNNING\n3 0 task a SUCCESS 1\n4 0 task b RUNNING\n5 0 task b SUCCESS \"two\"\n6 0 flow main SUCCESS\nend main SUCCESS\n",
+        status: 0,
+    },
+    Case {
+        shows: "failure reverted in reverse",
+        file: "name = \"main\"\nkind = \"linear\"\nitems = [{ task = \"a\", kind = \"echo\", inject = { value = 1 } }, { task = \"b\", kind = \"echo\", inject = { value = 2 } }, { task = \"c\", kind = \"fail\", inject = { text = \"boom\" } }]\n",
+        says: "1 0 flow main RUNNING\n2 0 task a RUNNING\n3 0 task a SUCCESS 1\n4 0 task b RUNNING\n5 0 task b SUCCESS 2\n6 0 task c RUNNING\n7 0 task c FAILURE raised \"boom\"\n8 0 resolve main REVERT_ALL\n9 0 task c REVERTING\n10 0 task c REVERTED\n11 0 task b REVERTING\n12 0 task b REVERTED\n13 0 task a REVERTING\n14 0 task a REVERTED\n15 0 flow main REVERTED\nend main REVERTED\n",
+        status: 10,
+    },
+    Case {
+        shows: "values without an argument, and truth",
+        file: "name = \"main\"\nkind = \"linear\"\nitems = [{ task = \"a\", kind = \"echo\" }, { task = \"b\", kind = \"echo\", inject = { v = true } }, { task = \"c\", kind = \"fail\", inject = { v = -7 } }, { task = \"d\", kind = \"echo\" }]\n",
+        says: "1 0 flow main RUNNING\n2 0 task a RUNNING\n3 0 task a SUCCESS null\n4 0 task b RUNNING\n5 0 task b SUCCESS true\n6 0 task c RUNNING\n7 0 task c FAILURE raised \"-7\"\n8 0 resolve main REVERT_ALL\n9 0 task c REVERTING\n10 0 task c REVERTED\n11 0 task b REVERTING\n12 0 task b REVERTED\n13 0 task a REVERTING\n14 0 task a REVERTED\n15 0 flow main REVERTED\nend main REVERTED\n",
+        status: 10,
+    },
+];
+
+/// Runs the words over a desk and sources in memory: the text shown, and the status.
+fn ran(
+    alloc: Global,
+    words: &[&str],
+    file: &[u8],
+    unsaid: &[u64],
+    unread: &[u64],
+) -> Result<(Vec<u8>, u8), Fail> {
+    let mut made = Vec::new(alloc);
+    for word in words {
+        made.push(Word::make(String::from_str(alloc, word)?))?;
+    }
+    let mut sources = Vec::new(alloc);
+    sources.push(MemorySource {
+        name: Text::make(alloc, b"flow.toml")?,
+        bytes: Vec::from_slice(alloc, file)?,
+    })?;
+    let outside = Outside {
+        desk: MemoryDesk::make(alloc, 65_536, 1_000, Vec::from_slice(alloc, unsaid)?)?,
+        sources: MemorySources::make(sources, Vec::from_slice(alloc, unread)?),
+    };
+    let ended = taskflow(alloc, &made, outside);
+    Ok((
+        Vec::from_slice(alloc, ended.outside.desk.shown())?,
+        ended.status,
+    ))
+}
+
+const TRY: [&str; 2] = ["try", "flow.toml"];
+
+#[test]
+fn runs_and_reverts(rt: HostRuntime) -> Result<(), Fail> {
+    for case in &RUNS {
+        let (text, status) = ran(rt.alloc(), &TRY, case.file.as_bytes(), &[], &[])?;
+        let shows = case.shows;
+        assert_eq!(rt; status, case.status, "{shows}");
+        assert!(rt; text.as_slice() == case.says.as_bytes(), "{shows}");
+    }
+    Ok(())
+}
+
+/// What is refused, and the reason that is said.
+const REFUSALS: [(&str, &str); 19] = [
+    ("name = \"m\"\nkind = \"linear\"", "empty"),
+    ("name = \"m\"\nkind = \"linear\"\nitems = []", "empty"),
+    (
+        "name = \"m\"\nkind = \"linear\"\nitems = [{ task = \"x\", kind = \"echo\" }, { task = \"x\", kind = \"fail\" }]",
+        "duplicate x",
+    ),
+    (
+        "name = \"m\"\nkind = \"linear\"\nitems = [{ task = \"m\", kind = \"echo\" }]",
+        "duplicate m",
+    ),
+    ("name = ", "not toml"),
+    ("name = 99999999999999999999", "not toml"),
+    ("", "not built"),
+    ("name = \"m\"", "not built"),
+    ("kind = \"linear\"", "not built"),
+    ("name = 1\nkind = \"linear\"", "not built"),
+    ("name = \"1m\"\nkind = \"linear\"", "not built"),
+    ("name = \"m\"\nkind = \"graph\"", "not built"),
+    ("name = \"m\"\nkind = \"linear\"\nstore = {}", "not built"),
+    ("name = \"m\"\nkind = \"linear\"\nitems = 1", "not built"),
+    ("name = \"m\"\nkind = \"linear\"\nitems = [1]", "not built"),
+    (
+        "name = \"m\"\nkind = \"linear\"\nitems = [{ task = \"x\", kind = \"sum\" }]",
+        "not built",
+    ),
+    (
+        "name = \"m\"\nkind = \"linear\"\nitems = [{ task = \"x\", kind = \"echo\", inject = {} }]",
+        "not built",
+    ),
+    (
+        "name = \"m\"\nkind = \"linear\"\nitems = [{ task = \"x\", kind = \"echo\", inject = { v = 1.5 } }]",
+        "not built",
+    ),
+    (
+        "name = \"m\"\nkind = \"linear\"\nitems = [{ task = \"x\", kind = \"echo\", priority = 1 }]",
+        "not built",
+    ),
+];
+
+#[test]
+fn refuses_with_the_reason(rt: HostRuntime) -> Result<(), Fail> {
+    let alloc = rt.alloc();
+    for (file, reason) in &REFUSALS {
+        let (text, status) = ran(alloc, &TRY, file.as_bytes(), &[], &[])?;
+        let want = format!(in alloc; "taskflow: flow file: {reason}\n")?;
+        assert_eq!(rt; status, 4, "{file}");
+        assert!(rt; text.as_slice() == want.as_bytes(), "{file}");
+    }
+    let (text, status) = ran(alloc, &TRY, b"name = \"\xff\"", &[], &[])?;
+    assert_eq!(rt; status, 4);
+    assert!(rt; text.as_slice() == b"taskflow: flow file: not toml\n".as_slice());
+    let long = vec![in alloc; b'#'; 262_145]?;
+    let (text, status) = ran(alloc, &TRY, &long, &[], &[])?;
+    assert_eq!(rt; status, 4);
+    assert!(rt; text.as_slice() == b"taskflow: flow file: too long\n".as_slice());
+    let (text, _) = ran(alloc, &TRY, &long[1..], &[], &[])?;
+    assert!(rt; text.as_slice() == b"taskflow: flow file: not built\n".as_slice());
+    Ok(())
+}
+
+/// Words, and whether they are a command.
+const WORDS: [(&[&str], bool); 9] = [
+    (&[], false),
+    (&["try"], false),
+    (&["run", "flow.toml"], false),
+    (&["try", "flow.toml", "x"], false),
+    (&["try", "--flow"], false),
+    (&["try", ""], false),
+    (&["try", "--"], false),
+    (&["try", "--", "flow.toml"], true),
+    (&["try", "flow.toml", "--"], true),
+];
+
+#[test]
+fn reads_words(rt: HostRuntime) -> Result<(), Fail> {
+    for (words, is_command) in &WORDS {
+        let (text, status) = ran(rt.alloc(), words, TWO_ECHOES.as_bytes(), &[], &[])?;
+        assert_eq!(rt; status, if *is_command { 0 } else { 2 }, "{words:?}");
+        assert!(rt; *is_command || text.as_slice() == b"taskflow: usage\n".as_slice());
+    }
+    Ok(())
+}
+
+#[test]
+fn ends_by_its_faults(rt: HostRuntime) -> Result<(), Fail> {
+    let alloc = rt.alloc();
+    let file = TWO_ECHOES.as_bytes();
+    let (text, status) = ran(alloc, &TRY, file, &[], &[1])?;
+    assert_eq!(rt; status, 3);
+    assert!(rt; text.as_slice() == b"taskflow: cannot read\n".as_slice());
+    let (_, status) = ran(alloc, &["try", "absent"], file, &[], &[])?;
+    assert_eq!(rt; status, 3);
+    let (text, status) = ran(alloc, &TRY, file, &[3], &[])?;
+    assert_eq!(rt; status, 7);
+    assert!(rt;
+        text.as_slice() == b"1 0 flow main RUNNING\n2 0 task a RUNNING\n3 0 task a".as_slice()
+    );
+    let (text, status) = ran(alloc, &TRY, file, &[7], &[])?;
+    assert_eq!(rt; status, 7);
+    assert!(rt;
+        text.as_slice()
+            .ends_with(b"6 0 flow main SUCCESS\nend main".as_slice())
+    );
+    let (_, status) = ran(alloc, &[], file, &[1], &[])?;
+    assert_eq!(rt; status, 7);
+    Ok(())
+}
