@@ -4,3 +4,5 @@ pub mod ByteForm
 pub mod Scalars
 pub mod TextForm
 pub mod Growth
+pub mod Element
+pub mod Value

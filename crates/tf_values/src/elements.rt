@@ -1,5 +1,6 @@
 ghost use Rattle.std.specs.Prelude.{◌≡◌, ◌*◌, ◌≤◌, true, IfOk, IfErr, is_ok, length};
-ghost use Rattle.std.specs.List.{flat_map};
+ghost use Rattle.std.specs.List.{flat_map, AllByRecursion};
+ghost use Rattle.tf_values.specs.Element.{IsElement};
 ghost use Rattle.tf_values.specs.ByteForm.{scalar_bytes};
 ghost use Rattle.tf_values.specs.Scalars.{are_scalars};
 ghost use Rattle.tf_values.specs.declared.elements.TheConstants.{LIST_LIMIT};
@@ -41,10 +42,11 @@ impl Scalar {
     pub fn encoded_len(&self) -> usize
         ensures is { result ≡ length (scalar_bytes self.now) }
         ensures bound { result ≤ 65541 }
+        ensures element { IsElement self.now }
     {
         match self {
             Scalar::Nothing | Scalar::Truth(_) => 1,
-            Scalar::Int(_) => 9,
+            Scalar::Int(number) => 1 + number.to_be_bytes().len(),
             Scalar::Text(text) => 5 + text.bytes().len(),
         }
     }
@@ -112,10 +114,11 @@ fn copies(alloc: Global, scalars: &[Scalar]) -> Result<Vec<Scalar>, Memory>
 }
 
 /// How many bytes the forms of the scalars have together.
-fn forms_len(scalars: &[Scalar]) -> usize
+pub fn forms_len(scalars: &[Scalar]) -> usize
     requires { length scalars.now ≤ LIST_LIMIT }
     ensures counted { result ≡ length (flat_map scalar_bytes scalars.now) }
     ensures bound { result ≤ 65541 * LIST_LIMIT }
+    ensures elements { AllByRecursion IsElement scalars.now }
 {
     let mut len = 0;
     for scalar in scalars {

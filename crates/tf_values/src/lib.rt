@@ -1,7 +1,9 @@
 //! Names, texts and values, with their text form and their byte form.
 #![tactic(auto)]
 
+mod byte_form;
 mod elements;
+mod equality;
 mod faults;
 mod identifier;
 mod text_form;
