@@ -2,6 +2,7 @@
 use Rattle.std.specs.Prelude.{◌≡◌, ℕ, List, [], ◌∷◌, true, false, length, take, FitsSigned}
 use Rattle.std.specs.Int.{w64}
 use Rattle.std.specs.List.{AllByRecursion}
+use Rattle.tf_values.specs.declared.elements.Scalar.{Scalar}
 use Rattle.tf_values.specs.declared.elements.Scalar.TheVariants as scalar
 use Rattle.tf_values.specs.declared.value.Val.{Val}
 use Rattle.tf_values.specs.declared.value.Val.TheVariants as value
@@ -10,6 +11,13 @@ use Rattle.tf_values.specs.Element.{IsElement}
 use Rattle.tf_values.specs.Scalars.{are_scalars}
 use Rattle.tf_values.specs.ByteForm.{scalar_bytes, list_bytes}
 use Rattle.tf_values.specs.TextForm.{text_form}
+
+-- the value that is this scalar
+abbrev pub value_of : Scalar → Val
+value_of scalar.Nothing = value.Nothing
+value_of (scalar.Truth truth) = value.Truth truth
+value_of (scalar.Int number) = value.Int number
+value_of (scalar.Text text) = value.Text text
 
 -- a value within the limits: a scalar within them, or a list of such scalars that is neither too long nor too large
 abbrev pub IsValue : Val → Type 0

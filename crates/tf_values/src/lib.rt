@@ -2,6 +2,7 @@
 #![tactic(auto)]
 
 mod byte_form;
+mod decoding;
 mod elements;
 mod equality;
 mod faults;
