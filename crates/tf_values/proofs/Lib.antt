@@ -4,4 +4,8 @@ pub mod NameLemmas
 pub mod FaultLemmas
 pub mod Codes
 pub mod ByteLemmas
+pub mod QuoteLemmas
+pub mod WordLemmas
+pub mod ScalarLemmas
+pub mod ValueLemmas
 pub mod NumberLemmas

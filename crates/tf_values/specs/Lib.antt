@@ -5,4 +5,6 @@ pub mod Scalars
 pub mod TextForm
 pub mod Growth
 pub mod Element
+pub mod Quote
+pub mod Word
 pub mod Value
