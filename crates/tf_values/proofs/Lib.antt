@@ -1,6 +1,7 @@
 pub mod TextLemmas
 pub mod GrowthLemmas
 pub mod NameLemmas
+pub mod ListLemmas
 pub mod FaultLemmas
 pub mod Codes
 pub mod ByteLemmas

@@ -1,19 +1,12 @@
 -- A byte within quotes has one form, which begins no other's.
-use Rattle.std.proofs.Common.{◌≡◌, ◌≢◌, ◌==◌, ℕ, ◌+◌, ◌-◌, ◌*◌, ◌/◌, ◌%◌, ◌<◌, ◌≤◌, ◌⊎◌, inl, inr, List, [], ◌∷◌, ◌++◌, length, Option, Some, None, Bool, true, false, ◌||◌, if◌then◌else◌, refl, sym, ap, subst, ◌∙◌, arith}
+use Rattle.std.proofs.Common.{◌≡◌, ◌≢◌, ◌==◌, ℕ, ◌+◌, ◌-◌, ◌*◌, ◌/◌, ◌%◌, ◌<◌, ◌≤◌, ◌⊎◌, inl, inr, List, [], ◌∷◌, ◌++◌, Option, Some, None, Bool, true, false, ◌||◌, if◌then◌else◌, refl, sym, ap, subst, ◌∙◌, arith}
 use Rattle.std.specs.Prelude.{nat_lt}
 use Rattle.std.specs.List.{flat_map, AllByRecursion}
-use Rattle.std.proofs.lemmas.Bool.{eqb-true, cases_eq}
+use Rattle.std.proofs.lemmas.Bool.{eqb-true}
 use Rattle.std.proofs.lemmas.Bool.Decides.{nat_tests}
-use Rattle.std.proofs.lemmas.Grind.{common_steps}
 use Rattle.tf_values.specs.TextForm.{hexadecimal, quoted_byte}
-use Rattle.tf_values.specs.Quote.{is_control}
+use Rattle.tf_values.proofs.ListLemmas.{heads, tails}
 use Rattle.tf_values.proofs.Codes.{IsCode, one_reading}
-
-heads : (a b : ℕ) (xs ys : List ℕ) → a ∷ xs ≡ b ∷ ys → a ≡ b
-heads a b xs ys e = cc
-
-tails : (a b : ℕ) (xs ys : List ℕ) → a ∷ xs ≡ b ∷ ys → xs ≡ ys
-tails a b xs ys e = cc
 
 on_test : (P : Type 0) (test : Bool) → (test ≡ true → P) → (test ≡ false → P) → P
 on_test P true holds fails = holds refl
@@ -43,14 +36,14 @@ plain_from_test b high quote backslash = record { above = grind (arith, nat_test
 
 -- the six ways in which a byte is written
 pub quoted_cases : (P : ℕ → List ℕ → Type 0) → P 34 (92 ∷ 34 ∷ []) → P 92 (92 ∷ 92 ∷ []) → P 10 (92 ∷ 110 ∷ []) → P 9 (92 ∷ 116 ∷ [])
-  → ((b : ℕ) → IsControl b → P b (digits_form b)) → ((b : ℕ) → IsPlain b → P b (b ∷ [])) → (b : ℕ) → P b (quoted_byte b)
+    → ((b : ℕ) → IsControl b → P b (digits_form b)) → ((b : ℕ) → IsPlain b → P b (b ∷ [])) → (b : ℕ) → P b (quoted_byte b)
 quoted_cases P quote backslash feed tab control plain b =
-  on_test (P b (quoted_byte b)) (b == 34) (λ e34. rw e34 (subst (λ (k : ℕ). P k (92 ∷ 34 ∷ [])) (sym (eqb-true b 34 e34)) quote))
-  (λ n34. on_test (P b (quoted_byte b)) (b == 92) (λ e92. rw (n34, e92) (subst (λ (k : ℕ). P k (92 ∷ 92 ∷ [])) (sym (eqb-true b 92 e92)) backslash))
-  (λ n92. on_test (P b (quoted_byte b)) (b == 10) (λ e10. rw (n34, n92, e10) (subst (λ (k : ℕ). P k (92 ∷ 110 ∷ [])) (sym (eqb-true b 10 e10)) feed))
-  (λ n10. on_test (P b (quoted_byte b)) (b == 9) (λ e9. rw (n34, n92, n10, e9) (subst (λ (k : ℕ). P k (92 ∷ 116 ∷ [])) (sym (eqb-true b 9 e9)) tab))
-  (λ n9. on_test (P b (quoted_byte b)) (nat_lt b 32 || (b == 127)) (λ low. rw (n34, n92, n10, n9, low) (control b (control_from_test b low n10 n9)))
-  (λ high. rw (n34, n92, n10, n9, high) (plain b (plain_from_test b high n34 n92)))))))
+    on_test (P b (quoted_byte b)) (b == 34) (λ e34. rw e34 (subst (λ (k : ℕ). P k (92 ∷ 34 ∷ [])) (sym (eqb-true b 34 e34)) quote))
+    (λ n34. on_test (P b (quoted_byte b)) (b == 92) (λ e92. rw (n34, e92) (subst (λ (k : ℕ). P k (92 ∷ 92 ∷ [])) (sym (eqb-true b 92 e92)) backslash))
+    (λ n92. on_test (P b (quoted_byte b)) (b == 10) (λ e10. rw (n34, n92, e10) (subst (λ (k : ℕ). P k (92 ∷ 110 ∷ [])) (sym (eqb-true b 10 e10)) feed))
+    (λ n10. on_test (P b (quoted_byte b)) (b == 9) (λ e9. rw (n34, n92, n10, e9) (subst (λ (k : ℕ). P k (92 ∷ 116 ∷ [])) (sym (eqb-true b 9 e9)) tab))
+    (λ n9. on_test (P b (quoted_byte b)) (nat_lt b 32 || (b == 127)) (λ low. rw (n34, n92, n10, n9, low) (control b (control_from_test b low n10 n9)))
+    (λ high. rw (n34, n92, n10, n9, high) (plain b (plain_from_test b high n34 n92)))))))
 
 abbrev nibble : ℕ → ℕ
 nibble digit = if nat_lt digit 97 then digit - 48 else digit - 87
@@ -79,14 +72,14 @@ not_backslash b is = grind (arith, nat_tests)
 
 unit_again : (rest : List ℕ) (b : ℕ) → unit_of (quoted_byte b ++ rest) ≡ Some (b, rest)
 unit_again rest = quoted_cases (λ b form. unit_of (form ++ rest) ≡ Some (b, rest)) refl refl refl refl
-  (λ b is. let small = control_small b is in rw (nibble-hexadecimal (b / 16) (omega arith), nibble-hexadecimal (b % 16) (omega arith)) (ap (λ (k : ℕ). Some (k, rest)) (omega arith)))
-  (λ b is. rw (not_backslash b is) refl)
+    (λ b is. let small = control_small b is in rw (nibble-hexadecimal (b / 16) (omega arith), nibble-hexadecimal (b % 16) (omega arith)) (ap (λ (k : ℕ). Some (k, rest)) (omega arith)))
+    (λ b is. rw (not_backslash b is) refl)
 
 pub quoted_one : (x y : ℕ) (a b : List ℕ) → quoted_byte x ++ a ≡ quoted_byte y ++ b → (x ≡ y) × (a ≡ b)
 quoted_one x y a b e =
-  let same : Some (x, a) ≡ Some (y, b) = sym (unit_again a x) ∙ ap unit_of e ∙ unit_again b y in
-  let pairs : (x, a) ≡ (y, b) = cc in
-  (ap (λ (p : ℕ × List ℕ). p.0) pairs, ap (λ (p : ℕ × List ℕ). p.1) pairs)
+    let same : Some (x, a) ≡ Some (y, b) = sym (unit_again a x) ∙ ap unit_of e ∙ unit_again b y in
+    let pairs : (x, a) ≡ (y, b) = cc in
+    (ap (λ (p : ℕ × List ℕ). p.0) pairs, ap (λ (p : ℕ × List ℕ). p.1) pairs)
 
 pub quoted_code : IsCode quoted_byte (λ _. Unit {0}) (λ _. Unit {0})
 quoted_code = record { one = λ x y a b gx gy fa fb e. quoted_one x y a b e; forms_follow = λ x a gx. tt }
@@ -98,25 +91,19 @@ all_units (x ∷ xs) = (tt, all_units xs)
 -- a closing quote is no form of a byte
 quote_is_none : (after rest : List ℕ) (b : ℕ) → 34 ∷ after ≢ quoted_byte b ++ rest
 quote_is_none after rest = quoted_cases (λ b form. 34 ∷ after ≢ form ++ rest) (λ e. absurd (omega (arith, heads 34 92 after (34 ∷ rest) e))) (λ e. absurd (omega (arith, heads 34 92 after (92 ∷ rest) e)))
-  (λ e. absurd (omega (arith, heads 34 92 after (110 ∷ rest) e))) (λ e. absurd (omega (arith, heads 34 92 after (116 ∷ rest) e)))
-  (λ b is e. absurd (omega (arith, heads 34 92 after (117 ∷ 48 ∷ 48 ∷ hexadecimal (b / 16) ∷ hexadecimal (b % 16) ∷ rest) e)))
-  (λ b is e. is.no_quote (sym (heads 34 b after rest e)))
+    (λ e. absurd (omega (arith, heads 34 92 after (110 ∷ rest) e))) (λ e. absurd (omega (arith, heads 34 92 after (116 ∷ rest) e)))
+    (λ b is e. absurd (omega (arith, heads 34 92 after (117 ∷ 48 ∷ 48 ∷ hexadecimal (b / 16) ∷ hexadecimal (b % 16) ∷ rest) e)))
+    (λ b is e. is.no_quote (sym (heads 34 b after rest e)))
 
 -- one reading of a text up to its closing quote
 pub text_one : (text other rest after : List ℕ) → ((b : ℕ) (r : List ℕ) → rest ≢ quoted_byte b ++ r) → flat_map quoted_byte text ++ rest ≡ flat_map quoted_byte other ++ 34 ∷ after → (text ≡ other) × (rest ≡ 34 ∷ after)
 text_one text other rest after none e =
-  one_reading quoted_byte (λ _. Unit {0}) (λ _. Unit {0}) quoted_code text other rest (34 ∷ after) (all_units text) (all_units other) tt tt (λ b r good follows. none b r) (λ b r good follows. quote_is_none after r b) e
+    one_reading quoted_byte (λ _. Unit {0}) (λ _. Unit {0}) quoted_code text other rest (34 ∷ after) (all_units text) (all_units other) tt tt (λ b r good follows. none b r) (λ b r good follows. quote_is_none after r b) e
 
 pub quoted_text_one : (text other a b : List ℕ) → flat_map quoted_byte text ++ 34 ∷ a ≡ flat_map quoted_byte other ++ 34 ∷ b → (text ≡ other) × (a ≡ b)
 quoted_text_one text other a b e = let same = text_one text other (34 ∷ a) b (λ c r. quote_is_none a r c) e in (same.0, tails 34 34 a b same.1)
 
 -- what is read up to neither a byte's form nor a closing quote is no text
 pub no_text : (text rest bytes : List ℕ) → bytes ≡ flat_map quoted_byte text ++ rest → ((b : ℕ) (r : List ℕ) → rest ≢ quoted_byte b ++ r) → ((r : List ℕ) → rest ≢ 34 ∷ r)
-  → (other after : List ℕ) → bytes ≢ flat_map quoted_byte other ++ 34 ∷ after
+    → (other after : List ℕ) → bytes ≢ flat_map quoted_byte other ++ 34 ∷ after
 no_text text rest bytes read none unclosed other after e = unclosed after (text_one text other rest after none (sym read ∙ e)).1
-
-pub begins_otherwise : (first : ℕ) (after rest : List ℕ) → rest ≡ first ∷ after → first ≢ 34 → (r : List ℕ) → rest ≢ 34 ∷ r
-begins_otherwise first after rest is other r e = other (heads first 34 after r (sym is ∙ e))
-
-pub empty_begins_none : (xs : List ℕ) → length xs ≡ 0 → (n : ℕ) (r : List ℕ) → xs ≢ n ∷ r
-empty_begins_none xs empty n r e = let lens : length xs ≡ length (n ∷ r) = ap length e in absurd (omega arith)

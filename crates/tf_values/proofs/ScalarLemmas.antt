@@ -1,5 +1,5 @@
 -- The text form of a scalar has one reading, up to a comma, a closing bracket or the end.
-use Rattle.std.proofs.Common.{◌≡◌, ◌≢◌, ℕ, ℤ, ◌+◌, ◌<◌, ◌≤◌, ◌⊎◌, inl, inr, List, [], ◌∷◌, ◌++◌, length, get_or, Bool, true, false, refl, sym, ap, subst, ◌∙◌, append_assoc, arith}
+use Rattle.std.proofs.Common.{◌≡◌, ◌≢◌, ℕ, ℤ, ◌<◌, ◌≤◌, ◌⊎◌, inl, inr, List, [], ◌∷◌, ◌++◌, length, get_or, true, false, refl, sym, ap, subst, ◌∙◌, append_assoc, arith}
 use Rattle.std.specs.Prelude.{FitsSigned, codes}
 use Rattle.std.specs.Int.{w64}
 use Rattle.std.specs.Fmt.{signed_decimal}
@@ -8,9 +8,10 @@ use Rattle.std.proofs.lemmas.Fmt.{signed_decimal_injective}
 use Rattle.tf_values.specs.declared.elements.Scalar.{Scalar}
 use Rattle.tf_values.specs.declared.elements.Scalar.TheVariants as scalar
 use Rattle.tf_values.specs.Text.{is_text}
-use Rattle.tf_values.specs.TextForm.{quoted_byte, quoted, truth_text, scalar_text}
+use Rattle.tf_values.specs.TextForm.{quoted_byte, quoted, scalar_text}
 use Rattle.tf_values.specs.Element.{IsElement}
 use Rattle.tf_values.specs.Word.{ends_here, is_word, IsNoScalar}
+use Rattle.tf_values.proofs.ListLemmas.{tails, same_heads, differ}
 use Rattle.tf_values.proofs.QuoteLemmas.{quoted_text_one}
 use Rattle.tf_values.proofs.WordLemmas.{number_begins, number_is_word, word_one}
 
@@ -31,9 +32,6 @@ kind scalar.Nothing = inr tt
 kind (scalar.Truth truth) = inr tt
 kind (scalar.Int number) = inr tt
 kind (scalar.Text text) = inl (record { text = text; is = refl })
-
-same_heads : (xs ys : List ℕ) → xs ≡ ys → get_or xs 0 0 ≡ get_or ys 0 0
-same_heads xs ys e = ap (λ (zs : List ℕ). get_or zs 0 0) e
 
 -- the first byte of an integer's text is a digit or a sign
 number_head : (z : ℤ) (rest : List ℕ) → FitsSigned w64 z → (45 ≤ get_or (signed_decimal z ++ rest) 0 0) × (get_or (signed_decimal z ++ rest) 0 0 ≤ 57)
@@ -87,49 +85,43 @@ word_no_quote (scalar.Text text) rest after is word e = absurd word
 quoted_rest : (text rest : List ℕ) → quoted text ++ rest ≡ 34 ∷ (flat_map quoted_byte text ++ 34 ∷ rest)
 quoted_rest text rest = ap (λ (xs : List ℕ). 34 ∷ xs) (append_assoc (flat_map quoted_byte text) (34 ∷ []) rest)
 
-tails : (a b : ℕ) (xs ys : List ℕ) → a ∷ xs ≡ b ∷ ys → xs ≡ ys
-tails a b xs ys e = cc
-
 pub quoted_one : (text other a b : List ℕ) → quoted text ++ a ≡ quoted other ++ b → (text ≡ other) × (a ≡ b)
 quoted_one text other a b e =
-  quoted_text_one text other a b (tails 34 34 (flat_map quoted_byte text ++ 34 ∷ a) (flat_map quoted_byte other ++ 34 ∷ b) (sym (quoted_rest text a) ∙ e ∙ quoted_rest other b))
+    quoted_text_one text other a b (tails 34 34 (flat_map quoted_byte text ++ 34 ∷ a) (flat_map quoted_byte other ++ 34 ∷ b) (sym (quoted_rest text a) ∙ e ∙ quoted_rest other b))
 
 both_texts : (x y : Scalar) (a b : List ℕ) → IsTextScalar x → IsTextScalar y → scalar_text x ++ a ≡ scalar_text y ++ b → (x ≡ y) × (a ≡ b)
 both_texts x y a b tx ty e =
-  let same = quoted_one tx.text ty.text a b (ap (λ (s : Scalar). scalar_text s ++ a) (sym tx.is) ∙ e ∙ ap (λ (s : Scalar). scalar_text s ++ b) ty.is) in
-  (tx.is ∙ ap (λ (text : List ℕ). scalar.Text text) same.0 ∙ sym ty.is, same.1)
+    let same = quoted_one tx.text ty.text a b (ap (λ (s : Scalar). scalar_text s ++ a) (sym tx.is) ∙ e ∙ ap (λ (s : Scalar). scalar_text s ++ b) ty.is) in
+    (tx.is ∙ ap (λ (text : List ℕ). scalar.Text text) same.0 ∙ sym ty.is, same.1)
 
 text_and_word : (x y : Scalar) (a b : List ℕ) → IsTextScalar x → IsElement y → IsWord y → scalar_text x ++ a ≢ scalar_text y ++ b
 text_and_word x y a b tx gy wy e = word_no_quote y b (flat_map quoted_byte tx.text ++ 34 ∷ a) gy wy (sym (quoted_rest tx.text a) ∙ ap (λ (s : Scalar). scalar_text s ++ a) (sym tx.is) ∙ e)
 
 both_words : (x y : Scalar) (a b : List ℕ) → IsElement x → IsElement y → IsWord x → IsWord y → ends_here a ≡ true → ends_here b ≡ true → scalar_text x ++ a ≡ scalar_text y ++ b → (x ≡ y) × (a ≡ b)
 both_words x y a b gx gy wx wy ea eb e =
-  let same = word_one (scalar_text x) (scalar_text y) a b (words_are_words x gx wx) (words_are_words y gy wy) ea eb e in
-  (words_one x y gx gy wx wy same.0, same.1)
+    let same = word_one (scalar_text x) (scalar_text y) a b (words_are_words x gx wx) (words_are_words y gy wy) ea eb e in
+    (words_one x y gx gy wx wy same.0, same.1)
 
 pub scalar_text_one : (x y : Scalar) (a b : List ℕ) → IsElement x → IsElement y → ends_here a ≡ true → ends_here b ≡ true → scalar_text x ++ a ≡ scalar_text y ++ b → (x ≡ y) × (a ≡ b)
 scalar_text_one x y a b gx gy ea eb e =
-  elim (kind x) [
-    | inl tx ↦ elim (kind y) [ inl ty ↦ both_texts x y a b tx ty e | inr wy ↦ absurd (text_and_word x y a b tx gy wy e) ]
-    | inr wx ↦ elim (kind y) [ inl ty ↦ absurd (text_and_word y x b a ty gx wx (sym e)) | inr wy ↦ both_words x y a b gx gy wx wy ea eb e ]
-  ]
-
-differ : (b : Bool) → b ≡ false → b ≡ true → ⊥
-differ b is_false is_true = cc
+    elim (kind x) [
+      | inl tx ↦ elim (kind y) [ inl ty ↦ both_texts x y a b tx ty e | inr wy ↦ absurd (text_and_word x y a b tx gy wy e) ]
+      | inr wx ↦ elim (kind y) [ inl ty ↦ absurd (text_and_word y x b a ty gx wx (sym e)) | inr wy ↦ both_words x y a b gx gy wx wy ea eb e ]
+    ]
 
 -- a quoted text that something else than a mark follows is no scalar
 pub no_text-unended : (read rest bytes : List ℕ) → bytes ≡ flat_map quoted_byte read ++ 34 ∷ rest → ends_here rest ≡ false
-  → (text after : List ℕ) → is_text text ≡ true → ends_here after ≡ true → 34 ∷ bytes ≢ quoted text ++ after
+    → (text after : List ℕ) → is_text text ≡ true → ends_here after ≡ true → 34 ∷ bytes ≢ quoted text ++ after
 no_text-unended read rest bytes is unended text after good ends e =
-  let same = quoted_one read text rest after (quoted_rest read rest ∙ ap (λ (xs : List ℕ). 34 ∷ xs) (sym is) ∙ e) in
-  differ (ends_here rest) unended (ap ends_here same.1 ∙ ends)
+    let same = quoted_one read text rest after (quoted_rest read rest ∙ ap (λ (xs : List ℕ). 34 ∷ xs) (sym is) ∙ e) in
+    differ (ends_here rest) unended (ap ends_here same.1 ∙ ends)
 
 -- quoted bytes that are no text are no scalar
 pub no_text-bytes : (read rest bytes : List ℕ) → bytes ≡ flat_map quoted_byte read ++ 34 ∷ rest → is_text read ≡ false
-  → (text after : List ℕ) → is_text text ≡ true → ends_here after ≡ true → 34 ∷ bytes ≢ quoted text ++ after
+    → (text after : List ℕ) → is_text text ≡ true → ends_here after ≡ true → 34 ∷ bytes ≢ quoted text ++ after
 no_text-bytes read rest bytes is other text after good ends e =
-  let same = quoted_one read text rest after (quoted_rest read rest ∙ ap (λ (xs : List ℕ). 34 ∷ xs) (sym is) ∙ e) in
-  differ (is_text read) other (ap is_text same.0 ∙ good)
+    let same = quoted_one read text rest after (quoted_rest read rest ∙ ap (λ (xs : List ℕ). 34 ∷ xs) (sym is) ∙ e) in
+    differ (is_text read) other (ap is_text same.0 ∙ good)
 
 abbrev pub NoScalar : List ℕ → Type 0
 NoScalar bytes = (s : Scalar) (rest : List ℕ) → IsElement s → ends_here rest ≡ true → bytes ≢ scalar_text s ++ rest
@@ -145,13 +137,13 @@ empty_is_none (x ∷ xs) empty s rest is ends e = absurd (omega arith)
 
 -- behind a quote only a text can stand
 pub none-quoted : (first : ℕ) (inner bytes : List ℕ) → bytes ≡ first ∷ inner → first ≡ 34
-  → ((text rest : List ℕ) → is_text text ≡ true → ends_here rest ≡ true → 34 ∷ inner ≢ quoted text ++ rest) → NoScalar bytes
+    → ((text rest : List ℕ) → is_text text ≡ true → ends_here rest ≡ true → 34 ∷ inner ≢ quoted text ++ rest) → NoScalar bytes
 none-quoted first inner bytes read quote none s rest is ends e =
-  let begins : 34 ∷ inner ≡ bytes = ap (λ (n : ℕ). n ∷ inner) (sym quote) ∙ sym read in
-  elim (kind s) [
-    | inl text ↦ none text.text rest (subst IsElement text.is is) ends (begins ∙ e ∙ ap (λ (t : Scalar). scalar_text t ++ rest) text.is)
-    | inr word ↦ word_no_quote s rest inner is word (begins ∙ e)
-  ]
+    let begins : 34 ∷ inner ≡ bytes = ap (λ (n : ℕ). n ∷ inner) (sym quote) ∙ sym read in
+    elim (kind s) [
+      | inl text ↦ none text.text rest (subst IsElement text.is is) ends (begins ∙ e ∙ ap (λ (t : Scalar). scalar_text t ++ rest) text.is)
+      | inr word ↦ word_no_quote s rest inner is word (begins ∙ e)
+    ]
 
 none-word : (s : Scalar) → IsElement s → IsWord s → (word : List ℕ) → IsNoScalar word → word ≢ scalar_text s
 none-word scalar.Nothing is word bytes none e = none.nothing e
@@ -162,7 +154,7 @@ none-word (scalar.Text text) is word bytes none e = absurd word
 -- without a quote only a word can stand
 pub none-bare : (first : ℕ) (inner bytes word rest : List ℕ) → bytes ≡ first ∷ inner → first ≢ 34 → bytes ≡ word ++ rest → is_word word ≡ true → ends_here rest ≡ true → IsNoScalar word → NoScalar bytes
 none-bare first inner bytes word rest read bare whole plain ends none s after is ended e =
-  elim (kind s) [
-    | inl text ↦ bare (same_heads (first ∷ inner) (quoted text.text ++ after) (sym read ∙ e ∙ ap (λ (t : Scalar). scalar_text t ++ after) text.is))
-    | inr named ↦ none-word s is named word none (word_one word (scalar_text s) rest after plain (words_are_words s is named) ends ended (sym whole ∙ e)).0
-  ]
+    elim (kind s) [
+      | inl text ↦ bare (same_heads (first ∷ inner) (quoted text.text ++ after) (sym read ∙ e ∙ ap (λ (t : Scalar). scalar_text t ++ after) text.is))
+      | inr named ↦ none-word s is named word none (word_one word (scalar_text s) rest after plain (words_are_words s is named) ends ended (sym whole ∙ e)).0
+    ]

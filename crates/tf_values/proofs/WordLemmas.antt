@@ -1,6 +1,6 @@
 -- Words and integers in the text form.
-use Rattle.std.proofs.Common.{◌≡◌, ◌≢◌, ◌==◌, ℕ, ℤ, pos, negsuc, suc, ◌+◌, ◌<◌, ◌≤◌, ◌^◌, List, [], ◌∷◌, ◌++◌, length, Bool, true, false, ◌||◌, ◌&&◌, not, Result, Ok, refl, sym, ap, subst, ◌∙◌, arith}
-use Rattle.std.specs.Prelude.{FitsSigned, codes}
+use Rattle.std.proofs.Common.{◌≡◌, ℕ, ℤ, pos, negsuc, suc, ◌<◌, ◌≤◌, ◌^◌, List, [], ◌∷◌, ◌++◌, length, true, false, Result, Ok, refl, sym, ap, subst, ◌∙◌, arith}
+use Rattle.std.specs.Prelude.{FitsSigned}
 use Rattle.std.specs.Int.{w64, cast_signed, cast_unsigned}
 use Rattle.std.specs.Fmt.{signed_decimal, decimal}
 use Rattle.std.specs.Str.{IsUtf8, all_ascii_digits}
@@ -12,6 +12,7 @@ use Rattle.std.proofs.lemmas.Bool.Decides.{nat_tests}
 use Rattle.std.proofs.lemmas.Int.{to_z-of_z}
 use Rattle.std.proofs.lemmas.Slice.Eq.{bytes_eq-Decides}
 use Rattle.std.specs.Str.{bytes_eq}
+use Rattle.tf_values.proofs.ListLemmas.{differ}
 use Rattle.tf_values.specs.Word.{is_mark, ends_here, is_word}
 
 pub signed_utf8 : (word : List ℕ) (z : ℤ) → FitsSigned w64 z → word ≡ signed_decimal z → IsUtf8 word
@@ -21,23 +22,20 @@ signed_utf8 word z fits e = subst IsUtf8 (sym e) (IsUtf8-from_ascii (signed_deci
 pub signed_parses : {E : Type 0} (word text : List ℕ) (z : ℤ) (r : Result ℤ E) → FitsSigned w64 z → text ≡ word → word ≡ signed_decimal z → ParsesSigned w64 10 text r → r ≡ Ok z
 signed_parses word text z r fits same e parses = parse-signed_decimal w64 z text r fits fits.sfits (same ∙ e) parses
 
-differ : (test : Bool) → false ≡ test → test ≡ true → ⊥
-differ test is_false is_true = cc
-
 -- an integer that isn't printed as the word is not the one that the word spells
 pub signed_prints : (word shown printed : List ℕ) (z number : ℤ) → FitsSigned w64 z → word ≡ signed_decimal z → number ≡ z
-  → printed ≡ signed_decimal (cast_signed w64 (cast_unsigned w64 number)) → shown ≡ printed → false ≡ bytes_eq shown word → ⊥
+    → printed ≡ signed_decimal (cast_signed w64 (cast_unsigned w64 number)) → shown ≡ printed → false ≡ bytes_eq shown word → ⊥
 signed_prints word shown printed z number fits e same print show differs =
-  let back : cast_signed w64 (cast_unsigned w64 number) ≡ z = ap (λ (x : ℤ). cast_signed w64 (cast_unsigned w64 x)) same ∙ to_z-of_z w64 z fits in
-  let equal : shown ≡ word = show ∙ print ∙ ap signed_decimal back ∙ sym e in
-  differ (bytes_eq shown word) differs ((bytes_eq-Decides shown word).1 equal)
+    let back : cast_signed w64 (cast_unsigned w64 number) ≡ z = ap (λ (x : ℤ). cast_signed w64 (cast_unsigned w64 x)) same ∙ to_z-of_z w64 z fits in
+    let equal : shown ≡ word = show ∙ print ∙ ap signed_decimal back ∙ sym e in
+    differ (bytes_eq shown word) (sym differs) ((bytes_eq-Decides shown word).1 equal)
 
 digits_are_word : (ds : List ℕ) → all_ascii_digits ds ≡ true → is_word ds ≡ true
 digits_are_word [] is = refl
 digits_are_word (d ∷ ds) is =
-  let rest : all_ascii_digits ds ≡ true = grind (arith, nat_tests) in
-  let others : is_word ds ≡ true = digits_are_word ds rest in
-  grind (arith, nat_tests)
+    let rest : all_ascii_digits ds ≡ true = grind (arith, nat_tests) in
+    let others : is_word ds ≡ true = digits_are_word ds rest in
+    grind (arith, nat_tests)
 
 -- the first byte of an integer's text
 pub record BeginsNumber (text : List ℕ) : Type 0 where
@@ -77,7 +75,7 @@ word_one [] [] a b iu iw ea eb e = (refl, e)
 word_one [] (y ∷ w) a b iu iw ea eb e = absurd (no_mark y w b iw (ap ends_here (sym e) ∙ ea))
 word_one (x ∷ u) [] a b iu iw ea eb e = absurd (no_mark x u a iu (ap ends_here e ∙ eb))
 word_one (x ∷ u) (y ∷ w) a b iu iw ea eb e =
-  let same_heads : x ≡ y = cc in
-  let same_tails : u ++ a ≡ w ++ b = cc in
-  let rest = word_one u w a b (word_rest x u iu) (word_rest y w iw) ea eb same_tails in
-  (rw (same_heads, rest.0) refl, rest.1)
+    let same_heads : x ≡ y = cc in
+    let same_tails : u ++ a ≡ w ++ b = cc in
+    let rest = word_one u w a b (word_rest x u iu) (word_rest y w iw) ea eb same_tails in
+    (rw (same_heads, rest.0) refl, rest.1)

@@ -1,5 +1,5 @@
 -- What a value is, its byte form, and what it means that bytes spell one.
-use Rattle.std.specs.Prelude.{◌≡◌, ℕ, List, [], ◌∷◌, true, false, length, take, FitsSigned}
+use Rattle.std.specs.Prelude.{◌≡◌, ℕ, List, true, length, take, FitsSigned}
 use Rattle.std.specs.Int.{w64}
 use Rattle.std.specs.List.{AllByRecursion}
 use Rattle.tf_values.specs.declared.elements.Scalar.{Scalar}

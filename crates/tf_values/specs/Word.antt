@@ -1,5 +1,5 @@
 -- Where a scalar's text form ends, and which words are no scalar's.
-use Rattle.std.specs.Prelude.{◌≡◌, ◌≢◌, ℕ, ℤ, List, [], ◌∷◌, Bool, true, ◌||◌, ◌==◌, not, codes, FitsSigned}
+use Rattle.std.specs.Prelude.{◌≢◌, ℕ, ℤ, List, [], ◌∷◌, Bool, true, ◌||◌, ◌==◌, not, codes, FitsSigned}
 use Rattle.std.specs.Int.{w64}
 use Rattle.std.specs.Fmt.{signed_decimal}
 use Rattle.std.specs.List.{list_all}

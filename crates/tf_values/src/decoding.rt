@@ -61,11 +61,7 @@ fn list_at(alloc: Global, bytes: &[u8]) -> Result<(Scalars, &[u8]), MakeFault>
 }
 
 /// So many scalars at the front.
-fn scalars_at(
-    alloc: Global,
-    count: u16,
-    bytes: &[u8],
-) -> Result<(Vec<Scalar>, &[u8]), MakeFault>
+fn scalars_at(alloc: Global, count: u16, bytes: &[u8]) -> Result<(Vec<Scalar>, &[u8]), MakeFault>
     ensures ok { IfOk result (λ read. AllByRecursion IsElement read.0.items × (length read.0.items ≡ count) × (bytes.now ≡ flat_map scalar_bytes read.0.items ++ read.1.now)) }
     ensures refused { IsErrOf result MakeFault.No → (scalars : List Scalar) (rest : List ℕ) → AllByRecursion IsElement scalars → length scalars ≡ count → bytes.now ≢ flat_map scalar_bytes scalars ++ rest }
 {

@@ -21,3 +21,6 @@ pub use identifier::{Name, Names};
 pub use laws::{one_byte_reading, one_text_reading};
 pub use utf8::{Text, Texts};
 pub use value::Val;
+
+#[cfg(test)]
+mod tests;

@@ -10,7 +10,7 @@ returns-in_default-parse c = λ z fits e. c.in_default-parse.not-Ok z (signed_pa
 
 pub returns-else-eq : goal.returns-else-eq
 returns-else-eq c = λ z fits e.
-  let parsed = signed_parses c.args.word.now c.in-Ok.text.now z c.parse.result fits c.in-Ok.ensures.cases.0 e c.parse.ensures.value.0 in
-  let is = c.in-Ok-parse.is in
-  let same : c.in-Ok-parse.number ≡ z = cc in
-  signed_prints c.args.word.now c.as_bytes.result.now c.format.result.now z c.in-Ok-parse.number fits e same c.format.ensures.text c.as_bytes.ensures.value c.if-eq.ensures
+    let parsed = signed_parses c.args.word.now c.in-Ok.text.now z c.parse.result fits c.in-Ok.ensures.cases.0 e c.parse.ensures.value.0 in
+    let is = c.in-Ok-parse.is in
+    let same : c.in-Ok-parse.number ≡ z = cc in
+    signed_prints c.args.word.now c.as_bytes.result.now c.format.result.now z c.in-Ok-parse.number fits e same c.format.ensures.text c.as_bytes.ensures.value c.if-eq.ensures

@@ -5,5 +5,5 @@ use Rattle.tf_values.proofs.value.Val.decode.Goals as goal
 
 pub returns-in_err-value-clause-refused : goal.returns-in_err-value-clause-refused
 returns-in_err-value-clause-refused c =
-  let p = err_from_is_err_and c.from_residual.result c.from_residual.ensures.1 in
-  rw (p.1, p.2) (λ is. begins_none c.args.bytes.now (c.in_err-value.ensures.refused (passed_on _ _ is)))
+    let p = err_from_is_err_and c.from_residual.result c.from_residual.ensures.1 in
+    rw (p.1, p.2) (λ is. begins_none c.args.bytes.now (c.in_err-value.ensures.refused (passed_on _ _ is)))
