@@ -31,6 +31,7 @@ impl Val {
     pub fn encode(&self, out: &mut Vec<u8>) -> Result<(), Memory>
         ensures ok { OnOk result (out.new.items ≡ out.old.items ++ byte_form self.now) }
         ensures err { OnErr result (out.new.items ≡ out.old.items) }
+        ensures value { IsValue self.now }
     {
         let before = out.len();
         match append_value(self, out) {
@@ -47,6 +48,7 @@ impl Val {
 fn append_value(value: &Val, out: &mut Vec<u8>) -> Result<(), AllocError>
     ensures ok { OnOk result (out.new.items ≡ out.old.items ++ byte_form value.now) }
     ensures err { OnErr result (KeepsFront out.old.items out.new.items) }
+    ensures value { IsValue value.now }
 {
     match value {
         Val::Nothing => out.extend_from_slice(&[0]),

@@ -21,6 +21,7 @@ impl Val {
     /// `No` comes exactly where no form stands there.
     pub fn decode(alloc: Global, bytes: &[u8]) -> Result<(Val, usize), MakeFault>
         ensures ok { IfOk result (λ read. BeginsWith bytes.now read.0 read.1) }
+        ensures within { IfOk result (λ read. read.1 ≤ length bytes.now) }
         ensures refused { IsErrOf result MakeFault.No → (v : Val) (len : ℕ) → ¬ (BeginsWith bytes.now v len) }
     {
         let (value, rest) = value_at(alloc, bytes)?;

@@ -62,13 +62,15 @@ pub struct Scalars {
 impl Model for Scalars {
     ghost use Rattle.std.specs.Prelude.{◌≡◌, true, List};
     ghost use Rattle.tf_values.specs.declared.elements.Scalar.{Scalar};
+    ghost use Rattle.std.specs.List.{AllByRecursion};
+    ghost use Rattle.tf_values.specs.Element.{IsElement};
     ghost use Rattle.tf_values.specs.Scalars.{are_scalars};
 
     ghost Value = { List Scalar };
 
     ghost view = { λ scalars. scalars.items.items };
 
-    ghost invariant = { λ scalars. are_scalars scalars.items.items ≡ true };
+    ghost invariant = { λ scalars. (are_scalars scalars.items.items ≡ true) × AllByRecursion IsElement scalars.items.items };
 }
 
 impl Scalars {
@@ -97,6 +99,7 @@ impl Scalars {
     pub fn items(&self) -> &[Scalar]
         ensures value { result.now ≡ self.now }
         ensures limits { are_scalars self.now ≡ true }
+        ensures elements { AllByRecursion IsElement self.now }
     {
         &self.items
     }
