@@ -9,4 +9,5 @@ pub mod QuoteLemmas
 pub mod WordLemmas
 pub mod ScalarLemmas
 pub mod ValueLemmas
+pub mod ReadingLemmas
 pub mod NumberLemmas

@@ -97,7 +97,8 @@ fn append_scalar(scalar: &Scalar, out: &mut Vec<u8>) -> Result<(), AllocError>
 
 #[tactic(auto, using(crate::proofs::GrowthLemmas::keeps_shorter))]
 fn append_int(number: i64, out: &mut Vec<u8>) -> Result<(), AllocError>
-    ensures ok { OnOk result (out.new.items ≡ out.old.items ++ 3 ∷ to_be_bytes w64 (cast_unsigned w64 number)) }
+    ensures ok { OnOk result (out.new.items
+        ≡ out.old.items ++ 3 ∷ to_be_bytes w64 (cast_unsigned w64 number)) }
     ensures err { OnErr result (KeepsFront out.old.items out.new.items) }
 {
     out.extend_from_slice(&[3])?;

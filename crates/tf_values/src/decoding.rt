@@ -1,4 +1,4 @@
-ghost use Rattle.std.specs.Prelude.{◌≡◌, ◌≢◌, ◌<◌, ◌≤◌, ◌^◌, ◌++◌, ◌∷◌, ℕ, List, length, take, drop, true, IfOk, IsErrOf, MatchOption, FitsSigned};
+ghost use Rattle.std.specs.Prelude.{◌≡◌, ◌≢◌, ◌<◌, ◌≤◌, ◌^◌, ◌++◌, ◌∷◌, ℕ, List, length, take, drop, true, IfOk, IsErrOf, MatchOption, MatchResult, FitsSigned};
 ghost use Rattle.std.specs.List.{flat_map, AllByRecursion};
 ghost use Rattle.std.specs.Int.{to_be_bytes, cast_unsigned, w16, w32, w64};
 ghost use Rattle.tf_values.specs.declared.elements.Scalar.{Scalar};
@@ -22,17 +22,33 @@ impl Val {
     pub fn decode(alloc: Global, bytes: &[u8]) -> Result<(Val, usize), MakeFault>
         ensures ok { IfOk result (λ read. BeginsWith bytes.now read.0 read.1) }
         ensures within { IfOk result (λ read. read.1 ≤ length bytes.now) }
-        ensures refused { IsErrOf result MakeFault.No → (v : Val) (len : ℕ) → ¬ (BeginsWith bytes.now v len) }
+        ensures found { (v : Val) (len : ℕ) → BeginsWith bytes.now v len
+            → MatchResult result (λ read. (read.0 ≡ v) × (read.1 ≡ len))
+            (λ fault. fault ≡ MakeFault.Memory) }
+        ensures refused { IsErrOf result MakeFault.No
+            → (v : Val) (len : ℕ) → ¬ (BeginsWith bytes.now v len) }
     {
-        let (value, rest) = value_at(alloc, bytes)?;
-        Ok((value, bytes.len() - rest.len()))
+        front_value(alloc, bytes)
     }
+}
+
+/// The value at the front, and the length of its form.
+fn front_value(alloc: Global, bytes: &[u8]) -> Result<(Val, usize), MakeFault>
+    ensures ok { IfOk result (λ read. BeginsWith bytes.now read.0 read.1) }
+    ensures within { IfOk result (λ read. read.1 ≤ length bytes.now) }
+    ensures refused { IsErrOf result MakeFault.No
+        → (v : Val) (len : ℕ) → ¬ (BeginsWith bytes.now v len) }
+{
+    let (value, rest) = value_at(alloc, bytes)?;
+    Ok((value, bytes.len() - rest.len()))
 }
 
 /// The value at the front, and what stands behind its form.
 fn value_at(alloc: Global, bytes: &[u8]) -> Result<(Val, &[u8]), MakeFault>
-    ensures ok { IfOk result (λ read. IsValue read.0 × (bytes.now ≡ byte_form read.0 ++ read.1.now)) }
-    ensures refused { IsErrOf result MakeFault.No → (v : Val) (rest : List ℕ) → IsValue v → bytes.now ≢ byte_form v ++ rest }
+    ensures ok { IfOk result (λ read. IsValue read.0
+        × (bytes.now ≡ byte_form read.0 ++ read.1.now)) }
+    ensures refused { IsErrOf result MakeFault.No → (v : Val) (rest : List ℕ) → IsValue v
+        → bytes.now ≢ byte_form v ++ rest }
 {
     let Some((tag, rest)) = bytes.split_first() else {
         return Err(MakeFault::No);
@@ -48,8 +64,12 @@ fn value_at(alloc: Global, bytes: &[u8]) -> Result<(Val, &[u8]), MakeFault>
 
 /// The list whose form, without its tag, stands at the front.
 fn list_at(alloc: Global, bytes: &[u8]) -> Result<(Scalars, &[u8]), MakeFault>
-    ensures ok { IfOk result (λ read. (are_scalars read.0 ≡ true) × AllByRecursion IsElement read.0 × (5 ∷ bytes.now ≡ list_bytes read.0 ++ read.1.now)) }
-    ensures refused { IsErrOf result MakeFault.No → (scalars : List Scalar) (rest : List ℕ) → are_scalars scalars ≡ true → AllByRecursion IsElement scalars → 5 ∷ bytes.now ≢ list_bytes scalars ++ rest }
+    ensures ok { IfOk result
+        (λ read. (are_scalars read.0 ≡ true) × AllByRecursion IsElement read.0
+        × (5 ∷ bytes.now ≡ list_bytes read.0 ++ read.1.now)) }
+    ensures refused { IsErrOf result MakeFault.No → (scalars : List Scalar) (rest : List ℕ)
+        → are_scalars scalars ≡ true → AllByRecursion IsElement scalars
+        → 5 ∷ bytes.now ≢ list_bytes scalars ++ rest }
 {
     let Some((count, rest)) = count_at(bytes) else {
         return Err(MakeFault::No);
@@ -63,8 +83,12 @@ fn list_at(alloc: Global, bytes: &[u8]) -> Result<(Scalars, &[u8]), MakeFault>
 
 /// So many scalars at the front.
 fn scalars_at(alloc: Global, count: u16, bytes: &[u8]) -> Result<(Vec<Scalar>, &[u8]), MakeFault>
-    ensures ok { IfOk result (λ read. AllByRecursion IsElement read.0.items × (length read.0.items ≡ count) × (bytes.now ≡ flat_map scalar_bytes read.0.items ++ read.1.now)) }
-    ensures refused { IsErrOf result MakeFault.No → (scalars : List Scalar) (rest : List ℕ) → AllByRecursion IsElement scalars → length scalars ≡ count → bytes.now ≢ flat_map scalar_bytes scalars ++ rest }
+    ensures ok { IfOk result (λ read. AllByRecursion IsElement read.0.items
+        × (length read.0.items ≡ count)
+        × (bytes.now ≡ flat_map scalar_bytes read.0.items ++ read.1.now)) }
+    ensures refused { IsErrOf result MakeFault.No → (scalars : List Scalar) (rest : List ℕ)
+        → AllByRecursion IsElement scalars → length scalars ≡ count
+        → bytes.now ≢ flat_map scalar_bytes scalars ++ rest }
 {
     let mut items = Vec::new(alloc);
     let mut rest = bytes;
@@ -78,8 +102,10 @@ fn scalars_at(alloc: Global, count: u16, bytes: &[u8]) -> Result<(Vec<Scalar>, &
 
 /// The scalar at the front.
 fn scalar_at(alloc: Global, bytes: &[u8]) -> Result<(Scalar, &[u8]), MakeFault>
-    ensures ok { IfOk result (λ read. IsElement read.0 × (bytes.now ≡ scalar_bytes read.0 ++ read.1.now)) }
-    ensures refused { IsErrOf result MakeFault.No → (s : Scalar) (rest : List ℕ) → IsElement s → bytes.now ≢ scalar_bytes s ++ rest }
+    ensures ok { IfOk result (λ read. IsElement read.0
+        × (bytes.now ≡ scalar_bytes read.0 ++ read.1.now)) }
+    ensures refused { IsErrOf result MakeFault.No → (s : Scalar) (rest : List ℕ) → IsElement s
+        → bytes.now ≢ scalar_bytes s ++ rest }
 {
     match bytes {
         [0, rest @ ..] => Ok((Scalar::Nothing, rest)),
@@ -99,8 +125,10 @@ fn scalar_at(alloc: Global, bytes: &[u8]) -> Result<(Scalar, &[u8]), MakeFault>
 
 /// The text at the front, behind its length.
 fn text_at(alloc: Global, bytes: &[u8]) -> Result<(Text, &[u8]), MakeFault>
-    ensures ok { IfOk result (λ read. (is_text read.0 ≡ true) × (bytes.now ≡ text_bytes read.0 ++ read.1.now)) }
-    ensures refused { IsErrOf result MakeFault.No → (text rest : List ℕ) → is_text text ≡ true → bytes.now ≢ text_bytes text ++ rest }
+    ensures ok { IfOk result (λ read. (is_text read.0 ≡ true)
+        × (bytes.now ≡ text_bytes read.0 ++ read.1.now)) }
+    ensures refused { IsErrOf result MakeFault.No → (text rest : List ℕ) → is_text text ≡ true
+        → bytes.now ≢ text_bytes text ++ rest }
 {
     let Some((len, rest)) = len_at(bytes) else {
         return Err(MakeFault::No);
@@ -115,7 +143,8 @@ fn text_at(alloc: Global, bytes: &[u8]) -> Result<(Text, &[u8]), MakeFault>
 
 /// The integer at the front.
 fn int_at(bytes: &[u8]) -> Option<(i64, &[u8])>
-    ensures { MatchOption result (length bytes.now < 8) (λ read. FitsSigned w64 read.0 × (bytes.now ≡ to_be_bytes w64 (cast_unsigned w64 read.0) ++ read.1.now)) }
+    ensures { MatchOption result (length bytes.now < 8) (λ read. FitsSigned w64 read.0
+        × (bytes.now ≡ to_be_bytes w64 (cast_unsigned w64 read.0) ++ read.1.now)) }
 {
     let (front, rest) = bytes.split_first_chunk::<8>()?;
     Some((i64::from_be_bytes(*front), rest))
@@ -123,7 +152,8 @@ fn int_at(bytes: &[u8]) -> Option<(i64, &[u8])>
 
 /// The length at the front.
 fn len_at(bytes: &[u8]) -> Option<(u32, &[u8])>
-    ensures { MatchOption result (length bytes.now < 4) (λ read. (read.0 < 2 ^ 32) × (bytes.now ≡ to_be_bytes w32 read.0 ++ read.1.now)) }
+    ensures { MatchOption result (length bytes.now < 4) (λ read. (read.0 < 2 ^ 32)
+        × (bytes.now ≡ to_be_bytes w32 read.0 ++ read.1.now)) }
 {
     let (front, rest) = bytes.split_first_chunk::<4>()?;
     Some((u32::from_be_bytes(*front), rest))
@@ -131,7 +161,8 @@ fn len_at(bytes: &[u8]) -> Option<(u32, &[u8])>
 
 /// The number at the front of how many scalars follow.
 fn count_at(bytes: &[u8]) -> Option<(u16, &[u8])>
-    ensures { MatchOption result (length bytes.now < 2) (λ read. (read.0 < 2 ^ 16) × (bytes.now ≡ to_be_bytes w16 read.0 ++ read.1.now)) }
+    ensures { MatchOption result (length bytes.now < 2) (λ read. (read.0 < 2 ^ 16)
+        × (bytes.now ≡ to_be_bytes w16 read.0 ++ read.1.now)) }
 {
     let (front, rest) = bytes.split_first_chunk::<2>()?;
     Some((u16::from_be_bytes(*front), rest))

@@ -14,5 +14,6 @@ pub fn one_text_reading()
 /// A byte form has one reading, and begins no other's, whatever follows.
 #[tactic(auto, using(crate::proofs::ValueLemmas::value_byte_one))]
 pub fn one_byte_reading()
-    ensures { (v w : Val) (x y : List ℕ) → IsValue v → IsValue w → byte_form v ++ x ≡ byte_form w ++ y → (v ≡ w) × (x ≡ y) }
+    ensures { (v w : Val) (x y : List ℕ) → IsValue v → IsValue w
+        → byte_form v ++ x ≡ byte_form w ++ y → (v ≡ w) × (x ≡ y) }
 {}

@@ -8,8 +8,10 @@ use std::alloc::Global;
 
 /// The bytes whose forms stand up to the closing quote, and what stands behind it.
 pub fn unquoted(alloc: Global, bytes: &[u8]) -> Result<(Vec<u8>, &[u8]), MakeFault>
-    ensures ok { IfOk result (λ read. bytes.now ≡ flat_map quoted_byte read.0.items ++ 34 ∷ read.1.now) }
-    ensures refused { IsErrOf result MakeFault.No → (text rest : List ℕ) → bytes.now ≢ flat_map quoted_byte text ++ 34 ∷ rest }
+    ensures ok { IfOk result
+        (λ read. bytes.now ≡ flat_map quoted_byte read.0.items ++ 34 ∷ read.1.now) }
+    ensures refused { IsErrOf result MakeFault.No → (text rest : List ℕ)
+        → bytes.now ≢ flat_map quoted_byte text ++ 34 ∷ rest }
 {
     let mut text = Vec::new(alloc);
     let mut rest = bytes;
@@ -28,7 +30,8 @@ pub fn unquoted(alloc: Global, bytes: &[u8]) -> Result<(Vec<u8>, &[u8]), MakeFau
 
 /// The byte whose form within quotes stands at the front, and what follows.
 fn quoted_at(bytes: &[u8]) -> Option<(u8, &[u8])>
-    ensures { MatchOption result ((b : ℕ) (rest : List ℕ) → bytes.now ≢ quoted_byte b ++ rest) (λ read. bytes.now ≡ quoted_byte read.0 ++ read.1.now) }
+    ensures { MatchOption result ((b : ℕ) (rest : List ℕ) → bytes.now ≢ quoted_byte b ++ rest)
+        (λ read. bytes.now ≡ quoted_byte read.0 ++ read.1.now) }
 {
     let Some((first, rest)) = bytes.split_first() else {
         return None;
@@ -42,7 +45,9 @@ fn quoted_at(bytes: &[u8]) -> Option<(u8, &[u8])>
 
 /// The byte whose form stands at the front, where a backslash is before it.
 fn escaped_at(bytes: &[u8]) -> Option<(u8, &[u8])>
-    ensures { MatchOption result ((b : ℕ) (rest : List ℕ) → 92 ∷ bytes.now ≢ quoted_byte b ++ rest) (λ read. 92 ∷ bytes.now ≡ quoted_byte read.0 ++ read.1.now) }
+    ensures { MatchOption result ((b : ℕ) (rest : List ℕ)
+        → 92 ∷ bytes.now ≢ quoted_byte b ++ rest)
+        (λ read. 92 ∷ bytes.now ≡ quoted_byte read.0 ++ read.1.now) }
 {
     let Some((letter, rest)) = bytes.split_first() else {
         return None;
@@ -59,7 +64,9 @@ fn escaped_at(bytes: &[u8]) -> Option<(u8, &[u8])>
 
 /// The byte whose form stands at the front, where a backslash and the letter u are before it.
 fn control_at(bytes: &[u8]) -> Option<(u8, &[u8])>
-    ensures { MatchOption result ((b : ℕ) (rest : List ℕ) → 92 ∷ 117 ∷ bytes.now ≢ quoted_byte b ++ rest) (λ read. 92 ∷ 117 ∷ bytes.now ≡ quoted_byte read.0 ++ read.1.now) }
+    ensures { MatchOption result ((b : ℕ) (rest : List ℕ)
+        → 92 ∷ 117 ∷ bytes.now ≢ quoted_byte b ++ rest)
+        (λ read. 92 ∷ 117 ∷ bytes.now ≡ quoted_byte read.0 ++ read.1.now) }
 {
     let [b'0', b'0', high, low, rest @ ..] = bytes else {
         return None;
@@ -73,7 +80,9 @@ fn control_at(bytes: &[u8]) -> Option<(u8, &[u8])>
 
 /// The byte with these two hexadecimal digits.
 fn byte_of(high: u8, low: u8) -> Option<u8>
-    ensures { MatchOption result ((b : ℕ) → b < 256 → hexadecimal (b / 16) ≡ high → hexadecimal (b % 16) ≢ low) (λ b. (hexadecimal (b / 16) ≡ high) × (hexadecimal (b % 16) ≡ low)) }
+    ensures { MatchOption result ((b : ℕ) → b < 256 → hexadecimal (b / 16) ≡ high
+        → hexadecimal (b % 16) ≢ low) (λ b. (hexadecimal (b / 16) ≡ high)
+        × (hexadecimal (b % 16) ≡ low)) }
 {
     let high = number_of(high)?;
     let low = number_of(low)?;
@@ -82,7 +91,8 @@ fn byte_of(high: u8, low: u8) -> Option<u8>
 
 /// The number of a hexadecimal digit in lower case.
 fn number_of(digit: u8) -> Option<u8>
-    ensures { MatchOption result ((n : ℕ) → n < 16 → hexadecimal n ≢ digit) (λ n. (n < 16) × (hexadecimal n ≡ digit)) }
+    ensures { MatchOption result ((n : ℕ) → n < 16 → hexadecimal n ≢ digit) (λ n. (n < 16)
+        × (hexadecimal n ≡ digit)) }
 {
     match digit {
         b'0'..=b'9' => Some(digit - b'0'),

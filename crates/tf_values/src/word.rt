@@ -40,7 +40,8 @@ fn is_mark(byte: u8) -> bool
 
 /// The scalar, no text, whose text form the word is.
 pub fn scalar_of(word: &[u8]) -> Option<Scalar>
-    ensures { MatchOption result (IsNoScalar word.now) (λ scalar. IsElement scalar × (word.now ≡ scalar_text scalar)) }
+    ensures { MatchOption result (IsNoScalar word.now) (λ scalar. IsElement scalar
+        × (word.now ≡ scalar_text scalar)) }
 {
     if word == b"null".as_slice() {
         return Some(Scalar::Nothing);
@@ -59,7 +60,8 @@ pub fn scalar_of(word: &[u8]) -> Option<Scalar>
 
 /// The integer whose text form the word is.
 fn int_of(word: &[u8]) -> Option<i64>
-    ensures { MatchOption result ((z : ℤ) → FitsSigned w64 z → word.now ≢ signed_decimal z) (λ number. FitsSigned w64 number × (word.now ≡ signed_decimal number)) }
+    ensures { MatchOption result ((z : ℤ) → FitsSigned w64 z → word.now ≢ signed_decimal z)
+        (λ number. FitsSigned w64 number × (word.now ≡ signed_decimal number)) }
 {
     let Ok(text) = str::from_utf8(word) else {
         return None;

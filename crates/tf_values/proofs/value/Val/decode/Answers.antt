@@ -1,9 +1,5 @@
-use Rattle.std.proofs.lemmas.Result.{err_from_is_err_and}
-use Rattle.tf_values.proofs.FaultLemmas.{passed_on}
-use Rattle.tf_values.proofs.ByteLemmas.{begins_none}
+use Rattle.tf_values.proofs.ReadingLemmas.{found_front}
 use Rattle.tf_values.proofs.value.Val.decode.Goals as goal
 
-pub returns-in_err-value-clause-refused : goal.returns-in_err-value-clause-refused
-returns-in_err-value-clause-refused c =
-    let p = err_from_is_err_and c.from_residual.result c.from_residual.ensures.1 in
-    rw (p.1, p.2) (λ is. begins_none c.args.bytes.now (c.in_err-value.ensures.refused (passed_on _ _ is)))
+pub returns-clause-found : goal.returns-clause-found
+returns-clause-found c = found_front c.args.bytes.now c.front_value.result c.front_value.ensures.ok c.front_value.ensures.refused
