@@ -1,3 +1,13 @@
 pub mod TextLemmas
 pub mod GrowthLemmas
 pub mod NameLemmas
+pub mod ListLemmas
+pub mod FaultLemmas
+pub mod Codes
+pub mod ByteLemmas
+pub mod QuoteLemmas
+pub mod WordLemmas
+pub mod ScalarLemmas
+pub mod ValueLemmas
+pub mod ReadingLemmas
+pub mod NumberLemmas

@@ -4,3 +4,7 @@ pub mod ByteForm
 pub mod Scalars
 pub mod TextForm
 pub mod Growth
+pub mod Element
+pub mod Quote
+pub mod Word
+pub mod Value

@@ -1,5 +1,6 @@
 ghost use Rattle.std.specs.Prelude.{◌≡◌, ◌*◌, ◌≤◌, true, IfOk, IfErr, is_ok, length};
-ghost use Rattle.std.specs.List.{flat_map};
+ghost use Rattle.std.specs.List.{flat_map, AllByRecursion};
+ghost use Rattle.tf_values.specs.Element.{IsElement};
 ghost use Rattle.tf_values.specs.ByteForm.{scalar_bytes};
 ghost use Rattle.tf_values.specs.Scalars.{are_scalars};
 ghost use Rattle.tf_values.specs.declared.elements.TheConstants.{LIST_LIMIT};
@@ -41,10 +42,11 @@ impl Scalar {
     pub fn encoded_len(&self) -> usize
         ensures is { result ≡ length (scalar_bytes self.now) }
         ensures bound { result ≤ 65541 }
+        ensures element { IsElement self.now }
     {
         match self {
             Scalar::Nothing | Scalar::Truth(_) => 1,
-            Scalar::Int(_) => 9,
+            Scalar::Int(number) => 1 + number.to_be_bytes().len(),
             Scalar::Text(text) => 5 + text.bytes().len(),
         }
     }
@@ -60,13 +62,15 @@ pub struct Scalars {
 impl Model for Scalars {
     ghost use Rattle.std.specs.Prelude.{◌≡◌, true, List};
     ghost use Rattle.tf_values.specs.declared.elements.Scalar.{Scalar};
+    ghost use Rattle.std.specs.List.{AllByRecursion};
+    ghost use Rattle.tf_values.specs.Element.{IsElement};
     ghost use Rattle.tf_values.specs.Scalars.{are_scalars};
 
     ghost Value = { List Scalar };
 
     ghost view = { λ scalars. scalars.items.items };
 
-    ghost invariant = { λ scalars. are_scalars scalars.items.items ≡ true };
+    ghost invariant = { λ scalars. (are_scalars scalars.items.items ≡ true) × AllByRecursion IsElement scalars.items.items };
 }
 
 impl Scalars {
@@ -95,6 +99,7 @@ impl Scalars {
     pub fn items(&self) -> &[Scalar]
         ensures value { result.now ≡ self.now }
         ensures limits { are_scalars self.now ≡ true }
+        ensures elements { AllByRecursion IsElement self.now }
     {
         &self.items
     }
@@ -112,10 +117,11 @@ fn copies(alloc: Global, scalars: &[Scalar]) -> Result<Vec<Scalar>, Memory>
 }
 
 /// How many bytes the forms of the scalars have together.
-fn forms_len(scalars: &[Scalar]) -> usize
+pub fn forms_len(scalars: &[Scalar]) -> usize
     requires { length scalars.now ≤ LIST_LIMIT }
     ensures counted { result ≡ length (flat_map scalar_bytes scalars.now) }
     ensures bound { result ≤ 65541 * LIST_LIMIT }
+    ensures elements { AllByRecursion IsElement scalars.now }
 {
     let mut len = 0;
     for scalar in scalars {

@@ -1,6 +1,7 @@
 ghost use Rattle.std.specs.Prelude.{◌≡◌, IfOk};
+ghost use Rattle.tf_values.specs.Value.{value_of};
 
-use crate::elements::Scalars;
+use crate::elements::{Scalar, Scalars};
 use crate::faults::Memory;
 use crate::utf8::Text;
 use std::alloc::Global;
@@ -26,6 +27,19 @@ impl Val {
             Val::Int(number) => Ok(Val::Int(*number)),
             Val::Text(text) => Ok(Val::Text(text.copy(alloc)?)),
             Val::List(scalars) => Ok(Val::List(scalars.copy(alloc)?)),
+        }
+    }
+}
+
+impl From<Scalar> for Val {
+    ghost from_gives = { λ scalar value. value ≡ value_of scalar };
+
+    fn from(scalar: Scalar) -> Val {
+        match scalar {
+            Scalar::Nothing => Val::Nothing,
+            Scalar::Truth(truth) => Val::Truth(truth),
+            Scalar::Int(number) => Val::Int(number),
+            Scalar::Text(text) => Val::Text(text),
         }
     }
 }

@@ -1,4 +1,4 @@
-use Rattle.std.proofs.Common.{rules, length, ap, ◌++◌, ℕ, List}
+use Rattle.std.proofs.Common.{length, ap, ◌++◌, ℕ, List}
 use Rattle.std.proofs.lemmas.List.{drop-replicate}
 use Rattle.tf_values.proofs.identifier.in_field.Goals as goal
 
