@@ -1,2 +1,10 @@
-pub mod Plan
+pub mod Tree
+pub mod Places
 pub mod Names
+pub mod ByteLength
+pub mod Limits
+pub mod Rules
+pub mod Refusal
+pub mod Shown
+pub mod Plan
+pub mod Items

@@ -1,37 +1,30 @@
--- What a plan is, and the first reason why a flow makes none.
-use Rattle.std.specs.Prelude.{ℕ, List, [], ◌∷◌, length, map, Option, Some, None, option_map, if◌then◌else◌, nat_lt}
-use Rattle.tf_flow.specs.Names.{first_repeat}
-use Rattle.tf_flow.specs.declared.pattern.Flow.{Flow}
-use Rattle.tf_flow.specs.declared.pattern.Task.{Task}
-use Rattle.tf_flow.specs.declared.pattern.Item.{Item}
-use Rattle.tf_flow.specs.declared.pattern.Item.TheVariants as item
-use Rattle.tf_flow.specs.declared.planning.PlanFault.{PlanFault}
-use Rattle.tf_flow.specs.declared.planning.PlanFault.TheVariants as fault
-use Rattle.tf_flow.specs.declared.planning.Limit.TheVariants as limit
+-- A plan, and the numbers of its atoms and flows.
+use Rattle.std.specs.Prelude.{◌≡◌, ℕ, List, Bool, None}
+use Rattle.tf_flow.specs.declared.atoms.Bind.{Bind}
+use Rattle.tf_flow.specs.declared.nested.Flow.{Flow}
+use Rattle.tf_flow.specs.Places.{tree_order, atom_names, retry_marks, flow_names}
+use Rattle.tf_flow.specs.Refusal.{first_refusal}
 
--- the task that an item is
-abbrev pub task_of : Item → Task
-task_of (item.Task task) = task
-
--- the tasks of a flow, in tree order
-abbrev pub tasks_of : Flow → List Task
-tasks_of flow = map task_of flow.items
-
--- the name of the task that an item is
-abbrev pub item_name : Item → List ℕ
-item_name entry = (task_of entry).name
-
--- the names of a flow in tree order, its own first
-abbrev pub names_of : Flow → List (List ℕ)
-names_of flow = flow.name ∷ map item_name flow.items
-
--- the first reason why the flow makes no plan: more than 1,000 atoms, none, or a name that stands twice
-abbrev pub first_fault : Flow → Option PlanFault
-first_fault flow =
-    if nat_lt 1000 (length (tasks_of flow)) then Some (fault.TooLarge limit.Atoms (length (tasks_of flow)))
-    else if nat_lt 0 (length (tasks_of flow)) then option_map fault.Duplicate (first_repeat (names_of flow))
-    else Some fault.Empty
-
--- a plan as contracts see it
+-- what a plan stands for: a root flow, the values of the store, and whether a retry leaves its answer
+-- to the one around it
 pub record PlanValue : Type 0 where
   pub root : Flow
+  pub store : List Bind
+  pub defer : Bool
+
+-- the names of a plan's atoms, which of them are retry controllers, and the names of its flows, by number
+abbrev pub atoms : PlanValue → List (List ℕ)
+atoms plan = atom_names (tree_order plan.root)
+
+abbrev pub retries : PlanValue → List Bool
+retries plan = retry_marks (tree_order plan.root)
+
+abbrev pub flows : PlanValue → List (List ℕ)
+flows plan = flow_names (tree_order plan.root)
+
+-- what a plan keeps beside its flows is what tree order says, and nothing is refused
+pub record IsNumbered (root : Flow) (store : List Bind) (names : List (List ℕ)) (marks : List Bool) (levels : List (List ℕ)) : Type 0 where
+  pub atoms_named : names ≡ atom_names (tree_order root)
+  pub retries_marked : marks ≡ retry_marks (tree_order root)
+  pub flows_named : levels ≡ flow_names (tree_order root)
+  pub accepted : first_refusal root store ≡ None

@@ -1,8 +1,22 @@
-//! Flows of tasks, and the plan that a flow makes.
+//! Flows as they are written: tasks, retry controllers, nested flows, links and deciders, and plans
+//! that keep every limit and every rule.
 #![tactic(auto)]
 
-mod pattern;
-mod planning;
+mod atom_rules;
+mod atoms;
+mod byte_length;
+mod deciders;
+mod faults;
+mod limits;
+mod link_rules;
+mod nested;
+mod outline;
+mod plans;
+mod refusals;
+mod repeats;
 
-pub use pattern::{Bind, Binds, Flow, FlowKind, Item, Items, Task, TaskKind};
-pub use planning::{Limit, Plan, PlanFault};
+pub use atoms::{Arg, ArgList, Bind, Binds, Provides, Retry, RetryKind, Task, TaskKind, Undo};
+pub use deciders::{Decider, Depth, Link, Links, Test, Tests};
+pub use faults::{Limit, PlanFault};
+pub use nested::{Flow, FlowKind, Item, Items};
+pub use plans::Plan;

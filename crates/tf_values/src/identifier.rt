@@ -2,6 +2,7 @@ ghost use Rattle.std.specs.Prelude.{◌≡◌, true, is_some, IfSome, ◌≤◌,
 ghost use Rattle.std.specs.List.{list_all};
 ghost use Rattle.tf_values.specs.Name.{is_name, begins_name, stands_in_name, padded};
 
+use std::hash::{Hash, Hasher};
 use std::marker::Model;
 
 /// The most bytes of a name.
@@ -76,6 +77,20 @@ impl Eq for Name {
     ghost use Rattle.std.proofs.Common.{rules};
 
     ghost laws = { Prim.search (comparing, rules) };
+}
+
+impl Hash for Name {
+    ghost use Rattle.std.specs.Hash as fed;
+    ghost use Rattle.std.specs.Cmp.Rules.{hashing};
+    ghost use Rattle.std.proofs.Common.{rules};
+
+    ghost hash_input = { fed.slice fed.u8 };
+
+    ghost respects_eq = { Prim.search (hashing, rules) };
+
+    fn hash<H: Hasher>(&self, state: &mut H) {
+        self.bytes().hash(state);
+    }
 }
 
 /// The bytes, and zeros after them.

@@ -1,0 +1,5 @@
+pub mod TreeLemmas
+pub mod PlaceLemmas
+pub mod MeasureLemmas
+pub mod NameLemmas
+pub mod LinkLemmas

@@ -1,0 +1,8 @@
+use Rattle.std.proofs.Common.{◌≡◌, take, drop, map, codes}
+use Rattle.tf_flow.specs.Names.{first_some, is_among}
+use Rattle.tf_flow.specs.Rules as rule
+use Rattle.tf_flow.specs.Shown.{shown_places}
+use Rattle.tf_flow.proofs.atom_rules.first_bad_atom.Given as goal
+
+abbrev pub invariant-loop-place : goal.invariant-loop-place
+invariant-loop-place l = first_some rule.bad_atom_at (shown_places (drop l.place-index l.order)) ≡ first_some rule.bad_atom_at (shown_places l.order)

@@ -1,0 +1,8 @@
+use Rattle.std.proofs.Common.{◌≡◌, take, drop, map, codes}
+use Rattle.tf_flow.specs.Names.{first_some, is_among}
+use Rattle.tf_flow.specs.Rules as rule
+use Rattle.tf_flow.specs.Shown.{shown_places}
+use Rattle.tf_flow.proofs.atom_rules.has_argument.Given as goal
+
+abbrev pub invariant-loop-arg : goal.invariant-loop-arg
+invariant-loop-arg l = is_among (rule.arg_names (drop l.arg-index l.args)) l.name ≡ is_among (rule.arg_names l.args) l.name

@@ -1,0 +1,9 @@
+use Rattle.std.proofs.Common.{◌≡◌, take, length, sum_by}
+use Rattle.std.specs.List.{flat_map}
+use Rattle.tf_values.specs.ByteForm.{scalar_bytes}
+use Rattle.tf_flow.specs.ByteLength as form
+use Rattle.tf_flow.specs.Limits.{capped}
+use Rattle.tf_flow.proofs.byte_length.list_len.Given as goal
+
+abbrev pub invariant-loop-scalar : goal.invariant-loop-scalar
+invariant-loop-scalar l = l.len ≡ capped (length (flat_map scalar_bytes (take l.scalar-index l.scalars)))
