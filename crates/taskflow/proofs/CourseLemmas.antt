@@ -8,7 +8,7 @@ use Rattle.tf_files.specs.declared.reading.FileFault.{FileFault}
 use Rattle.tf_files.specs.declared.reading.FileFault.TheVariants as file_fault
 use Rattle.tf_states.specs.declared.record.Entry.{Entry}
 use Rattle.tf_states.specs.declared.state.FlowState.{FlowState}
-use Rattle.tf_model.specs.Outline.{Outline, outline_of}
+use Rattle.taskflow.specs.Outline.{Outline, outline_of}
 use Rattle.taskflow.specs.Lines.{report, refusal, file_fault_text}
 use Rattle.taskflow.specs.Standing.{IsEnded, IsCut, IsStopped}
 use Rattle.taskflow.specs.Course.{Closes, said, cut, ClosesOrStops, Ran, reported, report_cut, line_cut, stopped, BytesTried, exhausted, refused, ran, status_of, Tried, Obeys}

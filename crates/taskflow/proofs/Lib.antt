@@ -1,3 +1,4 @@
+pub mod NumberLemmas
 pub mod SituationLemmas
 pub mod StepLemmas
 pub mod StandingLemmas

@@ -7,11 +7,11 @@ use Rattle.tf_states.specs.declared.record.What.{What}
 use Rattle.tf_states.specs.declared.record.What.TheVariants as what
 use Rattle.tf_states.specs.declared.state.FlowState.{FlowState}
 use Rattle.tf_states.specs.declared.state.FlowState.TheVariants as flow
-use Rattle.tf_model.specs.Outline.{Outline, count}
-use Rattle.tf_model.specs.History.{snapshot, state_of}
-use Rattle.tf_model.specs.Rules.{end_of, is_settled}
-use Rattle.tf_model.specs.Steps.{Step, closed_step, begun_step, LegalPast, is_still}
-use Rattle.tf_model.specs.Sessions.{Session, unbegun, halted, whole, has_entered, is_of_flow, is_final}
+use Rattle.taskflow.specs.Outline.{Outline, count}
+use Rattle.taskflow.specs.History.{snapshot, state_of}
+use Rattle.taskflow.specs.Rules.{end_of, is_settled}
+use Rattle.taskflow.specs.Steps.{Step, closed_step, begun_step, LegalPast, is_still}
+use Rattle.taskflow.specs.Sessions.{Session, unbegun, halted, whole, has_entered, is_of_flow, is_final}
 use Rattle.taskflow.specs.BuiltIns.{HasOutcomes, IsGiven}
 use Rattle.taskflow.specs.Hands.{by_hand}
 use Rattle.taskflow.specs.Lines.{line, lines}

@@ -11,12 +11,12 @@ use Rattle.tf_states.specs.declared.record.What.TheVariants as what
 use Rattle.tf_states.specs.declared.state.AtomState.{AtomState}
 use Rattle.tf_states.specs.declared.state.AtomState.TheVariants as atom
 use Rattle.tf_states.specs.declared.state.FlowState.TheVariants as flow
-use Rattle.tf_model.specs.History.{Snapshot, snapshot, state_of, is_at_work}
-use Rattle.tf_model.specs.Outline.{Outline, count}
-use Rattle.tf_model.specs.Rules.{is_pending, is_failure, is_revert_failure, is_done, is_settled, is_executed, forced, choice, end_of, is_unhurt, is_unresolved, is_candidate, is_active, can_run, can_revert, lets_run, lets_revert, is_done_at, is_at_rest, taken_up}
-use Rattle.tf_model.specs.Steps.{Step, forced_step, taken_step, ended_step, begun_step, closed_step, is_still, is_free, is_not_with, is_idle}
-use Rattle.tf_model.specs.Numbers.{all_below, first_below}
-use Rattle.tf_model.proofs.NumberLemmas.{all_below-true, all_below-false, first_below-none, first_below-found}
+use Rattle.taskflow.specs.History.{Snapshot, snapshot, state_of, is_at_work}
+use Rattle.taskflow.specs.Outline.{Outline, count}
+use Rattle.taskflow.specs.Rules.{is_pending, is_failure, is_revert_failure, is_done, is_settled, is_executed, forced, choice, end_of, is_unhurt, is_unresolved, is_candidate, is_active, can_run, can_revert, lets_run, lets_revert, is_done_at, is_at_rest, taken_up}
+use Rattle.taskflow.specs.Steps.{Step, forced_step, taken_step, ended_step, begun_step, closed_step, is_still, is_free, is_not_with, is_idle}
+use Rattle.taskflow.specs.Numbers.{all_below, first_below}
+use Rattle.taskflow.proofs.NumberLemmas.{all_below-true, all_below-false, first_below-none, first_below-found}
 use Rattle.taskflow.specs.Hands.{by_hand}
 use Rattle.taskflow.specs.Situations.{is_undone, Executes, Performs, HasFailed, Reverts, Undoes}
 

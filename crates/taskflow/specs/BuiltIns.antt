@@ -15,7 +15,7 @@ use Rattle.tf_states.specs.declared.record.What.TheVariants as what
 use Rattle.tf_states.specs.declared.record.Failure.TheVariants as failure
 use Rattle.tf_states.specs.declared.record.Payload.TheVariants as payload
 use Rattle.tf_states.specs.declared.state.AtomState.TheVariants as atom
-use Rattle.tf_model.specs.Outline.{Outline}
+use Rattle.taskflow.specs.Outline.{Outline}
 use Rattle.taskflow.specs.declared.built_in.Outcome.{Outcome}
 use Rattle.taskflow.specs.declared.built_in.Outcome.TheVariants as outcome
 

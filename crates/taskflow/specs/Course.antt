@@ -8,8 +8,8 @@ use Rattle.tf_files.specs.declared.reading.FileFault.{FileFault}
 use Rattle.tf_states.specs.declared.record.Entry.{Entry}
 use Rattle.tf_states.specs.declared.state.FlowState.{FlowState}
 use Rattle.tf_states.specs.declared.state.FlowState.TheVariants as flow
-use Rattle.tf_model.specs.Outline.{Outline, outline_of}
-use Rattle.tf_model.specs.Sessions.{Session}
+use Rattle.taskflow.specs.Outline.{Outline, outline_of}
+use Rattle.taskflow.specs.Sessions.{Session}
 use Rattle.taskflow.specs.BuiltIns.{HasOutcomes}
 use Rattle.taskflow.specs.Lines.{lines, report, usage, cannot_read, refusal, file_fault_text}
 use Rattle.taskflow.specs.Standing.{IsEnded, IsCut}

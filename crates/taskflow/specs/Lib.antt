@@ -1,3 +1,9 @@
+pub mod Numbers
+pub mod Outline
+pub mod History
+pub mod Rules
+pub mod Steps
+pub mod Sessions
 pub mod BuiltIns
 pub mod Lines
 pub mod Hands

@@ -23,7 +23,7 @@ use Rattle.tf_states.specs.declared.state.AtomState.{AtomState}
 use Rattle.tf_states.specs.declared.state.AtomState.TheVariants as atom
 use Rattle.tf_states.specs.declared.state.FlowState.{FlowState}
 use Rattle.tf_states.specs.declared.state.FlowState.TheVariants as flow
-use Rattle.tf_model.specs.Outline.{Outline}
+use Rattle.taskflow.specs.Outline.{Outline}
 
 -- the words for the states of atoms and flows, and for the kinds of resolution
 abbrev pub atom_word : AtomState → List ℕ

@@ -3,9 +3,9 @@ use Rattle.std.specs.Prelude.{◌≡◌, ◌≢◌, ℕ, ◌<◌, ◌≤◌, Opt
 use Rattle.tf_states.specs.declared.record.Kind.TheVariants as kind
 use Rattle.tf_states.specs.declared.state.AtomState.TheVariants as atom
 use Rattle.tf_states.specs.declared.state.FlowState.TheVariants as flow
-use Rattle.tf_model.specs.History.{Snapshot}
+use Rattle.taskflow.specs.History.{Snapshot}
 use Rattle.tf_states.specs.declared.state.AtomState.{AtomState}
-use Rattle.tf_model.specs.Rules.{is_executed}
+use Rattle.taskflow.specs.Rules.{is_executed}
 
 -- a task in this state hasn't begun, or was undone
 abbrev pub is_undone : AtomState → Bool

@@ -5,11 +5,11 @@ use Rattle.tf_states.specs.declared.record.Entry.{Entry}
 use Rattle.tf_states.specs.declared.record.What.{What}
 use Rattle.tf_states.specs.declared.state.FlowState.{FlowState}
 use Rattle.tf_states.specs.declared.state.FlowState.TheVariants as flow
-use Rattle.tf_model.specs.Outline.{Outline, count}
-use Rattle.tf_model.specs.History.{snapshot, state_of}
-use Rattle.tf_model.specs.Rules.{end_of, is_settled}
-use Rattle.tf_model.specs.Steps.{LegalPast}
-use Rattle.tf_model.specs.Sessions.{Session, has_entered}
+use Rattle.taskflow.specs.Outline.{Outline, count}
+use Rattle.taskflow.specs.History.{snapshot, state_of}
+use Rattle.taskflow.specs.Rules.{end_of, is_settled}
+use Rattle.taskflow.specs.Steps.{LegalPast}
+use Rattle.taskflow.specs.Sessions.{Session, has_entered}
 use Rattle.taskflow.specs.BuiltIns.{HasOutcomes}
 use Rattle.taskflow.specs.Lines.{line, lines}
 use Rattle.taskflow.specs.declared.log.Halt.{Halt}

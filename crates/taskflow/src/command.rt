@@ -1,6 +1,6 @@
 ghost use Rattle.std.specs.Prelude.{◌≡◌, ◌≢◌, ◌≤◌, ◌⊎◌};
 ghost use Rattle.tf_desk.specs.Counts.{Rises};
-ghost use Rattle.tf_model.specs.Outline.{outline_of};
+ghost use Rattle.taskflow.specs.Outline.{outline_of};
 ghost use Rattle.taskflow.specs.Lines.{report, refusal, file_fault_text};
 ghost use Rattle.taskflow.specs.Course.{Closes, ClosesOrStops, BytesTried, Ran, Tried, status_of};
 

@@ -1,11 +1,11 @@
 ghost use Rattle.std.specs.Prelude.{◌≡◌, ◌≢◌, ℕ, ◌+◌, ◌<◌, ◌≤◌, [], ◌∷◌, List, length, Option, Some, None, Ok, Err, true, false, OnOk, IfOk, IfErr, IsErrOf};
 ghost use Rattle.std.specs.List.{slice_get};
 ghost use Rattle.tf_desk.specs.Counts.{Rises};
-ghost use Rattle.tf_model.specs.Outline.{outline_of, count};
-ghost use Rattle.tf_model.specs.History.{snapshot, state_of};
-ghost use Rattle.tf_model.specs.Rules.{end_of, is_settled};
-ghost use Rattle.tf_model.specs.Steps.{Step, is_still};
-ghost use Rattle.tf_model.specs.Sessions.{is_of_flow, is_final};
+ghost use Rattle.taskflow.specs.Outline.{outline_of, count};
+ghost use Rattle.taskflow.specs.History.{snapshot, state_of};
+ghost use Rattle.taskflow.specs.Rules.{end_of, is_settled};
+ghost use Rattle.taskflow.specs.Steps.{Step, is_still};
+ghost use Rattle.taskflow.specs.Sessions.{is_of_flow, is_final};
 ghost use Rattle.taskflow.specs.BuiltIns.{IsGiven};
 ghost use Rattle.taskflow.specs.Hands.{by_hand};
 ghost use Rattle.taskflow.specs.Situations.{Executes, HasFailed, Reverts};

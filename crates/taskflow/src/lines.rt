@@ -1,7 +1,7 @@
 ghost use Rattle.std.specs.Prelude.{◌≡◌, [], ◌∷◌, ◌++◌, OnOk};
 ghost use Rattle.std.specs.List.{slice_get};
 ghost use Rattle.taskflow.specs.Lines.{atom_word as word_of_atom, flow_word as word_of_flow, kind_word as word_of_kind, limit_word as word_of_limit, failure_text, payload_text, name_of, name_at as name_under, what_text, line, report, plan_fault_text, file_fault_text, refusal};
-ghost use Rattle.tf_model.specs.Outline.{outline_of};
+ghost use Rattle.taskflow.specs.Outline.{outline_of};
 
 use itoa::{Buffer, Integer};
 use tf_files::FileFault;

@@ -1,7 +1,7 @@
 ghost use Rattle.std.specs.Prelude.{◌≡◌, ℕ, ◌+◌, ◌≤◌, [], ◌∷◌, List, length, Option, Some, None, OnOk, IfErr, IsErrOf, false};
 ghost use Rattle.tf_desk.specs.Counts.{Rises};
 ghost use Rattle.tf_desk.specs.Shown.{shown_with, ShowsFront};
-ghost use Rattle.tf_model.specs.Outline.{outline_of};
+ghost use Rattle.taskflow.specs.Outline.{outline_of};
 ghost use Rattle.taskflow.specs.Lines.{line};
 ghost use Rattle.taskflow.specs.Hands.{by_hand};
 

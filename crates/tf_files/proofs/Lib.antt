@@ -1,2 +1,4 @@
 pub mod DocumentLemmas
 pub mod MemberLemmas
+pub mod TreeRules
+pub mod BuiltLemmas

@@ -1,18 +1,20 @@
-ghost use Rattle.std.specs.Prelude.{◌≡◌, None, IfOk, IfNone, IfSome, string_bytes, codes, option_map, option_and_then};
+ghost use Rattle.std.specs.Prelude.{◌≡◌, None, IfOk, IfNone, IfSome, string_bytes, codes, map, option_map, option_and_then};
+ghost use Rattle.tf_flow.specs.Tree.{tree_of, item_tree};
 ghost use Rattle.tf_files.specs.Document.{string_at as string_under};
-ghost use Rattle.tf_files.specs.FlowFile.{value_form as value_of, one_bind as one_of, bind_form as bind_of, inject_form as inject_of, kind_form as kind_of, task_form as task_of, item_form as item_of, items_form as items_of, list_form as list_of, name_form as name_of, flow_form as flow_of, is_linear as linear};
+ghost use Rattle.tf_files.specs.FlowFile.{value_form as value_of, one_bind as one_of, bind_form as bind_of, inject_form as inject_of, kind_form as kind_of, task_form as task_of, item_form as item_of, items_form as items_of, list_form as list_of, name_form as name_of, argument, bound_task as bound, flow_form as flow_of, is_linear as linear};
 ghost use Rattle.toml.specs.Data.{string as string_data, member, no_members, get_member};
 ghost use Rattle.toml.specs.View.{view, items_view, table_view};
 
 use crate::document::{has_only, string_at, value_at};
 use std::alloc::Global;
-use tf_flow::{Bind, Binds, Flow, FlowKind, Item, Items, Task, TaskKind};
-use tf_values::{MakeFault, Memory, Name, Text, Val};
+use tf_flow::{Arg, ArgList, Bind, Binds, Flow, FlowKind, Item, Items, Links, Provides, Task, TaskKind, Undo};
+use tf_values::{MakeFault, Memory, Name, Text, Texts, Val};
 use toml::{Table, Value};
 
 /// The linear flow that a document is, or none where it is of another form.
+#[tactic(auto, using(crate::proofs::TreeRules::trees))]
 pub fn flow_form(alloc: Global, document: &Table) -> Result<Option<Flow>, Memory>
-    ensures { IfOk result (λ flow. flow ≡ flow_of (table_view document.now)) }
+    ensures { IfOk result (λ flow. option_map tree_of flow ≡ flow_of (table_view document.now)) }
 {
     if !has_only(document, &["name", "kind", "items"]) || !is_linear(document) {
         return Ok(None);
@@ -26,7 +28,9 @@ pub fn flow_form(alloc: Global, document: &Table) -> Result<Option<Flow>, Memory
     Ok(Some(Flow {
         name,
         kind: FlowKind::Linear,
+        retry: None,
         items: Items::make(items),
+        links: Links::make(Vec::new(alloc)),
     }))
 }
 
@@ -49,7 +53,7 @@ fn name_at(table: &Table, key: &str) -> Option<Name>
 }
 
 fn list_form(alloc: Global, document: &Table) -> Result<Option<Vec<Item>>, Memory>
-    ensures { IfOk result (λ items. option_map (λ list. list.items) items ≡ list_of (get_member (codes "items") (table_view document.now))) }
+    ensures { IfOk result (λ items. option_map (λ list. map item_tree list.items) items ≡ list_of (get_member (codes "items") (table_view document.now))) }
 {
     let Some(found) = value_at(document, "items") else {
         return Ok(Some(Vec::new(alloc)));
@@ -60,8 +64,9 @@ fn list_form(alloc: Global, document: &Table) -> Result<Option<Vec<Item>>, Memor
     }
 }
 
+#[tactic(auto, using(crate::proofs::TreeRules::trees))]
 fn items_form(alloc: Global, array: &[Value]) -> Result<Option<Vec<Item>>, Memory>
-    ensures { IfOk result (λ items. option_map (λ list. list.items) items ≡ items_of (items_view array.now)) }
+    ensures { IfOk result (λ items. option_map (λ list. map item_tree list.items) items ≡ items_of (items_view array.now)) }
 {
     let mut items = Vec::new(alloc);
     for found in array {
@@ -97,11 +102,42 @@ fn task_form(alloc: Global, table: &Table) -> Result<Option<Task>, Memory>
     let Some(inject) = inject_form(alloc, table)? else {
         return Ok(None);
     };
-    Ok(Some(Task {
+    Ok(Some(bound_task(alloc, name, kind, inject)?))
+}
+
+/// The task of a name, a kind and bindings.
+fn bound_task(
+    alloc: Global,
+    name: Name,
+    kind: TaskKind,
+    inject: Vec<Bind>,
+) -> Result<Task, Memory>
+    ensures { IfOk result (λ task. task ≡ bound name kind inject.items) }
+{
+    Ok(Task {
         name,
         kind,
+        words: Texts::make(Vec::new(alloc)),
+        args: ArgList::make(arguments(alloc, &inject)?),
         inject: Binds::make(inject),
-    }))
+        provides: Provides::Nothing,
+        priority: 0,
+        undo: Undo::Pass,
+    })
+}
+
+/// One argument for each binding, under the symbol's name.
+fn arguments(alloc: Global, inject: &[Bind]) -> Result<Vec<Arg>, Memory>
+    ensures { IfOk result (λ args. args.items ≡ map argument inject.now) }
+{
+    let mut args = Vec::new(alloc);
+    for bind in inject {
+        args.push(Arg {
+            name: bind.symbol,
+            symbol: bind.symbol,
+        })?;
+    }
+    Ok(args)
 }
 
 fn kind_at(table: &Table) -> Option<TaskKind>

@@ -1,5 +1,5 @@
 use Rattle.std.proofs.Common.{◌≡◌, arith}
-use Rattle.tf_model.specs.Outline.{outline_of}
+use Rattle.taskflow.specs.Outline.{outline_of}
 use Rattle.taskflow.proofs.StepLemmas.{reverted_end, reverts_still}
 use Rattle.taskflow.proofs.engine.revert.Goals as goal
 

@@ -1,6 +1,6 @@
 use Rattle.std.proofs.Common.{◌≡◌, ◌≤◌, Option, List, ℕ}
-use Rattle.tf_model.specs.History.{snapshot}
-use Rattle.tf_model.specs.Outline.{outline_of}
+use Rattle.taskflow.specs.History.{snapshot}
+use Rattle.taskflow.specs.Outline.{outline_of}
 use Rattle.taskflow.specs.Situations.{Reverts}
 use Rattle.taskflow.specs.Standing.{GoesOn}
 use Rattle.taskflow.proofs.engine.revert.Given as goal

@@ -1,4 +1,4 @@
-use Rattle.tf_model.specs.Outline.{outline_of}
+use Rattle.taskflow.specs.Outline.{outline_of}
 use Rattle.taskflow.proofs.StepLemmas.{executes_still}
 use Rattle.taskflow.proofs.engine.run.Goals as goal
 

@@ -1,6 +1,6 @@
 use Rattle.std.proofs.Common.{◌≡◌, ◌≤◌}
-use Rattle.tf_model.specs.History.{snapshot}
-use Rattle.tf_model.specs.Outline.{outline_of}
+use Rattle.taskflow.specs.History.{snapshot}
+use Rattle.taskflow.specs.Outline.{outline_of}
 use Rattle.taskflow.specs.Situations.{Executes}
 use Rattle.taskflow.specs.Standing.{GoesOn}
 use Rattle.taskflow.proofs.engine.run.Given as goal

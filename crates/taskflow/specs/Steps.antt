@@ -8,10 +8,10 @@ use Rattle.tf_states.specs.declared.record.Payload.TheVariants as payload
 use Rattle.tf_states.specs.declared.state.AtomState.{AtomState}
 use Rattle.tf_states.specs.declared.state.AtomState.TheVariants as atom
 use Rattle.tf_states.specs.declared.state.FlowState.TheVariants as flow
-use Rattle.tf_model.specs.Numbers.{all_below}
-use Rattle.tf_model.specs.Outline.{Outline, count}
-use Rattle.tf_model.specs.History.{Snapshot, snapshot}
-use Rattle.tf_model.specs.Rules.{forced, choice, end_of}
+use Rattle.taskflow.specs.Numbers.{all_below}
+use Rattle.taskflow.specs.Outline.{Outline, count}
+use Rattle.taskflow.specs.History.{Snapshot, snapshot}
+use Rattle.taskflow.specs.Rules.{forced, choice, end_of}
 
 -- the hand is this one
 abbrev pub is_hand : ℕ → Option ℕ → Bool

@@ -2,7 +2,7 @@
 use Rattle.std.proofs.Common.{◌≡◌, ◌≢◌, ℕ, zero, suc, ◌<◌, ◌≤◌, Bool, true, false, ◌&&◌, Some, None, refl, arith, cond, inl, inr, ◌⊎◌, eqb}
 use Rattle.std.proofs.lemmas.Bool.Decides.{eqb_tells}
 use Rattle.std.proofs.lemmas.Bool.{eq-eqb}
-use Rattle.tf_model.specs.Numbers.{all_below, first_below, first_of_two}
+use Rattle.taskflow.specs.Numbers.{all_below, first_below, first_of_two}
 
 -- what passes at each number passes below n
 pub all_below-true : (n : ℕ) (test : ℕ → Bool) → ((k : ℕ) → k < n → test k ≡ true) → all_below n test ≡ true

@@ -8,9 +8,9 @@ use Rattle.tf_states.specs.declared.state.AtomState.{AtomState}
 use Rattle.tf_states.specs.declared.state.AtomState.TheVariants as atom
 use Rattle.tf_states.specs.declared.state.FlowState.{FlowState}
 use Rattle.tf_states.specs.declared.state.FlowState.TheVariants as flow
-use Rattle.tf_model.specs.Numbers.{all_below, first_below}
-use Rattle.tf_model.specs.Outline.{Outline, count, is_before}
-use Rattle.tf_model.specs.History.{Snapshot, is_at_work}
+use Rattle.taskflow.specs.Numbers.{all_below, first_below}
+use Rattle.taskflow.specs.Outline.{Outline, count, is_before}
+use Rattle.taskflow.specs.History.{Snapshot, is_at_work}
 
 abbrev pub is_pending : AtomState → Bool
 is_pending atom.Pending = true

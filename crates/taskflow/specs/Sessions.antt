@@ -5,9 +5,9 @@ use Rattle.tf_states.specs.declared.record.What.{What}
 use Rattle.tf_states.specs.declared.record.What.TheVariants as what
 use Rattle.tf_states.specs.declared.state.FlowState.{FlowState}
 use Rattle.tf_states.specs.declared.state.FlowState.TheVariants as flow
-use Rattle.tf_model.specs.Outline.{Outline}
-use Rattle.tf_model.specs.Rules.{is_running}
-use Rattle.tf_model.specs.Steps.{LegalPast}
+use Rattle.taskflow.specs.Outline.{Outline}
+use Rattle.taskflow.specs.Rules.{is_running}
+use Rattle.taskflow.specs.Steps.{LegalPast}
 
 -- the entry is of the flow
 abbrev pub is_of_flow : What → Bool
