@@ -2,8 +2,7 @@
 use Rattle.std.proofs.Common.{◌≡◌, ℕ, List, ◌++◌, Option, Some, None, true, false, inl, inr, refl, ◌⊎◌, ◌∙◌}
 use Rattle.std.specs.Prelude.{Result, Ok, Err}
 use Rattle.tf_desk.specs.Shown.{shown_with, ShowsFront}
-use Rattle.tf_flow.specs.Plan.{PlanValue}
-use Rattle.tf_files.specs.FlowFile.{flow_of, Refuses, is_memory}
+use Rattle.tf_files.specs.FlowFile.{PlanTree, flow_of, Refuses, is_memory}
 use Rattle.tf_files.specs.declared.reading.FileFault.{FileFault}
 use Rattle.tf_files.specs.declared.reading.FileFault.TheVariants as file_fault
 use Rattle.tf_states.specs.declared.record.Entry.{Entry}
@@ -33,7 +32,7 @@ pub stopped_run : (plan : Outline) (before after : Option (List ℕ)) (past : Li
 stopped_run plan before after past is = stopped past None is.session is.outcomes is.text
 
 -- a fault that is not want of memory is the reason
-reason_is : (spelled : Result PlanValue FileFault) (reason : FileFault) → Refuses spelled reason → is_memory reason ≡ false → spelled ≡ Err reason
+reason_is : (spelled : Result PlanTree FileFault) (reason : FileFault) → Refuses spelled reason → is_memory reason ≡ false → spelled ≡ Err reason
 reason_is spelled file_fault.Memory refuses other = cc
 reason_is spelled file_fault.NotBuilt refuses other = refuses
 reason_is spelled file_fault.NotToml refuses other = refuses

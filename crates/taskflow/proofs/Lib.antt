@@ -3,3 +3,4 @@ pub mod SituationLemmas
 pub mod StepLemmas
 pub mod StandingLemmas
 pub mod CourseLemmas
+pub mod OutlineLemmas

@@ -37,9 +37,9 @@ first_below-found zero test k below passes earlier = absurd (omega arith)
 first_below-found (suc n) test k below passes earlier =
     elim (eqb_tells k n) [
       | inl same ↦ let e : k ≡ n = same.1 in
-        let none_before : first_below n test ≡ None = first_below-none n test (λ j within. earlier j (omega arith)) in
-        let here : test n ≡ true = rw (← e) passes in
-        rw (none_before, here, e)
+          let none_before : first_below n test ≡ None = first_below-none n test (λ j within. earlier j (omega arith)) in
+          let here : test n ≡ true = rw (← e) passes in
+          rw (none_before, here, e)
       | inr other ↦ let apart : k ≢ n = other.1 in rw (first_below-found n test k (omega arith) passes earlier)
     ]
 

@@ -5,10 +5,10 @@ use Rattle.tf_values.specs.declared.value.Val.{Val}
 use Rattle.tf_values.specs.declared.value.Val.TheVariants as value
 use Rattle.tf_values.specs.Text.{is_text}
 use Rattle.tf_values.specs.TextForm.{text_form}
-use Rattle.tf_flow.specs.declared.pattern.Bind.{Bind}
-use Rattle.tf_flow.specs.declared.pattern.Task.{Task}
-use Rattle.tf_flow.specs.declared.pattern.TaskKind.{TaskKind}
-use Rattle.tf_flow.specs.declared.pattern.TaskKind.TheVariants as kind
+use Rattle.tf_flow.specs.declared.atoms.Bind.{Bind}
+use Rattle.tf_flow.specs.declared.atoms.Task.{Task}
+use Rattle.tf_flow.specs.declared.atoms.TaskKind.{TaskKind}
+use Rattle.tf_flow.specs.declared.atoms.TaskKind.TheVariants as kind
 use Rattle.tf_states.specs.declared.record.Entry.{Entry}
 use Rattle.tf_states.specs.declared.record.What.{What}
 use Rattle.tf_states.specs.declared.record.What.TheVariants as what
@@ -38,10 +38,11 @@ joined binds = flat_map (λ bind. plain bind.value) binds
 abbrev pub raised : List Bind → Outcome
 raised binds = if is_text (joined binds) then outcome.Failed (failure.Raised (joined binds)) else outcome.Failed failure.TooLong
 
--- what a task of a kind gives for its arguments
+-- what a task of a kind gives for its arguments; no plan that runs has another kind
 abbrev pub given_by : TaskKind → List Bind → Outcome
 given_by kind.Echo binds = echoed binds
 given_by kind.Fail binds = raised binds
+given_by _ binds = outcome.Failed failure.Spawn
 
 -- what a task gives
 abbrev pub outcome_of : Task → Outcome

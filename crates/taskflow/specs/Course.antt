@@ -2,8 +2,7 @@
 use Rattle.std.specs.Prelude.{◌≡◌, ◌⊎◌, ℕ, List, ◌++◌, codes, Option, Some, None, Ok, Err}
 use Rattle.tf_desk.specs.Shown.{shown_with, ShowsFront}
 use Rattle.tf_ports.specs.Contents.{Contents, GivesBytes, PassesLimit}
-use Rattle.tf_flow.specs.Plan.{PlanValue}
-use Rattle.tf_files.specs.FlowFile.{flow_of}
+use Rattle.tf_files.specs.FlowFile.{PlanTree, flow_of}
 use Rattle.tf_files.specs.declared.reading.FileFault.{FileFault}
 use Rattle.tf_states.specs.declared.record.Entry.{Entry}
 use Rattle.tf_states.specs.declared.state.FlowState.{FlowState}
@@ -54,7 +53,7 @@ pub data BytesTried (bytes : List ℕ) (before after : Option (List ℕ)) (statu
   refused : (reason : FileFault) → flow_of bytes ≡ Err reason
       → Closes before (refusal (file_fault_text reason)) 4 after status → BytesTried bytes before after status
   -- the plan that they spell ran
-  ran : (plan : PlanValue) → flow_of bytes ≡ Ok plan → Ran (outline_of plan) before after status → BytesTried bytes before after status
+  ran : (plan : PlanTree) → flow_of bytes ≡ Ok plan → Ran (outline_of plan.root) before after status → BytesTried bytes before after status
 
 -- what becomes of a file to try
 pub data Tried (files : Contents) (file : List ℕ) (before after : Option (List ℕ)) (status : ℕ) : Type 0 where

@@ -3,11 +3,11 @@ use Rattle.std.specs.Prelude.{ℕ, ◌+◌, List, [], ◌∷◌, ◌++◌, codes
 use Rattle.std.specs.Fmt.{decimal, signed_decimal}
 use Rattle.std.specs.List.{slice_get}
 use Rattle.tf_values.specs.TextForm.{text_form, quoted}
-use Rattle.tf_flow.specs.declared.pattern.Task.{Task}
-use Rattle.tf_flow.specs.declared.planning.Limit.{Limit}
-use Rattle.tf_flow.specs.declared.planning.Limit.TheVariants as limit
-use Rattle.tf_flow.specs.declared.planning.PlanFault.{PlanFault}
-use Rattle.tf_flow.specs.declared.planning.PlanFault.TheVariants as plan_fault
+use Rattle.tf_flow.specs.declared.atoms.Task.{Task}
+use Rattle.tf_flow.specs.declared.faults.Limit.{Limit}
+use Rattle.tf_flow.specs.declared.faults.Limit.TheVariants as limit
+use Rattle.tf_flow.specs.declared.faults.PlanFault.{PlanFault}
+use Rattle.tf_flow.specs.declared.faults.PlanFault.TheVariants as plan_fault
 use Rattle.tf_files.specs.declared.reading.FileFault.{FileFault}
 use Rattle.tf_files.specs.declared.reading.FileFault.TheVariants as file_fault
 use Rattle.tf_states.specs.declared.record.Entry.{Entry}
@@ -104,13 +104,28 @@ report plan state = codes "end " ++ plan.name ++ 32 ∷ flow_word state ++ 10 �
 
 -- the word for a limit of a plan
 abbrev pub limit_word : Limit → List ℕ
+limit_word limit.Nesting = codes "nesting"
 limit_word limit.Atoms = codes "atoms"
+limit_word limit.Flows = codes "flows"
+limit_word limit.Links = codes "links"
+limit_word limit.Arguments = codes "arguments"
+limit_word limit.Injects = codes "injects"
+limit_word limit.Provided = codes "provided"
+limit_word limit.Words = codes "words"
+limit_word limit.Store = codes "store"
+limit_word limit.Test = codes "test"
+limit_word limit.Comparisons = codes "comparisons"
+limit_word limit.Plan = codes "plan"
 
--- why a flow makes no plan
+-- why a flow makes no plan; want of memory says nothing
 abbrev pub plan_fault_text : PlanFault → List ℕ
 plan_fault_text (plan_fault.TooLarge which count) = codes "too large " ++ limit_word which ++ 32 ∷ decimal count
 plan_fault_text plan_fault.Empty = codes "empty"
 plan_fault_text (plan_fault.Duplicate name) = codes "duplicate " ++ name
+plan_fault_text (plan_fault.Unknown name) = codes "unknown item " ++ name
+plan_fault_text (plan_fault.BadLink name) = codes "bad link " ++ name
+plan_fault_text (plan_fault.BadAtom name) = codes "bad atom " ++ name
+plan_fault_text plan_fault.Memory = []
 
 -- why a file makes no plan; want of memory says nothing
 abbrev pub file_fault_text : FileFault → List ℕ

@@ -119,5 +119,5 @@ calm_end plan s =
 unfoldable pub end_of : Outline → Snapshot → Option FlowState
 end_of plan s =
     if is_running s.flow then
-        (if all_below (count plan) (is_unhurt s) then (if is_none (forced plan s) then calm_end plan s else None) else Some flow.Failure)
+    (if all_below (count plan) (is_unhurt s) then (if is_none (forced plan s) then calm_end plan s else None) else Some flow.Failure)
     else None

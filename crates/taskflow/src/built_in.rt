@@ -1,4 +1,5 @@
-ghost use Rattle.std.specs.Prelude.{◌≡◌, ◌++◌, IfOk};
+ghost use Rattle.tf_files.specs.FlowFile.{is_built_kind};
+ghost use Rattle.std.specs.Prelude.{◌≡◌, true, ◌++◌, IfOk};
 ghost use Rattle.taskflow.specs.BuiltIns.{outcome_of, plain, joined, echoed, raised};
 
 use std::alloc::Global;
@@ -15,11 +16,13 @@ pub enum Outcome {
 
 /// What the task gives.
 pub fn perform(alloc: Global, task: &Task) -> Result<Outcome, Memory>
+    requires { is_built_kind task.now.kind ≡ true }
     ensures { IfOk result (λ outcome. outcome ≡ outcome_of task.now) }
 {
     match task.kind {
         TaskKind::Echo => echo(alloc, task.inject.items()),
         TaskKind::Fail => fail(alloc, task.inject.items()),
+        _ => unreachable!(),
     }
 }
 

@@ -1,5 +1,7 @@
-ghost use Rattle.std.specs.Prelude.{◌≡◌, ◌≢◌, ◌≤◌, ◌⊎◌};
+ghost use Rattle.std.specs.Prelude.{◌≡◌, ◌≢◌, ◌≤◌, true};
 ghost use Rattle.tf_desk.specs.Counts.{Rises};
+ghost use Rattle.tf_flow.specs.Tree.{tree_of};
+ghost use Rattle.tf_files.specs.FlowFile.{is_built};
 ghost use Rattle.taskflow.specs.Outline.{outline_of};
 ghost use Rattle.taskflow.specs.Lines.{report, refusal, file_fault_text};
 ghost use Rattle.taskflow.specs.Course.{Closes, ClosesOrStops, BytesTried, Ran, Tried, status_of};
@@ -7,6 +9,7 @@ ghost use Rattle.taskflow.specs.Course.{Closes, ClosesOrStops, BytesTried, Ran, 
 use crate::engine::run;
 use crate::lines::{CANNOT_READ, TOO_LONG, append_refusal, append_report};
 use crate::log::{Halt, History};
+use crate::outline::Outline;
 use std::alloc::Global;
 use tf_desk::Desk;
 use tf_files::{FileFault, read_flow};
@@ -102,28 +105,42 @@ fn refuse<K: Desk>(alloc: Global, reason: &FileFault, desk: &mut K) -> u8
 
 /// Runs the plan and reports its end.
 fn run_plan<K: Desk>(alloc: Global, plan: &Plan, desk: &mut K) -> u8
-    ensures ran { Ran (outline_of plan.now) (K.shown desk.old) (K.shown desk.new) result }
+    requires { is_built (tree_of plan.now.root) ≡ true }
+    ensures ran { Ran (outline_of (tree_of plan.now.root)) (K.shown desk.old) (K.shown desk.new) result }
+    ensures read { result ≢ UNREAD }
+    ensures unsaid { result ≡ UNSAID → Rises (K.out_faults desk.old) (K.out_faults desk.new) }
+    ensures no_fall { K.out_faults desk.old ≤ K.out_faults desk.new }
+{
+    match Outline::make(alloc, plan) {
+        Ok(outline) => run_outline(alloc, &outline, desk),
+        Err(_) => OUT_OF_MEMORY,
+    }
+}
+
+/// Runs the tasks and reports the end of their flow.
+fn run_outline<K: Desk>(alloc: Global, outline: &Outline<'_>, desk: &mut K) -> u8
+    ensures ran { Ran outline.now (K.shown desk.old) (K.shown desk.new) result }
     ensures read { result ≢ UNREAD }
     ensures unsaid { result ≡ UNSAID → Rises (K.out_faults desk.old) (K.out_faults desk.new) }
     ensures no_fall { K.out_faults desk.old ≤ K.out_faults desk.new }
 {
     let mut history = History::new(alloc);
-    match run(alloc, plan, &mut history, desk) {
-        Ok(last) => report_end(alloc, plan, last, desk),
+    match run(alloc, outline, &mut history, desk) {
+        Ok(last) => report_end(alloc, outline, last, desk),
         Err(Halt::Out) => UNSAID,
         Err(Halt::Memory) => OUT_OF_MEMORY,
     }
 }
 
 /// Says the report of a run that ended.
-fn report_end<K: Desk>(alloc: Global, plan: &Plan, last: FlowState, desk: &mut K) -> u8
-    ensures closes { ClosesOrStops (K.shown desk.old) (report (outline_of plan.now) last) (status_of last) (K.shown desk.new) result }
+fn report_end<K: Desk>(alloc: Global, outline: &Outline<'_>, last: FlowState, desk: &mut K) -> u8
+    ensures closes { ClosesOrStops (K.shown desk.old) (report outline.now last) (status_of last) (K.shown desk.new) result }
     ensures read { result ≢ UNREAD }
     ensures unsaid { result ≡ UNSAID → Rises (K.out_faults desk.old) (K.out_faults desk.new) }
     ensures no_fall { K.out_faults desk.old ≤ K.out_faults desk.new }
 {
     let mut text = Vec::new(alloc);
-    match append_report(plan, last, &mut text) {
+    match append_report(outline, last, &mut text) {
         Ok(()) => close(&text, status_for(last), desk),
         Err(_) => OUT_OF_MEMORY,
     }

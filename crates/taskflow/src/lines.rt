@@ -1,11 +1,11 @@
 ghost use Rattle.std.specs.Prelude.{◌≡◌, [], ◌∷◌, ◌++◌, OnOk};
 ghost use Rattle.std.specs.List.{slice_get};
 ghost use Rattle.taskflow.specs.Lines.{atom_word as word_of_atom, flow_word as word_of_flow, kind_word as word_of_kind, limit_word as word_of_limit, failure_text, payload_text, name_of, name_at as name_under, what_text, line, report, plan_fault_text, file_fault_text, refusal};
-ghost use Rattle.taskflow.specs.Outline.{outline_of};
 
+use crate::outline::Outline;
 use itoa::{Buffer, Integer};
 use tf_files::FileFault;
-use tf_flow::{Item, Limit, Plan, PlanFault};
+use tf_flow::{Limit, PlanFault};
 use tf_states::{AtomState, Entry, Failure, FlowState, Kind, Payload, What};
 use tf_values::Memory;
 
@@ -20,23 +20,32 @@ pub const TOO_LONG: &[u8] = b"taskflow: flow file: too long\n";
 
 /// Appends the line of the entry of that number.
 #[tactic(auto, unfolding(crate::specs::Lines::line))]
-pub fn append_line(plan: &Plan, number: u64, entry: &Entry, out: &mut Vec<u8>) -> Result<(), Memory>
-    ensures { OnOk result (out.new.items ≡ out.old.items ++ line (outline_of plan.now) number entry.now) }
+pub fn append_line(
+    outline: &Outline<'_>,
+    number: u64,
+    entry: &Entry,
+    out: &mut Vec<u8>,
+) -> Result<(), Memory>
+    ensures { OnOk result (out.new.items ≡ out.old.items ++ line outline.now number entry.now) }
 {
     append_number(number, out)?;
     append(b" ", out)?;
     append_number(entry.hand, out)?;
     append(b" ", out)?;
-    append_what(plan, &entry.what, out)?;
+    append_what(outline, &entry.what, out)?;
     append(b"\n", out)
 }
 
 /// Appends what a run says last.
 #[tactic(auto, unfolding(crate::specs::Lines::report))]
-pub fn append_report(plan: &Plan, state: FlowState, out: &mut Vec<u8>) -> Result<(), Memory>
-    ensures { OnOk result (out.new.items ≡ out.old.items ++ report (outline_of plan.now) state) }
+pub fn append_report(
+    outline: &Outline<'_>,
+    state: FlowState,
+    out: &mut Vec<u8>,
+) -> Result<(), Memory>
+    ensures { OnOk result (out.new.items ≡ out.old.items ++ report outline.now state) }
 {
-    append_named(b"end ", plan.root().name.bytes(), flow_word(state), out)?;
+    append_named(b"end ", outline.name().bytes(), flow_word(state), out)?;
     append(b"\n", out)
 }
 
@@ -72,15 +81,16 @@ fn append_plan_fault(fault: &PlanFault, out: &mut Vec<u8>) -> Result<(), Memory>
             append_number(*n, out)
         }
         PlanFault::Empty => append(b"empty", out),
-        PlanFault::Duplicate(name) => {
-            append(b"duplicate ", out)?;
-            append(name.bytes(), out)
-        }
+        PlanFault::Duplicate(name) => append_pair(b"duplicate ", name.bytes(), out),
+        PlanFault::Unknown(name) => append_pair(b"unknown item ", name.bytes(), out),
+        PlanFault::BadLink(name) => append_pair(b"bad link ", name.bytes(), out),
+        PlanFault::BadAtom(name) => append_pair(b"bad atom ", name.bytes(), out),
+        PlanFault::Memory => Ok(()),
     }
 }
 
-fn append_what(plan: &Plan, what: &What, out: &mut Vec<u8>) -> Result<(), Memory>
-    ensures { OnOk result (out.new.items ≡ out.old.items ++ what_text (outline_of plan.now) what.now) }
+fn append_what(outline: &Outline<'_>, what: &What, out: &mut Vec<u8>) -> Result<(), Memory>
+    ensures { OnOk result (out.new.items ≡ out.old.items ++ what_text outline.now what.now) }
 {
     match what {
         What::Atom {
@@ -89,20 +99,20 @@ fn append_what(plan: &Plan, what: &What, out: &mut Vec<u8>) -> Result<(), Memory
             payload,
         } => {
             append(b"task ", out)?;
-            append(name_at(plan, *atom), out)?;
+            append(name_at(outline, *atom), out)?;
             append(b" ", out)?;
             append(atom_word(*state).as_bytes(), out)?;
             append_payload(payload, out)
         }
         What::Flow(state) => {
-            append_named(b"flow ", plan.root().name.bytes(), flow_word(*state), out)
+            append_named(b"flow ", outline.name().bytes(), flow_word(*state), out)
         }
         What::Resolve { flow: _, kind } => {
-            append_named(b"resolve ", plan.root().name.bytes(), kind_word(*kind), out)
+            append_named(b"resolve ", outline.name().bytes(), kind_word(*kind), out)
         }
         What::Restart(atom) => {
             append(b"restart ", out)?;
-            append(name_at(plan, *atom), out)
+            append(name_at(outline, *atom), out)
         }
     }
 }
@@ -190,11 +200,11 @@ fn append(bytes: &[u8], out: &mut Vec<u8>) -> Result<(), Memory>
 }
 
 /// The name of the atom of that number, and nothing where there is none.
-fn name_at(plan: &Plan, atom: u16) -> &[u8]
-    ensures { result.now ≡ name_under (outline_of plan.now) atom }
+fn name_at<'a>(outline: &'a Outline<'_>, atom: u16) -> &'a [u8]
+    ensures { result.now ≡ name_under outline.now atom }
 {
-    match plan.root().items.items().get(usize::from(atom)) {
-        Some(Item::Task(task)) => task.name.bytes(),
+    match outline.find(atom) {
+        Some(task) => task.name.bytes(),
         None => b"",
     }
 }
@@ -244,6 +254,17 @@ fn limit_word(limit: Limit) -> &'static str
     ensures { result.now ≡ word_of_limit limit }
 {
     match limit {
+        Limit::Nesting => "nesting",
         Limit::Atoms => "atoms",
+        Limit::Flows => "flows",
+        Limit::Links => "links",
+        Limit::Arguments => "arguments",
+        Limit::Injects => "injects",
+        Limit::Provided => "provided",
+        Limit::Words => "words",
+        Limit::Store => "store",
+        Limit::Test => "test",
+        Limit::Comparisons => "comparisons",
+        Limit::Plan => "plan",
     }
 }

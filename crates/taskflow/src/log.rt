@@ -1,15 +1,14 @@
 ghost use Rattle.std.specs.Prelude.{◌≡◌, ℕ, ◌+◌, ◌≤◌, [], ◌∷◌, List, length, Option, Some, None, OnOk, IfErr, IsErrOf, false};
 ghost use Rattle.tf_desk.specs.Counts.{Rises};
 ghost use Rattle.tf_desk.specs.Shown.{shown_with, ShowsFront};
-ghost use Rattle.taskflow.specs.Outline.{outline_of};
 ghost use Rattle.taskflow.specs.Lines.{line};
 ghost use Rattle.taskflow.specs.Hands.{by_hand};
 
 use crate::lines::append_line;
+use crate::outline::Outline;
 use std::alloc::Global;
 use std::marker::Model;
 use tf_desk::Desk;
-use tf_flow::Plan;
 use tf_states::{Entry, What};
 use tf_values::Memory;
 
@@ -59,9 +58,14 @@ impl History {
     }
 
     /// Records an entry, and says its line at once. Want of memory comes before anything is recorded.
-    pub fn record<K: Desk>(&mut self, plan: &Plan, what: What, desk: &mut K) -> Result<(), Halt>
-        ensures ok { OnOk result ((self.new ≡ by_hand what ∷ self.old) × (K.shown desk.new ≡ shown_with (K.shown desk.old) (line (outline_of plan.now) (length self.old + 1) (by_hand what)))) }
-        ensures out { IsErrOf result Halt.Out → (self.new ≡ by_hand what ∷ self.old) × ShowsFront (K.shown desk.old) (line (outline_of plan.now) (length self.old + 1) (by_hand what)) (K.shown desk.new) }
+    pub fn record<K: Desk>(
+        &mut self,
+        outline: &Outline<'_>,
+        what: What,
+        desk: &mut K,
+    ) -> Result<(), Halt>
+        ensures ok { OnOk result ((self.new ≡ by_hand what ∷ self.old) × (K.shown desk.new ≡ shown_with (K.shown desk.old) (line outline.now (length self.old + 1) (by_hand what)))) }
+        ensures out { IsErrOf result Halt.Out → (self.new ≡ by_hand what ∷ self.old) × ShowsFront (K.shown desk.old) (line outline.now (length self.old + 1) (by_hand what)) (K.shown desk.new) }
         ensures cause { IsErrOf result Halt.Out → Rises (K.out_faults desk.old) (K.out_faults desk.new) }
         ensures memory { IsErrOf result Halt.Memory → (self.new ≡ self.old) × (K.shown desk.new ≡ K.shown desk.old) }
         ensures no_fall { K.out_faults desk.old ≤ K.out_faults desk.new }
@@ -69,7 +73,7 @@ impl History {
         let entry = Entry { hand: 0, what };
         let number = self.entries.len() as u64 + 1;
         self.line.clear();
-        append_line(plan, number, &entry, &mut self.line)?;
+        append_line(outline, number, &entry, &mut self.line)?;
         if self.entries.push(entry).is_err() {
             return Err(Halt::Memory);
         }

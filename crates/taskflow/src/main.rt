@@ -6,6 +6,7 @@ mod command;
 mod engine;
 mod lines;
 mod log;
+mod outline;
 mod top;
 mod words;
 

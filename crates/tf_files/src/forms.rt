@@ -7,7 +7,9 @@ ghost use Rattle.toml.specs.View.{view, items_view, table_view};
 
 use crate::document::{has_only, string_at, value_at};
 use std::alloc::Global;
-use tf_flow::{Arg, ArgList, Bind, Binds, Flow, FlowKind, Item, Items, Links, Provides, Task, TaskKind, Undo};
+use tf_flow::{
+    Arg, ArgList, Bind, Binds, Flow, FlowKind, Item, Items, Links, Provides, Task, TaskKind, Undo,
+};
 use tf_values::{MakeFault, Memory, Name, Text, Texts, Val};
 use toml::{Table, Value};
 
@@ -106,12 +108,7 @@ fn task_form(alloc: Global, table: &Table) -> Result<Option<Task>, Memory>
 }
 
 /// The task of a name, a kind and bindings.
-fn bound_task(
-    alloc: Global,
-    name: Name,
-    kind: TaskKind,
-    inject: Vec<Bind>,
-) -> Result<Task, Memory>
+fn bound_task(alloc: Global, name: Name, kind: TaskKind, inject: Vec<Bind>) -> Result<Task, Memory>
     ensures { IfOk result (λ task. task ≡ bound name kind inject.items) }
 {
     Ok(Task {

@@ -1,10 +1,9 @@
 use Rattle.std.proofs.Common.{◌≡◌, arith}
-use Rattle.taskflow.specs.Outline.{outline_of}
 use Rattle.taskflow.proofs.StepLemmas.{reverted_end, reverts_still}
 use Rattle.taskflow.proofs.engine.revert.Goals as goal
 
 pub finish-requires-clause-end : goal.finish-requires-clause-end
-finish-requires-clause-end g c = let all : c.loop-atom.atom ≡ 0 = omega arith in reverted_end (outline_of c.args.plan.now) c.loop-atom.history (omega arith) (rw all at c.loop-atom.invariant.situation)
+finish-requires-clause-end g c = let all : c.loop-atom.atom ≡ 0 = omega arith in reverted_end c.args.outline.now c.loop-atom.history (omega arith) (rw all at c.loop-atom.invariant.situation)
 
 pub finish-requires-clause-still : goal.finish-requires-clause-still
-finish-requires-clause-still g c = reverts_still (outline_of c.args.plan.now) c.loop-atom.history c.loop-atom.atom c.loop-atom.invariant.situation
+finish-requires-clause-still g c = reverts_still c.args.outline.now c.loop-atom.history c.loop-atom.atom c.loop-atom.invariant.situation

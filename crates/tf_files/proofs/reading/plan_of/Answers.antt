@@ -11,5 +11,5 @@ pub returns-clause-built : goal.returns-clause-built
 returns-clause-built c =
     let formed : flow_form (table_view c.args.document.now) ≡ Some (tree_of c.in-Some.flow) = sym c.in-Ok.ensures ∙ ap (option_map tree_of) c.in-Some.is in
     IfOk-weaker c.make_plan.result (λ (plan : PlanValue). plan.root ≡ c.in-Some.flow) (λ (plan : PlanValue). is_built (tree_of plan.root) ≡ true)
-        (λ plan same. rw same (built_flow (table_view c.args.document.now) (tree_of c.in-Some.flow) formed))
-        c.make_plan.ensures.root
+    (λ plan same. rw same (built_flow (table_view c.args.document.now) (tree_of c.in-Some.flow) formed))
+    c.make_plan.ensures.root
