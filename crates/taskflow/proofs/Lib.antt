@@ -4,3 +4,4 @@ pub mod StepLemmas
 pub mod StandingLemmas
 pub mod CourseLemmas
 pub mod OutlineLemmas
+pub mod CauseLemmas

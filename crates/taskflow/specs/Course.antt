@@ -1,5 +1,5 @@
 -- The ways that a command can go.
-use Rattle.std.specs.Prelude.{◌≡◌, ◌⊎◌, ℕ, List, ◌++◌, codes, Option, Some, None, Ok, Err}
+use Rattle.std.specs.Prelude.{◌≡◌, ◌≤◌, ◌⊎◌, ℕ, List, length, ◌++◌, codes, Option, Some, None, Ok, Err}
 use Rattle.tf_desk.specs.Shown.{shown_with, ShowsFront}
 use Rattle.tf_ports.specs.Contents.{Contents, GivesBytes, PassesLimit}
 use Rattle.tf_files.specs.FlowFile.{PlanTree, flow_of}
@@ -78,3 +78,24 @@ pub data Course (words : List (List ℕ)) (files : Contents) (before after : Opt
   no_command : command_of words ≡ None → Closes before usage 2 after status → Course words files before after status
   -- what they ask for was done, or it was said why not
   obeyed : (command : Asked) → command_of words ≡ Some command → Obeys command files before after status → Course words files before after status
+
+-- the words ask to try a file that the sources refuse as too long or whose bytes spell no plan
+pub data IsRefused (words : List (List ℕ)) (files : Contents) : Type 0 where
+  passes_limit : (file : List ℕ) → command_of words ≡ Some (asked.Try file) → PassesLimit files file → IsRefused words files
+  spells_none : (file bytes : List ℕ) (reason : FileFault) → command_of words ≡ Some (asked.Try file) → GivesBytes files file bytes → flow_of bytes ≡ Err reason → IsRefused words files
+
+-- the words ask to try a file under which the sources tell bytes that spell a plan, and that isn't too long
+pub record IsAccepted (words : List (List ℕ)) (files : Contents) : Type 0 where
+  pub told : List ℕ → Option (List ℕ)
+  pub file : List ℕ
+  pub bytes : List ℕ
+  pub plan : PlanTree
+  pub sources : files ≡ Some told
+  pub command : command_of words ≡ Some (asked.Try file)
+  pub under : told file ≡ Some bytes
+  pub short : length bytes ≤ 262144
+  pub spelled : flow_of bytes ≡ Ok plan
+
+-- a run that was accepted and met no fault ends with SUCCESS or in completed reversion, or memory runs out
+abbrev pub IsComplete : ℕ → Type 0
+IsComplete status = (status ≡ 0) ⊎ (status ≡ 10) ⊎ (status ≡ 9)

@@ -1,9 +1,9 @@
-ghost use Rattle.std.specs.Prelude.{◌≡◌, ◌≤◌};
+ghost use Rattle.std.specs.Prelude.{◌≡◌, ◌≤◌, None};
 ghost use Rattle.tf_desk.specs.Counts.{Rises};
-ghost use Rattle.taskflow.specs.Course.{Course, Obeys};
-ghost use Rattle.taskflow.specs.Words.{file_named};
+ghost use Rattle.taskflow.specs.Course.{Course, Obeys, IsRefused, IsAccepted, IsComplete};
+ghost use Rattle.taskflow.specs.Words.{command_of, file_named};
 
-use crate::command::{NO_COMMAND, OUT_OF_MEMORY, UNREAD, UNSAID, close, try_file};
+use crate::command::{NO_COMMAND, OUT_OF_MEMORY, REFUSED, UNREAD, UNSAID, close, try_file};
 use crate::lines::USAGE;
 use crate::words::{Asked, Word, read_words};
 use std::alloc::Global;
@@ -34,6 +34,18 @@ pub fn taskflow<K: Desk, S: Sources>(
     // The way that the command went: which command the words are, which plan the sources' bytes spell or
     // why they spell none, what was recorded, what was shown, and the status.
     ensures course { Course words.now (S.contents outside.sources) (K.shown outside.desk) (K.shown result.outside.desk) result.status }
+
+    // Status 2 comes only where the words are no command.
+    ensures no_command { result.status ≡ NO_COMMAND → command_of words.now ≡ None }
+
+    // Status 4 comes only where the file is too long or spells no plan.
+    ensures refused { result.status ≡ REFUSED → IsRefused words.now (S.contents outside.sources) }
+
+    // A file that spells a plan is run to its end, unless a count of faults rose or memory ran out.
+    ensures complete { IsAccepted words.now (S.contents outside.sources)
+        → ¬ (Rises (S.faults outside.sources) (S.faults result.outside.sources))
+        → ¬ (Rises (K.out_faults outside.desk) (K.out_faults result.outside.desk))
+        → IsComplete result.status }
 
     // The file can't be read only where a count of the sources' faults rose.
     ensures unread { result.status ≡ UNREAD → Rises (S.faults outside.sources) (S.faults result.outside.sources) }
