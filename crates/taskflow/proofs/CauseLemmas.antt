@@ -66,7 +66,7 @@ unfolding end_of
 ends_well plan past last given end =
     let all : all_below (count plan) (is_unhurt (snapshot past)) ≡ true = all_below-true (count plan) (is_unhurt (snapshot past)) (λ k below. rw (unhurt plan past given k)) in
     ends_tell (is_running (flow_state past)) (is_none (forced plan (snapshot past))) (all_below (count plan) (is_done_at (snapshot past)))
-        (is_none (first_below (count plan) (is_candidate plan (snapshot past))) && all_below (count plan) (is_at_rest (snapshot past))) last (rw all at end)
+    (is_none (first_below (count plan) (is_candidate plan (snapshot past))) && all_below (count plan) (is_at_rest (snapshot past))) last (rw all at end)
 
 well : (last : FlowState) → (last ≡ flow.Success) ⊎ (last ≡ flow.Reverted) → (status_of last ≡ 0) ⊎ (status_of last ≡ 10)
 well last (inl is) = inl (rw is)

@@ -14,6 +14,8 @@ mod outline;
 mod plans;
 mod refusals;
 mod repeats;
+#[cfg(test)]
+mod tests;
 
 pub use atoms::{Arg, ArgList, Bind, Binds, Provides, Retry, RetryKind, Task, TaskKind, Undo};
 pub use deciders::{Decider, Depth, Link, Links, Test, Tests};
