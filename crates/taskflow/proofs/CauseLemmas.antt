@@ -1,8 +1,6 @@
 -- What a status tells of the way that a command went.
-use Rattle.std.proofs.Common.{◌≡◌, ◌≢◌, ℕ, ◌<◌, ◌≤◌, List, [], ◌∷◌, length, Option, Some, None, Bool, true, false, inl, inr, refl, ◌⊎◌, ◌∙◌, sym, ap, arith, cond, nat_eq, ◌&&◌, is_none}
-use Rattle.std.specs.Prelude.{Result, Ok, Err}
-use Rattle.std.proofs.lemmas.Bool.Decides.{eqb_tells}
-use Rattle.tf_desk.specs.Shown.{ShowsFront}
+use Rattle.std.proofs.Common.{◌≡◌, ◌≢◌, ℕ, ◌≤◌, List, [], ◌∷◌, length, Option, Some, None, Bool, true, false, inl, inr, refl, ◌⊎◌, ◌∙◌, sym, ap, arith, cond, nat_eq, ◌&&◌, is_none}
+use Rattle.std.specs.Prelude.{Ok, Err}
 use Rattle.tf_ports.specs.Contents.{Contents, GivesBytes, PassesLimit}
 use Rattle.tf_files.specs.FlowFile.{PlanTree, flow_of}
 use Rattle.tf_files.specs.declared.reading.FileFault.{FileFault}
@@ -15,14 +13,13 @@ use Rattle.tf_states.specs.declared.state.AtomState.TheVariants as atom
 use Rattle.tf_states.specs.declared.state.FlowState.{FlowState}
 use Rattle.tf_states.specs.declared.state.FlowState.TheVariants as flow
 use Rattle.taskflow.specs.BuiltIns.{HasOutcomes, IsGiven}
-use Rattle.taskflow.specs.Course.{Closes, said, cut, Ran, reported, report_cut, line_cut, stopped, BytesTried, exhausted, refused, ran, Tried, unfinished, unread, too_long, read, Obeys, Course, unheard, no_command, obeyed, status_of, IsRefused, passes_limit, spells_none, IsAccepted, IsComplete}
+use Rattle.taskflow.specs.Course.{Closes, said, cut, Ran, reported, report_cut, line_cut, stopped, BytesTried, exhausted, refused, ran, Tried, unfinished, unread, too_long, read, Course, unheard, no_command, obeyed, status_of, IsRefused, passes_limit, spells_none, IsAccepted, IsComplete}
 use Rattle.taskflow.specs.History.{snapshot, state_of, state_after, flow_of as flow_state}
 use Rattle.taskflow.specs.Numbers.{all_below, first_below}
 use Rattle.taskflow.specs.Outline.{Outline, outline_of, count}
-use Rattle.taskflow.specs.Rules.{end_of, calm_end, is_running, is_unhurt, is_revert_failure, forced, is_done_at, is_at_rest, is_candidate}
-use Rattle.taskflow.specs.Standing.{IsEnded, EndsBy}
+use Rattle.taskflow.specs.Rules.{end_of, is_running, is_unhurt, is_revert_failure, forced, is_done_at, is_at_rest, is_candidate}
+use Rattle.taskflow.specs.Standing.{IsEnded}
 use Rattle.taskflow.specs.Words.{command_of}
-use Rattle.taskflow.specs.declared.words.Asked.{Asked}
 use Rattle.taskflow.specs.declared.words.Asked.TheVariants as asked
 use Rattle.taskflow.proofs.NumberLemmas.{all_below-true}
 

@@ -1,16 +1,15 @@
 -- The way that a command went, put together from its parts.
-use Rattle.std.proofs.Common.{◌≡◌, ℕ, List, ◌++◌, Option, Some, None, true, false, inl, inr, refl, ◌⊎◌, ◌∙◌}
-use Rattle.std.specs.Prelude.{Result, Ok, Err}
-use Rattle.tf_desk.specs.Shown.{shown_with, ShowsFront}
+use Rattle.std.proofs.Common.{◌≡◌, ℕ, List, Option, Some, None, false, inl, inr, ◌∙◌}
+use Rattle.std.specs.Prelude.{Result, Err}
 use Rattle.tf_files.specs.FlowFile.{PlanTree, flow_of, Refuses, is_memory}
 use Rattle.tf_files.specs.declared.reading.FileFault.{FileFault}
 use Rattle.tf_files.specs.declared.reading.FileFault.TheVariants as file_fault
 use Rattle.tf_states.specs.declared.record.Entry.{Entry}
 use Rattle.tf_states.specs.declared.state.FlowState.{FlowState}
-use Rattle.taskflow.specs.Outline.{Outline, outline_of}
+use Rattle.taskflow.specs.Outline.{Outline}
 use Rattle.taskflow.specs.Lines.{report, refusal, file_fault_text}
-use Rattle.taskflow.specs.Standing.{IsEnded, IsCut, IsStopped}
-use Rattle.taskflow.specs.Course.{Closes, said, cut, ClosesOrStops, Ran, reported, report_cut, line_cut, stopped, BytesTried, exhausted, refused, ran, status_of, Tried, Obeys}
+use Rattle.taskflow.specs.Standing.{IsEnded, IsStopped}
+use Rattle.taskflow.specs.Course.{Closes, said, cut, ClosesOrStops, Ran, reported, report_cut, stopped, BytesTried, exhausted, refused, status_of, Tried, Obeys}
 use Rattle.tf_ports.specs.Contents.{Contents}
 use Rattle.taskflow.specs.Words.{file_named}
 use Rattle.taskflow.specs.declared.words.Asked.{Asked}

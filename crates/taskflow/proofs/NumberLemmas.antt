@@ -1,8 +1,8 @@
 -- What the tests of the numbers below a count tell.
-use Rattle.std.proofs.Common.{◌≡◌, ◌≢◌, ℕ, zero, suc, ◌<◌, ◌≤◌, Bool, true, false, ◌&&◌, Some, None, refl, arith, cond, inl, inr, ◌⊎◌, eqb}
+use Rattle.std.proofs.Common.{◌≡◌, ◌≢◌, ℕ, zero, suc, ◌<◌, Bool, true, false, ◌&&◌, Some, None, refl, arith, inl, inr, eqb}
 use Rattle.std.proofs.lemmas.Bool.Decides.{eqb_tells}
 use Rattle.std.proofs.lemmas.Bool.{eq-eqb}
-use Rattle.taskflow.specs.Numbers.{all_below, first_below, first_of_two}
+use Rattle.taskflow.specs.Numbers.{all_below, first_below}
 
 -- what passes at each number passes below n
 pub all_below-true : (n : ℕ) (test : ℕ → Bool) → ((k : ℕ) → k < n → test k ≡ true) → all_below n test ≡ true

@@ -1,14 +1,14 @@
 -- The tasks among the items of a flow.
-use Rattle.std.proofs.Common.{◌≡◌, ℕ, zero, suc, ◌+◌, ◌<◌, ◌≤◌, List, [], ◌∷◌, ◌++◌, Bool, true, false, ◌&&◌, Option, Some, None, map, filter, length, refl, arith, ap, ◌∙◌, sym}
-use Rattle.std.specs.List.{list_all, slice_get, cons_option}
+use Rattle.std.proofs.Common.{◌≡◌, ℕ, zero, suc, ◌<◌, ◌≤◌, List, [], ◌∷◌, ◌++◌, true, Some, map, filter, length, refl, arith, ap, sym}
+use Rattle.std.specs.List.{list_all, slice_get}
 use Rattle.std.proofs.lemmas.List.{length-append}
 use Rattle.std.proofs.lemmas.List.Elements.{filter-append}
 use Rattle.std.proofs.lemmas.Bool.{and_parts}
 use Rattle.std.specs.Borrow.{Bor}
 use Rattle.std.proofs.Common.{get_or}
 use Rattle.tf_flow.specs.Items.{item_list}
-use Rattle.tf_flow.specs.Tree.{Tree, task, flow, Trees, no_trees, tree, Head, trees_of, item_tree}
-use Rattle.tf_flow.specs.Places.{Place, places, places_among, is_atom, retry_places, at_flow, level_of}
+use Rattle.tf_flow.specs.Tree.{Tree, task, flow, Trees, no_trees, tree, trees_of, item_tree}
+use Rattle.tf_flow.specs.Places.{places, places_among, is_atom, retry_places}
 use Rattle.tf_flow.specs.declared.atoms.Task.{Task}
 use Rattle.tf_files.specs.FlowFile.{are_built, is_built_kind}
 use Rattle.tf_flow.specs.Tree.{tree_of}
@@ -16,7 +16,7 @@ use Rattle.tf_flow.specs.Places.{tree_order}
 use Rattle.tf_flow.specs.declared.nested.Flow.{Flow as FlowValue}
 use Rattle.tf_flow.proofs.TreeLemmas.{tree_of-flow}
 use Rattle.tf_files.specs.FlowFile.{is_built}
-use Rattle.taskflow.specs.Outline.{tasks_among, task_of, has_built_kind, outline_of, IsRunnable}
+use Rattle.taskflow.specs.Outline.{tasks_among, has_built_kind, outline_of, IsRunnable}
 
 -- the tasks are among the atoms
 pub tasks_are_atoms : (items : Trees) → length (tasks_among items) ≤ length (filter is_atom (places_among items))

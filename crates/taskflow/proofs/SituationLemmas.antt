@@ -1,11 +1,7 @@
 -- A linear flow goes from one situation to the next by steps of its rules.
-use Rattle.std.proofs.Common.{◌≡◌, ◌≢◌, ℕ, zero, suc, ◌+◌, ◌<◌, ◌≤◌, List, [], ◌∷◌, Bool, true, false, not, ◌&&◌, ◌||◌, Some, None, refl, arith, cond, inl, inr, eqb, ltb, ap, ◌∙◌, sym}
-use Rattle.std.proofs.lemmas.Bool.{ltb-false, lt-ltb}
+use Rattle.std.proofs.Common.{◌≡◌, ◌≢◌, ℕ, ◌+◌, List, [], ◌∷◌, refl, arith, inl, inr, sym}
 use Rattle.std.proofs.lemmas.Bool.Decides.{eqb_tells}
-use Rattle.std.proofs.lemmas.Grind.{common_steps}
-use Rattle.tf_values.specs.declared.value.Val.{Val}
 use Rattle.tf_states.specs.declared.record.Entry.{Entry}
-use Rattle.tf_states.specs.declared.record.Failure.{Failure}
 use Rattle.tf_states.specs.declared.record.Kind.TheVariants as kind
 use Rattle.tf_states.specs.declared.record.Payload.{Payload}
 use Rattle.tf_states.specs.declared.record.Payload.TheVariants as payload
@@ -13,14 +9,10 @@ use Rattle.tf_states.specs.declared.record.What.TheVariants as what
 use Rattle.tf_states.specs.declared.state.AtomState.{AtomState}
 use Rattle.tf_states.specs.declared.state.AtomState.TheVariants as atom
 use Rattle.tf_states.specs.declared.state.FlowState.TheVariants as flow
-use Rattle.taskflow.specs.History.{Snapshot, snapshot, state_of, is_at_work}
-use Rattle.taskflow.specs.Outline.{Outline, count}
-use Rattle.taskflow.specs.Rules.{is_pending, is_done, is_settled, is_executed, forced, choice, end_of, is_unhurt, is_unresolved, is_candidate, is_active, can_run, can_revert, lets_run, lets_revert, is_done_at, is_at_rest}
-use Rattle.taskflow.specs.Steps.{Step, forced_step, taken_step, ended_step, begun_step, closed_step, is_still, is_free, is_not_with, is_idle}
-use Rattle.taskflow.specs.Numbers.{all_below, first_below}
-use Rattle.taskflow.proofs.NumberLemmas.{all_below-true, all_below-false, first_below-none, first_below-found, same_number, other_number}
+use Rattle.taskflow.specs.History.{snapshot, state_of}
+use Rattle.taskflow.proofs.NumberLemmas.{same_number, other_number}
 use Rattle.taskflow.specs.Hands.{by_hand}
-use Rattle.taskflow.specs.Situations.{is_undone, Executes, Performs, HasFailed, Reverts, Undoes}
+use Rattle.taskflow.specs.Situations.{Executes, Performs, HasFailed, Reverts, Undoes}
 
 -- the state of the atom of the newest entry, and of others
 state_same : (i : ℕ) (s : AtomState) (p : Payload) (past : List Entry) → state_of (by_hand (what.Atom i s p) ∷ past) i ≡ s

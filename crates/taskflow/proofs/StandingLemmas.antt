@@ -1,21 +1,20 @@
 -- How a run stands after one more entry.
-use Rattle.std.proofs.Common.{◌≡◌, ℕ, ◌+◌, ◌<◌, List, [], ◌∷◌, ◌++◌, length, Option, Some, None, Bool, true, false, refl, ap, ◌∙◌, append_assoc, append-nil, sym}
+use Rattle.std.proofs.Common.{◌≡◌, ℕ, ◌+◌, ◌<◌, List, [], ◌∷◌, ◌++◌, length, Option, Some, None, true, false, refl, ap, ◌∙◌, append_assoc, append-nil, sym}
 use Rattle.std.specs.Prelude.{Result, Ok, Err, IfErr, OnOk}
 use Rattle.tf_desk.specs.Shown.{shown_with, ShowsFront}
 use Rattle.tf_states.specs.declared.record.Entry.{Entry}
-use Rattle.tf_states.specs.declared.record.What.{What}
 use Rattle.tf_states.specs.declared.record.What.TheVariants as what
 use Rattle.tf_states.specs.declared.state.FlowState.{FlowState}
 use Rattle.tf_states.specs.declared.state.FlowState.TheVariants as flow
 use Rattle.taskflow.specs.Outline.{Outline, count}
 use Rattle.taskflow.specs.History.{snapshot, state_of}
 use Rattle.taskflow.specs.Rules.{end_of, is_settled}
-use Rattle.taskflow.specs.Steps.{Step, closed_step, begun_step, LegalPast, is_still}
-use Rattle.taskflow.specs.Sessions.{Session, unbegun, halted, whole, has_entered, is_of_flow, is_final}
-use Rattle.taskflow.specs.BuiltIns.{HasOutcomes, IsGiven}
+use Rattle.taskflow.specs.Steps.{Step, closed_step, begun_step, is_still}
+use Rattle.taskflow.specs.Sessions.{unbegun, halted, whole, has_entered, is_of_flow, is_final}
+use Rattle.taskflow.specs.BuiltIns.{IsGiven}
 use Rattle.taskflow.specs.Hands.{by_hand}
 use Rattle.taskflow.specs.Lines.{line, lines}
-use Rattle.taskflow.specs.Standing.{GoesOn, IsCut, IsStopped, IsEnded, IsLineCut, IsHalted}
+use Rattle.taskflow.specs.Standing.{GoesOn, IsCut, IsStopped, IsEnded, IsHalted}
 use Rattle.taskflow.specs.declared.log.Halt.{Halt}
 use Rattle.taskflow.specs.declared.log.Halt.TheVariants as halt
 

@@ -1,5 +1,5 @@
 -- In each situation of a linear flow the next entry is a step of the rules.
-use Rattle.std.proofs.Common.{◌≡◌, ◌≢◌, ℕ, zero, suc, ◌+◌, ◌<◌, ◌≤◌, List, [], ◌∷◌, Bool, true, false, not, ◌&&◌, ◌||◌, Some, None, refl, arith, inl, inr, eqb, ltb, ap, ◌∙◌, sym}
+use Rattle.std.proofs.Common.{◌≡◌, ℕ, ◌+◌, ◌<◌, List, Bool, true, false, ◌&&◌, ◌||◌, Some, None, refl, arith, inl, inr}
 use Rattle.std.proofs.lemmas.Bool.{le-ltb, lt-ltb, cases_lt}
 use Rattle.tf_values.specs.declared.value.Val.{Val}
 use Rattle.tf_states.specs.declared.record.Entry.{Entry}
@@ -14,8 +14,7 @@ use Rattle.tf_states.specs.declared.state.FlowState.TheVariants as flow
 use Rattle.taskflow.specs.History.{Snapshot, snapshot, state_of, is_at_work}
 use Rattle.taskflow.specs.Outline.{Outline, count}
 use Rattle.taskflow.specs.Rules.{is_pending, is_failure, is_revert_failure, is_done, is_settled, is_executed, forced, choice, end_of, is_unhurt, is_unresolved, is_candidate, is_active, can_run, can_revert, lets_run, lets_revert, is_done_at, is_at_rest, taken_up}
-use Rattle.taskflow.specs.Steps.{Step, forced_step, taken_step, ended_step, begun_step, closed_step, is_still, is_free, is_not_with, is_idle}
-use Rattle.taskflow.specs.Numbers.{all_below, first_below}
+use Rattle.taskflow.specs.Steps.{Step, forced_step, taken_step, ended_step, is_still, is_free, is_not_with, is_idle}
 use Rattle.taskflow.proofs.NumberLemmas.{all_below-true, all_below-false, first_below-none, first_below-found}
 use Rattle.taskflow.specs.Hands.{by_hand}
 use Rattle.taskflow.specs.Situations.{is_undone, Executes, Performs, HasFailed, Reverts, Undoes}

@@ -1,5 +1,4 @@
 -- The one hand of a run.
-use Rattle.std.specs.Prelude.{ℕ}
 use Rattle.tf_states.specs.declared.record.Entry.{Entry}
 use Rattle.tf_states.specs.declared.record.What.{What}
 

@@ -1,11 +1,10 @@
 -- A flow that is read has only tasks of kinds that are built.
-use Rattle.std.proofs.Common.{◌≡◌, ℕ, List, [], ◌∷◌, Bool, true, false, ◌&&◌, cond, Option, Some, None, option_map, option_and_then, refl, ap, sym, ◌∙◌, ◌==◌, codes}
+use Rattle.std.proofs.Common.{◌≡◌, ℕ, List, [], ◌∷◌, Bool, true, false, ◌&&◌, cond, Option, Some, None, option_map, option_and_then, refl, ◌==◌, codes}
 use Rattle.std.specs.Cmp.Lexicographic.{pointwise}
-use Rattle.tf_flow.specs.declared.atoms.Bind.{Bind}
 use Rattle.tf_flow.specs.declared.atoms.Task.{Task as TaskValue}
 use Rattle.tf_flow.specs.declared.atoms.TaskKind.{TaskKind}
 use Rattle.tf_flow.specs.declared.atoms.TaskKind.TheVariants as kind
-use Rattle.tf_flow.specs.Tree.{Tree, task, flow, trees_of}
+use Rattle.tf_flow.specs.Tree.{Tree, task, trees_of}
 use Rattle.toml.specs.Data.{Data, Items, no_items, item, Members, get_member, as_array}
 use Rattle.tf_files.specs.Document.{has_only, string_at}
 use Rattle.tf_files.specs.FlowFile.{kind_form, task_form, item_form, items_form, list_form, flow_form, linear_flow, bound_task, inject_form, name_form, task_keys, flow_keys, is_linear, is_built_kind, are_built, is_built, named_task, kinded_task, named_flow}

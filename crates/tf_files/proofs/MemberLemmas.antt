@@ -1,5 +1,5 @@
 -- A table with one member, and others.
-use Rattle.std.proofs.Common.{◌≡◌, ◌≢◌, ℕ, List, [], ◌∷◌, length, None, Some, refl, arith, String, Global, string_bytes}
+use Rattle.std.proofs.Common.{◌≡◌, ◌≢◌, List, [], ◌∷◌, length, None, Some, refl, arith, String, Global, string_bytes}
 use Rattle.std.specs.List.{slice_get}
 use Rattle.toml.specs.Data.{member, no_members}
 use Rattle.toml.specs.View.{view, members_view}

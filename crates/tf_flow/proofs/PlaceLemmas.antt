@@ -1,5 +1,5 @@
 -- The items of a flow as members.
-use Rattle.std.proofs.Common.{◌≡◌, ℕ, List, [], ◌∷◌, length, map, refl, ap, arith}
+use Rattle.std.proofs.Common.{◌≡◌, List, [], ◌∷◌, length, map, refl, arith}
 use Rattle.tf_flow.specs.declared.nested.Item.{Item}
 use Rattle.tf_flow.specs.Places.{members_of}
 use Rattle.tf_flow.specs.Tree.{item_tree, trees_of}

@@ -2,9 +2,9 @@
 use Rattle.std.proofs.Common.{◌≡◌, map, rules}
 use Rattle.tf_flow.specs.declared.atoms.Task.{Task as TaskValue}
 use Rattle.tf_flow.specs.declared.nested.Flow.{Flow as FlowValue}
-use Rattle.tf_flow.specs.declared.nested.Item.{Item, the_lemmas}
+use Rattle.tf_flow.specs.declared.nested.Item.{the_lemmas}
 use Rattle.tf_flow.specs.declared.nested.Item.TheVariants.{Task, Flow}
-use Rattle.tf_flow.specs.Tree.{Tree, task, flow, tree_of, item_tree, trees_of}
+use Rattle.tf_flow.specs.Tree.{task, flow, tree_of, item_tree, trees_of}
 
 pub tree_of-flow : (f : FlowValue) → tree_of f ≡ flow record { name = f.name; kind = f.kind; retry = f.retry; links = f.links } (trees_of (map item_tree f.items.items.items))
 tree_of-flow f = search (rules, the_lemmas)

@@ -1,5 +1,5 @@
 -- The limits of a plan, and the count that passes each.
-use Rattle.std.specs.Prelude.{ℕ, ◌+◌, ◌-◌, ◌^◌, min, List, [], ◌∷◌, Option, None, Some, nat_lt, if◌then◌else◌, length, map, filter, sum_by, option_map, option_and_then}
+use Rattle.std.specs.Prelude.{ℕ, ◌-◌, ◌^◌, min, List, [], ◌∷◌, Option, None, Some, nat_lt, if◌then◌else◌, length, filter, sum_by, option_map}
 use Rattle.std.specs.Option.{option_or}
 use Rattle.tf_flow.specs.declared.atoms.Bind.{Bind}
 use Rattle.tf_flow.specs.declared.atoms.Provides.{Provides}

@@ -1,6 +1,6 @@
 use crate::{
     Arg, ArgList, Bind, Binds, Decider, Depth, Flow, FlowKind, Item, Items, Limit, Link, Links,
-    Plan, PlanFault, Provides, Task, TaskKind, Test, Tests, Undo,
+    Plan, PlanFault, Provides, Retry, RetryKind, Task, TaskKind, Test, Tests, Undo,
 };
 use std::alloc::Global;
 use std::test::Fail;
@@ -585,5 +585,175 @@ fn an_atom_repeats_no_name(rt: HostRuntime) -> Result<(), Fail> {
     let twice = of_store(rt.alloc(), store)?;
     let main = name(b"main")?;
     assert_eq!(rt; twice, Some(PlanFault::BadAtom(main)));
+    Ok(())
+}
+
+fn retry(alloc: Global, kind: RetryKind, args: ArgList) -> Result<Retry, Fail> {
+    let name = name(b"r")?;
+    Ok(Retry {
+        name,
+        kind,
+        args,
+        inject: Binds::make(Vec::new(alloc)),
+        provides: Provides::Nothing,
+    })
+}
+
+fn with_retry(alloc: Global, text: &[u8], retry: Retry, items: Vec<Item>) -> Result<Flow, Fail> {
+    let name = name(text)?;
+    Ok(Flow {
+        name,
+        kind: FlowKind::Linear,
+        retry: Some(retry),
+        items: Items::make(items),
+        links: Links::make(Vec::new(alloc)),
+    })
+}
+
+/// What is answered where a task stands in a flow with such a retry controller.
+fn of_retry(alloc: Global, kind: RetryKind, args: ArgList) -> Result<Option<PlanFault>, Fail> {
+    let retry = retry(alloc, kind, args)?;
+    let items = wide(alloc, 1)?;
+    let root = with_retry(alloc, b"main", retry, items)?;
+    Ok(refusal(alloc, root))
+}
+
+fn of_attempts(alloc: Global, attempts: u16) -> Result<Option<PlanFault>, Fail> {
+    let none = ArgList::make(Vec::new(alloc));
+    of_retry(
+        alloc,
+        RetryKind::Times {
+            attempts,
+            all: false,
+        },
+        none,
+    )
+}
+
+/// What is answered for a parameterized retry with this argument.
+fn of_argument(alloc: Global, argument: &[u8], symbol: &[u8]) -> Result<Option<PlanFault>, Fail> {
+    let name = name(argument)?;
+    let symbol = self::name(symbol)?;
+    let mut args = Vec::new(alloc);
+    args.push(Arg { name, symbol })?;
+    of_retry(
+        alloc,
+        RetryKind::Parameterized { all: true },
+        ArgList::make(args),
+    )
+}
+
+#[test]
+fn a_retry_keeps_its_rules(rt: HostRuntime) -> Result<(), Fail> {
+    let bad = Some(PlanFault::BadAtom(name(b"r")?));
+    for (attempts, want) in [(0, bad), (1, None), (1_000, None), (1_001, bad)] {
+        let answer = of_attempts(rt.alloc(), attempts)?;
+        assert_eq!(rt; answer, want, "{attempts}");
+    }
+    let by_name = of_argument(rt.alloc(), b"values", b"v")?;
+    assert_eq!(rt; by_name, None);
+    let by_symbol = of_argument(rt.alloc(), b"v", b"values")?;
+    assert_eq!(rt; by_symbol, bad);
+    Ok(())
+}
+
+/// What is answered for a command without words beside a task of the same name.
+fn of_wordless_twin(alloc: Global) -> Result<Option<PlanFault>, Fail> {
+    let first = named(alloc, b'a', TaskKind::Command)?;
+    let second = named(alloc, b'a', TaskKind::Echo)?;
+    let items = pair(alloc, first, second)?;
+    of_items(alloc, items)
+}
+
+/// What is answered for a command without words in a linear flow with a link.
+fn of_linked_wordless(alloc: Global) -> Result<Option<PlanFault>, Fail> {
+    let mut links = Vec::new(alloc);
+    links.push(link(b'a', b'a', false)?)?;
+    let items = one(alloc, named(alloc, b'a', TaskKind::Command)?)?;
+    of_links(alloc, FlowKind::Linear, items, links)
+}
+
+/// What is answered for a command without words and with too many arguments and injects.
+fn of_taking_and_given(alloc: Global) -> Result<Option<PlanFault>, Fail> {
+    let mut made = task(alloc, name(b"a")?, TaskKind::Command);
+    made.args = args(alloc, 65)?;
+    made.inject = binds(alloc, 66)?;
+    of_task(alloc, made)
+}
+
+#[test]
+fn the_first_of_two_refusals_is_answered(rt: HostRuntime) -> Result<(), Fail> {
+    let a = name(b"a")?;
+    let duplicate = of_wordless_twin(rt.alloc())?;
+    assert_eq!(rt; duplicate, Some(PlanFault::Duplicate(a)));
+    let main = name(b"main")?;
+    let linked = of_linked_wordless(rt.alloc())?;
+    assert_eq!(rt; linked, Some(PlanFault::BadLink(main)));
+    let limit = of_taking_and_given(rt.alloc())?;
+    let first = PlanFault::TooLarge {
+        which: Limit::Arguments,
+        n: 65,
+    };
+    assert_eq!(rt; limit, Some(first));
+    Ok(())
+}
+
+/// The flow `main` with the retry `r`, a flow `g` that holds the task `b`, and the task `c`.
+fn sample(alloc: Global) -> Result<Flow, Fail> {
+    let none = ArgList::make(Vec::new(alloc));
+    let retry = retry(alloc, RetryKind::AlwaysRevert, none)?;
+    let first = around(alloc, b'g', b'b')?;
+    let second = named(alloc, b'c', TaskKind::Echo)?;
+    let items = pair(alloc, first, second)?;
+    with_retry(alloc, b"main", retry, items)
+}
+
+/// Whether a plan has an atom of this name under this number.
+fn has_atom(plan: &Plan, number: u16, atom: Name, is_retry: bool) -> bool {
+    if number >= plan.atoms() || plan.find(&atom) != Some(number) {
+        return false;
+    }
+    *plan.atom_name(number) == atom && plan.is_retry(number) == is_retry
+}
+
+/// Whether a plan has a flow, and no atom, of this name.
+fn has_flow(plan: &Plan, number: u16, flow: Name) -> bool {
+    if number >= plan.flows() || plan.find(&flow).is_some() {
+        return false;
+    }
+    *plan.flow_name(number) == flow
+}
+
+fn has_sample_atoms(plan: &Plan) -> Result<bool, Fail> {
+    for (number, letter, is_retry) in [(0, b'r', true), (1, b'b', false), (2, b'c', false)] {
+        if !has_atom(plan, number, name(&[letter])?, is_retry) {
+            return Ok(false);
+        }
+    }
+    Ok(plan.atoms() == 3)
+}
+
+fn has_sample_flows(plan: &Plan) -> Result<bool, Fail> {
+    let main = name(b"main")?;
+    let g = name(b"g")?;
+    Ok(plan.flows() == 2 && has_flow(plan, 0, main) && has_flow(plan, 1, g))
+}
+
+fn sample_plan(alloc: Global) -> Result<Plan, Fail> {
+    let root = sample(alloc)?;
+    let store = binds(alloc, 3)?;
+    Ok(Plan::make(alloc, root, store, true)?)
+}
+
+fn keeps_what_was_given(plan: &Plan) -> bool {
+    plan.root().items.items().len() == 2 && plan.store().items().len() == 3 && plan.defer()
+}
+
+#[test]
+fn numbers_go_by_tree_order(rt: HostRuntime) -> Result<(), Fail> {
+    let plan = sample_plan(rt.alloc())?;
+    assert!(rt; has_sample_atoms(&plan)?);
+    assert!(rt; has_sample_flows(&plan)?);
+    assert!(rt; keeps_what_was_given(&plan));
     Ok(())
 }

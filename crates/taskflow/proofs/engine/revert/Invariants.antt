@@ -1,4 +1,4 @@
-use Rattle.std.proofs.Common.{◌≡◌, ◌≤◌, Option, List, ℕ}
+use Rattle.std.proofs.Common.{◌≤◌, Option, List, ℕ}
 use Rattle.taskflow.specs.History.{snapshot}
 use Rattle.taskflow.specs.Situations.{Reverts}
 use Rattle.taskflow.specs.Standing.{GoesOn}

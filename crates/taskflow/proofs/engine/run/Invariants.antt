@@ -1,4 +1,4 @@
-use Rattle.std.proofs.Common.{◌≡◌, ◌≤◌}
+use Rattle.std.proofs.Common.{◌≤◌}
 use Rattle.taskflow.specs.History.{snapshot}
 use Rattle.taskflow.specs.Situations.{Executes}
 use Rattle.taskflow.specs.Standing.{GoesOn}

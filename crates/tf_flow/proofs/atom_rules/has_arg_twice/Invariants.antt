@@ -1,7 +1,5 @@
-use Rattle.std.proofs.Common.{◌≡◌, take, drop, map, codes}
-use Rattle.tf_flow.specs.Names.{first_some, is_among}
+use Rattle.std.proofs.Common.{◌≡◌, take}
 use Rattle.tf_flow.specs.Rules as rule
-use Rattle.tf_flow.specs.Shown.{shown_places}
 use Rattle.tf_flow.proofs.atom_rules.has_arg_twice.Given as goal
 
 abbrev pub invariant-loop-arg : goal.invariant-loop-arg

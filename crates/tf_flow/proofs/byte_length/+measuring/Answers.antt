@@ -1,5 +1,4 @@
 use Rattle.std.proofs.Common.{◌∙◌, sym, ap, arith, length, ◌<◌}
-use Rattle.tf_flow.specs.ByteLength as form
 use Rattle.tf_flow.specs.Limits.{capped}
 use Rattle.tf_flow.proofs.MeasureLemmas.{nesting_more, comparisons_more, len_more}
 use Rattle.tf_flow.proofs.byte_length.+measuring.Goals as goal

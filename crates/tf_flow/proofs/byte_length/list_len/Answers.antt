@@ -1,4 +1,4 @@
-use Rattle.std.proofs.Common.{◌≡◌, ◌+◌, rules, arith, length, refl}
+use Rattle.std.proofs.Common.{◌≡◌, ◌+◌, arith, length, refl}
 use Rattle.std.proofs.lemmas.Grind.{common_steps}
 use Rattle.std.specs.List.{flat_map}
 use Rattle.tf_values.specs.ByteForm.{scalar_bytes}

@@ -1,6 +1,4 @@
-use Rattle.std.proofs.Common.{◌≡◌, take, length, sum_by}
-use Rattle.std.specs.List.{flat_map}
-use Rattle.tf_values.specs.ByteForm.{scalar_bytes}
+use Rattle.std.proofs.Common.{◌≡◌, take, sum_by}
 use Rattle.tf_flow.specs.ByteLength as form
 use Rattle.tf_flow.specs.Limits.{capped}
 use Rattle.tf_flow.proofs.byte_length.names_len.Given as goal

@@ -1,7 +1,5 @@
-use Rattle.std.proofs.Common.{◌≡◌, ◌≤◌, take, drop, length, filter, sum_by, ℕ}
-use Rattle.tf_flow.specs.Limits.{capped, passing_at, passing_nesting, passing_comparisons, link_count, limit_fault, limits}
-use Rattle.tf_flow.specs.Names.{first_some}
-use Rattle.tf_flow.specs.Places.{is_atom, is_flow}
+use Rattle.std.proofs.Common.{◌≡◌, take, sum_by}
+use Rattle.tf_flow.specs.Limits.{capped, link_count}
 use Rattle.tf_flow.specs.Shown.{shown_places}
 use Rattle.tf_flow.proofs.limits.link_count.Given as goal
 

@@ -1,8 +1,7 @@
-use Rattle.std.proofs.Common.{◌≡◌, take, drop, map}
-use Rattle.std.specs.List.{list_any}
+use Rattle.std.proofs.Common.{◌≡◌, drop}
 use Rattle.tf_flow.specs.Names.{first_some}
 use Rattle.tf_flow.specs.Rules as rule
-use Rattle.tf_flow.specs.Shown.{members, shown_places}
+use Rattle.tf_flow.specs.Shown.{shown_places}
 use Rattle.tf_flow.proofs.link_rules.first_unknown.Given as goal
 
 abbrev pub invariant-loop-place : goal.invariant-loop-place

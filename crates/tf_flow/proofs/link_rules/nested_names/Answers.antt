@@ -1,4 +1,4 @@
-use Rattle.std.proofs.Common.{◌≡◌, ◌∙◌, sym, arith, length, ◌<◌}
+use Rattle.std.proofs.Common.{◌∙◌, sym, arith, length, ◌<◌}
 use Rattle.tf_flow.proofs.LinkLemmas.{nested_more_flow, nested_more_task}
 use Rattle.tf_flow.proofs.link_rules.nested_names.Goals as goal
 use Rattle.tf_flow.proofs.link_rules.nested_names.Goals.{then-is_nested+in_ok-push, else-is_nested}

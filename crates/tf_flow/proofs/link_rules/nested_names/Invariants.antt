@@ -1,8 +1,6 @@
-use Rattle.std.proofs.Common.{◌≡◌, take, drop, map}
-use Rattle.std.specs.List.{list_any}
-use Rattle.tf_flow.specs.Names.{first_some}
+use Rattle.std.proofs.Common.{◌≡◌, take}
 use Rattle.tf_flow.specs.Rules as rule
-use Rattle.tf_flow.specs.Shown.{members, shown_places}
+use Rattle.tf_flow.specs.Shown.{members}
 use Rattle.tf_flow.proofs.link_rules.nested_names.Given as goal
 
 abbrev pub invariant-loop-item : goal.invariant-loop-item

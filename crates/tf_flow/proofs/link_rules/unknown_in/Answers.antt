@@ -1,4 +1,4 @@
-use Rattle.std.proofs.Common.{◌≡◌, ◌∙◌, ap, List, ℕ}
+use Rattle.std.proofs.Common.{◌∙◌, ap, List, ℕ}
 use Rattle.tf_flow.specs.declared.deciders.Link.{Link}
 use Rattle.tf_flow.specs.declared.nested.Item.{Item}
 use Rattle.tf_flow.specs.Names.{first_some, is_among}

@@ -1,4 +1,4 @@
-use Rattle.std.proofs.Common.{◌≤◌, length, map, filter, arith}
+use Rattle.std.proofs.Common.{◌≤◌, length, filter, arith}
 use Rattle.std.proofs.lemmas.List.{length-map}
 use Rattle.tf_flow.specs.Places.{tree_order, is_atom, name_at}
 use Rattle.taskflow.proofs.OutlineLemmas.{outline_runs, outline_tasks}
