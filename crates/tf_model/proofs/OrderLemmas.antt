@@ -1,0 +1,187 @@
+-- Where a plan compiles, the items of each of its flows are in an order.
+use Rattle.std.proofs.Common.{◌≡◌, ℕ, zero, suc, ◌+◌, ◌<◌, List, [], ◌∷◌, length, Bool, true, false, ◌||◌, Option, Some, None, refl, sym, ap, ◌∙◌, inl, inr, eqb-true, eq-eqb, arith, cond, subst}
+use Rattle.std.specs.Prelude.{if◌then◌else◌, nat_eq, nat_lt}
+use Rattle.std.specs.List.{list_any}
+use Rattle.std.specs.Option.{option_or, option_map}
+use Rattle.std.proofs.lemmas.Bool.{cases_lt, ltb-true, lt-ltb}
+use Rattle.tf_flow.specs.declared.nested.FlowKind.{FlowKind}
+use Rattle.tf_flow.specs.declared.nested.FlowKind.TheVariants as kind
+use Rattle.tf_flow.specs.Names.{first_some}
+use Rattle.tf_flow.specs.Plan.{PlanValue}
+use Rattle.tf_flow.specs.Rules.{is_graph}
+use Rattle.tf_flow.specs.Tree.{Tree, Trees, task, flow, no_trees, tree, tree_of}
+use Rattle.tf_flow.specs.declared.atoms.Bind.{Bind}
+use Rattle.tf_model.specs.Numbers.{first_below, has_number, Pair, has_pair, pairs_below}
+use Rattle.tf_model.specs.Outline.{Atom, FlowPlace, flows_of, flows_among, innermost_first, innermost_among, atoms_of, flow_count, atom_count, retry_count}
+use Rattle.tf_model.specs.Before.{Flow, has_flow_number, flow_at, order_in, item_before}
+use Rattle.tf_model.specs.Linked.{is_linked, item_order, arrange, arranged}
+use Rattle.tf_model.specs.Plan.{Outline, outline_of_tree, outline_of}
+use Rattle.tf_model.specs.Compilation.{ambiguity, cycle_of, cycle_at, is_on_cycle, refusal_of, refusal_at, tree_refusal, compile_refusal}
+use Rattle.tf_model.specs.Laws.{AreOrdered}
+use Rattle.tf_model.proofs.StepLemmas.{or_either}
+use Rattle.tf_model.proofs.PairLemmas.{true_first, passes_pair, any_left, any_right, any_in_both, pair_passes, reached_chain, reached_within, reached_keeps}
+
+-- ---- each flow of a plan has the order of its kind
+
+pub record IsArranged (f : Flow) : Type 0 where
+  pub order : f.order ≡ item_order f.place.kind (length f.place.items) f.linked
+  pub within : (u v : ℕ) → has_pair f.linked u v ≡ true → v < length f.place.items
+  pub links : (u v : ℕ) → has_pair f.linked u v ≡ true → has_pair f.order u v ≡ true
+
+linked_within : (n : ℕ) (test : ℕ → ℕ → Bool) (b : Bool) (u v : ℕ) → has_pair (if b then pairs_below n test else []) u v ≡ true → v < n
+linked_within n test true u v is = (pair_passes n test u v is).second
+linked_within n test false u v is = absurd (cc)
+
+-- a link is part of the order
+linked_ordered : (how : FlowKind) (n : ℕ) (test : ℕ → ℕ → Bool) (u v : ℕ) → has_pair (if is_graph how then pairs_below n test else []) u v ≡ true
+    → has_pair (item_order how n (if is_graph how then pairs_below n test else [])) u v ≡ true
+linked_ordered kind.Linear n test u v is = absurd (cc)
+linked_ordered kind.Unordered n test u v is = absurd (cc)
+linked_ordered kind.Graph n test u v is = let passes = pair_passes n test u v is in reached_keeps n (pairs_below n test) n u v passes.first passes.second is
+
+is_arranged : (atoms : List Atom) (inner : List Flow) (place : FlowPlace) → IsArranged (arrange atoms inner place)
+is_arranged atoms inner place = record { order = refl; within = linked_within (length place.items) (is_linked atoms inner place) (is_graph place.kind); links = linked_ordered place.kind (length place.items) (is_linked atoms inner place) }
+
+found_arranged : (g : ℕ) (first : Flow) (others : List Flow) (b : Bool) → IsArranged first → ((f : Flow) → flow_at others g ≡ Some f → IsArranged f)
+    → (f : Flow) → cond b (Some first) (flow_at others g) ≡ Some f → IsArranged f
+found_arranged g first others true here there f is = let same : first ≡ f = cc in subst IsArranged same here
+found_arranged g first others false here there f is = there f is
+
+pub each_arranged : (atoms : List Atom) (places : List FlowPlace) (g : ℕ) (f : Flow) → flow_at (arranged atoms places) g ≡ Some f → IsArranged f
+each_arranged atoms [] g f is = absurd (cc)
+each_arranged atoms (place ∷ places) g f is =
+    found_arranged g (arrange atoms (arranged atoms places) place) (arranged atoms places) (has_flow_number g (arrange atoms (arranged atoms places) place))
+    (is_arranged atoms (arranged atoms places) place) (each_arranged atoms places g) f is
+
+chain_by : (how : FlowKind) (n : ℕ) (linked : List Pair) → ((u v : ℕ) → has_pair linked u v ≡ true → v < n) → (u v w : ℕ)
+    → has_pair (item_order how n linked) u v ≡ true → has_pair (item_order how n linked) v w ≡ true → has_pair (item_order how n linked) u w ≡ true
+chain_by kind.Linear n linked within u v w first second =
+    let uv = pair_passes n nat_lt u v first in
+    let vw = pair_passes n nat_lt v w second in
+    let one : u < v = ltb-true u v uv.tested in
+    let two : v < w = ltb-true v w vw.tested in
+    passes_pair n nat_lt u w uv.first vw.second (lt-ltb u w (omega (arith, one, two)))
+chain_by kind.Unordered n linked within u v w first second = absurd (cc)
+chain_by kind.Graph n linked within u v w first second = reached_chain n linked within u v w first second
+
+-- ---- no item comes before itself
+
+none_below : (n : ℕ) (test : ℕ → Bool) (k : ℕ) → first_below n test ≡ None → k < n → test k ≡ false
+none_below zero test k is below = absurd (omega arith)
+none_below (suc n) test k is below = elim (cases_lt k n) [
+  | inl before ↦ none_below n test k (none_first (first_below n test) _ is) before
+  | inr from ↦ let same : k ≡ n = omega arith in ap test same ∙ none_last (first_below n test) n (test n) is
+]
+  where
+    none_first : (o p : Option ℕ) → option_or o p ≡ None → o ≡ None
+    none_first None p is = refl
+    none_first (Some x) p is = absurd (cc)
+
+    none_last : (o : Option ℕ) (n : ℕ) (b : Bool) → option_or o (if b then Some n else None) ≡ None → b ≡ false
+    none_last None n true is = absurd (cc)
+    none_last None n false is = refl
+    none_last (Some x) n b is = absurd (cc)
+
+none_mapped : {X Y : Type 0} (f : X → Y) (o : Option X) → option_map f o ≡ None → o ≡ None
+none_mapped f None is = refl
+none_mapped f (Some x) is = absurd (cc)
+
+none_second : {X : Type 0} (o p : Option X) → option_or o p ≡ None → p ≡ None
+none_second None p is = is
+none_second (Some x) p is = absurd (cc)
+
+-- a flow without a cycle
+itself_by : (how : FlowKind) (n : ℕ) (linked order : List Pair) (u : ℕ) → order ≡ item_order how n linked → ((v w : ℕ) → has_pair linked v w ≡ true → w < n)
+    → (is_graph how ≡ true → first_below n (λ v. has_pair order v v) ≡ None) → has_pair order u u ≡ true → ⊥
+itself_by kind.Linear n linked order u is within looked on =
+    let passes = pair_passes n nat_lt u u (ap (λ (o : List Pair). has_pair o u u) (sym is) ∙ on) in
+    let less : u < u = ltb-true u u passes.tested in omega (arith, less)
+itself_by kind.Unordered n linked order u is within looked on = let no : false ≡ true = ap (λ (o : List Pair). has_pair o u u) (sym is) ∙ on in cc
+itself_by kind.Graph n linked order u is within looked on =
+    let below : u < n = reached_within n linked n within u u (ap (λ (o : List Pair). has_pair o u u) (sym is) ∙ on) in
+    let off : has_pair order u u ≡ false = none_below n (λ v. has_pair order v v) u (looked refl) below in
+    let no : true ≡ false = sym on ∙ off in cc
+
+-- ---- every flow is looked at
+
+abbrev is_place_of : ℕ → FlowPlace → Bool
+is_place_of g place = nat_eq place.number g
+
+mutual
+  in_tree : (t : Tree) (n a g : ℕ) → list_any (is_place_of g) (flows_of n a t) ≡ true → has_number (innermost_first n t) g ≡ true
+  in_tree (task t) n a g is = absurd (cc)
+  in_tree (flow head items) n a g is = elim (or_either (nat_eq n g) _ is) [
+    | inl here ↦ any_right (nat_eq g) (innermost_among (suc n) items) (n ∷ []) (true_first (nat_eq g n) false (eq-eqb g n (sym (eqb-true n g here))))
+    | inr there ↦ any_left (nat_eq g) (innermost_among (suc n) items) (n ∷ []) (in_trees items (suc n) (a + retry_count head.retry) g there)
+  ]
+
+  in_trees : (ts : Trees) (n a g : ℕ) → list_any (is_place_of g) (flows_among n a ts) ≡ true → has_number (innermost_among n ts) g ≡ true
+  in_trees no_trees n a g is = absurd (cc)
+  in_trees (tree first others) n a g is = elim (any_in_both (is_place_of g) (flows_of n a first) _ is) [
+    | inl here ↦ any_left (nat_eq g) (innermost_first n first) _ (in_tree first n a g here)
+    | inr there ↦ any_right (nat_eq g) (innermost_first n first) _ (in_trees others (n + flow_count first) (a + atom_count first) g there)
+  ]
+
+-- ---- a plan that compiles
+
+no_refusal : (atoms : List Atom) (flows : List Flow) (f : Flow) (b : Bool) → is_graph f.place.kind ≡ b → (if b then option_or (ambiguity atoms flows f.place) (cycle_of f) else None) ≡ None
+    → b ≡ true → cycle_of f ≡ None
+no_refusal atoms flows f true was is graph = none_second (ambiguity atoms flows f.place) (cycle_of f) is
+no_refusal atoms flows f false was is graph = absurd (cc)
+
+looked_at : {Y : Type 0} (give : ℕ → Option Y) (numbers : List ℕ) (g : ℕ) → first_some give numbers ≡ None → has_number numbers g ≡ true → give g ≡ None
+looked_at give [] g is among = absurd (cc)
+looked_at give (x ∷ xs) g is among = elim (or_either (nat_eq g x) _ among) [
+  | inl here ↦ let same : g ≡ x = eqb-true g x here in ap give same ∙ none_here (give x) _ is
+  | inr there ↦ looked_at give xs g (none_second (give x) (first_some give xs) is) there
+]
+  where
+    none_here : {Y : Type 0} (o p : Option Y) → option_or o p ≡ None → o ≡ None
+    none_here None p is = refl
+    none_here (Some y) p is = absurd (cc)
+
+-- the flow that is found is one of the places
+found_place : (g : ℕ) (f first : Flow) (others : Option Flow) (b rest : Bool) → (others ≡ Some f → rest ≡ true) → cond b (Some first) others ≡ Some f → b || rest ≡ true
+found_place g f first others true rest there is = refl
+found_place g f first others false rest there is = there is
+
+place_among : (atoms : List Atom) (places : List FlowPlace) (g : ℕ) (f : Flow) → flow_at (arranged atoms places) g ≡ Some f → list_any (is_place_of g) places ≡ true
+place_among atoms [] g f is = absurd (cc)
+place_among atoms (place ∷ places) g f is =
+    found_place g f (arrange atoms (arranged atoms places) place) (flow_at (arranged atoms places) g) (nat_eq place.number g) (list_any (is_place_of g) places) (place_among atoms places g f) is
+
+refused_not : (plan : Outline) (g : ℕ) (f : Flow) → flow_at plan.flows g ≡ Some f → refusal_at plan g ≡ None → is_graph f.place.kind ≡ true → cycle_of f ≡ None
+refused_not plan g f found is =
+    no_refusal plan.atoms plan.flows f (is_graph f.place.kind) refl (ap (refusal_of plan.atoms plan.flows) (sym found) ∙ is)
+
+-- of the flow that is found, the order goes on and leads to no item itself
+chain_found : (o : Option Flow) → ((f : Flow) → o ≡ Some f → IsArranged f) → (u v w : ℕ) → has_pair (order_in o) u v ≡ true → has_pair (order_in o) v w ≡ true → has_pair (order_in o) u w ≡ true
+chain_found None each u v w first second = absurd (cc)
+chain_found (Some f) each u v w first second =
+    let is = each f refl in
+    ap (λ (o : List Pair). has_pair o u w) is.order
+    ∙ chain_by f.place.kind (length f.place.items) f.linked is.within u v w (ap (λ (o : List Pair). has_pair o u v) (sym is.order) ∙ first) (ap (λ (o : List Pair). has_pair o v w) (sym is.order) ∙ second)
+
+itself_found : (o : Option Flow) → ((f : Flow) → o ≡ Some f → IsArranged f) → ((f : Flow) → o ≡ Some f → is_graph f.place.kind ≡ true → cycle_of f ≡ None) → (u : ℕ) → has_pair (order_in o) u u ≡ true → ⊥
+itself_found None each looked u on = absurd (cc)
+itself_found (Some f) each looked u on =
+    let is = each f refl in
+    itself_by f.place.kind (length f.place.items) f.linked f.order u is.order is.within
+    (λ graph. none_mapped (cycle_at f) (first_below (length f.place.items) (is_on_cycle f)) (looked f refl graph)) on
+
+never_true : (b : Bool) → (b ≡ true → ⊥) → b ≡ false
+never_true true no_way = absurd (no_way refl)
+never_true false no_way = refl
+
+-- where nothing is refused, the items of each flow are in an order
+pub compiled_ordered : (root : Tree) (store : List Bind) (defer : Bool) → tree_refusal root (outline_of_tree root store defer) ≡ None → AreOrdered (outline_of_tree root store defer).flows
+compiled_ordered root store defer is = record {
+  transitive = λ g. chain_found (flow_at (outline_of_tree root store defer).flows g) (each_arranged (atoms_of 0 root) (flows_of 0 0 root) g);
+  irreflexive = λ g u. never_true (item_before (outline_of_tree root store defer).flows g u u)
+      (itself_found (flow_at (outline_of_tree root store defer).flows g) (each_arranged (atoms_of 0 root) (flows_of 0 0 root) g)
+      (λ f found. refused_not (outline_of_tree root store defer) g f found
+      (looked_at (refusal_at (outline_of_tree root store defer)) (innermost_first 0 root) g is (in_tree root 0 0 g (place_among (atoms_of 0 root) (flows_of 0 0 root) g f found)))) u);
+}
+
+pub plan_ordered : (plan : PlanValue) → compile_refusal plan ≡ None → AreOrdered (outline_of plan).flows
+plan_ordered plan is = compiled_ordered (tree_of plan.root) plan.store plan.defer is

@@ -1,0 +1,86 @@
+-- The flow that a failure is resolved to holds the failed atom.
+use Rattle.std.proofs.Common.{◌≡◌, ℕ, zero, suc, ◌<◌, List, [], ◌∷◌, length, map, Bool, true, false, not, ◌&&◌, Option, Some, None, refl, ap, ◌∙◌, ◌⊎◌, inl, inr, eq-eqb, arith, slice_get, subst}
+use Rattle.std.specs.Prelude.{nat_eq, if◌then◌else◌}
+use Rattle.std.specs.List.{list_any, AllByRecursion}
+use Rattle.tf_states.specs.declared.record.Kind.{Kind}
+use Rattle.tf_states.specs.declared.record.Kind.TheVariants as kind
+use Rattle.tf_flow.specs.Plan.{PlanValue}
+use Rattle.tf_flow.specs.Tree.{Tree, Trees, flow, Head, tree_of, trees_of, item_tree}
+use Rattle.tf_flow.proofs.TreeLemmas.{tree_of-flow}
+use Rattle.tf_model.specs.Outline.{Turn, Atom, atoms_of}
+use Rattle.tf_model.specs.Before.{passes_flow, way_in}
+use Rattle.tf_model.specs.Plan.{Outline, outline_of, holds, way, count, retry_of}
+use Rattle.tf_model.specs.Snapshot.{Resolve, Snapshot}
+use Rattle.tf_model.specs.Retries.{Controlled, controlled, controlled_on, enclosing, resolved, resolution_by, resolution, answer, is_outermost, is_revert}
+use Rattle.tf_model.proofs.StepLemmas.{or_either}
+use Rattle.tf_model.proofs.PairLemmas.{true_first, true_second, any_in_both}
+use Rattle.tf_model.proofs.WayLemmas.{IsWay, begins, ways_of}
+
+abbrev is_of_flow : ℕ → Controlled → Bool
+is_of_flow g c = nat_eq c.flow g
+
+-- the whole flow, or one of these
+abbrev IsAmong : List Controlled → ℕ → Type 0
+IsAmong list g = (g ≡ 0) ⊎ (list_any (is_of_flow g) list ≡ true)
+
+among_more : (here : Controlled) (outer : List Controlled) (g : ℕ) → IsAmong outer g → IsAmong (here ∷ outer) g
+among_more here outer g is = elim is [ inl root ↦ inl root | inr there ↦ inr (true_second (nat_eq here.flow g) _ there) ]
+
+this_one : (here : Controlled) (outer : List Controlled) → IsAmong (here ∷ outer) here.flow
+this_one here outer = inr (true_first (nat_eq here.flow here.flow) _ (eq-eqb here.flow here.flow refl))
+
+kept_or_here : (b : Bool) (here : Controlled) (outer : List Controlled) (p q : Resolve) → IsAmong (here ∷ outer) p.flow → IsAmong (here ∷ outer) q.flow → IsAmong (here ∷ outer) (if b then p else q).flow
+kept_or_here true here outer p q one other = one
+kept_or_here false here outer p q one other = other
+
+resolved_among : (defer : Bool) (here : Controlled) (outer : List Controlled) (p : Resolve) (how : Kind) → IsAmong outer p.flow → IsAmong (here ∷ outer) (resolved defer here outer p how).flow
+resolved_among defer here outer p kind.Retry is = this_one here outer
+resolved_among defer here outer p kind.RevertAll is = inl refl
+resolved_among defer here outer p kind.Revert is =
+    kept_or_here defer here outer p _ (among_more here outer p.flow is)
+    (kept_or_here (not (is_outermost outer) && not (is_revert p.kind)) here outer p (record { flow = here.flow; kind = kind.Revert }) (among_more here outer p.flow is) (this_one here outer))
+
+resolution_among : (plan : Outline) (s : Snapshot) (list : List Controlled) → IsAmong list (resolution_by plan s list).flow
+resolution_among plan s [] = inl refl
+resolution_among plan s (here ∷ outer) = resolved_among plan.defer here outer (resolution_by plan s outer) (answer plan s here.retry) (resolution_among plan s outer)
+
+one_controlled : (a g F : ℕ) (o : Option ℕ) → list_any (is_of_flow F) (controlled a g o) ≡ true → nat_eq g F ≡ true
+one_controlled a g F None is = absurd (cc)
+one_controlled a g F (Some r) is = by (nat_eq r a) is
+  where
+    by : (b : Bool) → list_any (is_of_flow F) (if b then [] else record { flow = g; retry = r } ∷ []) ≡ true → nat_eq g F ≡ true
+    by true is = absurd (cc)
+    by false is = elim (or_either (nat_eq g F) false is) [ inl here ↦ here | inr none ↦ absurd (cc) ]
+
+on_way : (plan : Outline) (a F : ℕ) (turns : List Turn) → list_any (is_of_flow F) (controlled_on plan a turns) ≡ true → passes_flow F turns ≡ true
+on_way plan a F [] is = absurd (cc)
+on_way plan a F (turn ∷ turns) is = elim (any_in_both (is_of_flow F) (controlled_on plan a turns) (controlled a turn.flow (retry_of plan turn.flow)) is) [
+  | inl below ↦ true_second (nat_eq turn.flow F) _ (on_way plan a F turns below)
+  | inr here ↦ true_first (nat_eq turn.flow F) _ (one_controlled a turn.flow F (retry_of plan turn.flow) here)
+]
+
+-- the root holds each atom
+there_is : (P : List Turn → Type 0) (xs : List Atom) (k : ℕ) → AllByRecursion (λ atom. P atom.way) xs → k < length xs → P (way_in (slice_get xs k))
+there_is P [] k all below = absurd (omega arith)
+there_is P (x ∷ xs) zero all below = all.0
+there_is P (x ∷ xs) (suc k) all below = there_is P xs k all.1 (omega arith)
+
+root_on_way : (head : Head) (items : Trees) (w : List Turn) → IsWay 0 (flow head items) w → passes_flow 0 w ≡ true
+root_on_way head items w is = let first = begins head items 0 w is in ap (passes_flow 0) first.is ∙ true_first (nat_eq first.turn.flow 0) _ (eq-eqb first.turn.flow 0 first.flow)
+
+root_holds_in : (t : Tree) (head : Head) (items : Trees) → t ≡ flow head items → (w : List Turn) → IsWay 0 t w → passes_flow 0 w ≡ true
+root_holds_in t head items is w on = root_on_way head items w (subst (λ (u : Tree). IsWay 0 u w) is on)
+
+pub root_holds : (plan : PlanValue) (a : ℕ) → a < count (outline_of plan) → holds (outline_of plan) 0 a ≡ true
+unfolding holds
+root_holds plan a below =
+    root_holds_in (tree_of plan.root) (record { name = plan.root.name; kind = plan.root.kind; retry = plan.root.retry; links = plan.root.links }) (trees_of (map item_tree plan.root.items.items.items)) (tree_of-flow plan.root)
+    (way (outline_of plan) a) (there_is (IsWay 0 (tree_of plan.root)) (atoms_of 0 (tree_of plan.root)) a (ways_of (tree_of plan.root) 0) below)
+
+-- what a failure is resolved to holds it
+pub resolution_holds : (plan : PlanValue) (s : Snapshot) (a : ℕ) → a < count (outline_of plan) → holds (outline_of plan) (resolution (outline_of plan) s a).flow a ≡ true
+unfolding holds resolution
+resolution_holds plan s a below = elim (resolution_among (outline_of plan) s (enclosing (outline_of plan) a)) [
+  | inl root ↦ ap (λ (g : ℕ). passes_flow g (way (outline_of plan) a)) root ∙ root_holds plan a below
+  | inr there ↦ on_way (outline_of plan) a (resolution (outline_of plan) s a).flow (way (outline_of plan) a) there
+]

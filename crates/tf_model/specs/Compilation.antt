@@ -1,0 +1,130 @@
+-- Why a plan doesn't compile: the first ambiguous symbol or cycle of links.
+use Rattle.std.specs.Prelude.{ℕ, zero, suc, List, [], ◌∷◌, Bool, true, false, ◌&&◌, Option, Some, None, length, nat_lt, nat_eq, map, filter, option_map, if◌then◌else◌}
+use Rattle.std.specs.List.{list_any}
+use Rattle.std.specs.Option.{option_or}
+use Rattle.tf_flow.specs.Names.{first_some}
+use Rattle.tf_flow.specs.Rules.{is_graph}
+use Rattle.tf_flow.specs.Tree.{Tree, tree_of}
+use Rattle.tf_flow.specs.Plan.{PlanValue}
+use Rattle.tf_model.specs.Numbers.{first_below, which_below, numbers_below, has_number, Pair, has_pair}
+use Rattle.tf_model.specs.Outline.{Atom, FlowPlace, innermost_first}
+use Rattle.tf_model.specs.Before.{Flow, flow_at}
+use Rattle.tf_model.specs.Linked.{needs, givers, item_name}
+use Rattle.tf_model.specs.Plan.{Outline, outline_of}
+
+-- a symbol that two items of a flow provide where a third needs it, or items that lead back to the first
+pub data CompileRefusal : Type 0 where
+  ambiguous : (symbol first second : List ℕ) → CompileRefusal
+  cycle : (names : List (List ℕ)) → CompileRefusal
+
+-- the first name stands before the second in byte order
+abbrev pub name_less : List ℕ → List ℕ → Bool
+name_less xs [] = false
+name_less [] (y ∷ ys) = true
+name_less (x ∷ xs) (y ∷ ys) = if nat_eq x y then name_less xs ys else nat_lt x y
+
+-- the name, or the other where that stands before it
+abbrev pub lesser : List ℕ → Option (List ℕ) → List ℕ
+lesser name None = name
+lesser name (Some other) = if name_less other name then other else name
+
+-- the first of the names in byte order
+abbrev pub least : List (List ℕ) → Option (List ℕ)
+least [] = None
+least (name ∷ names) = Some (lesser name (least names))
+
+-- two or more
+abbrev pub are_several : List ℕ → Bool
+are_several [] = false
+are_several (x ∷ []) = false
+are_several (x ∷ y ∷ others) = true
+
+-- two or more other items give the symbol to v
+abbrev pub is_ambiguous : List Atom → FlowPlace → ℕ → List ℕ → Bool
+is_ambiguous atoms place v symbol = are_several (givers atoms place v symbol)
+
+-- the first two of the items that give a symbol
+abbrev pub refuse_givers : FlowPlace → List ℕ → List ℕ → Option CompileRefusal
+refuse_givers place symbol [] = None
+refuse_givers place symbol (x ∷ []) = None
+refuse_givers place symbol (x ∷ y ∷ others) = Some (ambiguous symbol (item_name place x) (item_name place y))
+
+-- the symbol with the first two items that give it
+abbrev pub refuse_symbol : List Atom → FlowPlace → ℕ → Option (List ℕ) → Option CompileRefusal
+refuse_symbol atoms place v None = None
+refuse_symbol atoms place v (Some symbol) = refuse_givers place symbol (givers atoms place v symbol)
+
+-- the first ambiguous symbol of an item, in byte order, and the first two items that provide it
+abbrev pub ambiguity_at : List Atom → List Flow → FlowPlace → ℕ → Option CompileRefusal
+ambiguity_at atoms flows place v =
+    refuse_symbol atoms place v (least (filter (is_ambiguous atoms place v) (needs atoms flows place.number v)))
+
+-- that of the first item that has one
+abbrev pub ambiguity : List Atom → List Flow → FlowPlace → Option CompileRefusal
+ambiguity atoms flows place = first_some (ambiguity_at atoms flows place) (numbers_below (length place.items))
+
+-- u is linked to one of the items
+abbrev pub leads_to_one : List Pair → List ℕ → ℕ → Bool
+leads_to_one linked targets u = list_any (has_pair linked u) targets
+
+-- the items that reach v in exactly so many links
+abbrev pub reaching : ℕ → List Pair → ℕ → ℕ → List ℕ
+reaching n linked v zero = v ∷ []
+reaching n linked v (suc k) = which_below n (leads_to_one linked (reaching n linked v k))
+
+-- u is linked to w, which reaches v in exactly so many links
+abbrev pub goes_on_by : ℕ → List Pair → ℕ → ℕ → ℕ → ℕ → Bool
+goes_on_by n linked v k u w = has_pair linked u w && has_number (reaching n linked v k) w
+
+-- the rest of a walk from the item that was found
+abbrev pub go_on : Option ℕ → (ℕ → List ℕ) → List ℕ
+go_on None walk = []
+go_on (Some w) walk = walk w
+
+-- the items on the way from u to v in exactly so many links and one, the first in item order at each turn;
+-- v isn't told again
+abbrev pub walk_to : ℕ → List Pair → ℕ → ℕ → ℕ → List ℕ
+walk_to n linked v zero u = u ∷ []
+walk_to n linked v (suc k) u = u ∷ go_on (first_below n (goes_on_by n linked v (suc k) u)) (walk_to n linked v k)
+
+-- v comes back to itself in one link more than k
+abbrev pub comes_back : ℕ → List Pair → ℕ → ℕ → Bool
+comes_back n linked v k = has_number (reaching n linked v (suc k)) v
+
+-- the walk from v back to it in that many links
+abbrev pub walk_back : ℕ → List Pair → ℕ → Option ℕ → List ℕ
+walk_back n linked v None = []
+walk_back n linked v (Some k) = walk_to n linked v k v
+
+-- the shortest way from v back to itself, the first in item order among several
+abbrev pub shortest_cycle : ℕ → List Pair → ℕ → List ℕ
+shortest_cycle n linked v = walk_back n linked v (first_below n (comes_back n linked v))
+
+-- v leads back to itself
+abbrev pub is_on_cycle : Flow → ℕ → Bool
+is_on_cycle f v = has_pair f.order v v
+
+-- the names of the shortest cycle through v
+abbrev pub cycle_at : Flow → ℕ → CompileRefusal
+cycle_at f v = cycle (map (item_name f.place) (shortest_cycle (length f.place.items) f.linked v))
+
+-- the cycle of a flow: through the first item that lies on one
+abbrev pub cycle_of : Flow → Option CompileRefusal
+cycle_of f = option_map (cycle_at f) (first_below (length f.place.items) (is_on_cycle f))
+
+-- a graph flow is looked at for an ambiguous symbol, and then for a cycle
+abbrev pub refusal_of : List Atom → List Flow → Option Flow → Option CompileRefusal
+refusal_of atoms flows None = None
+refusal_of atoms flows (Some f) = if is_graph f.place.kind then option_or (ambiguity atoms flows f.place) (cycle_of f) else None
+
+-- the refusal of flow g
+abbrev pub refusal_at : Outline → ℕ → Option CompileRefusal
+refusal_at plan g = refusal_of plan.atoms plan.flows (flow_at plan.flows g)
+
+-- the first refusal: the flows are looked at with the innermost first
+abbrev pub tree_refusal : Tree → Outline → Option CompileRefusal
+tree_refusal root plan = first_some (refusal_at plan) (innermost_first 0 root)
+
+-- the first refusal of a plan
+abbrev pub compile_refusal : PlanValue → Option CompileRefusal
+compile_refusal plan = tree_refusal (tree_of plan.root) (outline_of plan)

@@ -1,0 +1,135 @@
+-- What the rules of a run read of a plan.
+use Rattle.std.specs.Prelude.{ℕ, List, [], ◌∷◌, Bool, true, false, Option, Some, None, length, slice_get}
+use Rattle.tf_flow.specs.declared.atoms.Arg.{Arg}
+use Rattle.tf_flow.specs.declared.atoms.Bind.{Bind}
+use Rattle.tf_flow.specs.declared.atoms.Provides.{Provides}
+use Rattle.tf_flow.specs.declared.atoms.Provides.TheVariants as provides
+use Rattle.tf_flow.specs.Plan.{PlanValue}
+use Rattle.tf_flow.specs.Tree.{Tree, tree_of}
+use Rattle.tf_model.specs.Numbers.{Pair}
+use Rattle.tf_model.specs.Outline.{Turn, Part, a_task, a_retry, Atom, FlowPlace, atoms_of, flows_of, name_of, arguments_of, injected_in, provided_by}
+use Rattle.tf_model.specs.Before.{Flow, flow_at, way_before, way_at, passes_flow}
+use Rattle.tf_model.specs.Linked.{arranged}
+
+-- the atoms and the flows in tree order, the values of the store, and whether reverts are deferred
+pub record Outline : Type 0 where
+  pub atoms : List Atom
+  pub flows : List Flow
+  pub store : List Bind
+  pub defer : Bool
+
+-- the outline of atoms and flows
+abbrev pub outline_with : List Atom → List FlowPlace → List Bind → Bool → Outline
+outline_with atoms places store defer = record { atoms = atoms; flows = arranged atoms places; store = store; defer = defer }
+
+-- the outline of a tree
+abbrev pub outline_of_tree : Tree → List Bind → Bool → Outline
+outline_of_tree root store defer = outline_with (atoms_of 0 root) (flows_of 0 0 root) store defer
+
+-- the outline of a plan
+abbrev pub outline_of : PlanValue → Outline
+outline_of plan = outline_of_tree (tree_of plan.root) plan.store plan.defer
+
+-- how many atoms there are; they are numbered from 0
+abbrev pub count : Outline → ℕ
+count plan = length plan.atoms
+
+-- the way of atom a from the root
+abbrev pub way : Outline → ℕ → List Turn
+way plan a = way_at plan.atoms a
+
+-- a is before b
+unfoldable pub is_before : Outline → ℕ → ℕ → Bool
+is_before plan a b = way_before plan.flows (way plan a) (way plan b)
+
+-- flow g holds a, at any depth; it holds its own retry controller
+unfoldable pub holds : Outline → ℕ → ℕ → Bool
+holds plan g a = passes_flow g (way plan a)
+
+-- it is a retry controller
+abbrev pub is_retry_part : Part → Bool
+is_retry_part (a_task t) = false
+is_retry_part (a_retry r) = true
+
+-- the same of an atom, where there is one
+abbrev pub is_retry_in : Option Atom → Bool
+is_retry_in None = false
+is_retry_in (Some atom) = is_retry_part atom.part
+
+-- a is a retry controller
+abbrev pub is_retry : Outline → ℕ → Bool
+is_retry plan a = is_retry_in (slice_get plan.atoms a)
+
+-- it is a task
+abbrev pub is_task_part : Part → Bool
+is_task_part (a_task t) = true
+is_task_part (a_retry r) = false
+
+-- the same of an atom, where there is one
+abbrev pub is_task_in : Option Atom → Bool
+is_task_in None = false
+is_task_in (Some atom) = is_task_part atom.part
+
+-- a is a task
+abbrev pub is_task : Outline → ℕ → Bool
+is_task plan a = is_task_in (slice_get plan.atoms a)
+
+-- the flow into which the last turn of a way leads
+abbrev pub last_flow : List Turn → Option ℕ
+last_flow [] = None
+last_flow (turn ∷ []) = Some turn.flow
+last_flow (turn ∷ next ∷ turns) = last_flow (next ∷ turns)
+
+-- the flow in which a stands itself, as its retry controller or as an item
+abbrev pub own_flow : Outline → ℕ → Option ℕ
+own_flow plan a = last_flow (way plan a)
+
+-- the retry controller of a flow, where both are there
+abbrev pub retry_in : Option Flow → Option ℕ
+retry_in None = None
+retry_in (Some f) = f.place.retry
+
+-- the retry controller of flow g
+abbrev pub retry_of : Outline → ℕ → Option ℕ
+retry_of plan g = retry_in (flow_at plan.flows g)
+
+-- the linked pairs of a flow, where there is one
+abbrev pub linked_in : Option Flow → List Pair
+linked_in None = []
+linked_in (Some f) = f.linked
+
+-- the arguments of an atom, where there is one
+abbrev pub arguments_in : Option Atom → List Arg
+arguments_in None = []
+arguments_in (Some atom) = arguments_of atom.part
+
+-- the arguments of a
+abbrev pub arguments : Outline → ℕ → List Arg
+arguments plan a = arguments_in (slice_get plan.atoms a)
+
+-- the injected values of an atom, where there is one
+abbrev pub injects_in : Option Atom → List Bind
+injects_in None = []
+injects_in (Some atom) = injected_in atom.part
+
+-- the injected values of a
+abbrev pub injects : Outline → ℕ → List Bind
+injects plan a = injects_in (slice_get plan.atoms a)
+
+-- what an atom provides, where there is one
+abbrev pub provides_in : Option Atom → Provides
+provides_in None = provides.Nothing
+provides_in (Some atom) = provided_by atom.part
+
+-- what a provides
+abbrev pub provides_of : Outline → ℕ → Provides
+provides_of plan a = provides_in (slice_get plan.atoms a)
+
+-- the name of an atom, where there is one
+abbrev pub name_in : Option Atom → List ℕ
+name_in None = []
+name_in (Some atom) = name_of atom.part
+
+-- the name of a
+abbrev pub atom_name : Outline → ℕ → List ℕ
+atom_name plan a = name_in (slice_get plan.atoms a)

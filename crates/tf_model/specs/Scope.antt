@@ -1,0 +1,152 @@
+-- From whom an atom takes the value of a symbol.
+use Rattle.std.specs.Prelude.{ℕ, suc, List, [], ◌∷◌, Bool, not, ◌||◌, Option, Some, None, option_map, reverse, filter, flat_map, take_while, slice_get, if◌then◌else◌}
+use Rattle.std.specs.List.{list_any}
+use Rattle.std.specs.Option.{option_or}
+use Rattle.tf_values.specs.declared.elements.Scalar.{Scalar}
+use Rattle.tf_values.specs.declared.value.Val.{Val}
+use Rattle.tf_values.specs.declared.value.Val.TheVariants as value
+use Rattle.tf_values.specs.Value.{value_of}
+use Rattle.tf_flow.specs.declared.atoms.Arg.{Arg}
+use Rattle.tf_flow.specs.declared.atoms.Bind.{Bind}
+use Rattle.tf_flow.specs.declared.atoms.Provides.{Provides}
+use Rattle.tf_flow.specs.declared.atoms.Provides.TheVariants as provides
+use Rattle.tf_flow.specs.Names.{same_name, is_among, first_some}
+use Rattle.tf_flow.specs.Rules.{bind_symbols}
+use Rattle.tf_states.specs.declared.record.Payload.{Payload}
+use Rattle.tf_states.specs.declared.record.Payload.TheVariants as payload
+use Rattle.tf_model.specs.Numbers.{numbers_below}
+use Rattle.tf_model.specs.Outline.{Turn}
+use Rattle.tf_model.specs.Before.{flow_at, passes_item}
+use Rattle.tf_model.specs.Linked.{standing_in, provides_at}
+use Rattle.tf_model.specs.Plan.{Outline, count, way, is_before, arguments, injects, provides_of, atom_name}
+use Rattle.tf_model.specs.Snapshot.{Snapshot}
+use Rattle.tf_model.specs.States.{is_success}
+
+-- a isn't in the item that the turn takes
+abbrev pub is_elsewhere : Outline → Turn → ℕ → Bool
+is_elsewhere plan turn a = not (passes_item turn.flow turn.item (way plan a))
+
+-- a is before y
+abbrev pub is_earlier : Outline → ℕ → ℕ → Bool
+is_earlier plan y a = is_before plan a y
+
+-- the members that y visits in one flow on its way: what stands in it before y's item in standing order,
+-- from the nearest on, as far as it is before y; the flow's retry controller stands first and so comes last
+abbrev pub members_in : Outline → ℕ → Turn → List ℕ
+members_in plan y turn =
+    filter (is_earlier plan y) (reverse (take_while (is_elsewhere plan turn) (standing_in (flow_at plan.flows turn.flow))))
+
+-- the members of y's scope: those of its own flow, then those of the flow around that, up to the root
+unfoldable pub members : Outline → ℕ → List ℕ
+members plan y = flat_map (members_in plan y) (reverse (way plan y))
+
+-- b lists the symbol among those that it provides
+abbrev pub lists_symbol : Outline → List ℕ → ℕ → Bool
+lists_symbol plan symbol b = provides_at plan.atoms symbol b
+
+-- the value bound to a symbol
+abbrev pub bound : List Bind → List ℕ → Option Val
+bound [] symbol = None
+bound (bind ∷ binds) symbol = if same_name bind.symbol symbol then Some bind.value else bound binds symbol
+
+-- the item at place k, as a value
+abbrev pub item_value : List Scalar → ℕ → Option Val
+item_value scalars k = option_map value_of (slice_get scalars k)
+
+-- the item of a list value at place k
+abbrev pub item_at : Val → ℕ → Option Val
+item_at (value.List scalars) k = item_value scalars k
+item_at v k = None
+
+-- what the names of a list of names take from a result, by their places
+abbrev pub part_given : List (List ℕ) → Val → List ℕ → ℕ → Option Val
+part_given [] result symbol k = None
+part_given (name ∷ names) result symbol k = if same_name name symbol then item_at result k else part_given names result symbol (suc k)
+
+-- the value that a result gives a symbol
+abbrev pub given_by_result : Provides → Val → List ℕ → Option Val
+given_by_result provides.Nothing result symbol = None
+given_by_result (provides.Whole name) result symbol = if same_name name symbol then Some result else None
+given_by_result (provides.Parts names) result symbol = part_given names result symbol 0
+
+-- the same of a payload: only a result gives values
+abbrev pub given_by_payload : Provides → Payload → List ℕ → Option Val
+given_by_payload gives (payload.Value result) symbol = given_by_result gives result symbol
+given_by_payload gives payload.Empty symbol = None
+given_by_payload gives (payload.Fault fault) symbol = None
+
+-- the value that atom b gives a symbol, where it is SUCCESS
+abbrev pub given_by : Outline → Snapshot → List ℕ → ℕ → Option Val
+given_by plan s symbol b = if is_success (s.state b) then given_by_payload (provides_of plan b) (s.payload b) symbol else None
+
+-- a symbol's value for y: y's inject, else the store's value, else what the first member gives that gives
+-- one; where there is none, the symbol is missing
+unfoldable pub symbol_value : Outline → Snapshot → ℕ → List ℕ → Option Val
+symbol_value plan s y symbol =
+    option_or (bound (injects plan y) symbol) (option_or (bound plan.store symbol) (first_some (given_by plan s symbol) (members plan y)))
+
+-- an argument's name with its value
+pub record Argument : Type 0 where
+  pub name : List ℕ
+  pub value : Val
+
+-- what an atom is given: its arguments with their values, or the first symbol that is missing
+pub data Given : Type 0 where
+  found : List Argument → Given
+  missing : List ℕ → Given
+
+-- one more argument before the others
+abbrev pub with_argument : Arg → Val → Given → Given
+with_argument arg v (found others) = found (record { name = arg.name; value = v } ∷ others)
+with_argument arg v (missing symbol) = missing symbol
+
+-- the argument with its value, or its symbol where that is missing
+abbrev pub or_missing : Arg → Option Val → Given → Given
+or_missing arg None others = missing arg.symbol
+or_missing arg (Some v) others = with_argument arg v others
+
+-- the arguments with their values, or the first symbol that is missing
+abbrev pub given_arguments : Outline → Snapshot → ℕ → List Arg → Given
+given_arguments plan s a [] = found []
+given_arguments plan s a (arg ∷ args) = or_missing arg (symbol_value plan s a arg.symbol) (given_arguments plan s a args)
+
+-- to execute, the first missing symbol takes the place of the arguments
+abbrev pub given_to_execute : Outline → Snapshot → ℕ → Given
+given_to_execute plan s a = given_arguments plan s a (arguments plan a)
+
+-- the value, or Nothing
+abbrev pub or_nothing : Option Val → Val
+or_nothing None = value.Nothing
+or_nothing (Some v) = v
+
+-- the arguments with their values, or Nothing
+abbrev pub arguments_to_revert : Outline → Snapshot → ℕ → List Arg → List Argument
+arguments_to_revert plan s a [] = []
+arguments_to_revert plan s a (arg ∷ args) =
+    record { name = arg.name; value = or_nothing (symbol_value plan s a arg.symbol) } ∷ arguments_to_revert plan s a args
+
+-- to revert, a missing value is Nothing
+abbrev pub given_to_revert : Outline → Snapshot → ℕ → Given
+given_to_revert plan s a = found (arguments_to_revert plan s a (arguments plan a))
+
+-- an atom and a symbol that nobody gives it
+pub record Missing : Type 0 where
+  pub atom : List ℕ
+  pub symbol : List ℕ
+
+-- the symbol has an inject, a value of the store, or a member that lists it
+abbrev pub has_source : Outline → ℕ → List ℕ → Bool
+has_source plan a symbol =
+    is_among (bind_symbols (injects plan a)) symbol || (is_among (bind_symbols plan.store) symbol || list_any (lists_symbol plan symbol) (members plan a))
+
+-- the argument's symbol, where nobody gives it
+abbrev pub missing_argument : Outline → ℕ → Arg → Option Missing
+missing_argument plan a arg = if has_source plan a arg.symbol then None else Some (record { atom = atom_name plan a; symbol = arg.symbol })
+
+-- the first such argument of atom a
+abbrev pub missing_of : Outline → ℕ → Option Missing
+missing_of plan a = first_some (missing_argument plan a) (arguments plan a)
+
+-- the first symbol that is missing before a run: atoms in tree order, arguments in order
+abbrev pub missing_symbol : Outline → Option Missing
+missing_symbol plan = first_some (missing_of plan) (numbers_below (count plan))

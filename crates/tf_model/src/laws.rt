@@ -1,0 +1,143 @@
+//! What the definitions promise of every plan and every history.
+
+ghost use Rattle.std.specs.Prelude.{◌≡◌, ◌≢◌, ◌⊎◌, ◌++◌, ◌∷◌, ◌<◌, ℕ, List, map, Option, None, Some, true, false};
+ghost use Rattle.std.specs.List.{list_all};
+ghost use Rattle.tf_states.specs.declared.record.Entry.{Entry};
+ghost use Rattle.tf_states.specs.declared.state.FlowState.{FlowState};
+ghost use Rattle.tf_flow.specs.Plan.{PlanValue};
+ghost use Rattle.tf_flow.specs.Plan as numbering;
+ghost use Rattle.tf_model.specs.Plan.{Outline, outline_of, count, own_flow, is_before, holds, is_retry};
+ghost use Rattle.tf_model.specs.Compilation.{compile_refusal};
+ghost use Rattle.tf_model.specs.Snapshot.{Snapshot, later};
+ghost use Rattle.tf_model.specs.Retries.{resolution};
+ghost use Rattle.tf_model.specs.History.{snapshot, state_of, payload_of, flow_of};
+ghost use Rattle.tf_model.specs.States.{is_running, is_success};
+ghost use Rattle.tf_model.specs.Scope.{members, is_earlier};
+ghost use Rattle.tf_model.specs.Steps.{LegalPast};
+ghost use Rattle.tf_model.specs.Sessions.{Session};
+ghost use Rattle.tf_model.specs.Laws.{AreOrdered, IsWhole, HasAllowed, enters_by, puts_back, last_success, name_of_atom, is_retry_atom, name_of_flow};
+
+/// The outline of a plan has the plan's atoms and flows, by their numbers.
+#[tactic(auto, using(crate::proofs::OutlineLemmas::same_atoms, crate::proofs::OutlineLemmas::same_retries, crate::proofs::OutlineLemmas::same_flows))]
+pub fn outline_has_the_numbers()
+    ensures atoms { (plan : PlanValue) → map name_of_atom (outline_of plan).atoms ≡ numbering.atoms plan }
+    ensures retries { (plan : PlanValue) → map is_retry_atom (outline_of plan).atoms ≡ numbering.retries plan }
+    ensures flows { (plan : PlanValue) → map name_of_flow (outline_of plan).flows ≡ numbering.flows plan }
+{}
+
+/// A flow that holds an atom holds all that the atom's own flow holds.
+#[tactic(auto, using(crate::proofs::NestingLemmas::own_flow_in))]
+pub fn own_flows_are_within()
+    ensures { (plan : PlanValue) (a own flow other : ℕ) → own_flow (outline_of plan) a ≡ Some own → holds (outline_of plan) flow a ≡ true
+        → holds (outline_of plan) own other ≡ true → holds (outline_of plan) flow other ≡ true }
+{}
+
+/// No atom is before itself.
+#[tactic(auto, using(crate::proofs::BeforeLemmas::never_before_itself))]
+pub fn never_before_itself()
+    ensures { (plan : Outline) (a : ℕ) → is_before plan a a ≡ false }
+{}
+
+/// Where a plan compiles, the items of each of its flows are in an order: none comes before itself, and
+/// one that comes before a second that comes before a third comes before the third.
+#[tactic(auto, using(crate::proofs::OrderLemmas::plan_ordered))]
+pub fn items_are_ordered()
+    ensures { (plan : PlanValue) → compile_refusal plan ≡ None → AreOrdered (outline_of plan).flows }
+{}
+
+/// Where the items of each flow are in an order, an atom that is before a second that is before a
+/// third is before the third.
+#[tactic(auto, using(crate::proofs::BeforeLemmas::before_chain))]
+pub fn before_is_transitive()
+    ensures { (plan : Outline) → AreOrdered plan.flows → (a b c : ℕ) → is_before plan a b ≡ true → is_before plan b c ≡ true → is_before plan a c ≡ true }
+{}
+
+/// To an atom outside a flow all atoms that the flow holds are alike: it is before all of them or none,
+/// and after all of them or none.
+pub fn atoms_of_a_flow_are_alike()
+    ensures { (plan : PlanValue) (flow a b other : ℕ) → holds (outline_of plan) flow a ≡ true → holds (outline_of plan) flow b ≡ true → holds (outline_of plan) flow other ≡ false
+        → (is_before (outline_of plan) other a ≡ is_before (outline_of plan) other b) × (is_before (outline_of plan) a other ≡ is_before (outline_of plan) b other) }
+{}
+
+/// The retry controller of a flow is before every other atom that the flow holds.
+#[tactic(auto, using(crate::proofs::RetryLemmas::retry_first))]
+pub fn retries_come_first()
+    ensures { (plan : PlanValue) (r flow a : ℕ) → is_retry (outline_of plan) r ≡ true → own_flow (outline_of plan) r ≡ Some flow
+        → holds (outline_of plan) flow a ≡ true → r ≢ a → is_before (outline_of plan) r a ≡ true }
+{}
+
+/// Of two flows that hold one atom, the one holds all that the other holds.
+pub fn flows_are_nested_or_apart()
+    ensures { (plan : PlanValue) (one other shared : ℕ) → holds (outline_of plan) one shared ≡ true → holds (outline_of plan) other shared ≡ true
+        → ((a : ℕ) → holds (outline_of plan) other a ≡ true → holds (outline_of plan) one a ≡ true)
+        ⊎ ((a : ℕ) → holds (outline_of plan) one a ≡ true → holds (outline_of plan) other a ≡ true) }
+{}
+
+/// The root holds each atom.
+#[tactic(auto, using(crate::proofs::ResolutionLemmas::root_holds))]
+pub fn root_holds_each_atom()
+    ensures { (plan : PlanValue) (a : ℕ) → a < count (outline_of plan) → holds (outline_of plan) 0 a ≡ true }
+{}
+
+/// The flow that a failure is resolved to holds the atom that failed.
+#[tactic(auto, using(crate::proofs::ResolutionLemmas::resolution_holds))]
+pub fn resolutions_hold_what_failed()
+    ensures { (plan : PlanValue) (s : Snapshot) (a : ℕ) → a < count (outline_of plan) → holds (outline_of plan) (resolution (outline_of plan) s a).flow a ≡ true }
+{}
+
+/// The members of an atom's scope are before it.
+#[tactic(auto, using(crate::proofs::BeforeLemmas::members_before))]
+pub fn members_are_before()
+    ensures { (plan : Outline) (a : ℕ) → list_all (is_earlier plan a) (members plan a) ≡ true }
+{}
+
+/// One entry more changes the snapshot of a history as `later` says.
+#[tactic(auto, using(crate::proofs::HistoryLemmas::one_more))]
+pub fn one_entry_more()
+    ensures { (plan : Outline) (e : Entry) (past : List Entry) → snapshot plan (e ∷ past) ≡ later plan e (snapshot plan past) }
+{}
+
+/// The beginning of a legal history is legal.
+#[tactic(auto, using(crate::proofs::HistoryLemmas::legal_before))]
+pub fn beginnings_are_legal()
+    ensures { (plan : Outline) (newer past : List Entry) → LegalPast plan (newer ++ past) → LegalPast plan past }
+{}
+
+/// Each entry of a legal history takes an atom or the flow from its state to one that its kind may
+/// go to.
+#[tactic(auto, using(crate::proofs::StepLemmas::past_allowed))]
+pub fn entries_are_allowed()
+    ensures { (plan : Outline) (past : List Entry) → LegalPast plan past → HasAllowed plan past }
+{}
+
+/// Between two RUNNING entries of one task stands a PENDING entry of it.
+pub fn put_back_between_starts()
+    ensures { (plan : Outline) (second first : Entry) (newer past : List Entry) (a : ℕ) → is_retry plan a ≡ false
+        → LegalPast plan (second ∷ (newer ++ (first ∷ past)))
+        → enters_by is_running a second.what ≡ true → enters_by is_running a first.what ≡ true → puts_back newer a ≡ true }
+{}
+
+/// An atom that is SUCCESS has the value that its last SUCCESS entry carries.
+#[tactic(auto, using(crate::proofs::HistoryLemmas::success_kept))]
+pub fn results_are_kept()
+    ensures { (past : List Entry) (a : ℕ) → is_success (state_of past a) ≡ true → payload_of past a ≡ last_success past a }
+{}
+
+/// What a run records is legal after what stood before.
+#[tactic(auto, using(crate::proofs::HistoryLemmas::session_legal))]
+pub fn sessions_are_legal()
+    ensures { (plan : Outline) (before entries : List Entry) (last : Option FlowState) → Session plan before entries last → LegalPast plan (entries ++ before) }
+{}
+
+/// A run that stopped leaves the flow in the state in which it stopped.
+#[tactic(auto, using(crate::proofs::HistoryLemmas::session_state))]
+pub fn sessions_stop_in_their_state()
+    ensures { (plan : Outline) (before entries : List Entry) (last : FlowState) → Session plan before entries (Some last) → flow_of (entries ++ before) ≡ last }
+{}
+
+/// A run that stopped recorded nothing where the flow had ended; else it entered, and then recorded of
+/// the flow the state in which it stopped and at most SUSPENDING before.
+#[tactic(auto, using(crate::proofs::SessionLemmas::whole_states))]
+pub fn sessions_record_as_stated()
+    ensures { (plan : Outline) (before entries : List Entry) (last : FlowState) → Session plan before entries (Some last) → IsWhole before entries last }
+{}
