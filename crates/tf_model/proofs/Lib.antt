@@ -9,6 +9,7 @@ pub mod OrderLemmas
 pub mod WayLemmas
 pub mod NestingLemmas
 pub mod RetryLemmas
+pub mod IgnoredLemmas
 pub mod ResolutionLemmas
 pub mod Refusals
 pub mod RowWords
@@ -17,6 +18,7 @@ pub mod RowsOfRetries
 pub mod RowsOfDeciders
 pub mod RowsOfSessions
 pub mod RowsOfPlans
+pub mod RowsOfReturns
 pub mod RefusedForced
 pub mod RefusedTasks
 pub mod RefusedTurns

@@ -79,34 +79,34 @@ mutual
   first_or_last : (t : Tree) (g F G : ℕ) (c : List Turn) → IsWay g t c → last_flow c ≡ Some F → passes_flow G c ≡ true → (G ≡ F) ⊎ (comes_first G F c ≡ true)
   first_or_last (task t) g F G c is last on = let no : false ≡ true = ap (passes_flow G) (sym is) ∙ on in absurd (cc)
   first_or_last (flow head items) g F G c is last on = elim is [
-        inl own ↦ elim (passes_head G (turn_to g None) c [] own on) [ inl same ↦ inr (at_head F G (turn_to g None) c [] own same) | inr there ↦ absurd (cc) ]
-      | inr among ↦ first_or_last_among items g 0 (suc g) F G c (omega arith) among last on
-      ]
+    | inl own ↦ elim (passes_head G (turn_to g None) c [] own on) [ inl same ↦ inr (at_head F G (turn_to g None) c [] own same) | inr there ↦ absurd (cc) ]
+    | inr among ↦ first_or_last_among items g 0 (suc g) F G c (omega arith) among last on
+  ]
 
   first_or_last_among : (ts : Trees) (g i n F G : ℕ) (c : List Turn) → g < n → IsWayAmong g i n ts c → last_flow c ≡ Some F → passes_flow G c ≡ true → (G ≡ F) ⊎ (comes_first G F c ≡ true)
   first_or_last_among no_trees g i n F G c below is last on = absurd is
   first_or_last_among (tree first others) g i n F G c below is last on = elim is [
-        inl here ↦ elim (passes_head G (turn_to g (Some i)) c here.rest here.is on) [
-            inl same ↦ inr (at_head F G (turn_to g (Some i)) c here.rest here.is same)
-          | inr there ↦
-            let rest_last : last_flow here.rest ≡ Some F = last_behind F G (turn_to g (Some i)) c here.rest here.is there last in
-            elim (first_or_last first n F G here.rest here.on rest_last there) [
-                inl same ↦ inl same
-              | inr sooner ↦ inr (behind_head F G (turn_to g (Some i)) c here.rest here.is (ends_below first g n F here.rest below here.on rest_last) sooner)
-            ]
-        ]
-      | inr later ↦ first_or_last_among others g (suc i) (n + flow_count first) F G c (omega (arith, below)) later last on
-      ]
+    | inl here ↦ elim (passes_head G (turn_to g (Some i)) c here.rest here.is on) [
+      | inl same ↦ inr (at_head F G (turn_to g (Some i)) c here.rest here.is same)
+      | inr there ↦
+          let rest_last : last_flow here.rest ≡ Some F = last_behind F G (turn_to g (Some i)) c here.rest here.is there last in
+          elim (first_or_last first n F G here.rest here.on rest_last there) [
+            | inl same ↦ inl same
+            | inr sooner ↦ inr (behind_head F G (turn_to g (Some i)) c here.rest here.is (ends_below first g n F here.rest below here.on rest_last) sooner)
+          ]
+    ]
+    | inr later ↦ first_or_last_among others g (suc i) (n + flow_count first) F G c (omega (arith, below)) later last on
+  ]
 
 -- a flow that holds an atom holds all that the atom's own flow holds
 pub own_flow_in : (plan : PlanValue) (a F G b : ℕ) → own_flow (outline_of plan) a ≡ Some F → holds (outline_of plan) G a ≡ true → holds (outline_of plan) F b ≡ true → holds (outline_of plan) G b ≡ true
 unfolding holds
 own_flow_in plan a F G b own on too =
     elim (first_or_last (tree_of plan.root) 0 F G (way (outline_of plan) a) (way_of_each (IsWay 0 (tree_of plan.root)) (atoms_of 0 (tree_of plan.root)) a G (ways_of (tree_of plan.root) 0) on) own on) [
-      inl same ↦ ap (λ (g : ℕ). passes_flow g (way (outline_of plan) b)) same ∙ too
-    | inr first ↦ within_first G F (way (outline_of plan) a) (way (outline_of plan) b) first
-      (together (tree_of plan.root) 0 F (way (outline_of plan) a) (way (outline_of plan) b)
-      (way_of_each (IsWay 0 (tree_of plan.root)) (atoms_of 0 (tree_of plan.root)) a G (ways_of (tree_of plan.root) 0) on)
-      (way_of_each (IsWay 0 (tree_of plan.root)) (atoms_of 0 (tree_of plan.root)) b F (ways_of (tree_of plan.root) 0) too)
-      (passes_last F (way (outline_of plan) a) own) too)
+      | inl same ↦ ap (λ (g : ℕ). passes_flow g (way (outline_of plan) b)) same ∙ too
+      | inr first ↦ within_first G F (way (outline_of plan) a) (way (outline_of plan) b) first
+          (together (tree_of plan.root) 0 F (way (outline_of plan) a) (way (outline_of plan) b)
+          (way_of_each (IsWay 0 (tree_of plan.root)) (atoms_of 0 (tree_of plan.root)) a G (ways_of (tree_of plan.root) 0) on)
+          (way_of_each (IsWay 0 (tree_of plan.root)) (atoms_of 0 (tree_of plan.root)) b F (ways_of (tree_of plan.root) 0) too)
+          (passes_last F (way (outline_of plan) a) own) too)
     ]

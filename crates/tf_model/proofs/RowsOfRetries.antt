@@ -22,7 +22,7 @@ use Rattle.tf_model.specs.Forced.{forced_attempt, forced_again, forced_reverted,
 use Rattle.tf_model.specs.Candidates.{candidate_if_running, choice, calm_end, end_of}
 use Rattle.tf_model.specs.Steps.{is_free, is_still, ends_task, may_suspend, reset, LegalPast}
 use Rattle.tf_model.specs.Sessions.{Session, whole}
-use Rattle.tf_model.proofs.RowWords.{number, same_arg, bound_to, echo, fail, fail_below, controller, flow_of_items, plan_of, deferring_plan_of, by, to, gives, fails, flow_to, resolves, force, take_up, finish, turn, end}
+use Rattle.tf_model.proofs.RowWords.{number, same_arg, bound_to, echo, echo_of, fail, fail_below, controller, flow_of_items, plan_of, deferring_plan_of, by, to, gives, fails, flow_to, resolves, force, take_up, finish, turn, end}
 
 -- a task that fails below 3 is tried three times
 abbrev pub three_attempts_plan : Outline
@@ -420,3 +420,132 @@ inner_exhausted_legal = (
 pub inner_exhausted_session : Session inner_exhausted_plan [] (reverse (drop 0 inner_exhausted)) (Some flow.Reverted)
 unfolding is_before holds mark_after snapshot members symbol_value can_run can_revert refused ignores attempt answer resolution forced_attempt forced_again forced_reverted forced_resolution forced_retrying forced_revert forced_ignore forced_run forced_if_running is_active forced candidate_if_running choice calm_end end_of is_free is_still ends_task may_suspend reset
 inner_exhausted_session = whole 0 flow.Reverted (reverse (between 1 19 inner_exhausted)) refl refl refl inner_exhausted_legal
+
+-- a nested flow fails, and the retry controller around it tries the whole again
+abbrev pub tried_again_around_plan : Outline
+tried_again_around_plan = plan_of (flow_of_items kind.Linear (codes "main") (controller (codes "r") (retry.Times 2 false) [] [] (provides.Whole (codes "k"))) (echo (codes "a") (number 1) ∷ flow_of_items kind.Linear (codes "n") (controller (codes "s") retry.AlwaysRevert [] [] provides.Nothing) (echo_of (codes "b") (codes "k") ∷ []) ∷ []))
+
+abbrev pub tried_again_around : List Entry
+tried_again_around =
+    by 0 (flow_to flow.Running)
+    ∷ by 0 (to 0 atom.Running)
+    ∷ by 0 (gives 0 (number 1))
+    ∷ by 0 (to 1 atom.Running)
+    ∷ by 0 (gives 1 (number 1))
+    ∷ by 0 (to 2 atom.Running)
+    ∷ by 0 (gives 2 value.Nothing)
+    ∷ by 0 (to 3 atom.Running)
+    ∷ by 0 (fails 3 (failure.Raised (codes "no")))
+    ∷ by 0 (resolves 0 resolved.Retry)
+    ∷ by 0 (to 3 atom.Reverting)
+    ∷ by 0 (to 3 atom.Reverted)
+    ∷ by 0 (to 2 atom.Reverting)
+    ∷ by 0 (to 2 atom.Reverted)
+    ∷ by 0 (to 1 atom.Reverting)
+    ∷ by 0 (to 1 atom.Reverted)
+    ∷ by 0 (to 0 atom.Retrying)
+    ∷ by 0 (to 1 atom.Pending)
+    ∷ by 0 (to 2 atom.Pending)
+    ∷ by 0 (to 3 atom.Pending)
+    ∷ by 0 (to 0 atom.Running)
+    ∷ by 0 (gives 0 (number 2))
+    ∷ by 0 (to 1 atom.Running)
+    ∷ by 0 (gives 1 (number 1))
+    ∷ by 0 (to 2 atom.Running)
+    ∷ by 0 (gives 2 value.Nothing)
+    ∷ by 0 (to 3 atom.Running)
+    ∷ by 0 (gives 3 (number 2))
+    ∷ by 0 (flow_to flow.Success)
+    ∷ []
+
+pub tried_again_around_legal : LegalPast tried_again_around_plan (reverse tried_again_around)
+unfolding is_before holds mark_after snapshot members symbol_value can_run can_revert refused ignores attempt answer resolution forced_attempt forced_again forced_reverted forced_resolution forced_retrying forced_revert forced_ignore forced_run forced_if_running is_active forced candidate_if_running choice calm_end end_of is_free is_still ends_task may_suspend reset
+tried_again_around_legal = (
+  end refl refl refl,
+  (
+    finish refl refl,
+    (
+      take_up refl refl refl,
+      (
+        force refl refl,
+        (
+          force refl refl,
+          (
+            finish refl refl,
+            (
+              take_up refl refl refl,
+              (
+                force refl refl,
+                (
+                  force refl refl,
+                  (
+                    force refl refl,
+                    (
+                      force refl refl,
+                      (
+                        force refl refl,
+                        (
+                          force refl refl,
+                          (
+                            finish refl refl,
+                            (
+                              take_up refl refl refl,
+                              (
+                                force refl refl,
+                                (
+                                  force refl refl,
+                                  (
+                                    finish refl refl,
+                                    (
+                                      take_up refl refl refl,
+                                      (
+                                        force refl refl,
+                                        (
+                                          finish refl refl,
+                                          (
+                                            take_up refl refl refl,
+                                            (
+                                              force refl refl,
+                                              (
+                                                force refl refl,
+                                                (
+                                                  finish refl refl,
+                                                  (
+                                                    take_up refl refl refl,
+                                                    (
+                                                      force refl refl,
+                                                      (
+                                                        force refl refl,
+                                                        (turn refl refl, tt),
+                                                      ),
+                                                    ),
+                                                  ),
+                                                ),
+                                              ),
+                                            ),
+                                          ),
+                                        ),
+                                      ),
+                                    ),
+                                  ),
+                                ),
+                              ),
+                            ),
+                          ),
+                        ),
+                      ),
+                    ),
+                  ),
+                ),
+              ),
+            ),
+          ),
+        ),
+      ),
+    ),
+  ),
+)
+
+pub tried_again_around_session : Session tried_again_around_plan [] (reverse (drop 0 tried_again_around)) (Some flow.Success)
+unfolding is_before holds mark_after snapshot members symbol_value can_run can_revert refused ignores attempt answer resolution forced_attempt forced_again forced_reverted forced_resolution forced_retrying forced_revert forced_ignore forced_run forced_if_running is_active forced candidate_if_running choice calm_end end_of is_free is_still ends_task may_suspend reset
+tried_again_around_session = whole 0 flow.Success (reverse (between 1 28 tried_again_around)) refl refl refl tried_again_around_legal

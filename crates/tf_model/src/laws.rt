@@ -6,6 +6,8 @@ ghost use Rattle.tf_states.specs.declared.record.Entry.{Entry};
 ghost use Rattle.tf_states.specs.declared.state.FlowState.{FlowState};
 ghost use Rattle.tf_flow.specs.Plan.{PlanValue};
 ghost use Rattle.tf_flow.specs.Plan as numbering;
+ghost use Rattle.tf_flow.specs.declared.deciders.Depth.{Depth};
+ghost use Rattle.tf_model.specs.Deciders.{ignores};
 ghost use Rattle.tf_model.specs.Plan.{Outline, outline_of, count, own_flow, is_before, holds, is_retry};
 ghost use Rattle.tf_model.specs.Compilation.{compile_refusal};
 ghost use Rattle.tf_model.specs.Snapshot.{Snapshot, later};
@@ -89,6 +91,13 @@ pub fn resolutions_hold_what_failed()
 #[tactic(auto, using(crate::proofs::BeforeLemmas::members_before))]
 pub fn members_are_before()
     ensures { (plan : Outline) (a : ℕ) → list_all (is_earlier plan a) (members plan a) ≡ true }
+{}
+
+/// Where a plan compiles, what a refused task ignores is the task itself, or is after it.
+#[tactic(auto, using(crate::proofs::IgnoredLemmas::ignored_after))]
+pub fn ignored_atoms_are_after()
+    ensures { (plan : PlanValue) (v : ℕ) (how : Depth) (a : ℕ) → compile_refusal plan ≡ None → ignores (outline_of plan) v how a ≡ true
+        → (v ≡ a) ⊎ (is_before (outline_of plan) v a ≡ true) }
 {}
 
 /// One entry more changes the snapshot of a history as `later` says.
