@@ -6,6 +6,7 @@ pub mod SessionLemmas
 pub mod BeforeLemmas
 pub mod PairLemmas
 pub mod OrderLemmas
+pub mod EndLemmas
 pub mod WayLemmas
 pub mod NestingLemmas
 pub mod RetryLemmas

@@ -1,7 +1,7 @@
--- The flow that a failure is resolved to holds the failed atom.
+-- The flow that a failure is resolved to holds the failed atom, and has a retry controller where it is to run again.
 use Rattle.std.proofs.Common.{◌≡◌, ℕ, zero, suc, ◌<◌, List, [], ◌∷◌, length, map, Bool, true, false, not, ◌&&◌, Option, Some, None, refl, ap, ◌∙◌, ◌⊎◌, inl, inr, eq-eqb, arith, slice_get, subst}
-use Rattle.std.specs.Prelude.{nat_eq, if◌then◌else◌}
-use Rattle.std.specs.List.{list_any, AllByRecursion}
+use Rattle.std.specs.Prelude.{◌++◌, is_some, nat_eq, if◌then◌else◌}
+use Rattle.std.specs.List.{list_any, list_all, AllByRecursion}
 use Rattle.tf_states.specs.declared.record.Kind.{Kind}
 use Rattle.tf_states.specs.declared.record.Kind.TheVariants as kind
 use Rattle.tf_flow.specs.Plan.{PlanValue}
@@ -12,7 +12,7 @@ use Rattle.tf_model.specs.Before.{passes_flow, way_in}
 use Rattle.tf_model.specs.Plan.{Outline, outline_of, holds, way, count, retry_of}
 use Rattle.tf_model.specs.Snapshot.{Resolve, Snapshot}
 use Rattle.tf_model.specs.Retries.{Controlled, controlled, controlled_on, enclosing, resolved, resolution_by, resolution, answer, is_outermost, is_revert}
-use Rattle.tf_model.proofs.StepLemmas.{or_either}
+use Rattle.tf_model.proofs.StepLemmas.{or_either, and_first, and_second}
 use Rattle.tf_model.proofs.PairLemmas.{true_first, true_second, any_in_both}
 use Rattle.tf_model.proofs.WayLemmas.{IsWay, begins, ways_of}
 
@@ -84,3 +84,55 @@ resolution_holds plan s a below = elim (resolution_among (outline_of plan) s (en
   | inl root ↦ ap (λ (g : ℕ). passes_flow g (way (outline_of plan) a)) root ∙ root_holds plan a below
   | inr there ↦ on_way (outline_of plan) a (resolution (outline_of plan) s a).flow (way (outline_of plan) a) there
 ]
+
+-- ---- a flow that is to run again has a retry controller
+
+abbrev is_controlled : Outline → Controlled → Bool
+is_controlled plan c = is_some (retry_of plan c.flow)
+
+-- the flow of a resolve to run again has a retry controller
+abbrev RunsAgain : Outline → Resolve → Type 0
+RunsAgain plan p = p.kind ≡ kind.Retry → is_some (retry_of plan p.flow) ≡ true
+
+both : (a b : Bool) → a ≡ true → b ≡ true → a && b ≡ true
+both true b is more = more
+both false b is more = absurd (cc)
+
+either_runs : (plan : Outline) (b : Bool) (p q : Resolve) → RunsAgain plan p → RunsAgain plan q → RunsAgain plan (if b then p else q)
+either_runs plan true p q one other = one
+either_runs plan false p q one other = other
+
+resolved_runs : (plan : Outline) (defer : Bool) (here : Controlled) (outer : List Controlled) (p : Resolve) (how : Kind)
+    → is_some (retry_of plan here.flow) ≡ true → RunsAgain plan p → RunsAgain plan (resolved defer here outer p how)
+resolved_runs plan defer here outer p kind.Retry is inner = λ again. is
+resolved_runs plan defer here outer p kind.RevertAll is inner = λ again. absurd (cc)
+resolved_runs plan defer here outer p kind.Revert is inner =
+    either_runs plan defer p _ inner
+    (either_runs plan (not (is_outermost outer) && not (is_revert p.kind)) p (record { flow = here.flow; kind = kind.Revert }) inner (λ again. absurd (cc)))
+
+resolution_runs : (plan : Outline) (s : Snapshot) (list : List Controlled) → list_all (is_controlled plan) list ≡ true → RunsAgain plan (resolution_by plan s list)
+resolution_runs plan s [] each = λ again. absurd (cc)
+resolution_runs plan s (here ∷ outer) each =
+    resolved_runs plan plan.defer here outer (resolution_by plan s outer) (answer plan s here.retry) (and_first (is_controlled plan here) _ each)
+    (resolution_runs plan s outer (and_second (is_controlled plan here) _ each))
+
+all_in_both : (test : Controlled → Bool) (xs ys : List Controlled) → list_all test xs ≡ true → list_all test ys ≡ true → list_all test (xs ++ ys) ≡ true
+all_in_both test [] ys first second = second
+all_in_both test (x ∷ xs) ys first second = both (test x) _ (and_first (test x) _ first) (all_in_both test xs ys (and_second (test x) _ first) second)
+
+one_is_controlled : (plan : Outline) (a g : ℕ) (o : Option ℕ) → retry_of plan g ≡ o → list_all (is_controlled plan) (controlled a g o) ≡ true
+one_is_controlled plan a g None is = refl
+one_is_controlled plan a g (Some r) is = by (nat_eq r a)
+  where
+    by : (b : Bool) → list_all (is_controlled plan) (if b then [] else record { flow = g; retry = r } ∷ []) ≡ true
+    by true = refl
+    by false = both (is_some (retry_of plan g)) _ (ap is_some is) refl
+
+all_controlled : (plan : Outline) (a : ℕ) (turns : List Turn) → list_all (is_controlled plan) (controlled_on plan a turns) ≡ true
+all_controlled plan a [] = refl
+all_controlled plan a (turn ∷ turns) =
+    all_in_both (is_controlled plan) (controlled_on plan a turns) _ (all_controlled plan a turns) (one_is_controlled plan a turn.flow (retry_of plan turn.flow) refl)
+
+pub resolution_is_controlled : (plan : Outline) (s : Snapshot) (a : ℕ) → (resolution plan s a).kind ≡ kind.Retry → is_some (retry_of plan (resolution plan s a).flow) ≡ true
+unfolding resolution
+resolution_is_controlled plan s a = resolution_runs plan s (enclosing plan a) (all_controlled plan a (way plan a))

@@ -1,5 +1,7 @@
 -- What the laws of legal histories speak of.
-use Rattle.std.specs.Prelude.{◌≡◌, ◌⊎◌, ◌++◌, reverse, filter_map, Some, None, Option, ℕ, List, [], ◌∷◌, Bool, true, false, ◌&&◌, ◌||◌, if◌then◌else◌, nat_eq}
+use Rattle.std.specs.Prelude.{not, ◌≡◌, ◌⊎◌, ◌++◌, reverse, filter_map, Some, None, Option, ℕ, List, [], ◌∷◌, Bool, true, false, ◌&&◌, ◌||◌, if◌then◌else◌, nat_eq}
+use Rattle.std.specs.List.{list_all}
+use Rattle.tf_model.specs.Numbers.{has_number}
 use Rattle.tf_states.specs.declared.record.Entry.{Entry}
 use Rattle.tf_states.specs.declared.record.Payload.{Payload}
 use Rattle.tf_states.specs.declared.record.Payload.TheVariants as payload
@@ -108,3 +110,13 @@ is_retry_atom atom = is_retry_part atom.part
 -- the flow's name
 abbrev pub name_of_flow : Flow → List ℕ
 name_of_flow f = f.place.name
+
+-- y isn't after m, by this order
+abbrev pub is_not_after : (ℕ → ℕ → Bool) → ℕ → ℕ → Bool
+is_not_after less m y = not (less m y)
+
+-- one of the atoms that none of them is after, by this order
+pub record Extreme (less : ℕ → ℕ → Bool) (atoms : List ℕ) : Type 0 where
+  pub atom : ℕ
+  pub among : has_number atoms atom ≡ true
+  pub extreme : list_all (is_not_after less atom) atoms ≡ true

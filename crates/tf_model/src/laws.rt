@@ -1,6 +1,7 @@
 //! What the definitions promise of every plan and every history.
 
-ghost use Rattle.std.specs.Prelude.{◌≡◌, ◌≢◌, ◌⊎◌, ◌++◌, ◌∷◌, ◌<◌, ℕ, List, map, Option, None, Some, true, false};
+ghost use Rattle.std.specs.Prelude.{◌≡◌, ◌≢◌, ◌⊎◌, ◌++◌, ◌∷◌, ◌<◌, ℕ, List, map, Option, None, Some, true, false, is_some};
+ghost use Rattle.tf_states.specs.declared.record.Kind.TheVariants as kind;
 ghost use Rattle.std.specs.List.{list_all};
 ghost use Rattle.tf_states.specs.declared.record.Entry.{Entry};
 ghost use Rattle.tf_states.specs.declared.state.FlowState.{FlowState};
@@ -8,7 +9,7 @@ ghost use Rattle.tf_flow.specs.Plan.{PlanValue};
 ghost use Rattle.tf_flow.specs.Plan as numbering;
 ghost use Rattle.tf_flow.specs.declared.deciders.Depth.{Depth};
 ghost use Rattle.tf_model.specs.Deciders.{ignores};
-ghost use Rattle.tf_model.specs.Plan.{Outline, outline_of, count, own_flow, is_before, holds, is_retry};
+ghost use Rattle.tf_model.specs.Plan.{Outline, outline_of, count, own_flow, is_before, holds, is_retry, retry_of};
 ghost use Rattle.tf_model.specs.Compilation.{compile_refusal};
 ghost use Rattle.tf_model.specs.Snapshot.{Snapshot, later};
 ghost use Rattle.tf_model.specs.Retries.{resolution};
@@ -17,7 +18,7 @@ ghost use Rattle.tf_model.specs.States.{is_running, is_success};
 ghost use Rattle.tf_model.specs.Scope.{members, is_earlier};
 ghost use Rattle.tf_model.specs.Steps.{LegalPast};
 ghost use Rattle.tf_model.specs.Sessions.{Session};
-ghost use Rattle.tf_model.specs.Laws.{AreOrdered, IsWhole, HasAllowed, enters_by, puts_back, last_success, name_of_atom, is_retry_atom, name_of_flow};
+ghost use Rattle.tf_model.specs.Laws.{AreOrdered, Extreme, IsWhole, HasAllowed, enters_by, puts_back, last_success, name_of_atom, is_retry_atom, name_of_flow};
 
 /// The outline of a plan has the plan's atoms and flows, by their numbers.
 #[tactic(auto, using(crate::proofs::OutlineLemmas::same_atoms, crate::proofs::OutlineLemmas::same_retries, crate::proofs::OutlineLemmas::same_flows))]
@@ -54,6 +55,14 @@ pub fn before_is_transitive()
     ensures { (plan : Outline) → AreOrdered plan.flows → (a b c : ℕ) → is_before plan a b ≡ true → is_before plan b c ≡ true → is_before plan a c ≡ true }
 {}
 
+/// Of the atoms of a list that isn't empty there is one that none of them is after, and one that none of
+/// them is before.
+#[tactic(auto, using(crate::proofs::EndLemmas::last_of, crate::proofs::EndLemmas::first_of))]
+pub fn lists_have_a_last_and_a_first()
+    ensures last { (plan : Outline) → AreOrdered plan.flows → (a : ℕ) (others : List ℕ) → Extreme (is_before plan) (a ∷ others) }
+    ensures first { (plan : Outline) → AreOrdered plan.flows → (a : ℕ) (others : List ℕ) → Extreme (is_earlier plan) (a ∷ others) }
+{}
+
 /// To an atom outside a flow all atoms that the flow holds are alike: it is before all of them or none,
 /// and after all of them or none.
 pub fn atoms_of_a_flow_are_alike()
@@ -81,10 +90,12 @@ pub fn root_holds_each_atom()
     ensures { (plan : PlanValue) (a : ℕ) → a < count (outline_of plan) → holds (outline_of plan) 0 a ≡ true }
 {}
 
-/// The flow that a failure is resolved to holds the atom that failed.
-#[tactic(auto, using(crate::proofs::ResolutionLemmas::resolution_holds))]
+/// The flow that a failure is resolved to holds the atom that failed, and has a retry controller where it
+/// is to run again.
+#[tactic(auto, using(crate::proofs::ResolutionLemmas::resolution_holds, crate::proofs::ResolutionLemmas::resolution_is_controlled))]
 pub fn resolutions_hold_what_failed()
-    ensures { (plan : PlanValue) (s : Snapshot) (a : ℕ) → a < count (outline_of plan) → holds (outline_of plan) (resolution (outline_of plan) s a).flow a ≡ true }
+    ensures holds { (plan : PlanValue) (s : Snapshot) (a : ℕ) → a < count (outline_of plan) → holds (outline_of plan) (resolution (outline_of plan) s a).flow a ≡ true }
+    ensures controlled { (plan : Outline) (s : Snapshot) (a : ℕ) → (resolution plan s a).kind ≡ kind.Retry → is_some (retry_of plan (resolution plan s a).flow) ≡ true }
 {}
 
 /// The members of an atom's scope are before it.
