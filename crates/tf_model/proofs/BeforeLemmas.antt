@@ -58,7 +58,7 @@ turn_chain flows ordered g (Some u) (Some v) None xy yz xz below first second = 
 turn_chain flows ordered g (Some u) (Some v) (Some w) xy yz xz below first second =
     turn_chain_items flows ordered g u v w xy yz xz below (nat_eq u v) refl (nat_eq v w) refl (nat_eq u w) refl first second
 
-both_true : (a b : Bool) → a ≡ true → b ≡ true → a && b ≡ true
+pub both_true : (a b : Bool) → a ≡ true → b ≡ true → a && b ≡ true
 both_true true b is more = more
 both_true false b is more = absurd (cc)
 

@@ -1,5 +1,5 @@
 -- A list of atoms that isn't empty has a last and a first one.
-use Rattle.std.proofs.Common.{◌≡◌, ℕ, List, [], ◌∷◌, Bool, true, false, not, ◌&&◌, refl, sym, ap, ◌∙◌, eq-eqb}
+use Rattle.std.proofs.Common.{◌≡◌, ℕ, List, [], ◌∷◌, Bool, true, false, not, refl, sym, ◌∙◌, eq-eqb}
 use Rattle.std.specs.Prelude.{nat_eq}
 use Rattle.std.specs.List.{list_all}
 use Rattle.tf_model.specs.Plan.{Outline, is_before}
@@ -7,11 +7,7 @@ use Rattle.tf_model.specs.Scope.{is_earlier}
 use Rattle.tf_model.specs.Laws.{AreOrdered, is_not_after, Extreme}
 use Rattle.tf_model.proofs.StepLemmas.{and_first, and_second}
 use Rattle.tf_model.proofs.PairLemmas.{true_first, true_second}
-use Rattle.tf_model.proofs.BeforeLemmas.{never_before_itself, before_chain}
-
-both : (a b : Bool) → a ≡ true → b ≡ true → a && b ≡ true
-both true b is more = more
-both false b is more = absurd (cc)
+use Rattle.tf_model.proofs.BeforeLemmas.{both_true, never_before_itself, before_chain}
 
 none : (b : Bool) → b ≡ false → not b ≡ true
 none false is = refl
@@ -30,7 +26,7 @@ all_beyond : (less : ℕ → ℕ → Bool) → ((a b c : ℕ) → less a b ≡ t
     → (ys : List ℕ) → list_all (is_not_after less m) ys ≡ true → list_all (is_not_after less a) ys ≡ true
 all_beyond less chain m a under [] is = refl
 all_beyond less chain m a under (y ∷ ys) is =
-    both (not (less a y)) _
+    both_true (not (less a y)) _
     (one_beyond (less m y) (less a y) (chain m a y under) (and_first (not (less m y)) _ is))
     (all_beyond less chain m a under ys (and_second (not (less m y)) _ is))
 
@@ -39,12 +35,12 @@ further : (less : ℕ → ℕ → Bool) → ((a b c : ℕ) → less a b ≡ true
 further less chain strict a ys tail true is = record {
   atom = a;
   among = true_first (nat_eq a a) _ (eq-eqb a a refl);
-  extreme = both (not (less a a)) _ (none (less a a) (strict a)) (all_beyond less chain tail.atom a is ys tail.extreme);
+  extreme = both_true (not (less a a)) _ (none (less a a) (strict a)) (all_beyond less chain tail.atom a is ys tail.extreme);
 }
 further less chain strict a ys tail false is = record {
   atom = tail.atom;
   among = true_second (nat_eq tail.atom a) _ tail.among;
-  extreme = both (not (less tail.atom a)) _ (none (less tail.atom a) is) tail.extreme;
+  extreme = both_true (not (less tail.atom a)) _ (none (less tail.atom a) is) tail.extreme;
 }
 
 extreme_of : (less : ℕ → ℕ → Bool) → ((a b c : ℕ) → less a b ≡ true → less b c ≡ true → less a c ≡ true) → ((a : ℕ) → less a a ≡ false)
@@ -52,7 +48,7 @@ extreme_of : (less : ℕ → ℕ → Bool) → ((a b c : ℕ) → less a b ≡ t
 extreme_of less chain strict a [] = record {
   atom = a;
   among = true_first (nat_eq a a) _ (eq-eqb a a refl);
-  extreme = both (not (less a a)) _ (none (less a a) (strict a)) refl;
+  extreme = both_true (not (less a a)) _ (none (less a a) (strict a)) refl;
 }
 extreme_of less chain strict a (b ∷ others) =
     let tail = extreme_of less chain strict b others in further less chain strict a (b ∷ others) tail (less tail.atom a) refl

@@ -14,6 +14,7 @@ use Rattle.tf_model.specs.Snapshot.{Resolve, Snapshot}
 use Rattle.tf_model.specs.Retries.{Controlled, controlled, controlled_on, enclosing, resolved, resolution_by, resolution, answer, is_outermost, is_revert}
 use Rattle.tf_model.proofs.StepLemmas.{or_either, and_first, and_second}
 use Rattle.tf_model.proofs.PairLemmas.{true_first, true_second, any_in_both}
+use Rattle.tf_model.proofs.BeforeLemmas.{both_true}
 use Rattle.tf_model.proofs.WayLemmas.{IsWay, begins, ways_of}
 
 abbrev is_of_flow : ℕ → Controlled → Bool
@@ -94,10 +95,6 @@ is_controlled plan c = is_some (retry_of plan c.flow)
 abbrev RunsAgain : Outline → Resolve → Type 0
 RunsAgain plan p = p.kind ≡ kind.Retry → is_some (retry_of plan p.flow) ≡ true
 
-both : (a b : Bool) → a ≡ true → b ≡ true → a && b ≡ true
-both true b is more = more
-both false b is more = absurd (cc)
-
 either_runs : (plan : Outline) (b : Bool) (p q : Resolve) → RunsAgain plan p → RunsAgain plan q → RunsAgain plan (if b then p else q)
 either_runs plan true p q one other = one
 either_runs plan false p q one other = other
@@ -118,7 +115,7 @@ resolution_runs plan s (here ∷ outer) each =
 
 all_in_both : (test : Controlled → Bool) (xs ys : List Controlled) → list_all test xs ≡ true → list_all test ys ≡ true → list_all test (xs ++ ys) ≡ true
 all_in_both test [] ys first second = second
-all_in_both test (x ∷ xs) ys first second = both (test x) _ (and_first (test x) _ first) (all_in_both test xs ys (and_second (test x) _ first) second)
+all_in_both test (x ∷ xs) ys first second = both_true (test x) _ (and_first (test x) _ first) (all_in_both test xs ys (and_second (test x) _ first) second)
 
 one_is_controlled : (plan : Outline) (a g : ℕ) (o : Option ℕ) → retry_of plan g ≡ o → list_all (is_controlled plan) (controlled a g o) ≡ true
 one_is_controlled plan a g None is = refl
@@ -126,7 +123,7 @@ one_is_controlled plan a g (Some r) is = by (nat_eq r a)
   where
     by : (b : Bool) → list_all (is_controlled plan) (if b then [] else record { flow = g; retry = r } ∷ []) ≡ true
     by true = refl
-    by false = both (is_some (retry_of plan g)) _ (ap is_some is) refl
+    by false = both_true (is_some (retry_of plan g)) _ (ap is_some is) refl
 
 all_controlled : (plan : Outline) (a : ℕ) (turns : List Turn) → list_all (is_controlled plan) (controlled_on plan a turns) ≡ true
 all_controlled plan a [] = refl
