@@ -1,0 +1,233 @@
+-- Each forced entry keeps what every moment has.
+use Rattle.std.proofs.Common.{◌≡◌, ◌≢◌, ℕ, ◌<◌, Bool, true, false, not, ◌&&◌, ◌||◌, Option, Some, None, refl, sym, ap, ◌∙◌, ◌⊎◌, inl, inr, subst, eq-eqb}
+use Rattle.std.specs.Option.{option_or, option_map}
+use Rattle.std.specs.Prelude.{if◌then◌else◌, nat_eq}
+use Rattle.tf_states.specs.declared.record.Payload.{Payload}
+use Rattle.tf_states.specs.declared.record.Payload.TheVariants as payload
+use Rattle.tf_states.specs.declared.record.What.{What}
+use Rattle.tf_states.specs.declared.record.What.TheVariants as what
+use Rattle.tf_states.specs.declared.state.AtomState.{AtomState}
+use Rattle.tf_states.specs.declared.state.AtomState.TheVariants as atom
+use Rattle.tf_states.specs.declared.state.FlowState.{FlowState}
+use Rattle.tf_states.specs.declared.state.FlowState.TheVariants as flow
+use Rattle.tf_flow.specs.declared.deciders.Depth.{Depth}
+use Rattle.std.proofs.lemmas.Bool.{ne_eqb}
+use Rattle.tf_model.specs.Numbers.{first_below}
+use Rattle.tf_model.specs.Plan.{Outline, count, holds, is_retry, own_flow}
+use Rattle.tf_model.specs.Snapshot.{Resolve, Snapshot, is_again}
+use Rattle.tf_model.specs.States.{is_pending, is_running, is_success, is_failure, is_reverting, is_settled, is_put_back, flow_runs, flow_suspends, flow_is_reverted}
+use Rattle.tf_model.specs.Readiness.{can_run, can_revert}
+use Rattle.tf_model.specs.Deciders.{refused}
+use Rattle.tf_model.specs.Retries.{attempt, ends_with, resolution}
+use Rattle.tf_model.specs.Forced.{first_entry, holds_with, is_of_its_flow, forced_attempt, forced_again, forced_reverted, forced_resolution, forced_retrying, forced_revert, forced_ignore, forced_run, forced_if_running, forced, is_active, is_attempting, attempt_entry, is_beginning_again, again_entry, is_to_put_back, put_back_or_run, is_undone_retry, reverted_entry, is_unresolved, resolution_entry, is_marked_again, is_settled_beside, is_to_begin_again, retrying_entry, is_retry_to_revert, reverting_entry, is_refused, ignore_entry, ignore_by, ignore_or_self, is_to_ignore, ignored_entry, is_retry_to_run, running_entry}
+use Rattle.tf_model.proofs.StepLemmas.{and_first, and_second, found_passes}
+use Rattle.tf_model.proofs.PairLemmas.{true_first, true_both}
+use Rattle.tf_facts.specs.Facts.{is_undoing}
+use Rattle.tf_facts.proofs.LayoutLemmas.{clash, either_way, IsLaidOut, held_below}
+use Rattle.tf_facts.proofs.BelowLemmas.{all_at, found_below, none_at}
+use Rattle.tf_facts.proofs.CoreLemmas.{Core, retrying_is, kept}
+use Rattle.tf_facts.proofs.ChangeLemmas.{runs_to_success, runs_to_failure, retrying_runs, reverts_to_reverted, may_ignore, may_revert, may_begin_again, may_put_back, settled_behind, put_back_apart, unmarked_after}
+use Rattle.tf_facts.proofs.MoveLemmas.{after, Keeps, enters_kept, run_kept, runs, reverts, pending_is, none_is, not_true, then_second, is_own, turns, flowless_clears_none}
+use Rattle.tf_facts.proofs.RegionLemmas.{resolve_kept, anew_kept}
+
+-- ---- states by their tests
+
+running_is : (x : AtomState) → is_running x ≡ true → x ≡ atom.Running
+running_is atom.Running is = refl
+running_is x is = absurd (cc)
+
+reverting_is : (x : AtomState) → is_reverting x ≡ true → x ≡ atom.Reverting
+reverting_is atom.Reverting is = refl
+reverting_is x is = absurd (cc)
+
+success_is : (x : AtomState) → is_success x ≡ true → x ≡ atom.Success
+success_is atom.Success is = refl
+success_is x is = absurd (cc)
+
+failure_is : (x : AtomState) → is_failure x ≡ true → x ≡ atom.Failure
+failure_is atom.Failure is = refl
+failure_is x is = absurd (cc)
+
+-- ---- the eight cases of a forced entry
+
+-- what is recorded has a property, where the entry of each atom that passes the test has it
+pub by_first : (plan : Outline) (P : What → Type 0) (test : ℕ → Bool) (entry : ℕ → What) (w : What) → first_entry plan test entry ≡ Some w
+    → ((a : ℕ) → a < count plan → test a ≡ true → P (entry a)) → P w
+by_first plan P test entry w is each = of (first_below (count plan) test) refl is
+  where
+    of : (o : Option ℕ) → first_below (count plan) test ≡ o → option_map entry o ≡ Some w → P w
+    of None found gives = absurd (cc)
+    of (Some a) found gives =
+        let same : entry a ≡ w = cc in
+        subst P same (each a (found_below (count plan) test a found) (found_passes (count plan) test a found))
+
+-- the entries of all cases have a property
+pub record EachCase (plan : Outline) (s : Snapshot) (P : What → Type 0) : Type 0 where
+  pub attempt : (a : ℕ) → a < count plan → is_attempting plan s a ≡ true → P (attempt_entry plan s a)
+  pub again : (a : ℕ) → a < count plan → is_beginning_again plan s a ≡ true → P (again_entry plan s a)
+  pub reverted : (a : ℕ) → a < count plan → is_undone_retry plan s a ≡ true → P (reverted_entry a)
+  pub resolution : (a : ℕ) → a < count plan → is_unresolved s a ≡ true → P (resolution_entry plan s a)
+  pub retrying : (a : ℕ) → a < count plan → is_to_begin_again plan s a ≡ true → P (retrying_entry a)
+  pub revert : (a : ℕ) → a < count plan → is_retry_to_revert plan s a ≡ true → P (reverting_entry a)
+  pub ignore : (a : ℕ) → a < count plan → is_refused plan s a ≡ true → P (ignore_entry plan s a)
+  pub run : (a : ℕ) → a < count plan → is_retry_to_run plan s a ≡ true → P (running_entry a)
+
+-- one of two cases applies
+by_cases : (P : What → Type 0) (w : What) (x y : Option What) → (x ≡ Some w → P w) → (y ≡ Some w → P w) → option_or x y ≡ Some w → P w
+by_cases P w None y first second is = second is
+by_cases P w (Some v) y first second is = first is
+
+pub forced_by : (plan : Outline) (s : Snapshot) (P : What → Type 0) → EachCase plan s P → (w : What) → forced_if_running plan s ≡ Some w → P w
+unfolding forced_if_running forced_attempt forced_again forced_reverted forced_resolution forced_retrying forced_revert forced_ignore forced_run
+forced_by plan s P each w =
+    by_cases P w (first_entry plan (is_attempting plan s) (attempt_entry plan s)) _ (λ is. by_first plan P (is_attempting plan s) (attempt_entry plan s) w is each.attempt)
+    (by_cases P w (first_entry plan (is_beginning_again plan s) (again_entry plan s)) _ (λ is. by_first plan P (is_beginning_again plan s) (again_entry plan s) w is each.again)
+    (by_cases P w (first_entry plan (is_undone_retry plan s) reverted_entry) _ (λ is. by_first plan P (is_undone_retry plan s) reverted_entry w is each.reverted)
+    (by_cases P w (first_entry plan (is_unresolved s) (resolution_entry plan s)) _ (λ is. by_first plan P (is_unresolved s) (resolution_entry plan s) w is each.resolution)
+    (by_cases P w (first_entry plan (is_to_begin_again plan s) retrying_entry) _ (λ is. by_first plan P (is_to_begin_again plan s) retrying_entry w is each.retrying)
+    (by_cases P w (first_entry plan (is_retry_to_revert plan s) reverting_entry) _ (λ is. by_first plan P (is_retry_to_revert plan s) reverting_entry w is each.revert)
+    (by_cases P w (first_entry plan (is_refused plan s) (ignore_entry plan s)) (first_entry plan (is_retry_to_run plan s) running_entry)
+    (λ is. by_first plan P (is_refused plan s) (ignore_entry plan s) w is each.ignore) (λ is. by_first plan P (is_retry_to_run plan s) running_entry w is each.run)))))))
+
+attempt_kept : (plan : Outline) (s : Snapshot) → flow_is_reverted s.flow ≡ false → (r : ℕ) (p : Payload) → s.state r ≡ atom.Running → Keeps plan s (ends_with r p)
+attempt_kept plan s going r (payload.Value v) is = enters_kept plan s r atom.Running atom.Success (payload.Value v) is refl (λ core. runs_to_success plan s going r)
+attempt_kept plan s going r (payload.Fault fault) is = enters_kept plan s r atom.Running atom.Failure (payload.Fault fault) is refl (λ core. runs_to_failure plan s going r)
+attempt_kept plan s going r payload.Empty is = enters_kept plan s r atom.Running atom.Success payload.Empty is refl (λ core. runs_to_success plan s going r)
+
+-- another atom of r's flow, where the flow is known
+beside_is : (plan : Outline) (r g b : ℕ) → own_flow plan r ≡ Some g → is_of_its_flow plan r b ≡ true → (holds plan g b ≡ true) × (b ≢ r)
+beside_is plan r g b own is = (
+  ap (λ (o : Option ℕ). holds_with plan o b) (sym own) ∙ and_first (holds_with plan (own_flow plan r) b) _ is,
+  λ same. clash (nat_eq b r) (eq-eqb b r same) (not_true (nat_eq b r) (and_second (holds_with plan (own_flow plan r) b) _ is)),
+)
+
+is_beside : (plan : Outline) (r g b : ℕ) → own_flow plan r ≡ Some g → holds plan g b ≡ true → b ≢ r → is_of_its_flow plan r b ≡ true
+is_beside plan r g b own held other =
+    true_both (holds_with plan (own_flow plan r) b) _ (ap (λ (o : Option ℕ). holds_with plan o b) own ∙ held) (ap not (ne_eqb b r other))
+
+-- a flow in which an atom stands
+record OwnFlow (plan : Outline) (a : ℕ) : Type 0 where
+  flow : ℕ
+  is : own_flow plan a ≡ Some flow
+
+put_back_kept : (plan : Outline) (s : Snapshot) → IsLaidOut plan → (r g b : ℕ) → is_retry plan r ≡ true → s.state r ≡ atom.Retrying → own_flow plan r ≡ Some g
+    → holds plan g b ≡ true → b ≢ r → is_put_back (s.state b) ≡ true → Keeps plan s (what.Atom b atom.Pending payload.Empty)
+put_back_kept plan s layout r g b controller retrying own held other back =
+    enters_kept plan s b (s.state b) atom.Pending payload.Empty refl refl
+    (λ core. may_put_back plan s b (s.state b) back
+    (settled_behind plan s layout core r g b controller retrying own held (λ same. other (sym same)))
+    (put_back_apart plan s layout core r g b controller retrying own held (λ same. other (sym same))))
+
+own_flow_or_none : (plan : Outline) (a : ℕ) → OwnFlow plan a ⊎ (own_flow plan a ≡ None)
+own_flow_or_none plan a = by (own_flow plan a) refl
+  where
+    by : (o : Option ℕ) → own_flow plan a ≡ o → OwnFlow plan a ⊎ (own_flow plan a ≡ None)
+    by None is = inr is
+    by (Some g) is = inl (record { flow = g; is = is })
+
+again_kept : (plan : Outline) (s : Snapshot) → IsLaidOut plan → flow_is_reverted s.flow ≡ false → (r : ℕ) → is_retry plan r ≡ true → s.state r ≡ atom.Retrying → (o : Option ℕ)
+    → first_below (count plan) (is_to_put_back plan s r) ≡ o → Keeps plan s (put_back_or_run r o)
+again_kept plan s layout going r controller retrying None found = elim (own_flow_or_none plan r) [
+  | inl home ↦ anew_kept plan s layout going r home.flow payload.Empty controller retrying home.is
+      (λ b held other. elim (either_way (is_put_back (s.state b))) [
+        | inr isnt ↦ isnt
+        | inl back ↦ absurd (clash (is_to_put_back plan s r b)
+            (true_both (is_of_its_flow plan r b) _ (is_beside plan r home.flow b home.is held other) back)
+            (none_at (count plan) (is_to_put_back plan s r) b found (held_below plan home.flow b held)))
+      ])
+  | inr none ↦ λ hand core. kept plan s (after plan hand (what.Atom r atom.Running payload.Empty) s) r atom.Retrying atom.Running core
+      (turns plan s hand r atom.Retrying atom.Running payload.Empty retrying (λ b. flowless_clears_none plan r b payload.Empty (s.mark b) none)) (retrying_runs plan s going r)
+]
+again_kept plan s layout going r controller retrying (Some b) found =
+    let test = found_passes (count plan) (is_to_put_back plan s r) b found in
+    let beside = and_first (is_of_its_flow plan r b) _ test in
+    elim (own_flow_or_none plan r) [
+      | inl home ↦
+          let inside = beside_is plan r home.flow b home.is beside in
+          put_back_kept plan s layout r home.flow b controller retrying home.is inside.0 inside.1 (and_second (is_of_its_flow plan r b) _ test)
+      | inr none ↦ absurd (clash (holds_with plan (own_flow plan r) b) (and_first (holds_with plan (own_flow plan r) b) _ beside) (ap (λ (o : Option ℕ). holds_with plan o b) none))
+    ]
+
+pub undone_kept : (plan : Outline) (s : Snapshot) (a : ℕ) (held : Payload) → s.state a ≡ atom.Reverting → Keeps plan s (what.Atom a atom.Reverted held)
+undone_kept plan s a held is = enters_kept plan s a atom.Reverting atom.Reverted held is refl (λ core. reverts_to_reverted plan s a (λ below. core.undone a below (ap is_undoing is)))
+
+-- the mark of a retry controller that is to begin again
+record MarkedAgain (plan : Outline) (s : Snapshot) (r : ℕ) : Type 0 where
+  resolve : Resolve
+  is : s.mark r ≡ Some resolve
+  home : own_flow plan r ≡ Some resolve.flow
+
+marked_again : (plan : Outline) (s : Snapshot) (r : ℕ) → is_marked_again (own_flow plan r) (s.mark r) ≡ true → MarkedAgain plan s r
+marked_again plan s r is = by (s.mark r) refl is
+  where
+    by : (o : Option Resolve) → s.mark r ≡ o → is_marked_again (own_flow plan r) o ≡ true → MarkedAgain plan s r
+    by None was again = absurd (cc)
+    by (Some m) was again = record { resolve = m; is = was; home = is_own (own_flow plan r) m.flow (and_second (is_again m.kind) _ again) }
+
+begin_again_kept : (plan : Outline) (s : Snapshot) → IsLaidOut plan → flow_is_reverted s.flow ≡ false → (r : ℕ) → is_to_begin_again plan s r ≡ true → Keeps plan s (retrying_entry r)
+begin_again_kept plan s layout going r test =
+    let state = and_first (is_retry plan r && is_success (s.state r)) _ test in
+    let asked = and_second (is_retry plan r && is_success (s.state r)) _ test in
+    let mark = marked_again plan s r (and_first (is_marked_again (own_flow plan r) (s.mark r)) _ asked) in
+    enters_kept plan s r atom.Success atom.Retrying payload.Empty (success_is (s.state r) (and_second (is_retry plan r) _ state)) refl
+    (λ core. may_begin_again plan s layout core going r mark.resolve.flow mark.resolve (and_first (is_retry plan r) _ state) mark.is refl mark.home
+    (λ b held other. then_second (is_of_its_flow plan r b) (is_settled (s.state b))
+    (all_at (count plan) (is_settled_beside plan s r) b (and_second (is_marked_again (own_flow plan r) (s.mark r)) _ asked) (held_below plan mark.resolve.flow b held))
+    (is_beside plan r mark.resolve.flow b mark.home held other)))
+
+pub revert_kept : (plan : Outline) (s : Snapshot) → IsLaidOut plan → flow_is_reverted s.flow ≡ false → (a : ℕ) → can_revert plan s a ≡ true → Keeps plan s (reverting_entry a)
+revert_kept plan s layout going a can =
+    let ready = reverts plan s a can in
+    enters_kept plan s a (s.state a) atom.Reverting payload.Empty refl refl (λ core. may_revert plan s layout core going a (s.state a) ready.executed ready.marked ready.settled)
+
+ignored_kept : (plan : Outline) (s : Snapshot) (b : ℕ) → s.state b ≡ atom.Pending → (Core plan s → s.mark b ≡ None) → Keeps plan s (ignored_entry b)
+ignored_kept plan s b pending unmarked = enters_kept plan s b atom.Pending atom.Ignore payload.Empty pending refl (λ core. may_ignore plan s b (unmarked core))
+
+ignore_kept : (plan : Outline) (s : Snapshot) → IsLaidOut plan → flow_is_reverted s.flow ≡ false → (v : ℕ) → can_run plan s v ≡ true → (how : Depth) (o : Option ℕ)
+    → first_below (count plan) (is_to_ignore plan s v how) ≡ o → Keeps plan s (ignore_or_self v o)
+ignore_kept plan s layout going v can how None found = let ready = runs plan s v can in ignored_kept plan s v ready.pending (λ core. ready.unmarked)
+ignore_kept plan s layout going v can how (Some b) found =
+    let ready = runs plan s v can in
+    let rest = and_second (not (nat_eq v b)) _ (found_passes (count plan) (is_to_ignore plan s v how) b found) in
+    ignored_kept plan s b (pending_is (s.state b) (and_first (is_pending (s.state b)) _ rest))
+    (λ core. elim (layout.ignored v how b (and_second (is_pending (s.state b)) _ rest)) [
+      | inl same ↦ ap s.mark (sym same) ∙ ready.unmarked
+      | inr before ↦ unmarked_after plan s layout core going v b ready.pending ready.unmarked before
+    ])
+
+depth_kept : (plan : Outline) (s : Snapshot) → IsLaidOut plan → flow_is_reverted s.flow ≡ false → (v : ℕ) → can_run plan s v ≡ true → (how : Option Depth) → Keeps plan s (ignore_by plan s v how)
+depth_kept plan s layout going v can None = let ready = runs plan s v can in ignored_kept plan s v ready.pending (λ core. ready.unmarked)
+depth_kept plan s layout going v can (Some how) = ignore_kept plan s layout going v can how (first_below (count plan) (is_to_ignore plan s v how)) refl
+
+-- what is forced keeps what every moment has
+forced_running_kept : (plan : Outline) (s : Snapshot) → IsLaidOut plan → flow_is_reverted s.flow ≡ false → (w : What) → forced_if_running plan s ≡ Some w → Keeps plan s w
+forced_running_kept plan s layout going = forced_by plan s (Keeps plan s) (record {
+  attempt = λ r below test. attempt_kept plan s going r (attempt plan s r) (running_is (s.state r) (and_second (is_retry plan r) _ test));
+  again = λ r below test. again_kept plan s layout going r (and_first (is_retry plan r) _ test) (retrying_is (s.state r) (and_second (is_retry plan r) _ test)) (first_below (count plan) (is_to_put_back plan s r)) refl;
+  reverted = λ r below test. undone_kept plan s r payload.Empty (reverting_is (s.state r) (and_second (is_retry plan r) _ test));
+  resolution = λ a below test. resolve_kept plan s layout going a (resolution plan s a) (failure_is (s.state a) (and_first (is_failure (s.state a)) _ test))
+      (none_is (s.mark a) (and_second (is_failure (s.state a)) _ test)) (layout.resolved s a below);
+  retrying = λ r below test. begin_again_kept plan s layout going r test;
+  revert = λ r below test. revert_kept plan s layout going r (and_second (is_retry plan r) _ test);
+  ignore = λ v below test. depth_kept plan s layout going v (and_first (can_run plan s v) _ test) (refused plan s v);
+  run = λ r below test. run_kept plan s going r payload.Empty (and_second (is_retry plan r) _ test);
+})
+
+pub flow_going : (x : FlowState) → flow_runs x || flow_suspends x ≡ true → flow_is_reverted x ≡ false
+flow_going flow.Running is = refl
+flow_going flow.Suspending is = refl
+flow_going x is = absurd (cc)
+
+pub only_if : (b : Bool) (x : Option What) (w : What) → (if b then x else None) ≡ Some w → (b ≡ true) × (x ≡ Some w)
+only_if true x w is = (refl, is)
+only_if false x w is = absurd (cc)
+
+pub active_going : (plan : Outline) (s : Snapshot) → is_active plan s ≡ true → flow_is_reverted s.flow ≡ false
+unfolding is_active
+active_going plan s is = flow_going s.flow (true_first (flow_runs s.flow) _ (and_first (flow_runs s.flow) _ is))
+
+pub forced_kept : (plan : Outline) (s : Snapshot) → IsLaidOut plan → (w : What) → forced plan s ≡ Some w → Keeps plan s w
+unfolding forced
+forced_kept plan s layout w is =
+    let parts = only_if (is_active plan s) (forced_if_running plan s) w is in
+    forced_running_kept plan s layout (active_going plan s parts.0) w parts.1

@@ -1,0 +1,13 @@
+pub mod LayoutLemmas
+pub mod BelowLemmas
+pub mod CoreLemmas
+pub mod ChangeLemmas
+pub mod MoveLemmas
+pub mod RegionLemmas
+pub mod ForcedLemmas
+pub mod CalmLemmas
+pub mod FinishLemmas
+pub mod StepLemmas
+pub mod OrderlyLemmas
+pub mod PastLemmas
+pub mod RefutedFacts
