@@ -16,7 +16,7 @@ use Rattle.tf_model.specs.Outline.{Atom, FlowPlace, flows_of, flows_among, inner
 use Rattle.tf_model.specs.Before.{Flow, has_flow_number, flow_at, order_in, item_before}
 use Rattle.tf_model.specs.Linked.{is_linked, item_order, arrange, arranged}
 use Rattle.tf_model.specs.Plan.{Outline, outline_of_tree, outline_of}
-use Rattle.tf_model.specs.Compilation.{ambiguity, cycle_of, cycle_at, is_on_cycle, refusal_of, refusal_at, tree_refusal, compile_refusal}
+use Rattle.tf_model.specs.Compilation.{ambiguity, cycle_of, cycle_at, is_on_cycle, refusal_of, refusal_among, refusal_at, tree_refusal, compile_refusal}
 use Rattle.tf_model.specs.Laws.{AreOrdered}
 use Rattle.tf_model.proofs.StepLemmas.{or_either}
 use Rattle.tf_model.proofs.PairLemmas.{true_first, passes_pair, any_left, any_right, any_in_both, pair_passes, reached_chain, reached_within, reached_keeps}
@@ -150,9 +150,20 @@ place_among atoms [] g f is = absurd (cc)
 place_among atoms (place ∷ places) g f is =
     found_place g f (arrange atoms (arranged atoms places) place) (flow_at (arranged atoms places) g) (nat_eq place.number g) (list_any (is_place_of g) places) (place_among atoms places g f) is
 
+found_refused : (atoms : List Atom) (g : ℕ) (x f : Flow) (inner : List Flow) (b : Bool) → cond b (Some x) (flow_at inner g) ≡ Some f
+    → (if b then refusal_of atoms inner x else refusal_among atoms g inner) ≡ None
+    → (flow_at inner g ≡ Some f → refusal_among atoms g inner ≡ None → is_graph f.place.kind ≡ true → cycle_of f ≡ None) → is_graph f.place.kind ≡ true → cycle_of f ≡ None
+found_refused atoms g x f inner true found is later graph =
+    let same : x ≡ f = cc in
+    no_refusal atoms inner f (is_graph f.place.kind) refl (ap (refusal_of atoms inner) (sym same) ∙ is) graph
+found_refused atoms g x f inner false found is later graph = later found is graph
+
+refused_among : (atoms : List Atom) (g : ℕ) (flows : List Flow) (f : Flow) → flow_at flows g ≡ Some f → refusal_among atoms g flows ≡ None → is_graph f.place.kind ≡ true → cycle_of f ≡ None
+refused_among atoms g [] f found is graph = absurd (cc)
+refused_among atoms g (x ∷ inner) f found is graph = found_refused atoms g x f inner (has_flow_number g x) found is (refused_among atoms g inner f) graph
+
 refused_not : (plan : Outline) (g : ℕ) (f : Flow) → flow_at plan.flows g ≡ Some f → refusal_at plan g ≡ None → is_graph f.place.kind ≡ true → cycle_of f ≡ None
-refused_not plan g f found is =
-    no_refusal plan.atoms plan.flows f (is_graph f.place.kind) refl (ap (refusal_of plan.atoms plan.flows) (sym found) ∙ is)
+refused_not plan g f found is = refused_among plan.atoms g plan.flows f found is
 
 -- of the flow that is found, the order goes on and leads to no item itself
 chain_found : (o : Option Flow) → ((f : Flow) → o ≡ Some f → IsArranged f) → (u v w : ℕ) → has_pair (order_in o) u v ≡ true → has_pair (order_in o) v w ≡ true → has_pair (order_in o) u w ≡ true

@@ -8,7 +8,7 @@ use Rattle.tf_flow.specs.Tree.{Tree, tree_of}
 use Rattle.tf_flow.specs.Plan.{PlanValue}
 use Rattle.tf_model.specs.Numbers.{first_below, which_below, numbers_below, has_number, Pair, has_pair}
 use Rattle.tf_model.specs.Outline.{Atom, FlowPlace, innermost_first}
-use Rattle.tf_model.specs.Before.{Flow, flow_at}
+use Rattle.tf_model.specs.Before.{Flow, has_flow_number}
 use Rattle.tf_model.specs.Linked.{needs, givers, item_name}
 use Rattle.tf_model.specs.Plan.{Outline, outline_of}
 
@@ -113,13 +113,18 @@ abbrev pub cycle_of : Flow → Option CompileRefusal
 cycle_of f = option_map (cycle_at f) (first_below (length f.place.items) (is_on_cycle f))
 
 -- a graph flow is looked at for an ambiguous symbol, and then for a cycle
-abbrev pub refusal_of : List Atom → List Flow → Option Flow → Option CompileRefusal
-refusal_of atoms flows None = None
-refusal_of atoms flows (Some f) = if is_graph f.place.kind then option_or (ambiguity atoms flows f.place) (cycle_of f) else None
+abbrev pub refusal_of : List Atom → List Flow → Flow → Option CompileRefusal
+refusal_of atoms inner f = if is_graph f.place.kind then option_or (ambiguity atoms inner f.place) (cycle_of f) else None
 
--- the refusal of flow g
+-- the refusal of flow g, which is looked at beside those that come later in tree order, among which are
+-- the ones nested in it
+abbrev pub refusal_among : List Atom → ℕ → List Flow → Option CompileRefusal
+refusal_among atoms g [] = None
+refusal_among atoms g (f ∷ inner) = if has_flow_number g f then refusal_of atoms inner f else refusal_among atoms g inner
+
+-- the refusal of flow g of a plan
 abbrev pub refusal_at : Outline → ℕ → Option CompileRefusal
-refusal_at plan g = refusal_of plan.atoms plan.flows (flow_at plan.flows g)
+refusal_at plan g = refusal_among plan.atoms g plan.flows
 
 -- the first refusal: the flows are looked at with the innermost first
 abbrev pub tree_refusal : Tree → Outline → Option CompileRefusal

@@ -1,1 +1,7 @@
 pub mod GraphLemmas
+pub mod NumberLemmas
+pub mod BitLemmas
+pub mod LinkLemmas
+pub mod StandingLemmas
+pub mod ReachLemmas
+pub mod CycleLemmas
