@@ -5,3 +5,9 @@ pub mod LinkLemmas
 pub mod StandingLemmas
 pub mod ReachLemmas
 pub mod CycleLemmas
+pub mod OutlineLemmas
+pub mod IndexLemmas
+pub mod WayLemmas
+pub mod ArrangedLemmas
+pub mod SightLemmas
+pub mod LinkingLemmas

@@ -4,3 +4,11 @@ pub mod Refusals
 pub mod Bits
 pub mod Links
 pub mod Layers
+pub mod Turns
+pub mod Places
+pub mod Index
+pub mod Ways
+pub mod Arranged
+pub mod Marks
+pub mod Sight
+pub mod Looked

@@ -1,0 +1,427 @@
+-- A walk over the nested flows of a plan, one item at a time.
+use Rattle.std.proofs.Common.{◌≡◌, ℕ, zero, suc, ◌+◌, ◌<◌, ◌≤◌, List, [], ◌∷◌, ◌++◌, map, length, drop, Option, Some, None, refl, sym, ap, ◌∙◌, add-one, subst, arith, get_or, slice_set, slice_get, slice_index_or}
+use Rattle.std.proofs.lemmas.List.{length-map}
+use Rattle.tf_flow.specs.declared.atoms.Retry.{Retry}
+use Rattle.tf_flow.specs.declared.nested.Flow.{Flow as FlowValue}
+use Rattle.tf_flow.specs.declared.nested.Item.{Item}
+use Rattle.tf_flow.proofs.TreeLemmas.{tree_of-flow}
+use Rattle.tf_flow.specs.Tree.{Tree, Trees, task, flow, no_trees, tree, tree_of, item_tree, trees_of, Head}
+use Rattle.tf_model.specs.Outline.{Turn, Atom, Item as PlacedItem, FlowPlace, atoms_of, atoms_among, retry_atoms, enter, flows_of, flows_among, flow_place, flow_count, flows_among_count, atom_count, atoms_among_count, retry_count, retry_number, item_of, items_of, innermost_first, innermost_among}
+use Rattle.tf_flow.specs.Plan.{PlanValue, atoms, flows}
+use Rattle.tf_model.specs.Before.{way_at, way_in}
+use Rattle.tf_model.specs.Linked.{arranged}
+use Rattle.tf_model.specs.Laws.{name_of_atom, name_of_flow}
+use Rattle.tf_model.specs.Numbers.{numbers_below}
+use Rattle.tf_model.proofs.OutlineLemmas.{same_atoms, same_flows}
+use Rattle.tf_order.specs.declared.outline.AtomPlace.{AtomPlace}
+use Rattle.tf_order.specs.declared.outline.ItemPlace.{ItemPlace}
+use Rattle.tf_order.specs.declared.outline.Level.{Level}
+use Rattle.tf_order.specs.declared.outline.Turn.{Turn as CodeTurn}
+use Rattle.tf_order.proofs.BitLemmas.{ap2}
+use Rattle.tf_order.specs.Places.{shown_turn, shown_turns, shown_atom, shown_atoms, shown_level, shown_levels, shown_item, level_number, under, with_items, with_items_at}
+
+map_both : {X Y : Type 0} (f : X → Y) (xs ys : List X) → map f (xs ++ ys) ≡ map f xs ++ map f ys
+map_both f [] ys = refl
+map_both f (x ∷ xs) ys = ap (λ (zs : List _). f x ∷ zs) (map_both f xs ys)
+
+length_both : {X : Type 0} (xs ys : List X) → length (xs ++ ys) ≡ length xs + length ys
+length_both [] ys = omega arith
+length_both (x ∷ xs) ys = omega (arith, length_both xs ys)
+
+chain : {X : Type 0} (xs ys zs : List X) → (xs ++ ys) ++ zs ≡ xs ++ (ys ++ zs)
+chain {X} [] ys zs = refl
+chain {X} (x ∷ xs) ys zs = ap (λ (ws : List X). x ∷ ws) (chain xs ys zs)
+
+nothing_after : {X : Type 0} (xs : List X) → xs ++ [] ≡ xs
+nothing_after {X} [] = refl
+nothing_after {X} (x ∷ xs) = ap (λ (ws : List X). x ∷ ws) (nothing_after xs)
+
+-- ---- as many as are counted
+
+length_retry : (g : ℕ) (control : Option Retry) → length (retry_atoms g control) ≡ retry_count control
+length_retry g None = refl
+length_retry g (Some r) = refl
+
+mutual
+  length_atoms_at : (t : Tree) (g : ℕ) → length (atoms_of g t) ≡ atom_count t
+  length_atoms_at (task t) g = refl
+  length_atoms_at (flow head items) g = length_both (retry_atoms g head.retry) (atoms_among g 0 (suc g) items) ∙ ap2 ◌+◌ (length_retry g head.retry) (length_atoms_among items g 0 (suc g))
+
+  length_atoms_among : (ts : Trees) (g i n : ℕ) → length (atoms_among g i n ts) ≡ atoms_among_count ts
+  length_atoms_among no_trees g i n = refl
+  length_atoms_among (tree first others) g i n =
+      length_both (map (enter g i) (atoms_of n first)) (atoms_among g (suc i) (n + flow_count first) others)
+      ∙ ap2 ◌+◌ (length-map (atoms_of n first) (enter g i) ∙ length_atoms_at first n) (length_atoms_among others g (suc i) (n + flow_count first))
+
+pub length_atoms : (g : ℕ) (t : Tree) → length (atoms_of g t) ≡ atom_count t
+length_atoms g t = length_atoms_at t g
+
+mutual
+  length_flows_at : (t : Tree) (g a : ℕ) → length (flows_of g a t) ≡ flow_count t
+  length_flows_at (task t) g a = refl
+  length_flows_at (flow head items) g a = omega (arith, length_flows_among items (suc g) (a + retry_count head.retry))
+
+  length_flows_among : (ts : Trees) (n a : ℕ) → length (flows_among n a ts) ≡ flows_among_count ts
+  length_flows_among no_trees n a = refl
+  length_flows_among (tree first others) n a =
+      length_both (flows_of n a first) (flows_among (n + flow_count first) (a + atom_count first) others)
+      ∙ ap2 ◌+◌ (length_flows_at first n a) (length_flows_among others (n + flow_count first) (a + atom_count first))
+
+pub length_flows : (g a : ℕ) (t : Tree) → length (flows_of g a t) ≡ flow_count t
+length_flows g a t = length_flows_at t g a
+
+-- ---- what one item adds
+
+-- so many atoms more
+more_atoms : (way : List Turn) (n : ℕ) (t : Tree) (old new : List AtomPlace) → shown_atoms new ≡ shown_atoms old ++ map (under way) (atoms_of n t) → length new ≡ length old + atom_count t
+more_atoms way n t old new is =
+    sym (length-map new shown_atom)
+    ∙ (ap length is
+    ∙ (length_both (shown_atoms old) (map (under way) (atoms_of n t))
+    ∙ ap2 ◌+◌ (length-map old shown_atom) (length-map (atoms_of n t) (under way) ∙ length_atoms n t)))
+
+more_flows : (n a : ℕ) (t : Tree) (old new : List Level) → shown_levels new ≡ shown_levels old ++ flows_of n a t → length new ≡ length old + flow_count t
+more_flows n a t old new is =
+    sym (length-map new shown_level)
+    ∙ (ap length is
+    ∙ (length_both (shown_levels old) (flows_of n a t)
+    ∙ ap2 ◌+◌ (length-map old shown_level) (length_flows n a t)))
+
+longer_way : (way : List Turn) (g i : ℕ) (xs : List Atom) → map (under way) (map (enter g i) xs) ≡ map (under (way ++ record { flow = g; item = Some i } ∷ [])) xs
+longer_way way g i [] = refl
+longer_way way g i (x ∷ xs) = ap2 (λ (w : List Turn) (ys : List Atom). record { way = w; part = x.part } ∷ ys)
+    (sym (chain way (record { flow = g; item = Some i } ∷ []) x.way)) (longer_way way g i xs)
+
+among_under : (way : List Turn) (g i n : ℕ) (t : Tree) (ts : Trees)
+    → map (under way) (atoms_among g i n (tree t ts)) ≡ map (under (way ++ record { flow = g; item = Some i } ∷ [])) (atoms_of n t) ++ map (under way) (atoms_among g (suc i) (n + flow_count t) ts)
+among_under way g i n t ts =
+    map_both (under way) (map (enter g i) (atoms_of n t)) (atoms_among g (suc i) (n + flow_count t) ts)
+    ∙ ap (λ (ys : List Atom). ys ++ map (under way) (atoms_among g (suc i) (n + flow_count t) ts)) (longer_way way g i (atoms_of n t))
+
+-- ---- the items of a flow, one after another
+
+-- the trees of items
+abbrev pub trees : List Item → Trees
+trees items = trees_of (map item_tree items)
+
+-- where the walk over the items of flow g stands: what is there, followed by what the other items add,
+-- is the whole
+pub record Walked (way : List Turn) (g i : ℕ) (rest : List Item) (atoms : List AtomPlace) (levels : List Level) (inner : List ℕ) (items : List ItemPlace)
+    (all_atoms : List Atom) (all_levels : List FlowPlace) (all_inner : List ℕ) (all_items : List PlacedItem) : Type 0 where
+  pub atoms_so : shown_atoms atoms ++ map (under way) (atoms_among g i (length levels) (trees rest)) ≡ all_atoms
+  pub levels_so : shown_levels levels ++ flows_among (length levels) (length atoms) (trees rest) ≡ all_levels
+  pub inner_so : inner ++ innermost_among (length levels) (trees rest) ≡ all_inner
+  pub items_so : map shown_item items ++ items_of (length levels) (length atoms) (trees rest) ≡ all_items
+  pub room : g < length levels
+
+dropping : (xs : List Item) (i : ℕ) (d : Item) → i < length xs → drop i xs ≡ get_or xs i d ∷ drop (suc i) xs
+dropping [] i d below = absurd (omega arith)
+dropping (x ∷ xs) zero d below = refl
+dropping (x ∷ xs) (suc i) d below = dropping xs i d (omega arith)
+
+next_walked : (way : List Turn) (g i : ℕ) (first : Item) (rest : List Item) (atoms new_atoms : List AtomPlace) (levels new_levels : List Level) (inner new_inner : List ℕ) (items : List ItemPlace) (item : ItemPlace)
+    (all_atoms : List Atom) (all_levels : List FlowPlace) (all_inner : List ℕ) (all_items : List PlacedItem)
+    → Walked way g i (first ∷ rest) atoms levels inner items all_atoms all_levels all_inner all_items
+    → shown_item item ≡ item_of (length levels) (length atoms) (item_tree first)
+    → shown_atoms new_atoms ≡ shown_atoms atoms ++ map (under (way ++ record { flow = g; item = Some i } ∷ [])) (atoms_of (length levels) (item_tree first))
+    → shown_levels new_levels ≡ shown_levels levels ++ flows_of (length levels) (length atoms) (item_tree first)
+    → new_inner ≡ inner ++ innermost_first (length levels) (item_tree first)
+    → Walked way g (suc i) rest new_atoms new_levels new_inner (items ++ item ∷ []) all_atoms all_levels all_inner all_items
+next_walked way g i first rest atoms new_atoms levels new_levels inner new_inner items item all_atoms all_levels all_inner all_items is item_is atoms_are levels_are inner_is =
+    let n = length levels in
+    let a = length atoms in
+    let t = item_tree first in
+    let flows_more : length new_levels ≡ n + flow_count t = more_flows n a t levels new_levels levels_are in
+    let atoms_more : length new_atoms ≡ a + atom_count t = more_atoms (way ++ record { flow = g; item = Some i } ∷ []) n t atoms new_atoms atoms_are in
+    record {
+      atoms_so =
+          ap2 (λ (xs : List Atom) (m : ℕ). xs ++ map (under way) (atoms_among g (suc i) m (trees rest))) atoms_are flows_more
+          ∙ (chain (shown_atoms atoms) (map (under (way ++ record { flow = g; item = Some i } ∷ [])) (atoms_of n t)) (map (under way) (atoms_among g (suc i) (n + flow_count t) (trees rest)))
+          ∙ (ap (λ (ys : List Atom). shown_atoms atoms ++ ys) (sym (among_under way g i n t (trees rest)))
+          ∙ is.atoms_so));
+      levels_so =
+          ap2 (λ (xs : List FlowPlace) (m : ℕ). xs ++ flows_among m (length new_atoms) (trees rest)) levels_are flows_more
+          ∙ (ap (λ (b : ℕ). (shown_levels levels ++ flows_of n a t) ++ flows_among (n + flow_count t) b (trees rest)) atoms_more
+          ∙ (chain (shown_levels levels) (flows_of n a t) (flows_among (n + flow_count t) (a + atom_count t) (trees rest))
+          ∙ is.levels_so));
+      inner_so =
+          ap2 (λ (xs : List ℕ) (m : ℕ). xs ++ innermost_among m (trees rest)) inner_is flows_more
+          ∙ (chain inner (innermost_first n t) (innermost_among (n + flow_count t) (trees rest))
+          ∙ is.inner_so);
+      items_so =
+          ap2 (λ (m b : ℕ). map shown_item (items ++ item ∷ []) ++ items_of m b (trees rest)) flows_more atoms_more
+          ∙ (ap (λ (xs : List PlacedItem). xs ++ items_of (n + flow_count t) (a + atom_count t) (trees rest)) (map_both shown_item items (item ∷ []) ∙ ap (λ (x : PlacedItem). map shown_item items ++ x ∷ []) item_is)
+          ∙ (chain (map shown_item items) (item_of n a t ∷ []) (items_of (n + flow_count t) (a + atom_count t) (trees rest))
+          ∙ is.items_so));
+      room = omega (arith, is.room, flows_more);
+    }
+
+walk_more : (way : List Turn) (g i : ℕ) (whole : List Item) (first : Item) (atoms new_atoms : List AtomPlace) (levels new_levels : List Level) (inner new_inner : List ℕ) (items : List ItemPlace) (item : ItemPlace)
+    (all_atoms : List Atom) (all_levels : List FlowPlace) (all_inner : List ℕ) (all_items : List PlacedItem)
+    → Walked way g i (drop i whole) atoms levels inner items all_atoms all_levels all_inner all_items
+    → i < length whole → first ≡ get_or whole i first
+    → shown_item item ≡ item_of (length levels) (length atoms) (item_tree first)
+    → shown_atoms new_atoms ≡ shown_atoms atoms ++ map (under (way ++ record { flow = g; item = Some i } ∷ [])) (atoms_of (length levels) (item_tree first))
+    → shown_levels new_levels ≡ shown_levels levels ++ flows_of (length levels) (length atoms) (item_tree first)
+    → new_inner ≡ inner ++ innermost_first (length levels) (item_tree first)
+    → Walked way g (i + 1) (drop (i + 1) whole) new_atoms new_levels new_inner (items ++ item ∷ []) all_atoms all_levels all_inner all_items
+walk_more way g i whole first atoms new_atoms levels new_levels inner new_inner items item all_atoms all_levels all_inner all_items is below read item_is atoms_are levels_are inner_is =
+    let next : drop i whole ≡ first ∷ drop (suc i) whole = dropping whole i first below ∙ ap (λ (x : Item). x ∷ drop (suc i) whole) (sym read) in
+    rw (add-one i)
+    (next_walked way g i first (drop (suc i) whole) atoms new_atoms levels new_levels inner new_inner items item all_atoms all_levels all_inner all_items
+    (subst (λ (rest : List Item). Walked way g i rest atoms levels inner items all_atoms all_levels all_inner all_items) next is)
+    item_is atoms_are levels_are inner_is)
+
+-- ---- the beginning and the end of a flow
+
+-- a flow whose items are not told yet
+abbrev pub bare_place : ℕ → ℕ → Head → FlowPlace
+bare_place g a head = record { number = g; name = head.name; kind = head.kind; retry = retry_number a head.retry; control = head.retry; items = []; links = (flow_place g a head no_trees).links }
+
+put_there : (before after : List FlowPlace) (place : FlowPlace) (items : List PlacedItem) → with_items_at items (length before) (before ++ place ∷ after) ≡ before ++ with_items items place ∷ after
+put_there [] after place items = refl
+put_there (x ∷ before) after place items = ap (λ (ys : List FlowPlace). x ∷ ys) (put_there before after place items)
+
+pub put_level : (levels : List Level) (number : ℕ) (read new other : Level) (items : List PlacedItem) → number < length levels → read ≡ get_or levels number other
+    → shown_level new ≡ with_items items (shown_level read) → shown_levels (slice_set levels number new) ≡ with_items_at items number (shown_levels levels)
+put_level [] number read new other items below is same = absurd (omega arith)
+put_level (x ∷ levels) zero read new other items below is same = ap (λ (p : FlowPlace). p ∷ shown_levels levels) (same ∙ ap (λ (l : Level). with_items items (shown_level l)) is)
+put_level (x ∷ levels) (suc number) read new other items below is same = ap (λ (ps : List FlowPlace). shown_level x ∷ ps) (put_level levels number read new other items (omega arith) is same)
+
+-- ---- a whole flow
+
+abbrev pub head_of : FlowValue → Head
+head_of f = record { name = f.name; kind = f.kind; retry = f.retry; links = f.links }
+
+-- where the walk over a flow stands, after so many of its items
+abbrev pub WalkedFlow : List Turn → FlowValue → ℕ → List AtomPlace → List Level → List ℕ → ℕ → List AtomPlace → List Level → List ℕ → List ItemPlace → Type 0
+WalkedFlow way f g old_atoms old_levels old_inner i atoms levels inner items =
+    Walked way g i (drop i f.items.items.items) atoms levels inner items
+    (shown_atoms old_atoms ++ map (under way) (atoms_of g (tree_of f)))
+    (shown_levels old_levels ++ bare_place g (length old_atoms) (head_of f) ∷ flows_among (suc g) (length old_atoms + retry_count f.retry) (trees f.items.items.items))
+    (old_inner ++ innermost_among (suc g) (trees f.items.items.items))
+    (items_of (suc g) (length old_atoms + retry_count f.retry) (trees f.items.items.items))
+
+dropping_all : (xs : List Item) (i : ℕ) → length xs ≤ i → drop i xs ≡ []
+dropping_all [] zero whole = refl
+dropping_all [] (suc i) whole = refl
+dropping_all (x ∷ xs) zero whole = absurd (omega arith)
+dropping_all (x ∷ xs) (suc i) whole = dropping_all xs i (omega arith)
+
+pub all_read : (read items : List Item) (i : ℕ) → read ≡ items → length read ≤ i → length items ≤ i
+all_read read items i same whole = subst (λ (xs : List Item). length xs ≤ i) same whole
+
+module _ (way : List Turn) (f : FlowValue) (g : ℕ) (old_atoms atoms : List AtomPlace) (old_levels levels : List Level) (old_inner inner : List ℕ) (items : List ItemPlace) (i : ℕ)
+    (is : WalkedFlow way f g old_atoms old_levels old_inner i atoms levels inner items) (whole : length f.items.items.items ≤ i) (g_is : g ≡ length old_levels) where
+  rest_none : drop i f.items.items.items ≡ []
+  rest_none = dropping_all f.items.items.items i whole
+
+  told_levels : shown_levels levels ≡ shown_levels old_levels ++ bare_place g (length old_atoms) (head_of f) ∷ flows_among (suc g) (length old_atoms + retry_count f.retry) (trees f.items.items.items)
+  told_levels =
+      sym (nothing_after (shown_levels levels))
+      ∙ (ap (λ (xs : List Item). shown_levels levels ++ flows_among (length levels) (length atoms) (trees xs)) (sym rest_none)
+      ∙ is.levels_so)
+
+  told_items : map shown_item items ≡ items_of (suc g) (length old_atoms + retry_count f.retry) (trees f.items.items.items)
+  told_items =
+      sym (nothing_after (map shown_item items))
+      ∙ (ap (λ (xs : List Item). map shown_item items ++ items_of (length levels) (length atoms) (trees xs)) (sym rest_none)
+      ∙ is.items_so)
+
+  pub walk_levels : (new : List Level) → shown_levels new ≡ with_items_at (map shown_item items) g (shown_levels levels)
+      → shown_levels new ≡ shown_levels old_levels ++ flows_of (length old_levels) (length old_atoms) (tree_of f)
+  walk_levels new put =
+      let ts = trees f.items.items.items in
+      let others = flows_among (suc g) (length old_atoms + retry_count f.retry) ts in
+      let bare = bare_place g (length old_atoms) (head_of f) in
+      put
+      ∙ (ap2 (λ (xs : List PlacedItem) (ps : List FlowPlace). with_items_at xs g ps) told_items told_levels
+      ∙ (ap (λ (n : ℕ). with_items_at (items_of (suc g) (length old_atoms + retry_count f.retry) ts) n (shown_levels old_levels ++ bare ∷ others)) (g_is ∙ sym (length-map old_levels shown_level))
+      ∙ (put_there (shown_levels old_levels) others bare (items_of (suc g) (length old_atoms + retry_count f.retry) ts)
+      ∙ (ap (λ (t : Tree). shown_levels old_levels ++ flows_of g (length old_atoms) t) (sym (tree_of-flow f))
+      ∙ ap (λ (n : ℕ). shown_levels old_levels ++ flows_of n (length old_atoms) (tree_of f)) g_is))))
+
+  pub walk_inner : (new : List ℕ) → new ≡ inner ++ g ∷ [] → new ≡ old_inner ++ innermost_first (length old_levels) (tree_of f)
+  walk_inner new pushed =
+      let ts = trees f.items.items.items in
+      pushed
+      ∙ (ap (λ (xs : List ℕ). xs ++ g ∷ [])
+      (sym (nothing_after inner)
+      ∙ (ap (λ (xs : List Item). inner ++ innermost_among (length levels) (trees xs)) (sym rest_none)
+      ∙ is.inner_so))
+      ∙ (chain old_inner (innermost_among (suc g) ts) (g ∷ [])
+      ∙ (ap (λ (t : Tree). old_inner ++ innermost_first g t) (sym (tree_of-flow f))
+      ∙ ap (λ (n : ℕ). old_inner ++ innermost_first n (tree_of f)) g_is)))
+
+-- the step with what the code has: a longer way, and the items as they are read
+pub walk_next : (turns more : List CodeTurn) (f : FlowValue) (g i : ℕ) (first : Item) (read : List Item) (old_atoms atoms new_atoms : List AtomPlace) (old_levels levels new_levels : List Level) (old_inner inner new_inner : List ℕ) (items new_items : List ItemPlace) (item : ItemPlace)
+    → WalkedFlow (shown_turns turns) f g old_atoms old_levels old_inner i atoms levels inner items
+    → read ≡ f.items.items.items → i < length read → first ≡ get_or read i first
+    → more ≡ turns ++ record { flow = g; item = Some i } ∷ []
+    → shown_item item ≡ item_of (length levels) (length atoms) (item_tree first)
+    → shown_atoms new_atoms ≡ shown_atoms atoms ++ map (under (shown_turns more)) (atoms_of (length levels) (item_tree first))
+    → shown_levels new_levels ≡ shown_levels levels ++ flows_of (length levels) (length atoms) (item_tree first)
+    → new_inner ≡ inner ++ innermost_first (length levels) (item_tree first)
+    → new_items ≡ items ++ item ∷ []
+    → WalkedFlow (shown_turns turns) f g old_atoms old_levels old_inner (i + 1) new_atoms new_levels new_inner new_items
+walk_next turns more f g i first read old_atoms atoms new_atoms old_levels levels new_levels old_inner inner new_inner items new_items item is whole below read_is longer item_is atoms_are levels_are inner_is items_are =
+    subst (λ (its : List ItemPlace). WalkedFlow (shown_turns turns) f g old_atoms old_levels old_inner (i + 1) new_atoms new_levels new_inner its) (sym items_are)
+    (walk_more (shown_turns turns) g i f.items.items.items first atoms new_atoms levels new_levels inner new_inner items item
+    (shown_atoms old_atoms ++ map (under (shown_turns turns)) (atoms_of g (tree_of f)))
+    (shown_levels old_levels ++ bare_place g (length old_atoms) (head_of f) ∷ flows_among (suc g) (length old_atoms + retry_count f.retry) (trees f.items.items.items))
+    (old_inner ++ innermost_among (suc g) (trees f.items.items.items))
+    (items_of (suc g) (length old_atoms + retry_count f.retry) (trees f.items.items.items))
+    is (rw (sym whole) below) (read_is ∙ ap (λ (xs : List Item). get_or xs i first) whole) item_is
+    (atoms_are ∙ ap (λ (w : List Turn). shown_atoms atoms ++ map (under w) (atoms_of (length levels) (item_tree first))) (ap shown_turns longer ∙ map_both shown_turn turns (record { flow = g; item = Some i } ∷ [])))
+    levels_are inner_is)
+
+-- ---- the whole plan
+
+under_none : (xs : List Atom) → map (under []) xs ≡ xs
+under_none [] = refl
+under_none (x ∷ xs) = ap (λ (ys : List Atom). x ∷ ys) (under_none xs)
+
+pub whole_atoms : (read root : FlowValue) (old new : List AtomPlace) (levels : List Level) → read ≡ root → old ≡ [] → levels ≡ []
+    → shown_atoms new ≡ shown_atoms old ++ map (under []) (atoms_of (length levels) (tree_of read)) → shown_atoms new ≡ atoms_of 0 (tree_of root)
+whole_atoms read root old new levels same none no_levels is =
+    is
+    ∙ (ap2 (λ (xs : List AtomPlace) (ls : List Level). shown_atoms xs ++ map (under []) (atoms_of (length ls) (tree_of read))) none no_levels
+    ∙ (under_none (atoms_of 0 (tree_of read))
+    ∙ ap (λ (f : FlowValue). atoms_of 0 (tree_of f)) same))
+
+pub whole_levels : (read root : FlowValue) (atoms : List AtomPlace) (old new : List Level) → read ≡ root → atoms ≡ [] → old ≡ []
+    → shown_levels new ≡ shown_levels old ++ flows_of (length old) (length atoms) (tree_of read) → shown_levels new ≡ flows_of 0 0 (tree_of root)
+whole_levels read root atoms old new same no_atoms none is =
+    is
+    ∙ (ap2 (λ (xs : List AtomPlace) (ls : List Level). shown_levels ls ++ flows_of (length ls) (length xs) (tree_of read)) no_atoms none
+    ∙ ap (λ (f : FlowValue). flows_of 0 0 (tree_of f)) same)
+
+-- the outline has the plan's atoms and flows
+pub as_many_atoms : (plan : PlanValue) (found : List AtomPlace) → shown_atoms found ≡ atoms_of 0 (tree_of plan.root) → length found ≡ length (atoms plan)
+as_many_atoms plan found is =
+    sym (length-map found shown_atom) ∙ (ap length is ∙ (sym (length-map (atoms_of 0 (tree_of plan.root)) name_of_atom) ∙ ap length (same_atoms plan)))
+
+arranged_all : (xs : List Atom) (ps : List FlowPlace) → length (arranged xs ps) ≡ length ps
+arranged_all xs [] = refl
+arranged_all xs (p ∷ ps) = omega (arith, arranged_all xs ps)
+
+pub as_many_flows : (plan : PlanValue) (found : List Level) → shown_levels found ≡ flows_of 0 0 (tree_of plan.root) → length found ≡ length (flows plan)
+as_many_flows plan found is =
+    let places = flows_of 0 0 (tree_of plan.root) in
+    let arranged_flows = arranged (atoms_of 0 (tree_of plan.root)) places in
+    sym (length-map found shown_level) ∙ (ap length is ∙ (sym (arranged_all (atoms_of 0 (tree_of plan.root)) places) ∙ (sym (length-map arranged_flows name_of_flow) ∙ ap length (same_flows plan))))
+
+pub few : (xs ys most : ℕ) (count : ℕ) → xs ≡ ys → count ≡ ys → count ≤ most → xs ≤ most
+few xs ys most count same counted below = omega (arith, same, counted, below)
+
+-- ---- the numbers of the flows
+
+abbrev pub place_number : FlowPlace → ℕ
+place_number place = place.number
+
+-- so many numbers from n on
+abbrev pub numbers_from : ℕ → ℕ → List ℕ
+numbers_from n zero = []
+numbers_from n (suc k) = n ∷ numbers_from (suc n) k
+
+numbers_both : (n j k : ℕ) → numbers_from n (j + k) ≡ numbers_from n j ++ numbers_from (n + j) k
+numbers_both n zero k = let e : zero + k ≡ k = omega arith in let f : n + zero ≡ n = omega arith in ap2 (λ (x y : ℕ). numbers_from n x) e e ∙ ap (λ (m : ℕ). numbers_from m k) (sym f)
+numbers_both n (suc j) k =
+    let e : suc j + k ≡ suc (j + k) = omega arith in
+    let f : suc n + j ≡ n + suc j = omega arith in
+    ap (numbers_from n) e ∙ ap (λ (xs : List ℕ). n ∷ xs) (numbers_both (suc n) j k ∙ ap (λ (m : ℕ). numbers_from (suc n) j ++ numbers_from m k) f)
+
+mutual
+  numbered : (t : Tree) (g a : ℕ) → map place_number (flows_of g a t) ≡ numbers_from g (flow_count t)
+  numbered (task t) g a = refl
+  numbered (flow head items) g a =
+      let e : 1 + flows_among_count items ≡ suc (flows_among_count items) = omega arith in
+      ap (λ (xs : List ℕ). g ∷ xs) (numbered_among items (suc g) (a + retry_count head.retry)) ∙ ap (numbers_from g) (sym e)
+
+  numbered_among : (ts : Trees) (n a : ℕ) → map place_number (flows_among n a ts) ≡ numbers_from n (flows_among_count ts)
+  numbered_among no_trees n a = refl
+  numbered_among (tree first others) n a =
+      map_both place_number (flows_of n a first) (flows_among (n + flow_count first) (a + atom_count first) others)
+      ∙ (ap2 ◌++◌ (numbered first n a) (numbered_among others (n + flow_count first) (a + atom_count first))
+      ∙ sym (numbers_both n (flow_count first) (flows_among_count others)))
+
+numbers_same : (n : ℕ) → numbers_from 0 n ≡ numbers_below n
+numbers_same zero = refl
+numbers_same (suc n) =
+    let e : n + 1 ≡ suc n = omega arith in
+    let f : 0 + n ≡ n = omega arith in
+    ap (numbers_from 0) (sym e) ∙ (numbers_both 0 n 1 ∙ ap2 (λ (xs : List ℕ) (m : ℕ). xs ++ m ∷ []) (numbers_same n) f)
+
+-- the flows of a tree are numbered by their places
+pub places_counted : (t : Tree) → map place_number (flows_of 0 0 t) ≡ numbers_below (length (flows_of 0 0 t))
+places_counted t = numbered t 0 0 ∙ (numbers_same (flow_count t) ∙ ap numbers_below (sym (length_flows 0 0 t)))
+
+told_number : (levels : List Level) → map level_number levels ≡ map place_number (shown_levels levels)
+told_number [] = refl
+told_number (x ∷ levels) = ap (λ (xs : List ℕ). level_number x ∷ xs) (told_number levels)
+
+pub levels_numbered : (t : Tree) (levels : List Level) → shown_levels levels ≡ flows_of 0 0 t → map level_number levels ≡ numbers_below (length levels)
+levels_numbered t levels is =
+    told_number levels ∙ (ap (map place_number) is ∙ (places_counted t ∙ ap numbers_below (ap length (sym is) ∙ length-map levels shown_level)))
+
+number_from_at : (count n k d : ℕ) → k < count → get_or (numbers_from n count) k d ≡ n + k
+number_from_at zero n k d below = absurd (omega arith)
+number_from_at (suc count) n zero d below = omega arith
+number_from_at (suc count) n (suc k) d below = number_from_at count (suc n) k d (omega arith) ∙ omega arith
+
+number_at : (count k d : ℕ) → k < count → get_or (numbers_below count) k d ≡ k
+number_at count k d below = ap (λ (xs : List ℕ). get_or xs k d) (sym (numbers_same count)) ∙ (number_from_at count 0 k d below ∙ omega arith)
+
+told_at : {X : Type 0} (tell : X → ℕ) (xs : List X) (k : ℕ) (x : X) → slice_get xs k ≡ Some x → get_or (map tell xs) k 0 ≡ tell x
+told_at tell [] k x is = absurd (cc)
+told_at tell (y ∷ xs) zero x is = let same : y ≡ x = cc in ap tell same
+told_at tell (y ∷ xs) (suc k) x is = told_at tell xs k x is
+
+within : {X : Type 0} (xs : List X) (k : ℕ) (x : X) → slice_get xs k ≡ Some x → k < length xs
+within [] k x is = absurd (cc)
+within (y ∷ xs) zero x is = omega arith
+within (y ∷ xs) (suc k) x is = omega (arith, within xs k x is)
+
+-- the flow at place k has the number k
+pub places_numbered : (t : Tree) (k : ℕ) (place : FlowPlace) → slice_get (flows_of 0 0 t) k ≡ Some place → place.number ≡ k
+places_numbered t k place is =
+    sym (told_at place_number (flows_of 0 0 t) k place is)
+    ∙ (ap (λ (xs : List ℕ). get_or xs k 0) (places_counted t)
+    ∙ number_at (length (flows_of 0 0 t)) k 0 (within (flows_of 0 0 t) k place is))
+
+-- the same of the levels that the code has
+pub level_numbered : (levels : List Level) (k : ℕ) (level : Level) → map level_number levels ≡ numbers_below (length levels) → slice_get levels k ≡ Some level → level.number ≡ k
+level_numbered levels k level numbers is =
+    sym (told_at level_number levels k level is)
+    ∙ (ap (λ (xs : List ℕ). get_or xs k 0) numbers
+    ∙ number_at (length levels) k 0 (within levels k level is))
+
+pub level_number_at : (levels : List Level) (k : ℕ) (other : Level) → map level_number levels ≡ numbers_below (length levels) → k < length levels → (slice_index_or levels k other).number ≡ k
+level_number_at levels k other numbers below =
+    read levels k below ∙ (ap (λ (xs : List ℕ). get_or xs k 0) numbers ∙ number_at (length levels) k 0 below)
+  where
+    read : (xs : List Level) (j : ℕ) → j < length xs → (slice_index_or xs j other).number ≡ get_or (map level_number xs) j 0
+    read [] j inside = absurd (omega arith)
+    read (x ∷ xs) zero inside = refl
+    read (x ∷ xs) (suc j) inside = read xs j (omega arith)
+
+-- ---- what the model reads at a number
+
+told_there : {X Y : Type 0} (tell : X → Y) (xs : List X) (k : ℕ) (x : X) → k < length xs → x ≡ get_or xs k x → slice_get (map tell xs) k ≡ Some (tell x)
+told_there tell [] k x below is = absurd (omega arith)
+told_there tell (y ∷ xs) zero x below is = ap (λ z. Some (tell z)) (sym is)
+told_there tell (y ∷ xs) (suc k) x below is = told_there tell xs k x (omega arith) is
+
+-- the atom, the flow and the item of a number
+pub atom_there : (found : List AtomPlace) (k : ℕ) (atom : AtomPlace) → k < length found → atom ≡ get_or found k atom → slice_get (shown_atoms found) k ≡ Some (shown_atom atom)
+atom_there found k atom below is = told_there shown_atom found k atom below is
+
+pub level_there : (levels : List Level) (k : ℕ) (level : Level) → k < length levels → level ≡ get_or levels k level → slice_get (shown_levels levels) k ≡ Some (shown_level level)
+level_there levels k level below is = told_there shown_level levels k level below is
+
+pub item_there : (items : List ItemPlace) (k : ℕ) (item : ItemPlace) → k < length items → item ≡ get_or items k item → slice_get (map shown_item items) k ≡ Some (shown_item item)
+item_there items k item below is = told_there shown_item items k item below is
+
+-- the way of the atom of a number
+pub way_there : (found : List AtomPlace) (k : ℕ) (atom : AtomPlace) → k < length found → atom ≡ get_or found k atom → atom.way ≡ way_at (shown_atoms found) k
+way_there found k atom below is = ap way_in (sym (atom_there found k atom below is))

@@ -1,0 +1,311 @@
+-- What is looked at of a flow, against the definitions.
+use Rattle.std.proofs.Common.{◌≡◌, ◌≢◌, ℕ, zero, suc, ◌+◌, ◌*◌, ◌/◌, ◌<◌, ◌≤◌, List, [], ◌∷◌, ◌++◌, length, take, map, filter, Bool, true, false, ◌&&◌, ◌||◌, not, Option, Some, None, refl, sym, ap, subst, ◌∙◌, add-one, inl, inr, arith, eqb-true, eq-eqb, slice_index_or, slice_get, cond}
+use Rattle.std.specs.Prelude.{nat_eq, nat_lt, if◌then◌else◌}
+use Rattle.std.specs.List.{list_any}
+use Rattle.std.proofs.lemmas.Bool.{cases_lt, ltb-true, lt-ltb}
+use Rattle.std.proofs.lemmas.List.{length-map}
+use Rattle.tf_model.specs.Numbers.{any_below, which_below, has_number, Pair, has_pair, reached}
+use Rattle.tf_model.specs.Outline.{Turn, Atom, FlowPlace}
+use Rattle.tf_model.specs.Before.{Flow, takes_item, same_place, passes_item, way_before, way_in, way_at}
+use Rattle.tf_model.specs.Linked.{provides_at, is_inside, serves_inside, is_unserved, gives_inside, item_provides, retry_provides, explicit, reaches_with, is_served, other_provides, givers}
+use Rattle.tf_model.proofs.StepLemmas.{and_first, and_second, or_either}
+use Rattle.tf_model.proofs.PairLemmas.{which_passes, passes_which, true_first, true_second, true_both}
+use Rattle.tf_order.specs.declared.outline.AtomPlace.{AtomPlace}
+use Rattle.tf_order.specs.declared.outline.Turn.{Turn as CodeTurn}
+use Rattle.tf_order.specs.declared.sight.Sight.{Sight}
+use Rattle.tf_order.specs.Arranged.{ShowsFlows}
+use Rattle.tf_order.specs.Bits.{has, room, words_for}
+use Rattle.tf_order.specs.Index.{told}
+use Rattle.tf_order.specs.Links.{leads, AreReached}
+use Rattle.tf_order.specs.Marks.{marks_turn, marks, serves_in, leads_to_item, is_other}
+use Rattle.tf_order.specs.Places.{shown_atom, shown_atoms, shown_item, shown_level}
+use Rattle.tf_order.specs.Sight.{atoms_seen, place_seen, count_seen, HasProviders, HasReach}
+use Rattle.tf_order.specs.Turns.{shown_turn, shown_turns}
+use Rattle.tf_order.proofs.NumberLemmas.{same_truth, never_true, not_both, any_told, any_from, which_same, which_more}
+use Rattle.tf_order.proofs.BitLemmas.{ap2}
+use Rattle.tf_order.proofs.StandingLemmas.{listed_within, taking_next, taking_none, taking_all}
+
+-- ---- an atom by its number
+
+pub way_seen : (atoms : List AtomPlace) (k : ℕ) (atom : AtomPlace) → k < length atoms → atom ≡ slice_index_or atoms k atom → way_at (shown_atoms atoms) k ≡ atom.way
+way_seen [] k atom within is = absurd (omega arith)
+way_seen (x ∷ xs) zero atom within is = ap (λ (a : AtomPlace). a.way) (sym is)
+way_seen (x ∷ xs) (suc k) atom within is = way_seen xs k atom (omega arith) is
+
+pub provider_within : (sight : Sight) (symbol : List ℕ) (xs : List ℕ) (i : ℕ) → HasProviders sight → xs ≡ told sight.providers.now symbol → i < length xs → slice_index_or xs i 0 < length sight.atoms.now
+provider_within sight symbol xs i providers is within =
+    let found = which_passes (length sight.atoms.now) (provides_at (atoms_seen sight) symbol) (nat_eq (slice_index_or xs i 0))
+      (ap (λ (ys : List ℕ). has_number ys (slice_index_or xs i 0)) (sym (is ∙ providers symbol)) ∙ listed_within xs i within) in
+    let same : slice_index_or xs i 0 ≡ found.number = eqb-true (slice_index_or xs i 0) found.number found.passes in
+    omega (arith, same, found.below)
+
+-- ---- tests of those that pass
+
+-- one passes that does another test too
+pub any_which : (n : ℕ) (p q r : ℕ → Bool) → ((b : ℕ) → r b ≡ (p b && q b)) → any_below n r ≡ list_any p (which_below n q)
+any_which n p q r each = same_truth (any_below n r) (list_any p (which_below n q))
+    (λ is. let found = any_told n r is in passes_which n q p found.0 found.1 (and_second (p found.0) (q found.0) (sym (each found.0) ∙ found.2)) (and_first (p found.0) (q found.0) (sym (each found.0) ∙ found.2)))
+    (λ is. let found = which_passes n q p is in any_from n r found.number found.below (each found.number ∙ true_both (p found.number) (q found.number) found.passes found.tested))
+
+filter_one : (p : ℕ → Bool) (n : ℕ) (q : Bool) → filter p (if q then n ∷ [] else []) ≡ (if p n && q then n ∷ [] else [])
+filter_one p n false = by_test (p n)
+  where
+    by_test : (b : Bool) → [] ≡ (if b && false then n ∷ [] else [])
+    by_test true = refl
+    by_test false = refl
+filter_one p n true = by_test (p n)
+  where
+    by_test : (b : Bool) → cond b (n ∷ []) [] ≡ (if b && true then n ∷ [] else [])
+    by_test true = refl
+    by_test false = refl
+
+filter_both : (p : ℕ → Bool) (xs ys : List ℕ) → filter p (xs ++ ys) ≡ filter p xs ++ filter p ys
+filter_both p [] ys = refl
+filter_both p (x ∷ xs) ys = by_test (p x) (filter_both p xs ys)
+  where
+    by_test : (b : Bool) → filter p (xs ++ ys) ≡ filter p xs ++ filter p ys → cond b (x ∷ filter p (xs ++ ys)) (filter p (xs ++ ys)) ≡ cond b (x ∷ filter p xs) (filter p xs) ++ filter p ys
+    by_test true rest = ap (λ (zs : List ℕ). x ∷ zs) rest
+    by_test false rest = rest
+
+-- those that pass both
+pub filter_which : (n : ℕ) (p q r : ℕ → Bool) → ((b : ℕ) → r b ≡ (p b && q b)) → filter p (which_below n q) ≡ which_below n r
+filter_which zero p q r each = refl
+filter_which (suc n) p q r each = filter_both p (which_below n q) (if q n then n ∷ [] else [])
+    ∙ ap2 (λ (xs ys : List ℕ). xs ++ ys) (filter_which n p q r each) (filter_one p n (q n) ∙ ap (λ (b : Bool). if b then n ∷ [] else []) (sym (each n)))
+
+any_more : (p : ℕ → Bool) (xs : List ℕ) (x : ℕ) → list_any p (xs ++ x ∷ []) ≡ (list_any p xs || p x)
+any_more p [] x = or_none (p x)
+  where
+    or_none : (b : Bool) → b || false ≡ b
+    or_none true = refl
+    or_none false = refl
+any_more p (y ∷ ys) x = ap (λ (b : Bool). p y || b) (any_more p ys x) ∙ or_chain (p y) (list_any p ys) (p x)
+  where
+    or_chain : (a b c : Bool) → a || (b || c) ≡ (a || b) || c
+    or_chain true b c = refl
+    or_chain false b c = refl
+
+any_next : (p : ℕ → Bool) (xs : List ℕ) (i : ℕ) → i < length xs → list_any p (take (i + 1) xs) ≡ (list_any p (take i xs) || p (slice_index_or xs i 0))
+any_next p xs i within = ap (list_any p) (ap (λ (n : ℕ). take n xs) (add-one i) ∙ taking_next xs i within) ∙ any_more p (take i xs) (slice_index_or xs i 0)
+
+any_at : (p : ℕ → Bool) (xs : List ℕ) (i : ℕ) → i < length xs → p (slice_index_or xs i 0) ≡ true → list_any p xs ≡ true
+any_at p [] i within is = absurd (omega arith)
+any_at p (x ∷ xs) zero within is = true_first (p x) (list_any p xs) is
+any_at p (x ∷ xs) (suc i) within is = true_second (p x) (list_any p xs) (any_at p xs i (omega arith) is)
+
+-- ---- an atom that is served
+
+-- of the first i none serves
+abbrev pub NoneServes : Sight → ℕ → ℕ → List ℕ → Type 0
+NoneServes sight item atom seen = (inner : List Flow) → ShowsFlows sight.table.now inner → list_any (serves_in (atoms_seen sight) inner (place_seen sight).number item atom) seen ≡ false
+
+pub unserved_start : (sight : Sight) (item atom : ℕ) (xs : List ℕ) → NoneServes sight item atom (take 0 xs)
+unserved_start sight item atom xs inner shows = ap (list_any (serves_in (atoms_seen sight) inner (place_seen sight).number item atom)) (taking_none xs)
+
+pub unserved_more : (sight : Sight) (item atom : ℕ) (xs : List ℕ) (i : ℕ) → NoneServes sight item atom (take i xs) → i < length xs
+    → ((inner : List Flow) → ShowsFlows sight.table.now inner → false ≡ serves_in (atoms_seen sight) inner (place_seen sight).number item atom (slice_index_or xs i 0)) → NoneServes sight item atom (take (i + 1) xs)
+unserved_more sight item atom xs i before within off inner shows =
+    any_next (serves_in (atoms_seen sight) inner (place_seen sight).number item atom) xs i within ∙ ap2 (λ (a b : Bool). a || b) (before inner shows) (sym (off inner shows))
+
+served_by : (sight : Sight) (inner : List Flow) (item atom : ℕ) (symbol : List ℕ) (xs : List ℕ) → HasProviders sight → xs ≡ told sight.providers.now symbol
+    → is_unserved (atoms_seen sight) inner (place_seen sight).number item atom symbol ≡ not (list_any (serves_in (atoms_seen sight) inner (place_seen sight).number item atom) xs)
+served_by sight inner item atom symbol xs providers is =
+    ap not (ap (λ (n : ℕ). any_below n (serves_inside (atoms_seen sight) inner (place_seen sight).number item symbol atom)) (length_shown sight.atoms.now)
+      ∙ (any_which (length sight.atoms.now) (serves_in (atoms_seen sight) inner (place_seen sight).number item atom) (provides_at (atoms_seen sight) symbol) (serves_inside (atoms_seen sight) inner (place_seen sight).number item symbol atom)
+          (λ b. swap (is_inside (atoms_seen sight) (place_seen sight).number item b) (provides_at (atoms_seen sight) symbol b) (way_before inner (way_at (atoms_seen sight) b) (way_at (atoms_seen sight) atom)))
+      ∙ ap (list_any (serves_in (atoms_seen sight) inner (place_seen sight).number item atom)) (sym (is ∙ providers symbol))))
+  where
+    swap : (a b c : Bool) → a && (b && c) ≡ (a && c) && b
+    swap true true c = right c
+      where
+        right : (c : Bool) → c ≡ c && true
+        right true = refl
+        right false = refl
+    swap true false c = left c
+      where
+        left : (c : Bool) → false ≡ c && false
+        left true = refl
+        left false = refl
+    swap false b c = refl
+    length_shown : (atoms : List AtomPlace) → length (shown_atoms atoms) ≡ length atoms
+    length_shown [] = refl
+    length_shown (x ∷ xs) = ap suc (length_shown xs)
+
+pub unserved_not : (sight : Sight) (item atom : ℕ) (symbol : List ℕ) (xs : List ℕ) (i : ℕ) → HasProviders sight → xs ≡ told sight.providers.now symbol → i < length xs
+    → ((inner : List Flow) → ShowsFlows sight.table.now inner → true ≡ serves_in (atoms_seen sight) inner (place_seen sight).number item atom (slice_index_or xs i 0)) → (inner : List Flow) → ShowsFlows sight.table.now inner
+    → false ≡ is_unserved (atoms_seen sight) inner (place_seen sight).number item atom symbol
+unserved_not sight item atom symbol xs i providers is within on inner shows =
+    sym (served_by sight inner item atom symbol xs providers is ∙ ap not (any_at (serves_in (atoms_seen sight) inner (place_seen sight).number item atom) xs i within (sym (on inner shows))))
+
+pub unserved_all : (sight : Sight) (item atom : ℕ) (symbol : List ℕ) (xs : List ℕ) (i : ℕ) → HasProviders sight → xs ≡ told sight.providers.now symbol → NoneServes sight item atom (take i xs) → length xs ≤ i
+    → (inner : List Flow) → ShowsFlows sight.table.now inner → true ≡ is_unserved (atoms_seen sight) inner (place_seen sight).number item atom symbol
+unserved_all sight item atom symbol xs i providers is none whole inner shows =
+    sym (served_by sight inner item atom symbol xs providers is
+      ∙ ap not (ap (list_any (serves_in (atoms_seen sight) inner (place_seen sight).number item atom)) (sym (taking_all xs i whole)) ∙ none inner shows))
+
+-- ---- the items that ways lead through
+
+or_falsed : (a b : Bool) → b ≡ false → a ≡ a || b
+or_falsed true b off = refl
+or_falsed false b off = sym off
+
+and_falsed : (a b : Bool) → b ≡ false → a && b ≡ false
+and_falsed true b off = off
+and_falsed false b off = refl
+
+pub mark_other : (set : List ℕ) (turn : CodeTurn) (flow count : ℕ) → turn.flow ≢ flow → (u : ℕ) → has set u ≡ (has set u || marks_turn flow count (shown_turn turn) u)
+mark_other set turn flow count differ u = or_falsed (has set u) _ (and_falsed (nat_lt u count) _ (ap (λ (b : Bool). b && same_place turn.item (Some u)) (never_true (nat_eq turn.flow flow) (λ same. differ (eqb-true turn.flow flow same)))))
+
+pub mark_retry : (set : List ℕ) (turn : CodeTurn) (flow count : ℕ) → turn.item ≡ None → (u : ℕ) → has set u ≡ (has set u || marks_turn flow count (shown_turn turn) u)
+mark_retry set turn flow count none u = or_falsed (has set u) _ (and_falsed (nat_lt u count) _ (and_falsed (nat_eq turn.flow flow) _ (ap (λ (o : Option ℕ). same_place o (Some u)) none)))
+
+pub mark_past : (set : List ℕ) (turn : CodeTurn) (flow count item : ℕ) → turn.item ≡ Some item → count ≤ item → (u : ℕ) → has set u ≡ (has set u || marks_turn flow count (shown_turn turn) u)
+mark_past set turn flow count item is past u = or_falsed (has set u) _ (by_item (nat_eq item u) refl)
+  where
+    by_item : (b : Bool) → nat_eq item u ≡ b → marks_turn flow count (shown_turn turn) u ≡ false
+    by_item true same = ap (λ (b : Bool). b && (nat_eq turn.flow flow && same_place turn.item (Some u))) (never_true (nat_lt u count) (λ less. let below : u < count = ltb-true u count less in let e : item ≡ u = eqb-true item u same in omega (arith, below, e, past)))
+    by_item false other = and_falsed (nat_lt u count) _ (and_falsed (nat_eq turn.flow flow) _ (ap (λ (o : Option ℕ). same_place o (Some u)) is ∙ other))
+
+pub mark_here : (set new : List ℕ) (turn : CodeTurn) (flow count item : ℕ) → turn.flow ≡ flow → turn.item ≡ Some item → item < count → ((k : ℕ) → has new k ≡ (nat_eq item k || has set k)) → (u : ℕ) → has new u ≡ (has set u || marks_turn flow count (shown_turn turn) u)
+mark_here set new turn flow count item same is below put u = put u ∙ by_item (nat_eq item u) refl
+  where
+    or_true : (a : Bool) → true ≡ a || true
+    or_true true = refl
+    or_true false = refl
+    by_item : (b : Bool) → nat_eq item u ≡ b → (b || has set u) ≡ (has set u || marks_turn flow count (shown_turn turn) u)
+    by_item true e = let equal : item ≡ u = eqb-true item u e in or_true (has set u) ∙ ap (λ (b : Bool). has set u || b)
+        (sym (true_both (nat_lt u count) _ (lt-ltb u count (omega (arith, equal, below)))
+          (true_both (nat_eq turn.flow flow) (same_place turn.item (Some u)) (eq-eqb turn.flow flow same) (ap (λ (o : Option ℕ). same_place o (Some u)) is ∙ e))))
+    by_item false other = or_falsed (has set u) _ (and_falsed (nat_lt u count) _ (and_falsed (nat_eq turn.flow flow) _ (ap (λ (o : Option ℕ). same_place o (Some u)) is ∙ other)))
+
+-- the items of the turns so far
+pub record MarkedBy (old set : List ℕ) (flow count : ℕ) (turns : List CodeTurn) : Type 0 where
+  pub width : length set ≡ words_for count
+  pub told : (u : ℕ) → has set u ≡ (has old u || marks flow count (shown_turns turns) u)
+
+pub marks_start : (old : List ℕ) (flow count : ℕ) (way : List CodeTurn) → length old ≡ words_for count → MarkedBy old old flow count (take 0 way)
+marks_start old flow count way wide = record { width = wide; told = λ u. or_falsed (has old u) _ (and_falsed (nat_lt u count) _ (none way u)) }
+  where
+    none : (way : List CodeTurn) (u : ℕ) → passes_item flow (Some u) (shown_turns (take 0 way)) ≡ false
+    none [] u = refl
+    none (x ∷ xs) u = refl
+
+passes_next : (flow u : ℕ) (way : List CodeTurn) (i : ℕ) (turn : CodeTurn) → i < length way → turn ≡ slice_index_or way i turn
+    → passes_item flow (Some u) (shown_turns (take (suc i) way)) ≡ (passes_item flow (Some u) (shown_turns (take i way)) || takes_item flow (Some u) (shown_turn turn))
+passes_next flow u [] i turn within is = absurd (omega arith)
+passes_next flow u (x ∷ xs) zero turn within is = ap (λ (t : CodeTurn). takes_item flow (Some u) (shown_turn t) || passes_item flow (Some u) (shown_turns (take 0 xs))) (sym is) ∙ last (takes_item flow (Some u) (shown_turn turn)) xs
+  where
+    last : (b : Bool) (ys : List CodeTurn) → b || passes_item flow (Some u) (shown_turns (take 0 ys)) ≡ b
+    last true ys = refl
+    last false [] = refl
+    last false (y ∷ ys) = refl
+passes_next flow u (x ∷ xs) (suc i) turn within is = ap (λ (b : Bool). takes_item flow (Some u) (shown_turn x) || b) (passes_next flow u xs i turn (omega arith) is)
+    ∙ or_chain (takes_item flow (Some u) (shown_turn x)) (passes_item flow (Some u) (shown_turns (take i xs))) (takes_item flow (Some u) (shown_turn turn))
+  where
+    or_chain : (a b c : Bool) → a || (b || c) ≡ (a || b) || c
+    or_chain true b c = refl
+    or_chain false b c = refl
+
+pub marks_more : (old set new : List ℕ) (flow count : ℕ) (way : List CodeTurn) (i : ℕ) (turn : CodeTurn) → MarkedBy old set flow count (take i way) → i < length way → turn ≡ slice_index_or way i turn → length new ≡ words_for count
+    → ((u : ℕ) → has new u ≡ (has set u || marks_turn flow count (shown_turn turn) u)) → MarkedBy old new flow count (take (i + 1) way)
+marks_more old set new flow count way i turn before within is wide put = record {
+  width = wide;
+  told = λ u. put u ∙ (ap (λ (b : Bool). b || marks_turn flow count (shown_turn turn) u) (before.told u)
+      ∙ (spread (has old u) (nat_lt u count) (passes_item flow (Some u) (shown_turns (take i way))) (takes_item flow (Some u) (shown_turn turn))
+      ∙ ap (λ (b : Bool). has old u || (nat_lt u count && b)) (sym (ap (λ (n : ℕ). passes_item flow (Some u) (shown_turns (take n way))) (add-one i) ∙ passes_next flow u way i turn within is))));
+}
+  where
+    spread : (a b c d : Bool) → (a || (b && c)) || (b && d) ≡ a || (b && (c || d))
+    spread true b c d = refl
+    spread false true c d = refl
+    spread false false c d = refl
+
+pub marks_all : (old set : List ℕ) (flow count : ℕ) (way : List CodeTurn) (i : ℕ) → MarkedBy old set flow count (take i way) → length way ≤ i → (u : ℕ) → has set u ≡ (has old u || marks flow count (shown_turns way) u)
+marks_all old set flow count way i is whole u = is.told u ∙ ap (λ (ts : List CodeTurn). has old u || marks flow count (shown_turns ts) u) (whole_taken way i whole)
+  where
+    whole_taken : (ts : List CodeTurn) (i : ℕ) → length ts ≤ i → take i ts ≡ ts
+    whole_taken [] zero past = refl
+    whole_taken [] (suc i) past = refl
+    whole_taken (t ∷ ts) zero past = absurd (omega arith)
+    whole_taken (t ∷ ts) (suc i) past = ap (λ (us : List CodeTurn). t ∷ us) (whole_taken ts i (omega arith))
+
+-- ---- the items that provide
+
+-- a number's atom stands in item u
+stands_in : Sight → ℕ → ℕ → Bool
+stands_in sight u b = is_inside (atoms_seen sight) (place_seen sight).number u b
+
+-- the items of the atoms so far
+pub record ItemsOf (sight : Sight) (set atoms : List ℕ) : Type 0 where
+  pub width : length set ≡ words_for (count_seen sight)
+  pub told : (u : ℕ) → has set u ≡ (nat_lt u (count_seen sight) && list_any (is_inside (atoms_seen sight) (place_seen sight).number u) atoms)
+
+pub marked_start : (sight : Sight) (set xs : List ℕ) → length set ≡ words_for (count_seen sight) → ((u : ℕ) → has set u ≡ false) → ItemsOf sight set (take 0 xs)
+marked_start sight set xs wide none = record { width = wide; told = λ u. none u ∙ sym (and_falsed (nat_lt u (count_seen sight)) _ (ap (list_any (is_inside (atoms_seen sight) (place_seen sight).number u)) (taking_none xs))) }
+
+pub marked_more : (sight : Sight) (set new xs : List ℕ) (i : ℕ) (way : List Turn) → ItemsOf sight set (take i xs) → i < length xs → way ≡ way_at (atoms_seen sight) (slice_index_or xs i 0) → length new ≡ words_for (count_seen sight)
+    → ((u : ℕ) → has new u ≡ (has set u || marks (place_seen sight).number (count_seen sight) way u)) → ItemsOf sight new (take (i + 1) xs)
+marked_more sight set new xs i way before within is wide put = record {
+  width = wide;
+  told = λ u. put u ∙ (ap2 (λ (a b : Bool). a || b) (before.told u) (ap (λ (w : List Turn). marks (place_seen sight).number (count_seen sight) w u) is)
+      ∙ (join_both (nat_lt u (count_seen sight)) (list_any (is_inside (atoms_seen sight) (place_seen sight).number u) (take i xs)) (is_inside (atoms_seen sight) (place_seen sight).number u (slice_index_or xs i 0))
+      ∙ ap (λ (b : Bool). nat_lt u (count_seen sight) && b) (sym (any_next (is_inside (atoms_seen sight) (place_seen sight).number u) xs i within))));
+}
+  where
+    join_both : (a b c : Bool) → (a && b) || (a && c) ≡ a && (b || c)
+    join_both true b c = refl
+    join_both false b c = refl
+
+pub length_seen : (atoms : List AtomPlace) → length (shown_atoms atoms) ≡ length atoms
+length_seen [] = refl
+length_seen (x ∷ xs) = ap suc (length_seen xs)
+
+pub provided_told : (sight : Sight) (symbol : List ℕ) (xs : List ℕ) (u : ℕ) → HasProviders sight → xs ≡ told sight.providers.now symbol
+    → item_provides (atoms_seen sight) (place_seen sight).number symbol u ≡ list_any (is_inside (atoms_seen sight) (place_seen sight).number u) xs
+provided_told sight symbol xs u providers is =
+    ap (λ (n : ℕ). any_below n (gives_inside (atoms_seen sight) (place_seen sight).number u symbol)) (length_seen sight.atoms.now)
+    ∙ (any_which (length sight.atoms.now) (is_inside (atoms_seen sight) (place_seen sight).number u) (provides_at (atoms_seen sight) symbol) (gives_inside (atoms_seen sight) (place_seen sight).number u symbol) (λ b. refl)
+    ∙ ap (list_any (is_inside (atoms_seen sight) (place_seen sight).number u)) (sym (is ∙ providers symbol)))
+
+pub marked_all : (sight : Sight) (symbol : List ℕ) (set xs items : List ℕ) (i : ℕ) → HasProviders sight → xs ≡ told sight.providers.now symbol → ItemsOf sight set (take i xs) → length xs ≤ i → items ≡ which_below (room set) (has set)
+    → items ≡ which_below (count_seen sight) (item_provides (atoms_seen sight) (place_seen sight).number symbol)
+marked_all sight symbol set xs items i providers is marked whole found =
+    found ∙ (which_more (count_seen sight) (room set) (has set) (omega (arith, marked.width)) (λ k above below. marked.told k ∙ ap (λ (b : Bool). b && list_any (is_inside (atoms_seen sight) (place_seen sight).number k) (take i xs))
+        (never_true (nat_lt k (count_seen sight)) (λ less. let inside : k < count_seen sight = ltb-true k (count_seen sight) less in omega (arith, inside, above))))
+    ∙ which_same (count_seen sight) (has set) (item_provides (atoms_seen sight) (place_seen sight).number symbol) (λ k below.
+      marked.told k ∙ (ap (λ (b : Bool). b && list_any (is_inside (atoms_seen sight) (place_seen sight).number k) (take i xs)) (lt-ltb k (count_seen sight) below)
+      ∙ (ap (list_any (is_inside (atoms_seen sight) (place_seen sight).number k)) (taking_all xs i whole) ∙ sym (provided_told sight symbol xs k providers is)))))
+
+-- ---- the items that give a symbol
+
+pub length_items : (sight : Sight) → length (place_seen sight).items ≡ count_seen sight
+length_items sight = length-map sight.level.now.items.items shown_item
+
+pub served_told : (sight : Sight) (reach : List (List ℕ)) (item : ℕ) (symbol items : List ℕ) → HasReach sight reach → items ≡ which_below (count_seen sight) (item_provides (atoms_seen sight) (place_seen sight).number symbol)
+    → is_served (atoms_seen sight) (place_seen sight) item symbol ≡ (retry_provides (place_seen sight).control symbol || list_any (leads_to_item reach item) items)
+served_told sight reach item symbol items reached_is is = ap (λ (b : Bool). retry_provides (place_seen sight).control symbol || b)
+    (ap (λ (n : ℕ). any_below n (reaches_with (atoms_seen sight) (place_seen sight) symbol item)) (length_items sight)
+    ∙ (any_which (count_seen sight) (leads_to_item reach item) (item_provides (atoms_seen sight) (place_seen sight).number symbol) (reaches_with (atoms_seen sight) (place_seen sight) symbol item)
+        (λ w. ap (λ (b : Bool). b && item_provides (atoms_seen sight) (place_seen sight).number symbol w)
+          (ap (λ (n : ℕ). has_pair (reached n (explicit (place_seen sight))) w item) (length_items sight) ∙ sym (reached_is.same w item)))
+    ∙ ap (list_any (leads_to_item reach item)) (sym is)))
+
+by_served : (sight : Sight) (item : ℕ) (symbol : List ℕ) (found : List ℕ) → found ≡ [] → is_served (atoms_seen sight) (place_seen sight) item symbol ≡ true → found ≡ givers (atoms_seen sight) (place_seen sight) item symbol
+by_served sight item symbol found none served = none ∙ sym (ap (λ (b : Bool). if b then [] else which_below (length (place_seen sight).items) (other_provides (atoms_seen sight) (place_seen sight) item symbol)) served)
+
+pub givers_by_retry : (sight : Sight) (item : ℕ) (symbol found : List ℕ) → retry_provides sight.level.now.flow.now.retry symbol ≡ true → found ≡ [] → found ≡ givers (atoms_seen sight) (place_seen sight) item symbol
+givers_by_retry sight item symbol found provides none = by_served sight item symbol found none (true_first (retry_provides (place_seen sight).control symbol) _ provides)
+
+pub givers_by_reach : (sight : Sight) (reach : List (List ℕ)) (item : ℕ) (symbol items found : List ℕ) → HasReach sight reach → items ≡ which_below (count_seen sight) (item_provides (atoms_seen sight) (place_seen sight).number symbol)
+    → list_any (leads_to_item reach item) items ≡ true → found ≡ [] → found ≡ givers (atoms_seen sight) (place_seen sight) item symbol
+givers_by_reach sight reach item symbol items found reached_is is on none =
+    by_served sight item symbol found none (served_told sight reach item symbol items reached_is is ∙ true_second (retry_provides (place_seen sight).control symbol) _ on)
+
+pub givers_other : (sight : Sight) (reach : List (List ℕ)) (item : ℕ) (symbol items found : List ℕ) → HasReach sight reach → items ≡ which_below (count_seen sight) (item_provides (atoms_seen sight) (place_seen sight).number symbol)
+    → retry_provides sight.level.now.flow.now.retry symbol ≡ false → list_any (leads_to_item reach item) items ≡ false → found ≡ filter (is_other item) items → found ≡ givers (atoms_seen sight) (place_seen sight) item symbol
+givers_other sight reach item symbol items found reached_is is retry off rest =
+    rest ∙ (ap (filter (is_other item)) is
+    ∙ (filter_which (count_seen sight) (is_other item) (item_provides (atoms_seen sight) (place_seen sight).number symbol) (other_provides (atoms_seen sight) (place_seen sight) item symbol) (λ b. refl)
+    ∙ (ap (λ (n : ℕ). which_below n (other_provides (atoms_seen sight) (place_seen sight) item symbol)) (sym (length_items sight))
+    ∙ sym (ap (λ (b : Bool). if b then [] else which_below (length (place_seen sight).items) (other_provides (atoms_seen sight) (place_seen sight) item symbol))
+        (served_told sight reach item symbol items reached_is is ∙ ap2 (λ (a b : Bool). a || b) retry off)))))

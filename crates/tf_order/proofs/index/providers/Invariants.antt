@@ -1,0 +1,9 @@
+use Rattle.std.proofs.Common.{◌≡◌, ℕ, List}
+use Rattle.tf_model.specs.Linked.{provides_at}
+use Rattle.tf_model.specs.Numbers.{which_below}
+use Rattle.tf_order.specs.Index.{told}
+use Rattle.tf_order.specs.Places.{shown_atoms}
+use Rattle.tf_order.proofs.index.providers.Given as goal
+
+abbrev pub invariant-loop-number : goal.invariant-loop-number
+invariant-loop-number l = (symbol : List ℕ) → told l.index symbol ≡ which_below l.number (provides_at (shown_atoms l.atoms) symbol)

@@ -1,0 +1,12 @@
+use Rattle.std.proofs.Common.{◌≡◌, length}
+use Rattle.tf_order.specs.Bits.{words_for}
+use Rattle.tf_order.specs.Sight.{count_seen}
+use Rattle.tf_order.proofs.LinkingLemmas.{AtomsSeen}
+use Rattle.tf_order.proofs.linking.infer.Given as goal
+
+abbrev pub invariant-loop-atom : goal.invariant-loop-atom
+invariant-loop-atom l = record {
+  count : l.found.links.count ≡ count_seen l.sight;
+  wide : length l.found.doubts ≡ words_for (count_seen l.sight);
+  seen : AtomsSeen l.sight l.fn.found.links l.fn.found.doubts l.found.links l.found.doubts l.atom;
+}

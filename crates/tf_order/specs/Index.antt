@@ -1,0 +1,29 @@
+-- Numbers by name.
+use Rattle.std.specs.Prelude.{ℕ, List, [], ◌∷◌, ◌++◌, ◌-◌, Bool, Option, None, Some, length, slice_get, if◌then◌else◌}
+use Rattle.indexmap.specs.IndexMap.{get}
+use Rattle.tf_flow.specs.Names.{same_name}
+use Rattle.tf_model.specs.Linked.{item_name_in}
+use Rattle.tf_model.specs.Numbers.{is_number}
+use Rattle.tf_model.specs.Outline.{Item}
+use Rattle.tf_order.specs.declared.index.NameIndex.{NameIndex}
+
+-- the numbers, where there are some
+abbrev pub numbers_or_none : Option (List ℕ) → List ℕ
+numbers_or_none None = []
+numbers_or_none (Some numbers) = numbers
+
+-- the numbers of a name
+abbrev pub told : NameIndex → List ℕ → List ℕ
+told index name = numbers_or_none (get same_name index.numbers name)
+
+-- the last number is this one
+abbrev pub ends_with : List ℕ → ℕ → Bool
+ends_with numbers n = is_number (slice_get numbers (length numbers - 1)) n
+
+-- the numbers with one more, which isn't added to itself
+abbrev pub add_once : List ℕ → ℕ → List ℕ
+add_once numbers n = if ends_with numbers n then numbers else numbers ++ n ∷ []
+
+-- the item at a place has this name
+abbrev pub is_named_at : List Item → List ℕ → ℕ → Bool
+is_named_at items name u = same_name (item_name_in (slice_get items u)) name

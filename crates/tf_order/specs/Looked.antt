@@ -1,0 +1,28 @@
+-- What is found of a flow when it is looked at.
+use Rattle.std.specs.Prelude.{◌≡◌, List, Option, Some, None}
+use Rattle.tf_model.specs.Before.{Flow}
+use Rattle.tf_model.specs.Linked.{arrange}
+use Rattle.tf_model.specs.Compilation.{CompileRefusal, ambiguous, cycle, refusal_of}
+use Rattle.tf_order.specs.declared.faults.CompileFault.{CompileFault}
+use Rattle.tf_order.specs.declared.faults.CompileFault.TheVariants as fault
+use Rattle.tf_order.specs.declared.sight.Sight.{Sight}
+use Rattle.tf_order.specs.Sight.{atoms_seen, place_seen}
+
+-- the refusal that a fault tells; want of memory tells none
+abbrev pub told_by : CompileFault → Option CompileRefusal
+told_by (fault.Ambiguous symbol first second) = Some (ambiguous symbol first second)
+told_by (fault.Cycle names) = Some (cycle names)
+told_by fault.Memory = None
+
+-- the same, where there is a fault
+abbrev pub told_in : Option CompileFault → Option CompileRefusal
+told_in None = None
+told_in (Some found) = told_by found
+
+-- the flow that is looked at as it is arranged, beside those that are arranged already
+abbrev pub arranged_seen : Sight → List Flow → Flow
+arranged_seen sight inner = arrange (atoms_seen sight) inner (place_seen sight)
+
+-- its refusal
+abbrev pub refusal_seen : Sight → List Flow → Option CompileRefusal
+refusal_seen sight inner = refusal_of (atoms_seen sight) inner (arranged_seen sight inner)

@@ -1,0 +1,232 @@
+ghost use Rattle.std.specs.Prelude.{◌≡◌, ℕ, ◌<◌, List, [], ◌∷◌, length, if◌then◌else◌, flat_map, OnOk, IfOk};
+ghost use Rattle.tf_model.specs.Numbers.{which_below, pairs_below};
+ghost use Rattle.tf_model.specs.Before.{Flow, way_at};
+ghost use Rattle.tf_model.specs.Linked as model;
+ghost use Rattle.tf_flow.specs.Names.{is_among};
+ghost use Rattle.tf_flow.specs.Rules.{bind_symbols};
+ghost use Rattle.tf_order.specs.Arranged.{ShowsFlows};
+ghost use Rattle.tf_order.specs.Bits.{has, words_for};
+ghost use Rattle.tf_order.specs.Links.{leads, LinksValue, AreLinks};
+ghost use Rattle.tf_order.specs.Places.{shown_part, shown_level};
+ghost use Rattle.tf_order.specs.Sight.{atoms_seen, place_seen, count_seen, HasProviders, HasReach, LinksBy, for_item, needed_by, needed_at, taken_at, passed_at};
+ghost use Rattle.tf_order.specs.Turns.{shown_turn, shown_turns};
+
+use crate::bits::Bits;
+use crate::index::item_names;
+use crate::links::Links;
+use crate::outline::{Level, Part, Turn};
+use crate::sight::{Sight, givers, is_unserved};
+use std::alloc::Global;
+use tf_flow::{Arg, Bind};
+use tf_values::{Memory, Name};
+
+/// The links of a flow, and the items that two or more others give a symbol.
+#[derive(Drop)]
+pub struct Found {
+    pub links: Links,
+    pub doubts: Bits,
+}
+
+/// Adds the links that are inferred to the explicit ones, and tells the items that have an ambiguous
+/// symbol.
+#[tactic(auto, using(crate::proofs::LinkingLemmas::inferred_start, crate::proofs::LinkingLemmas::inferred_more, crate::proofs::LinkingLemmas::inferred_all))]
+pub fn infer(
+    alloc: Global,
+    sight: &Sight<'_, '_>,
+    reach: &[Bits],
+    found: &mut Found,
+) -> Result<(), Memory>
+    requires providers { HasProviders sight.now }
+    requires reach { HasReach sight.now reach.now }
+    requires count { found.old.links.count ≡ count_seen sight.now }
+    requires wide { length found.old.doubts ≡ words_for (count_seen sight.now) }
+    ensures count { OnOk result (found.new.links.count ≡ count_seen sight.now) }
+    ensures wide { OnOk result (length found.new.doubts ≡ words_for (count_seen sight.now)) }
+    ensures links { OnOk result ((inner : List Flow) → ShowsFlows sight.now.table.now inner → LinksBy sight.now (model.needs (atoms_seen sight.now) inner (place_seen sight.now).number) found.old.links found.old.doubts found.new.links found.new.doubts) }
+{
+    for atom in 0..sight.atoms.len() {
+        link_atom(alloc, sight, reach, atom, found)?;
+    }
+    Ok(())
+}
+
+/// Adds what an atom's symbols give the item that it stands in.
+#[tactic(auto, using(crate::proofs::LinkingLemmas::turns_start, crate::proofs::LinkingLemmas::turns_more, crate::proofs::LinkingLemmas::turns_all, crate::proofs::SightLemmas::way_seen))]
+fn link_atom(
+    alloc: Global,
+    sight: &Sight<'_, '_>,
+    reach: &[Bits],
+    atom: usize,
+    found: &mut Found,
+) -> Result<(), Memory>
+    requires providers { HasProviders sight.now }
+    requires reach { HasReach sight.now reach.now }
+    requires atom { atom < length sight.now.atoms.now }
+    requires count { found.old.links.count ≡ count_seen sight.now }
+    requires wide { length found.old.doubts ≡ words_for (count_seen sight.now) }
+    ensures count { OnOk result (found.new.links.count ≡ count_seen sight.now) }
+    ensures wide { OnOk result (length found.new.doubts ≡ words_for (count_seen sight.now)) }
+    ensures links { OnOk result ((inner : List Flow) → ShowsFlows sight.now.table.now inner → LinksBy sight.now (passed_at sight.now inner atom (way_at (atoms_seen sight.now) atom)) found.old.links found.old.doubts found.new.links found.new.doubts) }
+{
+    for turn in sight.atoms[atom].way.turns() {
+        link_turn(alloc, sight, reach, atom, *turn, found)?;
+    }
+    Ok(())
+}
+
+/// Adds what an atom's symbols give the item that a turn takes, where it is an item of the flow.
+#[tactic(auto, using(crate::proofs::LinkingLemmas::turn_other, crate::proofs::LinkingLemmas::turn_retry, crate::proofs::LinkingLemmas::turn_past, crate::proofs::LinkingLemmas::turn_here))]
+fn link_turn(
+    alloc: Global,
+    sight: &Sight<'_, '_>,
+    reach: &[Bits],
+    atom: usize,
+    turn: Turn,
+    found: &mut Found,
+) -> Result<(), Memory>
+    requires providers { HasProviders sight.now }
+    requires reach { HasReach sight.now reach.now }
+    requires atom { atom < length sight.now.atoms.now }
+    requires count { found.old.links.count ≡ count_seen sight.now }
+    requires wide { length found.old.doubts ≡ words_for (count_seen sight.now) }
+    ensures count { OnOk result (found.new.links.count ≡ count_seen sight.now) }
+    ensures wide { OnOk result (length found.new.doubts ≡ words_for (count_seen sight.now)) }
+    ensures links { OnOk result ((inner : List Flow) → ShowsFlows sight.now.table.now inner → LinksBy sight.now (taken_at sight.now inner atom (shown_turn turn)) found.old.links found.old.doubts found.new.links found.new.doubts) }
+{
+    if turn.flow != sight.level.number {
+        return Ok(());
+    }
+    let Some(item) = turn.item else {
+        return Ok(());
+    };
+    if sight.level.items.len() <= item {
+        return Ok(());
+    }
+    link_item(alloc, sight, reach, atom, item, found)?;
+    Ok(())
+}
+
+/// Adds what an atom's symbols give an item.
+#[tactic(auto, using(crate::proofs::LinkingLemmas::args_start, crate::proofs::LinkingLemmas::args_more, crate::proofs::LinkingLemmas::args_all, crate::proofs::LinkingLemmas::part_seen))]
+fn link_item(
+    alloc: Global,
+    sight: &Sight<'_, '_>,
+    reach: &[Bits],
+    atom: usize,
+    item: usize,
+    found: &mut Found,
+) -> Result<(), Memory>
+    requires providers { HasProviders sight.now }
+    requires reach { HasReach sight.now reach.now }
+    requires atom { atom < length sight.now.atoms.now }
+    requires item { item < count_seen sight.now }
+    requires count { found.old.links.count ≡ count_seen sight.now }
+    requires wide { length found.old.doubts ≡ words_for (count_seen sight.now) }
+    ensures count { OnOk result (found.new.links.count ≡ count_seen sight.now) }
+    ensures wide { OnOk result (length found.new.doubts ≡ words_for (count_seen sight.now)) }
+    ensures links { OnOk result ((inner : List Flow) → ShowsFlows sight.now.table.now inner → LinksBy sight.now (for_item item (needed_at sight.now inner atom item)) found.old.links found.old.doubts found.new.links found.new.doubts) }
+{
+    let part = sight.atoms[atom].part;
+    for arg in part.args() {
+        link_argument(alloc, sight, reach, atom, item, part, arg, found)?;
+    }
+    Ok(())
+}
+
+/// Adds what the symbol of an atom's argument gives an item.
+#[tactic(auto, using(crate::proofs::LinkingLemmas::argument_bound, crate::proofs::LinkingLemmas::argument_served, crate::proofs::LinkingLemmas::argument_needed))]
+fn link_argument(
+    alloc: Global,
+    sight: &Sight<'_, '_>,
+    reach: &[Bits],
+    atom: usize,
+    item: usize,
+    part: Part<'_>,
+    arg: &Arg,
+    found: &mut Found,
+) -> Result<(), Memory>
+    requires providers { HasProviders sight.now }
+    requires reach { HasReach sight.now reach.now }
+    requires atom { atom < length sight.now.atoms.now }
+    requires item { item < count_seen sight.now }
+    requires count { found.old.links.count ≡ count_seen sight.now }
+    requires wide { length found.old.doubts ≡ words_for (count_seen sight.now) }
+    ensures count { OnOk result (found.new.links.count ≡ count_seen sight.now) }
+    ensures wide { OnOk result (length found.new.doubts ≡ words_for (count_seen sight.now)) }
+    ensures links { OnOk result ((inner : List Flow) → ShowsFlows sight.now.table.now inner → LinksBy sight.now (for_item item (needed_by sight.now inner item atom (shown_part part.entry) (arg.now ∷ []))) found.old.links found.old.doubts found.new.links found.new.doubts) }
+{
+    if binds(part.injects(), &arg.symbol) {
+        return Ok(());
+    }
+    if !is_unserved(sight, item, atom, &arg.symbol) {
+        return Ok(());
+    }
+    link_symbol(alloc, sight, reach, item, &arg.symbol, found)?;
+    Ok(())
+}
+
+/// Whether one of them binds the symbol.
+pub fn binds(injects: &[Bind], symbol: &Name) -> bool
+    ensures { result ≡ is_among (bind_symbols injects.now) symbol.now }
+{
+    for bind in injects {
+        if bind.symbol == *symbol {
+            return true;
+        }
+    }
+    false
+}
+
+/// Adds what a symbol gives an item that needs it: a link from the only other item that provides it, or
+/// a doubt where there are several.
+#[tactic(auto, using(crate::proofs::LinkingLemmas::symbol_none, crate::proofs::LinkingLemmas::symbol_one, crate::proofs::LinkingLemmas::symbol_several, crate::proofs::LinkingLemmas::giver_within))]
+fn link_symbol(
+    alloc: Global,
+    sight: &Sight<'_, '_>,
+    reach: &[Bits],
+    item: usize,
+    symbol: &Name,
+    found: &mut Found,
+) -> Result<(), Memory>
+    requires providers { HasProviders sight.now }
+    requires reach { HasReach sight.now reach.now }
+    requires item { item < count_seen sight.now }
+    requires count { found.old.links.count ≡ count_seen sight.now }
+    requires wide { length found.old.doubts ≡ words_for (count_seen sight.now) }
+    ensures count { OnOk result (found.new.links.count ≡ count_seen sight.now) }
+    ensures wide { OnOk result (length found.new.doubts ≡ words_for (count_seen sight.now)) }
+    ensures links { OnOk result (LinksBy sight.now (for_item item (symbol.now ∷ [])) found.old.links found.old.doubts found.new.links found.new.doubts) }
+{
+    let from = givers(alloc, sight, reach, item, symbol)?;
+    if from.is_empty() {
+        return Ok(());
+    }
+    if from.len() > 1 {
+        found.doubts.insert(item);
+        return Ok(());
+    }
+    found.links.insert(from[0], item);
+    Ok(())
+}
+
+/// The links that are written in a flow.
+pub fn explicit(alloc: Global, level: &Level<'_>) -> Result<Links, Memory>
+    ensures count { IfOk result (λ links. links.count ≡ length level.now.items.items) }
+    ensures links { IfOk result (λ links. AreLinks links (model.explicit (shown_level level.now))) }
+{
+    let names = item_names(alloc, &level.items)?;
+    let mut links = Links::new(alloc, level.items.len())?;
+    for link in level.flow.links.items() {
+        join(names.numbers(&link.from), names.numbers(&link.to), &mut links);
+    }
+    Ok(links)
+}
+
+/// Links each of the first items to each of the second.
+fn join(from: &[usize], to: &[usize], links: &mut Links) {
+    for first in from {
+        for second in to {
+            links.insert(*first, *second);
+        }
+    }
+}

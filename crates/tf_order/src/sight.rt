@@ -1,0 +1,181 @@
+ghost use Rattle.std.specs.Prelude.{◌≡◌, ℕ, ◌<◌, List, Bool, ◌||◌, not, nat_eq, length, filter, OnOk, IfOk};
+ghost use Rattle.std.specs.List.{list_any};
+ghost use Rattle.tf_model.specs.Numbers.{which_below};
+ghost use Rattle.tf_model.specs.Before.{Flow};
+ghost use Rattle.tf_model.specs.Linked as model;
+ghost use Rattle.tf_flow.specs.Names.{is_among};
+ghost use Rattle.tf_flow.specs.Limits.{provided};
+ghost use Rattle.tf_order.specs.Arranged.{ShowsFlows};
+ghost use Rattle.tf_order.specs.Bits.{has, words_for};
+ghost use Rattle.tf_order.specs.Links.{leads};
+ghost use Rattle.tf_order.specs.Marks.{marks, marks_turn, serves_in, leads_to_item, is_other};
+ghost use Rattle.tf_order.specs.Sight.{atoms_seen, place_seen, count_seen, HasProviders, HasReach};
+ghost use Rattle.tf_order.specs.Turns.{shown_turn, shown_turns};
+
+use crate::arranged::{Arranged, is_way_before};
+use crate::bits::Bits;
+use crate::index::NameIndex;
+use crate::links::has_in;
+use crate::outline::{AtomPlace, Level, Turn};
+use crate::ways::passes_item;
+use std::alloc::Global;
+use tf_flow::{Provides, Retry};
+use tf_values::{Memory, Name};
+
+/// What is looked at to find the links of a flow: all atoms, who provides which symbol, the flows that
+/// are arranged already, among which are the nested ones, and the flow.
+#[derive(Clone, Copy)]
+pub struct Sight<'b, 'a> {
+    pub atoms: &'b [AtomPlace<'a>],
+    pub providers: &'b NameIndex,
+    pub table: &'b [Option<Arranged>],
+    pub level: &'b Level<'a>,
+}
+
+/// Whether no atom that is before an atom in the item provides the symbol.
+#[tactic(auto, using(crate::proofs::SightLemmas::unserved_start, crate::proofs::SightLemmas::unserved_more, crate::proofs::SightLemmas::unserved_not, crate::proofs::SightLemmas::unserved_all, crate::proofs::SightLemmas::provider_within))]
+pub fn is_unserved(sight: &Sight<'_, '_>, item: usize, atom: usize, symbol: &Name) -> bool
+    requires providers { HasProviders sight.now }
+    requires atom { atom < length sight.now.atoms.now }
+    ensures { (inner : List Flow) → ShowsFlows sight.now.table.now inner → result ≡ model.is_unserved (atoms_seen sight.now) inner (place_seen sight.now).number item atom symbol.now }
+{
+    for other in sight.providers.numbers(symbol) {
+        if serves(sight, item, atom, *other) {
+            return false;
+        }
+    }
+    true
+}
+
+/// Whether another atom stands in the item too and is before this one.
+#[tactic(auto, using(crate::proofs::SightLemmas::way_seen))]
+fn serves(sight: &Sight<'_, '_>, item: usize, atom: usize, other: usize) -> bool
+    requires atom { atom < length sight.now.atoms.now }
+    requires other { other < length sight.now.atoms.now }
+    ensures { (inner : List Flow) → ShowsFlows sight.now.table.now inner → result ≡ serves_in (atoms_seen sight.now) inner (place_seen sight.now).number item atom other }
+{
+    let way = sight.atoms[other].way.turns();
+    passes_item(way, sight.level.number, item)
+        && is_way_before(sight.table, way, sight.atoms[atom].way.turns())
+}
+
+/// The items that provide a symbol, ascending.
+#[tactic(auto, using(crate::proofs::SightLemmas::marked_start, crate::proofs::SightLemmas::marked_more, crate::proofs::SightLemmas::marked_all, crate::proofs::SightLemmas::provider_within, crate::proofs::SightLemmas::way_seen))]
+pub fn providing_items(
+    alloc: Global,
+    sight: &Sight<'_, '_>,
+    symbol: &Name,
+) -> Result<Vec<usize>, Memory>
+    requires providers { HasProviders sight.now }
+    ensures { IfOk result (λ items. items.items ≡ which_below (count_seen sight.now) (model.item_provides (atoms_seen sight.now) (place_seen sight.now).number symbol.now)) }
+{
+    let count = sight.level.items.len();
+    let mut set = Bits::new(alloc, count)?;
+    for atom in sight.providers.numbers(symbol) {
+        let way = sight.atoms[*atom].way.turns();
+        mark_items(way, sight.level.number, count, &mut set);
+    }
+    let items = set.numbers(alloc)?;
+    Ok(items)
+}
+
+/// Adds the items of a flow, below the count, that a way leads through.
+#[tactic(auto, using(crate::proofs::SightLemmas::marks_start, crate::proofs::SightLemmas::marks_more, crate::proofs::SightLemmas::marks_all))]
+fn mark_items(way: &[Turn], flow: usize, count: usize, set: &mut Bits)
+    requires wide { length set.old ≡ words_for count }
+    ensures wide { length set.new ≡ words_for count }
+    ensures set { (u : ℕ) → has set.new u ≡ (has set.old u || marks flow count (shown_turns way.now) u) }
+{
+    for turn in way {
+        mark_item(*turn, flow, count, set);
+    }
+}
+
+/// Adds the item that a turn takes, where it is an item of the flow.
+#[tactic(auto, using(crate::proofs::SightLemmas::mark_other, crate::proofs::SightLemmas::mark_retry, crate::proofs::SightLemmas::mark_past, crate::proofs::SightLemmas::mark_here))]
+fn mark_item(turn: Turn, flow: usize, count: usize, set: &mut Bits)
+    requires wide { length set.old ≡ words_for count }
+    ensures wide { length set.new ≡ words_for count }
+    ensures set { (u : ℕ) → has set.new u ≡ (has set.old u || marks_turn flow count (shown_turn turn) u) }
+{
+    if turn.flow != flow {
+        return;
+    }
+    let Some(item) = turn.item else {
+        return;
+    };
+    if item < count {
+        set.insert(item);
+    }
+}
+
+/// The items that give a symbol to an item, where it asks for a link to it: not where the flow's retry
+/// controller provides it, or an item that reaches this one by explicit links.
+#[tactic(auto, using(crate::proofs::SightLemmas::givers_by_retry, crate::proofs::SightLemmas::givers_by_reach, crate::proofs::SightLemmas::givers_other))]
+pub fn givers(
+    alloc: Global,
+    sight: &Sight<'_, '_>,
+    reach: &[Bits],
+    item: usize,
+    symbol: &Name,
+) -> Result<Vec<usize>, Memory>
+    requires providers { HasProviders sight.now }
+    requires reach { HasReach sight.now reach.now }
+    ensures { IfOk result (λ found. found.items ≡ model.givers (atoms_seen sight.now) (place_seen sight.now) item symbol.now) }
+{
+    if retry_provides(&sight.level.flow.retry, symbol) {
+        return Ok(Vec::new(alloc));
+    }
+    let items = providing_items(alloc, sight, symbol)?;
+    if one_leads(reach, &items, item) {
+        return Ok(Vec::new(alloc));
+    }
+    let others = others(alloc, &items, item)?;
+    Ok(others)
+}
+
+/// Whether a retry controller, where there is one, provides the symbol.
+fn retry_provides(retry: &Option<Retry>, symbol: &Name) -> bool
+    ensures { result ≡ model.retry_provides retry.now symbol.now }
+{
+    match retry {
+        Some(retry) => provides(&retry.provides, symbol),
+        None => false,
+    }
+}
+
+/// Whether the symbol is among those provided.
+fn provides(provides: &Provides, symbol: &Name) -> bool
+    ensures { result ≡ is_among (provided provides.now) symbol.now }
+{
+    match provides {
+        Provides::Nothing => false,
+        Provides::Whole(name) => symbol == name,
+        Provides::Parts(names) => names.items().contains(symbol),
+    }
+}
+
+/// Whether the row of one of the items has this one.
+fn one_leads(reach: &[Bits], items: &[usize], item: usize) -> bool
+    ensures { result ≡ list_any (leads_to_item reach.now item) items.now }
+{
+    for other in items {
+        if has_in(reach, *other, item) {
+            return true;
+        }
+    }
+    false
+}
+
+/// The items but one.
+fn others(alloc: Global, items: &[usize], item: usize) -> Result<Vec<usize>, Memory>
+    ensures { IfOk result (λ others. others.items ≡ filter (is_other item) items.now) }
+{
+    let mut others = Vec::new(alloc);
+    for other in items {
+        if *other != item {
+            others.push(*other)?;
+        }
+    }
+    Ok(others)
+}

@@ -1,0 +1,94 @@
+ghost use Rattle.std.specs.Prelude.{◌≡◌, Some};
+ghost use Rattle.tf_model.specs.Before as before;
+ghost use Rattle.tf_model.specs.Deciders.{last_item};
+ghost use Rattle.tf_model.specs.Plan.{last_flow};
+ghost use Rattle.tf_order.specs.Turns.{shown_turn, shown_turns};
+ghost use Rattle.tf_order.specs.Ways as ways;
+
+use crate::outline::Turn;
+
+/// Where two ways part.
+#[derive(Clone, Copy)]
+pub enum Meeting {
+    /// They don't both go on in one flow, or the second doesn't go to an item of it.
+    Apart,
+    /// The first stops at the retry controller of a flow, and the second goes on to an item of it.
+    First,
+    /// They go on to two items of one flow.
+    Items {
+        flow: usize,
+        first: usize,
+        second: usize,
+    },
+}
+
+/// Whether a way leads through this item of a flow.
+pub fn passes_item(way: &[Turn], flow: usize, item: usize) -> bool
+    ensures { result ≡ before.passes_item flow (Some item) (shown_turns way.now) }
+{
+    for turn in way {
+        if takes_item(turn, flow, item) {
+            return true;
+        }
+    }
+    false
+}
+
+/// Whether a turn is into a flow, to this item of it.
+fn takes_item(turn: &Turn, flow: usize, item: usize) -> bool
+    ensures { result ≡ before.takes_item flow (Some item) (shown_turn turn.now) }
+{
+    match turn.item {
+        None => false,
+        Some(place) => turn.flow == flow && place == item,
+    }
+}
+
+/// The last turn of a way, where it has one.
+#[tactic(auto, using(crate::proofs::WayLemmas::last_turn_flow, crate::proofs::WayLemmas::last_turn_item))]
+pub fn last_turn(way: &[Turn]) -> Option<Turn>
+    ensures flow { last_flow (shown_turns way.now) ≡ ways.flow_of_turn result }
+    ensures item { last_item (shown_turns way.now) ≡ ways.item_of_turn result }
+{
+    way.last().copied()
+}
+
+/// Where two ways part.
+pub fn meeting_of(a: &[Turn], b: &[Turn]) -> Meeting
+    ensures { result ≡ ways.meeting (shown_turns a.now) (shown_turns b.now) }
+{
+    for place in 0..a.len().min(b.len()) {
+        if let Some(meeting) = parting(&a[place], &b[place]) {
+            return meeting;
+        }
+    }
+    Meeting::Apart
+}
+
+/// Where two ways part at these turns, if they do.
+fn parting(x: &Turn, y: &Turn) -> Option<Meeting>
+    ensures { result ≡ ways.parting (shown_turn x.now) (shown_turn y.now) }
+{
+    if x.flow != y.flow {
+        return Some(Meeting::Apart);
+    }
+    match (x.item, y.item) {
+        (None, Some(_)) => Some(Meeting::First),
+        (Some(first), Some(second)) => parted(x.flow, first, second),
+        _ => Some(Meeting::Apart),
+    }
+}
+
+/// Where two ways part that go to these items of a flow, if they do.
+fn parted(flow: usize, first: usize, second: usize) -> Option<Meeting>
+    ensures { result ≡ ways.parted flow (Some first) (Some second) }
+{
+    if first == second {
+        return None;
+    }
+    Some(Meeting::Items {
+        flow,
+        first,
+        second,
+    })
+}
