@@ -72,8 +72,9 @@ insert_told words n k within =
         ∙ ap (λ (b : ℕ). nat_eq b 1) (bit_at_set_same w64 (slice_index_or words (n / 64) 0) (n % 64) (bit_below n))
     in_word false is word =
         ap (λ (b : ℕ). nat_eq b 1) (bit_at_set_other w64 (slice_index_or words (n / 64) 0) (n % 64) (bit_below n) (k % 64)
-          (λ bit. not_both (nat_eq n k) (eq-eqb n k (same_number n k word bit)) is))
+        (λ bit. not_both (nat_eq n k) (eq-eqb n k (same_number n k word bit)) is))
         ∙ ap (λ (i : ℕ). nat_eq (bit_at (slice_index_or words i 0) (k % 64)) 1) (sym word)
+
     by_word : (b : Bool) → nat_eq (k / 64) (n / 64) ≡ b
         → (if b then nat_eq (bit_at (bit_or (slice_index_or words (n / 64) 0) (1 * 2 ^ (n % 64) % 2 ^ 64)) (k % 64)) 1 else has words k) ≡ (nat_eq n k || has words k)
     by_word true is = in_word (nat_eq n k) refl (eqb-true (k / 64) (n / 64) is)
@@ -93,8 +94,9 @@ remove_told words n k within =
         ∙ ap (λ (b : ℕ). nat_eq b 1) (bit_at_clear_same w64 (slice_index_or words (n / 64) 0) (n % 64) (bit_below n))
     in_word false is word =
         ap (λ (b : ℕ). nat_eq b 1) (bit_at_clear_other w64 (slice_index_or words (n / 64) 0) (n % 64) (bit_below n) (k % 64) (bit_below k)
-          (λ bit. not_both (nat_eq n k) (eq-eqb n k (same_number n k word bit)) is))
+        (λ bit. not_both (nat_eq n k) (eq-eqb n k (same_number n k word bit)) is))
         ∙ ap (λ (i : ℕ). nat_eq (bit_at (slice_index_or words i 0) (k % 64)) 1) (sym word)
+
     by_word : (b : Bool) → nat_eq (k / 64) (n / 64) ≡ b
         → (if b then nat_eq (bit_at (bit_and (slice_index_or words (n / 64) 0) (bit_not w64 (1 * 2 ^ (n % 64) % 2 ^ 64))) (k % 64)) 1 else has words k) ≡ (not (nat_eq n k) && has words k)
     by_word true is = in_word (nat_eq n k) refl (eqb-true (k / 64) (n / 64) is)
@@ -170,20 +172,22 @@ joined_more old other new i v w before within was there v_is w_is k =
   where
     untouched : k / 64 ≡ i → (if nat_lt (k / 64) i then has old k || has other k else has old k) ≡ has old k
     untouched same = ap (λ (b : Bool). if b then has old k || has other k else has old k) (never_true (nat_lt (k / 64) i) (λ less. let below : k / 64 < i = ltb-true (k / 64) i less in omega (arith, below, same)))
+
     here : k / 64 ≡ i → nat_eq (bit_at (bit_or v w) (k % 64)) 1 ≡ (has old k || has other k)
     here same = or_word v w (k % 64)
         ∙ ap2 (λ (a b : Bool). a || b)
-          (ap (λ (x : ℕ). nat_eq (bit_at x (k % 64)) 1) v_is ∙ (ap (λ (j : ℕ). nat_eq (bit_at (slice_index_or new j 0) (k % 64)) 1) (sym same) ∙ (before k ∙ untouched same)))
-          (ap (λ (x : ℕ). nat_eq (bit_at x (k % 64)) 1) w_is ∙ ap (λ (j : ℕ). nat_eq (bit_at (slice_index_or other j 0) (k % 64)) 1) (sym same))
+        (ap (λ (x : ℕ). nat_eq (bit_at x (k % 64)) 1) v_is ∙ (ap (λ (j : ℕ). nat_eq (bit_at (slice_index_or new j 0) (k % 64)) 1) (sym same) ∙ (before k ∙ untouched same)))
+        (ap (λ (x : ℕ). nat_eq (bit_at x (k % 64)) 1) w_is ∙ ap (λ (j : ℕ). nat_eq (bit_at (slice_index_or other j 0) (k % 64)) 1) (sym same))
+
     by_word : (b : Bool) → nat_eq (k / 64) i ≡ b → (if b then nat_eq (bit_at (bit_or v w) (k % 64)) 1 else has new k) ≡ (if nat_lt (k / 64) (i + 1) then has old k || has other k else has old k)
     by_word true is = let same : k / 64 ≡ i = eqb-true (k / 64) i is in
         here same ∙ sym (ap (λ (b : Bool). if b then has old k || has other k else has old k) (lt-ltb (k / 64) (i + 1) (omega (arith, same))))
     by_word false is = before k ∙ ap (λ (b : Bool). if b then has old k || has other k else has old k)
         (same_truth (nat_lt (k / 64) i) (nat_lt (k / 64) (i + 1))
-          (λ less. let below : k / 64 < i = ltb-true (k / 64) i less in lt-ltb (k / 64) (i + 1) (omega (arith, below)))
-          (λ less. let below : k / 64 < i + 1 = ltb-true (k / 64) (i + 1) less in
-            let other : k / 64 ≢ i = λ same. not_both (nat_eq (k / 64) i) (eq-eqb (k / 64) i same) is in
-            lt-ltb (k / 64) i (omega (arith, below, other))))
+        (λ less. let below : k / 64 < i = ltb-true (k / 64) i less in lt-ltb (k / 64) (i + 1) (omega (arith, below)))
+        (λ less. let below : k / 64 < i + 1 = ltb-true (k / 64) (i + 1) less in
+        let other : k / 64 ≢ i = λ same. not_both (nat_eq (k / 64) i) (eq-eqb (k / 64) i same) is in
+        lt-ltb (k / 64) i (omega (arith, below, other))))
 
 pub joined_all : (old other new : List ℕ) (i : ℕ) → Joined old other new i → length old ≤ i → length other ≡ length old → (k : ℕ) → has new k ≡ (has old k || has other k)
 joined_all old other new i is whole same k = is k ∙ elim (cases_lt (k / 64) i) [
@@ -211,7 +215,7 @@ within_more xs ys i v w before v_is w_is none k below = elim (cases_lt (k / 64) 
   | inr from ↦ let same : i ≡ k / 64 = omega (arith, from, below) in
       if_words (has xs k) (has ys k)
       (ap2 (λ (a b : ℕ). nat_eq (bit_at a (k % 64)) 1 || nat_eq (bit_at b (k % 64)) 1)
-        (ap (λ (j : ℕ). slice_index_or xs j 0) (sym same) ∙ sym v_is) (ap (λ (j : ℕ). slice_index_or ys j 0) (sym same) ∙ sym w_is)
+      (ap (λ (j : ℕ). slice_index_or xs j 0) (sym same) ∙ sym v_is) (ap (λ (j : ℕ). slice_index_or ys j 0) (sym same) ∙ sym w_is)
       ∙ (sym (or_word v w (k % 64)) ∙ (ap (λ (x : ℕ). nat_eq (bit_at x (k % 64)) 1) none ∙ ap (λ (x : ℕ). nat_eq (bit_at x (k % 64)) 1) (w_is ∙ ap (λ (j : ℕ). slice_index_or ys j 0) same))))
 ]
 
@@ -234,10 +238,10 @@ pub within_not : (xs ys : List ℕ) (i v w : ℕ) → i < length xs → v ≡ sl
 unfolding has
 within_not xs ys i v w inside v_is w_is v_fits w_fits differ = sym (never_true (is_within xs ys) (λ is. differ
     (same_from_bits_below 64 (bit_or v w) w (or_lt 64 v w v_fits w_fits) w_fits (λ b below.
-      same_bit (bit_at (bit_or v w) b) (bit_at w b) (bit_at-lt (bit_or v w) b) (bit_at-lt w b)
-      (or_word v w b ∙ words_if (nat_eq (bit_at v b) 1) (nat_eq (bit_at w b) 1)
-        (ap2 (λ (a c : Bool). not a || c) (bit_here xs i v b below v_is) (bit_here ys i w b below w_is)
-        ∙ all_told (room xs) (has_if xs ys) is (i * 64 + b) (omega (arith, inside, below))))))))
+    same_bit (bit_at (bit_or v w) b) (bit_at w b) (bit_at-lt (bit_or v w) b) (bit_at-lt w b)
+    (or_word v w b ∙ words_if (nat_eq (bit_at v b) 1) (nat_eq (bit_at w b) 1)
+    (ap2 (λ (a c : Bool). not a || c) (bit_here xs i v b below v_is) (bit_here ys i w b below w_is)
+    ∙ all_told (room xs) (has_if xs ys) is (i * 64 + b) (omega (arith, inside, below))))))))
 
 -- ---- the least number in both
 
@@ -249,7 +253,7 @@ both_here : (xs ys : List ℕ) (i v w k : ℕ) → k / 64 ≡ i → v ≡ slice_
 unfolding has
 both_here xs ys i v w k same v_is w_is =
     ap2 (λ (a b : ℕ). nat_eq (bit_at a (k % 64)) 1 && nat_eq (bit_at b (k % 64)) 1)
-      (ap (λ (j : ℕ). slice_index_or xs j 0) same ∙ sym v_is) (ap (λ (j : ℕ). slice_index_or ys j 0) same ∙ sym w_is)
+    (ap (λ (j : ℕ). slice_index_or xs j 0) same ∙ sym v_is) (ap (λ (j : ℕ). slice_index_or ys j 0) same ∙ sym w_is)
     ∙ sym (and_word v w (k % 64))
 
 pub apart_more : (xs ys : List ℕ) (i v w : ℕ) → ApartBelow xs ys i → v ≡ slice_index_or xs i 0 → w ≡ slice_index_or ys i 0 → bit_and v w ≡ 0 → ApartBelow xs ys (i + 1)
@@ -267,13 +271,13 @@ pub common_found : (xs ys : List ℕ) (i v w : ℕ) → ApartBelow xs ys i → i
 common_found xs ys i v w before inside v_is w_is some fits =
     let found = bit_at-trailing_zeros w64 (bit_and v w) (omega (arith, some)) fits in
     sym (first_is (room xs) (has_both xs ys) (i * 64 + trailing_zeros w64 (bit_and v w)) (omega (arith, inside, found.0))
-      (both_here xs ys i v w (i * 64 + trailing_zeros w64 (bit_and v w)) (word_of i (trailing_zeros w64 (bit_and v w)) found.0) v_is w_is
-        ∙ (ap (λ (b : ℕ). nat_eq (bit_at (bit_and v w) b) 1) (bit_of i (trailing_zeros w64 (bit_and v w)) found.0) ∙ ap (λ (b : ℕ). nat_eq b 1) found.1))
-      (λ j less. elim (cases_lt (j / 64) i) [
-        | inl earlier ↦ before j earlier
-        | inr from ↦ let same : j / 64 ≡ i = omega (arith, from, less, found.0) in
-            both_here xs ys i v w j same v_is w_is ∙ ap (λ (b : ℕ). nat_eq b 1) (found.2 (j % 64) (omega (arith, same, less)))
-      ]))
+    (both_here xs ys i v w (i * 64 + trailing_zeros w64 (bit_and v w)) (word_of i (trailing_zeros w64 (bit_and v w)) found.0) v_is w_is
+    ∙ (ap (λ (b : ℕ). nat_eq (bit_at (bit_and v w) b) 1) (bit_of i (trailing_zeros w64 (bit_and v w)) found.0) ∙ ap (λ (b : ℕ). nat_eq b 1) found.1))
+    (λ j less. elim (cases_lt (j / 64) i) [
+      | inl earlier ↦ before j earlier
+      | inr from ↦ let same : j / 64 ≡ i = omega (arith, from, less, found.0) in
+          both_here xs ys i v w j same v_is w_is ∙ ap (λ (b : ℕ). nat_eq b 1) (found.2 (j % 64) (omega (arith, same, less)))
+    ]))
 
 -- ---- the numbers of a set
 

@@ -12,6 +12,7 @@ use Rattle.tf_order.specs.Links.{leads, LinksValue, AreLinks}
 use Rattle.tf_order.specs.Layers.{goes_into, first_into, leads_to_passing, first_passing, in_layer, walk_by, AreLayers}
 use Rattle.tf_order.proofs.NumberLemmas.{same_truth, never_true, not_both, first_same, first_is, first_none, first_passes, first_within, first_there}
 use Rattle.tf_order.proofs.BitLemmas.{ap2}
+use Rattle.tf_order.proofs.StandingLemmas.{number_more}
 use Rattle.tf_order.proofs.LinkLemmas.{read_more, read_last, length_more, row_zero}
 
 -- ---- what leads into a set
@@ -101,19 +102,19 @@ layer_told links pairs item are zero u below = turned (nat_eq item u) (nat_eq u 
     turned a false is = is
 layer_told links pairs item are (suc k) u below = same_truth (is_some (first_passing links (in_layer links item k) u)) (has_number (reaching links.count pairs item (suc k)) u)
     (λ is. let found = there_is (first_passing links (in_layer links item k) u) is in
-      let passes : leads links.rows u found.number && in_layer links item k found.number ≡ true = first_passes links.count (leads_to_passing links (in_layer links item k) u) found.number found.is in
-      let within : found.number < links.count = first_within links.count (leads_to_passing links (in_layer links item k) u) found.number found.is in
-      passes_which links.count (leads_to_one pairs (reaching links.count pairs item k)) (nat_eq u) u below
-        (any_number (has_pair pairs u) (reaching links.count pairs item k) found.number
-          (sym (layer_told links pairs item are k found.number within) ∙ and_second (leads links.rows u found.number) (in_layer links item k found.number) passes)
-          (sym (are.same u found.number) ∙ and_first (leads links.rows u found.number) (in_layer links item k found.number) passes))
-        (eq-eqb u u refl))
+    let passes : leads links.rows u found.number && in_layer links item k found.number ≡ true = first_passes links.count (leads_to_passing links (in_layer links item k) u) found.number found.is in
+    let within : found.number < links.count = first_within links.count (leads_to_passing links (in_layer links item k) u) found.number found.is in
+    passes_which links.count (leads_to_one pairs (reaching links.count pairs item k)) (nat_eq u) u below
+    (any_number (has_pair pairs u) (reaching links.count pairs item k) found.number
+    (sym (layer_told links pairs item are k found.number within) ∙ and_second (leads links.rows u found.number) (in_layer links item k found.number) passes)
+    (sym (are.same u found.number) ∙ and_first (leads links.rows u found.number) (in_layer links item k found.number) passes))
+    (eq-eqb u u refl))
     (λ is. let found = which_passes links.count (leads_to_one pairs (reaching links.count pairs item k)) (nat_eq u) is in
-      let same : u ≡ found.number = eqb-true u found.number found.passes in
-      let one = one_of (has_pair pairs u) (reaching links.count pairs item k) (ap (λ (n : ℕ). leads_to_one pairs (reaching links.count pairs item k) n) same ∙ found.tested) in
-      let within : one.number < links.count = are.second u one.number one.passes in
-      first_there links.count (leads_to_passing links (in_layer links item k) u) one.number within
-        (true_both (leads links.rows u one.number) (in_layer links item k one.number) (are.same u one.number ∙ one.passes) (layer_told links pairs item are k one.number within ∙ one.among)))
+    let same : u ≡ found.number = eqb-true u found.number found.passes in
+    let one = one_of (has_pair pairs u) (reaching links.count pairs item k) (ap (λ (n : ℕ). leads_to_one pairs (reaching links.count pairs item k) n) same ∙ found.tested) in
+    let within : one.number < links.count = are.second u one.number one.passes in
+    first_there links.count (leads_to_passing links (in_layer links item k) u) one.number within
+    (true_both (leads links.rows u one.number) (in_layer links item k one.number) (are.same u one.number ∙ one.passes) (layer_told links pairs item are k one.number within ∙ one.among)))
 
 -- ---- walks
 
@@ -125,7 +126,7 @@ walk_told : (links : LinksValue) (pairs : List Pair) (item : ℕ) → AreLinks l
 walk_told links pairs item are zero u = refl
 walk_told links pairs item are (suc k) u = ap (λ (xs : List ℕ). u ∷ xs)
     (ap (λ (o : Option ℕ). go_on o (walk_by links item k)) (first_same links.count (leads_to_passing links (in_layer links item (suc k)) u) (goes_on_by links.count pairs item (suc k) u)
-      (λ w below. ap2 (λ (a b : Bool). a && b) (are.same u w) (layer_told links pairs item are (suc k) w below)))
+    (λ w below. ap2 (λ (a b : Bool). a && b) (are.same u w) (layer_told links pairs item are (suc k) w below)))
     ∙ go_same links.count (first_below links.count (goes_on_by links.count pairs item (suc k) u)) (walk_by links item k) (walk_to links.count pairs item k) (λ w is. walk_told links pairs item are k w))
 
 pub came_back : (links : LinksValue) (item k : ℕ) (layer last : List ℕ) (layers : List (List ℕ)) → AreLayers links item layers (k + 1) → last ≡ slice_index_or layers k last
@@ -134,9 +135,9 @@ pub came_back : (links : LinksValue) (item k : ℕ) (layer last : List ℕ) (lay
 came_back links item k layer last layers is read into below inside on never pairs are =
     walk_told links pairs item are k item
     ∙ sym (ap (walk_back links.count pairs item) (first_is links.count (comes_back links.count pairs item) k inside
-        (sym (layer_told links pairs item are (suc k) item below)
-          ∙ (ap is_some (sym (into_layer links item last k item (λ w within. ap (λ (row : List ℕ). has row w) (row_zero layers k last (omega (arith, is.height)) read) ∙ is.told k (omega arith) w within))) ∙ (sym (into item below) ∙ on)))
-        (λ j less. sym (layer_told links pairs item are (suc j) item below) ∙ never j less)))
+    (sym (layer_told links pairs item are (suc k) item below)
+    ∙ (ap is_some (sym (into_layer links item last k item (λ w within. ap (λ (row : List ℕ). has row w) (row_zero layers k last (omega (arith, is.height)) read) ∙ is.told k (omega arith) w within))) ∙ (sym (into item below) ∙ on)))
+    (λ j less. sym (layer_told links pairs item are (suc j) item below) ∙ never j less)))
 
 pub not_yet_back : (links : LinksValue) (item k : ℕ) (layer last : List ℕ) (layers : List (List ℕ)) → AreLayers links item layers (k + 1) → last ≡ slice_index_or layers k last
     → ((u : ℕ) → u < links.count → has layer u ≡ is_some (first_into links last u)) → item < links.count → has layer item ≡ false → ((j : ℕ) → j < k → in_layer links item (suc j) item ≡ false)
@@ -158,28 +159,39 @@ never_back links item k items none below whole never pairs are =
 -- what was walked, with the rest of the walk from here
 pub record Walking (links : LinksValue) (item whole : ℕ) (items : List ℕ) (at rest : ℕ) : Type 0 where
   pub below : at < links.count
+  pub within : (k : ℕ) → has_number items k ≡ true → k < links.count
   pub walked : items ++ walk_by links item rest at ≡ walk_by links item whole item
 
+pub more_within : (count : ℕ) (items : List ℕ) (at : ℕ) → at < count → ((k : ℕ) → has_number items k ≡ true → k < count) → (k : ℕ) → has_number (items ++ at ∷ []) k ≡ true → k < count
+more_within count items at below within k on = elim (or_either (has_number items k) (nat_eq k at) (sym (number_more items at k) ∙ on)) [
+  | inl before ↦ within k before
+  | inr last ↦ let same : k ≡ at = eqb-true k at last in omega (arith, same, below)
+]
+
+pub none_within : (items : List ℕ) (count : ℕ) → items ≡ [] → (k : ℕ) → has_number items k ≡ true → k < count
+none_within items count none k on = absurd (not_both (has_number items k) on (ap (λ (xs : List ℕ). has_number xs k) none))
+
 pub walk_start : (links : LinksValue) (item whole : ℕ) (items : List ℕ) → item < links.count → items ≡ [] → Walking links item whole items item whole
-walk_start links item whole items below none = record { below = below; walked = ap (λ (xs : List ℕ). xs ++ walk_by links item whole item) none }
+walk_start links item whole items below none = record { below = below; within = λ k on. absurd (not_both (has_number items k) on (ap (λ (xs : List ℕ). has_number xs k) none)); walked = ap (λ (xs : List ℕ). xs ++ walk_by links item whole item) none }
 
 pub walk_on : (links : LinksValue) (item whole : ℕ) (items : List ℕ) (at rest k next : ℕ) (layers : List (List ℕ)) (layer : List ℕ) → Walking links item whole items at rest → rest ≡ k + 1 → AreLayers links item layers (whole + 1) → k < whole
     → layer ≡ slice_index_or layers (k + 1) layer → Some next ≡ first_into links layer at → Walking links item whole (items ++ at ∷ []) next k
 walk_on links item whole items at rest k next layers layer is same are less read first =
     let found : first_passing links (in_layer links item (suc k)) at ≡ Some next =
-      sym (first ∙ into_layer links item layer (suc k) at (λ w within. ap (λ (row : List ℕ). has row w) (row_zero layers (k + 1) layer (omega (arith, are.height, less)) read) ∙ (are.told (k + 1) (omega (arith, less)) w within ∙ ap (λ (n : ℕ). in_layer links item n w) (add-one k)))) in
+    sym (first ∙ into_layer links item layer (suc k) at (λ w within. ap (λ (row : List ℕ). has row w) (row_zero layers (k + 1) layer (omega (arith, are.height, less)) read) ∙ (are.told (k + 1) (omega (arith, less)) w within ∙ ap (λ (n : ℕ). in_layer links item n w) (add-one k)))) in
     record {
       below = first_within links.count (leads_to_passing links (in_layer links item (suc k)) at) next found;
+      within = more_within links.count items at is.below is.within;
       walked = append_assoc items (at ∷ []) (walk_by links item k next)
-        ∙ (ap (λ (o : Option ℕ). items ++ at ∷ go_on o (walk_by links item k)) (sym found)
-        ∙ (ap (λ (n : ℕ). items ++ walk_by links item n at) (sym (same ∙ add-one k)) ∙ is.walked));
+          ∙ (ap (λ (o : Option ℕ). items ++ at ∷ go_on o (walk_by links item k)) (sym found)
+          ∙ (ap (λ (n : ℕ). items ++ walk_by links item n at) (sym (same ∙ add-one k)) ∙ is.walked));
     }
 
 pub walk_off : (links : LinksValue) (item whole : ℕ) (items : List ℕ) (at rest k : ℕ) (layers : List (List ℕ)) (layer : List ℕ) → Walking links item whole items at rest → rest ≡ k + 1 → AreLayers links item layers (whole + 1) → k < whole
     → layer ≡ slice_index_or layers (k + 1) layer → first_into links layer at ≡ None → items ++ at ∷ [] ≡ walk_by links item whole item
 walk_off links item whole items at rest k layers layer is same are less read none =
     let found : first_passing links (in_layer links item (suc k)) at ≡ None =
-      sym (into_layer links item layer (suc k) at (λ w within. ap (λ (row : List ℕ). has row w) (row_zero layers (k + 1) layer (omega (arith, are.height, less)) read) ∙ (are.told (k + 1) (omega (arith, less)) w within ∙ ap (λ (n : ℕ). in_layer links item n w) (add-one k)))) ∙ none in
+    sym (into_layer links item layer (suc k) at (λ w within. ap (λ (row : List ℕ). has row w) (row_zero layers (k + 1) layer (omega (arith, are.height, less)) read) ∙ (are.told (k + 1) (omega (arith, less)) w within ∙ ap (λ (n : ℕ). in_layer links item n w) (add-one k)))) ∙ none in
     ap (λ (o : Option ℕ). items ++ at ∷ go_on o (walk_by links item k)) (sym found)
     ∙ (ap (λ (n : ℕ). items ++ walk_by links item n at) (sym (same ∙ add-one k)) ∙ is.walked)
 

@@ -11,3 +11,7 @@ pub mod WayLemmas
 pub mod ArrangedLemmas
 pub mod SightLemmas
 pub mod LinkingLemmas
+pub mod ExplicitLemmas
+pub mod StandingAtomLemmas
+pub mod DoubtLemmas
+pub mod LookLemmas

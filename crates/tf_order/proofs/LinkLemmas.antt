@@ -128,9 +128,11 @@ inserted_within old new u v count within below more a b on = by_pair (nat_eq u a
     second : (x y : Bool) → x && y ≡ true → y ≡ true
     second true y is = is
     second false y is = absurd (cc)
+
     rest : (x y : Bool) → x ≡ false → x || y ≡ true → y ≡ true
     rest true y off is = absurd (cc)
     rest false y off is = is
+
     by_pair : (c : Bool) → (nat_eq u a && nat_eq v b) ≡ c → b < count
     by_pair true here = let same : v ≡ b = eqb-true v b (second (nat_eq u a) (nat_eq v b) here) in omega (arith, same, below)
     by_pair false off = within a b (rest (nat_eq u a && nat_eq v b) (leads old a b) off (sym (more a b) ∙ on))
@@ -149,7 +151,7 @@ unfolding first_into
 first_read links rows set u row same square within below read =
     let wide : length row ≡ words_for links.count = ap length (row_zero rows u row (omega (arith, square.height, below)) read) ∙ square.width u below in
     first_more links.count (room row) (has_both row set) (omega (arith, wide)) (λ k above inside.
-      ap (λ (b : Bool). b && has set k) (row_read rows u k row (omega (arith, square.height, below)) read
-        ∙ never_true (leads rows u k) (λ on. let less : k < links.count = within u k on in omega (arith, less, above))))
+    ap (λ (b : Bool). b && has set k) (row_read rows u k row (omega (arith, square.height, below)) read
+    ∙ never_true (leads rows u k) (λ on. let less : k < links.count = within u k on in omega (arith, less, above))))
     ∙ first_same links.count (has_both row set) (goes_into links set u) (λ k inside.
-      ap (λ (b : Bool). b && has set k) (row_read rows u k row (omega (arith, square.height, below)) read ∙ ap (λ (rs : List (List ℕ)). leads rs u k) same))
+    ap (λ (b : Bool). b && has set k) (row_read rows u k row (omega (arith, square.height, below)) read ∙ ap (λ (rs : List (List ℕ)). leads rs u k) same))

@@ -76,14 +76,13 @@ for_one v w symbols p off = by_item (nat_eq v w)
     by_item true = off
     by_item false = refl
 
-giver_below : (sight : Sight) (item : ℕ) (symbol found : List ℕ) (u : ℕ) → found ≡ givers (atoms_seen sight) (place_seen sight) item symbol → list_any (nat_eq u) found ≡ true → u < count_seen sight
+pub giver_below : (sight : Sight) (item : ℕ) (symbol found : List ℕ) (u : ℕ) → found ≡ givers (atoms_seen sight) (place_seen sight) item symbol → list_any (nat_eq u) found ≡ true → u < count_seen sight
 giver_below sight item symbol found u is on = below (is_served (atoms_seen sight) (place_seen sight) item symbol) (ap (list_any (nat_eq u)) (sym is) ∙ on)
   where
     below : (b : Bool) → list_any (nat_eq u) (if b then [] else which_below (length (place_seen sight).items) (other_provides (atoms_seen sight) (place_seen sight) item symbol)) ≡ true → u < count_seen sight
     below true none = absurd (cc)
     below false some = let one = which_passes (length (place_seen sight).items) (other_provides (atoms_seen sight) (place_seen sight) item symbol) (nat_eq u) some in
         let same : u ≡ one.number = eqb-true u one.number one.passes in let same_length : length (place_seen sight).items ≡ count_seen sight = length_items sight in omega (arith, same, same_length, one.below)
-
 
 pub symbol_none : (sight : Sight) (item : ℕ) (symbol found : List ℕ) (s : LinksValue) (d : List ℕ) → found ≡ givers (atoms_seen sight) (place_seen sight) item symbol → length found ≡ 0 → LinksBy sight (for_item item (symbol ∷ [])) s d s d
 symbol_none sight item symbol found s d is none = record {
@@ -94,9 +93,11 @@ symbol_none sight item symbol found s d is none = record {
     only_none : (u : ℕ) (xs : List ℕ) → length xs ≡ 0 → is_only u xs ≡ false
     only_none u [] none = refl
     only_none u (x ∷ xs) none = absurd (omega arith)
+
     several_none : (xs : List ℕ) → length xs ≡ 0 → are_several xs ≡ false
     several_none [] none = refl
     several_none (x ∷ xs) none = absurd (omega arith)
+
     by_item : (v : ℕ) (b : Bool) → nat_eq item v ≡ b → (p : List ℕ → Bool) → (item ≡ v → p symbol ≡ false) → list_any p (if b then symbol ∷ [] else []) ≡ false
     by_item v true same p off = ap (λ (b : Bool). b || false) (off (eqb-true item v same))
     by_item v false other p off = refl
@@ -112,18 +113,22 @@ symbol_one sight item symbol found s new d is one below put = record {
     only_one u [] one = absurd (omega arith)
     only_one u (x ∷ []) one = refl
     only_one u (x ∷ y ∷ ys) one = absurd (omega arith)
+
     several_one : (xs : List ℕ) → length xs ≡ 1 → are_several xs ≡ false
     several_one [] one = refl
     several_one (x ∷ []) one = refl
     several_one (x ∷ y ∷ ys) one = absurd (omega arith)
+
     no_doubt : (v : ℕ) (b : Bool) → nat_eq item v ≡ b → list_any (is_ambiguous (atoms_seen sight) (place_seen sight) v) (if b then symbol ∷ [] else []) ≡ false
     no_doubt v true same = ap (λ (b : Bool). b || false) (ap (λ (k : ℕ). are_several (givers (atoms_seen sight) (place_seen sight) k symbol)) (sym (eqb-true item v same)) ∙ (ap are_several (sym is) ∙ several_one found one))
     no_doubt v false other = refl
+
     turned : (a b : Bool) → (a && true) || b ≡ b || (true && (a || false))
     turned true true = refl
     turned true false = refl
     turned false true = refl
     turned false false = refl
+
     off : (a b : Bool) (c : Bool) → (a && false) || b ≡ b || (c && false)
     off true true c = refl
     off true false true = refl
@@ -131,13 +136,15 @@ symbol_one sight item symbol found s new d is one below put = record {
     off false true c = refl
     off false false true = refl
     off false false false = refl
+
     turn_eq : (a b : ℕ) → nat_eq a b ≡ nat_eq b a
     turn_eq a b = same_truth (nat_eq a b) (nat_eq b a) (λ e. eq-eqb b a (sym (eqb-true a b e))) (λ e. eq-eqb a b (sym (eqb-true b a e)))
+
     by_item : (u v : ℕ) (b : Bool) → nat_eq item v ≡ b → ((nat_eq (slice_index_or found 0 0) u && b) || leads s.rows u v) ≡ (leads s.rows u v || (nat_lt v (count_seen sight) && list_any (is_inferred_by (atoms_seen sight) (place_seen sight) u v) (if b then symbol ∷ [] else [])))
     by_item u v true same = let e : item ≡ v = eqb-true item v same in
         turned (nat_eq (slice_index_or found 0 0) u) (leads s.rows u v)
         ∙ ap2 (λ (a b : Bool). leads s.rows u v || (a && (b || false))) (sym (lt-ltb v (count_seen sight) (omega (arith, e, below))))
-          (turn_eq (slice_index_or found 0 0) u ∙ (sym (only_one u found one) ∙ (ap (is_only u) is ∙ ap (λ (k : ℕ). is_only u (givers (atoms_seen sight) (place_seen sight) k symbol)) e)))
+        (turn_eq (slice_index_or found 0 0) u ∙ (sym (only_one u found one) ∙ (ap (is_only u) is ∙ ap (λ (k : ℕ). is_only u (givers (atoms_seen sight) (place_seen sight) k symbol)) e)))
     by_item u v false other = off (nat_eq (slice_index_or found 0 0) u) (leads s.rows u v) (nat_lt v (count_seen sight))
 
 pub symbol_several : (sight : Sight) (item : ℕ) (symbol found : List ℕ) (s : LinksValue) (d new : List ℕ) → found ≡ givers (atoms_seen sight) (place_seen sight) item symbol → 1 < length found → item < count_seen sight
@@ -151,20 +158,24 @@ symbol_several sight item symbol found s d new is many below put = record {
     only_several u [] many = refl
     only_several u (x ∷ []) many = absurd (omega arith)
     only_several u (x ∷ y ∷ ys) many = refl
+
     several : (xs : List ℕ) → 1 < length xs → are_several xs ≡ true
     several [] many = absurd (omega arith)
     several (x ∷ []) many = absurd (omega arith)
     several (x ∷ y ∷ ys) many = refl
+
     no_link : (u v : ℕ) (b : Bool) → nat_eq item v ≡ b → list_any (is_inferred_by (atoms_seen sight) (place_seen sight) u v) (if b then symbol ∷ [] else []) ≡ false
     no_link u v true same = ap (λ (b : Bool). b || false) (ap (λ (k : ℕ). is_only u (givers (atoms_seen sight) (place_seen sight) k symbol)) (sym (eqb-true item v same)) ∙ (ap (is_only u) (sym is) ∙ only_several u found many))
     no_link u v false other = refl
+
     or_true : (a : Bool) → true ≡ a || true
     or_true true = refl
     or_true false = refl
+
     by_item : (v : ℕ) (b : Bool) → nat_eq item v ≡ b → (b || has d v) ≡ (has d v || (nat_lt v (count_seen sight) && list_any (is_ambiguous (atoms_seen sight) (place_seen sight) v) (if b then symbol ∷ [] else [])))
     by_item v true same = let e : item ≡ v = eqb-true item v same in
         or_true (has d v) ∙ ap (λ (b : Bool). has d v || b) (sym (true_both (nat_lt v (count_seen sight)) _ (lt-ltb v (count_seen sight) (omega (arith, e, below)))
-          (true_first (is_ambiguous (atoms_seen sight) (place_seen sight) v symbol) false (ap (λ (k : ℕ). are_several (givers (atoms_seen sight) (place_seen sight) k symbol)) (sym e) ∙ (ap are_several (sym is) ∙ several found many)))))
+        (true_first (is_ambiguous (atoms_seen sight) (place_seen sight) v symbol) false (ap (λ (k : ℕ). are_several (givers (atoms_seen sight) (place_seen sight) k symbol)) (sym e) ∙ (ap are_several (sym is) ∙ several found many)))))
     by_item v false other = or_falsed (has d v) _ (and_falsed (nat_lt v (count_seen sight)) _ refl)
 
 pub giver_within : (sight : Sight) (item : ℕ) (symbol found : List ℕ) → found ≡ givers (atoms_seen sight) (place_seen sight) item symbol → 0 < length found → slice_index_or found 0 0 < count_seen sight
@@ -184,7 +195,7 @@ any_append p (x ∷ xs) ys = ap (λ (b : Bool). p x || b) (any_append p xs ys) �
     or_chain true b c = refl
     or_chain false b c = refl
 
-filter_append : {X : Type 0} (p : X → Bool) (xs ys : List X) → filter p (xs ++ ys) ≡ filter p xs ++ filter p ys
+pub filter_append : {X : Type 0} (p : X → Bool) (xs ys : List X) → filter p (xs ++ ys) ≡ filter p xs ++ filter p ys
 filter_append p [] ys = refl
 filter_append {X = X} p (x ∷ xs) ys = by_test (p x) (filter_append p xs ys)
   where
@@ -196,13 +207,13 @@ map_append : {X Y : Type 0} (f : X → Y) (xs ys : List X) → map f (xs ++ ys) 
 map_append f [] ys = refl
 map_append {Y = Y} f (x ∷ xs) ys = ap (λ (zs : List Y). f x ∷ zs) (map_append f xs ys)
 
-needed_append : (sight : Sight) (inner : List Flow) (v a : ℕ) (part : Part) (xs ys : List Arg) → needed_by sight inner v a part (xs ++ ys) ≡ needed_by sight inner v a part xs ++ needed_by sight inner v a part ys
+pub needed_append : (sight : Sight) (inner : List Flow) (v a : ℕ) (part : Part) (xs ys : List Arg) → needed_by sight inner v a part (xs ++ ys) ≡ needed_by sight inner v a part xs ++ needed_by sight inner v a part ys
 needed_append sight inner v a part xs ys =
     ap (λ (args : List Arg). filter (is_unserved (atoms_seen sight) inner (place_seen sight).number v a) (map arg_symbol args)) (filter_append (is_taken part) xs ys)
     ∙ (ap (filter (is_unserved (atoms_seen sight) inner (place_seen sight).number v a)) (map_append arg_symbol (filter (is_taken part) xs) (filter (is_taken part) ys))
     ∙ filter_append (is_unserved (atoms_seen sight) inner (place_seen sight).number v a) (map arg_symbol (filter (is_taken part) xs)) (map arg_symbol (filter (is_taken part) ys)))
 
-take_next : {X : Type 0} (xs : List X) (i : ℕ) (x : X) → i < length xs → x ≡ slice_index_or xs i x → take (suc i) xs ≡ take i xs ++ x ∷ []
+pub take_next : {X : Type 0} (xs : List X) (i : ℕ) (x : X) → i < length xs → x ≡ slice_index_or xs i x → take (suc i) xs ≡ take i xs ++ x ∷ []
 take_next [] i x below is = absurd (omega arith)
 take_next {X = X} (y ∷ ys) zero x below is = ap (λ (z : X). z ∷ take 0 ys) (sym is) ∙ ap (λ (zs : List X). x ∷ zs) (none ys)
   where
@@ -211,13 +222,13 @@ take_next {X = X} (y ∷ ys) zero x below is = ap (λ (z : X). z ∷ take 0 ys) 
     none (z ∷ zs) = refl
 take_next {X = X} (y ∷ ys) (suc i) x below is = ap (λ (zs : List X). y ∷ zs) (take_next ys i x (omega arith) is)
 
-take_whole : {X : Type 0} (xs : List X) (i : ℕ) → length xs ≤ i → take i xs ≡ xs
+pub take_whole : {X : Type 0} (xs : List X) (i : ℕ) → length xs ≤ i → take i xs ≡ xs
 take_whole [] zero past = refl
 take_whole [] (suc i) past = refl
 take_whole (x ∷ xs) zero past = absurd (omega arith)
 take_whole {X = X} (x ∷ xs) (suc i) past = ap (λ (ys : List X). x ∷ ys) (take_whole xs i (omega arith))
 
-take_none : {X : Type 0} (xs : List X) → take 0 xs ≡ []
+pub take_none : {X : Type 0} (xs : List X) → take 0 xs ≡ []
 take_none [] = refl
 take_none (x ∷ xs) = refl
 
@@ -241,7 +252,7 @@ pub args_more : (sight : Sight) (item atom : ℕ) (part : Part) (s0 s1 s2 : Link
 args_more sight item atom part s0 s1 s2 d0 d1 d2 args i arg before within is one inner shows =
     links_then sight (for_item item (needed_by sight inner item atom part (take i args))) (for_item item (needed_by sight inner item atom part (arg ∷ []))) (for_item item (needed_by sight inner item atom part (take (i + 1) args))) s0 s1 s2 d0 d1 d2 (before inner shows) (one inner shows)
     (λ v p. for_both item v (needed_by sight inner item atom part (take i args)) (needed_by sight inner item atom part (arg ∷ [])) (needed_by sight inner item atom part (take (i + 1) args)) p
-      (ap (needed_by sight inner item atom part) (ap (λ (n : ℕ). take n args) (add-one i) ∙ take_next args i arg within is) ∙ needed_append sight inner item atom part (take i args) (arg ∷ [])))
+    (ap (needed_by sight inner item atom part) (ap (λ (n : ℕ). take n args) (add-one i) ∙ take_next args i arg within is) ∙ needed_append sight inner item atom part (take i args) (arg ∷ [])))
 
 pub part_seen : (atoms : List AtomPlace) (k : ℕ) (atom : AtomPlace) → k < length atoms → atom ≡ slice_index_or atoms k atom → taken_by (slice_get (shown_atoms atoms) k) ≡ taken_symbols (shown_part atom.part)
 part_seen [] k atom within is = absurd (omega arith)
@@ -253,8 +264,8 @@ pub args_all : (sight : Sight) (item atom : ℕ) (place : AtomPlace) (s0 s : Lin
 args_all sight item atom place s0 s d0 d args i seen whole are within read inner shows =
     links_as sight (for_item item (needed_by sight inner item atom (shown_part place.part) (take i args))) (for_item item (needed_at sight inner atom item)) s0 s d0 d (seen inner shows)
     (λ v. ap (λ (xs : List (List ℕ)). for_item item xs v)
-      (ap (needed_by sight inner item atom (shown_part place.part)) (take_whole args i whole ∙ are)
-      ∙ ap (filter (is_unserved (atoms_seen sight) inner (place_seen sight).number item atom)) (sym (part_seen sight.atoms.now atom place within read))))
+    (ap (needed_by sight inner item atom (shown_part place.part)) (take_whole args i whole ∙ are)
+    ∙ ap (filter (is_unserved (atoms_seen sight) inner (place_seen sight).number item atom)) (sym (part_seen sight.atoms.now atom place within read))))
 
 -- ---- one argument
 
@@ -262,7 +273,7 @@ pub argument_bound : (sight : Sight) (item atom : ℕ) (part : Part) (s : LinksV
 argument_bound sight item atom part s d arg bound inner shows = links_none sight (for_item item (needed_by sight inner item atom part (arg ∷ []))) s d
     (λ v p. for_one item v (needed_by sight inner item atom part (arg ∷ [])) p (ap (λ (b : Bool). list_any p (filter (is_unserved (atoms_seen sight) inner (place_seen sight).number item atom) (map arg_symbol (cond (not b) (arg ∷ []) [])))) bound))
 
-one_needed : (sight : Sight) (inner : List Flow) (item atom : ℕ) (part : Part) (arg : Arg) → is_among (bind_symbols (injected_in part)) arg.symbol ≡ false
+pub one_needed : (sight : Sight) (inner : List Flow) (item atom : ℕ) (part : Part) (arg : Arg) → is_among (bind_symbols (injected_in part)) arg.symbol ≡ false
     → needed_by sight inner item atom part (arg ∷ []) ≡ cond (is_unserved (atoms_seen sight) inner (place_seen sight).number item atom arg.symbol) (arg.symbol ∷ []) []
 one_needed sight inner item atom part arg free = ap (λ (b : Bool). filter (is_unserved (atoms_seen sight) inner (place_seen sight).number item atom) (map arg_symbol (cond (not b) (arg ∷ []) []))) free
 
@@ -270,7 +281,7 @@ pub argument_served : (sight : Sight) (item atom : ℕ) (part : Part) (s : Links
     → ((inner : List Flow) → ShowsFlows sight.table.now inner → false ≡ is_unserved (atoms_seen sight) inner (place_seen sight).number item atom arg.symbol) → ArgumentsSeen sight item atom part s d s d (arg ∷ [])
 argument_served sight item atom part s d arg free served inner shows = links_none sight (for_item item (needed_by sight inner item atom part (arg ∷ []))) s d
     (λ v p. for_one item v (needed_by sight inner item atom part (arg ∷ [])) p
-      (ap (list_any p) (one_needed sight inner item atom part arg free) ∙ ap (λ (b : Bool). list_any p (cond b (arg.symbol ∷ []) [])) (sym (served inner shows))))
+    (ap (list_any p) (one_needed sight inner item atom part arg free) ∙ ap (λ (b : Bool). list_any p (cond b (arg.symbol ∷ []) [])) (sym (served inner shows))))
 
 pub argument_needed : (sight : Sight) (item atom : ℕ) (part : Part) (s0 s : LinksValue) (d0 d : List ℕ) (arg : Arg) → is_among (bind_symbols (injected_in part)) arg.symbol ≡ false
     → ((inner : List Flow) → ShowsFlows sight.table.now inner → true ≡ is_unserved (atoms_seen sight) inner (place_seen sight).number item atom arg.symbol) → LinksBy sight (for_item item (arg.symbol ∷ [])) s0 d0 s d → ArgumentsSeen sight item atom part s0 d0 s d (arg ∷ [])
@@ -356,7 +367,7 @@ pub turns_more : (sight : Sight) (atom : ℕ) (s0 s1 s2 : LinksValue) (d0 d1 d2 
 turns_more sight atom s0 s1 s2 d0 d1 d2 turns i turn before within is one inner shows =
     links_then sight (passed_at sight inner atom (shown_turns (take i turns))) (taken_at sight inner atom (shown_turn turn)) (passed_at sight inner atom (shown_turns (take (i + 1) turns))) s0 s1 s2 d0 d1 d2 (before inner shows) (one inner shows)
     (λ v p. if_both (passes_item (place_seen sight).number (Some v) (shown_turns (take i turns))) (takes_item (place_seen sight).number (Some v) (shown_turn turn)) (passes_item (place_seen sight).number (Some v) (shown_turns (take (i + 1) turns))) (needed_at sight inner atom v) p
-      (ap (λ (ts : List CodeTurn). passes_item (place_seen sight).number (Some v) (shown_turns ts)) (ap (λ (n : ℕ). take n turns) (add-one i) ∙ take_next turns i turn within is) ∙ passes_more (place_seen sight).number v (take i turns) turn))
+    (ap (λ (ts : List CodeTurn). passes_item (place_seen sight).number (Some v) (shown_turns ts)) (ap (λ (n : ℕ). take n turns) (add-one i) ∙ take_next turns i turn within is) ∙ passes_more (place_seen sight).number v (take i turns) turn))
 
 pub turns_all : (sight : Sight) (atom : ℕ) (s0 s : LinksValue) (d0 d : List ℕ) (turns : List CodeTurn) (i : ℕ) (way : List Turn) → TurnsSeen sight atom s0 d0 s d (take i turns) → length turns ≤ i → shown_turns turns ≡ way
     → (inner : List Flow) → ShowsFlows sight.table.now inner → LinksBy sight (passed_at sight inner atom way) s0 d0 s d
@@ -371,7 +382,7 @@ AtomsSeen sight s0 d0 s d n = (inner : List Flow) → ShowsFlows sight.table.now
 pub inferred_start : (sight : Sight) (s : LinksValue) (d : List ℕ) → AtomsSeen sight s d s d 0
 inferred_start sight s d inner shows = links_none sight (needed_below sight inner 0) s d (λ v p. refl)
 
-flat_append : {X Y : Type 0} (f : X → List Y) (xs ys : List X) → flat_map f (xs ++ ys) ≡ flat_map f xs ++ flat_map f ys
+pub flat_append : {X Y : Type 0} (f : X → List Y) (xs ys : List X) → flat_map f (xs ++ ys) ≡ flat_map f xs ++ flat_map f ys
 flat_append f [] ys = refl
 flat_append {Y = Y} f (x ∷ xs) ys = ap (λ (zs : List Y). f x ++ zs) (flat_append f xs ys) ∙ sym (append_assoc (f x) (flat_map f xs) (flat_map f ys))
 
@@ -380,13 +391,14 @@ pub inferred_more : (sight : Sight) (s0 s1 s2 : LinksValue) (d0 d1 d2 : List ℕ
 inferred_more sight s0 s1 s2 d0 d1 d2 atom before one inner shows =
     links_then sight (needed_below sight inner atom) (passed_at sight inner atom (way_at (atoms_seen sight) atom)) (needed_below sight inner (atom + 1)) s0 s1 s2 d0 d1 d2 (before inner shows) (one inner shows)
     (λ v p. ap (λ (n : ℕ). list_any p (needed_below sight inner n v)) (add-one atom)
-      ∙ (ap (list_any p) (flat_append (needs_of_atom (atoms_seen sight) inner (place_seen sight).number v) (which_below atom (is_inside (atoms_seen sight) (place_seen sight).number v)) (if is_inside (atoms_seen sight) (place_seen sight).number v atom then atom ∷ [] else []))
-      ∙ (any_append p (needed_below sight inner atom v) (flat_map (needs_of_atom (atoms_seen sight) inner (place_seen sight).number v) (if is_inside (atoms_seen sight) (place_seen sight).number v atom then atom ∷ [] else []))
-      ∙ ap (λ (b : Bool). list_any p (needed_below sight inner atom v) || b) (last v p (is_inside (atoms_seen sight) (place_seen sight).number v atom)))))
+    ∙ (ap (list_any p) (flat_append (needs_of_atom (atoms_seen sight) inner (place_seen sight).number v) (which_below atom (is_inside (atoms_seen sight) (place_seen sight).number v)) (if is_inside (atoms_seen sight) (place_seen sight).number v atom then atom ∷ [] else []))
+    ∙ (any_append p (needed_below sight inner atom v) (flat_map (needs_of_atom (atoms_seen sight) inner (place_seen sight).number v) (if is_inside (atoms_seen sight) (place_seen sight).number v atom then atom ∷ [] else []))
+    ∙ ap (λ (b : Bool). list_any p (needed_below sight inner atom v) || b) (last v p (is_inside (atoms_seen sight) (place_seen sight).number v atom)))))
   where
     append_none : (xs : List (List ℕ)) → xs ++ [] ≡ xs
     append_none [] = refl
     append_none (x ∷ xs) = ap (λ (ys : List (List ℕ)). x ∷ ys) (append_none xs)
+
     last : (v : ℕ) (p : List ℕ → Bool) (b : Bool) → list_any p (flat_map (needs_of_atom (atoms_seen sight) inner (place_seen sight).number v) (if b then atom ∷ [] else [])) ≡ list_any p (if b then needed_at sight inner atom v else [])
     last v p true = ap (list_any p) (append_none (needs_of_atom (atoms_seen sight) inner (place_seen sight).number v atom))
     last v p false = refl
@@ -395,3 +407,13 @@ pub inferred_all : (sight : Sight) (s0 s : LinksValue) (d0 d : List ℕ) (n : �
     → LinksBy sight (needs (atoms_seen sight) inner (place_seen sight).number) s0 d0 s d
 inferred_all sight s0 s d0 d n seen whole inner shows = links_as sight (needed_below sight inner n) (needs (atoms_seen sight) inner (place_seen sight).number) s0 s d0 d (seen inner shows)
     (λ v. ap (λ (k : ℕ). needed_below sight inner k v) (whole ∙ sym (length_seen sight.atoms.now)))
+
+read_again : {X : Type 0} (xs : List X) (i : ℕ) (d : X) → i < length xs → slice_index_or xs i d ≡ slice_index_or xs i (slice_index_or xs i d)
+read_again [] i d within = absurd (omega arith)
+read_again (x ∷ xs) zero d within = refl
+read_again (x ∷ xs) (suc i) d within = read_again xs i d (omega arith)
+
+pub turns_next : (sight : Sight) (atom : ℕ) (s0 s1 s2 : LinksValue) (d0 d1 d2 : List ℕ) (turns : List CodeTurn) (i : ℕ) (other : CodeTurn) → TurnsSeen sight atom s0 d0 s1 d1 (take i turns) → i < length turns
+    → TurnSeen sight atom (slice_index_or turns i other) s1 d1 s2 d2 → TurnsSeen sight atom s0 d0 s2 d2 (take (i + 1) turns)
+turns_next sight atom s0 s1 s2 d0 d1 d2 turns i other before within one =
+    turns_more sight atom s0 s1 s2 d0 d1 d2 turns i (slice_index_or turns i other) before within (read_again turns i other within) one

@@ -32,6 +32,7 @@ all_told (suc n) test is k below = elim (cases_lt k n) [
     first : (a b : Bool) → a && b ≡ true → a ≡ true
     first true b is = refl
     first false b is = is
+
     second : (a b : Bool) → a && b ≡ true → b ≡ true
     second true b is = is
     second false b is = absurd (cc)
@@ -65,6 +66,7 @@ any_from (suc n) test k below is = elim (cases_lt k n) [
     left : (a b : Bool) → a ≡ true → a || b ≡ true
     left true b is = refl
     left false b is = absurd (cc)
+
     right : (a b : Bool) → b ≡ true → a || b ≡ true
     right true b is = refl
     right false b is = is
@@ -161,7 +163,21 @@ first_there (suc n) test k below is = elim (cases_lt k n) [
     left : (o p : Option ℕ) → is_some o ≡ true → is_some (option_or o p) ≡ true
     left (Some x) p is = refl
     left None p is = absurd (cc)
+
     right : (o : Option ℕ) (b : Bool) (n : ℕ) → b ≡ true → is_some (option_or o (if b then Some n else None)) ≡ true
     right (Some x) b n is = refl
     right None true n is = refl
     right None false n is = absurd (cc)
+
+-- before the least number that passes none passes
+before_of : (n : ℕ) (test : ℕ → Bool) (k j : ℕ) (o : Option ℕ) → first_below n test ≡ o → (o ≡ Some k → test j ≡ false) → (b : Bool) → option_or o (if b then Some n else None) ≡ Some k → (o ≡ None → j < n → test j ≡ false) → j < k → test j ≡ false
+before_of n test k j (Some x) was earlier b is none less = earlier is
+before_of n test k j None was earlier true is none less = let same : n ≡ k = cc in none refl (omega (arith, same, less))
+before_of n test k j None was earlier false is none less = absurd (cc)
+
+pub none_first : (n : ℕ) (test : ℕ → Bool) → first_below n test ≡ None → (j : ℕ) → j < n → test j ≡ false
+none_first n test is j below = never_true (test j) (λ on. let there : is_some (first_below n test) ≡ true = first_there n test j below on in let no : false ≡ true = ap is_some (sym is) ∙ there in cc)
+
+pub first_before : (n : ℕ) (test : ℕ → Bool) (k j : ℕ) → first_below n test ≡ Some k → j < k → test j ≡ false
+first_before zero test k j is less = absurd (cc)
+first_before (suc n) test k j is less = before_of n test k j (first_below n test) refl (λ found. first_before n test k j found less) (test n) is (λ none below. none_first n test none j below) less

@@ -85,6 +85,7 @@ row_joined rows u pivot through row row_old below on read joined a b = set_row r
     or_false : (c : Bool) → c ≡ c || false
     or_false true = refl
     or_false false = refl
+
     by_row : (c : Bool) → nat_eq u a ≡ c → (if c then has row b else leads rows a b) ≡ (leads rows a b || (c && (leads rows u pivot && has through b)))
     by_row true same = joined b ∙ (ap2 (λ (x y : Bool). x || y) (row_read rows u b row_old below read ∙ ap (λ (k : ℕ). leads rows k b) (eqb-true u a same)) (ap (λ (x : Bool). x && has through b) (sym on)))
     by_row false other = or_false (leads rows a b)
@@ -96,11 +97,14 @@ passed_next count old pivot through rows rows_new i is square more = record { sq
   where
     not_yet : nat_lt i i ≡ false
     not_yet = never_true (nat_lt i i) (λ less. let no : i < i = ltb-true i i less in omega (arith, no))
+
     or_false : (a : Bool) → a || false ≡ a
     or_false true = refl
     or_false false = refl
+
     told_here : (v : ℕ) → leads rows i v ≡ leads old i v
     told_here v = is.told i v ∙ (ap (λ (b : Bool). leads old i v || ((b && leads old i pivot) && has through v)) not_yet ∙ or_false (leads old i v))
+
     by_row : (u v : ℕ) (b : Bool) → nat_eq i u ≡ b → (leads rows u v || (b && (leads rows i pivot && has through v))) ≡ (leads old u v || ((nat_lt u (i + 1) && leads old u pivot) && has through v))
     by_row u v true same = let e : i ≡ u = eqb-true i u same in
         ap (λ (k : ℕ). leads rows k v || (leads rows i pivot && has through v)) (sym e)
@@ -161,8 +165,8 @@ way_closed test [] w on u v first second = absurd (cc)
 way_closed test (k ∷ ks) w on u v first second = elim (or_either (nat_eq w k) (has_number ks w) on) [
   | inl here ↦ let same : w ≡ k = eqb-true w k here in
       true_second (leads_by_way test ks u v) (leads_by_way test ks u k && leads_by_way test ks k v)
-        (true_both (leads_by_way test ks u k) (leads_by_way test ks k v)
-          (to_pivot test ks k u (ap (λ (m : ℕ). leads_by_way test (k ∷ ks) u m) (sym same) ∙ first)) (from_pivot test ks k v (ap (λ (m : ℕ). leads_by_way test (k ∷ ks) m v) (sym same) ∙ second)))
+      (true_both (leads_by_way test ks u k) (leads_by_way test ks k v)
+      (to_pivot test ks k u (ap (λ (m : ℕ). leads_by_way test (k ∷ ks) u m) (sym same) ∙ first)) (from_pivot test ks k v (ap (λ (m : ℕ). leads_by_way test (k ∷ ks) m v) (sym same) ∙ second)))
   | inr among ↦ way_on test ks k w u v (λ a b. way_closed test ks w among a b)
       (or_either (leads_by_way test ks u w) (leads_by_way test ks u k && leads_by_way test ks k w) first) (or_either (leads_by_way test ks w v) (leads_by_way test ks w k && leads_by_way test ks k v) second)
 ]
@@ -192,11 +196,11 @@ pub way_reached : (links : LinksValue) (pairs : List Pair) (pivots : List ℕ) �
 way_reached links pairs pivots are all u v =
     let within : (a b : ℕ) → leads links.rows a b ≡ true → b < links.count = λ a b on. are.second a b (sym (are.same a b) ∙ on) in
     same_truth (leads_by_way (leads links.rows) pivots u v) (has_pair (reached links.count pairs) u v)
-      (λ is. least_way (leads links.rows) (has_pair (reached links.count pairs)) pivots (record { chain = λ a b d. reached_chain links.count pairs are.second a b d })
-        (λ a b on. let pair_on : has_pair pairs a b ≡ true = sym (are.same a b) ∙ on in reached_keeps links.count pairs links.count a b (are.first a b pair_on) (are.second a b pair_on) pair_on) u v is)
-      (λ is. least_reached links.count pairs (leads_by_way (leads links.rows) pivots) links.count
-        (record { chain = λ a b d first second. way_closed (leads links.rows) pivots b (all b (way_within (leads links.rows) pivots links.count within a b first)) a d first second })
-        (λ a b on. way_keeps (leads links.rows) pivots a b (are.same a b ∙ on)) u v is)
+    (λ is. least_way (leads links.rows) (has_pair (reached links.count pairs)) pivots (record { chain = λ a b d. reached_chain links.count pairs are.second a b d })
+    (λ a b on. let pair_on : has_pair pairs a b ≡ true = sym (are.same a b) ∙ on in reached_keeps links.count pairs links.count a b (are.first a b pair_on) (are.second a b pair_on) pair_on) u v is)
+    (λ is. least_reached links.count pairs (leads_by_way (leads links.rows) pivots) links.count
+    (record { chain = λ a b d first second. way_closed (leads links.rows) pivots b (all b (way_within (leads links.rows) pivots links.count within a b first)) a d first second })
+    (λ a b on. way_keeps (leads links.rows) pivots a b (are.same a b ∙ on)) u v is)
 
 has_both_lists : (xs ys : List ℕ) (k : ℕ) → has_number (xs ++ ys) k ≡ (has_number xs k || has_number ys k)
 has_both_lists [] ys k = refl

@@ -4,6 +4,9 @@ use Rattle.std.specs.Prelude.{nat_eq, nat_lt, if◌then◌else◌}
 use Rattle.std.specs.List.{list_any}
 use Rattle.std.proofs.lemmas.Bool.{cases_lt, ltb-true, lt-ltb}
 use Rattle.std.proofs.lemmas.List.{length-map}
+use Rattle.tf_flow.specs.declared.atoms.Bind.{Bind}
+use Rattle.tf_flow.specs.Names.{same_name, is_among}
+use Rattle.tf_flow.specs.Rules.{bind_symbols}
 use Rattle.tf_model.specs.Numbers.{any_below, which_below, has_number, Pair, has_pair, reached}
 use Rattle.tf_model.specs.Outline.{Turn, Atom, FlowPlace}
 use Rattle.tf_model.specs.Before.{Flow, takes_item, same_place, passes_item, way_before, way_in, way_at}
@@ -35,7 +38,7 @@ way_seen (x ∷ xs) (suc k) atom within is = way_seen xs k atom (omega arith) is
 pub provider_within : (sight : Sight) (symbol : List ℕ) (xs : List ℕ) (i : ℕ) → HasProviders sight → xs ≡ told sight.providers.now symbol → i < length xs → slice_index_or xs i 0 < length sight.atoms.now
 provider_within sight symbol xs i providers is within =
     let found = which_passes (length sight.atoms.now) (provides_at (atoms_seen sight) symbol) (nat_eq (slice_index_or xs i 0))
-      (ap (λ (ys : List ℕ). has_number ys (slice_index_or xs i 0)) (sym (is ∙ providers symbol)) ∙ listed_within xs i within) in
+    (ap (λ (ys : List ℕ). has_number ys (slice_index_or xs i 0)) (sym (is ∙ providers symbol)) ∙ listed_within xs i within) in
     let same : slice_index_or xs i 0 ≡ found.number = eqb-true (slice_index_or xs i 0) found.number found.passes in
     omega (arith, same, found.below)
 
@@ -111,9 +114,9 @@ served_by : (sight : Sight) (inner : List Flow) (item atom : ℕ) (symbol : List
     → is_unserved (atoms_seen sight) inner (place_seen sight).number item atom symbol ≡ not (list_any (serves_in (atoms_seen sight) inner (place_seen sight).number item atom) xs)
 served_by sight inner item atom symbol xs providers is =
     ap not (ap (λ (n : ℕ). any_below n (serves_inside (atoms_seen sight) inner (place_seen sight).number item symbol atom)) (length_shown sight.atoms.now)
-      ∙ (any_which (length sight.atoms.now) (serves_in (atoms_seen sight) inner (place_seen sight).number item atom) (provides_at (atoms_seen sight) symbol) (serves_inside (atoms_seen sight) inner (place_seen sight).number item symbol atom)
-          (λ b. swap (is_inside (atoms_seen sight) (place_seen sight).number item b) (provides_at (atoms_seen sight) symbol b) (way_before inner (way_at (atoms_seen sight) b) (way_at (atoms_seen sight) atom)))
-      ∙ ap (list_any (serves_in (atoms_seen sight) inner (place_seen sight).number item atom)) (sym (is ∙ providers symbol))))
+    ∙ (any_which (length sight.atoms.now) (serves_in (atoms_seen sight) inner (place_seen sight).number item atom) (provides_at (atoms_seen sight) symbol) (serves_inside (atoms_seen sight) inner (place_seen sight).number item symbol atom)
+    (λ b. swap (is_inside (atoms_seen sight) (place_seen sight).number item b) (provides_at (atoms_seen sight) symbol b) (way_before inner (way_at (atoms_seen sight) b) (way_at (atoms_seen sight) atom)))
+    ∙ ap (list_any (serves_in (atoms_seen sight) inner (place_seen sight).number item atom)) (sym (is ∙ providers symbol))))
   where
     swap : (a b c : Bool) → a && (b && c) ≡ (a && c) && b
     swap true true c = right c
@@ -127,6 +130,7 @@ served_by sight inner item atom symbol xs providers is =
         left true = refl
         left false = refl
     swap false b c = refl
+
     length_shown : (atoms : List AtomPlace) → length (shown_atoms atoms) ≡ length atoms
     length_shown [] = refl
     length_shown (x ∷ xs) = ap suc (length_shown xs)
@@ -141,7 +145,7 @@ pub unserved_all : (sight : Sight) (item atom : ℕ) (symbol : List ℕ) (xs : L
     → (inner : List Flow) → ShowsFlows sight.table.now inner → true ≡ is_unserved (atoms_seen sight) inner (place_seen sight).number item atom symbol
 unserved_all sight item atom symbol xs i providers is none whole inner shows =
     sym (served_by sight inner item atom symbol xs providers is
-      ∙ ap not (ap (list_any (serves_in (atoms_seen sight) inner (place_seen sight).number item atom)) (sym (taking_all xs i whole)) ∙ none inner shows))
+    ∙ ap not (ap (list_any (serves_in (atoms_seen sight) inner (place_seen sight).number item atom)) (sym (taking_all xs i whole)) ∙ none inner shows))
 
 -- ---- the items that ways lead through
 
@@ -172,10 +176,11 @@ mark_here set new turn flow count item same is below put u = put u ∙ by_item (
     or_true : (a : Bool) → true ≡ a || true
     or_true true = refl
     or_true false = refl
+
     by_item : (b : Bool) → nat_eq item u ≡ b → (b || has set u) ≡ (has set u || marks_turn flow count (shown_turn turn) u)
     by_item true e = let equal : item ≡ u = eqb-true item u e in or_true (has set u) ∙ ap (λ (b : Bool). has set u || b)
         (sym (true_both (nat_lt u count) _ (lt-ltb u count (omega (arith, equal, below)))
-          (true_both (nat_eq turn.flow flow) (same_place turn.item (Some u)) (eq-eqb turn.flow flow same) (ap (λ (o : Option ℕ). same_place o (Some u)) is ∙ e))))
+        (true_both (nat_eq turn.flow flow) (same_place turn.item (Some u)) (eq-eqb turn.flow flow same) (ap (λ (o : Option ℕ). same_place o (Some u)) is ∙ e))))
     by_item false other = or_falsed (has set u) _ (and_falsed (nat_lt u count) _ (and_falsed (nat_eq turn.flow flow) _ (ap (λ (o : Option ℕ). same_place o (Some u)) is ∙ other)))
 
 -- the items of the turns so far
@@ -271,10 +276,10 @@ pub marked_all : (sight : Sight) (symbol : List ℕ) (set xs items : List ℕ) (
     → items ≡ which_below (count_seen sight) (item_provides (atoms_seen sight) (place_seen sight).number symbol)
 marked_all sight symbol set xs items i providers is marked whole found =
     found ∙ (which_more (count_seen sight) (room set) (has set) (omega (arith, marked.width)) (λ k above below. marked.told k ∙ ap (λ (b : Bool). b && list_any (is_inside (atoms_seen sight) (place_seen sight).number k) (take i xs))
-        (never_true (nat_lt k (count_seen sight)) (λ less. let inside : k < count_seen sight = ltb-true k (count_seen sight) less in omega (arith, inside, above))))
+    (never_true (nat_lt k (count_seen sight)) (λ less. let inside : k < count_seen sight = ltb-true k (count_seen sight) less in omega (arith, inside, above))))
     ∙ which_same (count_seen sight) (has set) (item_provides (atoms_seen sight) (place_seen sight).number symbol) (λ k below.
-      marked.told k ∙ (ap (λ (b : Bool). b && list_any (is_inside (atoms_seen sight) (place_seen sight).number k) (take i xs)) (lt-ltb k (count_seen sight) below)
-      ∙ (ap (list_any (is_inside (atoms_seen sight) (place_seen sight).number k)) (taking_all xs i whole) ∙ sym (provided_told sight symbol xs k providers is)))))
+    marked.told k ∙ (ap (λ (b : Bool). b && list_any (is_inside (atoms_seen sight) (place_seen sight).number k) (take i xs)) (lt-ltb k (count_seen sight) below)
+    ∙ (ap (list_any (is_inside (atoms_seen sight) (place_seen sight).number k)) (taking_all xs i whole) ∙ sym (provided_told sight symbol xs k providers is)))))
 
 -- ---- the items that give a symbol
 
@@ -286,8 +291,8 @@ pub served_told : (sight : Sight) (reach : List (List ℕ)) (item : ℕ) (symbol
 served_told sight reach item symbol items reached_is is = ap (λ (b : Bool). retry_provides (place_seen sight).control symbol || b)
     (ap (λ (n : ℕ). any_below n (reaches_with (atoms_seen sight) (place_seen sight) symbol item)) (length_items sight)
     ∙ (any_which (count_seen sight) (leads_to_item reach item) (item_provides (atoms_seen sight) (place_seen sight).number symbol) (reaches_with (atoms_seen sight) (place_seen sight) symbol item)
-        (λ w. ap (λ (b : Bool). b && item_provides (atoms_seen sight) (place_seen sight).number symbol w)
-          (ap (λ (n : ℕ). has_pair (reached n (explicit (place_seen sight))) w item) (length_items sight) ∙ sym (reached_is.same w item)))
+    (λ w. ap (λ (b : Bool). b && item_provides (atoms_seen sight) (place_seen sight).number symbol w)
+    (ap (λ (n : ℕ). has_pair (reached n (explicit (place_seen sight))) w item) (length_items sight) ∙ sym (reached_is.same w item)))
     ∙ ap (list_any (leads_to_item reach item)) (sym is)))
 
 by_served : (sight : Sight) (item : ℕ) (symbol : List ℕ) (found : List ℕ) → found ≡ [] → is_served (atoms_seen sight) (place_seen sight) item symbol ≡ true → found ≡ givers (atoms_seen sight) (place_seen sight) item symbol
@@ -308,4 +313,62 @@ givers_other sight reach item symbol items found reached_is is retry off rest =
     ∙ (filter_which (count_seen sight) (is_other item) (item_provides (atoms_seen sight) (place_seen sight).number symbol) (other_provides (atoms_seen sight) (place_seen sight) item symbol) (λ b. refl)
     ∙ (ap (λ (n : ℕ). which_below n (other_provides (atoms_seen sight) (place_seen sight) item symbol)) (sym (length_items sight))
     ∙ sym (ap (λ (b : Bool). if b then [] else which_below (length (place_seen sight).items) (other_provides (atoms_seen sight) (place_seen sight) item symbol))
-        (served_told sight reach item symbol items reached_is is ∙ ap2 (λ (a b : Bool). a || b) retry off)))))
+    (served_told sight reach item symbol items reached_is is ∙ ap2 (λ (a b : Bool). a || b) retry off)))))
+
+-- ---- symbols that are bound
+
+pub bound_start : (binds : List Bind) (symbol : List ℕ) → is_among (bind_symbols (take 0 binds)) symbol ≡ false
+bound_start [] symbol = refl
+bound_start (x ∷ xs) symbol = refl
+
+or_both : (a b : Bool) → a ≡ false → b ≡ false → a || b ≡ false
+or_both a b one other = ap2 (λ (x y : Bool). x || y) one other
+
+bound_next : (binds : List Bind) (i : ℕ) (bind : Bind) (symbol : List ℕ) → is_among (bind_symbols (take i binds)) symbol ≡ false → i < length binds → bind ≡ slice_index_or binds i bind → same_name symbol bind.symbol ≡ false
+    → is_among (bind_symbols (take (suc i) binds)) symbol ≡ false
+bound_next [] i bind symbol before within is off = absurd (omega arith)
+bound_next (x ∷ xs) zero bind symbol before within is off = or_both (same_name symbol x.symbol) _ (ap (λ (b : Bind). same_name symbol b.symbol) (sym is) ∙ off) (bound_start xs symbol)
+bound_next (x ∷ xs) (suc i) bind symbol before within is off = or_both (same_name symbol x.symbol) _ (left (same_name symbol x.symbol) _ before) (bound_next xs i bind symbol (right (same_name symbol x.symbol) _ before) (omega arith) is off)
+  where
+    left : (a b : Bool) → a || b ≡ false → a ≡ false
+    left false b none = refl
+    left true b none = absurd (cc)
+
+    right : (a b : Bool) → a || b ≡ false → b ≡ false
+    right false b none = none
+    right true b none = absurd (cc)
+
+pub bound_more : (binds : List Bind) (i : ℕ) (bind : Bind) (symbol : List ℕ) → is_among (bind_symbols (take i binds)) symbol ≡ false → i < length binds → bind ≡ slice_index_or binds i bind → same_name symbol bind.symbol ≡ false
+    → is_among (bind_symbols (take (i + 1) binds)) symbol ≡ false
+bound_more binds i bind symbol before within is off = ap (λ (n : ℕ). is_among (bind_symbols (take n binds)) symbol) (add-one i) ∙ bound_next binds i bind symbol before within is off
+
+pub bound_here : (binds : List Bind) (i : ℕ) (bind : Bind) (symbol : List ℕ) → i < length binds → bind ≡ slice_index_or binds i bind → same_name symbol bind.symbol ≡ true → true ≡ is_among (bind_symbols binds) symbol
+bound_here [] i bind symbol within is on = absurd (omega arith)
+bound_here (x ∷ xs) zero bind symbol within is on = sym (true_first (same_name symbol x.symbol) (is_among (bind_symbols xs) symbol) (ap (λ (b : Bind). same_name symbol b.symbol) (sym is) ∙ on))
+bound_here (x ∷ xs) (suc i) bind symbol within is on = sym (true_second (same_name symbol x.symbol) (is_among (bind_symbols xs) symbol) (sym (bound_here xs i bind symbol (omega arith) is on)))
+
+pub marked_next : (sight : Sight) (set new xs : List ℕ) (i : ℕ) (way : List Turn) (count : ℕ) → count ≡ count_seen sight → ItemsOf sight set (take i xs) → i < length xs → way ≡ way_at (atoms_seen sight) (slice_index_or xs i 0) → length new ≡ words_for count
+    → ((u : ℕ) → has new u ≡ (has set u || marks (place_seen sight).number count way u)) → ItemsOf sight new (take (i + 1) xs)
+marked_next sight set new xs i way count same before within is wide put = marked_more sight set new xs i way before within is (wide ∙ ap words_for same)
+    (λ u. put u ∙ ap (λ (n : ℕ). has set u || marks (place_seen sight).number n way u) same)
+
+-- ---- the items that give a symbol are items of the flow
+
+pub none_within : (found : List ℕ) (count : ℕ) → found ≡ [] → (k : ℕ) → has_number found k ≡ true → k < count
+none_within found count none k on = absurd (not_both (has_number found k) on (ap (λ (xs : List ℕ). has_number xs k) none))
+
+filtered_there : (p : ℕ → Bool) (xs : List ℕ) (k : ℕ) → has_number (filter p xs) k ≡ true → has_number xs k ≡ true
+filtered_there p [] k on = on
+filtered_there p (x ∷ xs) k on = by_test (p x) on (filtered_there p xs k)
+  where
+    by_test : (b : Bool) → has_number (cond b (x ∷ filter p xs) (filter p xs)) k ≡ true → (has_number (filter p xs) k ≡ true → has_number xs k ≡ true) → nat_eq k x || has_number xs k ≡ true
+    by_test true on rest = elim (or_either (nat_eq k x) (has_number (filter p xs) k) on) [
+      | inl here ↦ true_first (nat_eq k x) (has_number xs k) here
+      | inr there ↦ true_second (nat_eq k x) (has_number xs k) (rest there)
+    ]
+    by_test false on rest = true_second (nat_eq k x) (has_number xs k) (rest on)
+
+pub others_within : (items found : List ℕ) (count item : ℕ) (test : ℕ → Bool) → items ≡ which_below count test → found ≡ filter (is_other item) items → (k : ℕ) → has_number found k ≡ true → k < count
+others_within items found count item test is rest k on =
+    let there = which_passes count test (nat_eq k) (ap (λ (xs : List ℕ). has_number xs k) (sym is) ∙ filtered_there (is_other item) items k (ap (λ (xs : List ℕ). has_number xs k) (sym rest) ∙ on)) in
+    let same : k ≡ there.number = eqb-true k there.number there.passes in omega (arith, same, there.below)

@@ -20,9 +20,9 @@ pub within_takes : (count : ℕ) (from to : List (List ℕ)) (done : List ℕ) (
 within_takes count from to done w row from_is to_is back below read =
     let wide : length row ≡ words_for count = ap length (row_zero to w row (omega (arith, to_is.height, below)) read) ∙ to_is.width w below in
     all_same (room row) (has_if row done) (lets_take from done w) (λ u within.
-      ap (λ (b : Bool). not b || has done u) (row_read to w u row (omega (arith, to_is.height, below)) read ∙ back u w))
+    ap (λ (b : Bool). not b || has done u) (row_read to w u row (omega (arith, to_is.height, below)) read ∙ back u w))
     ∙ all_more count (room row) (lets_take from done w) (omega (arith, wide)) (λ u above within.
-      ap (λ (b : Bool). not b || has done u) (sym (past_row from u w (omega (arith, from_is.height, above)))))
+    ap (λ (b : Bool). not b || has done u) (sym (past_row from u w (omega (arith, from_is.height, above)))))
 
 pub ready_read : (links : LinksValue) (from to : List (List ℕ)) (done : List ℕ) (w : ℕ) (row : List ℕ) → from ≡ links.rows → IsSquare links.count from → IsSquare links.count to
     → ((u v : ℕ) → leads to v u ≡ leads from u v) → w < links.count → row ≡ slice_index_or to w row → has done w ≡ false → is_within row done ≡ is_ready links done w
@@ -56,9 +56,9 @@ ready_more links done ready new i on before wide is set = record { width = wide 
     by_item w true same = is ∙ (ap (is_ready links done) (eqb-true i w same) ∙ sym (ap (λ (b : Bool). b && is_ready links done w) (lt-ltb w (i + 1) (let e : i ≡ w = eqb-true i w same in omega (arith, e)))))
     by_item w false other = before.told w ∙ ap (λ (b : Bool). b && is_ready links done w)
         (same_truth (nat_lt w i) (nat_lt w (i + 1))
-          (λ less. let below : w < i = ltb-true w i less in lt-ltb w (i + 1) (omega (arith, below)))
-          (λ less. let below : w < i + 1 = ltb-true w (i + 1) less in
-            let differ : i ≢ w = λ same. not_both (nat_eq i w) (eq-eqb i w same) other in lt-ltb w i (omega (arith, below, differ))))
+        (λ less. let below : w < i = ltb-true w i less in lt-ltb w (i + 1) (omega (arith, below)))
+        (λ less. let below : w < i + 1 = ltb-true w (i + 1) less in
+        let differ : i ≢ w = λ same. not_both (nat_eq i w) (eq-eqb i w same) other in lt-ltb w i (omega (arith, below, differ))))
 
 pub ready_all : (links : LinksValue) (done ready : List ℕ) (i : ℕ) → ReadyBelow links done ready i → i ≡ links.count → AreReady links done ready
 ready_all links done ready i is whole w = is.told w ∙ ap (λ (n : ℕ). nat_lt w n && is_ready links done w) whole
@@ -98,12 +98,15 @@ among_more links item old done ready new seen more next on before is_more wide w
     turn : (w : ℕ) (b : Bool) → nat_eq next w ≡ b → nat_eq w next ≡ b
     turn w true same = eq-eqb w next (sym (eqb-true next w same))
     turn w false other = never_true (nat_eq w next) (λ same. not_both (nat_eq next w) (eq-eqb next w (sym (eqb-true w next same))) other)
+
     or_one : (a : Bool) → a || true ≡ true
     or_one true = refl
     or_one false = refl
+
     or_none : (a : Bool) → a || false ≡ a
     or_none true = refl
     or_none false = refl
+
     by_item : (w : ℕ) (b : Bool) → nat_eq next w ≡ b → (if b then on else has ready w) ≡ (if has_number (seen ++ next ∷ []) w then nat_lt w links.count && is_ready links done w else not (nat_eq item w) && has old w)
     by_item w true same = let e : next ≡ w = eqb-true next w same in
         (is ∙ (ap (is_ready links done) e ∙ sym (ap (λ (b : Bool). b && is_ready links done w) (lt-ltb w links.count (omega (arith, e, within))))))
@@ -120,6 +123,7 @@ same_ready links item old done w more off = by_item (nat_eq item w) refl
     nothing : (a : Bool) → a && false ≡ false
     nothing true = refl
     nothing false = refl
+
     each : (u : ℕ) → lets_take links.rows old w u ≡ lets_take links.rows done w u
     each u = by_number (nat_eq item u) refl ∙ ap (λ (b : Bool). not (leads links.rows u w) || b) (sym (more u))
       where
@@ -127,6 +131,7 @@ same_ready links item old done w more off = by_item (nat_eq item w) refl
         by_number true same = let no : leads links.rows u w ≡ false = ap (λ (k : ℕ). leads links.rows k w) (sym (eqb-true item u same)) ∙ off in
             ap (λ (b : Bool). not b || has old u) no ∙ sym (ap (λ (b : Bool). not b || true) no)
         by_number false other = refl
+
     by_item : (b : Bool) → nat_eq item w ≡ b → (not b && (nat_lt w links.count && (not (has old w) && all_below links.count (lets_take links.rows old w)))) ≡ (nat_lt w links.count && (not (has done w) && all_below links.count (lets_take links.rows done w)))
     by_item true same = sym (ap (λ (b : Bool). nat_lt w links.count && (not b && all_below links.count (lets_take links.rows done w))) (more w ∙ ap (λ (b : Bool). b || has old w) same) ∙ nothing (nat_lt w links.count))
     by_item false other = ap2 (λ (a b : Bool). nat_lt w links.count && (not a && b)) (sym (more w ∙ ap (λ (b : Bool). b || has old w) other)) (all_same links.count (lets_take links.rows old w) (lets_take links.rows done w) (λ u below. each u))
@@ -153,7 +158,7 @@ among_all links item ready_old done_old done ready seen is whole square more bef
     by_listed false is_listed =
         ap (λ (b : Bool). not (nat_eq item w) && b) (before w)
         ∙ same_ready links item done_old done w more
-          (unlisted (64 * words_for links.count) (leads links.rows item) w (no_room links.rows links.count item w square) (ap (λ (xs : List ℕ). has_number xs w) (sym whole) ∙ is_listed))
+        (unlisted (64 * words_for links.count) (leads links.rows item) w (no_room links.rows links.count item w square) (ap (λ (xs : List ℕ). has_number xs w) (sym whole) ∙ is_listed))
 
 -- ---- the pairs
 
@@ -185,8 +190,8 @@ unfolding is_ready
 next_told links pairs done taken are listed w =
     ap2 (λ (a b : Bool). not a && b) (listed w)
     (same_truth (all_below links.count (lets_take links.rows done w)) (list_all (is_behind taken w) pairs)
-      (λ is. told_behind taken w pairs (λ u on. sym (listed u) ∙ if_so (leads links.rows u w) (has done u) (are.same u w ∙ on) (all_told links.count (lets_take links.rows done w) is u (are.first u w on))))
-      (λ is. all_from links.count (lets_take links.rows done w) (λ u below. or_not (leads links.rows u w) (has done u) (λ on. listed u ∙ behind_told taken w pairs is u (sym (are.same u w) ∙ on)))))
+    (λ is. told_behind taken w pairs (λ u on. sym (listed u) ∙ if_so (leads links.rows u w) (has done u) (are.same u w ∙ on) (all_told links.count (lets_take links.rows done w) is u (are.first u w on))))
+    (λ is. all_from links.count (lets_take links.rows done w) (λ u below. or_not (leads links.rows u w) (has done u) (λ on. listed u ∙ behind_told taken w pairs is u (sym (are.same u w) ∙ on)))))
 
 -- the first that is ready is the next
 pub first_next : (links : LinksValue) (pairs : List Pair) (done taken ready : List ℕ) → AreLinks links pairs → ((k : ℕ) → has done k ≡ has_number taken k) → AreReady links done ready → length ready ≡ words_for links.count
@@ -199,7 +204,9 @@ first_next links pairs done taken ready are listed is wide =
 
 pub taken_none : (links : LinksValue) (done ready taken : List ℕ) → taken ≡ [] → length done ≡ words_for links.count → length ready ≡ words_for links.count → AreReady links done ready → ((k : ℕ) → has done k ≡ false) → Taken links done ready taken 0
 taken_none links done ready taken none done_wide wide is nothing = record {
-  done_width = done_wide; width = wide; now_ready = is;
+  done_width = done_wide;
+  width = wide;
+  now_ready = is;
   listed = λ k. nothing k ∙ sym (ap (λ (xs : List ℕ). has_number xs k) none);
   so_far = λ pairs are. none;
 }
@@ -207,7 +214,10 @@ taken_none links done ready taken none done_wide wide is nothing = record {
 -- no item is ready: none is taken any more
 pub taken_over : (links : LinksValue) (done ready taken : List ℕ) (rounds : ℕ) → Taken links done ready taken rounds → first_below (room ready) (has ready) ≡ None → Taken links done ready taken (rounds + 1)
 taken_over links done ready taken rounds is none = record {
-  done_width = is.done_width; width = is.width; now_ready = is.now_ready; listed = is.listed;
+  done_width = is.done_width;
+  width = is.width;
+  now_ready = is.now_ready;
+  listed = is.listed;
   so_far = λ pairs are. rw (add-one rounds) (is.so_far pairs are ∙ ap (λ (o : Option ℕ). take_one o (take_items links.count rounds pairs))
       (sym none ∙ (first_next links pairs done taken ready are is.listed is.now_ready is.width ∙ ap (λ (xs : List ℕ). first_below links.count (is_next pairs xs)) (is.so_far pairs are))));
 }
@@ -216,7 +226,9 @@ pub taken_more : (links : LinksValue) (done ready taken done_new ready_new : Lis
     → length done_new ≡ words_for links.count → length ready_new ≡ words_for links.count → AreReady links done_new ready_new → ((k : ℕ) → has done_new k ≡ (nat_eq item k || has done k))
     → Taken links done_new ready_new (taken ++ item ∷ []) (rounds + 1)
 taken_more links done ready taken done_new ready_new rounds item is first done_wide wide ready_is more = record {
-  done_width = done_wide; width = wide; now_ready = ready_is;
+  done_width = done_wide;
+  width = wide;
+  now_ready = ready_is;
   listed = λ k. more k ∙ (ap (λ (b : Bool). nat_eq item k || b) (is.listed k) ∙ (turned (nat_eq item k) (nat_eq k item) (has_number taken k) (same_truth (nat_eq item k) (nat_eq k item) (λ same. eq-eqb k item (sym (eqb-true item k same))) (λ same. eq-eqb item k (sym (eqb-true k item same)))) ∙ sym (number_more taken item k)));
   so_far = λ pairs are. rw (add-one rounds) (ap2 take_one
       (first ∙ (first_next links pairs done taken ready are is.listed is.now_ready is.width ∙ ap (λ (xs : List ℕ). first_below links.count (is_next pairs xs)) (is.so_far pairs are)))

@@ -12,3 +12,4 @@ pub mod Arranged
 pub mod Marks
 pub mod Sight
 pub mod Looked
+pub mod Doubts

@@ -59,4 +59,3 @@ pub record Taken (links : LinksValue) (done ready taken : List ℕ) (rounds : �
   pub now_ready : AreReady links done ready
   pub listed : (k : ℕ) → has done k ≡ has_number taken k
   pub so_far : (pairs : List Pair) → AreLinks links pairs → taken ≡ take_items links.count rounds pairs
-

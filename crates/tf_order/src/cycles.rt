@@ -1,5 +1,5 @@
-ghost use Rattle.std.specs.Prelude.{◌≡◌, ℕ, ◌+◌, ◌<◌, List, [], ◌∷◌, Bool, length, OnOk, IfOk, is_some, nat_eq, slice_index_or};
-ghost use Rattle.tf_model.specs.Numbers.{Pair};
+ghost use Rattle.std.specs.Prelude.{◌≡◌, ℕ, ◌+◌, ◌<◌, List, [], ◌∷◌, Bool, true, length, OnOk, IfOk, is_some, nat_eq, slice_index_or};
+ghost use Rattle.tf_model.specs.Numbers.{Pair, has_number};
 ghost use Rattle.tf_model.specs.Compilation.{shortest_cycle};
 ghost use Rattle.tf_order.specs.Bits.{has, words_for};
 ghost use Rattle.tf_order.specs.Links.{leads, AreLinks};
@@ -13,10 +13,11 @@ use tf_values::Memory;
 impl Links {
     /// The items of the shortest cycle through an item, which comes first; of several such cycles, the
     /// first one in item order. There are none where the item is on no cycle.
-    #[tactic(auto, using(crate::proofs::CycleLemmas::layers_start, crate::proofs::CycleLemmas::layers_more, crate::proofs::CycleLemmas::came_back, crate::proofs::CycleLemmas::not_yet_back, crate::proofs::CycleLemmas::never_back))]
+    #[tactic(auto, using(crate::proofs::CycleLemmas::layers_start, crate::proofs::CycleLemmas::layers_more, crate::proofs::CycleLemmas::came_back, crate::proofs::CycleLemmas::not_yet_back, crate::proofs::CycleLemmas::never_back, crate::proofs::CycleLemmas::none_within))]
     pub fn cycle(&self, alloc: Global, item: usize) -> Result<Vec<usize>, Memory>
         requires { item < self.now.count }
-        ensures { IfOk result (λ items. (pairs : List Pair) → AreLinks self.now pairs → items.items ≡ shortest_cycle self.now.count pairs item) }
+        ensures shortest { IfOk result (λ items. (pairs : List Pair) → AreLinks self.now pairs → items.items ≡ shortest_cycle self.now.count pairs item) }
+        ensures within { IfOk result (λ items. (k : ℕ) → has_number items.items k ≡ true → k < self.now.count) }
     {
         let mut layers = Vec::new(alloc);
         layers.push(self.only(alloc, item)?)?;
@@ -58,7 +59,7 @@ impl Links {
     }
 
     /// The walk of so many links from an item, by the layers: at each turn the first item that leads on.
-    #[tactic(auto, using(crate::proofs::CycleLemmas::walk_start, crate::proofs::CycleLemmas::walk_on, crate::proofs::CycleLemmas::walk_off, crate::proofs::CycleLemmas::walk_end))]
+    #[tactic(auto, using(crate::proofs::CycleLemmas::walk_start, crate::proofs::CycleLemmas::walk_on, crate::proofs::CycleLemmas::walk_off, crate::proofs::CycleLemmas::walk_end, crate::proofs::CycleLemmas::more_within))]
     fn walk(
         &self,
         alloc: Global,
@@ -68,7 +69,8 @@ impl Links {
     ) -> Result<Vec<usize>, Memory>
         requires item { item < self.now.count }
         requires layers { AreLayers self.now item layers.now (links + 1) }
-        ensures { IfOk result (λ items. items.items ≡ walk_by self.now item links item) }
+        ensures walk { IfOk result (λ items. items.items ≡ walk_by self.now item links item) }
+        ensures within { IfOk result (λ items. (k : ℕ) → has_number items.items k ≡ true → k < self.now.count) }
     {
         let mut items = Vec::new(alloc);
         let mut at = item;

@@ -5,6 +5,7 @@ mod arranged;
 mod bits;
 mod compilation;
 mod cycles;
+mod doubts;
 mod faults;
 mod graph;
 mod index;
@@ -16,6 +17,7 @@ mod reach;
 mod rows;
 mod sight;
 mod standing;
+mod standing_atoms;
 mod ways;
 
 pub use compilation::compile;

@@ -1,5 +1,5 @@
-ghost use Rattle.std.specs.Prelude.{◌≡◌, ℕ, ◌<◌, List, [], ◌∷◌, length, if◌then◌else◌, flat_map, OnOk, IfOk};
-ghost use Rattle.tf_model.specs.Numbers.{which_below, pairs_below};
+ghost use Rattle.std.specs.Prelude.{◌≡◌, ℕ, ◌<◌, List, [], ◌∷◌, true, ◌&&◌, ◌||◌, nat_eq, length, if◌then◌else◌, flat_map, OnOk, IfOk};
+ghost use Rattle.tf_model.specs.Numbers.{has_number};
 ghost use Rattle.tf_model.specs.Before.{Flow, way_at};
 ghost use Rattle.tf_model.specs.Linked as model;
 ghost use Rattle.tf_flow.specs.Names.{is_among};
@@ -166,11 +166,12 @@ fn link_argument(
 }
 
 /// Whether one of them binds the symbol.
+#[tactic(auto, using(crate::proofs::SightLemmas::bound_start, crate::proofs::SightLemmas::bound_more, crate::proofs::SightLemmas::bound_here))]
 pub fn binds(injects: &[Bind], symbol: &Name) -> bool
     ensures { result ≡ is_among (bind_symbols injects.now) symbol.now }
 {
     for bind in injects {
-        if bind.symbol == *symbol {
+        if *symbol == bind.symbol {
             return true;
         }
     }
@@ -210,6 +211,7 @@ fn link_symbol(
 }
 
 /// The links that are written in a flow.
+#[tactic(auto, using(crate::proofs::ExplicitLemmas::explicit_start, crate::proofs::ExplicitLemmas::explicit_more, crate::proofs::ExplicitLemmas::explicit_all, crate::proofs::ExplicitLemmas::named_below))]
 pub fn explicit(alloc: Global, level: &Level<'_>) -> Result<Links, Memory>
     ensures count { IfOk result (λ links. links.count ≡ length level.now.items.items) }
     ensures links { IfOk result (λ links. AreLinks links (model.explicit (shown_level level.now))) }
@@ -217,16 +219,37 @@ pub fn explicit(alloc: Global, level: &Level<'_>) -> Result<Links, Memory>
     let names = item_names(alloc, &level.items)?;
     let mut links = Links::new(alloc, level.items.len())?;
     for link in level.flow.links.items() {
-        join(names.numbers(&link.from), names.numbers(&link.to), &mut links);
+        link_all(
+            names.numbers(&link.from),
+            names.numbers(&link.to),
+            &mut links,
+        );
     }
     Ok(links)
 }
 
 /// Links each of the first items to each of the second.
-fn join(from: &[usize], to: &[usize], links: &mut Links) {
+#[tactic(auto, using(crate::proofs::ExplicitLemmas::all_start, crate::proofs::ExplicitLemmas::all_more, crate::proofs::ExplicitLemmas::all_done, crate::proofs::ExplicitLemmas::number_within))]
+fn link_all(from: &[usize], to: &[usize], links: &mut Links)
+    requires from { (k : ℕ) → has_number from.now k ≡ true → k < links.old.count }
+    requires to { (k : ℕ) → has_number to.now k ≡ true → k < links.old.count }
+    ensures count { links.new.count ≡ links.old.count }
+    ensures more { (u v : ℕ) → leads links.new.rows u v ≡ ((has_number from.now u && has_number to.now v) || leads links.old.rows u v) }
+{
     for first in from {
-        for second in to {
-            links.insert(*first, *second);
-        }
+        link_each(*first, to, links);
+    }
+}
+
+/// Links an item to each of these.
+#[tactic(auto, using(crate::proofs::ExplicitLemmas::each_start, crate::proofs::ExplicitLemmas::each_more, crate::proofs::ExplicitLemmas::each_done, crate::proofs::ExplicitLemmas::number_within))]
+fn link_each(first: usize, to: &[usize], links: &mut Links)
+    requires first { first < links.old.count }
+    requires to { (k : ℕ) → has_number to.now k ≡ true → k < links.old.count }
+    ensures count { links.new.count ≡ links.old.count }
+    ensures more { (u v : ℕ) → leads links.new.rows u v ≡ ((nat_eq first u && has_number to.now v) || leads links.old.rows u v) }
+{
+    for second in to {
+        links.insert(first, *second);
     }
 }

@@ -1,13 +1,26 @@
-ghost use Rattle.std.specs.Prelude.{◌≡◌, List, IfOk};
+ghost use Rattle.std.specs.Prelude.{◌≡◌, ℕ, List, false, Some, None, IfOk};
+ghost use Rattle.tf_flow.specs.Rules.{is_graph};
+ghost use Rattle.tf_flow.specs.declared.nested.FlowKind.TheVariants as kind;
 ghost use Rattle.tf_model.specs.Before.{Flow};
 ghost use Rattle.tf_order.specs.Arranged.{IsArranged, ShowsFlows};
 ghost use Rattle.tf_order.specs.Looked.{told_in, arranged_seen, refusal_seen};
-ghost use Rattle.tf_order.specs.Sight.{HasProviders};
+ghost use Rattle.tf_model.specs.Compilation.{ambiguity_at};
+ghost use Rattle.tf_model.specs.Numbers.{Pair, first_below, reached};
+ghost use Rattle.tf_order.specs.Bits.{has, room};
+ghost use Rattle.tf_order.specs.Doubts.{first_cycle};
+ghost use Rattle.tf_order.specs.Links.{AreLinks, AreReached};
+ghost use Rattle.tf_order.specs.Sight.{HasProviders, HasReach, atoms_seen, place_seen, count_seen};
 
 use crate::arranged::Arranged;
+use crate::bits::Bits;
+use crate::doubts::{ambiguity, cycle_fault};
 use crate::faults::CompileFault;
+use crate::linking::{Found, explicit, infer};
+use crate::links::Links;
 use crate::sight::Sight;
+use crate::standing_atoms::standing_atoms;
 use std::alloc::Global;
+use tf_flow::FlowKind;
 use tf_values::Memory;
 
 /// A flow that was looked at: what its links mean, and why it is refused, if it is.
@@ -18,11 +31,81 @@ pub struct Looked {
 }
 
 /// Looks at a flow: finds its links, its order and its refusal.
-pub fn look(_alloc: Global, sight: &Sight<'_, '_>) -> Result<Looked, Memory>
+pub fn look(alloc: Global, sight: &Sight<'_, '_>) -> Result<Looked, Memory>
     requires providers { HasProviders sight.now }
     ensures arranged { IfOk result (λ looked. (inner : List Flow) → ShowsFlows sight.now.table.now inner → IsArranged looked.arranged (arranged_seen sight.now inner)) }
     ensures refusal { IfOk result (λ looked. (inner : List Flow) → ShowsFlows sight.now.table.now inner → told_in looked.refusal ≡ refusal_seen sight.now inner) }
 {
-    let _ = sight.level;
-    Err(Memory)
+    match sight.level.flow.kind {
+        FlowKind::Linear | FlowKind::Unordered => look_at_plain(alloc, sight),
+        FlowKind::Graph => look_at_graph(alloc, sight),
+    }
+}
+
+/// Looks at a flow without links: a linear or an unordered one.
+#[tactic(auto, using(crate::proofs::LookLemmas::plain_arranged, crate::proofs::LookLemmas::plain_refusal))]
+fn look_at_plain(alloc: Global, sight: &Sight<'_, '_>) -> Result<Looked, Memory>
+    requires kind { is_graph (place_seen sight.now).kind ≡ false }
+    ensures arranged { IfOk result (λ looked. (inner : List Flow) → ShowsFlows sight.now.table.now inner → IsArranged looked.arranged (arranged_seen sight.now inner)) }
+    ensures refusal { IfOk result (λ looked. (inner : List Flow) → ShowsFlows sight.now.table.now inner → told_in looked.refusal ≡ refusal_seen sight.now inner) }
+{
+    let links = Links::new(alloc, sight.level.items.len())?;
+    let standing = standing_atoms(alloc, sight, &links)?;
+    let arranged = Arranged {
+        kind: sight.level.flow.kind,
+        links,
+        reach: Vec::new(alloc),
+        standing,
+    };
+    Ok(Looked {
+        arranged,
+        refusal: None,
+    })
+}
+
+/// Looks at a graph flow.
+#[tactic(auto, using(crate::proofs::LookLemmas::graph_links, crate::proofs::LookLemmas::graph_arranged))]
+fn look_at_graph(alloc: Global, sight: &Sight<'_, '_>) -> Result<Looked, Memory>
+    requires providers { HasProviders sight.now }
+    requires kind { (place_seen sight.now).kind ≡ kind.Graph }
+    ensures arranged { IfOk result (λ looked. (inner : List Flow) → ShowsFlows sight.now.table.now inner → IsArranged looked.arranged (arranged_seen sight.now inner)) }
+    ensures refusal { IfOk result (λ looked. (inner : List Flow) → ShowsFlows sight.now.table.now inner → told_in looked.refusal ≡ refusal_seen sight.now inner) }
+{
+    let links = explicit(alloc, sight.level)?;
+    let explicit_reach = links.reach(alloc)?;
+    let doubts = Bits::new(alloc, links.count())?;
+    let mut found = Found { links, doubts };
+    infer(alloc, sight, &explicit_reach, &mut found)?;
+    let Found { links, doubts } = found;
+    let reach = links.reach(alloc)?;
+    let refusal = refusal(alloc, sight, &explicit_reach, &doubts, &links, &reach)?;
+    let standing = standing_atoms(alloc, sight, &links)?;
+    let arranged = Arranged {
+        kind: FlowKind::Graph,
+        links,
+        reach,
+        standing,
+    };
+    Ok(Looked { arranged, refusal })
+}
+
+/// The refusal of a graph flow: that of the first item with an ambiguous symbol, or else that of its links.
+fn refusal(
+    alloc: Global,
+    sight: &Sight<'_, '_>,
+    explicit_reach: &[Bits],
+    doubts: &Bits,
+    links: &Links,
+    reach: &[Bits],
+) -> Result<Option<CompileFault>, Memory>
+    requires providers { HasProviders sight.now }
+    requires reach { HasReach sight.now explicit_reach.now }
+    requires count { links.now.count ≡ count_seen sight.now }
+    ensures doubt { IfOk result (λ fault. (item : ℕ) (inner : List Flow) → first_below (room doubts.now) (has doubts.now) ≡ Some item → ShowsFlows sight.now.table.now inner → told_in fault ≡ ambiguity_at (atoms_seen sight.now) inner (place_seen sight.now) item) }
+    ensures cycle { IfOk result (λ fault. (pairs : List Pair) → first_below (room doubts.now) (has doubts.now) ≡ None → AreLinks links.now pairs → AreReached (count_seen sight.now) (reached (count_seen sight.now) pairs) reach.now → told_in fault ≡ first_cycle (place_seen sight.now) (count_seen sight.now) pairs) }
+{
+    match doubts.first() {
+        Some(item) => ambiguity(alloc, sight, explicit_reach, item),
+        None => cycle_fault(alloc, sight, links, reach),
+    }
 }

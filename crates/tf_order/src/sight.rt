@@ -1,6 +1,6 @@
-ghost use Rattle.std.specs.Prelude.{◌≡◌, ℕ, ◌<◌, List, Bool, ◌||◌, not, nat_eq, length, filter, OnOk, IfOk};
+ghost use Rattle.std.specs.Prelude.{◌≡◌, ℕ, ◌<◌, List, Bool, true, ◌||◌, not, nat_eq, length, filter, OnOk, IfOk};
 ghost use Rattle.std.specs.List.{list_any};
-ghost use Rattle.tf_model.specs.Numbers.{which_below};
+ghost use Rattle.tf_model.specs.Numbers.{which_below, has_number};
 ghost use Rattle.tf_model.specs.Before.{Flow};
 ghost use Rattle.tf_model.specs.Linked as model;
 ghost use Rattle.tf_flow.specs.Names.{is_among};
@@ -111,7 +111,7 @@ fn mark_item(turn: Turn, flow: usize, count: usize, set: &mut Bits)
 
 /// The items that give a symbol to an item, where it asks for a link to it: not where the flow's retry
 /// controller provides it, or an item that reaches this one by explicit links.
-#[tactic(auto, using(crate::proofs::SightLemmas::givers_by_retry, crate::proofs::SightLemmas::givers_by_reach, crate::proofs::SightLemmas::givers_other))]
+#[tactic(auto, using(crate::proofs::SightLemmas::givers_by_retry, crate::proofs::SightLemmas::givers_by_reach, crate::proofs::SightLemmas::givers_other, crate::proofs::SightLemmas::none_within, crate::proofs::SightLemmas::others_within))]
 pub fn givers(
     alloc: Global,
     sight: &Sight<'_, '_>,
@@ -121,7 +121,8 @@ pub fn givers(
 ) -> Result<Vec<usize>, Memory>
     requires providers { HasProviders sight.now }
     requires reach { HasReach sight.now reach.now }
-    ensures { IfOk result (λ found. found.items ≡ model.givers (atoms_seen sight.now) (place_seen sight.now) item symbol.now) }
+    ensures all { IfOk result (λ found. found.items ≡ model.givers (atoms_seen sight.now) (place_seen sight.now) item symbol.now) }
+    ensures within { IfOk result (λ found. (k : ℕ) → has_number found.items k ≡ true → k < count_seen sight.now) }
 {
     if retry_provides(&sight.level.flow.retry, symbol) {
         return Ok(Vec::new(alloc));

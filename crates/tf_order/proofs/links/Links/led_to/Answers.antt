@@ -10,5 +10,5 @@ returns-clause-within c =
     let count : c.self.inside.count ≡ c.args.self.now.count = ap (λ (m : LinksValue). m.count) c.self.view_is in
     λ k on.
     let below : k < c.self.inside.count = led_within c.self.inside.from.items c.self.inside.count (64 * words_for c.self.inside.count) c.args.item c.in_ok-items.items.items c.self.invariant.within
-      (c.in_ok-items.ensures ∙ led_row c.self.inside.from.items c.self.inside.count c.args.item c.index.result.now c.self.invariant.from (omega (arith, count, c.requires)) c.index.ensures) k on in
+    (c.in_ok-items.ensures ∙ led_row c.self.inside.from.items c.self.inside.count c.args.item c.index.result.now c.self.invariant.from (omega (arith, count, c.requires)) c.index.ensures) k on in
     omega (arith, below, count)

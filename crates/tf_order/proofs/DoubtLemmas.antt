@@ -1,0 +1,248 @@
+-- The symbols that make an item ambiguous, and the cycle of a flow.
+use Rattle.std.proofs.Common.{◌≡◌, ◌≢◌, ℕ, zero, suc, ◌+◌, ◌<◌, ◌≤◌, min, List, [], ◌∷◌, ◌++◌, length, take, drop, map, filter, flat_map, Bool, true, false, ◌&&◌, ◌||◌, not, Option, Some, None, refl, sym, ap, ◌∙◌, add-one, append_assoc, inl, inr, arith, eqb-true, eq-eqb, slice_index_or, slice_get, cond}
+use Rattle.std.specs.Prelude.{nat_eq, nat_lt, if◌then◌else◌}
+use Rattle.std.specs.List.{list_any}
+use Rattle.std.specs.Option.{option_or, option_map}
+use Rattle.std.proofs.lemmas.Bool.{cases_lt, ltb-true, lt-ltb}
+use Rattle.std.proofs.lemmas.List.{length-map, map-append}
+use Rattle.std.proofs.lemmas.Option.{slice_get-map}
+use Rattle.tf_flow.specs.declared.atoms.Arg.{Arg}
+use Rattle.tf_flow.specs.Names.{is_among, first_some}
+use Rattle.tf_flow.specs.Rules.{bind_symbols}
+use Rattle.tf_model.specs.Numbers.{which_below, numbers_below, has_number, first_below, Pair, has_pair, reached}
+use Rattle.tf_model.specs.Outline.{Turn, Part, Atom, injected_in, arguments_of}
+use Rattle.tf_model.specs.Before.{Flow, way_at, passes_item}
+use Rattle.tf_model.specs.Linked.{arg_symbol, is_taken, taken_symbols, is_unserved, is_inside, needs_of_atom, needs, givers, item_name, item_name_in}
+use Rattle.tf_model.specs.Compilation.{CompileRefusal, ambiguous, cycle, name_less, lesser, least, are_several, is_ambiguous, refuse_givers, refuse_symbol, ambiguity_at, ambiguity, shortest_cycle}
+use Rattle.tf_order.specs.declared.faults.CompileFault.{CompileFault}
+use Rattle.tf_order.specs.declared.faults.CompileFault.TheVariants as fault
+use Rattle.tf_order.specs.declared.outline.AtomPlace.{AtomPlace}
+use Rattle.tf_order.specs.declared.outline.ItemPlace.{ItemPlace}
+use Rattle.tf_order.specs.declared.sight.Sight.{Sight}
+use Rattle.tf_order.specs.Arranged.{ShowsFlows}
+use Rattle.tf_order.specs.Doubts.{doubtful, doubts_by, doubts_inside, doubts_below, is_back, cycle_through, first_cycle}
+use Rattle.tf_order.specs.Looked.{told_in}
+use Rattle.tf_order.specs.Places.{shown_part, shown_atoms, shown_item}
+use Rattle.tf_order.specs.Sight.{atoms_seen, place_seen, count_seen, needed_by, needed_at, needed_below}
+use Rattle.tf_order.specs.Links.{leads, LinksValue, AreLinks, AreReached}
+use Rattle.tf_order.proofs.NumberLemmas.{same_truth, never_true, not_both, first_is, first_none}
+use Rattle.tf_order.proofs.BitLemmas.{ap2, index_zero}
+use Rattle.tf_order.proofs.StandingLemmas.{listed_within, taking_next}
+use Rattle.tf_order.proofs.SightLemmas.{length_seen}
+use Rattle.tf_order.proofs.LinkingLemmas.{filter_append, flat_append, needed_append, take_next, take_whole, take_none, part_seen, one_needed}
+
+append_none : (xs : List (List ℕ)) → xs ++ [] ≡ xs
+append_none [] = refl
+append_none (x ∷ xs) = ap (λ (ys : List (List ℕ)). x ∷ ys) (append_none xs)
+
+-- ---- one argument
+
+nothing_more : (symbols more : List (List ℕ)) → more ≡ [] → symbols ≡ symbols ++ more
+nothing_more symbols more none = sym (append_none symbols) ∙ ap (λ (xs : List (List ℕ)). symbols ++ xs) (sym none)
+
+pub argument_bound : (sight : Sight) (inner : List Flow) (item atom : ℕ) (part : Part) (arg : Arg) (symbols : List (List ℕ)) → is_among (bind_symbols (injected_in part)) arg.symbol ≡ true → symbols ≡ symbols ++ doubts_by sight inner item atom part (arg ∷ [])
+argument_bound sight inner item atom part arg symbols bound = nothing_more symbols (doubts_by sight inner item atom part (arg ∷ []))
+    (ap (λ (b : Bool). doubtful sight item (filter (is_unserved (atoms_seen sight) inner (place_seen sight).number item atom) (map arg_symbol (cond (not b) (arg ∷ []) [])))) bound)
+
+pub argument_served : (sight : Sight) (inner : List Flow) (item atom : ℕ) (part : Part) (arg : Arg) (symbols : List (List ℕ)) → is_among (bind_symbols (injected_in part)) arg.symbol ≡ false
+    → false ≡ is_unserved (atoms_seen sight) inner (place_seen sight).number item atom arg.symbol → symbols ≡ symbols ++ doubts_by sight inner item atom part (arg ∷ [])
+argument_served sight inner item atom part arg symbols free served = nothing_more symbols (doubts_by sight inner item atom part (arg ∷ []))
+    (ap (doubtful sight item) (one_needed sight inner item atom part arg free) ∙ ap (λ (b : Bool). doubtful sight item (cond b (arg.symbol ∷ []) [])) (sym served))
+
+one_doubt : (sight : Sight) (inner : List Flow) (item atom : ℕ) (part : Part) (arg : Arg) → is_among (bind_symbols (injected_in part)) arg.symbol ≡ false
+    → true ≡ is_unserved (atoms_seen sight) inner (place_seen sight).number item atom arg.symbol → doubts_by sight inner item atom part (arg ∷ []) ≡ doubtful sight item (arg.symbol ∷ [])
+one_doubt sight inner item atom part arg free needed = ap (doubtful sight item) (one_needed sight inner item atom part arg free ∙ ap (λ (b : Bool). cond b (arg.symbol ∷ []) []) (sym needed))
+
+few : (xs : List ℕ) → length xs < 2 → are_several xs ≡ false
+few [] less = refl
+few (x ∷ []) less = refl
+few (x ∷ y ∷ ys) less = absurd (omega arith)
+
+many : (xs : List ℕ) → 2 ≤ length xs → are_several xs ≡ true
+many [] more = absurd (omega arith)
+many (x ∷ []) more = absurd (omega arith)
+many (x ∷ y ∷ ys) more = refl
+
+pub argument_clear : (sight : Sight) (inner : List Flow) (item atom : ℕ) (part : Part) (arg : Arg) (symbols : List (List ℕ)) (found : List ℕ) → is_among (bind_symbols (injected_in part)) arg.symbol ≡ false
+    → true ≡ is_unserved (atoms_seen sight) inner (place_seen sight).number item atom arg.symbol → found ≡ givers (atoms_seen sight) (place_seen sight) item arg.symbol → length found < 2 → symbols ≡ symbols ++ doubts_by sight inner item atom part (arg ∷ [])
+argument_clear sight inner item atom part arg symbols found free needed is less = nothing_more symbols (doubts_by sight inner item atom part (arg ∷ []))
+    (one_doubt sight inner item atom part arg free needed ∙ ap (λ (b : Bool). cond b (arg.symbol ∷ []) []) (ap are_several (sym is) ∙ few found less))
+
+pub argument_doubtful : (sight : Sight) (inner : List Flow) (item atom : ℕ) (part : Part) (arg : Arg) (symbols : List (List ℕ)) (found : List ℕ) → is_among (bind_symbols (injected_in part)) arg.symbol ≡ false
+    → true ≡ is_unserved (atoms_seen sight) inner (place_seen sight).number item atom arg.symbol → found ≡ givers (atoms_seen sight) (place_seen sight) item arg.symbol → 2 ≤ length found → symbols ++ arg.symbol ∷ [] ≡ symbols ++ doubts_by sight inner item atom part (arg ∷ [])
+argument_doubtful sight inner item atom part arg symbols found free needed is more = ap (λ (xs : List (List ℕ)). symbols ++ xs)
+    (sym (one_doubt sight inner item atom part arg free needed ∙ ap (λ (b : Bool). cond b (arg.symbol ∷ []) []) (ap are_several (sym is) ∙ many found more)))
+
+-- ---- the arguments of an atom
+
+abbrev pub DoubtsSeen : Sight → ℕ → ℕ → Part → List (List ℕ) → List (List ℕ) → List Arg → Type 0
+DoubtsSeen sight item atom part old symbols args = (inner : List Flow) → ShowsFlows sight.table.now inner → symbols ≡ old ++ doubts_by sight inner item atom part args
+
+pub part_start : (sight : Sight) (item atom : ℕ) (part : Part) (symbols : List (List ℕ)) (args : List Arg) → DoubtsSeen sight item atom part symbols symbols (take 0 args)
+part_start sight item atom part symbols args inner shows = nothing_more symbols (doubts_by sight inner item atom part (take 0 args)) (ap (doubts_by sight inner item atom part) (take_none args))
+
+pub part_more : (sight : Sight) (item atom : ℕ) (part : Part) (old symbols new : List (List ℕ)) (args : List Arg) (i : ℕ) (arg : Arg) → DoubtsSeen sight item atom part old symbols (take i args) → i < length args → arg ≡ slice_index_or args i arg
+    → DoubtsSeen sight item atom part symbols new (arg ∷ []) → DoubtsSeen sight item atom part old new (take (i + 1) args)
+part_more sight item atom part old symbols new args i arg before within is one inner shows = one inner shows
+    ∙ (ap (λ (xs : List (List ℕ)). xs ++ doubts_by sight inner item atom part (arg ∷ [])) (before inner shows)
+    ∙ (append_assoc old (doubts_by sight inner item atom part (take i args)) (doubts_by sight inner item atom part (arg ∷ []))
+    ∙ ap (λ (xs : List (List ℕ)). old ++ xs)
+    (sym (ap (doubts_by sight inner item atom part) (ap (λ (n : ℕ). take n args) (add-one i) ∙ take_next args i arg within is)
+    ∙ (ap (doubtful sight item) (needed_append sight inner item atom part (take i args) (arg ∷ []))
+    ∙ filter_append (is_ambiguous (atoms_seen sight) (place_seen sight) item) (needed_by sight inner item atom part (take i args)) (needed_by sight inner item atom part (arg ∷ [])))))))
+
+pub part_all : (sight : Sight) (item atom : ℕ) (part : Part) (old symbols : List (List ℕ)) (args : List Arg) (i : ℕ) → DoubtsSeen sight item atom part old symbols (take i args) → length args ≤ i → args ≡ arguments_of part → DoubtsSeen sight item atom part old symbols (arguments_of part)
+part_all sight item atom part old symbols args i is whole are inner shows = is inner shows ∙ ap (λ (xs : List Arg). old ++ doubts_by sight inner item atom part xs) (take_whole args i whole ∙ are)
+
+-- ---- one atom
+
+pub atom_outside : (sight : Sight) (inner : List Flow) (item atom : ℕ) (place : AtomPlace) (symbols : List (List ℕ)) (way : List Turn) → way ≡ way_at (atoms_seen sight) atom → passes_item (place_seen sight).number (Some item) way ≡ false → symbols ≡ symbols ++ doubts_inside sight inner item atom
+atom_outside sight inner item atom place symbols way is off = nothing_more symbols (doubts_inside sight inner item atom)
+    (ap (λ (b : Bool). if b then doubtful sight item (needed_at sight inner atom item) else []) (ap (passes_item (place_seen sight).number (Some item)) (sym is) ∙ off))
+
+pub atom_inside : (sight : Sight) (item atom : ℕ) (place : AtomPlace) (old symbols : List (List ℕ)) (way : List Turn) → way ≡ way_at (atoms_seen sight) atom → passes_item (place_seen sight).number (Some item) way ≡ true → atom < length sight.atoms.now → place ≡ slice_index_or sight.atoms.now atom place
+    → DoubtsSeen sight item atom (shown_part place.part) old symbols (arguments_of (shown_part place.part)) → (inner : List Flow) → ShowsFlows sight.table.now inner → symbols ≡ old ++ doubts_inside sight inner item atom
+atom_inside sight item atom place old symbols way is on within read seen inner shows = seen inner shows
+    ∙ ap (λ (xs : List (List ℕ)). old ++ xs)
+    (ap (λ (xs : List (List ℕ)). doubtful sight item (filter (is_unserved (atoms_seen sight) inner (place_seen sight).number item atom) xs)) (sym (part_seen sight.atoms.now atom place within read))
+    ∙ sym (ap (λ (b : Bool). if b then doubtful sight item (needed_at sight inner atom item) else []) (ap (passes_item (place_seen sight).number (Some item)) (sym is) ∙ on)))
+
+-- ---- all atoms
+
+abbrev pub DoubtsBelow : Sight → ℕ → List (List ℕ) → ℕ → Type 0
+DoubtsBelow sight item symbols n = (inner : List Flow) → ShowsFlows sight.table.now inner → symbols ≡ doubts_below sight inner item n
+
+pub all_start : (sight : Sight) (item : ℕ) (symbols : List (List ℕ)) → symbols ≡ [] → DoubtsBelow sight item symbols 0
+all_start sight item symbols none inner shows = none
+
+pub all_more : (sight : Sight) (item : ℕ) (symbols new : List (List ℕ)) (atom : ℕ) → DoubtsBelow sight item symbols atom → ((inner : List Flow) → ShowsFlows sight.table.now inner → new ≡ symbols ++ doubts_inside sight inner item atom) → DoubtsBelow sight item new (atom + 1)
+all_more sight item symbols new atom before more inner shows = more inner shows
+    ∙ (ap (λ (xs : List (List ℕ)). xs ++ doubts_inside sight inner item atom) (before inner shows)
+    ∙ sym (ap (λ (n : ℕ). doubts_below sight inner item n) (add-one atom)
+    ∙ (ap (doubtful sight item) (flat_append (needs_of_atom (atoms_seen sight) inner (place_seen sight).number item) (which_below atom (is_inside (atoms_seen sight) (place_seen sight).number item)) (if is_inside (atoms_seen sight) (place_seen sight).number item atom then atom ∷ [] else []))
+    ∙ (filter_append (is_ambiguous (atoms_seen sight) (place_seen sight) item) (needed_below sight inner atom item) (flat_map (needs_of_atom (atoms_seen sight) inner (place_seen sight).number item) (if is_inside (atoms_seen sight) (place_seen sight).number item atom then atom ∷ [] else []))
+    ∙ ap (λ (xs : List (List ℕ)). doubts_below sight inner item atom ++ xs) (last (is_inside (atoms_seen sight) (place_seen sight).number item atom))))))
+  where
+    last : (b : Bool) → doubtful sight item (flat_map (needs_of_atom (atoms_seen sight) inner (place_seen sight).number item) (if b then atom ∷ [] else [])) ≡ (if b then doubtful sight item (needed_at sight inner atom item) else [])
+    last true = ap (doubtful sight item) (append_none (needs_of_atom (atoms_seen sight) inner (place_seen sight).number item atom))
+    last false = refl
+
+pub all_done : (sight : Sight) (item : ℕ) (symbols : List (List ℕ)) (n : ℕ) → DoubtsBelow sight item symbols n → n ≡ length sight.atoms.now → (inner : List Flow) → ShowsFlows sight.table.now inner
+    → symbols ≡ filter (is_ambiguous (atoms_seen sight) (place_seen sight) item) (needs (atoms_seen sight) inner (place_seen sight).number item)
+all_done sight item symbols n is whole inner shows = is inner shows ∙ ap (λ (k : ℕ). doubts_below sight inner item k) (whole ∙ sym (length_seen sight.atoms.now))
+
+-- ---- the refusal
+
+pub no_symbol : (sight : Sight) (inner : List Flow) (item : ℕ) (symbols : List (List ℕ)) → symbols ≡ filter (is_ambiguous (atoms_seen sight) (place_seen sight) item) (needs (atoms_seen sight) inner (place_seen sight).number item) → least symbols ≡ None
+    → None ≡ ambiguity_at (atoms_seen sight) inner (place_seen sight) item
+no_symbol sight inner item symbols is none = sym (ap (refuse_symbol (atoms_seen sight) (place_seen sight) item) (ap least (sym is) ∙ none))
+
+pub too_few : (sight : Sight) (inner : List Flow) (item : ℕ) (symbols : List (List ℕ)) (symbol : List ℕ) (found : List ℕ) → symbols ≡ filter (is_ambiguous (atoms_seen sight) (place_seen sight) item) (needs (atoms_seen sight) inner (place_seen sight).number item) → least symbols ≡ Some symbol
+    → found ≡ givers (atoms_seen sight) (place_seen sight) item symbol → length found < 2 → None ≡ ambiguity_at (atoms_seen sight) inner (place_seen sight) item
+too_few sight inner item symbols symbol found is some are less = sym (ap (refuse_symbol (atoms_seen sight) (place_seen sight) item) (ap least (sym is) ∙ some) ∙ (ap (refuse_givers (place_seen sight) symbol) (sym are) ∙ none found less))
+  where
+    none : (xs : List ℕ) → length xs < 2 → refuse_givers (place_seen sight) symbol xs ≡ None
+    none [] less = refl
+    none (x ∷ []) less = refl
+    none (x ∷ y ∷ ys) less = absurd (omega arith)
+
+-- the name of an item by its number
+pub name_seen : (sight : Sight) (u : ℕ) (item : ItemPlace) → u < count_seen sight → item ≡ slice_index_or sight.level.now.items.items u item → item.name ≡ item_name (place_seen sight) u
+name_seen sight u item within read = sym (ap item_name_in (slice_get-map shown_item sight.level.now.items.items u ∙ ap (option_map shown_item) (there sight.level.now.items.items u item within read)))
+  where
+    there : (xs : List ItemPlace) (k : ℕ) (x : ItemPlace) → k < length xs → x ≡ slice_index_or xs k x → slice_get xs k ≡ Some x
+    there [] k x within is = absurd (omega arith)
+    there (y ∷ ys) zero x within is = ap Some (sym is)
+    there (y ∷ ys) (suc k) x within is = there ys k x (omega arith) is
+
+pub two_givers : (sight : Sight) (inner : List Flow) (item : ℕ) (symbols : List (List ℕ)) (symbol first second : List ℕ) (found : List ℕ) → symbols ≡ filter (is_ambiguous (atoms_seen sight) (place_seen sight) item) (needs (atoms_seen sight) inner (place_seen sight).number item) → least symbols ≡ Some symbol
+    → found ≡ givers (atoms_seen sight) (place_seen sight) item symbol → 2 ≤ length found → first ≡ item_name (place_seen sight) (slice_index_or found 0 0) → second ≡ item_name (place_seen sight) (slice_index_or found 1 0)
+    → Some (ambiguous symbol first second) ≡ ambiguity_at (atoms_seen sight) inner (place_seen sight) item
+two_givers sight inner item symbols symbol first second found is some are more one other =
+    sym (ap (refuse_symbol (atoms_seen sight) (place_seen sight) item) (ap least (sym is) ∙ some) ∙ (ap (refuse_givers (place_seen sight) symbol) (sym are) ∙ two found more one other))
+  where
+    two : (xs : List ℕ) → 2 ≤ length xs → first ≡ item_name (place_seen sight) (slice_index_or xs 0 0) → second ≡ item_name (place_seen sight) (slice_index_or xs 1 0) → refuse_givers (place_seen sight) symbol xs ≡ Some (ambiguous symbol first second)
+    two [] more one other = absurd (omega arith)
+    two (x ∷ []) more one other = absurd (omega arith)
+    two (x ∷ y ∷ ys) more one other = ap2 (λ (a b : List ℕ). Some (ambiguous symbol a b)) (sym one) (sym other)
+
+pub two_named : (sight : Sight) (inner : List Flow) (item : ℕ) (symbols : List (List ℕ)) (symbol first second : List ℕ) (found : List ℕ) (x y : ℕ) → symbols ≡ filter (is_ambiguous (atoms_seen sight) (place_seen sight) item) (needs (atoms_seen sight) inner (place_seen sight).number item) → least symbols ≡ Some symbol
+    → found ≡ givers (atoms_seen sight) (place_seen sight) item symbol → 2 ≤ length found → x ≡ slice_index_or found 0 x → y ≡ slice_index_or found 1 y → first ≡ item_name (place_seen sight) x → second ≡ item_name (place_seen sight) y
+    → Some (ambiguous symbol first second) ≡ ambiguity_at (atoms_seen sight) inner (place_seen sight) item
+two_named sight inner item symbols symbol first second found x y is some are more x_is y_is one other = two_givers sight inner item symbols symbol first second found is some are more
+    (one ∙ ap (item_name (place_seen sight)) (index_zero found 0 x (omega (arith, more)) x_is)) (other ∙ ap (item_name (place_seen sight)) (index_zero found 1 y (omega (arith, more)) y_is))
+
+pub number_read : (count : ℕ) (xs : List ℕ) (i x : ℕ) → ((k : ℕ) → has_number xs k ≡ true → k < count) → i < length xs → x ≡ slice_index_or xs i x → x < count
+number_read count xs i x within below is =
+    let zero : x ≡ slice_index_or xs i 0 = index_zero xs i x below is in
+    let less : slice_index_or xs i 0 < count = within (slice_index_or xs i 0) (listed_within xs i below) in omega (arith, zero, less)
+
+-- ---- byte order
+
+pub less_apart : (a b : List ℕ) (i x y : ℕ) → i < length a → i < length b → x ≡ slice_index_or a i x → y ≡ slice_index_or b i y → x ≢ y → name_less (drop i a) (drop i b) ≡ nat_lt x y
+less_apart [] b i x y a_in b_in x_is y_is differ = absurd (omega arith)
+less_apart (p ∷ ps) [] i x y a_in b_in x_is y_is differ = absurd (omega arith)
+less_apart (p ∷ ps) (q ∷ qs) zero x y a_in b_in x_is y_is differ =
+    ap (λ (c : Bool). if c then name_less ps qs else nat_lt p q) (never_true (nat_eq p q) (λ same. differ (x_is ∙ (eqb-true p q same ∙ sym y_is)))) ∙ ap2 nat_lt (sym x_is) (sym y_is)
+less_apart (p ∷ ps) (q ∷ qs) (suc i) x y a_in b_in x_is y_is differ = less_apart ps qs i x y (omega arith) (omega arith) x_is y_is differ
+
+less_next : (a b : List ℕ) (i x y : ℕ) → i < length a → i < length b → x ≡ slice_index_or a i x → y ≡ slice_index_or b i y → x ≡ y → name_less (drop (suc i) a) (drop (suc i) b) ≡ name_less (drop i a) (drop i b)
+less_next [] b i x y a_in b_in x_is y_is same = absurd (omega arith)
+less_next (p ∷ ps) [] i x y a_in b_in x_is y_is same = absurd (omega arith)
+less_next (p ∷ ps) (q ∷ qs) zero x y a_in b_in x_is y_is same = ap2 name_less (drop_none ps) (drop_none qs) ∙ sym (ap (λ (c : Bool). if c then name_less ps qs else nat_lt p q) (eq-eqb p q (sym x_is ∙ (same ∙ y_is))))
+  where
+    drop_none : (xs : List ℕ) → drop 0 xs ≡ xs
+    drop_none [] = refl
+    drop_none (z ∷ zs) = refl
+less_next (p ∷ ps) (q ∷ qs) (suc i) x y a_in b_in x_is y_is same = less_next ps qs i x y (omega arith) (omega arith) x_is y_is same
+
+pub less_same : (a b : List ℕ) (i x y : ℕ) → i < length a → i < length b → x ≡ slice_index_or a i x → y ≡ slice_index_or b i y → x ≡ y → name_less (drop (i + 1) a) (drop (i + 1) b) ≡ name_less (drop i a) (drop i b)
+less_same a b i x y a_in b_in x_is y_is same = ap2 name_less (ap (λ (n : ℕ). drop n a) (add-one i)) (ap (λ (n : ℕ). drop n b) (add-one i)) ∙ less_next a b i x y a_in b_in x_is y_is same
+
+drop_all : (xs : List ℕ) (i : ℕ) → length xs ≤ i → drop i xs ≡ []
+drop_all [] zero past = refl
+drop_all [] (suc i) past = refl
+drop_all (x ∷ xs) zero past = absurd (omega arith)
+drop_all (x ∷ xs) (suc i) past = drop_all xs i (omega arith)
+
+drop_some : (xs : List ℕ) (i : ℕ) → i < length xs → (y : ℕ) × (ys : List ℕ) × (drop i xs ≡ y ∷ ys)
+drop_some [] i below = absurd (omega arith)
+drop_some (x ∷ xs) zero below = (x, xs, refl)
+drop_some (x ∷ xs) (suc i) below = drop_some xs i (omega arith)
+
+less_none : (xs : List ℕ) → name_less xs [] ≡ false
+less_none [] = refl
+less_none (x ∷ xs) = refl
+
+pub less_over : (a b : List ℕ) (i : ℕ) → min (length a) (length b) ≤ i → i ≤ length a → i ≤ length b → nat_lt (length a) (length b) ≡ name_less (drop i a) (drop i b)
+less_over a b i whole a_in b_in = elim (cases_lt (length a) (length b)) [
+  | inl shorter ↦ let rest = drop_some b i (omega (arith, whole, a_in, shorter)) in
+      lt-ltb (length a) (length b) shorter ∙ sym (ap2 name_less (drop_all a i (omega (arith, whole, shorter))) rest.2)
+  | inr longer ↦ never_true (nat_lt (length a) (length b)) (λ less. let below : length a < length b = ltb-true (length a) (length b) less in omega (arith, below, longer))
+      ∙ sym (ap (name_less (drop i a)) (drop_all b i (omega (arith, whole, longer))) ∙ less_none (drop i a))
+]
+
+-- ---- the cycle of a flow
+
+pub names_more : (f : ℕ → List ℕ) (items : List ℕ) (names : List (List ℕ)) (i : ℕ) (name : List ℕ) → names ≡ map f (take i items) → i < length items → name ≡ f (slice_index_or items i 0) → names ++ name ∷ [] ≡ map f (take (i + 1) items)
+names_more f items names i name before within is =
+    ap2 (λ (xs : List (List ℕ)) (x : List ℕ). xs ++ x ∷ []) before is
+    ∙ sym (ap (map f) (ap (λ (n : ℕ). take n items) (add-one i) ∙ taking_next items i within) ∙ map-append f (take i items) (slice_index_or items i 0 ∷ []))
+
+pub cycle_found : (sight : Sight) (links : LinksValue) (reach : List (List ℕ)) (item : ℕ) (items : List ℕ) (names : List (List ℕ)) → links.count ≡ count_seen sight → item < links.count → leads reach item item ≡ true → ((k : ℕ) → k < item → leads reach k k ≡ false)
+    → ((pairs : List Pair) → AreLinks links pairs → items ≡ shortest_cycle links.count pairs item) → names ≡ map (item_name (place_seen sight)) items
+    → (pairs : List Pair) → AreLinks links pairs → AreReached (count_seen sight) (reached (count_seen sight) pairs) reach → Some (cycle names) ≡ first_cycle (place_seen sight) (count_seen sight) pairs
+cycle_found sight links reach item items names count below on before shortest named pairs are reached_is =
+    ap (λ (ns : List (List ℕ)). Some (cycle ns)) (named ∙ ap (map (item_name (place_seen sight))) (shortest pairs are ∙ ap (λ (n : ℕ). shortest_cycle n pairs item) count))
+    ∙ sym (ap (option_map (cycle_through (place_seen sight) (count_seen sight) pairs)) (first_is (count_seen sight) (is_back (count_seen sight) pairs) item (omega (arith, below, count)) (sym (reached_is.same item item) ∙ on) (λ j less. sym (reached_is.same j j) ∙ before j less)))
+
+pub no_cycle : (sight : Sight) (links : LinksValue) (reach : List (List ℕ)) (item : ℕ) → links.count ≡ count_seen sight → links.count ≤ item → ((k : ℕ) → k < item → leads reach k k ≡ false)
+    → (pairs : List Pair) → AreLinks links pairs → AreReached (count_seen sight) (reached (count_seen sight) pairs) reach → None ≡ first_cycle (place_seen sight) (count_seen sight) pairs
+no_cycle sight links reach item count whole before pairs are reached_is =
+    sym (ap (option_map (cycle_through (place_seen sight) (count_seen sight) pairs)) (first_none (count_seen sight) (is_back (count_seen sight) pairs) (λ j less. sym (reached_is.same j j) ∙ before j (omega (arith, less, count, whole)))))
+
+pub none_back_more : (reach : List (List ℕ)) (item : ℕ) → ((k : ℕ) → k < item → leads reach k k ≡ false) → leads reach item item ≡ false → (k : ℕ) → k < item + 1 → leads reach k k ≡ false
+none_back_more reach item before off k less = elim (cases_lt k item) [
+  | inl earlier ↦ before k earlier
+  | inr from ↦ let same : k ≡ item = omega (arith, from, less) in ap (λ (n : ℕ). leads reach n n) same ∙ off
+]

@@ -1,0 +1,259 @@
+-- A flow that was looked at, against the definitions.
+use Rattle.std.proofs.Common.{◌≡◌, ◌≢◌, ℕ, zero, suc, ◌+◌, ◌*◌, ◌<◌, ◌≤◌, List, [], ◌∷◌, ◌++◌, length, map, filter, Bool, true, false, ◌&&◌, ◌||◌, not, Option, Some, None, refl, sym, ap, subst, ◌∙◌, inl, inr, arith, eqb-true, eq-eqb, cond}
+use Rattle.std.specs.Prelude.{nat_eq, nat_lt, is_some, if◌then◌else◌}
+use Rattle.std.specs.List.{list_any, list_all}
+use Rattle.std.specs.Option.{option_or, option_map}
+use Rattle.std.proofs.lemmas.Bool.{cases_lt, ltb-true, lt-ltb}
+use Rattle.std.proofs.lemmas.List.{length-map}
+use Rattle.tf_flow.specs.declared.nested.FlowKind.{FlowKind}
+use Rattle.tf_flow.specs.declared.nested.FlowKind.TheVariants as kind
+use Rattle.tf_flow.specs.Names.{first_some}
+use Rattle.tf_flow.specs.Rules.{is_graph}
+use Rattle.tf_model.specs.Numbers.{first_below, numbers_below, has_number, Pair, has_pair, pairs_below, reached}
+use Rattle.tf_model.specs.Outline.{FlowPlace}
+use Rattle.tf_model.specs.Before.{Flow}
+use Rattle.tf_model.specs.Linked.{needs, givers, is_only, is_inferred_by, is_inferred, is_explicit, explicit, is_linked, linked_pairs, item_order, standing_atoms, arrange}
+use Rattle.tf_model.specs.Compilation.{CompileRefusal, lesser, least, name_less, are_several, is_ambiguous, refuse_givers, refuse_symbol, ambiguity_at, ambiguity, cycle_of, refusal_of}
+use Rattle.tf_model.proofs.StepLemmas.{and_first, and_second, or_either}
+use Rattle.tf_model.proofs.PairLemmas.{pair_passes, passes_pair, true_first, true_second, true_both}
+use Rattle.tf_order.specs.declared.arranged.Arranged.{Arranged}
+use Rattle.tf_order.specs.declared.sight.Sight.{Sight}
+use Rattle.tf_order.specs.Arranged.{comes_by, comes_before, IsArranged, ShowsFlows}
+use Rattle.tf_order.specs.Bits.{has, room, words_for}
+use Rattle.tf_order.specs.Doubts.{cycle_through, first_cycle}
+use Rattle.tf_order.specs.Links.{leads, LinksValue, AreLinks, AreReached}
+use Rattle.tf_order.specs.Looked.{told_in, arranged_seen, refusal_seen}
+use Rattle.tf_order.specs.Places.{shown_item}
+use Rattle.tf_order.specs.Sight.{atoms_seen, place_seen, count_seen, LinksBy}
+use Rattle.tf_order.proofs.NumberLemmas.{same_truth, never_true, not_both, first_passes, first_within, first_before, none_first}
+use Rattle.tf_order.proofs.BitLemmas.{ap2}
+use Rattle.tf_order.proofs.LinkingLemmas.{giver_below}
+use Rattle.tf_order.proofs.SightLemmas.{length_items}
+
+-- ---- a flow without links
+
+pub no_pairs : (sight : Sight) (inner : List Flow) → is_graph (place_seen sight).kind ≡ false → linked_pairs (atoms_seen sight) inner (place_seen sight) ≡ []
+no_pairs sight inner plain = ap (λ (b : Bool). if b then pairs_below (length (place_seen sight).items) (is_linked (atoms_seen sight) inner (place_seen sight)) else []) plain
+
+pub none_linked : (links : LinksValue) → ((u v : ℕ) → leads links.rows u v ≡ false) → AreLinks links []
+none_linked links none = record { same = none; first = λ u v on. absurd (cc); second = λ u v on. absurd (cc) }
+
+plain_order : (how : FlowKind) (count n : ℕ) (links : LinksValue) (reach : List (List ℕ)) (linked : List Pair) (u v : ℕ) → is_graph how ≡ false → count ≡ n → comes_by how count reach u v ≡ has_pair (item_order how n linked) u v
+plain_order kind.Graph count n links reach linked u v plain same = absurd (cc)
+plain_order kind.Unordered count n links reach linked u v plain same = refl
+plain_order kind.Linear count n links reach linked u v plain same = same_truth (nat_lt u v && nat_lt v count) (has_pair (pairs_below n nat_lt) u v)
+    (λ on. let earlier : u < v = ltb-true u v (and_first (nat_lt u v) (nat_lt v count) on) in let below : v < count = ltb-true v count (and_second (nat_lt u v) (nat_lt v count) on) in
+    passes_pair n nat_lt u v (omega (arith, earlier, below, same)) (omega (arith, below, same)) (and_first (nat_lt u v) (nat_lt v count) on))
+    (λ on. let passes = pair_passes n nat_lt u v on in true_both (nat_lt u v) (nat_lt v count) passes.tested (lt-ltb v count (omega (arith, passes.second, same))))
+
+pub plain_arranged : (sight : Sight) (flow : Arranged) → is_graph (place_seen sight).kind ≡ false → flow.kind ≡ (place_seen sight).kind → flow.links.count ≡ count_seen sight → ((u v : ℕ) → leads flow.links.rows u v ≡ false)
+    → ((inner : List Flow) (pairs : List Pair) → ShowsFlows sight.table.now inner → AreLinks flow.links pairs → flow.standing.items ≡ standing_atoms inner (place_seen sight) pairs)
+    → (inner : List Flow) → ShowsFlows sight.table.now inner → IsArranged flow (arranged_seen sight inner)
+plain_arranged sight flow plain same count none standing inner shows = record {
+  kind = same;
+  order = λ u v. ap (λ (k : FlowKind). comes_by k flow.links.count flow.reach.items u v) same
+      ∙ plain_order (place_seen sight).kind flow.links.count (length (place_seen sight).items) flow.links flow.reach.items (linked_pairs (atoms_seen sight) inner (place_seen sight)) u v plain (count ∙ sym (length_items sight));
+  linked = λ u v. none u v ∙ sym (ap (λ (ps : List Pair). has_pair ps u v) (no_pairs sight inner plain));
+  standing = standing inner [] shows (none_linked flow.links none) ∙ ap (standing_atoms inner (place_seen sight)) (sym (no_pairs sight inner plain));
+}
+
+pub plain_refusal : (sight : Sight) (inner : List Flow) → is_graph (place_seen sight).kind ≡ false → None ≡ refusal_seen sight inner
+plain_refusal sight inner plain = sym (ap (λ (b : Bool). if b then option_or (ambiguity (atoms_seen sight) inner (place_seen sight)) (cycle_of (arranged_seen sight inner)) else None) plain)
+
+-- ---- the links of a graph flow
+
+only_within : (u : ℕ) (xs : List ℕ) → is_only u xs ≡ true → list_any (nat_eq u) xs ≡ true
+only_within u [] is = absurd (cc)
+only_within u (x ∷ []) is = true_first (nat_eq u x) false is
+only_within u (x ∷ y ∷ ys) is = absurd (cc)
+
+some_inferred : (sight : Sight) (u v : ℕ) (symbols : List (List ℕ)) → list_any (is_inferred_by (atoms_seen sight) (place_seen sight) u v) symbols ≡ true → u < count_seen sight
+some_inferred sight u v [] on = absurd (cc)
+some_inferred sight u v (x ∷ xs) on = elim (or_either (is_inferred_by (atoms_seen sight) (place_seen sight) u v x) _ on) [
+  | inl here ↦ giver_below sight v x (givers (atoms_seen sight) (place_seen sight) v x) u refl (only_within u (givers (atoms_seen sight) (place_seen sight) v x) here)
+  | inr there ↦ some_inferred sight u v xs there
+]
+
+pub graph_links : (sight : Sight) (inner : List Flow) (old new : LinksValue) (doubts_old doubts : List ℕ) → is_graph (place_seen sight).kind ≡ true → old.count ≡ count_seen sight → new.count ≡ count_seen sight → AreLinks old (explicit (place_seen sight))
+    → LinksBy sight (needs (atoms_seen sight) inner (place_seen sight).number) old doubts_old new doubts → AreLinks new (linked_pairs (atoms_seen sight) inner (place_seen sight))
+graph_links sight inner old new doubts_old doubts graph old_count new_count are is = subst (AreLinks new) (sym (ap (λ (b : Bool). if b then pairs_below (length (place_seen sight).items) (is_linked (atoms_seen sight) inner (place_seen sight)) else []) graph)) (record {
+  same = λ u v. is.links u v ∙ (ap (λ (b : Bool). b || (nat_lt v (count_seen sight) && is_inferred (atoms_seen sight) inner (place_seen sight) u v)) (are.same u v) ∙ told u v);
+  first = λ u v on. let passes = pair_passes (length (place_seen sight).items) (is_linked (atoms_seen sight) inner (place_seen sight)) u v on in omega (arith, passes.first, new_count, length_items sight);
+  second = λ u v on. let passes = pair_passes (length (place_seen sight).items) (is_linked (atoms_seen sight) inner (place_seen sight)) u v on in omega (arith, passes.second, new_count, length_items sight);
+})
+  where
+    told : (u v : ℕ) → (has_pair (explicit (place_seen sight)) u v || (nat_lt v (count_seen sight) && is_inferred (atoms_seen sight) inner (place_seen sight) u v)) ≡ has_pair (pairs_below (length (place_seen sight).items) (is_linked (atoms_seen sight) inner (place_seen sight))) u v
+    told u v = same_truth (has_pair (explicit (place_seen sight)) u v || (nat_lt v (count_seen sight) && is_inferred (atoms_seen sight) inner (place_seen sight) u v)) (has_pair (pairs_below (length (place_seen sight).items) (is_linked (atoms_seen sight) inner (place_seen sight))) u v)
+        (λ on. elim (or_either (has_pair (explicit (place_seen sight)) u v) (nat_lt v (count_seen sight) && is_inferred (atoms_seen sight) inner (place_seen sight) u v) on) [
+          | inl written ↦ let passes = pair_passes (length (place_seen sight).items) (is_explicit (place_seen sight)) u v written in
+              passes_pair (length (place_seen sight).items) (is_linked (atoms_seen sight) inner (place_seen sight)) u v passes.first passes.second (true_first (is_explicit (place_seen sight) u v) (is_inferred (atoms_seen sight) inner (place_seen sight) u v) passes.tested)
+          | inr found ↦
+              let inferred : is_inferred (atoms_seen sight) inner (place_seen sight) u v ≡ true = and_second (nat_lt v (count_seen sight)) _ found in
+              let first : u < count_seen sight = some_inferred sight u v (needs (atoms_seen sight) inner (place_seen sight).number v) inferred in
+              let second : v < count_seen sight = ltb-true v (count_seen sight) (and_first (nat_lt v (count_seen sight)) _ found) in
+              passes_pair (length (place_seen sight).items) (is_linked (atoms_seen sight) inner (place_seen sight)) u v (omega (arith, first, length_items sight)) (omega (arith, second, length_items sight)) (true_second (is_explicit (place_seen sight) u v) (is_inferred (atoms_seen sight) inner (place_seen sight) u v) inferred)
+        ])
+        (λ on. let passes = pair_passes (length (place_seen sight).items) (is_linked (atoms_seen sight) inner (place_seen sight)) u v on in
+        elim (or_either (is_explicit (place_seen sight) u v) (is_inferred (atoms_seen sight) inner (place_seen sight) u v) passes.tested) [
+          | inl written ↦ true_first (has_pair (explicit (place_seen sight)) u v) _ (passes_pair (length (place_seen sight).items) (is_explicit (place_seen sight)) u v passes.first passes.second written)
+          | inr inferred ↦ true_second (has_pair (explicit (place_seen sight)) u v) _ (true_both (nat_lt v (count_seen sight)) _ (lt-ltb v (count_seen sight) (omega (arith, passes.second, length_items sight))) inferred)
+        ])
+
+pub graph_arranged : (sight : Sight) (flow : Arranged) → (place_seen sight).kind ≡ kind.Graph → flow.kind ≡ kind.Graph → flow.links.count ≡ count_seen sight
+    → ((inner : List Flow) → ShowsFlows sight.table.now inner → AreLinks flow.links (linked_pairs (atoms_seen sight) inner (place_seen sight)))
+    → ((pairs : List Pair) → AreLinks flow.links pairs → AreReached flow.links.count (reached flow.links.count pairs) flow.reach.items)
+    → ((inner : List Flow) (pairs : List Pair) → ShowsFlows sight.table.now inner → AreLinks flow.links pairs → flow.standing.items ≡ standing_atoms inner (place_seen sight) pairs)
+    → (inner : List Flow) → ShowsFlows sight.table.now inner → IsArranged flow (arranged_seen sight inner)
+graph_arranged sight flow graph same count links reach standing inner shows = record {
+  kind = same ∙ sym graph;
+  order = λ u v. ap (λ (k : FlowKind). comes_by k flow.links.count flow.reach.items u v) same
+      ∙ ((reach (linked_pairs (atoms_seen sight) inner (place_seen sight)) (links inner shows)).same u v
+      ∙ (ap (λ (n : ℕ). has_pair (reached n (linked_pairs (atoms_seen sight) inner (place_seen sight))) u v) (count ∙ sym (length_items sight))
+      ∙ ap (λ (k : FlowKind). has_pair (item_order k (length (place_seen sight).items) (linked_pairs (atoms_seen sight) inner (place_seen sight))) u v) (sym graph)));
+  linked = (links inner shows).same;
+  standing = standing inner (linked_pairs (atoms_seen sight) inner (place_seen sight)) shows (links inner shows);
+}
+
+-- ---- the refusal of a graph flow
+
+none_kept : (p : List ℕ → Bool) (xs : List (List ℕ)) → list_any p xs ≡ false → filter p xs ≡ []
+none_kept p [] off = refl
+none_kept p (x ∷ xs) off = ap (λ (b : Bool). cond b (x ∷ filter p xs) (filter p xs)) (left (p x) (list_any p xs) off) ∙ none_kept p xs (right (p x) (list_any p xs) off)
+  where
+    left : (a b : Bool) → a || b ≡ false → a ≡ false
+    left false b none = refl
+    left true b none = absurd (cc)
+
+    right : (a b : Bool) → a || b ≡ false → b ≡ false
+    right false b none = none
+    right true b none = absurd (cc)
+
+clear_item : (sight : Sight) (inner : List Flow) (v : ℕ) → list_any (is_ambiguous (atoms_seen sight) (place_seen sight) v) (needs (atoms_seen sight) inner (place_seen sight).number v) ≡ false → ambiguity_at (atoms_seen sight) inner (place_seen sight) v ≡ None
+clear_item sight inner v off = ap (λ (xs : List (List ℕ)). refuse_symbol (atoms_seen sight) (place_seen sight) v (least xs)) (none_kept (is_ambiguous (atoms_seen sight) (place_seen sight) v) (needs (atoms_seen sight) inner (place_seen sight).number v) off)
+
+all_kept : (p : List ℕ → Bool) (xs : List (List ℕ)) → list_all p (filter p xs) ≡ true
+all_kept p [] = refl
+all_kept p (x ∷ xs) = by_test (p x) refl (all_kept p xs)
+  where
+    by_test : (b : Bool) → p x ≡ b → list_all p (filter p xs) ≡ true → list_all p (cond b (x ∷ filter p xs) (filter p xs)) ≡ true
+    by_test true is rest = true_both (p x) (list_all p (filter p xs)) is rest
+    by_test false is rest = rest
+
+record LeastOf (p : List ℕ → Bool) (o : Option (List ℕ)) : Type 0 where
+  symbol : List ℕ
+  is : o ≡ Some symbol
+  passes : p symbol ≡ true
+
+least_passes : (p : List ℕ → Bool) (x : List ℕ) (xs : List (List ℕ)) → list_all p (x ∷ xs) ≡ true → LeastOf p (least (x ∷ xs))
+least_passes p x [] all = record { symbol = x; is = refl; passes = and_first (p x) true all }
+least_passes p x (y ∷ ys) all =
+    let rest = least_passes p y ys (and_second (p x) (list_all p (y ∷ ys)) all) in
+    record { symbol = lesser x (Some rest.symbol); is = ap (λ (o : Option (List ℕ)). Some (lesser x o)) rest.is; passes = either (name_less rest.symbol x) (and_first (p x) (list_all p (y ∷ ys)) all) rest.passes }
+  where
+    either : {s : List ℕ} (b : Bool) → p x ≡ true → p s ≡ true → p (if b then s else x) ≡ true
+    either true one other = other
+    either false one other = one
+
+record Kept (p : List ℕ → Bool) (xs : List (List ℕ)) : Type 0 where
+  first : List ℕ
+  others : List (List ℕ)
+  is : filter p xs ≡ first ∷ others
+
+kept_some : (p : List ℕ → Bool) (xs : List (List ℕ)) → list_any p xs ≡ true → Kept p xs
+kept_some p [] on = absurd (cc)
+kept_some p (x ∷ xs) on = by_test (p x) refl on (kept_some p xs)
+  where
+    by_test : (b : Bool) → p x ≡ b → b || list_any p xs ≡ true → (list_any p xs ≡ true → Kept p xs) → Kept p (x ∷ xs)
+    by_test true is any rest = record { first = x; others = filter p xs; is = ap (λ (b : Bool). cond b (x ∷ filter p xs) (filter p xs)) is }
+    by_test false is any rest = let found = rest any in record { first = found.first; others = found.others; is = ap (λ (b : Bool). cond b (x ∷ filter p xs) (filter p xs)) is ∙ found.is }
+
+some_kept : (p : List ℕ → Bool) (xs : List (List ℕ)) → list_any p xs ≡ true → LeastOf p (least (filter p xs))
+some_kept p xs on = let found = kept_some p xs on in subst (λ (ys : List (List ℕ)). LeastOf p (least ys)) (sym found.is) (least_passes p found.first found.others (ap (list_all p) (sym found.is) ∙ all_kept p xs))
+
+several_refused : (place : FlowPlace) (symbol : List ℕ) (xs : List ℕ) → are_several xs ≡ true → is_some (refuse_givers place symbol xs) ≡ true
+several_refused place symbol [] is = absurd (cc)
+several_refused place symbol (x ∷ []) is = absurd (cc)
+several_refused place symbol (x ∷ y ∷ ys) is = refl
+
+doubtful_item : (sight : Sight) (inner : List Flow) (v : ℕ) → list_any (is_ambiguous (atoms_seen sight) (place_seen sight) v) (needs (atoms_seen sight) inner (place_seen sight).number v) ≡ true → is_some (ambiguity_at (atoms_seen sight) inner (place_seen sight) v) ≡ true
+doubtful_item sight inner v on =
+    let found = some_kept (is_ambiguous (atoms_seen sight) (place_seen sight) v) (needs (atoms_seen sight) inner (place_seen sight).number v) on in
+    ap (λ (o : Option (List ℕ)). is_some (refuse_symbol (atoms_seen sight) (place_seen sight) v o)) found.is
+    ∙ several_refused (place_seen sight) found.symbol (givers (atoms_seen sight) (place_seen sight) v found.symbol) found.passes
+
+or_none : {X : Type 0} (o : Option X) → option_or o None ≡ o
+or_none None = refl
+or_none (Some x) = refl
+
+or_chain : {X : Type 0} (a b c : Option X) → option_or a (option_or b c) ≡ option_or (option_or a b) c
+or_chain None b c = refl
+or_chain (Some x) b c = refl
+
+some_append : {Y : Type 0} (give : ℕ → Option Y) (xs ys : List ℕ) → first_some give (xs ++ ys) ≡ option_or (first_some give xs) (first_some give ys)
+some_append give [] ys = refl
+some_append {Y = Y} give (x ∷ xs) ys = ap (λ (o : Option Y). option_or (give x) o) (some_append give xs ys) ∙ or_chain (give x) (first_some give xs) (first_some give ys)
+
+none_given : {Y : Type 0} (give : ℕ → Option Y) (n : ℕ) → ((k : ℕ) → k < n → give k ≡ None) → first_some give (numbers_below n) ≡ None
+none_given give zero each = refl
+none_given {Y = Y} give (suc n) each = some_append give (numbers_below n) (n ∷ []) ∙ (ap (λ (o : Option Y). option_or o (option_or (give n) None)) (none_given give n (λ k below. each k (omega arith))) ∙ (or_none (give n) ∙ each n (omega arith)))
+
+kept_first : {Y : Type 0} (a b : Option Y) → is_some a ≡ true → option_or a b ≡ a
+kept_first (Some x) b is = refl
+kept_first None b is = absurd (cc)
+
+first_given : {Y : Type 0} (give : ℕ → Option Y) (n k : ℕ) → k < n → is_some (give k) ≡ true → ((j : ℕ) → j < k → give j ≡ None) → first_some give (numbers_below n) ≡ give k
+first_given give zero k below is before = absurd (omega arith)
+first_given {Y = Y} give (suc n) k below is before = some_append give (numbers_below n) (n ∷ []) ∙ elim (cases_lt k n) [
+  | inl earlier ↦ let rest = first_given give n k earlier is before in
+      kept_first (first_some give (numbers_below n)) (option_or (give n) None) (ap is_some rest ∙ is) ∙ rest
+  | inr from ↦ let same : k ≡ n = omega (arith, from, below) in
+      ap (λ (o : Option Y). option_or o (option_or (give n) None)) (none_given give n (λ j less. before j (omega (arith, less, same)))) ∙ (or_none (give n) ∙ ap give (sym same))
+]
+
+-- the doubts that were found are the items with an ambiguous symbol
+doubt_told : (sight : Sight) (inner : List Flow) (old new : LinksValue) (doubts_old doubts : List ℕ) (v : ℕ) → ((k : ℕ) → has doubts_old k ≡ false) → LinksBy sight (needs (atoms_seen sight) inner (place_seen sight).number) old doubts_old new doubts
+    → has doubts v ≡ (nat_lt v (count_seen sight) && list_any (is_ambiguous (atoms_seen sight) (place_seen sight) v) (needs (atoms_seen sight) inner (place_seen sight).number v))
+doubt_told sight inner old new doubts_old doubts v none is = is.doubts v ∙ ap (λ (b : Bool). b || (nat_lt v (count_seen sight) && list_any (is_ambiguous (atoms_seen sight) (place_seen sight) v) (needs (atoms_seen sight) inner (place_seen sight).number v))) (none v)
+
+graph_refused : (sight : Sight) (inner : List Flow) → is_graph (place_seen sight).kind ≡ true → refusal_seen sight inner ≡ option_or (ambiguity (atoms_seen sight) inner (place_seen sight)) (cycle_of (arranged_seen sight inner))
+graph_refused sight inner graph = ap (λ (b : Bool). if b then option_or (ambiguity (atoms_seen sight) inner (place_seen sight)) (cycle_of (arranged_seen sight inner)) else None) graph
+
+-- an item below the first doubtful one is clear
+below_clear : (sight : Sight) (inner : List Flow) (old new : LinksValue) (doubts_old doubts : List ℕ) (v : ℕ) → ((k : ℕ) → has doubts_old k ≡ false) → LinksBy sight (needs (atoms_seen sight) inner (place_seen sight).number) old doubts_old new doubts → has doubts v ≡ false → v < count_seen sight
+    → ambiguity_at (atoms_seen sight) inner (place_seen sight) v ≡ None
+below_clear sight inner old new doubts_old doubts v none is off below = clear_item sight inner v
+    (sym (ap (λ (b : Bool). b && list_any (is_ambiguous (atoms_seen sight) (place_seen sight) v) (needs (atoms_seen sight) inner (place_seen sight).number v)) (lt-ltb v (count_seen sight) below)) ∙ (sym (doubt_told sight inner old new doubts_old doubts v none is) ∙ off))
+
+pub doubt_refused : (sight : Sight) (inner : List Flow) (old new : LinksValue) (doubts_old doubts : List ℕ) (item : ℕ) (told : Option CompileRefusal) → is_graph (place_seen sight).kind ≡ true → ((k : ℕ) → has doubts_old k ≡ false)
+    → LinksBy sight (needs (atoms_seen sight) inner (place_seen sight).number) old doubts_old new doubts → first_below (room doubts) (has doubts) ≡ Some item → told ≡ ambiguity_at (atoms_seen sight) inner (place_seen sight) item → told ≡ refusal_seen sight inner
+doubt_refused sight inner old new doubts_old doubts item told graph none is first told_is =
+    let on : nat_lt item (count_seen sight) && list_any (is_ambiguous (atoms_seen sight) (place_seen sight) item) (needs (atoms_seen sight) inner (place_seen sight).number item) ≡ true =
+    sym (doubt_told sight inner old new doubts_old doubts item none is) ∙ first_passes (room doubts) (has doubts) item first in
+    let below : item < count_seen sight = ltb-true item (count_seen sight) (and_first (nat_lt item (count_seen sight)) _ on) in
+    let some : is_some (ambiguity_at (atoms_seen sight) inner (place_seen sight) item) ≡ true = doubtful_item sight inner item (and_second (nat_lt item (count_seen sight)) _ on) in
+    let whole : ambiguity (atoms_seen sight) inner (place_seen sight) ≡ ambiguity_at (atoms_seen sight) inner (place_seen sight) item =
+    first_given (ambiguity_at (atoms_seen sight) inner (place_seen sight)) (length (place_seen sight).items) item (omega (arith, below, length_items sight)) some
+    (λ j less. below_clear sight inner old new doubts_old doubts j none is (first_before (room doubts) (has doubts) item j first less) (omega (arith, below, less))) in
+    told_is ∙ sym (graph_refused sight inner graph ∙ (ap (λ (o : Option CompileRefusal). option_or o (cycle_of (arranged_seen sight inner))) whole ∙ kept_first (ambiguity_at (atoms_seen sight) inner (place_seen sight) item) (cycle_of (arranged_seen sight inner)) some))
+
+pub cycle_refused : (sight : Sight) (inner : List Flow) (old new : LinksValue) (doubts_old doubts : List ℕ) (told : Option CompileRefusal) → (place_seen sight).kind ≡ kind.Graph → ((k : ℕ) → has doubts_old k ≡ false) → length doubts ≡ words_for (count_seen sight)
+    → LinksBy sight (needs (atoms_seen sight) inner (place_seen sight).number) old doubts_old new doubts → first_below (room doubts) (has doubts) ≡ None
+    → told ≡ first_cycle (place_seen sight) (count_seen sight) (linked_pairs (atoms_seen sight) inner (place_seen sight)) → told ≡ refusal_seen sight inner
+cycle_refused sight inner old new doubts_old doubts told graph none wide is nobody told_is =
+    let clear : ambiguity (atoms_seen sight) inner (place_seen sight) ≡ None =
+    none_given (ambiguity_at (atoms_seen sight) inner (place_seen sight)) (length (place_seen sight).items)
+    (λ k below. below_clear sight inner old new doubts_old doubts k none is (none_first (room doubts) (has doubts) nobody k (omega (arith, below, length_items sight, wide))) (omega (arith, below, length_items sight))) in
+    told_is ∙ (ap (λ (n : ℕ). first_cycle (place_seen sight) n (linked_pairs (atoms_seen sight) inner (place_seen sight))) (sym (length_items sight))
+    ∙ (ap (λ (k : FlowKind). option_map (cycle_through (place_seen sight) (length (place_seen sight).items) (linked_pairs (atoms_seen sight) inner (place_seen sight)))
+    (first_below (length (place_seen sight).items) (λ v. has_pair (item_order k (length (place_seen sight).items) (linked_pairs (atoms_seen sight) inner (place_seen sight))) v v))) (sym graph)
+    ∙ sym (graph_refused sight inner (ap is_graph graph) ∙ ap (λ (o : Option CompileRefusal). option_or o (cycle_of (arranged_seen sight inner))) clear)))
+
+pub graph_refusal : (sight : Sight) (inner : List Flow) (old new : LinksValue) (doubts_old doubts : List ℕ) (told : Option CompileRefusal) (o : Option ℕ) → first_below (room doubts) (has doubts) ≡ o → (place_seen sight).kind ≡ kind.Graph → ((k : ℕ) → has doubts_old k ≡ false) → length doubts ≡ words_for (count_seen sight)
+    → LinksBy sight (needs (atoms_seen sight) inner (place_seen sight).number) old doubts_old new doubts
+    → ((item : ℕ) → first_below (room doubts) (has doubts) ≡ Some item → told ≡ ambiguity_at (atoms_seen sight) inner (place_seen sight) item)
+    → (first_below (room doubts) (has doubts) ≡ None → told ≡ first_cycle (place_seen sight) (count_seen sight) (linked_pairs (atoms_seen sight) inner (place_seen sight))) → told ≡ refusal_seen sight inner
+graph_refusal sight inner old new doubts_old doubts told (Some item) first graph none wide is doubt cycle_is = doubt_refused sight inner old new doubts_old doubts item told (ap is_graph graph) none is first (doubt item first)
+graph_refusal sight inner old new doubts_old doubts told None first graph none wide is doubt cycle_is = cycle_refused sight inner old new doubts_old doubts told graph none wide is first (cycle_is first)
+
+pub reach_as : (count other : ℕ) (pairs : List Pair) (rows same : List (List ℕ)) → AreReached count (reached count pairs) rows → count ≡ other → same ≡ rows → AreReached other (reached other pairs) same
+reach_as count other pairs rows same is counted shown = subst (λ (n : ℕ). AreReached n (reached n pairs) same) counted (subst (AreReached count (reached count pairs)) (sym shown) is)

@@ -1,0 +1,233 @@
+ghost use Rattle.std.specs.Prelude.{◌≡◌, ◌++◌, ◌∷◌, [], ℕ, ◌<◌, List, Option, None, Some, true, filter, map, drop, length, IfOk, OnOk, option_copied};
+ghost use Rattle.tf_flow.specs.Names.{is_among};
+ghost use Rattle.tf_flow.specs.Rules.{bind_symbols};
+ghost use Rattle.tf_model.specs.Before.{Flow};
+ghost use Rattle.tf_model.specs.Compilation as compiling;
+ghost use Rattle.tf_model.specs.Linked as model;
+ghost use Rattle.tf_model.specs.Numbers.{Pair, has_number, reached};
+ghost use Rattle.tf_model.specs.Outline.{arguments_of};
+ghost use Rattle.tf_order.specs.Arranged.{ShowsFlows};
+ghost use Rattle.tf_order.specs.Doubts.{doubts_by, doubts_inside, first_cycle};
+ghost use Rattle.tf_order.specs.Links.{AreLinks, AreReached};
+ghost use Rattle.tf_order.specs.Looked.{told_in};
+ghost use Rattle.tf_order.specs.Places.{shown_part, shown_level};
+ghost use Rattle.tf_order.specs.Sight.{HasProviders, HasReach, atoms_seen, place_seen, count_seen, needed_by, needed_at};
+ghost use Rattle.tf_order.specs.Turns.{shown_turns};
+
+use crate::bits::Bits;
+use crate::faults::CompileFault;
+use crate::linking::binds;
+use crate::links::{Links, has_in};
+use crate::outline::Part;
+use crate::sight::{Sight, givers, is_unserved};
+use crate::ways::passes_item;
+use std::alloc::Global;
+use tf_flow::Arg;
+use tf_values::{Memory, Name, Names};
+
+/// The refusal of an item: its first ambiguous symbol in byte order, and the first two items that provide
+/// it. There is none where no symbol is ambiguous.
+#[tactic(auto, using(crate::proofs::DoubtLemmas::no_symbol, crate::proofs::DoubtLemmas::too_few, crate::proofs::DoubtLemmas::two_named, crate::proofs::DoubtLemmas::number_read))]
+pub fn ambiguity(
+    alloc: Global,
+    sight: &Sight<'_, '_>,
+    reach: &[Bits],
+    item: usize,
+) -> Result<Option<CompileFault>, Memory>
+    requires providers { HasProviders sight.now }
+    requires reach { HasReach sight.now reach.now }
+    ensures { IfOk result (λ fault. (inner : List Flow) → ShowsFlows sight.now.table.now inner → told_in fault ≡ compiling.ambiguity_at (atoms_seen sight.now) inner (place_seen sight.now) item) }
+{
+    let symbols = ambiguous_symbols(alloc, sight, reach, item)?;
+    let Some(symbol) = least(&symbols) else {
+        return Ok(None);
+    };
+    let from = givers(alloc, sight, reach, item, &symbol)?;
+    if from.len() < 2 {
+        return Ok(None);
+    }
+    Ok(Some(CompileFault::Ambiguous {
+        symbol,
+        first: item_name(sight, from[0]),
+        second: item_name(sight, from[1]),
+    }))
+}
+
+/// The name of an item.
+#[tactic(auto, using(crate::proofs::DoubtLemmas::name_seen))]
+pub fn item_name(sight: &Sight<'_, '_>, item: usize) -> Name
+    requires { item < count_seen sight.now }
+    ensures { result ≡ model.item_name (place_seen sight.now) item }
+{
+    sight.level.items[item].name
+}
+
+/// The refusal of a flow for its links: the shortest cycle through the first item that lies on one. There
+/// is none where no item reaches itself.
+#[tactic(auto, using(crate::proofs::DoubtLemmas::cycle_found, crate::proofs::DoubtLemmas::no_cycle, crate::proofs::DoubtLemmas::none_back_more))]
+pub fn cycle_fault(
+    alloc: Global,
+    sight: &Sight<'_, '_>,
+    links: &Links,
+    reach: &[Bits],
+) -> Result<Option<CompileFault>, Memory>
+    requires { links.now.count ≡ count_seen sight.now }
+    ensures { IfOk result (λ fault. (pairs : List Pair) → AreLinks links.now pairs → AreReached (count_seen sight.now) (reached (count_seen sight.now) pairs) reach.now → told_in fault ≡ first_cycle (place_seen sight.now) (count_seen sight.now) pairs) }
+{
+    for item in 0..links.count() {
+        if has_in(reach, item, item) {
+            let items = links.cycle(alloc, item)?;
+            let names = names_of(alloc, sight, &items)?;
+            return Ok(Some(CompileFault::Cycle(Names::make(names))));
+        }
+    }
+    Ok(None)
+}
+
+/// The names of items.
+#[tactic(auto, using(crate::proofs::DoubtLemmas::names_more, crate::proofs::ExplicitLemmas::number_within))]
+fn names_of(alloc: Global, sight: &Sight<'_, '_>, items: &[usize]) -> Result<Vec<Name>, Memory>
+    requires { (k : ℕ) → has_number items.now k ≡ true → k < count_seen sight.now }
+    ensures { IfOk result (λ names. names.items ≡ map (model.item_name (place_seen sight.now)) items.now) }
+{
+    let mut names = Vec::new(alloc);
+    for item in items {
+        names.push(item_name(sight, *item))?;
+    }
+    Ok(names)
+}
+
+/// The symbols that an item needs and that two or more others provide.
+#[tactic(auto, using(crate::proofs::DoubtLemmas::all_start, crate::proofs::DoubtLemmas::all_more, crate::proofs::DoubtLemmas::all_done))]
+fn ambiguous_symbols(
+    alloc: Global,
+    sight: &Sight<'_, '_>,
+    reach: &[Bits],
+    item: usize,
+) -> Result<Vec<Name>, Memory>
+    requires providers { HasProviders sight.now }
+    requires reach { HasReach sight.now reach.now }
+    ensures { IfOk result (λ symbols. (inner : List Flow) → ShowsFlows sight.now.table.now inner → symbols.items ≡ filter (compiling.is_ambiguous (atoms_seen sight.now) (place_seen sight.now) item) (model.needs (atoms_seen sight.now) inner (place_seen sight.now).number item)) }
+{
+    let mut symbols = Vec::new(alloc);
+    for atom in 0..sight.atoms.len() {
+        add_of_atom(alloc, sight, reach, item, atom, &mut symbols)?;
+    }
+    Ok(symbols)
+}
+
+/// Adds the ambiguous symbols of an atom, where it stands in the item.
+#[tactic(auto, using(crate::proofs::DoubtLemmas::atom_outside, crate::proofs::DoubtLemmas::atom_inside, crate::proofs::SightLemmas::way_seen))]
+fn add_of_atom(
+    alloc: Global,
+    sight: &Sight<'_, '_>,
+    reach: &[Bits],
+    item: usize,
+    atom: usize,
+    symbols: &mut Vec<Name>,
+) -> Result<(), Memory>
+    requires providers { HasProviders sight.now }
+    requires reach { HasReach sight.now reach.now }
+    requires atom { atom < length sight.now.atoms.now }
+    ensures { OnOk result ((inner : List Flow) → ShowsFlows sight.now.table.now inner → symbols.new.items ≡ symbols.old.items ++ doubts_inside sight.now inner item atom) }
+{
+    let place = &sight.atoms[atom];
+    if !passes_item(place.way.turns(), sight.level.number, item) {
+        return Ok(());
+    }
+    add_of_part(alloc, sight, reach, item, atom, place.part, symbols)?;
+    Ok(())
+}
+
+/// Adds the ambiguous symbols of an atom that stands in the item.
+#[tactic(auto, using(crate::proofs::DoubtLemmas::part_start, crate::proofs::DoubtLemmas::part_more, crate::proofs::DoubtLemmas::part_all))]
+fn add_of_part(
+    alloc: Global,
+    sight: &Sight<'_, '_>,
+    reach: &[Bits],
+    item: usize,
+    atom: usize,
+    part: Part<'_>,
+    symbols: &mut Vec<Name>,
+) -> Result<(), Memory>
+    requires providers { HasProviders sight.now }
+    requires reach { HasReach sight.now reach.now }
+    requires atom { atom < length sight.now.atoms.now }
+    ensures { OnOk result ((inner : List Flow) → ShowsFlows sight.now.table.now inner → symbols.new.items ≡ symbols.old.items ++ doubts_by sight.now inner item atom (shown_part part.entry) (arguments_of (shown_part part.entry))) }
+{
+    for arg in part.args() {
+        add_of_argument(alloc, sight, reach, item, atom, part, arg, symbols)?;
+    }
+    Ok(())
+}
+
+/// Adds the symbol of an argument, where it is ambiguous.
+#[tactic(auto, using(crate::proofs::DoubtLemmas::argument_bound, crate::proofs::DoubtLemmas::argument_served, crate::proofs::DoubtLemmas::argument_clear, crate::proofs::DoubtLemmas::argument_doubtful))]
+fn add_of_argument(
+    alloc: Global,
+    sight: &Sight<'_, '_>,
+    reach: &[Bits],
+    item: usize,
+    atom: usize,
+    part: Part<'_>,
+    arg: &Arg,
+    symbols: &mut Vec<Name>,
+) -> Result<(), Memory>
+    requires providers { HasProviders sight.now }
+    requires reach { HasReach sight.now reach.now }
+    requires atom { atom < length sight.now.atoms.now }
+    ensures { OnOk result ((inner : List Flow) → ShowsFlows sight.now.table.now inner → symbols.new.items ≡ symbols.old.items ++ doubts_by sight.now inner item atom (shown_part part.entry) (arg.now ∷ [])) }
+{
+    if binds(part.injects(), &arg.symbol) {
+        return Ok(());
+    }
+    if !is_unserved(sight, item, atom, &arg.symbol) {
+        return Ok(());
+    }
+    let from = givers(alloc, sight, reach, item, &arg.symbol)?;
+    if from.len() < 2 {
+        return Ok(());
+    }
+    symbols.push(arg.symbol)?;
+    Ok(())
+}
+
+/// The first of the names in byte order.
+fn least(names: &[Name]) -> Option<Name>
+    ensures { result ≡ compiling.least names.now }
+{
+    let mut best = None;
+    for i in (0..names.len()).rev() {
+        best = Some(lesser(names[i], best));
+    }
+    best
+}
+
+/// The name, or the other where that stands before it.
+fn lesser(name: Name, other: Option<Name>) -> Name
+    ensures { result ≡ compiling.lesser name other }
+{
+    match other {
+        None => name,
+        Some(other) => {
+            if is_less(other.bytes(), name.bytes()) {
+                other
+            } else {
+                name
+            }
+        }
+    }
+}
+
+/// Whether the first bytes stand before the second.
+#[tactic(auto, using(crate::proofs::DoubtLemmas::less_apart, crate::proofs::DoubtLemmas::less_same, crate::proofs::DoubtLemmas::less_over))]
+fn is_less(a: &[u8], b: &[u8]) -> bool
+    ensures { result ≡ compiling.name_less a.now b.now }
+{
+    for i in 0..a.len().min(b.len()) {
+        if a[i] != b[i] {
+            return a[i] < b[i];
+        }
+    }
+    a.len() < b.len()
+}
