@@ -1,20 +1,19 @@
 -- A graph tells of each atom what its plan says.
 use Rattle.std.proofs.Common.{◌≡◌, ℕ, zero, suc, ◌+◌, ◌<◌, ◌≤◌, List, [], ◌∷◌, ◌++◌, length, Bool, true, false, ◌&&◌, ◌||◌, Option, Some, None, refl, sym, ap, ◌∙◌, inl, inr, map, slice_get, arith, eqb-true, eq-eqb}
-use Rattle.std.specs.Prelude.{nat_eq, if◌then◌else◌}
-use Rattle.std.specs.List.{list_any}
-use Rattle.std.proofs.lemmas.Bool.{cases_lt}
+use Rattle.std.specs.Prelude.{nat_eq, nat_lt, if◌then◌else◌}
+use Rattle.std.proofs.lemmas.Bool.{cases_lt, lt-ltb}
 use Rattle.tf_flow.specs.Plan.{PlanValue}
 use Rattle.tf_model.specs.Numbers.{which_below, numbers_below, has_number}
 use Rattle.tf_model.specs.Outline.{Turn, Atom}
-use Rattle.tf_model.specs.Before.{Flow, way_in, way_at, way_before}
+use Rattle.tf_model.specs.Before.{Flow, way_in, way_before}
 use Rattle.tf_model.specs.Plan.{Outline, outline_of, count, way, is_before, is_task, last_flow}
 use Rattle.tf_model.specs.Deciders.{flow_in, same_flow, last_item}
 use Rattle.tf_model.specs.Scope.{is_earlier}
 use Rattle.tf_order.specs.Graph.{GraphValue, IsGraphOf, predecessors_of, successors_of, direct_tasks_of, leads_to, leads_in}
-use Rattle.tf_order.specs.Rows.{row_in, row_at}
+use Rattle.tf_order.specs.Rows.{row_in, row_at, is_in_row}
 use Rattle.std.proofs.lemmas.List.{map-append}
 use Rattle.std.proofs.lemmas.Option.{slice_get_past}
-use Rattle.tf_model.proofs.PairLemmas.{which_passes, passes_which, true_first}
+use Rattle.tf_model.proofs.PairLemmas.{which_passes, passes_which}
 
 -- ---- the rows of numbers
 
@@ -27,12 +26,12 @@ pub rows_length : {X : Type 0} (f : ℕ → X) (n : ℕ) → length (map f (numb
 rows_length f zero = refl
 rows_length f (suc n) = ap length (map-append f (numbers_below n) (n ∷ [])) ∙ (length_one_more (map f (numbers_below n)) (f n) ∙ ap suc (rows_length f n))
 
-get_first : {X : Type 0} (xs : List X) (y : X) (k : ℕ) → k < length xs → slice_get (xs ++ y ∷ []) k ≡ slice_get xs k
+pub get_first : {X : Type 0} (xs : List X) (y : X) (k : ℕ) → k < length xs → slice_get (xs ++ y ∷ []) k ≡ slice_get xs k
 get_first [] y k below = absurd (omega arith)
 get_first (x ∷ xs) y zero below = refl
 get_first (x ∷ xs) y (suc k) below = get_first xs y k (omega arith)
 
-get_last : {X : Type 0} (xs : List X) (y : X) → slice_get (xs ++ y ∷ []) (length xs) ≡ Some y
+pub get_last : {X : Type 0} (xs : List X) (y : X) → slice_get (xs ++ y ∷ []) (length xs) ≡ Some y
 get_last [] y = refl
 get_last (x ∷ xs) y = get_last xs y
 
@@ -49,7 +48,7 @@ row_told {X = X} f (suc n) k below =
     ]
 
 -- a row of a number that has none is the empty one of the numbers past them
-pub row_at_told : (f : ℕ → List ℕ) (n k : ℕ) → (n ≤ k → f k ≡ []) → row_at (map f (numbers_below n)) k ≡ f k
+row_at_told : (f : ℕ → List ℕ) (n k : ℕ) → (n ≤ k → f k ≡ []) → row_at (map f (numbers_below n)) k ≡ f k
 row_at_told f n k past = elim (cases_lt k n) [
   | inl below ↦ ap row_in (row_told f n k below)
   | inr from ↦ ap row_in (slice_get_past (map f (numbers_below n)) k (rw (rows_length f n) from)) ∙ sym (past from)
@@ -112,13 +111,27 @@ same_truth false true to from = from refl
 same_truth false false to from = refl
 
 -- a number stands among those below n that pass where it passes, and all that pass are below n
-pub listed : (n : ℕ) (test : ℕ → Bool) (k : ℕ) → (n ≤ k → test k ≡ false) → list_any (λ y. nat_eq y k) (which_below n test) ≡ test k
-listed n test k past = same_truth (list_any (λ y. nat_eq y k) (which_below n test)) (test k)
-    (λ is. let found = which_passes n test (λ y. nat_eq y k) is in ap test (sym (eqb-true found.number k found.passes)) ∙ found.tested)
+listed_number : (n : ℕ) (test : ℕ → Bool) (k : ℕ) → (n ≤ k → test k ≡ false) → has_number (which_below n test) k ≡ test k
+listed_number n test k past = same_truth (has_number (which_below n test) k) (test k)
+    (λ is. let found = which_passes n test (nat_eq k) is in ap test (eqb-true k found.number found.passes) ∙ found.tested)
     (λ is. elim (cases_lt k n) [
-      | inl below ↦ passes_which n test (λ y. nat_eq y k) k below is (eq-eqb k k refl)
+      | inl below ↦ passes_which n test (nat_eq k) k below is (eq-eqb k k refl)
       | inr from ↦ let no : true ≡ false = sym is ∙ past from in absurd (cc)
     ])
 
-pub listed_before : (plan : Outline) (a b : ℕ) → list_any (λ y. nat_eq y b) (successors_of plan a) ≡ is_before plan a b
-listed_before plan a b = listed (count plan) (is_before plan a) b (λ past. no_earlier plan b a past)
+not_below : (b n : ℕ) → nat_lt b n ≡ false → n ≤ b
+not_below b n off = elim (cases_lt b n) [
+  | inl below ↦ let no : true ≡ false = sym (lt-ltb b n below) ∙ off in absurd (cc)
+  | inr from ↦ from
+]
+
+-- the sets of the rows tell what is before what
+pub row_before : (graph : GraphValue) (plan : PlanValue) (a b : ℕ) → IsGraphOf graph plan → is_in_row graph.successors a b ≡ is_before (outline_of plan) a b
+row_before graph plan a b is = by_room (nat_lt b (length graph.successors)) refl
+  where
+    same_count : length graph.successors ≡ count (outline_of plan)
+    same_count = ap length is.successors ∙ rows_length (successors_of (outline_of plan)) (count (outline_of plan))
+
+    by_room : (r : Bool) → nat_lt b (length graph.successors) ≡ r → (r && has_number (row_at graph.successors a) b) ≡ is_before (outline_of plan) a b
+    by_room true within = ap (λ (xs : List ℕ). has_number xs b) (successors_told graph plan a is) ∙ listed_number (count (outline_of plan)) (is_before (outline_of plan) a) b (λ past. no_earlier (outline_of plan) b a past)
+    by_room false past = sym (no_earlier (outline_of plan) b a (not_below b (count (outline_of plan)) (ap (nat_lt b) (sym same_count) ∙ past)))

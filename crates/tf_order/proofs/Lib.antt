@@ -15,3 +15,5 @@ pub mod ExplicitLemmas
 pub mod StandingAtomLemmas
 pub mod DoubtLemmas
 pub mod LookLemmas
+pub mod CompilationLemmas
+pub mod TableLemmas

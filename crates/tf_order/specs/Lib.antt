@@ -13,3 +13,4 @@ pub mod Marks
 pub mod Sight
 pub mod Looked
 pub mod Doubts
+pub mod Tables

@@ -18,6 +18,7 @@ mod rows;
 mod sight;
 mod standing;
 mod standing_atoms;
+mod tables;
 mod ways;
 
 pub use compilation::compile;

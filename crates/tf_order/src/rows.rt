@@ -1,6 +1,13 @@
-ghost use Rattle.std.specs.Prelude.{◌≡◌, List, ℕ};
+ghost use Rattle.std.specs.Prelude.{◌≡◌, ℕ, List, [], ◌∷◌, ◌++◌, ◌&&◌, ◌||◌, nat_lt, nat_eq, length, IfOk, OnOk};
+ghost use Rattle.tf_model.specs.Numbers.{has_number};
+ghost use Rattle.tf_order.specs.Bits.{has, words_for};
+ghost use Rattle.tf_order.specs.Links.{leads};
+ghost use Rattle.tf_order.specs.Rows.{row_at, is_in_row};
 
+use crate::bits::Bits;
+use std::alloc::Global;
 use std::marker::Model;
+use tf_values::Memory;
 
 /// Numbers of atoms in order. Contracts see the list.
 #[derive(Drop)]
@@ -17,11 +24,21 @@ impl Model for Row {
 }
 
 impl Row {
-    /// A row of these numbers.
-    pub fn make(items: Vec<u16>) -> Row
-        ensures { result ≡ items.items }
+    /// No number yet.
+    pub fn new(alloc: Global) -> Row
+        ensures { result ≡ [] }
     {
-        Row { items }
+        Row {
+            items: Vec::new(alloc),
+        }
+    }
+
+    /// Adds a number at the end.
+    pub fn push(&mut self, number: u16) -> Result<(), Memory>
+        ensures { OnOk result (self.new ≡ self.old ++ number ∷ []) }
+    {
+        self.items.push(number)?;
+        Ok(())
     }
 
     /// The numbers, in order.
@@ -29,5 +46,55 @@ impl Row {
         ensures { result.now ≡ self.now }
     {
         &self.items
+    }
+}
+
+/// So many rows with no number in them.
+#[tactic(auto, using(crate::proofs::TableLemmas::empty_start, crate::proofs::TableLemmas::empty_more))]
+pub fn empty_rows(alloc: Global, count: usize) -> Result<Vec<Row>, Memory>
+    ensures height { IfOk result (λ rows. length rows.items ≡ count) }
+    ensures none { IfOk result (λ rows. (k : ℕ) → row_at rows.items k ≡ []) }
+{
+    let mut rows = Vec::new(alloc);
+    for _ in 0..count {
+        rows.push(Row::new(alloc))?;
+    }
+    Ok(rows)
+}
+
+/// The rows as sets, so that one look tells whether a row has a number. Only numbers that have a row
+/// themselves are told.
+#[tactic(auto, using(crate::proofs::TableLemmas::sets_start, crate::proofs::TableLemmas::sets_more, crate::proofs::TableLemmas::sets_all))]
+pub fn row_sets(alloc: Global, rows: &[Row]) -> Result<Vec<Bits>, Memory>
+    ensures { IfOk result (λ sets. (a b : ℕ) → leads sets.items a b ≡ is_in_row rows.now a b) }
+{
+    let mut sets = Vec::new(alloc);
+    for row in rows {
+        sets.push(set_of(alloc, rows.len(), row.items())?)?;
+    }
+    Ok(sets)
+}
+
+/// The numbers below the count as a set.
+#[tactic(auto, using(crate::proofs::TableLemmas::set_start, crate::proofs::TableLemmas::set_more, crate::proofs::TableLemmas::set_all))]
+fn set_of(alloc: Global, count: usize, numbers: &[u16]) -> Result<Bits, Memory>
+    ensures { IfOk result (λ set. (k : ℕ) → has set k ≡ (nat_lt k count && has_number numbers.now k)) }
+{
+    let mut set = Bits::new(alloc, count)?;
+    for number in numbers {
+        insert_below(count, *number as usize, &mut set);
+    }
+    Ok(set)
+}
+
+/// Adds a number, where it is below the count.
+#[tactic(auto, using(crate::proofs::TableLemmas::inserted_below, crate::proofs::TableLemmas::past_below))]
+fn insert_below(count: usize, number: usize, set: &mut Bits)
+    requires wide { length set.old ≡ words_for count }
+    ensures wide { length set.new ≡ words_for count }
+    ensures set { (k : ℕ) → has set.new k ≡ (has set.old k || (nat_lt k count && nat_eq k number)) }
+{
+    if number < count {
+        set.insert(number);
     }
 }

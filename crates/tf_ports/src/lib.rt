@@ -3,8 +3,10 @@
 
 mod folder;
 mod memory;
+mod outcomes;
 mod reading;
 
 pub use folder::Folder;
 pub use memory::{MemorySource, MemorySources};
+pub use outcomes::{Action, Outcome};
 pub use reading::{SourceFault, Sources};

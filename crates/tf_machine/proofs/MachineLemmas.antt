@@ -1,0 +1,139 @@
+-- For which histories a machine stands.
+use Rattle.std.proofs.Common.{◌≡◌, ℕ, zero, suc, ◌<◌, List, [], ◌∷◌, ◌++◌, length, true, ◌||◌, Option, Some, None, refl, sym, ap, ◌∙◌, subst, arith, slice_get, length-append}
+use Rattle.tf_states.specs.declared.record.AtomView.{AtomView}
+use Rattle.tf_states.specs.declared.record.Entry.{Entry}
+use Rattle.tf_states.specs.declared.state.AtomState.{AtomState}
+use Rattle.tf_states.specs.declared.state.AtomState.TheVariants as atom
+use Rattle.tf_states.specs.declared.state.FlowState.TheVariants as flow
+use Rattle.tf_ports.specs.declared.outcomes.Outcome.{Outcome}
+use Rattle.tf_ports.specs.declared.outcomes.Outcome.TheVariants as outcome
+use Rattle.tf_machine.specs.declared.tables.Place.{Place}
+use Rattle.tf_model.specs.Numbers.{is_number}
+use Rattle.tf_model.specs.Plan.{Outline, outline_of, count}
+use Rattle.tf_model.specs.Snapshot.{Snapshot, later, is_at_work}
+use Rattle.tf_model.specs.History.{snapshot}
+use Rattle.tf_model.specs.States.{flow_runs, flow_suspends}
+use Rattle.tf_model.specs.Steps.{Step, by_end_of_task, LegalPast, ends_task}
+use Rattle.tf_model.proofs.HistoryLemmas.{one_more}
+use Rattle.std.proofs.lemmas.Option.{slice_get-get_or}
+use Rattle.tf_order.proofs.GraphLemmas.{rows_length, row_told}
+use Rattle.tf_model.proofs.StepLemmas.{found_passes}
+use Rattle.tf_machine.specs.Answers.{view_at, views_of, is_with, task_of, end_by, ended_from}
+use Rattle.tf_machine.specs.Facts.{Facts}
+use Rattle.tf_machine.specs.Machine.{MachineValue, outline, shown, StandsFor, IsSound}
+use Rattle.tf_machine.specs.Plain.{IsPlain}
+use Rattle.tf_machine.specs.Tables.{state_in, payload_in, hand_in, mark_in, attempts_told}
+use Rattle.tf_machine.specs.Changes.{first_view, first_place, first_views, first_places}
+use Rattle.tf_machine.proofs.FactLemmas.{past_facts, numbered_hand}
+use Rattle.tf_machine.proofs.LaterLemmas.{same_snapshot}
+
+-- the facts of legal histories hold of what a machine shows
+pub sound_facts : (m : MachineValue) → IsSound m → Facts (outline m) (shown m)
+sound_facts m sound = subst (Facts (outline m)) (sym sound.some.1.shows) (past_facts (outline m) sound.some.0 sound.plain sound.some.1.legal)
+
+-- after a step it stands for one entry more
+pub stands_later : (old new : MachineValue) (e : Entry) → new.plan ≡ old.plan → Step (outline old) (shown old) e → shown new ≡ later (outline old) e (shown old)
+    → (past : List Entry) → StandsFor old past → StandsFor new (e ∷ past)
+stands_later old new e plan step moved past stands =
+    let same : outline new ≡ outline old = ap outline_of plan in
+    record {
+      legal = subst (λ (o : Outline). LegalPast o (e ∷ past)) (sym same) (subst (λ (s : Snapshot). Step (outline old) s e) stands.shows step, stands.legal);
+      shows = moved ∙ (ap (later (outline old) e) stands.shows ∙ (sym (one_more (outline old) e past) ∙ ap (λ (o : Outline). snapshot o (e ∷ past)) (sym same)));
+    }
+
+pub sound_later : (old new : MachineValue) (e : Entry) → IsSound old → new.plan ≡ old.plan → Step (outline old) (shown old) e → shown new ≡ later (outline old) e (shown old)
+    → length new.views ≡ length old.views → length new.places ≡ length old.places → IsSound new
+sound_later old new e sound plan step moved views places =
+    let same : outline new ≡ outline old = ap outline_of plan in
+    record {
+      plain = subst IsPlain (sym plan) sound.plain;
+      views = views ∙ (sound.views ∙ ap count (sym same));
+      places = places ∙ (sound.places ∙ ap count (sym same));
+      some = (e ∷ sound.some.0, stands_later old new e plan step moved sound.some.0 sound.some.1);
+    }
+
+-- ---- before a run
+
+first_at : {X Y : Type 0} (f : Option X → Y) (x : X) (xs : List X) (a : ℕ) (y : Y) → f None ≡ y → f (Some x) ≡ y → ((b : ℕ) → f (slice_get xs b) ≡ y) → f (slice_get (xs ++ x ∷ []) a) ≡ y
+first_at f x [] zero y none here each = here
+first_at f x [] (suc a) y none here each = none
+first_at f x (v ∷ vs) zero y none here each = each 0
+first_at f x (v ∷ vs) (suc a) y none here each = first_at f x vs a y none here (λ b. each (suc b))
+
+views_first : {Y : Type 0} (f : Option AtomView → Y) (n a : ℕ) (y : Y) → f None ≡ y → f (Some first_view) ≡ y → f (slice_get (first_views n) a) ≡ y
+views_first f zero a y none here = none
+views_first f (suc n) a y none here = first_at f first_view (first_views n) a y none here (λ b. views_first f n b y none here)
+
+places_first : {Y : Type 0} (f : Option Place → Y) (n a : ℕ) (y : Y) → f None ≡ y → f (Some first_place) ≡ y → f (slice_get (first_places n) a) ≡ y
+places_first f zero a y none here = none
+places_first f (suc n) a y none here = first_at f first_place (first_places n) a y none here (λ b. places_first f n b y none here)
+
+pub first_views_length : (n : ℕ) → length (first_views n) ≡ n
+first_views_length zero = refl
+first_views_length (suc n) = length-append (first_views n) (first_view ∷ []) ∙ omega (arith, first_views_length n)
+
+pub first_places_length : (n : ℕ) → length (first_places n) ≡ n
+first_places_length zero = refl
+first_places_length (suc n) = length-append (first_places n) (first_place ∷ []) ∙ omega (arith, first_places_length n)
+
+-- it stands for the empty history
+pub stands_first : (m : MachineValue) (n : ℕ) → m.views ≡ first_views n → m.places ≡ first_places n → m.flow ≡ flow.Pending → StandsFor m []
+unfolding snapshot
+stands_first m n views places state = record {
+  legal = tt;
+  shows = same_snapshot (shown m) (snapshot (outline m) [])
+      (λ a. ap (λ (xs : List AtomView). state_in (slice_get xs a)) views ∙ views_first state_in n a _ refl refl)
+      (λ a. ap (λ (xs : List AtomView). payload_in (slice_get xs a)) views ∙ views_first payload_in n a _ refl refl)
+      (λ a. ap (λ (xs : List Place). hand_in (slice_get xs a)) places ∙ places_first hand_in n a _ refl refl)
+      (λ a. ap (λ (xs : List Place). mark_in (slice_get xs a)) places ∙ places_first mark_in n a _ refl refl)
+      (λ a. ap (λ (xs : List Place). attempts_told (slice_get xs a)) places ∙ places_first attempts_told n a _ refl refl)
+      state;
+}
+
+pub sound_first : (m : MachineValue) (n : ℕ) → IsPlain m.plan → n ≡ count (outline m) → m.views ≡ first_views n → m.places ≡ first_places n → m.flow ≡ flow.Pending → IsSound m
+sound_first m n plain all views places state = record {
+  plain = plain;
+  views = ap (λ (xs : List AtomView). length xs) views ∙ (first_views_length n ∙ all);
+  places = ap (λ (xs : List Place). length xs) places ∙ (first_places_length n ∙ all);
+  some = ([], stands_first m n views places state);
+}
+
+-- ---- the end of a task in flight
+
+ended_as : (plan : Outline) (s : Snapshot) (hand a : ℕ) (state : AtomState) (result : Outcome) → s.state a ≡ state → is_at_work state ≡ true → flow_runs s.flow || flow_suspends s.flow ≡ true → is_number (s.hand a) hand ≡ true
+    → ends_task s hand (ended_from a state result) ≡ true
+unfolding ends_task
+ended_as plan s hand a atom.Running (outcome.Gave v) was works goes has = rw (goes, has, was) refl
+ended_as plan s hand a atom.Running (outcome.Failed f) was works goes has = rw (goes, has, was) refl
+ended_as plan s hand a atom.Reverting (outcome.Gave v) was works goes has = rw (goes, has, was) refl
+ended_as plan s hand a atom.Reverting (outcome.Failed f) was works goes has = rw (goes, has, was) refl
+ended_as plan s hand a state result was works goes has = absurd (cc)
+
+-- it may follow
+pub settled_step : (plan : Outline) (s : Snapshot) (hand a : ℕ) (result : Outcome) → Facts plan s → task_of plan s hand ≡ Some a → Step plan s (end_by s hand result a)
+settled_step plan s hand a result facts is =
+    let has = found_passes (count plan) (is_with s hand) a is in
+    let busy = facts.busy a hand (numbered_hand (s.hand a) hand has) in
+    record { hand = busy.numbered; rule = by_end_of_task (ended_as plan s hand a (s.state a) result refl busy.at_work busy.goes has) }
+
+-- ---- views
+
+same_list : {X : Type 0} (xs ys : List X) → length xs ≡ length ys → ((k : ℕ) → k < length xs → slice_get xs k ≡ slice_get ys k) → xs ≡ ys
+same_list [] [] lengths each = refl
+same_list [] (y ∷ ys) lengths each = absurd (omega arith)
+same_list (x ∷ xs) [] lengths each = absurd (omega arith)
+same_list {X = X} (x ∷ xs) (y ∷ ys) lengths each =
+    let first : slice_get (x ∷ xs) 0 ≡ slice_get (y ∷ ys) 0 = each 0 (omega arith) in
+    let same : x ≡ y = cc in
+    ap (λ (z : X). z ∷ xs) same ∙ ap (λ (zs : List X). y ∷ zs) (same_list xs ys (omega arith) (λ k below. each (suc k) (omega (arith, below))))
+
+seen : (m : MachineValue) (k : ℕ) (o : Option AtomView) → slice_get m.views k ≡ o → (k < length m.views) → o ≡ Some (view_at (shown m) k)
+seen m k None is below = let within = slice_get-get_or m.views k first_view below in absurd (cc)
+seen m k (Some v) is below = ap (λ (o : Option AtomView). Some (record { state = state_in o; payload = payload_in o })) (sym is)
+
+-- the views are those of what is shown
+pub views_told : (m : MachineValue) → IsSound m → m.views ≡ views_of (outline m) (shown m)
+views_told m sound =
+    same_list m.views (views_of (outline m) (shown m)) (sound.views ∙ sym (rows_length (view_at (shown m)) (count (outline m))))
+    (λ k below. seen m k (slice_get m.views k) refl below
+    ∙ sym (row_told (view_at (shown m)) (count (outline m)) k (omega (arith, below, sound.views))))

@@ -1,0 +1,11 @@
+use Rattle.std.proofs.Common.{◌∙◌, sym, subst}
+use Rattle.tf_model.specs.Steps.{Step}
+use Rattle.tf_machine.specs.Answers.{end_by}
+use Rattle.tf_machine.specs.Machine.{MachineValue, outline, shown}
+use Rattle.tf_machine.proofs.MachineLemmas.{sound_facts, settled_step}
+use Rattle.tf_machine.proofs.machine.Machine.in_flight.Goals as goal
+
+pub returns-clause-ends : goal.returns-clause-ends
+returns-clause-ends c = λ a outcome is.
+    subst (λ (m : MachineValue). Step (outline m) (shown m) (end_by (shown m) c.args.hand outcome a)) c.self.view_is
+    (settled_step _ _ c.args.hand a outcome (sound_facts _ c.self.invariant) (sym c.task_of.ensures ∙ is))

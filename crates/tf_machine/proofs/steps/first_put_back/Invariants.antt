@@ -1,0 +1,8 @@
+use Rattle.std.proofs.Common.{◌≡◌, None}
+use Rattle.tf_model.specs.Numbers.{first_below}
+use Rattle.tf_model.specs.Steps.{is_put_back_at}
+use Rattle.tf_machine.specs.Tables.{shown_by}
+use Rattle.tf_machine.proofs.steps.first_put_back.Given as goal
+
+abbrev pub invariant-loop-atom : goal.invariant-loop-atom
+invariant-loop-atom l = first_below l.atom (is_put_back_at (shown_by l.tables)) ≡ None

@@ -1,0 +1,12 @@
+use Rattle.std.proofs.Common.{◌≡◌, ◌<◌, true, sym, arith, rules}
+use Rattle.tf_model.specs.Plan.{outline_of, count}
+use Rattle.tf_machine.specs.Answers.{is_with}
+use Rattle.tf_machine.specs.Tables.{shown_by}
+use Rattle.tf_machine.proofs.TestLemmas.{first_found}
+use Rattle.tf_machine.proofs.steps.task_of.Goals as goal
+
+pub returns-then-is_with : goal.returns-then-is_with
+returns-then-is_with c =
+    let within : c.loop-atom.atom < count (outline_of c.args.compiled.now) = omega arith in
+    let passes : is_with (shown_by c.args.tables.now) c.args.hand c.loop-atom.atom ≡ true = search rules in
+    sym (first_found (count (outline_of c.args.compiled.now)) (is_with (shown_by c.args.tables.now) c.args.hand) c.loop-atom.atom c.loop-atom.invariant passes within)

@@ -1,0 +1,16 @@
+-- Refusals to compile as refusals to build.
+use Rattle.std.specs.Prelude.{◌≡◌}
+use Rattle.tf_order.specs.declared.faults.CompileFault.{CompileFault}
+use Rattle.tf_order.specs.declared.faults.CompileFault.TheVariants as compile_fault
+use Rattle.tf_machine.specs.declared.faults.BuildFault.{BuildFault}
+use Rattle.tf_machine.specs.declared.faults.BuildFault.TheVariants as build_fault
+
+-- want of memory stays what it is, and any other fault is one of compilation
+abbrev pub build_fault_of : CompileFault → BuildFault
+build_fault_of compile_fault.Memory = build_fault.Memory
+build_fault_of (compile_fault.Ambiguous symbol first second) = build_fault.Compile (compile_fault.Ambiguous symbol first second)
+build_fault_of (compile_fault.Cycle names) = build_fault.Compile (compile_fault.Cycle names)
+
+-- the fault is made of the other
+abbrev pub build_gives : CompileFault → BuildFault → Type 0
+build_gives fault made = made ≡ build_fault_of fault

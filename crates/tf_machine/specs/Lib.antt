@@ -1,0 +1,10 @@
+pub mod Plain
+pub mod Compiled
+pub mod Tables
+pub mod Machine
+pub mod Answers
+pub mod Reversion
+pub mod Faults
+pub mod Best
+pub mod Changes
+pub mod Facts

@@ -1,0 +1,44 @@
+-- What a machine is, and for which histories it stands.
+use Rattle.std.specs.Prelude.{◌≡◌, List, length}
+use Rattle.tf_flow.specs.Plan.{PlanValue}
+use Rattle.tf_states.specs.declared.record.AtomView.{AtomView}
+use Rattle.tf_states.specs.declared.record.Entry.{Entry}
+use Rattle.tf_states.specs.declared.state.FlowState.{FlowState}
+use Rattle.tf_machine.specs.declared.tables.Place.{Place}
+use Rattle.tf_model.specs.Plan.{Outline, outline_of, count}
+use Rattle.tf_model.specs.Snapshot.{Snapshot}
+use Rattle.tf_model.specs.History.{snapshot}
+use Rattle.tf_model.specs.Steps.{LegalPast}
+use Rattle.tf_machine.specs.Plain.{IsPlain}
+use Rattle.tf_machine.specs.Tables.{shown_of}
+
+-- a machine: its plan, and of each atom its view and what else is kept; and the flow's state
+pub record MachineValue : Type 0 where
+  pub plan : PlanValue
+  pub views : List AtomView
+  pub places : List Place
+  pub flow : FlowState
+
+-- the outline of its plan
+abbrev pub outline : MachineValue → Outline
+outline m = outline_of m.plan
+
+-- what it shows
+abbrev pub shown : MachineValue → Snapshot
+shown m = shown_of m.views m.places m.flow
+
+-- it stands for a history: this is legal, and what the machine shows is what the rules read of it
+pub record StandsFor (m : MachineValue) (past : List Entry) : Type 0 where
+  pub legal : LegalPast (outline m) past
+  pub shows : shown m ≡ snapshot (outline m) past
+
+-- it stands for some history
+abbrev pub HasHistory : MachineValue → Type 0
+HasHistory m = (past : List Entry) × StandsFor m past
+
+-- every machine has a view and a place for each atom, and stands for some history
+pub record IsSound (m : MachineValue) : Type 0 where
+  pub plain : IsPlain m.plan
+  pub views : length m.views ≡ count (outline m)
+  pub places : length m.places ≡ count (outline m)
+  pub some : HasHistory m

@@ -1,0 +1,24 @@
+//! The one state machine that decides every step of a run. It keeps no list of entries: it stands for
+//! a history by what the rules of a run read of it.
+#![tactic(auto)]
+
+mod candidates;
+mod compiled;
+mod ending;
+mod faults;
+mod forcing;
+mod laws;
+mod machine;
+mod plain;
+mod readiness;
+mod states;
+mod steps;
+mod tables;
+#[cfg(test)]
+mod tests;
+
+pub use candidates::Start;
+pub use faults::{ApplyFault, BuildFault};
+pub use laws::{never_stuck, reversion_is_complete};
+pub use machine::Machine;
+pub use plain::is_plain;

@@ -1,0 +1,231 @@
+ghost use Rattle.std.specs.Prelude.{◌≡◌, ℕ, List, [], ◌∷◌, true, false, None, Some, IfOk, IfErr, OnOk, OnErr, IfSome, IsSome, Ok, Err, option_map};
+ghost use Rattle.tf_states.specs.declared.record.Entry.{Entry as Record};
+ghost use Rattle.tf_ports.specs.declared.outcomes.Outcome.{Outcome as Came};
+ghost use Rattle.tf_ports.specs.declared.outcomes.Outcome.TheVariants.{Gave as given, Failed as failing};
+ghost use Rattle.tf_model.specs.Compilation.{compile_refusal};
+ghost use Rattle.tf_model.specs.Snapshot.{later};
+ghost use Rattle.tf_model.specs.History.{snapshot};
+ghost use Rattle.tf_model.specs.Forced.{forced};
+ghost use Rattle.tf_model.specs.Candidates.{choice, end_of};
+ghost use Rattle.tf_model.specs.Steps.{Step};
+ghost use Rattle.tf_machine.specs.declared.faults.ApplyFault.TheVariants.{NotAStep as refuses};
+ghost use Rattle.tf_machine.specs.Answers.{views_of, task_of, start_entry, action_in, end_by, ended_from, IsBuildRefusal, IsBack};
+ghost use Rattle.tf_machine.specs.Machine.{outline, shown, StandsFor, HasHistory};
+ghost use Rattle.tf_machine.specs.Plain.{IsPlain};
+
+use crate::candidates::{Start, candidate};
+use crate::compiled::Compiled;
+use crate::ending::end_of;
+use crate::faults::{ApplyFault, BuildFault};
+use crate::forcing::forced;
+use crate::steps::{is_step, task_of};
+use crate::tables::Tables;
+use std::alloc::Global;
+use std::marker::Model;
+use tf_flow::Plan;
+use tf_ports::Outcome;
+use tf_states::{AtomState, AtomView, Entry, Failure, FlowState, Payload, What};
+use tf_values::{Memory, Val};
+
+/// The state of a run of a plan. It keeps no list of entries: it stands for each legal history of which
+/// the rules of a run read what it shows, and there always is one. Contracts see the plan, the views,
+/// what else is kept of each atom, and the flow's state.
+#[derive(Drop)]
+pub struct Machine {
+    compiled: Compiled,
+    tables: Tables,
+}
+
+impl Model for Machine {
+    ghost use Rattle.std.specs.Coded.{codes};
+    ghost use Rattle.tf_flow.specs.contracts.nested.Flow as flow;
+    ghost use Rattle.tf_machine.specs.Machine.{MachineValue, IsSound};
+
+    ghost Value = { MachineValue };
+
+    ghost coded = { Prim.hlevel (codes, flow.the_row.coded) };
+
+    ghost view = { λ m. record { plan = m.compiled; views = m.tables.views.items; places = m.tables.places.items; flow = m.tables.flow } };
+
+    ghost invariant = { λ m. IsSound (record { plan = m.compiled; views = m.tables.views.items; places = m.tables.places.items; flow = m.tables.flow }) };
+}
+
+impl Machine {
+    /// A machine before a run of this plan, which has neither retry controllers nor deciders
+    /// ([`is_plain`](crate::is_plain) tells). The plan is refused as it is by compilation. The machine
+    /// has all the room that later calls need.
+    pub fn make(alloc: Global, plan: Plan) -> Result<Machine, BuildFault>
+        requires { IsPlain plan }
+        ensures given { IfOk result (λ machine. machine.plan ≡ plan) }
+        ensures empty { IfOk result (λ machine. StandsFor machine []) }
+        ensures accepted { OnOk result (compile_refusal plan ≡ None) }
+        ensures refused { IfErr result (IsBuildRefusal (compile_refusal plan)) }
+    {
+        let compiled = Compiled::make(alloc, plan)?;
+        let tables = Tables::make(alloc, compiled.atoms())?;
+        Ok(Machine { compiled, tables })
+    }
+
+    /// Appends an entry, if it may follow the history. Else it comes back, and the machine is as it was.
+    pub fn apply(&mut self, entry: Entry) -> Result<(), ApplyFault>
+        ensures plan { self.new.plan ≡ self.old.plan }
+        ensures step { OnOk result (Step (outline self.old) (shown self.old) entry) }
+        ensures moved { OnOk result (shown self.new ≡ later (outline self.old) entry (shown self.old)) }
+        ensures stands { OnOk result ((past : List Record) → StandsFor self.old past → StandsFor self.new (entry ∷ past)) }
+        ensures refused { (e : Record) → result ≡ Err (refuses e) → ¬ (Step (outline self.old) (shown self.old) entry) }
+        ensures refused_after { (e : Record) → result ≡ Err (refuses e) → (past : List Record) → StandsFor self.old past → ¬ (Step (outline self.old) (snapshot (outline self.old) past) entry) }
+        ensures back { IfErr result (IsBack entry) }
+        ensures kept { OnErr result (self.new ≡ self.old) }
+    {
+        if !self.is_step(&entry) {
+            return Err(ApplyFault::NotAStep(entry));
+        }
+        self.advance(entry);
+        Ok(())
+    }
+
+    /// Appends an entry that may follow the history. It takes no memory.
+    pub fn advance(&mut self, entry: Entry)
+        requires { Step (outline self.old) (shown self.old) entry }
+        ensures plan { self.new.plan ≡ self.old.plan }
+        ensures moved { shown self.new ≡ later (outline self.old) entry (shown self.old) }
+        ensures stands { (past : List Record) → StandsFor self.old past → StandsFor self.new (entry ∷ past) }
+    {
+        self.tables.record(&self.compiled, entry);
+    }
+
+    /// Appends the end of the task that the hand has in flight: after RUNNING it is SUCCESS with the
+    /// value or FAILURE, after REVERTING it is REVERTED or REVERT_FAILURE. It takes no memory.
+    pub fn settle(&mut self, hand: u8, outcome: Outcome)
+        requires { IsSome (task_of (outline self.old) (shown self.old) hand) }
+        ensures plan { self.new.plan ≡ self.old.plan }
+        ensures step { (a : ℕ) → task_of (outline self.old) (shown self.old) hand ≡ Some a → Step (outline self.old) (shown self.old) (end_by (shown self.old) hand outcome a) }
+        ensures moved { (a : ℕ) → task_of (outline self.old) (shown self.old) hand ≡ Some a → shown self.new ≡ later (outline self.old) (end_by (shown self.old) hand outcome a) (shown self.old) }
+        ensures stands { (a : ℕ) → task_of (outline self.old) (shown self.old) hand ≡ Some a → (past : List Record) → StandsFor self.old past → StandsFor self.new (end_by (shown self.old) hand outcome a ∷ past) }
+    {
+        let Some(atom) = self.in_flight(hand) else {
+            unreachable!();
+        };
+        let what = ended_from(atom, self.state(atom), outcome);
+        self.advance(Entry { hand, what });
+    }
+
+    /// The entry that must come next, if one must.
+    pub fn forced(&self) -> Result<Option<What>, Memory>
+        ensures is { IfOk result (λ found. found ≡ forced (outline self.now) (shown self.now)) }
+        ensures after { IfOk result (λ found. (past : List Record) → StandsFor self.now past → found ≡ forced (outline self.now) (snapshot (outline self.now) past)) }
+    {
+        Ok(forced(&self.compiled, &self.tables))
+    }
+
+    /// The task that a hand takes up next: the first candidate, of the greatest priority and then in
+    /// tree order. There is none while something is forced, while the flow isn't RUNNING, or while an
+    /// atom is REVERT_FAILURE.
+    pub fn candidate(&self) -> Option<Start>
+        ensures is { option_map start_entry result ≡ choice (outline self.now) (shown self.now) }
+        ensures after { (past : List Record) → StandsFor self.now past → option_map start_entry result ≡ choice (outline self.now) (snapshot (outline self.now) past) }
+        ensures action { IfSome result (λ start. start.action ≡ action_in ((shown self.now).state start.atom)) }
+    {
+        candidate(&self.compiled, &self.tables)
+    }
+
+    /// How the run ends, if it does.
+    pub fn ended(&self) -> Option<FlowState>
+        ensures is { result ≡ end_of (outline self.now) (shown self.now) }
+        ensures after { (past : List Record) → StandsFor self.now past → result ≡ end_of (outline self.now) (snapshot (outline self.now) past) }
+    {
+        end_of(&self.compiled, &self.tables)
+    }
+
+    /// The task that the hand has in flight, if it has one.
+    pub fn in_flight(&self, hand: u8) -> Option<u16>
+        ensures is { result ≡ task_of (outline self.now) (shown self.now) hand }
+        ensures after { (past : List Record) → StandsFor self.now past → result ≡ task_of (outline self.now) (snapshot (outline self.now) past) hand }
+        ensures ends { (a : ℕ) (outcome : Came) → result ≡ Some a → Step (outline self.now) (shown self.now) (end_by (shown self.now) hand outcome a) }
+    {
+        task_of(&self.compiled, &self.tables, hand)
+    }
+
+    /// The state and the payload of each atom, by its number.
+    pub fn views(&self) -> &[AtomView]
+        ensures kept { result.now ≡ self.now.views }
+        ensures is { result.now ≡ views_of (outline self.now) (shown self.now) }
+        ensures after { (past : List Record) → StandsFor self.now past → result.now ≡ views_of (outline self.now) (snapshot (outline self.now) past) }
+    {
+        &self.tables.views
+    }
+
+    /// The flow's state.
+    pub fn flow_state(&self) -> FlowState
+        ensures is { result ≡ (shown self.now).flow }
+        ensures after { (past : List Record) → StandsFor self.now past → result ≡ (snapshot (outline self.now) past).flow }
+    {
+        self.tables.flow
+    }
+
+    /// The plan.
+    pub fn plan(&self) -> &Plan
+        ensures is { result.now ≡ self.now.plan }
+        ensures history { HasHistory self.now }
+    {
+        self.compiled.plan()
+    }
+
+    /// The state of an atom.
+    fn state(&self, atom: u16) -> AtomState
+        ensures { result ≡ (shown self.now).state atom }
+    {
+        self.tables.state(atom)
+    }
+
+    /// Whether the entry may follow.
+    fn is_step(&self, entry: &Entry) -> bool
+        ensures yes { result ≡ true → Step (outline self.now) (shown self.now) entry.now }
+        ensures no { result ≡ false → ¬ (Step (outline self.now) (shown self.now) entry.now) }
+    {
+        is_step(&self.compiled, &self.tables, entry)
+    }
+}
+
+/// The end of a task that was in this state, with an outcome.
+fn ended_from(atom: u16, state: AtomState, outcome: Outcome) -> What
+    ensures { result ≡ ended_from atom state outcome }
+{
+    match outcome {
+        Outcome::Gave(value) => gave(atom, state, value),
+        Outcome::Failed(fault) => failed(atom, state, fault),
+    }
+}
+
+/// The end of a task that gave a value; that of a reversion is dropped.
+fn gave(atom: u16, state: AtomState, value: Val) -> What
+    ensures { result ≡ ended_from atom state (given value) }
+{
+    if matches!(state, AtomState::Running) {
+        return What::Atom {
+            atom,
+            state: AtomState::Success,
+            payload: Payload::Value(value),
+        };
+    }
+    What::Atom {
+        atom,
+        state: AtomState::Reverted,
+        payload: Payload::Empty,
+    }
+}
+
+/// The end of a task that failed.
+fn failed(atom: u16, state: AtomState, fault: Failure) -> What
+    ensures { result ≡ ended_from atom state (failing fault) }
+{
+    let state = match state {
+        AtomState::Running => AtomState::Failure,
+        _ => AtomState::RevertFailure,
+    };
+    What::Atom {
+        atom,
+        state,
+        payload: Payload::Fault(fault),
+    }
+}

@@ -1,0 +1,287 @@
+ghost use Rattle.std.specs.Prelude.{◌≡◌, ◌<◌, ◌≤◌, ◌&&◌, ℕ, Some, None, IfOk, length, map, nat_eq, if◌then◌else◌};
+ghost use Rattle.tf_states.specs.declared.record.Payload.{Payload as PayloadValue};
+ghost use Rattle.tf_states.specs.declared.record.What.TheVariants.{Atom as atom_enters};
+ghost use Rattle.tf_states.specs.declared.state.FlowState.TheVariants.{Pending as pending_flow};
+ghost use Rattle.tf_model.specs.Plan.{outline_of, count, is_task};
+ghost use Rattle.tf_model.specs.Snapshot.{later, is_at_work, state_after, payload_after, held_after, attempts_in, attempts_after};
+ghost use Rattle.tf_model.specs.Steps.{Step};
+ghost use Rattle.tf_machine.specs.Facts.{Facts};
+ghost use Rattle.tf_machine.specs.Plain.{IsPlain};
+ghost use Rattle.tf_model.specs.Readiness.{is_unmarked, is_to_revert};
+ghost use Rattle.tf_machine.specs.Answers.{is_with};
+ghost use Rattle.tf_machine.specs.Tables.{shown_by};
+ghost use Rattle.tf_machine.specs.Changes.{first_views, first_places, entered_view, entered_place, turned, marked, released};
+
+use crate::compiled::Compiled;
+use crate::states::{flow_rests, flow_resumes, is_at_work};
+use std::alloc::Global;
+use tf_states::{AtomState, AtomView, Entry, FlowState, Kind, Payload, What};
+use tf_values::Memory;
+
+/// The resolve that an atom's mark comes from.
+#[derive(Clone, Copy, Debug)]
+pub struct Mark {
+    pub flow: u16,
+    pub kind: Kind,
+}
+
+/// What is kept of an atom beside its view: its mark, the hand that has it in flight, and its attempts.
+#[derive(Clone, Copy, Debug)]
+pub struct Place {
+    pub mark: Option<Mark>,
+    pub hand: Option<u8>,
+    pub attempts: u32,
+}
+
+/// A view and a place for each atom, and the flow's state.
+#[derive(Drop)]
+pub struct Tables {
+    pub views: Vec<AtomView>,
+    pub places: Vec<Place>,
+    pub flow: FlowState,
+}
+
+impl Tables {
+    /// The tables of so many atoms before a run.
+    pub fn make(alloc: Global, atoms: u16) -> Result<Tables, Memory>
+        ensures views { IfOk result (λ tables. tables.views.items ≡ first_views atoms) }
+        ensures places { IfOk result (λ tables. tables.places.items ≡ first_places atoms) }
+        ensures flow { IfOk result (λ tables. tables.flow ≡ pending_flow) }
+    {
+        let mut views = Vec::new(alloc);
+        let mut places = Vec::new(alloc);
+        for _atom in 0..atoms {
+            views.push(AtomView {
+                state: AtomState::Pending,
+                payload: Payload::Empty,
+            })?;
+            places.push(Place {
+                mark: None,
+                hand: None,
+                attempts: 0,
+            })?;
+        }
+        Ok(Tables {
+            views,
+            places,
+            flow: FlowState::Pending,
+        })
+    }
+
+    /// The state of an atom.
+    pub fn state(&self, atom: u16) -> AtomState
+        ensures { result ≡ (shown_by self.now).state atom }
+    {
+        match self.views.get(atom as usize) {
+            Some(view) => view.state,
+            None => AtomState::Pending,
+        }
+    }
+
+    /// The hand that has an atom in flight.
+    pub fn hand(&self, atom: u16) -> Option<u8>
+        ensures { result ≡ (shown_by self.now).hand atom }
+    {
+        match self.places.get(atom as usize) {
+            Some(place) => place.hand,
+            None => None,
+        }
+    }
+
+    /// Whether the hand has an atom in flight.
+    pub fn is_with(&self, hand: u8, atom: u16) -> bool
+        ensures { result ≡ is_with (shown_by self.now) hand atom }
+    {
+        match self.hand(atom) {
+            Some(other) => other == hand,
+            None => false,
+        }
+    }
+
+    /// Whether an atom's mark is EXECUTE.
+    pub fn is_unmarked(&self, atom: u16) -> bool
+        ensures { result ≡ is_unmarked (shown_by self.now) atom }
+    {
+        match self.places.get(atom as usize) {
+            Some(place) => place.mark.is_none(),
+            None => true,
+        }
+    }
+
+    /// Whether an atom's mark is REVERT.
+    pub fn is_to_revert(&self, atom: u16) -> bool
+        ensures { result ≡ is_to_revert ((shown_by self.now).mark atom) }
+    {
+        match self.places.get(atom as usize) {
+            Some(place) => match &place.mark {
+                Some(mark) => !matches!(mark.kind, Kind::Retry),
+                None => false,
+            },
+            None => false,
+        }
+    }
+
+    /// Records an entry that may follow. It takes no memory.
+    pub fn record(&mut self, compiled: &Compiled, entry: Entry)
+        requires plain { IsPlain compiled.now }
+        requires facts { Facts (outline_of compiled.now) (shown_by self.old) }
+        requires views { length self.old.views.items ≡ count (outline_of compiled.now) }
+        requires places { length self.old.places.items ≡ count (outline_of compiled.now) }
+        requires step { Step (outline_of compiled.now) (shown_by self.old) entry }
+        ensures moved { shown_by self.new ≡ later (outline_of compiled.now) entry (shown_by self.old) }
+        ensures views { length self.new.views.items ≡ length self.old.views.items }
+        ensures places { length self.new.places.items ≡ length self.old.places.items }
+    {
+        let Entry { hand, what } = entry;
+        match what {
+            What::Atom {
+                atom,
+                state,
+                payload,
+            } => {
+                let taken = taken_by(compiled, hand, atom, state);
+                self.enter(atom, state, payload, taken)
+            }
+            What::Flow(state) => self.turn(state),
+            What::Resolve { flow, kind } => self.resolve(flow, kind),
+            What::Restart(atom) => self.take(hand, atom),
+        }
+    }
+
+    /// An atom enters a state, with what it carries and the hand that has it in flight then.
+    fn enter(&mut self, atom: u16, state: AtomState, payload: Payload, hand: Option<u8>)
+        requires view { atom < length self.old.views.items }
+        requires place { atom < length self.old.places.items }
+        requires few { (shown_by self.old).attempts atom ≤ 1 }
+        ensures state { (a : ℕ) → (shown_by self.new).state a ≡ state_after (atom_enters atom state payload) a ((shown_by self.old).state a) }
+        ensures payload { (a : ℕ) → (shown_by self.new).payload a ≡ payload_after (atom_enters atom state payload) a ((shown_by self.old).state a) ((shown_by self.old).payload a) }
+        ensures hand { (a : ℕ) → (shown_by self.new).hand a ≡ (if nat_eq atom a then hand else (shown_by self.old).hand a) }
+        ensures mark { (a : ℕ) → (shown_by self.new).mark a ≡ (shown_by self.old).mark a }
+        ensures attempts { (a : ℕ) → (shown_by self.new).attempts a ≡ attempts_after (atom_enters atom state payload) a ((shown_by self.old).attempts a) }
+        ensures flow { self.new.flow ≡ self.old.flow }
+        ensures views { length self.new.views.items ≡ length self.old.views.items }
+        ensures places { length self.new.places.items ≡ length self.old.places.items }
+    {
+        enter_view(&mut self.views[atom as usize], state, payload);
+        enter_place(&mut self.places[atom as usize], state, hand);
+    }
+
+    /// A hand takes up an atom again.
+    fn take(&mut self, hand: u8, atom: u16)
+        requires place { atom < length self.old.places.items }
+        ensures hand { (a : ℕ) → (shown_by self.new).hand a ≡ (if nat_eq atom a then Some hand else (shown_by self.old).hand a) }
+        ensures mark { (a : ℕ) → (shown_by self.new).mark a ≡ (shown_by self.old).mark a }
+        ensures attempts { (a : ℕ) → (shown_by self.new).attempts a ≡ (shown_by self.old).attempts a }
+        ensures views { self.new.views.items ≡ self.old.views.items }
+        ensures flow { self.new.flow ≡ self.old.flow }
+        ensures places { length self.new.places.items ≡ length self.old.places.items }
+    {
+        self.places[atom as usize].hand = Some(hand);
+    }
+
+    /// The flow enters a state: as it becomes RESUMING no hand has anything in flight any more, and as it
+    /// becomes PENDING no mark is left.
+    fn turn(&mut self, state: FlowState)
+        ensures places { self.new.places.items ≡ map (turned state) self.old.places.items }
+        ensures views { self.new.views.items ≡ self.old.views.items }
+        ensures flow { self.new.flow ≡ state }
+    {
+        turn_each(&mut self.places, state);
+        self.flow = state;
+    }
+
+    /// A failure is resolved: each atom has that mark.
+    fn resolve(&mut self, flow: u16, kind: Kind)
+        ensures places { self.new.places.items ≡ map (marked (Some (record { flow = flow; kind = kind }))) self.old.places.items }
+        ensures views { self.new.views.items ≡ self.old.views.items }
+        ensures flow { self.new.flow ≡ self.old.flow }
+    {
+        mark_each(&mut self.places, Some(Mark { flow, kind }));
+    }
+}
+
+/// The hand that has an atom in flight after it entered a state.
+fn taken_by(compiled: &Compiled, hand: u8, atom: u16, state: AtomState) -> Option<u8>
+    ensures { result ≡ (if is_task (outline_of compiled.now) atom && is_at_work state then Some hand else None) }
+{
+    if compiled.is_task(atom) && is_at_work(state) {
+        Some(hand)
+    } else {
+        None
+    }
+}
+
+/// The atom of this view enters a state.
+fn enter_view(view: &mut AtomView, state: AtomState, payload: Payload)
+    ensures { view.new ≡ entered_view state payload view.old }
+{
+    if keeps_payload(view.state, state) {
+        view.state = state;
+        return;
+    }
+    *view = AtomView { state, payload };
+}
+
+/// The atom of this place enters a state, in which the hand has it in flight.
+fn enter_place(place: &mut Place, state: AtomState, hand: Option<u8>)
+    requires few { place.old.attempts ≤ 1 }
+    ensures { place.new ≡ entered_place state hand place.old }
+{
+    place.hand = hand;
+    place.attempts = attempts_in(state, place.attempts);
+}
+
+/// Whether the payload of a retry controller in the first state stays as it enters the second.
+fn keeps_payload(before: AtomState, state: AtomState) -> bool
+    ensures { (held old : PayloadValue) → held_after state held before old ≡ (if result then old else held) }
+{
+    match state {
+        AtomState::Retrying => true,
+        AtomState::Running => matches!(before, AtomState::Retrying),
+        _ => false,
+    }
+}
+
+/// An atom's attempts after it entered a state.
+fn attempts_in(state: AtomState, before: u32) -> u32
+    requires few { before ≤ 1 }
+    ensures { result ≡ attempts_in state before }
+{
+    match state {
+        AtomState::Pending => 0,
+        AtomState::Success => before + 1,
+        _ => before,
+    }
+}
+
+/// The flow enters a state.
+#[tactic(auto, using(crate::proofs::ChangeLemmas::kept_by_turn, crate::proofs::ChangeLemmas::released_by_turn, crate::proofs::ChangeLemmas::unmarked_by_turn))]
+fn turn_each(places: &mut [Place], state: FlowState)
+    ensures { places.new ≡ map (turned state) places.old }
+{
+    if flow_resumes(state) {
+        release_each(places);
+        return;
+    }
+    if flow_rests(state) {
+        mark_each(places, None);
+    }
+}
+
+/// No atom is in flight any more.
+fn release_each(places: &mut [Place])
+    ensures { places.new ≡ map released places.old }
+{
+    for place in places.iter_mut() {
+        place.hand = None;
+    }
+}
+
+/// Each atom has that mark.
+fn mark_each(places: &mut [Place], mark: Option<Mark>)
+    ensures { places.new ≡ map (marked mark) places.old }
+{
+    for place in places.iter_mut() {
+        place.mark = mark;
+    }
+}

@@ -1,0 +1,348 @@
+-- Rows of the numbers of atoms, and what they tell of a plan.
+use Rattle.std.proofs.Common.{◌≡◌, ◌≢◌, ℕ, zero, suc, ◌+◌, ◌-◌, ◌<◌, ◌≤◌, List, [], ◌∷◌, ◌++◌, length, take, map, Bool, true, false, ◌&&◌, ◌||◌, Option, Some, None, refl, sym, ap, subst, ◌∙◌, add-one, inl, inr, arith, eqb-true, eq-eqb, slice_set, slice_get, slice_index_or}
+use Rattle.std.specs.Prelude.{nat_eq, nat_lt, if◌then◌else◌}
+use Rattle.std.proofs.lemmas.Bool.{cases_lt, lt-ltb, ltb-true}
+use Rattle.std.proofs.lemmas.List.{map-append, length-set, length-map}
+use Rattle.std.proofs.lemmas.Option.{slice_get_past}
+use Rattle.tf_model.specs.Before.{Flow, flow_at, way_before, way_at}
+use Rattle.tf_model.specs.Linked.{standing_in}
+use Rattle.tf_model.specs.Numbers.{numbers_below, which_below, has_number}
+use Rattle.tf_model.specs.Outline.{Turn, Atom}
+use Rattle.tf_model.specs.Plan.{Outline as PlanOutline, is_before, is_task_part, is_task_in, last_flow, count}
+use Rattle.tf_model.specs.Deciders.{last_item, same_flow, flow_in}
+use Rattle.tf_order.specs.declared.arranged.Arranged.{Arranged}
+use Rattle.tf_order.specs.declared.outline.AtomPlace.{AtomPlace}
+use Rattle.tf_order.specs.declared.outline.Outline.{Outline}
+use Rattle.tf_order.specs.declared.outline.Turn.{Turn as CodeTurn}
+use Rattle.tf_order.specs.Arranged.{IsShownAt, ShowsFlows}
+use Rattle.tf_order.specs.Bits.{has, words_for}
+use Rattle.tf_order.specs.Graph.{GraphValue, leads_to, leads_in, standing_of_plan}
+use Rattle.tf_order.specs.Links.{leads}
+use Rattle.tf_order.specs.Places.{shown_atom, shown_atoms, shown_part}
+use Rattle.tf_order.specs.Rows.{row_in, row_at, is_in_row}
+use Rattle.tf_order.specs.Tables.{plan_seen, atoms_found, number_if, RowAdded, RowsAdded, AreRows, AreTables, AllBelow, leads_from, flow_in_flows}
+use Rattle.tf_order.specs.Ways.{flow_of_turn, item_of_turn}
+use Rattle.tf_order.proofs.BitLemmas.{ap2, which_next, which_pass}
+use Rattle.tf_order.proofs.GraphLemmas.{row_told, rows_length}
+use Rattle.tf_order.proofs.LinkLemmas.{past_row}
+use Rattle.tf_order.proofs.OutlineLemmas.{way_there, atom_there}
+use Rattle.tf_order.proofs.NumberLemmas.{same_truth, never_true, not_both}
+use Rattle.tf_order.proofs.StandingLemmas.{number_more, listed_within, taking_none, taking_next, taking_all}
+
+-- ---- one row more
+
+nothing_after : {X : Type 0} (xs : List X) → xs ++ [] ≡ xs
+nothing_after [] = refl
+nothing_after {X} (x ∷ xs) = ap (λ (ys : List X). x ∷ ys) (nothing_after xs)
+
+pub length_more : {X : Type 0} (xs : List X) (x : X) → length (xs ++ x ∷ []) ≡ length xs + 1
+length_more [] x = omega arith
+length_more (y ∷ ys) x = omega (arith, length_more ys x)
+
+-- so many rows, with nothing in them
+pub record EmptyRows (count : ℕ) (rows : List (List ℕ)) : Type 0 where
+  pub height : length rows ≡ count
+  pub none : (k : ℕ) → row_at rows k ≡ []
+
+pub empty_start : (rows : List (List ℕ)) → rows ≡ [] → EmptyRows 0 rows
+empty_start rows is = record { height = ap length is; none = λ k. ap (λ (xs : List (List ℕ)). row_at xs k) is }
+
+empty_next : (rows : List (List ℕ)) → ((k : ℕ) → row_at rows k ≡ []) → (k : ℕ) → row_at (rows ++ [] ∷ []) k ≡ []
+empty_next [] none zero = refl
+empty_next [] none (suc k) = refl
+empty_next (row ∷ rows) none zero = none zero
+empty_next (row ∷ rows) none (suc k) = empty_next rows (λ j. none (suc j)) k
+
+pub empty_more : (rows new : List (List ℕ)) (row : List ℕ) (i : ℕ) → EmptyRows i rows → row ≡ [] → new ≡ rows ++ row ∷ [] → EmptyRows (i + 1) new
+empty_more rows new row i before none is = record {
+  height = ap length is ∙ (length_more rows row ∙ ap (λ (n : ℕ). n + 1) before.height);
+  none = λ k. ap (λ (xs : List (List ℕ)). row_at xs k) (is ∙ ap (λ (r : List ℕ). rows ++ r ∷ []) none) ∙ empty_next rows before.none k;
+}
+
+-- ---- rows as sets
+
+-- the numbers of the list before an index, as a set
+pub record SetBefore (count : ℕ) (numbers : List ℕ) (i : ℕ) (set : List ℕ) : Type 0 where
+  pub width : length set ≡ words_for count
+  pub told : (k : ℕ) → has set k ≡ (nat_lt k count && has_number (take i numbers) k)
+
+nothing_both : (a : Bool) → a && false ≡ false
+nothing_both true = refl
+nothing_both false = refl
+
+pub set_start : (count : ℕ) (numbers set : List ℕ) → length set ≡ words_for count → ((k : ℕ) → has set k ≡ false) → SetBefore count numbers 0 set
+set_start count numbers set wide none = record {
+  width = wide;
+  told = λ k. none k ∙ sym (ap (λ (xs : List ℕ). nat_lt k count && has_number xs k) (taking_none numbers) ∙ nothing_both (nat_lt k count));
+}
+
+both_either : (a b c : Bool) → ((a && b) || (a && c)) ≡ (a && (b || c))
+both_either true b c = refl
+both_either false b c = refl
+
+pub set_more : (count : ℕ) (numbers set new : List ℕ) (i number : ℕ) → SetBefore count numbers i set → i < length numbers → number ≡ slice_index_or numbers i 0 → length new ≡ words_for count
+    → ((k : ℕ) → has new k ≡ (has set k || (nat_lt k count && nat_eq k number))) → SetBefore count numbers (i + 1) new
+set_more count numbers set new i number before below is wide more = record {
+  width = wide;
+  told = λ k. more k
+      ∙ (ap (λ (b : Bool). b || (nat_lt k count && nat_eq k number)) (before.told k)
+      ∙ (both_either (nat_lt k count) (has_number (take i numbers) k) (nat_eq k number)
+      ∙ ap (λ (b : Bool). nat_lt k count && b) (sym (
+      ap (λ (xs : List ℕ). has_number xs k) (ap (λ (n : ℕ). take n numbers) (add-one i) ∙ taking_next numbers i below)
+      ∙ (number_more (take i numbers) (slice_index_or numbers i 0) k ∙ ap (λ (n : ℕ). has_number (take i numbers) k || nat_eq k n) (sym is))))));
+}
+
+pub set_all : (count : ℕ) (numbers set : List ℕ) (i : ℕ) → SetBefore count numbers i set → length numbers ≤ i → (k : ℕ) → has set k ≡ (nat_lt k count && has_number numbers k)
+set_all count numbers set i is whole k = is.told k ∙ ap (λ (xs : List ℕ). nat_lt k count && has_number xs k) (taking_all numbers i whole)
+
+pub inserted_below : (count number : ℕ) (old new : List ℕ) → number < count → ((k : ℕ) → has new k ≡ (nat_eq number k || has old k)) → (k : ℕ) → has new k ≡ (has old k || (nat_lt k count && nat_eq k number))
+inserted_below count number old new below set k = set k ∙ by_number (nat_eq number k) refl
+  where
+    or_all : (a : Bool) → a || true ≡ true
+    or_all true = refl
+    or_all false = refl
+
+    or_none : (a b : Bool) → a || (b && false) ≡ a
+    or_none true b = refl
+    or_none false true = refl
+    or_none false false = refl
+
+    by_number : (b : Bool) → nat_eq number k ≡ b → (b || has old k) ≡ (has old k || (nat_lt k count && nat_eq k number))
+    by_number true same = let e : number ≡ k = eqb-true number k same in
+        sym (ap2 (λ (x y : Bool). has old k || (x && y)) (lt-ltb k count (omega (arith, e, below))) (eq-eqb k number (sym e)) ∙ or_all (has old k))
+    by_number false other = sym (ap (λ (b : Bool). has old k || (nat_lt k count && b)) (never_true (nat_eq k number) (λ same. not_both (nat_eq number k) (eq-eqb number k (sym (eqb-true k number same))) other)) ∙ or_none (has old k) (nat_lt k count))
+
+pub past_below : (count number : ℕ) (old : List ℕ) → count ≤ number → (k : ℕ) → has old k ≡ (has old k || (nat_lt k count && nat_eq k number))
+past_below count number old past k = sym (ap (λ (b : Bool). has old k || b) (never_true (nat_lt k count && nat_eq k number) (λ is.
+    let below : k < count = ltb-true k count (left (nat_lt k count) (nat_eq k number) is) in
+    let same : k ≡ number = eqb-true k number (right (nat_lt k count) (nat_eq k number) is) in
+    absurd (omega (arith, below, same, past)))) ∙ or_nothing (has old k))
+  where
+    left : (a b : Bool) → a && b ≡ true → a ≡ true
+    left true b is = refl
+    left false b is = is
+
+    right : (a b : Bool) → a && b ≡ true → b ≡ true
+    right true b is = is
+    right false b is = absurd (cc)
+
+    or_nothing : (a : Bool) → a || false ≡ a
+    or_nothing true = refl
+    or_nothing false = refl
+
+-- the rows before an index, as sets
+pub record SetsBefore (rows : List (List ℕ)) (i : ℕ) (sets : List (List ℕ)) : Type 0 where
+  pub height : length sets ≡ i
+  pub told : (a b : ℕ) → a < i → leads sets a b ≡ is_in_row rows a b
+
+pub sets_start : (rows sets : List (List ℕ)) → sets ≡ [] → SetsBefore rows 0 sets
+sets_start rows sets is = record { height = ap length is; told = λ a b below. absurd (omega (arith, below)) }
+
+before_last : (sets : List (List ℕ)) (set : List ℕ) (a : ℕ) → a < length sets → slice_index_or (sets ++ set ∷ []) a [] ≡ slice_index_or sets a []
+before_last [] set a below = absurd (omega arith)
+before_last (s ∷ sets) set zero below = refl
+before_last (s ∷ sets) set (suc a) below = before_last sets set a (omega arith)
+
+at_last : (sets : List (List ℕ)) (set : List ℕ) → slice_index_or (sets ++ set ∷ []) (length sets) [] ≡ set
+at_last [] set = refl
+at_last (s ∷ sets) set = at_last sets set
+
+row_read_at : (rows : List (List ℕ)) (k : ℕ) (row : List ℕ) → k < length rows → row ≡ slice_index_or rows k row → row_at rows k ≡ row
+row_read_at [] k row below is = absurd (omega arith)
+row_read_at (x ∷ rows) zero row below is = sym is
+row_read_at (x ∷ rows) (suc k) row below is = row_read_at rows k row (omega arith) is
+
+pub sets_more : (rows sets new : List (List ℕ)) (i : ℕ) (row set : List ℕ) → SetsBefore rows i sets → i < length rows → row ≡ slice_index_or rows i row
+    → ((k : ℕ) → has set k ≡ (nat_lt k (length rows) && has_number row k)) → new ≡ sets ++ set ∷ [] → SetsBefore rows (i + 1) new
+sets_more rows sets new i row set before below read is pushed = record {
+  height = ap length pushed ∙ (length_more sets set ∙ ap (λ (n : ℕ). n + 1) before.height);
+  told = λ a b within. ap (λ (xs : List (List ℕ)). leads xs a b) pushed ∙ elim (cases_lt a i) [
+    | inl earlier ↦ ap (λ (s : List ℕ). has s b) (before_last sets set a (omega (arith, earlier, before.height))) ∙ before.told a b earlier
+    | inr from ↦ let same : a ≡ length sets = omega (arith, from, within, before.height) in
+        let here : i ≡ a = omega (arith, from, within) in
+        ap (λ (n : ℕ). leads (sets ++ set ∷ []) n b) same
+        ∙ (ap (λ (s : List ℕ). has s b) (at_last sets set)
+        ∙ (is b
+        ∙ (ap (λ (r : List ℕ). nat_lt b (length rows) && has_number r b) (sym (row_read_at rows i row below read))
+        ∙ ap (λ (n : ℕ). is_in_row rows n b) here)))
+  ];
+}
+
+pub sets_all : (rows sets : List (List ℕ)) (i : ℕ) → SetsBefore rows i sets → length rows ≤ i → (a b : ℕ) → leads sets a b ≡ is_in_row rows a b
+sets_all rows sets i is whole a b = elim (cases_lt a i) [
+  | inl below ↦ is.told a b below
+  | inr from ↦ sym (past_row sets a b (omega (arith, from, is.height)))
+      ∙ sym (ap (λ (r : List ℕ). nat_lt b (length rows) && has_number r b) (ap row_in (slice_get_past rows a (omega (arith, from, whole)))) ∙ nothing_both (nat_lt b (length rows)))
+]
+
+-- ---- rows that grow
+
+-- one row more, of the next number
+pub rows_more : (f : ℕ → List ℕ) (n : ℕ) (rows new : List (List ℕ)) (row : List ℕ) → rows ≡ map f (numbers_below n) → row ≡ f n → new ≡ rows ++ row ∷ [] → new ≡ map f (numbers_below (n + 1))
+rows_more f n rows new row is row_is pushed =
+    pushed
+    ∙ (ap2 (λ (xs : List (List ℕ)) (r : List ℕ). xs ++ r ∷ []) is row_is
+    ∙ (sym (map-append f (numbers_below n) (n ∷ []))
+    ∙ ap (λ (k : ℕ). map f (numbers_below k)) (sym (add-one n))))
+
+pub rows_whole : (f : ℕ → List ℕ) (n m : ℕ) (rows : List (List ℕ)) → rows ≡ map f (numbers_below n) → n ≡ m → rows ≡ map f (numbers_below m)
+rows_whole f n m rows is same = is ∙ ap (λ (k : ℕ). map f (numbers_below k)) same
+
+-- a number more, where it passes
+pub number_next : (test : ℕ → Bool) (n : ℕ) (row new : List ℕ) → row ≡ which_below n test → new ≡ row ++ number_if (test n) n → new ≡ which_below (n + 1) test
+number_next test n row new is more = more ∙ (ap (λ (xs : List ℕ). xs ++ number_if (test n) n) is ∙ ap (λ (k : ℕ). which_below k test) (sym (add-one n)))
+
+pub row_kept : (at : ℕ) (on : Bool) (number : ℕ) (rows : List (List ℕ)) → on ≡ false → RowAdded at (number_if on number) rows rows
+row_kept at on number rows off = record {
+  height = refl;
+  told = λ k. sym (ap (λ (b : Bool). if nat_eq at k then row_at rows k ++ number_if b number else row_at rows k) off ∙ either (nat_eq at k) (row_at rows k));
+}
+  where
+    either : (b : Bool) (row : List ℕ) → (if b then row ++ [] else row) ≡ row
+    either true row = nothing_after row
+    either false row = refl
+
+pub get_set_same : {X : Type 0} (xs : List X) (i : ℕ) (x : X) → i < length xs → slice_get (slice_set xs i x) i ≡ Some x
+get_set_same [] i x below = absurd (omega arith)
+get_set_same (y ∷ xs) zero x below = refl
+get_set_same (y ∷ xs) (suc i) x below = get_set_same xs i x (omega arith)
+
+pub get_set_other : {X : Type 0} (xs : List X) (i j : ℕ) (x : X) → j ≢ i → slice_get (slice_set xs i x) j ≡ slice_get xs j
+get_set_other [] i j x differ = refl
+get_set_other (y ∷ xs) zero zero x differ = absurd (differ refl)
+get_set_other (y ∷ xs) zero (suc j) x differ = refl
+get_set_other (y ∷ xs) (suc i) zero x differ = refl
+get_set_other (y ∷ xs) (suc i) (suc j) x differ = get_set_other xs i j x (λ same. differ (ap suc same))
+
+pub row_added : (at : ℕ) (on : Bool) (number : ℕ) (rows : List (List ℕ)) (row new : List ℕ) → on ≡ true → at < length rows → row ≡ slice_index_or rows at row → new ≡ row ++ number ∷ [] → RowAdded at (number_if on number) rows (slice_set rows at new)
+row_added at on number rows row new is below read pushed = record {
+  height = length-set rows at new;
+  told = λ k. by_row k (nat_eq at k) refl;
+}
+  where
+    by_row : (k : ℕ) (b : Bool) → nat_eq at k ≡ b → row_at (slice_set rows at new) k ≡ (if b then row_at rows k ++ number_if on number else row_at rows k)
+    by_row k true same = let e : at ≡ k = eqb-true at k same in
+        ap (row_at (slice_set rows at new)) (sym e)
+        ∙ (ap row_in (get_set_same rows at new below)
+        ∙ (pushed
+        ∙ ap2 (λ (r : List ℕ) (b : Bool). r ++ number_if b number) (sym (row_read_at rows at row below read) ∙ ap (row_at rows) e) (sym is)))
+    by_row k false other = ap row_in (get_set_other rows at k new (λ same. not_both (nat_eq at k) (eq-eqb at k (sym same)) other))
+
+pub added_start : (test : ℕ → Bool) (number : ℕ) (rows : List (List ℕ)) → RowsAdded 0 test number rows rows
+added_start test number rows = record { height = refl; told = λ k. sym (ap (λ (b : Bool). row_at rows k ++ number_if (b && test k) number) (none k) ∙ nothing_after (row_at rows k)) }
+  where
+    none : (k : ℕ) → nat_lt k 0 ≡ false
+    none k = never_true (nat_lt k 0) (λ is. let below : k < 0 = ltb-true k 0 is in absurd (omega (arith, below)))
+
+chain : (xs ys zs : List ℕ) → (xs ++ ys) ++ zs ≡ xs ++ (ys ++ zs)
+chain [] ys zs = refl
+chain (x ∷ xs) ys zs = ap (λ (ws : List ℕ). x ∷ ws) (chain xs ys zs)
+
+pub added_next : (test : ℕ → Bool) (number i : ℕ) (old rows new : List (List ℕ)) → RowsAdded i test number old rows → RowAdded i (number_if (test i) number) rows new → RowsAdded (i + 1) test number old new
+added_next test number i old rows new before more = record {
+  height = more.height ∙ before.height;
+  told = λ k. more.told k ∙ by_row k (nat_eq i k) refl;
+}
+  where
+    not_yet : (k : ℕ) → i ≡ k → nat_lt k i ≡ false
+    not_yet k same = never_true (nat_lt k i) (λ is. let below : k < i = ltb-true k i is in absurd (omega (arith, below, same)))
+
+    as_before : (k : ℕ) → nat_eq i k ≡ false → nat_lt k i ≡ nat_lt k (i + 1)
+    as_before k other = same_truth (nat_lt k i) (nat_lt k (i + 1))
+        (λ less. let below : k < i = ltb-true k i less in lt-ltb k (i + 1) (omega (arith, below)))
+        (λ less. let below : k < i + 1 = ltb-true k (i + 1) less in
+        let differ : i ≢ k = λ same. not_both (nat_eq i k) (eq-eqb i k same) other in lt-ltb k i (omega (arith, below, differ)))
+
+    by_row : (k : ℕ) (b : Bool) → nat_eq i k ≡ b → (if b then row_at rows k ++ number_if (test i) number else row_at rows k) ≡ row_at old k ++ number_if (nat_lt k (i + 1) && test k) number
+    by_row k true same = let e : i ≡ k = eqb-true i k same in
+        ap (λ (r : List ℕ). r ++ number_if (test i) number) (before.told k ∙ (ap (λ (b : Bool). row_at old k ++ number_if (b && test k) number) (not_yet k e) ∙ nothing_after (row_at old k)))
+        ∙ ap2 (λ (b : Bool) (n : ℕ). row_at old k ++ number_if (b && test n) number) (sym (lt-ltb k (i + 1) (omega (arith, e)))) e
+    by_row k false other = before.told k ∙ ap (λ (b : Bool). row_at old k ++ number_if (b && test k) number) (as_before k other)
+
+-- the rows of those before, by each number that comes after
+pub earlier_start : (count : ℕ) (test : ℕ → ℕ → Bool) (rows : List (List ℕ)) → length rows ≡ count → ((k : ℕ) → row_at rows k ≡ []) → AreRows count (λ b. which_below 0 (λ a. test a b)) rows
+earlier_start count test rows height none = record { height = height; told = λ k below. none k }
+
+pub earlier_next : (count a : ℕ) (test : ℕ → ℕ → Bool) (rows new : List (List ℕ)) → AreRows count (λ b. which_below a (λ x. test x b)) rows → RowsAdded count (test a) a rows new → AreRows count (λ b. which_below (a + 1) (λ x. test x b)) new
+earlier_next count a test rows new before more = record {
+  height = more.height ∙ before.height;
+  told = λ k below. more.told k
+      ∙ (ap2 (λ (r : List ℕ) (b : Bool). r ++ number_if (b && test a k) a) (before.told k below) (lt-ltb k count below)
+      ∙ ap (λ (n : ℕ). which_below n (λ x. test x k)) (sym (add-one a)));
+}
+
+pub earlier_all : (count a : ℕ) (test : ℕ → ℕ → Bool) (rows : List (List ℕ)) → AreRows count (λ b. which_below a (λ x. test x b)) rows → a ≡ count → AreRows count (λ b. which_below count (λ x. test x b)) rows
+earlier_all count a test rows is same = subst (λ (n : ℕ). AreRows count (λ b. which_below n (λ x. test x b)) rows) same is
+
+same_rows : (xs ys : List (List ℕ)) → length xs ≡ length ys → ((k : ℕ) → k < length xs → row_at xs k ≡ row_at ys k) → xs ≡ ys
+same_rows [] [] same each = refl
+same_rows [] (y ∷ ys) same each = absurd (omega arith)
+same_rows (x ∷ xs) [] same each = absurd (omega arith)
+same_rows (x ∷ xs) (y ∷ ys) same each = ap2 (λ (r : List ℕ) (rs : List (List ℕ)). r ∷ rs) (each zero (omega arith)) (same_rows xs ys (omega arith) (λ k below. each (suc k) (omega arith)))
+
+rows_are : (count : ℕ) (f : ℕ → List ℕ) (rows : List (List ℕ)) → AreRows count f rows → rows ≡ map f (numbers_below count)
+rows_are count f rows is = same_rows rows (map f (numbers_below count)) (is.height ∙ sym (rows_length f count))
+    (λ k below. let within : k < count = omega (arith, below, is.height) in is.told k within ∙ sym (ap row_in (row_told f count k within)))
+
+-- ---- what was found of a plan
+
+pub before_seen : (outline : Outline) (a b : ℕ) (v w : List Turn) (on : Bool) → v ≡ way_at (shown_atoms outline.atoms.items) a → w ≡ way_at (shown_atoms outline.atoms.items) b → on ≡ way_before (plan_seen outline).flows v w → on ≡ is_before (plan_seen outline) a b
+unfolding is_before plan_seen
+before_seen outline a b v w on v_is w_is is = is ∙ (ap (λ (x : List Turn). way_before (plan_seen outline).flows x w) v_is ∙ ap (way_before (plan_seen outline).flows (way_at (shown_atoms outline.atoms.items) a)) w_is)
+
+pub count_seen : (outline : Outline) → count (plan_seen outline) ≡ atoms_found outline
+unfolding plan_seen
+count_seen outline = length-map outline.atoms.items shown_atom
+
+-- numbers that are below others
+pub listed_below : (most : ℕ) (numbers : List ℕ) (i number : ℕ) → AllBelow most numbers → i < length numbers → number ≡ slice_index_or numbers i 0 → number < most
+listed_below most numbers i number each below is = let within : slice_index_or numbers i 0 < most = each (slice_index_or numbers i 0) (listed_within numbers i below) in omega (arith, within, is)
+
+pub row_next : (test : ℕ → Bool) (n : ℕ) (row new : List ℕ) (on : Bool) → row ≡ which_below n test → on ≡ true → on ≡ test n → new ≡ row ++ n ∷ [] → new ≡ which_below (n + 1) test
+row_next test n row new on is passed passes more = more ∙ (ap (λ (xs : List ℕ). xs ++ n ∷ []) is ∙ which_next n test (sym passes ∙ passed))
+
+pub row_pass : (test : ℕ → Bool) (n : ℕ) (row : List ℕ) (on : Bool) → row ≡ which_below n test → on ≡ false → on ≡ test n → row ≡ which_below (n + 1) test
+row_pass test n row on is failed passes = is ∙ which_pass n test (sym passes ∙ failed)
+
+-- ---- the tasks that an atom leads to
+
+pub leads_seen : (outline : Outline) (a b : ℕ) (from : Option CodeTurn) (atom from_atom : AtomPlace) (on : Bool) → a < atoms_found outline → b < atoms_found outline → from_atom ≡ slice_index_or outline.atoms.items a from_atom → atom ≡ slice_index_or outline.atoms.items b atom
+    → last_flow from_atom.way ≡ flow_of_turn from → last_item from_atom.way ≡ item_of_turn from → on ≡ leads_from (plan_seen outline).flows from atom → on ≡ leads_to (plan_seen outline) a b
+unfolding plan_seen
+leads_seen outline a b from atom from_atom on a_below b_below from_read read flow_is item_is is =
+    is
+    ∙ (ap2 (λ (g : Option ℕ) (i : Option ℕ). (is_task_part (shown_part atom.part) && same_flow (last_flow atom.way) g) && leads_in (flow_in_flows (plan_seen outline).flows g) i (last_item atom.way)) (sym flow_is) (sym item_is)
+    ∙ (ap (λ (w : List Turn). (is_task_part (shown_part atom.part) && same_flow (last_flow atom.way) (last_flow w)) && leads_in (flow_in_flows (plan_seen outline).flows (last_flow w)) (last_item w) (last_item atom.way)) (way_there outline.atoms.items a from_atom a_below from_read)
+    ∙ (ap (λ (w : List Turn). (is_task_part (shown_part atom.part) && same_flow (last_flow w) (last_flow (way_at (shown_atoms outline.atoms.items) a))) && leads_in (flow_in_flows (plan_seen outline).flows (last_flow (way_at (shown_atoms outline.atoms.items) a))) (last_item (way_at (shown_atoms outline.atoms.items) a)) (last_item w)) (way_there outline.atoms.items b atom b_below read)
+    ∙ (ap (λ (o : Option Atom). (is_task_in o && same_flow (last_flow (way_at (shown_atoms outline.atoms.items) b)) (last_flow (way_at (shown_atoms outline.atoms.items) a))) && leads_in (flow_in_flows (plan_seen outline).flows (last_flow (way_at (shown_atoms outline.atoms.items) a))) (last_item (way_at (shown_atoms outline.atoms.items) a)) (last_item (way_at (shown_atoms outline.atoms.items) b))) (sym (atom_there outline.atoms.items b atom b_below read))
+    ∙ same_home (plan_seen outline) (last_flow (way_at (shown_atoms outline.atoms.items) a)) (is_task_in (slice_get (shown_atoms outline.atoms.items) b) && same_flow (last_flow (way_at (shown_atoms outline.atoms.items) b)) (last_flow (way_at (shown_atoms outline.atoms.items) a))) (last_item (way_at (shown_atoms outline.atoms.items) a)) (last_item (way_at (shown_atoms outline.atoms.items) b))))))
+  where
+    same_home : (plan : PlanOutline) (g : Option ℕ) (first : Bool) (i j : Option ℕ) → (first && leads_in (flow_in_flows plan.flows g) i j) ≡ (first && leads_in (flow_in plan g) i j)
+    same_home plan None first i j = refl
+    same_home plan (Some g) first i j = refl
+
+standing_shown : (shown : Option (Option Arranged)) (o : Option Flow) (flow : Arranged) → IsShownAt shown o → shown ≡ Some (Some flow) → flow.standing.items ≡ standing_in o
+standing_shown None o flow is some = absurd (cc)
+standing_shown (Some None) o flow is some = absurd (cc)
+standing_shown (Some (Some other)) None flow is some = absurd is
+standing_shown (Some (Some other)) (Some f) flow is some = let same : other ≡ flow = cc in ap (λ (d : Arranged). d.standing.items) (sym same) ∙ is.standing
+
+pub standing_below : (table : List (Option Arranged)) (flows : List Flow) (flow : Arranged) (numbers : List ℕ) → ShowsFlows table flows → slice_get table 0 ≡ Some (Some flow) → numbers ≡ flow.standing.items → AllBelow 1000 (standing_in (flow_at flows 0)) → AllBelow 1000 numbers
+standing_below table flows flow numbers shows read is each =
+    subst (AllBelow 1000) (sym (is ∙ standing_shown (slice_get table 0) (flow_at flows 0) flow (shows 0) read)) each
+
+-- ---- the graph
+
+pub tables_are : (outline : Outline) (graph : GraphValue) (earlier later direct : List (List ℕ)) (standing : List ℕ) → AreRows (atoms_found outline) (λ b. which_below (atoms_found outline) (λ a. is_before (plan_seen outline) a b)) earlier
+    → later ≡ map (λ a. which_below (atoms_found outline) (is_before (plan_seen outline) a)) (numbers_below (atoms_found outline))
+    → direct ≡ map (λ a. which_below (atoms_found outline) (leads_to (plan_seen outline) a)) (numbers_below (atoms_found outline))
+    → standing ≡ standing_of_plan (plan_seen outline) → graph ≡ record { predecessors = earlier; successors = later; direct_tasks = direct; standing = standing } → AreTables graph (plan_seen outline)
+tables_are outline graph earlier later direct standing earlier_are later_are direct_are standing_is is = record {
+  predecessors = ap (λ (g : GraphValue). g.predecessors) is ∙ (rows_are (atoms_found outline) (λ b. which_below (atoms_found outline) (λ a. is_before (plan_seen outline) a b)) earlier earlier_are
+      ∙ ap (λ (n : ℕ). map (λ (b : ℕ). which_below n (λ (a : ℕ). is_before (plan_seen outline) a b)) (numbers_below n)) (sym (count_seen outline)));
+  successors = ap (λ (g : GraphValue). g.successors) is ∙ (later_are
+      ∙ ap (λ (n : ℕ). map (λ (a : ℕ). which_below n (is_before (plan_seen outline) a)) (numbers_below n)) (sym (count_seen outline)));
+  direct_tasks = ap (λ (g : GraphValue). g.direct_tasks) is ∙ (direct_are
+      ∙ ap (λ (n : ℕ). map (λ (a : ℕ). which_below n (leads_to (plan_seen outline) a)) (numbers_below n)) (sym (count_seen outline)));
+  standing = ap (λ (g : GraphValue). g.standing) is ∙ standing_is;
+}

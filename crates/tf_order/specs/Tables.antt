@@ -1,0 +1,110 @@
+-- What is found of a plan while it is compiled: its flows as they are arranged, their faults, and rows of numbers.
+use Rattle.std.specs.Prelude.{◌≡◌, ℕ, ◌+◌, ◌<◌, List, [], ◌∷◌, ◌++◌, Bool, true, false, ◌&&◌, Option, Some, None, length, drop, map, nat_eq, nat_lt, slice_get, if◌then◌else◌}
+use Rattle.tf_flow.specs.declared.nested.FlowKind.{FlowKind}
+use Rattle.tf_flow.specs.declared.nested.FlowKind.TheVariants as kind
+use Rattle.tf_model.specs.Numbers.{numbers_below, has_number, which_below}
+use Rattle.tf_model.specs.Outline.{Atom, FlowPlace}
+use Rattle.tf_model.specs.Before.{Flow, flow_at}
+use Rattle.tf_model.specs.Deciders.{last_item, same_flow}
+use Rattle.tf_model.specs.Linked.{arranged, provides_at}
+use Rattle.tf_model.specs.Compilation.{CompileRefusal, refusal_among}
+use Rattle.tf_model.specs.Plan.{Outline as PlanOutline, outline_with, count, is_task_part, last_flow}
+use Rattle.tf_order.specs.declared.arranged.Arranged.{Arranged}
+use Rattle.tf_order.specs.declared.faults.CompileFault.{CompileFault}
+use Rattle.tf_order.specs.declared.index.NameIndex.{NameIndex}
+use Rattle.tf_order.specs.declared.outline.AtomPlace.{AtomPlace}
+use Rattle.tf_order.specs.declared.outline.Outline.{Outline}
+use Rattle.tf_order.specs.declared.outline.Turn.{Turn}
+use Rattle.tf_order.specs.Arranged.{ShowsFlows}
+use Rattle.tf_order.specs.Graph.{GraphValue, leads_in, predecessors_of, successors_of, direct_tasks_of, standing_of_plan}
+use Rattle.tf_order.specs.Index.{told}
+use Rattle.tf_order.specs.Links.{leads}
+use Rattle.tf_order.specs.Looked.{told_in}
+use Rattle.tf_order.specs.Places.{shown_atoms, shown_levels, shown_part}
+use Rattle.tf_order.specs.Rows.{row_at}
+use Rattle.tf_order.specs.Ways.{flow_of_turn, item_of_turn}
+
+-- the fault at a place, where there is such a place
+abbrev pub fault_in : Option (Option CompileFault) → Option CompileFault
+fault_in None = None
+fault_in (Some fault) = fault
+
+-- the refusal that the fault of a flow tells
+abbrev pub told_at : List (Option CompileFault) → ℕ → Option CompileRefusal
+told_at faults g = told_in (fault_in (slice_get faults g))
+
+-- the flows from a number on were looked at: the table has them as they are arranged, and the faults
+-- tell their refusals
+pub record AreLooked (atoms : List Atom) (places : List FlowPlace) (from : ℕ) (table : List (Option Arranged)) (faults : List (Option CompileFault)) : Type 0 where
+  pub height : length table ≡ length places
+  pub fault_height : length faults ≡ length places
+  pub shows : ShowsFlows table (arranged atoms (drop from places))
+  pub told : (g : ℕ) → told_at faults g ≡ refusal_among atoms g (arranged atoms (drop from places))
+
+-- the plan of the atoms and flows that were found; what it has in its store is not asked here
+unfoldable pub plan_seen : Outline → PlanOutline
+plan_seen outline = outline_with (shown_atoms outline.atoms.items) (shown_levels outline.levels.items) [] false
+
+-- item u leads to item v, by kind: to the next one, to none, or to those in its row of links
+abbrev pub leads_by_rows : FlowKind → List (List ℕ) → ℕ → ℕ → Bool
+leads_by_rows kind.Linear rows u v = nat_eq (u + 1) v
+leads_by_rows kind.Unordered rows u v = false
+leads_by_rows kind.Graph rows u v = leads rows u v
+
+-- item u of a flow that is arranged leads to item v
+abbrev pub item_leads : Arranged → ℕ → ℕ → Bool
+item_leads flow u v = leads_by_rows flow.kind flow.links.rows u v
+
+-- the flow of a number, where there is a number
+abbrev pub flow_in_flows : List Flow → Option ℕ → Option Flow
+flow_in_flows flows None = None
+flow_in_flows flows (Some g) = flow_at flows g
+
+-- the atom is a task of the flow into which the turn leads, and the turn's place leads to its place
+abbrev pub leads_from : List Flow → Option Turn → AtomPlace → Bool
+leads_from flows from atom =
+    (is_task_part (shown_part atom.part) && same_flow (last_flow atom.way) (flow_of_turn from))
+    && leads_in (flow_in_flows flows (flow_of_turn from)) (item_of_turn from) (last_item atom.way)
+
+-- each number of the list is below another
+abbrev pub AllBelow : ℕ → List ℕ → Type 0
+AllBelow most numbers = (k : ℕ) → has_number numbers k ≡ true → k < most
+
+-- how many atoms were found
+abbrev pub atoms_found : Outline → ℕ
+atoms_found outline = length outline.atoms.items
+
+-- the number, where the test is true
+abbrev pub number_if : Bool → ℕ → List ℕ
+number_if on n = if on then n ∷ [] else []
+
+-- the row of a number has more at its end, and the other rows stay
+pub record RowAdded (at : ℕ) (more : List ℕ) (old new : List (List ℕ)) : Type 0 where
+  pub height : length new ≡ length old
+  pub told : (k : ℕ) → row_at new k ≡ (if nat_eq at k then row_at old k ++ more else row_at old k)
+
+-- each row below a number that passes the test has a number more at its end
+pub record RowsAdded (below : ℕ) (test : ℕ → Bool) (number : ℕ) (old new : List (List ℕ)) : Type 0 where
+  pub height : length new ≡ length old
+  pub told : (k : ℕ) → row_at new k ≡ row_at old k ++ number_if (nat_lt k below && test k) number
+
+-- a row for each of so many numbers
+pub record AreRows (count : ℕ) (row : ℕ → List ℕ) (rows : List (List ℕ)) : Type 0 where
+  pub height : length rows ≡ count
+  pub told : (k : ℕ) → k < count → row_at rows k ≡ row k
+
+-- the lists of a graph are those of the plan
+pub record AreTables (graph : GraphValue) (plan : PlanOutline) : Type 0 where
+  pub predecessors : graph.predecessors ≡ map (predecessors_of plan) (numbers_below (count plan))
+  pub successors : graph.successors ≡ map (successors_of plan) (numbers_below (count plan))
+  pub direct_tasks : graph.direct_tasks ≡ map (direct_tasks_of plan) (numbers_below (count plan))
+  pub standing : graph.standing ≡ standing_of_plan plan
+
+-- who provides a symbol is told
+abbrev pub AreProviders : Outline → NameIndex → Type 0
+AreProviders outline index = (symbol : List ℕ) → told index symbol ≡ which_below (length outline.atoms.items) (provides_at (shown_atoms outline.atoms.items) symbol)
+
+-- so many places with nothing in them
+pub record AreNone {X : Type 0} (count : ℕ) (places : List (Option X)) : Type 0 where
+  pub height : length places ≡ count
+  pub none : (k : ℕ) → k < count → slice_get places k ≡ Some None
