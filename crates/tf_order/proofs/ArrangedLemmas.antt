@@ -1,9 +1,9 @@
 -- Flows that are arranged, by their numbers.
-use Rattle.std.proofs.Common.{◌≡◌, ℕ, List, Bool, false, Option, Some, None, refl, sym, ap, subst, ◌∙◌, slice_get}
+use Rattle.std.proofs.Common.{◌≡◌, ℕ, List, false, Option, Some, None, refl, sym, ap, ◌∙◌, slice_get}
 use Rattle.tf_model.specs.Numbers.{has_pair}
 use Rattle.tf_model.specs.Before.{Flow, flow_at, order_in, item_before}
 use Rattle.tf_order.specs.declared.arranged.Arranged.{Arranged}
-use Rattle.tf_order.specs.Arranged.{comes_before, IsArranged, IsShownAt, ShowsFlows}
+use Rattle.tf_order.specs.Arranged.{comes_before, IsShownAt, ShowsFlows}
 
 order_of : (shown : Option (Option Arranged)) (o : Option Flow) (flow : Arranged) (u v : ℕ) → IsShownAt shown o → shown ≡ Some (Some flow) → comes_before flow u v ≡ has_pair (order_in o) u v
 order_of None o flow u v is some = absurd (cc)

@@ -1,5 +1,5 @@
 -- Looking at the flows of a plan from the last one on, the first refusal, and the graph of a plan.
-use Rattle.std.proofs.Common.{◌≡◌, ◌≢◌, ℕ, zero, suc, ◌+◌, ◌<◌, ◌≤◌, List, [], ◌∷◌, ◌++◌, length, map, flat_map, take, drop, Bool, true, false, ◌&&◌, ◌||◌, Option, Some, None, refl, sym, ap, subst, ◌∙◌, add-one, inl, inr, arith, eqb-true, eq-eqb, slice_set, slice_get, slice_index_or}
+use Rattle.std.proofs.Common.{◌≡◌, ◌≢◌, ℕ, zero, suc, ◌+◌, ◌<◌, ◌≤◌, List, [], ◌∷◌, ◌++◌, length, map, flat_map, take, drop, Bool, true, false, ◌||◌, Option, Some, None, refl, sym, ap, subst, ◌∙◌, add-one, inl, inr, arith, eqb-true, eq-eqb, slice_set, slice_get, slice_index_or}
 use Rattle.std.specs.Prelude.{nat_eq, if◌then◌else◌}
 use Rattle.std.specs.Option.{option_or}
 use Rattle.std.proofs.lemmas.Bool.{cases_lt}
@@ -28,11 +28,11 @@ use Rattle.tf_order.specs.Looked.{told_by, told_in}
 use Rattle.tf_order.specs.Places.{shown_atom, shown_atoms, shown_level, shown_levels, level_number}
 use Rattle.tf_order.specs.Refusals.{IsRefusedBy}
 use Rattle.tf_order.specs.Tables.{plan_seen, atoms_found, AreTables, AreLooked, AreNone, AllBelow, fault_in, told_at}
-use Rattle.tf_order.proofs.BitLemmas.{ap2}
+use Rattle.tf_links.proofs.BitLemmas.{ap2}
 use Rattle.tf_order.proofs.GraphLemmas.{get_first, get_last}
-use Rattle.tf_order.proofs.NumberLemmas.{not_both}
+use Rattle.tf_links.proofs.NumberLemmas.{not_both}
 use Rattle.tf_order.proofs.OutlineLemmas.{length_atoms, level_there, level_number_at}
-use Rattle.tf_order.proofs.StandingLemmas.{taking_all}
+use Rattle.tf_links.proofs.StandingLemmas.{taking_all}
 use Rattle.tf_order.proofs.TableLemmas.{get_set_same, get_set_other, length_more}
 
 -- ---- no flow was looked at

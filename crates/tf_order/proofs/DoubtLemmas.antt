@@ -1,33 +1,29 @@
 -- The symbols that make an item ambiguous, and the cycle of a flow.
-use Rattle.std.proofs.Common.{◌≡◌, ◌≢◌, ℕ, zero, suc, ◌+◌, ◌<◌, ◌≤◌, min, List, [], ◌∷◌, ◌++◌, length, take, drop, map, filter, flat_map, Bool, true, false, ◌&&◌, ◌||◌, not, Option, Some, None, refl, sym, ap, ◌∙◌, add-one, append_assoc, inl, inr, arith, eqb-true, eq-eqb, slice_index_or, slice_get, cond}
+use Rattle.std.proofs.Common.{◌≡◌, ◌≢◌, ℕ, zero, suc, ◌+◌, ◌<◌, ◌≤◌, min, List, [], ◌∷◌, ◌++◌, length, take, drop, map, filter, flat_map, Bool, true, false, not, Some, None, refl, sym, ap, ◌∙◌, add-one, append_assoc, inl, inr, arith, eqb-true, eq-eqb, slice_index_or, slice_get, cond}
 use Rattle.std.specs.Prelude.{nat_eq, nat_lt, if◌then◌else◌}
-use Rattle.std.specs.List.{list_any}
-use Rattle.std.specs.Option.{option_or, option_map}
+use Rattle.std.specs.Option.{option_map}
 use Rattle.std.proofs.lemmas.Bool.{cases_lt, ltb-true, lt-ltb}
-use Rattle.std.proofs.lemmas.List.{length-map, map-append}
+use Rattle.std.proofs.lemmas.List.{map-append}
 use Rattle.std.proofs.lemmas.Option.{slice_get-map}
 use Rattle.tf_flow.specs.declared.atoms.Arg.{Arg}
-use Rattle.tf_flow.specs.Names.{is_among, first_some}
+use Rattle.tf_flow.specs.Names.{is_among}
 use Rattle.tf_flow.specs.Rules.{bind_symbols}
-use Rattle.tf_model.specs.Numbers.{which_below, numbers_below, has_number, first_below, Pair, has_pair, reached}
-use Rattle.tf_model.specs.Outline.{Turn, Part, Atom, injected_in, arguments_of}
+use Rattle.tf_model.specs.Numbers.{which_below, has_number, Pair, reached}
+use Rattle.tf_model.specs.Outline.{Turn, Part, injected_in, arguments_of}
 use Rattle.tf_model.specs.Before.{Flow, way_at, passes_item}
-use Rattle.tf_model.specs.Linked.{arg_symbol, is_taken, taken_symbols, is_unserved, is_inside, needs_of_atom, needs, givers, item_name, item_name_in}
-use Rattle.tf_model.specs.Compilation.{CompileRefusal, ambiguous, cycle, name_less, lesser, least, are_several, is_ambiguous, refuse_givers, refuse_symbol, ambiguity_at, ambiguity, shortest_cycle}
-use Rattle.tf_order.specs.declared.faults.CompileFault.{CompileFault}
-use Rattle.tf_order.specs.declared.faults.CompileFault.TheVariants as fault
+use Rattle.tf_model.specs.Linked.{arg_symbol, is_unserved, is_inside, needs_of_atom, needs, givers, item_name, item_name_in}
+use Rattle.tf_model.specs.Compilation.{ambiguous, cycle, name_less, least, are_several, is_ambiguous, refuse_givers, refuse_symbol, ambiguity_at, shortest_cycle}
 use Rattle.tf_order.specs.declared.outline.AtomPlace.{AtomPlace}
 use Rattle.tf_order.specs.declared.outline.ItemPlace.{ItemPlace}
 use Rattle.tf_order.specs.declared.sight.Sight.{Sight}
 use Rattle.tf_order.specs.Arranged.{ShowsFlows}
 use Rattle.tf_order.specs.Doubts.{doubtful, doubts_by, doubts_inside, doubts_below, is_back, cycle_through, first_cycle}
-use Rattle.tf_order.specs.Looked.{told_in}
-use Rattle.tf_order.specs.Places.{shown_part, shown_atoms, shown_item}
+use Rattle.tf_order.specs.Places.{shown_part, shown_item}
 use Rattle.tf_order.specs.Sight.{atoms_seen, place_seen, count_seen, needed_by, needed_at, needed_below}
-use Rattle.tf_order.specs.Links.{leads, LinksValue, AreLinks, AreReached}
-use Rattle.tf_order.proofs.NumberLemmas.{same_truth, never_true, not_both, first_is, first_none}
-use Rattle.tf_order.proofs.BitLemmas.{ap2, index_zero}
-use Rattle.tf_order.proofs.StandingLemmas.{listed_within, taking_next}
+use Rattle.tf_links.specs.Links.{leads, LinksValue, AreLinks, AreReached}
+use Rattle.tf_links.proofs.NumberLemmas.{never_true, first_is, first_none}
+use Rattle.tf_links.proofs.BitLemmas.{ap2, index_zero}
+use Rattle.tf_links.proofs.StandingLemmas.{listed_within, taking_next}
 use Rattle.tf_order.proofs.SightLemmas.{length_seen}
 use Rattle.tf_order.proofs.LinkingLemmas.{filter_append, flat_append, needed_append, take_next, take_whole, take_none, part_seen, one_needed}
 

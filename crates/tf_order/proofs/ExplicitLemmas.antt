@@ -1,26 +1,25 @@
 -- The links that are written in a flow.
-use Rattle.std.proofs.Common.{◌≡◌, ◌≢◌, ℕ, zero, suc, ◌+◌, ◌<◌, ◌≤◌, List, [], ◌∷◌, ◌++◌, length, take, map, Bool, true, false, ◌&&◌, ◌||◌, not, Option, Some, None, refl, sym, ap, ◌∙◌, add-one, inl, inr, arith, eqb-true, eq-eqb, slice_index_or, slice_get}
-use Rattle.std.specs.Prelude.{nat_eq, nat_lt, if◌then◌else◌}
+use Rattle.std.proofs.Common.{◌≡◌, ℕ, zero, suc, ◌+◌, ◌<◌, ◌≤◌, List, [], ◌∷◌, ◌++◌, length, take, map, Bool, true, false, ◌&&◌, ◌||◌, refl, sym, ap, ◌∙◌, add-one, arith, eqb-true, eq-eqb, slice_index_or}
+use Rattle.std.specs.Prelude.{nat_eq, nat_lt}
 use Rattle.std.specs.List.{list_any}
-use Rattle.std.proofs.lemmas.Bool.{cases_lt, ltb-true, lt-ltb}
+use Rattle.std.proofs.lemmas.Bool.{ltb-true, lt-ltb}
 use Rattle.std.proofs.lemmas.Cmp.{nat_list_eq_equiv}
 use Rattle.std.proofs.lemmas.List.{length-map}
 use Rattle.tf_flow.specs.declared.deciders.Link.{Link}
 use Rattle.tf_flow.specs.Names.{same_name}
-use Rattle.tf_model.specs.Numbers.{which_below, has_number, Pair, has_pair, pairs_below}
+use Rattle.tf_model.specs.Numbers.{which_below, has_number, has_pair}
 use Rattle.tf_model.specs.Conditions.{Connection, connection_of}
-use Rattle.tf_model.specs.Outline.{FlowPlace}
 use Rattle.tf_model.specs.Linked.{joins, item_name, is_explicit, explicit}
-use Rattle.tf_model.proofs.StepLemmas.{and_first, and_second, or_either}
-use Rattle.tf_model.proofs.PairLemmas.{which_passes, passes_which, pair_passes, passes_pair, true_first, true_second, true_both}
+use Rattle.tf_model.proofs.StepLemmas.{and_first, and_second}
+use Rattle.tf_model.proofs.PairLemmas.{which_passes, passes_which, pair_passes, passes_pair, true_both}
 use Rattle.tf_order.specs.declared.index.NameIndex.{NameIndex}
 use Rattle.tf_order.specs.declared.outline.Level.{Level}
 use Rattle.tf_order.specs.Index.{told, is_named_at}
-use Rattle.tf_order.specs.Links.{leads, LinksValue, AreLinks}
+use Rattle.tf_links.specs.Links.{leads, LinksValue, AreLinks}
 use Rattle.tf_order.specs.Places.{shown_item, shown_level}
-use Rattle.tf_order.proofs.NumberLemmas.{same_truth, never_true, not_both}
-use Rattle.tf_order.proofs.BitLemmas.{ap2}
-use Rattle.tf_order.proofs.StandingLemmas.{listed_within, number_more, taking_next, taking_none, taking_all}
+use Rattle.tf_links.proofs.NumberLemmas.{same_truth}
+use Rattle.tf_links.proofs.BitLemmas.{ap2}
+use Rattle.tf_links.proofs.StandingLemmas.{listed_within, number_more, taking_next, taking_none, taking_all}
 
 -- ---- an item to each of some
 

@@ -12,7 +12,7 @@ use Rattle.tf_order.specs.declared.outline.AtomPlace.{AtomPlace}
 use Rattle.tf_order.specs.declared.outline.ItemPlace.{ItemPlace}
 use Rattle.tf_order.specs.Index.{add_once, ends_with, is_named_at}
 use Rattle.tf_order.specs.Places.{shown_part, shown_atoms, shown_item}
-use Rattle.tf_order.proofs.NumberLemmas.{never_true}
+use Rattle.tf_links.proofs.NumberLemmas.{never_true}
 
 -- the last number is the one that is added
 pub once_same : (numbers : List ℕ) (n : ℕ) → slice_get numbers (length numbers - 1) ≡ Some n → numbers ≡ add_once numbers n

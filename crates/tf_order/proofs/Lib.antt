@@ -1,10 +1,4 @@
 pub mod GraphLemmas
-pub mod NumberLemmas
-pub mod BitLemmas
-pub mod LinkLemmas
-pub mod StandingLemmas
-pub mod ReachLemmas
-pub mod CycleLemmas
 pub mod OutlineLemmas
 pub mod IndexLemmas
 pub mod WayLemmas

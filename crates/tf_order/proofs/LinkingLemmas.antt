@@ -1,28 +1,28 @@
 -- How links and doubts grow with the symbols that were looked at.
-use Rattle.std.proofs.Common.{◌≡◌, ◌≢◌, ℕ, zero, suc, ◌+◌, ◌<◌, ◌≤◌, List, [], ◌∷◌, ◌++◌, length, take, map, filter, flat_map, Bool, true, false, ◌&&◌, ◌||◌, not, Option, Some, None, refl, sym, ap, ◌∙◌, add-one, append_assoc, inl, inr, arith, eqb-true, eq-eqb, slice_index_or, slice_get, cond}
+use Rattle.std.proofs.Common.{◌≡◌, ◌≢◌, ℕ, zero, suc, ◌+◌, ◌<◌, ◌≤◌, List, [], ◌∷◌, ◌++◌, length, take, map, filter, flat_map, Bool, true, false, ◌&&◌, ◌||◌, not, Option, Some, None, refl, sym, ap, ◌∙◌, add-one, append_assoc, arith, eqb-true, eq-eqb, slice_index_or, slice_get, cond}
 use Rattle.std.specs.Prelude.{nat_eq, nat_lt, if◌then◌else◌}
 use Rattle.std.specs.List.{list_any}
-use Rattle.std.proofs.lemmas.Bool.{cases_lt, ltb-true, lt-ltb}
+use Rattle.std.proofs.lemmas.Bool.{ltb-true, lt-ltb}
 use Rattle.tf_flow.specs.declared.atoms.Arg.{Arg}
 use Rattle.tf_flow.specs.Names.{is_among}
 use Rattle.tf_flow.specs.Rules.{bind_symbols}
 use Rattle.tf_model.specs.Numbers.{which_below}
-use Rattle.tf_model.specs.Outline.{Turn, Part, Atom, injected_in, arguments_of}
+use Rattle.tf_model.specs.Outline.{Turn, Part, injected_in, arguments_of}
 use Rattle.tf_model.specs.Before.{Flow, takes_item, same_place, passes_item, way_at}
 use Rattle.tf_model.specs.Linked.{arg_symbol, is_taken, taken_symbols, taken_by, is_unserved, is_inside, needs_of_atom, needs, givers, is_served, other_provides, is_only, is_inferred_by}
 use Rattle.tf_model.specs.Compilation.{are_several, is_ambiguous}
-use Rattle.tf_model.proofs.PairLemmas.{true_first, true_second, true_both, which_passes}
+use Rattle.tf_model.proofs.PairLemmas.{true_first, true_both, which_passes}
 use Rattle.tf_order.specs.declared.outline.AtomPlace.{AtomPlace}
 use Rattle.tf_order.specs.declared.outline.Turn.{Turn as CodeTurn}
 use Rattle.tf_order.specs.declared.sight.Sight.{Sight}
 use Rattle.tf_order.specs.Arranged.{ShowsFlows}
-use Rattle.tf_order.specs.Bits.{has, words_for}
-use Rattle.tf_order.specs.Links.{leads, LinksValue}
+use Rattle.tf_links.specs.Bits.{has}
+use Rattle.tf_links.specs.Links.{leads, LinksValue}
 use Rattle.tf_order.specs.Places.{shown_part, shown_atoms}
 use Rattle.tf_order.specs.Sight.{atoms_seen, place_seen, count_seen, LinksBy, for_item, needed_by, needed_at, taken_at, passed_at, needed_below}
 use Rattle.tf_order.specs.Turns.{shown_turn, shown_turns}
-use Rattle.tf_order.proofs.NumberLemmas.{same_truth, never_true, not_both}
-use Rattle.tf_order.proofs.BitLemmas.{ap2}
+use Rattle.tf_links.proofs.NumberLemmas.{same_truth, never_true}
+use Rattle.tf_links.proofs.BitLemmas.{ap2}
 use Rattle.tf_order.proofs.SightLemmas.{length_items, length_seen}
 
 -- ---- more symbols

@@ -1,32 +1,29 @@
 -- A flow that was looked at, against the definitions.
-use Rattle.std.proofs.Common.{◌≡◌, ◌≢◌, ℕ, zero, suc, ◌+◌, ◌*◌, ◌<◌, ◌≤◌, List, [], ◌∷◌, ◌++◌, length, map, filter, Bool, true, false, ◌&&◌, ◌||◌, not, Option, Some, None, refl, sym, ap, subst, ◌∙◌, inl, inr, arith, eqb-true, eq-eqb, cond}
+use Rattle.std.proofs.Common.{◌≡◌, ℕ, zero, suc, ◌<◌, List, [], ◌∷◌, ◌++◌, length, filter, Bool, true, false, ◌&&◌, ◌||◌, Option, Some, None, refl, sym, ap, subst, ◌∙◌, inl, inr, arith, cond}
 use Rattle.std.specs.Prelude.{nat_eq, nat_lt, is_some, if◌then◌else◌}
 use Rattle.std.specs.List.{list_any, list_all}
 use Rattle.std.specs.Option.{option_or, option_map}
 use Rattle.std.proofs.lemmas.Bool.{cases_lt, ltb-true, lt-ltb}
-use Rattle.std.proofs.lemmas.List.{length-map}
 use Rattle.tf_flow.specs.declared.nested.FlowKind.{FlowKind}
 use Rattle.tf_flow.specs.declared.nested.FlowKind.TheVariants as kind
 use Rattle.tf_flow.specs.Names.{first_some}
 use Rattle.tf_flow.specs.Rules.{is_graph}
-use Rattle.tf_model.specs.Numbers.{first_below, numbers_below, has_number, Pair, has_pair, pairs_below, reached}
+use Rattle.tf_model.specs.Numbers.{first_below, numbers_below, Pair, has_pair, pairs_below, reached}
 use Rattle.tf_model.specs.Outline.{FlowPlace}
 use Rattle.tf_model.specs.Before.{Flow}
-use Rattle.tf_model.specs.Linked.{needs, givers, is_only, is_inferred_by, is_inferred, is_explicit, explicit, is_linked, linked_pairs, item_order, standing_atoms, arrange}
-use Rattle.tf_model.specs.Compilation.{CompileRefusal, lesser, least, name_less, are_several, is_ambiguous, refuse_givers, refuse_symbol, ambiguity_at, ambiguity, cycle_of, refusal_of}
+use Rattle.tf_model.specs.Linked.{needs, givers, is_only, is_inferred_by, is_inferred, is_explicit, explicit, is_linked, linked_pairs, item_order, standing_atoms}
+use Rattle.tf_model.specs.Compilation.{CompileRefusal, lesser, least, name_less, are_several, is_ambiguous, refuse_givers, refuse_symbol, ambiguity_at, ambiguity, cycle_of}
 use Rattle.tf_model.proofs.StepLemmas.{and_first, and_second, or_either}
 use Rattle.tf_model.proofs.PairLemmas.{pair_passes, passes_pair, true_first, true_second, true_both}
 use Rattle.tf_order.specs.declared.arranged.Arranged.{Arranged}
 use Rattle.tf_order.specs.declared.sight.Sight.{Sight}
-use Rattle.tf_order.specs.Arranged.{comes_by, comes_before, IsArranged, ShowsFlows}
-use Rattle.tf_order.specs.Bits.{has, room, words_for}
+use Rattle.tf_order.specs.Arranged.{comes_by, IsArranged, ShowsFlows}
+use Rattle.tf_links.specs.Bits.{has, room, words_for}
 use Rattle.tf_order.specs.Doubts.{cycle_through, first_cycle}
-use Rattle.tf_order.specs.Links.{leads, LinksValue, AreLinks, AreReached}
-use Rattle.tf_order.specs.Looked.{told_in, arranged_seen, refusal_seen}
-use Rattle.tf_order.specs.Places.{shown_item}
+use Rattle.tf_links.specs.Links.{leads, LinksValue, AreLinks, AreReached}
+use Rattle.tf_order.specs.Looked.{arranged_seen, refusal_seen}
 use Rattle.tf_order.specs.Sight.{atoms_seen, place_seen, count_seen, LinksBy}
-use Rattle.tf_order.proofs.NumberLemmas.{same_truth, never_true, not_both, first_passes, first_within, first_before, none_first}
-use Rattle.tf_order.proofs.BitLemmas.{ap2}
+use Rattle.tf_links.proofs.NumberLemmas.{same_truth, first_passes, first_before, none_first}
 use Rattle.tf_order.proofs.LinkingLemmas.{giver_below}
 use Rattle.tf_order.proofs.SightLemmas.{length_items}
 

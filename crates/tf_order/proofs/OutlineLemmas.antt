@@ -17,7 +17,7 @@ use Rattle.tf_order.specs.declared.outline.AtomPlace.{AtomPlace}
 use Rattle.tf_order.specs.declared.outline.ItemPlace.{ItemPlace}
 use Rattle.tf_order.specs.declared.outline.Level.{Level}
 use Rattle.tf_order.specs.declared.outline.Turn.{Turn as CodeTurn}
-use Rattle.tf_order.proofs.BitLemmas.{ap2}
+use Rattle.tf_links.proofs.BitLemmas.{ap2}
 use Rattle.tf_order.specs.Places.{shown_turn, shown_turns, shown_atom, shown_atoms, shown_level, shown_levels, shown_item, level_number, under, with_items, with_items_at}
 
 map_both : {X Y : Type 0} (f : X → Y) (xs ys : List X) → map f (xs ++ ys) ≡ map f xs ++ map f ys

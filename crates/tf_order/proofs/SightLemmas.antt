@@ -1,15 +1,15 @@
 -- What is looked at of a flow, against the definitions.
-use Rattle.std.proofs.Common.{◌≡◌, ◌≢◌, ℕ, zero, suc, ◌+◌, ◌*◌, ◌/◌, ◌<◌, ◌≤◌, List, [], ◌∷◌, ◌++◌, length, take, map, filter, Bool, true, false, ◌&&◌, ◌||◌, not, Option, Some, None, refl, sym, ap, subst, ◌∙◌, add-one, inl, inr, arith, eqb-true, eq-eqb, slice_index_or, slice_get, cond}
+use Rattle.std.proofs.Common.{◌≡◌, ◌≢◌, ℕ, zero, suc, ◌+◌, ◌<◌, ◌≤◌, List, [], ◌∷◌, ◌++◌, length, take, filter, Bool, true, false, ◌&&◌, ◌||◌, not, Option, Some, None, refl, sym, ap, ◌∙◌, add-one, inl, inr, arith, eqb-true, eq-eqb, slice_index_or, cond}
 use Rattle.std.specs.Prelude.{nat_eq, nat_lt, if◌then◌else◌}
 use Rattle.std.specs.List.{list_any}
-use Rattle.std.proofs.lemmas.Bool.{cases_lt, ltb-true, lt-ltb}
+use Rattle.std.proofs.lemmas.Bool.{ltb-true, lt-ltb}
 use Rattle.std.proofs.lemmas.List.{length-map}
 use Rattle.tf_flow.specs.declared.atoms.Bind.{Bind}
 use Rattle.tf_flow.specs.Names.{same_name, is_among}
 use Rattle.tf_flow.specs.Rules.{bind_symbols}
-use Rattle.tf_model.specs.Numbers.{any_below, which_below, has_number, Pair, has_pair, reached}
-use Rattle.tf_model.specs.Outline.{Turn, Atom, FlowPlace}
-use Rattle.tf_model.specs.Before.{Flow, takes_item, same_place, passes_item, way_before, way_in, way_at}
+use Rattle.tf_model.specs.Numbers.{any_below, which_below, has_number, has_pair, reached}
+use Rattle.tf_model.specs.Outline.{Turn}
+use Rattle.tf_model.specs.Before.{Flow, takes_item, same_place, passes_item, way_before, way_at}
 use Rattle.tf_model.specs.Linked.{provides_at, is_inside, serves_inside, is_unserved, gives_inside, item_provides, retry_provides, explicit, reaches_with, is_served, other_provides, givers}
 use Rattle.tf_model.proofs.StepLemmas.{and_first, and_second, or_either}
 use Rattle.tf_model.proofs.PairLemmas.{which_passes, passes_which, true_first, true_second, true_both}
@@ -17,16 +17,15 @@ use Rattle.tf_order.specs.declared.outline.AtomPlace.{AtomPlace}
 use Rattle.tf_order.specs.declared.outline.Turn.{Turn as CodeTurn}
 use Rattle.tf_order.specs.declared.sight.Sight.{Sight}
 use Rattle.tf_order.specs.Arranged.{ShowsFlows}
-use Rattle.tf_order.specs.Bits.{has, room, words_for}
+use Rattle.tf_links.specs.Bits.{has, room, words_for}
 use Rattle.tf_order.specs.Index.{told}
-use Rattle.tf_order.specs.Links.{leads, AreReached}
 use Rattle.tf_order.specs.Marks.{marks_turn, marks, serves_in, leads_to_item, is_other}
-use Rattle.tf_order.specs.Places.{shown_atom, shown_atoms, shown_item, shown_level}
+use Rattle.tf_order.specs.Places.{shown_atoms, shown_item}
 use Rattle.tf_order.specs.Sight.{atoms_seen, place_seen, count_seen, HasProviders, HasReach}
 use Rattle.tf_order.specs.Turns.{shown_turn, shown_turns}
-use Rattle.tf_order.proofs.NumberLemmas.{same_truth, never_true, not_both, any_told, any_from, which_same, which_more}
-use Rattle.tf_order.proofs.BitLemmas.{ap2}
-use Rattle.tf_order.proofs.StandingLemmas.{listed_within, taking_next, taking_none, taking_all}
+use Rattle.tf_links.proofs.NumberLemmas.{same_truth, never_true, not_both, any_told, any_from, which_same, which_more}
+use Rattle.tf_links.proofs.BitLemmas.{ap2}
+use Rattle.tf_links.proofs.StandingLemmas.{listed_within, taking_next, taking_none, taking_all}
 
 -- ---- an atom by its number
 

@@ -1,10 +1,9 @@
 -- The atoms of a flow in standing order.
-use Rattle.std.proofs.Common.{◌≡◌, ℕ, zero, suc, ◌+◌, ◌<◌, ◌≤◌, List, [], ◌∷◌, ◌++◌, length, take, map, flat_map, Option, Some, None, refl, sym, ap, ◌∙◌, add-one, append_assoc, arith, slice_index_or, slice_get}
+use Rattle.std.proofs.Common.{◌≡◌, ℕ, ◌+◌, ◌<◌, ◌≤◌, List, [], ◌∷◌, ◌++◌, length, take, flat_map, Option, Some, None, refl, sym, ap, ◌∙◌, add-one, append_assoc, slice_index_or, slice_get}
 use Rattle.std.specs.Option.{option_map}
 use Rattle.std.proofs.lemmas.List.{length-map}
 use Rattle.std.proofs.lemmas.Option.{slice_get-map}
 use Rattle.tf_model.specs.Numbers.{Pair}
-use Rattle.tf_model.specs.Outline.{FlowPlace, stands_task, stands_flow}
 use Rattle.tf_model.specs.Before.{Flow, flow_at}
 use Rattle.tf_model.specs.Linked.{standing_in, standing_at, standing_of, standing_of_item, numbers_in, standing_items, standing_atoms}
 use Rattle.tf_order.specs.declared.arranged.Arranged.{Arranged}
@@ -12,11 +11,11 @@ use Rattle.tf_order.specs.declared.outline.ItemPlace.{ItemPlace}
 use Rattle.tf_order.specs.declared.outline.Standing.{Standing}
 use Rattle.tf_order.specs.declared.outline.Standing.TheVariants as place
 use Rattle.tf_order.specs.declared.sight.Sight.{Sight}
-use Rattle.tf_order.specs.Arranged.{IsArranged, IsShownAt, ShowsFlows}
-use Rattle.tf_order.specs.Links.{LinksValue, AreLinks}
+use Rattle.tf_order.specs.Arranged.{IsShownAt, ShowsFlows}
+use Rattle.tf_links.specs.Links.{LinksValue, AreLinks}
 use Rattle.tf_order.specs.Places.{shown_item, shown_standing}
 use Rattle.tf_order.specs.Sight.{place_seen, count_seen}
-use Rattle.tf_order.proofs.StandingLemmas.{taking_next, taking_none, taking_all}
+use Rattle.tf_links.proofs.StandingLemmas.{taking_next, taking_none, taking_all}
 
 -- ---- a nested flow
 

@@ -1,5 +1,5 @@
 -- Rows of the numbers of atoms, and what they tell of a plan.
-use Rattle.std.proofs.Common.{◌≡◌, ◌≢◌, ℕ, zero, suc, ◌+◌, ◌-◌, ◌<◌, ◌≤◌, List, [], ◌∷◌, ◌++◌, length, take, map, Bool, true, false, ◌&&◌, ◌||◌, Option, Some, None, refl, sym, ap, subst, ◌∙◌, add-one, inl, inr, arith, eqb-true, eq-eqb, slice_set, slice_get, slice_index_or}
+use Rattle.std.proofs.Common.{◌≡◌, ◌≢◌, ℕ, zero, suc, ◌+◌, ◌<◌, ◌≤◌, List, [], ◌∷◌, ◌++◌, length, take, map, Bool, true, false, ◌&&◌, ◌||◌, Option, Some, None, refl, sym, ap, subst, ◌∙◌, add-one, inl, inr, arith, eqb-true, eq-eqb, slice_set, slice_get, slice_index_or}
 use Rattle.std.specs.Prelude.{nat_eq, nat_lt, if◌then◌else◌}
 use Rattle.std.proofs.lemmas.Bool.{cases_lt, lt-ltb, ltb-true}
 use Rattle.std.proofs.lemmas.List.{map-append, length-set, length-map}
@@ -15,19 +15,19 @@ use Rattle.tf_order.specs.declared.outline.AtomPlace.{AtomPlace}
 use Rattle.tf_order.specs.declared.outline.Outline.{Outline}
 use Rattle.tf_order.specs.declared.outline.Turn.{Turn as CodeTurn}
 use Rattle.tf_order.specs.Arranged.{IsShownAt, ShowsFlows}
-use Rattle.tf_order.specs.Bits.{has, words_for}
+use Rattle.tf_links.specs.Bits.{has, words_for}
 use Rattle.tf_order.specs.Graph.{GraphValue, leads_to, leads_in, standing_of_plan}
-use Rattle.tf_order.specs.Links.{leads}
+use Rattle.tf_links.specs.Links.{leads}
 use Rattle.tf_order.specs.Places.{shown_atom, shown_atoms, shown_part}
 use Rattle.tf_order.specs.Rows.{row_in, row_at, is_in_row}
 use Rattle.tf_order.specs.Tables.{plan_seen, atoms_found, number_if, RowAdded, RowsAdded, AreRows, AreTables, AllBelow, leads_from, flow_in_flows}
 use Rattle.tf_order.specs.Ways.{flow_of_turn, item_of_turn}
-use Rattle.tf_order.proofs.BitLemmas.{ap2, which_next, which_pass}
+use Rattle.tf_links.proofs.BitLemmas.{ap2, which_next, which_pass}
 use Rattle.tf_order.proofs.GraphLemmas.{row_told, rows_length}
-use Rattle.tf_order.proofs.LinkLemmas.{past_row}
+use Rattle.tf_links.proofs.LinkLemmas.{past_row}
 use Rattle.tf_order.proofs.OutlineLemmas.{way_there, atom_there}
-use Rattle.tf_order.proofs.NumberLemmas.{same_truth, never_true, not_both}
-use Rattle.tf_order.proofs.StandingLemmas.{number_more, listed_within, taking_none, taking_next, taking_all}
+use Rattle.tf_links.proofs.NumberLemmas.{same_truth, never_true, not_both}
+use Rattle.tf_links.proofs.StandingLemmas.{number_more, listed_within, taking_none, taking_next, taking_all}
 
 -- ---- one row more
 

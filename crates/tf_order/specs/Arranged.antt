@@ -1,11 +1,11 @@
 -- Flows that are arranged already, by their numbers.
-use Rattle.std.specs.Prelude.{◌≡◌, ℕ, ◌<◌, List, Bool, false, ◌&&◌, Option, Some, None, nat_lt, slice_get}
+use Rattle.std.specs.Prelude.{◌≡◌, ℕ, List, Bool, false, ◌&&◌, Option, Some, None, nat_lt, slice_get}
 use Rattle.tf_flow.specs.declared.nested.FlowKind.{FlowKind}
 use Rattle.tf_flow.specs.declared.nested.FlowKind.TheVariants as kind
 use Rattle.tf_model.specs.Numbers.{has_pair}
 use Rattle.tf_model.specs.Before.{Flow, flow_at}
 use Rattle.tf_order.specs.declared.arranged.Arranged.{Arranged}
-use Rattle.tf_order.specs.Links.{leads, AreLinks}
+use Rattle.tf_links.specs.Links.{leads}
 
 -- item u comes before item v, by kind: where it stands earlier, never, or where it reaches it
 abbrev pub comes_by : FlowKind → ℕ → List (List ℕ) → ℕ → ℕ → Bool

@@ -1,5 +1,5 @@
 -- The symbols that make an item ambiguous.
-use Rattle.std.specs.Prelude.{ℕ, List, [], Bool, Option, None, filter, map, option_map, if◌then◌else◌}
+use Rattle.std.specs.Prelude.{ℕ, List, [], Bool, Option, filter, map, option_map, if◌then◌else◌}
 use Rattle.tf_flow.specs.declared.atoms.Arg.{Arg}
 use Rattle.tf_model.specs.Numbers.{Pair, has_pair, first_below, reached}
 use Rattle.tf_model.specs.Outline.{Part, FlowPlace}

@@ -1,9 +1,6 @@
 pub mod Graph
 pub mod Rows
 pub mod Refusals
-pub mod Bits
-pub mod Links
-pub mod Layers
 pub mod Turns
 pub mod Places
 pub mod Index

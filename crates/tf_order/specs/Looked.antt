@@ -1,5 +1,5 @@
 -- What is found of a flow when it is looked at.
-use Rattle.std.specs.Prelude.{◌≡◌, List, Option, Some, None}
+use Rattle.std.specs.Prelude.{List, Option, Some, None}
 use Rattle.tf_model.specs.Before.{Flow}
 use Rattle.tf_model.specs.Linked.{arrange}
 use Rattle.tf_model.specs.Compilation.{CompileRefusal, ambiguous, cycle, refusal_of}

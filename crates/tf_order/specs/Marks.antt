@@ -1,9 +1,9 @@
 -- The items of a flow that ways lead through, and the atoms that serve one another within an item.
-use Rattle.std.specs.Prelude.{ℕ, List, Bool, ◌&&◌, Option, Some, nat_lt, not, nat_eq}
+use Rattle.std.specs.Prelude.{ℕ, List, Bool, ◌&&◌, Some, nat_lt, not, nat_eq}
 use Rattle.tf_model.specs.Outline.{Turn, Atom}
 use Rattle.tf_model.specs.Before.{Flow, takes_item, passes_item, way_before, way_at}
 use Rattle.tf_model.specs.Linked.{is_inside}
-use Rattle.tf_order.specs.Links.{leads}
+use Rattle.tf_links.specs.Links.{leads}
 
 -- the turn takes item u of the flow, which is below the count
 abbrev pub marks_turn : ℕ → ℕ → Turn → ℕ → Bool

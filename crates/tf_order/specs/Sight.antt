@@ -1,5 +1,5 @@
 -- What is found of a flow's links: the symbols that were looked at, and the links and ambiguities that they give.
-use Rattle.std.specs.Prelude.{◌≡◌, ℕ, ◌<◌, List, [], ◌∷◌, Bool, ◌&&◌, ◌||◌, Some, length, nat_eq, nat_lt, filter, map, take, flat_map, if◌then◌else◌}
+use Rattle.std.specs.Prelude.{◌≡◌, ℕ, List, [], ◌&&◌, ◌||◌, Some, length, nat_eq, nat_lt, filter, map, flat_map, if◌then◌else◌}
 use Rattle.std.specs.List.{list_any}
 use Rattle.tf_flow.specs.declared.atoms.Arg.{Arg}
 use Rattle.tf_model.specs.Numbers.{which_below, reached}
@@ -8,10 +8,9 @@ use Rattle.tf_model.specs.Before.{Flow, takes_item, passes_item}
 use Rattle.tf_model.specs.Linked.{provides_at, is_inferred_by, is_unserved, is_taken, is_inside, needs_of_atom, arg_symbol, explicit}
 use Rattle.tf_model.specs.Compilation.{is_ambiguous}
 use Rattle.tf_order.specs.declared.sight.Sight.{Sight}
-use Rattle.tf_order.specs.Arranged.{ShowsFlows}
-use Rattle.tf_order.specs.Bits.{has}
+use Rattle.tf_links.specs.Bits.{has}
 use Rattle.tf_order.specs.Index.{told}
-use Rattle.tf_order.specs.Links.{leads, LinksValue, AreReached}
+use Rattle.tf_links.specs.Links.{leads, LinksValue, AreReached}
 use Rattle.tf_order.specs.Places.{shown_atoms, shown_level}
 
 -- the atoms that are looked at

@@ -18,7 +18,7 @@ use Rattle.tf_order.specs.declared.outline.Turn.{Turn}
 use Rattle.tf_order.specs.Arranged.{ShowsFlows}
 use Rattle.tf_order.specs.Graph.{GraphValue, leads_in, predecessors_of, successors_of, direct_tasks_of, standing_of_plan}
 use Rattle.tf_order.specs.Index.{told}
-use Rattle.tf_order.specs.Links.{leads}
+use Rattle.tf_links.specs.Links.{leads}
 use Rattle.tf_order.specs.Looked.{told_in}
 use Rattle.tf_order.specs.Places.{shown_atoms, shown_levels, shown_part}
 use Rattle.tf_order.specs.Rows.{row_at}

@@ -4,11 +4,10 @@ ghost use Rattle.tf_model.specs.Before.{Flow};
 ghost use Rattle.tf_order.specs.Arranged.{comes_before, ShowsFlows};
 ghost use Rattle.tf_order.specs.Turns.{shown_turns};
 
-use crate::bits::Bits;
-use crate::links::{Links, has_in};
 use crate::outline::Turn;
 use crate::ways::{Meeting, meeting_of};
 use tf_flow::FlowKind;
+use tf_links::{Bits, Links, has_in};
 
 /// A flow with what its kind and its links mean: the linked items of a graph flow and which of them
 /// reaches which, and the atoms in standing order.

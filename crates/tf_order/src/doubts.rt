@@ -8,21 +8,20 @@ ghost use Rattle.tf_model.specs.Numbers.{Pair, has_number, reached};
 ghost use Rattle.tf_model.specs.Outline.{arguments_of};
 ghost use Rattle.tf_order.specs.Arranged.{ShowsFlows};
 ghost use Rattle.tf_order.specs.Doubts.{doubts_by, doubts_inside, first_cycle};
-ghost use Rattle.tf_order.specs.Links.{AreLinks, AreReached};
+ghost use Rattle.tf_links.specs.Links.{AreLinks, AreReached};
 ghost use Rattle.tf_order.specs.Looked.{told_in};
 ghost use Rattle.tf_order.specs.Places.{shown_part, shown_level};
 ghost use Rattle.tf_order.specs.Sight.{HasProviders, HasReach, atoms_seen, place_seen, count_seen, needed_by, needed_at};
 ghost use Rattle.tf_order.specs.Turns.{shown_turns};
 
-use crate::bits::Bits;
 use crate::faults::CompileFault;
 use crate::linking::binds;
-use crate::links::{Links, has_in};
 use crate::outline::Part;
 use crate::sight::{Sight, givers, is_unserved};
 use crate::ways::passes_item;
 use std::alloc::Global;
 use tf_flow::Arg;
+use tf_links::{Bits, Links, has_in};
 use tf_values::{Memory, Name, Names};
 
 /// The refusal of an item: its first ambiguous symbol in byte order, and the first two items that provide

@@ -4,11 +4,10 @@ ghost use Rattle.tf_model.specs.Plan.{outline_of, is_before};
 ghost use Rattle.tf_order.specs.Graph.{IsGraphOf, predecessors_of, successors_of, direct_tasks_of, standing_of_plan};
 ghost use Rattle.tf_order.specs.Rows.{row_at};
 
-use crate::bits::Bits;
-use crate::links::has_in;
 use crate::rows::{Row, row_sets};
 use std::alloc::Global;
 use std::marker::Model;
+use tf_links::{Bits, has_in};
 use tf_values::Memory;
 
 /// The compiled order of a plan. Contracts see what it tells, and that it is a plan's says `IsGraphOf`.
@@ -25,7 +24,7 @@ pub struct Graph {
 impl Model for Graph {
     ghost use Rattle.std.specs.Prelude.{◌≡◌, ℕ};
     ghost use Rattle.tf_order.specs.Graph.{GraphValue};
-    ghost use Rattle.tf_order.specs.Links.{leads};
+    ghost use Rattle.tf_links.specs.Links.{leads};
     ghost use Rattle.tf_order.specs.Rows.{is_in_row};
 
     ghost Value = { GraphValue };

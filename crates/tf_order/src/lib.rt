@@ -2,23 +2,20 @@
 #![tactic(auto)]
 
 mod arranged;
-mod bits;
 mod compilation;
-mod cycles;
 mod doubts;
 mod faults;
 mod graph;
 mod index;
 mod linking;
-mod links;
 mod looking;
 mod outline;
-mod reach;
 mod rows;
 mod sight;
-mod standing;
 mod standing_atoms;
 mod tables;
+#[cfg(test)]
+mod tests;
 mod ways;
 
 pub use compilation::compile;

@@ -5,19 +5,18 @@ ghost use Rattle.tf_model.specs.Linked as model;
 ghost use Rattle.tf_flow.specs.Names.{is_among};
 ghost use Rattle.tf_flow.specs.Rules.{bind_symbols};
 ghost use Rattle.tf_order.specs.Arranged.{ShowsFlows};
-ghost use Rattle.tf_order.specs.Bits.{has, words_for};
-ghost use Rattle.tf_order.specs.Links.{leads, LinksValue, AreLinks};
+ghost use Rattle.tf_links.specs.Bits.{has, words_for};
+ghost use Rattle.tf_links.specs.Links.{leads, LinksValue, AreLinks};
 ghost use Rattle.tf_order.specs.Places.{shown_part, shown_level};
 ghost use Rattle.tf_order.specs.Sight.{atoms_seen, place_seen, count_seen, HasProviders, HasReach, LinksBy, for_item, needed_by, needed_at, taken_at, passed_at};
 ghost use Rattle.tf_order.specs.Turns.{shown_turn, shown_turns};
 
-use crate::bits::Bits;
 use crate::index::item_names;
-use crate::links::Links;
 use crate::outline::{Level, Part, Turn};
 use crate::sight::{Sight, givers, is_unserved};
 use std::alloc::Global;
 use tf_flow::{Arg, Bind};
+use tf_links::{Bits, Links};
 use tf_values::{Memory, Name};
 
 /// The links of a flow, and the items that two or more others give a symbol.

@@ -6,21 +6,20 @@ ghost use Rattle.tf_order.specs.Arranged.{IsArranged, ShowsFlows};
 ghost use Rattle.tf_order.specs.Looked.{told_in, arranged_seen, refusal_seen};
 ghost use Rattle.tf_model.specs.Compilation.{ambiguity_at};
 ghost use Rattle.tf_model.specs.Numbers.{Pair, first_below, reached};
-ghost use Rattle.tf_order.specs.Bits.{has, room};
+ghost use Rattle.tf_links.specs.Bits.{has, room};
 ghost use Rattle.tf_order.specs.Doubts.{first_cycle};
-ghost use Rattle.tf_order.specs.Links.{AreLinks, AreReached};
+ghost use Rattle.tf_links.specs.Links.{AreLinks, AreReached};
 ghost use Rattle.tf_order.specs.Sight.{HasProviders, HasReach, atoms_seen, place_seen, count_seen};
 
 use crate::arranged::Arranged;
-use crate::bits::Bits;
 use crate::doubts::{ambiguity, cycle_fault};
 use crate::faults::CompileFault;
 use crate::linking::{Found, explicit, infer};
-use crate::links::Links;
 use crate::sight::Sight;
 use crate::standing_atoms::standing_atoms;
 use std::alloc::Global;
 use tf_flow::FlowKind;
+use tf_links::{Bits, Links};
 use tf_values::Memory;
 
 /// A flow that was looked at: what its links mean, and why it is refused, if it is.

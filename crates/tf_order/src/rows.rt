@@ -1,12 +1,12 @@
 ghost use Rattle.std.specs.Prelude.{◌≡◌, ℕ, List, [], ◌∷◌, ◌++◌, ◌&&◌, ◌||◌, nat_lt, nat_eq, length, IfOk, OnOk};
 ghost use Rattle.tf_model.specs.Numbers.{has_number};
-ghost use Rattle.tf_order.specs.Bits.{has, words_for};
-ghost use Rattle.tf_order.specs.Links.{leads};
+ghost use Rattle.tf_links.specs.Bits.{has, words_for};
+ghost use Rattle.tf_links.specs.Links.{leads};
 ghost use Rattle.tf_order.specs.Rows.{row_at, is_in_row};
 
-use crate::bits::Bits;
 use std::alloc::Global;
 use std::marker::Model;
+use tf_links::Bits;
 use tf_values::Memory;
 
 /// Numbers of atoms in order. Contracts see the list.

@@ -6,20 +6,19 @@ ghost use Rattle.tf_model.specs.Linked as model;
 ghost use Rattle.tf_flow.specs.Names.{is_among};
 ghost use Rattle.tf_flow.specs.Limits.{provided};
 ghost use Rattle.tf_order.specs.Arranged.{ShowsFlows};
-ghost use Rattle.tf_order.specs.Bits.{has, words_for};
-ghost use Rattle.tf_order.specs.Links.{leads};
+ghost use Rattle.tf_links.specs.Bits.{has, words_for};
+ghost use Rattle.tf_links.specs.Links.{leads};
 ghost use Rattle.tf_order.specs.Marks.{marks, marks_turn, serves_in, leads_to_item, is_other};
 ghost use Rattle.tf_order.specs.Sight.{atoms_seen, place_seen, count_seen, HasProviders, HasReach};
 ghost use Rattle.tf_order.specs.Turns.{shown_turn, shown_turns};
 
 use crate::arranged::{Arranged, is_way_before};
-use crate::bits::Bits;
 use crate::index::NameIndex;
-use crate::links::has_in;
 use crate::outline::{AtomPlace, Level, Turn};
 use crate::ways::passes_item;
 use std::alloc::Global;
 use tf_flow::{Provides, Retry};
+use tf_links::{Bits, has_in};
 use tf_values::{Memory, Name};
 
 /// What is looked at to find the links of a flow: all atoms, who provides which symbol, the flows that

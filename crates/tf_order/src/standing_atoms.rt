@@ -3,14 +3,14 @@ ghost use Rattle.tf_model.specs.Before.{Flow, flow_at};
 ghost use Rattle.tf_model.specs.Linked as model;
 ghost use Rattle.tf_model.specs.Numbers.{Pair};
 ghost use Rattle.tf_order.specs.Arranged.{ShowsFlows};
-ghost use Rattle.tf_order.specs.Links.{AreLinks};
+ghost use Rattle.tf_links.specs.Links.{AreLinks};
 ghost use Rattle.tf_order.specs.Sight.{place_seen, count_seen};
 
 use crate::arranged::Arranged;
-use crate::links::Links;
 use crate::outline::Standing;
 use crate::sight::Sight;
 use std::alloc::Global;
+use tf_links::Links;
 use tf_values::Memory;
 
 /// The atoms of a flow in standing order: its retry controller, and then those of its items, which come

@@ -1,4 +1,4 @@
-use Rattle.std.proofs.Common.{◌≡◌, ◌∙◌, ◌<◌, ◌≤◌, sym, ap, length, arith, List, ℕ}
+use Rattle.std.proofs.Common.{◌∙◌, ◌≤◌, sym, ap, length, arith}
 use Rattle.std.proofs.lemmas.Grind.{common_steps}
 use Rattle.tf_model.specs.Compilation.{least}
 use Rattle.tf_order.specs.Sight.{count_seen}

@@ -1,4 +1,4 @@
-use Rattle.std.proofs.Common.{◌≡◌, ◌∙◌, ◌<◌, ◌≤◌, sym, ap, List, ℕ, map, arith}
+use Rattle.std.proofs.Common.{◌∙◌, sym, ap, map, arith}
 use Rattle.tf_model.specs.Linked.{item_name}
 use Rattle.tf_order.specs.Sight.{place_seen}
 use Rattle.tf_order.proofs.DoubtLemmas.{cycle_found, no_cycle}

@@ -1,5 +1,5 @@
 use Rattle.std.proofs.Common.{◌≡◌, ◌<◌, ℕ, false}
-use Rattle.tf_order.specs.Links.{leads}
+use Rattle.tf_links.specs.Links.{leads}
 use Rattle.tf_order.proofs.doubts.cycle_fault.Given as goal
 
 abbrev pub invariant-loop-item : goal.invariant-loop-item

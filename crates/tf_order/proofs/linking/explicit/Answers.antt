@@ -1,4 +1,4 @@
-use Rattle.std.proofs.Common.{◌≡◌, ◌∙◌, sym, ap, List, length, map}
+use Rattle.std.proofs.Common.{◌∙◌, ap, List, length, map}
 use Rattle.tf_model.specs.Numbers.{which_below}
 use Rattle.tf_order.specs.declared.outline.ItemPlace.{ItemPlace}
 use Rattle.tf_order.specs.Index.{is_named_at}

@@ -1,4 +1,4 @@
-use Rattle.std.proofs.Common.{◌≡◌, ◌∙◌, sym, ap, arith}
+use Rattle.std.proofs.Common.{arith}
 use Rattle.tf_order.proofs.LinkingLemmas.{inferred_more, inferred_all}
 use Rattle.tf_order.proofs.linking.infer.Goals as goal
 

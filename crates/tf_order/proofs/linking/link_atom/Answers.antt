@@ -1,4 +1,4 @@
-use Rattle.std.proofs.Common.{◌≡◌, ◌∙◌, sym, ap, slice_index_or, None}
+use Rattle.std.proofs.Common.{◌∙◌, sym, ap, None}
 use Rattle.tf_order.specs.declared.outline.AtomPlace.{AtomPlace}
 use Rattle.tf_order.specs.Sight.{atoms_seen}
 use Rattle.tf_model.specs.Before.{way_at}

@@ -1,6 +1,4 @@
-use Rattle.std.proofs.Common.{◌≡◌, ◌∙◌, sym, ap, slice_index_or}
-use Rattle.tf_model.specs.Outline.{arguments_of}
-use Rattle.tf_order.specs.declared.outline.AtomPlace.{AtomPlace}
+use Rattle.std.proofs.Common.{ap, slice_index_or}
 use Rattle.tf_order.specs.Places.{shown_part}
 use Rattle.tf_order.proofs.LinkingLemmas.{args_more, args_all}
 use Rattle.tf_order.proofs.linking.link_item.Goals as goal

@@ -1,5 +1,5 @@
 use Rattle.std.proofs.Common.{◌≡◌, length, take}
-use Rattle.tf_order.specs.Bits.{words_for}
+use Rattle.tf_links.specs.Bits.{words_for}
 use Rattle.tf_order.specs.Places.{shown_part}
 use Rattle.tf_order.specs.Sight.{count_seen}
 use Rattle.tf_order.proofs.LinkingLemmas.{ArgumentsSeen}

@@ -1,7 +1,7 @@
-use Rattle.std.proofs.Common.{◌≡◌, ◌∙◌, ◌<◌, sym, length, arith, slice_index_or}
+use Rattle.std.proofs.Common.{◌≡◌, ◌<◌, length, arith, slice_index_or}
 use Rattle.std.proofs.lemmas.Grind.{common_steps}
 use Rattle.tf_order.specs.Sight.{count_seen}
-use Rattle.tf_order.proofs.BitLemmas.{index_zero}
+use Rattle.tf_links.proofs.BitLemmas.{index_zero}
 use Rattle.tf_order.proofs.LinkingLemmas.{giver_within}
 use Rattle.tf_order.proofs.linking.link_symbol.Goals as goal
 

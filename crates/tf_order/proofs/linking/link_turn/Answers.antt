@@ -1,4 +1,3 @@
-use Rattle.std.proofs.Common.{◌≡◌, ◌∙◌, sym, ap}
 use Rattle.tf_order.proofs.LinkingLemmas.{turn_here}
 use Rattle.tf_order.proofs.linking.link_turn.Goals as goal
 

@@ -1,10 +1,9 @@
-use Rattle.std.proofs.Common.{◌≡◌, ◌∙◌, sym, ap, subst, refl, List, ℕ}
+use Rattle.std.proofs.Common.{ap, refl}
 use Rattle.tf_flow.specs.Rules.{is_graph}
 use Rattle.tf_flow.specs.declared.nested.FlowKind.TheVariants as kind
 use Rattle.tf_model.specs.Linked.{linked_pairs}
-use Rattle.tf_model.specs.Numbers.{first_below, reached}
-use Rattle.tf_order.specs.Bits.{room, has}
-use Rattle.tf_order.specs.Links.{AreReached}
+use Rattle.tf_model.specs.Numbers.{first_below}
+use Rattle.tf_links.specs.Bits.{room, has}
 use Rattle.tf_order.specs.Looked.{told_in}
 use Rattle.tf_order.specs.Sight.{atoms_seen, place_seen, count_seen}
 use Rattle.tf_order.proofs.LookLemmas.{graph_links, graph_arranged, graph_refusal, reach_as}

@@ -1,4 +1,3 @@
-use Rattle.std.proofs.Common.{◌≡◌, ◌∙◌, sym}
 use Rattle.tf_order.proofs.SightLemmas.{unserved_not, unserved_all}
 use Rattle.tf_order.proofs.sight.is_unserved.Goals as goal
 

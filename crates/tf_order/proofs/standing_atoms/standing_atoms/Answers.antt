@@ -1,4 +1,4 @@
-use Rattle.std.proofs.Common.{◌≡◌, ◌∙◌, sym}
+use Rattle.std.proofs.Common.{◌∙◌}
 use Rattle.tf_order.proofs.StandingAtomLemmas.{atoms_more, atoms_all}
 use Rattle.tf_order.proofs.standing_atoms.standing_atoms.Goals as goal
 

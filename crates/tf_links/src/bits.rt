@@ -1,0 +1,171 @@
+ghost use Rattle.std.specs.Prelude.{◌≡◌, ℕ, ◌+◌, ◌*◌, ◌^◌, ◌<◌, ◌≤◌, Bool, true, false, ◌&&◌, ◌||◌, not, nat_eq, length, OnOk, IfOk, if◌then◌else◌};
+ghost use Rattle.tf_model.specs.Numbers.{which_below, first_below};
+ghost use Rattle.tf_links.specs.Bits.{has, room, has_both, is_within, words_for};
+
+use std::alloc::Global;
+use std::marker::Model;
+use tf_values::Memory;
+
+/// A set of numbers below its room, one bit for each. Contracts see the words, of which the first has
+/// the numbers below 64.
+#[derive(Drop)]
+pub struct Bits {
+    words: Vec<u64>,
+}
+
+impl Model for Bits {
+    ghost use Rattle.std.specs.Prelude.{List, ℕ, length, ◌≤◌, ◌^◌};
+
+    ghost Value = { List ℕ };
+
+    ghost view = { λ bits. bits.words.items };
+
+    ghost invariant = { λ bits. length bits.words.items ≤ 2 ^ 58 };
+}
+
+impl Bits {
+    /// No number yet, with room for those below `count`.
+    pub fn new(alloc: Global, count: usize) -> Result<Bits, Memory>
+        ensures room { IfOk result (λ bits. length bits ≡ words_for count) }
+        ensures none { IfOk result (λ bits. (k : ℕ) → has bits k ≡ false) }
+    {
+        let mut words = Vec::new(alloc);
+        for _ in 0..count / 64 + 1 {
+            words.push(0)?;
+        }
+        Ok(Bits { words })
+    }
+
+    /// The same numbers.
+    pub fn copy(&self, alloc: Global) -> Result<Bits, Memory>
+        ensures { IfOk result (λ bits. bits ≡ self.now) }
+    {
+        Ok(Bits {
+            words: Vec::from_slice(alloc, &self.words)?,
+        })
+    }
+
+    /// Whether the number is in the set.
+    #[tactic(auto, using(crate::proofs::BitLemmas::past_none, crate::proofs::BitLemmas::bit_read))]
+    pub fn has(&self, number: usize) -> bool
+        ensures { result ≡ has self.now number }
+    {
+        if self.words.len() <= number / 64 {
+            return false;
+        }
+        self.words[number / 64] >> (number % 64) & 1 == 1
+    }
+
+    /// Adds a number below the room.
+    #[tactic(auto, using(crate::proofs::BitLemmas::insert_here))]
+    pub fn insert(&mut self, number: usize)
+        requires { number < room self.old }
+        ensures set { (k : ℕ) → has self.new k ≡ (nat_eq number k || has self.old k) }
+        ensures room { length self.new ≡ length self.old }
+    {
+        self.words[number / 64] |= 1 << (number % 64);
+    }
+
+    /// Takes a number away.
+    #[tactic(auto, using(crate::proofs::BitLemmas::remove_here, crate::proofs::BitLemmas::past_room))]
+    pub fn remove(&mut self, number: usize)
+        ensures set { (k : ℕ) → has self.new k ≡ (not (nat_eq number k) && has self.old k) }
+        ensures room { length self.new ≡ length self.old }
+    {
+        if number / 64 < self.words.len() {
+            self.words[number / 64] &= !(1 << (number % 64));
+        }
+    }
+
+    /// Adds a number below the room, or takes it away.
+    pub fn set(&mut self, number: usize, on: bool)
+        requires { number < room self.old }
+        ensures set { (k : ℕ) → has self.new k ≡ (if nat_eq number k then on else has self.old k) }
+        ensures room { length self.new ≡ length self.old }
+    {
+        if on {
+            self.insert(number);
+        } else {
+            self.remove(number);
+        }
+    }
+
+    /// Adds the numbers of another set of the same room.
+    #[tactic(auto, using(crate::proofs::BitLemmas::joined_here, crate::proofs::BitLemmas::joined_all, crate::proofs::BitLemmas::length_joined))]
+    pub fn union(&mut self, other: &Bits)
+        requires { length self.old ≡ length other.now }
+        ensures set { (k : ℕ) → has self.new k ≡ (has self.old k || has other.now k) }
+        ensures room { length self.new ≡ length self.old }
+    {
+        for i in 0..self.words.len() {
+            self.words[i] |= other.words[i];
+        }
+    }
+
+    /// Whether each number of this set is in the other, which has the same room.
+    #[tactic(auto, using(crate::proofs::BitLemmas::within_here, crate::proofs::BitLemmas::outside_here, crate::proofs::BitLemmas::within_all))]
+    pub fn is_within(&self, other: &Bits) -> bool
+        requires { length self.now ≡ length other.now }
+        ensures { result ≡ is_within self.now other.now }
+    {
+        for i in 0..self.words.len() {
+            if self.words[i] | other.words[i] != other.words[i] {
+                return false;
+            }
+        }
+        true
+    }
+
+    /// The least number that is in both sets, which have the same room.
+    #[tactic(auto, using(crate::proofs::BitLemmas::apart_here, crate::proofs::BitLemmas::common_here, crate::proofs::BitLemmas::apart_all))]
+    pub fn first_common(&self, other: &Bits) -> Option<usize>
+        requires { length self.now ≡ length other.now }
+        ensures { result ≡ first_below (room self.now) (has_both self.now other.now) }
+    {
+        for i in 0..self.words.len() {
+            let both = self.words[i] & other.words[i];
+            if both != 0 {
+                return Some(i * 64 + both.trailing_zeros() as usize);
+            }
+        }
+        None
+    }
+
+    /// The least number of the set.
+    pub fn first(&self) -> Option<usize>
+        ensures { result ≡ first_below (room self.now) (has self.now) }
+    {
+        self.first_common(self)
+    }
+
+    /// The numbers of the set, ascending.
+    #[tactic(auto, using(crate::proofs::BitLemmas::none_of_word))]
+    pub fn numbers(&self, alloc: Global) -> Result<Vec<usize>, Memory>
+        ensures { IfOk result (λ numbers. numbers.items ≡ which_below (room self.now) (has self.now)) }
+    {
+        let mut numbers = Vec::new(alloc);
+        for i in 0..self.words.len() {
+            if self.words[i] != 0 {
+                self.add_numbers_of_word(i, &mut numbers)?;
+            }
+        }
+        Ok(numbers)
+    }
+
+    /// Adds the numbers that word `i` has.
+    #[tactic(auto, using(crate::proofs::BitLemmas::which_next, crate::proofs::BitLemmas::which_pass))]
+    fn add_numbers_of_word(&self, i: usize, numbers: &mut Vec<usize>) -> Result<(), Memory>
+        requires within { i < length self.now }
+        requires few { i < 2 ^ 58 }
+        requires before { numbers.old.items ≡ which_below (64 * i) (has self.now) }
+        ensures { OnOk result (numbers.new.items ≡ which_below (64 * (i + 1)) (has self.now)) }
+    {
+        for bit in 0..64 {
+            let number = i * 64 + bit;
+            if self.has(number) {
+                numbers.push(number)?;
+            }
+        }
+        Ok(())
+    }
+}

@@ -1,0 +1,104 @@
+ghost use Rattle.std.specs.Prelude.{◌≡◌, ℕ, ◌<◌, List, Bool, true, false, ◌&&◌, ◌||◌, nat_eq, length, reverse, OnOk, IfOk, slice_index_or};
+ghost use Rattle.tf_model.specs.Numbers.{Pair, has_pair, has_number, reached};
+ghost use Rattle.tf_links.specs.Bits.{has, words_for};
+ghost use Rattle.tf_links.specs.Links.{leads, IsSquare, AreLinks, leads_by_way, AreReached, ArePivots};
+
+use crate::bits::Bits;
+use crate::links::{Links, has_in};
+use std::alloc::Global;
+use tf_values::Memory;
+
+impl Links {
+    /// Which item reaches which by links, as rows.
+    #[tactic(auto, using(crate::proofs::ReachLemmas::reaching_start, crate::proofs::ReachLemmas::reaching_more, crate::proofs::ReachLemmas::reaching_all, crate::proofs::ReachLemmas::pivot_within, crate::proofs::ReachLemmas::row_width))]
+    pub fn reach(&self, alloc: Global) -> Result<Vec<Bits>, Memory>
+        ensures { IfOk result (λ rows. (pairs : List Pair) → AreLinks self.now pairs → AreReached self.now.count (reached self.now.count pairs) rows.items) }
+    {
+        let pivots = self.pivots(alloc)?;
+        let mut rows = copy_rows(alloc, self.rows())?;
+        for pivot in &pivots {
+            let through = rows[*pivot].copy(alloc)?;
+            pass(&mut rows, *pivot, &through);
+        }
+        Ok(rows)
+    }
+
+    /// All items, each once: first those in standing order backwards, so that where no cycle is, few rows
+    /// change at each.
+    #[tactic(auto, using(crate::proofs::ReachLemmas::pivots_start))]
+    fn pivots(&self, alloc: Global) -> Result<Vec<usize>, Memory>
+        ensures all { IfOk result (λ pivots. (k : ℕ) → k < self.now.count → has_number pivots.items k ≡ true) }
+        ensures within { IfOk result (λ pivots. (k : ℕ) → has_number pivots.items k ≡ true → k < self.now.count) }
+    {
+        let count = self.count();
+        let mut pivots = Vec::new(alloc);
+        let mut among = Bits::new(alloc, count)?;
+        let standing = self.standing(alloc)?;
+        for item in standing.iter().rev() {
+            add_pivot(count, *item, &mut among, &mut pivots)?;
+        }
+        for item in 0..count {
+            add_pivot(count, item, &mut among, &mut pivots)?;
+        }
+        Ok(pivots)
+    }
+}
+
+/// Adds an item where it isn't there yet.
+#[tactic(auto, using(crate::proofs::ReachLemmas::pivots_more, crate::proofs::ReachLemmas::kept_pivot, crate::proofs::ReachLemmas::new_pivot))]
+fn add_pivot(
+    count: usize,
+    item: usize,
+    among: &mut Bits,
+    pivots: &mut Vec<usize>,
+) -> Result<(), Memory>
+    requires listed { ArePivots count among.old pivots.old.items }
+    ensures listed { OnOk result (ArePivots count among.new pivots.new.items) }
+    ensures more { OnOk result ((k : ℕ) → has_number pivots.old.items k ≡ true → has_number pivots.new.items k ≡ true) }
+    ensures added { OnOk result (item < count → has_number pivots.new.items item ≡ true) }
+{
+    if item < count && !among.has(item) {
+        pivots.push(item)?;
+        among.insert(item);
+    }
+    Ok(())
+}
+
+/// The same rows.
+fn copy_rows(alloc: Global, rows: &[Bits]) -> Result<Vec<Bits>, Memory>
+    ensures { IfOk result (λ copy. copy.items ≡ rows.now) }
+{
+    let mut copy = Vec::new(alloc);
+    for row in rows {
+        copy.push(row.copy(alloc)?)?;
+    }
+    Ok(copy)
+}
+
+/// Adds to each row that has the pivot what the pivot's row has.
+#[tactic(auto, using(crate::proofs::ReachLemmas::passed_start, crate::proofs::ReachLemmas::passed_next, crate::proofs::ReachLemmas::passed_all))]
+fn pass(rows: &mut Vec<Bits>, pivot: usize, through: &Bits)
+    requires square { IsSquare (length rows.old.items) rows.old.items }
+    requires wide { length through.now ≡ words_for (length rows.old.items) }
+    ensures square { IsSquare (length rows.old.items) rows.new.items }
+    ensures more { (u v : ℕ) → leads rows.new.items u v ≡ (leads rows.old.items u v || (leads rows.old.items u pivot && has through.now v)) }
+{
+    for u in 0..rows.len() {
+        pass_row(rows, u, pivot, through);
+    }
+}
+
+/// Adds to the row of `u`, where it has the pivot, what the pivot's row has.
+#[tactic(auto, using(crate::proofs::ReachLemmas::row_kept, crate::proofs::ReachLemmas::row_joined, crate::proofs::ReachLemmas::row_width, crate::proofs::LinkLemmas::square_set))]
+fn pass_row(rows: &mut Vec<Bits>, u: usize, pivot: usize, through: &Bits)
+    requires within { u < length rows.old.items }
+    requires square { IsSquare (length rows.old.items) rows.old.items }
+    requires wide { length through.now ≡ words_for (length rows.old.items) }
+    ensures square { IsSquare (length rows.old.items) rows.new.items }
+    ensures more { (a b : ℕ) → leads rows.new.items a b ≡ (leads rows.old.items a b || (nat_eq u a && (leads rows.old.items u pivot && has through.now b))) }
+{
+    if !has_in(rows, u, pivot) {
+        return;
+    }
+    rows[u].union(through);
+}

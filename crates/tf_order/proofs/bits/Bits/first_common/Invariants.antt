@@ -1,5 +1,0 @@
-use Rattle.tf_order.proofs.BitLemmas.{ApartBelow}
-use Rattle.tf_order.proofs.bits.Bits.first_common.Given as goal
-
-abbrev pub invariant-loop-i : goal.invariant-loop-i
-invariant-loop-i l = ApartBelow l.self l.other l.i

@@ -1,5 +1,0 @@
-use Rattle.tf_order.proofs.BitLemmas.{WithinBelow}
-use Rattle.tf_order.proofs.bits.Bits.is_within.Given as goal
-
-abbrev pub invariant-loop-i : goal.invariant-loop-i
-invariant-loop-i l = WithinBelow l.self l.other l.i

@@ -1,5 +1,0 @@
-use Rattle.tf_order.proofs.StandingLemmas.{ReadyBelow}
-use Rattle.tf_order.proofs.links.Links.first_ready.Given as goal
-
-abbrev pub invariant-loop-item : goal.invariant-loop-item
-invariant-loop-item l = ReadyBelow l.self l.done l.ready l.item

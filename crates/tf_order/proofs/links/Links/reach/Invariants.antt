@@ -1,6 +1,0 @@
-use Rattle.std.proofs.Common.{take, reverse}
-use Rattle.tf_order.proofs.ReachLemmas.{Reaching}
-use Rattle.tf_order.proofs.links.Links.reach.Given as goal
-
-abbrev pub invariant-loop-pivot : goal.invariant-loop-pivot
-invariant-loop-pivot l = Reaching l.self l.rows.items (reverse (take l.pivot-index l.pivot-items))

@@ -1,6 +1,0 @@
-use Rattle.std.proofs.Common.{take}
-use Rattle.tf_order.proofs.StandingLemmas.{ReadyAmong}
-use Rattle.tf_order.proofs.links.Links.take.Given as goal
-
-abbrev pub invariant-loop-next : goal.invariant-loop-next
-invariant-loop-next l = ReadyAmong l.self l.item l.fn.ready l.done l.ready (take l.next-index l.next-items)

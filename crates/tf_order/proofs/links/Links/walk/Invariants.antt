@@ -1,5 +1,0 @@
-use Rattle.tf_order.proofs.CycleLemmas.{Walking}
-use Rattle.tf_order.proofs.links.Links.walk.Given as goal
-
-abbrev pub invariant-loop-layer : goal.invariant-loop-layer
-invariant-loop-layer l = Walking l.self l.item l.links l.items.items l.at l.layer

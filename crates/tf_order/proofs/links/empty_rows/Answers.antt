@@ -1,5 +1,0 @@
-use Rattle.tf_order.proofs.LinkLemmas.{empty_start}
-use Rattle.tf_order.proofs.links.empty_rows.Goals as goal
-
-pub loop-init : goal.loop-init
-loop-init c = empty_start c.args.count c.new-rows.result.items c.new-rows.ensures.items
