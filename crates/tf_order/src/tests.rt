@@ -73,6 +73,20 @@ fn compiled(alloc: Global, root: Flow) -> Result<Result<Graph, CompileFault>, Fa
     Ok(compile(alloc, &plan))
 }
 
+/// An ambiguous symbol and the two items that are named with it.
+fn ambiguity(compiled: &Result<Graph, CompileFault>) -> Option<[Name; 3]> {
+    match compiled {
+        Err(
+            CompileFault::Ambiguous {
+                symbol,
+                first,
+                second,
+            },
+        ) => Some([*symbol, *first, *second]),
+        _ => None,
+    }
+}
+
 #[test]
 fn atoms_are_ordered_by_links_and_by_nested_flows(rt: HostRuntime) -> Result<(), Fail> {
     let alloc = rt.alloc();
@@ -115,19 +129,10 @@ fn the_first_two_providers_of_an_ambiguous_symbol_are_named(rt: HostRuntime) -> 
     items.push(task(alloc, "two", &[], Some("part"))?)?;
     items.push(task(alloc, "three", &[], Some("part"))?)?;
     let root = flow(alloc, "root", FlowKind::Graph, items, &[])?;
-    let Err(
-        CompileFault::Ambiguous {
-            symbol,
-            first,
-            second,
-        },
-    ) = compiled(alloc, root)?
-    else {
+    let Some(found) = ambiguity(&compiled(alloc, root)?) else {
         return Err(Fail::from("not ambiguous"));
     };
-    assert!(rt; symbol == name("part")?);
-    assert!(rt; first == name("one")?);
-    assert!(rt; second == name("two")?);
+    assert!(rt; found == [name("part")?, name("one")?, name("two")?]);
     Ok(())
 }
 
