@@ -17,7 +17,7 @@ use Rattle.tf_machine.proofs.TestLemmas.{first_found, never_first_below, any_bel
 
 -- the best so far, by what it means: a candidate that no candidate so far outranks, and that outranks
 -- all before it
-abbrev pub IsBestSoFar : Outline → Snapshot → ℕ → Option ℕ → Type 0
+abbrev IsBestSoFar : Outline → Snapshot → ℕ → Option ℕ → Type 0
 IsBestSoFar plan s n None = (b : ℕ) → b < n → is_candidate plan s b ≡ false
 IsBestSoFar plan s n (Some a) = (a < n) × (is_candidate plan s a ≡ true)
     × ((b : ℕ) → b < n → is_candidate plan s b ≡ true → int_lt (priority plan a) (priority plan b) ≡ false)
@@ -74,7 +74,7 @@ one_more plan s n (Some a) (below_n, candidate_a, none_over, over_first) false y
   over_first,
 )
 
-pub best_so_far : (plan : Outline) (s : Snapshot) (n : ℕ) → IsBestSoFar plan s n (best_below plan s n)
+best_so_far : (plan : Outline) (s : Snapshot) (n : ℕ) → IsBestSoFar plan s n (best_below plan s n)
 best_so_far plan s zero = λ b below. absurd (omega arith)
 best_so_far plan s (suc n) = one_more plan s n (best_below plan s n) (best_so_far plan s n) (outranked plan (best_below plan s n) n) (is_candidate plan s n) refl refl
 

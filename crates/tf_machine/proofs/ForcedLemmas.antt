@@ -85,7 +85,7 @@ whole_by plan s None is = refl
 whole_by plan s (Some a) is = ap (λ (r : Resolve). Some (resolve_entry r)) (resolved_whole plan s a is)
 
 -- it is forced where a failure has none
-pub forced_plain : (plan : Outline) (s : Snapshot) → is_plain plan ≡ true → forced_if_running plan s ≡ option_map (λ a. whole) (first_below (count plan) (is_unresolved s))
+forced_plain : (plan : Outline) (s : Snapshot) → is_plain plan ≡ true → forced_if_running plan s ≡ option_map (λ a. whole) (first_below (count plan) (is_unresolved s))
 unfolding forced_resolution
 forced_plain plan s is = only_resolution plan s is ∙ whole_by plan s (first_below (count plan) (is_unresolved s)) is
 

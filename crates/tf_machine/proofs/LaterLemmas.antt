@@ -34,7 +34,7 @@ same_snapshot s t states payloads hands marks attempts flows =
 -- ---- an atom enters a state
 
 -- in a plan without retry controllers it leaves the marks
-pub mark_kept : (plan : Outline) (entered a : ℕ) (state : AtomState) (held : Payload) (before : Option Resolve) → is_retry plan entered ≡ false → mark_after plan (what.Atom entered state held) a before ≡ before
+mark_kept : (plan : Outline) (entered a : ℕ) (state : AtomState) (held : Payload) (before : Option Resolve) → is_retry plan entered ≡ false → mark_after plan (what.Atom entered state held) a before ≡ before
 unfolding mark_after
 mark_kept plan entered a atom.Running held before is = ap (λ (b : Bool). if b then begun_again (own_flow plan entered) before else before) is
 mark_kept plan entered a atom.Pending held before is = refl

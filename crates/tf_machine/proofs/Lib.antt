@@ -12,8 +12,4 @@ pub mod ChangeLemmas
 pub mod LaterLemmas
 pub mod RecordLemmas
 pub mod MachineLemmas
-pub mod CalmLemmas
-pub mod MarkLemmas
-pub mod ReversionLemmas
-pub mod LawLemmas
 pub mod Rows

@@ -4,22 +4,29 @@ use Rattle.tf_states.specs.declared.record.AtomView.{AtomView}
 use Rattle.tf_states.specs.declared.record.Entry.{Entry}
 use Rattle.tf_states.specs.declared.state.AtomState.{AtomState}
 use Rattle.tf_states.specs.declared.state.AtomState.TheVariants as atom
+use Rattle.tf_states.specs.declared.state.FlowState.{FlowState}
 use Rattle.tf_states.specs.declared.state.FlowState.TheVariants as flow
 use Rattle.tf_ports.specs.declared.outcomes.Outcome.{Outcome}
 use Rattle.tf_ports.specs.declared.outcomes.Outcome.TheVariants as outcome
 use Rattle.tf_machine.specs.declared.tables.Place.{Place}
 use Rattle.tf_model.specs.Numbers.{is_number}
+use Rattle.tf_model.specs.Compilation.{compile_refusal}
 use Rattle.tf_model.specs.Plan.{Outline, outline_of, count}
 use Rattle.tf_model.specs.Snapshot.{Snapshot, later, is_at_work}
-use Rattle.tf_model.specs.History.{snapshot}
+use Rattle.tf_model.specs.History.{snapshot, flow_of}
 use Rattle.tf_model.specs.States.{flow_runs, flow_suspends}
-use Rattle.tf_model.specs.Steps.{Step, by_end_of_task, LegalPast, ends_task}
+use Rattle.tf_model.specs.Forced.{forced}
+use Rattle.tf_model.specs.Candidates.{choice, end_of}
+use Rattle.tf_model.specs.Steps.{Step, by_end_of_task, LegalPast, ends_task, is_still}
 use Rattle.tf_model.proofs.HistoryLemmas.{one_more}
+use Rattle.std.specs.Prelude.{is_some}
 use Rattle.std.proofs.lemmas.Option.{slice_get-get_or}
+use Rattle.tf_facts.specs.Facts.{Facts, CompletedReversion}
+use Rattle.tf_facts.proofs.PastLemmas.{facts_hold, never_stuck, reversion_completed}
 use Rattle.tf_order.proofs.GraphLemmas.{rows_length, row_told}
 use Rattle.tf_model.proofs.StepLemmas.{found_passes}
 use Rattle.tf_machine.specs.Answers.{view_at, views_of, is_with, task_of, end_by, ended_from}
-use Rattle.tf_machine.specs.Facts.{Facts}
+use Rattle.tf_machine.specs.TableFacts.{TableFacts}
 use Rattle.tf_machine.specs.Machine.{MachineValue, outline, shown, StandsFor, IsSound}
 use Rattle.tf_machine.specs.Plain.{IsPlain}
 use Rattle.tf_machine.specs.Tables.{state_in, payload_in, hand_in, mark_in, attempts_told}
@@ -28,8 +35,8 @@ use Rattle.tf_machine.proofs.FactLemmas.{past_facts, numbered_hand}
 use Rattle.tf_machine.proofs.LaterLemmas.{same_snapshot}
 
 -- the facts of legal histories hold of what a machine shows
-pub sound_facts : (m : MachineValue) → IsSound m → Facts (outline m) (shown m)
-sound_facts m sound = subst (Facts (outline m)) (sym sound.some.1.shows) (past_facts (outline m) sound.some.0 sound.plain sound.some.1.legal)
+pub sound_facts : (m : MachineValue) → IsSound m → TableFacts (outline m) (shown m)
+sound_facts m sound = subst (TableFacts (outline m)) (sym sound.some.1.shows) (past_facts (outline m) sound.some.0 sound.plain sound.some.1.legal)
 
 -- after a step it stands for one entry more
 pub stands_later : (old new : MachineValue) (e : Entry) → new.plan ≡ old.plan → Step (outline old) (shown old) e → shown new ≡ later (outline old) e (shown old)
@@ -46,6 +53,7 @@ pub sound_later : (old new : MachineValue) (e : Entry) → IsSound old → new.p
 sound_later old new e sound plan step moved views places =
     let same : outline new ≡ outline old = ap outline_of plan in
     record {
+      compiles = ap compile_refusal plan ∙ sound.compiles;
       plain = subst IsPlain (sym plan) sound.plain;
       views = views ∙ (sound.views ∙ ap count (sym same));
       places = places ∙ (sound.places ∙ ap count (sym same));
@@ -90,8 +98,9 @@ stands_first m n views places state = record {
       state;
 }
 
-pub sound_first : (m : MachineValue) (n : ℕ) → IsPlain m.plan → n ≡ count (outline m) → m.views ≡ first_views n → m.places ≡ first_places n → m.flow ≡ flow.Pending → IsSound m
-sound_first m n plain all views places state = record {
+pub sound_first : (m : MachineValue) (n : ℕ) → compile_refusal m.plan ≡ None → IsPlain m.plan → n ≡ count (outline m) → m.views ≡ first_views n → m.places ≡ first_places n → m.flow ≡ flow.Pending → IsSound m
+sound_first m n compiles plain all views places state = record {
+  compiles = compiles;
   plain = plain;
   views = ap (λ (xs : List AtomView). length xs) views ∙ (first_views_length n ∙ all);
   places = ap (λ (xs : List Place). length xs) places ∙ (first_places_length n ∙ all);
@@ -110,7 +119,7 @@ ended_as plan s hand a atom.Reverting (outcome.Failed f) was works goes has = rw
 ended_as plan s hand a state result was works goes has = absurd (cc)
 
 -- it may follow
-pub settled_step : (plan : Outline) (s : Snapshot) (hand a : ℕ) (result : Outcome) → Facts plan s → task_of plan s hand ≡ Some a → Step plan s (end_by s hand result a)
+pub settled_step : (plan : Outline) (s : Snapshot) (hand a : ℕ) (result : Outcome) → TableFacts plan s → task_of plan s hand ≡ Some a → Step plan s (end_by s hand result a)
 settled_step plan s hand a result facts is =
     let has = found_passes (count plan) (is_with s hand) a is in
     let busy = facts.busy a hand (numbered_hand (s.hand a) hand has) in
@@ -137,3 +146,22 @@ views_told m sound =
     same_list m.views (views_of (outline m) (shown m)) (sound.views ∙ sym (rows_length (view_at (shown m)) (count (outline m))))
     (λ k below. seen m k (slice_get m.views k) refl below
     ∙ sym (row_told (view_at (shown m)) (count (outline m)) k (omega (arith, below, sound.views))))
+
+-- ---- what holds of each history that it stands for
+
+pub stuck_never : (m : MachineValue) (past : List Entry) → IsSound m → StandsFor m past → flow_of past ≡ flow.Running
+    → forced (outline m) (snapshot (outline m) past) ≡ None → choice (outline m) (snapshot (outline m) past) ≡ None → is_still (outline m) (snapshot (outline m) past) ≡ true
+    → is_some (end_of (outline m) (shown m)) ≡ true
+stuck_never m past sound stands runs unforced unstarted still =
+    ap (λ (s : Snapshot). is_some (end_of (outline m) s)) stands.shows ∙ never_stuck m.plan past sound.compiles stands.legal runs unforced unstarted still
+
+pub facts_here : (m : MachineValue) (past : List Entry) → IsSound m → StandsFor m past → Facts (outline m) (snapshot (outline m) past)
+facts_here m past sound stands = facts_hold m.plan past sound.compiles stands.legal
+
+flow_read : (plan : Outline) (past : List Entry) (f : FlowState) → (snapshot plan past).flow ≡ f → flow_of past ≡ f
+unfolding snapshot
+flow_read plan past f is = is
+
+pub completed_here : (m : MachineValue) (past : List Entry) → IsSound m → StandsFor m past → (shown m).flow ≡ flow.Reverted → CompletedReversion (outline m) past
+completed_here m past sound stands reverted =
+    reversion_completed m.plan past sound.compiles stands.legal (flow_read (outline m) past flow.Reverted (ap (λ (s : Snapshot). s.flow) (sym stands.shows) ∙ reverted))

@@ -5,23 +5,19 @@ use Rattle.std.specs.Option.{option_or}
 use Rattle.tf_states.specs.declared.record.Entry.{Entry}
 use Rattle.tf_states.specs.declared.record.What.{What}
 use Rattle.tf_states.specs.declared.record.What.TheVariants as what
-use Rattle.tf_states.specs.declared.state.AtomState.{AtomState}
 use Rattle.tf_states.specs.declared.state.AtomState.TheVariants as atom
 use Rattle.tf_states.specs.declared.state.FlowState.{FlowState}
 use Rattle.tf_states.specs.declared.state.FlowState.TheVariants as flow
 use Rattle.tf_model.specs.Numbers.{all_below, first_below}
 use Rattle.tf_model.specs.Plan.{Outline, count, is_task}
 use Rattle.tf_model.specs.Snapshot.{Snapshot}
-use Rattle.tf_model.specs.States.{is_pending, is_settled, is_put_back, flow_runs, flow_suspends, flow_is_reverted}
-use Rattle.tf_model.specs.Sessions.{has_ended}
+use Rattle.tf_model.specs.States.{flow_runs, flow_suspends, flow_is_reverted}
 use Rattle.tf_model.specs.Forced.{forced, is_active, is_unhurt, enters}
 use Rattle.tf_model.specs.Candidates.{is_interrupted, is_candidate, is_best, taken_up, candidate_entry, candidate_if_running, choice, end_of}
 use Rattle.tf_model.specs.Steps.{Rule, by_force, by_choice, by_end_of_task, by_turn, by_end, by_suspension, by_reset, is_still, ends_task, turns_flow, may_suspend, reset, put_back_or_rest, is_put_back_at, is_settled_at}
-use Rattle.tf_model.proofs.StepLemmas.{end_is, and_first, and_second, or_either, found_passes}
+use Rattle.tf_model.proofs.StepLemmas.{and_first, and_second, or_either, found_passes}
 use Rattle.tf_machine.specs.Plain.{is_plain}
-use Rattle.tf_machine.specs.Changes.{flow_rests}
 use Rattle.tf_machine.proofs.ForcedLemmas.{whole, forced_is}
-use Rattle.tf_machine.proofs.TestLemmas.{all_below_at, none_of_first}
 
 -- what a step is: the reversion of the whole flow is recorded, a candidate is taken up, a task in flight
 -- ends, the flow turns or ends or is suspended, or it is put back
@@ -30,9 +26,9 @@ pub data Move (plan : Outline) (s : Snapshot) (hand : ℕ) (w : What) : Type 0 w
   starts : (a : ℕ) → a < count plan → is_candidate plan s a ≡ true → flow_runs s.flow ≡ true → taken_up (s.state a) a ≡ w → Move plan s hand w
   ends : ends_task s hand w ≡ true → Move plan s hand w
   turns : turns_flow s.flow w ≡ true → Move plan s hand w
-  closes : (state : FlowState) → is_still plan s ≡ true → flow_rests state ≡ false → what.Flow state ≡ w → Move plan s hand w
+  closes : (state : FlowState) → is_still plan s ≡ true → what.Flow state ≡ w → Move plan s hand w
   puts_back : (a : ℕ) → a < count plan → enters a atom.Pending ≡ w → Move plan s hand w
-  rests : flow_is_reverted s.flow ≡ true → ((a : ℕ) → a < count plan → is_pending (s.state a) ≡ true) → what.Flow flow.Pending ≡ w → Move plan s hand w
+  rests : flow_is_reverted s.flow ≡ true → what.Flow flow.Pending ≡ w → Move plan s hand w
 
 -- the number that is found is below
 found_more : (n a : ℕ) (o : Option ℕ) (b : Bool) → (o ≡ Some a → a < n) → option_or o (if b then Some n else None) ≡ Some a → a < suc n
@@ -40,7 +36,7 @@ found_more n a (Some c) b below is = let before = below is in omega arith
 found_more n a None true below is = let same : n ≡ a = cc in omega arith
 found_more n a None false below is = absurd (cc)
 
-pub found_below : (n : ℕ) (test : ℕ → Bool) (a : ℕ) → first_below n test ≡ Some a → a < n
+found_below : (n : ℕ) (test : ℕ → Bool) (a : ℕ) → first_below n test ≡ Some a → a < n
 found_below zero test a is = absurd (cc)
 found_below (suc n) test a is = found_more n a (first_below n test) (test n) (found_below n test a) is
 
@@ -68,26 +64,15 @@ chosen plan s hand w is =
     let parts = only_if (is_active plan s && is_none (forced plan s)) (candidate_if_running plan s) w is in
     started plan s hand w (first_below (count plan) (is_best plan s)) (and_first (flow_runs s.flow) (is_unhurt plan s) (and_first (is_active plan s) _ parts.0)) refl parts.1
 
-ended_stays : (state : FlowState) → has_ended state ≡ true → flow_rests state ≡ false
-ended_stays flow.Success is = refl
-ended_stays flow.Failure is = refl
-ended_stays flow.Reverted is = refl
-ended_stays state is = absurd (cc)
+closed : (plan : Outline) (s : Snapshot) (hand : ℕ) (w : What) (o : Option FlowState) → is_still plan s ≡ true → option_map what.Flow o ≡ Some w → Move plan s hand w
+closed plan s hand w None still is = absurd (cc)
+closed plan s hand w (Some state) still is = closes state still (let same : what.Flow state ≡ w = cc in same)
 
-closed : (plan : Outline) (s : Snapshot) (hand : ℕ) (w : What) (o : Option FlowState) → end_of plan s ≡ o → is_still plan s ≡ true → option_map what.Flow o ≡ Some w → Move plan s hand w
-closed plan s hand w None found still is = absurd (cc)
-closed plan s hand w (Some state) found still is = closes state still (ended_stays state (end_is plan s state found).1) (let same : what.Flow state ≡ w = cc in same)
+put_back : (plan : Outline) (s : Snapshot) (hand : ℕ) (w : What) (o : Option ℕ) → flow_is_reverted s.flow ≡ true → first_below (count plan) (is_put_back_at s) ≡ o → put_back_or_rest o ≡ w → Move plan s hand w
+put_back plan s hand w None reverted found is = rests reverted is
+put_back plan s hand w (Some a) reverted found is = puts_back a (found_below (count plan) (is_put_back_at s) a found) is
 
-waits_by : (state : AtomState) → is_settled state ≡ true → is_put_back state ≡ false → is_pending state ≡ true
-waits_by atom.Pending is other = refl
-waits_by state is other = absurd (cc)
-
-put_back : (plan : Outline) (s : Snapshot) (hand : ℕ) (w : What) (o : Option ℕ) → flow_is_reverted s.flow ≡ true → all_below (count plan) (is_settled_at s) ≡ true → first_below (count plan) (is_put_back_at s) ≡ o → put_back_or_rest o ≡ w → Move plan s hand w
-put_back plan s hand w None reverted settled found is =
-    rests reverted (λ a below. waits_by (s.state a) (all_below_at (count plan) (is_settled_at s) a settled below) (none_of_first (count plan) (is_put_back_at s) a found below)) is
-put_back plan s hand w (Some a) reverted settled found is = puts_back a (found_below (count plan) (is_put_back_at s) a found) is
-
-pub if_some : (b : Bool) (v w : What) → (if b then Some v else None) ≡ Some w → (b ≡ true) × (v ≡ w)
+if_some : (b : Bool) (v w : What) → (if b then Some v else None) ≡ Some w → (b ≡ true) × (v ≡ w)
 if_some true v w is = let same : v ≡ w = cc in (refl, same)
 if_some false v w is = absurd (cc)
 
@@ -95,11 +80,11 @@ cleared : (plan : Outline) (s : Snapshot) (hand : ℕ) (w : What) → reset plan
 unfolding reset
 cleared plan s hand w is =
     let parts = if_some (flow_is_reverted s.flow && all_below (count plan) (is_settled_at s)) (put_back_or_rest (first_below (count plan) (is_put_back_at s))) w is in
-    put_back plan s hand w (first_below (count plan) (is_put_back_at s)) (and_first (flow_is_reverted s.flow) _ parts.0) (and_second (flow_is_reverted s.flow) _ parts.0) refl parts.1
+    put_back plan s hand w (first_below (count plan) (is_put_back_at s)) (and_first (flow_is_reverted s.flow) _ parts.0) refl parts.1
 
 suspended : (plan : Outline) (s : Snapshot) (hand : ℕ) (w : What) → may_suspend plan s ≡ true → w ≡ what.Flow flow.Suspended → Move plan s hand w
 unfolding may_suspend
-suspended plan s hand w is event = closes flow.Suspended (and_first (is_still plan s) _ (and_second (flow_suspends s.flow) _ is)) refl (sym event)
+suspended plan s hand w is event = closes flow.Suspended (and_first (is_still plan s) _ (and_second (flow_suspends s.flow) _ is)) (sym event)
 
 -- each rule is such a move
 pub move_of : (plan : Outline) (s : Snapshot) (e : Entry) → is_plain plan ≡ true → Rule plan s e → Move plan s e.hand e.what
@@ -107,6 +92,6 @@ move_of plan s e plain (by_force is) = resolves (forced_is plan s e.what plain i
 move_of plan s e plain (by_choice is free) = chosen plan s e.hand e.what is
 move_of plan s e plain (by_end_of_task is) = ends is
 move_of plan s e plain (by_turn is) = turns is
-move_of plan s e plain (by_end is still) = closed plan s e.hand e.what (end_of plan s) refl still is
+move_of plan s e plain (by_end is still) = closed plan s e.hand e.what (end_of plan s) still is
 move_of plan s e plain (by_suspension is event) = suspended plan s e.hand e.what is event
 move_of plan s e plain (by_reset is) = cleared plan s e.hand e.what is

@@ -90,7 +90,7 @@ plain_told plan = sym (ap (λ (b : Bool). list_all is_task_atom (outline_of plan
 
 -- ---- a plain plan has no retry controllers
 
-pub all_tasks : (plan : Outline) → is_plain plan ≡ true → list_all is_task_atom plan.atoms ≡ true
+all_tasks : (plan : Outline) → is_plain plan ≡ true → list_all is_task_atom plan.atoms ≡ true
 unfolding is_plain
 all_tasks plan is = and_first (list_all is_task_atom plan.atoms) (list_all is_plain_flow plan.flows) is
 
@@ -118,7 +118,7 @@ found_among g [] all f is = absurd (cc)
 found_among g (x ∷ xs) all f is = found_by x f xs (has_flow_number g x) (find (has_flow_number g) xs) all (found_among g xs (and_second (is_plain_flow x) (list_all is_plain_flow xs) all) f) is
 
 -- a flow that is there is plain
-pub flow_plain : (plan : Outline) (g : ℕ) (f : Flow) → is_plain plan ≡ true → flow_at plan.flows g ≡ Some f → is_plain_flow f ≡ true
+flow_plain : (plan : Outline) (g : ℕ) (f : Flow) → is_plain plan ≡ true → flow_at plan.flows g ≡ Some f → is_plain_flow f ≡ true
 flow_plain plan g f is at = found_among g plan.flows (all_flows plan is) f at
 
 none_is : {X : Type 0} (o : Option X) → is_none o ≡ true → o ≡ None

@@ -108,25 +108,3 @@ neither false b first second = second
 pub never_any : (n : ℕ) (test : ℕ → Bool) → ((k : ℕ) → k < n → test k ≡ false) → any_below n test ≡ false
 never_any zero test each = refl
 never_any (suc n) test each = neither (any_below n test) (test n) (never_any n test (λ k below. each k (omega (arith, below)))) (each n (omega arith))
-
--- where none is found, the test passes at no number below
-pub none_of_first : (n : ℕ) (test : ℕ → Bool) (k : ℕ) → first_below n test ≡ None → k < n → test k ≡ false
-none_of_first zero test k none below = absurd (omega arith)
-none_of_first (suc n) test k none below = elim (cases_lt k n) [
-  | inl before ↦ none_of_first n test k (first_none (first_below n test) (test n) none) before
-  | inr from ↦ let same : k ≡ n = omega arith in ap test same ∙ last_none (first_below n test) (test n) none
-]
-  where
-    first_none : (o : Option ℕ) (b : Bool) → option_or o (if b then Some n else None) ≡ None → o ≡ None
-    first_none None b is = refl
-    first_none (Some a) b is = absurd (cc)
-
-    last_none : (o : Option ℕ) (b : Bool) → option_or o (if b then Some n else None) ≡ None → b ≡ false
-    last_none None true is = absurd (cc)
-    last_none None false is = refl
-    last_none (Some a) b is = absurd (cc)
-
--- where the test passes at each number below
-pub all_from : (n : ℕ) (test : ℕ → Bool) → ((k : ℕ) → k < n → test k ≡ true) → all_below n test ≡ true
-all_from zero test each = refl
-all_from (suc n) test each = true_both (all_below n test) (test n) (all_from n test (λ k below. each k (omega (arith, below)))) (each n (omega arith))

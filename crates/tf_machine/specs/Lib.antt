@@ -3,8 +3,7 @@ pub mod Compiled
 pub mod Tables
 pub mod Machine
 pub mod Answers
-pub mod Reversion
 pub mod Faults
 pub mod Best
 pub mod Changes
-pub mod Facts
+pub mod TableFacts

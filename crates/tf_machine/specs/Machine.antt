@@ -1,10 +1,11 @@
 -- What a machine is, and for which histories it stands.
-use Rattle.std.specs.Prelude.{◌≡◌, List, length}
+use Rattle.std.specs.Prelude.{◌≡◌, List, length, None}
 use Rattle.tf_flow.specs.Plan.{PlanValue}
 use Rattle.tf_states.specs.declared.record.AtomView.{AtomView}
 use Rattle.tf_states.specs.declared.record.Entry.{Entry}
 use Rattle.tf_states.specs.declared.state.FlowState.{FlowState}
 use Rattle.tf_machine.specs.declared.tables.Place.{Place}
+use Rattle.tf_model.specs.Compilation.{compile_refusal}
 use Rattle.tf_model.specs.Plan.{Outline, outline_of, count}
 use Rattle.tf_model.specs.Snapshot.{Snapshot}
 use Rattle.tf_model.specs.History.{snapshot}
@@ -36,8 +37,10 @@ pub record StandsFor (m : MachineValue) (past : List Entry) : Type 0 where
 abbrev pub HasHistory : MachineValue → Type 0
 HasHistory m = (past : List Entry) × StandsFor m past
 
--- every machine has a view and a place for each atom, and stands for some history
+-- the plan of every machine compiles and is plain; the machine has a view and a place for each atom, and
+-- stands for some history
 pub record IsSound (m : MachineValue) : Type 0 where
+  pub compiles : compile_refusal m.plan ≡ None
   pub plain : IsPlain m.plan
   pub views : length m.views ≡ count (outline m)
   pub places : length m.places ≡ count (outline m)

@@ -72,6 +72,7 @@ impl Compiled {
         ensures count { result ≡ count (outline_of self.now) }
         ensures few { result ≤ 1000 }
         ensures plain { IsPlain self.now }
+        ensures accepted { compile_refusal self.now ≡ None }
     {
         self.plan.atoms()
     }

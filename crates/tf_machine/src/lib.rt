@@ -7,7 +7,6 @@ mod compiled;
 mod ending;
 mod faults;
 mod forcing;
-mod laws;
 mod machine;
 mod plain;
 mod readiness;
@@ -19,6 +18,5 @@ mod tests;
 
 pub use candidates::Start;
 pub use faults::{ApplyFault, BuildFault};
-pub use laws::{never_stuck, reversion_is_complete};
 pub use machine::Machine;
 pub use plain::is_plain;

@@ -1,13 +1,15 @@
-ghost use Rattle.std.specs.Prelude.{◌≡◌, ℕ, List, [], ◌∷◌, true, false, None, Some, IfOk, IfErr, OnOk, OnErr, IfSome, IsSome, Ok, Err, option_map};
+ghost use Rattle.std.specs.Prelude.{◌≡◌, ℕ, List, [], ◌∷◌, true, false, None, Some, IfOk, IfErr, OnOk, OnErr, IfSome, IsSome, Ok, Err, option_map, is_some};
 ghost use Rattle.tf_states.specs.declared.record.Entry.{Entry as Record};
+ghost use Rattle.tf_states.specs.declared.state.FlowState.TheVariants.{Running as running, Reverted as reverted};
 ghost use Rattle.tf_ports.specs.declared.outcomes.Outcome.{Outcome as Came};
 ghost use Rattle.tf_ports.specs.declared.outcomes.Outcome.TheVariants.{Gave as given, Failed as failing};
 ghost use Rattle.tf_model.specs.Compilation.{compile_refusal};
 ghost use Rattle.tf_model.specs.Snapshot.{later};
-ghost use Rattle.tf_model.specs.History.{snapshot};
+ghost use Rattle.tf_model.specs.History.{snapshot, flow_of};
 ghost use Rattle.tf_model.specs.Forced.{forced};
 ghost use Rattle.tf_model.specs.Candidates.{choice, end_of};
-ghost use Rattle.tf_model.specs.Steps.{Step};
+ghost use Rattle.tf_model.specs.Steps.{Step, is_still};
+ghost use Rattle.tf_facts.specs.Facts.{Facts, CompletedReversion};
 ghost use Rattle.tf_machine.specs.declared.faults.ApplyFault.TheVariants.{NotAStep as refuses};
 ghost use Rattle.tf_machine.specs.Answers.{views_of, task_of, start_entry, action_in, end_by, ended_from, IsBuildRefusal, IsBack};
 ghost use Rattle.tf_machine.specs.Machine.{outline, shown, StandsFor, HasHistory};
@@ -129,10 +131,12 @@ impl Machine {
         candidate(&self.compiled, &self.tables)
     }
 
-    /// How the run ends, if it does.
+    /// How the run ends, if it does. It always does where the flow is RUNNING, nothing is forced, there is
+    /// no candidate and nothing is in flight.
     pub fn ended(&self) -> Option<FlowState>
         ensures is { result ≡ end_of (outline self.now) (shown self.now) }
         ensures after { (past : List Record) → StandsFor self.now past → result ≡ end_of (outline self.now) (snapshot (outline self.now) past) }
+        ensures never_stuck { (past : List Record) → StandsFor self.now past → flow_of past ≡ running → forced (outline self.now) (snapshot (outline self.now) past) ≡ None → choice (outline self.now) (snapshot (outline self.now) past) ≡ None → is_still (outline self.now) (snapshot (outline self.now) past) ≡ true → is_some result ≡ true }
     {
         end_of(&self.compiled, &self.tables)
     }
@@ -155,10 +159,13 @@ impl Machine {
         &self.tables.views
     }
 
-    /// The flow's state.
+    /// The flow's state. At every moment the facts on states and marks hold; and where the flow is
+    /// REVERTED, its reversion is completed.
     pub fn flow_state(&self) -> FlowState
         ensures is { result ≡ (shown self.now).flow }
         ensures after { (past : List Record) → StandsFor self.now past → result ≡ (snapshot (outline self.now) past).flow }
+        ensures facts { (past : List Record) → StandsFor self.now past → Facts (outline self.now) (snapshot (outline self.now) past) }
+        ensures reversion { (past : List Record) → StandsFor self.now past → result ≡ reverted → CompletedReversion (outline self.now) past }
     {
         self.tables.flow
     }
@@ -166,6 +173,7 @@ impl Machine {
     /// The plan.
     pub fn plan(&self) -> &Plan
         ensures is { result.now ≡ self.now.plan }
+        ensures compiles { compile_refusal self.now.plan ≡ None }
         ensures history { HasHistory self.now }
     {
         self.compiled.plan()

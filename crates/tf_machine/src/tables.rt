@@ -5,7 +5,7 @@ ghost use Rattle.tf_states.specs.declared.state.FlowState.TheVariants.{Pending a
 ghost use Rattle.tf_model.specs.Plan.{outline_of, count, is_task};
 ghost use Rattle.tf_model.specs.Snapshot.{later, is_at_work, state_after, payload_after, held_after, attempts_in, attempts_after};
 ghost use Rattle.tf_model.specs.Steps.{Step};
-ghost use Rattle.tf_machine.specs.Facts.{Facts};
+ghost use Rattle.tf_machine.specs.TableFacts.{TableFacts};
 ghost use Rattle.tf_machine.specs.Plain.{IsPlain};
 ghost use Rattle.tf_model.specs.Readiness.{is_unmarked, is_to_revert};
 ghost use Rattle.tf_machine.specs.Answers.{is_with};
@@ -124,7 +124,7 @@ impl Tables {
     /// Records an entry that may follow. It takes no memory.
     pub fn record(&mut self, compiled: &Compiled, entry: Entry)
         requires plain { IsPlain compiled.now }
-        requires facts { Facts (outline_of compiled.now) (shown_by self.old) }
+        requires facts { TableFacts (outline_of compiled.now) (shown_by self.old) }
         requires views { length self.old.views.items ≡ count (outline_of compiled.now) }
         requires places { length self.old.places.items ≡ count (outline_of compiled.now) }
         requires step { Step (outline_of compiled.now) (shown_by self.old) entry }

@@ -2,7 +2,7 @@ use Rattle.tf_machine.proofs.MachineLemmas.{stands_first, sound_first}
 use Rattle.tf_machine.proofs.machine.Machine.make.Goals as goal
 
 pub invariant_of-result : goal.invariant_of-result
-invariant_of-result c = sound_first _ c.atoms.result c.atoms.ensures.plain c.atoms.ensures.count (c.in_ok-tables.ensures.views) (c.in_ok-tables.ensures.places) (c.in_ok-tables.ensures.flow)
+invariant_of-result c = sound_first _ c.atoms.result c.atoms.ensures.accepted c.atoms.ensures.plain c.atoms.ensures.count (c.in_ok-tables.ensures.views) (c.in_ok-tables.ensures.places) (c.in_ok-tables.ensures.flow)
 
 pub returns-clause-empty : goal.returns-clause-empty
 returns-clause-empty c = stands_first _ c.atoms.result (c.in_ok-tables.ensures.views) (c.in_ok-tables.ensures.places) (c.in_ok-tables.ensures.flow)

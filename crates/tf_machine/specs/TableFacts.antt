@@ -1,4 +1,4 @@
--- What holds of each legal history of a plain plan, of what the rules read of it.
+-- What the tables rely on: it holds of each legal history of a plain plan.
 use Rattle.std.specs.Prelude.{◌≡◌, ℕ, ◌≤◌, Bool, true, false, ◌||◌, Some}
 use Rattle.tf_states.specs.declared.state.AtomState.{AtomState}
 use Rattle.tf_states.specs.declared.state.AtomState.TheVariants as atom
@@ -22,7 +22,7 @@ is_young atom.Running = true
 is_young state = false
 
 -- what is in flight is at work; and an atom has at most one attempt, and none while nothing came of it
-pub record Facts (plan : Outline) (s : Snapshot) : Type 0 where
+pub record TableFacts (plan : Outline) (s : Snapshot) : Type 0 where
   pub busy : (a hand : ℕ) → s.hand a ≡ Some hand → Busy plan s a hand
   pub few : (a : ℕ) → s.attempts a ≤ 1
   pub fresh : (a : ℕ) → is_young (s.state a) ≡ true → s.attempts a ≡ 0
