@@ -13,8 +13,9 @@ use Rattle.tf_model.specs.States.{is_running, is_success, is_reverting, is_retry
 use Rattle.tf_model.specs.Readiness.{can_run, can_revert}
 use Rattle.tf_model.specs.Deciders.{refused}
 use Rattle.tf_model.specs.Forced.{first_entry, forced_attempt, forced_again, forced_reverted, forced_resolution, forced_retrying, forced_revert, forced_ignore, forced_run, forced_if_running, forced, is_active, is_attempting, attempt_entry, is_beginning_again, again_entry, is_undone_retry, reverted_entry, is_unresolved, resolution_entry, resolve_entry, is_to_begin_again, retrying_entry, is_retry_to_revert, reverting_entry, is_refused, ignore_entry, is_retry_to_run, running_entry}
+use Rattle.tf_model.proofs.StepLemmas.{found_passes}
 use Rattle.tf_machine.specs.Plain.{is_plain}
-use Rattle.tf_machine.proofs.TestLemmas.{first_found, never_first}
+use Rattle.tf_machine.proofs.TestLemmas.{first_found, never_first, found_below}
 use Rattle.tf_machine.proofs.PlainLemmas.{no_retry, never_refused, resolved_whole}
 
 -- the reversion of the whole flow
@@ -109,3 +110,24 @@ if_only false o w is = absurd (cc)
 pub forced_is : (plan : Outline) (s : Snapshot) (w : What) → is_plain plan ≡ true → forced plan s ≡ Some w → whole ≡ w
 unfolding forced
 forced_is plan s w is forces = whole_only (first_below (count plan) (is_unresolved s)) w (sym (forced_plain plan s is) ∙ if_only (is_active plan s) (forced_if_running plan s) w forces)
+
+-- a failure that has no resolution, for which the whole flow is to be reverted
+pub record Unresolved (plan : Outline) (s : Snapshot) (w : What) : Type 0 where
+  pub number : ℕ
+  pub below : number < count plan
+  pub unresolved : is_unresolved s number ≡ true
+  pub how : whole ≡ w
+
+unresolved_by : (plan : Outline) (s : Snapshot) (w : What) (o : Option ℕ) → first_below (count plan) (is_unresolved s) ≡ o → option_map (λ a. whole) o ≡ Some w → Unresolved plan s w
+unresolved_by plan s w None found is = absurd (cc)
+unresolved_by plan s w (Some a) found is = record {
+  number = a;
+  below = found_below (count plan) (is_unresolved s) a found;
+  unresolved = found_passes (count plan) (is_unresolved s) a found;
+  how = let same : whole ≡ w = cc in same;
+}
+
+-- where an entry is forced there is such a failure
+pub forced_finds : (plan : Outline) (s : Snapshot) (w : What) → is_plain plan ≡ true → forced plan s ≡ Some w → Unresolved plan s w
+unfolding forced
+forced_finds plan s w is forces = unresolved_by plan s w (first_below (count plan) (is_unresolved s)) refl (sym (forced_plain plan s is) ∙ if_only (is_active plan s) (forced_if_running plan s) w forces)

@@ -12,4 +12,5 @@ pub mod ChangeLemmas
 pub mod LaterLemmas
 pub mod RecordLemmas
 pub mod MachineLemmas
+pub mod RemainingLemmas
 pub mod Rows

@@ -1,7 +1,6 @@
 -- What a step of a plain plan is.
-use Rattle.std.proofs.Common.{◌≡◌, ℕ, zero, suc, ◌<◌, Bool, true, false, ◌&&◌, Option, Some, None, refl, sym, inl, inr, arith}
+use Rattle.std.proofs.Common.{◌≡◌, ℕ, ◌<◌, Bool, true, false, ◌&&◌, Option, Some, None, refl, sym, inl, inr}
 use Rattle.std.specs.Prelude.{if◌then◌else◌, is_none, option_map}
-use Rattle.std.specs.Option.{option_or}
 use Rattle.tf_states.specs.declared.record.Entry.{Entry}
 use Rattle.tf_states.specs.declared.record.What.{What}
 use Rattle.tf_states.specs.declared.record.What.TheVariants as what
@@ -18,6 +17,7 @@ use Rattle.tf_model.specs.Steps.{Rule, by_force, by_choice, by_end_of_task, by_t
 use Rattle.tf_model.proofs.StepLemmas.{and_first, and_second, or_either, found_passes}
 use Rattle.tf_machine.specs.Plain.{is_plain}
 use Rattle.tf_machine.proofs.ForcedLemmas.{whole, forced_is}
+use Rattle.tf_machine.proofs.TestLemmas.{found_below}
 
 -- what a step is: the reversion of the whole flow is recorded, a candidate is taken up, a task in flight
 -- ends, the flow turns or ends or is suspended, or it is put back
@@ -30,16 +30,6 @@ pub data Move (plan : Outline) (s : Snapshot) (hand : ℕ) (w : What) : Type 0 w
   puts_back : (a : ℕ) → a < count plan → enters a atom.Pending ≡ w → Move plan s hand w
   rests : flow_is_reverted s.flow ≡ true → what.Flow flow.Pending ≡ w → Move plan s hand w
 
--- the number that is found is below
-found_more : (n a : ℕ) (o : Option ℕ) (b : Bool) → (o ≡ Some a → a < n) → option_or o (if b then Some n else None) ≡ Some a → a < suc n
-found_more n a (Some c) b below is = let before = below is in omega arith
-found_more n a None true below is = let same : n ≡ a = cc in omega arith
-found_more n a None false below is = absurd (cc)
-
-found_below : (n : ℕ) (test : ℕ → Bool) (a : ℕ) → first_below n test ≡ Some a → a < n
-found_below zero test a is = absurd (cc)
-found_below (suc n) test a is = found_more n a (first_below n test) (test n) (found_below n test a) is
-
 only_if : {X : Type 0} (b : Bool) (x : Option X) (w : X) → (if b then x else None) ≡ Some w → (b ≡ true) × (x ≡ Some w)
 only_if true x w is = (refl, is)
 only_if false x w is = absurd (cc)
@@ -51,18 +41,33 @@ candidate_task plan s a is = elim (or_either (is_interrupted plan s a) _ is) [
   | inr ready ↦ and_first (is_task plan a) _ ready
 ]
 
-started : (plan : Outline) (s : Snapshot) (hand : ℕ) (w : What) (o : Option ℕ) → flow_runs s.flow ≡ true → first_below (count plan) (is_best plan s) ≡ o → option_map (candidate_entry s) o ≡ Some w → Move plan s hand w
-started plan s hand w None runs found is = absurd (cc)
-started plan s hand w (Some a) runs found is =
-    starts a (found_below (count plan) (is_best plan s) a found)
-    (and_first (is_candidate plan s a) _ (found_passes (count plan) (is_best plan s) a found))
-    runs (let same : candidate_entry s a ≡ w = cc in same)
+-- a candidate that is taken up, while the flow is RUNNING
+pub record Taken (plan : Outline) (s : Snapshot) (w : What) : Type 0 where
+  pub number : ℕ
+  pub below : number < count plan
+  pub candidate : is_candidate plan s number ≡ true
+  pub runs : flow_runs s.flow ≡ true
+  pub how : taken_up (s.state number) number ≡ w
+
+taken_by : (plan : Outline) (s : Snapshot) (w : What) (o : Option ℕ) → flow_runs s.flow ≡ true → first_below (count plan) (is_best plan s) ≡ o → option_map (candidate_entry s) o ≡ Some w → Taken plan s w
+taken_by plan s w None runs found is = absurd (cc)
+taken_by plan s w (Some a) runs found is = record {
+  number = a;
+  below = found_below (count plan) (is_best plan s) a found;
+  candidate = and_first (is_candidate plan s a) _ (found_passes (count plan) (is_best plan s) a found);
+  runs = runs;
+  how = let same : candidate_entry s a ≡ w = cc in same;
+}
+
+-- what is chosen takes up a candidate
+pub taken_of : (plan : Outline) (s : Snapshot) (w : What) → choice plan s ≡ Some w → Taken plan s w
+unfolding choice candidate_if_running is_active
+taken_of plan s w is =
+    let parts = only_if (is_active plan s && is_none (forced plan s)) (candidate_if_running plan s) w is in
+    taken_by plan s w (first_below (count plan) (is_best plan s)) (and_first (flow_runs s.flow) (is_unhurt plan s) (and_first (is_active plan s) _ parts.0)) refl parts.1
 
 chosen : (plan : Outline) (s : Snapshot) (hand : ℕ) (w : What) → choice plan s ≡ Some w → Move plan s hand w
-unfolding choice candidate_if_running is_active
-chosen plan s hand w is =
-    let parts = only_if (is_active plan s && is_none (forced plan s)) (candidate_if_running plan s) w is in
-    started plan s hand w (first_below (count plan) (is_best plan s)) (and_first (flow_runs s.flow) (is_unhurt plan s) (and_first (is_active plan s) _ parts.0)) refl parts.1
+chosen plan s hand w is = let taken = taken_of plan s w is in starts taken.number taken.below taken.candidate taken.runs taken.how
 
 closed : (plan : Outline) (s : Snapshot) (hand : ℕ) (w : What) (o : Option FlowState) → is_still plan s ≡ true → option_map what.Flow o ≡ Some w → Move plan s hand w
 closed plan s hand w None still is = absurd (cc)

@@ -108,3 +108,13 @@ neither false b first second = second
 pub never_any : (n : ℕ) (test : ℕ → Bool) → ((k : ℕ) → k < n → test k ≡ false) → any_below n test ≡ false
 never_any zero test each = refl
 never_any (suc n) test each = neither (any_below n test) (test n) (never_any n test (λ k below. each k (omega (arith, below)))) (each n (omega arith))
+
+-- the number that is found is below
+found_more : (n a : ℕ) (o : Option ℕ) (b : Bool) → (o ≡ Some a → a < n) → option_or o (if b then Some n else None) ≡ Some a → a < suc n
+found_more n a (Some c) b below is = let before = below is in omega arith
+found_more n a None true below is = let same : n ≡ a = cc in omega arith
+found_more n a None false below is = absurd (cc)
+
+pub found_below : (n : ℕ) (test : ℕ → Bool) (a : ℕ) → first_below n test ≡ Some a → a < n
+found_below zero test a is = absurd (cc)
+found_below (suc n) test a is = found_more n a (first_below n test) (test n) (found_below n test a) is

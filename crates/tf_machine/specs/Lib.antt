@@ -7,3 +7,4 @@ pub mod Faults
 pub mod Best
 pub mod Changes
 pub mod TableFacts
+pub mod Remaining

@@ -1,5 +1,6 @@
-ghost use Rattle.std.specs.Prelude.{◌≡◌, ℕ, List, [], ◌∷◌, true, false, None, Some, IfOk, IfErr, OnOk, OnErr, IfSome, IsSome, Ok, Err, option_map, is_some};
+ghost use Rattle.std.specs.Prelude.{◌≡◌, ◌<◌, ◌≤◌, ℕ, List, [], ◌∷◌, true, false, None, Some, IfOk, IfErr, OnOk, OnErr, IfSome, IsSome, Ok, Err, option_map, is_some};
 ghost use Rattle.tf_states.specs.declared.record.Entry.{Entry as Record};
+ghost use Rattle.tf_states.specs.declared.record.What.{What as Event};
 ghost use Rattle.tf_states.specs.declared.state.FlowState.TheVariants.{Running as running, Reverted as reverted};
 ghost use Rattle.tf_ports.specs.declared.outcomes.Outcome.{Outcome as Came};
 ghost use Rattle.tf_ports.specs.declared.outcomes.Outcome.TheVariants.{Gave as given, Failed as failing};
@@ -14,6 +15,7 @@ ghost use Rattle.tf_machine.specs.declared.faults.ApplyFault.TheVariants.{NotASt
 ghost use Rattle.tf_machine.specs.Answers.{views_of, task_of, start_entry, action_in, end_by, ended_from, IsBuildRefusal, IsBack};
 ghost use Rattle.tf_machine.specs.Machine.{outline, shown, StandsFor, HasHistory};
 ghost use Rattle.tf_machine.specs.Plain.{IsPlain};
+ghost use Rattle.tf_machine.specs.Remaining.{remaining};
 
 use crate::candidates::{Start, candidate};
 use crate::compiled::Compiled;
@@ -97,13 +99,15 @@ impl Machine {
     }
 
     /// Appends the end of the task that the hand has in flight: after RUNNING it is SUCCESS with the
-    /// value or FAILURE, after REVERTING it is REVERTED or REVERT_FAILURE. It takes no memory.
+    /// value or FAILURE, after REVERTING it is REVERTED or REVERT_FAILURE. It takes no memory. Less of the
+    /// run is to come then.
     pub fn settle(&mut self, hand: u8, outcome: Outcome)
         requires { IsSome (task_of (outline self.old) (shown self.old) hand) }
         ensures plan { self.new.plan ≡ self.old.plan }
         ensures step { (a : ℕ) → task_of (outline self.old) (shown self.old) hand ≡ Some a → Step (outline self.old) (shown self.old) (end_by (shown self.old) hand outcome a) }
         ensures moved { (a : ℕ) → task_of (outline self.old) (shown self.old) hand ≡ Some a → shown self.new ≡ later (outline self.old) (end_by (shown self.old) hand outcome a) (shown self.old) }
         ensures stands { (a : ℕ) → task_of (outline self.old) (shown self.old) hand ≡ Some a → (past : List Record) → StandsFor self.old past → StandsFor self.new (end_by (shown self.old) hand outcome a ∷ past) }
+        ensures less { remaining (outline self.new) (shown self.new) < remaining (outline self.old) (shown self.old) }
     {
         let Some(atom) = self.in_flight(hand) else {
             unreachable!();
@@ -112,21 +116,23 @@ impl Machine {
         self.advance(Entry { hand, what });
     }
 
-    /// The entry that must come next, if one must.
+    /// The entry that must come next, if one must. After it less of the run is to come.
     pub fn forced(&self) -> Result<Option<What>, Memory>
         ensures is { IfOk result (λ found. found ≡ forced (outline self.now) (shown self.now)) }
         ensures after { IfOk result (λ found. (past : List Record) → StandsFor self.now past → found ≡ forced (outline self.now) (snapshot (outline self.now) past)) }
+        ensures less { IfOk result (λ found. (hand : ℕ) (w : Event) → found ≡ Some w → remaining (outline self.now) (later (outline self.now) (record { hand = hand; what = w }) (shown self.now)) < remaining (outline self.now) (shown self.now)) }
     {
         Ok(forced(&self.compiled, &self.tables))
     }
 
     /// The task that a hand takes up next: the first candidate, of the greatest priority and then in
     /// tree order. There is none while something is forced, while the flow isn't RUNNING, or while an
-    /// atom is REVERT_FAILURE.
+    /// atom is REVERT_FAILURE. After its entry no more of the run is to come than before it.
     pub fn candidate(&self) -> Option<Start>
         ensures is { option_map start_entry result ≡ choice (outline self.now) (shown self.now) }
         ensures after { (past : List Record) → StandsFor self.now past → option_map start_entry result ≡ choice (outline self.now) (snapshot (outline self.now) past) }
         ensures action { IfSome result (λ start. start.action ≡ action_in ((shown self.now).state start.atom)) }
+        ensures no_more { IfSome result (λ start. (hand : ℕ) → remaining (outline self.now) (later (outline self.now) (record { hand = hand; what = start_entry start }) (shown self.now)) ≤ remaining (outline self.now) (shown self.now)) }
     {
         candidate(&self.compiled, &self.tables)
     }
@@ -146,6 +152,7 @@ impl Machine {
         ensures is { result ≡ task_of (outline self.now) (shown self.now) hand }
         ensures after { (past : List Record) → StandsFor self.now past → result ≡ task_of (outline self.now) (snapshot (outline self.now) past) hand }
         ensures ends { (a : ℕ) (outcome : Came) → result ≡ Some a → Step (outline self.now) (shown self.now) (end_by (shown self.now) hand outcome a) }
+        ensures less { (a : ℕ) (outcome : Came) → result ≡ Some a → remaining (outline self.now) (later (outline self.now) (end_by (shown self.now) hand outcome a) (shown self.now)) < remaining (outline self.now) (shown self.now) }
     {
         task_of(&self.compiled, &self.tables, hand)
     }
