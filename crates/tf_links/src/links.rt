@@ -63,7 +63,7 @@ impl Links {
 
     /// The items that an item leads to, ascending.
     #[tactic(auto, using(crate::proofs::StandingLemmas::led_within, crate::proofs::LinkLemmas::row_zero, crate::proofs::LinkLemmas::led_row))]
-    pub fn led_to(&self, alloc: Global, item: usize) -> Result<Vec<usize>, Memory>
+    pub(crate) fn led_to(&self, alloc: Global, item: usize) -> Result<Vec<usize>, Memory>
         requires { item < self.now.count }
         ensures all { IfOk result (λ items. items.items ≡ which_below (64 * words_for self.now.count) (leads self.now.rows item)) }
         ensures square { IsSquare self.now.count self.now.rows }
@@ -75,7 +75,7 @@ impl Links {
 
     /// The first item of a set that an item leads to.
     #[tactic(auto, using(crate::proofs::LinkLemmas::first_read, crate::proofs::LinkLemmas::row_zero))]
-    pub fn first_into(&self, item: usize, set: &Bits) -> Option<usize>
+    pub(crate) fn first_into(&self, item: usize, set: &Bits) -> Option<usize>
         requires item { item < self.now.count }
         requires wide { length set.now ≡ words_for self.now.count }
         ensures { result ≡ first_into self.now set.now item }
@@ -85,7 +85,7 @@ impl Links {
 
     /// Whether an item may be taken: it isn't done, and all that lead to it are.
     #[tactic(auto, using(crate::proofs::StandingLemmas::ready_read, crate::proofs::StandingLemmas::not_ready))]
-    pub fn is_ready(&self, item: usize, done: &Bits) -> bool
+    pub(crate) fn is_ready(&self, item: usize, done: &Bits) -> bool
         requires item { item < self.now.count }
         requires wide { length done.now ≡ words_for self.now.count }
         ensures { result ≡ is_ready self.now done.now item }

@@ -19,6 +19,7 @@ pub use elements::{Scalar, Scalars};
 pub use faults::{MakeFault, Memory};
 pub use identifier::{Name, Names};
 pub use laws::{one_byte_reading, one_text_reading};
+pub use text_form::quote;
 pub use utf8::{Text, Texts};
 pub use value::Val;
 

@@ -34,13 +34,22 @@ impl Text {
         ensures ok { OnOk result (out.new.items ≡ out.old.items ++ quoted self.now) }
         ensures err { OnErr result (out.new.items ≡ out.old.items) }
     {
-        let before = out.len();
-        match append_quoted(self.bytes(), out) {
-            Ok(()) => Ok(()),
-            Err(_) => {
-                out.truncate(before);
-                Err(Memory)
-            }
+        quote(self.bytes(), out)
+    }
+}
+
+/// Appends bytes in double quotes, as the text form of a text has them; there may be more of them than
+/// a text holds. Without memory for them nothing is appended.
+pub fn quote(bytes: &[u8], out: &mut Vec<u8>) -> Result<(), Memory>
+    ensures ok { OnOk result (out.new.items ≡ out.old.items ++ quoted bytes.now) }
+    ensures err { OnErr result (out.new.items ≡ out.old.items) }
+{
+    let before = out.len();
+    match append_quoted(bytes, out) {
+        Ok(()) => Ok(()),
+        Err(_) => {
+            out.truncate(before);
+            Err(Memory)
         }
     }
 }

@@ -1,0 +1,4 @@
+pub mod Paths
+pub mod Reading
+pub mod Values
+pub mod Tasks

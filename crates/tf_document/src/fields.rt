@@ -1,0 +1,112 @@
+ghost use Rattle.std.specs.Prelude.{◌≡◌, Some, Ok, IfOk, IfErr, IfSome, OnOk, map, option_map};
+ghost use Rattle.std.specs.Fmt.{decimal};
+ghost use Rattle.tf_document.specs.Paths.{below};
+ghost use Rattle.tf_document.specs.Reading.{Refuses, known_only as read_known, unknown_key, required_at, of_kind, has_key as key_is_there};
+ghost use Rattle.toml.specs.Data.{get_member, as_str, as_array, as_table};
+ghost use Rattle.toml.specs.View.{view, items_view, table_view};
+
+use crate::faults::FileFault;
+use crate::paths::Path;
+use std::alloc::Global;
+use tf_values::Memory;
+use toml::{Table, Value};
+
+/// A value of a document with its path.
+#[derive(Drop)]
+pub struct Field<'a> {
+    pub path: Path,
+    pub value: &'a Value,
+}
+
+impl<'a> Field<'a> {
+    /// The string that the value is, or `WrongKind`.
+    pub fn word(&self, alloc: Global) -> Result<&'a str, FileFault>
+        ensures ok { IfOk result (λ word. as_str (view self.now.value.now) ≡ Some word.now) }
+        ensures refused { IfErr result (Refuses (of_kind self.now.path (as_str (view self.now.value.now)) Ok)) }
+    {
+        Err(FileFault::Memory)
+    }
+
+    /// The items of the array that the value is, or `WrongKind`.
+    pub fn items(&self, alloc: Global) -> Result<&'a [Value], FileFault>
+        ensures ok { IfOk result (λ items. as_array (view self.now.value.now) ≡ Some (items_view items.now)) }
+        ensures refused { IfErr result (Refuses (of_kind self.now.path (as_array (view self.now.value.now)) Ok)) }
+    {
+        Err(FileFault::Memory)
+    }
+
+    /// The table that the value is, or `WrongKind`.
+    pub fn table(&self, alloc: Global) -> Result<&'a Table, FileFault>
+        ensures ok { IfOk result (λ table. as_table (view self.now.value.now) ≡ Some (table_view table.now)) }
+        ensures refused { IfErr result (Refuses (of_kind self.now.path (as_table (view self.now.value.now)) Ok)) }
+    {
+        Err(FileFault::Memory)
+    }
+}
+
+/// The item of that number of the array under the path.
+pub fn item_at<'a>(
+    alloc: Global,
+    path: &Path,
+    number: usize,
+    value: &'a Value,
+) -> Result<Field<'a>, Memory>
+    ensures place { IfOk result (λ field. field.path ≡ below path.now (decimal number)) }
+    ensures value { IfOk result (λ field. field.value.now ≡ value.now) }
+{
+    Err(Memory)
+}
+
+/// Whether the table has the key.
+pub fn has_key(table: &Table, key: &str) -> bool
+    ensures { result ≡ key_is_there key.now (table_view table.now) }
+{
+    value_at(table, key).is_some()
+}
+
+/// The value at a key.
+fn value_at<'a>(table: &'a Table, key: &str) -> Option<&'a Value>
+    ensures { option_map (λ value. view value.now) result ≡ get_member key.now (table_view table.now) }
+{
+    table.get(key)
+}
+
+/// Refuses the table under the path for its first key, in byte order, that isn't one of those.
+pub fn known_only(
+    alloc: Global,
+    path: &Path,
+    known: &[&str],
+    table: &Table,
+) -> Result<(), FileFault>
+    ensures ok { OnOk result (unknown_key (map (λ key. key.now) known.now) (table_view table.now) ≡ None) }
+    ensures refused { IfErr result (Refuses (read_known path.now (map (λ key. key.now) known.now) (table_view table.now) (Ok (table_view table.now)))) }
+{
+    Err(FileFault::Memory)
+}
+
+/// The value at a key of the table under the path, which must be there.
+pub fn required<'a>(
+    alloc: Global,
+    path: &Path,
+    key: &str,
+    table: &'a Table,
+) -> Result<Field<'a>, FileFault>
+    ensures place { IfOk result (λ field. field.path ≡ below path.now key.now) }
+    ensures found { IfOk result (λ field. get_member key.now (table_view table.now) ≡ Some (view field.value.now)) }
+    ensures refused { IfErr result (Refuses (required_at (below path.now key.now) (λ place found. Ok found) (get_member key.now (table_view table.now)))) }
+{
+    Err(FileFault::Memory)
+}
+
+/// The value at a key of the table under the path, if it is there.
+pub fn optional<'a>(
+    alloc: Global,
+    path: &Path,
+    key: &str,
+    table: &'a Table,
+) -> Result<Option<Field<'a>>, Memory>
+    ensures place { IfOk result (λ found. IfSome found (λ field. field.path ≡ below path.now key.now)) }
+    ensures found { IfOk result (λ found. option_map (λ field. view field.value.now) found ≡ get_member key.now (table_view table.now)) }
+{
+    Err(Memory)
+}

@@ -1,0 +1,14 @@
+//! What a flow file's tables spell: names, values and tasks, each read under its path.
+#![tactic(auto)]
+
+mod faults;
+mod fields;
+mod paths;
+mod tasks;
+mod values;
+
+pub use faults::FileFault;
+pub use fields::{Field, has_key, item_at, known_only, optional, required};
+pub use paths::Path;
+pub use tasks::task_form;
+pub use values::{binds_form, name_form, names_form};
