@@ -1,9 +1,8 @@
 -- What a status tells of the way that a command went.
-use Rattle.std.proofs.Common.{◌≡◌, ◌≢◌, ℕ, ◌≤◌, List, [], ◌∷◌, length, Option, Some, None, Bool, true, false, inl, inr, refl, ◌⊎◌, ◌∙◌, sym, ap, arith, cond, nat_eq, ◌&&◌, is_none}
-use Rattle.std.specs.Prelude.{Ok, Err}
+use Rattle.std.proofs.Common.{◌≡◌, ◌≢◌, ℕ, ◌≤◌, List, [], ◌∷◌, length, Option, Some, None, Bool, true, false, not, inl, inr, refl, ◌⊎◌, ◌∙◌, sym, ap, arith, cond, nat_eq, ◌&&◌, ◌||◌, is_none}
+use Rattle.std.specs.Prelude.{Ok, Err, if◌then◌else◌}
 use Rattle.tf_ports.specs.Contents.{Contents, GivesBytes, PassesLimit}
-use Rattle.tf_files.specs.FlowFile.{PlanTree, flow_of}
-use Rattle.tf_files.specs.declared.reading.FileFault.{FileFault}
+use Rattle.tf_files.specs.FlowFile.{PlanTree}
 use Rattle.tf_states.specs.declared.record.Entry.{Entry}
 use Rattle.tf_states.specs.declared.record.Payload.{Payload}
 use Rattle.tf_states.specs.declared.record.What.{What}
@@ -12,58 +11,71 @@ use Rattle.tf_states.specs.declared.state.AtomState.{AtomState}
 use Rattle.tf_states.specs.declared.state.AtomState.TheVariants as atom
 use Rattle.tf_states.specs.declared.state.FlowState.{FlowState}
 use Rattle.tf_states.specs.declared.state.FlowState.TheVariants as flow
+use Rattle.tf_model.specs.Candidates.{end_of, calm_end, candidate_if_running, is_done_at, is_at_rest}
+use Rattle.tf_model.specs.Forced.{is_unhurt, is_unhurt_at, forced_if_running}
+use Rattle.tf_model.specs.History.{snapshot, state_of}
+use Rattle.tf_model.specs.Numbers.{all_below}
+use Rattle.tf_model.specs.Plan.{Outline, count}
+use Rattle.tf_model.specs.Snapshot.{Snapshot, state_after}
+use Rattle.tf_model.specs.States.{is_revert_failure, flow_runs, flow_suspends}
+use Rattle.tf_facts.proofs.BelowLemmas.{all_of}
+use Rattle.taskflow.specs.Accepted.{plan_in, outline_in}
 use Rattle.taskflow.specs.BuiltIns.{HasOutcomes, IsGiven}
-use Rattle.taskflow.specs.Course.{Closes, said, cut, Ran, reported, report_cut, line_cut, stopped, BytesTried, exhausted, refused, ran, Tried, unfinished, unread, too_long, read, Course, unheard, no_command, obeyed, status_of, IsRefused, passes_limit, spells_none, IsAccepted, IsComplete}
-use Rattle.taskflow.specs.History.{snapshot, state_of, state_after, flow_of as flow_state}
-use Rattle.taskflow.specs.Numbers.{all_below, first_below}
-use Rattle.taskflow.specs.Outline.{Outline, outline_of, count}
-use Rattle.taskflow.specs.Rules.{end_of, is_running, is_unhurt, is_revert_failure, forced, is_done_at, is_at_rest, is_candidate}
+use Rattle.taskflow.specs.Course.{Closes, said, cut, ClosesOrStops, Ran, reported, report_cut, line_cut, stopped, BytesRead, exhausted, refused, done, FileRead, unfinished, unread, too_long, read, Tries, Checks, Obeys, Course, unheard, no_command, obeyed, status_of, IsRefused, passes_limit, gives_none, IsAccepted, IsComplete}
 use Rattle.taskflow.specs.Standing.{IsEnded}
-use Rattle.taskflow.specs.Words.{command_of}
+use Rattle.taskflow.specs.Words.{command_of, file_named}
+use Rattle.taskflow.specs.declared.accepting.Refusal.{Refusal}
+use Rattle.taskflow.specs.declared.words.Asked.{Asked}
 use Rattle.taskflow.specs.declared.words.Asked.TheVariants as asked
-use Rattle.taskflow.proofs.NumberLemmas.{all_below-true}
 
 -- ---- a run of built-ins never ends in FAILURE
 
-unhurt_state : (plan : Outline) (a : ℕ) (s : AtomState) (held : Payload) → IsGiven plan (what.Atom a s held) → is_revert_failure s ≡ false
-unhurt_state plan a atom.RevertFailure held given = absurd given
-unhurt_state plan a atom.Pending held given = refl
-unhurt_state plan a atom.Running held given = refl
-unhurt_state plan a atom.Success held given = refl
-unhurt_state plan a atom.Failure held given = refl
-unhurt_state plan a atom.Reverting held given = refl
-unhurt_state plan a atom.Reverted held given = refl
-unhurt_state plan a atom.Ignore held given = refl
-unhurt_state plan a atom.Retrying held given = refl
+unhurt_state : (plan : Outline) (past : List Entry) (a : ℕ) (s : AtomState) (held : Payload) → IsGiven plan past (what.Atom a s held) → is_revert_failure s ≡ false
+unhurt_state plan past a atom.RevertFailure held given = absurd given
+unhurt_state plan past a atom.Pending held given = refl
+unhurt_state plan past a atom.Running held given = refl
+unhurt_state plan past a atom.Success held given = refl
+unhurt_state plan past a atom.Failure held given = refl
+unhurt_state plan past a atom.Reverting held given = refl
+unhurt_state plan past a atom.Reverted held given = refl
+unhurt_state plan past a atom.Ignore held given = refl
+unhurt_state plan past a atom.Retrying held given = refl
 
 either_unhurt : (test : Bool) (s t : AtomState) → is_revert_failure s ≡ false → is_revert_failure t ≡ false → is_revert_failure (cond test s t) ≡ false
 either_unhurt true s t here there = here
 either_unhurt false s t here there = there
 
-unhurt_after : (plan : Outline) (event : What) (a : ℕ) (before : AtomState) → IsGiven plan event → is_revert_failure before ≡ false → is_revert_failure (state_after event a before) ≡ false
-unhurt_after plan (what.Atom b s held) a before given unhurt = either_unhurt (nat_eq b a) s before (unhurt_state plan b s held given) unhurt
-unhurt_after plan (what.Flow state) a before given unhurt = unhurt
-unhurt_after plan (what.Resolve named kind) a before given unhurt = unhurt
-unhurt_after plan (what.Restart b) a before given unhurt = unhurt
+unhurt_after : (plan : Outline) (past : List Entry) (event : What) (a : ℕ) (before : AtomState) → IsGiven plan past event → is_revert_failure before ≡ false → is_revert_failure (state_after event a before) ≡ false
+unhurt_after plan past (what.Atom b s held) a before given unhurt = either_unhurt (nat_eq b a) s before (unhurt_state plan past b s held given) unhurt
+unhurt_after plan past (what.Flow state) a before given unhurt = unhurt
+unhurt_after plan past (what.Resolve named kind) a before given unhurt = unhurt
+unhurt_after plan past (what.Restart b) a before given unhurt = unhurt
 
 unhurt : (plan : Outline) (past : List Entry) → HasOutcomes plan past → (a : ℕ) → is_revert_failure (state_of past a) ≡ false
 unhurt plan [] given a = refl
-unhurt plan (e ∷ past) given a = unhurt_after plan e.what a (state_of past a) given.0 (unhurt plan past given.1 a)
+unhurt plan (e ∷ past) given a = unhurt_after plan past e.what a (state_of past a) given.0 (unhurt plan past given.1 a)
 
-ends_tell : (runs calm done rests : Bool) (last : FlowState) → cond runs (cond calm (cond done (Some flow.Success) (cond rests (Some flow.Reverted) None)) None) None ≡ Some last → (last ≡ flow.Success) ⊎ (last ≡ flow.Reverted)
-ends_tell true true true rests last is = let same : flow.Success ≡ last = cc in inl (sym same)
-ends_tell true true false true last is = let same : flow.Reverted ≡ last = cc in inr (sym same)
-ends_tell true true false false last is = cc
-ends_tell true false done rests last is = cc
-ends_tell false calm done rests last is = cc
+all_unhurt : (plan : Outline) (past : List Entry) → HasOutcomes plan past → is_unhurt plan (snapshot plan past) ≡ true
+unfolding snapshot
+all_unhurt plan past given = all_of (count plan) (is_unhurt_at (snapshot plan past)) (λ k below. ap not (unhurt plan past given k))
+
+ends_tell : (begun whole calm every rests : Bool) (last : FlowState) → whole ≡ true
+    → (if begun then (if whole then (if calm then (if every then Some flow.Success else if rests then Some flow.Reverted else None) else None) else Some flow.Failure) else None) ≡ Some last
+    → (last ≡ flow.Success) ⊎ (last ≡ flow.Reverted)
+ends_tell true true true true rests last safe is = let same : flow.Success ≡ last = cc in inl (sym same)
+ends_tell true true true false true last safe is = let same : flow.Reverted ≡ last = cc in inr (sym same)
+ends_tell true true true false false last safe is = absurd (cc)
+ends_tell true true false every rests last safe is = absurd (cc)
+ends_tell true false calm every rests last safe is = absurd (cc)
+ends_tell false whole calm every rests last safe is = absurd (cc)
 
 -- a run ends in SUCCESS or REVERTED
-ends_well : (plan : Outline) (past : List Entry) (last : FlowState) → HasOutcomes plan past → end_of plan (snapshot past) ≡ Some last → (last ≡ flow.Success) ⊎ (last ≡ flow.Reverted)
-unfolding end_of
+ends_well : (plan : Outline) (past : List Entry) (last : FlowState) → HasOutcomes plan past → end_of plan (snapshot plan past) ≡ Some last → (last ≡ flow.Success) ⊎ (last ≡ flow.Reverted)
+unfolding end_of calm_end
 ends_well plan past last given end =
-    let all : all_below (count plan) (is_unhurt (snapshot past)) ≡ true = all_below-true (count plan) (is_unhurt (snapshot past)) (λ k below. rw (unhurt plan past given k)) in
-    ends_tell (is_running (flow_state past)) (is_none (forced plan (snapshot past))) (all_below (count plan) (is_done_at (snapshot past)))
-    (is_none (first_below (count plan) (is_candidate plan (snapshot past))) && all_below (count plan) (is_at_rest (snapshot past))) last (rw all at end)
+    let s : Snapshot = snapshot plan past in
+    ends_tell (flow_runs s.flow || flow_suspends s.flow) (is_unhurt plan s) (is_none (forced_if_running plan s)) (all_below (count plan) (is_done_at s))
+    (is_none (candidate_if_running plan s) && all_below (count plan) (is_at_rest s)) last (all_unhurt plan past given) end
 
 well : (last : FlowState) → (last ≡ flow.Success) ⊎ (last ≡ flow.Reverted) → (status_of last ≡ 0) ⊎ (status_of last ≡ 10)
 well last (inl is) = inl (rw is)
@@ -73,84 +85,109 @@ ended_well : (plan : Outline) (before : Option (List ℕ)) (past : List Entry) (
 ended_well plan before [] shown last ended = absurd ended.end
 ended_well plan before (e ∷ past) shown last ended = well last (ends_well plan past last ended.outcomes.1 ended.end)
 
--- the statuses of a run
-ran_status : (plan : Outline) (before after : Option (List ℕ)) (status : ℕ) → Ran plan before after status → (IsComplete status) ⊎ (status ≡ 7)
-ran_status plan before after status (reported past last shown ended text) = elim (ended_well plan before past shown last ended) [ inl is ↦ inl (inl is) | inr is ↦ inl (inr (inl is)) ]
-ran_status plan before after status (report_cut past last shown ended front) = inr refl
-ran_status plan before after status (line_cut past is) = inr refl
-ran_status plan before after status (stopped past last session outcomes text) = inl (inr (inr refl))
+-- ---- the statuses of what is done with a plan
 
--- ---- the statuses of a file to try
-
-data TriedStatus (files : Contents) (file : List ℕ) (status : ℕ) : Type 0 where
-  complete : IsComplete status → TriedStatus files file status
-  not_read : status ≡ 3 → TriedStatus files file status
-  not_short : status ≡ 4 → PassesLimit files file → TriedStatus files file status
-  not_plan : status ≡ 4 → (bytes : List ℕ) (reason : FileFault) → GivesBytes files file bytes → flow_of bytes ≡ Err reason → TriedStatus files file status
-  not_said : status ≡ 7 → TriedStatus files file status
+ran_status : (plan : Outline) (file : List ℕ) (before after : Option (List ℕ)) (status : ℕ) → Ran plan before after status → (IsComplete (asked.Try file) status) ⊎ (status ≡ 7)
+ran_status plan file before after status (reported past last shown ended text) = elim (ended_well plan before past shown last ended) [ inl is ↦ inl (inl is) | inr is ↦ inl (inr (inl is)) ]
+ran_status plan file before after status (report_cut past last shown ended front) = inr refl
+ran_status plan file before after status (line_cut past is) = inr refl
+ran_status plan file before after status (stopped past last session outcomes text) = inl (inr (inr refl))
 
 closes_status : (before after : Option (List ℕ)) (message : List ℕ) (wanted status : ℕ) → Closes before message wanted after status → (status ≡ wanted) ⊎ (status ≡ 7)
 closes_status before after message wanted status (said text) = inl refl
 closes_status before after message wanted status (cut front) = inr refl
 
-bytes_status : (files : Contents) (file bytes : List ℕ) (before after : Option (List ℕ)) (status : ℕ) → GivesBytes files file bytes → BytesTried bytes before after status → TriedStatus files file status
-bytes_status files file bytes before after status given (exhausted is same) = complete (inr (inr is))
-bytes_status files file bytes before after status given (refused reason none closes) = elim (closes_status before after _ 4 status closes) [ inl is ↦ not_plan is bytes reason given none | inr is ↦ not_said is ]
-bytes_status files file bytes before after status given (ran plan spelled run) = elim (ran_status (outline_of plan.root) before after status run) [ inl is ↦ complete is | inr is ↦ not_said is ]
+checked_status : (file message : List ℕ) (before after : Option (List ℕ)) (status : ℕ) → ClosesOrStops before message 0 after status → (IsComplete (asked.Check file) status) ⊎ (status ≡ 7)
+checked_status file message before after status (inl out) = inl (inr out.0)
+checked_status file message before after status (inr closes) = elim (closes_status before after message 0 status closes) [ inl is ↦ inl (inl is) | inr is ↦ inr is ]
 
-tried_status : (files : Contents) (file : List ℕ) (before after : Option (List ℕ)) (status : ℕ) → Tried files file before after status → TriedStatus files file status
-tried_status files file before after status (unfinished is same) = complete (inr (inr is))
-tried_status files file before after status (unread closes) = elim (closes_status before after _ 3 status closes) [ inl is ↦ not_read is | inr is ↦ not_said is ]
-tried_status files file before after status (too_long passes closes) = elim (closes_status before after _ 4 status closes) [ inl is ↦ not_short is passes | inr is ↦ not_said is ]
-tried_status files file before after status (read bytes given course) = bytes_status files file bytes before after status given course
+-- ---- the statuses of what the words ask for
 
-apart_from : (status wanted : ℕ) → IsComplete status → status ≡ wanted → wanted ≢ 0 → wanted ≢ 10 → wanted ≢ 9 → ⊥
-apart_from status wanted (inl a) is zero ten nine = zero (sym is ∙ a)
-apart_from status wanted (inr (inl a)) is zero ten nine = ten (sym is ∙ a)
-apart_from status wanted (inr (inr a)) is zero ten nine = nine (sym is ∙ a)
+data AskedStatus (command : Asked) (files : Contents) (status : ℕ) : Type 0 where
+  completed : IsComplete command status → AskedStatus command files status
+  not_read : status ≡ 3 → AskedStatus command files status
+  not_short : status ≡ 4 → PassesLimit files (file_named command) → AskedStatus command files status
+  not_plan : status ≡ 4 → (bytes : List ℕ) (why : Refusal) → GivesBytes files (file_named command) bytes → plan_in bytes ≡ Err why → AskedStatus command files status
+  not_said : status ≡ 7 → AskedStatus command files status
 
-not_usage : (files : Contents) (file : List ℕ) (status : ℕ) → TriedStatus files file status → status ≡ 2 → ⊥
-not_usage files file status (complete is) two = apart_from status 2 is two (λ e. omega arith) (λ e. omega arith) (λ e. omega arith)
-not_usage files file status (not_read is) two = omega arith
-not_usage files file status (not_short is passes) two = omega arith
-not_usage files file status (not_plan is bytes reason given none) two = omega arith
-not_usage files file status (not_said is) two = omega arith
+-- memory may run out at every command
+out_is_complete : (command : Asked) (status : ℕ) → status ≡ 9 → IsComplete command status
+out_is_complete (asked.Try file) status is = inr (inr is)
+out_is_complete (asked.Check file) status is = inr is
+
+-- what is done with a plan ends so, where it isn't cut
+abbrev EndsSo : Asked → (Outline → ℕ → Type 0) → Type 0
+EndsSo command does = (plan : Outline) (status : ℕ) → does plan status → (IsComplete command status) ⊎ (status ≡ 7)
+
+bytes_status : (command : Asked) (files : Contents) (bytes : List ℕ) (does : Outline → ℕ → Type 0) (before after : Option (List ℕ)) (status : ℕ) → EndsSo command does
+    → GivesBytes files (file_named command) bytes → BytesRead bytes does before after status → AskedStatus command files status
+bytes_status command files bytes does before after status ends given (exhausted is same) = completed (out_is_complete command status is)
+bytes_status command files bytes does before after status ends given (refused why none closes) = elim (closes_status before after _ 4 status closes) [ inl is ↦ not_plan is bytes why given none | inr is ↦ not_said is ]
+bytes_status command files bytes does before after status ends given (done plan gives did) = elim (ends (outline_in plan) status did) [ inl is ↦ completed is | inr is ↦ not_said is ]
+
+file_status : (command : Asked) (files : Contents) (does : Outline → ℕ → Type 0) (before after : Option (List ℕ)) (status : ℕ) → EndsSo command does
+    → FileRead files (file_named command) does before after status → AskedStatus command files status
+file_status command files does before after status ends (unfinished is same) = completed (out_is_complete command status is)
+file_status command files does before after status ends (unread closes) = elim (closes_status before after _ 3 status closes) [ inl is ↦ not_read is | inr is ↦ not_said is ]
+file_status command files does before after status ends (too_long passes closes) = elim (closes_status before after _ 4 status closes) [ inl is ↦ not_short is passes | inr is ↦ not_said is ]
+file_status command files does before after status ends (read bytes given course) = bytes_status command files bytes does before after status ends given course
+
+asked_status : (command : Asked) (files : Contents) (before after : Option (List ℕ)) (status : ℕ) → Obeys command files before after status → AskedStatus command files status
+asked_status (asked.Try file) files before after status obeys = file_status (asked.Try file) files (Tries before after) before after status (λ plan ended ran. ran_status plan file before after ended ran) obeys
+asked_status (asked.Check file) files before after status obeys = file_status (asked.Check file) files (Checks before after) before after status (λ plan ended closes. checked_status file _ before after ended closes) obeys
+
+-- a status with which nothing ends that is complete
+apart_from : (command : Asked) (status wanted : ℕ) → IsComplete command status → status ≡ wanted → wanted ≢ 0 → wanted ≢ 10 → wanted ≢ 9 → ⊥
+apart_from (asked.Try file) status wanted (inl a) is zero ten nine = zero (sym is ∙ a)
+apart_from (asked.Try file) status wanted (inr (inl a)) is zero ten nine = ten (sym is ∙ a)
+apart_from (asked.Try file) status wanted (inr (inr a)) is zero ten nine = nine (sym is ∙ a)
+apart_from (asked.Check file) status wanted (inl a) is zero ten nine = zero (sym is ∙ a)
+apart_from (asked.Check file) status wanted (inr a) is zero ten nine = nine (sym is ∙ a)
+
+-- ---- what a status tells
+
+not_usage : (command : Asked) (files : Contents) (status : ℕ) → AskedStatus command files status → status ≡ 2 → ⊥
+not_usage command files status (completed is) two = apart_from command status 2 is two (λ e. omega arith) (λ e. omega arith) (λ e. omega arith)
+not_usage command files status (not_read is) two = omega arith
+not_usage command files status (not_short is passes) two = omega arith
+not_usage command files status (not_plan is bytes why given none) two = omega arith
+not_usage command files status (not_said is) two = omega arith
 
 -- status 2 comes only where the words are no command
 pub usage_tells : (words : List (List ℕ)) (files : Contents) (before after : Option (List ℕ)) (status : ℕ) → Course words files before after status → status ≡ 2 → command_of words ≡ None
 usage_tells words files before after status (unheard is same) two = absurd (omega arith)
 usage_tells words files before after status (no_command none closes) two = none
-usage_tells words files before after status (obeyed (asked.Try file) command course) two = absurd (not_usage files file status (tried_status files file before after status course) two)
+usage_tells words files before after status (obeyed command asks course) two = absurd (not_usage command files status (asked_status command files before after status course) two)
 
-refusal_tells : (words : List (List ℕ)) (files : Contents) (file : List ℕ) (status : ℕ) → command_of words ≡ Some (asked.Try file) → TriedStatus files file status → status ≡ 4 → IsRefused words files
-refusal_tells words files file status command (complete is) four = absurd (apart_from status 4 is four (λ e. omega arith) (λ e. omega arith) (λ e. omega arith))
-refusal_tells words files file status command (not_read is) four = absurd (omega arith)
-refusal_tells words files file status command (not_short is passes) four = passes_limit file command passes
-refusal_tells words files file status command (not_plan is bytes reason given none) four = spells_none file bytes reason command given none
-refusal_tells words files file status command (not_said is) four = absurd (omega arith)
+refusal_tells : (words : List (List ℕ)) (files : Contents) (command : Asked) (status : ℕ) → command_of words ≡ Some command → AskedStatus command files status → status ≡ 4 → IsRefused words files
+refusal_tells words files command status asks (completed is) four = absurd (apart_from command status 4 is four (λ e. omega arith) (λ e. omega arith) (λ e. omega arith))
+refusal_tells words files command status asks (not_read is) four = absurd (omega arith)
+refusal_tells words files command status asks (not_short is passes) four = passes_limit command asks passes
+refusal_tells words files command status asks (not_plan is bytes why given none) four = gives_none command bytes why asks given none
+refusal_tells words files command status asks (not_said is) four = absurd (omega arith)
 
 -- status 4 comes only where the file is refused
 pub refused_tells : (words : List (List ℕ)) (files : Contents) (before after : Option (List ℕ)) (status : ℕ) → Course words files before after status → status ≡ 4 → IsRefused words files
 refused_tells words files before after status (unheard is same) four = absurd (omega arith)
 refused_tells words files before after status (no_command none closes) four = elim (closes_status before after _ 2 status closes) [ inl is ↦ absurd (omega arith) | inr is ↦ absurd (omega arith) ]
-refused_tells words files before after status (obeyed (asked.Try file) command course) four = refusal_tells words files file status command (tried_status files file before after status course) four
+refused_tells words files before after status (obeyed command asks course) four = refusal_tells words files command status asks (asked_status command files before after status course) four
 
-accepted_completes : (words : List (List ℕ)) (told : List ℕ → Option (List ℕ)) (file bytes : List ℕ) (plan : PlanTree) (status : ℕ) → told file ≡ Some bytes → length bytes ≤ 262144 → flow_of bytes ≡ Ok plan
-    → ¬ (status ≡ 3) → ¬ (status ≡ 7) → TriedStatus (Some told) file status → IsComplete status
-accepted_completes words told file bytes plan status under short spelled readable sayable (complete is) = is
-accepted_completes words told file bytes plan status under short spelled readable sayable (not_read is) = absurd (readable is)
-accepted_completes words told file bytes plan status under short spelled readable sayable (not_short is passes) =
+accepted_completes : (told : List ℕ → Option (List ℕ)) (command : Asked) (bytes : List ℕ) (plan : PlanTree) (status : ℕ) → told (file_named command) ≡ Some bytes → length bytes ≤ 262144 → plan_in bytes ≡ Ok plan
+    → ¬ (status ≡ 3) → ¬ (status ≡ 7) → AskedStatus command (Some told) status → IsComplete command status
+accepted_completes told command bytes plan status under short gives readable sayable (completed is) = is
+accepted_completes told command bytes plan status under short gives readable sayable (not_read is) = absurd (readable is)
+accepted_completes told command bytes plan status under short gives readable sayable (not_short is passes) =
     let same : passes.0 ≡ bytes = cc (passes.1) in absurd (omega (arith, passes.2, ap length same))
-accepted_completes words told file bytes plan status under short spelled readable sayable (not_plan is other reason given none) =
-    let same : other ≡ bytes = cc in let twice : flow_of bytes ≡ Err reason = ap flow_of (sym same) ∙ none in cc
-accepted_completes words told file bytes plan status under short spelled readable sayable (not_said is) = absurd (sayable is)
+accepted_completes told command bytes plan status under short gives readable sayable (not_plan is other why given none) =
+    let same : other ≡ bytes = cc in let twice : plan_in bytes ≡ Err why = ap plan_in (sym same) ∙ none in absurd (cc)
+accepted_completes told command bytes plan status under short gives readable sayable (not_said is) = absurd (sayable is)
 
--- an accepted file without faults is run to its end
-pub completes : (words : List (List ℕ)) (files : Contents) (before after : Option (List ℕ)) (status : ℕ) → Course words files before after status → IsAccepted words files → ¬ (status ≡ 3) → ¬ (status ≡ 7) → IsComplete status
-completes words files before after status (unheard is same) accepted readable sayable = inr (inr is)
-completes words files before after status (no_command none closes) accepted readable sayable = let command = accepted.command in cc
-completes words files before after status (obeyed (asked.Try file) command course) accepted readable sayable =
-    let wanted = accepted.command in
-    let same : file ≡ accepted.file = cc in
-    let under : accepted.told file ≡ Some accepted.bytes = rw same accepted.under in
-    accepted_completes words accepted.told file accepted.bytes accepted.plan status under accepted.short accepted.spelled readable sayable (rw accepted.sources at (tried_status files file before after status course))
+-- where a file that was accepted met no fault, what was asked for was done
+pub completes : (words : List (List ℕ)) (files : Contents) (before after : Option (List ℕ)) (status : ℕ) → Course words files before after status → (accepted : IsAccepted words files) → ¬ (status ≡ 3) → ¬ (status ≡ 7) → IsComplete accepted.command status
+completes words files before after status (unheard is same) accepted readable sayable = out_is_complete accepted.command status is
+completes words files before after status (no_command none closes) accepted readable sayable = let asks = accepted.asks in absurd (cc)
+completes words files before after status (obeyed command asks course) accepted readable sayable =
+    let wanted = accepted.asks in
+    let same : command ≡ accepted.command = cc in
+    accepted_completes accepted.told accepted.command accepted.bytes accepted.plan status accepted.under accepted.short accepted.given readable sayable
+    (asked_status accepted.command (Some accepted.told) before after status (rw (same, accepted.sources) at course))

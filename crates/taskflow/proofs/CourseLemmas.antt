@@ -1,48 +1,88 @@
 -- The way that a command went, put together from its parts.
-use Rattle.std.proofs.Common.{◌≡◌, ℕ, List, Option, Some, None, false, inl, inr, ◌∙◌}
-use Rattle.std.specs.Prelude.{Result, Err}
-use Rattle.tf_files.specs.FlowFile.{PlanTree, flow_of, Refuses, is_memory}
-use Rattle.tf_files.specs.declared.reading.FileFault.{FileFault}
-use Rattle.tf_files.specs.declared.reading.FileFault.TheVariants as file_fault
-use Rattle.tf_states.specs.declared.record.Entry.{Entry}
+use Rattle.std.proofs.Common.{◌≡◌, ℕ, List, Option, Some, None, true, false, refl, sym, inl, inr, ◌∙◌, subst}
+use Rattle.std.specs.Prelude.{Result, Ok, Err, IfErr}
+use Rattle.tf_files.specs.FlowFile.{plan_tree}
+use Rattle.tf_ports.specs.Contents.{Contents, GivesBytes}
 use Rattle.tf_states.specs.declared.state.FlowState.{FlowState}
-use Rattle.taskflow.specs.Outline.{Outline}
-use Rattle.taskflow.specs.Lines.{report, refusal, file_fault_text}
-use Rattle.taskflow.specs.Standing.{IsEnded, IsStopped}
-use Rattle.taskflow.specs.Course.{Closes, said, cut, ClosesOrStops, Ran, reported, report_cut, stopped, BytesTried, exhausted, refused, status_of, Tried, Obeys}
-use Rattle.tf_ports.specs.Contents.{Contents}
-use Rattle.taskflow.specs.Words.{file_named}
+use Rattle.tf_model.specs.Plan.{Outline}
+use Rattle.tf_machine.specs.Machine.{MachineValue, outline}
+use Rattle.taskflow.specs.Accepted.{plan_in, is_memory, IsRefusal}
+use Rattle.taskflow.specs.Lines.{report, refusal, refusal_text}
+use Rattle.taskflow.specs.Standing.{HasEnded, HasHalted}
+use Rattle.taskflow.specs.Course.{Closes, said, cut, ClosesOrStops, Ran, reported, report_cut, line_cut, stopped, BytesRead, exhausted, refused, done, FileRead, unfinished, unread, too_long, read, Undone, Opened, Tries, Checks, Obeys, status_of}
+use Rattle.taskflow.specs.declared.accepting.Refusal.{Refusal}
+use Rattle.taskflow.specs.declared.accepting.Refusal.TheVariants as reason
+use Rattle.taskflow.specs.declared.log.Halt.TheVariants as halt
 use Rattle.taskflow.specs.declared.words.Asked.{Asked}
 use Rattle.taskflow.specs.declared.words.Asked.TheVariants as asked
 
-closed_run : (plan : Outline) (before mid after : Option (List ℕ)) (past : List Entry) (last : FlowState) (status : ℕ) → IsEnded plan before past mid last
+-- ---- a run
+
+closed_run : (plan : Outline) (before mid after : Option (List ℕ)) (status : ℕ) (last : FlowState) (ended : HasEnded plan before mid last)
     → Closes mid (report plan last) (status_of last) after status → Ran plan before after status
-closed_run plan before mid after past last status ended (said text) = reported past last mid ended text
-closed_run plan before mid after past last status ended (cut front) = report_cut past last mid ended front
+closed_run plan before mid after status last ended (said text) = reported ended.past last mid ended.ended text
+closed_run plan before mid after status last ended (cut front) = report_cut ended.past last mid ended.ended front
 
 -- a run that ended, and what became of its report
-pub ended_run : (plan : Outline) (before mid after : Option (List ℕ)) (past : List Entry) (last : FlowState) (status : ℕ) → IsEnded plan before past mid last
+pub ended_run : (plan : Outline) (before mid after : Option (List ℕ)) (status : ℕ) (last : FlowState) → HasEnded plan before mid last
     → ClosesOrStops mid (report plan last) (status_of last) after status → Ran plan before after status
-ended_run plan before mid after past last status ended (inl out) = rw out.0 (stopped past (Some last) ended.session ended.outcomes (out.1 ∙ ended.text))
-ended_run plan before mid after past last status ended (inr closes) = closed_run plan before mid after past last status ended closes
+ended_run plan before mid after status last ended (inl out) = rw out.0 (stopped ended.past (Some last) ended.ended.session ended.ended.outcomes (out.1 ∙ ended.ended.text))
+ended_run plan before mid after status last ended (inr closes) = closed_run plan before mid after status last ended closes
 
--- a run that was halted between two entries
-pub stopped_run : (plan : Outline) (before after : Option (List ℕ)) (past : List Entry) → IsStopped plan before past after → Ran plan before after 9
-stopped_run plan before after past is = stopped past None is.session is.outcomes is.text
+-- a run whose output failed
+pub cut_run : (plan : Outline) (before after : Option (List ℕ)) → HasHalted plan before after halt.Out → Ran plan before after 7
+cut_run plan before after has = line_cut has.past has.halted
 
--- a fault that is not want of memory is the reason
-reason_is : (spelled : Result PlanTree FileFault) (reason : FileFault) → Refuses spelled reason → is_memory reason ≡ false → spelled ≡ Err reason
-reason_is spelled file_fault.Memory refuses other = cc
-reason_is spelled file_fault.NotBuilt refuses other = refuses
-reason_is spelled file_fault.NotToml refuses other = refuses
-reason_is spelled (file_fault.Plan fault) refuses other = refuses
+-- a run in which memory ran out
+pub stopped_run : (plan : Outline) (before after : Option (List ℕ)) → HasHalted plan before after halt.Memory → Ran plan before after 9
+stopped_run plan before after has = stopped has.past None has.halted.session has.halted.outcomes has.halted.text
 
--- bytes that are refused, and what became of the message
-pub refused_bytes : (bytes : List ℕ) (reason : FileFault) (before after : Option (List ℕ)) (status : ℕ) → Refuses (flow_of bytes) reason → is_memory reason ≡ false
-    → ClosesOrStops before (refusal (file_fault_text reason)) 4 after status → BytesTried bytes before after status
-refused_bytes bytes reason before after status refuses other (inl out) = exhausted out.0 out.1
-refused_bytes bytes reason before after status refuses other (inr closes) = refused reason (reason_is (flow_of bytes) reason refuses other) closes
+-- ---- a file that is refused
 
--- to obey is to try the file that is asked for
-pub obeyed_try : (command : Asked) (files : Contents) (before after : Option (List ℕ)) (status : ℕ) → Tried files (file_named command) before after status → Obeys command files before after status
-obeyed_try (asked.Try file) files before after status course = course
+refused_by : (bytes : List ℕ) (why : Refusal) (before after : Option (List ℕ)) (status : ℕ) → plan_in bytes ≡ Err why
+    → ClosesOrStops before (refusal (refusal_text why)) 4 after status → BytesRead bytes Undone before after status
+refused_by bytes why before after status none (inl out) = exhausted out.0 out.1
+refused_by bytes why before after status none (inr closes) = refused why none closes
+
+-- bytes that give no plan, and what became of the message
+pub refused_bytes : (bytes : List ℕ) (why : Refusal) (before after : Option (List ℕ)) (status : ℕ) → IsRefusal (plan_in bytes) why
+    → (is_memory why ≡ true → (status ≡ 9) × (after ≡ before)) → (is_memory why ≡ false → ClosesOrStops before (refusal (refusal_text why)) 4 after status)
+    → BytesRead bytes Undone before after status
+refused_bytes bytes reason.Memory before after status none out closes = exhausted (out refl).0 (out refl).1
+refused_bytes bytes (reason.File fault) before after status none out closes = refused_by bytes (reason.File fault) before after status none (closes refl)
+refused_bytes bytes (reason.Compile fault) before after status none out closes = refused_by bytes (reason.Compile fault) before after status none (closes refl)
+refused_bytes bytes reason.NotBuilt before after status none out closes = refused_by bytes reason.NotBuilt before after status none (closes refl)
+
+-- the bytes of a file that give no plan
+pub closed_file : {T : Type 0} (came : Result T ℕ) (files : Contents) (file bytes : List ℕ) (before after : Option (List ℕ)) → GivesBytes files file bytes
+    → IfErr came (BytesRead bytes Undone before after) → IfErr came (FileRead files file Undone before after)
+closed_file (Ok made) files file bytes before after given closed = tt
+closed_file (Err status) files file bytes before after given closed = read bytes given closed
+
+-- ---- a file
+
+undone_bytes : (bytes : List ℕ) (does : Outline → ℕ → Type 0) (before after : Option (List ℕ)) (status : ℕ) → BytesRead bytes Undone before after status → BytesRead bytes does before after status
+undone_bytes bytes does before after status (exhausted is same) = exhausted is same
+undone_bytes bytes does before after status (refused why none closes) = refused why none closes
+undone_bytes bytes does before after status (done plan given undone) = absurd undone
+
+-- with a plan that isn't there all the same is done
+pub undone_file : (files : Contents) (file : List ℕ) (does : Outline → ℕ → Type 0) (before after : Option (List ℕ)) (status : ℕ) → FileRead files file Undone before after status → FileRead files file does before after status
+undone_file files file does before after status (unfinished is same) = unfinished is same
+undone_file files file does before after status (unread closes) = unread closes
+undone_file files file does before after status (too_long passes closes) = too_long passes closes
+undone_file files file does before after status (read bytes given closed) = read bytes given (undone_bytes bytes does before after status closed)
+
+-- the plan of a machine is dealt with
+pub done_file : (files : Contents) (file : List ℕ) (m : MachineValue) (does : Outline → ℕ → Type 0) (before after : Option (List ℕ)) (status : ℕ) → Opened files file m → does (outline m) status → FileRead files file does before after status
+done_file files file m does before after status opened did = read opened.bytes opened.given (done (plan_tree m.plan) opened.plan did)
+
+-- ---- what the words ask for
+
+-- to try a file
+pub obeys_try : (command : Asked) (files : Contents) (file : List ℕ) (before after : Option (List ℕ)) (status : ℕ) → command ≡ asked.Try file → FileRead files file (Tries before after) before after status → Obeys command files before after status
+obeys_try command files file before after status is tried = subst (λ (command : Asked). Obeys command files before after status) (sym is) tried
+
+-- to check one
+pub obeys_check : (command : Asked) (files : Contents) (file : List ℕ) (before after : Option (List ℕ)) (status : ℕ) → command ≡ asked.Check file → FileRead files file (Checks before after) before after status → Obeys command files before after status
+obeys_check command files file before after status is came = subst (λ (command : Asked). Obeys command files before after status) (sym is) came

@@ -1,7 +1,8 @@
-pub mod NumberLemmas
-pub mod SituationLemmas
-pub mod StepLemmas
+pub mod TaskLemmas
+pub mod ConstantLemmas
+pub mod LineLemmas
+pub mod AcceptLemmas
 pub mod StandingLemmas
+pub mod EngineLemmas
 pub mod CourseLemmas
-pub mod OutlineLemmas
 pub mod CauseLemmas

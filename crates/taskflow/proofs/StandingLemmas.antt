@@ -1,20 +1,25 @@
 -- How a run stands after one more entry.
-use Rattle.std.proofs.Common.{◌≡◌, ℕ, ◌+◌, ◌<◌, List, [], ◌∷◌, ◌++◌, length, Option, Some, None, true, false, refl, ap, ◌∙◌, append_assoc, append-nil, sym}
-use Rattle.std.specs.Prelude.{Result, Ok, Err, IfErr, OnOk}
+use Rattle.std.proofs.Common.{◌≡◌, ℕ, ◌+◌, ◌<◌, List, [], ◌∷◌, ◌++◌, length, Option, Some, None, Bool, true, false, ◌&&◌, refl, ap, ◌∙◌, append_assoc, append-nil, sym, subst, arith}
+use Rattle.std.specs.Prelude.{Result, Ok, Err, IfErr, IfOk, OnOk, option_map}
+use Rattle.std.specs.List.{list_all}
 use Rattle.tf_desk.specs.Shown.{shown_with, ShowsFront}
 use Rattle.tf_states.specs.declared.record.Entry.{Entry}
+use Rattle.tf_states.specs.declared.record.What.{What}
 use Rattle.tf_states.specs.declared.record.What.TheVariants as what
 use Rattle.tf_states.specs.declared.state.FlowState.{FlowState}
 use Rattle.tf_states.specs.declared.state.FlowState.TheVariants as flow
-use Rattle.taskflow.specs.Outline.{Outline, count}
-use Rattle.taskflow.specs.History.{snapshot, state_of}
-use Rattle.taskflow.specs.Rules.{end_of, is_settled}
-use Rattle.taskflow.specs.Steps.{Step, closed_step, begun_step, is_still}
-use Rattle.taskflow.specs.Sessions.{unbegun, halted, whole, has_entered, is_of_flow, is_final}
+use Rattle.tf_facts.specs.Facts.{CompletedReversion}
+use Rattle.tf_model.specs.Candidates.{end_of}
+use Rattle.tf_model.specs.History.{snapshot}
+use Rattle.tf_flow.specs.Plan.{PlanValue}
+use Rattle.tf_model.specs.Plan.{Outline, outline_of}
+use Rattle.tf_model.specs.Sessions.{Session, entered, halted, whole, flow_entry, is_inner, is_inner_entry, is_last}
+use Rattle.tf_model.specs.Steps.{Step, LegalPast, is_still}
+use Rattle.tf_machine.specs.Machine.{MachineValue, outline, shown, StandsFor, HasHistory}
 use Rattle.taskflow.specs.BuiltIns.{IsGiven}
-use Rattle.taskflow.specs.Hands.{by_hand}
+use Rattle.taskflow.specs.Going.{by_hand, is_within, Goes, GoesSomewhere}
 use Rattle.taskflow.specs.Lines.{line, lines}
-use Rattle.taskflow.specs.Standing.{GoesOn, IsCut, IsStopped, IsEnded, IsHalted}
+use Rattle.taskflow.specs.Standing.{begun, GoesOn, IsCut, IsStopped, IsEnded, IsHalted, HasHalted, HasEnded, EndsBy}
 use Rattle.taskflow.specs.declared.log.Halt.{Halt}
 use Rattle.taskflow.specs.declared.log.Halt.TheVariants as halt
 
@@ -28,115 +33,188 @@ pub shown_with-nothing : (before : Option (List ℕ)) → shown_with before [] �
 shown_with-nothing None = refl
 shown_with-nothing (Some text) = ap Some (append-nil text)
 
--- one more entry that is not of the flow
-entered_more : (e : Entry) (past : List Entry) → has_entered past ≡ true → is_of_flow e.what ≡ false → has_entered (e ∷ past) ≡ true
-entered_more e [] entered inner = cc
-entered_more e (f ∷ past) entered inner = rw inner entered
+-- one more line is shown
+one_more : (plan : Outline) (before : Option (List ℕ)) (past : List Entry) (text after : Option (List ℕ)) (e : Entry) → text ≡ shown_with before (lines plan past)
+    → after ≡ shown_with text (line plan (length past + 1) e) → after ≡ shown_with before (lines plan (e ∷ past))
+one_more plan before past text after e is said =
+    said ∙ ap (λ (t : Option (List ℕ)). shown_with t (line plan (length past + 1) e)) is ∙ shown_with-twice before (lines plan past) (line plan (length past + 1) e)
 
--- the run goes on with one more entry, whose line was said
-pub goes_further : (plan : Outline) (before : Option (List ℕ)) (past : List Entry) (shown after : Option (List ℕ)) (e : Entry) → GoesOn plan before past shown → Step plan (snapshot past) e → is_of_flow e.what ≡ false → IsGiven plan e.what
-    → after ≡ shown_with shown (line plan (length past + 1) e) → GoesOn plan before (e ∷ past) after
-goes_further plan before past shown after e on step inner given said = record {
+-- what isn't of the flow is inner
+within_inner : (w : What) → is_within w ≡ true → is_inner w ≡ true
+within_inner (what.Flow state) is = absurd (cc)
+within_inner (what.Atom a state held) is = refl
+within_inner (what.Resolve named resolved) is = refl
+within_inner (what.Restart again) is = refl
+
+both : (a b : Bool) → a ≡ true → b ≡ true → (a && b) ≡ true
+both true b is other = other
+both false b is other = absurd (cc)
+
+-- ---- one more entry inside a run
+
+further : (plan : Outline) (number : ℕ) (before text after : Option (List ℕ)) (e : Entry) (inner : List Entry) → GoesOn plan before inner text → Step plan (snapshot plan (begun inner)) e → is_within e.what ≡ true
+    → IsGiven plan (begun inner) e.what → number ≡ length (begun inner) → after ≡ shown_with text (line plan (number + 1) e) → GoesOn plan before (e ∷ inner) after
+further plan number before text after e inner on step within given counted said = record {
   legal = (step, on.legal);
-  entered = entered_more e past on.entered inner;
+  inside = both (is_inner e.what) (list_all is_inner_entry inner) (within_inner e.what within) on.inside;
   outcomes = (given, on.outcomes);
-  text = said ∙ ap (λ (text : Option (List ℕ)). shown_with text (line plan (length past + 1) e)) on.text ∙ shown_with-twice before (lines plan past) (line plan (length past + 1) e);
+  text = one_more plan before (begun inner) text after e on.text (rw counted at said);
 }
 
--- the run is halted as it says the line of one more entry
-pub cut_there : (plan : Outline) (before : Option (List ℕ)) (past : List Entry) (shown after : Option (List ℕ)) (e : Entry) → GoesOn plan before past shown → Step plan (snapshot past) e → is_of_flow e.what ≡ false → IsGiven plan e.what
-    → ShowsFront shown (line plan (length past + 1) e) after → IsCut plan before (e ∷ past) after
-cut_there plan before past shown after e on step inner given front = record {
+longer : (number : ℕ) (e : Entry) (past : List Entry) → number ≡ length past → number + 1 ≡ length (e ∷ past)
+longer number e past is = omega (arith, is)
+
+-- what a machine stands for after one more entry, and what is shown
+pub goes_further : (m n : MachineValue) (number : ℕ) (before text after : Option (List ℕ)) (e : Entry) (inner : List Entry) → n.plan ≡ m.plan → Goes m number before inner text
+    → Step (outline m) (shown m) e → is_within e.what ≡ true → IsGiven (outline m) (begun inner) e.what → ((past : List Entry) → StandsFor m past → StandsFor n (e ∷ past))
+    → after ≡ shown_with text (line (outline m) (number + 1) e) → Goes n (number + 1) before (e ∷ inner) after
+goes_further m n number before text after e inner plan goes step within given stands said = record {
+  stands = stands (begun inner) goes.stands;
+  on = subst (λ (p : PlanValue). GoesOn (outline_of p) before (e ∷ inner) after) (sym plan)
+      (further (outline m) number before text after e inner goes.on (rw goes.stands.shows at step) within given goes.counted said);
+  counted = longer number e (begun inner) goes.counted;
+}
+
+-- a run is halted as it says the line of one more entry
+cut_there : (plan : Outline) (before text after : Option (List ℕ)) (number : ℕ) (e : Entry) (inner : List Entry) → GoesOn plan before inner text → Step plan (snapshot plan (begun inner)) e → is_within e.what ≡ true
+    → IsGiven plan (begun inner) e.what → number ≡ length (begun inner) → ShowsFront text (line plan (number + 1) e) after → IsCut plan before (e ∷ begun inner) after
+cut_there plan before text after number e inner on step within given counted front = record {
   last = None;
-  session = halted (e ∷ past) (step, on.legal) (entered_more e past on.entered inner);
+  session = halted (e ∷ inner) refl (both (is_inner e.what) (list_all is_inner_entry inner) (within_inner e.what within) on.inside) (step, on.legal);
   outcomes = (given, on.outcomes);
-  text = rw (← on.text) front;
+  text = rw (← on.text, ← counted) front;
 }
 
--- the run is halted where it is
-pub stops_here : (plan : Outline) (before : Option (List ℕ)) (past : List Entry) (shown after : Option (List ℕ)) → GoesOn plan before past shown → after ≡ shown → IsStopped plan before past after
-stops_here plan before past shown after on same = record {
-  session = halted past on.legal on.entered;
+-- a run is halted where it is
+stops_here : (plan : Outline) (before text after : Option (List ℕ)) (inner : List Entry) → GoesOn plan before inner text → after ≡ text → IsStopped plan before (begun inner) after
+stops_here plan before text after inner on same = record {
+  session = halted inner refl on.inside on.legal;
   outcomes = on.outcomes;
   text = same ∙ on.text;
 }
 
--- the last entry of a run may follow
-end_step : (plan : Outline) (past : List Entry) (last : FlowState) → end_of plan (snapshot past) ≡ Some last → is_still plan (snapshot past) ≡ true → Step plan (snapshot past) (by_hand (what.Flow last))
-end_step plan past last end still = closed_step (rw end) still
+-- a run that goes on somewhere is halted there
+pub stops_somewhere : (m : MachineValue) (number : ℕ) (before text after : Option (List ℕ)) → GoesSomewhere m number before text → after ≡ text → HasHalted (outline m) before after halt.Memory
+stops_somewhere m number before text after goes same = record { past = begun goes.inner; halted = stops_here (outline m) before text after goes.inner goes.goes.on same }
 
--- the run ends with its last entry, whose line was said
-pub ends_there : (plan : Outline) (before : Option (List ℕ)) (past : List Entry) (shown after : Option (List ℕ)) (last : FlowState) → GoesOn plan before past shown → end_of plan (snapshot past) ≡ Some last → is_still plan (snapshot past) ≡ true → is_final last ≡ true
-    → (last ≡ flow.Reverted → (a : ℕ) → a < count plan → is_settled (state_of past a) ≡ true) → after ≡ shown_with shown (line plan (length past + 1) (by_hand (what.Flow last))) → IsEnded plan before (by_hand (what.Flow last) ∷ past) after last
-ends_there plan before past shown after last on end still final undone said = record {
-  session = whole 0 last past final on.entered (end_step plan past last end still, on.legal);
+pub stops_at : (m : MachineValue) (number : ℕ) (before text after : Option (List ℕ)) (inner : List Entry) → Goes m number before inner text → after ≡ text → HasHalted (outline m) before after halt.Memory
+stops_at m number before text after inner goes same = record { past = begun inner; halted = stops_here (outline m) before text after inner goes.on same }
+
+-- what a recording tells that failed: the line was cut, or nothing was shown
+pub record Failing (plan : Outline) (number : ℕ) (e : Entry) (text after : Option (List ℕ)) {A : Type 0} (r : Result A Halt) : Type 0 where
+  pub out : r ≡ Err halt.Out → ShowsFront text (line plan (number + 1) e) after
+  pub memory : r ≡ Err halt.Memory → after ≡ text
+
+pub note_halts : {A : Type 0} (m : MachineValue) (number : ℕ) (before text after : Option (List ℕ)) (e : Entry) (inner : List Entry) (r : Result A Halt) → Failing (outline m) number e text after r
+    → Goes m number before inner text → Step (outline m) (shown m) e → is_within e.what ≡ true → IsGiven (outline m) (begun inner) e.what → IfErr r (HasHalted (outline m) before after)
+note_halts m number before text after e inner (Ok x) fails goes step within given = tt
+note_halts m number before text after e inner (Err halt.Out) fails goes step within given = record {
+  past = e ∷ begun inner;
+  halted = cut_there (outline m) before text after number e inner goes.on (rw goes.stands.shows at step) within given goes.counted (fails.out refl);
+}
+note_halts m number before text after e inner (Err halt.Memory) fails goes step within given = stops_at m number before text after inner goes (fails.memory refl)
+
+-- ---- the beginning
+
+pub begins : (m n : MachineValue) (before after : Option (List ℕ)) → n.plan ≡ m.plan → StandsFor m [] → Step (outline m) (shown m) (flow_entry flow.Running) → ((past : List Entry) → StandsFor m past → StandsFor n (flow_entry flow.Running ∷ past))
+    → after ≡ shown_with before (line (outline m) 1 (flow_entry flow.Running)) → GoesSomewhere n 1 before after
+begins m n before after plan empty step stands said = record {
+  inner = [];
+  goes = record {
+    stands = stands [] empty;
+    on = subst (λ (p : PlanValue). GoesOn (outline_of p) before [] after) (sym plan)
+        (record { legal = (rw empty.shows at step, tt); inside = refl; outcomes = (tt, tt); text = said });
+    counted = refl;
+  };
+}
+
+pub begin_halts : {A : Type 0} (m : MachineValue) (number : ℕ) (before after : Option (List ℕ)) (e : Entry) (r : Result A Halt) → number ≡ 0 → e ≡ flow_entry flow.Running → Failing (outline m) number e before after r
+    → StandsFor m [] → Step (outline m) (shown m) e → IfErr r (HasHalted (outline m) before after)
+begin_halts m number before after e (Ok x) zero is fails empty step = tt
+begin_halts m number before after e (Err halt.Out) zero is fails empty step = record {
+  past = flow_entry flow.Running ∷ [];
+  halted = record {
+    last = None;
+    session = halted [] refl refl (rw (empty.shows, is) at step, tt);
+    outcomes = (tt, tt);
+    text = rw (shown_with-nothing before) (rw (zero, is) at (fails.out refl));
+  };
+}
+begin_halts m number before after e (Err halt.Memory) zero is fails empty step = record {
+  past = [];
+  halted = record { session = entered [] (flow_entry flow.Running ∷ []) refl tt; outcomes = tt; text = fails.memory refl ∙ sym (shown_with-nothing before) };
+}
+
+-- ---- the end
+
+ends_there : (plan : Outline) (before text after : Option (List ℕ)) (number : ℕ) (last : FlowState) (inner : List Entry) → GoesOn plan before inner text → Step plan (snapshot plan (begun inner)) (flow_entry last)
+    → end_of plan (snapshot plan (begun inner)) ≡ Some last → is_last last ≡ true → (last ≡ flow.Reverted → CompletedReversion plan (flow_entry last ∷ begun inner)) → number ≡ length (begun inner)
+    → after ≡ shown_with text (line plan (number + 1) (flow_entry last)) → IsEnded plan before (flow_entry last ∷ begun inner) after last
+ends_there plan before text after number last inner on step end final undone counted said = record {
+  session = whole 0 last inner final on.inside refl (step, on.legal);
   end = end;
   undone = undone;
   outcomes = (tt, on.outcomes);
-  text = said ∙ ap (λ (text : Option (List ℕ)). shown_with text (line plan (length past + 1) (by_hand (what.Flow last)))) on.text ∙ shown_with-twice before (lines plan past) (line plan (length past + 1) (by_hand (what.Flow last)));
+  text = one_more plan before (begun inner) text after (flow_entry last) on.text (rw counted at said);
 }
 
--- the run is halted as it says its last line
-pub end_cut : (plan : Outline) (before : Option (List ℕ)) (past : List Entry) (shown after : Option (List ℕ)) (last : FlowState) → GoesOn plan before past shown → end_of plan (snapshot past) ≡ Some last → is_still plan (snapshot past) ≡ true → is_final last ≡ true
-    → ShowsFront shown (line plan (length past + 1) (by_hand (what.Flow last))) after → IsCut plan before (by_hand (what.Flow last) ∷ past) after
-end_cut plan before past shown after last on end still final front = record {
+end_cut : (plan : Outline) (before text after : Option (List ℕ)) (number : ℕ) (last : FlowState) (inner : List Entry) → GoesOn plan before inner text → Step plan (snapshot plan (begun inner)) (flow_entry last)
+    → is_last last ≡ true → number ≡ length (begun inner) → ShowsFront text (line plan (number + 1) (flow_entry last)) after → IsCut plan before (flow_entry last ∷ begun inner) after
+end_cut plan before text after number last inner on step final counted front = record {
   last = Some last;
-  session = whole 0 last past final on.entered (end_step plan past last end still, on.legal);
+  session = whole 0 last inner final on.inside refl (step, on.legal);
   outcomes = (tt, on.outcomes);
-  text = rw (← on.text) front;
+  text = rw (← on.text, ← counted) front;
 }
 
--- the flow begins to run
-begin_step : (plan : Outline) → Step plan (snapshot []) (by_hand (what.Flow flow.Running))
-begin_step plan = begun_step refl refl
-
-pub begins : (plan : Outline) (before after : Option (List ℕ)) → after ≡ shown_with before (line plan 1 (by_hand (what.Flow flow.Running))) → GoesOn plan before (by_hand (what.Flow flow.Running) ∷ []) after
-begins plan before after said = record { legal = (begin_step plan, tt); entered = refl; outcomes = (tt, tt); text = said }
-
-pub begin_cut : (plan : Outline) (before after : Option (List ℕ)) → ShowsFront before (line plan 1 (by_hand (what.Flow flow.Running))) after → IsCut plan before (by_hand (what.Flow flow.Running) ∷ []) after
-begin_cut plan before after front = record {
-  last = None;
-  session = halted (by_hand (what.Flow flow.Running) ∷ []) (begin_step plan, tt) refl;
-  outcomes = (tt, tt);
-  text = rw (shown_with-nothing before) front;
+pub end_halts : {A : Type 0} (m : MachineValue) (number : ℕ) (before text after : Option (List ℕ)) (e : Entry) (last : FlowState) (r : Result A Halt) → e ≡ flow_entry last → Failing (outline m) number e text after r
+    → GoesSomewhere m number before text → Step (outline m) (shown m) (flow_entry last) → is_last last ≡ true → IfErr r (HasHalted (outline m) before after)
+end_halts m number before text after e last (Ok x) is fails somewhere step final = tt
+end_halts m number before text after e last (Err halt.Out) is fails somewhere step final = record {
+  past = flow_entry last ∷ begun somewhere.inner;
+  halted = end_cut (outline m) before text after number last somewhere.inner somewhere.goes.on (rw somewhere.goes.stands.shows at step) final somewhere.goes.counted (rw is at (fails.out refl));
 }
+end_halts m number before text after e last (Err halt.Memory) is fails somewhere step final = stops_somewhere m number before text after somewhere (fails.memory refl)
 
-pub unbegun_there : (plan : Outline) (before after : Option (List ℕ)) → after ≡ before → IsStopped plan before [] after
-unbegun_there plan before after same = record { session = unbegun; outcomes = tt; text = same ∙ sym (shown_with-nothing before) }
+pub ends : (m n : MachineValue) (number : ℕ) (before text after : Option (List ℕ)) (last : FlowState) → n.plan ≡ m.plan → GoesSomewhere m number before text → Step (outline m) (shown m) (flow_entry last)
+    → end_of (outline m) (shown m) ≡ Some last → is_last last ≡ true → ((past : List Entry) → StandsFor m past → StandsFor n (flow_entry last ∷ past))
+    → ((past : List Entry) → StandsFor n past → last ≡ flow.Reverted → CompletedReversion (outline n) past)
+    → after ≡ shown_with text (line (outline m) (number + 1) (flow_entry last)) → HasEnded (outline m) before after last
+ends m n number before text after last plan somewhere step end final stands undone said =
+    let goes : Goes m number before somewhere.inner text = somewhere.goes in
+    record {
+      past = flow_entry last ∷ begun somewhere.inner;
+      ended = ends_there (outline m) before text after number last somewhere.inner goes.on (rw goes.stands.shows at step) (rw goes.stands.shows at end) final
+        (λ reverted. subst (λ (p : PlanValue). CompletedReversion (outline_of p) (flow_entry last ∷ begun somewhere.inner)) plan (undone (flow_entry last ∷ begun somewhere.inner) (stands (begun somewhere.inner) goes.stands) reverted)) goes.counted said;
+    }
 
--- ---- why a call that recorded an entry failed
+-- ---- what holds where a call succeeded
 
--- where the output failed the line was cut, and where memory ran out nothing changed
-pub record Recording (old new : List Entry) (shown after : Option (List ℕ)) (plan : Outline) (e : Entry) {A : Type 0} (r : Result A Halt) : Type 0 where
-  pub out : r ≡ Err halt.Out → (new ≡ e ∷ old) × ShowsFront shown (line plan (length old + 1) e) after
-  pub memory : r ≡ Err halt.Memory → (new ≡ old) × (after ≡ shown)
+-- what follows from it holds there too
+pub on_ok : {A : Type 0} {P Q : Type 0} (r : Result A Halt) → (P → Q) → OnOk r P → OnOk r Q
+on_ok (Ok x) follows holds = follows holds
+on_ok (Err e) follows holds = tt
 
-pub begin_halts : {A : Type 0} (plan : Outline) (old new : List Entry) (before after : Option (List ℕ)) (r : Result A Halt) → old ≡ [] → Recording old new before after plan (by_hand (what.Flow flow.Running)) r → IfErr r (IsHalted plan before new after)
-begin_halts plan old new before after (Ok x) empty made = tt
-begin_halts plan old new before after (Err halt.Out) empty made =
-    let cut = made.out refl in rw (cut.0, empty) (begin_cut plan before after (rw empty at cut.1))
-begin_halts plan old new before after (Err halt.Memory) empty made =
-    let kept = made.memory refl in rw (kept.0, empty) (unbegun_there plan before after kept.1)
+-- a run that goes on after one more entry goes on somewhere
+pub somewhere_on : {A : Type 0} (n : MachineValue) (number : ℕ) (before after : Option (List ℕ)) (inner : List Entry) (r : Result A Halt) → OnOk r (Goes n number before inner after) → OnOk r (GoesSomewhere n number before after)
+somewhere_on n number before after inner r holds = on_ok r (λ goes. record { inner = inner; goes = goes }) holds
 
-pub step_halts : {A : Type 0} (plan : Outline) (old new : List Entry) (shown after : Option (List ℕ)) (e : Entry) (r : Result A Halt) → Recording old new shown after plan e r → Step plan (snapshot old) e → is_of_flow e.what ≡ false → IsGiven plan e.what
-    → (before : Option (List ℕ)) → GoesOn plan before old shown → IfErr r (IsHalted plan before new after)
-step_halts plan old new shown after e (Ok x) made step inner given before on = tt
-step_halts plan old new shown after e (Err halt.Out) made step inner given before on =
-    let cut = made.out refl in rw cut.0 (cut_there plan before old shown after e on step inner given cut.1)
-step_halts plan old new shown after e (Err halt.Memory) made step inner given before on =
-    let kept = made.memory refl in rw kept.0 (stops_here plan before old shown after on kept.1)
+-- a run that goes on in a machine of the same plan is halted there
+pub stops_after : (m n : MachineValue) (number : ℕ) (before text : Option (List ℕ)) (inner : List Entry) → n.plan ≡ m.plan → Goes n number before inner text → HasHalted (outline m) before text halt.Memory
+stops_after m n number before text inner plan goes = subst (λ (p : PlanValue). HasHalted (outline_of p) before text halt.Memory) plan (stops_at n number before text text inner goes refl)
 
-pub end_halts : {A : Type 0} (plan : Outline) (old new : List Entry) (shown after : Option (List ℕ)) (last : FlowState) (r : Result A Halt) → Recording old new shown after plan (by_hand (what.Flow last)) r
-    → end_of plan (snapshot old) ≡ Some last → is_still plan (snapshot old) ≡ true → is_final last ≡ true → (before : Option (List ℕ)) → GoesOn plan before old shown → IfErr r (IsHalted plan before new after)
-end_halts plan old new shown after last (Ok x) made end still final before on = tt
-end_halts plan old new shown after last (Err halt.Out) made end still final before on =
-    let cut = made.out refl in rw cut.0 (end_cut plan before old shown after last on end still final cut.1)
-end_halts plan old new shown after last (Err halt.Memory) made end still final before on =
-    let kept = made.memory refl in rw kept.0 (stops_here plan before old shown after on kept.1)
+pub halts_before : {A : Type 0} (m n : MachineValue) (before after : Option (List ℕ)) (r : Result A Halt) → n.plan ≡ m.plan → IfErr r (HasHalted (outline n) before after) → IfErr r (HasHalted (outline m) before after)
+halts_before m n before after r plan halts = subst (λ (p : PlanValue). IfErr r (HasHalted (outline_of p) before after)) plan halts
 
--- the run ends where the call that recorded its last entry succeeded
-pub end_ends : {A : Type 0} (plan : Outline) (old new : List Entry) (shown after : Option (List ℕ)) (last : FlowState) (r : Result A Halt) → OnOk r ((new ≡ by_hand (what.Flow last) ∷ old) × (after ≡ shown_with shown (line plan (length old + 1) (by_hand (what.Flow last)))))
-    → end_of plan (snapshot old) ≡ Some last → is_still plan (snapshot old) ≡ true → is_final last ≡ true → (last ≡ flow.Reverted → (a : ℕ) → a < count plan → is_settled (state_of old a) ≡ true)
-    → (before : Option (List ℕ)) → GoesOn plan before old shown → OnOk r (IsEnded plan before new after last)
-end_ends plan old new shown after last (Ok x) made end still final undone before on = rw made.0 (ends_there plan before old shown after last on end still final undone made.1)
-end_ends plan old new shown after last (Err e) made end still final undone before on = tt
+-- an end that is told by the flow's state
+pub ends_in : (m n : MachineValue) (number : ℕ) (before text after : Option (List ℕ)) (e : Entry) (last told : FlowState) → n.plan ≡ m.plan → GoesSomewhere m number before text → e ≡ flow_entry last
+    → Step (outline m) (shown m) (flow_entry last) → end_of (outline m) (shown m) ≡ Some last → is_last last ≡ true → ((past : List Entry) → StandsFor m past → StandsFor n (e ∷ past)) → told ≡ last
+    → ((past : List Entry) → StandsFor n past → told ≡ flow.Reverted → CompletedReversion (outline n) past) → after ≡ shown_with text (line (outline m) (number + 1) e) → HasEnded (outline m) before after told
+ends_in m n number before text after e last told plan somewhere is step end final stands same undone said =
+    subst (λ (state : FlowState). HasEnded (outline m) before after state) (sym same)
+    (ends m n number before text after last plan somewhere step end final (subst (λ (x : Entry). (past : List Entry) → StandsFor m past → StandsFor n (x ∷ past)) is stands)
+      (λ past stood reverted. undone past stood (same ∙ reverted)) (subst (λ (x : Entry). after ≡ shown_with text (line (outline m) (number + 1) x)) is said))
+
+-- a machine of a run that goes on stands for its history
+pub somewhere_stands : (m : MachineValue) (number : ℕ) (before text : Option (List ℕ)) → GoesSomewhere m number before text → HasHistory m
+somewhere_stands m number before text somewhere = (begun somewhere.inner, somewhere.goes.stands)

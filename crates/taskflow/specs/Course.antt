@@ -1,18 +1,20 @@
 -- The ways that a command can go.
-use Rattle.std.specs.Prelude.{◌≡◌, ◌≤◌, ◌⊎◌, ℕ, List, length, codes, Option, Some, None, Ok, Err}
+use Rattle.std.specs.Prelude.{◌≡◌, ◌≤◌, ◌⊎◌, ℕ, List, [], length, codes, Option, Some, None, Ok, Err}
 use Rattle.tf_desk.specs.Shown.{shown_with, ShowsFront}
 use Rattle.tf_ports.specs.Contents.{Contents, GivesBytes, PassesLimit}
-use Rattle.tf_files.specs.FlowFile.{PlanTree, flow_of}
-use Rattle.tf_files.specs.declared.reading.FileFault.{FileFault}
+use Rattle.tf_files.specs.FlowFile.{PlanTree, plan_tree}
 use Rattle.tf_states.specs.declared.record.Entry.{Entry}
 use Rattle.tf_states.specs.declared.state.FlowState.{FlowState}
 use Rattle.tf_states.specs.declared.state.FlowState.TheVariants as flow
-use Rattle.taskflow.specs.Outline.{Outline, outline_of}
-use Rattle.taskflow.specs.Sessions.{Session}
+use Rattle.tf_model.specs.Plan.{Outline}
+use Rattle.tf_model.specs.Sessions.{Session}
+use Rattle.tf_machine.specs.Machine.{MachineValue}
+use Rattle.taskflow.specs.Accepted.{outline_in, plan_in}
 use Rattle.taskflow.specs.BuiltIns.{HasOutcomes}
-use Rattle.taskflow.specs.Lines.{lines, report, usage, cannot_read, refusal, file_fault_text}
+use Rattle.taskflow.specs.Lines.{lines, report, checked, usage, cannot_read, refusal, refusal_text}
 use Rattle.taskflow.specs.Standing.{IsEnded, IsCut}
-use Rattle.taskflow.specs.Words.{command_of}
+use Rattle.taskflow.specs.Words.{command_of, file_named}
+use Rattle.taskflow.specs.declared.accepting.Refusal.{Refusal}
 use Rattle.taskflow.specs.declared.words.Asked.{Asked}
 use Rattle.taskflow.specs.declared.words.Asked.TheVariants as asked
 
@@ -38,37 +40,56 @@ pub data Ran (plan : Outline) (before after : Option (List ℕ)) : ℕ → Type 
   -- it was halted as the line of its newest entry couldn't be said to its end
   line_cut : (past : List Entry) → IsCut plan before past after → Ran plan before after 7
   -- memory ran out, during the run or after its end
-  stopped : (past : List Entry) (last : Option FlowState) → Session plan past last → HasOutcomes plan past
+  stopped : (past : List Entry) (last : Option FlowState) → Session plan [] past last → HasOutcomes plan past
       → after ≡ shown_with before (lines plan past) → Ran plan before after 9
 
 -- memory ran out and nothing was said, or a message closed the command
 abbrev pub ClosesOrStops : Option (List ℕ) → List ℕ → ℕ → Option (List ℕ) → ℕ → Type 0
 ClosesOrStops before message wanted after status = ((status ≡ 9) × (after ≡ before)) ⊎ Closes before message wanted after status
 
--- what becomes of the bytes of a flow file
-pub data BytesTried (bytes : List ℕ) (before after : Option (List ℕ)) (status : ℕ) : Type 0 where
+-- what becomes of the bytes of a flow file, where its plan is dealt with so
+pub data BytesRead (bytes : List ℕ) (does : Outline → ℕ → Type 0) (before after : Option (List ℕ)) (status : ℕ) : Type 0 where
   -- memory ran out before anything was said or run
-  exhausted : status ≡ 9 → after ≡ before → BytesTried bytes before after status
-  -- they are refused for the first reason why they spell no plan, and that is said
-  refused : (reason : FileFault) → flow_of bytes ≡ Err reason
-      → Closes before (refusal (file_fault_text reason)) 4 after status → BytesTried bytes before after status
-  -- the plan that they spell ran
-  ran : (plan : PlanTree) → flow_of bytes ≡ Ok plan → Ran (outline_of plan.root) before after status → BytesTried bytes before after status
+  exhausted : status ≡ 9 → after ≡ before → BytesRead bytes does before after status
+  -- they are refused for the first reason why they give no plan, and that is said
+  refused : (reason : Refusal) → plan_in bytes ≡ Err reason
+      → Closes before (refusal (refusal_text reason)) 4 after status → BytesRead bytes does before after status
+  -- the plan that they give is dealt with
+  done : (plan : PlanTree) → plan_in bytes ≡ Ok plan → does (outline_in plan) status → BytesRead bytes does before after status
 
--- what becomes of a file to try
-pub data Tried (files : Contents) (file : List ℕ) (before after : Option (List ℕ)) (status : ℕ) : Type 0 where
+-- what becomes of a flow file, where its plan is dealt with so
+pub data FileRead (files : Contents) (file : List ℕ) (does : Outline → ℕ → Type 0) (before after : Option (List ℕ)) (status : ℕ) : Type 0 where
   -- memory ran out before anything was said or run
-  unfinished : status ≡ 9 → after ≡ before → Tried files file before after status
+  unfinished : status ≡ 9 → after ≡ before → FileRead files file does before after status
   -- it can't be read
-  unread : Closes before cannot_read 3 after status → Tried files file before after status
+  unread : Closes before cannot_read 3 after status → FileRead files file does before after status
   -- it is longer than a flow file may be
-  too_long : PassesLimit files file → Closes before (refusal (codes "too long")) 4 after status → Tried files file before after status
+  too_long : PassesLimit files file → Closes before (refusal (codes "too long")) 4 after status → FileRead files file does before after status
   -- its bytes are those that the sources have under its name
-  read : (bytes : List ℕ) → GivesBytes files file bytes → BytesTried bytes before after status → Tried files file before after status
+  read : (bytes : List ℕ) → GivesBytes files file bytes → BytesRead bytes does before after status → FileRead files file does before after status
+
+-- nothing is done with a plan
+abbrev pub Undone : Outline → ℕ → Type 0
+Undone plan status = ⊥
+
+-- the machine's plan is the one that the file gives
+pub record Opened (files : Contents) (file : List ℕ) (m : MachineValue) : Type 0 where
+  pub bytes : List ℕ
+  pub given : GivesBytes files file bytes
+  pub plan : plan_in bytes ≡ Ok (plan_tree m.plan)
+
+-- to try a plan is to run it
+abbrev pub Tries : Option (List ℕ) → Option (List ℕ) → Outline → ℕ → Type 0
+Tries before after plan status = Ran plan before after status
+
+-- to check a plan is to say what it has, unless memory runs out
+abbrev pub Checks : Option (List ℕ) → Option (List ℕ) → Outline → ℕ → Type 0
+Checks before after plan status = ClosesOrStops before (checked plan) 0 after status
 
 -- what becomes of what the words ask for
 abbrev pub Obeys : Asked → Contents → Option (List ℕ) → Option (List ℕ) → ℕ → Type 0
-Obeys (asked.Try file) files before after status = Tried files file before after status
+Obeys (asked.Try file) files before after status = FileRead files file (Tries before after) before after status
+Obeys (asked.Check file) files before after status = FileRead files file (Checks before after) before after status
 
 -- the way that a command went: its words, what the sources tell, the texts shown before and after, the status
 pub data Course (words : List (List ℕ)) (files : Contents) (before after : Option (List ℕ)) (status : ℕ) : Type 0 where
@@ -79,23 +100,26 @@ pub data Course (words : List (List ℕ)) (files : Contents) (before after : Opt
   -- what they ask for was done, or it was said why not
   obeyed : (command : Asked) → command_of words ≡ Some command → Obeys command files before after status → Course words files before after status
 
--- the words ask to try a file that the sources refuse as too long or whose bytes spell no plan
+-- the words ask for a file that the sources refuse as too long or whose bytes give no plan
 pub data IsRefused (words : List (List ℕ)) (files : Contents) : Type 0 where
-  passes_limit : (file : List ℕ) → command_of words ≡ Some (asked.Try file) → PassesLimit files file → IsRefused words files
-  spells_none : (file bytes : List ℕ) (reason : FileFault) → command_of words ≡ Some (asked.Try file) → GivesBytes files file bytes → flow_of bytes ≡ Err reason → IsRefused words files
+  passes_limit : (command : Asked) → command_of words ≡ Some command → PassesLimit files (file_named command) → IsRefused words files
+  gives_none : (command : Asked) (bytes : List ℕ) (reason : Refusal) → command_of words ≡ Some command → GivesBytes files (file_named command) bytes
+      → plan_in bytes ≡ Err reason → IsRefused words files
 
--- the words ask to try a file under which the sources tell bytes that spell a plan, and that isn't too long
+-- the words ask for a file under which the sources tell bytes that give a plan, and that isn't too long
 pub record IsAccepted (words : List (List ℕ)) (files : Contents) : Type 0 where
   pub told : List ℕ → Option (List ℕ)
-  pub file : List ℕ
+  pub command : Asked
   pub bytes : List ℕ
   pub plan : PlanTree
   pub sources : files ≡ Some told
-  pub command : command_of words ≡ Some (asked.Try file)
-  pub under : told file ≡ Some bytes
+  pub asks : command_of words ≡ Some command
+  pub under : told (file_named command) ≡ Some bytes
   pub short : length bytes ≤ 262144
-  pub spelled : flow_of bytes ≡ Ok plan
+  pub given : plan_in bytes ≡ Ok plan
 
--- a run that was accepted and met no fault ends with SUCCESS or in completed reversion, or memory runs out
-abbrev pub IsComplete : ℕ → Type 0
-IsComplete status = (status ≡ 0) ⊎ (status ≡ 10) ⊎ (status ≡ 9)
+-- what was accepted and met no fault ends so, or memory runs out: a run with SUCCESS or in completed
+-- reversion, and a check with what it has to say
+abbrev pub IsComplete : Asked → ℕ → Type 0
+IsComplete (asked.Try file) status = (status ≡ 0) ⊎ (status ≡ 10) ⊎ (status ≡ 9)
+IsComplete (asked.Check file) status = (status ≡ 0) ⊎ (status ≡ 9)

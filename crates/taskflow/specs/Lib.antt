@@ -1,13 +1,9 @@
-pub mod Numbers
-pub mod Outline
-pub mod History
-pub mod Rules
-pub mod Steps
-pub mod Sessions
+pub mod Constants
+pub mod Accepted
+pub mod Tasks
 pub mod BuiltIns
 pub mod Lines
-pub mod Hands
 pub mod Standing
-pub mod Situations
+pub mod Going
 pub mod Words
 pub mod Course

@@ -1,15 +1,16 @@
 -- The texts that a run shows.
-use Rattle.std.specs.Prelude.{ℕ, ◌+◌, List, [], ◌∷◌, ◌++◌, codes, length, Option, Some, None}
+use Rattle.std.specs.Prelude.{ℕ, ◌+◌, ◌-◌, List, [], ◌∷◌, ◌++◌, codes, length, slice_get, Bool, true, false, Option, Some, None}
 use Rattle.std.specs.Fmt.{decimal, signed_decimal}
-use Rattle.std.specs.List.{slice_get}
+use Rattle.std.specs.List.{flat_map}
 use Rattle.tf_values.specs.TextForm.{text_form, quoted}
-use Rattle.tf_flow.specs.declared.atoms.Task.{Task}
 use Rattle.tf_flow.specs.declared.faults.Limit.{Limit}
 use Rattle.tf_flow.specs.declared.faults.Limit.TheVariants as limit
 use Rattle.tf_flow.specs.declared.faults.PlanFault.{PlanFault}
 use Rattle.tf_flow.specs.declared.faults.PlanFault.TheVariants as plan_fault
-use Rattle.tf_files.specs.declared.reading.FileFault.{FileFault}
-use Rattle.tf_files.specs.declared.reading.FileFault.TheVariants as file_fault
+use Rattle.tf_document.specs.declared.faults.FileFault.{FileFault}
+use Rattle.tf_document.specs.declared.faults.FileFault.TheVariants as file_fault
+use Rattle.tf_order.specs.declared.faults.CompileFault.{CompileFault}
+use Rattle.tf_order.specs.declared.faults.CompileFault.TheVariants as compile_fault
 use Rattle.tf_states.specs.declared.record.Entry.{Entry}
 use Rattle.tf_states.specs.declared.record.Failure.{Failure}
 use Rattle.tf_states.specs.declared.record.Failure.TheVariants as failure
@@ -23,7 +24,11 @@ use Rattle.tf_states.specs.declared.state.AtomState.{AtomState}
 use Rattle.tf_states.specs.declared.state.AtomState.TheVariants as atom
 use Rattle.tf_states.specs.declared.state.FlowState.{FlowState}
 use Rattle.tf_states.specs.declared.state.FlowState.TheVariants as flow
-use Rattle.taskflow.specs.Outline.{Outline}
+use Rattle.tf_model.specs.Before.{Flow}
+use Rattle.tf_model.specs.Numbers.{which_below}
+use Rattle.tf_model.specs.Plan.{Outline, count, is_task, atom_name}
+use Rattle.taskflow.specs.declared.accepting.Refusal.{Refusal}
+use Rattle.taskflow.specs.declared.accepting.Refusal.TheVariants as refused
 
 -- the words for the states of atoms and flows, and for the kinds of resolution
 abbrev pub atom_word : AtomState → List ℕ
@@ -73,21 +78,26 @@ payload_text payload.Empty = []
 payload_text (payload.Value value) = 32 ∷ text_form value
 payload_text (payload.Fault fault) = 32 ∷ failure_text fault
 
--- the name of a task, and nothing where there is none
-abbrev pub name_of : Option Task → List ℕ
-name_of None = []
-name_of (Some task) = task.name
+-- the name of a flow, and nothing where there is none
+abbrev pub name_of_flow : Option Flow → List ℕ
+name_of_flow None = []
+name_of_flow (Some f) = f.place.name
 
--- the name of the atom of that number
-abbrev pub name_at : Outline → ℕ → List ℕ
-name_at plan a = name_of (slice_get plan.tasks a)
+-- the name of the flow of that number
+unfoldable pub flow_name : Outline → ℕ → List ℕ
+flow_name plan g = name_of_flow (slice_get plan.flows g)
+
+-- an atom is a task or a retry controller
+abbrev pub part_word : Bool → List ℕ
+part_word true = codes "task "
+part_word false = codes "retry "
 
 -- what an entry says
 abbrev pub what_text : Outline → What → List ℕ
-what_text plan (what.Atom a state held) = codes "task " ++ name_at plan a ++ 32 ∷ atom_word state ++ payload_text held
-what_text plan (what.Flow state) = codes "flow " ++ plan.name ++ 32 ∷ flow_word state
-what_text plan (what.Resolve named kind) = codes "resolve " ++ plan.name ++ 32 ∷ kind_word kind
-what_text plan (what.Restart a) = codes "restart " ++ name_at plan a
+what_text plan (what.Atom a state held) = part_word (is_task plan a) ++ atom_name plan a ++ 32 ∷ atom_word state ++ payload_text held
+what_text plan (what.Flow state) = codes "flow " ++ flow_name plan 0 ++ 32 ∷ flow_word state
+what_text plan (what.Resolve named kind) = codes "resolve " ++ flow_name plan named ++ 32 ∷ kind_word kind
+what_text plan (what.Restart a) = codes "restart " ++ atom_name plan a
 
 -- the line of the entry of that number: the number, the hand and what it says
 unfoldable pub line : Outline → ℕ → Entry → List ℕ
@@ -100,7 +110,7 @@ lines plan (e ∷ past) = lines plan past ++ line plan (length past + 1) e
 
 -- what a run says last
 unfoldable pub report : Outline → FlowState → List ℕ
-report plan state = codes "end " ++ plan.name ++ 32 ∷ flow_word state ++ 10 ∷ []
+report plan state = codes "end " ++ flow_name plan 0 ++ 32 ∷ flow_word state ++ 10 ∷ []
 
 -- the word for a limit of a plan
 abbrev pub limit_word : Limit → List ℕ
@@ -131,8 +141,32 @@ plan_fault_text plan_fault.Memory = []
 abbrev pub file_fault_text : FileFault → List ℕ
 file_fault_text file_fault.NotBuilt = codes "not built"
 file_fault_text file_fault.NotToml = codes "not toml"
+file_fault_text (file_fault.UnknownKey path) = codes "unknown key " ++ path
+file_fault_text (file_fault.MissingKey path) = codes "missing key " ++ path
+file_fault_text (file_fault.WrongKind path) = codes "wrong kind " ++ path
+file_fault_text (file_fault.BadName path) = codes "bad name " ++ path
+file_fault_text (file_fault.BadChoice path) = codes "bad choice " ++ path
+file_fault_text (file_fault.BadNumber path) = codes "bad number " ++ path
+file_fault_text (file_fault.BadValue path) = codes "bad value " ++ path
 file_fault_text (file_fault.Plan fault) = plan_fault_text fault
 file_fault_text file_fault.Memory = []
+
+-- names, each after a space
+abbrev pub spaced : List ℕ → List ℕ
+spaced name = 32 ∷ name
+
+-- why a plan doesn't compile; want of memory says nothing
+abbrev pub compile_fault_text : CompileFault → List ℕ
+compile_fault_text (compile_fault.Ambiguous symbol first second) = codes "ambiguous " ++ symbol ++ 32 ∷ first ++ 32 ∷ second
+compile_fault_text (compile_fault.Cycle names) = codes "cycle" ++ flat_map spaced names
+compile_fault_text compile_fault.Memory = []
+
+-- why a flow file is refused; want of memory says nothing
+abbrev pub refusal_text : Refusal → List ℕ
+refusal_text (refused.File fault) = file_fault_text fault
+refusal_text (refused.Compile fault) = compile_fault_text fault
+refusal_text refused.NotBuilt = codes "not built"
+refusal_text refused.Memory = []
 
 -- the message for a flow file that is refused
 unfoldable pub refusal : List ℕ → List ℕ
@@ -144,3 +178,13 @@ usage = codes "taskflow: usage\n"
 
 abbrev pub cannot_read : List ℕ
 cannot_read = codes "taskflow: cannot read\n"
+
+-- how many of the atoms below n are tasks
+abbrev pub tasks_below : Outline → ℕ → ℕ
+tasks_below plan n = length (which_below n (is_task plan))
+
+-- what a check says of a plan: how many tasks, retry controllers and flows it has
+unfoldable pub checked : Outline → List ℕ
+checked plan =
+    codes "ok " ++ flow_name plan 0 ++ codes ": " ++ decimal (tasks_below plan (count plan)) ++ codes " tasks, "
+    ++ decimal (count plan - tasks_below plan (count plan)) ++ codes " retries, " ++ decimal (length plan.flows) ++ codes " flows\n"

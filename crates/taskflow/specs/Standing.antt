@@ -1,25 +1,31 @@
 -- Where a run stands: what it has recorded, and what is shown of it.
-use Rattle.std.specs.Prelude.{◌≡◌, ℕ, ◌+◌, ◌<◌, List, [], ◌∷◌, length, Option, Some, None, true}
+use Rattle.std.specs.Prelude.{◌≡◌, ℕ, ◌+◌, List, [], ◌∷◌, ◌++◌, length, Option, Some, None, true}
+use Rattle.std.specs.List.{list_all}
 use Rattle.tf_desk.specs.Shown.{shown_with, ShowsFront}
 use Rattle.tf_states.specs.declared.record.Entry.{Entry}
 use Rattle.tf_states.specs.declared.state.FlowState.{FlowState}
 use Rattle.tf_states.specs.declared.state.FlowState.TheVariants as flow
-use Rattle.taskflow.specs.Outline.{Outline, count}
-use Rattle.taskflow.specs.History.{snapshot, state_of}
-use Rattle.taskflow.specs.Rules.{end_of, is_settled}
-use Rattle.taskflow.specs.Steps.{LegalPast}
-use Rattle.taskflow.specs.Sessions.{Session, has_entered}
+use Rattle.tf_model.specs.Candidates.{end_of}
+use Rattle.tf_model.specs.History.{snapshot}
+use Rattle.tf_model.specs.Plan.{Outline}
+use Rattle.tf_model.specs.Sessions.{Session, flow_entry, is_inner_entry}
+use Rattle.tf_model.specs.Steps.{LegalPast}
+use Rattle.tf_facts.specs.Facts.{CompletedReversion}
 use Rattle.taskflow.specs.BuiltIns.{HasOutcomes}
 use Rattle.taskflow.specs.Lines.{line, lines}
 use Rattle.taskflow.specs.declared.log.Halt.{Halt}
 use Rattle.taskflow.specs.declared.log.Halt.TheVariants as halt
 
+-- a history that begins with the flow's RUNNING, and has these entries after it
+abbrev pub begun : List Entry → List Entry
+begun inner = inner ++ flow_entry flow.Running ∷ []
+
 -- the run goes on: its history is legal, and the shown text is the one before it and the lines of its entries
-pub record GoesOn (plan : Outline) (before : Option (List ℕ)) (past : List Entry) (shown : Option (List ℕ)) : Type 0 where
-  pub legal : LegalPast plan past
-  pub entered : has_entered past ≡ true
-  pub outcomes : HasOutcomes plan past
-  pub text : shown ≡ shown_with before (lines plan past)
+pub record GoesOn (plan : Outline) (before : Option (List ℕ)) (inner : List Entry) (shown : Option (List ℕ)) : Type 0 where
+  pub legal : LegalPast plan (begun inner)
+  pub inside : list_all is_inner_entry inner ≡ true
+  pub outcomes : HasOutcomes plan (begun inner)
+  pub text : shown ≡ shown_with before (lines plan (begun inner))
 
 -- the line of the newest entry couldn't be said to its end
 abbrev pub IsLineCut : Outline → Option (List ℕ) → List Entry → Option (List ℕ) → Type 0
@@ -29,13 +35,13 @@ IsLineCut plan before (e ∷ past) shown = ShowsFront (shown_with before (lines 
 -- the run was halted as it said the line of its newest entry
 pub record IsCut (plan : Outline) (before : Option (List ℕ)) (past : List Entry) (shown : Option (List ℕ)) : Type 0 where
   pub last : Option FlowState
-  pub session : Session plan past last
+  pub session : Session plan [] past last
   pub outcomes : HasOutcomes plan past
   pub text : IsLineCut plan before past shown
 
 -- the run was halted between two entries
 pub record IsStopped (plan : Outline) (before : Option (List ℕ)) (past : List Entry) (shown : Option (List ℕ)) : Type 0 where
-  pub session : Session plan past None
+  pub session : Session plan [] past None
   pub outcomes : HasOutcomes plan past
   pub text : shown ≡ shown_with before (lines plan past)
 
@@ -44,16 +50,26 @@ abbrev pub IsHalted : Outline → Option (List ℕ) → List Entry → Option (L
 IsHalted plan before past shown halt.Out = IsCut plan before past shown
 IsHalted plan before past shown halt.Memory = IsStopped plan before past shown
 
+-- the same of some history
+pub record HasHalted (plan : Outline) (before shown : Option (List ℕ)) (cause : Halt) : Type 0 where
+  pub past : List Entry
+  pub halted : IsHalted plan before past shown cause
+
 -- the newest entry records the end of the history before it
 abbrev pub EndsBy : Outline → List Entry → FlowState → Type 0
 EndsBy plan [] last = ⊥
-EndsBy plan (e ∷ past) last = end_of plan (snapshot past) ≡ Some last
+EndsBy plan (e ∷ past) last = end_of plan (snapshot plan past) ≡ Some last
 
--- the run ended: in the end of the history before its last entry, and where that is REVERTED, every atom
--- is settled, so that each one that was executed is undone
+-- the run ended: in the end of the history before its last entry, and where that is REVERTED, the
+-- reversion is completed
 pub record IsEnded (plan : Outline) (before : Option (List ℕ)) (past : List Entry) (shown : Option (List ℕ)) (last : FlowState) : Type 0 where
-  pub session : Session plan past (Some last)
+  pub session : Session plan [] past (Some last)
   pub end : EndsBy plan past last
-  pub undone : last ≡ flow.Reverted → (a : ℕ) → a < count plan → is_settled (state_of past a) ≡ true
+  pub undone : last ≡ flow.Reverted → CompletedReversion plan past
   pub outcomes : HasOutcomes plan past
   pub text : shown ≡ shown_with before (lines plan past)
+
+-- the same of some history
+pub record HasEnded (plan : Outline) (before shown : Option (List ℕ)) (last : FlowState) : Type 0 where
+  pub past : List Entry
+  pub ended : IsEnded plan before past shown last

@@ -1,233 +1,286 @@
-ghost use Rattle.std.specs.Prelude.{◌≡◌, ◌≢◌, ℕ, ◌+◌, ◌<◌, ◌≤◌, [], ◌∷◌, List, length, Option, Some, None, Ok, Err, true, false, OnOk, IfOk, IfErr, IsErrOf};
+ghost use Rattle.std.specs.Prelude.{◌≡◌, ℕ, ◌+◌, ◌<◌, ◌≤◌, [], ◌∷◌, List, Option, Some, None, Ok, true, false, OnOk, IfOk, IfErr, IsErrOf};
 ghost use Rattle.tf_desk.specs.Counts.{Rises};
-ghost use Rattle.taskflow.specs.Outline.{count};
-ghost use Rattle.taskflow.specs.History.{snapshot, state_of};
-ghost use Rattle.taskflow.specs.Rules.{end_of, is_settled};
-ghost use Rattle.taskflow.specs.Steps.{Step, is_still};
-ghost use Rattle.taskflow.specs.Sessions.{is_of_flow, is_final};
+ghost use Rattle.tf_flow.specs.Tree.{tree_of};
+ghost use Rattle.tf_states.specs.declared.record.Entry.{Entry as Record};
+ghost use Rattle.tf_states.specs.declared.record.What.TheVariants as event;
+ghost use Rattle.tf_states.specs.declared.record.Payload.TheVariants as held;
+ghost use Rattle.tf_states.specs.declared.state.AtomState.TheVariants.{Running as running, Reverting as reverting};
+ghost use Rattle.tf_model.specs.Candidates.{choice};
+ghost use Rattle.tf_model.specs.Plan.{is_task};
+ghost use Rattle.tf_model.specs.Forced.{forced};
+ghost use Rattle.tf_model.specs.Snapshot.{Snapshot, later};
+ghost use Rattle.tf_model.specs.Steps.{Step};
+ghost use Rattle.tf_machine.specs.Answers.{start_entry, action_in, ended_from, begun as begun_by};
+ghost use Rattle.tf_machine.specs.Machine.{outline, shown, StandsFor, HasHistory};
+ghost use Rattle.tf_machine.specs.Plain.{IsPlain};
+ghost use Rattle.tf_machine.specs.Remaining.{remaining};
 ghost use Rattle.taskflow.specs.BuiltIns.{IsGiven};
-ghost use Rattle.taskflow.specs.Hands.{by_hand};
-ghost use Rattle.taskflow.specs.Situations.{Executes, HasFailed, Reverts};
-ghost use Rattle.taskflow.specs.Standing.{GoesOn, IsHalted, IsEnded};
+ghost use Rattle.taskflow.specs.Constants.{is_usable};
+ghost use Rattle.taskflow.specs.Going.{by_hand, is_within, IsOutcomeOf, Goes, GoesSomewhere, Rests};
+ghost use Rattle.taskflow.specs.Standing.{begun, HasEnded, HasHalted};
 
-use crate::built_in::{Outcome, perform};
-use crate::log::{Halt, History};
-use crate::outline::Outline;
+use crate::built_in::perform;
+use crate::log::{Halt, Log};
 use std::alloc::Global;
 use tf_desk::Desk;
-use tf_states::{AtomState, FlowState, Kind, Payload, What};
+use tf_machine::{Machine, Start};
+use tf_ports::{Action, Outcome};
+use tf_states::{AtomState, Entry, Failure, FlowState, Payload, What};
+use tf_values::{Memory, Val};
 
-/// Runs the plan from an empty history on: it executes the tasks in order, and where one fails, reverts
-/// those that were executed in reverse order.
-#[tactic(auto, using(crate::proofs::StepLemmas::success_end, crate::proofs::StepLemmas::executes_still))]
+/// The hand that runs all.
+const HAND: u8 = 0;
+
+/// Runs the plan of a machine from an empty history to its end: what is forced is recorded; else the next
+/// candidate is taken up, performed and ended; until there is none. Answers how the run ended.
 pub fn run<K: Desk>(
     alloc: Global,
-    outline: &Outline<'_>,
-    history: &mut History,
+    machine: &mut Machine,
     desk: &mut K,
 ) -> Result<FlowState, Halt>
-    requires { history.old ≡ [] }
-    ensures ended { IfOk result (IsEnded outline.now (K.shown desk.old) history.new (K.shown desk.new)) }
-    ensures halted { IfErr result (IsHalted outline.now (K.shown desk.old) history.new (K.shown desk.new)) }
+    requires empty { StandsFor machine.old [] }
+    requires plain { IsPlain machine.old.plan }
+    requires usable { is_usable machine.old.plan.store (tree_of machine.old.plan.root) ≡ true }
+    ensures plan { machine.new.plan ≡ machine.old.plan }
+    ensures ended { IfOk result (HasEnded (outline machine.old) (K.shown desk.old) (K.shown desk.new)) }
+    ensures halted { IfErr result (HasHalted (outline machine.old) (K.shown desk.old) (K.shown desk.new)) }
     ensures cause { IsErrOf result Halt.Out → Rises (K.out_faults desk.old) (K.out_faults desk.new) }
     ensures no_fall { K.out_faults desk.old ≤ K.out_faults desk.new }
 {
-    begin(outline, history, desk)?;
-    for atom in 0..outline.count() {
-        if !execute(alloc, outline, atom, history, desk)? {
-            resolve(outline, atom, history, desk)?;
-            return revert(outline, atom + 1, history, desk);
+    let mut log = Log::new(alloc);
+    begin(machine, &mut log, desk)?;
+    'steps: loop {
+        if !step(alloc, machine, &mut log, desk)? {
+            break 'steps;
         }
     }
-    finish(outline, FlowState::Success, history, desk)?;
-    Ok(FlowState::Success)
+    finish(machine, &mut log, desk)
 }
 
 /// Records that the flow runs.
-#[tactic(auto, using(crate::proofs::SituationLemmas::begun, crate::proofs::StandingLemmas::begins))]
-fn begin<K: Desk>(outline: &Outline<'_>, history: &mut History, desk: &mut K) -> Result<(), Halt>
-    requires { history.old ≡ [] }
-    ensures situation { OnOk result (Executes (snapshot history.new) 0) }
-    ensures goes_on { OnOk result (GoesOn outline.now (K.shown desk.old) history.new (K.shown desk.new)) }
-    ensures halted { IfErr result (IsHalted outline.now (K.shown desk.old) history.new (K.shown desk.new)) }
+#[tactic(auto, using(crate::proofs::EngineLemmas::begin_step, crate::proofs::EngineLemmas::begin_rests, crate::proofs::StandingLemmas::begins))]
+fn begin<K: Desk>(machine: &mut Machine, log: &mut Log, desk: &mut K) -> Result<(), Halt>
+    requires empty { StandsFor machine.old [] }
+    requires none { log.old ≡ 0 }
+    ensures plan { machine.new.plan ≡ machine.old.plan }
+    ensures goes { OnOk result (GoesSomewhere machine.new log.new (K.shown desk.old) (K.shown desk.new)) }
+    ensures rests { OnOk result (Rests machine.new) }
+    ensures halted { IfErr result (HasHalted (outline machine.old) (K.shown desk.old) (K.shown desk.new)) }
     ensures cause { IsErrOf result Halt.Out → Rises (K.out_faults desk.old) (K.out_faults desk.new) }
     ensures no_fall { K.out_faults desk.old ≤ K.out_faults desk.new }
 {
-    history.record(outline, What::Flow(FlowState::Running), desk)
+    log.record(machine, entry_of(What::Flow(FlowState::Running)), desk)
 }
 
-/// Executes a task, and answers whether it succeeded.
-#[tactic(auto, using(crate::proofs::SituationLemmas::started, crate::proofs::SituationLemmas::succeeded, crate::proofs::SituationLemmas::failed, crate::proofs::StepLemmas::start_step, crate::proofs::StepLemmas::success_step, crate::proofs::StepLemmas::failure_step))]
-fn execute<K: Desk>(
+/// Records what is forced, or performs the next candidate; answers whether there was something to do.
+fn step<K: Desk>(
     alloc: Global,
-    outline: &Outline<'_>,
-    atom: u16,
-    history: &mut History,
+    machine: &mut Machine,
+    log: &mut Log,
     desk: &mut K,
 ) -> Result<bool, Halt>
-    requires place { atom < count outline.now }
-    requires situation { Executes (snapshot history.old) atom }
-    ensures succeeded { result ≡ Ok true → Executes (snapshot history.new) (atom + 1) }
-    ensures failed { result ≡ Ok false → HasFailed (snapshot history.new) atom }
-    ensures goes_on { (before : Option (List ℕ)) → GoesOn outline.now before history.old (K.shown desk.old) → OnOk result (GoesOn outline.now before history.new (K.shown desk.new)) }
-    ensures halted { (before : Option (List ℕ)) → GoesOn outline.now before history.old (K.shown desk.old) → IfErr result (IsHalted outline.now before history.new (K.shown desk.new)) }
+    requires rests { Rests machine.old }
+    requires plain { IsPlain machine.old.plan }
+    requires usable { is_usable machine.old.plan.store (tree_of machine.old.plan.root) ≡ true }
+    ensures plan { machine.new.plan ≡ machine.old.plan }
+    ensures goes { (before : Option (List ℕ)) → GoesSomewhere machine.old log.old before (K.shown desk.old) → OnOk result (GoesSomewhere machine.new log.new before (K.shown desk.new)) }
+    ensures rests { OnOk result (Rests machine.new) }
+    ensures less { result ≡ Ok true → remaining (outline machine.new) (shown machine.new) < remaining (outline machine.old) (shown machine.old) }
+    ensures unforced { result ≡ Ok false → forced (outline machine.new) (shown machine.new) ≡ None }
+    ensures unchosen { result ≡ Ok false → choice (outline machine.new) (shown machine.new) ≡ None }
+    ensures halted { (before : Option (List ℕ)) → GoesSomewhere machine.old log.old before (K.shown desk.old) → IfErr result (HasHalted (outline machine.old) before (K.shown desk.new)) }
     ensures cause { IsErrOf result Halt.Out → Rises (K.out_faults desk.old) (K.out_faults desk.new) }
     ensures no_fall { K.out_faults desk.old ≤ K.out_faults desk.new }
 {
-    step(
-        outline,
-        history,
-        atom_enters(atom, AtomState::Running, Payload::Empty),
-        desk,
-    )?;
-    let Ok(outcome) = perform(alloc, outline.task(atom)) else {
+    let Ok(forced) = machine.forced() else {
         return Err(Halt::Memory);
     };
-    match outcome {
-        Outcome::Gave(value) => {
-            let payload = Payload::Value(value);
-            step(
-                outline,
-                history,
-                atom_enters(atom, AtomState::Success, payload),
-                desk,
-            )?;
-            Ok(true)
-        }
-        Outcome::Failed(failure) => {
-            let payload = Payload::Fault(failure);
-            step(
-                outline,
-                history,
-                atom_enters(atom, AtomState::Failure, payload),
-                desk,
-            )?;
-            Ok(false)
-        }
+    if let Some(what) = forced {
+        force(machine, log, what, desk)?;
+        return Ok(true);
     }
-}
-
-/// Resolves the failure of a task: the whole flow is reverted.
-#[tactic(auto, using(crate::proofs::SituationLemmas::resolved, crate::proofs::StepLemmas::resolve_step))]
-fn resolve<K: Desk>(
-    outline: &Outline<'_>,
-    atom: u16,
-    history: &mut History,
-    desk: &mut K,
-) -> Result<(), Halt>
-    requires place { atom < count outline.now }
-    requires situation { HasFailed (snapshot history.old) atom }
-    ensures situation { OnOk result (Reverts (snapshot history.new) (atom + 1)) }
-    ensures goes_on { (before : Option (List ℕ)) → GoesOn outline.now before history.old (K.shown desk.old) → OnOk result (GoesOn outline.now before history.new (K.shown desk.new)) }
-    ensures halted { (before : Option (List ℕ)) → GoesOn outline.now before history.old (K.shown desk.old) → IfErr result (IsHalted outline.now before history.new (K.shown desk.new)) }
-    ensures cause { IsErrOf result Halt.Out → Rises (K.out_faults desk.old) (K.out_faults desk.new) }
-    ensures no_fall { K.out_faults desk.old ≤ K.out_faults desk.new }
-{
-    let what = What::Resolve {
-        flow: 0,
-        kind: Kind::RevertAll,
+    let Some(start) = machine.candidate() else {
+        return Ok(false);
     };
-    step(outline, history, what, desk)
+    take_up(alloc, machine, log, start, desk)?;
+    Ok(true)
 }
 
-/// Reverts the first tasks, the last of them first, and records that the flow is reverted.
-#[tactic(auto, using(crate::proofs::StepLemmas::reverted_end, crate::proofs::StepLemmas::reverts_still, crate::proofs::StepLemmas::reverted_settled))]
-fn revert<K: Desk>(
-    outline: &Outline<'_>,
-    executed: u16,
-    history: &mut History,
-    desk: &mut K,
-) -> Result<FlowState, Halt>
-    requires some { 0 < executed }
-    requires place { executed ≤ count outline.now }
-    requires situation { Reverts (snapshot history.old) executed }
-    ensures ended { (before : Option (List ℕ)) → GoesOn outline.now before history.old (K.shown desk.old) → IfOk result (IsEnded outline.now before history.new (K.shown desk.new)) }
-    ensures halted { (before : Option (List ℕ)) → GoesOn outline.now before history.old (K.shown desk.old) → IfErr result (IsHalted outline.now before history.new (K.shown desk.new)) }
-    ensures cause { IsErrOf result Halt.Out → Rises (K.out_faults desk.old) (K.out_faults desk.new) }
-    ensures no_fall { K.out_faults desk.old ≤ K.out_faults desk.new }
-{
-    for atom in (0..executed).rev() {
-        undo(outline, atom, history, desk)?;
-    }
-    finish(outline, FlowState::Reverted, history, desk)?;
-    Ok(FlowState::Reverted)
-}
-
-/// Reverts one task.
-#[tactic(auto, using(crate::proofs::SituationLemmas::undoing, crate::proofs::SituationLemmas::undone, crate::proofs::StepLemmas::revert_step, crate::proofs::StepLemmas::reverted_step))]
-fn undo<K: Desk>(
-    outline: &Outline<'_>,
-    atom: u16,
-    history: &mut History,
-    desk: &mut K,
-) -> Result<(), Halt>
-    requires place { atom < count outline.now }
-    requires situation { Reverts (snapshot history.old) (atom + 1) }
-    ensures situation { OnOk result (Reverts (snapshot history.new) atom) }
-    ensures goes_on { (before : Option (List ℕ)) → GoesOn outline.now before history.old (K.shown desk.old) → OnOk result (GoesOn outline.now before history.new (K.shown desk.new)) }
-    ensures halted { (before : Option (List ℕ)) → GoesOn outline.now before history.old (K.shown desk.old) → IfErr result (IsHalted outline.now before history.new (K.shown desk.new)) }
-    ensures cause { IsErrOf result Halt.Out → Rises (K.out_faults desk.old) (K.out_faults desk.new) }
-    ensures no_fall { K.out_faults desk.old ≤ K.out_faults desk.new }
-{
-    step(
-        outline,
-        history,
-        atom_enters(atom, AtomState::Reverting, Payload::Empty),
-        desk,
-    )?;
-    step(
-        outline,
-        history,
-        atom_enters(atom, AtomState::Reverted, Payload::Empty),
-        desk,
-    )
-}
-
-/// Records the end of the flow.
-fn finish<K: Desk>(
-    outline: &Outline<'_>,
-    last: FlowState,
-    history: &mut History,
-    desk: &mut K,
-) -> Result<(), Halt>
-    requires end { end_of outline.now (snapshot history.old) ≡ Some last }
-    requires still { is_still outline.now (snapshot history.old) ≡ true }
-    requires last { is_final last ≡ true }
-    requires undone { last ≡ FlowState.Reverted → (a : ℕ) → a < count outline.now → is_settled (state_of history.old a) ≡ true }
-    ensures ended { (before : Option (List ℕ)) → GoesOn outline.now before history.old (K.shown desk.old) → OnOk result (IsEnded outline.now before history.new (K.shown desk.new) last) }
-    ensures halted { (before : Option (List ℕ)) → GoesOn outline.now before history.old (K.shown desk.old) → IfErr result (IsHalted outline.now before history.new (K.shown desk.new)) }
-    ensures cause { IsErrOf result Halt.Out → Rises (K.out_faults desk.old) (K.out_faults desk.new) }
-    ensures no_fall { K.out_faults desk.old ≤ K.out_faults desk.new }
-{
-    history.record(outline, What::Flow(last), desk)
-}
-
-/// Records an entry that is not of the flow.
-#[tactic(auto, using(crate::proofs::StandingLemmas::goes_further))]
-fn step<K: Desk>(
-    outline: &Outline<'_>,
-    history: &mut History,
+/// Records what is forced.
+#[tactic(auto, using(crate::proofs::EngineLemmas::forced_step, crate::proofs::EngineLemmas::forced_within, crate::proofs::EngineLemmas::forced_rests, crate::proofs::EngineLemmas::forced_falls))]
+fn force<K: Desk>(
+    machine: &mut Machine,
+    log: &mut Log,
     what: What,
     desk: &mut K,
 ) -> Result<(), Halt>
-    requires allowed { Step outline.now (snapshot history.old) (by_hand what) }
-    requires inner { is_of_flow what ≡ false }
-    requires given { IsGiven outline.now what }
-    ensures recorded { OnOk result (history.new ≡ by_hand what ∷ history.old) }
-    ensures goes_on { (before : Option (List ℕ)) → GoesOn outline.now before history.old (K.shown desk.old) → OnOk result (GoesOn outline.now before history.new (K.shown desk.new)) }
-    ensures halted { (before : Option (List ℕ)) → GoesOn outline.now before history.old (K.shown desk.old) → IfErr result (IsHalted outline.now before history.new (K.shown desk.new)) }
+    requires rests { Rests machine.old }
+    requires plain { IsPlain machine.old.plan }
+    requires forced { forced (outline machine.old) (shown machine.old) ≡ Some what }
+    ensures plan { machine.new.plan ≡ machine.old.plan }
+    ensures goes { (before : Option (List ℕ)) → GoesSomewhere machine.old log.old before (K.shown desk.old) → OnOk result (GoesSomewhere machine.new log.new before (K.shown desk.new)) }
+    ensures rests { OnOk result (Rests machine.new) }
+    ensures less { OnOk result (remaining (outline machine.new) (shown machine.new) < remaining (outline machine.old) (shown machine.old)) }
+    ensures halted { (before : Option (List ℕ)) → GoesSomewhere machine.old log.old before (K.shown desk.old) → IfErr result (HasHalted (outline machine.old) before (K.shown desk.new)) }
     ensures cause { IsErrOf result Halt.Out → Rises (K.out_faults desk.old) (K.out_faults desk.new) }
     ensures no_fall { K.out_faults desk.old ≤ K.out_faults desk.new }
 {
-    history.record(outline, what, desk)
+    note(machine, log, entry_of(what), desk)
 }
 
-fn atom_enters(atom: u16, state: AtomState, payload: Payload) -> What
-    ensures { result ≡ What.Atom atom state payload }
+/// Takes a task up, performs it and records its end.
+#[tactic(auto, using(crate::proofs::EngineLemmas::taken_step, crate::proofs::EngineLemmas::start_within, crate::proofs::EngineLemmas::task_here, crate::proofs::EngineLemmas::end_allowed, crate::proofs::EngineLemmas::end_within, crate::proofs::EngineLemmas::end_rests, crate::proofs::EngineLemmas::end_falls))]
+fn take_up<K: Desk>(
+    alloc: Global,
+    machine: &mut Machine,
+    log: &mut Log,
+    start: Start,
+    desk: &mut K,
+) -> Result<(), Halt>
+    requires rests { Rests machine.old }
+    requires plain { IsPlain machine.old.plan }
+    requires usable { is_usable machine.old.plan.store (tree_of machine.old.plan.root) ≡ true }
+    requires chosen { choice (outline machine.old) (shown machine.old) ≡ Some (start_entry start) }
+    requires action { start.action ≡ action_in ((shown machine.old).state start.atom) }
+    ensures plan { machine.new.plan ≡ machine.old.plan }
+    ensures goes { (before : Option (List ℕ)) → GoesSomewhere machine.old log.old before (K.shown desk.old) → OnOk result (GoesSomewhere machine.new log.new before (K.shown desk.new)) }
+    ensures rests { OnOk result (Rests machine.new) }
+    ensures less { OnOk result (remaining (outline machine.new) (shown machine.new) < remaining (outline machine.old) (shown machine.old)) }
+    ensures halted { (before : Option (List ℕ)) → GoesSomewhere machine.old log.old before (K.shown desk.old) → IfErr result (HasHalted (outline machine.old) before (K.shown desk.new)) }
+    ensures cause { IsErrOf result Halt.Out → Rises (K.out_faults desk.old) (K.out_faults desk.new) }
+    ensures no_fall { K.out_faults desk.old ≤ K.out_faults desk.new }
+{
+    note(machine, log, entry_of(started(start)), desk)?;
+    let Ok(outcome) = outcome_of(alloc, machine, start) else {
+        return Err(Halt::Memory);
+    };
+    note(machine, log, entry_of(ended(start, outcome)), desk)
+}
+
+/// Records an entry that is not of the flow.
+fn note<K: Desk>(
+    machine: &mut Machine,
+    log: &mut Log,
+    entry: Entry,
+    desk: &mut K,
+) -> Result<(), Halt>
+    requires allowed { Step (outline machine.old) (shown machine.old) entry }
+    requires within { is_within entry.what ≡ true }
+    ensures plan { machine.new.plan ≡ machine.old.plan }
+    ensures counted { OnOk result (log.new ≡ log.old + 1) }
+    ensures moved { OnOk result (shown machine.new ≡ later (outline machine.old) entry (shown machine.old)) }
+    ensures goes { (before : Option (List ℕ)) (inner : List Record) → Goes machine.old log.old before inner (K.shown desk.old) → IsGiven (outline machine.old) (begun inner) entry.what → OnOk result (Goes machine.new log.new before (entry ∷ inner) (K.shown desk.new)) }
+    ensures halted { (before : Option (List ℕ)) (inner : List Record) → Goes machine.old log.old before inner (K.shown desk.old) → IsGiven (outline machine.old) (begun inner) entry.what → IfErr result (HasHalted (outline machine.old) before (K.shown desk.new)) }
+    ensures cause { IsErrOf result Halt.Out → Rises (K.out_faults desk.old) (K.out_faults desk.new) }
+    ensures no_fall { K.out_faults desk.old ≤ K.out_faults desk.new }
+{
+    log.record(machine, entry, desk)
+}
+
+/// Records the end of the run, which always is there where nothing is left to do.
+#[tactic(auto, using(crate::proofs::EngineLemmas::end_last, crate::proofs::EngineLemmas::last_step))]
+fn finish<K: Desk>(machine: &mut Machine, log: &mut Log, desk: &mut K) -> Result<FlowState, Halt>
+    requires rests { Rests machine.old }
+    requires history { HasHistory machine.old }
+    requires unforced { forced (outline machine.old) (shown machine.old) ≡ None }
+    requires unchosen { choice (outline machine.old) (shown machine.old) ≡ None }
+    ensures plan { machine.new.plan ≡ machine.old.plan }
+    ensures ended { (before : Option (List ℕ)) → GoesSomewhere machine.old log.old before (K.shown desk.old) → IfOk result (HasEnded (outline machine.old) before (K.shown desk.new)) }
+    ensures halted { (before : Option (List ℕ)) → GoesSomewhere machine.old log.old before (K.shown desk.old) → IfErr result (HasHalted (outline machine.old) before (K.shown desk.new)) }
+    ensures cause { IsErrOf result Halt.Out → Rises (K.out_faults desk.old) (K.out_faults desk.new) }
+    ensures no_fall { K.out_faults desk.old ≤ K.out_faults desk.new }
+{
+    let Some(last) = machine.ended() else {
+        unreachable!();
+    };
+    match log.record(machine, entry_of(What::Flow(last)), desk) {
+        Ok(()) => Ok(machine.flow_state()),
+        Err(halt) => Err(halt),
+    }
+}
+
+/// What the hand of the run records.
+fn entry_of(what: What) -> Entry
+    ensures { result ≡ by_hand what }
+{
+    Entry { hand: HAND, what }
+}
+
+/// What is recorded as a task is taken up.
+fn started(start: Start) -> What
+    ensures { result ≡ start_entry start }
+{
+    if start.restart {
+        return What::Restart(start.atom);
+    }
+    let state = match start.action {
+        Action::Execute => AtomState::Running,
+        Action::Revert => AtomState::Reverting,
+    };
+    What::Atom {
+        atom: start.atom,
+        state,
+        payload: Payload::Empty,
+    }
+}
+
+/// What the task gives: what its kind says where it is executed, and nothing where it is reverted.
+fn outcome_of(alloc: Global, machine: &Machine, start: Start) -> Result<Outcome, Memory>
+    requires usable { is_usable machine.now.plan.store (tree_of machine.now.plan.root) ≡ true }
+    requires task { is_task (outline machine.now) start.atom ≡ true }
+    ensures { IfOk result (λ outcome. (s : Snapshot) → IsOutcomeOf (outline machine.now) s start outcome) }
+{
+    match start.action {
+        Action::Execute => perform(alloc, machine.plan(), start.atom),
+        Action::Revert => Ok(Outcome::Gave(Val::Nothing)),
+    }
+}
+
+/// What is recorded as a task ends.
+fn ended(start: Start, outcome: Outcome) -> What
+    ensures { result ≡ ended_from start.atom (begun_by start.action) outcome }
+{
+    match start.action {
+        Action::Execute => executed(start.atom, outcome),
+        Action::Revert => reverted(start.atom, outcome),
+    }
+}
+
+/// The end of an execution.
+fn executed(atom: u16, outcome: Outcome) -> What
+    ensures { result ≡ ended_from atom running outcome }
+{
+    match outcome {
+        Outcome::Gave(value) => What::Atom {
+            atom,
+            state: AtomState::Success,
+            payload: Payload::Value(value),
+        },
+        Outcome::Failed(fault) => failed(atom, AtomState::Failure, fault),
+    }
+}
+
+/// The end of a reversion.
+fn reverted(atom: u16, outcome: Outcome) -> What
+    ensures { result ≡ ended_from atom reverting outcome }
+{
+    match outcome {
+        Outcome::Gave(_) => What::Atom {
+            atom,
+            state: AtomState::Reverted,
+            payload: Payload::Empty,
+        },
+        Outcome::Failed(fault) => failed(atom, AtomState::RevertFailure, fault),
+    }
+}
+
+/// An end in a state with a failure.
+fn failed(atom: u16, state: AtomState, fault: Failure) -> What
+    ensures { result ≡ event.Atom atom state (held.Fault fault) }
 {
     What::Atom {
         atom,
         state,
-        payload,
+        payload: Payload::Fault(fault),
     }
 }

@@ -1,13 +1,16 @@
-ghost use Rattle.std.specs.Prelude.{◌≡◌, [], ◌∷◌, ◌++◌, OnOk};
-ghost use Rattle.std.specs.List.{slice_get};
-ghost use Rattle.taskflow.specs.Lines.{atom_word as word_of_atom, flow_word as word_of_flow, kind_word as word_of_kind, limit_word as word_of_limit, failure_text, payload_text, name_of, name_at as name_under, what_text, line, report, plan_fault_text, file_fault_text, refusal};
+ghost use Rattle.std.specs.Prelude.{◌≡◌, ◌≤◌, [], ◌∷◌, ◌++◌, OnOk, length};
+ghost use Rattle.std.specs.List.{flat_map};
+ghost use Rattle.tf_model.specs.Numbers.{which_below};
+ghost use Rattle.tf_model.specs.Plan.{outline_of, count, is_task, atom_name as name_of_atom};
+ghost use Rattle.taskflow.specs.Lines.{atom_word as word_of_atom, flow_word as word_of_flow, kind_word as word_of_kind, limit_word as word_of_limit, failure_text, payload_text, part_word as word_of_part, flow_name as name_of_flow, what_text, line, report, checked, tasks_below, spaced, plan_fault_text, file_fault_text, compile_fault_text, refusal_text, refusal};
 
-use crate::outline::Outline;
+use crate::accepting::Refusal;
 use itoa::{Buffer, Integer};
-use tf_files::FileFault;
-use tf_flow::{Limit, PlanFault};
+use tf_document::{FileFault, Path};
+use tf_flow::{Limit, Plan, PlanFault};
+use tf_order::CompileFault;
 use tf_states::{AtomState, Entry, Failure, FlowState, Kind, Payload, What};
-use tf_values::Memory;
+use tf_values::{Memory, Name};
 
 /// The message for words that are no command.
 pub const USAGE: &[u8] = b"taskflow: usage\n";
@@ -20,43 +23,103 @@ pub const TOO_LONG: &[u8] = b"taskflow: flow file: too long\n";
 
 /// Appends the line of the entry of that number.
 #[tactic(auto, unfolding(crate::specs::Lines::line))]
-pub fn append_line(
-    outline: &Outline<'_>,
-    number: u64,
-    entry: &Entry,
-    out: &mut Vec<u8>,
-) -> Result<(), Memory>
-    ensures { OnOk result (out.new.items ≡ out.old.items ++ line outline.now number entry.now) }
+pub fn append_line(plan: &Plan, number: u64, entry: &Entry, out: &mut Vec<u8>) -> Result<(), Memory>
+    ensures { OnOk result (out.new.items ≡ out.old.items ++ line (outline_of plan.now) number entry.now) }
 {
     append_number(number, out)?;
     append(b" ", out)?;
     append_number(entry.hand, out)?;
     append(b" ", out)?;
-    append_what(outline, &entry.what, out)?;
+    append_what(plan, &entry.what, out)?;
     append(b"\n", out)
 }
 
 /// Appends what a run says last.
 #[tactic(auto, unfolding(crate::specs::Lines::report))]
-pub fn append_report(
-    outline: &Outline<'_>,
-    state: FlowState,
-    out: &mut Vec<u8>,
-) -> Result<(), Memory>
-    ensures { OnOk result (out.new.items ≡ out.old.items ++ report outline.now state) }
+pub fn append_report(plan: &Plan, state: FlowState, out: &mut Vec<u8>) -> Result<(), Memory>
+    ensures { OnOk result (out.new.items ≡ out.old.items ++ report (outline_of plan.now) state) }
 {
-    append_named(b"end ", outline.name().bytes(), flow_word(state), out)?;
+    append_named(b"end ", flow_name(plan, 0), flow_word(state), out)?;
     append(b"\n", out)
+}
+
+/// Appends what a check says of a plan.
+#[tactic(auto, unfolding(crate::specs::Lines::checked), using(crate::proofs::LineLemmas::atoms_counted, crate::proofs::LineLemmas::flows_counted))]
+pub fn append_checked(plan: &Plan, out: &mut Vec<u8>) -> Result<(), Memory>
+    ensures { OnOk result (out.new.items ≡ out.old.items ++ checked (outline_of plan.now)) }
+{
+    let tasks = count_tasks(plan);
+    append_pair(b"ok ", flow_name(plan, 0), out)?;
+    append_counted(b": ", tasks, out)?;
+    append_counted(b" tasks, ", plan.atoms() - tasks, out)?;
+    append_counted(b" retries, ", plan.flows(), out)?;
+    append(b" flows\n", out)
+}
+
+/// How many tasks the plan has.
+fn count_tasks(plan: &Plan) -> u16
+    ensures is { result ≡ tasks_below (outline_of plan.now) (count (outline_of plan.now)) }
+    ensures few { result ≤ count (outline_of plan.now) }
+{
+    let mut tasks = 0;
+    for atom in 0..plan.atoms() {
+        if !plan.is_retry(atom) {
+            tasks += 1;
+        }
+    }
+    tasks
 }
 
 /// Appends the message for a flow file that is refused for the reason.
 #[tactic(auto, unfolding(crate::specs::Lines::refusal))]
-pub fn append_refusal(reason: &FileFault, out: &mut Vec<u8>) -> Result<(), Memory>
-    ensures { OnOk result (out.new.items ≡ out.old.items ++ refusal (file_fault_text reason.now)) }
+pub fn append_refusal(reason: &Refusal, out: &mut Vec<u8>) -> Result<(), Memory>
+    ensures { OnOk result (out.new.items ≡ out.old.items ++ refusal (refusal_text reason.now)) }
 {
     append(b"taskflow: flow file: ", out)?;
-    append_file_fault(reason, out)?;
+    append_reason(reason, out)?;
     append(b"\n", out)
+}
+
+fn append_reason(reason: &Refusal, out: &mut Vec<u8>) -> Result<(), Memory>
+    ensures { OnOk result (out.new.items ≡ out.old.items ++ refusal_text reason.now) }
+{
+    match reason {
+        Refusal::File(fault) => append_file_fault(fault, out),
+        Refusal::Compile(fault) => append_compile_fault(fault, out),
+        Refusal::NotBuilt => append(b"not built", out),
+        Refusal::Memory => Ok(()),
+    }
+}
+
+fn append_compile_fault(fault: &CompileFault, out: &mut Vec<u8>) -> Result<(), Memory>
+    ensures { OnOk result (out.new.items ≡ out.old.items ++ compile_fault_text fault.now) }
+{
+    match fault {
+        CompileFault::Ambiguous {
+            symbol,
+            first,
+            second,
+        } => {
+            append_pair(b"ambiguous ", symbol.bytes(), out)?;
+            append_pair(b" ", first.bytes(), out)?;
+            append_pair(b" ", second.bytes(), out)
+        }
+        CompileFault::Cycle(names) => {
+            append(b"cycle", out)?;
+            append_names(names.items(), out)
+        }
+        CompileFault::Memory => Ok(()),
+    }
+}
+
+/// Appends names, each after a space.
+fn append_names(names: &[Name], out: &mut Vec<u8>) -> Result<(), Memory>
+    ensures { OnOk result (out.new.items ≡ out.old.items ++ flat_map spaced names.now) }
+{
+    for name in names {
+        append_pair(b" ", name.bytes(), out)?;
+    }
+    Ok(())
 }
 
 fn append_file_fault(fault: &FileFault, out: &mut Vec<u8>) -> Result<(), Memory>
@@ -65,9 +128,23 @@ fn append_file_fault(fault: &FileFault, out: &mut Vec<u8>) -> Result<(), Memory>
     match fault {
         FileFault::NotBuilt => append(b"not built", out),
         FileFault::NotToml => append(b"not toml", out),
+        FileFault::UnknownKey(path) => append_place(b"unknown key ", path, out),
+        FileFault::MissingKey(path) => append_place(b"missing key ", path, out),
+        FileFault::WrongKind(path) => append_place(b"wrong kind ", path, out),
+        FileFault::BadName(path) => append_place(b"bad name ", path, out),
+        FileFault::BadChoice(path) => append_place(b"bad choice ", path, out),
+        FileFault::BadNumber(path) => append_place(b"bad number ", path, out),
+        FileFault::BadValue(path) => append_place(b"bad value ", path, out),
         FileFault::Plan(fault) => append_plan_fault(fault, out),
         FileFault::Memory => Ok(()),
     }
+}
+
+/// Appends a head and a path.
+fn append_place(head: &[u8], path: &Path, out: &mut Vec<u8>) -> Result<(), Memory>
+    ensures { OnOk result (out.new.items ≡ out.old.items ++ (head.now ++ path.now)) }
+{
+    append_pair(head, path.bytes(), out)
 }
 
 fn append_plan_fault(fault: &PlanFault, out: &mut Vec<u8>) -> Result<(), Memory>
@@ -89,8 +166,8 @@ fn append_plan_fault(fault: &PlanFault, out: &mut Vec<u8>) -> Result<(), Memory>
     }
 }
 
-fn append_what(outline: &Outline<'_>, what: &What, out: &mut Vec<u8>) -> Result<(), Memory>
-    ensures { OnOk result (out.new.items ≡ out.old.items ++ what_text outline.now what.now) }
+fn append_what(plan: &Plan, what: &What, out: &mut Vec<u8>) -> Result<(), Memory>
+    ensures { OnOk result (out.new.items ≡ out.old.items ++ what_text (outline_of plan.now) what.now) }
 {
     match what {
         What::Atom {
@@ -98,22 +175,17 @@ fn append_what(outline: &Outline<'_>, what: &What, out: &mut Vec<u8>) -> Result<
             state,
             payload,
         } => {
-            append(b"task ", out)?;
-            append(name_at(outline, *atom), out)?;
+            append(part_word(plan, *atom).as_bytes(), out)?;
+            append(atom_name(plan, *atom), out)?;
             append(b" ", out)?;
             append(atom_word(*state).as_bytes(), out)?;
             append_payload(payload, out)
         }
-        What::Flow(state) => {
-            append_named(b"flow ", outline.name().bytes(), flow_word(*state), out)
+        What::Flow(state) => append_named(b"flow ", flow_name(plan, 0), flow_word(*state), out),
+        What::Resolve { flow, kind } => {
+            append_named(b"resolve ", flow_name(plan, *flow), kind_word(*kind), out)
         }
-        What::Resolve { flow: _, kind } => {
-            append_named(b"resolve ", outline.name().bytes(), kind_word(*kind), out)
-        }
-        What::Restart(atom) => {
-            append(b"restart ", out)?;
-            append(name_at(outline, *atom), out)
-        }
+        What::Restart(atom) => append_pair(b"restart ", atom_name(plan, *atom), out),
     }
 }
 
@@ -200,13 +272,39 @@ fn append(bytes: &[u8], out: &mut Vec<u8>) -> Result<(), Memory>
 }
 
 /// The name of the atom of that number, and nothing where there is none.
-fn name_at<'a>(outline: &'a Outline<'_>, atom: u16) -> &'a [u8]
-    ensures { result.now ≡ name_under outline.now atom }
+#[tactic(auto, using(crate::proofs::LineLemmas::atom_named, crate::proofs::LineLemmas::atom_past, crate::proofs::LineLemmas::atoms_counted))]
+fn atom_name(plan: &Plan, atom: u16) -> &[u8]
+    ensures { result.now ≡ name_of_atom (outline_of plan.now) atom }
 {
-    match outline.find(atom) {
-        Some(task) => task.name.bytes(),
-        None => b"",
+    if atom >= plan.atoms() {
+        return b"";
     }
+    plan.atom_name(atom).bytes()
+}
+
+/// The word for what the atom of that number is.
+#[tactic(auto, using(crate::proofs::LineLemmas::part_told, crate::proofs::LineLemmas::part_past, crate::proofs::LineLemmas::atoms_counted))]
+fn part_word(plan: &Plan, atom: u16) -> &'static str
+    ensures { result.now ≡ word_of_part (is_task (outline_of plan.now) atom) }
+{
+    if atom >= plan.atoms() {
+        return "retry ";
+    }
+    if plan.is_retry(atom) {
+        return "retry ";
+    }
+    "task "
+}
+
+/// The name of the flow of that number, and nothing where there is none.
+#[tactic(auto, using(crate::proofs::LineLemmas::flow_named, crate::proofs::LineLemmas::flow_past))]
+fn flow_name(plan: &Plan, flow: u16) -> &[u8]
+    ensures { result.now ≡ name_of_flow (outline_of plan.now) flow }
+{
+    if flow >= plan.flows() {
+        return b"";
+    }
+    plan.flow_name(flow).bytes()
 }
 
 fn atom_word(state: AtomState) -> &'static str

@@ -1,15 +1,18 @@
-ghost use Rattle.std.specs.Prelude.{◌≡◌, ℕ, ◌+◌, ◌≤◌, [], ◌∷◌, List, length, Option, Some, None, OnOk, IfErr, IsErrOf, false};
+ghost use Rattle.std.specs.Prelude.{◌≡◌, ℕ, ◌+◌, ◌≤◌, ◌∷◌, List, OnOk, IsErrOf};
 ghost use Rattle.tf_desk.specs.Counts.{Rises};
 ghost use Rattle.tf_desk.specs.Shown.{shown_with, ShowsFront};
+ghost use Rattle.tf_states.specs.declared.record.Entry.{Entry as Record};
+ghost use Rattle.tf_model.specs.Snapshot.{later};
+ghost use Rattle.tf_model.specs.Steps.{Step};
+ghost use Rattle.tf_machine.specs.Machine.{outline, shown, StandsFor};
 ghost use Rattle.taskflow.specs.Lines.{line};
-ghost use Rattle.taskflow.specs.Hands.{by_hand};
 
 use crate::lines::append_line;
-use crate::outline::Outline;
 use std::alloc::Global;
 use std::marker::Model;
 use tf_desk::Desk;
-use tf_states::{Entry, What};
+use tf_machine::Machine;
+use tf_states::Entry;
 use tf_values::Memory;
 
 /// Why a run was halted: its output failed, or memory ran out.
@@ -30,53 +33,59 @@ impl From<Memory> for Halt {
     }
 }
 
-/// The entries that a run has recorded. Contracts see them, the newest first.
+/// The lines that a run says. Contracts see the number of the last one.
 #[derive(Drop)]
-pub struct History {
-    entries: Vec<Entry>,
+pub struct Log {
+    number: u64,
     line: Vec<u8>,
 }
 
-impl Model for History {
-    ghost use Rattle.std.specs.Prelude.{List, reverse};
-    ghost use Rattle.tf_states.specs.declared.record.Entry.{Entry};
+impl Model for Log {
+    ghost use Rattle.std.specs.Prelude.{ℕ};
 
-    ghost Value = { List Entry };
+    ghost Value = { ℕ };
 
-    ghost view = { λ history. reverse history.entries.items };
+    ghost view = { λ log. log.number };
 }
 
-impl History {
-    /// No entry yet.
-    pub fn new(alloc: Global) -> History
-        ensures { result ≡ [] }
+impl Log {
+    /// No line yet.
+    pub fn new(alloc: Global) -> Log
+        ensures { result ≡ 0 }
     {
-        History {
-            entries: Vec::new(alloc),
+        Log {
+            number: 0,
             line: Vec::new(alloc),
         }
     }
 
-    /// Records an entry, and says its line at once. Want of memory comes before anything is recorded.
+    /// Records an entry that may follow, and says its line at once. Want of memory comes before anything
+    /// is recorded.
     pub fn record<K: Desk>(
         &mut self,
-        outline: &Outline<'_>,
-        what: What,
+        machine: &mut Machine,
+        entry: Entry,
         desk: &mut K,
     ) -> Result<(), Halt>
-        ensures ok { OnOk result ((self.new ≡ by_hand what ∷ self.old) × (K.shown desk.new ≡ shown_with (K.shown desk.old) (line outline.now (length self.old + 1) (by_hand what)))) }
-        ensures out { IsErrOf result Halt.Out → (self.new ≡ by_hand what ∷ self.old) × ShowsFront (K.shown desk.old) (line outline.now (length self.old + 1) (by_hand what)) (K.shown desk.new) }
+        requires allowed { Step (outline machine.old) (shown machine.old) entry }
+        ensures plan { machine.new.plan ≡ machine.old.plan }
+        ensures counted { OnOk result (self.new ≡ self.old + 1) }
+        ensures moved { OnOk result (shown machine.new ≡ later (outline machine.old) entry (shown machine.old)) }
+        ensures stands { OnOk result ((past : List Record) → StandsFor machine.old past → StandsFor machine.new (entry ∷ past)) }
+        ensures said { OnOk result (K.shown desk.new ≡ shown_with (K.shown desk.old) (line (outline machine.old) (self.old + 1) entry)) }
+        ensures out { IsErrOf result Halt.Out → ShowsFront (K.shown desk.old) (line (outline machine.old) (self.old + 1) entry) (K.shown desk.new) }
         ensures cause { IsErrOf result Halt.Out → Rises (K.out_faults desk.old) (K.out_faults desk.new) }
-        ensures memory { IsErrOf result Halt.Memory → (self.new ≡ self.old) × (K.shown desk.new ≡ K.shown desk.old) }
+        ensures memory { IsErrOf result Halt.Memory → K.shown desk.new ≡ K.shown desk.old }
         ensures no_fall { K.out_faults desk.old ≤ K.out_faults desk.new }
     {
-        let entry = Entry { hand: 0, what };
-        let number = self.entries.len() as u64 + 1;
-        self.line.clear();
-        append_line(outline, number, &entry, &mut self.line)?;
-        if self.entries.push(entry).is_err() {
+        // No run has so many entries; one that had would be halted as without memory.
+        let Some(number) = self.number.checked_add(1) else {
             return Err(Halt::Memory);
-        }
+        };
+        self.line.clear();
+        append_line(machine.plan(), number, &entry, &mut self.line)?;
+        self.number = number;
+        machine.advance(entry);
         match desk.say(&self.line) {
             Ok(()) => Ok(()),
             Err(_) => Err(Halt::Out),

@@ -1,12 +1,14 @@
-//! The program: it reads a flow file, runs the flow and says each transition.
+//! The program: it reads a flow file, checks it or runs its flow, and says each transition.
 #![tactic(auto)]
 
+mod accepting;
 mod built_in;
 mod command;
+mod constants;
 mod engine;
 mod lines;
 mod log;
-mod outline;
+mod tasks;
 mod top;
 mod words;
 

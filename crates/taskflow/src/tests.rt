@@ -17,7 +17,10 @@ struct Case {
 const TWO_ECHOES: &str =
     "name = \"main\"\nkind = \"linear\"\n[[items]]\ntask = \"a\"\nkind = \"echo\"\ninject = { value = 1 }\n[[items]]\ntask = \"b\"\nkind = \"echo\"\ninject = { value = \"two\" }\n";
 
-const RUNS: [Case; 3] = [
+const NESTED: &str =
+    "name = \"main\"\nkind = \"linear\"\nitems = [{ task = \"a\", kind = \"echo\", inject = { value = 1 } }, { flow = \"g\", kind = \"graph\", items = [{ task = \"x\", kind = \"echo\", inject = { value = 2 } }, { task = \"y\", kind = \"echo\", inject = { value = 3 } }], links = [{ from = \"y\", to = \"x\" }] }, { task = \"z\", kind = \"fail\", inject = { text = \"no\" } }]\n";
+
+const RUNS: [Case; 5] = [
     Case {
         shows: "two echoes",
         file: TWO_ECHOES,
@@ -31,9 +34,21 @@ const RUNS: [Case; 3] = [
         status: 10,
     },
     Case {
-        shows: "values without an argument, and truth",
-        file: "name = \"main\"\nkind = \"linear\"\nitems = [{ task = \"a\", kind = \"echo\" }, { task = \"b\", kind = \"echo\", inject = { v = true } }, { task = \"c\", kind = \"fail\", inject = { v = -7 } }, { task = \"d\", kind = \"echo\" }]\n",
-        says: "1 0 flow main RUNNING\n2 0 task a RUNNING\n3 0 task a SUCCESS null\n4 0 task b RUNNING\n5 0 task b SUCCESS true\n6 0 task c RUNNING\n7 0 task c FAILURE raised \"-7\"\n8 0 resolve main REVERT_ALL\n9 0 task c REVERTING\n10 0 task c REVERTED\n11 0 task b REVERTING\n12 0 task b REVERTED\n13 0 task a REVERTING\n14 0 task a REVERTED\n15 0 flow main REVERTED\nend main REVERTED\n",
+        shows: "the nested graph reverted",
+        file: NESTED,
+        says: "1 0 flow main RUNNING\n2 0 task a RUNNING\n3 0 task a SUCCESS 1\n4 0 task y RUNNING\n5 0 task y SUCCESS 3\n6 0 task x RUNNING\n7 0 task x SUCCESS 2\n8 0 task z RUNNING\n9 0 task z FAILURE raised \"no\"\n10 0 resolve main REVERT_ALL\n11 0 task z REVERTING\n12 0 task z REVERTED\n13 0 task x REVERTING\n14 0 task x REVERTED\n15 0 task y REVERTING\n16 0 task y REVERTED\n17 0 task a REVERTING\n18 0 task a REVERTED\n19 0 flow main REVERTED\nend main REVERTED\n",
+        status: 10,
+    },
+    Case {
+        shows: "links inferred in a graph, and values of the store before injected ones of other names",
+        file: "name = \"main\"\nkind = \"graph\"\nstore = { size = 3, zone = [\"a\", 1] }\nitems = [{ task = \"b\", kind = \"echo\", requires = [\"size\"], rebind = { extra = \"disk\" }, inject = { disk = 7 } }, { task = \"a\", kind = \"echo\", requires = [\"zone\"], provides = [\"disk\", \"size\"] }]\n",
+        says: "1 0 flow main RUNNING\n2 0 task a RUNNING\n3 0 task a SUCCESS [\"a\",1]\n4 0 task b RUNNING\n5 0 task b SUCCESS 3\n6 0 flow main SUCCESS\nend main SUCCESS\n",
+        status: 0,
+    },
+    Case {
+        shows: "values without an argument, truth, and several arguments joined",
+        file: "name = \"main\"\nkind = \"unordered\"\nitems = [{ task = \"a\", kind = \"echo\" }, { task = \"b\", kind = \"echo\", inject = { v = true } }, { task = \"c\", kind = \"fail\", inject = { v = -7, w = \"x\" } }, { task = \"d\", kind = \"echo\" }]\n",
+        says: "1 0 flow main RUNNING\n2 0 task a RUNNING\n3 0 task a SUCCESS null\n4 0 task b RUNNING\n5 0 task b SUCCESS true\n6 0 task c RUNNING\n7 0 task c FAILURE raised \"-7x\"\n8 0 resolve main REVERT_ALL\n9 0 task a REVERTING\n10 0 task a REVERTED\n11 0 task b REVERTING\n12 0 task b REVERTED\n13 0 task c REVERTING\n14 0 task c REVERTED\n15 0 flow main REVERTED\nend main REVERTED\n",
         status: 10,
     },
 ];
@@ -68,6 +83,8 @@ fn ran(
 
 const TRY: [&str; 2] = ["try", "flow.toml"];
 
+const CHECK: [&str; 2] = ["check", "flow.toml"];
+
 #[test]
 fn runs_and_reverts(rt: HostRuntime) -> Result<(), Fail> {
     for case in &RUNS {
@@ -80,43 +97,106 @@ fn runs_and_reverts(rt: HostRuntime) -> Result<(), Fail> {
 }
 
 /// What is refused, and the reason that is said.
-const REFUSALS: [(&str, &str); 19] = [
-    ("name = \"m\"\nkind = \"linear\"", "empty"),
-    ("name = \"m\"\nkind = \"linear\"\nitems = []", "empty"),
+const REFUSALS: [(&str, &str); 25] = [
+    (
+        "name = \"m\"\nkind = \"linear\"\n",
+        "empty",
+    ),
     (
         "name = \"m\"\nkind = \"linear\"\nitems = [{ task = \"x\", kind = \"echo\" }, { task = \"x\", kind = \"fail\" }]",
         "duplicate x",
     ),
     (
-        "name = \"m\"\nkind = \"linear\"\nitems = [{ task = \"m\", kind = \"echo\" }]",
-        "duplicate m",
+        "name = \"m\"\nkind = \"graph\"\nitems = [{ task = \"x\", kind = \"echo\" }]\nlinks = [{ from = \"x\", to = \"y\" }]",
+        "unknown item y",
     ),
-    ("name = ", "not toml"),
-    ("name = 99999999999999999999", "not toml"),
-    ("", "not built"),
-    ("name = \"m\"", "not built"),
-    ("kind = \"linear\"", "not built"),
-    ("name = 1\nkind = \"linear\"", "not built"),
-    ("name = \"1m\"\nkind = \"linear\"", "not built"),
-    ("name = \"m\"\nkind = \"graph\"", "not built"),
-    ("name = \"m\"\nkind = \"linear\"\nstore = {}", "not built"),
-    ("name = \"m\"\nkind = \"linear\"\nitems = 1", "not built"),
-    ("name = \"m\"\nkind = \"linear\"\nitems = [1]", "not built"),
+    (
+        "name = \"m\"\nkind = \"linear\"\nitems = [{ task = \"x\", kind = \"echo\" }, { task = \"y\", kind = \"echo\" }]\nlinks = [{ from = \"x\", to = \"y\" }]",
+        "bad link m",
+    ),
+    (
+        "name = \"m\"\nkind = \"linear\"\nitems = [{ task = \"x\", kind = \"echo\", requires = [\"a\", \"a\"] }]",
+        "bad atom x",
+    ),
+    (
+        "name = \"m\"\nkind = \"graph\"\nitems = [{ task = \"a\", kind = \"echo\", provides = \"s\" }, { task = \"b\", kind = \"echo\", provides = \"s\" }, { task = \"c\", kind = \"echo\", requires = [\"s\"] }]",
+        "ambiguous s a b",
+    ),
+    (
+        "name = \"m\"\nkind = \"graph\"\nitems = [{ task = \"a\", kind = \"echo\" }, { task = \"b\", kind = \"echo\" }]\nlinks = [{ from = \"a\", to = \"b\" }, { from = \"b\", to = \"a\" }]",
+        "cycle a b",
+    ),
+    (
+        "name = ",
+        "not toml",
+    ),
+    (
+        "",
+        "missing key name",
+    ),
+    (
+        "name = \"m\"",
+        "missing key kind",
+    ),
+    (
+        "name = \"m\"\nkind = \"linear\"\nretired = 1",
+        "unknown key retired",
+    ),
+    (
+        "name = \"m\"\nkind = \"linear\"\nitems = [{ flow = \"f\", kind = \"graph\", items = [{ task = \"x\", kind = \"echo\", \"a b\" = 1 }] }]",
+        "unknown key items.0.items.0.\"a b\"",
+    ),
+    (
+        "name = 1\nkind = \"linear\"",
+        "wrong kind name",
+    ),
+    (
+        "name = \"m\"\nkind = \"linear\"\nitems = [1]",
+        "wrong kind items.0",
+    ),
+    (
+        "name = \"1m\"\nkind = \"linear\"",
+        "bad name name",
+    ),
+    (
+        "name = \"m\"\nkind = \"linear\"\nitems = [{ task = \"x\", kind = \"echo\", requires = [\"a\", \"b c\"] }]",
+        "bad name items.0.requires.1",
+    ),
+    (
+        "name = \"m\"\nkind = \"circular\"",
+        "bad choice kind",
+    ),
+    (
+        "name = \"m\"\nkind = \"linear\"\nitems = [{ task = \"x\", kind = \"dance\" }]",
+        "bad choice items.0.kind",
+    ),
+    (
+        "name = \"m\"\nkind = \"linear\"\nitems = [{ task = \"x\", kind = \"echo\", priority = 2147483648 }]",
+        "bad number items.0.priority",
+    ),
+    (
+        "name = \"m\"\nkind = \"linear\"\nitems = [{ task = \"x\", kind = \"echo\", inject = { v = 1.5 } }]",
+        "bad value items.0.inject.v",
+    ),
     (
         "name = \"m\"\nkind = \"linear\"\nitems = [{ task = \"x\", kind = \"sum\" }]",
         "not built",
     ),
     (
-        "name = \"m\"\nkind = \"linear\"\nitems = [{ task = \"x\", kind = \"echo\", inject = {} }]",
-        "not built",
-    ),
-    (
-        "name = \"m\"\nkind = \"linear\"\nitems = [{ task = \"x\", kind = \"echo\", inject = { v = 1.5 } }]",
+        "name = \"m\"\nkind = \"linear\"\nretry = 1",
         "not built",
     ),
     (
         "name = \"m\"\nkind = \"linear\"\nitems = [{ task = \"x\", kind = \"echo\", priority = 1 }]",
         "not built",
+    ),
+    (
+        "name = \"m\"\nkind = \"linear\"\nitems = [{ task = \"x\", kind = \"echo\", provides = \"s\" }, { task = \"y\", kind = \"echo\", requires = [\"s\"] }]",
+        "not built",
+    ),
+    (
+        "name = \"m\"\nkind = \"linear\"\nitems = [{ flow = \"f1\", kind = \"linear\", items = [{ flow = \"f2\", kind = \"linear\", items = [{ flow = \"f3\", kind = \"linear\", items = [{ flow = \"f4\", kind = \"linear\", items = [{ flow = \"f5\", kind = \"linear\", items = [{ flow = \"f6\", kind = \"linear\", items = [{ flow = \"f7\", kind = \"linear\", items = [{ flow = \"f8\", kind = \"linear\", items = [{ flow = \"f9\", kind = \"linear\", items = [{ flow = \"f10\", kind = \"linear\", items = [{ flow = \"f11\", kind = \"linear\", items = [{ flow = \"f12\", kind = \"linear\", items = [{ flow = \"f13\", kind = \"linear\", items = [{ flow = \"f14\", kind = \"linear\", items = [{ flow = \"f15\", kind = \"linear\", items = [{ flow = \"f16\", kind = \"linear\", items = [{ task = \"x\", kind = \"echo\" }] }] }] }] }] }] }] }] }] }] }] }] }] }] }] }] }]",
+        "too large nesting 17",
     ),
 ];
 
@@ -128,6 +208,9 @@ fn refuses_with_the_reason(rt: HostRuntime) -> Result<(), Fail> {
         let want = format!(in alloc; "taskflow: flow file: {reason}\n")?;
         assert_eq!(rt; status, 4, "{file}");
         assert!(rt; text.as_slice() == want.as_bytes(), "{file}");
+        let (text, status) = ran(alloc, &CHECK, file.as_bytes(), &[], &[])?;
+        assert_eq!(rt; status, 4, "{file}");
+        assert!(rt; text.as_slice() == want.as_bytes(), "{file}");
     }
     let (text, status) = ran(alloc, &TRY, b"name = \"\xff\"", &[], &[])?;
     assert_eq!(rt; status, 4);
@@ -137,12 +220,14 @@ fn refuses_with_the_reason(rt: HostRuntime) -> Result<(), Fail> {
     assert_eq!(rt; status, 4);
     assert!(rt; text.as_slice() == b"taskflow: flow file: too long\n".as_slice());
     let (text, _) = ran(alloc, &TRY, &long[1..], &[], &[])?;
-    assert!(rt; text.as_slice() == b"taskflow: flow file: not built\n".as_slice());
+    assert!(rt; text.as_slice() == b"taskflow: flow file: missing key name\n".as_slice());
     Ok(())
 }
 
 /// Words, and whether they are a command.
-const WORDS: [(&[&str], bool); 9] = [
+const WORDS: [(&[&str], bool); 11] = [
+    (&["check"], false),
+    (&["check", "--", "flow.toml"], true),
     (&[], false),
     (&["try"], false),
     (&["run", "flow.toml"], false),
@@ -186,5 +271,11 @@ fn ends_by_its_faults(rt: HostRuntime) -> Result<(), Fail> {
     );
     let (_, status) = ran(alloc, &[], file, &[1], &[])?;
     assert_eq!(rt; status, 7);
+    let (text, status) = ran(alloc, &CHECK, NESTED.as_bytes(), &[], &[])?;
+    assert_eq!(rt; status, 0);
+    assert!(rt; text.as_slice() == b"ok main: 4 tasks, 0 retries, 2 flows\n".as_slice());
+    let (text, status) = ran(alloc, &CHECK, NESTED.as_bytes(), &[1], &[])?;
+    assert_eq!(rt; status, 7);
+    assert!(rt; text.as_slice() == b"ok main: 4 tasks, ".as_slice());
     Ok(())
 }

@@ -1,15 +1,16 @@
 ghost use Rattle.std.specs.Prelude.{◌≡◌, ◌≤◌, None};
 ghost use Rattle.tf_desk.specs.Counts.{Rises};
 ghost use Rattle.taskflow.specs.Course.{Course, Obeys, IsRefused, IsAccepted, IsComplete};
-ghost use Rattle.taskflow.specs.Words.{command_of, file_named};
+ghost use Rattle.taskflow.specs.Words.{command_of};
 
-use crate::command::{NO_COMMAND, OUT_OF_MEMORY, REFUSED, UNREAD, UNSAID, close, try_file};
+use crate::command::{
+    NO_COMMAND, OUT_OF_MEMORY, REFUSED, UNREAD, UNSAID, check_file, close, try_file,
+};
 use crate::lines::USAGE;
 use crate::words::{Asked, Word, read_words};
 use std::alloc::Global;
 use tf_desk::Desk;
 use tf_ports::Sources;
-use tf_values::Text;
 
 /// What a command reaches beside its words: the desk and the sources.
 #[derive(Drop)]
@@ -31,21 +32,22 @@ pub fn taskflow<K: Desk, S: Sources>(
     words: &[Word],
     outside: Outside<K, S>,
 ) -> Ended<K, S>
-    // The way that the command went: which command the words are, which plan the sources' bytes spell or
-    // why they spell none, what was recorded, what was shown, and the status.
+    // The way that the command went: which command the words are, which plan the sources' bytes give or
+    // why they give none, what was recorded, what was shown, and the status.
     ensures course { Course words.now (S.contents outside.sources) (K.shown outside.desk) (K.shown result.outside.desk) result.status }
 
     // Status 2 comes only where the words are no command.
     ensures no_command { result.status ≡ NO_COMMAND → command_of words.now ≡ None }
 
-    // Status 4 comes only where the file is too long or spells no plan.
+    // Status 4 comes only where the file is too long or gives no plan to run.
     ensures refused { result.status ≡ REFUSED → IsRefused words.now (S.contents outside.sources) }
 
-    // A file that spells a plan is run to its end, unless a count of faults rose or memory ran out.
-    ensures complete { IsAccepted words.now (S.contents outside.sources)
+    // A file that gives a plan is run to its end, or said to be in order, unless a count of faults rose or
+    // memory ran out.
+    ensures complete { (accepted : IsAccepted words.now (S.contents outside.sources))
         → ¬ (Rises (S.faults outside.sources) (S.faults result.outside.sources))
         → ¬ (Rises (K.out_faults outside.desk) (K.out_faults result.outside.desk))
-        → IsComplete result.status }
+        → IsComplete accepted.command result.status }
 
     // The file can't be read only where a count of the sources' faults rose.
     ensures unread { result.status ≡ UNREAD → Rises (S.faults outside.sources) (S.faults result.outside.sources) }
@@ -92,13 +94,8 @@ fn obey<K: Desk, S: Sources>(alloc: Global, asked: &Asked, desk: &mut K, sources
     ensures no_fall { K.out_faults desk.old ≤ K.out_faults desk.new }
     ensures no_source_fall { S.faults sources.old ≤ S.faults sources.new }
 {
-    try_file(alloc, file_to_try(asked), desk, sources)
-}
-
-/// The file that is asked for.
-fn file_to_try(asked: &Asked) -> &Text
-    ensures { result.now ≡ file_named asked.now }
-{
-    let Asked::Try { file } = asked;
-    file
+    match asked {
+        Asked::Try { file } => try_file(alloc, file, desk, sources),
+        Asked::Check { file } => check_file(alloc, file, desk, sources),
+    }
 }

@@ -1,6 +1,6 @@
-ghost use Rattle.std.specs.Prelude.{◌≡◌, ◌==◌, IfOk, option_map, string_bytes};
+ghost use Rattle.std.specs.Prelude.{◌≡◌, ◌==◌, IfOk, Some, option_map, string_bytes};
 ghost use Rattle.std.specs.Cmp.Lexicographic.{pointwise};
-ghost use Rattle.taskflow.specs.Words.{command_of, file_of as file_among, is_positional as positional, try_of as tries};
+ghost use Rattle.taskflow.specs.Words.{command_of, file_of as file_among, is_positional as positional, on_file as command_on, named_file};
 
 use std::alloc::Global;
 use std::marker::Model;
@@ -41,6 +41,8 @@ impl Word {
 pub enum Asked {
     /// Run the flow of a file, and keep nothing of it.
     Try { file: Text },
+    /// Read the flow of a file, and say what it has.
+    Check { file: Text },
 }
 
 /// The command that the words are, or none.
@@ -50,16 +52,19 @@ pub fn read_words(alloc: Global, words: &[Word]) -> Result<Option<Asked>, Memory
     let Some((first, others)) = words.split_first() else {
         return Ok(None);
     };
-    if first.bytes() != b"try".as_slice() {
+    let Some(file) = file_of(others) else {
         return Ok(None);
+    };
+    if first.bytes() == b"try".as_slice() {
+        return try_of(alloc, file);
     }
-    match file_of(others) {
-        Some(file) => try_of(alloc, file),
-        None => Ok(None),
+    if first.bytes() == b"check".as_slice() {
+        return check_of(alloc, file);
     }
+    Ok(None)
 }
 
-/// The word that names the file, among those after `try`.
+/// The word that names the file, among those after the first.
 fn file_of(words: &[Word]) -> Option<&Word>
     ensures { option_map (λ word. word.now) result ≡ file_among words.now }
 {
@@ -94,13 +99,33 @@ fn is_positional(word: &[u8]) -> bool
 
 /// The command to try the file that the word names.
 fn try_of(alloc: Global, word: &Word) -> Result<Option<Asked>, Memory>
-    ensures { IfOk result (λ asked. asked ≡ tries (Some word.now)) }
+    ensures { IfOk result (λ asked. asked ≡ command_on Asked.Try (Some word.now)) }
+{
+    match text_of(alloc, word)? {
+        Some(file) => Ok(Some(Asked::Try { file })),
+        None => Ok(None),
+    }
+}
+
+/// The command to check the file that the word names.
+fn check_of(alloc: Global, word: &Word) -> Result<Option<Asked>, Memory>
+    ensures { IfOk result (λ asked. asked ≡ command_on Asked.Check (Some word.now)) }
+{
+    match text_of(alloc, word)? {
+        Some(file) => Ok(Some(Asked::Check { file })),
+        None => Ok(None),
+    }
+}
+
+/// The text of a word that may name a file.
+fn text_of(alloc: Global, word: &Word) -> Result<Option<Text>, Memory>
+    ensures { IfOk result (λ text. text ≡ named_file word.now) }
 {
     if word.bytes().is_empty() {
         return Ok(None);
     }
     match Text::make(alloc, word.bytes()) {
-        Ok(file) => Ok(Some(Asked::Try { file })),
+        Ok(text) => Ok(Some(text)),
         Err(MakeFault::No) => Ok(None),
         Err(MakeFault::Memory) => Err(Memory),
     }

@@ -5,7 +5,7 @@ use Rattle.tf_flow.specs.Names.{is_among}
 use Rattle.tf_document.specs.Paths.{below, step_of}
 use Rattle.tf_document.specs.declared.faults.FileFault.{FileFault}
 use Rattle.tf_document.specs.declared.faults.FileFault.TheVariants as fault
-use Rattle.toml.specs.Data.{Data, as_str, as_array, as_table, Items, no_items, item, Members, no_members, member, get_member}
+use Rattle.toml.specs.Data.{Data, as_array, Items, no_items, item, Members, no_members, member, get_member}
 
 -- reading goes on with what was read
 abbrev pub chain : {A B : Type 0} → Result A FileFault → (A → Result B FileFault) → Result B FileFault

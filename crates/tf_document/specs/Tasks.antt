@@ -1,5 +1,5 @@
 -- The task that a table of a document spells.
-use Rattle.std.specs.Prelude.{ℕ, ℤ, pos, negsuc, int_le, List, [], ◌∷◌, ◌++◌, codes, Bool, not, ◌&&◌, ◌||◌, Option, Some, None, map, filter, Result, Ok, Err, if◌then◌else◌}
+use Rattle.std.specs.Prelude.{ℕ, ℤ, pos, negsuc, int_le, List, [], ◌∷◌, ◌++◌, codes, Bool, not, ◌&&◌, ◌||◌, map, filter, Result, Ok, Err, if◌then◌else◌}
 use Rattle.std.specs.List.{list_any}
 use Rattle.tf_flow.specs.Names.{same_name, is_among}
 use Rattle.tf_flow.specs.declared.atoms.Arg.{Arg}
@@ -10,7 +10,7 @@ use Rattle.tf_flow.specs.declared.atoms.Task.{Task}
 use Rattle.tf_flow.specs.declared.atoms.TaskKind.{TaskKind}
 use Rattle.tf_flow.specs.declared.atoms.TaskKind.TheVariants as kind
 use Rattle.tf_flow.specs.declared.atoms.Undo.TheVariants as undo
-use Rattle.tf_document.specs.Reading.{chain, known_only, required, optional, built_without, of_kind, array_of, put_first, each}
+use Rattle.tf_document.specs.Reading.{chain, known_only, required, optional, built_without, of_kind, put_first, each}
 use Rattle.tf_document.specs.Paths.{below}
 use Rattle.tf_document.specs.Values.{named, name_form, names_form, key_form, binds_form}
 use Rattle.tf_document.specs.declared.faults.FileFault.{FileFault}

@@ -1,5 +1,5 @@
 -- The names and values that stand in a document.
-use Rattle.std.specs.Prelude.{ℕ, ℤ, List, [], ◌∷◌, Option, Some, None, option_map, option_and_then, Result, Ok, Err, if◌then◌else◌}
+use Rattle.std.specs.Prelude.{ℕ, List, [], ◌∷◌, Option, Some, None, option_map, option_and_then, Result, Ok, Err, if◌then◌else◌}
 use Rattle.tf_values.specs.Name.{is_name}
 use Rattle.tf_values.specs.Scalars.{are_scalars}
 use Rattle.tf_values.specs.Text.{is_text}

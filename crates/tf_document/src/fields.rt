@@ -1,12 +1,14 @@
 ghost use Rattle.std.specs.Prelude.{◌≡◌, Some, Ok, IfOk, IfErr, IfSome, OnOk, map, option_map};
 ghost use Rattle.std.specs.Fmt.{decimal};
+ghost use Rattle.tf_flow.specs.Names.{is_among};
 ghost use Rattle.tf_document.specs.Paths.{below};
-ghost use Rattle.tf_document.specs.Reading.{Refuses, known_only as read_known, unknown_key, required_at, of_kind, has_key as key_is_there};
+ghost use Rattle.tf_document.specs.Reading.{Refuses, known_only as read_known, unknown_key as first_unknown, required_at, of_kind, has_key as key_is_there};
 ghost use Rattle.toml.specs.Data.{get_member, as_str, as_array, as_table};
 ghost use Rattle.toml.specs.View.{view, items_view, table_view};
 
 use crate::faults::FileFault;
 use crate::paths::Path;
+use itoa::Buffer;
 use std::alloc::Global;
 use tf_values::Memory;
 use toml::{Table, Value};
@@ -24,7 +26,10 @@ impl<'a> Field<'a> {
         ensures ok { IfOk result (λ word. as_str (view self.now.value.now) ≡ Some word.now) }
         ensures refused { IfErr result (Refuses (of_kind self.now.path (as_str (view self.now.value.now)) Ok)) }
     {
-        Err(FileFault::Memory)
+        match self.value.as_str() {
+            Some(word) => Ok(word),
+            None => Err(FileFault::WrongKind(self.path.copy(alloc)?)),
+        }
     }
 
     /// The items of the array that the value is, or `WrongKind`.
@@ -32,7 +37,10 @@ impl<'a> Field<'a> {
         ensures ok { IfOk result (λ items. as_array (view self.now.value.now) ≡ Some (items_view items.now)) }
         ensures refused { IfErr result (Refuses (of_kind self.now.path (as_array (view self.now.value.now)) Ok)) }
     {
-        Err(FileFault::Memory)
+        match self.value.as_array() {
+            Some(items) => Ok(items),
+            None => Err(FileFault::WrongKind(self.path.copy(alloc)?)),
+        }
     }
 
     /// The table that the value is, or `WrongKind`.
@@ -40,7 +48,10 @@ impl<'a> Field<'a> {
         ensures ok { IfOk result (λ table. as_table (view self.now.value.now) ≡ Some (table_view table.now)) }
         ensures refused { IfErr result (Refuses (of_kind self.now.path (as_table (view self.now.value.now)) Ok)) }
     {
-        Err(FileFault::Memory)
+        match self.value.as_table() {
+            Some(table) => Ok(table),
+            None => Err(FileFault::WrongKind(self.path.copy(alloc)?)),
+        }
     }
 }
 
@@ -54,7 +65,9 @@ pub fn item_at<'a>(
     ensures place { IfOk result (λ field. field.path ≡ below path.now (decimal number)) }
     ensures value { IfOk result (λ field. field.value.now ≡ value.now) }
 {
-    Err(Memory)
+    let mut buffer = Buffer::new();
+    let path = path.below(alloc, buffer.format(number).as_bytes())?;
+    Ok(Field { path, value })
 }
 
 /// Whether the table has the key.
@@ -78,10 +91,37 @@ pub fn known_only(
     known: &[&str],
     table: &Table,
 ) -> Result<(), FileFault>
-    ensures ok { OnOk result (unknown_key (map (λ key. key.now) known.now) (table_view table.now) ≡ None) }
+    ensures ok { OnOk result (first_unknown (map (λ key. key.now) known.now) (table_view table.now) ≡ None) }
     ensures refused { IfErr result (Refuses (read_known path.now (map (λ key. key.now) known.now) (table_view table.now) (Ok (table_view table.now)))) }
 {
-    Err(FileFault::Memory)
+    match unknown_key(known, table) {
+        None => Ok(()),
+        Some(key) => Err(FileFault::UnknownKey(path.below_key(alloc, key)?)),
+    }
+}
+
+/// The first key that isn't one of those that are known.
+fn unknown_key<'a>(known: &[&str], table: &'a Table) -> Option<&'a str>
+    ensures { option_map (λ key. key.now) result ≡ first_unknown (map (λ key. key.now) known.now) (table_view table.now) }
+{
+    for (key, _value) in table {
+        if !is_known(known, key.as_str()) {
+            return Some(key.as_str());
+        }
+    }
+    None
+}
+
+/// Whether the word is one of those.
+pub fn is_known(known: &[&str], word: &str) -> bool
+    ensures { result ≡ is_among (map (λ other. other.now) known.now) word.now }
+{
+    for other in known {
+        if word == *other {
+            return true;
+        }
+    }
+    false
 }
 
 /// The value at a key of the table under the path, which must be there.
@@ -95,7 +135,11 @@ pub fn required<'a>(
     ensures found { IfOk result (λ field. get_member key.now (table_view table.now) ≡ Some (view field.value.now)) }
     ensures refused { IfErr result (Refuses (required_at (below path.now key.now) (λ place found. Ok found) (get_member key.now (table_view table.now)))) }
 {
-    Err(FileFault::Memory)
+    let path = path.below(alloc, key.as_bytes())?;
+    match value_at(table, key) {
+        Some(value) => Ok(Field { path, value }),
+        None => Err(FileFault::MissingKey(path)),
+    }
 }
 
 /// The value at a key of the table under the path, if it is there.
@@ -108,5 +152,11 @@ pub fn optional<'a>(
     ensures place { IfOk result (λ found. IfSome found (λ field. field.path ≡ below path.now key.now)) }
     ensures found { IfOk result (λ found. option_map (λ field. view field.value.now) found ≡ get_member key.now (table_view table.now)) }
 {
-    Err(Memory)
+    match value_at(table, key) {
+        Some(value) => {
+            let path = path.below(alloc, key.as_bytes())?;
+            Ok(Some(Field { path, value }))
+        }
+        None => Ok(None),
+    }
 }

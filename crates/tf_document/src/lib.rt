@@ -1,9 +1,11 @@
 //! What a flow file's tables spell: names, values and tasks, each read under its path.
 #![tactic(auto)]
 
+mod arguments;
 mod faults;
 mod fields;
 mod paths;
+mod rebinds;
 mod tasks;
 mod values;
 

@@ -1,9 +1,9 @@
 ghost use Rattle.std.specs.Prelude.{◌≡◌, [], IfOk};
-ghost use Rattle.tf_document.specs.Paths.{below};
+ghost use Rattle.tf_document.specs.Paths.{below, step_of};
 
 use std::alloc::Global;
 use std::marker::Model;
-use tf_values::Memory;
+use tf_values::{Memory, Name};
 
 /// Where a value stands in a document: keys and numbers of items, with dots between. Contracts see the bytes.
 #[derive(Debug, Drop)]
@@ -47,5 +47,26 @@ impl Path {
         }
         bytes.extend_from_slice(step)?;
         Ok(Path { bytes })
+    }
+
+    /// The path of a key of a table: a key that is no name stands in its quoted form.
+    pub(crate) fn below_key(&self, alloc: Global, key: &str) -> Result<Path, Memory>
+        ensures { IfOk result (λ path. path ≡ below self.now (step_of key.now)) }
+    {
+        if Name::make(key.as_bytes()).is_some() {
+            return self.below(alloc, key.as_bytes());
+        }
+        let mut step = Vec::new(alloc);
+        tf_values::quote(key.as_bytes(), &mut step)?;
+        self.below(alloc, &step)
+    }
+
+    /// An equal path.
+    pub(crate) fn copy(&self, alloc: Global) -> Result<Path, Memory>
+        ensures { IfOk result (λ path. path ≡ self.now) }
+    {
+        Ok(Path {
+            bytes: Vec::from_slice(alloc, &self.bytes)?,
+        })
     }
 }

@@ -1,4 +1,4 @@
 pub mod DocumentLemmas
-pub mod MemberLemmas
-pub mod TreeRules
 pub mod BuiltLemmas
+pub mod NestedLemmas
+pub mod RootLemmas

@@ -1,151 +1,141 @@
 -- The plan that a flow file spells, or the first reason why it spells none.
-use Rattle.std.specs.Prelude.{◌≡◌, ℕ, pos, List, [], ◌∷◌, codes, Option, Some, None, option_map, option_and_then, if◌then◌else◌, ◌==◌, ◌&&◌, Bool, true, false, Result, Ok, Err, map}
+use Rattle.std.specs.Prelude.{ℕ, zero, suc, List, [], ◌∷◌, codes, Bool, true, false, not, ◌&&◌, Option, Some, None, is_none, Result, Ok, Err, if◌then◌else◌}
+use Rattle.std.specs.List.{list_all}
 use Rattle.std.specs.Option.{option_or}
-use Rattle.std.specs.Cmp.Lexicographic.{pointwise}
-use Rattle.tf_values.specs.Name.{is_name}
-use Rattle.tf_values.specs.Text.{is_text}
-use Rattle.tf_values.specs.declared.value.Val.{Val}
-use Rattle.tf_values.specs.declared.value.Val.TheVariants as value
-use Rattle.tf_flow.specs.declared.atoms.TaskKind.{TaskKind}
-use Rattle.tf_flow.specs.declared.atoms.TaskKind.TheVariants as kind
-use Rattle.tf_flow.specs.declared.atoms.Provides.TheVariants as provides
-use Rattle.tf_flow.specs.declared.atoms.Undo.TheVariants as undo
-use Rattle.tf_flow.specs.declared.atoms.Arg.{Arg}
-use Rattle.tf_flow.specs.declared.atoms.Bind.{Bind}
-use Rattle.tf_flow.specs.declared.atoms.Task.{Task}
-use Rattle.tf_flow.specs.declared.faults.PlanFault.{PlanFault}
-use Rattle.tf_flow.specs.declared.nested.FlowKind.TheVariants as pattern
+use Rattle.std.specs.Str.{is_utf8}
 use Rattle.tf_flow.specs.Limits.{capped, too_large}
+use Rattle.tf_flow.specs.Names.{same_name}
 use Rattle.tf_flow.specs.Places.{places}
 use Rattle.tf_flow.specs.Plan.{PlanValue}
 use Rattle.tf_flow.specs.Refusal.{broken_rule}
 use Rattle.tf_flow.specs.Tree.{Tree, task, flow, Trees, no_trees, tree, trees_of, tree_of, nesting}
-use Rattle.tf_files.specs.Document.{document_of, has_only, string_at}
-use Rattle.tf_files.specs.declared.reading.FileFault.{FileFault}
-use Rattle.tf_files.specs.declared.reading.FileFault.TheVariants as fault
-use Rattle.toml.specs.Data.{Data, string, integer, boolean, Items, no_items, item, Members, no_members, member, get_member, as_array, as_table}
+use Rattle.tf_flow.specs.declared.atoms.Bind.{Bind}
+use Rattle.tf_flow.specs.declared.atoms.TaskKind.{TaskKind}
+use Rattle.tf_flow.specs.declared.atoms.TaskKind.TheVariants as kind
+use Rattle.tf_flow.specs.declared.deciders.Link.{Link}
+use Rattle.tf_flow.specs.declared.faults.Limit.TheVariants as limit
+use Rattle.tf_flow.specs.declared.faults.PlanFault.{PlanFault}
+use Rattle.tf_flow.specs.declared.faults.PlanFault.TheVariants as plan_fault
+use Rattle.tf_flow.specs.declared.nested.FlowKind.{FlowKind}
+use Rattle.tf_flow.specs.declared.nested.FlowKind.TheVariants as pattern
+use Rattle.tf_document.specs.Reading.{chain, has_key, known_only, required, optional, built_without, of_kind, array_of}
+use Rattle.tf_document.specs.Values.{name_form, binds_form}
+use Rattle.tf_document.specs.Tasks.{task_form}
+use Rattle.tf_document.specs.declared.faults.FileFault.{FileFault}
+use Rattle.tf_document.specs.declared.faults.FileFault.TheVariants as fault
+use Rattle.toml.specs.Data.{Data, as_str, as_table, Members}
+use Rattle.toml.specs.Parse.{parse_document}
 
--- the name that a string is
-abbrev pub name_form : List ℕ → Option (List ℕ)
-name_form text = if is_name text then Some text else None
+-- ---- links
 
--- the value that a string, an integer or a truth value is
-abbrev pub value_form : Data → Option Val
-value_form (string text) = if is_text text then Some (value.Text text) else None
-value_form (integer number) = Some (value.Int number)
-value_form (boolean truth) = Some (value.Truth truth)
-value_form _ = None
+-- the keys of a link; the depth of a decider is unknown where there is no decider
+abbrev pub link_keys : Members → List (List ℕ)
+link_keys members = if has_key (codes "decider") members
+    then codes "from" ∷ codes "to" ∷ codes "decider" ∷ codes "depth" ∷ []
+    else codes "from" ∷ codes "to" ∷ codes "decider" ∷ []
 
--- the one binding that a table has: a symbol and its value
-abbrev pub one_bind : Members → Option Bind
-one_bind (member symbol bound no_members) = if is_name symbol then option_map (λ constant. record { symbol = symbol; value = constant }) (value_form bound) else None
-one_bind _ = None
+-- the link that the table under the path spells
+abbrev pub link_table : List ℕ → Members → Result Link FileFault
+link_table path members =
+    known_only path (link_keys members) members
+    (chain (required path (codes "from") members name_form) (λ from.
+    chain (required path (codes "to") members name_form) (λ to.
+    built_without (codes "decider") members
+    (Ok record { from = from; to = to; decider = None }))))
 
--- the binding that a table is
-abbrev pub bind_form : Data → Option Bind
-bind_form found = option_and_then one_bind (as_table found)
+-- a link
+abbrev pub link_form : List ℕ → Data → Result Link FileFault
+link_form path found = of_kind path (as_table found) (link_table path)
 
--- the bindings of a task: none, or the one of its table
-abbrev pub inject_form : Option Data → Option (List Bind)
-inject_form None = Some []
-inject_form (Some found) = option_map (λ bind. bind ∷ []) (bind_form found)
+-- links
+abbrev pub links_form : List ℕ → Data → Result (List Link) FileFault
+links_form path found = array_of link_form path found
 
--- the kind of task that a word is
-abbrev pub kind_form : List ℕ → Option TaskKind
-kind_form word =
-    if pointwise ◌==◌ word (codes "echo") then Some kind.Echo
-    else if pointwise ◌==◌ word (codes "fail") then Some kind.Fail
-    else None
+-- ---- flows
 
--- the keys of a task and of a flow
-abbrev pub task_keys : List (List ℕ)
-task_keys = codes "task" ∷ codes "kind" ∷ codes "inject" ∷ []
+-- the kind of flow that a word is
+abbrev pub pattern_named : List ℕ → List ℕ → Result FlowKind FileFault
+pattern_named path word =
+    if same_name word (codes "linear") then Ok pattern.Linear
+    else if same_name word (codes "unordered") then Ok pattern.Unordered
+    else if same_name word (codes "graph") then Ok pattern.Graph
+    else Err (fault.BadChoice path)
 
-abbrev pub flow_keys : List (List ℕ)
-flow_keys = codes "name" ∷ codes "kind" ∷ codes "items" ∷ []
+-- a kind of flow
+abbrev pub pattern_form : List ℕ → Data → Result FlowKind FileFault
+pattern_form path found = of_kind path (as_str found) (pattern_named path)
 
--- a task has one argument for each of its bindings, under the symbol's name
-abbrev pub argument : Bind → Arg
-argument bind = record { name = bind.symbol; symbol = bind.symbol }
+-- the keys of a nested flow, and of the root
+abbrev pub nested_keys : List (List ℕ)
+nested_keys = codes "flow" ∷ codes "kind" ∷ codes "retry" ∷ codes "items" ∷ codes "links" ∷ []
 
--- the task of a name, a kind and bindings; it needs and provides nothing else, and its revert passes
-abbrev pub bound_task : List ℕ → TaskKind → List Bind → Task
-bound_task name kind inject = record {
-  name = name;
-  kind = kind;
-  words = [];
-  args = map argument inject;
-  inject = inject;
-  provides = provides.Nothing;
-  priority = pos 0;
-  undo = undo.Pass;
-}
+abbrev pub root_keys : List (List ℕ)
+root_keys = codes "name" ∷ codes "kind" ∷ codes "store" ∷ codes "retry" ∷ codes "items" ∷ codes "links" ∷ []
 
--- the task of a name and a kind, with the bindings of its table
-abbrev pub kinded_task : Members → List ℕ → TaskKind → Option Task
-kinded_task members name kind = option_map (bound_task name kind) (inject_form (get_member (codes "inject") members))
+-- an item's table is that of a flow: it has the key `flow` and not the key `task`
+abbrev pub is_flow_table : Members → Bool
+is_flow_table members = has_key (codes "flow") members && not (has_key (codes "task") members)
 
--- the task of a name, with the kind and the bindings of its table
-abbrev pub named_task : Members → List ℕ → Option Task
-named_task members name = option_and_then (kinded_task members name) (option_and_then kind_form (string_at (codes "kind") members))
+-- the seventeenth flow in one another
+abbrev pub too_deep : FileFault
+too_deep = fault.Plan (plan_fault.TooLarge limit.Nesting 17)
 
--- the task that a table is
-abbrev pub task_form : Members → Option Task
-task_form members =
-    if has_only task_keys members
-    then option_and_then (named_task members) (option_and_then name_form (string_at (codes "task") members))
-    else None
+-- the task of a table
+abbrev pub task_item : List ℕ → Members → Result Tree FileFault
+task_item path members = chain (task_form path members) (λ t. Ok (task t))
 
--- the task that an item of an array is
-abbrev pub item_form : Data → Option Task
-item_form found = option_and_then task_form (as_table found)
+-- the item of a table, where a nested flow is read so
+abbrev pub item_table_by : (List ℕ → Members → Result Tree FileFault) → List ℕ → Members → Result Tree FileFault
+item_table_by nested path members = if is_flow_table members then nested path members else task_item path members
 
--- the items that an array is
-abbrev pub items_form : Items → Option (List Tree)
-items_form no_items = Some []
-items_form (item found others) = option_and_then (λ first. option_map (λ rest. task first ∷ rest) (items_form others)) (item_form found)
+-- an item
+abbrev pub item_by : (List ℕ → Members → Result Tree FileFault) → List ℕ → Data → Result Tree FileFault
+item_by nested path found = of_kind path (as_table found) (item_table_by nested path)
 
--- the items at their key: none where it isn't there
-abbrev pub list_form : Option Data → Option (List Tree)
-list_form None = Some []
-list_form (Some found) = option_and_then items_form (as_array found)
+-- what stands behind the name and the kind of a flow
+abbrev pub inside_by : (List ℕ → Members → Result Tree FileFault) → List ℕ → Members → List ℕ → FlowKind → Result Tree FileFault
+inside_by nested path members name kind =
+    built_without (codes "retry") members
+    (chain (optional path (codes "items") members [] (array_of (item_by nested))) (λ items.
+    chain (optional path (codes "links") members [] links_form) (λ links.
+    Ok (flow record { name = name; kind = kind; retry = None; links = links } (trees_of items)))))
 
--- the word is the one of a linear flow
-abbrev pub is_linear : Option (List ℕ) → Bool
-is_linear None = false
-is_linear (Some word) = pointwise ◌==◌ word (codes "linear")
+-- the nested flow of a table, where so many flows may still stand in one another: where none may, it is
+-- refused before its keys are looked at
+abbrev pub nested_flow : ℕ → List ℕ → Members → Result Tree FileFault
+nested_flow zero path values = Err too_deep
+nested_flow (suc left) path values =
+    known_only path nested_keys values
+    (chain (required path (codes "flow") values name_form) (λ name.
+    chain (required path (codes "kind") values pattern_form) (λ kind.
+    inside_by (nested_flow left) path values name kind)))
 
--- the linear flow of a name and items
-abbrev pub linear_flow : List ℕ → List Tree → Tree
-linear_flow name items = flow record { name = name; kind = pattern.Linear; retry = None; links = [] } (trees_of items)
+-- the same of an item, of its table, and of what stands in a flow
+abbrev pub item_form : ℕ → List ℕ → Data → Result Tree FileFault
+item_form left = item_by (nested_flow left)
 
--- the linear flow of a name, with the items of its document
-abbrev pub named_flow : Members → List ℕ → Option Tree
-named_flow members name = option_map (linear_flow name) (list_form (get_member (codes "items") members))
+abbrev pub item_table : ℕ → List ℕ → Members → Result Tree FileFault
+item_table left = item_table_by (nested_flow left)
 
--- the linear flow that a document is
-abbrev pub flow_form : Members → Option Tree
-flow_form members =
-    if has_only flow_keys members && is_linear (string_at (codes "kind") members)
-    then option_and_then (named_flow members) (option_and_then name_form (string_at (codes "name") members))
-    else None
+abbrev pub flow_inside : ℕ → List ℕ → Members → List ℕ → FlowKind → Result Tree FileFault
+flow_inside left = inside_by (nested_flow left)
 
--- the kinds of task that are built yet
-abbrev pub is_built_kind : TaskKind → Bool
-is_built_kind kind.Echo = true
-is_built_kind kind.Fail = true
-is_built_kind _ = false
+-- a root flow with a store
+pub record Root : Type 0 where
+  pub root : Tree
+  pub store : List Bind
 
--- the items are tasks of such kinds
-abbrev pub are_built : Trees → Bool
-are_built no_trees = true
-are_built (tree (task t) others) = is_built_kind t.kind && are_built others
-are_built (tree (flow head items) others) = false
+-- the root flow of a document, in which fifteen more may stand in one another
+abbrev pub root_form : Members → Result Root FileFault
+root_form members =
+    known_only [] root_keys members
+    (chain (required [] (codes "name") members name_form) (λ name.
+    chain (required [] (codes "kind") members pattern_form) (λ kind.
+    chain (optional [] (codes "store") members [] binds_form) (λ store.
+    chain (flow_inside 15 [] members name kind) (λ root.
+    Ok record { root = root; store = store })))))
 
--- a flow of such tasks
-abbrev pub is_built : Tree → Bool
-is_built (task t) = false
-is_built (flow head items) = are_built items
+-- ---- plans
 
 -- a plan as its tree, its store and whether reverts are deferred
 pub record PlanTree : Type 0 where
@@ -161,36 +151,51 @@ abbrev pub tree_name : Tree → List ℕ
 tree_name (task t) = t.name
 tree_name (flow head items) = head.name
 
--- the first refusal of the plan of a tree with no store: a limit that is passed, or a rule that is broken
-abbrev pub tree_refusal : Tree → Option PlanFault
-tree_refusal root = option_or (too_large (capped (nesting root)) (places root) []) (broken_rule (tree_name root) [] (places root))
+-- the first refusal of the plan of a tree and a store: a limit that is passed, or a rule that is broken
+abbrev pub tree_refusal : Tree → List Bind → Option PlanFault
+tree_refusal root store = option_or (too_large (capped (nesting root)) (places root) store) (broken_rule (tree_name root) store (places root))
 
--- the plan of a tree, unless there is a reason why it makes none
-abbrev pub accepted : Tree → Option PlanFault → Result PlanTree FileFault
-accepted root None = Ok (record { root = root; store = []; defer = false })
-accepted root (Some reason) = Err (fault.Plan reason)
+-- the plan, unless there is a reason why it makes none
+abbrev pub accepted : Tree → List Bind → Option PlanFault → Result PlanTree FileFault
+accepted root store None = Ok record { root = root; store = store; defer = false }
+accepted root store (Some reason) = Err (fault.Plan reason)
 
--- the plan of the flow that a document is
-abbrev pub planned : Option Tree → Result PlanTree FileFault
-planned None = Err fault.NotBuilt
-planned (Some root) = accepted root (tree_refusal root)
+-- the plan of a root flow with a store
+abbrev pub planned : Root → Result PlanTree FileFault
+planned made = accepted made.root made.store (tree_refusal made.root made.store)
 
--- the plan of the document that the bytes are
+-- the members of the document that the bytes are, if they are one
+abbrev pub document_of : List ℕ → Option Members
+document_of bytes = if is_utf8 bytes then parse_document bytes else None
+
+-- the plan of a document
 abbrev pub documented : Option Members → Result PlanTree FileFault
 documented None = Err fault.NotToml
-documented (Some members) = planned (flow_form members)
+documented (Some members) = chain (root_form members) planned
 
 -- the plan that the bytes of a flow file spell, or the first reason why they spell none: they are no
--- TOML, they are of another form, or the flow breaks a rule of plans
+-- TOML, a part of the document can't stand there, or the flow breaks a rule of plans
 abbrev pub flow_of : List ℕ → Result PlanTree FileFault
 flow_of bytes = documented (document_of bytes)
 
--- the fault is want of memory
-abbrev pub is_memory : FileFault → Bool
-is_memory fault.Memory = true
-is_memory _ = false
+-- ---- what a plan that is read has
 
--- the fault is the reason why the bytes spell no plan, or want of memory
-abbrev pub Refuses : Result PlanTree FileFault → FileFault → Type 0
-Refuses spelled fault.Memory = Unit {0}
-Refuses spelled refusal = spelled ≡ Err refusal
+-- the kinds of task that are of use yet
+abbrev pub is_built_kind : TaskKind → Bool
+is_built_kind kind.Echo = true
+is_built_kind kind.Fail = true
+is_built_kind other = false
+
+-- the link has no decider
+abbrev pub is_undecided : Link → Bool
+is_undecided link = is_none link.decider
+
+-- all tasks are of such kinds, no flow has a retry controller, and no link a decider
+abbrev mutual
+  pub is_built : Tree → Bool
+  is_built (task t) = is_built_kind t.kind
+  is_built (flow head items) = (is_none head.retry && list_all is_undecided head.links) && are_built items
+
+  pub are_built : Trees → Bool
+  are_built no_trees = true
+  are_built (tree first others) = is_built first && are_built others

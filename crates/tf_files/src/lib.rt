@@ -1,8 +1,11 @@
 //! Flow files: a TOML document and the plan that it spells.
 #![tactic(auto)]
 
-mod document;
-mod forms;
+mod flows;
+mod keys;
+mod links;
+mod lists;
 mod reading;
 
-pub use reading::{FileFault, read_flow};
+pub use reading::read_flow;
+pub use tf_document::{FileFault, Path};

@@ -1,8 +1,10 @@
-use Rattle.taskflow.specs.Course.{read, unread}
+use Rattle.taskflow.proofs.CourseLemmas.{done_file, undone_file}
+use Rattle.taskflow.specs.Course.{Tries}
 use Rattle.taskflow.proofs.command.try_file.Goals as goal
 
 pub returns-in-Ok-clause-tried : goal.returns-in-Ok-clause-tried
-returns-in-Ok-clause-tried g c = read c.in-Ok.bytes.items c.in-Ok.ensures.whole (rw c.deref.ensures.value at c.try_bytes.ensures.tried)
+returns-in-Ok-clause-tried g c =
+    done_file _ c.args.file.now c.in-Ok.machine (Tries _ _) _ _ c.run_machine.result c.in-Ok.ensures.opened (rw c.in-Ok.ensures.quiet at c.run_machine.ensures.ran)
 
-pub returns-in-Err-Read-clause-tried : goal.returns-in-Err-Read-clause-tried
-returns-in-Err-Read-clause-tried g c = unread c.close.ensures.closes
+pub returns-in-Err-clause-tried : goal.returns-in-Err-clause-tried
+returns-in-Err-clause-tried g c = undone_file _ c.args.file.now (Tries _ _) _ _ c.in-Err.status c.in-Err.ensures.closed

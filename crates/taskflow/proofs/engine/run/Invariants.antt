@@ -1,12 +1,16 @@
-use Rattle.std.proofs.Common.{◌≤◌}
-use Rattle.taskflow.specs.History.{snapshot}
-use Rattle.taskflow.specs.Situations.{Executes}
-use Rattle.taskflow.specs.Standing.{GoesOn}
+use Rattle.std.proofs.Common.{◌≡◌, ◌≤◌}
+use Rattle.tf_machine.specs.Machine.{outline, shown}
+use Rattle.tf_machine.specs.Remaining.{remaining}
+use Rattle.taskflow.specs.Going.{GoesSomewhere, Rests}
 use Rattle.taskflow.proofs.engine.run.Given as goal
 
-abbrev pub invariant-loop-atom : goal.invariant-loop-atom
-invariant-loop-atom g l = record {
-  situation : Executes (snapshot l.history) l.atom;
-  goes_on : GoesOn l.outline (g.K.Desk.shown l.fn.desk) l.history (g.K.Desk.shown l.desk);
+abbrev pub invariant-steps : goal.invariant-steps
+invariant-steps g l = record {
+  plan : l.machine.plan ≡ l.fn.machine.plan;
+  goes : GoesSomewhere l.machine l.log (g.K.Desk.shown l.fn.desk) (g.K.Desk.shown l.desk);
+  rests : Rests l.machine;
   no_fall : g.K.Desk.out_faults l.fn.desk ≤ g.K.Desk.out_faults l.desk;
 }
+
+abbrev pub decreases-steps : goal.decreases-steps
+decreases-steps g l = remaining (outline l.machine) (shown l.machine)

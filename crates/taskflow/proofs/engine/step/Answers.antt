@@ -1,5 +1,6 @@
-use Rattle.taskflow.proofs.StandingLemmas.{step_halts}
+use Rattle.std.proofs.Common.{refl}
+use Rattle.taskflow.proofs.StandingLemmas.{stops_somewhere}
 use Rattle.taskflow.proofs.engine.step.Goals as goal
 
-pub returns-clause-halted : goal.returns-clause-halted
-returns-clause-halted g c = step_halts _ c.args.history.now c.record.new.self _ _ _ c.record.result (record { out = c.record.ensures.out; memory = c.record.ensures.memory }) c.requires.allowed c.requires.inner c.requires.given
+pub returns-in_default-clause-halted : goal.returns-in_default-clause-halted
+returns-in_default-clause-halted g c before somewhere = stops_somewhere c.args.machine.now c.args.log.now before _ _ somewhere refl

@@ -1,7 +1,0 @@
-use Rattle.std.proofs.Common.{◌≡◌, map}
-use Rattle.tf_files.specs.Document.{has_only}
-use Rattle.toml.specs.View.{members_view}
-use Rattle.tf_files.proofs.document.has_only.Given as goal
-
-abbrev pub invariant-loop-key : goal.invariant-loop-key
-invariant-loop-key l = has_only (map (λ key. key.now) l.keys) (members_view l.key-iterator) ≡ has_only (map (λ key. key.now) l.keys) (members_view l.table.entries)
