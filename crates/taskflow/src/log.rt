@@ -74,8 +74,10 @@ impl Log {
         ensures stands { OnOk result ((past : List Record) → StandsFor machine.old past → StandsFor machine.new (entry ∷ past)) }
         ensures said { OnOk result (K.shown desk.new ≡ shown_with (K.shown desk.old) (line (outline machine.old) (self.old + 1) entry)) }
         ensures out { IsErrOf result Halt.Out → ShowsFront (K.shown desk.old) (line (outline machine.old) (self.old + 1) entry) (K.shown desk.new) }
+        ensures recorded { IsErrOf result Halt.Out → (past : List Record) → StandsFor machine.old past → StandsFor machine.new (entry ∷ past) }
         ensures cause { IsErrOf result Halt.Out → Rises (K.out_faults desk.old) (K.out_faults desk.new) }
         ensures memory { IsErrOf result Halt.Memory → K.shown desk.new ≡ K.shown desk.old }
+        ensures kept { IsErrOf result Halt.Memory → machine.new ≡ machine.old }
         ensures no_fall { K.out_faults desk.old ≤ K.out_faults desk.new }
     {
         // No run has so many entries; one that had would be halted as without memory.
