@@ -360,7 +360,7 @@ end_rests m n o start came w plan next is acts rests moved ends turned =
     rests_by o (later (outline m) (by_hand (what.Atom start.atom (ended_state start.action came) (ended_held start.action came))) (shown n)) shows
     (ended_runs (outline m) (shown n) start.atom (ended_state start.action came) (ended_held start.action came) ∙ (has.flow ∙ rests.runs))
     (same_outline m o (later (outline m) (by_hand (what.Atom start.atom (ended_state start.action came) (ended_held start.action came))) (shown n)) (next ∙ plan)
-      (ended_still (outline m) (shown m) (shown n) start.atom (ended_state start.action came) (ended_held start.action came) (ended_idle start.action came) has.others rests.still))
+    (ended_still (outline m) (shown m) (shown n) start.atom (ended_state start.action came) (ended_held start.action came) (ended_idle start.action came) has.others rests.still))
 
 ends_less : (plan : Outline) (s t : Snapshot) (a : ℕ) (how : Action) (came : Outcome) → is_plain plan ≡ true → Has plan s t a (begun_by how)
     → remaining plan (later plan (by_hand (what.Atom a (ended_state how came) (ended_held how came))) t) < remaining plan t
@@ -419,14 +419,14 @@ never_by (Some last) is none = absurd (cc)
 -- where nothing is left to do there is an end
 pub never_none : (m : MachineValue) (o : Option FlowState) → HasHistory m → Rests m → forced (outline m) (shown m) ≡ None → choice (outline m) (shown m) ≡ None
     → ((past : List Entry) → StandsFor m past → flow_of past ≡ flow.Running → forced (outline m) (snapshot (outline m) past) ≡ None → choice (outline m) (snapshot (outline m) past) ≡ None
-        → is_still (outline m) (snapshot (outline m) past) ≡ true → is_some o ≡ true) → o ≡ None → ⊥
+    → is_still (outline m) (snapshot (outline m) past) ≡ true → is_some o ≡ true) → o ≡ None → ⊥
 never_none m o history rests unforced unchosen ends none =
     let past : List Entry = history.0 in
     let stands : StandsFor m history.0 = history.1 in
     never_by o (ends history.0 stands (stood_flow m history.0 stands rests.runs)
-      (subst (λ (s : Snapshot). forced (outline m) s ≡ None) stands.shows unforced)
-      (subst (λ (s : Snapshot). choice (outline m) s ≡ None) stands.shows unchosen)
-      (subst (λ (s : Snapshot). is_still (outline m) s ≡ true) stands.shows rests.still)) none
+    (subst (λ (s : Snapshot). forced (outline m) s ≡ None) stands.shows unforced)
+    (subst (λ (s : Snapshot). choice (outline m) s ≡ None) stands.shows unchosen)
+    (subst (λ (s : Snapshot). is_still (outline m) s ≡ true) stands.shows rests.still)) none
 
 turned_flow : (plan : Outline) (s : Snapshot) (last : FlowState) → (later plan (by_hand (what.Flow last)) s).flow ≡ last
 unfolding later

@@ -2,6 +2,7 @@ pub mod TaskLemmas
 pub mod ConstantLemmas
 pub mod LineLemmas
 pub mod AcceptLemmas
+pub mod RegionLemmas
 pub mod StandingLemmas
 pub mod EngineLemmas
 pub mod CourseLemmas

@@ -10,9 +10,12 @@ use Rattle.tf_states.specs.declared.state.FlowState.{FlowState}
 use Rattle.tf_states.specs.declared.state.FlowState.TheVariants as flow
 use Rattle.tf_facts.specs.Facts.{CompletedReversion}
 use Rattle.tf_model.specs.Candidates.{end_of}
-use Rattle.tf_model.specs.History.{snapshot}
+use Rattle.tf_model.specs.History.{snapshot, state_of}
 use Rattle.tf_flow.specs.Plan.{PlanValue}
-use Rattle.tf_model.specs.Plan.{Outline, outline_of}
+use Rattle.tf_model.specs.Plan.{Outline, outline_of, count}
+use Rattle.tf_model.specs.States.{is_settled}
+use Rattle.tf_machine.specs.Plain.{is_plain}
+use Rattle.taskflow.proofs.RegionLemmas.{all_settled}
 use Rattle.tf_model.specs.Sessions.{Session, entered, halted, whole, flow_entry, is_inner, is_inner_entry, is_last}
 use Rattle.tf_model.specs.Steps.{Step, LegalPast, is_still}
 use Rattle.tf_machine.specs.Machine.{MachineValue, outline, shown, StandsFor, HasHistory}
@@ -148,11 +151,13 @@ begin_halts m number before after e (Err halt.Memory) zero is fails empty step =
 -- ---- the end
 
 ends_there : (plan : Outline) (before text after : Option (List ℕ)) (number : ℕ) (last : FlowState) (inner : List Entry) → GoesOn plan before inner text → Step plan (snapshot plan (begun inner)) (flow_entry last)
-    → end_of plan (snapshot plan (begun inner)) ≡ Some last → is_last last ≡ true → (last ≡ flow.Reverted → CompletedReversion plan (flow_entry last ∷ begun inner)) → number ≡ length (begun inner)
+    → end_of plan (snapshot plan (begun inner)) ≡ Some last → is_last last ≡ true → (last ≡ flow.Reverted → CompletedReversion plan (flow_entry last ∷ begun inner))
+    → (last ≡ flow.Reverted → (a : ℕ) → a < count plan → is_settled (state_of (flow_entry last ∷ begun inner) a) ≡ true) → number ≡ length (begun inner)
     → after ≡ shown_with text (line plan (number + 1) (flow_entry last)) → IsEnded plan before (flow_entry last ∷ begun inner) after last
-ends_there plan before text after number last inner on step end final undone counted said = record {
+ends_there plan before text after number last inner on step end final completed undone counted said = record {
   session = whole 0 last inner final on.inside refl (step, on.legal);
   end = end;
+  completed = completed;
   undone = undone;
   outcomes = (tt, on.outcomes);
   text = one_more plan before (begun inner) text after (flow_entry last) on.text (rw counted at said);
@@ -176,16 +181,20 @@ end_halts m number before text after e last (Err halt.Out) is fails somewhere st
 }
 end_halts m number before text after e last (Err halt.Memory) is fails somewhere step final = stops_somewhere m number before text after somewhere (fails.memory refl)
 
-pub ends : (m n : MachineValue) (number : ℕ) (before text after : Option (List ℕ)) (last : FlowState) → n.plan ≡ m.plan → GoesSomewhere m number before text → Step (outline m) (shown m) (flow_entry last)
+pub ends : (m n : MachineValue) (number : ℕ) (before text after : Option (List ℕ)) (last : FlowState) → is_plain (outline m) ≡ true → n.plan ≡ m.plan → GoesSomewhere m number before text → Step (outline m) (shown m) (flow_entry last)
     → end_of (outline m) (shown m) ≡ Some last → is_last last ≡ true → ((past : List Entry) → StandsFor m past → StandsFor n (flow_entry last ∷ past))
     → ((past : List Entry) → StandsFor n past → last ≡ flow.Reverted → CompletedReversion (outline n) past)
     → after ≡ shown_with text (line (outline m) (number + 1) (flow_entry last)) → HasEnded (outline m) before after last
-ends m n number before text after last plan somewhere step end final stands undone said =
+ends m n number before text after last plain plan somewhere step end final stands completed said =
     let goes : Goes m number before somewhere.inner text = somewhere.goes in
+    let past : List Entry = flow_entry last ∷ begun somewhere.inner in
+    let reached : last ≡ flow.Reverted → CompletedReversion (outline m) (flow_entry last ∷ begun somewhere.inner) =
+    λ reverted. subst (λ (p : PlanValue). CompletedReversion (outline_of p) (flow_entry last ∷ begun somewhere.inner)) plan (completed (flow_entry last ∷ begun somewhere.inner) (stands (begun somewhere.inner) goes.stands) reverted) in
+    let now : Step (outline m) (snapshot (outline m) (begun somewhere.inner)) (flow_entry last) = rw goes.stands.shows at step in
     record {
       past = flow_entry last ∷ begun somewhere.inner;
-      ended = ends_there (outline m) before text after number last somewhere.inner goes.on (rw goes.stands.shows at step) (rw goes.stands.shows at end) final
-        (λ reverted. subst (λ (p : PlanValue). CompletedReversion (outline_of p) (flow_entry last ∷ begun somewhere.inner)) plan (undone (flow_entry last ∷ begun somewhere.inner) (stands (begun somewhere.inner) goes.stands) reverted)) goes.counted said;
+      ended = ends_there (outline m) before text after number last somewhere.inner goes.on now (rw goes.stands.shows at end) final reached
+          (λ reverted. all_settled m.plan (flow_entry last ∷ begun somewhere.inner) plain (now, goes.on.legal) (reached reverted)) goes.counted said;
     }
 
 -- ---- what holds where a call succeeded
@@ -207,13 +216,13 @@ pub halts_before : {A : Type 0} (m n : MachineValue) (before after : Option (Lis
 halts_before m n before after r plan halts = subst (λ (p : PlanValue). IfErr r (HasHalted (outline_of p) before after)) plan halts
 
 -- an end that is told by the flow's state
-pub ends_in : (m n : MachineValue) (number : ℕ) (before text after : Option (List ℕ)) (e : Entry) (last told : FlowState) → n.plan ≡ m.plan → GoesSomewhere m number before text → e ≡ flow_entry last
+pub ends_in : (m n : MachineValue) (number : ℕ) (before text after : Option (List ℕ)) (e : Entry) (last told : FlowState) → is_plain (outline m) ≡ true → n.plan ≡ m.plan → GoesSomewhere m number before text → e ≡ flow_entry last
     → Step (outline m) (shown m) (flow_entry last) → end_of (outline m) (shown m) ≡ Some last → is_last last ≡ true → ((past : List Entry) → StandsFor m past → StandsFor n (e ∷ past)) → told ≡ last
     → ((past : List Entry) → StandsFor n past → told ≡ flow.Reverted → CompletedReversion (outline n) past) → after ≡ shown_with text (line (outline m) (number + 1) e) → HasEnded (outline m) before after told
-ends_in m n number before text after e last told plan somewhere is step end final stands same undone said =
+ends_in m n number before text after e last told plain plan somewhere is step end final stands same undone said =
     subst (λ (state : FlowState). HasEnded (outline m) before after state) (sym same)
-    (ends m n number before text after last plan somewhere step end final (subst (λ (x : Entry). (past : List Entry) → StandsFor m past → StandsFor n (x ∷ past)) is stands)
-      (λ past stood reverted. undone past stood (same ∙ reverted)) (subst (λ (x : Entry). after ≡ shown_with text (line (outline m) (number + 1) x)) is said))
+    (ends m n number before text after last plain plan somewhere step end final (subst (λ (x : Entry). (past : List Entry) → StandsFor m past → StandsFor n (x ∷ past)) is stands)
+    (λ past stood reverted. undone past stood (same ∙ reverted)) (subst (λ (x : Entry). after ≡ shown_with text (line (outline m) (number + 1) x)) is said))
 
 -- a machine of a run that goes on stands for its history
 pub somewhere_stands : (m : MachineValue) (number : ℕ) (before text : Option (List ℕ)) → GoesSomewhere m number before text → HasHistory m

@@ -1,13 +1,14 @@
 -- Where a run stands: what it has recorded, and what is shown of it.
-use Rattle.std.specs.Prelude.{◌≡◌, ℕ, ◌+◌, List, [], ◌∷◌, ◌++◌, length, Option, Some, None, true}
+use Rattle.std.specs.Prelude.{◌≡◌, ℕ, ◌+◌, ◌<◌, List, [], ◌∷◌, ◌++◌, length, Option, Some, None, true}
 use Rattle.std.specs.List.{list_all}
 use Rattle.tf_desk.specs.Shown.{shown_with, ShowsFront}
 use Rattle.tf_states.specs.declared.record.Entry.{Entry}
 use Rattle.tf_states.specs.declared.state.FlowState.{FlowState}
 use Rattle.tf_states.specs.declared.state.FlowState.TheVariants as flow
 use Rattle.tf_model.specs.Candidates.{end_of}
-use Rattle.tf_model.specs.History.{snapshot}
-use Rattle.tf_model.specs.Plan.{Outline}
+use Rattle.tf_model.specs.History.{snapshot, state_of}
+use Rattle.tf_model.specs.Plan.{Outline, count}
+use Rattle.tf_model.specs.States.{is_settled}
 use Rattle.tf_model.specs.Sessions.{Session, flow_entry, is_inner_entry}
 use Rattle.tf_model.specs.Steps.{LegalPast}
 use Rattle.tf_facts.specs.Facts.{CompletedReversion}
@@ -61,11 +62,12 @@ EndsBy plan [] last = ⊥
 EndsBy plan (e ∷ past) last = end_of plan (snapshot plan past) ≡ Some last
 
 -- the run ended: in the end of the history before its last entry, and where that is REVERTED, the
--- reversion is completed
+-- reversion is completed, and every atom is settled, so that each one that was executed is undone
 pub record IsEnded (plan : Outline) (before : Option (List ℕ)) (past : List Entry) (shown : Option (List ℕ)) (last : FlowState) : Type 0 where
   pub session : Session plan [] past (Some last)
   pub end : EndsBy plan past last
-  pub undone : last ≡ flow.Reverted → CompletedReversion plan past
+  pub completed : last ≡ flow.Reverted → CompletedReversion plan past
+  pub undone : last ≡ flow.Reverted → (a : ℕ) → a < count plan → is_settled (state_of past a) ≡ true
   pub outcomes : HasOutcomes plan past
   pub text : shown ≡ shown_with before (lines plan past)
 

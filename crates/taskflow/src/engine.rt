@@ -33,11 +33,7 @@ const HAND: u8 = 0;
 
 /// Runs the plan of a machine from an empty history to its end: what is forced is recorded; else the next
 /// candidate is taken up, performed and ended; until there is none. Answers how the run ended.
-pub fn run<K: Desk>(
-    alloc: Global,
-    machine: &mut Machine,
-    desk: &mut K,
-) -> Result<FlowState, Halt>
+pub fn run<K: Desk>(alloc: Global, machine: &mut Machine, desk: &mut K) -> Result<FlowState, Halt>
     requires empty { StandsFor machine.old [] }
     requires plain { IsPlain machine.old.plan }
     requires usable { is_usable machine.old.plan.store (tree_of machine.old.plan.root) ≡ true }
@@ -181,6 +177,7 @@ fn note<K: Desk>(
 #[tactic(auto, using(crate::proofs::EngineLemmas::end_last, crate::proofs::EngineLemmas::last_step))]
 fn finish<K: Desk>(machine: &mut Machine, log: &mut Log, desk: &mut K) -> Result<FlowState, Halt>
     requires rests { Rests machine.old }
+    requires plain { IsPlain machine.old.plan }
     requires history { HasHistory machine.old }
     requires unforced { forced (outline machine.old) (shown machine.old) ≡ None }
     requires unchosen { choice (outline machine.old) (shown machine.old) ≡ None }

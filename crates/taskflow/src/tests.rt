@@ -98,10 +98,7 @@ fn runs_and_reverts(rt: HostRuntime) -> Result<(), Fail> {
 
 /// What is refused, and the reason that is said.
 const REFUSALS: [(&str, &str); 25] = [
-    (
-        "name = \"m\"\nkind = \"linear\"\n",
-        "empty",
-    ),
+    ("name = \"m\"\nkind = \"linear\"\n", "empty"),
     (
         "name = \"m\"\nkind = \"linear\"\nitems = [{ task = \"x\", kind = \"echo\" }, { task = \"x\", kind = \"fail\" }]",
         "duplicate x",
@@ -126,18 +123,9 @@ const REFUSALS: [(&str, &str); 25] = [
         "name = \"m\"\nkind = \"graph\"\nitems = [{ task = \"a\", kind = \"echo\" }, { task = \"b\", kind = \"echo\" }]\nlinks = [{ from = \"a\", to = \"b\" }, { from = \"b\", to = \"a\" }]",
         "cycle a b",
     ),
-    (
-        "name = ",
-        "not toml",
-    ),
-    (
-        "",
-        "missing key name",
-    ),
-    (
-        "name = \"m\"",
-        "missing key kind",
-    ),
+    ("name = ", "not toml"),
+    ("", "missing key name"),
+    ("name = \"m\"", "missing key kind"),
     (
         "name = \"m\"\nkind = \"linear\"\nretired = 1",
         "unknown key retired",
@@ -146,26 +134,17 @@ const REFUSALS: [(&str, &str); 25] = [
         "name = \"m\"\nkind = \"linear\"\nitems = [{ flow = \"f\", kind = \"graph\", items = [{ task = \"x\", kind = \"echo\", \"a b\" = 1 }] }]",
         "unknown key items.0.items.0.\"a b\"",
     ),
-    (
-        "name = 1\nkind = \"linear\"",
-        "wrong kind name",
-    ),
+    ("name = 1\nkind = \"linear\"", "wrong kind name"),
     (
         "name = \"m\"\nkind = \"linear\"\nitems = [1]",
         "wrong kind items.0",
     ),
-    (
-        "name = \"1m\"\nkind = \"linear\"",
-        "bad name name",
-    ),
+    ("name = \"1m\"\nkind = \"linear\"", "bad name name"),
     (
         "name = \"m\"\nkind = \"linear\"\nitems = [{ task = \"x\", kind = \"echo\", requires = [\"a\", \"b c\"] }]",
         "bad name items.0.requires.1",
     ),
-    (
-        "name = \"m\"\nkind = \"circular\"",
-        "bad choice kind",
-    ),
+    ("name = \"m\"\nkind = \"circular\"", "bad choice kind"),
     (
         "name = \"m\"\nkind = \"linear\"\nitems = [{ task = \"x\", kind = \"dance\" }]",
         "bad choice items.0.kind",
@@ -182,10 +161,7 @@ const REFUSALS: [(&str, &str); 25] = [
         "name = \"m\"\nkind = \"linear\"\nitems = [{ task = \"x\", kind = \"sum\" }]",
         "not built",
     ),
-    (
-        "name = \"m\"\nkind = \"linear\"\nretry = 1",
-        "not built",
-    ),
+    ("name = \"m\"\nkind = \"linear\"\nretry = 1", "not built"),
     (
         "name = \"m\"\nkind = \"linear\"\nitems = [{ task = \"x\", kind = \"echo\", priority = 1 }]",
         "not built",

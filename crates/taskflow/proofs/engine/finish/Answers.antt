@@ -8,7 +8,7 @@ unreachable-requires g c = never_none c.args.machine.now c.ended.result c.requir
 
 pub returns-in-Ok-clause-ended : goal.returns-in-Ok-clause-ended
 returns-in-Ok-clause-ended g c before somewhere =
-    ends_in c.args.machine.now c.record.new.machine c.args.log.now before _ _ c.entry_of.result c.in-Some.last c.flow_state.result c.record.ensures.plan somewhere c.entry_of.ensures
+    ends_in c.args.machine.now c.record.new.machine c.args.log.now before _ _ c.entry_of.result c.in-Some.last c.flow_state.result c.requires.plain c.record.ensures.plan somewhere c.entry_of.ensures
     (last_step _ _ c.in-Some.last (sym c.ended.ensures.is ∙ c.in-Some.is) c.requires.rests.still) (sym c.ended.ensures.is ∙ c.in-Some.is) (end_last _ _ c.in-Some.last (sym c.ended.ensures.is ∙ c.in-Some.is))
     c.in-Ok.ensures.stands (c.flow_state.ensures.is ∙ last_flow c.args.machine.now c.record.new.machine c.entry_of.result c.in-Some.last c.entry_of.ensures c.in-Ok.ensures.moved) c.flow_state.ensures.reversion c.in-Ok.ensures.said
 

@@ -13,12 +13,12 @@ pub returns-clause-goes : goal.returns-clause-goes
 returns-clause-goes g c before somewhere =
     somewhere_on c.note-2.new.machine c.note-2.new.log before _ (c.entry_of-2.result ∷ c.entry_of.result ∷ somewhere.inner) c.note-2.result
     (c.note-2.ensures.goes before (c.entry_of.result ∷ somewhere.inner)
-      (c.in_ok-note.ensures.goes before somewhere.inner somewhere.goes (rw (c.entry_of.ensures, c.started.ensures) (start_given _ (begun somewhere.inner) c.args.start)))
-      (rw (c.entry_of-2.ensures, c.ended.ensures) (end_given _ (begun (c.entry_of.result ∷ somewhere.inner)) c.args.start.atom c.args.start.action c.in-Ok.outcome c.in-Ok.ensures)))
+    (c.in_ok-note.ensures.goes before somewhere.inner somewhere.goes (rw (c.entry_of.ensures, c.started.ensures) (start_given _ (begun somewhere.inner) c.args.start)))
+    (rw (c.entry_of-2.ensures, c.ended.ensures) (end_given _ (begun (c.entry_of.result ∷ somewhere.inner)) c.args.start.atom c.args.start.action c.in-Ok.outcome c.in-Ok.ensures)))
 
 pub returns-clause-halted : goal.returns-clause-halted
 returns-clause-halted g c before somewhere =
     halts_before c.args.machine.now c.note.new.machine before _ c.note-2.result c.note.ensures.plan
     (c.note-2.ensures.halted before (c.entry_of.result ∷ somewhere.inner)
-      (c.in_ok-note.ensures.goes before somewhere.inner somewhere.goes (rw (c.entry_of.ensures, c.started.ensures) (start_given _ (begun somewhere.inner) c.args.start)))
-      (rw (c.entry_of-2.ensures, c.ended.ensures) (end_given _ (begun (c.entry_of.result ∷ somewhere.inner)) c.args.start.atom c.args.start.action c.in-Ok.outcome c.in-Ok.ensures)))
+    (c.in_ok-note.ensures.goes before somewhere.inner somewhere.goes (rw (c.entry_of.ensures, c.started.ensures) (start_given _ (begun somewhere.inner) c.args.start)))
+    (rw (c.entry_of-2.ensures, c.ended.ensures) (end_given _ (begun (c.entry_of.result ∷ somewhere.inner)) c.args.start.atom c.args.start.action c.in-Ok.outcome c.in-Ok.ensures)))
