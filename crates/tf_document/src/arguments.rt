@@ -1,8 +1,11 @@
-ghost use Rattle.std.specs.Prelude.{◌≡◌, ◌++◌, IfOk, OnOk, map, filter};
+ghost use Rattle.std.specs.Prelude.{◌≡◌, ◌++◌, IfOk, OnOk, List, ℕ, map, filter, unwrap_or};
 ghost use Rattle.std.specs.List.{list_any};
-ghost use Rattle.tf_flow.specs.Names.{is_among as among};
+ghost use Rattle.indexmap.specs.IndexMap.{get as found_in};
+ghost use Rattle.indexmap.specs.IndexSet.{contains as has};
+ghost use Rattle.tf_flow.specs.Names.{same_name, is_among as among};
 ghost use Rattle.tf_document.specs.Tasks.{arguments_of, named_arguments as arguments_named, required_argument, symbol_for as symbol_of, is_additional, speaks_of as speaks, is_unnamed, injected_argument};
 
+use indexmap::{IndexMap, IndexSet};
 use std::alloc::Global;
 use tf_flow::{Arg, Bind};
 use tf_values::{Memory, Name};
@@ -35,9 +38,10 @@ fn named_arguments(alloc: Global, required: &[Name], rebound: &[Arg]) -> Result<
 fn required_arguments(alloc: Global, required: &[Name], rebound: &[Arg]) -> Result<Vec<Arg>, Memory>
     ensures { IfOk result (λ args. args.items ≡ map (required_argument rebound.now) required.now) }
 {
+    let symbols = symbols_of(alloc, rebound)?;
     let mut args = Vec::new(alloc);
     for name in required {
-        let symbol = symbol_for(rebound, name);
+        let symbol = symbol_for(&symbols, name);
         args.push(Arg {
             name: *name,
             symbol,
@@ -46,16 +50,25 @@ fn required_arguments(alloc: Global, required: &[Name], rebound: &[Arg]) -> Resu
     Ok(args)
 }
 
-/// The symbol that a name is bound to, or the name itself.
-fn symbol_for(rebound: &[Arg], name: &Name) -> Name
-    ensures { result ≡ symbol_of rebound.now name.now }
+/// The symbols by name. They are put in from the last to the first, so that the first one of a name stays.
+fn symbols_of(alloc: Global, rebound: &[Arg]) -> Result<IndexMap<Name, Name>, Memory>
+    ensures { IfOk result (λ symbols. (name : List ℕ) → unwrap_or (found_in same_name symbols name) name ≡ symbol_of rebound.now name) }
 {
-    for arg in rebound {
-        if arg.name == *name {
-            return arg.symbol;
-        }
+    let mut symbols = IndexMap::new(alloc);
+    for i in (0..rebound.len()).rev() {
+        symbols.insert(rebound[i].name, rebound[i].symbol)?;
     }
-    *name
+    Ok(symbols)
+}
+
+/// The symbol that a name is bound to, or the name itself.
+fn symbol_for(symbols: &IndexMap<Name, Name>, name: &Name) -> Name
+    ensures { result ≡ unwrap_or (found_in same_name symbols.now name.now) name.now }
+{
+    match symbols.get(name) {
+        Some(symbol) => *symbol,
+        None => *name,
+    }
 }
 
 fn additional_arguments(
@@ -65,32 +78,34 @@ fn additional_arguments(
 ) -> Result<Vec<Arg>, Memory>
     ensures { IfOk result (λ args. args.items ≡ filter (is_additional required.now) rebound.now) }
 {
+    let names = set_of(alloc, required)?;
     let mut args = Vec::new(alloc);
     for arg in rebound {
-        if !is_among(required, &arg.name) {
+        if !names.contains(&arg.name) {
             args.push(*arg)?;
         }
     }
     Ok(args)
 }
 
-fn is_among(names: &[Name], name: &Name) -> bool
-    ensures { result ≡ among names.now name.now }
+/// The set of these names.
+fn set_of(alloc: Global, names: &[Name]) -> Result<IndexSet<Name>, Memory>
+    ensures { IfOk result (λ set. (name : List ℕ) → has same_name set name ≡ among names.now name) }
 {
-    for other in names {
-        if *name == *other {
-            return true;
-        }
+    let mut set = IndexSet::new(alloc);
+    for name in names {
+        set.insert(*name)?;
     }
-    false
+    Ok(set)
 }
 
 fn injected_arguments(alloc: Global, args: &[Arg], inject: &[Bind]) -> Result<Vec<Arg>, Memory>
     ensures { IfOk result (λ made. made.items ≡ map injected_argument (filter (is_unnamed args.now) inject.now)) }
 {
+    let spoken = spoken_of(alloc, args)?;
     let mut made = Vec::new(alloc);
     for bind in inject {
-        if !is_spoken_of(args, &bind.symbol) {
+        if !spoken.contains(&bind.symbol) {
             made.push(Arg {
                 name: bind.symbol,
                 symbol: bind.symbol,
@@ -100,17 +115,14 @@ fn injected_arguments(alloc: Global, args: &[Arg], inject: &[Bind]) -> Result<Ve
     Ok(made)
 }
 
-/// Whether an argument has this name or symbol.
-fn is_spoken_of(args: &[Arg], symbol: &Name) -> bool
-    ensures { result ≡ list_any (speaks symbol.now) args.now }
+/// The set of all names and symbols of the arguments.
+fn spoken_of(alloc: Global, args: &[Arg]) -> Result<IndexSet<Name>, Memory>
+    ensures { IfOk result (λ set. (symbol : List ℕ) → has same_name set symbol ≡ list_any (speaks symbol) args.now) }
 {
+    let mut set = IndexSet::new(alloc);
     for arg in args {
-        if arg.name == *symbol {
-            return true;
-        }
-        if arg.symbol == *symbol {
-            return true;
-        }
+        set.insert(arg.name)?;
+        set.insert(arg.symbol)?;
     }
-    false
+    Ok(set)
 }
