@@ -1,5 +1,5 @@
 -- What the one hand of a run records may follow, and leaves nothing in flight.
-use Rattle.std.proofs.Common.{◌≡◌, ◌≢◌, ℕ, zero, suc, ◌+◌, ◌<◌, ◌≤◌, List, [], ◌∷◌, Bool, true, false, ◌&&◌, ◌||◌, not, Option, Some, None, refl, sym, ap, ◌∙◌, subst, arith, eqb-true, eq-eqb, inl, inr}
+use Rattle.std.proofs.Common.{◌≡◌, ◌≢◌, ℕ, ◌<◌, List, [], Bool, true, false, ◌&&◌, ◌||◌, not, Option, Some, None, refl, sym, ap, ◌∙◌, subst, arith, eqb-true, eq-eqb}
 use Rattle.std.specs.Prelude.{nat_eq, is_none, is_some, if◌then◌else◌, option_map}
 use Rattle.tf_flow.specs.Plan.{PlanValue}
 use Rattle.tf_values.specs.declared.value.Val.TheVariants as value
@@ -19,12 +19,12 @@ use Rattle.tf_ports.specs.declared.outcomes.Outcome.TheVariants as outcome
 use Rattle.tf_model.specs.Candidates.{choice, end_of, calm_end, candidate_if_running, is_done_at, is_at_rest, is_candidate, taken_up}
 use Rattle.tf_model.specs.Forced.{forced, forced_if_running, is_unhurt}
 use Rattle.tf_model.specs.History.{snapshot, flow_of}
-use Rattle.tf_model.specs.Numbers.{all_below, first_below, is_number}
+use Rattle.tf_model.specs.Numbers.{all_below, is_number}
 use Rattle.tf_model.specs.Plan.{Outline, outline_of, count, is_task}
-use Rattle.tf_model.specs.Sessions.{flow_entry, is_last}
+use Rattle.tf_model.specs.Sessions.{is_last}
 use Rattle.tf_model.specs.States.{flow_runs, flow_suspends}
-use Rattle.tf_model.specs.Snapshot.{Snapshot, later, is_at_work, hand_after, state_after}
-use Rattle.tf_model.specs.Steps.{Step, Rule, by_force, by_choice, by_end_of_task, by_turn, by_end, is_still, is_idle, is_free, is_not_with, ends_task, end_entry}
+use Rattle.tf_model.specs.Snapshot.{Snapshot, later, is_at_work, hand_after}
+use Rattle.tf_model.specs.Steps.{Step, by_force, by_choice, by_end_of_task, by_turn, by_end, is_still, is_idle, is_free, is_not_with, ends_task}
 use Rattle.tf_facts.proofs.BelowLemmas.{all_of, all_at}
 use Rattle.tf_machine.specs.Answers.{start_entry, action_in, ended_from, begun as begun_by}
 use Rattle.tf_machine.specs.Machine.{MachineValue, outline, shown, StandsFor, HasHistory}
@@ -34,8 +34,8 @@ use Rattle.tf_machine.specs.declared.candidates.Start.{Start}
 use Rattle.tf_machine.proofs.ForcedLemmas.{whole, forced_is}
 use Rattle.tf_machine.proofs.MoveLemmas.{taken_of}
 use Rattle.tf_machine.proofs.RemainingLemmas.{forced_less, chosen_not_more, entered_less}
-use Rattle.taskflow.specs.BuiltIns.{IsGiven, outcome_at}
-use Rattle.taskflow.specs.Going.{by_hand, is_within, IsOutcome, IsOutcomeOf, Rests}
+use Rattle.taskflow.specs.BuiltIns.{IsGiven}
+use Rattle.taskflow.specs.Going.{by_hand, is_within, IsOutcome, Rests}
 
 -- ---- the hand is free where nothing is in flight
 

@@ -1,6 +1,6 @@
 -- In a plain plan the whole flow is reverted, so that a completed reversion leaves every atom settled.
-use Rattle.std.proofs.Common.{◌≡◌, ℕ, ◌<◌, List, [], ◌∷◌, Bool, true, false, Option, Some, None, refl, sym, ap, ◌∙◌, subst, eqb-true}
-use Rattle.std.specs.Prelude.{nat_eq, if◌then◌else◌}
+use Rattle.std.proofs.Common.{◌≡◌, ℕ, ◌<◌, List, [], ◌∷◌, Bool, true, false, Option, Some, None, refl, sym, ◌∙◌, subst, eqb-true}
+use Rattle.std.specs.Prelude.{if◌then◌else◌}
 use Rattle.tf_flow.specs.Plan.{PlanValue}
 use Rattle.tf_states.specs.declared.record.Entry.{Entry}
 use Rattle.tf_states.specs.declared.record.Kind.{Kind}
@@ -8,12 +8,10 @@ use Rattle.tf_states.specs.declared.record.What.{What}
 use Rattle.tf_states.specs.declared.record.What.TheVariants as what
 use Rattle.tf_states.specs.declared.state.AtomState.{AtomState}
 use Rattle.tf_states.specs.declared.state.AtomState.TheVariants as atom
-use Rattle.tf_states.specs.declared.state.FlowState.{FlowState}
 use Rattle.tf_states.specs.declared.state.FlowState.TheVariants as flow
 use Rattle.tf_facts.specs.Facts.{CompletedReversion}
 use Rattle.tf_facts.proofs.BelowLemmas.{any_at}
 use Rattle.tf_model.specs.Candidates.{taken_up}
-use Rattle.tf_model.specs.Forced.{enters}
 use Rattle.tf_model.specs.History.{snapshot, mark_of, state_of}
 use Rattle.tf_model.specs.Plan.{Outline, outline_of, count, holds, is_retry, own_flow}
 use Rattle.tf_model.specs.Readiness.{is_region, is_marked_from, marks_from}
@@ -22,7 +20,6 @@ use Rattle.tf_model.specs.States.{is_settled}
 use Rattle.tf_model.specs.Steps.{LegalPast, ends_task}
 use Rattle.tf_model.proofs.ResolutionLemmas.{root_holds}
 use Rattle.tf_machine.specs.Plain.{is_plain}
-use Rattle.tf_machine.proofs.ForcedLemmas.{whole}
 use Rattle.tf_machine.proofs.MoveLemmas.{Move, resolves, starts, ends, turns, closes, puts_back, rests, move_of}
 
 -- the mark, where there is one, comes from a resolve of the root

@@ -1,6 +1,6 @@
 -- How a run stands after one more entry.
 use Rattle.std.proofs.Common.{◌≡◌, ℕ, ◌+◌, ◌<◌, List, [], ◌∷◌, ◌++◌, length, Option, Some, None, Bool, true, false, ◌&&◌, refl, ap, ◌∙◌, append_assoc, append-nil, sym, subst, arith}
-use Rattle.std.specs.Prelude.{Result, Ok, Err, IfErr, IfOk, OnOk, option_map}
+use Rattle.std.specs.Prelude.{Result, Ok, Err, IfErr, OnOk}
 use Rattle.std.specs.List.{list_all}
 use Rattle.tf_desk.specs.Shown.{shown_with, ShowsFront}
 use Rattle.tf_states.specs.declared.record.Entry.{Entry}
@@ -16,13 +16,13 @@ use Rattle.tf_model.specs.Plan.{Outline, outline_of, count}
 use Rattle.tf_model.specs.States.{is_settled}
 use Rattle.tf_machine.specs.Plain.{is_plain}
 use Rattle.taskflow.proofs.RegionLemmas.{all_settled}
-use Rattle.tf_model.specs.Sessions.{Session, entered, halted, whole, flow_entry, is_inner, is_inner_entry, is_last}
-use Rattle.tf_model.specs.Steps.{Step, LegalPast, is_still}
+use Rattle.tf_model.specs.Sessions.{entered, halted, whole, flow_entry, is_inner, is_inner_entry, is_last}
+use Rattle.tf_model.specs.Steps.{Step}
 use Rattle.tf_machine.specs.Machine.{MachineValue, outline, shown, StandsFor, HasHistory}
 use Rattle.taskflow.specs.BuiltIns.{IsGiven}
-use Rattle.taskflow.specs.Going.{by_hand, is_within, Goes, GoesSomewhere}
+use Rattle.taskflow.specs.Going.{is_within, Goes, GoesSomewhere}
 use Rattle.taskflow.specs.Lines.{line, lines}
-use Rattle.taskflow.specs.Standing.{begun, GoesOn, IsCut, IsStopped, IsEnded, IsHalted, HasHalted, HasEnded, EndsBy}
+use Rattle.taskflow.specs.Standing.{begun, GoesOn, IsCut, IsStopped, IsEnded, HasHalted, HasEnded}
 use Rattle.taskflow.specs.declared.log.Halt.{Halt}
 use Rattle.taskflow.specs.declared.log.Halt.TheVariants as halt
 

@@ -1,4 +1,4 @@
-use Rattle.taskflow.proofs.StandingLemmas.{note_halts, goes_further}
+use Rattle.taskflow.proofs.StandingLemmas.{note_halts}
 use Rattle.taskflow.proofs.engine.note.Goals as goal
 
 pub returns-clause-halted : goal.returns-clause-halted

@@ -1,4 +1,4 @@
-use Rattle.std.proofs.Common.{◌∷◌, List}
+use Rattle.std.proofs.Common.{◌∷◌}
 use Rattle.taskflow.specs.Standing.{begun}
 use Rattle.taskflow.proofs.StandingLemmas.{somewhere_on, stops_after, halts_before}
 use Rattle.taskflow.proofs.EngineLemmas.{start_given, end_given}
