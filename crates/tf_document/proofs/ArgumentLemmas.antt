@@ -1,21 +1,11 @@
--- Arguments, one at a time: those that are kept, and the names and symbols that they speak of.
-use Rattle.std.proofs.Common.{◌≡◌, ℕ, ◌+◌, ◌<◌, List, [], ◌∷◌, ◌++◌, Bool, true, false, cond, ◌||◌, length, filter, take, get_or, refl, ap, sym, ◌∙◌, append-nil}
+-- The names and symbols that arguments speak of, one argument at a time.
+use Rattle.std.proofs.Common.{◌≡◌, ℕ, ◌+◌, ◌<◌, List, [], ◌∷◌, ◌++◌, Bool, true, false, cond, ◌||◌, length, take, get_or, refl, ap, sym, ◌∙◌}
 use Rattle.std.proofs.lemmas.List.{take_more}
-use Rattle.std.proofs.lemmas.List.Elements.{filter_more}
 use Rattle.std.proofs.lemmas.List.Folds.{list_any-append}
 use Rattle.std.specs.List.{list_any}
 use Rattle.tf_flow.specs.declared.atoms.Arg.{Arg}
 use Rattle.tf_flow.specs.Names.{same_name}
 use Rattle.tf_document.specs.Tasks.{speaks_of}
-
-module _ {X : Type 0} (test : X → Bool) (xs : List X) (i : ℕ) (x : X) (within : i < length xs) (is : x ≡ get_or xs i x) where
-  -- one element more that passes the test
-  pub kept_more : test x ≡ true → filter test (take i xs) ++ x ∷ [] ≡ filter test (take (i + 1) xs)
-  kept_more passes = sym (filter_more test xs i x within ∙ ap (λ (y : X). filter test (take i xs) ++ cond (test y) (y ∷ []) []) (sym is) ∙ ap (λ (b : Bool). filter test (take i xs) ++ cond b (x ∷ []) []) passes)
-
-  -- one element more that fails the test
-  pub left_more : test x ≡ false → filter test (take i xs) ≡ filter test (take (i + 1) xs)
-  left_more fails = sym (filter_more test xs i x within ∙ ap (λ (y : X). filter test (take i xs) ++ cond (test y) (y ∷ []) []) (sym is) ∙ ap (λ (b : Bool). filter test (take i xs) ++ cond b (x ∷ []) []) fails ∙ append-nil (filter test (take i xs)))
 
 or_last : (seen name symbol : Bool) → cond symbol true (cond name true seen) ≡ (seen || ((name || symbol) || false))
 or_last true true true = refl

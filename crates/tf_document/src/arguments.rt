@@ -1,4 +1,4 @@
-ghost use Rattle.std.specs.Prelude.{◌≡◌, ◌++◌, IfOk, OnOk, List, ℕ, map, filter, unwrap_or};
+ghost use Rattle.std.specs.Prelude.{◌≡◌, ◌++◌, IfOk, OnOk, List, ℕ, not, map, filter, unwrap_or};
 ghost use Rattle.std.specs.List.{list_any};
 ghost use Rattle.indexmap.specs.IndexMap.{get as found_in};
 ghost use Rattle.indexmap.specs.IndexSet.{contains as has};
@@ -26,6 +26,7 @@ pub fn arguments(
     Ok(args)
 }
 
+/// The required arguments in order, and then the others that are bound to symbols.
 fn named_arguments(alloc: Global, required: &[Name], rebound: &[Arg]) -> Result<Vec<Arg>, Memory>
     ensures { IfOk result (λ args. args.items ≡ arguments_named required.now rebound.now) }
 {
@@ -35,6 +36,7 @@ fn named_arguments(alloc: Global, required: &[Name], rebound: &[Arg]) -> Result<
     Ok(args)
 }
 
+/// An argument for each required name.
 fn required_arguments(alloc: Global, required: &[Name], rebound: &[Arg]) -> Result<Vec<Arg>, Memory>
     ensures { IfOk result (λ args. args.items ≡ map (required_argument rebound.now) required.now) }
 {
@@ -71,6 +73,7 @@ fn symbol_for(symbols: &IndexMap<Name, Name>, name: &Name) -> Name
     }
 }
 
+/// The arguments bound to symbols whose names aren't required.
 fn additional_arguments(
     alloc: Global,
     required: &[Name],
@@ -78,7 +81,21 @@ fn additional_arguments(
 ) -> Result<Vec<Arg>, Memory>
     ensures { IfOk result (λ args. args.items ≡ filter (is_additional required.now) rebound.now) }
 {
+    if rebound.is_empty() {
+        return Ok(Vec::new(alloc));
+    }
     let names = set_of(alloc, required)?;
+    arguments_outside(alloc, &names, rebound)
+}
+
+/// The arguments whose names aren't in the set.
+fn arguments_outside(
+    alloc: Global,
+    names: &IndexSet<Name>,
+    rebound: &[Arg],
+) -> Result<Vec<Arg>, Memory>
+    ensures { IfOk result (λ args. args.items ≡ filter (λ arg. not (has same_name names.now arg.name)) rebound.now) }
+{
     let mut args = Vec::new(alloc);
     for arg in rebound {
         if !names.contains(&arg.name) {
@@ -99,10 +116,25 @@ fn set_of(alloc: Global, names: &[Name]) -> Result<IndexSet<Name>, Memory>
     Ok(set)
 }
 
+/// An argument for each injected symbol that no argument speaks of.
 fn injected_arguments(alloc: Global, args: &[Arg], inject: &[Bind]) -> Result<Vec<Arg>, Memory>
     ensures { IfOk result (λ made. made.items ≡ map injected_argument (filter (is_unnamed args.now) inject.now)) }
 {
+    if inject.is_empty() {
+        return Ok(Vec::new(alloc));
+    }
     let spoken = spoken_of(alloc, args)?;
+    injected_outside(alloc, &spoken, inject)
+}
+
+/// The arguments of the injected symbols that aren't in the set.
+fn injected_outside(
+    alloc: Global,
+    spoken: &IndexSet<Name>,
+    inject: &[Bind],
+) -> Result<Vec<Arg>, Memory>
+    ensures { IfOk result (λ made. made.items ≡ map injected_argument (filter (λ bind. not (has same_name spoken.now bind.symbol)) inject.now)) }
+{
     let mut made = Vec::new(alloc);
     for bind in inject {
         if !spoken.contains(&bind.symbol) {
