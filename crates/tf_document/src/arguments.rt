@@ -7,7 +7,7 @@ ghost use Rattle.tf_document.specs.Tasks.{arguments_of, named_arguments as argum
 
 use indexmap::{IndexMap, IndexSet};
 use std::alloc::Global;
-use tf_flow::{Arg, Bind};
+use tf_flow::{Arg, Bind, set_of};
 use tf_values::{Memory, Name};
 
 /// The arguments of a task: the required names, the others that are bound to symbols, and the injected
@@ -103,17 +103,6 @@ fn arguments_outside(
         }
     }
     Ok(args)
-}
-
-/// The set of these names.
-fn set_of(alloc: Global, names: &[Name]) -> Result<IndexSet<Name>, Memory>
-    ensures { IfOk result (λ set. (name : List ℕ) → has same_name set name ≡ among names.now name) }
-{
-    let mut set = IndexSet::new(alloc);
-    for name in names {
-        set.insert(*name)?;
-    }
-    Ok(set)
 }
 
 /// An argument for each injected symbol that no argument speaks of.

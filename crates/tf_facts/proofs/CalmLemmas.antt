@@ -1,25 +1,23 @@
 -- A run in which nothing can be done any more has an end.
-use Rattle.std.proofs.Common.{◌≡◌, ℕ, ℤ, pos, negsuc, ◌<◌, Bool, true, false, not, ◌&&◌, ◌||◌, Option, Some, None, refl, ap, ◌⊎◌, inl, inr, arith}
+use Rattle.std.proofs.Common.{◌≡◌, ℕ, ℤ, pos, negsuc, ◌<◌, Bool, true, false, not, ◌&&◌, Option, Some, None, refl, ap, ◌⊎◌, inl, inr, arith}
 use Rattle.std.specs.Option.{option_or, option_map}
 use Rattle.std.specs.Prelude.{is_none, int_lt}
 use Rattle.std.proofs.lemmas.Bool.{ltb-true, lt-ltb, le-ltb}
 use Rattle.tf_states.specs.declared.record.What.{What}
 use Rattle.tf_states.specs.declared.state.AtomState.{AtomState}
 use Rattle.tf_states.specs.declared.state.AtomState.TheVariants as atom
-use Rattle.tf_model.specs.Numbers.{any_below, first_below}
+use Rattle.tf_numbers.specs.Numbers.{any_below, first_below}
 use Rattle.tf_model.specs.Plan.{Outline, count, holds, is_before, is_retry, is_task}
 use Rattle.tf_model.specs.Snapshot.{Snapshot, is_at_work}
 use Rattle.tf_model.specs.States.{is_running, is_failure, is_reverting, is_revert_failure, is_retrying, is_executed, is_settled}
 use Rattle.tf_model.specs.Readiness.{can_run, can_revert, is_unmarked, lets_revert}
 use Rattle.tf_model.specs.Forced.{first_entry, forced_attempt, forced_again, forced_reverted, forced_resolution, forced_retrying, forced_revert, forced_ignore, forced_run, forced_if_running, is_attempting, attempt_entry, is_beginning_again, again_entry, is_undone_retry, reverted_entry, is_unresolved, resolution_entry, is_to_begin_again, retrying_entry, is_retry_to_revert, reverting_entry, is_refused, ignore_entry, is_retry_to_run, running_entry}
 use Rattle.tf_model.specs.Candidates.{priority, outranks, candidate_if_running, candidate_entry, is_best, is_candidate, is_interrupted}
-use Rattle.tf_model.proofs.StepLemmas.{and_first, and_second}
-use Rattle.tf_model.proofs.PairLemmas.{true_first, true_second, true_both}
+use Rattle.tf_numbers.proofs.TruthLemmas.{and_first, and_second, true_first, true_second, true_both, clash, either_way, not_true, or_of_not}
 use Rattle.tf_model.proofs.BeforeLemmas.{never_before_itself, before_chain}
-use Rattle.tf_facts.proofs.LayoutLemmas.{clash, either_way, IsLaidOut, task_or_retry}
-use Rattle.tf_facts.proofs.BelowLemmas.{all_of, any_at, none_at, Last, none_or_last}
+use Rattle.tf_facts.proofs.LayoutLemmas.{IsLaidOut, task_or_retry}
+use Rattle.tf_numbers.proofs.BelowLemmas.{all_of, any_at, none_at, Last, none_or_last}
 use Rattle.tf_facts.proofs.CoreLemmas.{Core, marked_where, after_region}
-use Rattle.tf_facts.proofs.MoveLemmas.{not_true}
 
 -- ---- nothing is forced
 
@@ -160,10 +158,6 @@ settles_after plan s layout core nothing m x below before =
         | inr isnt ↦ settled_else (s.state x) isnt (none_at_work plan s nothing x below) (none_retrying plan s core nothing x below) (nothing.unhurt x below)
       ]
     ]
-
-pub or_of_not : (a b : Bool) → (a ≡ true → b ≡ true) → not a || b ≡ true
-or_of_not true b gives = gives refl
-or_of_not false b gives = refl
 
 no_last_to_undo : (plan : Outline) (s : Snapshot) → IsLaidOut plan → Core plan s → NothingLeft plan s → Last (count plan) (is_before plan) (is_to_undo s) → ⊥
 unfolding can_revert

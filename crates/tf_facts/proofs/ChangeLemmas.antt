@@ -7,7 +7,9 @@ use Rattle.tf_model.specs.Plan.{Outline, count, is_before, holds, is_retry, own_
 use Rattle.tf_model.specs.Snapshot.{Resolve, Snapshot}
 use Rattle.tf_model.specs.States.{is_done, is_settled, is_executed, is_put_back, flow_is_reverted}
 use Rattle.tf_model.proofs.BeforeLemmas.{never_before_itself, before_chain}
-use Rattle.tf_facts.proofs.LayoutLemmas.{clash, either_way, same_or_other, IsLaidOut, own_holds}
+use Rattle.tf_facts.proofs.LayoutLemmas.{IsLaidOut, own_holds}
+use Rattle.tf_numbers.proofs.TruthLemmas.{clash, either_way}
+use Rattle.tf_numbers.proofs.NumberLemmas.{same_or_other}
 use Rattle.tf_facts.proofs.CoreLemmas.{Core, Allows, marked_or_not, marked_where, not_none, regions_unordered, after_region, settled_after}
 
 -- a task or a retry controller at work ends

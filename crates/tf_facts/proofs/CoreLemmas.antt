@@ -8,7 +8,9 @@ use Rattle.tf_model.specs.Snapshot.{Resolve, Snapshot}
 use Rattle.tf_model.specs.States.{is_done, is_settled, is_retrying, flow_is_reverted}
 use Rattle.tf_model.proofs.BeforeLemmas.{never_before_itself}
 use Rattle.tf_facts.specs.Facts.{is_open, is_undoing, IsInOrder, HasWholeMarks, OpenAtom}
-use Rattle.tf_facts.proofs.LayoutLemmas.{clash, either_way, same_or_other, IsLaidOut}
+use Rattle.tf_facts.proofs.LayoutLemmas.{IsLaidOut}
+use Rattle.tf_numbers.proofs.TruthLemmas.{clash, either_way}
+use Rattle.tf_numbers.proofs.NumberLemmas.{same_or_other}
 
 -- an atom is marked, and all that are marked are settled
 pub record AtRest (plan : Outline) (s : Snapshot) : Type 0 where

@@ -6,7 +6,7 @@ use Rattle.tf_states.specs.declared.state.AtomState.{AtomState}
 use Rattle.tf_states.specs.declared.state.AtomState.TheVariants as atom
 use Rattle.tf_states.specs.declared.state.FlowState.{FlowState}
 use Rattle.tf_states.specs.declared.state.FlowState.TheVariants as flow
-use Rattle.tf_model.specs.Numbers.{all_below, any_below}
+use Rattle.tf_numbers.specs.Numbers.{all_below, any_below}
 use Rattle.tf_model.specs.Plan.{Outline, count, is_before, is_retry, is_task}
 use Rattle.tf_model.specs.Snapshot.{Resolve, Snapshot, is_at_work}
 use Rattle.tf_model.specs.States.{is_pending, is_success, is_failure, is_revert_failure, is_executed, is_done, flow_runs, flow_suspends}
@@ -15,15 +15,14 @@ use Rattle.tf_model.specs.Forced.{forced_if_running, forced, is_active, is_unhur
 use Rattle.tf_model.specs.Candidates.{candidate_if_running, choice, is_candidate, is_interrupted, is_done_at, is_at_rest, calm_end, end_of}
 use Rattle.tf_model.specs.Scope.{is_earlier}
 use Rattle.tf_model.specs.Steps.{is_idle, is_still}
-use Rattle.tf_model.proofs.StepLemmas.{and_first}
-use Rattle.tf_model.proofs.PairLemmas.{true_first, true_second, true_both}
+use Rattle.tf_numbers.proofs.TruthLemmas.{and_first, true_first, true_second, true_both, clash, either_way, not_true, or_of_not, and_false}
 use Rattle.tf_model.proofs.BeforeLemmas.{never_before_itself, before_chain}
 use Rattle.tf_facts.specs.Facts.{is_undoing}
-use Rattle.tf_facts.proofs.LayoutLemmas.{clash, either_way, IsLaidOut, task_or_retry, held_below}
-use Rattle.tf_facts.proofs.BelowLemmas.{all_at, all_of, any_at, any_of, not_all, Last, none_or_last}
+use Rattle.tf_facts.proofs.LayoutLemmas.{IsLaidOut, task_or_retry, held_below}
+use Rattle.tf_numbers.proofs.BelowLemmas.{all_at, all_of, any_at, any_of, not_all, Last, none_or_last}
 use Rattle.tf_facts.proofs.CoreLemmas.{Core, AtRest, marked_where}
-use Rattle.tf_facts.proofs.MoveLemmas.{not_true, none_is}
-use Rattle.tf_facts.proofs.CalmLemmas.{NothingLeft, unforced, no_candidate, none_at_work, none_executed, none_failed, marked_settled, or_of_not}
+use Rattle.tf_facts.proofs.MoveLemmas.{none_is}
+use Rattle.tf_facts.proofs.CalmLemmas.{NothingLeft, unforced, no_candidate, none_at_work, none_executed, none_failed, marked_settled}
 
 -- nothing can be done where the rules find nothing
 nothing_left : (plan : Outline) (s : Snapshot) → forced_if_running plan s ≡ None → candidate_if_running plan s ≡ None → is_still plan s ≡ true → is_unhurt plan s ≡ true → NothingLeft plan s
@@ -39,14 +38,10 @@ nothing_left plan s not_forced no_choice still unhurt = record {
 
 not_to_revert : (plan : Outline) (s : Snapshot) → IsLaidOut plan → Core plan s → NothingLeft plan s → (a : ℕ) → a < count plan → is_success (s.state a) && is_to_revert (s.mark a) ≡ false
 not_to_revert plan s layout core nothing a below = elim (either_way (is_none (s.mark a))) [
-  | inl unmarked ↦ ap (λ (o : Option Resolve). is_success (s.state a) && is_to_revert o) (none_is (s.mark a) unmarked) ∙ nor (is_success (s.state a))
+  | inl unmarked ↦ ap (λ (o : Option Resolve). is_success (s.state a) && is_to_revert o) (none_is (s.mark a) unmarked) ∙ and_false (is_success (s.state a))
   | inr marked ↦ no_success (s.state a) (is_to_revert (s.mark a)) (none_executed plan s layout core nothing a below marked)
 ]
   where
-    nor : (b : Bool) → b && false ≡ false
-    nor true = refl
-    nor false = refl
-
     no_success : (x : AtomState) (b : Bool) → is_executed x ≡ false → is_success x && b ≡ false
     no_success atom.Success b is = absurd (cc)
     no_success x b is = refl

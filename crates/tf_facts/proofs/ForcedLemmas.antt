@@ -1,7 +1,7 @@
 -- Each forced entry keeps what every moment has.
 use Rattle.std.proofs.Common.{◌≡◌, ◌≢◌, ℕ, ◌<◌, Bool, true, false, not, ◌&&◌, ◌||◌, Option, Some, None, refl, sym, ap, ◌∙◌, ◌⊎◌, inl, inr, subst, eq-eqb}
 use Rattle.std.specs.Option.{option_or, option_map}
-use Rattle.std.specs.Prelude.{if◌then◌else◌, nat_eq}
+use Rattle.std.specs.Prelude.{nat_eq}
 use Rattle.tf_states.specs.declared.record.Payload.{Payload}
 use Rattle.tf_states.specs.declared.record.Payload.TheVariants as payload
 use Rattle.tf_states.specs.declared.record.What.{What}
@@ -12,7 +12,7 @@ use Rattle.tf_states.specs.declared.state.FlowState.{FlowState}
 use Rattle.tf_states.specs.declared.state.FlowState.TheVariants as flow
 use Rattle.tf_flow.specs.declared.deciders.Depth.{Depth}
 use Rattle.std.proofs.lemmas.Bool.{ne_eqb}
-use Rattle.tf_model.specs.Numbers.{first_below}
+use Rattle.tf_numbers.specs.Numbers.{first_below}
 use Rattle.tf_model.specs.Plan.{Outline, count, holds, is_retry, own_flow}
 use Rattle.tf_model.specs.Snapshot.{Resolve, Snapshot, is_again}
 use Rattle.tf_model.specs.States.{is_pending, is_running, is_success, is_failure, is_reverting, is_settled, is_put_back, flow_runs, flow_suspends, flow_is_reverted}
@@ -20,15 +20,16 @@ use Rattle.tf_model.specs.Readiness.{can_run, can_revert}
 use Rattle.tf_model.specs.Deciders.{refused}
 use Rattle.tf_model.specs.Retries.{attempt, ends_with, resolution}
 use Rattle.tf_model.specs.Forced.{first_entry, holds_with, is_of_its_flow, forced_attempt, forced_again, forced_reverted, forced_resolution, forced_retrying, forced_revert, forced_ignore, forced_run, forced_if_running, forced, is_active, is_attempting, attempt_entry, is_beginning_again, again_entry, is_to_put_back, put_back_or_run, is_undone_retry, reverted_entry, is_unresolved, resolution_entry, is_marked_again, is_settled_beside, is_to_begin_again, retrying_entry, is_retry_to_revert, reverting_entry, is_refused, ignore_entry, ignore_by, ignore_or_self, is_to_ignore, ignored_entry, is_retry_to_run, running_entry}
-use Rattle.tf_model.proofs.StepLemmas.{and_first, and_second, found_passes}
-use Rattle.tf_model.proofs.PairLemmas.{true_first, true_both}
+use Rattle.tf_numbers.proofs.TruthLemmas.{and_first, and_second, true_first, true_both, clash, either_way, not_true}
+use Rattle.tf_numbers.proofs.BelowLemmas.{found_passes, all_at, found_below, none_at}
 use Rattle.tf_facts.specs.Facts.{is_undoing}
-use Rattle.tf_facts.proofs.LayoutLemmas.{clash, either_way, IsLaidOut, held_below}
-use Rattle.tf_facts.proofs.BelowLemmas.{all_at, found_below, none_at}
+use Rattle.tf_facts.proofs.LayoutLemmas.{IsLaidOut, held_below}
 use Rattle.tf_facts.proofs.CoreLemmas.{Core, retrying_is, kept}
 use Rattle.tf_facts.proofs.ChangeLemmas.{runs_to_success, runs_to_failure, retrying_runs, reverts_to_reverted, may_ignore, may_revert, may_begin_again, may_put_back, settled_behind, put_back_apart, unmarked_after}
-use Rattle.tf_facts.proofs.MoveLemmas.{after, Keeps, enters_kept, run_kept, runs, reverts, pending_is, none_is, not_true, then_second, is_own, turns, flowless_clears_none}
+use Rattle.tf_facts.proofs.MoveLemmas.{after, Keeps, enters_kept, run_kept, runs, reverts, pending_is, none_is, then_second, turns, flowless_clears_none}
+use Rattle.tf_numbers.proofs.OptionLemmas.{is_this_number, only_if}
 use Rattle.tf_facts.proofs.RegionLemmas.{resolve_kept, anew_kept}
+use Rattle.tf_facts.proofs.CaseLemmas.{forced_by}
 
 -- ---- states by their tests
 
@@ -47,47 +48,6 @@ success_is x is = absurd (cc)
 failure_is : (x : AtomState) → is_failure x ≡ true → x ≡ atom.Failure
 failure_is atom.Failure is = refl
 failure_is x is = absurd (cc)
-
--- ---- the eight cases of a forced entry
-
--- what is recorded has a property, where the entry of each atom that passes the test has it
-pub by_first : (plan : Outline) (P : What → Type 0) (test : ℕ → Bool) (entry : ℕ → What) (w : What) → first_entry plan test entry ≡ Some w
-    → ((a : ℕ) → a < count plan → test a ≡ true → P (entry a)) → P w
-by_first plan P test entry w is each = of (first_below (count plan) test) refl is
-  where
-    of : (o : Option ℕ) → first_below (count plan) test ≡ o → option_map entry o ≡ Some w → P w
-    of None found gives = absurd (cc)
-    of (Some a) found gives =
-        let same : entry a ≡ w = cc in
-        subst P same (each a (found_below (count plan) test a found) (found_passes (count plan) test a found))
-
--- the entries of all cases have a property
-pub record EachCase (plan : Outline) (s : Snapshot) (P : What → Type 0) : Type 0 where
-  pub attempt : (a : ℕ) → a < count plan → is_attempting plan s a ≡ true → P (attempt_entry plan s a)
-  pub again : (a : ℕ) → a < count plan → is_beginning_again plan s a ≡ true → P (again_entry plan s a)
-  pub reverted : (a : ℕ) → a < count plan → is_undone_retry plan s a ≡ true → P (reverted_entry a)
-  pub resolution : (a : ℕ) → a < count plan → is_unresolved s a ≡ true → P (resolution_entry plan s a)
-  pub retrying : (a : ℕ) → a < count plan → is_to_begin_again plan s a ≡ true → P (retrying_entry a)
-  pub revert : (a : ℕ) → a < count plan → is_retry_to_revert plan s a ≡ true → P (reverting_entry a)
-  pub ignore : (a : ℕ) → a < count plan → is_refused plan s a ≡ true → P (ignore_entry plan s a)
-  pub run : (a : ℕ) → a < count plan → is_retry_to_run plan s a ≡ true → P (running_entry a)
-
--- one of two cases applies
-by_cases : (P : What → Type 0) (w : What) (x y : Option What) → (x ≡ Some w → P w) → (y ≡ Some w → P w) → option_or x y ≡ Some w → P w
-by_cases P w None y first second is = second is
-by_cases P w (Some v) y first second is = first is
-
-pub forced_by : (plan : Outline) (s : Snapshot) (P : What → Type 0) → EachCase plan s P → (w : What) → forced_if_running plan s ≡ Some w → P w
-unfolding forced_if_running forced_attempt forced_again forced_reverted forced_resolution forced_retrying forced_revert forced_ignore forced_run
-forced_by plan s P each w =
-    by_cases P w (first_entry plan (is_attempting plan s) (attempt_entry plan s)) _ (λ is. by_first plan P (is_attempting plan s) (attempt_entry plan s) w is each.attempt)
-    (by_cases P w (first_entry plan (is_beginning_again plan s) (again_entry plan s)) _ (λ is. by_first plan P (is_beginning_again plan s) (again_entry plan s) w is each.again)
-    (by_cases P w (first_entry plan (is_undone_retry plan s) reverted_entry) _ (λ is. by_first plan P (is_undone_retry plan s) reverted_entry w is each.reverted)
-    (by_cases P w (first_entry plan (is_unresolved s) (resolution_entry plan s)) _ (λ is. by_first plan P (is_unresolved s) (resolution_entry plan s) w is each.resolution)
-    (by_cases P w (first_entry plan (is_to_begin_again plan s) retrying_entry) _ (λ is. by_first plan P (is_to_begin_again plan s) retrying_entry w is each.retrying)
-    (by_cases P w (first_entry plan (is_retry_to_revert plan s) reverting_entry) _ (λ is. by_first plan P (is_retry_to_revert plan s) reverting_entry w is each.revert)
-    (by_cases P w (first_entry plan (is_refused plan s) (ignore_entry plan s)) (first_entry plan (is_retry_to_run plan s) running_entry)
-    (λ is. by_first plan P (is_refused plan s) (ignore_entry plan s) w is each.ignore) (λ is. by_first plan P (is_retry_to_run plan s) running_entry w is each.run)))))))
 
 attempt_kept : (plan : Outline) (s : Snapshot) → flow_is_reverted s.flow ≡ false → (r : ℕ) (p : Payload) → s.state r ≡ atom.Running → Keeps plan s (ends_with r p)
 attempt_kept plan s going r (payload.Value v) is = enters_kept plan s r atom.Running atom.Success (payload.Value v) is refl (λ core. runs_to_success plan s going r)
@@ -162,7 +122,7 @@ marked_again plan s r is = by (s.mark r) refl is
   where
     by : (o : Option Resolve) → s.mark r ≡ o → is_marked_again (own_flow plan r) o ≡ true → MarkedAgain plan s r
     by None was again = absurd (cc)
-    by (Some m) was again = record { resolve = m; is = was; home = is_own (own_flow plan r) m.flow (and_second (is_again m.kind) _ again) }
+    by (Some m) was again = record { resolve = m; is = was; home = is_this_number (own_flow plan r) m.flow (and_second (is_again m.kind) _ again) }
 
 begin_again_kept : (plan : Outline) (s : Snapshot) → IsLaidOut plan → flow_is_reverted s.flow ≡ false → (r : ℕ) → is_to_begin_again plan s r ≡ true → Keeps plan s (retrying_entry r)
 begin_again_kept plan s layout going r test =
@@ -205,22 +165,18 @@ forced_running_kept plan s layout going = forced_by plan s (Keeps plan s) (recor
   attempt = λ r below test. attempt_kept plan s going r (attempt plan s r) (running_is (s.state r) (and_second (is_retry plan r) _ test));
   again = λ r below test. again_kept plan s layout going r (and_first (is_retry plan r) _ test) (retrying_is (s.state r) (and_second (is_retry plan r) _ test)) (first_below (count plan) (is_to_put_back plan s r)) refl;
   reverted = λ r below test. undone_kept plan s r payload.Empty (reverting_is (s.state r) (and_second (is_retry plan r) _ test));
-  resolution = λ a below test. resolve_kept plan s layout going a (resolution plan s a) (failure_is (s.state a) (and_first (is_failure (s.state a)) _ test))
+  resolution = λ none a below test. resolve_kept plan s layout going a (resolution plan s a) (failure_is (s.state a) (and_first (is_failure (s.state a)) _ test))
       (none_is (s.mark a) (and_second (is_failure (s.state a)) _ test)) (layout.resolved s a below);
   retrying = λ r below test. begin_again_kept plan s layout going r test;
   revert = λ r below test. revert_kept plan s layout going r (and_second (is_retry plan r) _ test);
-  ignore = λ v below test. depth_kept plan s layout going v (and_first (can_run plan s v) _ test) (refused plan s v);
-  run = λ r below test. run_kept plan s going r payload.Empty (and_second (is_retry plan r) _ test);
+  ignore = λ none v below test. depth_kept plan s layout going v (and_first (can_run plan s v) _ test) (refused plan s v);
+  run = λ none r below test. run_kept plan s going r payload.Empty (and_second (is_retry plan r) _ test);
 })
 
 pub flow_going : (x : FlowState) → flow_runs x || flow_suspends x ≡ true → flow_is_reverted x ≡ false
 flow_going flow.Running is = refl
 flow_going flow.Suspending is = refl
 flow_going x is = absurd (cc)
-
-pub only_if : (b : Bool) (x : Option What) (w : What) → (if b then x else None) ≡ Some w → (b ≡ true) × (x ≡ Some w)
-only_if true x w is = (refl, is)
-only_if false x w is = absurd (cc)
 
 pub active_going : (plan : Outline) (s : Snapshot) → is_active plan s ≡ true → flow_is_reverted s.flow ≡ false
 unfolding is_active

@@ -1,10 +1,9 @@
 -- What the order of a plan's atoms and its flows give to a run.
-use Rattle.std.proofs.Common.{◌≡◌, ◌≢◌, ℕ, zero, suc, ◌<◌, List, [], ◌∷◌, length, slice_get, Bool, true, false, Some, None, refl, sym, ◌∙◌, ◌⊎◌, inl, inr, eqb-true, arith}
-use Rattle.std.specs.Prelude.{nat_eq}
-use Rattle.std.proofs.lemmas.Bool.{eqb-false}
+use Rattle.std.proofs.Common.{◌≡◌, ◌≢◌, ℕ, zero, suc, ◌<◌, List, [], ◌∷◌, length, slice_get, true, false, Some, None, refl, ◌⊎◌, inl, inr, arith}
 use Rattle.tf_flow.specs.declared.deciders.Depth.{Depth}
 use Rattle.tf_flow.specs.Plan.{PlanValue}
-use Rattle.tf_model.specs.Outline.{Turn, Part, a_task, a_retry, Atom}
+use Rattle.tf_flow.specs.Outline.{Part, a_task, a_retry, Atom}
+use Rattle.tf_flow.specs.declared.ways.Turn.{Turn}
 use Rattle.tf_model.specs.Before.{Flow, way_before, passes_flow, way_in}
 use Rattle.tf_model.specs.Plan.{Outline, outline_of, count, way, is_before, holds, is_retry, is_retry_in, is_task, is_task_in, own_flow}
 use Rattle.tf_model.specs.Compilation.{compile_refusal}
@@ -20,20 +19,6 @@ use Rattle.tf_model.proofs.ResolutionLemmas.{resolution_holds}
 use Rattle.tf_model.proofs.IgnoredLemmas.{ignored_after}
 
 -- ---- truth values and numbers
-
-pub clash : (b : Bool) → b ≡ true → b ≡ false → ⊥
-clash b is isnt = let no : true ≡ false = sym is ∙ isnt in cc
-
-pub either_way : (b : Bool) → (b ≡ true) ⊎ (b ≡ false)
-either_way true = inl refl
-either_way false = inr refl
-
-pub same_or_other : (a b : ℕ) → (a ≡ b) ⊎ (a ≢ b)
-same_or_other a b = by (nat_eq a b) refl
-  where
-    by : (c : Bool) → nat_eq a b ≡ c → (a ≡ b) ⊎ (a ≢ b)
-    by true is = inl (eqb-true a b is)
-    by false is = inr (eqb-false a b is)
 
 -- ---- what the plan gives
 

@@ -1,9 +1,9 @@
 pub mod LayoutLemmas
-pub mod BelowLemmas
 pub mod CoreLemmas
 pub mod ChangeLemmas
 pub mod MoveLemmas
 pub mod RegionLemmas
+pub mod CaseLemmas
 pub mod ForcedLemmas
 pub mod CalmLemmas
 pub mod FinishLemmas

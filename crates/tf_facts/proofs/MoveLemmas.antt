@@ -1,5 +1,5 @@
 -- What an entry changes, and which entries of one atom keep what every moment has.
-use Rattle.std.proofs.Common.{◌≡◌, ◌≢◌, ℕ, Bool, true, false, not, ◌&&◌, ◌||◌, Option, Some, None, refl, sym, ap, ◌∙◌, inl, inr, eqb-true, eq-eqb}
+use Rattle.std.proofs.Common.{◌≡◌, ◌≢◌, ℕ, Bool, true, false, not, ◌&&◌, ◌||◌, Option, Some, None, refl, sym, ap, ◌∙◌, inl, inr, eq-eqb}
 use Rattle.std.specs.Prelude.{if◌then◌else◌, is_none, nat_eq}
 use Rattle.std.proofs.lemmas.Bool.{ne_eqb}
 use Rattle.tf_states.specs.declared.record.Payload.{Payload}
@@ -7,16 +7,16 @@ use Rattle.tf_states.specs.declared.record.What.{What}
 use Rattle.tf_states.specs.declared.record.What.TheVariants as what
 use Rattle.tf_states.specs.declared.state.AtomState.{AtomState}
 use Rattle.tf_states.specs.declared.state.AtomState.TheVariants as atom
-use Rattle.tf_model.specs.Numbers.{is_number}
 use Rattle.tf_model.specs.Plan.{Outline, count, is_before, is_retry, own_flow}
 use Rattle.tf_model.specs.Snapshot.{Resolve, Snapshot, later, mark_after, begun_again, is_again, is_retry_of}
 use Rattle.tf_model.specs.States.{is_pending, is_running, is_done, is_settled, is_executed, flow_is_reverted}
 use Rattle.tf_model.specs.Readiness.{can_run, can_revert, lets_run, lets_revert, is_unmarked}
-use Rattle.tf_model.proofs.StepLemmas.{and_first, and_second, or_either}
-use Rattle.tf_facts.proofs.LayoutLemmas.{clash, either_way, own_holds, before_below, before_below_first}
-use Rattle.tf_facts.proofs.BelowLemmas.{all_at}
+use Rattle.tf_numbers.proofs.TruthLemmas.{and_first, and_second, or_either, clash, either_way, and_false, not_true}
+use Rattle.tf_facts.proofs.LayoutLemmas.{own_holds, before_below, before_below_first}
+use Rattle.tf_numbers.proofs.BelowLemmas.{all_at}
 use Rattle.tf_facts.proofs.CoreLemmas.{Core, Turned, Allows, kept, not_none}
 use Rattle.tf_facts.proofs.ChangeLemmas.{may_run}
+use Rattle.tf_numbers.proofs.OptionLemmas.{is_this_number}
 
 -- the snapshot after a hand recorded an event
 abbrev pub after : Outline → ℕ → What → Snapshot → Snapshot
@@ -73,10 +73,6 @@ pub none_is : (o : Option Resolve) → is_none o ≡ true → o ≡ None
 none_is None is = refl
 none_is (Some m) is = absurd (cc)
 
-pub not_true : (b : Bool) → not b ≡ true → b ≡ false
-not_true false is = refl
-not_true true is = absurd (cc)
-
 -- where the first holds, so does the second
 pub then_second : (a b : Bool) → not a || b ≡ true → a ≡ true → b ≡ true
 then_second a b is first = elim (or_either (not a) b is) [ inl isnt ↦ absurd (clash a first (not_true a isnt)) | inr second ↦ second ]
@@ -121,10 +117,6 @@ pub begun_is : (own : Option ℕ) (o : Option Resolve) → ((m : Resolve) → o 
 begun_is own None each = refl
 begun_is own (Some m) each = rw (each m refl) refl
 
-pub is_own : (own : Option ℕ) (g : ℕ) → is_number own g ≡ true → own ≡ Some g
-is_own None g is = absurd (cc)
-is_own (Some h) g is = ap (λ (k : ℕ). Some k) (eqb-true h g is)
-
 -- an unmarked atom that runs clears none
 run_clears_none : (plan : Outline) (s : Snapshot) (a b : ℕ) (held : Payload) → Core plan s → s.mark a ≡ None → mark_after plan (what.Atom a atom.Running held) b (s.mark b) ≡ s.mark b
 unfolding mark_after
@@ -135,7 +127,7 @@ run_clears_none plan s a b held core unmarked = by (is_retry plan a)
     by true = begun_is (own_flow plan a) (s.mark b) (λ m is. elim (either_way (is_retry_of (own_flow plan a) m)) [
       | inr isnt ↦ isnt
       | inl own ↦
-          let home : own_flow plan a ≡ Some m.flow = is_own (own_flow plan a) m.flow (and_second (is_again m.kind) _ own) in
+          let home : own_flow plan a ≡ Some m.flow = is_this_number (own_flow plan a) m.flow (and_second (is_again m.kind) _ own) in
           absurd (not_none s a m ((core.whole b m is).1 a (own_holds plan a m.flow home)) unmarked)
     ])
 
@@ -152,8 +144,4 @@ flowless_clears_none plan a b held m home = by (is_retry plan a)
   where
     by : (c : Bool) → (if c then begun_again (own_flow plan a) m else m) ≡ m
     by false = refl
-    by true = begun_is (own_flow plan a) m (λ n is. ap (λ (o : Option ℕ). is_retry_of o n) home ∙ never (is_again n.kind))
-      where
-        never : (c : Bool) → c && false ≡ false
-        never true = refl
-        never false = refl
+    by true = begun_is (own_flow plan a) m (λ n is. ap (λ (o : Option ℕ). is_retry_of o n) home ∙ and_false (is_again n.kind))

@@ -12,7 +12,7 @@ use Rattle.tf_states.specs.declared.state.AtomState.TheVariants as atom
 use Rattle.tf_states.specs.declared.state.FlowState.{FlowState}
 use Rattle.tf_states.specs.declared.state.FlowState.TheVariants as flow
 use Rattle.tf_flow.specs.declared.deciders.Depth.{Depth}
-use Rattle.tf_model.specs.Numbers.{all_below, first_below, is_number}
+use Rattle.tf_numbers.specs.Numbers.{all_below, first_below, is_number}
 use Rattle.tf_model.specs.Plan.{Outline, count, is_before, is_retry}
 use Rattle.tf_model.specs.Snapshot.{Snapshot, is_at_work}
 use Rattle.tf_model.specs.History.{snapshot}
@@ -24,12 +24,12 @@ use Rattle.tf_model.specs.Forced.{forced, forced_if_running, is_active, is_to_pu
 use Rattle.tf_model.specs.Candidates.{candidate_if_running, choice, candidate_entry, taken_up, is_best, is_candidate, end_of}
 use Rattle.tf_model.specs.Steps.{Rule, by_force, by_choice, by_end_of_task, by_turn, by_end, by_suspension, by_reset, LegalPast, ends_task, ends_as, turns_flow, end_entry, reset, put_back_or_rest, is_put_back_at, is_settled_at}
 use Rattle.tf_model.specs.Laws.{enters_by}
-use Rattle.tf_model.proofs.StepLemmas.{and_first, and_second}
+use Rattle.tf_numbers.proofs.TruthLemmas.{and_first, and_second, clash}
 use Rattle.tf_facts.specs.Facts.{HasOrderlyReverts}
-use Rattle.tf_facts.proofs.LayoutLemmas.{clash}
 use Rattle.tf_facts.proofs.MoveLemmas.{runs, reverts}
-use Rattle.tf_facts.proofs.ForcedLemmas.{by_first, forced_by, only_if}
-use Rattle.tf_facts.proofs.StepLemmas.{ready_part, if_some}
+use Rattle.tf_facts.proofs.CaseLemmas.{by_first, forced_by}
+use Rattle.tf_numbers.proofs.OptionLemmas.{only_if, if_some}
+use Rattle.tf_facts.proofs.StepLemmas.{ready_part}
 
 -- where it reverts an atom, all that is after the atom is settled
 abbrev IsOrderly : Outline → Snapshot → What → Type 0
@@ -67,11 +67,11 @@ forced_orderly plan s w is = forced_by plan s (IsOrderly plan s) (record {
   attempt = λ r below test. attempt_orderly plan s r (attempt plan s r);
   again = λ r below test. again_orderly plan s r (first_below (count plan) (is_to_put_back plan s r));
   reverted = λ r below test. other_state plan s r atom.Reverted payload.Empty refl;
-  resolution = λ a below test b c enters. absurd (cc);
+  resolution = λ none a below test b c enters. absurd (cc);
   retrying = λ r below test. other_state plan s r atom.Retrying payload.Empty refl;
   revert = λ r below test. revert_orderly plan s r (and_second (is_retry plan r) _ test);
-  ignore = λ v below test. ignore_orderly plan s v (refused plan s v);
-  run = λ r below test. other_state plan s r atom.Running payload.Empty refl;
+  ignore = λ none v below test. ignore_orderly plan s v (refused plan s v);
+  run = λ none r below test. other_state plan s r atom.Running payload.Empty refl;
 }) w (only_if (is_active plan s) (forced_if_running plan s) w is).1
 
 -- a task that is neither at work nor PENDING is taken up since it can revert

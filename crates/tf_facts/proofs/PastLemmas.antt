@@ -23,8 +23,9 @@ use Rattle.tf_model.specs.Laws.{atom_may, is_allowed}
 use Rattle.tf_model.proofs.StepLemmas.{past_allowed}
 use Rattle.tf_model.proofs.HistoryLemmas.{one_more, session_legal, session_state}
 use Rattle.tf_facts.specs.Facts.{Facts, InFlight, OpenAtom, CompletedReversion, started_in, started_after, was_started}
-use Rattle.tf_facts.proofs.LayoutLemmas.{clash, either_way, IsLaidOut, laid_out, held_below}
-use Rattle.tf_facts.proofs.BelowLemmas.{any_at, any_of, not_all}
+use Rattle.tf_facts.proofs.LayoutLemmas.{IsLaidOut, laid_out, held_below}
+use Rattle.tf_numbers.proofs.TruthLemmas.{clash, either_way}
+use Rattle.tf_numbers.proofs.BelowLemmas.{any_at, any_of, not_all}
 use Rattle.tf_facts.proofs.CoreLemmas.{Core, AtRest, marked_where, after_region, alone_retrying}
 use Rattle.tf_facts.proofs.StepLemmas.{step_kept}
 use Rattle.tf_facts.proofs.FinishLemmas.{has_end}

@@ -10,12 +10,14 @@ use Rattle.tf_states.specs.declared.state.FlowState.TheVariants as flow
 use Rattle.tf_model.specs.Plan.{Outline, count, holds, is_retry, own_flow}
 use Rattle.tf_model.specs.Snapshot.{Resolve, Snapshot, later, state_after, mark_after, begun_again, is_again, is_retry_of}
 use Rattle.tf_model.specs.States.{is_done, is_settled, is_put_back, is_retrying, flow_is_reverted}
-use Rattle.tf_model.proofs.StepLemmas.{and_second}
+use Rattle.tf_numbers.proofs.TruthLemmas.{and_second, clash, either_way}
 use Rattle.tf_facts.specs.Facts.{is_open, is_undoing}
-use Rattle.tf_facts.proofs.LayoutLemmas.{clash, either_way, same_or_other, IsLaidOut, before_below}
+use Rattle.tf_facts.proofs.LayoutLemmas.{IsLaidOut, before_below}
+use Rattle.tf_numbers.proofs.NumberLemmas.{same_or_other}
 use Rattle.tf_facts.proofs.CoreLemmas.{Core, AtRest, Turned, kept, marked_where, one_mark, not_none, alone_retrying}
 use Rattle.tf_facts.proofs.ChangeLemmas.{retrying_runs}
-use Rattle.tf_facts.proofs.MoveLemmas.{after, Keeps, entered_here, stays_there, is_own}
+use Rattle.tf_facts.proofs.MoveLemmas.{after, Keeps, entered_here, stays_there}
+use Rattle.tf_numbers.proofs.OptionLemmas.{is_this_number}
 
 -- ---- neither states nor marks change
 
@@ -163,7 +165,7 @@ cleared_kept plan s t core went own g home none_undoing change = record {
       elim (either_way (is_retry_of own mark.resolve)) [
         | inr stays ↦ ap is_none (change.marks c ∙ begun_stays own (s.mark c) mark.resolve mark.is stays)
         | inl goes ↦
-            let flow : Some mark.resolve.flow ≡ Some g = sym (is_own own mark.resolve.flow (and_second (is_again mark.resolve.kind) _ goes)) ∙ home in
+            let flow : Some mark.resolve.flow ≡ Some g = sym (is_this_number own mark.resolve.flow (and_second (is_again mark.resolve.kind) _ goes)) ∙ home in
             let same : mark.resolve.flow ≡ g = cc in
             absurd (clash (is_undoing (s.state c)) was (none_undoing c (ap (λ (h : ℕ). holds plan h c) (sym same) ∙ (core.whole c mark.resolve mark.is).0)))
       ];

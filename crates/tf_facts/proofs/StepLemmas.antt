@@ -1,7 +1,7 @@
 -- Each step keeps what every moment has.
-use Rattle.std.proofs.Common.{◌≡◌, ℕ, ◌<◌, Bool, true, false, ◌&&◌, ◌||◌, Option, Some, None, refl, sym, ap, ◌∙◌, ◌⊎◌, inl, inr, subst}
+use Rattle.std.proofs.Common.{◌≡◌, ℕ, ◌<◌, true, false, ◌&&◌, ◌||◌, Option, Some, None, refl, sym, ap, ◌∙◌, ◌⊎◌, inl, inr, subst}
 use Rattle.std.specs.Option.{option_map}
-use Rattle.std.specs.Prelude.{if◌then◌else◌, is_none}
+use Rattle.std.specs.Prelude.{is_none}
 use Rattle.tf_states.specs.declared.record.Entry.{Entry}
 use Rattle.tf_states.specs.declared.record.Payload.{Payload}
 use Rattle.tf_states.specs.declared.record.Payload.TheVariants as payload
@@ -11,7 +11,7 @@ use Rattle.tf_states.specs.declared.state.AtomState.{AtomState}
 use Rattle.tf_states.specs.declared.state.AtomState.TheVariants as atom
 use Rattle.tf_states.specs.declared.state.FlowState.{FlowState}
 use Rattle.tf_states.specs.declared.state.FlowState.TheVariants as flow
-use Rattle.tf_model.specs.Numbers.{all_below, first_below, is_number}
+use Rattle.tf_numbers.specs.Numbers.{all_below, first_below, is_number}
 use Rattle.tf_model.specs.Sessions.{has_ended}
 use Rattle.tf_model.specs.Plan.{Outline, count, is_task}
 use Rattle.tf_model.specs.Snapshot.{Snapshot, later, is_at_work}
@@ -20,16 +20,18 @@ use Rattle.tf_model.specs.Readiness.{can_run, can_revert}
 use Rattle.tf_model.specs.Forced.{forced, is_active, reverting_entry}
 use Rattle.tf_model.specs.Candidates.{candidate_if_running, choice, candidate_entry, taken_up, is_best, is_candidate, is_interrupted, end_of}
 use Rattle.tf_model.specs.Steps.{Rule, by_force, by_choice, by_end_of_task, by_turn, by_end, by_suspension, by_reset, is_still, ends_task, ends_as, turns_flow, may_turn, end_entry, may_suspend, reset, put_back_or_rest, is_put_back_at, is_settled_at}
-use Rattle.tf_model.proofs.StepLemmas.{and_first, and_second, or_either, found_passes, end_is}
-use Rattle.tf_model.proofs.PairLemmas.{true_second}
+use Rattle.tf_model.proofs.StepLemmas.{end_is}
+use Rattle.tf_numbers.proofs.TruthLemmas.{and_first, and_second, or_either, true_second, clash}
+use Rattle.tf_numbers.proofs.BelowLemmas.{found_passes, all_at, none_at}
 use Rattle.tf_facts.specs.Facts.{is_undoing}
-use Rattle.tf_facts.proofs.LayoutLemmas.{clash, IsLaidOut, before_below}
-use Rattle.tf_facts.proofs.BelowLemmas.{all_at, none_at}
+use Rattle.tf_facts.proofs.LayoutLemmas.{IsLaidOut, before_below}
 use Rattle.tf_facts.proofs.CoreLemmas.{Core, AtRest}
 use Rattle.tf_facts.proofs.ChangeLemmas.{runs_to_success, runs_to_failure, reverts_to_failure, may_put_back}
 use Rattle.tf_facts.proofs.MoveLemmas.{Keeps, enters_kept, run_kept, runs, reverts}
 use Rattle.tf_facts.proofs.RegionLemmas.{turn_kept, restart_kept, rest_kept}
-use Rattle.tf_facts.proofs.ForcedLemmas.{by_first, forced_kept, flow_going, only_if, active_going, revert_kept, undone_kept}
+use Rattle.tf_facts.proofs.CaseLemmas.{by_first}
+use Rattle.tf_facts.proofs.ForcedLemmas.{forced_kept, flow_going, active_going, revert_kept, undone_kept}
+use Rattle.tf_numbers.proofs.OptionLemmas.{only_if, if_some}
 use Rattle.tf_facts.proofs.FinishLemmas.{end_rests}
 
 -- ---- a task is taken up
@@ -148,10 +150,6 @@ reset_one_kept plan s reverted settled (Some b) found =
     enters_kept plan s b (s.state b) atom.Pending payload.Empty refl refl
     (λ core. may_put_back plan s b (s.state b) (found_passes (count plan) (is_put_back_at s) b found)
     (λ x before. settled x (before_below plan b x before)) (λ going. absurd (clash (flow_is_reverted s.flow) reverted going)))
-
-pub if_some : (b : Bool) (v w : What) → (if b then Some v else None) ≡ Some w → (b ≡ true) × (v ≡ w)
-if_some true v w is = let same : v ≡ w = cc in (refl, same)
-if_some false v w is = absurd (cc)
 
 reset_kept : (plan : Outline) (s : Snapshot) (w : What) → reset plan s ≡ Some w → Keeps plan s w
 unfolding reset

@@ -3,3 +3,7 @@ pub mod PlaceLemmas
 pub mod MeasureLemmas
 pub mod NameLemmas
 pub mod LinkLemmas
+pub mod ConditionLemmas
+pub mod WayLemmas
+pub mod OutlineLemmas
+pub mod ReadLemmas

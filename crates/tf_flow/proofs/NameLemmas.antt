@@ -9,6 +9,7 @@ use Rattle.std.specs.Cmp.Lexicographic.{bytes_decides}
 use Rattle.std.specs.List.{list_any}
 use Rattle.tf_flow.specs.Names.{same_name, is_among, first_again, first_again_after}
 use Rattle.tf_flow.specs.Places.{Place, name_at, is_atom, atom_names}
+use Rattle.tf_numbers.proofs.TruthLemmas.{true_first, true_second}
 
 or_as_cond : (b : Bool) → (b || false) ≡ cond b true false
 or_as_cond true = refl
@@ -34,20 +35,12 @@ any_more names i more name within is =
 record IsWithin (few all : List (List ℕ)) : Type 0 where
   held : (name : List ℕ) → is_among few name ≡ true → is_among all name ≡ true
 
-or_left : (a b : Bool) → a ≡ true → (a || b) ≡ true
-or_left true b is = refl
-or_left false b is = cc
-
-or_right : (a b : Bool) → b ≡ true → (a || b) ≡ true
-or_right true b is = refl
-or_right false b is = is
-
 or_both : (a b c d : Bool) → (a ≡ true → c ≡ true) → (b ≡ true → d ≡ true) → (a || b) ≡ true → (c || d) ≡ true
-or_both true b c d left right is = or_left c d (left refl)
-or_both false b c d left right is = or_right c d (right is)
+or_both true b c d left right is = true_first c d (left refl)
+or_both false b c d left right is = true_second c d (right is)
 
 within_more : (few all : List (List ℕ)) (more : List ℕ) → IsWithin few all → IsWithin few (all ++ more ∷ [])
-within_more few all more within = record { held = λ name is. list_any-append (same_name name) all (more ∷ []) ∙ or_left (is_among all name) (is_among (more ∷ []) name) (within.held name is) }
+within_more few all more within = record { held = λ name is. list_any-append (same_name name) all (more ∷ []) ∙ true_first (is_among all name) (is_among (more ∷ []) name) (within.held name is) }
 
 within_both : (few all : List (List ℕ)) (more : List ℕ) → IsWithin few all → IsWithin (few ++ more ∷ []) (all ++ more ∷ [])
 within_both few all more within = record {

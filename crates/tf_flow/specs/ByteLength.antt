@@ -2,8 +2,8 @@
 -- four and that of a name one; kinds, marks and tags are one byte each.
 use Rattle.std.specs.Prelude.{ℕ, ◌+◌, max, List, [], ◌∷◌, Option, None, Some, length, sum_by, map}
 use Rattle.tf_values.specs.ByteForm.{list_bytes}
+use Rattle.tf_values.specs.Value.{byte_form}
 use Rattle.tf_values.specs.declared.value.Val.{Val}
-use Rattle.tf_values.specs.declared.value.Val.TheVariants as value
 use Rattle.tf_flow.specs.declared.atoms.Arg.{Arg}
 use Rattle.tf_flow.specs.declared.atoms.Bind.{Bind}
 use Rattle.tf_flow.specs.declared.atoms.Provides.{Provides}
@@ -28,11 +28,7 @@ abbrev pub text_len : List ℕ → ℕ
 text_len text = 4 + length text
 
 abbrev pub value_len : Val → ℕ
-value_len value.Nothing = 1
-value_len (value.Truth truth) = 1
-value_len (value.Int number) = 9
-value_len (value.Text text) = 1 + text_len text
-value_len (value.List scalars) = length (list_bytes scalars)
+value_len value = length (byte_form value)
 
 abbrev pub words_len : List (List ℕ) → ℕ
 words_len words = 2 + sum_by text_len words

@@ -8,3 +8,6 @@ pub mod Refusal
 pub mod Shown
 pub mod Plan
 pub mod Items
+pub mod Conditions
+pub mod Outline
+pub mod Ways

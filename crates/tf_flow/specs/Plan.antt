@@ -1,9 +1,12 @@
 -- A plan, and the numbers of its atoms and flows.
-use Rattle.std.specs.Prelude.{◌≡◌, ℕ, List, Bool, None}
+use Rattle.std.specs.Prelude.{◌≡◌, ℕ, List, Bool, Option, None, map, option_map, slice_get}
 use Rattle.tf_flow.specs.declared.atoms.Bind.{Bind}
 use Rattle.tf_flow.specs.declared.nested.Flow.{Flow}
 use Rattle.tf_flow.specs.Places.{tree_order, atom_names, retry_marks, flow_names}
 use Rattle.tf_flow.specs.Refusal.{first_refusal}
+use Rattle.tf_flow.specs.Tree.{Tree, tree_of}
+use Rattle.tf_flow.specs.Outline.{Part, atoms_of, way_of, part_of, flow_ways, flow_trees}
+use Rattle.tf_flow.specs.declared.ways.Turn.{Turn}
 
 -- what a plan stands for: a root flow, the values of the store, and whether a retry leaves its answer
 -- to the one around it
@@ -22,9 +25,26 @@ retries plan = retry_marks (tree_order plan.root)
 abbrev pub flows : PlanValue → List (List ℕ)
 flows plan = flow_names (tree_order plan.root)
 
+-- the ways from the root to a plan's atoms, and to its flows, by number
+abbrev pub ways : PlanValue → List (List Turn)
+ways plan = map way_of (atoms_of 0 (tree_of plan.root))
+
+abbrev pub ways_to_flows : PlanValue → List (List Turn)
+ways_to_flows plan = flow_ways 0 (tree_of plan.root)
+
+-- the atom of a number
+abbrev pub part : PlanValue → ℕ → Option Part
+part plan a = option_map part_of (slice_get (atoms_of 0 (tree_of plan.root)) a)
+
+-- the flow of a number, with what stands in it
+abbrev pub flow : PlanValue → ℕ → Option Tree
+flow plan g = slice_get (flow_trees (tree_of plan.root)) g
+
 -- what a plan keeps beside its flows is what tree order says, and nothing is refused
-pub record IsNumbered (root : Flow) (store : List Bind) (names : List (List ℕ)) (marks : List Bool) (levels : List (List ℕ)) : Type 0 where
+pub record IsNumbered (root : Flow) (store : List Bind) (names : List (List ℕ)) (marks : List Bool) (levels : List (List ℕ)) (to_atoms to_flows : List (List Turn)) : Type 0 where
   pub atoms_named : names ≡ atom_names (tree_order root)
   pub retries_marked : marks ≡ retry_marks (tree_order root)
   pub flows_named : levels ≡ flow_names (tree_order root)
+  pub atoms_reached : to_atoms ≡ map way_of (atoms_of 0 (tree_of root))
+  pub flows_reached : to_flows ≡ flow_ways 0 (tree_of root)
   pub accepted : first_refusal root store ≡ None

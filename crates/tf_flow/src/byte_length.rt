@@ -33,12 +33,7 @@ fn text_len(text: &Text) -> u64
 fn value_len(value: &Val) -> u64
     ensures { result ≡ capped (form.value_len value.now) }
 {
-    match value {
-        Val::Nothing | Val::Truth(_) => 1,
-        Val::Int(_) => 9,
-        Val::Text(text) => plus(1, text_len(text)),
-        Val::List(scalars) => list_len(scalars.items()),
-    }
+    value.encoded_len() as u64
 }
 
 fn list_len(scalars: &[Scalar]) -> u64

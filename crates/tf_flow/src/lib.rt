@@ -16,9 +16,12 @@ mod refusals;
 mod repeats;
 #[cfg(test)]
 mod tests;
+mod ways;
 
 pub use atoms::{Arg, ArgList, Bind, Binds, Provides, Retry, RetryKind, Task, TaskKind, Undo};
 pub use deciders::{Decider, Depth, Link, Links, Test, Tests};
 pub use faults::{Limit, PlanFault};
 pub use nested::{Flow, FlowKind, Item, Items};
 pub use plans::Plan;
+pub use repeats::set_of;
+pub use ways::{Part, Turn, Way};

@@ -4,6 +4,8 @@ ghost use Rattle.tf_flow.specs.Places.{name_at, is_atom, is_flow, is_retry_place
 ghost use Rattle.tf_flow.specs.Plan as numbering;
 ghost use Rattle.tf_flow.specs.Refusal.{first_refusal, IsAnswer};
 ghost use Rattle.tf_flow.specs.Shown.{shown_places};
+ghost use Rattle.tf_flow.specs.Tree.{tree_of};
+ghost use Rattle.tf_flow.specs.Ways.{shown_part};
 
 use crate::atoms::Binds;
 use crate::faults::PlanFault;
@@ -11,6 +13,7 @@ use crate::nested::Flow;
 use crate::outline::{Place, add_flow};
 use crate::refusals::first_refusal;
 use crate::repeats::indexed;
+use crate::ways::{Part, Turn, Way, Ways, flow_in, part_in, ways_of};
 use indexmap::IndexSet;
 use std::alloc::Global;
 use std::marker::Model;
@@ -27,6 +30,8 @@ pub struct Plan {
     atoms: IndexSet<Name>,
     retries: Vec<bool>,
     flows: Vec<Name>,
+    ways: Vec<Way>,
+    ways_to_flows: Vec<Way>,
 }
 
 impl Model for Plan {
@@ -40,7 +45,7 @@ impl Model for Plan {
 
     ghost view = { λ plan. record { root = plan.root; store = plan.store; defer = plan.defer } };
 
-    ghost invariant = { λ plan. IsNumbered plan.root plan.store plan.atoms.keys plan.retries.items plan.flows.items };
+    ghost invariant = { λ plan. IsNumbered plan.root plan.store plan.atoms.keys plan.retries.items plan.flows.items plan.ways.items plan.ways_to_flows.items };
 }
 
 impl Plan {
@@ -60,6 +65,8 @@ impl Plan {
             atoms: numbers.atoms,
             retries: numbers.retries,
             flows: numbers.flows,
+            ways: numbers.ways.atoms,
+            ways_to_flows: numbers.ways.flows,
         })
     }
 
@@ -127,6 +134,42 @@ impl Plan {
         &self.flows[flow as usize]
     }
 
+    /// The way of an atom from the root.
+    #[tactic(auto, using(crate::proofs::OutlineLemmas::as_many_ways))]
+    pub fn way(&self, atom: u16) -> &[Turn]
+        requires { atom < length (numbering.atoms self.now) }
+        ensures { slice_get (numbering.ways self.now) atom ≡ Some result.now }
+    {
+        way_at(&self.ways, atom as usize)
+    }
+
+    /// The atom of a number. It takes as many steps as flows stand around the atom.
+    #[tactic(auto, using(crate::proofs::ReadLemmas::part_found, crate::proofs::ReadLemmas::part_is_there))]
+    pub fn part(&self, atom: u16) -> Part<'_>
+        requires { atom < length (numbering.atoms self.now) }
+        ensures { numbering.part self.now atom ≡ Some (shown_part result) }
+    {
+        part_in(self.root(), self.way(atom)).unwrap()
+    }
+
+    /// The way of a flow from the root.
+    #[tactic(auto, using(crate::proofs::OutlineLemmas::as_many_ways_to_flows))]
+    pub fn way_to_flow(&self, flow: u16) -> &[Turn]
+        requires { flow < length (numbering.flows self.now) }
+        ensures { slice_get (numbering.ways_to_flows self.now) flow ≡ Some result.now }
+    {
+        way_at(&self.ways_to_flows, flow as usize)
+    }
+
+    /// The flow of a number. It takes as many steps as flows stand around it.
+    #[tactic(auto, using(crate::proofs::ReadLemmas::flow_found, crate::proofs::ReadLemmas::flow_is_there))]
+    pub fn flow(&self, flow: u16) -> &Flow
+        requires { flow < length (numbering.flows self.now) }
+        ensures { numbering.flow self.now flow ≡ Some (tree_of result.now) }
+    {
+        flow_in(&self.root, self.way_to_flow(flow)).unwrap()
+    }
+
     /// The number of the atom of this name; none where no atom has it.
     pub fn find(&self, name: &Name) -> Option<u16>
         ensures number { result ≡ position (same_name name.now) (numbering.atoms self.now) }
@@ -140,17 +183,27 @@ impl Plan {
     }
 }
 
+/// The way of a number.
+#[tactic(auto, using(crate::proofs::WayLemmas::way_read))]
+fn way_at(ways: &[Way], number: usize) -> &[Turn]
+    requires { number < length ways.now }
+    ensures { slice_get ways.now number ≡ Some result.now }
+{
+    ways[number].turns()
+}
+
 /// What a plan keeps beside its flows.
 #[derive(Drop)]
 struct Numbers {
     atoms: IndexSet<Name>,
     retries: Vec<bool>,
     flows: Vec<Name>,
+    ways: Ways,
 }
 
 /// The numbers of a plan, or its first refusal.
 fn numbered(alloc: Global, root: &Flow, store: &Binds) -> Result<Numbers, PlanFault>
-    ensures numbers { IfOk result (λ found. numbering.IsNumbered root.now store.now found.atoms.keys found.retries.items found.flows.items) }
+    ensures numbers { IfOk result (λ found. numbering.IsNumbered root.now store.now found.atoms.keys found.retries.items found.flows.items found.ways.atoms.items found.ways.flows.items) }
     ensures refused { IfErr result (IsAnswer (first_refusal root.now store.now)) }
 {
     let mut order = Vec::new(alloc);
@@ -162,6 +215,7 @@ fn numbered(alloc: Global, root: &Flow, store: &Binds) -> Result<Numbers, PlanFa
         atoms: atom_index(alloc, &order)?,
         retries: retry_marks(alloc, &order)?,
         flows: flow_names(alloc, &order)?,
+        ways: ways_of(alloc, root)?,
     })
 }
 

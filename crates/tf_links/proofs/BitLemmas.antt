@@ -6,12 +6,11 @@ use Rattle.std.proofs.lemmas.Bool.{cases_lt, ltb-true, lt-ltb}
 use Rattle.std.proofs.lemmas.Nat.{or_lt, and_le_l}
 use Rattle.std.proofs.lemmas.List.{get_or-set_same, get_or-set_other, length-set}
 use Rattle.std.proofs.lemmas.Nat.Bits.{bit_at-zero, shr_and_one, bit_at_and, bit_at_or, bit_at_set_same, bit_at_set_other, bit_at_clear_same, bit_at_clear_other, bit_at-trailing_zeros, bit_at-lt, same_from_bits_below}
-use Rattle.tf_model.specs.Numbers.{first_below, which_below}
+use Rattle.tf_numbers.specs.Numbers.{first_below, which_below}
 use Rattle.tf_links.specs.Bits.{has, room, has_both, has_if, is_within}
-use Rattle.tf_links.proofs.NumberLemmas.{same_truth, never_true, not_both, all_told, all_from, first_is, first_none, which_more}
-
-pub ap2 : {X Y Z : Type 0} (f : X → Y → Z) {x x' : X} {y y' : Y} → x ≡ x' → y ≡ y' → f x y ≡ f x' y'
-ap2 {X = X} f {x = x} {y' = y'} first second = ap (f x) second ∙ ap (λ (z : X). f z y') first
+use Rattle.tf_numbers.proofs.TruthLemmas.{same_truth, never_true, clash}
+use Rattle.tf_numbers.proofs.EquationLemmas.{ap2}
+use Rattle.tf_numbers.proofs.BelowLemmas.{all_at, all_of, first_is, first_none, which_more}
 
 -- what is read within a list doesn't depend on what stands for nothing
 pub index_zero : (xs : List ℕ) (i v : ℕ) → i < length xs → v ≡ slice_index_or xs i v → v ≡ slice_index_or xs i 0
@@ -49,7 +48,7 @@ set_word words i w k within = by_word (nat_eq (k / 64) i) refl
     by_word true is = let same : k / 64 ≡ i = eqb-true (k / 64) i is in
         ap (λ (v : ℕ). nat_eq (bit_at v (k % 64)) 1) (ap (λ (j : ℕ). slice_index_or (slice_set words i w) j 0) same ∙ get_or-set_same words i w 0 within)
     by_word false is = ap (λ (v : ℕ). nat_eq (bit_at v (k % 64)) 1)
-        (get_or-set_other words i (k / 64) w 0 (λ same. not_both (nat_eq (k / 64) i) (eq-eqb (k / 64) i same) is))
+        (get_or-set_other words i (k / 64) w 0 (λ same. clash (nat_eq (k / 64) i) (eq-eqb (k / 64) i same) is))
 
 -- ---- one number more or less
 
@@ -72,14 +71,14 @@ insert_told words n k within =
         ∙ ap (λ (b : ℕ). nat_eq b 1) (bit_at_set_same w64 (slice_index_or words (n / 64) 0) (n % 64) (bit_below n))
     in_word false is word =
         ap (λ (b : ℕ). nat_eq b 1) (bit_at_set_other w64 (slice_index_or words (n / 64) 0) (n % 64) (bit_below n) (k % 64)
-        (λ bit. not_both (nat_eq n k) (eq-eqb n k (same_number n k word bit)) is))
+        (λ bit. clash (nat_eq n k) (eq-eqb n k (same_number n k word bit)) is))
         ∙ ap (λ (i : ℕ). nat_eq (bit_at (slice_index_or words i 0) (k % 64)) 1) (sym word)
 
     by_word : (b : Bool) → nat_eq (k / 64) (n / 64) ≡ b
         → (if b then nat_eq (bit_at (bit_or (slice_index_or words (n / 64) 0) (1 * 2 ^ (n % 64) % 2 ^ 64)) (k % 64)) 1 else has words k) ≡ (nat_eq n k || has words k)
     by_word true is = in_word (nat_eq n k) refl (eqb-true (k / 64) (n / 64) is)
     by_word false is = ap (λ (b : Bool). b || has words k)
-        (sym (never_true (nat_eq n k) (λ same. not_both (nat_eq (k / 64) (n / 64)) (eq-eqb (k / 64) (n / 64) (ap (λ (m : ℕ). m / 64) (sym (eqb-true n k same)))) is)))
+        (sym (never_true (nat_eq n k) (λ same. clash (nat_eq (k / 64) (n / 64)) (eq-eqb (k / 64) (n / 64) (ap (λ (m : ℕ). m / 64) (sym (eqb-true n k same)))) is)))
 
 pub remove_told : (words : List ℕ) (n k : ℕ) → n / 64 < length words
     → has (slice_set words (n / 64) (bit_and (slice_index_or words (n / 64) 0) (bit_not w64 (1 * 2 ^ (n % 64) % 2 ^ 64)))) k ≡ (not (nat_eq n k) && has words k)
@@ -94,14 +93,14 @@ remove_told words n k within =
         ∙ ap (λ (b : ℕ). nat_eq b 1) (bit_at_clear_same w64 (slice_index_or words (n / 64) 0) (n % 64) (bit_below n))
     in_word false is word =
         ap (λ (b : ℕ). nat_eq b 1) (bit_at_clear_other w64 (slice_index_or words (n / 64) 0) (n % 64) (bit_below n) (k % 64) (bit_below k)
-        (λ bit. not_both (nat_eq n k) (eq-eqb n k (same_number n k word bit)) is))
+        (λ bit. clash (nat_eq n k) (eq-eqb n k (same_number n k word bit)) is))
         ∙ ap (λ (i : ℕ). nat_eq (bit_at (slice_index_or words i 0) (k % 64)) 1) (sym word)
 
     by_word : (b : Bool) → nat_eq (k / 64) (n / 64) ≡ b
         → (if b then nat_eq (bit_at (bit_and (slice_index_or words (n / 64) 0) (bit_not w64 (1 * 2 ^ (n % 64) % 2 ^ 64))) (k % 64)) 1 else has words k) ≡ (not (nat_eq n k) && has words k)
     by_word true is = in_word (nat_eq n k) refl (eqb-true (k / 64) (n / 64) is)
     by_word false is = ap (λ (b : Bool). not b && has words k)
-        (sym (never_true (nat_eq n k) (λ same. not_both (nat_eq (k / 64) (n / 64)) (eq-eqb (k / 64) (n / 64) (ap (λ (m : ℕ). m / 64) (sym (eqb-true n k same)))) is)))
+        (sym (never_true (nat_eq n k) (λ same. clash (nat_eq (k / 64) (n / 64)) (eq-eqb (k / 64) (n / 64) (ap (λ (m : ℕ). m / 64) (sym (eqb-true n k same)))) is)))
 
 -- a number past the room isn't there
 pub past_room : (words : List ℕ) (n k : ℕ) → length words ≤ n / 64 → has words k ≡ (not (nat_eq n k) && has words k)
@@ -186,7 +185,7 @@ joined_more old other new i v w before within was there v_is w_is k =
         (same_truth (nat_lt (k / 64) i) (nat_lt (k / 64) (i + 1))
         (λ less. let below : k / 64 < i = ltb-true (k / 64) i less in lt-ltb (k / 64) (i + 1) (omega (arith, below)))
         (λ less. let below : k / 64 < i + 1 = ltb-true (k / 64) (i + 1) less in
-        let other : k / 64 ≢ i = λ same. not_both (nat_eq (k / 64) i) (eq-eqb (k / 64) i same) is in
+        let other : k / 64 ≢ i = λ same. clash (nat_eq (k / 64) i) (eq-eqb (k / 64) i same) is in
         lt-ltb (k / 64) i (omega (arith, below, other))))
 
 pub joined_all : (old other new : List ℕ) (i : ℕ) → Joined old other new i → length old ≤ i → length other ≡ length old → (k : ℕ) → has new k ≡ (has old k || has other k)
@@ -220,7 +219,7 @@ within_more xs ys i v w before v_is w_is none k below = elim (cases_lt (k / 64) 
 ]
 
 pub within_all : (xs ys : List ℕ) (i : ℕ) → WithinBelow xs ys i → length xs ≤ i → true ≡ is_within xs ys
-within_all xs ys i each whole = sym (all_from (room xs) (has_if xs ys) (λ k below. each k (omega (arith, below, whole))))
+within_all xs ys i each whole = sym (all_of (room xs) (has_if xs ys) (λ k below. each k (omega (arith, below, whole))))
 
 same_bit : (x y : ℕ) → x < 2 → y < 2 → nat_eq x 1 ≡ nat_eq y 1 → x ≡ y
 same_bit zero zero one other is = refl
@@ -241,7 +240,7 @@ within_not xs ys i v w inside v_is w_is v_fits w_fits differ = sym (never_true (
     same_bit (bit_at (bit_or v w) b) (bit_at w b) (bit_at-lt (bit_or v w) b) (bit_at-lt w b)
     (or_word v w b ∙ words_if (nat_eq (bit_at v b) 1) (nat_eq (bit_at w b) 1)
     (ap2 (λ (a c : Bool). not a || c) (bit_here xs i v b below v_is) (bit_here ys i w b below w_is)
-    ∙ all_told (room xs) (has_if xs ys) is (i * 64 + b) (omega (arith, inside, below))))))))
+    ∙ all_at (room xs) (has_if xs ys) (i * 64 + b) is (omega (arith, inside, below))))))))
 
 -- ---- the least number in both
 

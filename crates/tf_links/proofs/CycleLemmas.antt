@@ -3,17 +3,19 @@ use Rattle.std.proofs.Common.{◌≡◌, ◌≢◌, ℕ, zero, suc, ◌+◌, ◌
 use Rattle.std.specs.Prelude.{nat_eq, is_some, if◌then◌else◌}
 use Rattle.std.specs.List.{list_any}
 use Rattle.std.proofs.lemmas.Bool.{cases_lt}
-use Rattle.tf_model.specs.Numbers.{has_number, first_below, Pair, has_pair}
-use Rattle.tf_model.specs.Compilation.{leads_to_one, reaching, goes_on_by, go_on, walk_to, comes_back, walk_back, shortest_cycle}
-use Rattle.tf_model.proofs.StepLemmas.{and_first, and_second, or_either}
-use Rattle.tf_model.proofs.PairLemmas.{which_passes, passes_which, true_first, true_second, true_both}
+use Rattle.tf_numbers.specs.Numbers.{has_number, first_below}
+use Rattle.tf_numbers.specs.Pairs.{Pair, has_pair}
+use Rattle.tf_links.specs.Cycles.{leads_to_one, reaching, goes_on_by, go_on, walk_to, comes_back, walk_back, shortest_cycle}
+use Rattle.tf_numbers.proofs.TruthLemmas.{and_first, and_second, or_either, true_first, true_second, true_both, same_truth, clash}
+use Rattle.tf_numbers.proofs.PairLemmas.{which_passes, passes_which}
 use Rattle.tf_links.specs.Bits.{has, words_for}
 use Rattle.tf_links.specs.Links.{leads, LinksValue, AreLinks}
 use Rattle.tf_links.specs.Layers.{goes_into, first_into, leads_to_passing, first_passing, in_layer, walk_by, AreLayers}
-use Rattle.tf_links.proofs.NumberLemmas.{same_truth, not_both, first_same, first_is, first_none, first_passes, first_within, first_there}
-use Rattle.tf_links.proofs.BitLemmas.{ap2}
+use Rattle.tf_numbers.proofs.BelowLemmas.{first_same, first_is, first_none, found_passes, found_below, first_there}
+use Rattle.tf_numbers.proofs.EquationLemmas.{ap2}
 use Rattle.tf_links.proofs.StandingLemmas.{number_more}
-use Rattle.tf_links.proofs.LinkLemmas.{read_more, read_last, length_more, row_zero}
+use Rattle.tf_links.proofs.LinkLemmas.{row_zero}
+use Rattle.tf_numbers.proofs.ListLemmas.{read_more, read_last, length_more}
 
 -- ---- what leads into a set
 
@@ -31,7 +33,7 @@ into_next links set found new i on before wide is put = record { width = wide �
   where
     by_item : (u : ℕ) → u < i + 1 → (b : Bool) → nat_eq i u ≡ b → (if b then on else has found u) ≡ is_some (first_into links set u)
     by_item u below true same = is ∙ ap (λ (k : ℕ). is_some (first_into links set k)) (eqb-true i u same)
-    by_item u below false other = before.told u (let differ : i ≢ u = λ same. not_both (nat_eq i u) (eq-eqb i u same) other in omega (arith, below, differ))
+    by_item u below false other = before.told u (let differ : i ≢ u = λ same. clash (nat_eq i u) (eq-eqb i u same) other in omega (arith, below, differ))
 
 pub into_all : (links : LinksValue) (set found : List ℕ) (i : ℕ) → IntoBelow links set found i → links.count ≤ i → (u : ℕ) → u < links.count → has found u ≡ is_some (first_into links set u)
 into_all links set found i is whole u below = is.told u (omega (arith, below, whole))
@@ -102,8 +104,8 @@ layer_told links pairs item are zero u below = turned (nat_eq item u) (nat_eq u 
     turned a false is = is
 layer_told links pairs item are (suc k) u below = same_truth (is_some (first_passing links (in_layer links item k) u)) (has_number (reaching links.count pairs item (suc k)) u)
     (λ is. let found = there_is (first_passing links (in_layer links item k) u) is in
-    let passes : leads links.rows u found.number && in_layer links item k found.number ≡ true = first_passes links.count (leads_to_passing links (in_layer links item k) u) found.number found.is in
-    let within : found.number < links.count = first_within links.count (leads_to_passing links (in_layer links item k) u) found.number found.is in
+    let passes : leads links.rows u found.number && in_layer links item k found.number ≡ true = found_passes links.count (leads_to_passing links (in_layer links item k) u) found.number found.is in
+    let within : found.number < links.count = found_below links.count (leads_to_passing links (in_layer links item k) u) found.number found.is in
     passes_which links.count (leads_to_one pairs (reaching links.count pairs item k)) (nat_eq u) u below
     (any_number (has_pair pairs u) (reaching links.count pairs item k) found.number
     (sym (layer_told links pairs item are k found.number within) ∙ and_second (leads links.rows u found.number) (in_layer links item k found.number) passes)
@@ -168,11 +170,8 @@ more_within count items at below within k on = elim (or_either (has_number items
   | inr last ↦ let same : k ≡ at = eqb-true k at last in omega (arith, same, below)
 ]
 
-pub none_within : (items : List ℕ) (count : ℕ) → items ≡ [] → (k : ℕ) → has_number items k ≡ true → k < count
-none_within items count none k on = absurd (not_both (has_number items k) on (ap (λ (xs : List ℕ). has_number xs k) none))
-
 pub walk_start : (links : LinksValue) (item whole : ℕ) (items : List ℕ) → item < links.count → items ≡ [] → Walking links item whole items item whole
-walk_start links item whole items below none = record { below = below; within = λ k on. absurd (not_both (has_number items k) on (ap (λ (xs : List ℕ). has_number xs k) none)); walked = ap (λ (xs : List ℕ). xs ++ walk_by links item whole item) none }
+walk_start links item whole items below none = record { below = below; within = λ k on. absurd (clash (has_number items k) on (ap (λ (xs : List ℕ). has_number xs k) none)); walked = ap (λ (xs : List ℕ). xs ++ walk_by links item whole item) none }
 
 pub walk_on : (links : LinksValue) (item whole : ℕ) (items : List ℕ) (at rest k next : ℕ) (layers : List (List ℕ)) (layer : List ℕ) → Walking links item whole items at rest → rest ≡ k + 1 → AreLayers links item layers (whole + 1) → k < whole
     → layer ≡ slice_index_or layers (k + 1) layer → Some next ≡ first_into links layer at → Walking links item whole (items ++ at ∷ []) next k
@@ -180,7 +179,7 @@ walk_on links item whole items at rest k next layers layer is same are less read
     let found : first_passing links (in_layer links item (suc k)) at ≡ Some next =
     sym (first ∙ into_layer links item layer (suc k) at (λ w within. ap (λ (row : List ℕ). has row w) (row_zero layers (k + 1) layer (omega (arith, are.height, less)) read) ∙ (are.told (k + 1) (omega (arith, less)) w within ∙ ap (λ (n : ℕ). in_layer links item n w) (add-one k)))) in
     record {
-      below = first_within links.count (leads_to_passing links (in_layer links item (suc k)) at) next found;
+      below = found_below links.count (leads_to_passing links (in_layer links item (suc k)) at) next found;
       within = more_within links.count items at is.below is.within;
       walked = append_assoc items (at ∷ []) (walk_by links item k next)
           ∙ (ap (λ (o : Option ℕ). items ++ at ∷ go_on o (walk_by links item k)) (sym found)

@@ -1,4 +1,8 @@
-pub mod NumberLemmas
+pub mod ReachedLemmas
+pub mod ReachLawLemmas
+pub mod CountLawLemmas
+pub mod CycleLawLemmas
+pub mod StandingLawLemmas
 pub mod BitLemmas
 pub mod LinkLemmas
 pub mod StandingLemmas

@@ -3,12 +3,14 @@ use Rattle.std.proofs.Common.{◌≡◌, ℕ, zero, suc, ◌+◌, ◌*◌, ◌<�
 use Rattle.std.specs.Prelude.{nat_eq, if◌then◌else◌}
 use Rattle.std.proofs.lemmas.Bool.{cases_lt}
 use Rattle.std.proofs.lemmas.List.{get_or-set_same, get_or-set_other, length-set}
-use Rattle.tf_model.specs.Numbers.{which_below, first_below}
+use Rattle.tf_numbers.specs.Numbers.{which_below, first_below}
 use Rattle.tf_links.specs.Bits.{has, words_for, room, has_both}
 use Rattle.tf_links.specs.Links.{leads, IsSquare, LinksValue}
 use Rattle.tf_links.specs.Layers.{first_into, goes_into}
-use Rattle.tf_links.proofs.NumberLemmas.{never_true, not_both, first_same, first_more}
+use Rattle.tf_numbers.proofs.TruthLemmas.{never_true, clash, and_second}
+use Rattle.tf_numbers.proofs.BelowLemmas.{first_same, first_more}
 use Rattle.tf_links.proofs.BitLemmas.{past_none}
+use Rattle.tf_numbers.proofs.ListLemmas.{read_more, read_last, length_more}
 
 -- ---- what a row has
 
@@ -37,7 +39,7 @@ set_row rows u row a b within = by_row (nat_eq u a) refl
   where
     by_row : (is_row : Bool) → nat_eq u a ≡ is_row → leads (slice_set rows u row) a b ≡ (if is_row then has row b else leads rows a b)
     by_row true is = ap (λ (k : ℕ). leads (slice_set rows u row) k b) (sym (eqb-true u a is)) ∙ ap (λ (r : List ℕ). has r b) (get_or-set_same rows u row [] within)
-    by_row false is = ap (λ (r : List ℕ). has r b) (get_or-set_other rows u a row [] (λ same. not_both (nat_eq u a) (eq-eqb u a (sym same)) is))
+    by_row false is = ap (λ (r : List ℕ). has r b) (get_or-set_other rows u a row [] (λ same. clash (nat_eq u a) (eq-eqb u a (sym same)) is))
 
 -- ---- a square
 
@@ -49,7 +51,7 @@ square_set count rows u row within is wide = record {
   where
     by_row : (a : ℕ) → a < count → (is_row : Bool) → nat_eq u a ≡ is_row → length (slice_index_or (slice_set rows u row) a []) ≡ words_for count
     by_row a below true same = ap length (ap (λ (k : ℕ). slice_index_or (slice_set rows u row) k []) (sym (eqb-true u a same)) ∙ get_or-set_same rows u row [] (omega (arith, within, is.height))) ∙ wide
-    by_row a below false other = ap length (get_or-set_other rows u a row [] (λ same. not_both (nat_eq u a) (eq-eqb u a (sym same)) other)) ∙ is.width a below
+    by_row a below false other = ap length (get_or-set_other rows u a row [] (λ same. clash (nat_eq u a) (eq-eqb u a (sym same)) other)) ∙ is.width a below
 
 -- each number below the count has room
 pub has_room : (count : ℕ) (rows : List (List ℕ)) (u v : ℕ) (row : List ℕ) → IsSquare count rows → u < count → v < count → row ≡ slice_index_or rows u row → v < room row
@@ -74,24 +76,11 @@ pub record AreEmpty (count so_far : ℕ) (rows : List (List ℕ)) : Type 0 where
   pub width : (u : ℕ) → u < so_far → length (slice_index_or rows u []) ≡ words_for count
   pub none : (u v : ℕ) → leads rows u v ≡ false
 
-pub read_more : (rows : List (List ℕ)) (row : List ℕ) (u : ℕ) → u < length rows → slice_index_or (rows ++ row ∷ []) u [] ≡ slice_index_or rows u []
-read_more [] row u within = absurd (omega arith)
-read_more (x ∷ xs) row zero within = refl
-read_more (x ∷ xs) row (suc u) within = read_more xs row u (omega arith)
-
-pub read_last : (rows : List (List ℕ)) (row : List ℕ) → slice_index_or (rows ++ row ∷ []) (length rows) [] ≡ row
-read_last [] row = refl
-read_last (x ∷ xs) row = read_last xs row
-
 read_past : (rows : List (List ℕ)) (row : List ℕ) (u : ℕ) → length rows < u → slice_index_or (rows ++ row ∷ []) u [] ≡ []
 read_past [] row zero past = absurd (omega arith)
 read_past [] row (suc u) past = refl
 read_past (x ∷ xs) row zero past = absurd (omega arith)
 read_past (x ∷ xs) row (suc u) past = read_past xs row u (omega arith)
-
-pub length_more : {X : Type 0} (xs : List X) (x : X) → length (xs ++ x ∷ []) ≡ length xs + 1
-length_more [] x = refl
-length_more (y ∷ ys) x = omega (arith, length_more ys x)
 
 pub empty_more : (count so_far : ℕ) (rows : List (List ℕ)) (row : List ℕ) → AreEmpty count so_far rows → length row ≡ words_for count → ((k : ℕ) → has row k ≡ false) → AreEmpty count (so_far + 1) (rows ++ row ∷ [])
 empty_more count so_far rows row is wide none = record {
@@ -125,16 +114,12 @@ empty_leads count so_far rows is = is.none
 pub inserted_within : (old new : List (List ℕ)) (u v count : ℕ) → ((a b : ℕ) → leads old a b ≡ true → b < count) → v < count → ((a b : ℕ) → leads new a b ≡ ((nat_eq u a && nat_eq v b) || leads old a b)) → (a b : ℕ) → leads new a b ≡ true → b < count
 inserted_within old new u v count within below more a b on = by_pair (nat_eq u a && nat_eq v b) refl
   where
-    second : (x y : Bool) → x && y ≡ true → y ≡ true
-    second true y is = is
-    second false y is = absurd (cc)
-
     rest : (x y : Bool) → x ≡ false → x || y ≡ true → y ≡ true
     rest true y off is = absurd (cc)
     rest false y off is = is
 
     by_pair : (c : Bool) → (nat_eq u a && nat_eq v b) ≡ c → b < count
-    by_pair true here = let same : v ≡ b = eqb-true v b (second (nat_eq u a) (nat_eq v b) here) in omega (arith, same, below)
+    by_pair true here = let same : v ≡ b = eqb-true v b (and_second (nat_eq u a) (nat_eq v b) here) in omega (arith, same, below)
     by_pair false off = within a b (rest (nat_eq u a && nat_eq v b) (leads old a b) off (sym (more a b) ∙ on))
 
 -- the numbers of a row

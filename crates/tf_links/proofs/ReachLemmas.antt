@@ -3,15 +3,18 @@ use Rattle.std.proofs.Common.{◌≡◌, ◌≢◌, ℕ, zero, suc, ◌+◌, ◌
 use Rattle.std.specs.Prelude.{nat_eq, nat_lt, if◌then◌else◌}
 use Rattle.std.proofs.lemmas.Bool.{cases_lt, ltb-true, lt-ltb}
 use Rattle.std.proofs.lemmas.List.{reverse-append}
-use Rattle.tf_model.specs.Numbers.{has_number, Pair, has_pair, leads_by, reached_by, reached}
-use Rattle.tf_model.proofs.StepLemmas.{and_first, and_second, or_either}
-use Rattle.tf_model.proofs.PairLemmas.{true_first, true_second, true_both, pair_passes, reached_chain, reached_keeps}
+use Rattle.tf_numbers.specs.Numbers.{has_number}
+use Rattle.tf_numbers.specs.Pairs.{Pair, has_pair}
+use Rattle.tf_links.specs.Reach.{leads_by, reached_by, reached}
+use Rattle.tf_numbers.proofs.TruthLemmas.{and_first, and_second, or_either, true_first, true_second, true_both, same_truth, never_true, clash, and_false, or_chain, or_false, or_nothing, or_turn}
+use Rattle.tf_numbers.proofs.PairLemmas.{pair_passes}
+use Rattle.tf_links.proofs.ReachedLemmas.{reached_chain, reached_keeps}
 use Rattle.tf_links.specs.Bits.{has, words_for}
 use Rattle.tf_links.specs.Links.{leads, IsSquare, LinksValue, AreLinks, leads_by_way, AreReached, ArePivots}
-use Rattle.tf_links.proofs.NumberLemmas.{same_truth, never_true, not_both}
-use Rattle.tf_links.proofs.BitLemmas.{ap2}
+use Rattle.tf_numbers.proofs.EquationLemmas.{ap2}
 use Rattle.tf_links.proofs.LinkLemmas.{past_row, row_zero, row_read, set_row}
 use Rattle.tf_links.proofs.StandingLemmas.{number_more, taking_next, taking_none, taking_all, next_within}
+use Rattle.tf_numbers.proofs.NumberLemmas.{turn_eq}
 
 -- ---- pivots
 
@@ -19,17 +22,8 @@ pub pivots_start : (count : ℕ) (among pivots : List ℕ) → pivots ≡ [] →
 pivots_start count among pivots none wide nothing = record {
   width = wide;
   listed = λ k. nothing k ∙ sym (ap (λ (xs : List ℕ). has_number xs k) none);
-  within = λ k on. absurd (not_both (has_number pivots k) on (ap (λ (xs : List ℕ). has_number xs k) none));
+  within = λ k on. absurd (clash (has_number pivots k) on (ap (λ (xs : List ℕ). has_number xs k) none));
 }
-
-turn_eq : (a b : ℕ) → nat_eq a b ≡ nat_eq b a
-turn_eq a b = same_truth (nat_eq a b) (nat_eq b a) (λ is. eq-eqb b a (sym (eqb-true a b is))) (λ is. eq-eqb a b (sym (eqb-true b a is)))
-
-or_turn : (a b : Bool) → a || b ≡ b || a
-or_turn true true = refl
-or_turn true false = refl
-or_turn false true = refl
-or_turn false false = refl
 
 pub pivots_more : (count : ℕ) (among pivots among_new : List ℕ) (item : ℕ) → ArePivots count among pivots → item < count → length among_new ≡ length among → ((k : ℕ) → has among_new k ≡ (nat_eq item k || has among k))
     → ArePivots count among_new (pivots ++ item ∷ [])
@@ -55,10 +49,6 @@ pub record PassedBelow (count : ℕ) (old : List (List ℕ)) (pivot : ℕ) (thro
   pub square : IsSquare count rows
   pub told : (u v : ℕ) → leads rows u v ≡ (leads old u v || ((nat_lt u i && leads old u pivot) && has through v))
 
-or_nothing : (a b : Bool) → b ≡ false → a ≡ a || b
-or_nothing true b off = refl
-or_nothing false b off = sym off
-
 pub passed_start : (old : List (List ℕ)) (pivot : ℕ) (through : List ℕ) (count : ℕ) → IsSquare count old → PassedBelow count old pivot through old 0
 passed_start old pivot through count square = record {
   square = square;
@@ -68,26 +58,18 @@ passed_start old pivot through count square = record {
 lt_more : (u i : ℕ) → nat_eq i u ≡ false → nat_lt u i ≡ nat_lt u (i + 1)
 lt_more u i other = same_truth (nat_lt u i) (nat_lt u (i + 1))
     (λ less. let below : u < i = ltb-true u i less in lt-ltb u (i + 1) (omega (arith, below)))
-    (λ less. let below : u < i + 1 = ltb-true u (i + 1) less in let differ : i ≢ u = λ same. not_both (nat_eq i u) (eq-eqb i u same) other in lt-ltb u i (omega (arith, below, differ)))
+    (λ less. let below : u < i + 1 = ltb-true u (i + 1) less in let differ : i ≢ u = λ same. clash (nat_eq i u) (eq-eqb i u same) other in lt-ltb u i (omega (arith, below, differ)))
 
 pub row_kept : (rows : List (List ℕ)) (u pivot : ℕ) (through : List ℕ) → leads rows u pivot ≡ false → (a b : ℕ) → leads rows a b ≡ (leads rows a b || (nat_eq u a && (leads rows u pivot && has through b)))
-row_kept rows u pivot through off a b = or_nothing (leads rows a b) _ (ap (λ (c : Bool). nat_eq u a && (c && has through b)) off ∙ nothing (nat_eq u a))
-  where
-    nothing : (a : Bool) → a && false ≡ false
-    nothing true = refl
-    nothing false = refl
+row_kept rows u pivot through off a b = or_nothing (leads rows a b) _ (ap (λ (c : Bool). nat_eq u a && (c && has through b)) off ∙ and_false (nat_eq u a))
 
 pub row_joined : (rows : List (List ℕ)) (u pivot : ℕ) (through row row_old : List ℕ) → u < length rows → leads rows u pivot ≡ true → row_old ≡ slice_index_or rows u row_old → ((k : ℕ) → has row k ≡ (has row_old k || has through k)) → (a b : ℕ)
     → leads (slice_set rows u row) a b ≡ (leads rows a b || (nat_eq u a && (leads rows u pivot && has through b)))
 row_joined rows u pivot through row row_old below on read joined a b = set_row rows u row a b below ∙ by_row (nat_eq u a) refl
   where
-    or_false : (c : Bool) → c ≡ c || false
-    or_false true = refl
-    or_false false = refl
-
     by_row : (c : Bool) → nat_eq u a ≡ c → (if c then has row b else leads rows a b) ≡ (leads rows a b || (c && (leads rows u pivot && has through b)))
     by_row true same = joined b ∙ (ap2 (λ (x y : Bool). x || y) (row_read rows u b row_old below read ∙ ap (λ (k : ℕ). leads rows k b) (eqb-true u a same)) (ap (λ (x : Bool). x && has through b) (sym on)))
-    by_row false other = or_false (leads rows a b)
+    by_row false other = sym (or_false (leads rows a b))
 
 -- the row i is passed
 pub passed_next : (count : ℕ) (old : List (List ℕ)) (pivot : ℕ) (through : List ℕ) (rows rows_new : List (List ℕ)) (i : ℕ) → PassedBelow count old pivot through rows i → IsSquare count rows_new
@@ -96,10 +78,6 @@ passed_next count old pivot through rows rows_new i is square more = record { sq
   where
     not_yet : nat_lt i i ≡ false
     not_yet = never_true (nat_lt i i) (λ less. let no : i < i = ltb-true i i less in omega (arith, no))
-
-    or_false : (a : Bool) → a || false ≡ a
-    or_false true = refl
-    or_false false = refl
 
     told_here : (v : ℕ) → leads rows i v ≡ leads old i v
     told_here v = is.told i v ∙ (ap (λ (b : Bool). leads old i v || ((b && leads old i pivot) && has through v)) not_yet ∙ or_false (leads old i v))
@@ -116,12 +94,8 @@ pub passed_all : (count : ℕ) (old : List (List ℕ)) (pivot : ℕ) (through : 
 passed_all count old pivot through rows i is square whole u v = is.told u v ∙ elim (cases_lt u i) [
   | inl below ↦ ap (λ (b : Bool). leads old u v || ((b && leads old u pivot) && has through v)) (lt-ltb u i below)
   | inr past ↦ let none : leads old u pivot ≡ false = sym (past_row old u pivot (omega (arith, square.height, whole, past))) in
-      ap (λ (b : Bool). leads old u v || (b && has through v)) (ap (λ (b : Bool). nat_lt u i && b) none ∙ (nothing (nat_lt u i) ∙ sym none))
+      ap (λ (b : Bool). leads old u v || (b && has through v)) (ap (λ (b : Bool). nat_lt u i && b) none ∙ (and_false (nat_lt u i) ∙ sym none))
 ]
-  where
-    nothing : (a : Bool) → a && false ≡ false
-    nothing true = refl
-    nothing false = refl
 
 -- ---- all pivots
 
@@ -204,10 +178,6 @@ way_reached links pairs pivots are all u v =
 has_both_lists : (xs ys : List ℕ) (k : ℕ) → has_number (xs ++ ys) k ≡ (has_number xs k || has_number ys k)
 has_both_lists [] ys k = refl
 has_both_lists (x ∷ xs) ys k = ap (λ (b : Bool). nat_eq k x || b) (has_both_lists xs ys k) ∙ or_chain (nat_eq k x) (has_number xs k) (has_number ys k)
-  where
-    or_chain : (a b c : Bool) → a || (b || c) ≡ (a || b) || c
-    or_chain true b c = refl
-    or_chain false b c = refl
 
 pub reversed_has : (xs : List ℕ) (k : ℕ) → has_number (reverse xs) k ≡ has_number xs k
 reversed_has [] k = refl

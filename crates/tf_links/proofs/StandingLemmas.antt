@@ -3,14 +3,16 @@ use Rattle.std.proofs.Common.{◌≡◌, ◌≢◌, ℕ, zero, suc, ◌+◌, ◌
 use Rattle.std.specs.Prelude.{nat_eq, nat_lt, if◌then◌else◌}
 use Rattle.std.specs.List.{list_all}
 use Rattle.std.proofs.lemmas.Bool.{cases_lt, ltb-true, lt-ltb}
-use Rattle.tf_model.specs.Numbers.{all_below, first_below, which_below, has_number, Pair, has_pair}
-use Rattle.tf_model.specs.Linked.{is_behind, is_next, take_one, take_items}
-use Rattle.tf_model.proofs.StepLemmas.{and_first, and_second, or_either}
-use Rattle.tf_model.proofs.PairLemmas.{which_passes, passes_which, true_first, true_second, true_both}
+use Rattle.tf_numbers.specs.Numbers.{all_below, first_below, which_below, has_number}
+use Rattle.tf_numbers.specs.Pairs.{Pair, has_pair}
+use Rattle.tf_links.specs.Standing.{is_behind, is_next, take_one, take_items}
+use Rattle.tf_numbers.proofs.TruthLemmas.{and_first, and_second, or_either, true_first, true_second, true_both, same_truth, never_true, clash, and_false, or_chain, or_false, or_of_not, or_true}
+use Rattle.tf_numbers.proofs.PairLemmas.{which_passes, passes_which}
 use Rattle.tf_links.specs.Bits.{has, room, has_if, is_within, words_for}
 use Rattle.tf_links.specs.Links.{leads, IsSquare, LinksValue, AreLinks, lets_take, is_ready, AreReady, Taken}
-use Rattle.tf_links.proofs.NumberLemmas.{same_truth, never_true, not_both, all_told, all_from, all_same, all_more, first_same, first_more, first_passes}
-use Rattle.tf_links.proofs.BitLemmas.{ap2, past_none}
+use Rattle.tf_numbers.proofs.BelowLemmas.{all_at, all_of, all_same, all_more, first_same, first_more, found_passes}
+use Rattle.tf_links.proofs.BitLemmas.{past_none}
+use Rattle.tf_numbers.proofs.EquationLemmas.{ap2}
 use Rattle.tf_links.proofs.LinkLemmas.{past_row, row_zero, row_read}
 
 -- ---- one item
@@ -58,7 +60,7 @@ ready_more links done ready new i on before wide is set = record { width = wide 
         (same_truth (nat_lt w i) (nat_lt w (i + 1))
         (λ less. let below : w < i = ltb-true w i less in lt-ltb w (i + 1) (omega (arith, below)))
         (λ less. let below : w < i + 1 = ltb-true w (i + 1) less in
-        let differ : i ≢ w = λ same. not_both (nat_eq i w) (eq-eqb i w same) other in lt-ltb w i (omega (arith, below, differ))))
+        let differ : i ≢ w = λ same. clash (nat_eq i w) (eq-eqb i w same) other in lt-ltb w i (omega (arith, below, differ))))
 
 pub ready_all : (links : LinksValue) (done ready : List ℕ) (i : ℕ) → ReadyBelow links done ready i → i ≡ links.count → AreReady links done ready
 ready_all links done ready i is whole w = is.told w ∙ ap (λ (n : ℕ). nat_lt w n && is_ready links done w) whole
@@ -77,16 +79,8 @@ among_start links item old done ready seen none wide told = record {
 }
 
 pub number_more : (xs : List ℕ) (x w : ℕ) → has_number (xs ++ x ∷ []) w ≡ (has_number xs w || nat_eq w x)
-number_more [] x w = or_none (nat_eq w x)
-  where
-    or_none : (b : Bool) → b || false ≡ b
-    or_none true = refl
-    or_none false = refl
+number_more [] x w = or_false (nat_eq w x)
 number_more (y ∷ ys) x w = ap (λ (b : Bool). nat_eq w y || b) (number_more ys x w) ∙ or_chain (nat_eq w y) (has_number ys w) (nat_eq w x)
-  where
-    or_chain : (a b c : Bool) → a || (b || c) ≡ (a || b) || c
-    or_chain true b c = refl
-    or_chain false b c = refl
 
 pub among_more : (links : LinksValue) (item : ℕ) (old done ready new seen more : List ℕ) (next : ℕ) (on : Bool) → ReadyAmong links item old done ready seen → more ≡ seen ++ next ∷ [] → length new ≡ length ready → next < links.count
     → on ≡ is_ready links done next → ((w : ℕ) → has new w ≡ (if nat_eq next w then on else has ready w)) → ReadyAmong links item old done new more
@@ -97,22 +91,14 @@ among_more links item old done ready new seen more next on before is_more wide w
   where
     turn : (w : ℕ) (b : Bool) → nat_eq next w ≡ b → nat_eq w next ≡ b
     turn w true same = eq-eqb w next (sym (eqb-true next w same))
-    turn w false other = never_true (nat_eq w next) (λ same. not_both (nat_eq next w) (eq-eqb next w (sym (eqb-true w next same))) other)
-
-    or_one : (a : Bool) → a || true ≡ true
-    or_one true = refl
-    or_one false = refl
-
-    or_none : (a : Bool) → a || false ≡ a
-    or_none true = refl
-    or_none false = refl
+    turn w false other = never_true (nat_eq w next) (λ same. clash (nat_eq next w) (eq-eqb next w (sym (eqb-true w next same))) other)
 
     by_item : (w : ℕ) (b : Bool) → nat_eq next w ≡ b → (if b then on else has ready w) ≡ (if has_number (seen ++ next ∷ []) w then nat_lt w links.count && is_ready links done w else not (nat_eq item w) && has old w)
     by_item w true same = let e : next ≡ w = eqb-true next w same in
         (is ∙ (ap (is_ready links done) e ∙ sym (ap (λ (b : Bool). b && is_ready links done w) (lt-ltb w links.count (omega (arith, e, within))))))
-        ∙ sym (ap (λ (b : Bool). if b then nat_lt w links.count && is_ready links done w else not (nat_eq item w) && has old w) (number_more seen next w ∙ (ap (λ (b : Bool). has_number seen w || b) (turn w true same) ∙ or_one (has_number seen w))))
+        ∙ sym (ap (λ (b : Bool). if b then nat_lt w links.count && is_ready links done w else not (nat_eq item w) && has old w) (number_more seen next w ∙ (ap (λ (b : Bool). has_number seen w || b) (turn w true same) ∙ or_true (has_number seen w))))
     by_item w false other = before.told w
-        ∙ sym (ap (λ (b : Bool). if b then nat_lt w links.count && is_ready links done w else not (nat_eq item w) && has old w) (number_more seen next w ∙ (ap (λ (b : Bool). has_number seen w || b) (turn w false other) ∙ or_none (has_number seen w))))
+        ∙ sym (ap (λ (b : Bool). if b then nat_lt w links.count && is_ready links done w else not (nat_eq item w) && has old w) (number_more seen next w ∙ (ap (λ (b : Bool). has_number seen w || b) (turn w false other) ∙ or_false (has_number seen w))))
 
 -- what item doesn't lead to, is as ready as before
 same_ready : (links : LinksValue) (item : ℕ) (old done : List ℕ) (w : ℕ) → ((k : ℕ) → has done k ≡ (nat_eq item k || has old k)) → leads links.rows item w ≡ false
@@ -120,10 +106,6 @@ same_ready : (links : LinksValue) (item : ℕ) (old done : List ℕ) (w : ℕ) �
 unfolding is_ready
 same_ready links item old done w more off = by_item (nat_eq item w) refl
   where
-    nothing : (a : Bool) → a && false ≡ false
-    nothing true = refl
-    nothing false = refl
-
     each : (u : ℕ) → lets_take links.rows old w u ≡ lets_take links.rows done w u
     each u = by_number (nat_eq item u) refl ∙ ap (λ (b : Bool). not (leads links.rows u w) || b) (sym (more u))
       where
@@ -133,13 +115,13 @@ same_ready links item old done w more off = by_item (nat_eq item w) refl
         by_number false other = refl
 
     by_item : (b : Bool) → nat_eq item w ≡ b → (not b && (nat_lt w links.count && (not (has old w) && all_below links.count (lets_take links.rows old w)))) ≡ (nat_lt w links.count && (not (has done w) && all_below links.count (lets_take links.rows done w)))
-    by_item true same = sym (ap (λ (b : Bool). nat_lt w links.count && (not b && all_below links.count (lets_take links.rows done w))) (more w ∙ ap (λ (b : Bool). b || has old w) same) ∙ nothing (nat_lt w links.count))
+    by_item true same = sym (ap (λ (b : Bool). nat_lt w links.count && (not b && all_below links.count (lets_take links.rows done w))) (more w ∙ ap (λ (b : Bool). b || has old w) same) ∙ and_false (nat_lt w links.count))
     by_item false other = ap2 (λ (a b : Bool). nat_lt w links.count && (not a && b)) (sym (more w ∙ ap (λ (b : Bool). b || has old w) other)) (all_same links.count (lets_take links.rows old w) (lets_take links.rows done w) (λ u below. each u))
 
 -- a number that the list of those that pass doesn't have, doesn't pass
 unlisted : (n : ℕ) (test : ℕ → Bool) (w : ℕ) → (n ≤ w → test w ≡ false) → has_number (which_below n test) w ≡ false → test w ≡ false
 unlisted n test w past off = elim (cases_lt w n) [
-  | inl below ↦ never_true (test w) (λ is. not_both (has_number (which_below n test) w) (passes_which n test (nat_eq w) w below is (eq-eqb w w refl)) off)
+  | inl below ↦ never_true (test w) (λ is. clash (has_number (which_below n test) w) (passes_which n test (nat_eq w) w below is (eq-eqb w w refl)) off)
   | inr from ↦ past from
 ]
 
@@ -166,10 +148,6 @@ if_so : (a b : Bool) → a ≡ true → not a || b ≡ true → b ≡ true
 if_so true b was is = is
 if_so false b was is = absurd (cc)
 
-or_not : (a b : Bool) → (a ≡ true → b ≡ true) → not a || b ≡ true
-or_not true b so = so refl
-or_not false b so = refl
-
 -- all pairs that lead to w have a first that was taken
 behind_told : (taken : List ℕ) (w : ℕ) (pairs : List Pair) → list_all (is_behind taken w) pairs ≡ true → (u : ℕ) → has_pair pairs u w ≡ true → has_number taken u ≡ true
 behind_told taken w [] is u on = absurd (cc)
@@ -182,7 +160,7 @@ behind_told taken w (p ∷ ps) is u on = elim (or_either (nat_eq p.first u && na
 told_behind : (taken : List ℕ) (w : ℕ) (pairs : List Pair) → ((u : ℕ) → has_pair pairs u w ≡ true → has_number taken u ≡ true) → list_all (is_behind taken w) pairs ≡ true
 told_behind taken w [] each = refl
 told_behind taken w (p ∷ ps) each = true_both (is_behind taken w p) (list_all (is_behind taken w) ps)
-    (or_not (nat_eq p.second w) (has_number taken p.first) (λ is. each p.first (true_first (nat_eq p.first p.first && nat_eq p.second w) (has_pair ps p.first w) (true_both (nat_eq p.first p.first) (nat_eq p.second w) (eq-eqb p.first p.first refl) is))))
+    (or_of_not (nat_eq p.second w) (has_number taken p.first) (λ is. each p.first (true_first (nat_eq p.first p.first && nat_eq p.second w) (has_pair ps p.first w) (true_both (nat_eq p.first p.first) (nat_eq p.second w) (eq-eqb p.first p.first refl) is))))
     (told_behind taken w ps (λ u on. each u (true_second (nat_eq p.first u && nat_eq p.second w) (has_pair ps u w) on)))
 
 pub next_told : (links : LinksValue) (pairs : List Pair) (done taken : List ℕ) → AreLinks links pairs → ((k : ℕ) → has done k ≡ has_number taken k) → (w : ℕ) → is_ready links done w ≡ is_next pairs taken w
@@ -190,8 +168,8 @@ unfolding is_ready
 next_told links pairs done taken are listed w =
     ap2 (λ (a b : Bool). not a && b) (listed w)
     (same_truth (all_below links.count (lets_take links.rows done w)) (list_all (is_behind taken w) pairs)
-    (λ is. told_behind taken w pairs (λ u on. sym (listed u) ∙ if_so (leads links.rows u w) (has done u) (are.same u w ∙ on) (all_told links.count (lets_take links.rows done w) is u (are.first u w on))))
-    (λ is. all_from links.count (lets_take links.rows done w) (λ u below. or_not (leads links.rows u w) (has done u) (λ on. listed u ∙ behind_told taken w pairs is u (sym (are.same u w) ∙ on)))))
+    (λ is. told_behind taken w pairs (λ u on. sym (listed u) ∙ if_so (leads links.rows u w) (has done u) (are.same u w ∙ on) (all_at links.count (lets_take links.rows done w) u is (are.first u w on))))
+    (λ is. all_of links.count (lets_take links.rows done w) (λ u below. or_of_not (leads links.rows u w) (has done u) (λ on. listed u ∙ behind_told taken w pairs is u (sym (are.same u w) ∙ on)))))
 
 -- the first that is ready is the next
 pub first_next : (links : LinksValue) (pairs : List Pair) (done taken ready : List ℕ) → AreLinks links pairs → ((k : ℕ) → has done k ≡ has_number taken k) → AreReady links done ready → length ready ≡ words_for links.count
@@ -244,11 +222,7 @@ taken_more links done ready taken done_new ready_new rounds item is first done_w
     turned false true c same = absurd (cc)
 
 pub taken_below : (links : LinksValue) (done ready : List ℕ) (item : ℕ) → AreReady links done ready → Some item ≡ first_below (room ready) (has ready) → item < links.count
-taken_below links done ready item is first = ltb-true item links.count (left (nat_lt item links.count) (is_ready links done item) (sym (is item) ∙ first_passes (room ready) (has ready) item (sym first)))
-  where
-    left : (a b : Bool) → a && b ≡ true → a ≡ true
-    left true b is = refl
-    left false b is = absurd (cc)
+taken_below links done ready item is first = ltb-true item links.count (and_first (nat_lt item links.count) (is_ready links done item) (sym (is item) ∙ found_passes (room ready) (has ready) item (sym first)))
 
 -- what stands in a list of numbers that pass, passes
 pub listed_within : (xs : List ℕ) (i : ℕ) → i < length xs → has_number xs (slice_index_or xs i 0) ≡ true

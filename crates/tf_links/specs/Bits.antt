@@ -1,7 +1,7 @@
 -- Sets of numbers as bits of words.
 use Rattle.std.specs.Prelude.{ℕ, ◌+◌, ◌*◌, ◌/◌, ◌%◌, List, Bool, not, ◌&&◌, ◌||◌, length, nat_eq, slice_index_or}
 use Rattle.std.specs.Int.{bit_at}
-use Rattle.tf_model.specs.Numbers.{all_below}
+use Rattle.tf_numbers.specs.Numbers.{all_below}
 
 -- the number's bit is set; the first word has the numbers below 64
 unfoldable pub has : List ℕ → ℕ → Bool

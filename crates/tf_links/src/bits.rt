@@ -1,5 +1,5 @@
 ghost use Rattle.std.specs.Prelude.{◌≡◌, ℕ, ◌+◌, ◌*◌, ◌^◌, ◌<◌, ◌≤◌, Bool, true, false, ◌&&◌, ◌||◌, not, nat_eq, length, OnOk, IfOk, if◌then◌else◌};
-ghost use Rattle.tf_model.specs.Numbers.{which_below, first_below};
+ghost use Rattle.tf_numbers.specs.Numbers.{which_below, first_below};
 ghost use Rattle.tf_links.specs.Bits.{has, room, has_both, is_within, words_for};
 
 use std::alloc::Global;

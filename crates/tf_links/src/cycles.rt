@@ -1,6 +1,7 @@
 ghost use Rattle.std.specs.Prelude.{◌≡◌, ℕ, ◌+◌, ◌<◌, List, [], ◌∷◌, Bool, true, length, OnOk, IfOk, is_some, nat_eq, slice_index_or};
-ghost use Rattle.tf_model.specs.Numbers.{Pair, has_number};
-ghost use Rattle.tf_model.specs.Compilation.{shortest_cycle};
+ghost use Rattle.tf_numbers.specs.Pairs.{Pair};
+ghost use Rattle.tf_numbers.specs.Numbers.{has_number};
+ghost use Rattle.tf_links.specs.Cycles.{shortest_cycle};
 ghost use Rattle.tf_links.specs.Bits.{has, words_for};
 ghost use Rattle.tf_links.specs.Links.{leads, AreLinks};
 ghost use Rattle.tf_links.specs.Layers.{AreLayers, first_into, walk_by};
@@ -13,7 +14,7 @@ use tf_values::Memory;
 impl Links {
     /// The items of the shortest cycle through an item, which comes first; of several such cycles, the
     /// first one in item order. There are none where the item is on no cycle.
-    #[tactic(auto, using(crate::proofs::CycleLemmas::layers_start, crate::proofs::CycleLemmas::layers_more, crate::proofs::CycleLemmas::came_back, crate::proofs::CycleLemmas::not_yet_back, crate::proofs::CycleLemmas::never_back, crate::proofs::CycleLemmas::none_within))]
+    #[tactic(auto, using(crate::proofs::CycleLemmas::layers_start, crate::proofs::CycleLemmas::layers_more, crate::proofs::CycleLemmas::came_back, crate::proofs::CycleLemmas::not_yet_back, crate::proofs::CycleLemmas::never_back, tf_numbers::proofs::ListLemmas::none_within))]
     pub fn cycle(&self, alloc: Global, item: usize) -> Result<Vec<usize>, Memory>
         requires { item < self.now.count }
         ensures shortest { IfOk result (λ items. (pairs : List Pair) → AreLinks self.now pairs → items.items ≡ shortest_cycle self.now.count pairs item) }

@@ -4,9 +4,13 @@
 
 mod bits;
 mod cycles;
+mod laws;
 mod links;
 mod reach;
 mod standing;
 
 pub use bits::Bits;
+pub use laws::{
+    reached_is_by_a_chain, shortest_cycle_is_the_first_of_the_shortest, standing_order_is_the_least,
+};
 pub use links::{Links, empty_rows, has_in};

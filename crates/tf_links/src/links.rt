@@ -1,5 +1,5 @@
 ghost use Rattle.std.specs.Prelude.{◌≡◌, ℕ, ◌+◌, ◌<◌, ◌≤◌, List, [], ◌∷◌, ◌++◌, Bool, true, false, ◌&&◌, ◌||◌, not, nat_eq, length, ◌*◌, reverse, OnOk, IfOk, slice_index_or};
-ghost use Rattle.tf_model.specs.Numbers.{which_below, has_number};
+ghost use Rattle.tf_numbers.specs.Numbers.{which_below, has_number};
 ghost use Rattle.tf_links.specs.Bits.{has, words_for};
 ghost use Rattle.tf_links.specs.Links.{leads, IsSquare, LinksValue, is_ready};
 ghost use Rattle.tf_links.specs.Layers.{first_into};

@@ -1,13 +1,13 @@
 -- The order among atoms.
-use Rattle.std.proofs.Common.{◌≡◌, ℕ, List, [], ◌∷◌, ◌++◌, Bool, true, false, ◌&&◌, Option, Some, None, refl, sym, ap, ◌∙◌, eqb-true, eq-eqb}
+use Rattle.std.proofs.Common.{◌≡◌, ℕ, List, [], ◌∷◌, ◌++◌, Bool, true, false, Option, Some, None, refl, sym, ap, ◌∙◌, eqb-true, eq-eqb}
 use Rattle.std.specs.Prelude.{if◌then◌else◌, nat_eq, reverse, filter, flat_map, cond}
 use Rattle.std.specs.List.{list_all}
-use Rattle.tf_model.specs.Outline.{Turn}
+use Rattle.tf_flow.specs.declared.ways.Turn.{Turn}
 use Rattle.tf_model.specs.Before.{Flow, item_before, turn_before, way_before}
 use Rattle.tf_model.specs.Plan.{Outline, is_before, way}
 use Rattle.tf_model.specs.Scope.{members, members_in, is_earlier}
 use Rattle.tf_model.specs.Laws.{AreOrdered}
-use Rattle.tf_model.proofs.StepLemmas.{and_first, and_second}
+use Rattle.tf_numbers.proofs.TruthLemmas.{and_first, and_second, true_both, second_false}
 
 -- ---- no atom is before itself
 
@@ -15,13 +15,9 @@ turn_itself : (flows : List Flow) (g : ℕ) (item : Option ℕ) (below : Bool) �
 turn_itself flows g None below is = refl
 turn_itself flows g (Some u) below is = rw (eq-eqb u u refl) is
 
-both_false : (a b : Bool) → b ≡ false → a && b ≡ false
-both_false true b is = is
-both_false false b is = refl
-
 pub way_itself : (flows : List Flow) (w : List Turn) → way_before flows w w ≡ false
 way_itself flows [] = refl
-way_itself flows (x ∷ xs) = both_false (nat_eq x.flow x.flow) _ (turn_itself flows x.flow x.item (way_before flows xs xs) (way_itself flows xs))
+way_itself flows (x ∷ xs) = second_false (nat_eq x.flow x.flow) _ (turn_itself flows x.flow x.item (way_before flows xs xs) (way_itself flows xs))
 
 pub never_before_itself : (plan : Outline) (a : ℕ) → is_before plan a a ≡ false
 unfolding is_before
@@ -58,10 +54,6 @@ turn_chain flows ordered g (Some u) (Some v) None xy yz xz below first second = 
 turn_chain flows ordered g (Some u) (Some v) (Some w) xy yz xz below first second =
     turn_chain_items flows ordered g u v w xy yz xz below (nat_eq u v) refl (nat_eq v w) refl (nat_eq u w) refl first second
 
-pub both_true : (a b : Bool) → a ≡ true → b ≡ true → a && b ≡ true
-both_true true b is more = more
-both_true false b is more = absurd (cc)
-
 pub way_chain : (flows : List Flow) → AreOrdered flows → (xs ys zs : List Turn) → way_before flows xs ys ≡ true → way_before flows ys zs ≡ true → way_before flows xs zs ≡ true
 way_chain flows ordered [] ys zs first second = absurd (cc)
 way_chain flows ordered (x ∷ xs) [] zs first second = absurd (cc)
@@ -69,7 +61,7 @@ way_chain flows ordered (x ∷ xs) (y ∷ ys) [] first second = absurd (cc)
 way_chain flows ordered (x ∷ xs) (y ∷ ys) (z ∷ zs) first second =
     let xy : x.flow ≡ y.flow = eqb-true x.flow y.flow (and_first (nat_eq x.flow y.flow) _ first) in
     let yz : y.flow ≡ z.flow = eqb-true y.flow z.flow (and_first (nat_eq y.flow z.flow) _ second) in
-    both_true (nat_eq x.flow z.flow) _ (eq-eqb x.flow z.flow (xy ∙ yz))
+    true_both (nat_eq x.flow z.flow) _ (eq-eqb x.flow z.flow (xy ∙ yz))
     (turn_chain flows ordered x.flow x.item y.item z.item (way_before flows xs ys) (way_before flows ys zs) (way_before flows xs zs) (way_chain flows ordered xs ys zs)
     (and_second (nat_eq x.flow y.flow) _ first)
     (ap (λ (g : ℕ). turn_before flows g y.item z.item (way_before flows ys zs)) xy ∙ and_second (nat_eq y.flow z.flow) _ second))
@@ -81,7 +73,7 @@ before_chain plan ordered a b c first second = way_chain plan.flows ordered (way
 -- ---- the members of an atom are before it
 
 filter_more : (test : ℕ → Bool) (x : ℕ) (ys : List ℕ) (b : Bool) → test x ≡ b → list_all test ys ≡ true → list_all test (cond b (x ∷ ys) ys) ≡ true
-filter_more test x ys true is each = both_true (test x) _ is each
+filter_more test x ys true is each = true_both (test x) _ is each
 filter_more test x ys false is each = each
 
 all_of_filter : (test : ℕ → Bool) (xs : List ℕ) → list_all test (filter test xs) ≡ true
@@ -90,7 +82,7 @@ all_of_filter test (x ∷ xs) = filter_more test x (filter test xs) (test x) ref
 
 all_of_both : (test : ℕ → Bool) (xs ys : List ℕ) → list_all test xs ≡ true → list_all test ys ≡ true → list_all test (xs ++ ys) ≡ true
 all_of_both test [] ys first second = second
-all_of_both test (x ∷ xs) ys first second = both_true (test x) _ (and_first (test x) _ first) (all_of_both test xs ys (and_second (test x) _ first) second)
+all_of_both test (x ∷ xs) ys first second = true_both (test x) _ (and_first (test x) _ first) (all_of_both test xs ys (and_second (test x) _ first) second)
 
 all_members : (plan : Outline) (y : ℕ) (turns : List Turn) → list_all (is_earlier plan y) (flat_map (members_in plan y) turns) ≡ true
 all_members plan y [] = refl

@@ -5,28 +5,23 @@ use Rattle.std.specs.List.{list_all}
 use Rattle.tf_model.specs.Plan.{Outline, is_before}
 use Rattle.tf_model.specs.Scope.{is_earlier}
 use Rattle.tf_model.specs.Laws.{AreOrdered, is_not_after, Extreme}
-use Rattle.tf_model.proofs.StepLemmas.{and_first, and_second}
-use Rattle.tf_model.proofs.PairLemmas.{true_first, true_second}
-use Rattle.tf_model.proofs.BeforeLemmas.{both_true, never_before_itself, before_chain}
+use Rattle.tf_numbers.proofs.TruthLemmas.{and_first, and_second, true_first, true_second, true_both, not_true}
+use Rattle.tf_model.proofs.BeforeLemmas.{never_before_itself, before_chain}
 
 none : (b : Bool) → b ≡ false → not b ≡ true
 none false is = refl
 none true is = absurd (cc)
 
-not_of_not : (b : Bool) → not b ≡ true → b ≡ false
-not_of_not false is = refl
-not_of_not true is = absurd (cc)
-
 -- what is after none of them, or else after m, is passed on to what is after m
 one_beyond : (below beyond : Bool) → (beyond ≡ true → below ≡ true) → not below ≡ true → not beyond ≡ true
 one_beyond below false leads is = refl
-one_beyond below true leads is = let no : true ≡ false = sym (leads refl) ∙ not_of_not below is in absurd (cc)
+one_beyond below true leads is = let no : true ≡ false = sym (leads refl) ∙ not_true below is in absurd (cc)
 
 all_beyond : (less : ℕ → ℕ → Bool) → ((a b c : ℕ) → less a b ≡ true → less b c ≡ true → less a c ≡ true) → (m a : ℕ) → less m a ≡ true
     → (ys : List ℕ) → list_all (is_not_after less m) ys ≡ true → list_all (is_not_after less a) ys ≡ true
 all_beyond less chain m a under [] is = refl
 all_beyond less chain m a under (y ∷ ys) is =
-    both_true (not (less a y)) _
+    true_both (not (less a y)) _
     (one_beyond (less m y) (less a y) (chain m a y under) (and_first (not (less m y)) _ is))
     (all_beyond less chain m a under ys (and_second (not (less m y)) _ is))
 
@@ -35,12 +30,12 @@ further : (less : ℕ → ℕ → Bool) → ((a b c : ℕ) → less a b ≡ true
 further less chain strict a ys tail true is = record {
   atom = a;
   among = true_first (nat_eq a a) _ (eq-eqb a a refl);
-  extreme = both_true (not (less a a)) _ (none (less a a) (strict a)) (all_beyond less chain tail.atom a is ys tail.extreme);
+  extreme = true_both (not (less a a)) _ (none (less a a) (strict a)) (all_beyond less chain tail.atom a is ys tail.extreme);
 }
 further less chain strict a ys tail false is = record {
   atom = tail.atom;
   among = true_second (nat_eq tail.atom a) _ tail.among;
-  extreme = both_true (not (less tail.atom a)) _ (none (less tail.atom a) is) tail.extreme;
+  extreme = true_both (not (less tail.atom a)) _ (none (less tail.atom a) is) tail.extreme;
 }
 
 extreme_of : (less : ℕ → ℕ → Bool) → ((a b c : ℕ) → less a b ≡ true → less b c ≡ true → less a c ≡ true) → ((a : ℕ) → less a a ≡ false)
@@ -48,7 +43,7 @@ extreme_of : (less : ℕ → ℕ → Bool) → ((a b c : ℕ) → less a b ≡ t
 extreme_of less chain strict a [] = record {
   atom = a;
   among = true_first (nat_eq a a) _ (eq-eqb a a refl);
-  extreme = both_true (not (less a a)) _ (none (less a a) (strict a)) refl;
+  extreme = true_both (not (less a a)) _ (none (less a a) (strict a)) refl;
 }
 extreme_of less chain strict a (b ∷ others) =
     let tail = extreme_of less chain strict b others in further less chain strict a (b ∷ others) tail (less tail.atom a) refl

@@ -1,5 +1,5 @@
 -- What holds of every history, and of every legal one.
-use Rattle.std.proofs.Common.{◌≡◌, ℕ, List, [], ◌∷◌, ◌++◌, Bool, true, false, ◌&&◌, ◌||◌, Option, Some, refl, sym, ap, ◌∙◌, ◌⊎◌, inl, inr, eqb-true, append_assoc}
+use Rattle.std.proofs.Common.{◌≡◌, ℕ, List, [], ◌∷◌, ◌++◌, Bool, true, false, ◌&&◌, Option, Some, refl, sym, ap, ◌∙◌, ◌⊎◌, inl, inr, eqb-true, append_assoc}
 use Rattle.std.specs.Prelude.{if◌then◌else◌, nat_eq, reverse}
 use Rattle.tf_states.specs.declared.record.Entry.{Entry}
 use Rattle.tf_states.specs.declared.record.Payload.{Payload}
@@ -15,7 +15,8 @@ use Rattle.tf_model.specs.States.{is_pending, is_running, is_success}
 use Rattle.tf_model.specs.Steps.{LegalPast}
 use Rattle.tf_model.specs.Sessions.{Session, already_ended, entered, halted, whole, entering}
 use Rattle.tf_model.specs.Laws.{atom_may, is_allowed, enters_by, puts_back, success_payload, last_success}
-use Rattle.tf_model.proofs.StepLemmas.{past_allowed, and_first, and_second}
+use Rattle.tf_model.proofs.StepLemmas.{past_allowed}
+use Rattle.tf_numbers.proofs.TruthLemmas.{and_first, and_second, true_first, true_second}
 
 -- one entry more changes the snapshot as `later` says
 pub one_more : (plan : Outline) (e : Entry) (past : List Entry) → snapshot plan (e ∷ past) ≡ later plan e (snapshot plan past)
@@ -59,14 +60,6 @@ pending_after (what.Atom number state held) a c is = pending_by (nat_eq number a
 pending_after (what.Flow state) a c is = inr is
 pending_after (what.Resolve named resolved) a c is = inr is
 pending_after (what.Restart again) a c is = inr is
-
-true_first : (a b : Bool) → a ≡ true → a || b ≡ true
-true_first true b is = refl
-true_first false b is = absurd (cc)
-
-true_second : (a b : Bool) → b ≡ true → a || b ≡ true
-true_second true b is = refl
-true_second false b is = is
 
 -- where a is PENDING, one of the newer entries put it back, or it was PENDING before them
 pending_since : (newer past : List Entry) (a : ℕ) → is_pending (state_of (newer ++ past) a) ≡ true → (puts_back newer a ≡ true) ⊎ (is_pending (state_of past a) ≡ true)

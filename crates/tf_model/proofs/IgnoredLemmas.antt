@@ -1,19 +1,22 @@
 -- What a refused task ignores is after it.
 use Rattle.std.proofs.Common.{◌≡◌, ◌≢◌, ℕ, suc, ◌+◌, ◌<◌, List, [], ◌∷◌, Bool, true, false, Option, Some, None, refl, sym, ap, ◌∙◌, ◌⊎◌, inl, inr, eqb-true, eq-eqb, arith, subst}
-use Rattle.std.specs.Prelude.{nat_eq, if◌then◌else◌}
+use Rattle.std.specs.Prelude.{nat_eq, ◌||◌, if◌then◌else◌}
 use Rattle.std.proofs.lemmas.Bool.{ne_eqb}
 use Rattle.tf_flow.specs.declared.deciders.Depth.{Depth}
 use Rattle.tf_flow.specs.declared.deciders.Depth.TheVariants as depth
 use Rattle.tf_flow.specs.Plan.{PlanValue}
 use Rattle.tf_flow.specs.Tree.{Tree, Trees, task, flow, no_trees, tree, tree_of}
-use Rattle.tf_model.specs.Numbers.{Pair, has_pair}
-use Rattle.tf_model.specs.Outline.{Turn, atoms_of, flows_of, flow_count}
+use Rattle.tf_numbers.specs.Pairs.{Pair, has_pair}
+use Rattle.tf_flow.specs.Outline.{atoms_of, flows_of, flow_count}
+use Rattle.tf_flow.specs.declared.ways.Turn.{Turn}
 use Rattle.tf_model.specs.Before.{Flow, flow_at, order_in, item_before, turn_before, way_before}
 use Rattle.tf_model.specs.Plan.{outline_of, is_before, is_task, way, own_flow, last_flow, linked_in}
 use Rattle.tf_model.specs.Compilation.{compile_refusal}
 use Rattle.tf_model.specs.Deciders.{home, flow_in, last_item, same_flow, is_sibling, linked_places, is_neighbor, ignores_other, ignores}
-use Rattle.tf_model.proofs.StepLemmas.{and_first, and_second, or_either}
-use Rattle.tf_model.proofs.PairLemmas.{true_both}
+use Rattle.tf_flow.specs.Rules.{is_graph}
+use Rattle.tf_model.specs.Laws.{IsLinkedTask}
+use Rattle.tf_model.specs.Plan.{Outline}
+use Rattle.tf_numbers.proofs.TruthLemmas.{and_first, and_second, or_either, true_both, second_false}
 use Rattle.tf_model.proofs.OrderLemmas.{IsArranged, each_arranged, plan_ordered}
 use Rattle.tf_model.proofs.WayLemmas.{turn_to, IsWay, IsWayAmong, AreTogether, together, way_of_each, ways_of}
 use Rattle.tf_model.proofs.RetryLemmas.{passes_last, ends_below}
@@ -142,3 +145,45 @@ ignored_by plan v depth.Atom a compiles is = absurd (cc)
 pub ignored_after : (plan : PlanValue) (v : ℕ) (how : Depth) (a : ℕ) → compile_refusal plan ≡ None → ignores (outline_of plan) v how a ≡ true → (v ≡ a) ⊎ (is_before (outline_of plan) v a ≡ true)
 unfolding ignores
 ignored_after plan v how a compiles is = elim (or_either (nat_eq v a) _ is) [ inl same ↦ inl (eqb-true v a same) | inr other ↦ inr (ignored_by plan v how a compiles other) ]
+
+-- ---- what depth NEIGHBORS ignores
+
+pub neighbor_linked : (plan : Outline) (v a : ℕ) → ignores plan v depth.Neighbors a ≡ true → (v ≡ a) ⊎ IsLinkedTask plan v a
+unfolding ignores
+neighbor_linked plan v a is = elim (or_either (nat_eq v a) _ is) [
+  | inl same ↦ inl (eqb-true v a same)
+  | inr other ↦
+      let sibling = and_first (is_sibling plan v a) _ other in
+      let one = in_one (own_flow plan a) (own_flow plan v) (and_second (is_task plan a) _ sibling) in
+      let link = joined (linked_in (home plan v)) (last_item (way plan v)) (last_item (way plan a)) (and_second (is_sibling plan v a) _ other) in
+      inr (record {
+        from = link.source;
+        to = link.target;
+        task = and_first (is_task plan a) _ sibling;
+        same_flow = one.first ∙ sym one.second;
+        stands = link.from_is;
+        led_to = link.to_is;
+        linked = link.on;
+      })
+]
+
+unlinked_by : (pairs : List Pair) (from to : Option ℕ) → pairs ≡ [] → linked_places pairs from to ≡ false
+unlinked_by pairs None to none = refl
+unlinked_by pairs (Some u) None none = refl
+unlinked_by pairs (Some u) (Some w) none = ap (λ (ps : List Pair). has_pair ps u w) none
+
+home_unlinked : (plan : PlanValue) (o : Option ℕ) (f : Flow) → flow_in (outline_of plan) o ≡ Some f → is_graph f.place.kind ≡ false → linked_in (flow_in (outline_of plan) o) ≡ []
+home_unlinked plan None f is other = refl
+home_unlinked plan (Some g) f is other =
+    ap linked_in is ∙ (each_arranged (atoms_of 0 (tree_of plan.root)) (flows_of 0 0 (tree_of plan.root)) g f is).unlinked other
+
+only_self : (b c : Bool) → c ≡ false → b || c ≡ b
+only_self true c is = refl
+only_self false c is = is
+
+pub neighbors_in_graphs : (plan : PlanValue) (v a : ℕ) (f : Flow) → home (outline_of plan) v ≡ Some f → is_graph f.place.kind ≡ false → ignores (outline_of plan) v depth.Neighbors a ≡ nat_eq v a
+unfolding ignores
+neighbors_in_graphs plan v a f is other =
+    only_self (nat_eq v a) _ (second_false (is_sibling (outline_of plan) v a) _
+    (unlinked_by (linked_in (home (outline_of plan) v)) (last_item (way (outline_of plan) v)) (last_item (way (outline_of plan) a))
+    (home_unlinked plan (own_flow (outline_of plan) v) f is other)))

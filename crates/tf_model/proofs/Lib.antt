@@ -1,16 +1,15 @@
-pub mod ConditionLemmas
 pub mod OutlineLemmas
 pub mod StepLemmas
 pub mod HistoryLemmas
 pub mod SessionLemmas
 pub mod BeforeLemmas
-pub mod PairLemmas
 pub mod OrderLemmas
 pub mod EndLemmas
 pub mod WayLemmas
 pub mod NestingLemmas
 pub mod RetryLemmas
 pub mod IgnoredLemmas
+pub mod MarkLemmas
 pub mod ResolutionLemmas
 pub mod Refusals
 pub mod RowWords

@@ -3,11 +3,11 @@ use Rattle.std.proofs.Common.{◌≡◌, ◌≢◌, ℕ, suc, ◌+◌, ◌<◌, 
 use Rattle.std.specs.Prelude.{nat_eq}
 use Rattle.tf_flow.specs.Plan.{PlanValue}
 use Rattle.tf_flow.specs.Tree.{Tree, Trees, task, flow, no_trees, tree, tree_of}
-use Rattle.tf_model.specs.Outline.{Turn, atoms_of, flow_count}
+use Rattle.tf_flow.specs.Outline.{atoms_of, flow_count}
+use Rattle.tf_flow.specs.declared.ways.Turn.{Turn}
 use Rattle.tf_model.specs.Before.{passes_flow}
 use Rattle.tf_model.specs.Plan.{outline_of, holds, way, own_flow, last_flow}
-use Rattle.tf_model.proofs.StepLemmas.{and_first, and_second, or_either}
-use Rattle.tf_model.proofs.PairLemmas.{true_first, true_second, true_both}
+use Rattle.tf_numbers.proofs.TruthLemmas.{and_first, and_second, or_either, true_first, true_second, true_both}
 use Rattle.tf_model.proofs.WayLemmas.{AreTogether, IsWay, IsWayAmong, turn_to, together, way_of_each, ways_of, passes_head}
 use Rattle.tf_model.proofs.RetryLemmas.{passes_last, ends_below}
 use Rattle.std.proofs.lemmas.Bool.{ne_eqb}

@@ -1,9 +1,9 @@
 -- Where a plan compiles, the items of each of its flows are in an order.
-use Rattle.std.proofs.Common.{◌≡◌, ℕ, zero, suc, ◌+◌, ◌<◌, List, [], ◌∷◌, length, Bool, true, false, ◌||◌, Option, Some, None, refl, sym, ap, ◌∙◌, inl, inr, eqb-true, eq-eqb, arith, cond, subst}
+use Rattle.std.proofs.Common.{◌≡◌, ℕ, suc, ◌+◌, ◌<◌, List, [], ◌∷◌, length, Bool, true, false, ◌||◌, Option, Some, None, refl, sym, ap, ◌∙◌, inl, inr, eqb-true, eq-eqb, arith, cond, subst}
 use Rattle.std.specs.Prelude.{if◌then◌else◌, nat_eq, nat_lt}
 use Rattle.std.specs.List.{list_any}
 use Rattle.std.specs.Option.{option_or, option_map}
-use Rattle.std.proofs.lemmas.Bool.{cases_lt, ltb-true, lt-ltb}
+use Rattle.std.proofs.lemmas.Bool.{ltb-true, lt-ltb}
 use Rattle.tf_flow.specs.declared.nested.FlowKind.{FlowKind}
 use Rattle.tf_flow.specs.declared.nested.FlowKind.TheVariants as kind
 use Rattle.tf_flow.specs.Names.{first_some}
@@ -11,15 +11,19 @@ use Rattle.tf_flow.specs.Plan.{PlanValue}
 use Rattle.tf_flow.specs.Rules.{is_graph}
 use Rattle.tf_flow.specs.Tree.{Tree, Trees, task, flow, no_trees, tree, tree_of}
 use Rattle.tf_flow.specs.declared.atoms.Bind.{Bind}
-use Rattle.tf_model.specs.Numbers.{first_below, has_number, Pair, has_pair, pairs_below}
-use Rattle.tf_model.specs.Outline.{Atom, FlowPlace, flows_of, flows_among, innermost_first, innermost_among, atoms_of, flow_count, atom_count, retry_count}
+use Rattle.tf_numbers.specs.Numbers.{first_below, has_number}
+use Rattle.tf_numbers.specs.Pairs.{Pair, has_pair, pairs_below}
+use Rattle.tf_flow.specs.Outline.{Atom, FlowPlace, flows_of, flows_among, innermost_first, innermost_among, atoms_of, flow_count, atom_count, retry_count}
 use Rattle.tf_model.specs.Before.{Flow, has_flow_number, flow_at, order_in, item_before}
 use Rattle.tf_model.specs.Linked.{is_linked, item_order, arrange, arranged}
 use Rattle.tf_model.specs.Plan.{Outline, outline_of_tree, outline_of}
-use Rattle.tf_model.specs.Compilation.{ambiguity, cycle_of, cycle_at, is_on_cycle, refusal_of, refusal_among, refusal_at, tree_refusal, compile_refusal}
+use Rattle.tf_model.specs.Compilation.{ambiguity, cycle_of, cycle_through, is_back, refusal_of, refusal_among, refusal_at, tree_refusal, compile_refusal}
 use Rattle.tf_model.specs.Laws.{AreOrdered}
-use Rattle.tf_model.proofs.StepLemmas.{or_either}
-use Rattle.tf_model.proofs.PairLemmas.{true_first, passes_pair, any_left, any_right, any_in_both, pair_passes, reached_chain, reached_within, reached_keeps}
+use Rattle.tf_numbers.proofs.TruthLemmas.{or_either, true_first, never_true}
+use Rattle.tf_numbers.proofs.PairLemmas.{passes_pair, any_left, any_right, any_in_both, pair_passes}
+use Rattle.tf_links.specs.Reach.{reached}
+use Rattle.tf_links.proofs.ReachedLemmas.{reached_chain, reached_within, reached_keeps}
+use Rattle.tf_numbers.proofs.BelowLemmas.{none_at}
 
 -- ---- each flow of a plan has the order of its kind
 
@@ -27,6 +31,7 @@ pub record IsArranged (f : Flow) : Type 0 where
   pub order : f.order ≡ item_order f.place.kind (length f.place.items) f.linked
   pub within : (u v : ℕ) → has_pair f.linked u v ≡ true → v < length f.place.items
   pub links : (u v : ℕ) → has_pair f.linked u v ≡ true → has_pair f.order u v ≡ true
+  pub unlinked : is_graph f.place.kind ≡ false → f.linked ≡ []
 
 linked_within : (n : ℕ) (test : ℕ → ℕ → Bool) (b : Bool) (u v : ℕ) → has_pair (if b then pairs_below n test else []) u v ≡ true → v < n
 linked_within n test true u v is = (pair_passes n test u v is).second
@@ -39,8 +44,12 @@ linked_ordered kind.Linear n test u v is = absurd (cc)
 linked_ordered kind.Unordered n test u v is = absurd (cc)
 linked_ordered kind.Graph n test u v is = let passes = pair_passes n test u v is in reached_keeps n (pairs_below n test) n u v passes.first passes.second is
 
+unlinked_unless : (pairs : List Pair) (b : Bool) → b ≡ false → (if b then pairs else []) ≡ []
+unlinked_unless pairs true is = absurd (cc)
+unlinked_unless pairs false is = refl
+
 is_arranged : (atoms : List Atom) (inner : List Flow) (place : FlowPlace) → IsArranged (arrange atoms inner place)
-is_arranged atoms inner place = record { order = refl; within = linked_within (length place.items) (is_linked atoms inner place) (is_graph place.kind); links = linked_ordered place.kind (length place.items) (is_linked atoms inner place) }
+is_arranged atoms inner place = record { order = refl; within = linked_within (length place.items) (is_linked atoms inner place) (is_graph place.kind); links = linked_ordered place.kind (length place.items) (is_linked atoms inner place); unlinked = unlinked_unless (pairs_below (length place.items) (is_linked atoms inner place)) (is_graph place.kind) }
 
 found_arranged : (g : ℕ) (first : Flow) (others : List Flow) (b : Bool) → IsArranged first → ((f : Flow) → flow_at others g ≡ Some f → IsArranged f)
     → (f : Flow) → cond b (Some first) (flow_at others g) ≡ Some f → IsArranged f
@@ -66,22 +75,6 @@ chain_by kind.Graph n linked within u v w first second = reached_chain n linked 
 
 -- ---- no item comes before itself
 
-none_below : (n : ℕ) (test : ℕ → Bool) (k : ℕ) → first_below n test ≡ None → k < n → test k ≡ false
-none_below zero test k is below = absurd (omega arith)
-none_below (suc n) test k is below = elim (cases_lt k n) [
-  | inl before ↦ none_below n test k (none_first (first_below n test) _ is) before
-  | inr from ↦ let same : k ≡ n = omega arith in ap test same ∙ none_last (first_below n test) n (test n) is
-]
-  where
-    none_first : (o p : Option ℕ) → option_or o p ≡ None → o ≡ None
-    none_first None p is = refl
-    none_first (Some x) p is = absurd (cc)
-
-    none_last : (o : Option ℕ) (n : ℕ) (b : Bool) → option_or o (if b then Some n else None) ≡ None → b ≡ false
-    none_last None n true is = absurd (cc)
-    none_last None n false is = refl
-    none_last (Some x) n b is = absurd (cc)
-
 none_mapped : {X Y : Type 0} (f : X → Y) (o : Option X) → option_map f o ≡ None → o ≡ None
 none_mapped f None is = refl
 none_mapped f (Some x) is = absurd (cc)
@@ -92,15 +85,15 @@ none_second (Some x) p is = absurd (cc)
 
 -- a flow without a cycle
 itself_by : (how : FlowKind) (n : ℕ) (linked order : List Pair) (u : ℕ) → order ≡ item_order how n linked → ((v w : ℕ) → has_pair linked v w ≡ true → w < n)
-    → (is_graph how ≡ true → first_below n (λ v. has_pair order v v) ≡ None) → has_pair order u u ≡ true → ⊥
+    → (is_graph how ≡ true → first_below n (is_back n linked) ≡ None) → has_pair order u u ≡ true → ⊥
 itself_by kind.Linear n linked order u is within looked on =
     let passes = pair_passes n nat_lt u u (ap (λ (o : List Pair). has_pair o u u) (sym is) ∙ on) in
     let less : u < u = ltb-true u u passes.tested in omega (arith, less)
 itself_by kind.Unordered n linked order u is within looked on = let no : false ≡ true = ap (λ (o : List Pair). has_pair o u u) (sym is) ∙ on in cc
 itself_by kind.Graph n linked order u is within looked on =
-    let below : u < n = reached_within n linked n within u u (ap (λ (o : List Pair). has_pair o u u) (sym is) ∙ on) in
-    let off : has_pair order u u ≡ false = none_below n (λ v. has_pair order v v) u (looked refl) below in
-    let no : true ≡ false = sym on ∙ off in cc
+    let back : has_pair (reached n linked) u u ≡ true = ap (λ (o : List Pair). has_pair o u u) (sym is) ∙ on in
+    let off : has_pair (reached n linked) u u ≡ false = none_at n (is_back n linked) u (looked refl) (reached_within n linked n within u u back) in
+    let no : true ≡ false = sym back ∙ off in cc
 
 -- ---- every flow is looked at
 
@@ -178,11 +171,7 @@ itself_found None each looked u on = absurd (cc)
 itself_found (Some f) each looked u on =
     let is = each f refl in
     itself_by f.place.kind (length f.place.items) f.linked f.order u is.order is.within
-    (λ graph. none_mapped (cycle_at f) (first_below (length f.place.items) (is_on_cycle f)) (looked f refl graph)) on
-
-never_true : (b : Bool) → (b ≡ true → ⊥) → b ≡ false
-never_true true no_way = absurd (no_way refl)
-never_true false no_way = refl
+    (λ graph. none_mapped (cycle_through f.place (length f.place.items) f.linked) (first_below (length f.place.items) (is_back (length f.place.items) f.linked)) (looked f refl graph)) on
 
 -- where nothing is refused, the items of each flow are in an order
 pub compiled_ordered : (root : Tree) (store : List Bind) (defer : Bool) → tree_refusal root (outline_of_tree root store defer) ≡ None → AreOrdered (outline_of_tree root store defer).flows

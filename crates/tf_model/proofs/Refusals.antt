@@ -18,7 +18,7 @@ use Rattle.tf_model.specs.Snapshot.{Snapshot}
 use Rattle.tf_model.specs.Forced.{forced}
 use Rattle.tf_model.specs.Candidates.{choice}
 use Rattle.tf_model.specs.Steps.{Step, Rule, by_force, by_choice, by_end_of_task, by_turn, by_end, by_suspension, by_reset, is_hand, is_free, is_still, ends_task, turns_flow, end_entry, may_suspend, reset}
-use Rattle.tf_model.proofs.BeforeLemmas.{both_true}
+use Rattle.tf_numbers.proofs.TruthLemmas.{true_both}
 
 -- numbers that tell failures, payloads and events apart
 abbrev failure_place : Failure → ℕ
@@ -92,18 +92,18 @@ there (suc n) (false ∷ bs) is = there n bs is
 
 passes : (plan : Outline) (s : Snapshot) (e : Entry) → Rule plan s e → one_is_true (ways plan s e) ≡ true
 passes plan s e (by_force is) = there 0 (ways plan s e) (is_alike (forced plan s) e.what is)
-passes plan s e (by_choice is free) = there 1 (ways plan s e) (both_true (alike (choice plan s) e.what) (is_free plan s e.hand) (is_alike (choice plan s) e.what is) free)
+passes plan s e (by_choice is free) = there 1 (ways plan s e) (true_both (alike (choice plan s) e.what) (is_free plan s e.hand) (is_alike (choice plan s) e.what is) free)
 passes plan s e (by_end_of_task is) = there 2 (ways plan s e) is
 passes plan s e (by_turn is) = there 3 (ways plan s e) is
-passes plan s e (by_end is still) = there 4 (ways plan s e) (both_true (alike (end_entry plan s) e.what) (is_still plan s) (is_alike (end_entry plan s) e.what is) still)
+passes plan s e (by_end is still) = there 4 (ways plan s e) (true_both (alike (end_entry plan s) e.what) (is_still plan s) (is_alike (end_entry plan s) e.what is) still)
 passes plan s e (by_suspension is event) =
     there 5 (ways plan s e)
-    (both_true (may_suspend plan s) (alike (Some (what.Flow flow.Suspended)) e.what) is (is_alike (Some (what.Flow flow.Suspended)) e.what (ap (λ (w : What). Some w) (sym event))))
+    (true_both (may_suspend plan s) (alike (Some (what.Flow flow.Suspended)) e.what) is (is_alike (Some (what.Flow flow.Suspended)) e.what (ap (λ (w : What). Some w) (sym event))))
 passes plan s e (by_reset is) = there 6 (ways plan s e) (is_alike (reset plan s) e.what is)
 
 -- what doesn't pass the test may not follow
 pub refuse : {plan : Outline} {s : Snapshot} {e : Entry} → seems_step plan s e ≡ false → Step plan s e → ⊥
 refuse {plan} {s} {e} fails step =
-    let passed : seems_step plan s e ≡ true = both_true (is_hand e.hand) (one_is_true (ways plan s e)) step.hand (passes plan s e step.rule) in
+    let passed : seems_step plan s e ≡ true = true_both (is_hand e.hand) (one_is_true (ways plan s e)) step.hand (passes plan s e step.rule) in
     let no : false ≡ true = sym fails ∙ passed in
     cc

@@ -7,14 +7,14 @@ use Rattle.tf_states.specs.declared.record.Kind.TheVariants as kind
 use Rattle.tf_flow.specs.Plan.{PlanValue}
 use Rattle.tf_flow.specs.Tree.{Tree, Trees, flow, Head, tree_of, trees_of, item_tree}
 use Rattle.tf_flow.proofs.TreeLemmas.{tree_of-flow}
-use Rattle.tf_model.specs.Outline.{Turn, Atom, atoms_of}
+use Rattle.tf_flow.specs.Outline.{Atom, atoms_of}
+use Rattle.tf_flow.specs.declared.ways.Turn.{Turn}
 use Rattle.tf_model.specs.Before.{passes_flow, way_in}
 use Rattle.tf_model.specs.Plan.{Outline, outline_of, holds, way, count, retry_of}
 use Rattle.tf_model.specs.Snapshot.{Resolve, Snapshot}
 use Rattle.tf_model.specs.Retries.{Controlled, controlled, controlled_on, enclosing, resolved, resolution_by, resolution, answer, is_outermost, is_revert}
-use Rattle.tf_model.proofs.StepLemmas.{or_either, and_first, and_second}
-use Rattle.tf_model.proofs.PairLemmas.{true_first, true_second, any_in_both}
-use Rattle.tf_model.proofs.BeforeLemmas.{both_true}
+use Rattle.tf_numbers.proofs.TruthLemmas.{or_either, and_first, and_second, true_first, true_second, true_both}
+use Rattle.tf_numbers.proofs.PairLemmas.{any_in_both}
 use Rattle.tf_model.proofs.WayLemmas.{IsWay, begins, ways_of}
 
 abbrev is_of_flow : ℕ → Controlled → Bool
@@ -115,7 +115,7 @@ resolution_runs plan s (here ∷ outer) each =
 
 all_in_both : (test : Controlled → Bool) (xs ys : List Controlled) → list_all test xs ≡ true → list_all test ys ≡ true → list_all test (xs ++ ys) ≡ true
 all_in_both test [] ys first second = second
-all_in_both test (x ∷ xs) ys first second = both_true (test x) _ (and_first (test x) _ first) (all_in_both test xs ys (and_second (test x) _ first) second)
+all_in_both test (x ∷ xs) ys first second = true_both (test x) _ (and_first (test x) _ first) (all_in_both test xs ys (and_second (test x) _ first) second)
 
 one_is_controlled : (plan : Outline) (a g : ℕ) (o : Option ℕ) → retry_of plan g ≡ o → list_all (is_controlled plan) (controlled a g o) ≡ true
 one_is_controlled plan a g None is = refl
@@ -123,7 +123,7 @@ one_is_controlled plan a g (Some r) is = by (nat_eq r a)
   where
     by : (b : Bool) → list_all (is_controlled plan) (if b then [] else record { flow = g; retry = r } ∷ []) ≡ true
     by true = refl
-    by false = both_true (is_some (retry_of plan g)) _ (ap is_some is) refl
+    by false = true_both (is_some (retry_of plan g)) _ (ap is_some is) refl
 
 all_controlled : (plan : Outline) (a : ℕ) (turns : List Turn) → list_all (is_controlled plan) (controlled_on plan a turns) ≡ true
 all_controlled plan a [] = refl

@@ -25,8 +25,8 @@ use Rattle.tf_states.specs.declared.state.AtomState.{AtomState}
 use Rattle.tf_states.specs.declared.state.AtomState.TheVariants as atom
 use Rattle.tf_states.specs.declared.state.FlowState.{FlowState}
 use Rattle.tf_states.specs.declared.state.FlowState.TheVariants as flow_state
-use Rattle.tf_model.specs.Conditions.{Condition, Connection}
-use Rattle.tf_model.specs.Outline.{FlowPlace, atoms_of, flows_of}
+use Rattle.tf_flow.specs.Conditions.{Condition, Connection}
+use Rattle.tf_flow.specs.Outline.{FlowPlace, atoms_of, flows_of}
 use Rattle.tf_model.specs.Plan.{Outline, outline_with, outline_of_tree}
 use Rattle.tf_model.specs.Snapshot.{Snapshot}
 use Rattle.tf_model.specs.Forced.{forced}

@@ -9,7 +9,7 @@ use Rattle.tf_states.specs.declared.record.Failure.TheVariants as failure
 use Rattle.tf_states.specs.declared.record.Kind.TheVariants as resolved
 use Rattle.tf_states.specs.declared.state.AtomState.TheVariants as atom
 use Rattle.tf_states.specs.declared.state.FlowState.TheVariants as flow
-use Rattle.tf_model.specs.Conditions.{is_same}
+use Rattle.tf_flow.specs.Conditions.{is_same}
 use Rattle.tf_model.specs.Plan.{Outline, is_before, holds}
 use Rattle.tf_model.specs.Snapshot.{mark_after}
 use Rattle.tf_model.specs.History.{snapshot}

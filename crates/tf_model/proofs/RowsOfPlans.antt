@@ -7,7 +7,8 @@ use Rattle.tf_flow.specs.declared.atoms.TaskKind.TheVariants as task_kind
 use Rattle.tf_flow.specs.declared.atoms.Undo.TheVariants as undo
 use Rattle.tf_flow.specs.declared.deciders.Depth.TheVariants as depth
 use Rattle.tf_flow.specs.declared.nested.FlowKind.TheVariants as kind
-use Rattle.tf_model.specs.Numbers.{pair, pairs_below, which_below}
+use Rattle.tf_numbers.specs.Pairs.{pair, pairs_below}
+use Rattle.tf_numbers.specs.Numbers.{which_below}
 use Rattle.tf_model.specs.Before.{flow_at}
 use Rattle.tf_model.specs.Linked.{standing_in}
 use Rattle.tf_model.specs.Plan.{Outline, is_before, holds, way, linked_in}

@@ -13,7 +13,8 @@ use Rattle.tf_model.specs.History.{snapshot, flow_of}
 use Rattle.tf_model.specs.Steps.{LegalPast}
 use Rattle.tf_model.specs.Sessions.{Session, already_ended, entered, halted, whole, entering, has_ended, is_last, is_inner, is_inner_entry}
 use Rattle.tf_model.specs.Laws.{is_allowed, HasAllowed, flow_states, flow_state_in, IsGoing, IsStopped, IsWhole}
-use Rattle.tf_model.proofs.StepLemmas.{past_allowed, and_first, and_second}
+use Rattle.tf_model.proofs.StepLemmas.{past_allowed}
+use Rattle.tf_numbers.proofs.TruthLemmas.{and_first, and_second}
 
 -- a run that entered leaves the flow RUNNING
 entered_runs : (f : FlowState) (before : List Entry) → has_ended f ≡ false → flow_of (reverse (entering f) ++ before) ≡ flow.Running

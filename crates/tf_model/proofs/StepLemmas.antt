@@ -1,5 +1,5 @@
 -- Each step is an allowed transition.
-use Rattle.std.proofs.Common.{◌≡◌, ℕ, zero, suc, List, [], ◌∷◌, Bool, true, false, not, ◌&&◌, ◌||◌, Option, Some, None, refl, sym, ap, ◌∙◌, ◌⊎◌, inl, inr}
+use Rattle.std.proofs.Common.{◌≡◌, ℕ, List, [], ◌∷◌, Bool, true, false, not, ◌&&◌, ◌||◌, Option, Some, None, refl, sym, ap, ◌∙◌, inl, inr}
 use Rattle.std.specs.Option.{option_or, option_map}
 use Rattle.std.specs.Prelude.{if◌then◌else◌, is_none}
 use Rattle.tf_states.specs.declared.record.Entry.{Entry}
@@ -13,7 +13,7 @@ use Rattle.tf_states.specs.declared.state.FlowState.{FlowState}
 use Rattle.tf_states.specs.declared.state.FlowState.TheVariants as flow
 use Rattle.tf_states.specs.Transitions.{retry_may, flow_may}
 use Rattle.tf_flow.specs.declared.deciders.Depth.{Depth}
-use Rattle.tf_model.specs.Numbers.{all_below, first_below, is_number}
+use Rattle.tf_numbers.specs.Numbers.{all_below, first_below, is_number}
 use Rattle.tf_model.specs.Plan.{Outline, count, is_retry, is_task}
 use Rattle.tf_model.specs.Snapshot.{Snapshot, is_at_work}
 use Rattle.tf_model.specs.History.{snapshot}
@@ -26,34 +26,17 @@ use Rattle.tf_model.specs.Candidates.{candidate_if_running, choice, candidate_en
 use Rattle.tf_model.specs.Steps.{Rule, by_force, by_choice, by_end_of_task, by_turn, by_end, by_suspension, by_reset, LegalPast, ends_task, ends_as, turns_flow, may_turn, end_entry, may_suspend, reset, put_back_or_rest, is_put_back_at, is_settled_at}
 use Rattle.tf_model.specs.Sessions.{has_ended}
 use Rattle.tf_model.specs.Laws.{atom_may, is_allowed, HasAllowed}
+use Rattle.tf_numbers.proofs.BelowLemmas.{found_passes}
+use Rattle.tf_numbers.proofs.OptionLemmas.{if_some, option_either}
+use Rattle.tf_numbers.proofs.TruthLemmas.{true_first, true_second, and_second, and_first, or_either}
 
 -- ---- parts of tests
-
-pub and_first : (a b : Bool) → a && b ≡ true → a ≡ true
-and_first true b is = refl
-and_first false b is = is
-
-pub and_second : (a b : Bool) → a && b ≡ true → b ≡ true
-and_second true b is = is
-and_second false b is = cc
-
-pub or_either : (a b : Bool) → a || b ≡ true → (a ≡ true) ⊎ (b ≡ true)
-or_either true b is = inl refl
-or_either false b is = inr is
-
-option_either : (x y : Option What) (w : What) → option_or x y ≡ Some w → (x ≡ Some w) ⊎ (y ≡ Some w)
-option_either None y w is = inr is
-option_either (Some v) y w is = inl is
 
 -- the number that is found passes the test
 found_more : (n : ℕ) (test : ℕ → Bool) (a : ℕ) (o : Option ℕ) → ((c : ℕ) → o ≡ Some c → test c ≡ true) → (b : Bool) → test n ≡ b → option_or o (if b then Some n else None) ≡ Some a → test a ≡ true
 found_more n test a (Some c) before b here is = before a is
 found_more n test a None before true here is = let same : n ≡ a = cc in ap test (sym same) ∙ here
 found_more n test a None before false here is = absurd (cc)
-
-pub found_passes : (n : ℕ) (test : ℕ → Bool) (a : ℕ) → first_below n test ≡ Some a → test a ≡ true
-found_passes zero test a is = cc
-found_passes (suc n) test a is = found_more n test a (first_below n test) (λ c. found_passes n test c) (test n) refl is
 
 -- an atom that passes the test has this entry
 pub record IsFirst (plan : Outline) (test : ℕ → Bool) (entry : ℕ → What) (w : What) : Type 0 where
@@ -219,20 +202,12 @@ forced_allowed plan s w is = forced_running_allowed plan s w (only_if (is_active
 -- a candidate is at work, PENDING or executed
 candidate_state : (plan : Outline) (s : Snapshot) (a : ℕ) → is_candidate plan s a ≡ true → is_at_work (s.state a) || (is_pending (s.state a) || is_executed (s.state a)) ≡ true
 candidate_state plan s a is = elim (or_either (is_interrupted plan s a) _ is) [
-  | inl stopped ↦ or_first (is_at_work (s.state a)) _ (and_first (is_at_work (s.state a)) _ (and_second (is_task plan a) _ stopped))
-  | inr ready ↦ or_second (is_at_work (s.state a)) _ (elim (or_either (can_run plan s a) (can_revert plan s a) (and_second (is_task plan a) _ ready)) [
-    | inl runs ↦ or_first (is_pending (s.state a)) _ (run_pending plan s a runs)
-    | inr reverts ↦ or_second (is_pending (s.state a)) _ (revert_executed plan s a reverts)
+  | inl stopped ↦ true_first (is_at_work (s.state a)) _ (and_first (is_at_work (s.state a)) _ (and_second (is_task plan a) _ stopped))
+  | inr ready ↦ true_second (is_at_work (s.state a)) _ (elim (or_either (can_run plan s a) (can_revert plan s a) (and_second (is_task plan a) _ ready)) [
+    | inl runs ↦ true_first (is_pending (s.state a)) _ (run_pending plan s a runs)
+    | inr reverts ↦ true_second (is_pending (s.state a)) _ (revert_executed plan s a reverts)
   ])
 ]
-  where
-    or_first : (a b : Bool) → a ≡ true → a || b ≡ true
-    or_first true b is = refl
-    or_first false b is = absurd (cc)
-
-    or_second : (a b : Bool) → b ≡ true → a || b ≡ true
-    or_second true b is = refl
-    or_second false b is = is
 
 taken_allowed : (plan : Outline) (s : Snapshot) (a : ℕ) (b : Bool) (x : AtomState) → is_retry plan a ≡ b → s.state a ≡ x → is_at_work x || (is_pending x || is_executed x) ≡ true
     → is_allowed plan s (taken_up x a) ≡ true
@@ -346,10 +321,6 @@ reverted_may x is = absurd (cc)
 reset_by : (plan : Outline) (s : Snapshot) (o : Option ℕ) → flow_is_reverted s.flow ≡ true → ((a : ℕ) → o ≡ Some a → is_put_back (s.state a) ≡ true) → is_allowed plan s (put_back_or_rest o) ≡ true
 reset_by plan s None is each = reverted_may s.flow is
 reset_by plan s (Some a) is each = put_back_waits (is_retry plan a) (s.state a) (each a refl)
-
-if_some : (b : Bool) (v w : What) → (if b then Some v else None) ≡ Some w → (b ≡ true) × (v ≡ w)
-if_some true v w is = let same : v ≡ w = cc in (refl, same)
-if_some false v w is = absurd (cc)
 
 reset_allowed : (plan : Outline) (s : Snapshot) (w : What) → reset plan s ≡ Some w → is_allowed plan s w ≡ true
 unfolding reset

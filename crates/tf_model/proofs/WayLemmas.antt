@@ -1,16 +1,18 @@
 -- The ways of a plan's atoms: two that lead into one flow are the same up to it.
-use Rattle.std.proofs.Common.{◌≡◌, ◌≢◌, ℕ, zero, suc, ◌+◌, ◌<◌, ◌≤◌, List, [], ◌∷◌, ◌++◌, map, Bool, true, false, ◌&&◌, ◌||◌, Option, Some, None, refl, sym, ap, ◌∙◌, ◌⊎◌, inl, inr, eqb-true, eq-eqb, arith, slice_get}
+use Rattle.std.proofs.Common.{◌≡◌, ◌≢◌, ℕ, zero, suc, ◌+◌, ◌<◌, ◌≤◌, List, [], ◌∷◌, ◌++◌, map, Bool, true, false, ◌&&◌, Option, Some, None, refl, sym, ap, ◌∙◌, ◌⊎◌, inl, inr, eqb-true, eq-eqb, arith, slice_get}
 use Rattle.std.specs.Prelude.{nat_eq}
 use Rattle.std.specs.List.{AllByRecursion}
-use Rattle.std.proofs.lemmas.Bool.{eqb-false, ne_eqb}
+use Rattle.std.proofs.lemmas.Bool.{ne_eqb}
 use Rattle.tf_flow.specs.declared.atoms.Bind.{Bind}
 use Rattle.tf_flow.specs.declared.atoms.Retry.{Retry}
 use Rattle.tf_flow.specs.Tree.{Tree, Trees, task, flow, no_trees, tree, Head, tree_of}
 use Rattle.tf_flow.specs.Plan.{PlanValue}
-use Rattle.tf_model.specs.Outline.{Turn, Atom, atoms_of, atoms_among, enter, retry_atoms, flow_count, flows_among_count}
+use Rattle.tf_flow.specs.Outline.{Atom, atoms_of, atoms_among, enter, retry_atoms, flow_count, flows_among_count}
+use Rattle.tf_flow.specs.declared.ways.Turn.{Turn}
 use Rattle.tf_model.specs.Before.{Flow, way_before, turn_before, way_in, passes_flow}
 use Rattle.tf_model.specs.Plan.{outline_of, outline_of_tree, holds, is_before, way}
-use Rattle.tf_model.proofs.StepLemmas.{or_either}
+use Rattle.tf_numbers.proofs.TruthLemmas.{or_either, true_first, neither_second}
+use Rattle.tf_numbers.proofs.NumberLemmas.{same_or_other}
 
 abbrev pub turn_to : ℕ → Option ℕ → Turn
 turn_to g item = record { flow = g; item = item }
@@ -135,13 +137,6 @@ begins head items g w is = elim is [
 pub goes_past : (F : ℕ) (turn : Turn) (w rest : List Turn) → w ≡ turn ∷ rest → (turn.flow ≢ F) → passes_flow F w ≡ true → passes_flow F rest ≡ true
 goes_past F turn w rest is other on = elim (passes_head F turn w rest is on) [ inl same ↦ absurd (other same) | inr there ↦ there ]
 
-same_or_other : (g F : ℕ) → (g ≡ F) ⊎ (g ≢ F)
-same_or_other g F = by (nat_eq g F) refl
-  where
-    by : (c : Bool) → nat_eq g F ≡ c → (g ≡ F) ⊎ (g ≢ F)
-    by true is = inl (eqb-true g F is)
-    by false is = inr (eqb-false g F is)
-
 -- a way in the first item and one in a later item lead into no flow both
 pub apart : (first : Tree) (others : Trees) (g i n F : ℕ) (a b : List Turn) → IsWay n first a → IsWayAmong g (suc i) (n + flow_count first) others b → (g ≢ F) → passes_flow F a ≡ true → passes_flow F b ≡ true → ⊥
 apart first others g i n F a b a_is b_is other on too =
@@ -192,19 +187,11 @@ differ_first x z b is = ap (λ (c : Bool). c && b) is
 -- a turn that isn't into F leads elsewhere than one that is
 elsewhere : (F : ℕ) (z : Turn) (zs : List Turn) (g : ℕ) → g ≡ F → passes_flow F (z ∷ zs) ≡ false → (nat_eq z.flow g ≡ false) × (nat_eq g z.flow ≡ false)
 elsewhere F z zs g is off =
-    let differs : z.flow ≢ g = λ same. let on : nat_eq z.flow F ≡ true = eq-eqb z.flow F (same ∙ is) in let no : true ≡ false = sym (here (nat_eq z.flow F) (passes_flow F zs) on) ∙ off in absurd (cc) in
+    let differs : z.flow ≢ g = λ same. let on : nat_eq z.flow F ≡ true = eq-eqb z.flow F (same ∙ is) in let no : true ≡ false = sym (true_first (nat_eq z.flow F) (passes_flow F zs) on) ∙ off in absurd (cc) in
     (ne_eqb z.flow g differs, ne_eqb g z.flow (λ same. differs (sym same)))
-  where
-    here : (a b : Bool) → a ≡ true → a || b ≡ true
-    here true b is = refl
-    here false b is = absurd (cc)
 
 off_rest : (F : ℕ) (z : Turn) (zs : List Turn) → passes_flow F (z ∷ zs) ≡ false → passes_flow F zs ≡ false
-off_rest F z zs off = second (nat_eq z.flow F) (passes_flow F zs) off
-  where
-    second : (a b : Bool) → a || b ≡ false → b ≡ false
-    second true b is = absurd (cc)
-    second false b is = is
+off_rest F z zs off = neither_second (nat_eq z.flow F) (passes_flow F zs) off
 
 pub alike_ways : (flows : List Flow) (F : ℕ) (a b x : List Turn) → AreTogether F a b → passes_flow F x ≡ false
     → (way_before flows x a ≡ way_before flows x b) × (way_before flows a x ≡ way_before flows b x)

@@ -1,8 +1,9 @@
 -- Which atom is before which.
 use Rattle.std.specs.Prelude.{ℕ, List, [], ◌∷◌, Bool, true, false, ◌&&◌, Option, Some, None, find, slice_get, if◌then◌else◌, nat_eq}
 use Rattle.std.specs.List.{list_any}
-use Rattle.tf_model.specs.Numbers.{Pair, has_pair}
-use Rattle.tf_model.specs.Outline.{Turn, Atom, FlowPlace}
+use Rattle.tf_numbers.specs.Pairs.{Pair, has_pair}
+use Rattle.tf_flow.specs.Outline.{Atom, FlowPlace}
+use Rattle.tf_flow.specs.declared.ways.Turn.{Turn}
 
 -- a flow with what its kind and its links mean: which item is linked to which; which item comes before
 -- which; and the numbers of its atoms in standing order

@@ -1,17 +1,10 @@
 -- The most entries that one run records.
-use Rattle.std.specs.Prelude.{ℕ, ◌+◌, ◌*◌, ◌≤◌, max, length, Option, Some, None}
-use Rattle.tf_values.specs.declared.value.Val.{Val}
-use Rattle.tf_values.specs.declared.value.Val.TheVariants as value
+use Rattle.std.specs.Prelude.{ℕ, ◌+◌, ◌*◌, max, length, Option, Some, None}
 use Rattle.tf_flow.specs.declared.atoms.Retry.{Retry}
 use Rattle.tf_flow.specs.declared.atoms.RetryKind.{RetryKind}
 use Rattle.tf_flow.specs.declared.atoms.RetryKind.TheVariants as retry
 use Rattle.tf_flow.specs.Tree.{Tree, Trees, task, flow, no_trees, tree, tree_of}
 use Rattle.tf_flow.specs.Plan.{PlanValue}
-use Rattle.tf_model.specs.Plan.{Outline}
-use Rattle.tf_model.specs.Snapshot.{Snapshot}
-use Rattle.tf_model.specs.Scope.{Given, found, missing, given_to_execute}
-use Rattle.tf_model.specs.Retries.{argument_named, retry_kind}
-use Rattle.std.specs.Prelude.{codes}
 
 -- how often a retry controller may try its flow: a list has at most 1,024 items
 abbrev pub tries_by : RetryKind → ℕ
@@ -53,23 +46,3 @@ tree_bound root = cost root + task_count root + 5
 -- the most entries of one run
 abbrev pub entry_bound : PlanValue → ℕ
 entry_bound plan = tree_bound (tree_of plan.root)
-
--- a value that is a list has at most 1,024 items
-abbrev pub IsShort : Option Val → Type 0
-IsShort (Some (value.List scalars)) = length scalars ≤ 1024
-IsShort other = Unit {0}
-
--- where all symbols are found, the argument `values` is short
-abbrev pub GivenShort : Given → Type 0
-GivenShort (missing symbol) = Unit {0}
-GivenShort (found arguments) = IsShort (argument_named arguments (codes "values"))
-
--- a parameterized retry controller goes through at most 1,024 items
-abbrev pub GoesThroughFew : Option RetryKind → Given → Type 0
-GoesThroughFew (Some (retry.Parameterized all)) given = GivenShort given
-GoesThroughFew other given = Unit {0}
-
--- the premise of the bound, of a snapshot: each retry controller goes through at most 1,024 items, as every
--- value that is a list has at most so many
-abbrev pub HasShortLists : Outline → Snapshot → Type 0
-HasShortLists plan s = (r : ℕ) → GoesThroughFew (retry_kind plan r) (given_to_execute plan s r)

@@ -6,8 +6,8 @@ use Rattle.tf_states.specs.declared.state.AtomState.{AtomState}
 use Rattle.tf_states.specs.declared.state.AtomState.TheVariants as atom
 use Rattle.tf_states.specs.declared.state.FlowState.{FlowState}
 use Rattle.tf_states.specs.declared.state.FlowState.TheVariants as flow
-use Rattle.tf_model.specs.Numbers.{all_below, any_below, first_below}
-use Rattle.tf_model.specs.Outline.{Part, a_task, a_retry, Atom}
+use Rattle.tf_numbers.specs.Numbers.{all_below, any_below, first_below}
+use Rattle.tf_flow.specs.Outline.{Atom, priority_of}
 use Rattle.tf_model.specs.Plan.{Outline, count, is_task}
 use Rattle.tf_model.specs.Snapshot.{Snapshot, is_at_work}
 use Rattle.tf_model.specs.States.{is_success, is_failure, is_done, flow_runs, flow_suspends}
@@ -21,11 +21,6 @@ is_interrupted plan s a = is_task plan a && (is_at_work (s.state a) && is_none (
 -- a task that may be taken up: an interrupted one, one that can run, or one that can revert
 abbrev pub is_candidate : Outline → Snapshot → ℕ → Bool
 is_candidate plan s a = is_interrupted plan s a || (is_task plan a && (can_run plan s a || can_revert plan s a))
-
--- a task has a priority
-abbrev pub priority_of : Part → ℤ
-priority_of (a_task t) = t.priority
-priority_of (a_retry r) = pos 0
 
 -- the same of an atom, where there is one
 abbrev pub priority_in : Option Atom → ℤ

@@ -1,13 +1,15 @@
 -- Why a plan doesn't compile: the first ambiguous symbol or cycle of links.
-use Rattle.std.specs.Prelude.{ℕ, zero, suc, List, [], ◌∷◌, Bool, true, false, ◌&&◌, Option, Some, None, length, nat_lt, nat_eq, map, filter, option_map, if◌then◌else◌}
-use Rattle.std.specs.List.{list_any}
+use Rattle.std.specs.Prelude.{ℕ, List, [], ◌∷◌, Bool, true, false, Option, Some, None, length, nat_lt, nat_eq, map, filter, option_map, if◌then◌else◌}
 use Rattle.std.specs.Option.{option_or}
 use Rattle.tf_flow.specs.Names.{first_some}
+use Rattle.tf_links.specs.Cycles.{shortest_cycle}
+use Rattle.tf_links.specs.Reach.{reached}
 use Rattle.tf_flow.specs.Rules.{is_graph}
 use Rattle.tf_flow.specs.Tree.{Tree, tree_of}
 use Rattle.tf_flow.specs.Plan.{PlanValue}
-use Rattle.tf_model.specs.Numbers.{first_below, which_below, numbers_below, has_number, Pair, has_pair}
-use Rattle.tf_model.specs.Outline.{Atom, FlowPlace, innermost_first}
+use Rattle.tf_numbers.specs.Numbers.{first_below, numbers_below}
+use Rattle.tf_numbers.specs.Pairs.{Pair, has_pair}
+use Rattle.tf_flow.specs.Outline.{Atom, FlowPlace, innermost_first}
 use Rattle.tf_model.specs.Before.{Flow, has_flow_number}
 use Rattle.tf_model.specs.Linked.{needs, givers, item_name}
 use Rattle.tf_model.specs.Plan.{Outline, outline_of}
@@ -63,54 +65,21 @@ ambiguity_at atoms flows place v =
 abbrev pub ambiguity : List Atom → List Flow → FlowPlace → Option CompileRefusal
 ambiguity atoms flows place = first_some (ambiguity_at atoms flows place) (numbers_below (length place.items))
 
--- u is linked to one of the items
-abbrev pub leads_to_one : List Pair → List ℕ → ℕ → Bool
-leads_to_one linked targets u = list_any (has_pair linked u) targets
+-- item v leads back to itself
+abbrev pub is_back : ℕ → List Pair → ℕ → Bool
+is_back n pairs v = has_pair (reached n pairs) v v
 
--- the items that reach v in exactly so many links
-abbrev pub reaching : ℕ → List Pair → ℕ → ℕ → List ℕ
-reaching n linked v zero = v ∷ []
-reaching n linked v (suc k) = which_below n (leads_to_one linked (reaching n linked v k))
+-- the names of the shortest cycle through item v
+abbrev pub cycle_through : FlowPlace → ℕ → List Pair → ℕ → CompileRefusal
+cycle_through place n pairs v = cycle (map (item_name place) (shortest_cycle n pairs v))
 
--- u is linked to w, which reaches v in exactly so many links
-abbrev pub goes_on_by : ℕ → List Pair → ℕ → ℕ → ℕ → ℕ → Bool
-goes_on_by n linked v k u w = has_pair linked u w && has_number (reaching n linked v k) w
+-- the shortest cycle through the first item that lies on one
+abbrev pub first_cycle : FlowPlace → ℕ → List Pair → Option CompileRefusal
+first_cycle place n pairs = option_map (cycle_through place n pairs) (first_below n (is_back n pairs))
 
--- the rest of a walk from the item that was found
-abbrev pub go_on : Option ℕ → (ℕ → List ℕ) → List ℕ
-go_on None walk = []
-go_on (Some w) walk = walk w
-
--- the items on the way from u to v in exactly so many links and one, the first in item order at each turn;
--- v isn't told again
-abbrev pub walk_to : ℕ → List Pair → ℕ → ℕ → ℕ → List ℕ
-walk_to n linked v zero u = u ∷ []
-walk_to n linked v (suc k) u = u ∷ go_on (first_below n (goes_on_by n linked v (suc k) u)) (walk_to n linked v k)
-
--- v comes back to itself in one link more than k
-abbrev pub comes_back : ℕ → List Pair → ℕ → ℕ → Bool
-comes_back n linked v k = has_number (reaching n linked v (suc k)) v
-
--- the walk from v back to it in that many links
-abbrev pub walk_back : ℕ → List Pair → ℕ → Option ℕ → List ℕ
-walk_back n linked v None = []
-walk_back n linked v (Some k) = walk_to n linked v k v
-
--- the shortest way from v back to itself, the first in item order among several
-abbrev pub shortest_cycle : ℕ → List Pair → ℕ → List ℕ
-shortest_cycle n linked v = walk_back n linked v (first_below n (comes_back n linked v))
-
--- v leads back to itself
-abbrev pub is_on_cycle : Flow → ℕ → Bool
-is_on_cycle f v = has_pair f.order v v
-
--- the names of the shortest cycle through v
-abbrev pub cycle_at : Flow → ℕ → CompileRefusal
-cycle_at f v = cycle (map (item_name f.place) (shortest_cycle (length f.place.items) f.linked v))
-
--- the cycle of a flow: through the first item that lies on one
+-- that of a flow with its linked pairs
 abbrev pub cycle_of : Flow → Option CompileRefusal
-cycle_of f = option_map (cycle_at f) (first_below (length f.place.items) (is_on_cycle f))
+cycle_of f = first_cycle f.place (length f.place.items) f.linked
 
 -- a graph flow is looked at for an ambiguous symbol, and then for a cycle
 abbrev pub refusal_of : List Atom → List Flow → Flow → Option CompileRefusal

@@ -9,9 +9,10 @@ use Rattle.tf_flow.specs.declared.deciders.Depth.TheVariants as depth
 use Rattle.tf_flow.specs.Names.{same_name}
 use Rattle.tf_states.specs.declared.record.Payload.{Payload}
 use Rattle.tf_states.specs.declared.record.Payload.TheVariants as payload
-use Rattle.tf_model.specs.Numbers.{first_below, is_number, Pair, has_pair}
-use Rattle.tf_model.specs.Conditions.{Condition, is_same, is_below, is_above, negated, all_of, any_of, Conditions, no_conditions, condition, Decision, Connection}
-use Rattle.tf_model.specs.Outline.{Turn}
+use Rattle.tf_numbers.specs.Numbers.{first_below, is_number}
+use Rattle.tf_numbers.specs.Pairs.{Pair, has_pair}
+use Rattle.tf_flow.specs.Conditions.{Condition, is_same, is_below, is_above, negated, all_of, any_of, Conditions, no_conditions, condition, Decision, Connection}
+use Rattle.tf_flow.specs.declared.ways.Turn.{Turn}
 use Rattle.tf_model.specs.Before.{Flow, flow_at}
 use Rattle.tf_model.specs.Plan.{Outline, count, way, is_before, is_task, own_flow, atom_name, linked_in}
 use Rattle.tf_model.specs.Snapshot.{Snapshot}

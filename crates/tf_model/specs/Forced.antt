@@ -7,7 +7,7 @@ use Rattle.tf_states.specs.declared.record.What.{What}
 use Rattle.tf_states.specs.declared.record.What.TheVariants as what
 use Rattle.tf_states.specs.declared.state.AtomState.{AtomState}
 use Rattle.tf_states.specs.declared.state.AtomState.TheVariants as atom
-use Rattle.tf_model.specs.Numbers.{all_below, first_below}
+use Rattle.tf_numbers.specs.Numbers.{all_below, first_below}
 use Rattle.tf_model.specs.Plan.{Outline, count, holds, is_retry, own_flow}
 use Rattle.tf_model.specs.Snapshot.{Resolve, Snapshot, is_retry_of}
 use Rattle.tf_model.specs.States.{is_pending, is_running, is_success, is_failure, is_reverting, is_revert_failure, is_retrying, is_settled, is_put_back, flow_runs}

@@ -1,21 +1,23 @@
 -- What the laws of legal histories speak of.
 use Rattle.std.specs.Prelude.{not, ◌≡◌, ◌⊎◌, ◌++◌, reverse, filter_map, Some, None, Option, ℕ, List, [], ◌∷◌, Bool, true, false, ◌&&◌, ◌||◌, if◌then◌else◌, nat_eq}
 use Rattle.std.specs.List.{list_all}
-use Rattle.tf_model.specs.Numbers.{has_number}
+use Rattle.tf_numbers.specs.Numbers.{has_number}
 use Rattle.tf_states.specs.declared.record.Entry.{Entry}
 use Rattle.tf_states.specs.declared.record.Payload.{Payload}
 use Rattle.tf_states.specs.declared.record.Payload.TheVariants as payload
 use Rattle.tf_states.specs.declared.record.What.{What}
 use Rattle.tf_states.specs.declared.record.What.TheVariants as what
 use Rattle.tf_states.specs.declared.state.AtomState.{AtomState}
+use Rattle.tf_states.specs.declared.state.AtomState.TheVariants as atom
 use Rattle.tf_states.specs.declared.state.FlowState.{FlowState}
 use Rattle.tf_states.specs.declared.state.FlowState.TheVariants as flow
 use Rattle.tf_states.specs.Transitions.{task_may, retry_may, flow_may}
-use Rattle.tf_model.specs.Outline.{Atom, name_of}
 use Rattle.tf_model.specs.Before.{Flow, item_before}
-use Rattle.tf_model.specs.Plan.{Outline, is_retry, is_retry_part}
+use Rattle.tf_model.specs.Plan.{Outline, way, holds, is_retry, is_task, own_flow, linked_in}
+use Rattle.tf_model.specs.Deciders.{home, last_item}
+use Rattle.tf_numbers.specs.Pairs.{has_pair}
 use Rattle.tf_model.specs.States.{is_pending, is_success}
-use Rattle.tf_model.specs.Snapshot.{Snapshot}
+use Rattle.tf_model.specs.Snapshot.{Resolve, Snapshot, is_retry_of}
 use Rattle.tf_model.specs.History.{snapshot, flow_of}
 use Rattle.tf_model.specs.Sessions.{has_ended, entering}
 
@@ -99,14 +101,6 @@ pub record AreOrdered (flows : List Flow) : Type 0 where
   pub transitive : (g u v w : ℕ) → item_before flows g u v ≡ true → item_before flows g v w ≡ true → item_before flows g u w ≡ true
   pub irreflexive : (g u : ℕ) → item_before flows g u u ≡ false
 
--- what an atom of an outline is called, whether it is a retry controller, and what a flow is called
-abbrev pub name_of_atom : Atom → List ℕ
-name_of_atom atom = name_of atom.part
-
--- it is a retry controller
-abbrev pub is_retry_atom : Atom → Bool
-is_retry_atom atom = is_retry_part atom.part
-
 -- the flow's name
 abbrev pub name_of_flow : Flow → List ℕ
 name_of_flow f = f.place.name
@@ -120,3 +114,38 @@ pub record Extreme (less : ℕ → ℕ → Bool) (atoms : List ℕ) : Type 0 whe
   pub atom : ℕ
   pub among : has_number atoms atom ≡ true
   pub extreme : list_all (is_not_after less atom) atoms ≡ true
+
+-- what is recorded resolves to a flow that holds a
+abbrev pub resolves_over : Outline → ℕ → What → Bool
+resolves_over plan a (what.Resolve named resolved) = holds plan named a
+resolves_over plan a (what.Atom entered state held) = false
+resolves_over plan a (what.Flow state) = false
+resolves_over plan a (what.Restart again) = false
+
+-- the same of an entry
+abbrev pub resolves_atom : Outline → ℕ → Entry → Bool
+resolves_atom plan a e = resolves_over plan a e.what
+
+-- what is recorded ends a mark: the flow becomes PENDING; or the mark's kind is RETRY, and the retry controller
+-- of the flow that it comes from enters RUNNING
+abbrev pub ends_mark : Outline → Resolve → What → Bool
+ends_mark plan mark (what.Flow flow.Pending) = true
+ends_mark plan mark (what.Flow state) = false
+ends_mark plan mark (what.Atom entered atom.Running held) = is_retry plan entered && is_retry_of (own_flow plan entered) mark
+ends_mark plan mark (what.Atom entered state held) = false
+ends_mark plan mark (what.Resolve named resolved) = false
+ends_mark plan mark (what.Restart again) = false
+
+-- the same of an entry
+abbrev pub ends_mark_of : Outline → Resolve → Entry → Bool
+ends_mark_of plan mark e = ends_mark plan mark e.what
+
+-- a is a task and an item of v's own flow, and a link of that flow leads from v to it
+pub record IsLinkedTask (plan : Outline) (v a : ℕ) : Type 0 where
+  pub from : ℕ
+  pub to : ℕ
+  pub task : is_task plan a ≡ true
+  pub same_flow : own_flow plan a ≡ own_flow plan v
+  pub stands : last_item (way plan v) ≡ Some from
+  pub led_to : last_item (way plan a) ≡ Some to
+  pub linked : has_pair (linked_in (home plan v)) from to ≡ true

@@ -1,6 +1,3 @@
-pub mod Numbers
-pub mod Conditions
-pub mod Outline
 pub mod Before
 pub mod Linked
 pub mod Plan

@@ -1,6 +1,6 @@
 -- Which items of a graph flow are linked, in which order the items of a flow come, and how they stand.
-use Rattle.std.specs.Prelude.{ℕ, zero, suc, List, [], ◌∷◌, ◌++◌, Bool, false, not, ◌&&◌, ◌||◌, Option, Some, None, length, nat_lt, nat_eq, map, flat_map, filter, slice_get, if◌then◌else◌}
-use Rattle.std.specs.List.{list_any, list_all}
+use Rattle.std.specs.Prelude.{ℕ, List, [], ◌∷◌, ◌++◌, Bool, false, not, ◌&&◌, ◌||◌, Option, Some, None, length, nat_lt, nat_eq, map, flat_map, filter, slice_get, if◌then◌else◌}
+use Rattle.std.specs.List.{list_any}
 use Rattle.tf_flow.specs.declared.atoms.Arg.{Arg}
 use Rattle.tf_flow.specs.declared.nested.FlowKind.{FlowKind}
 use Rattle.tf_flow.specs.declared.nested.FlowKind.TheVariants as kind
@@ -8,9 +8,12 @@ use Rattle.tf_flow.specs.declared.atoms.Retry.{Retry}
 use Rattle.tf_flow.specs.Limits.{provided}
 use Rattle.tf_flow.specs.Names.{same_name, is_among}
 use Rattle.tf_flow.specs.Rules.{bind_symbols, is_graph}
-use Rattle.tf_model.specs.Numbers.{any_below, first_below, which_below, has_number, Pair, has_pair, pairs_below, reached}
-use Rattle.tf_model.specs.Conditions.{Connection}
-use Rattle.tf_model.specs.Outline.{Part, Atom, Standing, stands_task, stands_flow, Item, FlowPlace, arguments_of, injected_in, provided_by}
+use Rattle.tf_numbers.specs.Numbers.{any_below, which_below}
+use Rattle.tf_numbers.specs.Pairs.{Pair, has_pair, pairs_below}
+use Rattle.tf_links.specs.Reach.{reached}
+use Rattle.tf_links.specs.Standing.{standing_items}
+use Rattle.tf_flow.specs.Conditions.{Connection}
+use Rattle.tf_flow.specs.Outline.{Part, Atom, Standing, stands_task, stands_flow, Item, FlowPlace, arguments_of, injected_in, provided_by}
 use Rattle.tf_model.specs.Before.{Flow, flow_at, way_before, way_at, passes_item}
 
 -- the symbol of an argument
@@ -149,28 +152,6 @@ abbrev pub item_order : FlowKind → ℕ → List Pair → List Pair
 item_order kind.Linear n linked = pairs_below n nat_lt
 item_order kind.Unordered n linked = []
 item_order kind.Graph n linked = reached n linked
-
--- each item that is linked to v was taken
-abbrev pub is_behind : List ℕ → ℕ → Pair → Bool
-is_behind taken v p = not (nat_eq p.second v) || has_number taken p.first
-
--- v wasn't taken, and all that are linked to it were
-abbrev pub is_next : List Pair → List ℕ → ℕ → Bool
-is_next linked taken v = not (has_number taken v) && list_all (is_behind taken v) linked
-
--- what was taken with one more, where there is one
-abbrev pub take_one : Option ℕ → List ℕ → List ℕ
-take_one None taken = taken
-take_one (Some v) taken = taken ++ v ∷ []
-
--- items in standing order: again and again the first item whose linked predecessors were all taken
-abbrev pub take_items : ℕ → ℕ → List Pair → List ℕ
-take_items n zero linked = []
-take_items n (suc k) linked = take_one (first_below n (is_next linked (take_items n k linked))) (take_items n k linked)
-
--- all items in standing order
-abbrev pub standing_items : ℕ → List Pair → List ℕ
-standing_items n linked = take_items n n linked
 
 -- a flow's atoms in standing order, where there is a flow
 abbrev pub standing_in : Option Flow → List ℕ

@@ -1,13 +1,14 @@
 -- What the rules of a run read of a plan.
-use Rattle.std.specs.Prelude.{ℕ, List, [], ◌∷◌, Bool, true, false, Option, Some, None, length, slice_get}
+use Rattle.std.specs.Prelude.{ℕ, List, [], ◌∷◌, Bool, false, Option, Some, None, length, slice_get}
 use Rattle.tf_flow.specs.declared.atoms.Arg.{Arg}
 use Rattle.tf_flow.specs.declared.atoms.Bind.{Bind}
 use Rattle.tf_flow.specs.declared.atoms.Provides.{Provides}
 use Rattle.tf_flow.specs.declared.atoms.Provides.TheVariants as provides
 use Rattle.tf_flow.specs.Plan.{PlanValue}
 use Rattle.tf_flow.specs.Tree.{Tree, tree_of}
-use Rattle.tf_model.specs.Numbers.{Pair}
-use Rattle.tf_model.specs.Outline.{Turn, Part, a_task, a_retry, Atom, FlowPlace, atoms_of, flows_of, name_of, arguments_of, injected_in, provided_by}
+use Rattle.tf_numbers.specs.Pairs.{Pair}
+use Rattle.tf_flow.specs.Outline.{is_task_part, is_retry_part, Atom, FlowPlace, atoms_of, flows_of, name_of, arguments_of, injected_in, provided_by}
+use Rattle.tf_flow.specs.declared.ways.Turn.{Turn}
 use Rattle.tf_model.specs.Before.{Flow, flow_at, way_before, way_at, passes_flow}
 use Rattle.tf_model.specs.Linked.{arranged}
 
@@ -46,11 +47,6 @@ is_before plan a b = way_before plan.flows (way plan a) (way plan b)
 unfoldable pub holds : Outline → ℕ → ℕ → Bool
 holds plan g a = passes_flow g (way plan a)
 
--- it is a retry controller
-abbrev pub is_retry_part : Part → Bool
-is_retry_part (a_task t) = false
-is_retry_part (a_retry r) = true
-
 -- the same of an atom, where there is one
 abbrev pub is_retry_in : Option Atom → Bool
 is_retry_in None = false
@@ -59,11 +55,6 @@ is_retry_in (Some atom) = is_retry_part atom.part
 -- a is a retry controller
 abbrev pub is_retry : Outline → ℕ → Bool
 is_retry plan a = is_retry_in (slice_get plan.atoms a)
-
--- it is a task
-abbrev pub is_task_part : Part → Bool
-is_task_part (a_task t) = true
-is_task_part (a_retry r) = false
 
 -- the same of an atom, where there is one
 abbrev pub is_task_in : Option Atom → Bool

@@ -1,28 +1,9 @@
 -- Which atom is marked how, which can run and which can revert.
 use Rattle.std.specs.Prelude.{ℕ, Bool, false, not, ◌&&◌, ◌||◌, Option, Some, None, is_none, nat_eq}
-use Rattle.tf_states.specs.declared.record.Kind.{Kind}
-use Rattle.tf_states.specs.declared.record.Kind.TheVariants as kind
-use Rattle.tf_model.specs.Numbers.{all_below, any_below}
+use Rattle.tf_numbers.specs.Numbers.{all_below, any_below}
 use Rattle.tf_model.specs.Plan.{Outline, count, is_before}
 use Rattle.tf_model.specs.Snapshot.{Resolve, Snapshot, is_again}
 use Rattle.tf_model.specs.States.{is_pending, is_done, is_settled, is_executed}
-
--- an atom's mark
-pub data Mark : Type 0 where
-  Execute : Mark
-  Retry : Mark
-  Revert : Mark
-
--- the mark that a resolve of this kind gives
-abbrev pub mark_of_kind : Kind → Mark
-mark_of_kind kind.Retry = Retry
-mark_of_kind kind.Revert = Revert
-mark_of_kind kind.RevertAll = Revert
-
--- EXECUTE where no resolve is in force, RETRY where it is one to run again, else REVERT
-abbrev pub mark : Option Resolve → Mark
-mark None = Execute
-mark (Some resolve) = mark_of_kind resolve.kind
 
 -- a's mark is EXECUTE
 abbrev pub is_unmarked : Snapshot → ℕ → Bool

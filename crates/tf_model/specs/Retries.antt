@@ -13,7 +13,8 @@ use Rattle.tf_states.specs.declared.record.Payload.TheVariants as payload
 use Rattle.tf_states.specs.declared.record.What.{What}
 use Rattle.tf_states.specs.declared.record.What.TheVariants as what
 use Rattle.tf_states.specs.declared.state.AtomState.TheVariants as atom
-use Rattle.tf_model.specs.Outline.{Turn, Part, a_task, a_retry, Atom}
+use Rattle.tf_flow.specs.Outline.{Part, a_task, a_retry, Atom}
+use Rattle.tf_flow.specs.declared.ways.Turn.{Turn}
 use Rattle.tf_model.specs.Plan.{Outline, way, retry_of}
 use Rattle.tf_model.specs.Snapshot.{Resolve, Snapshot}
 use Rattle.tf_model.specs.Scope.{item_value, Argument, Given, found, missing, given_to_execute}

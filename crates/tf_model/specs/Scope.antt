@@ -14,8 +14,8 @@ use Rattle.tf_flow.specs.Names.{same_name, is_among, first_some}
 use Rattle.tf_flow.specs.Rules.{bind_symbols}
 use Rattle.tf_states.specs.declared.record.Payload.{Payload}
 use Rattle.tf_states.specs.declared.record.Payload.TheVariants as payload
-use Rattle.tf_model.specs.Numbers.{numbers_below}
-use Rattle.tf_model.specs.Outline.{Turn}
+use Rattle.tf_numbers.specs.Numbers.{numbers_below}
+use Rattle.tf_flow.specs.declared.ways.Turn.{Turn}
 use Rattle.tf_model.specs.Before.{flow_at, passes_item}
 use Rattle.tf_model.specs.Linked.{standing_in, provides_at}
 use Rattle.tf_model.specs.Plan.{Outline, count, way, is_before, arguments, injects, provides_of, atom_name}

@@ -8,6 +8,7 @@ use Rattle.tf_states.specs.declared.state.FlowState.{FlowState}
 use Rattle.tf_states.specs.declared.state.FlowState.TheVariants as flow
 use Rattle.tf_model.specs.Plan.{Outline}
 use Rattle.tf_model.specs.History.{flow_of}
+use Rattle.tf_model.specs.States.{flow_suspends}
 use Rattle.tf_model.specs.Steps.{LegalPast}
 
 -- an entry of the flow, by hand 0
@@ -38,14 +39,9 @@ abbrev pub is_last : FlowState → Bool
 is_last flow.Suspended = true
 is_last state = has_ended state
 
--- the state is SUSPENDING
-abbrev pub begins_suspension : FlowState → Bool
-begins_suspension flow.Suspending = true
-begins_suspension state = false
-
 -- what is recorded isn't of the flow, or begins to suspend it
 abbrev pub is_inner : What → Bool
-is_inner (what.Flow state) = begins_suspension state
+is_inner (what.Flow state) = flow_suspends state
 is_inner (what.Atom a state held) = true
 is_inner (what.Resolve named resolved) = true
 is_inner (what.Restart again) = true

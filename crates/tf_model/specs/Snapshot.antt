@@ -10,7 +10,7 @@ use Rattle.tf_states.specs.declared.state.AtomState.{AtomState}
 use Rattle.tf_states.specs.declared.state.AtomState.TheVariants as atom
 use Rattle.tf_states.specs.declared.state.FlowState.{FlowState}
 use Rattle.tf_states.specs.declared.state.FlowState.TheVariants as flow
-use Rattle.tf_model.specs.Numbers.{is_number}
+use Rattle.tf_numbers.specs.Numbers.{is_number}
 use Rattle.tf_model.specs.Plan.{Outline, holds, is_task, is_retry, own_flow}
 
 -- what a failure was resolved to: a flow by its number, and a kind

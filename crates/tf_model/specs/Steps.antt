@@ -9,7 +9,7 @@ use Rattle.tf_states.specs.declared.state.AtomState.{AtomState}
 use Rattle.tf_states.specs.declared.state.AtomState.TheVariants as atom
 use Rattle.tf_states.specs.declared.state.FlowState.{FlowState}
 use Rattle.tf_states.specs.declared.state.FlowState.TheVariants as flow
-use Rattle.tf_model.specs.Numbers.{all_below, first_below, is_number}
+use Rattle.tf_numbers.specs.Numbers.{all_below, first_below, is_number}
 use Rattle.tf_model.specs.Plan.{Outline, count}
 use Rattle.tf_model.specs.Snapshot.{Snapshot}
 use Rattle.tf_model.specs.History.{snapshot}

@@ -1,27 +1,32 @@
 //! What the definitions promise of every plan and every history.
 
-ghost use Rattle.std.specs.Prelude.{◌≡◌, ◌≢◌, ◌⊎◌, ◌++◌, ◌∷◌, ◌<◌, ℕ, List, map, Option, None, Some, true, false, is_some};
+ghost use Rattle.std.specs.Prelude.{◌≡◌, ◌≢◌, ◌⊎◌, ◌++◌, ◌∷◌, ◌<◌, ℕ, List, map, Option, None, Some, true, false, is_some, nat_eq, if◌then◌else◌};
 ghost use Rattle.tf_states.specs.declared.record.Kind.TheVariants as kind;
-ghost use Rattle.std.specs.List.{list_all};
+ghost use Rattle.std.specs.List.{list_all, list_any};
 ghost use Rattle.tf_states.specs.declared.record.Entry.{Entry};
 ghost use Rattle.tf_states.specs.declared.state.FlowState.{FlowState};
 ghost use Rattle.tf_flow.specs.Plan.{PlanValue};
 ghost use Rattle.tf_flow.specs.Plan as numbering;
 ghost use Rattle.tf_flow.specs.declared.deciders.Depth.{Depth};
-ghost use Rattle.tf_model.specs.Deciders.{ignores};
+ghost use Rattle.tf_flow.specs.declared.deciders.Depth.TheVariants as depth;
+ghost use Rattle.tf_flow.specs.Rules.{is_graph};
+ghost use Rattle.tf_states.specs.declared.record.What.TheVariants as what;
+ghost use Rattle.tf_model.specs.Before.{Flow};
+ghost use Rattle.tf_model.specs.Deciders.{ignores, home};
 ghost use Rattle.tf_model.specs.Plan.{Outline, outline_of, count, own_flow, is_before, holds, is_retry, retry_of};
 ghost use Rattle.tf_model.specs.Compilation.{compile_refusal};
-ghost use Rattle.tf_model.specs.Snapshot.{Snapshot, later};
+ghost use Rattle.tf_model.specs.Snapshot.{Resolve, Snapshot, later};
 ghost use Rattle.tf_model.specs.Retries.{resolution};
-ghost use Rattle.tf_model.specs.History.{snapshot, state_of, payload_of, flow_of};
+ghost use Rattle.tf_model.specs.History.{snapshot, state_of, payload_of, flow_of, mark_of};
 ghost use Rattle.tf_model.specs.States.{is_running, is_success};
 ghost use Rattle.tf_model.specs.Scope.{members, is_earlier};
 ghost use Rattle.tf_model.specs.Steps.{LegalPast};
 ghost use Rattle.tf_model.specs.Sessions.{Session};
-ghost use Rattle.tf_model.specs.Laws.{AreOrdered, Extreme, IsWhole, HasAllowed, enters_by, puts_back, last_success, name_of_atom, is_retry_atom, name_of_flow};
+ghost use Rattle.tf_model.specs.Laws.{IsLinkedTask, resolves_atom, ends_mark_of, AreOrdered, Extreme, IsWhole, HasAllowed, enters_by, puts_back, last_success, name_of_flow};
+ghost use Rattle.tf_flow.specs.Outline.{name_of_atom, is_retry_atom};
 
 /// The outline of a plan has the plan's atoms and flows, by their numbers.
-#[tactic(auto, using(crate::proofs::OutlineLemmas::same_atoms, crate::proofs::OutlineLemmas::same_retries, crate::proofs::OutlineLemmas::same_flows))]
+#[tactic(auto, using(tf_flow::proofs::OutlineLemmas::same_atoms, tf_flow::proofs::OutlineLemmas::same_retries, crate::proofs::OutlineLemmas::same_flows))]
 pub fn outline_has_the_numbers()
     ensures atoms { (plan : PlanValue) → map name_of_atom (outline_of plan).atoms ≡ numbering.atoms plan }
     ensures retries { (plan : PlanValue) → map is_retry_atom (outline_of plan).atoms ≡ numbering.retries plan }
@@ -109,6 +114,27 @@ pub fn members_are_before()
 pub fn ignored_atoms_are_after()
     ensures { (plan : PlanValue) (v : ℕ) (how : Depth) (a : ℕ) → compile_refusal plan ≡ None → ignores (outline_of plan) v how a ≡ true
         → (v ≡ a) ⊎ (is_before (outline_of plan) v a ≡ true) }
+{}
+
+/// What depth NEIGHBORS ignores besides the refused task are tasks of its flow that a link leads to from it; so
+/// in a flow that is no graph nothing else is ignored, though a next task is there.
+#[tactic(auto, using(crate::proofs::IgnoredLemmas::neighbor_linked, crate::proofs::IgnoredLemmas::neighbors_in_graphs))]
+pub fn neighbors_are_linked()
+    ensures linked { (plan : Outline) (v a : ℕ) → ignores plan v depth.Neighbors a ≡ true → (v ≡ a) ⊎ IsLinkedTask plan v a }
+    ensures graphs { (plan : PlanValue) (v a : ℕ) (f : Flow) → home (outline_of plan) v ≡ Some f → is_graph f.place.kind ≡ false
+        → ignores (outline_of plan) v depth.Neighbors a ≡ nat_eq v a }
+{}
+
+/// An atom's mark comes from the last resolve whose flow holds it, and is over where the flow became PENDING after
+/// it, or where it was to run the flow again and the flow's retry controller entered RUNNING after it. Where no
+/// resolve holds the atom, its mark is EXECUTE.
+#[tactic(auto, using(crate::proofs::MarkLemmas::mark_from_last, crate::proofs::MarkLemmas::unmarked_unresolved))]
+pub fn marks_come_from_the_last_resolve()
+    ensures last { (plan : Outline) (newer older : List Entry) (a hand : ℕ) (mark : Resolve) → holds plan mark.flow a ≡ true
+        → list_any (resolves_atom plan a) newer ≡ false
+        → mark_of plan (newer ++ record { hand = hand; what = what.Resolve mark.flow mark.kind } ∷ older) a
+        ≡ (if list_any (ends_mark_of plan mark) newer then None else Some mark) }
+    ensures none { (plan : Outline) (past : List Entry) (a : ℕ) → list_any (resolves_atom plan a) past ≡ false → mark_of plan past a ≡ None }
 {}
 
 /// One entry more changes the snapshot of a history as `later` says.

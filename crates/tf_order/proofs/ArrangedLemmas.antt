@@ -1,6 +1,6 @@
 -- Flows that are arranged, by their numbers.
 use Rattle.std.proofs.Common.{◌≡◌, ℕ, List, false, Option, Some, None, refl, sym, ap, ◌∙◌, slice_get}
-use Rattle.tf_model.specs.Numbers.{has_pair}
+use Rattle.tf_numbers.specs.Pairs.{has_pair}
 use Rattle.tf_model.specs.Before.{Flow, flow_at, order_in, item_before}
 use Rattle.tf_order.specs.declared.arranged.Arranged.{Arranged}
 use Rattle.tf_order.specs.Arranged.{comes_before, IsShownAt, ShowsFlows}

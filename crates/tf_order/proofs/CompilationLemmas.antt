@@ -1,5 +1,5 @@
 -- Looking at the flows of a plan from the last one on, the first refusal, and the graph of a plan.
-use Rattle.std.proofs.Common.{◌≡◌, ◌≢◌, ℕ, zero, suc, ◌+◌, ◌<◌, ◌≤◌, List, [], ◌∷◌, ◌++◌, length, map, flat_map, take, drop, Bool, true, false, ◌||◌, Option, Some, None, refl, sym, ap, subst, ◌∙◌, add-one, inl, inr, arith, eqb-true, eq-eqb, slice_set, slice_get, slice_index_or}
+use Rattle.std.proofs.Common.{◌≡◌, ◌≢◌, ℕ, zero, suc, ◌+◌, ◌<◌, ◌≤◌, List, [], ◌∷◌, ◌++◌, length, map, flat_map, take, drop, Bool, true, false, Option, Some, None, refl, sym, ap, subst, ◌∙◌, add-one, inl, inr, arith, eqb-true, eq-eqb, slice_set, slice_get, slice_index_or}
 use Rattle.std.specs.Prelude.{nat_eq, if◌then◌else◌}
 use Rattle.std.specs.Option.{option_or}
 use Rattle.std.proofs.lemmas.Bool.{cases_lt}
@@ -11,11 +11,12 @@ use Rattle.tf_flow.specs.Tree.{Tree, Trees, task, flow, no_trees, tree, tree_of}
 use Rattle.tf_flow.specs.declared.atoms.Retry.{Retry}
 use Rattle.tf_model.specs.Before.{Flow, flow_at, has_flow_number}
 use Rattle.tf_model.specs.Compilation.{CompileRefusal, ambiguous, cycle, refusal_of, refusal_among, refusal_at, compile_refusal}
-use Rattle.tf_model.specs.Linked.{arrange, arranged, standing_in, standing_at, standing_of, standing_of_item, numbers_in, standing_items, linked_pairs}
-use Rattle.tf_model.specs.Numbers.{numbers_below}
-use Rattle.tf_model.specs.Outline.{Atom, Item, Standing, stands_task, stands_flow, FlowPlace, atoms_of, flows_of, flows_among, flow_count, atom_count, atoms_among_count, retry_count, retry_number, item_of, items_of, innermost_first}
+use Rattle.tf_model.specs.Linked.{arrange, arranged, standing_in, standing_at, standing_of, standing_of_item, numbers_in, linked_pairs}
+use Rattle.tf_links.specs.Standing.{standing_items}
+use Rattle.tf_numbers.specs.Numbers.{numbers_below}
+use Rattle.tf_flow.specs.Outline.{Atom, Item, Standing, stands_task, stands_flow, FlowPlace, atoms_of, flows_of, flows_among, flow_count, atom_count, atoms_among_count, retry_count, retry_number, item_of, items_of, innermost_first}
 use Rattle.tf_model.specs.Plan.{outline_with, outline_of, is_before, count}
-use Rattle.tf_model.proofs.PairLemmas.{any_in_both}
+use Rattle.tf_numbers.proofs.PairLemmas.{any_in_both}
 use Rattle.tf_order.specs.declared.arranged.Arranged.{Arranged}
 use Rattle.tf_order.specs.declared.faults.CompileFault.{CompileFault}
 use Rattle.tf_order.specs.declared.faults.CompileFault.TheVariants as fault
@@ -28,12 +29,13 @@ use Rattle.tf_order.specs.Looked.{told_by, told_in}
 use Rattle.tf_order.specs.Places.{shown_atom, shown_atoms, shown_level, shown_levels, level_number}
 use Rattle.tf_order.specs.Refusals.{IsRefusedBy}
 use Rattle.tf_order.specs.Tables.{plan_seen, atoms_found, AreTables, AreLooked, AreNone, AllBelow, fault_in, told_at}
-use Rattle.tf_links.proofs.BitLemmas.{ap2}
+use Rattle.tf_numbers.proofs.EquationLemmas.{ap2}
 use Rattle.tf_order.proofs.GraphLemmas.{get_first, get_last}
-use Rattle.tf_links.proofs.NumberLemmas.{not_both}
+use Rattle.tf_numbers.proofs.TruthLemmas.{clash, only_first}
 use Rattle.tf_order.proofs.OutlineLemmas.{length_atoms, level_there, level_number_at}
 use Rattle.tf_links.proofs.StandingLemmas.{taking_all}
-use Rattle.tf_order.proofs.TableLemmas.{get_set_same, get_set_other, length_more}
+use Rattle.tf_order.proofs.TableLemmas.{get_set_same, get_set_other}
+use Rattle.tf_numbers.proofs.ListLemmas.{length_more}
 
 -- ---- no flow was looked at
 
@@ -105,7 +107,7 @@ looked_next atoms places g place done refusal table faults before there number w
     more = drop_there places g place there
 
     others : (h : ℕ) → nat_eq place.number h ≡ false → h ≢ g
-    others h other = λ same. not_both (nat_eq place.number h) (eq-eqb place.number h (number ∙ sym same)) other
+    others h other = λ same. clash (nat_eq place.number h) (eq-eqb place.number h (number ∙ sym same)) other
 
     here : {X : Type 0} (xs : List X) (x : X) (h : ℕ) → nat_eq place.number h ≡ true → g < length xs → slice_get (slice_set xs g x) h ≡ Some x
     here xs x h same room = ap (slice_get (slice_set xs g x)) (sym (eqb-true place.number h same) ∙ number) ∙ get_set_same xs g x room
@@ -230,11 +232,7 @@ below_both : (most : ℕ) (xs ys : List ℕ) → AllBelow most xs → AllBelow m
 below_both most xs ys first second k is = elim (any_in_both (nat_eq k) xs ys is) [ inl here ↦ first k here | inr there ↦ second k there ]
 
 below_one : (most n : ℕ) → n < most → AllBelow most (n ∷ [])
-below_one most n below k is = let same : k ≡ n = eqb-true k n (only (nat_eq k n) is) in omega (arith, same, below)
-  where
-    only : (b : Bool) → b || false ≡ true → b ≡ true
-    only true is = refl
-    only false is = is
+below_one most n below k is = let same : k ≡ n = eqb-true k n (only_first (nat_eq k n) is) in omega (arith, same, below)
 
 below_none : (most : ℕ) → AllBelow most []
 below_none most k is = absurd (cc)

@@ -1,4 +1,5 @@
 -- The symbols that make an item ambiguous, and the cycle of a flow.
+use Rattle.tf_flow.specs.Ways.{shown_part}
 use Rattle.std.proofs.Common.{◌≡◌, ◌≢◌, ℕ, zero, suc, ◌+◌, ◌<◌, ◌≤◌, min, List, [], ◌∷◌, ◌++◌, length, take, drop, map, filter, flat_map, Bool, true, false, not, Some, None, refl, sym, ap, ◌∙◌, add-one, append_assoc, inl, inr, arith, eqb-true, eq-eqb, slice_index_or, slice_get, cond}
 use Rattle.std.specs.Prelude.{nat_eq, nat_lt, if◌then◌else◌}
 use Rattle.std.specs.Option.{option_map}
@@ -8,33 +9,36 @@ use Rattle.std.proofs.lemmas.Option.{slice_get-map}
 use Rattle.tf_flow.specs.declared.atoms.Arg.{Arg}
 use Rattle.tf_flow.specs.Names.{is_among}
 use Rattle.tf_flow.specs.Rules.{bind_symbols}
-use Rattle.tf_model.specs.Numbers.{which_below, has_number, Pair, reached}
-use Rattle.tf_model.specs.Outline.{Turn, Part, injected_in, arguments_of}
+use Rattle.tf_numbers.specs.Numbers.{which_below, has_number}
+use Rattle.tf_numbers.specs.Pairs.{Pair}
+use Rattle.tf_links.specs.Reach.{reached}
+use Rattle.tf_flow.specs.Outline.{Part, injected_in, arguments_of}
+use Rattle.tf_flow.specs.declared.ways.Turn.{Turn}
 use Rattle.tf_model.specs.Before.{Flow, way_at, passes_item}
 use Rattle.tf_model.specs.Linked.{arg_symbol, is_unserved, is_inside, needs_of_atom, needs, givers, item_name, item_name_in}
-use Rattle.tf_model.specs.Compilation.{ambiguous, cycle, name_less, least, are_several, is_ambiguous, refuse_givers, refuse_symbol, ambiguity_at, shortest_cycle}
+use Rattle.tf_model.specs.Compilation.{ambiguous, cycle, name_less, least, are_several, is_ambiguous, refuse_givers, refuse_symbol, ambiguity_at, is_back, cycle_through, first_cycle}
+use Rattle.tf_links.specs.Cycles.{shortest_cycle}
 use Rattle.tf_order.specs.declared.outline.AtomPlace.{AtomPlace}
 use Rattle.tf_order.specs.declared.outline.ItemPlace.{ItemPlace}
 use Rattle.tf_order.specs.declared.sight.Sight.{Sight}
 use Rattle.tf_order.specs.Arranged.{ShowsFlows}
-use Rattle.tf_order.specs.Doubts.{doubtful, doubts_by, doubts_inside, doubts_below, is_back, cycle_through, first_cycle}
-use Rattle.tf_order.specs.Places.{shown_part, shown_item}
+use Rattle.tf_order.specs.Doubts.{doubtful, doubts_by, doubts_inside, doubts_below}
+use Rattle.tf_order.specs.Places.{shown_item}
 use Rattle.tf_order.specs.Sight.{atoms_seen, place_seen, count_seen, needed_by, needed_at, needed_below}
 use Rattle.tf_links.specs.Links.{leads, LinksValue, AreLinks, AreReached}
-use Rattle.tf_links.proofs.NumberLemmas.{never_true, first_is, first_none}
-use Rattle.tf_links.proofs.BitLemmas.{ap2, index_zero}
+use Rattle.tf_numbers.proofs.TruthLemmas.{never_true}
+use Rattle.tf_numbers.proofs.BelowLemmas.{first_is, first_none}
+use Rattle.tf_links.proofs.BitLemmas.{index_zero}
+use Rattle.tf_numbers.proofs.EquationLemmas.{ap2}
 use Rattle.tf_links.proofs.StandingLemmas.{listed_within, taking_next}
 use Rattle.tf_order.proofs.SightLemmas.{length_seen}
-use Rattle.tf_order.proofs.LinkingLemmas.{filter_append, flat_append, needed_append, take_next, take_whole, take_none, part_seen, one_needed}
-
-append_none : (xs : List (List ℕ)) → xs ++ [] ≡ xs
-append_none [] = refl
-append_none (x ∷ xs) = ap (λ (ys : List (List ℕ)). x ∷ ys) (append_none xs)
+use Rattle.tf_order.proofs.LinkingLemmas.{flat_append, needed_append, take_next, take_none, part_seen, one_needed}
+use Rattle.tf_numbers.proofs.ListLemmas.{take_whole, filter_append, nothing_after}
 
 -- ---- one argument
 
 nothing_more : (symbols more : List (List ℕ)) → more ≡ [] → symbols ≡ symbols ++ more
-nothing_more symbols more none = sym (append_none symbols) ∙ ap (λ (xs : List (List ℕ)). symbols ++ xs) (sym none)
+nothing_more symbols more none = sym (nothing_after symbols) ∙ ap (λ (xs : List (List ℕ)). symbols ++ xs) (sym none)
 
 pub argument_bound : (sight : Sight) (inner : List Flow) (item atom : ℕ) (part : Part) (arg : Arg) (symbols : List (List ℕ)) → is_among (bind_symbols (injected_in part)) arg.symbol ≡ true → symbols ≡ symbols ++ doubts_by sight inner item atom part (arg ∷ [])
 argument_bound sight inner item atom part arg symbols bound = nothing_more symbols (doubts_by sight inner item atom part (arg ∷ []))
@@ -120,7 +124,7 @@ all_more sight item symbols new atom before more inner shows = more inner shows
     ∙ ap (λ (xs : List (List ℕ)). doubts_below sight inner item atom ++ xs) (last (is_inside (atoms_seen sight) (place_seen sight).number item atom))))))
   where
     last : (b : Bool) → doubtful sight item (flat_map (needs_of_atom (atoms_seen sight) inner (place_seen sight).number item) (if b then atom ∷ [] else [])) ≡ (if b then doubtful sight item (needed_at sight inner atom item) else [])
-    last true = ap (doubtful sight item) (append_none (needs_of_atom (atoms_seen sight) inner (place_seen sight).number item atom))
+    last true = ap (doubtful sight item) (nothing_after (needs_of_atom (atoms_seen sight) inner (place_seen sight).number item atom))
     last false = refl
 
 pub all_done : (sight : Sight) (item : ℕ) (symbols : List (List ℕ)) (n : ℕ) → DoubtsBelow sight item symbols n → n ≡ length sight.atoms.now → (inner : List Flow) → ShowsFlows sight.table.now inner

@@ -7,19 +7,20 @@ use Rattle.std.proofs.lemmas.Cmp.{nat_list_eq_equiv}
 use Rattle.std.proofs.lemmas.List.{length-map}
 use Rattle.tf_flow.specs.declared.deciders.Link.{Link}
 use Rattle.tf_flow.specs.Names.{same_name}
-use Rattle.tf_model.specs.Numbers.{which_below, has_number, has_pair}
-use Rattle.tf_model.specs.Conditions.{Connection, connection_of}
+use Rattle.tf_numbers.specs.Numbers.{which_below, has_number}
+use Rattle.tf_numbers.specs.Pairs.{has_pair}
+use Rattle.tf_flow.specs.Conditions.{Connection, connection_of}
 use Rattle.tf_model.specs.Linked.{joins, item_name, is_explicit, explicit}
-use Rattle.tf_model.proofs.StepLemmas.{and_first, and_second}
-use Rattle.tf_model.proofs.PairLemmas.{which_passes, passes_which, pair_passes, passes_pair, true_both}
+use Rattle.tf_numbers.proofs.TruthLemmas.{and_first, and_second, true_both, same_truth, and_false, or_chain, or_false, or_turn}
+use Rattle.tf_numbers.proofs.PairLemmas.{which_passes, passes_which, pair_passes, passes_pair}
 use Rattle.tf_order.specs.declared.index.NameIndex.{NameIndex}
 use Rattle.tf_order.specs.declared.outline.Level.{Level}
 use Rattle.tf_order.specs.Index.{told, is_named_at}
 use Rattle.tf_links.specs.Links.{leads, LinksValue, AreLinks}
 use Rattle.tf_order.specs.Places.{shown_item, shown_level}
-use Rattle.tf_links.proofs.NumberLemmas.{same_truth}
-use Rattle.tf_links.proofs.BitLemmas.{ap2}
+use Rattle.tf_numbers.proofs.EquationLemmas.{ap2}
 use Rattle.tf_links.proofs.StandingLemmas.{listed_within, number_more, taking_next, taking_none, taking_all}
+use Rattle.tf_numbers.proofs.NumberLemmas.{turn_eq}
 
 -- ---- an item to each of some
 
@@ -31,15 +32,8 @@ pub record LinkedToEach (first : ℕ) (old new : LinksValue) (to : List ℕ) : T
   pub same_count : new.count ≡ old.count
   pub told : (u v : ℕ) → leads new.rows u v ≡ ((nat_eq first u && has_number to v) || leads old.rows u v)
 
-and_none : (a : Bool) → a && false ≡ false
-and_none true = refl
-and_none false = refl
-
 pub each_start : (first : ℕ) (old : LinksValue) (to : List ℕ) → LinkedToEach first old old (take 0 to)
-each_start first old to = record { same_count = refl; told = λ u v. sym (ap (λ (b : Bool). b || leads old.rows u v) (ap (λ (xs : List ℕ). nat_eq first u && has_number xs v) (taking_none to) ∙ and_none (nat_eq first u))) }
-
-turn_eq : (a b : ℕ) → nat_eq a b ≡ nat_eq b a
-turn_eq a b = same_truth (nat_eq a b) (nat_eq b a) (λ e. eq-eqb b a (sym (eqb-true a b e))) (λ e. eq-eqb a b (sym (eqb-true b a e)))
+each_start first old to = record { same_count = refl; told = λ u v. sym (ap (λ (b : Bool). b || leads old.rows u v) (ap (λ (xs : List ℕ). nat_eq first u && has_number xs v) (taking_none to) ∙ and_false (nat_eq first u))) }
 
 pub each_more : (first : ℕ) (old mid new : LinksValue) (to : List ℕ) (i : ℕ) → LinkedToEach first old mid (take i to) → i < length to → new.count ≡ mid.count
     → ((u v : ℕ) → leads new.rows u v ≡ ((nat_eq first u && nat_eq (slice_index_or to i 0) v) || leads mid.rows u v)) → LinkedToEach first old new (take (i + 1) to)
@@ -118,7 +112,7 @@ pub record ExplicitBy (level : Level) (links : LinksValue) (seen : List Link) : 
 pub explicit_start : (level : Level) (links : LinksValue) (all : List Link) → links.count ≡ length level.items.items → ((u v : ℕ) → leads links.rows u v ≡ false) → ExplicitBy level links (take 0 all)
 explicit_start level links all same none = record {
   same_count = same;
-  told = λ u v. none u v ∙ sym (ap (λ (ls : List Link). (nat_lt u (length level.items.items) && nat_lt v (length level.items.items)) && list_any (joins (item_name (shown_level level) u) (item_name (shown_level level) v)) (map connection_of ls)) (nothing all) ∙ and_none (nat_lt u (length level.items.items) && nat_lt v (length level.items.items)));
+  told = λ u v. none u v ∙ sym (ap (λ (ls : List Link). (nat_lt u (length level.items.items) && nat_lt v (length level.items.items)) && list_any (joins (item_name (shown_level level) u) (item_name (shown_level level) v)) (map connection_of ls)) (nothing all) ∙ and_false (nat_lt u (length level.items.items) && nat_lt v (length level.items.items)));
 }
   where
     nothing : (ls : List Link) → take 0 ls ≡ []
@@ -126,16 +120,8 @@ explicit_start level links all same none = record {
     nothing (l ∷ ls) = refl
 
 any_linked : (p : Connection → Bool) (seen : List Link) (link : Link) → list_any p (map connection_of (seen ++ link ∷ [])) ≡ (list_any p (map connection_of seen) || p (connection_of link))
-any_linked p [] link = or_none (p (connection_of link))
-  where
-    or_none : (b : Bool) → b || false ≡ b
-    or_none true = refl
-    or_none false = refl
+any_linked p [] link = or_false (p (connection_of link))
 any_linked p (x ∷ xs) link = ap (λ (b : Bool). p (connection_of x) || b) (any_linked p xs link) ∙ or_chain (p (connection_of x)) (list_any p (map connection_of xs)) (p (connection_of link))
-  where
-    or_chain : (a b c : Bool) → a || (b || c) ≡ (a || b) || c
-    or_chain true b c = refl
-    or_chain false b c = refl
 
 link_next : (all : List Link) (i : ℕ) (link : Link) → i < length all → link ≡ slice_index_or all i link → take (suc i) all ≡ take i all ++ link ∷ []
 link_next [] i link within is = absurd (omega arith)
@@ -166,13 +152,7 @@ explicit_more level names mid new all i link from to before within is named from
   where
     gather : (a b c d e : Bool) → ((a && c) && (b && d)) || ((a && b) && e) ≡ (a && b) && (e || (c && d))
     gather true true c d e = or_turn (c && d) e
-      where
-        or_turn : (x y : Bool) → x || y ≡ y || x
-        or_turn true true = refl
-        or_turn true false = refl
-        or_turn false true = refl
-        or_turn false false = refl
-    gather true false c d e = ap (λ (x : Bool). x || false) (and_none c)
+    gather true false c d e = ap (λ (x : Bool). x || false) (and_false c)
     gather false b c d e = refl
 
 pub explicit_all : (level : Level) (links : LinksValue) (all : List Link) (i : ℕ) → ExplicitBy level links (take i all) → length all ≤ i → all ≡ level.flow.now.links → AreLinks links (explicit (shown_level level))

@@ -3,8 +3,9 @@ use Rattle.std.proofs.Common.{◌≡◌, ℕ, zero, suc, ◌<◌, ◌≤◌, Lis
 use Rattle.std.specs.Prelude.{nat_eq, nat_lt, if◌then◌else◌}
 use Rattle.std.proofs.lemmas.Bool.{cases_lt, lt-ltb}
 use Rattle.tf_flow.specs.Plan.{PlanValue}
-use Rattle.tf_model.specs.Numbers.{which_below, numbers_below, has_number}
-use Rattle.tf_model.specs.Outline.{Turn, Atom}
+use Rattle.tf_numbers.specs.Numbers.{which_below, numbers_below, has_number}
+use Rattle.tf_flow.specs.Outline.{Atom}
+use Rattle.tf_flow.specs.declared.ways.Turn.{Turn}
 use Rattle.tf_model.specs.Before.{Flow, way_in, way_before}
 use Rattle.tf_model.specs.Plan.{Outline, outline_of, count, way, is_before, is_task, last_flow}
 use Rattle.tf_model.specs.Deciders.{flow_in, same_flow, last_item}
@@ -13,7 +14,8 @@ use Rattle.tf_order.specs.Graph.{GraphValue, IsGraphOf, predecessors_of, success
 use Rattle.tf_order.specs.Rows.{row_in, row_at, is_in_row}
 use Rattle.std.proofs.lemmas.List.{map-append}
 use Rattle.std.proofs.lemmas.Option.{slice_get_past}
-use Rattle.tf_model.proofs.PairLemmas.{which_passes, passes_which}
+use Rattle.tf_numbers.proofs.PairLemmas.{which_passes, passes_which}
+use Rattle.tf_numbers.proofs.TruthLemmas.{same_truth}
 
 -- ---- the rows of numbers
 
@@ -103,12 +105,6 @@ pub direct_tasks_told : (graph : GraphValue) (plan : PlanValue) (a : ℕ) → Is
 direct_tasks_told graph plan a is =
     ap (λ (rows : List (List ℕ)). row_at rows a) is.direct_tasks
     ∙ row_at_told (direct_tasks_of (outline_of plan)) (count (outline_of plan)) a (λ past. none_which (count (outline_of plan)) (leads_to (outline_of plan) a) (λ b. no_place (outline_of plan) a b past))
-
--- a test is true of the numbers that pass it
-same_truth : (a b : Bool) → (a ≡ true → b ≡ true) → (b ≡ true → a ≡ true) → a ≡ b
-same_truth true b to from = sym (to refl)
-same_truth false true to from = from refl
-same_truth false false to from = refl
 
 -- a number stands among those below n that pass where it passes, and all that pass are below n
 listed_number : (n : ℕ) (test : ℕ → Bool) (k : ℕ) → (n ≤ k → test k ≡ false) → has_number (which_below n test) k ≡ test k

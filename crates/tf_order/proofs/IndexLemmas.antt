@@ -1,4 +1,5 @@
 -- Numbers by name, one number at a time.
+use Rattle.tf_flow.specs.Ways.{shown_part}
 use Rattle.std.proofs.Common.{◌≡◌, ℕ, zero, suc, ◌+◌, ◌-◌, ◌<◌, ◌≤◌, List, [], ◌∷◌, ◌++◌, map, take, length, Bool, true, false, cond, Option, Some, refl, sym, ap, ◌∙◌, add-one, arith, slice_get, get_or, eq-eqb, eqb-true}
 use Rattle.std.specs.Prelude.{nat_eq, if◌then◌else◌}
 use Rattle.tf_flow.specs.declared.atoms.Provides.{Provides}
@@ -6,13 +7,14 @@ use Rattle.tf_flow.specs.Limits.{provided}
 use Rattle.tf_flow.specs.Names.{same_name, is_among}
 use Rattle.tf_flow.proofs.NameLemmas.{any_push, any_more}
 use Rattle.tf_model.specs.Linked.{provides_at}
-use Rattle.tf_model.specs.Numbers.{is_number, which_below}
-use Rattle.tf_model.specs.Outline.{provided_by}
+use Rattle.tf_numbers.specs.Numbers.{is_number, which_below}
+use Rattle.tf_flow.specs.Outline.{provided_by}
 use Rattle.tf_order.specs.declared.outline.AtomPlace.{AtomPlace}
 use Rattle.tf_order.specs.declared.outline.ItemPlace.{ItemPlace}
 use Rattle.tf_order.specs.Index.{add_once, ends_with, is_named_at}
-use Rattle.tf_order.specs.Places.{shown_part, shown_atoms, shown_item}
-use Rattle.tf_links.proofs.NumberLemmas.{never_true}
+use Rattle.tf_order.specs.Places.{shown_atoms, shown_item}
+use Rattle.tf_numbers.proofs.TruthLemmas.{never_true}
+use Rattle.tf_numbers.proofs.ListLemmas.{nothing_after}
 
 -- the last number is the one that is added
 pub once_same : (numbers : List ℕ) (n : ℕ) → slice_get numbers (length numbers - 1) ≡ Some n → numbers ≡ add_once numbers n
@@ -40,10 +42,6 @@ once_twice xs n = by_last (ends_with xs n) refl
     by_last : (b : Bool) → ends_with xs n ≡ b → add_once (if b then xs else xs ++ n ∷ []) n ≡ (if b then xs else xs ++ n ∷ [])
     by_last true is = ap (λ (b : Bool). if b then xs else xs ++ n ∷ []) is
     by_last false is = ap (λ (b : Bool). if b then xs ++ n ∷ [] else (xs ++ n ∷ []) ++ n ∷ []) (ends_pushed xs n n ∙ eq-eqb n n refl)
-
-nothing_after : (xs : List ℕ) → xs ++ [] ≡ xs
-nothing_after [] = refl
-nothing_after (x ∷ xs) = ap (λ (ys : List ℕ). x ∷ ys) (nothing_after xs)
 
 last_or_not : (m n : ℕ) (test : ℕ → Bool) (b : Bool) → m < n → ends_with (which_below m test) n ≡ false → ends_with (which_below m test ++ (if b then m ∷ [] else [])) n ≡ false
 last_or_not m n test true below others = ends_pushed (which_below m test) m n ∙ never_true (nat_eq m n) (λ same. let e : m ≡ n = eqb-true m n same in omega (arith, e, below))

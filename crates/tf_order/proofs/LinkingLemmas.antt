@@ -1,4 +1,5 @@
 -- How links and doubts grow with the symbols that were looked at.
+use Rattle.tf_flow.specs.Ways.{shown_part}
 use Rattle.std.proofs.Common.{◌≡◌, ◌≢◌, ℕ, zero, suc, ◌+◌, ◌<◌, ◌≤◌, List, [], ◌∷◌, ◌++◌, length, take, map, filter, flat_map, Bool, true, false, ◌&&◌, ◌||◌, not, Option, Some, None, refl, sym, ap, ◌∙◌, add-one, append_assoc, arith, eqb-true, eq-eqb, slice_index_or, slice_get, cond}
 use Rattle.std.specs.Prelude.{nat_eq, nat_lt, if◌then◌else◌}
 use Rattle.std.specs.List.{list_any}
@@ -6,24 +7,25 @@ use Rattle.std.proofs.lemmas.Bool.{ltb-true, lt-ltb}
 use Rattle.tf_flow.specs.declared.atoms.Arg.{Arg}
 use Rattle.tf_flow.specs.Names.{is_among}
 use Rattle.tf_flow.specs.Rules.{bind_symbols}
-use Rattle.tf_model.specs.Numbers.{which_below}
-use Rattle.tf_model.specs.Outline.{Turn, Part, injected_in, arguments_of}
+use Rattle.tf_numbers.specs.Numbers.{which_below}
+use Rattle.tf_flow.specs.Outline.{Part, injected_in, arguments_of}
+use Rattle.tf_flow.specs.declared.ways.Turn.{Turn}
 use Rattle.tf_model.specs.Before.{Flow, takes_item, same_place, passes_item, way_at}
 use Rattle.tf_model.specs.Linked.{arg_symbol, is_taken, taken_symbols, taken_by, is_unserved, is_inside, needs_of_atom, needs, givers, is_served, other_provides, is_only, is_inferred_by}
 use Rattle.tf_model.specs.Compilation.{are_several, is_ambiguous}
-use Rattle.tf_model.proofs.PairLemmas.{true_first, true_both, which_passes}
+use Rattle.tf_numbers.proofs.TruthLemmas.{true_first, true_both, never_true, or_chain, or_false, second_false, or_nothing, or_spread}
+use Rattle.tf_numbers.proofs.PairLemmas.{which_passes}
 use Rattle.tf_order.specs.declared.outline.AtomPlace.{AtomPlace}
-use Rattle.tf_order.specs.declared.outline.Turn.{Turn as CodeTurn}
 use Rattle.tf_order.specs.declared.sight.Sight.{Sight}
 use Rattle.tf_order.specs.Arranged.{ShowsFlows}
 use Rattle.tf_links.specs.Bits.{has}
 use Rattle.tf_links.specs.Links.{leads, LinksValue}
-use Rattle.tf_order.specs.Places.{shown_part, shown_atoms}
+use Rattle.tf_order.specs.Places.{shown_atoms}
 use Rattle.tf_order.specs.Sight.{atoms_seen, place_seen, count_seen, LinksBy, for_item, needed_by, needed_at, taken_at, passed_at, needed_below}
-use Rattle.tf_order.specs.Turns.{shown_turn, shown_turns}
-use Rattle.tf_links.proofs.NumberLemmas.{same_truth, never_true}
-use Rattle.tf_links.proofs.BitLemmas.{ap2}
+use Rattle.tf_numbers.proofs.EquationLemmas.{ap2}
 use Rattle.tf_order.proofs.SightLemmas.{length_items, length_seen}
+use Rattle.tf_numbers.proofs.NumberLemmas.{turn_eq}
+use Rattle.tf_numbers.proofs.ListLemmas.{nothing_after, map_append, filter_append, take_whole}
 
 -- ---- more symbols
 
@@ -31,33 +33,20 @@ use Rattle.tf_order.proofs.SightLemmas.{length_items, length_seen}
 abbrev pub AreBoth : (first second seen : ℕ → List (List ℕ)) → Type 0
 AreBoth first second seen = (v : ℕ) (p : List ℕ → Bool) → list_any p (seen v) ≡ (list_any p (first v) || list_any p (second v))
 
-spread : (a b c d : Bool) → (a || (b && c)) || (b && d) ≡ a || (b && (c || d))
-spread true b c d = refl
-spread false true c d = refl
-spread false false c d = refl
-
 pub links_then : (sight : Sight) (first second seen : ℕ → List (List ℕ)) (s0 s1 s2 : LinksValue) (d0 d1 d2 : List ℕ) → LinksBy sight first s0 d0 s1 d1 → LinksBy sight second s1 d1 s2 d2 → AreBoth first second seen → LinksBy sight seen s0 d0 s2 d2
 links_then sight first second seen s0 s1 s2 d0 d1 d2 one other both = record {
   links = λ u v. other.links u v ∙ (ap (λ (b : Bool). b || (nat_lt v (count_seen sight) && list_any (is_inferred_by (atoms_seen sight) (place_seen sight) u v) (second v))) (one.links u v)
-      ∙ (spread (leads s0.rows u v) (nat_lt v (count_seen sight)) (list_any (is_inferred_by (atoms_seen sight) (place_seen sight) u v) (first v)) (list_any (is_inferred_by (atoms_seen sight) (place_seen sight) u v) (second v))
+      ∙ (or_spread (leads s0.rows u v) (nat_lt v (count_seen sight)) (list_any (is_inferred_by (atoms_seen sight) (place_seen sight) u v) (first v)) (list_any (is_inferred_by (atoms_seen sight) (place_seen sight) u v) (second v))
       ∙ ap (λ (b : Bool). leads s0.rows u v || (nat_lt v (count_seen sight) && b)) (sym (both v (is_inferred_by (atoms_seen sight) (place_seen sight) u v)))));
   doubts = λ v. other.doubts v ∙ (ap (λ (b : Bool). b || (nat_lt v (count_seen sight) && list_any (is_ambiguous (atoms_seen sight) (place_seen sight) v) (second v))) (one.doubts v)
-      ∙ (spread (has d0 v) (nat_lt v (count_seen sight)) (list_any (is_ambiguous (atoms_seen sight) (place_seen sight) v) (first v)) (list_any (is_ambiguous (atoms_seen sight) (place_seen sight) v) (second v))
+      ∙ (or_spread (has d0 v) (nat_lt v (count_seen sight)) (list_any (is_ambiguous (atoms_seen sight) (place_seen sight) v) (first v)) (list_any (is_ambiguous (atoms_seen sight) (place_seen sight) v) (second v))
       ∙ ap (λ (b : Bool). has d0 v || (nat_lt v (count_seen sight) && b)) (sym (both v (is_ambiguous (atoms_seen sight) (place_seen sight) v)))));
 }
 
-or_falsed : (a b : Bool) → b ≡ false → a ≡ a || b
-or_falsed true b off = refl
-or_falsed false b off = sym off
-
-and_falsed : (a b : Bool) → b ≡ false → a && b ≡ false
-and_falsed true b off = off
-and_falsed false b off = refl
-
 pub links_none : (sight : Sight) (seen : ℕ → List (List ℕ)) (s : LinksValue) (d : List ℕ) → ((v : ℕ) (p : List ℕ → Bool) → list_any p (seen v) ≡ false) → LinksBy sight seen s d s d
 links_none sight seen s d none = record {
-  links = λ u v. or_falsed (leads s.rows u v) _ (and_falsed (nat_lt v (count_seen sight)) _ (none v (is_inferred_by (atoms_seen sight) (place_seen sight) u v)));
-  doubts = λ v. or_falsed (has d v) _ (and_falsed (nat_lt v (count_seen sight)) _ (none v (is_ambiguous (atoms_seen sight) (place_seen sight) v)));
+  links = λ u v. or_nothing (leads s.rows u v) _ (second_false (nat_lt v (count_seen sight)) _ (none v (is_inferred_by (atoms_seen sight) (place_seen sight) u v)));
+  doubts = λ v. or_nothing (has d v) _ (second_false (nat_lt v (count_seen sight)) _ (none v (is_ambiguous (atoms_seen sight) (place_seen sight) v)));
 }
 
 -- the same symbols, told otherwise
@@ -86,8 +75,8 @@ giver_below sight item symbol found u is on = below (is_served (atoms_seen sight
 
 pub symbol_none : (sight : Sight) (item : ℕ) (symbol found : List ℕ) (s : LinksValue) (d : List ℕ) → found ≡ givers (atoms_seen sight) (place_seen sight) item symbol → length found ≡ 0 → LinksBy sight (for_item item (symbol ∷ [])) s d s d
 symbol_none sight item symbol found s d is none = record {
-  links = λ u v. or_falsed (leads s.rows u v) _ (and_falsed (nat_lt v (count_seen sight)) _ (by_item v (nat_eq item v) refl (is_inferred_by (atoms_seen sight) (place_seen sight) u v) (λ same. ap (λ (k : ℕ). is_only u (givers (atoms_seen sight) (place_seen sight) k symbol)) (sym same) ∙ (ap (is_only u) (sym is) ∙ only_none u found none))));
-  doubts = λ v. or_falsed (has d v) _ (and_falsed (nat_lt v (count_seen sight)) _ (by_item v (nat_eq item v) refl (is_ambiguous (atoms_seen sight) (place_seen sight) v) (λ same. ap (λ (k : ℕ). are_several (givers (atoms_seen sight) (place_seen sight) k symbol)) (sym same) ∙ (ap are_several (sym is) ∙ several_none found none))));
+  links = λ u v. or_nothing (leads s.rows u v) _ (second_false (nat_lt v (count_seen sight)) _ (by_item v (nat_eq item v) refl (is_inferred_by (atoms_seen sight) (place_seen sight) u v) (λ same. ap (λ (k : ℕ). is_only u (givers (atoms_seen sight) (place_seen sight) k symbol)) (sym same) ∙ (ap (is_only u) (sym is) ∙ only_none u found none))));
+  doubts = λ v. or_nothing (has d v) _ (second_false (nat_lt v (count_seen sight)) _ (by_item v (nat_eq item v) refl (is_ambiguous (atoms_seen sight) (place_seen sight) v) (λ same. ap (λ (k : ℕ). are_several (givers (atoms_seen sight) (place_seen sight) k symbol)) (sym same) ∙ (ap are_several (sym is) ∙ several_none found none))));
 }
   where
     only_none : (u : ℕ) (xs : List ℕ) → length xs ≡ 0 → is_only u xs ≡ false
@@ -106,7 +95,7 @@ pub symbol_one : (sight : Sight) (item : ℕ) (symbol found : List ℕ) (s new :
     → ((a b : ℕ) → leads new.rows a b ≡ ((nat_eq (slice_index_or found 0 0) a && nat_eq item b) || leads s.rows a b)) → LinksBy sight (for_item item (symbol ∷ [])) s d new d
 symbol_one sight item symbol found s new d is one below put = record {
   links = λ u v. put u v ∙ by_item u v (nat_eq item v) refl;
-  doubts = λ v. or_falsed (has d v) _ (and_falsed (nat_lt v (count_seen sight)) _ (no_doubt v (nat_eq item v) refl));
+  doubts = λ v. or_nothing (has d v) _ (second_false (nat_lt v (count_seen sight)) _ (no_doubt v (nat_eq item v) refl));
 }
   where
     only_one : (u : ℕ) (xs : List ℕ) → length xs ≡ 1 → is_only u xs ≡ nat_eq u (slice_index_or xs 0 0)
@@ -137,9 +126,6 @@ symbol_one sight item symbol found s new d is one below put = record {
     off false false true = refl
     off false false false = refl
 
-    turn_eq : (a b : ℕ) → nat_eq a b ≡ nat_eq b a
-    turn_eq a b = same_truth (nat_eq a b) (nat_eq b a) (λ e. eq-eqb b a (sym (eqb-true a b e))) (λ e. eq-eqb a b (sym (eqb-true b a e)))
-
     by_item : (u v : ℕ) (b : Bool) → nat_eq item v ≡ b → ((nat_eq (slice_index_or found 0 0) u && b) || leads s.rows u v) ≡ (leads s.rows u v || (nat_lt v (count_seen sight) && list_any (is_inferred_by (atoms_seen sight) (place_seen sight) u v) (if b then symbol ∷ [] else [])))
     by_item u v true same = let e : item ≡ v = eqb-true item v same in
         turned (nat_eq (slice_index_or found 0 0) u) (leads s.rows u v)
@@ -150,7 +136,7 @@ symbol_one sight item symbol found s new d is one below put = record {
 pub symbol_several : (sight : Sight) (item : ℕ) (symbol found : List ℕ) (s : LinksValue) (d new : List ℕ) → found ≡ givers (atoms_seen sight) (place_seen sight) item symbol → 1 < length found → item < count_seen sight
     → ((k : ℕ) → has new k ≡ (nat_eq item k || has d k)) → LinksBy sight (for_item item (symbol ∷ [])) s d s new
 symbol_several sight item symbol found s d new is many below put = record {
-  links = λ u v. or_falsed (leads s.rows u v) _ (and_falsed (nat_lt v (count_seen sight)) _ (no_link u v (nat_eq item v) refl));
+  links = λ u v. or_nothing (leads s.rows u v) _ (second_false (nat_lt v (count_seen sight)) _ (no_link u v (nat_eq item v) refl));
   doubts = λ v. put v ∙ by_item v (nat_eq item v) refl;
 }
   where
@@ -176,7 +162,7 @@ symbol_several sight item symbol found s d new is many below put = record {
     by_item v true same = let e : item ≡ v = eqb-true item v same in
         or_true (has d v) ∙ ap (λ (b : Bool). has d v || b) (sym (true_both (nat_lt v (count_seen sight)) _ (lt-ltb v (count_seen sight) (omega (arith, e, below)))
         (true_first (is_ambiguous (atoms_seen sight) (place_seen sight) v symbol) false (ap (λ (k : ℕ). are_several (givers (atoms_seen sight) (place_seen sight) k symbol)) (sym e) ∙ (ap are_several (sym is) ∙ several found many)))))
-    by_item v false other = or_falsed (has d v) _ (and_falsed (nat_lt v (count_seen sight)) _ refl)
+    by_item v false other = or_nothing (has d v) _ (second_false (nat_lt v (count_seen sight)) _ refl)
 
 pub giver_within : (sight : Sight) (item : ℕ) (symbol found : List ℕ) → found ≡ givers (atoms_seen sight) (place_seen sight) item symbol → 0 < length found → slice_index_or found 0 0 < count_seen sight
 giver_within sight item symbol found is some = giver_below sight item symbol found (slice_index_or found 0 0) is (first_there found some)
@@ -190,22 +176,6 @@ giver_within sight item symbol found is some = giver_below sight item symbol fou
 any_append : (p : List ℕ → Bool) (xs ys : List (List ℕ)) → list_any p (xs ++ ys) ≡ (list_any p xs || list_any p ys)
 any_append p [] ys = refl
 any_append p (x ∷ xs) ys = ap (λ (b : Bool). p x || b) (any_append p xs ys) ∙ or_chain (p x) (list_any p xs) (list_any p ys)
-  where
-    or_chain : (a b c : Bool) → a || (b || c) ≡ (a || b) || c
-    or_chain true b c = refl
-    or_chain false b c = refl
-
-pub filter_append : {X : Type 0} (p : X → Bool) (xs ys : List X) → filter p (xs ++ ys) ≡ filter p xs ++ filter p ys
-filter_append p [] ys = refl
-filter_append {X = X} p (x ∷ xs) ys = by_test (p x) (filter_append p xs ys)
-  where
-    by_test : (b : Bool) → filter p (xs ++ ys) ≡ filter p xs ++ filter p ys → cond b (x ∷ filter p (xs ++ ys)) (filter p (xs ++ ys)) ≡ cond b (x ∷ filter p xs) (filter p xs) ++ filter p ys
-    by_test true rest = ap (λ (zs : List X). x ∷ zs) rest
-    by_test false rest = rest
-
-map_append : {X Y : Type 0} (f : X → Y) (xs ys : List X) → map f (xs ++ ys) ≡ map f xs ++ map f ys
-map_append f [] ys = refl
-map_append {Y = Y} f (x ∷ xs) ys = ap (λ (zs : List Y). f x ∷ zs) (map_append f xs ys)
 
 pub needed_append : (sight : Sight) (inner : List Flow) (v a : ℕ) (part : Part) (xs ys : List Arg) → needed_by sight inner v a part (xs ++ ys) ≡ needed_by sight inner v a part xs ++ needed_by sight inner v a part ys
 needed_append sight inner v a part xs ys =
@@ -221,12 +191,6 @@ take_next {X = X} (y ∷ ys) zero x below is = ap (λ (z : X). z ∷ take 0 ys) 
     none [] = refl
     none (z ∷ zs) = refl
 take_next {X = X} (y ∷ ys) (suc i) x below is = ap (λ (zs : List X). y ∷ zs) (take_next ys i x (omega arith) is)
-
-pub take_whole : {X : Type 0} (xs : List X) (i : ℕ) → length xs ≤ i → take i xs ≡ xs
-take_whole [] zero past = refl
-take_whole [] (suc i) past = refl
-take_whole (x ∷ xs) zero past = absurd (omega arith)
-take_whole {X = X} (x ∷ xs) (suc i) past = ap (λ (ys : List X). x ∷ ys) (take_whole xs i (omega arith))
 
 pub take_none : {X : Type 0} (xs : List X) → take 0 xs ≡ []
 take_none [] = refl
@@ -290,64 +254,56 @@ argument_needed sight item atom part s0 s d0 d arg free unserved is inner shows 
 
 -- ---- the turns of an atom's way
 
-abbrev pub TurnSeen : Sight → ℕ → CodeTurn → LinksValue → List ℕ → LinksValue → List ℕ → Type 0
-TurnSeen sight atom turn s0 d0 s d = (inner : List Flow) → ShowsFlows sight.table.now inner → LinksBy sight (taken_at sight inner atom (shown_turn turn)) s0 d0 s d
+abbrev pub TurnSeen : Sight → ℕ → Turn → LinksValue → List ℕ → LinksValue → List ℕ → Type 0
+TurnSeen sight atom turn s0 d0 s d = (inner : List Flow) → ShowsFlows sight.table.now inner → LinksBy sight (taken_at sight inner atom turn) s0 d0 s d
 
 if_none : (b : Bool) (xs : List (List ℕ)) (p : List ℕ → Bool) → b ≡ false → list_any p (if b then xs else []) ≡ false
 if_none true xs p off = absurd (cc)
 if_none false xs p off = refl
 
-pub turn_other : (sight : Sight) (atom : ℕ) (turn : CodeTurn) (s : LinksValue) (d : List ℕ) → turn.flow ≢ (place_seen sight).number → TurnSeen sight atom turn s d s d
-turn_other sight atom turn s d differ inner shows = links_none sight (taken_at sight inner atom (shown_turn turn)) s d
-    (λ v p. if_none (takes_item (place_seen sight).number (Some v) (shown_turn turn)) (needed_at sight inner atom v) p (ap (λ (b : Bool). b && same_place turn.item (Some v)) (never_true (nat_eq turn.flow (place_seen sight).number) (λ same. differ (eqb-true turn.flow (place_seen sight).number same)))))
+pub turn_other : (sight : Sight) (atom : ℕ) (turn : Turn) (s : LinksValue) (d : List ℕ) → turn.flow ≢ (place_seen sight).number → TurnSeen sight atom turn s d s d
+turn_other sight atom turn s d differ inner shows = links_none sight (taken_at sight inner atom turn) s d
+    (λ v p. if_none (takes_item (place_seen sight).number (Some v) turn) (needed_at sight inner atom v) p (ap (λ (b : Bool). b && same_place turn.item (Some v)) (never_true (nat_eq turn.flow (place_seen sight).number) (λ same. differ (eqb-true turn.flow (place_seen sight).number same)))))
 
-pub turn_retry : (sight : Sight) (atom : ℕ) (turn : CodeTurn) (s : LinksValue) (d : List ℕ) → turn.item ≡ None → TurnSeen sight atom turn s d s d
-turn_retry sight atom turn s d none inner shows = links_none sight (taken_at sight inner atom (shown_turn turn)) s d
-    (λ v p. if_none (takes_item (place_seen sight).number (Some v) (shown_turn turn)) (needed_at sight inner atom v) p (and_falsed (nat_eq turn.flow (place_seen sight).number) _ (ap (λ (o : Option ℕ). same_place o (Some v)) none)))
+pub turn_retry : (sight : Sight) (atom : ℕ) (turn : Turn) (s : LinksValue) (d : List ℕ) → turn.item ≡ None → TurnSeen sight atom turn s d s d
+turn_retry sight atom turn s d none inner shows = links_none sight (taken_at sight inner atom turn) s d
+    (λ v p. if_none (takes_item (place_seen sight).number (Some v) turn) (needed_at sight inner atom v) p (second_false (nat_eq turn.flow (place_seen sight).number) _ (ap (λ (o : Option ℕ). same_place o (Some v)) none)))
 
 -- an item past the last one is none of the flow's: nothing is told of it
-pub turn_past : (sight : Sight) (atom : ℕ) (turn : CodeTurn) (item : ℕ) (s : LinksValue) (d : List ℕ) → turn.item ≡ Some item → count_seen sight ≤ item → TurnSeen sight atom turn s d s d
+pub turn_past : (sight : Sight) (atom : ℕ) (turn : Turn) (item : ℕ) (s : LinksValue) (d : List ℕ) → turn.item ≡ Some item → count_seen sight ≤ item → TurnSeen sight atom turn s d s d
 turn_past sight atom turn item s d is past inner shows = record {
-  links = λ u v. or_falsed (leads s.rows u v) _ (nothing v (is_inferred_by (atoms_seen sight) (place_seen sight) u v));
-  doubts = λ v. or_falsed (has d v) _ (nothing v (is_ambiguous (atoms_seen sight) (place_seen sight) v));
+  links = λ u v. or_nothing (leads s.rows u v) _ (nothing v (is_inferred_by (atoms_seen sight) (place_seen sight) u v));
+  doubts = λ v. or_nothing (has d v) _ (nothing v (is_ambiguous (atoms_seen sight) (place_seen sight) v));
 }
   where
-    nothing : (v : ℕ) (p : List ℕ → Bool) → nat_lt v (count_seen sight) && list_any p (taken_at sight inner atom (shown_turn turn) v) ≡ false
+    nothing : (v : ℕ) (p : List ℕ → Bool) → nat_lt v (count_seen sight) && list_any p (taken_at sight inner atom turn v) ≡ false
     nothing v p = by_item (nat_eq item v) refl
       where
-        by_item : (b : Bool) → nat_eq item v ≡ b → nat_lt v (count_seen sight) && list_any p (taken_at sight inner atom (shown_turn turn) v) ≡ false
-        by_item true same = ap (λ (b : Bool). b && list_any p (taken_at sight inner atom (shown_turn turn) v)) (never_true (nat_lt v (count_seen sight)) (λ less. let below : v < count_seen sight = ltb-true v (count_seen sight) less in let e : item ≡ v = eqb-true item v same in omega (arith, below, e, past)))
-        by_item false other = and_falsed (nat_lt v (count_seen sight)) _ (if_none (takes_item (place_seen sight).number (Some v) (shown_turn turn)) (needed_at sight inner atom v) p
-            (and_falsed (nat_eq turn.flow (place_seen sight).number) _ (ap (λ (o : Option ℕ). same_place o (Some v)) is ∙ other)))
+        by_item : (b : Bool) → nat_eq item v ≡ b → nat_lt v (count_seen sight) && list_any p (taken_at sight inner atom turn v) ≡ false
+        by_item true same = ap (λ (b : Bool). b && list_any p (taken_at sight inner atom turn v)) (never_true (nat_lt v (count_seen sight)) (λ less. let below : v < count_seen sight = ltb-true v (count_seen sight) less in let e : item ≡ v = eqb-true item v same in omega (arith, below, e, past)))
+        by_item false other = second_false (nat_lt v (count_seen sight)) _ (if_none (takes_item (place_seen sight).number (Some v) turn) (needed_at sight inner atom v) p
+            (second_false (nat_eq turn.flow (place_seen sight).number) _ (ap (λ (o : Option ℕ). same_place o (Some v)) is ∙ other)))
 
-pub turn_here : (sight : Sight) (atom : ℕ) (turn : CodeTurn) (item : ℕ) (s0 s : LinksValue) (d0 d : List ℕ) → turn.flow ≡ (place_seen sight).number → turn.item ≡ Some item
+pub turn_here : (sight : Sight) (atom : ℕ) (turn : Turn) (item : ℕ) (s0 s : LinksValue) (d0 d : List ℕ) → turn.flow ≡ (place_seen sight).number → turn.item ≡ Some item
     → ((inner : List Flow) → ShowsFlows sight.table.now inner → LinksBy sight (for_item item (needed_at sight inner atom item)) s0 d0 s d) → TurnSeen sight atom turn s0 d0 s d
-turn_here sight atom turn item s0 s d0 d same is one inner shows = links_as sight (for_item item (needed_at sight inner atom item)) (taken_at sight inner atom (shown_turn turn)) s0 s d0 d (one inner shows) (λ v. by_item v (nat_eq item v) refl)
+turn_here sight atom turn item s0 s d0 d same is one inner shows = links_as sight (for_item item (needed_at sight inner atom item)) (taken_at sight inner atom turn) s0 s d0 d (one inner shows) (λ v. by_item v (nat_eq item v) refl)
   where
-    by_item : (v : ℕ) (b : Bool) → nat_eq item v ≡ b → (if b then needed_at sight inner atom item else []) ≡ (if takes_item (place_seen sight).number (Some v) (shown_turn turn) then needed_at sight inner atom v else [])
+    by_item : (v : ℕ) (b : Bool) → nat_eq item v ≡ b → (if b then needed_at sight inner atom item else []) ≡ (if takes_item (place_seen sight).number (Some v) turn then needed_at sight inner atom v else [])
     by_item v true e = ap (needed_at sight inner atom) (eqb-true item v e)
         ∙ sym (ap (λ (b : Bool). if b then needed_at sight inner atom v else []) (true_both (nat_eq turn.flow (place_seen sight).number) (same_place turn.item (Some v)) (eq-eqb turn.flow (place_seen sight).number same) (ap (λ (o : Option ℕ). same_place o (Some v)) is ∙ e)))
-    by_item v false other = sym (ap (λ (b : Bool). if b then needed_at sight inner atom v else []) (and_falsed (nat_eq turn.flow (place_seen sight).number) _ (ap (λ (o : Option ℕ). same_place o (Some v)) is ∙ other)))
+    by_item v false other = sym (ap (λ (b : Bool). if b then needed_at sight inner atom v else []) (second_false (nat_eq turn.flow (place_seen sight).number) _ (ap (λ (o : Option ℕ). same_place o (Some v)) is ∙ other)))
 
 -- what the turns so far gave
-abbrev pub TurnsSeen : Sight → ℕ → LinksValue → List ℕ → LinksValue → List ℕ → List CodeTurn → Type 0
-TurnsSeen sight atom s0 d0 s d turns = (inner : List Flow) → ShowsFlows sight.table.now inner → LinksBy sight (passed_at sight inner atom (shown_turns turns)) s0 d0 s d
+abbrev pub TurnsSeen : Sight → ℕ → LinksValue → List ℕ → LinksValue → List ℕ → List Turn → Type 0
+TurnsSeen sight atom s0 d0 s d turns = (inner : List Flow) → ShowsFlows sight.table.now inner → LinksBy sight (passed_at sight inner atom turns) s0 d0 s d
 
-pub turns_start : (sight : Sight) (atom : ℕ) (s : LinksValue) (d : List ℕ) (turns : List CodeTurn) → TurnsSeen sight atom s d s d (take 0 turns)
-turns_start sight atom s d turns inner shows = links_none sight (passed_at sight inner atom (shown_turns (take 0 turns))) s d
-    (λ v p. if_none (passes_item (place_seen sight).number (Some v) (shown_turns (take 0 turns))) (needed_at sight inner atom v) p (ap (λ (ts : List CodeTurn). passes_item (place_seen sight).number (Some v) (shown_turns ts)) (take_none turns)))
+pub turns_start : (sight : Sight) (atom : ℕ) (s : LinksValue) (d : List ℕ) (turns : List Turn) → TurnsSeen sight atom s d s d (take 0 turns)
+turns_start sight atom s d turns inner shows = links_none sight (passed_at sight inner atom (take 0 turns)) s d
+    (λ v p. if_none (passes_item (place_seen sight).number (Some v) (take 0 turns)) (needed_at sight inner atom v) p (ap (λ (ts : List Turn). passes_item (place_seen sight).number (Some v) ts) (take_none turns)))
 
-passes_more : (flow v : ℕ) (turns : List CodeTurn) (turn : CodeTurn) → passes_item flow (Some v) (shown_turns (turns ++ turn ∷ [])) ≡ (passes_item flow (Some v) (shown_turns turns) || takes_item flow (Some v) (shown_turn turn))
-passes_more flow v [] turn = or_none (takes_item flow (Some v) (shown_turn turn))
-  where
-    or_none : (b : Bool) → b || false ≡ b
-    or_none true = refl
-    or_none false = refl
-passes_more flow v (t ∷ ts) turn = ap (λ (b : Bool). takes_item flow (Some v) (shown_turn t) || b) (passes_more flow v ts turn) ∙ or_chain (takes_item flow (Some v) (shown_turn t)) (passes_item flow (Some v) (shown_turns ts)) (takes_item flow (Some v) (shown_turn turn))
-  where
-    or_chain : (a b c : Bool) → a || (b || c) ≡ (a || b) || c
-    or_chain true b c = refl
-    or_chain false b c = refl
+passes_more : (flow v : ℕ) (turns : List Turn) (turn : Turn) → passes_item flow (Some v) ((turns ++ turn ∷ [])) ≡ (passes_item flow (Some v) turns || takes_item flow (Some v) turn)
+passes_more flow v [] turn = or_false (takes_item flow (Some v) turn)
+passes_more flow v (t ∷ ts) turn = ap (λ (b : Bool). takes_item flow (Some v) t || b) (passes_more flow v ts turn) ∙ or_chain (takes_item flow (Some v) t) (passes_item flow (Some v) ts) (takes_item flow (Some v) turn)
 
 if_both : (a b c : Bool) (xs : List (List ℕ)) (p : List ℕ → Bool) → c ≡ a || b → list_any p (if c then xs else []) ≡ (list_any p (if a then xs else []) || list_any p (if b then xs else []))
 if_both true true c xs p is = ap (λ (d : Bool). list_any p (if d then xs else [])) is ∙ twice (list_any p xs)
@@ -362,17 +318,17 @@ if_both true false c xs p is = ap (λ (d : Bool). list_any p (if d then xs else 
     or_false false = refl
 if_both false b c xs p is = ap (λ (d : Bool). list_any p (if d then xs else [])) is
 
-pub turns_more : (sight : Sight) (atom : ℕ) (s0 s1 s2 : LinksValue) (d0 d1 d2 : List ℕ) (turns : List CodeTurn) (i : ℕ) (turn : CodeTurn) → TurnsSeen sight atom s0 d0 s1 d1 (take i turns) → i < length turns → turn ≡ slice_index_or turns i turn
+pub turns_more : (sight : Sight) (atom : ℕ) (s0 s1 s2 : LinksValue) (d0 d1 d2 : List ℕ) (turns : List Turn) (i : ℕ) (turn : Turn) → TurnsSeen sight atom s0 d0 s1 d1 (take i turns) → i < length turns → turn ≡ slice_index_or turns i turn
     → TurnSeen sight atom turn s1 d1 s2 d2 → TurnsSeen sight atom s0 d0 s2 d2 (take (i + 1) turns)
 turns_more sight atom s0 s1 s2 d0 d1 d2 turns i turn before within is one inner shows =
-    links_then sight (passed_at sight inner atom (shown_turns (take i turns))) (taken_at sight inner atom (shown_turn turn)) (passed_at sight inner atom (shown_turns (take (i + 1) turns))) s0 s1 s2 d0 d1 d2 (before inner shows) (one inner shows)
-    (λ v p. if_both (passes_item (place_seen sight).number (Some v) (shown_turns (take i turns))) (takes_item (place_seen sight).number (Some v) (shown_turn turn)) (passes_item (place_seen sight).number (Some v) (shown_turns (take (i + 1) turns))) (needed_at sight inner atom v) p
-    (ap (λ (ts : List CodeTurn). passes_item (place_seen sight).number (Some v) (shown_turns ts)) (ap (λ (n : ℕ). take n turns) (add-one i) ∙ take_next turns i turn within is) ∙ passes_more (place_seen sight).number v (take i turns) turn))
+    links_then sight (passed_at sight inner atom (take i turns)) (taken_at sight inner atom turn) (passed_at sight inner atom (take (i + 1) turns)) s0 s1 s2 d0 d1 d2 (before inner shows) (one inner shows)
+    (λ v p. if_both (passes_item (place_seen sight).number (Some v) (take i turns)) (takes_item (place_seen sight).number (Some v) turn) (passes_item (place_seen sight).number (Some v) (take (i + 1) turns)) (needed_at sight inner atom v) p
+    (ap (λ (ts : List Turn). passes_item (place_seen sight).number (Some v) ts) (ap (λ (n : ℕ). take n turns) (add-one i) ∙ take_next turns i turn within is) ∙ passes_more (place_seen sight).number v (take i turns) turn))
 
-pub turns_all : (sight : Sight) (atom : ℕ) (s0 s : LinksValue) (d0 d : List ℕ) (turns : List CodeTurn) (i : ℕ) (way : List Turn) → TurnsSeen sight atom s0 d0 s d (take i turns) → length turns ≤ i → shown_turns turns ≡ way
+pub turns_all : (sight : Sight) (atom : ℕ) (s0 s : LinksValue) (d0 d : List ℕ) (turns : List Turn) (i : ℕ) (way : List Turn) → TurnsSeen sight atom s0 d0 s d (take i turns) → length turns ≤ i → turns ≡ way
     → (inner : List Flow) → ShowsFlows sight.table.now inner → LinksBy sight (passed_at sight inner atom way) s0 d0 s d
-turns_all sight atom s0 s d0 d turns i way seen whole is inner shows = links_as sight (passed_at sight inner atom (shown_turns (take i turns))) (passed_at sight inner atom way) s0 s d0 d (seen inner shows)
-    (λ v. ap (λ (w : List Turn). passed_at sight inner atom w v) (ap shown_turns (take_whole turns i whole) ∙ is))
+turns_all sight atom s0 s d0 d turns i way seen whole is inner shows = links_as sight (passed_at sight inner atom (take i turns)) (passed_at sight inner atom way) s0 s d0 d (seen inner shows)
+    (λ v. ap (λ (w : List Turn). passed_at sight inner atom w v) (take_whole turns i whole ∙ is))
 
 -- ---- all atoms
 
@@ -395,12 +351,8 @@ inferred_more sight s0 s1 s2 d0 d1 d2 atom before one inner shows =
     ∙ (any_append p (needed_below sight inner atom v) (flat_map (needs_of_atom (atoms_seen sight) inner (place_seen sight).number v) (if is_inside (atoms_seen sight) (place_seen sight).number v atom then atom ∷ [] else []))
     ∙ ap (λ (b : Bool). list_any p (needed_below sight inner atom v) || b) (last v p (is_inside (atoms_seen sight) (place_seen sight).number v atom)))))
   where
-    append_none : (xs : List (List ℕ)) → xs ++ [] ≡ xs
-    append_none [] = refl
-    append_none (x ∷ xs) = ap (λ (ys : List (List ℕ)). x ∷ ys) (append_none xs)
-
     last : (v : ℕ) (p : List ℕ → Bool) (b : Bool) → list_any p (flat_map (needs_of_atom (atoms_seen sight) inner (place_seen sight).number v) (if b then atom ∷ [] else [])) ≡ list_any p (if b then needed_at sight inner atom v else [])
-    last v p true = ap (list_any p) (append_none (needs_of_atom (atoms_seen sight) inner (place_seen sight).number v atom))
+    last v p true = ap (list_any p) (nothing_after (needs_of_atom (atoms_seen sight) inner (place_seen sight).number v atom))
     last v p false = refl
 
 pub inferred_all : (sight : Sight) (s0 s : LinksValue) (d0 d : List ℕ) (n : ℕ) → AtomsSeen sight s0 d0 s d n → n ≡ length sight.atoms.now → (inner : List Flow) → ShowsFlows sight.table.now inner
@@ -413,7 +365,7 @@ read_again [] i d within = absurd (omega arith)
 read_again (x ∷ xs) zero d within = refl
 read_again (x ∷ xs) (suc i) d within = read_again xs i d (omega arith)
 
-pub turns_next : (sight : Sight) (atom : ℕ) (s0 s1 s2 : LinksValue) (d0 d1 d2 : List ℕ) (turns : List CodeTurn) (i : ℕ) (other : CodeTurn) → TurnsSeen sight atom s0 d0 s1 d1 (take i turns) → i < length turns
+pub turns_next : (sight : Sight) (atom : ℕ) (s0 s1 s2 : LinksValue) (d0 d1 d2 : List ℕ) (turns : List Turn) (i : ℕ) (other : Turn) → TurnsSeen sight atom s0 d0 s1 d1 (take i turns) → i < length turns
     → TurnSeen sight atom (slice_index_or turns i other) s1 d1 s2 d2 → TurnsSeen sight atom s0 d0 s2 d2 (take (i + 1) turns)
 turns_next sight atom s0 s1 s2 d0 d1 d2 turns i other before within one =
     turns_more sight atom s0 s1 s2 d0 d1 d2 turns i (slice_index_or turns i other) before within (read_again turns i other within) one

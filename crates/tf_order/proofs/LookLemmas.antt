@@ -2,30 +2,32 @@
 use Rattle.std.proofs.Common.{◌≡◌, ℕ, zero, suc, ◌<◌, List, [], ◌∷◌, ◌++◌, length, filter, Bool, true, false, ◌&&◌, ◌||◌, Option, Some, None, refl, sym, ap, subst, ◌∙◌, inl, inr, arith, cond}
 use Rattle.std.specs.Prelude.{nat_eq, nat_lt, is_some, if◌then◌else◌}
 use Rattle.std.specs.List.{list_any, list_all}
-use Rattle.std.specs.Option.{option_or, option_map}
+use Rattle.std.specs.Option.{option_or}
 use Rattle.std.proofs.lemmas.Bool.{cases_lt, ltb-true, lt-ltb}
 use Rattle.tf_flow.specs.declared.nested.FlowKind.{FlowKind}
 use Rattle.tf_flow.specs.declared.nested.FlowKind.TheVariants as kind
 use Rattle.tf_flow.specs.Names.{first_some}
 use Rattle.tf_flow.specs.Rules.{is_graph}
-use Rattle.tf_model.specs.Numbers.{first_below, numbers_below, Pair, has_pair, pairs_below, reached}
-use Rattle.tf_model.specs.Outline.{FlowPlace}
+use Rattle.tf_numbers.specs.Numbers.{first_below, numbers_below}
+use Rattle.tf_numbers.specs.Pairs.{Pair, has_pair, pairs_below}
+use Rattle.tf_links.specs.Reach.{reached}
+use Rattle.tf_flow.specs.Outline.{FlowPlace}
 use Rattle.tf_model.specs.Before.{Flow}
 use Rattle.tf_model.specs.Linked.{needs, givers, is_only, is_inferred_by, is_inferred, is_explicit, explicit, is_linked, linked_pairs, item_order, standing_atoms}
-use Rattle.tf_model.specs.Compilation.{CompileRefusal, lesser, least, name_less, are_several, is_ambiguous, refuse_givers, refuse_symbol, ambiguity_at, ambiguity, cycle_of}
-use Rattle.tf_model.proofs.StepLemmas.{and_first, and_second, or_either}
-use Rattle.tf_model.proofs.PairLemmas.{pair_passes, passes_pair, true_first, true_second, true_both}
+use Rattle.tf_model.specs.Compilation.{CompileRefusal, lesser, least, name_less, are_several, is_ambiguous, refuse_givers, refuse_symbol, ambiguity_at, ambiguity, cycle_of, first_cycle}
+use Rattle.tf_numbers.proofs.TruthLemmas.{and_first, and_second, or_either, true_first, true_second, true_both, same_truth, neither_second, neither_first}
+use Rattle.tf_numbers.proofs.PairLemmas.{pair_passes, passes_pair}
 use Rattle.tf_order.specs.declared.arranged.Arranged.{Arranged}
 use Rattle.tf_order.specs.declared.sight.Sight.{Sight}
 use Rattle.tf_order.specs.Arranged.{comes_by, IsArranged, ShowsFlows}
 use Rattle.tf_links.specs.Bits.{has, room, words_for}
-use Rattle.tf_order.specs.Doubts.{cycle_through, first_cycle}
 use Rattle.tf_links.specs.Links.{leads, LinksValue, AreLinks, AreReached}
 use Rattle.tf_order.specs.Looked.{arranged_seen, refusal_seen}
 use Rattle.tf_order.specs.Sight.{atoms_seen, place_seen, count_seen, LinksBy}
-use Rattle.tf_links.proofs.NumberLemmas.{same_truth, first_passes, first_before, none_first}
+use Rattle.tf_numbers.proofs.BelowLemmas.{none_at, found_passes, first_before}
 use Rattle.tf_order.proofs.LinkingLemmas.{giver_below}
 use Rattle.tf_order.proofs.SightLemmas.{length_items}
+use Rattle.tf_numbers.proofs.OptionLemmas.{or_none}
 
 -- ---- a flow without links
 
@@ -115,15 +117,7 @@ graph_arranged sight flow graph same count links reach standing inner shows = re
 
 none_kept : (p : List ℕ → Bool) (xs : List (List ℕ)) → list_any p xs ≡ false → filter p xs ≡ []
 none_kept p [] off = refl
-none_kept p (x ∷ xs) off = ap (λ (b : Bool). cond b (x ∷ filter p xs) (filter p xs)) (left (p x) (list_any p xs) off) ∙ none_kept p xs (right (p x) (list_any p xs) off)
-  where
-    left : (a b : Bool) → a || b ≡ false → a ≡ false
-    left false b none = refl
-    left true b none = absurd (cc)
-
-    right : (a b : Bool) → a || b ≡ false → b ≡ false
-    right false b none = none
-    right true b none = absurd (cc)
+none_kept p (x ∷ xs) off = ap (λ (b : Bool). cond b (x ∷ filter p xs) (filter p xs)) (neither_first (p x) (list_any p xs) off) ∙ none_kept p xs (neither_second (p x) (list_any p xs) off)
 
 clear_item : (sight : Sight) (inner : List Flow) (v : ℕ) → list_any (is_ambiguous (atoms_seen sight) (place_seen sight) v) (needs (atoms_seen sight) inner (place_seen sight).number v) ≡ false → ambiguity_at (atoms_seen sight) inner (place_seen sight) v ≡ None
 clear_item sight inner v off = ap (λ (xs : List (List ℕ)). refuse_symbol (atoms_seen sight) (place_seen sight) v (least xs)) (none_kept (is_ambiguous (atoms_seen sight) (place_seen sight) v) (needs (atoms_seen sight) inner (place_seen sight).number v) off)
@@ -178,10 +172,6 @@ doubtful_item sight inner v on =
     ap (λ (o : Option (List ℕ)). is_some (refuse_symbol (atoms_seen sight) (place_seen sight) v o)) found.is
     ∙ several_refused (place_seen sight) found.symbol (givers (atoms_seen sight) (place_seen sight) v found.symbol) found.passes
 
-or_none : {X : Type 0} (o : Option X) → option_or o None ≡ o
-or_none None = refl
-or_none (Some x) = refl
-
 or_chain : {X : Type 0} (a b c : Option X) → option_or a (option_or b c) ≡ option_or (option_or a b) c
 or_chain None b c = refl
 or_chain (Some x) b c = refl
@@ -225,7 +215,7 @@ pub doubt_refused : (sight : Sight) (inner : List Flow) (old new : LinksValue) (
     → LinksBy sight (needs (atoms_seen sight) inner (place_seen sight).number) old doubts_old new doubts → first_below (room doubts) (has doubts) ≡ Some item → told ≡ ambiguity_at (atoms_seen sight) inner (place_seen sight) item → told ≡ refusal_seen sight inner
 doubt_refused sight inner old new doubts_old doubts item told graph none is first told_is =
     let on : nat_lt item (count_seen sight) && list_any (is_ambiguous (atoms_seen sight) (place_seen sight) item) (needs (atoms_seen sight) inner (place_seen sight).number item) ≡ true =
-    sym (doubt_told sight inner old new doubts_old doubts item none is) ∙ first_passes (room doubts) (has doubts) item first in
+    sym (doubt_told sight inner old new doubts_old doubts item none is) ∙ found_passes (room doubts) (has doubts) item first in
     let below : item < count_seen sight = ltb-true item (count_seen sight) (and_first (nat_lt item (count_seen sight)) _ on) in
     let some : is_some (ambiguity_at (atoms_seen sight) inner (place_seen sight) item) ≡ true = doubtful_item sight inner item (and_second (nat_lt item (count_seen sight)) _ on) in
     let whole : ambiguity (atoms_seen sight) inner (place_seen sight) ≡ ambiguity_at (atoms_seen sight) inner (place_seen sight) item =
@@ -239,11 +229,9 @@ pub cycle_refused : (sight : Sight) (inner : List Flow) (old new : LinksValue) (
 cycle_refused sight inner old new doubts_old doubts told graph none wide is nobody told_is =
     let clear : ambiguity (atoms_seen sight) inner (place_seen sight) ≡ None =
     none_given (ambiguity_at (atoms_seen sight) inner (place_seen sight)) (length (place_seen sight).items)
-    (λ k below. below_clear sight inner old new doubts_old doubts k none is (none_first (room doubts) (has doubts) nobody k (omega (arith, below, length_items sight, wide))) (omega (arith, below, length_items sight))) in
+    (λ k below. below_clear sight inner old new doubts_old doubts k none is (none_at (room doubts) (has doubts) k nobody (omega (arith, below, length_items sight, wide))) (omega (arith, below, length_items sight))) in
     told_is ∙ (ap (λ (n : ℕ). first_cycle (place_seen sight) n (linked_pairs (atoms_seen sight) inner (place_seen sight))) (sym (length_items sight))
-    ∙ (ap (λ (k : FlowKind). option_map (cycle_through (place_seen sight) (length (place_seen sight).items) (linked_pairs (atoms_seen sight) inner (place_seen sight)))
-    (first_below (length (place_seen sight).items) (λ v. has_pair (item_order k (length (place_seen sight).items) (linked_pairs (atoms_seen sight) inner (place_seen sight))) v v))) (sym graph)
-    ∙ sym (graph_refused sight inner (ap is_graph graph) ∙ ap (λ (o : Option CompileRefusal). option_or o (cycle_of (arranged_seen sight inner))) clear)))
+    ∙ sym (graph_refused sight inner (ap is_graph graph) ∙ ap (λ (o : Option CompileRefusal). option_or o (cycle_of (arranged_seen sight inner))) clear))
 
 pub graph_refusal : (sight : Sight) (inner : List Flow) (old new : LinksValue) (doubts_old doubts : List ℕ) (told : Option CompileRefusal) (o : Option ℕ) → first_below (room doubts) (has doubts) ≡ o → (place_seen sight).kind ≡ kind.Graph → ((k : ℕ) → has doubts_old k ≡ false) → length doubts ≡ words_for (count_seen sight)
     → LinksBy sight (needs (atoms_seen sight) inner (place_seen sight).number) old doubts_old new doubts

@@ -6,35 +6,21 @@ use Rattle.tf_flow.specs.declared.nested.Flow.{Flow as FlowValue}
 use Rattle.tf_flow.specs.declared.nested.Item.{Item}
 use Rattle.tf_flow.proofs.TreeLemmas.{tree_of-flow}
 use Rattle.tf_flow.specs.Tree.{Tree, Trees, task, flow, no_trees, tree, tree_of, item_tree, trees_of, Head}
-use Rattle.tf_model.specs.Outline.{Turn, Atom, Item as PlacedItem, FlowPlace, atoms_of, atoms_among, retry_atoms, enter, flows_of, flows_among, flow_place, flow_count, flows_among_count, atom_count, atoms_among_count, retry_count, retry_number, item_of, items_of, innermost_first, innermost_among}
+use Rattle.tf_flow.specs.Outline.{Atom, Item as PlacedItem, FlowPlace, atoms_of, atoms_among, retry_atoms, enter, flows_of, flows_among, flow_place, flow_count, flows_among_count, atom_count, atoms_among_count, retry_count, retry_number, item_of, items_of, innermost_first, innermost_among, name_of_atom}
+use Rattle.tf_flow.specs.declared.ways.Turn.{Turn}
 use Rattle.tf_flow.specs.Plan.{PlanValue, atoms, flows}
 use Rattle.tf_model.specs.Before.{way_at, way_in}
 use Rattle.tf_model.specs.Linked.{arranged}
-use Rattle.tf_model.specs.Laws.{name_of_atom, name_of_flow}
-use Rattle.tf_model.specs.Numbers.{numbers_below}
-use Rattle.tf_model.proofs.OutlineLemmas.{same_atoms, same_flows}
+use Rattle.tf_model.specs.Laws.{name_of_flow}
+use Rattle.tf_numbers.specs.Numbers.{numbers_below}
+use Rattle.tf_model.proofs.OutlineLemmas.{same_flows}
+use Rattle.tf_flow.proofs.OutlineLemmas.{same_atoms}
 use Rattle.tf_order.specs.declared.outline.AtomPlace.{AtomPlace}
 use Rattle.tf_order.specs.declared.outline.ItemPlace.{ItemPlace}
 use Rattle.tf_order.specs.declared.outline.Level.{Level}
-use Rattle.tf_order.specs.declared.outline.Turn.{Turn as CodeTurn}
-use Rattle.tf_links.proofs.BitLemmas.{ap2}
-use Rattle.tf_order.specs.Places.{shown_turn, shown_turns, shown_atom, shown_atoms, shown_level, shown_levels, shown_item, level_number, under, with_items, with_items_at}
-
-map_both : {X Y : Type 0} (f : X → Y) (xs ys : List X) → map f (xs ++ ys) ≡ map f xs ++ map f ys
-map_both f [] ys = refl
-map_both f (x ∷ xs) ys = ap (λ (zs : List _). f x ∷ zs) (map_both f xs ys)
-
-length_both : {X : Type 0} (xs ys : List X) → length (xs ++ ys) ≡ length xs + length ys
-length_both [] ys = omega arith
-length_both (x ∷ xs) ys = omega (arith, length_both xs ys)
-
-chain : {X : Type 0} (xs ys zs : List X) → (xs ++ ys) ++ zs ≡ xs ++ (ys ++ zs)
-chain {X} [] ys zs = refl
-chain {X} (x ∷ xs) ys zs = ap (λ (ws : List X). x ∷ ws) (chain xs ys zs)
-
-nothing_after : {X : Type 0} (xs : List X) → xs ++ [] ≡ xs
-nothing_after {X} [] = refl
-nothing_after {X} (x ∷ xs) = ap (λ (ws : List X). x ∷ ws) (nothing_after xs)
+use Rattle.tf_numbers.proofs.EquationLemmas.{ap2}
+use Rattle.tf_order.specs.Places.{shown_atom, shown_atoms, shown_level, shown_levels, shown_item, level_number, under, with_items, with_items_at}
+use Rattle.tf_numbers.proofs.ListLemmas.{nothing_after, map_append, length_both, append_chain, drop_first, drop_whole}
 
 -- ---- as many as are counted
 
@@ -90,12 +76,12 @@ more_flows n a t old new is =
 longer_way : (way : List Turn) (g i : ℕ) (xs : List Atom) → map (under way) (map (enter g i) xs) ≡ map (under (way ++ record { flow = g; item = Some i } ∷ [])) xs
 longer_way way g i [] = refl
 longer_way way g i (x ∷ xs) = ap2 (λ (w : List Turn) (ys : List Atom). record { way = w; part = x.part } ∷ ys)
-    (sym (chain way (record { flow = g; item = Some i } ∷ []) x.way)) (longer_way way g i xs)
+    (sym (append_chain way (record { flow = g; item = Some i } ∷ []) x.way)) (longer_way way g i xs)
 
 among_under : (way : List Turn) (g i n : ℕ) (t : Tree) (ts : Trees)
     → map (under way) (atoms_among g i n (tree t ts)) ≡ map (under (way ++ record { flow = g; item = Some i } ∷ [])) (atoms_of n t) ++ map (under way) (atoms_among g (suc i) (n + flow_count t) ts)
 among_under way g i n t ts =
-    map_both (under way) (map (enter g i) (atoms_of n t)) (atoms_among g (suc i) (n + flow_count t) ts)
+    map_append (under way) (map (enter g i) (atoms_of n t)) (atoms_among g (suc i) (n + flow_count t) ts)
     ∙ ap (λ (ys : List Atom). ys ++ map (under way) (atoms_among g (suc i) (n + flow_count t) ts)) (longer_way way g i (atoms_of n t))
 
 -- ---- the items of a flow, one after another
@@ -114,11 +100,6 @@ pub record Walked (way : List Turn) (g i : ℕ) (rest : List Item) (atoms : List
   pub items_so : map shown_item items ++ items_of (length levels) (length atoms) (trees rest) ≡ all_items
   pub room : g < length levels
 
-dropping : (xs : List Item) (i : ℕ) (d : Item) → i < length xs → drop i xs ≡ get_or xs i d ∷ drop (suc i) xs
-dropping [] i d below = absurd (omega arith)
-dropping (x ∷ xs) zero d below = refl
-dropping (x ∷ xs) (suc i) d below = dropping xs i d (omega arith)
-
 next_walked : (way : List Turn) (g i : ℕ) (first : Item) (rest : List Item) (atoms new_atoms : List AtomPlace) (levels new_levels : List Level) (inner new_inner : List ℕ) (items : List ItemPlace) (item : ItemPlace)
     (all_atoms : List Atom) (all_levels : List FlowPlace) (all_inner : List ℕ) (all_items : List PlacedItem)
     → Walked way g i (first ∷ rest) atoms levels inner items all_atoms all_levels all_inner all_items
@@ -136,22 +117,22 @@ next_walked way g i first rest atoms new_atoms levels new_levels inner new_inner
     record {
       atoms_so =
           ap2 (λ (xs : List Atom) (m : ℕ). xs ++ map (under way) (atoms_among g (suc i) m (trees rest))) atoms_are flows_more
-          ∙ (chain (shown_atoms atoms) (map (under (way ++ record { flow = g; item = Some i } ∷ [])) (atoms_of n t)) (map (under way) (atoms_among g (suc i) (n + flow_count t) (trees rest)))
+          ∙ (append_chain (shown_atoms atoms) (map (under (way ++ record { flow = g; item = Some i } ∷ [])) (atoms_of n t)) (map (under way) (atoms_among g (suc i) (n + flow_count t) (trees rest)))
           ∙ (ap (λ (ys : List Atom). shown_atoms atoms ++ ys) (sym (among_under way g i n t (trees rest)))
           ∙ is.atoms_so));
       levels_so =
           ap2 (λ (xs : List FlowPlace) (m : ℕ). xs ++ flows_among m (length new_atoms) (trees rest)) levels_are flows_more
           ∙ (ap (λ (b : ℕ). (shown_levels levels ++ flows_of n a t) ++ flows_among (n + flow_count t) b (trees rest)) atoms_more
-          ∙ (chain (shown_levels levels) (flows_of n a t) (flows_among (n + flow_count t) (a + atom_count t) (trees rest))
+          ∙ (append_chain (shown_levels levels) (flows_of n a t) (flows_among (n + flow_count t) (a + atom_count t) (trees rest))
           ∙ is.levels_so));
       inner_so =
           ap2 (λ (xs : List ℕ) (m : ℕ). xs ++ innermost_among m (trees rest)) inner_is flows_more
-          ∙ (chain inner (innermost_first n t) (innermost_among (n + flow_count t) (trees rest))
+          ∙ (append_chain inner (innermost_first n t) (innermost_among (n + flow_count t) (trees rest))
           ∙ is.inner_so);
       items_so =
           ap2 (λ (m b : ℕ). map shown_item (items ++ item ∷ []) ++ items_of m b (trees rest)) flows_more atoms_more
-          ∙ (ap (λ (xs : List PlacedItem). xs ++ items_of (n + flow_count t) (a + atom_count t) (trees rest)) (map_both shown_item items (item ∷ []) ∙ ap (λ (x : PlacedItem). map shown_item items ++ x ∷ []) item_is)
-          ∙ (chain (map shown_item items) (item_of n a t ∷ []) (items_of (n + flow_count t) (a + atom_count t) (trees rest))
+          ∙ (ap (λ (xs : List PlacedItem). xs ++ items_of (n + flow_count t) (a + atom_count t) (trees rest)) (map_append shown_item items (item ∷ []) ∙ ap (λ (x : PlacedItem). map shown_item items ++ x ∷ []) item_is)
+          ∙ (append_chain (map shown_item items) (item_of n a t ∷ []) (items_of (n + flow_count t) (a + atom_count t) (trees rest))
           ∙ is.items_so));
       room = omega (arith, is.room, flows_more);
     }
@@ -166,7 +147,7 @@ walk_more : (way : List Turn) (g i : ℕ) (whole : List Item) (first : Item) (at
     → new_inner ≡ inner ++ innermost_first (length levels) (item_tree first)
     → Walked way g (i + 1) (drop (i + 1) whole) new_atoms new_levels new_inner (items ++ item ∷ []) all_atoms all_levels all_inner all_items
 walk_more way g i whole first atoms new_atoms levels new_levels inner new_inner items item all_atoms all_levels all_inner all_items is below read item_is atoms_are levels_are inner_is =
-    let next : drop i whole ≡ first ∷ drop (suc i) whole = dropping whole i first below ∙ ap (λ (x : Item). x ∷ drop (suc i) whole) (sym read) in
+    let next : drop i whole ≡ first ∷ drop (suc i) whole = drop_first whole i first below ∙ ap (λ (x : Item). x ∷ drop (suc i) whole) (sym read) in
     rw (add-one i)
     (next_walked way g i first (drop (suc i) whole) atoms new_atoms levels new_levels inner new_inner items item all_atoms all_levels all_inner all_items
     (subst (λ (rest : List Item). Walked way g i rest atoms levels inner items all_atoms all_levels all_inner all_items) next is)
@@ -202,19 +183,13 @@ WalkedFlow way f g old_atoms old_levels old_inner i atoms levels inner items =
     (old_inner ++ innermost_among (suc g) (trees f.items.items.items))
     (items_of (suc g) (length old_atoms + retry_count f.retry) (trees f.items.items.items))
 
-dropping_all : (xs : List Item) (i : ℕ) → length xs ≤ i → drop i xs ≡ []
-dropping_all [] zero whole = refl
-dropping_all [] (suc i) whole = refl
-dropping_all (x ∷ xs) zero whole = absurd (omega arith)
-dropping_all (x ∷ xs) (suc i) whole = dropping_all xs i (omega arith)
-
 pub all_read : (read items : List Item) (i : ℕ) → read ≡ items → length read ≤ i → length items ≤ i
 all_read read items i same whole = subst (λ (xs : List Item). length xs ≤ i) same whole
 
 module _ (way : List Turn) (f : FlowValue) (g : ℕ) (old_atoms atoms : List AtomPlace) (old_levels levels : List Level) (old_inner inner : List ℕ) (items : List ItemPlace) (i : ℕ)
     (is : WalkedFlow way f g old_atoms old_levels old_inner i atoms levels inner items) (whole : length f.items.items.items ≤ i) (g_is : g ≡ length old_levels) where
   rest_none : drop i f.items.items.items ≡ []
-  rest_none = dropping_all f.items.items.items i whole
+  rest_none = drop_whole f.items.items.items i whole
 
   told_levels : shown_levels levels ≡ shown_levels old_levels ++ bare_place g (length old_atoms) (head_of f) ∷ flows_among (suc g) (length old_atoms + retry_count f.retry) (trees f.items.items.items)
   told_levels =
@@ -249,30 +224,30 @@ module _ (way : List Turn) (f : FlowValue) (g : ℕ) (old_atoms atoms : List Ato
       (sym (nothing_after inner)
       ∙ (ap (λ (xs : List Item). inner ++ innermost_among (length levels) (trees xs)) (sym rest_none)
       ∙ is.inner_so))
-      ∙ (chain old_inner (innermost_among (suc g) ts) (g ∷ [])
+      ∙ (append_chain old_inner (innermost_among (suc g) ts) (g ∷ [])
       ∙ (ap (λ (t : Tree). old_inner ++ innermost_first g t) (sym (tree_of-flow f))
       ∙ ap (λ (n : ℕ). old_inner ++ innermost_first n (tree_of f)) g_is)))
 
 -- the step with what the code has: a longer way, and the items as they are read
-pub walk_next : (turns more : List CodeTurn) (f : FlowValue) (g i : ℕ) (first : Item) (read : List Item) (old_atoms atoms new_atoms : List AtomPlace) (old_levels levels new_levels : List Level) (old_inner inner new_inner : List ℕ) (items new_items : List ItemPlace) (item : ItemPlace)
-    → WalkedFlow (shown_turns turns) f g old_atoms old_levels old_inner i atoms levels inner items
+pub walk_next : (turns more : List Turn) (f : FlowValue) (g i : ℕ) (first : Item) (read : List Item) (old_atoms atoms new_atoms : List AtomPlace) (old_levels levels new_levels : List Level) (old_inner inner new_inner : List ℕ) (items new_items : List ItemPlace) (item : ItemPlace)
+    → WalkedFlow turns f g old_atoms old_levels old_inner i atoms levels inner items
     → read ≡ f.items.items.items → i < length read → first ≡ get_or read i first
     → more ≡ turns ++ record { flow = g; item = Some i } ∷ []
     → shown_item item ≡ item_of (length levels) (length atoms) (item_tree first)
-    → shown_atoms new_atoms ≡ shown_atoms atoms ++ map (under (shown_turns more)) (atoms_of (length levels) (item_tree first))
+    → shown_atoms new_atoms ≡ shown_atoms atoms ++ map (under more) (atoms_of (length levels) (item_tree first))
     → shown_levels new_levels ≡ shown_levels levels ++ flows_of (length levels) (length atoms) (item_tree first)
     → new_inner ≡ inner ++ innermost_first (length levels) (item_tree first)
     → new_items ≡ items ++ item ∷ []
-    → WalkedFlow (shown_turns turns) f g old_atoms old_levels old_inner (i + 1) new_atoms new_levels new_inner new_items
+    → WalkedFlow turns f g old_atoms old_levels old_inner (i + 1) new_atoms new_levels new_inner new_items
 walk_next turns more f g i first read old_atoms atoms new_atoms old_levels levels new_levels old_inner inner new_inner items new_items item is whole below read_is longer item_is atoms_are levels_are inner_is items_are =
-    subst (λ (its : List ItemPlace). WalkedFlow (shown_turns turns) f g old_atoms old_levels old_inner (i + 1) new_atoms new_levels new_inner its) (sym items_are)
-    (walk_more (shown_turns turns) g i f.items.items.items first atoms new_atoms levels new_levels inner new_inner items item
-    (shown_atoms old_atoms ++ map (under (shown_turns turns)) (atoms_of g (tree_of f)))
+    subst (λ (its : List ItemPlace). WalkedFlow turns f g old_atoms old_levels old_inner (i + 1) new_atoms new_levels new_inner its) (sym items_are)
+    (walk_more turns g i f.items.items.items first atoms new_atoms levels new_levels inner new_inner items item
+    (shown_atoms old_atoms ++ map (under turns) (atoms_of g (tree_of f)))
     (shown_levels old_levels ++ bare_place g (length old_atoms) (head_of f) ∷ flows_among (suc g) (length old_atoms + retry_count f.retry) (trees f.items.items.items))
     (old_inner ++ innermost_among (suc g) (trees f.items.items.items))
     (items_of (suc g) (length old_atoms + retry_count f.retry) (trees f.items.items.items))
     is (rw (sym whole) below) (read_is ∙ ap (λ (xs : List Item). get_or xs i first) whole) item_is
-    (atoms_are ∙ ap (λ (w : List Turn). shown_atoms atoms ++ map (under w) (atoms_of (length levels) (item_tree first))) (ap shown_turns longer ∙ map_both shown_turn turns (record { flow = g; item = Some i } ∷ [])))
+    (atoms_are ∙ ap (λ (w : List Turn). shown_atoms atoms ++ map (under w) (atoms_of (length levels) (item_tree first))) longer)
     levels_are inner_is)
 
 -- ---- the whole plan
@@ -341,7 +316,7 @@ mutual
   numbered_among : (ts : Trees) (n a : ℕ) → map place_number (flows_among n a ts) ≡ numbers_from n (flows_among_count ts)
   numbered_among no_trees n a = refl
   numbered_among (tree first others) n a =
-      map_both place_number (flows_of n a first) (flows_among (n + flow_count first) (a + atom_count first) others)
+      map_append place_number (flows_of n a first) (flows_among (n + flow_count first) (a + atom_count first) others)
       ∙ (ap2 ◌++◌ (numbered first n a) (numbered_among others (n + flow_count first) (a + atom_count first))
       ∙ sym (numbers_both n (flow_count first) (flows_among_count others)))
 

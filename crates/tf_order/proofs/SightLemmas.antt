@@ -7,14 +7,15 @@ use Rattle.std.proofs.lemmas.List.{length-map}
 use Rattle.tf_flow.specs.declared.atoms.Bind.{Bind}
 use Rattle.tf_flow.specs.Names.{same_name, is_among}
 use Rattle.tf_flow.specs.Rules.{bind_symbols}
-use Rattle.tf_model.specs.Numbers.{any_below, which_below, has_number, has_pair, reached}
-use Rattle.tf_model.specs.Outline.{Turn}
+use Rattle.tf_numbers.specs.Numbers.{any_below, which_below, has_number}
+use Rattle.tf_numbers.specs.Pairs.{has_pair}
+use Rattle.tf_links.specs.Reach.{reached}
+use Rattle.tf_flow.specs.declared.ways.Turn.{Turn}
 use Rattle.tf_model.specs.Before.{Flow, takes_item, same_place, passes_item, way_before, way_at}
 use Rattle.tf_model.specs.Linked.{provides_at, is_inside, serves_inside, is_unserved, gives_inside, item_provides, retry_provides, explicit, reaches_with, is_served, other_provides, givers}
-use Rattle.tf_model.proofs.StepLemmas.{and_first, and_second, or_either}
-use Rattle.tf_model.proofs.PairLemmas.{which_passes, passes_which, true_first, true_second, true_both}
+use Rattle.tf_numbers.proofs.TruthLemmas.{and_first, and_second, or_either, true_first, true_second, true_both, same_truth, never_true, or_chain, or_false, and_true, and_false, second_false, or_nothing, neither, neither_second, neither_first, or_spread, and_spread}
+use Rattle.tf_numbers.proofs.PairLemmas.{which_passes, passes_which}
 use Rattle.tf_order.specs.declared.outline.AtomPlace.{AtomPlace}
-use Rattle.tf_order.specs.declared.outline.Turn.{Turn as CodeTurn}
 use Rattle.tf_order.specs.declared.sight.Sight.{Sight}
 use Rattle.tf_order.specs.Arranged.{ShowsFlows}
 use Rattle.tf_links.specs.Bits.{has, room, words_for}
@@ -22,9 +23,8 @@ use Rattle.tf_order.specs.Index.{told}
 use Rattle.tf_order.specs.Marks.{marks_turn, marks, serves_in, leads_to_item, is_other}
 use Rattle.tf_order.specs.Places.{shown_atoms, shown_item}
 use Rattle.tf_order.specs.Sight.{atoms_seen, place_seen, count_seen, HasProviders, HasReach}
-use Rattle.tf_order.specs.Turns.{shown_turn, shown_turns}
-use Rattle.tf_links.proofs.NumberLemmas.{same_truth, never_true, not_both, any_told, any_from, which_same, which_more}
-use Rattle.tf_links.proofs.BitLemmas.{ap2}
+use Rattle.tf_numbers.proofs.BelowLemmas.{any_at, any_of, which_same, which_more}
+use Rattle.tf_numbers.proofs.EquationLemmas.{ap2}
 use Rattle.tf_links.proofs.StandingLemmas.{listed_within, taking_next, taking_none, taking_all}
 
 -- ---- an atom by its number
@@ -46,8 +46,8 @@ provider_within sight symbol xs i providers is within =
 -- one passes that does another test too
 pub any_which : (n : ℕ) (p q r : ℕ → Bool) → ((b : ℕ) → r b ≡ (p b && q b)) → any_below n r ≡ list_any p (which_below n q)
 any_which n p q r each = same_truth (any_below n r) (list_any p (which_below n q))
-    (λ is. let found = any_told n r is in passes_which n q p found.0 found.1 (and_second (p found.0) (q found.0) (sym (each found.0) ∙ found.2)) (and_first (p found.0) (q found.0) (sym (each found.0) ∙ found.2)))
-    (λ is. let found = which_passes n q p is in any_from n r found.number found.below (each found.number ∙ true_both (p found.number) (q found.number) found.passes found.tested))
+    (λ is. let found = any_at n r is in let both = sym (each found.number) ∙ found.passes in passes_which n q p found.number found.below (and_second (p found.number) (q found.number) both) (and_first (p found.number) (q found.number) both))
+    (λ is. let found = which_passes n q p is in any_of n r found.number found.below (each found.number ∙ true_both (p found.number) (q found.number) found.passes found.tested))
 
 filter_one : (p : ℕ → Bool) (n : ℕ) (q : Bool) → filter p (if q then n ∷ [] else []) ≡ (if p n && q then n ∷ [] else [])
 filter_one p n false = by_test (p n)
@@ -76,24 +76,16 @@ filter_which (suc n) p q r each = filter_both p (which_below n q) (if q n then n
     ∙ ap2 (λ (xs ys : List ℕ). xs ++ ys) (filter_which n p q r each) (filter_one p n (q n) ∙ ap (λ (b : Bool). if b then n ∷ [] else []) (sym (each n)))
 
 any_more : (p : ℕ → Bool) (xs : List ℕ) (x : ℕ) → list_any p (xs ++ x ∷ []) ≡ (list_any p xs || p x)
-any_more p [] x = or_none (p x)
-  where
-    or_none : (b : Bool) → b || false ≡ b
-    or_none true = refl
-    or_none false = refl
+any_more p [] x = or_false (p x)
 any_more p (y ∷ ys) x = ap (λ (b : Bool). p y || b) (any_more p ys x) ∙ or_chain (p y) (list_any p ys) (p x)
-  where
-    or_chain : (a b c : Bool) → a || (b || c) ≡ (a || b) || c
-    or_chain true b c = refl
-    or_chain false b c = refl
 
 any_next : (p : ℕ → Bool) (xs : List ℕ) (i : ℕ) → i < length xs → list_any p (take (i + 1) xs) ≡ (list_any p (take i xs) || p (slice_index_or xs i 0))
 any_next p xs i within = ap (list_any p) (ap (λ (n : ℕ). take n xs) (add-one i) ∙ taking_next xs i within) ∙ any_more p (take i xs) (slice_index_or xs i 0)
 
-any_at : (p : ℕ → Bool) (xs : List ℕ) (i : ℕ) → i < length xs → p (slice_index_or xs i 0) ≡ true → list_any p xs ≡ true
-any_at p [] i within is = absurd (omega arith)
-any_at p (x ∷ xs) zero within is = true_first (p x) (list_any p xs) is
-any_at p (x ∷ xs) (suc i) within is = true_second (p x) (list_any p xs) (any_at p xs i (omega arith) is)
+any_there : (p : ℕ → Bool) (xs : List ℕ) (i : ℕ) → i < length xs → p (slice_index_or xs i 0) ≡ true → list_any p xs ≡ true
+any_there p [] i within is = absurd (omega arith)
+any_there p (x ∷ xs) zero within is = true_first (p x) (list_any p xs) is
+any_there p (x ∷ xs) (suc i) within is = true_second (p x) (list_any p xs) (any_there p xs i (omega arith) is)
 
 -- ---- an atom that is served
 
@@ -118,16 +110,8 @@ served_by sight inner item atom symbol xs providers is =
     ∙ ap (list_any (serves_in (atoms_seen sight) inner (place_seen sight).number item atom)) (sym (is ∙ providers symbol))))
   where
     swap : (a b c : Bool) → a && (b && c) ≡ (a && c) && b
-    swap true true c = right c
-      where
-        right : (c : Bool) → c ≡ c && true
-        right true = refl
-        right false = refl
-    swap true false c = left c
-      where
-        left : (c : Bool) → false ≡ c && false
-        left true = refl
-        left false = refl
+    swap true true c = sym (and_true c)
+    swap true false c = sym (and_false c)
     swap false b c = refl
 
     length_shown : (atoms : List AtomPlace) → length (shown_atoms atoms) ≡ length atoms
@@ -138,7 +122,7 @@ pub unserved_not : (sight : Sight) (item atom : ℕ) (symbol : List ℕ) (xs : L
     → ((inner : List Flow) → ShowsFlows sight.table.now inner → true ≡ serves_in (atoms_seen sight) inner (place_seen sight).number item atom (slice_index_or xs i 0)) → (inner : List Flow) → ShowsFlows sight.table.now inner
     → false ≡ is_unserved (atoms_seen sight) inner (place_seen sight).number item atom symbol
 unserved_not sight item atom symbol xs i providers is within on inner shows =
-    sym (served_by sight inner item atom symbol xs providers is ∙ ap not (any_at (serves_in (atoms_seen sight) inner (place_seen sight).number item atom) xs i within (sym (on inner shows))))
+    sym (served_by sight inner item atom symbol xs providers is ∙ ap not (any_there (serves_in (atoms_seen sight) inner (place_seen sight).number item atom) xs i within (sym (on inner shows))))
 
 pub unserved_all : (sight : Sight) (item atom : ℕ) (symbol : List ℕ) (xs : List ℕ) (i : ℕ) → HasProviders sight → xs ≡ told sight.providers.now symbol → NoneServes sight item atom (take i xs) → length xs ≤ i
     → (inner : List Flow) → ShowsFlows sight.table.now inner → true ≡ is_unserved (atoms_seen sight) inner (place_seen sight).number item atom symbol
@@ -148,90 +132,73 @@ unserved_all sight item atom symbol xs i providers is none whole inner shows =
 
 -- ---- the items that ways lead through
 
-or_falsed : (a b : Bool) → b ≡ false → a ≡ a || b
-or_falsed true b off = refl
-or_falsed false b off = sym off
+pub mark_other : (set : List ℕ) (turn : Turn) (flow count : ℕ) → turn.flow ≢ flow → (u : ℕ) → has set u ≡ (has set u || marks_turn flow count turn u)
+mark_other set turn flow count differ u = or_nothing (has set u) _ (second_false (nat_lt u count) _ (ap (λ (b : Bool). b && same_place turn.item (Some u)) (never_true (nat_eq turn.flow flow) (λ same. differ (eqb-true turn.flow flow same)))))
 
-and_falsed : (a b : Bool) → b ≡ false → a && b ≡ false
-and_falsed true b off = off
-and_falsed false b off = refl
+pub mark_retry : (set : List ℕ) (turn : Turn) (flow count : ℕ) → turn.item ≡ None → (u : ℕ) → has set u ≡ (has set u || marks_turn flow count turn u)
+mark_retry set turn flow count none u = or_nothing (has set u) _ (second_false (nat_lt u count) _ (second_false (nat_eq turn.flow flow) _ (ap (λ (o : Option ℕ). same_place o (Some u)) none)))
 
-pub mark_other : (set : List ℕ) (turn : CodeTurn) (flow count : ℕ) → turn.flow ≢ flow → (u : ℕ) → has set u ≡ (has set u || marks_turn flow count (shown_turn turn) u)
-mark_other set turn flow count differ u = or_falsed (has set u) _ (and_falsed (nat_lt u count) _ (ap (λ (b : Bool). b && same_place turn.item (Some u)) (never_true (nat_eq turn.flow flow) (λ same. differ (eqb-true turn.flow flow same)))))
-
-pub mark_retry : (set : List ℕ) (turn : CodeTurn) (flow count : ℕ) → turn.item ≡ None → (u : ℕ) → has set u ≡ (has set u || marks_turn flow count (shown_turn turn) u)
-mark_retry set turn flow count none u = or_falsed (has set u) _ (and_falsed (nat_lt u count) _ (and_falsed (nat_eq turn.flow flow) _ (ap (λ (o : Option ℕ). same_place o (Some u)) none)))
-
-pub mark_past : (set : List ℕ) (turn : CodeTurn) (flow count item : ℕ) → turn.item ≡ Some item → count ≤ item → (u : ℕ) → has set u ≡ (has set u || marks_turn flow count (shown_turn turn) u)
-mark_past set turn flow count item is past u = or_falsed (has set u) _ (by_item (nat_eq item u) refl)
+pub mark_past : (set : List ℕ) (turn : Turn) (flow count item : ℕ) → turn.item ≡ Some item → count ≤ item → (u : ℕ) → has set u ≡ (has set u || marks_turn flow count turn u)
+mark_past set turn flow count item is past u = or_nothing (has set u) _ (by_item (nat_eq item u) refl)
   where
-    by_item : (b : Bool) → nat_eq item u ≡ b → marks_turn flow count (shown_turn turn) u ≡ false
+    by_item : (b : Bool) → nat_eq item u ≡ b → marks_turn flow count turn u ≡ false
     by_item true same = ap (λ (b : Bool). b && (nat_eq turn.flow flow && same_place turn.item (Some u))) (never_true (nat_lt u count) (λ less. let below : u < count = ltb-true u count less in let e : item ≡ u = eqb-true item u same in omega (arith, below, e, past)))
-    by_item false other = and_falsed (nat_lt u count) _ (and_falsed (nat_eq turn.flow flow) _ (ap (λ (o : Option ℕ). same_place o (Some u)) is ∙ other))
+    by_item false other = second_false (nat_lt u count) _ (second_false (nat_eq turn.flow flow) _ (ap (λ (o : Option ℕ). same_place o (Some u)) is ∙ other))
 
-pub mark_here : (set new : List ℕ) (turn : CodeTurn) (flow count item : ℕ) → turn.flow ≡ flow → turn.item ≡ Some item → item < count → ((k : ℕ) → has new k ≡ (nat_eq item k || has set k)) → (u : ℕ) → has new u ≡ (has set u || marks_turn flow count (shown_turn turn) u)
+pub mark_here : (set new : List ℕ) (turn : Turn) (flow count item : ℕ) → turn.flow ≡ flow → turn.item ≡ Some item → item < count → ((k : ℕ) → has new k ≡ (nat_eq item k || has set k)) → (u : ℕ) → has new u ≡ (has set u || marks_turn flow count turn u)
 mark_here set new turn flow count item same is below put u = put u ∙ by_item (nat_eq item u) refl
   where
     or_true : (a : Bool) → true ≡ a || true
     or_true true = refl
     or_true false = refl
 
-    by_item : (b : Bool) → nat_eq item u ≡ b → (b || has set u) ≡ (has set u || marks_turn flow count (shown_turn turn) u)
+    by_item : (b : Bool) → nat_eq item u ≡ b → (b || has set u) ≡ (has set u || marks_turn flow count turn u)
     by_item true e = let equal : item ≡ u = eqb-true item u e in or_true (has set u) ∙ ap (λ (b : Bool). has set u || b)
         (sym (true_both (nat_lt u count) _ (lt-ltb u count (omega (arith, equal, below)))
         (true_both (nat_eq turn.flow flow) (same_place turn.item (Some u)) (eq-eqb turn.flow flow same) (ap (λ (o : Option ℕ). same_place o (Some u)) is ∙ e))))
-    by_item false other = or_falsed (has set u) _ (and_falsed (nat_lt u count) _ (and_falsed (nat_eq turn.flow flow) _ (ap (λ (o : Option ℕ). same_place o (Some u)) is ∙ other)))
+    by_item false other = or_nothing (has set u) _ (second_false (nat_lt u count) _ (second_false (nat_eq turn.flow flow) _ (ap (λ (o : Option ℕ). same_place o (Some u)) is ∙ other)))
 
 -- the items of the turns so far
-pub record MarkedBy (old set : List ℕ) (flow count : ℕ) (turns : List CodeTurn) : Type 0 where
+pub record MarkedBy (old set : List ℕ) (flow count : ℕ) (turns : List Turn) : Type 0 where
   pub width : length set ≡ words_for count
-  pub told : (u : ℕ) → has set u ≡ (has old u || marks flow count (shown_turns turns) u)
+  pub told : (u : ℕ) → has set u ≡ (has old u || marks flow count turns u)
 
-pub marks_start : (old : List ℕ) (flow count : ℕ) (way : List CodeTurn) → length old ≡ words_for count → MarkedBy old old flow count (take 0 way)
-marks_start old flow count way wide = record { width = wide; told = λ u. or_falsed (has old u) _ (and_falsed (nat_lt u count) _ (none way u)) }
+pub marks_start : (old : List ℕ) (flow count : ℕ) (way : List Turn) → length old ≡ words_for count → MarkedBy old old flow count (take 0 way)
+marks_start old flow count way wide = record { width = wide; told = λ u. or_nothing (has old u) _ (second_false (nat_lt u count) _ (none way u)) }
   where
-    none : (way : List CodeTurn) (u : ℕ) → passes_item flow (Some u) (shown_turns (take 0 way)) ≡ false
+    none : (way : List Turn) (u : ℕ) → passes_item flow (Some u) (take 0 way) ≡ false
     none [] u = refl
     none (x ∷ xs) u = refl
 
-passes_next : (flow u : ℕ) (way : List CodeTurn) (i : ℕ) (turn : CodeTurn) → i < length way → turn ≡ slice_index_or way i turn
-    → passes_item flow (Some u) (shown_turns (take (suc i) way)) ≡ (passes_item flow (Some u) (shown_turns (take i way)) || takes_item flow (Some u) (shown_turn turn))
+passes_next : (flow u : ℕ) (way : List Turn) (i : ℕ) (turn : Turn) → i < length way → turn ≡ slice_index_or way i turn
+    → passes_item flow (Some u) (take (suc i) way) ≡ (passes_item flow (Some u) (take i way) || takes_item flow (Some u) turn)
 passes_next flow u [] i turn within is = absurd (omega arith)
-passes_next flow u (x ∷ xs) zero turn within is = ap (λ (t : CodeTurn). takes_item flow (Some u) (shown_turn t) || passes_item flow (Some u) (shown_turns (take 0 xs))) (sym is) ∙ last (takes_item flow (Some u) (shown_turn turn)) xs
+passes_next flow u (x ∷ xs) zero turn within is = ap (λ (t : Turn). takes_item flow (Some u) t || passes_item flow (Some u) (take 0 xs)) (sym is) ∙ last (takes_item flow (Some u) turn) xs
   where
-    last : (b : Bool) (ys : List CodeTurn) → b || passes_item flow (Some u) (shown_turns (take 0 ys)) ≡ b
+    last : (b : Bool) (ys : List Turn) → b || passes_item flow (Some u) (take 0 ys) ≡ b
     last true ys = refl
     last false [] = refl
     last false (y ∷ ys) = refl
-passes_next flow u (x ∷ xs) (suc i) turn within is = ap (λ (b : Bool). takes_item flow (Some u) (shown_turn x) || b) (passes_next flow u xs i turn (omega arith) is)
-    ∙ or_chain (takes_item flow (Some u) (shown_turn x)) (passes_item flow (Some u) (shown_turns (take i xs))) (takes_item flow (Some u) (shown_turn turn))
-  where
-    or_chain : (a b c : Bool) → a || (b || c) ≡ (a || b) || c
-    or_chain true b c = refl
-    or_chain false b c = refl
+passes_next flow u (x ∷ xs) (suc i) turn within is = ap (λ (b : Bool). takes_item flow (Some u) x || b) (passes_next flow u xs i turn (omega arith) is)
+    ∙ or_chain (takes_item flow (Some u) x) (passes_item flow (Some u) (take i xs)) (takes_item flow (Some u) turn)
 
-pub marks_more : (old set new : List ℕ) (flow count : ℕ) (way : List CodeTurn) (i : ℕ) (turn : CodeTurn) → MarkedBy old set flow count (take i way) → i < length way → turn ≡ slice_index_or way i turn → length new ≡ words_for count
-    → ((u : ℕ) → has new u ≡ (has set u || marks_turn flow count (shown_turn turn) u)) → MarkedBy old new flow count (take (i + 1) way)
+pub marks_more : (old set new : List ℕ) (flow count : ℕ) (way : List Turn) (i : ℕ) (turn : Turn) → MarkedBy old set flow count (take i way) → i < length way → turn ≡ slice_index_or way i turn → length new ≡ words_for count
+    → ((u : ℕ) → has new u ≡ (has set u || marks_turn flow count turn u)) → MarkedBy old new flow count (take (i + 1) way)
 marks_more old set new flow count way i turn before within is wide put = record {
   width = wide;
-  told = λ u. put u ∙ (ap (λ (b : Bool). b || marks_turn flow count (shown_turn turn) u) (before.told u)
-      ∙ (spread (has old u) (nat_lt u count) (passes_item flow (Some u) (shown_turns (take i way))) (takes_item flow (Some u) (shown_turn turn))
-      ∙ ap (λ (b : Bool). has old u || (nat_lt u count && b)) (sym (ap (λ (n : ℕ). passes_item flow (Some u) (shown_turns (take n way))) (add-one i) ∙ passes_next flow u way i turn within is))));
+  told = λ u. put u ∙ (ap (λ (b : Bool). b || marks_turn flow count turn u) (before.told u)
+      ∙ (or_spread (has old u) (nat_lt u count) (passes_item flow (Some u) (take i way)) (takes_item flow (Some u) turn)
+      ∙ ap (λ (b : Bool). has old u || (nat_lt u count && b)) (sym (ap (λ (n : ℕ). passes_item flow (Some u) (take n way)) (add-one i) ∙ passes_next flow u way i turn within is))));
 }
-  where
-    spread : (a b c d : Bool) → (a || (b && c)) || (b && d) ≡ a || (b && (c || d))
-    spread true b c d = refl
-    spread false true c d = refl
-    spread false false c d = refl
 
-pub marks_all : (old set : List ℕ) (flow count : ℕ) (way : List CodeTurn) (i : ℕ) → MarkedBy old set flow count (take i way) → length way ≤ i → (u : ℕ) → has set u ≡ (has old u || marks flow count (shown_turns way) u)
-marks_all old set flow count way i is whole u = is.told u ∙ ap (λ (ts : List CodeTurn). has old u || marks flow count (shown_turns ts) u) (whole_taken way i whole)
+pub marks_all : (old set : List ℕ) (flow count : ℕ) (way : List Turn) (i : ℕ) → MarkedBy old set flow count (take i way) → length way ≤ i → (u : ℕ) → has set u ≡ (has old u || marks flow count way u)
+marks_all old set flow count way i is whole u = is.told u ∙ ap (λ (ts : List Turn). has old u || marks flow count ts u) (whole_taken way i whole)
   where
-    whole_taken : (ts : List CodeTurn) (i : ℕ) → length ts ≤ i → take i ts ≡ ts
+    whole_taken : (ts : List Turn) (i : ℕ) → length ts ≤ i → take i ts ≡ ts
     whole_taken [] zero past = refl
     whole_taken [] (suc i) past = refl
     whole_taken (t ∷ ts) zero past = absurd (omega arith)
-    whole_taken (t ∷ ts) (suc i) past = ap (λ (us : List CodeTurn). t ∷ us) (whole_taken ts i (omega arith))
+    whole_taken (t ∷ ts) (suc i) past = ap (λ (us : List Turn). t ∷ us) (whole_taken ts i (omega arith))
 
 -- ---- the items that provide
 
@@ -245,20 +212,16 @@ pub record ItemsOf (sight : Sight) (set atoms : List ℕ) : Type 0 where
   pub told : (u : ℕ) → has set u ≡ (nat_lt u (count_seen sight) && list_any (is_inside (atoms_seen sight) (place_seen sight).number u) atoms)
 
 pub marked_start : (sight : Sight) (set xs : List ℕ) → length set ≡ words_for (count_seen sight) → ((u : ℕ) → has set u ≡ false) → ItemsOf sight set (take 0 xs)
-marked_start sight set xs wide none = record { width = wide; told = λ u. none u ∙ sym (and_falsed (nat_lt u (count_seen sight)) _ (ap (list_any (is_inside (atoms_seen sight) (place_seen sight).number u)) (taking_none xs))) }
+marked_start sight set xs wide none = record { width = wide; told = λ u. none u ∙ sym (second_false (nat_lt u (count_seen sight)) _ (ap (list_any (is_inside (atoms_seen sight) (place_seen sight).number u)) (taking_none xs))) }
 
 pub marked_more : (sight : Sight) (set new xs : List ℕ) (i : ℕ) (way : List Turn) → ItemsOf sight set (take i xs) → i < length xs → way ≡ way_at (atoms_seen sight) (slice_index_or xs i 0) → length new ≡ words_for (count_seen sight)
     → ((u : ℕ) → has new u ≡ (has set u || marks (place_seen sight).number (count_seen sight) way u)) → ItemsOf sight new (take (i + 1) xs)
 marked_more sight set new xs i way before within is wide put = record {
   width = wide;
   told = λ u. put u ∙ (ap2 (λ (a b : Bool). a || b) (before.told u) (ap (λ (w : List Turn). marks (place_seen sight).number (count_seen sight) w u) is)
-      ∙ (join_both (nat_lt u (count_seen sight)) (list_any (is_inside (atoms_seen sight) (place_seen sight).number u) (take i xs)) (is_inside (atoms_seen sight) (place_seen sight).number u (slice_index_or xs i 0))
+      ∙ (and_spread (nat_lt u (count_seen sight)) (list_any (is_inside (atoms_seen sight) (place_seen sight).number u) (take i xs)) (is_inside (atoms_seen sight) (place_seen sight).number u (slice_index_or xs i 0))
       ∙ ap (λ (b : Bool). nat_lt u (count_seen sight) && b) (sym (any_next (is_inside (atoms_seen sight) (place_seen sight).number u) xs i within))));
 }
-  where
-    join_both : (a b c : Bool) → (a && b) || (a && c) ≡ a && (b || c)
-    join_both true b c = refl
-    join_both false b c = refl
 
 pub length_seen : (atoms : List AtomPlace) → length (shown_atoms atoms) ≡ length atoms
 length_seen [] = refl
@@ -320,22 +283,11 @@ pub bound_start : (binds : List Bind) (symbol : List ℕ) → is_among (bind_sym
 bound_start [] symbol = refl
 bound_start (x ∷ xs) symbol = refl
 
-or_both : (a b : Bool) → a ≡ false → b ≡ false → a || b ≡ false
-or_both a b one other = ap2 (λ (x y : Bool). x || y) one other
-
 bound_next : (binds : List Bind) (i : ℕ) (bind : Bind) (symbol : List ℕ) → is_among (bind_symbols (take i binds)) symbol ≡ false → i < length binds → bind ≡ slice_index_or binds i bind → same_name symbol bind.symbol ≡ false
     → is_among (bind_symbols (take (suc i) binds)) symbol ≡ false
 bound_next [] i bind symbol before within is off = absurd (omega arith)
-bound_next (x ∷ xs) zero bind symbol before within is off = or_both (same_name symbol x.symbol) _ (ap (λ (b : Bind). same_name symbol b.symbol) (sym is) ∙ off) (bound_start xs symbol)
-bound_next (x ∷ xs) (suc i) bind symbol before within is off = or_both (same_name symbol x.symbol) _ (left (same_name symbol x.symbol) _ before) (bound_next xs i bind symbol (right (same_name symbol x.symbol) _ before) (omega arith) is off)
-  where
-    left : (a b : Bool) → a || b ≡ false → a ≡ false
-    left false b none = refl
-    left true b none = absurd (cc)
-
-    right : (a b : Bool) → a || b ≡ false → b ≡ false
-    right false b none = none
-    right true b none = absurd (cc)
+bound_next (x ∷ xs) zero bind symbol before within is off = neither (same_name symbol x.symbol) _ (ap (λ (b : Bind). same_name symbol b.symbol) (sym is) ∙ off) (bound_start xs symbol)
+bound_next (x ∷ xs) (suc i) bind symbol before within is off = neither (same_name symbol x.symbol) _ (neither_first (same_name symbol x.symbol) _ before) (bound_next xs i bind symbol (neither_second (same_name symbol x.symbol) _ before) (omega arith) is off)
 
 pub bound_more : (binds : List Bind) (i : ℕ) (bind : Bind) (symbol : List ℕ) → is_among (bind_symbols (take i binds)) symbol ≡ false → i < length binds → bind ≡ slice_index_or binds i bind → same_name symbol bind.symbol ≡ false
     → is_among (bind_symbols (take (i + 1) binds)) symbol ≡ false
@@ -352,9 +304,6 @@ marked_next sight set new xs i way count same before within is wide put = marked
     (λ u. put u ∙ ap (λ (n : ℕ). has set u || marks (place_seen sight).number n way u) same)
 
 -- ---- the items that give a symbol are items of the flow
-
-pub none_within : (found : List ℕ) (count : ℕ) → found ≡ [] → (k : ℕ) → has_number found k ≡ true → k < count
-none_within found count none k on = absurd (not_both (has_number found k) on (ap (λ (xs : List ℕ). has_number xs k) none))
 
 filtered_there : (p : ℕ → Bool) (xs : List ℕ) (k : ℕ) → has_number (filter p xs) k ≡ true → has_number xs k ≡ true
 filtered_there p [] k on = on

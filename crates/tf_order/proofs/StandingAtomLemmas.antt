@@ -3,9 +3,10 @@ use Rattle.std.proofs.Common.{◌≡◌, ℕ, ◌+◌, ◌<◌, ◌≤◌, List,
 use Rattle.std.specs.Option.{option_map}
 use Rattle.std.proofs.lemmas.List.{length-map}
 use Rattle.std.proofs.lemmas.Option.{slice_get-map}
-use Rattle.tf_model.specs.Numbers.{Pair}
+use Rattle.tf_numbers.specs.Pairs.{Pair}
 use Rattle.tf_model.specs.Before.{Flow, flow_at}
-use Rattle.tf_model.specs.Linked.{standing_in, standing_at, standing_of, standing_of_item, numbers_in, standing_items, standing_atoms}
+use Rattle.tf_model.specs.Linked.{standing_in, standing_at, standing_of, standing_of_item, numbers_in, standing_atoms}
+use Rattle.tf_links.specs.Standing.{standing_items}
 use Rattle.tf_order.specs.declared.arranged.Arranged.{Arranged}
 use Rattle.tf_order.specs.declared.outline.ItemPlace.{ItemPlace}
 use Rattle.tf_order.specs.declared.outline.Standing.{Standing}
@@ -16,12 +17,9 @@ use Rattle.tf_links.specs.Links.{LinksValue, AreLinks}
 use Rattle.tf_order.specs.Places.{shown_item, shown_standing}
 use Rattle.tf_order.specs.Sight.{place_seen, count_seen}
 use Rattle.tf_links.proofs.StandingLemmas.{taking_next, taking_none, taking_all}
+use Rattle.tf_numbers.proofs.ListLemmas.{nothing_after}
 
 -- ---- a nested flow
-
-append_none : (xs : List ℕ) → xs ++ [] ≡ xs
-append_none [] = refl
-append_none (x ∷ xs) = ap (λ (ys : List ℕ). x ∷ ys) (append_none xs)
 
 found_in : (shown : Option (Option Arranged)) (o : Option Flow) (flow : Arranged) → IsShownAt shown o → shown ≡ Some (Some flow) → flow.standing.items ≡ standing_in o
 found_in None o flow is some = absurd (cc)
@@ -40,7 +38,7 @@ none_in (Some None) (Some f) is none = absurd is
 none_in (Some (Some flow)) o is none = absurd (none flow refl)
 
 pub flow_none : (table : List (Option Arranged)) (inner : List Flow) (g : ℕ) (atoms : List ℕ) → ShowsFlows table inner → ((flow : Arranged) → slice_get table g ≡ Some (Some flow) → ⊥) → atoms ≡ atoms ++ standing_in (flow_at inner g)
-flow_none table inner g atoms shows none = sym (append_none atoms) ∙ ap (λ (xs : List ℕ). atoms ++ xs) (none_in (slice_get table g) (flow_at inner g) (shows g) none)
+flow_none table inner g atoms shows none = sym (nothing_after atoms) ∙ ap (λ (xs : List ℕ). atoms ++ xs) (none_in (slice_get table g) (flow_at inner g) (shows g) none)
 
 -- ---- an item
 
@@ -48,7 +46,7 @@ item_seen : (sight : Sight) (inner : List Flow) (item : ℕ) (found : Option Ite
 item_seen sight inner item found is = ap (standing_of inner) (slice_get-map shown_item sight.level.now.items.items item ∙ ap (option_map shown_item) is)
 
 pub item_none : (sight : Sight) (inner : List Flow) (item : ℕ) (atoms : List ℕ) → slice_get sight.level.now.items.items item ≡ None → atoms ≡ atoms ++ standing_of_item inner (place_seen sight) item
-item_none sight inner item atoms is = sym (append_none atoms) ∙ ap (λ (xs : List ℕ). atoms ++ xs) (sym (item_seen sight inner item None is))
+item_none sight inner item atoms is = sym (nothing_after atoms) ∙ ap (λ (xs : List ℕ). atoms ++ xs) (sym (item_seen sight inner item None is))
 
 pub item_task : (sight : Sight) (inner : List Flow) (item atom : ℕ) (found : ItemPlace) (atoms : List ℕ) → slice_get sight.level.now.items.items item ≡ Some found → found.standing ≡ place.Task atom → atoms ++ atom ∷ [] ≡ atoms ++ standing_of_item inner (place_seen sight) item
 item_task sight inner item atom found atoms is task = ap (λ (xs : List ℕ). atoms ++ xs) (sym (item_seen sight inner item (Some found) is ∙ ap (λ (s : Standing). standing_at inner (shown_standing s)) task))
@@ -63,10 +61,10 @@ AtomsOf sight atoms items = (inner : List Flow) → ShowsFlows sight.table.now i
 
 pub atoms_start : (sight : Sight) (first atoms order : List ℕ) → first ≡ [] → atoms ≡ first ++ numbers_in (place_seen sight).retry → AtomsOf sight atoms (take 0 order)
 atoms_start sight first atoms order none is inner shows = is ∙ (ap (λ (xs : List ℕ). xs ++ numbers_in (place_seen sight).retry) none
-    ∙ (sym (append_none (numbers_in (place_seen sight).retry)) ∙ ap (λ (xs : List ℕ). numbers_in (place_seen sight).retry ++ flat_map (standing_of_item inner (place_seen sight)) xs) (sym (taking_none order))))
+    ∙ (sym (nothing_after (numbers_in (place_seen sight).retry)) ∙ ap (λ (xs : List ℕ). numbers_in (place_seen sight).retry ++ flat_map (standing_of_item inner (place_seen sight)) xs) (sym (taking_none order))))
 
 flat_more : (f : ℕ → List ℕ) (xs : List ℕ) (x : ℕ) → flat_map f (xs ++ x ∷ []) ≡ flat_map f xs ++ f x
-flat_more f [] x = append_none (f x)
+flat_more f [] x = nothing_after (f x)
 flat_more f (y ∷ ys) x = ap (λ (zs : List ℕ). f y ++ zs) (flat_more f ys x) ∙ sym (append_assoc (f y) (flat_map f ys) (f x))
 
 pub atoms_more : (sight : Sight) (atoms new order : List ℕ) (i : ℕ) → AtomsOf sight atoms (take i order) → i < length order

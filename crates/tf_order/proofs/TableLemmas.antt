@@ -1,4 +1,5 @@
 -- Rows of the numbers of atoms, and what they tell of a plan.
+use Rattle.tf_flow.specs.Ways.{shown_part}
 use Rattle.std.proofs.Common.{◌≡◌, ◌≢◌, ℕ, zero, suc, ◌+◌, ◌<◌, ◌≤◌, List, [], ◌∷◌, ◌++◌, length, take, map, Bool, true, false, ◌&&◌, ◌||◌, Option, Some, None, refl, sym, ap, subst, ◌∙◌, add-one, inl, inr, arith, eqb-true, eq-eqb, slice_set, slice_get, slice_index_or}
 use Rattle.std.specs.Prelude.{nat_eq, nat_lt, if◌then◌else◌}
 use Rattle.std.proofs.lemmas.Bool.{cases_lt, lt-ltb, ltb-true}
@@ -6,38 +7,32 @@ use Rattle.std.proofs.lemmas.List.{map-append, length-set, length-map}
 use Rattle.std.proofs.lemmas.Option.{slice_get_past}
 use Rattle.tf_model.specs.Before.{Flow, flow_at, way_before, way_at}
 use Rattle.tf_model.specs.Linked.{standing_in}
-use Rattle.tf_model.specs.Numbers.{numbers_below, which_below, has_number}
-use Rattle.tf_model.specs.Outline.{Turn, Atom}
-use Rattle.tf_model.specs.Plan.{Outline as PlanOutline, is_before, is_task_part, is_task_in, last_flow, count}
+use Rattle.tf_numbers.specs.Numbers.{numbers_below, which_below, has_number}
+use Rattle.tf_flow.specs.Outline.{Atom, is_task_part}
+use Rattle.tf_flow.specs.declared.ways.Turn.{Turn}
+use Rattle.tf_model.specs.Plan.{Outline as PlanOutline, is_before, is_task_in, last_flow, count}
 use Rattle.tf_model.specs.Deciders.{last_item, same_flow, flow_in}
 use Rattle.tf_order.specs.declared.arranged.Arranged.{Arranged}
 use Rattle.tf_order.specs.declared.outline.AtomPlace.{AtomPlace}
 use Rattle.tf_order.specs.declared.outline.Outline.{Outline}
-use Rattle.tf_order.specs.declared.outline.Turn.{Turn as CodeTurn}
 use Rattle.tf_order.specs.Arranged.{IsShownAt, ShowsFlows}
 use Rattle.tf_links.specs.Bits.{has, words_for}
 use Rattle.tf_order.specs.Graph.{GraphValue, leads_to, leads_in, standing_of_plan}
 use Rattle.tf_links.specs.Links.{leads}
-use Rattle.tf_order.specs.Places.{shown_atom, shown_atoms, shown_part}
+use Rattle.tf_order.specs.Places.{shown_atom, shown_atoms}
 use Rattle.tf_order.specs.Rows.{row_in, row_at, is_in_row}
 use Rattle.tf_order.specs.Tables.{plan_seen, atoms_found, number_if, RowAdded, RowsAdded, AreRows, AreTables, AllBelow, leads_from, flow_in_flows}
 use Rattle.tf_order.specs.Ways.{flow_of_turn, item_of_turn}
-use Rattle.tf_links.proofs.BitLemmas.{ap2, which_next, which_pass}
+use Rattle.tf_links.proofs.BitLemmas.{which_next, which_pass}
+use Rattle.tf_numbers.proofs.EquationLemmas.{ap2}
 use Rattle.tf_order.proofs.GraphLemmas.{row_told, rows_length}
 use Rattle.tf_links.proofs.LinkLemmas.{past_row}
 use Rattle.tf_order.proofs.OutlineLemmas.{way_there, atom_there}
-use Rattle.tf_links.proofs.NumberLemmas.{same_truth, never_true, not_both}
+use Rattle.tf_numbers.proofs.TruthLemmas.{same_truth, never_true, clash, and_false, or_false, and_second, and_first, or_true, and_spread}
 use Rattle.tf_links.proofs.StandingLemmas.{number_more, listed_within, taking_none, taking_next, taking_all}
+use Rattle.tf_numbers.proofs.ListLemmas.{nothing_after, read_more, read_last, length_more}
 
 -- ---- one row more
-
-nothing_after : {X : Type 0} (xs : List X) → xs ++ [] ≡ xs
-nothing_after [] = refl
-nothing_after {X} (x ∷ xs) = ap (λ (ys : List X). x ∷ ys) (nothing_after xs)
-
-pub length_more : {X : Type 0} (xs : List X) (x : X) → length (xs ++ x ∷ []) ≡ length xs + 1
-length_more [] x = omega arith
-length_more (y ∷ ys) x = omega (arith, length_more ys x)
 
 -- so many rows, with nothing in them
 pub record EmptyRows (count : ℕ) (rows : List (List ℕ)) : Type 0 where
@@ -66,19 +61,11 @@ pub record SetBefore (count : ℕ) (numbers : List ℕ) (i : ℕ) (set : List �
   pub width : length set ≡ words_for count
   pub told : (k : ℕ) → has set k ≡ (nat_lt k count && has_number (take i numbers) k)
 
-nothing_both : (a : Bool) → a && false ≡ false
-nothing_both true = refl
-nothing_both false = refl
-
 pub set_start : (count : ℕ) (numbers set : List ℕ) → length set ≡ words_for count → ((k : ℕ) → has set k ≡ false) → SetBefore count numbers 0 set
 set_start count numbers set wide none = record {
   width = wide;
-  told = λ k. none k ∙ sym (ap (λ (xs : List ℕ). nat_lt k count && has_number xs k) (taking_none numbers) ∙ nothing_both (nat_lt k count));
+  told = λ k. none k ∙ sym (ap (λ (xs : List ℕ). nat_lt k count && has_number xs k) (taking_none numbers) ∙ and_false (nat_lt k count));
 }
-
-both_either : (a b c : Bool) → ((a && b) || (a && c)) ≡ (a && (b || c))
-both_either true b c = refl
-both_either false b c = refl
 
 pub set_more : (count : ℕ) (numbers set new : List ℕ) (i number : ℕ) → SetBefore count numbers i set → i < length numbers → number ≡ slice_index_or numbers i 0 → length new ≡ words_for count
     → ((k : ℕ) → has new k ≡ (has set k || (nat_lt k count && nat_eq k number))) → SetBefore count numbers (i + 1) new
@@ -86,7 +73,7 @@ set_more count numbers set new i number before below is wide more = record {
   width = wide;
   told = λ k. more k
       ∙ (ap (λ (b : Bool). b || (nat_lt k count && nat_eq k number)) (before.told k)
-      ∙ (both_either (nat_lt k count) (has_number (take i numbers) k) (nat_eq k number)
+      ∙ (and_spread (nat_lt k count) (has_number (take i numbers) k) (nat_eq k number)
       ∙ ap (λ (b : Bool). nat_lt k count && b) (sym (
       ap (λ (xs : List ℕ). has_number xs k) (ap (λ (n : ℕ). take n numbers) (add-one i) ∙ taking_next numbers i below)
       ∙ (number_more (take i numbers) (slice_index_or numbers i 0) k ∙ ap (λ (n : ℕ). has_number (take i numbers) k || nat_eq k n) (sym is))))));
@@ -98,10 +85,6 @@ set_all count numbers set i is whole k = is.told k ∙ ap (λ (xs : List ℕ). n
 pub inserted_below : (count number : ℕ) (old new : List ℕ) → number < count → ((k : ℕ) → has new k ≡ (nat_eq number k || has old k)) → (k : ℕ) → has new k ≡ (has old k || (nat_lt k count && nat_eq k number))
 inserted_below count number old new below set k = set k ∙ by_number (nat_eq number k) refl
   where
-    or_all : (a : Bool) → a || true ≡ true
-    or_all true = refl
-    or_all false = refl
-
     or_none : (a b : Bool) → a || (b && false) ≡ a
     or_none true b = refl
     or_none false true = refl
@@ -109,26 +92,14 @@ inserted_below count number old new below set k = set k ∙ by_number (nat_eq nu
 
     by_number : (b : Bool) → nat_eq number k ≡ b → (b || has old k) ≡ (has old k || (nat_lt k count && nat_eq k number))
     by_number true same = let e : number ≡ k = eqb-true number k same in
-        sym (ap2 (λ (x y : Bool). has old k || (x && y)) (lt-ltb k count (omega (arith, e, below))) (eq-eqb k number (sym e)) ∙ or_all (has old k))
-    by_number false other = sym (ap (λ (b : Bool). has old k || (nat_lt k count && b)) (never_true (nat_eq k number) (λ same. not_both (nat_eq number k) (eq-eqb number k (sym (eqb-true k number same))) other)) ∙ or_none (has old k) (nat_lt k count))
+        sym (ap2 (λ (x y : Bool). has old k || (x && y)) (lt-ltb k count (omega (arith, e, below))) (eq-eqb k number (sym e)) ∙ or_true (has old k))
+    by_number false other = sym (ap (λ (b : Bool). has old k || (nat_lt k count && b)) (never_true (nat_eq k number) (λ same. clash (nat_eq number k) (eq-eqb number k (sym (eqb-true k number same))) other)) ∙ or_none (has old k) (nat_lt k count))
 
 pub past_below : (count number : ℕ) (old : List ℕ) → count ≤ number → (k : ℕ) → has old k ≡ (has old k || (nat_lt k count && nat_eq k number))
 past_below count number old past k = sym (ap (λ (b : Bool). has old k || b) (never_true (nat_lt k count && nat_eq k number) (λ is.
-    let below : k < count = ltb-true k count (left (nat_lt k count) (nat_eq k number) is) in
-    let same : k ≡ number = eqb-true k number (right (nat_lt k count) (nat_eq k number) is) in
-    absurd (omega (arith, below, same, past)))) ∙ or_nothing (has old k))
-  where
-    left : (a b : Bool) → a && b ≡ true → a ≡ true
-    left true b is = refl
-    left false b is = is
-
-    right : (a b : Bool) → a && b ≡ true → b ≡ true
-    right true b is = is
-    right false b is = absurd (cc)
-
-    or_nothing : (a : Bool) → a || false ≡ a
-    or_nothing true = refl
-    or_nothing false = refl
+    let below : k < count = ltb-true k count (and_first (nat_lt k count) (nat_eq k number) is) in
+    let same : k ≡ number = eqb-true k number (and_second (nat_lt k count) (nat_eq k number) is) in
+    absurd (omega (arith, below, same, past)))) ∙ or_false (has old k))
 
 -- the rows before an index, as sets
 pub record SetsBefore (rows : List (List ℕ)) (i : ℕ) (sets : List (List ℕ)) : Type 0 where
@@ -137,15 +108,6 @@ pub record SetsBefore (rows : List (List ℕ)) (i : ℕ) (sets : List (List ℕ)
 
 pub sets_start : (rows sets : List (List ℕ)) → sets ≡ [] → SetsBefore rows 0 sets
 sets_start rows sets is = record { height = ap length is; told = λ a b below. absurd (omega (arith, below)) }
-
-before_last : (sets : List (List ℕ)) (set : List ℕ) (a : ℕ) → a < length sets → slice_index_or (sets ++ set ∷ []) a [] ≡ slice_index_or sets a []
-before_last [] set a below = absurd (omega arith)
-before_last (s ∷ sets) set zero below = refl
-before_last (s ∷ sets) set (suc a) below = before_last sets set a (omega arith)
-
-at_last : (sets : List (List ℕ)) (set : List ℕ) → slice_index_or (sets ++ set ∷ []) (length sets) [] ≡ set
-at_last [] set = refl
-at_last (s ∷ sets) set = at_last sets set
 
 row_read_at : (rows : List (List ℕ)) (k : ℕ) (row : List ℕ) → k < length rows → row ≡ slice_index_or rows k row → row_at rows k ≡ row
 row_read_at [] k row below is = absurd (omega arith)
@@ -157,11 +119,11 @@ pub sets_more : (rows sets new : List (List ℕ)) (i : ℕ) (row set : List ℕ)
 sets_more rows sets new i row set before below read is pushed = record {
   height = ap length pushed ∙ (length_more sets set ∙ ap (λ (n : ℕ). n + 1) before.height);
   told = λ a b within. ap (λ (xs : List (List ℕ)). leads xs a b) pushed ∙ elim (cases_lt a i) [
-    | inl earlier ↦ ap (λ (s : List ℕ). has s b) (before_last sets set a (omega (arith, earlier, before.height))) ∙ before.told a b earlier
+    | inl earlier ↦ ap (λ (s : List ℕ). has s b) (read_more sets set a (omega (arith, earlier, before.height))) ∙ before.told a b earlier
     | inr from ↦ let same : a ≡ length sets = omega (arith, from, within, before.height) in
         let here : i ≡ a = omega (arith, from, within) in
         ap (λ (n : ℕ). leads (sets ++ set ∷ []) n b) same
-        ∙ (ap (λ (s : List ℕ). has s b) (at_last sets set)
+        ∙ (ap (λ (s : List ℕ). has s b) (read_last sets set)
         ∙ (is b
         ∙ (ap (λ (r : List ℕ). nat_lt b (length rows) && has_number r b) (sym (row_read_at rows i row below read))
         ∙ ap (λ (n : ℕ). is_in_row rows n b) here)))
@@ -172,7 +134,7 @@ pub sets_all : (rows sets : List (List ℕ)) (i : ℕ) → SetsBefore rows i set
 sets_all rows sets i is whole a b = elim (cases_lt a i) [
   | inl below ↦ is.told a b below
   | inr from ↦ sym (past_row sets a b (omega (arith, from, is.height)))
-      ∙ sym (ap (λ (r : List ℕ). nat_lt b (length rows) && has_number r b) (ap row_in (slice_get_past rows a (omega (arith, from, whole)))) ∙ nothing_both (nat_lt b (length rows)))
+      ∙ sym (ap (λ (r : List ℕ). nat_lt b (length rows) && has_number r b) (ap row_in (slice_get_past rows a (omega (arith, from, whole)))) ∙ and_false (nat_lt b (length rows)))
 ]
 
 -- ---- rows that grow
@@ -226,7 +188,7 @@ row_added at on number rows row new is below read pushed = record {
         ∙ (ap row_in (get_set_same rows at new below)
         ∙ (pushed
         ∙ ap2 (λ (r : List ℕ) (b : Bool). r ++ number_if b number) (sym (row_read_at rows at row below read) ∙ ap (row_at rows) e) (sym is)))
-    by_row k false other = ap row_in (get_set_other rows at k new (λ same. not_both (nat_eq at k) (eq-eqb at k (sym same)) other))
+    by_row k false other = ap row_in (get_set_other rows at k new (λ same. clash (nat_eq at k) (eq-eqb at k (sym same)) other))
 
 pub added_start : (test : ℕ → Bool) (number : ℕ) (rows : List (List ℕ)) → RowsAdded 0 test number rows rows
 added_start test number rows = record { height = refl; told = λ k. sym (ap (λ (b : Bool). row_at rows k ++ number_if (b && test k) number) (none k) ∙ nothing_after (row_at rows k)) }
@@ -251,7 +213,7 @@ added_next test number i old rows new before more = record {
     as_before k other = same_truth (nat_lt k i) (nat_lt k (i + 1))
         (λ less. let below : k < i = ltb-true k i less in lt-ltb k (i + 1) (omega (arith, below)))
         (λ less. let below : k < i + 1 = ltb-true k (i + 1) less in
-        let differ : i ≢ k = λ same. not_both (nat_eq i k) (eq-eqb i k same) other in lt-ltb k i (omega (arith, below, differ)))
+        let differ : i ≢ k = λ same. clash (nat_eq i k) (eq-eqb i k same) other in lt-ltb k i (omega (arith, below, differ)))
 
     by_row : (k : ℕ) (b : Bool) → nat_eq i k ≡ b → (if b then row_at rows k ++ number_if (test i) number else row_at rows k) ≡ row_at old k ++ number_if (nat_lt k (i + 1) && test k) number
     by_row k true same = let e : i ≡ k = eqb-true i k same in
@@ -306,7 +268,7 @@ row_pass test n row on is failed passes = is ∙ which_pass n test (sym passes �
 
 -- ---- the tasks that an atom leads to
 
-pub leads_seen : (outline : Outline) (a b : ℕ) (from : Option CodeTurn) (atom from_atom : AtomPlace) (on : Bool) → a < atoms_found outline → b < atoms_found outline → from_atom ≡ slice_index_or outline.atoms.items a from_atom → atom ≡ slice_index_or outline.atoms.items b atom
+pub leads_seen : (outline : Outline) (a b : ℕ) (from : Option Turn) (atom from_atom : AtomPlace) (on : Bool) → a < atoms_found outline → b < atoms_found outline → from_atom ≡ slice_index_or outline.atoms.items a from_atom → atom ≡ slice_index_or outline.atoms.items b atom
     → last_flow from_atom.way ≡ flow_of_turn from → last_item from_atom.way ≡ item_of_turn from → on ≡ leads_from (plan_seen outline).flows from atom → on ≡ leads_to (plan_seen outline) a b
 unfolding plan_seen
 leads_seen outline a b from atom from_atom on a_below b_below from_read read flow_is item_is is =

@@ -4,12 +4,10 @@ use Rattle.std.specs.Prelude.{nat_eq, if◌then◌else◌}
 use Rattle.std.proofs.lemmas.Bool.{cases_lt}
 use Rattle.tf_model.specs.Before.{Flow, item_before, turn_before, way_before}
 use Rattle.tf_model.specs.Deciders.{last_item}
-use Rattle.tf_model.specs.Outline.{Turn}
+use Rattle.tf_flow.specs.declared.ways.Turn.{Turn}
 use Rattle.tf_model.specs.Plan.{last_flow}
-use Rattle.tf_order.specs.declared.outline.Turn.{Turn as CodeTurn}
 use Rattle.tf_order.specs.declared.ways.Meeting.{Meeting}
 use Rattle.tf_order.specs.declared.ways.Meeting.TheVariants as meet
-use Rattle.tf_order.specs.Turns.{shown_turns}
 use Rattle.tf_order.specs.Ways.{parted, parting, here_or_below, meeting, decides, flow_of_turn, item_of_turn}
 
 -- ---- what the model says by turns, by where ways part
@@ -41,31 +39,31 @@ way_before_met flows (x ∷ xs) (y ∷ ys) =
 
 -- ---- the last turn
 
-one_later : (turn next : CodeTurn) (turns : List CodeTurn) → slice_get (next ∷ turns) (length (next ∷ turns) - 1) ≡ slice_get (turn ∷ next ∷ turns) (length (turn ∷ next ∷ turns) - 1)
+one_later : (turn next : Turn) (turns : List Turn) → slice_get (next ∷ turns) (length (next ∷ turns) - 1) ≡ slice_get (turn ∷ next ∷ turns) (length (turn ∷ next ∷ turns) - 1)
 one_later turn next turns =
     let here : length (next ∷ turns) - 1 ≡ length turns = omega arith in
     let later : length (turn ∷ next ∷ turns) - 1 ≡ suc (length turns) = omega arith in
     ap (slice_get (next ∷ turns)) here ∙ sym (ap (slice_get (turn ∷ next ∷ turns)) later)
 
-last_flow_told : (turns : List CodeTurn) → last_flow (shown_turns turns) ≡ flow_of_turn (slice_get turns (length turns - 1))
+last_flow_told : (turns : List Turn) → last_flow turns ≡ flow_of_turn (slice_get turns (length turns - 1))
 last_flow_told [] = refl
 last_flow_told (turn ∷ []) = refl
 last_flow_told (turn ∷ next ∷ turns) = last_flow_told (next ∷ turns) ∙ ap flow_of_turn (one_later turn next turns)
 
-last_item_told : (turns : List CodeTurn) → last_item (shown_turns turns) ≡ item_of_turn (slice_get turns (length turns - 1))
+last_item_told : (turns : List Turn) → last_item turns ≡ item_of_turn (slice_get turns (length turns - 1))
 last_item_told [] = refl
 last_item_told (turn ∷ []) = refl
 last_item_told (turn ∷ next ∷ turns) = last_item_told (next ∷ turns) ∙ ap item_of_turn (one_later turn next turns)
 
-pub last_turn_flow : (way : List CodeTurn) (found : Option CodeTurn) → found ≡ slice_get way (length way - 1) → last_flow (shown_turns way) ≡ flow_of_turn found
+pub last_turn_flow : (way : List Turn) (found : Option Turn) → found ≡ slice_get way (length way - 1) → last_flow way ≡ flow_of_turn found
 last_turn_flow way found is = last_flow_told way ∙ ap flow_of_turn (sym is)
 
-pub last_turn_item : (way : List CodeTurn) (found : Option CodeTurn) → found ≡ slice_get way (length way - 1) → last_item (shown_turns way) ≡ item_of_turn found
+pub last_turn_item : (way : List Turn) (found : Option Turn) → found ≡ slice_get way (length way - 1) → last_item way ≡ item_of_turn found
 last_turn_item way found is = last_item_told way ∙ ap item_of_turn (sym is)
 
 -- ---- the end of a way
 
-nothing_left : (way : List CodeTurn) (i : ℕ) → length way ≤ i → drop i way ≡ []
+nothing_left : (way : List Turn) (i : ℕ) → length way ≤ i → drop i way ≡ []
 nothing_left [] zero whole = refl
 nothing_left [] (suc i) whole = refl
 nothing_left (x ∷ way) zero whole = absurd (omega arith)
@@ -76,8 +74,8 @@ no_second [] = refl
 no_second (x ∷ xs) = refl
 
 -- one of the ways ends here
-pub meeting_over : (a b : List CodeTurn) (i : ℕ) → min (length a) (length b) ≤ i → meet.Apart ≡ meeting (shown_turns (drop i a)) (shown_turns (drop i b))
+pub meeting_over : (a b : List Turn) (i : ℕ) → min (length a) (length b) ≤ i → meet.Apart ≡ meeting (drop i a) (drop i b)
 meeting_over a b i over = elim (cases_lt i (length a)) [
-  | inl below ↦ sym (ap (λ (ys : List CodeTurn). meeting (shown_turns (drop i a)) (shown_turns ys)) (nothing_left b i (omega (arith, over, below))) ∙ no_second (shown_turns (drop i a)))
-  | inr past ↦ sym (ap (λ (xs : List CodeTurn). meeting (shown_turns xs) (shown_turns (drop i b))) (nothing_left a i past))
+  | inl below ↦ sym (ap (λ (ys : List Turn). meeting (drop i a) ys) (nothing_left b i (omega (arith, over, below))) ∙ no_second (drop i a))
+  | inr past ↦ sym (ap (λ (xs : List Turn). meeting xs (drop i b)) (nothing_left a i past))
 ]

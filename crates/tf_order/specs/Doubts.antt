@@ -1,11 +1,10 @@
 -- The symbols that make an item ambiguous.
-use Rattle.std.specs.Prelude.{ℕ, List, [], Bool, Option, filter, map, option_map, if◌then◌else◌}
+use Rattle.std.specs.Prelude.{ℕ, List, [], filter, if◌then◌else◌}
 use Rattle.tf_flow.specs.declared.atoms.Arg.{Arg}
-use Rattle.tf_model.specs.Numbers.{Pair, has_pair, first_below, reached}
-use Rattle.tf_model.specs.Outline.{Part, FlowPlace}
+use Rattle.tf_flow.specs.Outline.{Part}
 use Rattle.tf_model.specs.Before.{Flow}
-use Rattle.tf_model.specs.Linked.{is_inside, item_name}
-use Rattle.tf_model.specs.Compilation.{CompileRefusal, cycle, is_ambiguous, shortest_cycle}
+use Rattle.tf_model.specs.Linked.{is_inside}
+use Rattle.tf_model.specs.Compilation.{is_ambiguous}
 use Rattle.tf_order.specs.declared.sight.Sight.{Sight}
 use Rattle.tf_order.specs.Sight.{atoms_seen, place_seen, needed_by, needed_at, needed_below}
 
@@ -24,15 +23,3 @@ doubts_inside sight inner v a = if is_inside (atoms_seen sight) (place_seen sigh
 -- those that the atoms below a number need in item v
 abbrev pub doubts_below : Sight → List Flow → ℕ → ℕ → List (List ℕ)
 doubts_below sight inner v n = doubtful sight v (needed_below sight inner n v)
-
--- item v leads back to itself
-abbrev pub is_back : ℕ → List Pair → ℕ → Bool
-is_back n pairs v = has_pair (reached n pairs) v v
-
--- the names of the shortest cycle through item v
-abbrev pub cycle_through : FlowPlace → ℕ → List Pair → ℕ → CompileRefusal
-cycle_through place n pairs v = cycle (map (item_name place) (shortest_cycle n pairs v))
-
--- the shortest cycle through the first item that lies on one
-abbrev pub first_cycle : FlowPlace → ℕ → List Pair → Option CompileRefusal
-first_cycle place n pairs = option_map (cycle_through place n pairs) (first_below n (is_back n pairs))

@@ -3,12 +3,13 @@ use Rattle.std.specs.Prelude.{◌≡◌, ℕ, ◌+◌, List, Bool, false, ◌&&�
 use Rattle.tf_flow.specs.Plan.{PlanValue}
 use Rattle.tf_flow.specs.declared.nested.FlowKind.{FlowKind}
 use Rattle.tf_flow.specs.declared.nested.FlowKind.TheVariants as kind
-use Rattle.tf_model.specs.Numbers.{which_below, numbers_below, Pair, has_pair}
+use Rattle.tf_numbers.specs.Numbers.{which_below, numbers_below}
+use Rattle.tf_numbers.specs.Pairs.{Pair}
 use Rattle.tf_model.specs.Before.{Flow, flow_at}
 use Rattle.tf_model.specs.Linked.{standing_in}
 use Rattle.tf_model.specs.Plan.{Outline, outline_of, count, way, is_before}
 use Rattle.tf_model.specs.Scope.{is_earlier}
-use Rattle.tf_model.specs.Deciders.{is_sibling, last_item, home}
+use Rattle.tf_model.specs.Deciders.{is_sibling, last_item, home, linked_places}
 use Rattle.tf_model.specs.Compilation.{compile_refusal}
 
 -- all atoms before a, ascending
@@ -25,18 +26,12 @@ is_next_place None to = false
 is_next_place (Some u) None = false
 is_next_place (Some u) (Some v) = nat_eq (u + 1) v
 
--- both places are there, and a link leads from the first to the second
-abbrev pub is_linked_place : List Pair → Option ℕ → Option ℕ → Bool
-is_linked_place linked None to = false
-is_linked_place linked (Some u) None = false
-is_linked_place linked (Some u) (Some v) = has_pair linked u v
-
 -- one place of a flow leads to another: in a graph flow by a link, in a linear flow to the next, and
 -- in an unordered flow to none
 abbrev pub leads_by_kind : FlowKind → List Pair → Option ℕ → Option ℕ → Bool
 leads_by_kind kind.Linear linked from to = is_next_place from to
 leads_by_kind kind.Unordered linked from to = false
-leads_by_kind kind.Graph linked from to = is_linked_place linked from to
+leads_by_kind kind.Graph linked from to = linked_places linked from to
 
 -- the same, where there is a flow
 abbrev pub leads_in : Option Flow → Option ℕ → Option ℕ → Bool

@@ -3,8 +3,8 @@ use Rattle.std.specs.Prelude.{ℕ, List, [], ◌∷◌, ◌++◌, ◌-◌, Bool,
 use Rattle.indexmap.specs.IndexMap.{get}
 use Rattle.tf_flow.specs.Names.{same_name}
 use Rattle.tf_model.specs.Linked.{item_name_in}
-use Rattle.tf_model.specs.Numbers.{is_number}
-use Rattle.tf_model.specs.Outline.{Item}
+use Rattle.tf_numbers.specs.Numbers.{is_number}
+use Rattle.tf_flow.specs.Outline.{Item}
 use Rattle.tf_order.specs.declared.index.NameIndex.{NameIndex}
 
 -- the numbers, where there are some

@@ -1,7 +1,6 @@
 pub mod Graph
 pub mod Rows
 pub mod Refusals
-pub mod Turns
 pub mod Places
 pub mod Index
 pub mod Ways

@@ -1,6 +1,7 @@
 -- The items of a flow that ways lead through, and the atoms that serve one another within an item.
 use Rattle.std.specs.Prelude.{ℕ, List, Bool, ◌&&◌, Some, nat_lt, not, nat_eq}
-use Rattle.tf_model.specs.Outline.{Turn, Atom}
+use Rattle.tf_flow.specs.Outline.{Atom}
+use Rattle.tf_flow.specs.declared.ways.Turn.{Turn}
 use Rattle.tf_model.specs.Before.{Flow, takes_item, passes_item, way_before, way_at}
 use Rattle.tf_model.specs.Linked.{is_inside}
 use Rattle.tf_links.specs.Links.{leads}

@@ -1,20 +1,14 @@
 -- What the code's records of a plan's atoms and flows show.
 use Rattle.std.specs.Prelude.{ℕ, zero, suc, List, [], ◌∷◌, ◌++◌, map}
-use Rattle.tf_model.specs.Conditions.{connection_of}
-use Rattle.tf_model.specs.Outline as model
+use Rattle.tf_flow.specs.Conditions.{connection_of}
+use Rattle.tf_flow.specs.declared.ways.Turn.{Turn}
+use Rattle.tf_flow.specs.Outline as model
 use Rattle.tf_order.specs.declared.outline.AtomPlace.{AtomPlace}
 use Rattle.tf_order.specs.declared.outline.ItemPlace.{ItemPlace}
 use Rattle.tf_order.specs.declared.outline.Level.{Level}
-use Rattle.tf_order.specs.declared.outline.Part.{Part}
-use Rattle.tf_order.specs.declared.outline.Part.TheVariants as part
+use Rattle.tf_flow.specs.Ways.{shown_part}
 use Rattle.tf_order.specs.declared.outline.Standing.{Standing}
 use Rattle.tf_order.specs.declared.outline.Standing.TheVariants as standing
-pub use Rattle.tf_order.specs.Turns.{shown_turn, shown_turns}
-
--- what an atom is
-abbrev pub shown_part : Part → model.Part
-shown_part (part.Task t) = model.a_task t.now
-shown_part (part.Retry r) = model.a_retry r.now
 
 -- an atom with its way
 abbrev pub shown_atom : AtomPlace → model.Atom
@@ -51,7 +45,7 @@ abbrev pub level_number : Level → ℕ
 level_number level = level.number
 
 -- an atom, seen from the end of a way that leads on to it
-abbrev pub under : List model.Turn → model.Atom → model.Atom
+abbrev pub under : List Turn → model.Atom → model.Atom
 under way atom = record { way = way ++ atom.way; part = atom.part }
 
 -- a flow with other items

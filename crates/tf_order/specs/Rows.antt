@@ -1,6 +1,6 @@
 -- Rows of numbers.
 use Rattle.std.specs.Prelude.{ℕ, List, [], Bool, ◌&&◌, Option, Some, None, length, nat_lt, slice_get}
-use Rattle.tf_model.specs.Numbers.{has_number}
+use Rattle.tf_numbers.specs.Numbers.{has_number}
 
 -- the row, where there is one
 abbrev pub row_in : Option (List ℕ) → List ℕ

@@ -2,8 +2,10 @@
 use Rattle.std.specs.Prelude.{◌≡◌, ℕ, List, [], ◌&&◌, ◌||◌, Some, length, nat_eq, nat_lt, filter, map, flat_map, if◌then◌else◌}
 use Rattle.std.specs.List.{list_any}
 use Rattle.tf_flow.specs.declared.atoms.Arg.{Arg}
-use Rattle.tf_model.specs.Numbers.{which_below, reached}
-use Rattle.tf_model.specs.Outline.{Turn, Part, Atom, FlowPlace}
+use Rattle.tf_numbers.specs.Numbers.{which_below}
+use Rattle.tf_links.specs.Reach.{reached}
+use Rattle.tf_flow.specs.Outline.{Part, Atom, FlowPlace}
+use Rattle.tf_flow.specs.declared.ways.Turn.{Turn}
 use Rattle.tf_model.specs.Before.{Flow, takes_item, passes_item}
 use Rattle.tf_model.specs.Linked.{provides_at, is_inferred_by, is_unserved, is_taken, is_inside, needs_of_atom, arg_symbol, explicit}
 use Rattle.tf_model.specs.Compilation.{is_ambiguous}

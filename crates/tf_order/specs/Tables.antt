@@ -1,26 +1,27 @@
 -- What is found of a plan while it is compiled: its flows as they are arranged, their faults, and rows of numbers.
+use Rattle.tf_flow.specs.Ways.{shown_part}
 use Rattle.std.specs.Prelude.{◌≡◌, ℕ, ◌+◌, ◌<◌, List, [], ◌∷◌, ◌++◌, Bool, true, false, ◌&&◌, Option, Some, None, length, drop, map, nat_eq, nat_lt, slice_get, if◌then◌else◌}
 use Rattle.tf_flow.specs.declared.nested.FlowKind.{FlowKind}
 use Rattle.tf_flow.specs.declared.nested.FlowKind.TheVariants as kind
-use Rattle.tf_model.specs.Numbers.{numbers_below, has_number, which_below}
-use Rattle.tf_model.specs.Outline.{Atom, FlowPlace}
+use Rattle.tf_numbers.specs.Numbers.{numbers_below, has_number, which_below}
+use Rattle.tf_flow.specs.Outline.{Atom, FlowPlace, is_task_part}
 use Rattle.tf_model.specs.Before.{Flow, flow_at}
 use Rattle.tf_model.specs.Deciders.{last_item, same_flow}
 use Rattle.tf_model.specs.Linked.{arranged, provides_at}
 use Rattle.tf_model.specs.Compilation.{CompileRefusal, refusal_among}
-use Rattle.tf_model.specs.Plan.{Outline as PlanOutline, outline_with, count, is_task_part, last_flow}
+use Rattle.tf_model.specs.Plan.{Outline as PlanOutline, outline_with, count, last_flow}
 use Rattle.tf_order.specs.declared.arranged.Arranged.{Arranged}
 use Rattle.tf_order.specs.declared.faults.CompileFault.{CompileFault}
 use Rattle.tf_order.specs.declared.index.NameIndex.{NameIndex}
 use Rattle.tf_order.specs.declared.outline.AtomPlace.{AtomPlace}
 use Rattle.tf_order.specs.declared.outline.Outline.{Outline}
-use Rattle.tf_order.specs.declared.outline.Turn.{Turn}
+use Rattle.tf_flow.specs.declared.ways.Turn.{Turn}
 use Rattle.tf_order.specs.Arranged.{ShowsFlows}
 use Rattle.tf_order.specs.Graph.{GraphValue, leads_in, predecessors_of, successors_of, direct_tasks_of, standing_of_plan}
 use Rattle.tf_order.specs.Index.{told}
 use Rattle.tf_links.specs.Links.{leads}
 use Rattle.tf_order.specs.Looked.{told_in}
-use Rattle.tf_order.specs.Places.{shown_atoms, shown_levels, shown_part}
+use Rattle.tf_order.specs.Places.{shown_atoms, shown_levels}
 use Rattle.tf_order.specs.Rows.{row_at}
 use Rattle.tf_order.specs.Ways.{flow_of_turn, item_of_turn}
 

@@ -1,8 +1,7 @@
 -- Where two ways from the root part.
 use Rattle.std.specs.Prelude.{ℕ, List, [], ◌∷◌, Bool, true, false, Option, Some, None, option_map, nat_eq, if◌then◌else◌}
 use Rattle.tf_model.specs.Before.{Flow, item_before}
-use Rattle.tf_model.specs.Outline.{Turn}
-use Rattle.tf_order.specs.declared.outline.Turn.{Turn as CodeTurn}
+use Rattle.tf_flow.specs.declared.ways.Turn.{Turn}
 use Rattle.tf_order.specs.declared.ways.Meeting.{Meeting}
 use Rattle.tf_order.specs.declared.ways.Meeting.TheVariants as meet
 
@@ -36,10 +35,10 @@ decides flows meet.First = true
 decides flows (meet.Items g u v) = item_before flows g u v
 
 -- the flow into which a turn leads, where there is a turn
-abbrev pub flow_of_turn : Option CodeTurn → Option ℕ
+abbrev pub flow_of_turn : Option Turn → Option ℕ
 flow_of_turn turn = option_map (λ t. t.flow) turn
 
 -- the place to which it leads there
-abbrev pub item_of_turn : Option CodeTurn → Option ℕ
+abbrev pub item_of_turn : Option Turn → Option ℕ
 item_of_turn None = None
 item_of_turn (Some turn) = turn.item

@@ -2,11 +2,9 @@ ghost use Rattle.std.specs.Prelude.{◌≡◌, ℕ, List, slice_get};
 ghost use Rattle.tf_model.specs.Before as before;
 ghost use Rattle.tf_model.specs.Before.{Flow};
 ghost use Rattle.tf_order.specs.Arranged.{comes_before, ShowsFlows};
-ghost use Rattle.tf_order.specs.Turns.{shown_turns};
 
-use crate::outline::Turn;
 use crate::ways::{Meeting, meeting_of};
-use tf_flow::FlowKind;
+use tf_flow::{FlowKind, Turn};
 use tf_links::{Bits, Links, has_in};
 
 /// A flow with what its kind and its links mean: the linked items of a graph flow and which of them
@@ -46,7 +44,7 @@ pub fn item_before(table: &[Option<Arranged>], flow: usize, u: usize, v: usize) 
 /// Whether an atom with the first way is before one with the second.
 #[tactic(auto, using(crate::proofs::WayLemmas::way_before_met))]
 pub fn is_way_before(table: &[Option<Arranged>], a: &[Turn], b: &[Turn]) -> bool
-    ensures { (flows : List Flow) → ShowsFlows table.now flows → result ≡ before.way_before flows (shown_turns a.now) (shown_turns b.now) }
+    ensures { (flows : List Flow) → ShowsFlows table.now flows → result ≡ before.way_before flows a.now b.now }
 {
     match meeting_of(a, b) {
         Meeting::Apart => false,

@@ -1,26 +1,28 @@
+ghost use Rattle.tf_flow.specs.Ways.{shown_part};
 ghost use Rattle.std.specs.Prelude.{◌≡◌, ◌++◌, ◌∷◌, [], ℕ, ◌<◌, List, Option, None, Some, true, filter, map, drop, length, IfOk, OnOk, option_copied};
 ghost use Rattle.tf_flow.specs.Names.{is_among};
 ghost use Rattle.tf_flow.specs.Rules.{bind_symbols};
 ghost use Rattle.tf_model.specs.Before.{Flow};
 ghost use Rattle.tf_model.specs.Compilation as compiling;
 ghost use Rattle.tf_model.specs.Linked as model;
-ghost use Rattle.tf_model.specs.Numbers.{Pair, has_number, reached};
-ghost use Rattle.tf_model.specs.Outline.{arguments_of};
+ghost use Rattle.tf_numbers.specs.Pairs.{Pair};
+ghost use Rattle.tf_numbers.specs.Numbers.{has_number};
+ghost use Rattle.tf_links.specs.Reach.{reached};
+ghost use Rattle.tf_flow.specs.Outline.{arguments_of};
 ghost use Rattle.tf_order.specs.Arranged.{ShowsFlows};
-ghost use Rattle.tf_order.specs.Doubts.{doubts_by, doubts_inside, first_cycle};
+ghost use Rattle.tf_order.specs.Doubts.{doubts_by, doubts_inside};
+ghost use Rattle.tf_model.specs.Compilation.{first_cycle};
 ghost use Rattle.tf_links.specs.Links.{AreLinks, AreReached};
 ghost use Rattle.tf_order.specs.Looked.{told_in};
-ghost use Rattle.tf_order.specs.Places.{shown_part, shown_level};
+ghost use Rattle.tf_order.specs.Places.{shown_level};
 ghost use Rattle.tf_order.specs.Sight.{HasProviders, HasReach, atoms_seen, place_seen, count_seen, needed_by, needed_at};
-ghost use Rattle.tf_order.specs.Turns.{shown_turns};
 
 use crate::faults::CompileFault;
 use crate::linking::binds;
-use crate::outline::Part;
 use crate::sight::{Sight, givers, is_unserved};
 use crate::ways::passes_item;
 use std::alloc::Global;
-use tf_flow::Arg;
+use tf_flow::{Arg, Part};
 use tf_links::{Bits, Links, has_in};
 use tf_values::{Memory, Name, Names};
 

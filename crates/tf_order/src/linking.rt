@@ -1,5 +1,6 @@
+ghost use Rattle.tf_flow.specs.Ways.{shown_part};
 ghost use Rattle.std.specs.Prelude.{◌≡◌, ℕ, ◌<◌, List, [], ◌∷◌, true, ◌&&◌, ◌||◌, nat_eq, length, if◌then◌else◌, flat_map, OnOk, IfOk};
-ghost use Rattle.tf_model.specs.Numbers.{has_number};
+ghost use Rattle.tf_numbers.specs.Numbers.{has_number};
 ghost use Rattle.tf_model.specs.Before.{Flow, way_at};
 ghost use Rattle.tf_model.specs.Linked as model;
 ghost use Rattle.tf_flow.specs.Names.{is_among};
@@ -7,15 +8,14 @@ ghost use Rattle.tf_flow.specs.Rules.{bind_symbols};
 ghost use Rattle.tf_order.specs.Arranged.{ShowsFlows};
 ghost use Rattle.tf_links.specs.Bits.{has, words_for};
 ghost use Rattle.tf_links.specs.Links.{leads, LinksValue, AreLinks};
-ghost use Rattle.tf_order.specs.Places.{shown_part, shown_level};
+ghost use Rattle.tf_order.specs.Places.{shown_level};
 ghost use Rattle.tf_order.specs.Sight.{atoms_seen, place_seen, count_seen, HasProviders, HasReach, LinksBy, for_item, needed_by, needed_at, taken_at, passed_at};
-ghost use Rattle.tf_order.specs.Turns.{shown_turn, shown_turns};
 
 use crate::index::item_names;
-use crate::outline::{Level, Part, Turn};
+use crate::outline::Level;
 use crate::sight::{Sight, givers, is_unserved};
 use std::alloc::Global;
-use tf_flow::{Arg, Bind};
+use tf_flow::{Arg, Bind, Part, Turn};
 use tf_links::{Bits, Links};
 use tf_values::{Memory, Name};
 
@@ -90,7 +90,7 @@ fn link_turn(
     requires wide { length found.old.doubts ≡ words_for (count_seen sight.now) }
     ensures count { OnOk result (found.new.links.count ≡ count_seen sight.now) }
     ensures wide { OnOk result (length found.new.doubts ≡ words_for (count_seen sight.now)) }
-    ensures links { OnOk result ((inner : List Flow) → ShowsFlows sight.now.table.now inner → LinksBy sight.now (taken_at sight.now inner atom (shown_turn turn)) found.old.links found.old.doubts found.new.links found.new.doubts) }
+    ensures links { OnOk result ((inner : List Flow) → ShowsFlows sight.now.table.now inner → LinksBy sight.now (taken_at sight.now inner atom turn) found.old.links found.old.doubts found.new.links found.new.doubts) }
 {
     if turn.flow != sight.level.number {
         return Ok(());

@@ -4,10 +4,11 @@ ghost use Rattle.tf_flow.specs.declared.nested.FlowKind.TheVariants as kind;
 ghost use Rattle.tf_model.specs.Before.{Flow};
 ghost use Rattle.tf_order.specs.Arranged.{IsArranged, ShowsFlows};
 ghost use Rattle.tf_order.specs.Looked.{told_in, arranged_seen, refusal_seen};
-ghost use Rattle.tf_model.specs.Compilation.{ambiguity_at};
-ghost use Rattle.tf_model.specs.Numbers.{Pair, first_below, reached};
+ghost use Rattle.tf_model.specs.Compilation.{ambiguity_at, first_cycle};
+ghost use Rattle.tf_numbers.specs.Pairs.{Pair};
+ghost use Rattle.tf_numbers.specs.Numbers.{first_below};
+ghost use Rattle.tf_links.specs.Reach.{reached};
 ghost use Rattle.tf_links.specs.Bits.{has, room};
-ghost use Rattle.tf_order.specs.Doubts.{first_cycle};
 ghost use Rattle.tf_links.specs.Links.{AreLinks, AreReached};
 ghost use Rattle.tf_order.specs.Sight.{HasProviders, HasReach, atoms_seen, place_seen, count_seen};
 

@@ -1,110 +1,12 @@
 ghost use Rattle.std.specs.Prelude.{◌≡◌, ℕ, ◌+◌, ◌<◌, ◌≤◌, List, [], ◌∷◌, ◌++◌, Option, None, Some, length, map, OnOk, IfOk};
 ghost use Rattle.tf_flow.specs.Tree.{Tree, tree_of, item_tree};
-ghost use Rattle.tf_model.specs.Numbers.{numbers_below};
-ghost use Rattle.tf_model.specs.Outline as model;
-ghost use Rattle.tf_model.specs.Plan.{is_task_part};
-ghost use Rattle.tf_order.specs.Places.{shown_turns, shown_part, shown_atoms, shown_level, shown_levels, shown_item, under, with_items_at, level_number};
+ghost use Rattle.tf_numbers.specs.Numbers.{numbers_below};
+ghost use Rattle.tf_flow.specs.Outline as model;
+ghost use Rattle.tf_order.specs.Places.{shown_atoms, shown_level, shown_levels, shown_item, under, with_items_at, level_number};
 
 use std::alloc::Global;
-use std::marker::Model;
-use tf_flow::{Arg, Bind, Flow, Item, Plan, Provides, Retry, Task};
+use tf_flow::{Flow, Item, Part, Plan, Retry, Turn, Way};
 use tf_values::{Memory, Name};
-
-/// A turn of a way from the root: into the flow of this number, and there to the item at this place,
-/// or to its retry controller where there is no place.
-#[derive(Clone, Copy)]
-pub struct Turn {
-    pub flow: usize,
-    pub item: Option<usize>,
-}
-
-/// The way of an atom from the root. Contracts see the list of turns.
-#[derive(Drop)]
-pub struct Way {
-    turns: Vec<Turn>,
-}
-
-impl Model for Way {
-    ghost use Rattle.std.specs.Prelude.{List};
-    ghost use Rattle.tf_model.specs.Outline as model;
-    ghost use Rattle.tf_order.specs.Turns.{shown_turns};
-
-    ghost Value = { List model.Turn };
-
-    ghost view = { λ way. shown_turns way.turns.items };
-}
-
-impl Way {
-    /// A way of these turns.
-    pub fn make(turns: Vec<Turn>) -> Way
-        ensures { result ≡ shown_turns turns.items }
-    {
-        Way { turns }
-    }
-
-    /// The turns, from the root on.
-    pub fn turns(&self) -> &[Turn]
-        ensures { shown_turns result.now ≡ self.now }
-    {
-        &self.turns
-    }
-}
-
-/// What an atom is.
-#[derive(Clone, Copy)]
-pub enum Part<'a> {
-    Task(&'a Task),
-    Retry(&'a Retry),
-}
-
-impl<'a> Part<'a> {
-    /// Its name.
-    pub fn name(&self) -> Name
-        ensures { result ≡ model.name_of (shown_part self.now) }
-    {
-        match self {
-            Part::Task(task) => task.name,
-            Part::Retry(retry) => retry.name,
-        }
-    }
-
-    /// Its arguments.
-    pub fn args(&self) -> &'a [Arg]
-        ensures { result.now ≡ model.arguments_of (shown_part self.now) }
-    {
-        match self {
-            Part::Task(task) => task.args.items(),
-            Part::Retry(retry) => retry.args.items(),
-        }
-    }
-
-    /// The symbols that have a constant value for it.
-    pub fn injects(&self) -> &'a [Bind]
-        ensures { result.now ≡ model.injected_in (shown_part self.now) }
-    {
-        match self {
-            Part::Task(task) => task.inject.items(),
-            Part::Retry(retry) => retry.inject.items(),
-        }
-    }
-
-    /// The symbols that its result gives.
-    pub fn provides(&self) -> &'a Provides
-        ensures { result.now ≡ model.provided_by (shown_part self.now) }
-    {
-        match self {
-            Part::Task(task) => &task.provides,
-            Part::Retry(retry) => &retry.provides,
-        }
-    }
-
-    /// Whether it is a task, and no retry controller.
-    pub fn is_task(&self) -> bool
-        ensures { result ≡ is_task_part (shown_part self.now) }
-    {
-        matches!(self, Part::Task(_))
-    }
-}
 
 /// An atom and its way from the root.
 #[derive(Drop)]
@@ -173,7 +75,7 @@ fn add_flow<'a>(
     way: &[Turn],
     outline: &mut Outline<'a>,
 ) -> Result<(), Memory>
-    ensures atoms { OnOk result (shown_atoms outline.new.atoms.items ≡ shown_atoms outline.old.atoms.items ++ map (under (shown_turns way.now)) (model.atoms_of (length outline.old.levels.items) (tree_of flow.now))) }
+    ensures atoms { OnOk result (shown_atoms outline.new.atoms.items ≡ shown_atoms outline.old.atoms.items ++ map (under way.now) (model.atoms_of (length outline.old.levels.items) (tree_of flow.now))) }
     ensures levels { OnOk result (shown_levels outline.new.levels.items ≡ shown_levels outline.old.levels.items ++ model.flows_of (length outline.old.levels.items) (length outline.old.atoms.items) (tree_of flow.now)) }
     ensures inner { OnOk result (outline.new.inner_first.items ≡ outline.old.inner_first.items ++ model.innermost_first (length outline.old.levels.items) (tree_of flow.now)) }
 {
@@ -209,7 +111,7 @@ fn add_item<'a>(
     outline: &mut Outline<'a>,
 ) -> Result<ItemPlace, Memory>
     ensures item { IfOk result (λ place. shown_item place ≡ model.item_of (length outline.old.levels.items) (length outline.old.atoms.items) (item_tree item.now)) }
-    ensures atoms { OnOk result (shown_atoms outline.new.atoms.items ≡ shown_atoms outline.old.atoms.items ++ map (under (shown_turns way.now)) (model.atoms_of (length outline.old.levels.items) (item_tree item.now))) }
+    ensures atoms { OnOk result (shown_atoms outline.new.atoms.items ≡ shown_atoms outline.old.atoms.items ++ map (under way.now) (model.atoms_of (length outline.old.levels.items) (item_tree item.now))) }
     ensures levels { OnOk result (shown_levels outline.new.levels.items ≡ shown_levels outline.old.levels.items ++ model.flows_of (length outline.old.levels.items) (length outline.old.atoms.items) (item_tree item.now)) }
     ensures inner { OnOk result (outline.new.inner_first.items ≡ outline.old.inner_first.items ++ model.innermost_first (length outline.old.levels.items) (item_tree item.now)) }
 {
@@ -244,7 +146,7 @@ fn add_retry<'a>(
     atoms: &mut Vec<AtomPlace<'a>>,
 ) -> Result<Option<usize>, Memory>
     ensures number { IfOk result (λ number. number ≡ model.retry_number (length atoms.old.items) retry.now) }
-    ensures atoms { OnOk result (shown_atoms atoms.new.items ≡ shown_atoms atoms.old.items ++ map (under (shown_turns way.now)) (model.retry_atoms flow retry.now)) }
+    ensures atoms { OnOk result (shown_atoms atoms.new.items ≡ shown_atoms atoms.old.items ++ map (under way.now) (model.retry_atoms flow retry.now)) }
 {
     match retry {
         None => Ok(None),

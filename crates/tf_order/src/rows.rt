@@ -1,5 +1,5 @@
 ghost use Rattle.std.specs.Prelude.{◌≡◌, ℕ, List, [], ◌∷◌, ◌++◌, ◌&&◌, ◌||◌, nat_lt, nat_eq, length, IfOk, OnOk};
-ghost use Rattle.tf_model.specs.Numbers.{has_number};
+ghost use Rattle.tf_numbers.specs.Numbers.{has_number};
 ghost use Rattle.tf_links.specs.Bits.{has, words_for};
 ghost use Rattle.tf_links.specs.Links.{leads};
 ghost use Rattle.tf_order.specs.Rows.{row_at, is_in_row};

@@ -1,6 +1,6 @@
 ghost use Rattle.std.specs.Prelude.{◌≡◌, ℕ, ◌<◌, List, Bool, true, ◌||◌, not, nat_eq, length, filter, OnOk, IfOk};
 ghost use Rattle.std.specs.List.{list_any};
-ghost use Rattle.tf_model.specs.Numbers.{which_below, has_number};
+ghost use Rattle.tf_numbers.specs.Numbers.{which_below, has_number};
 ghost use Rattle.tf_model.specs.Before.{Flow};
 ghost use Rattle.tf_model.specs.Linked as model;
 ghost use Rattle.tf_flow.specs.Names.{is_among};
@@ -10,14 +10,13 @@ ghost use Rattle.tf_links.specs.Bits.{has, words_for};
 ghost use Rattle.tf_links.specs.Links.{leads};
 ghost use Rattle.tf_order.specs.Marks.{marks, marks_turn, serves_in, leads_to_item, is_other};
 ghost use Rattle.tf_order.specs.Sight.{atoms_seen, place_seen, count_seen, HasProviders, HasReach};
-ghost use Rattle.tf_order.specs.Turns.{shown_turn, shown_turns};
 
 use crate::arranged::{Arranged, is_way_before};
 use crate::index::NameIndex;
-use crate::outline::{AtomPlace, Level, Turn};
+use crate::outline::{AtomPlace, Level};
 use crate::ways::passes_item;
 use std::alloc::Global;
-use tf_flow::{Provides, Retry};
+use tf_flow::{Provides, Retry, Turn};
 use tf_links::{Bits, has_in};
 use tf_values::{Memory, Name};
 
@@ -83,7 +82,7 @@ pub fn providing_items(
 fn mark_items(way: &[Turn], flow: usize, count: usize, set: &mut Bits)
     requires wide { length set.old ≡ words_for count }
     ensures wide { length set.new ≡ words_for count }
-    ensures set { (u : ℕ) → has set.new u ≡ (has set.old u || marks flow count (shown_turns way.now) u) }
+    ensures set { (u : ℕ) → has set.new u ≡ (has set.old u || marks flow count way.now u) }
 {
     for turn in way {
         mark_item(*turn, flow, count, set);
@@ -95,7 +94,7 @@ fn mark_items(way: &[Turn], flow: usize, count: usize, set: &mut Bits)
 fn mark_item(turn: Turn, flow: usize, count: usize, set: &mut Bits)
     requires wide { length set.old ≡ words_for count }
     ensures wide { length set.new ≡ words_for count }
-    ensures set { (u : ℕ) → has set.new u ≡ (has set.old u || marks_turn flow count (shown_turn turn) u) }
+    ensures set { (u : ℕ) → has set.new u ≡ (has set.old u || marks_turn flow count turn u) }
 {
     if turn.flow != flow {
         return;
@@ -110,7 +109,7 @@ fn mark_item(turn: Turn, flow: usize, count: usize, set: &mut Bits)
 
 /// The items that give a symbol to an item, where it asks for a link to it: not where the flow's retry
 /// controller provides it, or an item that reaches this one by explicit links.
-#[tactic(auto, using(crate::proofs::SightLemmas::givers_by_retry, crate::proofs::SightLemmas::givers_by_reach, crate::proofs::SightLemmas::givers_other, crate::proofs::SightLemmas::none_within, crate::proofs::SightLemmas::others_within))]
+#[tactic(auto, using(crate::proofs::SightLemmas::givers_by_retry, crate::proofs::SightLemmas::givers_by_reach, crate::proofs::SightLemmas::givers_other, tf_numbers::proofs::ListLemmas::none_within, crate::proofs::SightLemmas::others_within))]
 pub fn givers(
     alloc: Global,
     sight: &Sight<'_, '_>,

@@ -1,7 +1,7 @@
 ghost use Rattle.std.specs.Prelude.{◌≡◌, ◌++◌, List, IfOk, OnOk};
 ghost use Rattle.tf_model.specs.Before.{Flow, flow_at};
 ghost use Rattle.tf_model.specs.Linked as model;
-ghost use Rattle.tf_model.specs.Numbers.{Pair};
+ghost use Rattle.tf_numbers.specs.Pairs.{Pair};
 ghost use Rattle.tf_order.specs.Arranged.{ShowsFlows};
 ghost use Rattle.tf_links.specs.Links.{AreLinks};
 ghost use Rattle.tf_order.specs.Sight.{place_seen, count_seen};

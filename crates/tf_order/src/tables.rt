@@ -1,7 +1,7 @@
 ghost use Rattle.std.specs.Prelude.{◌≡◌, ℕ, ◌<◌, ◌≤◌, List, ◌++◌, length, map, slice_get, IfOk, OnOk};
 ghost use Rattle.tf_model.specs.Before.{Flow, flow_at};
 ghost use Rattle.tf_model.specs.Deciders.{last_item};
-ghost use Rattle.tf_model.specs.Numbers.{which_below, numbers_below};
+ghost use Rattle.tf_numbers.specs.Numbers.{which_below, numbers_below};
 ghost use Rattle.tf_model.specs.Plan.{is_before, last_flow};
 ghost use Rattle.tf_order.specs.Arranged.{ShowsFlows};
 ghost use Rattle.tf_order.specs.Graph.{leads_to, leads_in, standing_of_plan};
@@ -9,11 +9,11 @@ ghost use Rattle.tf_order.specs.Tables.{plan_seen, atoms_found, number_if, RowAd
 
 use crate::arranged::{Arranged, is_way_before};
 use crate::graph::Graph;
-use crate::outline::{AtomPlace, Outline, Turn};
+use crate::outline::{AtomPlace, Outline};
 use crate::rows::{Row, empty_rows};
 use crate::ways::last_turn;
 use std::alloc::Global;
-use tf_flow::FlowKind;
+use tf_flow::{FlowKind, Turn};
 use tf_values::Memory;
 
 /// For each atom those before it and those after it.

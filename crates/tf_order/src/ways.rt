@@ -2,10 +2,9 @@ ghost use Rattle.std.specs.Prelude.{◌≡◌, Some};
 ghost use Rattle.tf_model.specs.Before as before;
 ghost use Rattle.tf_model.specs.Deciders.{last_item};
 ghost use Rattle.tf_model.specs.Plan.{last_flow};
-ghost use Rattle.tf_order.specs.Turns.{shown_turn, shown_turns};
 ghost use Rattle.tf_order.specs.Ways as ways;
 
-use crate::outline::Turn;
+use tf_flow::Turn;
 
 /// Where two ways part.
 #[derive(Clone, Copy)]
@@ -24,7 +23,7 @@ pub enum Meeting {
 
 /// Whether a way leads through this item of a flow.
 pub fn passes_item(way: &[Turn], flow: usize, item: usize) -> bool
-    ensures { result ≡ before.passes_item flow (Some item) (shown_turns way.now) }
+    ensures { result ≡ before.passes_item flow (Some item) way.now }
 {
     for turn in way {
         if takes_item(turn, flow, item) {
@@ -36,7 +35,7 @@ pub fn passes_item(way: &[Turn], flow: usize, item: usize) -> bool
 
 /// Whether a turn is into a flow, to this item of it.
 fn takes_item(turn: &Turn, flow: usize, item: usize) -> bool
-    ensures { result ≡ before.takes_item flow (Some item) (shown_turn turn.now) }
+    ensures { result ≡ before.takes_item flow (Some item) turn.now }
 {
     match turn.item {
         None => false,
@@ -47,15 +46,15 @@ fn takes_item(turn: &Turn, flow: usize, item: usize) -> bool
 /// The last turn of a way, where it has one.
 #[tactic(auto, using(crate::proofs::WayLemmas::last_turn_flow, crate::proofs::WayLemmas::last_turn_item))]
 pub fn last_turn(way: &[Turn]) -> Option<Turn>
-    ensures flow { last_flow (shown_turns way.now) ≡ ways.flow_of_turn result }
-    ensures item { last_item (shown_turns way.now) ≡ ways.item_of_turn result }
+    ensures flow { last_flow way.now ≡ ways.flow_of_turn result }
+    ensures item { last_item way.now ≡ ways.item_of_turn result }
 {
     way.last().copied()
 }
 
 /// Where two ways part.
 pub fn meeting_of(a: &[Turn], b: &[Turn]) -> Meeting
-    ensures { result ≡ ways.meeting (shown_turns a.now) (shown_turns b.now) }
+    ensures { result ≡ ways.meeting a.now b.now }
 {
     for place in 0..a.len().min(b.len()) {
         if let Some(meeting) = parting(&a[place], &b[place]) {
@@ -67,7 +66,7 @@ pub fn meeting_of(a: &[Turn], b: &[Turn]) -> Meeting
 
 /// Where two ways part at these turns, if they do.
 fn parting(x: &Turn, y: &Turn) -> Option<Meeting>
-    ensures { result ≡ ways.parting (shown_turn x.now) (shown_turn y.now) }
+    ensures { result ≡ ways.parting x.now y.now }
 {
     if x.flow != y.flow {
         return Some(Meeting::Apart);

@@ -1,4 +1,4 @@
-use Rattle.tf_order.specs.Places.{shown_part}
+use Rattle.tf_flow.specs.Ways.{shown_part}
 use Rattle.tf_order.proofs.DoubtLemmas.{part_more}
 use Rattle.tf_order.proofs.doubts.add_of_part.Goals as goal
 

@@ -1,5 +1,5 @@
+use Rattle.tf_flow.specs.Ways.{shown_part}
 use Rattle.std.proofs.Common.{take}
-use Rattle.tf_order.specs.Places.{shown_part}
 use Rattle.tf_order.proofs.DoubtLemmas.{DoubtsSeen}
 use Rattle.tf_order.proofs.doubts.add_of_part.Given as goal
 

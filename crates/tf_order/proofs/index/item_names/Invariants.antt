@@ -1,5 +1,5 @@
 use Rattle.std.proofs.Common.{◌≡◌, ℕ, List, map}
-use Rattle.tf_model.specs.Numbers.{which_below}
+use Rattle.tf_numbers.specs.Numbers.{which_below}
 use Rattle.tf_order.specs.Index.{told, is_named_at}
 use Rattle.tf_order.specs.Places.{shown_item}
 use Rattle.tf_order.proofs.index.item_names.Given as goal

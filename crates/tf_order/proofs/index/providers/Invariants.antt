@@ -1,6 +1,6 @@
 use Rattle.std.proofs.Common.{◌≡◌, ℕ, List}
 use Rattle.tf_model.specs.Linked.{provides_at}
-use Rattle.tf_model.specs.Numbers.{which_below}
+use Rattle.tf_numbers.specs.Numbers.{which_below}
 use Rattle.tf_order.specs.Index.{told}
 use Rattle.tf_order.specs.Places.{shown_atoms}
 use Rattle.tf_order.proofs.index.providers.Given as goal

@@ -1,6 +1,6 @@
+use Rattle.tf_flow.specs.Ways.{shown_part}
 use Rattle.std.proofs.Common.{◌≡◌, length, take}
 use Rattle.tf_links.specs.Bits.{words_for}
-use Rattle.tf_order.specs.Places.{shown_part}
 use Rattle.tf_order.specs.Sight.{count_seen}
 use Rattle.tf_order.proofs.LinkingLemmas.{ArgumentsSeen}
 use Rattle.tf_order.proofs.linking.link_item.Given as goal

@@ -1,5 +1,4 @@
 use Rattle.std.proofs.Common.{◌≡◌, ◌∙◌, length, arith}
-use Rattle.tf_order.specs.Places.{shown_turns}
 use Rattle.tf_order.proofs.OutlineLemmas.{walk_next, walk_levels, walk_inner, all_read}
 use Rattle.tf_order.proofs.outline.+walk.Goals as goal
 
@@ -17,7 +16,7 @@ add_flow-loop-place-preserved t c =
 pub add_flow-returns-clause-levels : goal.add_flow-returns-clause-levels
 add_flow-returns-clause-levels t c =
     let g_is : c.len-number.result ≡ length c.args.outline.now.levels.items = omega arith in
-    walk_levels (shown_turns c.args.way.now) c.args.flow.now c.len-number.result c.args.outline.now.atoms.items c.loop-place.outline.atoms.items c.args.outline.now.levels.items c.loop-place.outline.levels.items
+    walk_levels c.args.way.now c.args.flow.now c.len-number.result c.args.outline.now.atoms.items c.loop-place.outline.atoms.items c.args.outline.now.levels.items c.loop-place.outline.levels.items
     c.args.outline.now.inner_first.items c.loop-place.outline.inner_first.items c.loop-place.items.items c.loop-place.place
     c.loop-place.invariant (all_read c.items-item-items.result.now c.args.flow.now.items.items.items c.loop-place.place c.items-item-items.ensures c.loop-place-test.false) g_is
     c.put_items.new.levels.items c.put_items.ensures
@@ -25,7 +24,7 @@ add_flow-returns-clause-levels t c =
 pub add_flow-returns-clause-inner : goal.add_flow-returns-clause-inner
 add_flow-returns-clause-inner t c =
     let g_is : c.len-number.result ≡ length c.args.outline.now.levels.items = omega arith in
-    walk_inner (shown_turns c.args.way.now) c.args.flow.now c.len-number.result c.args.outline.now.atoms.items c.loop-place.outline.atoms.items c.args.outline.now.levels.items c.loop-place.outline.levels.items
+    walk_inner c.args.way.now c.args.flow.now c.len-number.result c.args.outline.now.atoms.items c.loop-place.outline.atoms.items c.args.outline.now.levels.items c.loop-place.outline.levels.items
     c.args.outline.now.inner_first.items c.loop-place.outline.inner_first.items c.loop-place.items.items c.loop-place.place
     c.loop-place.invariant (all_read c.items-item-items.result.now c.args.flow.now.items.items.items c.loop-place.place c.items-item-items.ensures c.loop-place-test.false) g_is
     c.push-2.new.self.items c.in_ok-push-3.ensures.items

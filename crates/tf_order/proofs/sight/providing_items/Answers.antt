@@ -2,14 +2,13 @@ use Rattle.std.proofs.Common.{◌≡◌, ◌∙◌, sym, ap, slice_index_or, ari
 use Rattle.std.proofs.lemmas.Grind.{common_steps}
 use Rattle.tf_order.specs.Sight.{count_seen}
 use Rattle.tf_order.specs.declared.outline.AtomPlace.{AtomPlace}
-use Rattle.tf_order.specs.Turns.{shown_turns}
 use Rattle.tf_order.proofs.SightLemmas.{marked_next, marked_all, provider_within, way_seen}
 use Rattle.tf_order.proofs.sight.providing_items.Goals as goal
 
 pub loop-atom-preserved : goal.loop-atom-preserved
 loop-atom-preserved c =
     let same : c.len-count.result ≡ count_seen c.args.sight.now = grind (arith, common_steps) in
-    marked_next c.args.sight.now c.loop-atom.set c.mark_items.new.set c.numbers-atom-items.result.now c.loop-atom.atom-index (shown_turns c.turns-way.result.now) c.len-count.result same c.loop-atom.invariant c.loop-atom-test.true
+    marked_next c.args.sight.now c.loop-atom.set c.mark_items.new.set c.numbers-atom-items.result.now c.loop-atom.atom-index c.turns-way.result.now c.len-count.result same c.loop-atom.invariant c.loop-atom-test.true
     (c.turns-way.ensures ∙ (ap (λ (a : AtomPlace). a.way) (sym c.index-sight-atom.is)
     ∙ sym (way_seen c.args.sight.now.atoms.now (slice_index_or c.numbers-atom-items.result.now c.loop-atom.atom-index 0) c.index-sight-atom.result
     (provider_within c.args.sight.now c.args.symbol.now c.numbers-atom-items.result.now c.loop-atom.atom-index c.requires.providers c.numbers-atom-items.ensures c.loop-atom-test.true) c.index-sight-atom.is)))

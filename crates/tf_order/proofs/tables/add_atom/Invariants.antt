@@ -1,5 +1,5 @@
 use Rattle.std.proofs.Common.{◌≡◌}
-use Rattle.tf_model.specs.Numbers.{which_below}
+use Rattle.tf_numbers.specs.Numbers.{which_below}
 use Rattle.tf_model.specs.Plan.{is_before}
 use Rattle.tf_order.specs.Tables.{plan_seen, RowsAdded}
 use Rattle.tf_order.proofs.tables.add_atom.Given as goal

@@ -1,5 +1,5 @@
 use Rattle.std.proofs.Common.{◌≡◌, map}
-use Rattle.tf_model.specs.Numbers.{which_below, numbers_below}
+use Rattle.tf_numbers.specs.Numbers.{which_below, numbers_below}
 use Rattle.tf_order.specs.Graph.{leads_to}
 use Rattle.tf_order.specs.Tables.{plan_seen, atoms_found}
 use Rattle.tf_order.proofs.tables.direct_rows.Given as goal

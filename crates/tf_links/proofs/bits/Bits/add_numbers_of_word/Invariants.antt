@@ -1,5 +1,5 @@
 use Rattle.std.proofs.Common.{◌≡◌, ◌*◌, ◌+◌}
-use Rattle.tf_model.specs.Numbers.{which_below}
+use Rattle.tf_numbers.specs.Numbers.{which_below}
 use Rattle.tf_links.specs.Bits.{has}
 use Rattle.tf_links.proofs.bits.Bits.add_numbers_of_word.Given as goal
 

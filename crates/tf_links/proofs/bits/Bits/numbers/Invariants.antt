@@ -1,5 +1,5 @@
 use Rattle.std.proofs.Common.{◌≡◌, ◌*◌}
-use Rattle.tf_model.specs.Numbers.{which_below}
+use Rattle.tf_numbers.specs.Numbers.{which_below}
 use Rattle.tf_links.specs.Bits.{has}
 use Rattle.tf_links.proofs.bits.Bits.numbers.Given as goal
 

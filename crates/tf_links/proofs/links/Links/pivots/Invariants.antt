@@ -1,5 +1,5 @@
 use Rattle.std.proofs.Common.{◌≡◌, ℕ, ◌<◌, true}
-use Rattle.tf_model.specs.Numbers.{has_number}
+use Rattle.tf_numbers.specs.Numbers.{has_number}
 use Rattle.tf_links.specs.Links.{ArePivots}
 use Rattle.tf_links.proofs.links.Links.pivots.Given as goal
 

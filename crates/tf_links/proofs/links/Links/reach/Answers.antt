@@ -1,5 +1,5 @@
 use Rattle.std.proofs.Common.{◌∙◌, ◌<◌, sym, ap, ℕ, List, length, slice_index_or}
-use Rattle.tf_model.specs.Numbers.{has_number}
+use Rattle.tf_numbers.specs.Numbers.{has_number}
 use Rattle.tf_links.specs.Bits.{words_for}
 use Rattle.tf_links.proofs.ReachLemmas.{reaching_more, reaching_all, pivot_within, row_width, read_same, square_of}
 use Rattle.tf_links.proofs.links.Links.reach.Goals as goal

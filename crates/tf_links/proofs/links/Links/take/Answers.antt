@@ -1,5 +1,5 @@
 use Rattle.std.proofs.Common.{◌≡◌, ◌∙◌, sym, ap, List, ℕ}
-use Rattle.tf_model.specs.Numbers.{has_number}
+use Rattle.tf_numbers.specs.Numbers.{has_number}
 use Rattle.tf_links.proofs.StandingLemmas.{seen_more, seen_all, next_within}
 use Rattle.tf_links.proofs.links.Links.take.Goals as goal
 

@@ -1,0 +1,211 @@
+-- The nested tree as two lists: its atoms and its flows in tree order.
+use Rattle.std.specs.Prelude.{ℕ, ℤ, pos, suc, ◌+◌, List, [], ◌∷◌, ◌++◌, Option, Some, None, map, Bool, true, false}
+use Rattle.tf_flow.specs.declared.atoms.Arg.{Arg}
+use Rattle.tf_flow.specs.declared.atoms.Bind.{Bind}
+use Rattle.tf_flow.specs.declared.atoms.Provides.{Provides}
+use Rattle.tf_flow.specs.declared.atoms.Retry.{Retry}
+use Rattle.tf_flow.specs.declared.atoms.Task.{Task}
+use Rattle.tf_flow.specs.declared.nested.FlowKind.{FlowKind}
+use Rattle.tf_flow.specs.declared.ways.Turn.{Turn}
+use Rattle.tf_flow.specs.Tree.{Tree, Trees, task, flow, no_trees, tree, Head}
+use Rattle.tf_flow.specs.Conditions.{Connection, connection_of}
+
+-- an atom is a task or a retry controller
+pub data Part : Type 0 where
+  a_task : Task → Part
+  a_retry : Retry → Part
+
+-- an atom and its way from the root
+pub record Atom : Type 0 where
+  pub way : List Turn
+  pub part : Part
+
+-- what stands at one place of a flow: a task by its number among the atoms, or a flow by its number
+-- among the flows
+pub data Standing : Type 0 where
+  stands_task : ℕ → Standing
+  stands_flow : ℕ → Standing
+
+-- an item of a flow
+pub record Item : Type 0 where
+  pub name : List ℕ
+  pub standing : Standing
+
+-- a flow: its number, the number of its retry controller among the atoms, and what it is
+pub record FlowPlace : Type 0 where
+  pub number : ℕ
+  pub name : List ℕ
+  pub kind : FlowKind
+  pub retry : Option ℕ
+  pub control : Option Retry
+  pub items : List Item
+  pub links : List Connection
+
+-- how many flows stand in a tree
+abbrev mutual
+  pub flow_count : Tree → ℕ
+  flow_count (task t) = 0
+  flow_count (flow head items) = 1 + flows_among_count items
+
+  pub flows_among_count : Trees → ℕ
+  flows_among_count no_trees = 0
+  flows_among_count (tree first others) = flow_count first + flows_among_count others
+
+-- a retry controller is one atom
+abbrev pub retry_count : Option Retry → ℕ
+retry_count None = 0
+retry_count (Some r) = 1
+
+-- how many atoms
+abbrev mutual
+  pub atom_count : Tree → ℕ
+  atom_count (task t) = 1
+  atom_count (flow head items) = retry_count head.retry + atoms_among_count items
+
+  pub atoms_among_count : Trees → ℕ
+  atoms_among_count no_trees = 0
+  atoms_among_count (tree first others) = atom_count first + atoms_among_count others
+
+-- an atom of an item, seen from the flow around it
+abbrev pub enter : ℕ → ℕ → Atom → Atom
+enter g i atom = record { way = record { flow = g; item = Some i } ∷ atom.way; part = atom.part }
+
+-- the retry controller of flow g, where it has one
+abbrev pub retry_atoms : ℕ → Option Retry → List Atom
+retry_atoms g None = []
+retry_atoms g (Some r) = record { way = record { flow = g; item = None } ∷ []; part = a_retry r } ∷ []
+
+-- the atoms of a tree in tree order: a flow's retry controller, then its items as they stand, a nested
+-- flow in its place; the flows in it are numbered from g on
+abbrev mutual
+  pub atoms_of : ℕ → Tree → List Atom
+  atoms_of g (task t) = record { way = []; part = a_task t } ∷ []
+  atoms_of g (flow head items) = retry_atoms g head.retry ++ atoms_among g 0 (suc g) items
+
+  -- those of the items of flow g from item i on, in which flows are numbered from n on
+  pub atoms_among : ℕ → ℕ → ℕ → Trees → List Atom
+  atoms_among g i n no_trees = []
+  atoms_among g i n (tree first others) = map (enter g i) (atoms_of n first) ++ atoms_among g (suc i) (n + flow_count first) others
+
+-- the number of the retry controller of a flow whose atoms are numbered from a on
+abbrev pub retry_number : ℕ → Option Retry → Option ℕ
+retry_number a None = None
+retry_number a (Some r) = Some a
+
+-- an item: a task has the atom's number a, a flow the number n
+abbrev pub item_of : ℕ → ℕ → Tree → Item
+item_of n a (task t) = record { name = t.name; standing = stands_task a }
+item_of n a (flow head items) = record { name = head.name; standing = stands_flow n }
+
+-- items, in which flows are numbered from n on and atoms from a on
+abbrev pub items_of : ℕ → ℕ → Trees → List Item
+items_of n a no_trees = []
+items_of n a (tree first others) = item_of n a first ∷ items_of (n + flow_count first) (a + atom_count first) others
+
+-- flow g, whose atoms are numbered from a on
+abbrev pub flow_place : ℕ → ℕ → Head → Trees → FlowPlace
+flow_place g a head items = record {
+  number = g;
+  name = head.name;
+  kind = head.kind;
+  retry = retry_number a head.retry;
+  control = head.retry;
+  items = items_of (suc g) (a + retry_count head.retry) items;
+  links = map connection_of head.links;
+}
+
+-- the flows of a tree in the same walk, a flow before those nested in it
+abbrev mutual
+  pub flows_of : ℕ → ℕ → Tree → List FlowPlace
+  flows_of g a (task t) = []
+  flows_of g a (flow head items) = flow_place g a head items ∷ flows_among (suc g) (a + retry_count head.retry) items
+
+  pub flows_among : ℕ → ℕ → Trees → List FlowPlace
+  flows_among n a no_trees = []
+  flows_among n a (tree first others) = flows_of n a first ++ flows_among (n + flow_count first) (a + atom_count first) others
+
+-- the numbers of the flows with the innermost first: those nested in a flow, item by item, before it
+abbrev mutual
+  pub innermost_first : ℕ → Tree → List ℕ
+  innermost_first g (task t) = []
+  innermost_first g (flow head items) = innermost_among (suc g) items ++ g ∷ []
+
+  pub innermost_among : ℕ → Trees → List ℕ
+  innermost_among n no_trees = []
+  innermost_among n (tree first others) = innermost_first n first ++ innermost_among (n + flow_count first) others
+
+-- an atom's name
+abbrev pub name_of : Part → List ℕ
+name_of (a_task t) = t.name
+name_of (a_retry r) = r.name
+
+-- its arguments
+abbrev pub arguments_of : Part → List Arg
+arguments_of (a_task t) = t.args
+arguments_of (a_retry r) = r.args
+
+-- the symbols that have a constant value for it
+abbrev pub injected_in : Part → List Bind
+injected_in (a_task t) = t.inject
+injected_in (a_retry r) = r.inject
+
+-- the symbols that its result gives
+abbrev pub provided_by : Part → Provides
+provided_by (a_task t) = t.provides
+provided_by (a_retry r) = r.provides
+
+-- its priority; a retry controller's is 0
+abbrev pub priority_of : Part → ℤ
+priority_of (a_task t) = t.priority
+priority_of (a_retry r) = pos 0
+
+-- the way of an atom
+abbrev pub way_of : Atom → List Turn
+way_of atom = atom.way
+
+-- a way that begins with the turn into flow g, to item i
+abbrev pub enter_way : ℕ → ℕ → List Turn → List Turn
+enter_way g i way = record { flow = g; item = Some i } ∷ way
+
+-- the ways to the flows of a tree, in tree order; the flows in it are numbered from g on
+abbrev mutual
+  pub flow_ways : ℕ → Tree → List (List Turn)
+  flow_ways g (task t) = []
+  flow_ways g (flow head items) = [] ∷ flow_ways_among g 0 (suc g) items
+
+  -- those in the items of flow g from item i on, in which flows are numbered from n on
+  pub flow_ways_among : ℕ → ℕ → ℕ → Trees → List (List Turn)
+  flow_ways_among g i n no_trees = []
+  flow_ways_among g i n (tree first others) = map (enter_way g i) (flow_ways n first) ++ flow_ways_among g (suc i) (n + flow_count first) others
+
+-- the flows of a tree in tree order, each with what stands in it
+abbrev mutual
+  pub flow_trees : Tree → List Tree
+  flow_trees (task t) = []
+  flow_trees (flow head items) = flow head items ∷ flow_trees_among items
+
+  pub flow_trees_among : Trees → List Tree
+  flow_trees_among no_trees = []
+  flow_trees_among (tree first others) = flow_trees first ++ flow_trees_among others
+
+-- it is a task
+abbrev pub is_task_part : Part → Bool
+is_task_part (a_task t) = true
+is_task_part (a_retry r) = false
+
+-- it is a retry controller
+abbrev pub is_retry_part : Part → Bool
+is_retry_part (a_task t) = false
+is_retry_part (a_retry r) = true
+
+-- what an atom is
+abbrev pub part_of : Atom → Part
+part_of atom = atom.part
+
+-- what an atom is called
+abbrev pub name_of_atom : Atom → List ℕ
+name_of_atom atom = name_of atom.part
+
+-- it is a retry controller
+abbrev pub is_retry_atom : Atom → Bool
+is_retry_atom atom = is_retry_part atom.part
