@@ -1,3 +1,10 @@
 pub mod Counts
 pub mod Shown
+pub mod Content
+pub mod Crash
+pub mod Acts
+pub mod ActLaws
 pub mod MemoryDesk
+pub mod Sound
+pub mod Streams
+pub mod FileDesk

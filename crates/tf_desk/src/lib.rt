@@ -1,10 +1,16 @@
-//! The desk: the device that shows what is said.
+//! The desk: the files that a run keeps, and the text that it shows, with what a crash may leave of them.
 #![tactic(auto)]
 
 mod device;
 mod files;
 mod memory;
+mod past;
+mod streams;
 
 pub use device::{Desk, DeskFault};
 pub use files::FileDesk;
 pub use memory::MemoryDesk;
+pub use streams::read_on;
+
+#[cfg(test)]
+mod tests;

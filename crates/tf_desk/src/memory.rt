@@ -1,20 +1,27 @@
-ghost use Rattle.std.specs.Prelude.{◌≡◌, ◌≤◌, ◌++◌, ◌⊎◌, [], IfOk, IsErrOf, Some};
+ghost use Rattle.std.specs.Prelude.{◌≡◌, ◌≤◌, ◌∷◌, [], Some, IfOk, true, false};
+ghost use Rattle.std.proofs.Common.{refl};
+ghost use Rattle.tf_desk.specs.Acts.{shown_after, content_after, left_after, crashes_after};
+ghost use Rattle.tf_desk.specs.ActLaws.{picked_there, left_reads, left_none, crashes_earlier, crashes_now, crashes_only};
 ghost use Rattle.tf_desk.specs.Counts.{Rises};
 
 use crate::device::{Desk, DeskFault};
+use crate::past::Past;
 use std::alloc::Global;
 use std::marker::Model;
-use tf_values::Memory;
+use tf_values::{Memory, Text};
 
 /// A desk in memory. Its calls are numbered from 1, and the stated ones fail.
 #[derive(Drop)]
 pub struct MemoryDesk {
-    shown: Vec<u8>,
-    capacity: usize,
+    past: Past,
     calls: usize,
     made: usize,
     failing: Vec<u64>,
+    asking: Vec<u64>,
+    disk_faults: u64,
     out_faults: u64,
+    asks: u64,
+    turns: u64,
 }
 
 impl Model for MemoryDesk {
@@ -22,67 +29,178 @@ impl Model for MemoryDesk {
 
     ghost Value = { Held };
 
-    ghost view = { λ desk. record { shown = desk.shown.items; out_faults = desk.out_faults } };
+    ghost view = { λ desk. record { past = desk.past; disk_faults = desk.disk_faults; out_faults = desk.out_faults; asks = desk.asks; turns = desk.turns } };
 }
 
 impl MemoryDesk {
-    /// An empty desk. It reserves all its memory: `capacity` bounds the bytes that its calls together
-    /// show. A call fails where its number is in `failing`, where more than `calls` were made, or past
-    /// the capacity; it then shows the first half of its bytes, or none past the capacity.
+    /// An empty desk without a file. It reserves all its memory but that of a file, which its pick takes:
+    /// `capacity` bounds the bytes that its calls together write and show. A call fails where its number is
+    /// in `failing`, where more than `calls` were made, or past the capacity; a `say` and a `write_at` then
+    /// take the first half of their bytes, or none past the capacity. `stop_asked` answers `true` at its
+    /// turns in `asking`, and doesn't fail.
     pub fn make(
         alloc: Global,
         capacity: usize,
         calls: usize,
         failing: Vec<u64>,
+        asking: Vec<u64>,
     ) -> Result<MemoryDesk, Memory>
-        ensures empty { IfOk result (λ desk. (desk.shown ≡ []) × (desk.out_faults ≡ 0)) }
+        ensures empty { IfOk result (λ desk. desk.past ≡ []) }
+        ensures no_faults { IfOk result (λ desk. (desk.disk_faults ≡ 0) × (desk.out_faults ≡ 0) × (desk.asks ≡ 0)
+            × (desk.turns ≡ 0)) }
     {
         Ok(MemoryDesk {
-            shown: Vec::with_capacity(alloc, capacity)?,
-            capacity,
+            past: Past::make(alloc, capacity, calls)?,
             calls,
             made: 0,
             failing,
+            asking,
+            disk_faults: 0,
             out_faults: 0,
+            asks: 0,
+            turns: 0,
         })
     }
 
-    /// Shows no more than these bytes, and fails.
-    fn fail(&mut self, bytes: &[u8]) -> Result<(), DeskFault>
-        ensures out { IsErrOf result DeskFault.Out }
-        ensures front { (self.new.shown ≡ self.old.shown ++ bytes.now) ⊎ (self.new.shown ≡ self.old.shown) }
+    /// Counts a call, and tells whether it is one that fails.
+    fn fails(&mut self) -> bool
+        ensures same { self.new ≡ self.old }
+    {
+        self.made = self.made.saturating_add(1);
+        self.made > self.calls || self.failing.contains(&(self.made as u64))
+    }
+
+    /// A fault of the disk, counted.
+    fn disk_fault(&mut self) -> DeskFault
+        ensures disk { result ≡ DeskFault.Disk }
+        ensures same { self.new ≡ record self.old { disk_faults = self.new.disk_faults } }
+        ensures rose { Rises self.old.disk_faults self.new.disk_faults }
+        ensures no_fall { self.old.disk_faults ≤ self.new.disk_faults }
+    {
+        self.disk_faults = self.disk_faults.saturating_add(1);
+        DeskFault::Disk
+    }
+
+    /// A fault of the output, counted.
+    fn out_fault(&mut self) -> DeskFault
+        ensures out { result ≡ DeskFault.Out }
+        ensures same { self.new ≡ record self.old { out_faults = self.new.out_faults } }
         ensures rose { Rises self.old.out_faults self.new.out_faults }
         ensures no_fall { self.old.out_faults ≤ self.new.out_faults }
     {
         self.out_faults = self.out_faults.saturating_add(1);
-        let _ = self.shown.extend_from_slice(bytes);
-        Err(DeskFault::Out)
+        DeskFault::Out
     }
 
     /// The text shown so far.
     pub fn shown(&self) -> &[u8]
-        ensures { result.now ≡ self.now.shown }
+        ensures { result.now ≡ shown_after self.now.past }
     {
-        &self.shown
+        self.past.shown()
     }
 }
 
 impl Desk for MemoryDesk {
-    ghost shown = { λ desk. Some desk.shown };
+    ghost tells = { λ _. true };
+
+    ghost shown = { λ desk. Some (shown_after desk.past) };
+
+    ghost content = { λ desk. content_after desk.past };
+
+    ghost left = { λ desk. left_after desk.past };
+
+    ghost crashes = { λ desk. crashes_after desk.past };
+
+    ghost disk_faults = { λ desk. desk.disk_faults };
 
     ghost out_faults = { λ desk. desk.out_faults };
 
-    fn say(&mut self, bytes: &[u8]) -> Result<(), DeskFault> {
-        self.made = self.made.saturating_add(1);
-        if bytes.len() > self.capacity.saturating_sub(self.shown.len()) {
-            return self.fail(&[]);
+    ghost asks = { λ desk. desk.asks };
+
+    ghost turns = { λ desk. desk.turns };
+
+    ghost tells_shown = { λ desk told. refl };
+
+    ghost picked_is_there = { λ desk name told. picked_there desk.past name };
+
+    ghost reads_left = { λ desk name bytes told. left_reads desk.past name bytes };
+
+    ghost none_left = { λ desk name image told. left_none desk.past name image };
+
+    ghost earlier_allows = { λ desk early late image text told. crashes_earlier desk.past early late image text };
+
+    ghost counts_now = { λ desk start image text told. crashes_now desk.past start image text };
+
+    ghost only_now = { λ desk image text told. crashes_only desk.past image text };
+
+    fn pick(&mut self, alloc: Global, name: &Text) -> Result<(), DeskFault> {
+        if self.fails() {
+            return Err(self.disk_fault());
         }
-        if self.made > self.calls || self.failing.contains(&(self.made as u64)) {
-            return self.fail(&bytes[..bytes.len() / 2]);
+        match self.past.pick(alloc, name) {
+            Ok(()) => Ok(()),
+            Err(_) => Err(DeskFault::Memory),
         }
-        if self.shown.extend_from_slice(bytes).is_err() {
-            return self.fail(&[]);
+    }
+
+    fn size(&mut self) -> Result<u64, DeskFault> {
+        if self.fails() {
+            return Err(self.disk_fault());
+        }
+        Ok(self.past.size() as u64)
+    }
+
+    fn read(&mut self, at: u64, buf: &mut [u8]) -> Result<usize, DeskFault> {
+        if self.fails() {
+            return Err(self.disk_fault());
+        }
+        Ok(self.past.read(at as usize, buf))
+    }
+
+    fn write_at(&mut self, at: u64, bytes: &[u8]) -> Result<(), DeskFault> {
+        let fails = self.fails();
+        if bytes.len() > self.past.room() {
+            return Err(self.disk_fault());
+        }
+        if fails {
+            let _ = self.past.write(at as usize, &bytes[..bytes.len() / 2]);
+            return Err(self.disk_fault());
+        }
+        if !self.past.write(at as usize, bytes) {
+            return Err(self.disk_fault());
         }
         Ok(())
+    }
+
+    fn sync(&mut self) -> Result<(), DeskFault> {
+        if self.fails() || !self.past.sync() {
+            return Err(self.disk_fault());
+        }
+        Ok(())
+    }
+
+    fn say(&mut self, bytes: &[u8]) -> Result<(), DeskFault> {
+        let fails = self.fails();
+        if bytes.len() > self.past.room() {
+            return Err(self.out_fault());
+        }
+        if fails {
+            let _ = self.past.say(&bytes[..bytes.len() / 2]);
+            return Err(self.out_fault());
+        }
+        if !self.past.say(bytes) {
+            return Err(self.out_fault());
+        }
+        Ok(())
+    }
+
+    fn stop_asked(&mut self) -> bool {
+        let _ = self.fails();
+        self.turns = self.turns.saturating_add(1);
+        if !self.asking.contains(&self.turns) {
+            return false;
+        }
+        self.asks = self.asks.saturating_add(1);
+        true
     }
 }

@@ -1,0 +1,4 @@
+pub mod FileLemmas
+pub mod KeepsLemmas
+pub mod ActSteps
+pub mod StreamLemmas
