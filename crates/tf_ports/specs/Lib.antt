@@ -1,2 +1,13 @@
+pub mod Built
 pub mod Contents
+pub mod Gives
+pub mod Laws
+pub mod MemoryCrew
+pub mod MemoryPerformer
 pub mod MemorySources
+pub mod Folder
+pub mod MemorySpawner
+pub mod PlayedLaws
+pub mod Told
+pub mod Wanted
+pub mod Whole

@@ -1,10 +1,12 @@
-ghost use Rattle.std.specs.Prelude.{◌≡◌, ◌≤◌, length, None, IfOk};
+ghost use Rattle.std.specs.Prelude.{◌≡◌, ◌≤◌, length, None, IfOk, IsErrOf};
+ghost use Rattle.tf_ports.specs.Folder.{IsAllLeft, HasMoreLeft};
 
 use crate::reading::{SOURCE_LIMIT, SourceFault, Sources};
 use std::alloc::Global;
 use std::fs;
 use std::io::Read;
 use std::rt::Files;
+use tf_desk::read_on;
 use tf_values::Text;
 
 /// The folder that the program runs in: a name is a path. It tells its count alone.
@@ -51,24 +53,23 @@ fn read_file<R: Files>(runtime: &R, alloc: Global, name: &Text) -> Result<Vec<u8
     read_to_limit(alloc, &mut file)
 }
 
+/// All bytes that the reader has left, up to the limit. An interrupted read is tried again.
 fn read_to_limit<F: Read>(alloc: Global, file: &mut F) -> Result<Vec<u8>, SourceFault>
     ensures short { IfOk result (λ bytes. length bytes.items ≤ SOURCE_LIMIT) }
+    ensures whole { IfOk result (λ bytes. IsAllLeft (F.remaining file.old) bytes.items) }
+    ensures too_long { IsErrOf result SourceFault.TooLong → HasMoreLeft (F.remaining file.old) SOURCE_LIMIT }
 {
     let mut bytes = Vec::new(alloc);
-    let mut piece = [0; 8192];
-    for _ in 0..u64::MAX {
-        let Ok(count) = file.read(&mut piece) else {
-            return Err(SourceFault::Read);
-        };
-        if count == 0 {
-            break;
-        }
-        if count > SOURCE_LIMIT - bytes.len() {
-            return Err(SourceFault::TooLong);
-        }
-        if bytes.extend_from_slice(&piece[..count]).is_err() {
-            return Err(SourceFault::Memory);
-        }
+    // One byte past the limit tells that more remained.
+    if bytes.resize(SOURCE_LIMIT + 1, 0).is_err() {
+        return Err(SourceFault::Memory);
     }
+    let Some(count) = read_on(file, &mut bytes) else {
+        return Err(SourceFault::Read);
+    };
+    if count > SOURCE_LIMIT {
+        return Err(SourceFault::TooLong);
+    }
+    bytes.truncate(count);
     Ok(bytes)
 }

@@ -1,0 +1,110 @@
+ghost use Rattle.std.specs.Prelude.{◌≤◌, length, IfOk};
+
+use crate::programs::{Done, OUTPUT_LIMIT, Output, SpawnFault, Spawner};
+use std::alloc::Global;
+use std::io::Read;
+use std::process::{Command, Processes, Stdio};
+use tf_values::{Text, Texts};
+
+/// The real spawner: a program is a child of this process, with no input, and its standard error is
+/// dropped. It tells its count alone.
+#[derive(Drop)]
+pub struct Children<R> {
+    runtime: R,
+    faults: u64,
+}
+
+impl<R> Children<R> {
+    /// A spawner with no fault so far.
+    pub fn make(runtime: R) -> Children<R> {
+        Children { runtime, faults: 0 }
+    }
+}
+
+impl<R: Processes + Drop> Spawner for Children<R> {
+    ghost faults = { λ children. children.faults };
+
+    ghost answers = { λ _ _ _ _. Unit {0} };
+
+    fn run(&mut self, alloc: Global, program: &Text, args: &Texts) -> Result<Done, SpawnFault> {
+        match run_child(&self.runtime, alloc, program, args) {
+            Ok(done) => Ok(done),
+            Err(SpawnFault::Failed) => {
+                self.faults = self.faults.saturating_add(1);
+                Err(SpawnFault::Failed)
+            }
+            Err(SpawnFault::Memory) => Err(SpawnFault::Memory),
+        }
+    }
+}
+
+/// Starts a child, reads its output and waits for its end.
+fn run_child<R: Processes>(
+    runtime: &R,
+    alloc: Global,
+    program: &Text,
+    args: &Texts,
+) -> Result<Done, SpawnFault>
+    ensures short { IfOk result (λ done. length done.out ≤ OUTPUT_LIMIT) }
+{
+    let mut command = command_of(alloc, program, args)?;
+    let Ok(mut child) = command.spawn(runtime) else {
+        return Err(SpawnFault::Failed);
+    };
+    let Some(output) = child.stdout.take() else {
+        return Err(SpawnFault::Failed);
+    };
+    let kept = read_output(alloc, output);
+    let Ok(status) = child.wait() else {
+        return Err(SpawnFault::Failed);
+    };
+    let bytes = kept?;
+    Ok(Done {
+        status: status.code().unwrap_or(-1),
+        out: Output::make(bytes),
+    })
+}
+
+/// The program with its arguments, with no input and with its output collected.
+fn command_of(alloc: Global, program: &Text, args: &Texts) -> Result<Command, SpawnFault> {
+    let Ok(name) = str::from_utf8(program.bytes()) else {
+        return Err(SpawnFault::Failed);
+    };
+    let Ok(mut command) = Command::new(alloc, name) else {
+        return Err(SpawnFault::Memory);
+    };
+    for arg in args.items() {
+        let Ok(text) = str::from_utf8(arg.bytes()) else {
+            return Err(SpawnFault::Failed);
+        };
+        if command.arg(text).is_err() {
+            return Err(SpawnFault::Memory);
+        }
+    }
+    command.stdin(Stdio::null());
+    command.stdout(Stdio::piped());
+    command.stderr(Stdio::null());
+    Ok(command)
+}
+
+/// Reads an output to its end, and keeps as many of its bytes as are kept. The output is closed then.
+fn read_output<F: Read + Drop>(alloc: Global, mut output: F) -> Result<Vec<u8>, SpawnFault>
+    ensures short { IfOk result (λ bytes. length bytes.items ≤ OUTPUT_LIMIT) }
+{
+    let mut bytes = Vec::new(alloc);
+    let mut piece = [0; 8192];
+    for _ in 0..u64::MAX {
+        let Ok(count) = output.read(&mut piece) else {
+            return Err(SpawnFault::Failed);
+        };
+        if count == 0 {
+            break;
+        }
+        let room = OUTPUT_LIMIT - bytes.len();
+        let taken = if count < room { count } else { room };
+        if bytes.extend_from_slice(&piece[..taken]).is_err() {
+            return Err(SpawnFault::Memory);
+        }
+    }
+    Ok(bytes)
+}

@@ -1,0 +1,127 @@
+ghost use Rattle.std.specs.Prelude.{◌≡◌, ℕ, ◌≤◌, List, Option, IfOk, OnOk, OnErr, IsErrOf, vec_len};
+ghost use Rattle.tf_desk.specs.Counts.{Rises};
+ghost use Rattle.tf_ports.specs.declared.crews.Want.{Want as AWant};
+ghost use Rattle.tf_ports.specs.Told.{told_with};
+ghost use Rattle.tf_ports.specs.Wanted.{wanted};
+
+use crate::performers::Performer;
+use std::alloc::Global;
+use std::marker::Model;
+use tf_values::{Memory, Text};
+
+/// Where a remote hand is: a Unix socket's path, or a port of 127.0.0.1.
+#[derive(Debug, Drop)]
+pub enum Address {
+    Unix(Text),
+    Tcp(u16),
+}
+
+impl Address {
+    /// An equal address.
+    pub fn copy(&self, alloc: Global) -> Result<Address, Memory>
+        ensures { IfOk result (λ address. address ≡ self.now) }
+    {
+        match self {
+            Address::Unix(path) => Ok(Address::Unix(path.copy(alloc)?)),
+            Address::Tcp(port) => Ok(Address::Tcp(*port)),
+        }
+    }
+}
+
+/// Addresses in order. Contracts see the list.
+#[derive(Debug, Drop)]
+pub struct Addresses {
+    items: Vec<Address>,
+}
+
+impl Model for Addresses {
+    ghost use Rattle.std.specs.Prelude.{List};
+    ghost use Rattle.tf_ports.specs.declared.crews.Address.{Address};
+
+    ghost Value = { List Address };
+
+    ghost view = { λ addresses. addresses.items.items };
+}
+
+impl Addresses {
+    /// A list of these addresses. It takes no memory and sets no limit.
+    pub fn make(items: Vec<Address>) -> Addresses
+        ensures { result ≡ items.items }
+    {
+        Addresses { items }
+    }
+
+    /// The addresses, in order.
+    pub fn items(&self) -> &[Address]
+        ensures { result.now ≡ self.now }
+    {
+        &self.items
+    }
+
+    /// An equal list.
+    pub fn copy(&self, alloc: Global) -> Result<Addresses, Memory>
+        ensures { IfOk result (λ addresses. addresses ≡ self.now) }
+    {
+        let mut items = Vec::with_capacity(alloc, self.items.len())?;
+        for address in &self.items {
+            items.push(address.copy(alloc)?)?;
+        }
+        Ok(Addresses { items })
+    }
+}
+
+/// Which hands are wanted: so many of this process, or one at each address.
+#[derive(Debug, Drop)]
+pub enum Want {
+    Local(u8),
+    Remote(Addresses),
+}
+
+impl Want {
+    /// An equal want.
+    pub fn copy(&self, alloc: Global) -> Result<Want, Memory>
+        ensures { IfOk result (λ want. want ≡ self.now) }
+    {
+        match self {
+            Want::Local(count) => Ok(Want::Local(*count)),
+            Want::Remote(addresses) => Ok(Want::Remote(addresses.copy(alloc)?)),
+        }
+    }
+
+    /// How many hands are wanted.
+    pub fn count(&self) -> usize
+        ensures { result ≡ wanted self.now }
+    {
+        match self {
+            Want::Local(count) => usize::from(*count),
+            Want::Remote(addresses) => addresses.items().len(),
+        }
+    }
+}
+
+/// Why a port gave nothing: it failed, or memory ran out.
+#[derive(Clone, Copy, Debug, PartialEq, Eq)]
+pub enum PortFault {
+    Failed,
+    Memory,
+}
+
+/// Who hires hands.
+pub trait Crew: Drop {
+    type Hand: Performer + Send;
+
+    /// How many faults there were. The count never falls, and stands still at the greatest u64.
+    ghost faults: { Self → ℕ };
+
+    /// The wants that were answered with hands, in order, where the crew keeps them.
+    ghost hired: { Self → Option (List AWant) };
+
+    /// As many hands as are wanted, in the order of the addresses. `Failed` comes only where the count of
+    /// faults rose.
+    fn hire(&mut self, alloc: Global, want: &Want) -> Result<Vec<Self::Hand>, PortFault>
+        ensures all { IfOk result (λ hands. vec_len hands ≡ wanted want.now) }
+        ensures cause { IsErrOf result PortFault.Failed → Rises (faults self.old) (faults self.new) }
+        ensures hired { OnOk result (hired self.new ≡ told_with (hired self.old) want.now) }
+        ensures not_hired { OnErr result (hired self.new ≡ hired self.old) }
+        ensures no_fall { faults self.old ≤ faults self.new };
+}

@@ -1,0 +1,88 @@
+ghost use Rattle.std.specs.Prelude.{◌≡◌, ◌≤◌, [], Some, IsErrOf};
+ghost use Rattle.tf_desk.specs.Counts.{Rises};
+
+use crate::crews::{Crew, PortFault, Want};
+use crate::performers::Performer;
+use std::alloc::Global;
+use std::marker::Model;
+
+/// A crew in memory, with hands that wait to be hired. Its calls are numbered from 1, and the stated ones
+/// fail; so does one that wants more hands than are left.
+#[derive(Drop)]
+pub struct MemoryCrew<P> {
+    hands: Vec<P>,
+    hired: Vec<Want>,
+    made: u64,
+    failing: Vec<u64>,
+    faults: u64,
+}
+
+impl<P> Model for MemoryCrew<P> {
+    ghost use Rattle.tf_ports.specs.MemoryCrew.{Held};
+
+    ghost Value = { Held };
+
+    ghost view = { λ crew. record { hired = crew.hired.items; faults = crew.faults } };
+}
+
+impl<P> MemoryCrew<P> {
+    /// A crew of these hands, with nobody hired and no fault so far.
+    pub fn make(alloc: Global, hands: Vec<P>, failing: Vec<u64>) -> MemoryCrew<P>
+        ensures nobody { result.hired ≡ [] }
+        ensures none { result.faults ≡ 0 }
+    {
+        MemoryCrew {
+            hands,
+            hired: Vec::new(alloc),
+            made: 0,
+            failing,
+            faults: 0,
+        }
+    }
+
+    /// The wants that were answered with hands, in order.
+    pub fn hired(&self) -> &[Want]
+        ensures { result.now ≡ self.now.hired }
+    {
+        &self.hired
+    }
+
+    fn fault(&mut self) -> Result<Vec<P>, PortFault>
+        ensures failed { IsErrOf result PortFault.Failed }
+        ensures same { self.new.hired ≡ self.old.hired }
+        ensures rose { Rises self.old.faults self.new.faults }
+        ensures no_fall { self.old.faults ≤ self.new.faults }
+    {
+        self.faults = self.faults.saturating_add(1);
+        Err(PortFault::Failed)
+    }
+}
+
+impl<P: Performer + Send> Crew for MemoryCrew<P> {
+    type Hand = P;
+
+    ghost faults = { λ crew. crew.faults };
+
+    ghost hired = { λ crew. Some crew.hired };
+
+    fn hire(&mut self, alloc: Global, want: &Want) -> Result<Vec<P>, PortFault> {
+        self.made = self.made.saturating_add(1);
+        let count = want.count();
+        if self.failing.contains(&self.made) {
+            return self.fault();
+        }
+        if count > self.hands.len() {
+            return self.fault();
+        }
+        let Ok(kept) = want.copy(alloc) else {
+            return Err(PortFault::Memory);
+        };
+        let Ok(hands) = self.hands.split_off(self.hands.len() - count) else {
+            return Err(PortFault::Memory);
+        };
+        if self.hired.push(kept).is_err() {
+            return Err(PortFault::Memory);
+        }
+        Ok(hands)
+    }
+}

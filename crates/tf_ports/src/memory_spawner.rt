@@ -1,0 +1,121 @@
+ghost use Rattle.std.specs.Prelude.{◌≡◌, ◌≤◌, length, take, IsErrOf, IfOk, option_map};
+ghost use Rattle.tf_desk.specs.Counts.{Rises};
+ghost use Rattle.tf_ports.specs.MemorySpawner.{EndsAs, end_of, end_at, kept_of};
+
+use crate::programs::{Done, OUTPUT_LIMIT, Output, SpawnFault, Spawner};
+use std::alloc::Global;
+use std::marker::Model;
+use tf_values::{Memory, Text, Texts};
+
+/// A program in memory: its name, and how it ends whatever its arguments are.
+#[derive(Drop)]
+pub struct MemoryProgram {
+    pub name: Text,
+    pub ends: Done,
+}
+
+/// A spawner in memory. Its calls are numbered from 1, and the stated ones fail; so does one for a name
+/// that has no program.
+#[derive(Drop)]
+pub struct MemorySpawner {
+    programs: Vec<MemoryProgram>,
+    made: u64,
+    failing: Vec<u64>,
+    faults: u64,
+}
+
+impl Model for MemorySpawner {
+    ghost use Rattle.tf_ports.specs.MemorySpawner.{Held};
+
+    ghost Value = { Held };
+
+    ghost view = { λ held. record { programs = held.programs.items; faults = held.faults } };
+}
+
+impl MemorySpawner {
+    /// These programs, of which the first of a name counts, with no fault so far.
+    pub fn make(programs: Vec<MemoryProgram>, failing: Vec<u64>) -> MemorySpawner
+        ensures held { result.programs ≡ programs.items }
+        ensures none { result.faults ≡ 0 }
+    {
+        MemorySpawner {
+            programs,
+            made: 0,
+            failing,
+            faults: 0,
+        }
+    }
+
+    fn fault(&mut self) -> Result<Done, SpawnFault>
+        ensures failed { IsErrOf result SpawnFault.Failed }
+        ensures same { self.new.programs ≡ self.old.programs }
+        ensures rose { Rises self.old.faults self.new.faults }
+        ensures no_fall { self.old.faults ≤ self.new.faults }
+    {
+        self.faults = self.faults.saturating_add(1);
+        Err(SpawnFault::Failed)
+    }
+}
+
+impl Spawner for MemorySpawner {
+    ghost faults = { λ held. held.faults };
+
+    ghost answers = { EndsAs };
+
+    fn run(&mut self, alloc: Global, program: &Text, _args: &Texts) -> Result<Done, SpawnFault> {
+        self.made = self.made.saturating_add(1);
+        if self.failing.contains(&self.made) {
+            return self.fault();
+        }
+        let Some(found) = find(&self.programs, program) else {
+            return self.fault();
+        };
+        match finish(alloc, found) {
+            Ok(done) => Ok(done),
+            Err(_) => Err(SpawnFault::Memory),
+        }
+    }
+}
+
+/// The first program of that name.
+fn find<'a>(programs: &'a [MemoryProgram], name: &Text) -> Option<&'a MemoryProgram>
+    ensures { option_map (λ program. end_of program.now) result ≡ end_at programs.now name.now }
+{
+    for program in programs {
+        if program.name.bytes() == name.bytes() {
+            return Some(program);
+        }
+    }
+    None
+}
+
+/// How a program ends.
+fn finish(alloc: Global, program: &MemoryProgram) -> Result<Done, Memory>
+    ensures ends { IfOk result (λ done. done ≡ end_of program.now) }
+    ensures short { IfOk result (λ done. length done.out ≤ OUTPUT_LIMIT) }
+{
+    let out = Vec::from_slice(alloc, kept(program.ends.out.items()))?;
+    Ok(Done {
+        status: program.ends.status,
+        out: Output::make(out),
+    })
+}
+
+/// The bytes that are kept of an output.
+fn kept(bytes: &[u8]) -> &[u8]
+    ensures kept { result.now ≡ kept_of bytes.now }
+    ensures short { length result.now ≤ OUTPUT_LIMIT }
+{
+    front(bytes, OUTPUT_LIMIT)
+}
+
+/// The first bytes, at most so many.
+fn front(bytes: &[u8], limit: usize) -> &[u8]
+    ensures front { result.now ≡ take limit bytes.now }
+    ensures short { length result.now ≤ limit }
+{
+    if bytes.len() <= limit {
+        return bytes;
+    }
+    &bytes[..limit]
+}

@@ -1,0 +1,81 @@
+ghost use Rattle.std.specs.Prelude.{IfOk};
+ghost use Rattle.tf_ports.specs.Whole.{IsWhole};
+
+use super::*;
+use std::alloc::Global;
+use std::test::Fail;
+use tf_flow::{TaskKind, Undo};
+use tf_states::Failure;
+use tf_values::{Memory, Name, Text, Texts, Val};
+
+/// An order to execute echo with one argument.
+fn order(alloc: Global, name: Name) -> Result<Order, Memory>
+    ensures { IfOk result (λ order. IsWhole order) }
+{
+    let mut pairs = Vec::new(alloc);
+    pairs.push(Pair {
+        name,
+        value: Val::Int(1),
+    })?;
+    Ok(Order {
+        atom: 0,
+        action: Action::Execute,
+        kind: TaskKind::Echo,
+        words: Texts::make(Vec::new(alloc)),
+        undo: Undo::Pass,
+        given: Given::Found(Args::make(pairs)),
+    })
+}
+
+#[test]
+fn a_crew_in_memory_hires_performers_that_keep_their_orders(rt: HostRuntime) -> Result<(), Fail> {
+    let alloc = rt.alloc();
+    let Some(name) = Name::make(b"a") else {
+        panic!(rt; "a name");
+    };
+    let mut waiting = Vec::new(alloc);
+    waiting.push(MemoryPerformer::make(alloc, vec![in alloc; 2]?))?;
+    let mut crew = MemoryCrew::make(alloc, waiting, vec![in alloc; 1]?);
+    assert!(rt; matches!(crew.hire(alloc, &Want::Local(1)), Err(PortFault::Failed)));
+    let Ok(mut hands) = crew.hire(alloc, &Want::Local(1)) else {
+        panic!(rt; "no hand");
+    };
+    assert!(rt; matches!(crew.hire(alloc, &Want::Local(1)), Err(PortFault::Failed)));
+    assert_eq!(rt; crew.hired().len(), 1);
+    let Some(mut hand) = hands.pop() else {
+        panic!(rt; "no hand");
+    };
+    let order = order(alloc, name)?;
+    assert!(rt; matches!(hand.perform(alloc, &order)?, Outcome::Gave(Val::Nothing)));
+    assert!(rt; matches!(hand.perform(alloc, &order)?, Outcome::Failed(Failure::Lost)));
+    assert_eq!(rt; hand.did().len(), 2);
+    Ok(())
+}
+
+#[test]
+fn programs_are_run(rt: HostRuntime) -> Result<(), Fail> {
+    let alloc = rt.alloc();
+    let program = Text::make(alloc, b"/bin/echo")?;
+    let mut words = Vec::new(alloc);
+    words.push(Text::make(alloc, b"hi")?)?;
+    let args = Texts::make(words);
+    let mut children = Children::make(rt.clone()?);
+    let Ok(done) = children.run(alloc, &program, &args) else {
+        panic!(rt; "not run");
+    };
+    assert_eq!(rt; done.status, 0);
+    assert_eq!(rt; done.out.items(), b"hi\n".as_slice());
+    let absent = Text::make(alloc, b"/no/such/program")?;
+    assert!(rt; matches!(children.run(alloc, &absent, &args), Err(SpawnFault::Failed)));
+    let mut programs = Vec::new(alloc);
+    programs.push(MemoryProgram {
+        name: program,
+        ends: done,
+    })?;
+    let mut spawner = MemorySpawner::make(programs, vec![in alloc; 2]?);
+    let program = Text::make(alloc, b"/bin/echo")?;
+    assert!(rt; spawner.run(alloc, &program, &args).is_ok());
+    assert!(rt; matches!(spawner.run(alloc, &program, &args), Err(SpawnFault::Failed)));
+    assert!(rt; matches!(spawner.run(alloc, &absent, &args), Err(SpawnFault::Failed)));
+    Ok(())
+}
