@@ -1,0 +1,86 @@
+ghost use Rattle.std.specs.Prelude.{◌≡◌, true, false, None, IfOk, ◌≤◌, length};
+ghost use Rattle.tf_desk.specs.Counts.{Rises};
+ghost use Rattle.tf_ports.specs.Gives.{Gives, GivesNothing};
+ghost use Rattle.tf_ports.specs.Whole.{IsWhole};
+ghost use Rattle.tf_flow.specs.declared.atoms.Undo.TheVariants as undo;
+ghost use Rattle.tf_tasks.specs.GivesLaws.{gives_looks_up, gives_reverts};
+ghost use Rattle.tf_tasks.specs.Program.{is_program};
+ghost use Rattle.tf_tasks.specs.Run.{Obeys, RunsTo, UndoesTo};
+
+use crate::built_ins::value_of;
+use crate::runs::{drop_output, run};
+use std::alloc::Global;
+use tf_flow::{TaskKind, Undo};
+use tf_ports::{Action, Given, Order, Outcome, Pair, Performer, Spawner};
+use tf_values::{Memory, Text};
+
+/// The hand that performs orders in this process: built-in tasks itself, and programs by its spawner. It
+/// doesn't keep its orders.
+#[derive(Drop)]
+pub struct LocalHand<S> {
+    spawner: S,
+}
+
+impl<S> LocalHand<S> {
+    /// A hand that runs programs by this spawner.
+    pub fn make(spawner: S) -> LocalHand<S>
+        ensures { result.spawner ≡ spawner }
+    {
+        LocalHand { spawner }
+    }
+
+    /// The spawner back.
+    pub fn spawner(self) -> S
+        ensures { result ≡ self.spawner }
+    {
+        self.spawner
+    }
+}
+
+impl<S: Spawner> LocalHand<S> {
+    /// The outcome of an order: the only one where no program is run, and else what came of the program.
+    pub fn obey(&mut self, alloc: Global, order: &Order) -> Result<Outcome, Memory>
+        requires whole { IsWhole order.now }
+        ensures gives { IfOk result (λ outcome. Gives order.now outcome) }
+        ensures program { is_program order.now ≡ true → IfOk result (λ outcome. Obeys (S.answers self.old.spawner) (Rises (S.faults self.old.spawner) (S.faults self.new.spawner)) order.now outcome) }
+    {
+        if let Given::Found(args) = &order.given {
+            if order.action == Action::Execute && order.kind == TaskKind::Command {
+                return run(alloc, &mut self.spawner, order.words.items(), args.items());
+            }
+            if let (Action::Revert, Undo::Run(words)) = (order.action, &order.undo) {
+                return undo(alloc, &mut self.spawner, words.items(), args.items());
+            }
+        }
+        value_of(alloc, order)
+    }
+}
+
+/// Runs a program that undoes.
+fn undo<S: Spawner>(
+    alloc: Global,
+    spawner: &mut S,
+    words: &[Text],
+    pairs: &[Pair],
+) -> Result<Outcome, Memory>
+    requires { 1 ≤ length words.now }
+    ensures runs { IfOk result (λ outcome. UndoesTo (S.answers spawner.old) (Rises (S.faults spawner.old) (S.faults spawner.new)) (undo.Run words.now) pairs.now outcome) }
+    ensures gives { IfOk result (λ outcome. GivesNothing outcome) }
+{
+    let full = run(alloc, spawner, words, pairs)?;
+    Ok(drop_output(full))
+}
+
+impl<S: Spawner> Performer for LocalHand<S> {
+    ghost did = { λ _. None };
+
+    ghost gives = { Gives };
+
+    ghost looks_up = { gives_looks_up };
+
+    ghost reverts_to_nothing = { gives_reverts };
+
+    fn perform(&mut self, alloc: Global, order: &Order) -> Result<Outcome, Memory> {
+        self.obey(alloc, order)
+    }
+}
