@@ -5,8 +5,7 @@ use Rattle.std.specs.List.{list_all}
 use Rattle.tf_flow.specs.Plan.{PlanValue}
 use Rattle.tf_flow.specs.Tree.{Tree, Trees, task, flow, no_trees, tree, tree_of}
 use Rattle.tf_files.specs.FlowFile.{is_undecided, is_built, are_built}
-use Rattle.tf_model.proofs.PairLemmas.{true_both}
-use Rattle.tf_model.proofs.StepLemmas.{and_first, and_second}
+use Rattle.tf_numbers.proofs.TruthLemmas.{true_both, and_first, and_second}
 use Rattle.tf_machine.specs.Plain.{IsPlain, is_plain_tree, are_plain_trees}
 use Rattle.tf_machine.proofs.PlainLemmas.{plain_told}
 

@@ -11,18 +11,19 @@ use Rattle.tf_states.specs.declared.state.AtomState.{AtomState}
 use Rattle.tf_states.specs.declared.state.AtomState.TheVariants as atom
 use Rattle.tf_states.specs.declared.state.FlowState.{FlowState}
 use Rattle.tf_states.specs.declared.state.FlowState.TheVariants as flow
+use Rattle.tf_model.specs.Bound.{tree_bound}
 use Rattle.tf_model.specs.Candidates.{end_of, calm_end, candidate_if_running, is_done_at, is_at_rest}
 use Rattle.tf_model.specs.Forced.{is_unhurt, is_unhurt_at, forced_if_running}
 use Rattle.tf_model.specs.History.{snapshot, state_of}
-use Rattle.tf_model.specs.Numbers.{all_below}
+use Rattle.tf_numbers.specs.Numbers.{all_below}
 use Rattle.tf_model.specs.Plan.{Outline, count}
 use Rattle.tf_model.specs.Snapshot.{Snapshot, state_after}
 use Rattle.tf_model.specs.States.{is_revert_failure, flow_runs, flow_suspends}
-use Rattle.tf_facts.proofs.BelowLemmas.{all_of}
+use Rattle.tf_numbers.proofs.BelowLemmas.{all_of}
 use Rattle.taskflow.specs.Accepted.{plan_in, outline_in}
 use Rattle.taskflow.specs.BuiltIns.{HasOutcomes, IsGiven}
-use Rattle.taskflow.specs.Course.{Closes, said, cut, ClosesOrStops, Ran, reported, report_cut, line_cut, stopped, BytesRead, exhausted, refused, done, FileRead, unfinished, unread, too_long, read, Tries, Checks, Obeys, Course, unheard, no_command, obeyed, status_of, IsRefused, passes_limit, gives_none, IsAccepted, IsComplete}
-use Rattle.taskflow.specs.Standing.{IsEnded}
+use Rattle.taskflow.specs.Course.{Closes, said, cut, ClosesOrStops, BytesRead, exhausted, refused, done, FileRead, unfinished, unread, too_long, read, Tries, Checks, Obeys, Course, unheard, no_command, obeyed, IsRefused, passes_limit, gives_none, IsAccepted, IsComplete}
+use Rattle.taskflow.specs.Run.{status_of, HasReached, RunShows, reported, report_cut, line_cut, stopped, Ran}
 use Rattle.taskflow.specs.Words.{command_of, file_named}
 use Rattle.taskflow.specs.declared.accepting.Refusal.{Refusal}
 use Rattle.taskflow.specs.declared.words.Asked.{Asked}
@@ -81,17 +82,21 @@ well : (last : FlowState) → (last ≡ flow.Success) ⊎ (last ≡ flow.Reverte
 well last (inl is) = inl (rw is)
 well last (inr is) = inr (rw is)
 
-ended_well : (plan : Outline) (before : Option (List ℕ)) (past : List Entry) (shown : Option (List ℕ)) (last : FlowState) → IsEnded plan before past shown last → (status_of last ≡ 0) ⊎ (status_of last ≡ 10)
-ended_well plan before [] shown last ended = absurd ended.end
-ended_well plan before (e ∷ past) shown last ended = well last (ends_well plan past last ended.outcomes.1 ended.end)
+ended_well : (plan : Outline) (past : List Entry) (last : FlowState) → HasOutcomes plan past → HasReached plan past last → (status_of last ≡ 0) ⊎ (status_of last ≡ 10)
+ended_well plan [] last outcomes reached = absurd reached.end
+ended_well plan (e ∷ past) last outcomes reached = well last (ends_well plan past last outcomes.1 reached.end)
 
 -- ---- the statuses of what is done with a plan
 
-ran_status : (plan : Outline) (file : List ℕ) (before after : Option (List ℕ)) (status : ℕ) → Ran plan before after status → (IsComplete (asked.Try file) status) ⊎ (status ≡ 7)
-ran_status plan file before after status (reported past last shown ended text) = elim (ended_well plan before past shown last ended) [ inl is ↦ inl (inl is) | inr is ↦ inl (inr (inl is)) ]
-ran_status plan file before after status (report_cut past last shown ended front) = inr refl
-ran_status plan file before after status (line_cut past is) = inr refl
-ran_status plan file before after status (stopped past last session outcomes text) = inl (inr (inr refl))
+shows_status : (plan : Outline) (file : List ℕ) (before after : Option (List ℕ)) (past : List Entry) (stop : Option FlowState) (status : ℕ) → HasOutcomes plan past → ((last : FlowState) → stop ≡ Some last → HasReached plan past last)
+    → RunShows plan before past after stop status → (IsComplete (asked.Try file) status) ⊎ (status ≡ 7)
+shows_status plan file before after past stop status outcomes end (reported last text) = elim (ended_well plan past last outcomes (end last refl)) [ inl is ↦ inl (inl is) | inr is ↦ inl (inr (inl is)) ]
+shows_status plan file before after past stop status outcomes end (report_cut last front) = inr refl
+shows_status plan file before after past stop status outcomes end (line_cut state is) = inr refl
+shows_status plan file before after past stop status outcomes end (stopped state text) = inl (inr (inr refl))
+
+ran_status : (plan : Outline) (most : ℕ) (file : List ℕ) (before after : Option (List ℕ)) (status : ℕ) → Ran plan most before after status → (IsComplete (asked.Try file) status) ⊎ (status ≡ 7)
+ran_status plan most file before after status ran = shows_status plan file before after ran.past ran.stop status ran.outcomes ran.end ran.text
 
 closes_status : (before after : Option (List ℕ)) (message : List ℕ) (wanted status : ℕ) → Closes before message wanted after status → (status ≡ wanted) ⊎ (status ≡ 7)
 closes_status before after message wanted status (said text) = inl refl
@@ -116,16 +121,16 @@ out_is_complete (asked.Try file) status is = inr (inr is)
 out_is_complete (asked.Check file) status is = inr is
 
 -- what is done with a plan ends so, where it isn't cut
-abbrev EndsSo : Asked → (Outline → ℕ → Type 0) → Type 0
-EndsSo command does = (plan : Outline) (status : ℕ) → does plan status → (IsComplete command status) ⊎ (status ≡ 7)
+abbrev EndsSo : Asked → (PlanTree → ℕ → Type 0) → Type 0
+EndsSo command does = (plan : PlanTree) (status : ℕ) → does plan status → (IsComplete command status) ⊎ (status ≡ 7)
 
-bytes_status : (command : Asked) (files : Contents) (bytes : List ℕ) (does : Outline → ℕ → Type 0) (before after : Option (List ℕ)) (status : ℕ) → EndsSo command does
+bytes_status : (command : Asked) (files : Contents) (bytes : List ℕ) (does : PlanTree → ℕ → Type 0) (before after : Option (List ℕ)) (status : ℕ) → EndsSo command does
     → GivesBytes files (file_named command) bytes → BytesRead bytes does before after status → AskedStatus command files status
 bytes_status command files bytes does before after status ends given (exhausted is same) = completed (out_is_complete command status is)
 bytes_status command files bytes does before after status ends given (refused why none closes) = elim (closes_status before after _ 4 status closes) [ inl is ↦ not_plan is bytes why given none | inr is ↦ not_said is ]
-bytes_status command files bytes does before after status ends given (done plan gives did) = elim (ends (outline_in plan) status did) [ inl is ↦ completed is | inr is ↦ not_said is ]
+bytes_status command files bytes does before after status ends given (done plan gives did) = elim (ends plan status did) [ inl is ↦ completed is | inr is ↦ not_said is ]
 
-file_status : (command : Asked) (files : Contents) (does : Outline → ℕ → Type 0) (before after : Option (List ℕ)) (status : ℕ) → EndsSo command does
+file_status : (command : Asked) (files : Contents) (does : PlanTree → ℕ → Type 0) (before after : Option (List ℕ)) (status : ℕ) → EndsSo command does
     → FileRead files (file_named command) does before after status → AskedStatus command files status
 file_status command files does before after status ends (unfinished is same) = completed (out_is_complete command status is)
 file_status command files does before after status ends (unread closes) = elim (closes_status before after _ 3 status closes) [ inl is ↦ not_read is | inr is ↦ not_said is ]
@@ -133,7 +138,7 @@ file_status command files does before after status ends (too_long passes closes)
 file_status command files does before after status ends (read bytes given course) = bytes_status command files bytes does before after status ends given course
 
 asked_status : (command : Asked) (files : Contents) (before after : Option (List ℕ)) (status : ℕ) → Obeys command files before after status → AskedStatus command files status
-asked_status (asked.Try file) files before after status obeys = file_status (asked.Try file) files (Tries before after) before after status (λ plan ended ran. ran_status plan file before after ended ran) obeys
+asked_status (asked.Try file) files before after status obeys = file_status (asked.Try file) files (Tries before after) before after status (λ plan ended ran. ran_status (outline_in plan) (tree_bound plan.root) file before after ended ran) obeys
 asked_status (asked.Check file) files before after status obeys = file_status (asked.Check file) files (Checks before after) before after status (λ plan ended closes. checked_status file _ before after ended closes) obeys
 
 -- a status with which nothing ends that is complete

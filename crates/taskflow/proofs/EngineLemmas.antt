@@ -1,6 +1,6 @@
 -- What the one hand of a run records may follow, and leaves nothing in flight.
 use Rattle.std.proofs.Common.{◌≡◌, ◌≢◌, ℕ, ◌<◌, List, [], Bool, true, false, ◌&&◌, ◌||◌, not, Option, Some, None, refl, sym, ap, ◌∙◌, subst, arith, eqb-true, eq-eqb}
-use Rattle.std.specs.Prelude.{nat_eq, is_none, is_some, if◌then◌else◌, option_map}
+use Rattle.std.specs.Prelude.{Result, Ok, Err, OnOk, nat_eq, is_none, is_some, if◌then◌else◌, option_map}
 use Rattle.tf_flow.specs.Plan.{PlanValue}
 use Rattle.tf_values.specs.declared.value.Val.TheVariants as value
 use Rattle.tf_states.specs.declared.record.Entry.{Entry}
@@ -19,23 +19,23 @@ use Rattle.tf_ports.specs.declared.outcomes.Outcome.TheVariants as outcome
 use Rattle.tf_model.specs.Candidates.{choice, end_of, calm_end, candidate_if_running, is_done_at, is_at_rest, is_candidate, taken_up}
 use Rattle.tf_model.specs.Forced.{forced, forced_if_running, is_unhurt}
 use Rattle.tf_model.specs.History.{snapshot, flow_of}
-use Rattle.tf_model.specs.Numbers.{all_below, is_number}
+use Rattle.tf_numbers.specs.Numbers.{all_below, is_number}
 use Rattle.tf_model.specs.Plan.{Outline, outline_of, count, is_task}
 use Rattle.tf_model.specs.Sessions.{is_last}
 use Rattle.tf_model.specs.States.{flow_runs, flow_suspends}
 use Rattle.tf_model.specs.Snapshot.{Snapshot, later, is_at_work, hand_after}
 use Rattle.tf_model.specs.Steps.{Step, by_force, by_choice, by_end_of_task, by_turn, by_end, is_still, is_idle, is_free, is_not_with, ends_task}
-use Rattle.tf_facts.proofs.BelowLemmas.{all_of, all_at}
+use Rattle.tf_numbers.proofs.BelowLemmas.{all_of, all_at}
+use Rattle.tf_bound.specs.Owed.{left}
 use Rattle.tf_machine.specs.Answers.{start_entry, action_in, ended_from, begun as begun_by}
 use Rattle.tf_machine.specs.Machine.{MachineValue, outline, shown, StandsFor, HasHistory}
 use Rattle.tf_machine.specs.Plain.{is_plain}
-use Rattle.tf_machine.specs.Remaining.{remaining}
 use Rattle.tf_machine.specs.declared.candidates.Start.{Start}
 use Rattle.tf_machine.proofs.ForcedLemmas.{whole, forced_is}
 use Rattle.tf_machine.proofs.MoveLemmas.{taken_of}
-use Rattle.tf_machine.proofs.RemainingLemmas.{forced_less, chosen_not_more, entered_less}
 use Rattle.taskflow.specs.BuiltIns.{IsGiven}
 use Rattle.taskflow.specs.Going.{by_hand, is_within, IsOutcome, Rests}
+use Rattle.tf_numbers.proofs.TruthLemmas.{and_false}
 
 -- ---- the hand is free where nothing is in flight
 
@@ -96,16 +96,6 @@ pub forced_rests : (m n : MachineValue) (w : What) → n.plan ≡ m.plan → is_
 forced_rests m n w plan plain is rests moved =
     let moves : shown n ≡ later (outline m) (by_hand whole) (shown m) = moved ∙ ap (λ (v : What). later (outline m) (by_hand v) (shown m)) (sym (forced_is (outline m) (shown m) w plain is)) in
     rests_by n (later (outline m) (by_hand whole) (shown m)) moves (whole_runs (outline m) (shown m) ∙ rests.runs) (same_outline m n (later (outline m) (by_hand whole) (shown m)) plan (whole_still (outline m) (shown m) rests.still))
-
-remains : (m n : MachineValue) (s : Snapshot) → n.plan ≡ m.plan → shown n ≡ s → remaining (outline n) (shown n) ≡ remaining (outline m) s
-remains m n s plan is = ap (λ (p : PlanValue). remaining (outline_of p) (shown n)) plan ∙ ap (remaining (outline m)) is
-
-pub forced_falls : (m n : MachineValue) (w : What) → n.plan ≡ m.plan → is_plain (outline m) ≡ true → forced (outline m) (shown m) ≡ Some w → shown n ≡ later (outline m) (by_hand w) (shown m)
-    → remaining (outline n) (shown n) < remaining (outline m) (shown m)
-forced_falls m n w plan plain is moved =
-    let less = forced_less m.plan (shown m) 0 w plain is in
-    let same = remains m n (later (outline m) (by_hand w) (shown m)) plan moved in
-    omega (arith, less, same)
 
 -- ---- a task is taken up
 
@@ -306,17 +296,13 @@ ended_idle action.Execute (outcome.Failed f) = refl
 ended_idle action.Revert (outcome.Gave v) = refl
 ended_idle action.Revert (outcome.Failed f) = refl
 
-and_none : (b : Bool) → (b && false) ≡ false
-and_none true = refl
-and_none false = refl
-
 -- after the end nothing is in flight, as before the start
 entered_idle : (plan : Outline) (s t : Snapshot) (a k : ℕ) (state : AtomState) (held : Payload) → is_at_work state ≡ false → ((j : ℕ) → j ≢ a → t.hand j ≡ s.hand j) → is_none (s.hand k) ≡ true
     → is_none (hand_after plan 0 (what.Atom a state held) k (t.hand k)) ≡ true
 entered_idle plan s t a k state held idle others none = by (nat_eq a k) refl
   where
     by : (b : Bool) → nat_eq a k ≡ b → is_none (if b then (if is_task plan k && is_at_work state then Some 0 else None) else t.hand k) ≡ true
-    by true is = rw idle (rw (and_none (is_task plan k)) refl)
+    by true is = rw idle (rw (and_false (is_task plan k)) refl)
     by false is = ap is_none (others k (λ same. let yes : nat_eq a k ≡ true = eq-eqb a k (sym same) in absurd (cc))) ∙ none
 
 ended_still : (plan : Outline) (s t : Snapshot) (a : ℕ) (state : AtomState) (held : Payload) → is_at_work state ≡ false → ((j : ℕ) → j ≢ a → t.hand j ≡ s.hand j) → is_still plan s ≡ true
@@ -362,25 +348,15 @@ end_rests m n o start came w plan next is acts rests moved ends turned =
     (same_outline m o (later (outline m) (by_hand (what.Atom start.atom (ended_state start.action came) (ended_held start.action came))) (shown n)) (next ∙ plan)
     (ended_still (outline m) (shown m) (shown n) start.atom (ended_state start.action came) (ended_held start.action came) (ended_idle start.action came) has.others rests.still))
 
-ends_less : (plan : Outline) (s t : Snapshot) (a : ℕ) (how : Action) (came : Outcome) → is_plain plan ≡ true → Has plan s t a (begun_by how)
-    → remaining plan (later plan (by_hand (what.Atom a (ended_state how came) (ended_held how came))) t) < remaining plan t
-ends_less plan s t a action.Execute (outcome.Gave v) plain has = entered_less plan t 0 a atom.Success (payload.Value v) plain has.below (rw has.works (omega arith))
-ends_less plan s t a action.Execute (outcome.Failed f) plain has = entered_less plan t 0 a atom.Failure (payload.Fault f) plain has.below (rw has.works (omega arith))
-ends_less plan s t a action.Revert (outcome.Gave v) plain has = entered_less plan t 0 a atom.Reverted payload.Empty plain has.below (rw has.works (omega arith))
-ends_less plan s t a action.Revert (outcome.Failed f) plain has = entered_less plan t 0 a atom.RevertFailure (payload.Fault f) plain has.below (rw has.works (omega arith))
+-- a task that is taken up leaves the flow RUNNING
+pub start_runs : (m n : MachineValue) (start : Start) → choice (outline m) (shown m) ≡ Some (start_entry start) → start.action ≡ action_in ((shown m).state start.atom) → Rests m
+    → shown n ≡ later (outline m) (by_hand (start_entry start)) (shown m) → (shown n).flow ≡ flow.Running
+start_runs m n start is acts rests moved = let has = has_here m n start is acts moved in has.flow ∙ rests.runs
 
-pub end_falls : (m n o : MachineValue) (start : Start) (came : Outcome) (w : What) → n.plan ≡ m.plan → o.plan ≡ n.plan → is_plain (outline m) ≡ true → choice (outline m) (shown m) ≡ Some (start_entry start)
-    → start.action ≡ action_in ((shown m).state start.atom) → shown n ≡ later (outline m) (by_hand (start_entry start)) (shown m) → w ≡ ended_from start.atom (begun_by start.action) came
-    → shown o ≡ later (outline n) (by_hand w) (shown n) → remaining (outline o) (shown o) < remaining (outline m) (shown m)
-end_falls m n o start came w plan next plain is acts moved ends turned =
-    let has = has_here m n start is acts moved in
-    let moves : shown o ≡ later (outline m) (by_hand w) (shown n) = turned ∙ ap (λ (p : PlanValue). later (outline_of p) (by_hand w) (shown n)) plan in
-    let shows = after_end m o (shown n) start.atom start.action came w ends moves in
-    let less = ends_less (outline m) (shown m) (shown n) start.atom start.action came plain has in
-    let start_same : remaining (outline m) (shown n) ≡ remaining (outline m) (later (outline m) (by_hand (start_entry start)) (shown m)) = ap (remaining (outline m)) moved in
-    let start_less = chosen_not_more (outline m) (shown m) 0 (start_entry start) plain is in
-    let end_same = remains m o (later (outline m) (by_hand (what.Atom start.atom (ended_state start.action came) (ended_held start.action came))) (shown n)) (next ∙ plan) shows in
-    omega (arith, less, start_same, start_less, end_same)
+-- where the end leaves less, so do both
+pub both_less : {X Y : Type 0} (m n o : MachineValue) (r : Result X Y) → left n.plan (shown n) < left m.plan (shown m) → OnOk r (left o.plan (shown o) < left n.plan (shown n)) → OnOk r (left o.plan (shown o) < left m.plan (shown m))
+both_less m n o (Ok x) first second = omega (arith, first, second)
+both_less m n o (Err y) first second = tt
 
 -- ---- the end of the run
 

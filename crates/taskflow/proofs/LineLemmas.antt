@@ -7,12 +7,12 @@ use Rattle.std.proofs.lemmas.Option.{slice_get-map, slice_get_past}
 use Rattle.tf_flow.specs.Plan.{PlanValue}
 use Rattle.tf_flow.specs.Plan as numbering
 use Rattle.tf_model.specs.Before.{Flow}
-use Rattle.tf_model.specs.Laws.{name_of_atom, is_retry_atom}
+use Rattle.tf_flow.specs.Outline.{name_of_atom, is_retry_atom, Atom}
 use Rattle.tf_model.specs.Laws as laws
-use Rattle.tf_model.specs.Numbers.{which_below}
-use Rattle.tf_model.specs.Outline.{Atom}
+use Rattle.tf_numbers.specs.Numbers.{which_below}
 use Rattle.tf_model.specs.Plan.{Outline, outline_of, count, is_task, atom_name, name_in}
-use Rattle.tf_model.proofs.OutlineLemmas.{same_atoms, same_flows}
+use Rattle.tf_model.proofs.OutlineLemmas.{same_flows}
+use Rattle.tf_flow.proofs.OutlineLemmas.{same_atoms}
 use Rattle.tf_machine.proofs.PlanLemmas as plan_lemmas
 use Rattle.taskflow.specs.Lines.{name_of_flow, flow_name, tasks_below, checked}
 

@@ -10,7 +10,7 @@ use Rattle.tf_states.specs.declared.state.AtomState.{AtomState}
 use Rattle.tf_states.specs.declared.state.AtomState.TheVariants as atom
 use Rattle.tf_states.specs.declared.state.FlowState.TheVariants as flow
 use Rattle.tf_facts.specs.Facts.{CompletedReversion}
-use Rattle.tf_facts.proofs.BelowLemmas.{any_at}
+use Rattle.tf_numbers.proofs.BelowLemmas.{any_at}
 use Rattle.tf_model.specs.Candidates.{taken_up}
 use Rattle.tf_model.specs.History.{snapshot, mark_of, state_of}
 use Rattle.tf_model.specs.Plan.{Outline, outline_of, count, holds, is_retry, own_flow}

@@ -10,7 +10,8 @@ use Rattle.tf_states.specs.declared.state.FlowState.{FlowState}
 use Rattle.tf_states.specs.declared.state.FlowState.TheVariants as flow
 use Rattle.tf_facts.specs.Facts.{CompletedReversion}
 use Rattle.tf_model.specs.Candidates.{end_of}
-use Rattle.tf_model.specs.History.{snapshot, state_of}
+use Rattle.tf_model.specs.Snapshot.{Snapshot}
+use Rattle.tf_model.specs.History.{snapshot}
 use Rattle.tf_flow.specs.Plan.{PlanValue}
 use Rattle.tf_model.specs.Plan.{Outline, outline_of, count}
 use Rattle.tf_model.specs.States.{is_settled}
@@ -19,12 +20,15 @@ use Rattle.taskflow.proofs.RegionLemmas.{all_settled}
 use Rattle.tf_model.specs.Sessions.{entered, halted, whole, flow_entry, is_inner, is_inner_entry, is_last}
 use Rattle.tf_model.specs.Steps.{Step}
 use Rattle.tf_machine.specs.Machine.{MachineValue, outline, shown, StandsFor, HasHistory}
+use Rattle.tf_bound.specs.Short.{IsShortEvent}
 use Rattle.taskflow.specs.BuiltIns.{IsGiven}
 use Rattle.taskflow.specs.Going.{is_within, Goes, GoesSomewhere}
 use Rattle.taskflow.specs.Lines.{line, lines}
+use Rattle.taskflow.specs.Run.{HasReached}
 use Rattle.taskflow.specs.Standing.{begun, GoesOn, IsCut, IsStopped, IsEnded, HasHalted, HasEnded}
 use Rattle.taskflow.specs.declared.log.Halt.{Halt}
 use Rattle.taskflow.specs.declared.log.Halt.TheVariants as halt
+use Rattle.tf_numbers.proofs.TruthLemmas.{true_both}
 
 -- bytes shown after others
 pub shown_with-twice : (before : Option (List ℕ)) (a b : List ℕ) → shown_with (shown_with before a) b ≡ shown_with before (a ++ b)
@@ -49,18 +53,15 @@ within_inner (what.Atom a state held) is = refl
 within_inner (what.Resolve named resolved) is = refl
 within_inner (what.Restart again) is = refl
 
-both : (a b : Bool) → a ≡ true → b ≡ true → (a && b) ≡ true
-both true b is other = other
-both false b is other = absurd (cc)
-
 -- ---- one more entry inside a run
 
 further : (plan : Outline) (number : ℕ) (before text after : Option (List ℕ)) (e : Entry) (inner : List Entry) → GoesOn plan before inner text → Step plan (snapshot plan (begun inner)) e → is_within e.what ≡ true
-    → IsGiven plan (begun inner) e.what → number ≡ length (begun inner) → after ≡ shown_with text (line plan (number + 1) e) → GoesOn plan before (e ∷ inner) after
-further plan number before text after e inner on step within given counted said = record {
+    → IsGiven plan (begun inner) e.what → IsShortEvent e.what → number ≡ length (begun inner) → after ≡ shown_with text (line plan (number + 1) e) → GoesOn plan before (e ∷ inner) after
+further plan number before text after e inner on step within given short counted said = record {
   legal = (step, on.legal);
-  inside = both (is_inner e.what) (list_all is_inner_entry inner) (within_inner e.what within) on.inside;
+  inside = true_both (is_inner e.what) (list_all is_inner_entry inner) (within_inner e.what within) on.inside;
   outcomes = (given, on.outcomes);
+  short = (short, on.short);
   text = one_more plan before (begun inner) text after e on.text (rw counted at said);
 }
 
@@ -69,23 +70,29 @@ longer number e past is = omega (arith, is)
 
 -- what a machine stands for after one more entry, and what is shown
 pub goes_further : (m n : MachineValue) (number : ℕ) (before text after : Option (List ℕ)) (e : Entry) (inner : List Entry) → n.plan ≡ m.plan → Goes m number before inner text
-    → Step (outline m) (shown m) e → is_within e.what ≡ true → IsGiven (outline m) (begun inner) e.what → ((past : List Entry) → StandsFor m past → StandsFor n (e ∷ past))
+    → Step (outline m) (shown m) e → is_within e.what ≡ true → IsGiven (outline m) (begun inner) e.what → IsShortEvent e.what → ((past : List Entry) → StandsFor m past → StandsFor n (e ∷ past))
     → after ≡ shown_with text (line (outline m) (number + 1) e) → Goes n (number + 1) before (e ∷ inner) after
-goes_further m n number before text after e inner plan goes step within given stands said = record {
+goes_further m n number before text after e inner plan goes step within given short stands said = record {
   stands = stands (begun inner) goes.stands;
   on = subst (λ (p : PlanValue). GoesOn (outline_of p) before (e ∷ inner) after) (sym plan)
-      (further (outline m) number before text after e inner goes.on (rw goes.stands.shows at step) within given goes.counted said);
+      (further (outline m) number before text after e inner goes.on (rw goes.stands.shows at step) within given short goes.counted said);
   counted = longer number e (begun inner) goes.counted;
 }
 
+-- a run that was halted reached no end
+no_state : (plan : Outline) (past : List Entry) (state : FlowState) → None ≡ Some state → HasReached plan past state
+no_state plan past state is = absurd (cc)
+
 -- a run is halted as it says the line of one more entry
 cut_there : (plan : Outline) (before text after : Option (List ℕ)) (number : ℕ) (e : Entry) (inner : List Entry) → GoesOn plan before inner text → Step plan (snapshot plan (begun inner)) e → is_within e.what ≡ true
-    → IsGiven plan (begun inner) e.what → number ≡ length (begun inner) → ShowsFront text (line plan (number + 1) e) after → IsCut plan before (e ∷ begun inner) after
-cut_there plan before text after number e inner on step within given counted front = record {
+    → IsGiven plan (begun inner) e.what → IsShortEvent e.what → number ≡ length (begun inner) → ShowsFront text (line plan (number + 1) e) after → IsCut plan before (e ∷ begun inner) after
+cut_there plan before text after number e inner on step within given short counted front = record {
   last = None;
-  session = halted (e ∷ inner) refl (both (is_inner e.what) (list_all is_inner_entry inner) (within_inner e.what within) on.inside) (step, on.legal);
+  session = halted (e ∷ inner) refl (true_both (is_inner e.what) (list_all is_inner_entry inner) (within_inner e.what within) on.inside) (step, on.legal);
   outcomes = (given, on.outcomes);
+  short = (short, on.short);
   text = rw (← on.text, ← counted) front;
+  reached = no_state plan (e ∷ begun inner);
 }
 
 -- a run is halted where it is
@@ -93,6 +100,7 @@ stops_here : (plan : Outline) (before text after : Option (List ℕ)) (inner : L
 stops_here plan before text after inner on same = record {
   session = halted inner refl on.inside on.legal;
   outcomes = on.outcomes;
+  short = on.short;
   text = same ∙ on.text;
 }
 
@@ -109,13 +117,13 @@ pub record Failing (plan : Outline) (number : ℕ) (e : Entry) (text after : Opt
   pub memory : r ≡ Err halt.Memory → after ≡ text
 
 pub note_halts : {A : Type 0} (m : MachineValue) (number : ℕ) (before text after : Option (List ℕ)) (e : Entry) (inner : List Entry) (r : Result A Halt) → Failing (outline m) number e text after r
-    → Goes m number before inner text → Step (outline m) (shown m) e → is_within e.what ≡ true → IsGiven (outline m) (begun inner) e.what → IfErr r (HasHalted (outline m) before after)
-note_halts m number before text after e inner (Ok x) fails goes step within given = tt
-note_halts m number before text after e inner (Err halt.Out) fails goes step within given = record {
+    → Goes m number before inner text → Step (outline m) (shown m) e → is_within e.what ≡ true → IsGiven (outline m) (begun inner) e.what → IsShortEvent e.what → IfErr r (HasHalted (outline m) before after)
+note_halts m number before text after e inner (Ok x) fails goes step within given short = tt
+note_halts m number before text after e inner (Err halt.Out) fails goes step within given short = record {
   past = e ∷ begun inner;
-  halted = cut_there (outline m) before text after number e inner goes.on (rw goes.stands.shows at step) within given goes.counted (fails.out refl);
+  halted = cut_there (outline m) before text after number e inner goes.on (rw goes.stands.shows at step) within given short goes.counted (fails.out refl);
 }
-note_halts m number before text after e inner (Err halt.Memory) fails goes step within given = stops_at m number before text after inner goes (fails.memory refl)
+note_halts m number before text after e inner (Err halt.Memory) fails goes step within given short = stops_at m number before text after inner goes (fails.memory refl)
 
 -- ---- the beginning
 
@@ -126,7 +134,7 @@ begins m n before after plan empty step stands said = record {
   goes = record {
     stands = stands [] empty;
     on = subst (λ (p : PlanValue). GoesOn (outline_of p) before [] after) (sym plan)
-        (record { legal = (rw empty.shows at step, tt); inside = refl; outcomes = (tt, tt); text = said });
+        (record { legal = (rw empty.shows at step, tt); inside = refl; outcomes = (tt, tt); short = (tt, tt); text = said });
     counted = refl;
   };
 }
@@ -140,62 +148,87 @@ begin_halts m number before after e (Err halt.Out) zero is fails empty step = re
     last = None;
     session = halted [] refl refl (rw (empty.shows, is) at step, tt);
     outcomes = (tt, tt);
+    short = (tt, tt);
     text = rw (shown_with-nothing before) (rw (zero, is) at (fails.out refl));
+    reached = no_state (outline m) (flow_entry flow.Running ∷ []);
   };
 }
 begin_halts m number before after e (Err halt.Memory) zero is fails empty step = record {
   past = [];
-  halted = record { session = entered [] (flow_entry flow.Running ∷ []) refl tt; outcomes = tt; text = fails.memory refl ∙ sym (shown_with-nothing before) };
+  halted = record { session = entered [] (flow_entry flow.Running ∷ []) refl tt; outcomes = tt; short = tt; text = fails.memory refl ∙ sym (shown_with-nothing before) };
 }
 
 -- ---- the end
 
 ends_there : (plan : Outline) (before text after : Option (List ℕ)) (number : ℕ) (last : FlowState) (inner : List Entry) → GoesOn plan before inner text → Step plan (snapshot plan (begun inner)) (flow_entry last)
-    → end_of plan (snapshot plan (begun inner)) ≡ Some last → is_last last ≡ true → (last ≡ flow.Reverted → CompletedReversion plan (flow_entry last ∷ begun inner))
-    → (last ≡ flow.Reverted → (a : ℕ) → a < count plan → is_settled (state_of (flow_entry last ∷ begun inner) a) ≡ true) → number ≡ length (begun inner)
+    → is_last last ≡ true → HasReached plan (flow_entry last ∷ begun inner) last → number ≡ length (begun inner)
     → after ≡ shown_with text (line plan (number + 1) (flow_entry last)) → IsEnded plan before (flow_entry last ∷ begun inner) after last
-ends_there plan before text after number last inner on step end final completed undone counted said = record {
+ends_there plan before text after number last inner on step final reached counted said = record {
   session = whole 0 last inner final on.inside refl (step, on.legal);
-  end = end;
-  completed = completed;
-  undone = undone;
+  reached = reached;
   outcomes = (tt, on.outcomes);
+  short = (tt, on.short);
   text = one_more plan before (begun inner) text after (flow_entry last) on.text (rw counted at said);
 }
 
+same_state : (plan : Outline) (past : List Entry) (last state : FlowState) → HasReached plan past last → Some last ≡ Some state → HasReached plan past state
+same_state plan past last state reached is = let same : last ≡ state = cc in subst (HasReached plan past) same reached
+
 end_cut : (plan : Outline) (before text after : Option (List ℕ)) (number : ℕ) (last : FlowState) (inner : List Entry) → GoesOn plan before inner text → Step plan (snapshot plan (begun inner)) (flow_entry last)
-    → is_last last ≡ true → number ≡ length (begun inner) → ShowsFront text (line plan (number + 1) (flow_entry last)) after → IsCut plan before (flow_entry last ∷ begun inner) after
-end_cut plan before text after number last inner on step final counted front = record {
+    → is_last last ≡ true → HasReached plan (flow_entry last ∷ begun inner) last → number ≡ length (begun inner) → ShowsFront text (line plan (number + 1) (flow_entry last)) after → IsCut plan before (flow_entry last ∷ begun inner) after
+end_cut plan before text after number last inner on step final reached counted front = record {
   last = Some last;
   session = whole 0 last inner final on.inside refl (step, on.legal);
   outcomes = (tt, on.outcomes);
+  short = (tt, on.short);
   text = rw (← on.text, ← counted) front;
+  reached = λ state is. same_state plan (flow_entry last ∷ begun inner) last state reached is;
 }
 
-pub end_halts : {A : Type 0} (m : MachineValue) (number : ℕ) (before text after : Option (List ℕ)) (e : Entry) (last : FlowState) (r : Result A Halt) → e ≡ flow_entry last → Failing (outline m) number e text after r
-    → GoesSomewhere m number before text → Step (outline m) (shown m) (flow_entry last) → is_last last ≡ true → IfErr r (HasHalted (outline m) before after)
-end_halts m number before text after e last (Ok x) is fails somewhere step final = tt
-end_halts m number before text after e last (Err halt.Out) is fails somewhere step final = record {
-  past = flow_entry last ∷ begun somewhere.inner;
-  halted = end_cut (outline m) before text after number last somewhere.inner somewhere.goes.on (rw somewhere.goes.stands.shows at step) final somewhere.goes.counted (rw is at (fails.out refl));
-}
-end_halts m number before text after e last (Err halt.Memory) is fails somewhere step final = stops_somewhere m number before text after somewhere (fails.memory refl)
+-- the flow of a machine after the last entry
+last_told : (n : MachineValue) (past : List Entry) (last : FlowState) → StandsFor n (flow_entry last ∷ past) → (shown n).flow ≡ last
+unfolding snapshot
+last_told n past last stands = ap (λ (s : Snapshot). s.flow) stands.shows
 
-pub ends : (m n : MachineValue) (number : ℕ) (before text after : Option (List ℕ)) (last : FlowState) → is_plain (outline m) ≡ true → n.plan ≡ m.plan → GoesSomewhere m number before text → Step (outline m) (shown m) (flow_entry last)
-    → end_of (outline m) (shown m) ≡ Some last → is_last last ≡ true → ((past : List Entry) → StandsFor m past → StandsFor n (flow_entry last ∷ past))
-    → ((past : List Entry) → StandsFor n past → last ≡ flow.Reverted → CompletedReversion (outline n) past)
-    → after ≡ shown_with text (line (outline m) (number + 1) (flow_entry last)) → HasEnded (outline m) before after last
-ends m n number before text after last plain plan somewhere step end final stands completed said =
+-- the end that is reached as the last entry is recorded
+reaches : (m n : MachineValue) (number : ℕ) (before text : Option (List ℕ)) (last : FlowState) (somewhere : GoesSomewhere m number before text) → is_plain (outline m) ≡ true → n.plan ≡ m.plan
+    → Step (outline m) (shown m) (flow_entry last) → end_of (outline m) (shown m) ≡ Some last → StandsFor n (flow_entry last ∷ begun somewhere.inner)
+    → ((past : List Entry) → StandsFor n past → (shown n).flow ≡ flow.Reverted → CompletedReversion (outline n) past)
+    → HasReached (outline m) (flow_entry last ∷ begun somewhere.inner) last
+reaches m n number before text last somewhere plain plan step end stands completed =
     let goes : Goes m number before somewhere.inner text = somewhere.goes in
     let past : List Entry = flow_entry last ∷ begun somewhere.inner in
     let reached : last ≡ flow.Reverted → CompletedReversion (outline m) (flow_entry last ∷ begun somewhere.inner) =
-    λ reverted. subst (λ (p : PlanValue). CompletedReversion (outline_of p) (flow_entry last ∷ begun somewhere.inner)) plan (completed (flow_entry last ∷ begun somewhere.inner) (stands (begun somewhere.inner) goes.stands) reverted) in
-    let now : Step (outline m) (snapshot (outline m) (begun somewhere.inner)) (flow_entry last) = rw goes.stands.shows at step in
+    λ reverted. subst (λ (p : PlanValue). CompletedReversion (outline_of p) (flow_entry last ∷ begun somewhere.inner)) plan (completed (flow_entry last ∷ begun somewhere.inner) stands (last_told n (begun somewhere.inner) last stands ∙ reverted)) in
     record {
-      past = flow_entry last ∷ begun somewhere.inner;
-      ended = ends_there (outline m) before text after number last somewhere.inner goes.on now (rw goes.stands.shows at end) final reached
-          (λ reverted. all_settled m.plan (flow_entry last ∷ begun somewhere.inner) plain (now, goes.on.legal) (reached reverted)) goes.counted said;
+      end = rw goes.stands.shows at end;
+      completed = reached;
+      undone = λ reverted. all_settled m.plan (flow_entry last ∷ begun somewhere.inner) plain (rw goes.stands.shows at step, goes.on.legal) (reached reverted);
     }
+
+pub end_halts : {A : Type 0} (m n : MachineValue) (number : ℕ) (before text after : Option (List ℕ)) (e : Entry) (last : FlowState) (r : Result A Halt) → e ≡ flow_entry last → Failing (outline m) number e text after r
+    → is_plain (outline m) ≡ true → n.plan ≡ m.plan → GoesSomewhere m number before text → Step (outline m) (shown m) (flow_entry last) → end_of (outline m) (shown m) ≡ Some last → is_last last ≡ true
+    → (r ≡ Err halt.Out → (past : List Entry) → StandsFor m past → StandsFor n (e ∷ past))
+    → ((past : List Entry) → StandsFor n past → (shown n).flow ≡ flow.Reverted → CompletedReversion (outline n) past)
+    → IfErr r (HasHalted (outline m) before after)
+end_halts m n number before text after e last (Ok x) is fails plain plan somewhere step end final stands completed = tt
+end_halts m n number before text after e last (Err halt.Out) is fails plain plan somewhere step end final stands completed = record {
+  past = flow_entry last ∷ begun somewhere.inner;
+  halted = end_cut (outline m) before text after number last somewhere.inner somewhere.goes.on (rw somewhere.goes.stands.shows at step) final
+      (reaches m n number before text last somewhere plain plan step end (rw is at (stands refl (begun somewhere.inner) somewhere.goes.stands)) completed)
+      somewhere.goes.counted (rw is at (fails.out refl));
+}
+end_halts m n number before text after e last (Err halt.Memory) is fails plain plan somewhere step end final stands completed = stops_somewhere m number before text after somewhere (fails.memory refl)
+
+pub ends : (m n : MachineValue) (number : ℕ) (before text after : Option (List ℕ)) (last : FlowState) → is_plain (outline m) ≡ true → n.plan ≡ m.plan → GoesSomewhere m number before text → Step (outline m) (shown m) (flow_entry last)
+    → end_of (outline m) (shown m) ≡ Some last → is_last last ≡ true → ((past : List Entry) → StandsFor m past → StandsFor n (flow_entry last ∷ past))
+    → ((past : List Entry) → StandsFor n past → (shown n).flow ≡ flow.Reverted → CompletedReversion (outline n) past)
+    → after ≡ shown_with text (line (outline m) (number + 1) (flow_entry last)) → HasEnded (outline m) before after last
+ends m n number before text after last plain plan somewhere step end final stands completed said = record {
+  past = flow_entry last ∷ begun somewhere.inner;
+  ended = ends_there (outline m) before text after number last somewhere.inner somewhere.goes.on (rw somewhere.goes.stands.shows at step) final
+      (reaches m n number before text last somewhere plain plan step end (stands (begun somewhere.inner) somewhere.goes.stands) completed) somewhere.goes.counted said;
+}
 
 -- ---- what holds where a call succeeded
 
@@ -218,11 +251,11 @@ halts_before m n before after r plan halts = subst (λ (p : PlanValue). IfErr r 
 -- an end that is told by the flow's state
 pub ends_in : (m n : MachineValue) (number : ℕ) (before text after : Option (List ℕ)) (e : Entry) (last told : FlowState) → is_plain (outline m) ≡ true → n.plan ≡ m.plan → GoesSomewhere m number before text → e ≡ flow_entry last
     → Step (outline m) (shown m) (flow_entry last) → end_of (outline m) (shown m) ≡ Some last → is_last last ≡ true → ((past : List Entry) → StandsFor m past → StandsFor n (e ∷ past)) → told ≡ last
-    → ((past : List Entry) → StandsFor n past → told ≡ flow.Reverted → CompletedReversion (outline n) past) → after ≡ shown_with text (line (outline m) (number + 1) e) → HasEnded (outline m) before after told
+    → ((past : List Entry) → StandsFor n past → (shown n).flow ≡ flow.Reverted → CompletedReversion (outline n) past) → after ≡ shown_with text (line (outline m) (number + 1) e) → HasEnded (outline m) before after told
 ends_in m n number before text after e last told plain plan somewhere is step end final stands same undone said =
     subst (λ (state : FlowState). HasEnded (outline m) before after state) (sym same)
     (ends m n number before text after last plain plan somewhere step end final (subst (λ (x : Entry). (past : List Entry) → StandsFor m past → StandsFor n (x ∷ past)) is stands)
-    (λ past stood reverted. undone past stood (same ∙ reverted)) (subst (λ (x : Entry). after ≡ shown_with text (line (outline m) (number + 1) x)) is said))
+    undone (subst (λ (x : Entry). after ≡ shown_with text (line (outline m) (number + 1) x)) is said))
 
 -- a machine of a run that goes on stands for its history
 pub somewhere_stands : (m : MachineValue) (number : ℕ) (before text : Option (List ℕ)) → GoesSomewhere m number before text → HasHistory m

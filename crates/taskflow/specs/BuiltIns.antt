@@ -17,7 +17,7 @@ use Rattle.tf_states.specs.declared.state.AtomState.TheVariants as atom
 use Rattle.tf_ports.specs.declared.outcomes.Outcome.{Outcome}
 use Rattle.tf_ports.specs.declared.outcomes.Outcome.TheVariants as outcome
 use Rattle.tf_model.specs.History.{snapshot}
-use Rattle.tf_model.specs.Outline.{Part, a_task, a_retry, Atom}
+use Rattle.tf_flow.specs.Outline.{Part, a_task, a_retry, Atom}
 use Rattle.tf_model.specs.Plan.{Outline}
 use Rattle.tf_model.specs.Scope.{Argument, Given, found, missing, given_to_execute}
 use Rattle.tf_model.specs.Snapshot.{Snapshot, is_at_work}

@@ -6,7 +6,8 @@ use Rattle.tf_values.specs.declared.value.Val.{Val}
 use Rattle.tf_flow.specs.declared.atoms.Arg.{Arg}
 use Rattle.tf_flow.specs.declared.atoms.Bind.{Bind}
 use Rattle.tf_flow.specs.declared.atoms.Task.{Task}
-use Rattle.tf_flow.specs.Tree.{Tree, task, flow, Trees, no_trees, tree}
+use Rattle.tf_flow.specs.Outline.{Part, a_task, a_retry, Atom, atoms_of}
+use Rattle.tf_flow.specs.Tree.{Tree}
 use Rattle.tf_model.specs.Scope.{Argument, bound, or_nothing}
 
 -- the value of a symbol: the injected one, else the store's
@@ -34,12 +35,15 @@ is_zero other = false
 abbrev pub is_usable_task : List Bind → Task → Bool
 is_usable_task store t = is_zero t.priority && list_all (has_constant store t.inject) t.args
 
--- the same of all tasks of a tree
-abbrev mutual
-  pub is_usable : List Bind → Tree → Bool
-  is_usable store (task t) = is_usable_task store t
-  is_usable store (flow head items) = are_usable store items
+-- an atom of use: a retry controller, or such a task
+abbrev pub usable_part : List Bind → Part → Bool
+usable_part store (a_task t) = is_usable_task store t
+usable_part store (a_retry r) = true
 
-  pub are_usable : List Bind → Trees → Bool
-  are_usable store no_trees = true
-  are_usable store (tree first others) = is_usable store first && are_usable store others
+-- the same of an atom with its way
+abbrev pub usable_atom : List Bind → Atom → Bool
+usable_atom store atom = usable_part store atom.part
+
+-- each atom of a tree is of use
+abbrev pub is_usable : List Bind → Tree → Bool
+is_usable store t = list_all (usable_atom store) (atoms_of 0 t)

@@ -2,89 +2,59 @@
 use Rattle.std.specs.Prelude.{◌≡◌, ◌≤◌, ◌⊎◌, ℕ, List, [], length, codes, Option, Some, None, Ok, Err}
 use Rattle.tf_desk.specs.Shown.{shown_with, ShowsFront}
 use Rattle.tf_ports.specs.Contents.{Contents, GivesBytes, PassesLimit}
-use Rattle.tf_files.specs.FlowFile.{PlanTree, plan_tree}
-use Rattle.tf_states.specs.declared.record.Entry.{Entry}
-use Rattle.tf_states.specs.declared.state.FlowState.{FlowState}
-use Rattle.tf_states.specs.declared.state.FlowState.TheVariants as flow
-use Rattle.tf_model.specs.Plan.{Outline}
-use Rattle.tf_model.specs.Sessions.{Session}
-use Rattle.tf_machine.specs.Machine.{MachineValue}
+use Rattle.tf_files.specs.FlowFile.{PlanTree}
+use Rattle.tf_model.specs.Bound.{tree_bound}
 use Rattle.taskflow.specs.Accepted.{outline_in, plan_in}
-use Rattle.taskflow.specs.BuiltIns.{HasOutcomes}
-use Rattle.taskflow.specs.Lines.{lines, report, checked, usage, cannot_read, refusal, refusal_text}
-use Rattle.taskflow.specs.Standing.{IsEnded, IsCut}
+use Rattle.taskflow.specs.Lines.{checked, usage, cannot_read, refusal, refusal_text}
+use Rattle.taskflow.specs.Run.{Ran}
 use Rattle.taskflow.specs.Words.{command_of, file_named}
+use Rattle.tf_ports.specs.declared.reading.TheConstants.{SOURCE_LIMIT}
+use Rattle.taskflow.specs.declared.statuses.TheConstants.{SUCCEEDED, NO_COMMAND, UNREAD, REFUSED, UNSAID, OUT_OF_MEMORY, REVERTED}
 use Rattle.taskflow.specs.declared.accepting.Refusal.{Refusal}
 use Rattle.taskflow.specs.declared.words.Asked.{Asked}
 use Rattle.taskflow.specs.declared.words.Asked.TheVariants as asked
 
--- the status of a run that ended in a state
-abbrev pub status_of : FlowState → ℕ
-status_of flow.Success = 0
-status_of flow.Reverted = 10
-status_of _ = 11
-
--- a command says its message and ends with its status, or with 7 where a front of the message was shown
+-- a command says its message and ends with its status, or with that of a failed output where a front of the message was shown
 pub data Closes (before : Option (List ℕ)) (message : List ℕ) (wanted : ℕ) (after : Option (List ℕ)) : ℕ → Type 0 where
   said : after ≡ shown_with before message → Closes before message wanted after wanted
-  cut : ShowsFront before message after → Closes before message wanted after 7
-
--- a run of the plan: from the text shown before it to the one after it and the status
-pub data Ran (plan : Outline) (before after : Option (List ℕ)) : ℕ → Type 0 where
-  -- it ended, and its lines and the report were said
-  reported : (past : List Entry) (last : FlowState) (shown : Option (List ℕ)) → IsEnded plan before past shown last
-      → after ≡ shown_with shown (report plan last) → Ran plan before after (status_of last)
-  -- it ended, and the report couldn't be said to its end
-  report_cut : (past : List Entry) (last : FlowState) (shown : Option (List ℕ)) → IsEnded plan before past shown last
-      → ShowsFront shown (report plan last) after → Ran plan before after 7
-  -- it was halted as the line of its newest entry couldn't be said to its end
-  line_cut : (past : List Entry) → IsCut plan before past after → Ran plan before after 7
-  -- memory ran out, during the run or after its end
-  stopped : (past : List Entry) (last : Option FlowState) → Session plan [] past last → HasOutcomes plan past
-      → after ≡ shown_with before (lines plan past) → Ran plan before after 9
+  cut : ShowsFront before message after → Closes before message wanted after UNSAID
 
 -- memory ran out and nothing was said, or a message closed the command
 abbrev pub ClosesOrStops : Option (List ℕ) → List ℕ → ℕ → Option (List ℕ) → ℕ → Type 0
-ClosesOrStops before message wanted after status = ((status ≡ 9) × (after ≡ before)) ⊎ Closes before message wanted after status
+ClosesOrStops before message wanted after status = ((status ≡ OUT_OF_MEMORY) × (after ≡ before)) ⊎ Closes before message wanted after status
 
 -- what becomes of the bytes of a flow file, where its plan is dealt with so
-pub data BytesRead (bytes : List ℕ) (does : Outline → ℕ → Type 0) (before after : Option (List ℕ)) (status : ℕ) : Type 0 where
+pub data BytesRead (bytes : List ℕ) (does : PlanTree → ℕ → Type 0) (before after : Option (List ℕ)) (status : ℕ) : Type 0 where
   -- memory ran out before anything was said or run
-  exhausted : status ≡ 9 → after ≡ before → BytesRead bytes does before after status
+  exhausted : status ≡ OUT_OF_MEMORY → after ≡ before → BytesRead bytes does before after status
   -- they are refused for the first reason why they give no plan, and that is said
   refused : (reason : Refusal) → plan_in bytes ≡ Err reason
-      → Closes before (refusal (refusal_text reason)) 4 after status → BytesRead bytes does before after status
+      → Closes before (refusal (refusal_text reason)) REFUSED after status → BytesRead bytes does before after status
   -- the plan that they give is dealt with
-  done : (plan : PlanTree) → plan_in bytes ≡ Ok plan → does (outline_in plan) status → BytesRead bytes does before after status
+  done : (plan : PlanTree) → plan_in bytes ≡ Ok plan → does plan status → BytesRead bytes does before after status
 
 -- what becomes of a flow file, where its plan is dealt with so
-pub data FileRead (files : Contents) (file : List ℕ) (does : Outline → ℕ → Type 0) (before after : Option (List ℕ)) (status : ℕ) : Type 0 where
+pub data FileRead (files : Contents) (file : List ℕ) (does : PlanTree → ℕ → Type 0) (before after : Option (List ℕ)) (status : ℕ) : Type 0 where
   -- memory ran out before anything was said or run
-  unfinished : status ≡ 9 → after ≡ before → FileRead files file does before after status
+  unfinished : status ≡ OUT_OF_MEMORY → after ≡ before → FileRead files file does before after status
   -- it can't be read
-  unread : Closes before cannot_read 3 after status → FileRead files file does before after status
+  unread : Closes before cannot_read UNREAD after status → FileRead files file does before after status
   -- it is longer than a flow file may be
-  too_long : PassesLimit files file → Closes before (refusal (codes "too long")) 4 after status → FileRead files file does before after status
+  too_long : PassesLimit files file → Closes before (refusal (codes "too long")) REFUSED after status → FileRead files file does before after status
   -- its bytes are those that the sources have under its name
   read : (bytes : List ℕ) → GivesBytes files file bytes → BytesRead bytes does before after status → FileRead files file does before after status
 
 -- nothing is done with a plan
-abbrev pub Undone : Outline → ℕ → Type 0
+abbrev pub Undone : PlanTree → ℕ → Type 0
 Undone plan status = ⊥
 
--- the machine's plan is the one that the file gives
-pub record Opened (files : Contents) (file : List ℕ) (m : MachineValue) : Type 0 where
-  pub bytes : List ℕ
-  pub given : GivesBytes files file bytes
-  pub plan : plan_in bytes ≡ Ok (plan_tree m.plan)
-
--- to try a plan is to run it
-abbrev pub Tries : Option (List ℕ) → Option (List ℕ) → Outline → ℕ → Type 0
-Tries before after plan status = Ran plan before after status
+-- to try a plan is to run it within the bound of its tree
+abbrev pub Tries : Option (List ℕ) → Option (List ℕ) → PlanTree → ℕ → Type 0
+Tries before after plan status = Ran (outline_in plan) (tree_bound plan.root) before after status
 
 -- to check a plan is to say what it has, unless memory runs out
-abbrev pub Checks : Option (List ℕ) → Option (List ℕ) → Outline → ℕ → Type 0
-Checks before after plan status = ClosesOrStops before (checked plan) 0 after status
+abbrev pub Checks : Option (List ℕ) → Option (List ℕ) → PlanTree → ℕ → Type 0
+Checks before after plan status = ClosesOrStops before (checked (outline_in plan)) SUCCEEDED after status
 
 -- what becomes of what the words ask for
 abbrev pub Obeys : Asked → Contents → Option (List ℕ) → Option (List ℕ) → ℕ → Type 0
@@ -94,9 +64,9 @@ Obeys (asked.Check file) files before after status = FileRead files file (Checks
 -- the way that a command went: its words, what the sources tell, the texts shown before and after, the status
 pub data Course (words : List (List ℕ)) (files : Contents) (before after : Option (List ℕ)) (status : ℕ) : Type 0 where
   -- memory ran out before the words were read
-  unheard : status ≡ 9 → after ≡ before → Course words files before after status
+  unheard : status ≡ OUT_OF_MEMORY → after ≡ before → Course words files before after status
   -- the words are no command
-  no_command : command_of words ≡ None → Closes before usage 2 after status → Course words files before after status
+  no_command : command_of words ≡ None → Closes before usage NO_COMMAND after status → Course words files before after status
   -- what they ask for was done, or it was said why not
   obeyed : (command : Asked) → command_of words ≡ Some command → Obeys command files before after status → Course words files before after status
 
@@ -115,11 +85,11 @@ pub record IsAccepted (words : List (List ℕ)) (files : Contents) : Type 0 wher
   pub sources : files ≡ Some told
   pub asks : command_of words ≡ Some command
   pub under : told (file_named command) ≡ Some bytes
-  pub short : length bytes ≤ 262144
+  pub short : length bytes ≤ SOURCE_LIMIT
   pub given : plan_in bytes ≡ Ok plan
 
 -- what was accepted and met no fault ends so, or memory runs out: a run with SUCCESS or in completed
 -- reversion, and a check with what it has to say
 abbrev pub IsComplete : Asked → ℕ → Type 0
-IsComplete (asked.Try file) status = (status ≡ 0) ⊎ (status ≡ 10) ⊎ (status ≡ 9)
-IsComplete (asked.Check file) status = (status ≡ 0) ⊎ (status ≡ 9)
+IsComplete (asked.Try file) status = (status ≡ SUCCEEDED) ⊎ (status ≡ REVERTED) ⊎ (status ≡ OUT_OF_MEMORY)
+IsComplete (asked.Check file) status = (status ≡ SUCCEEDED) ⊎ (status ≡ OUT_OF_MEMORY)

@@ -1,4 +1,4 @@
--- Where the machine of a run stands while the run goes on.
+-- What the loop of a run keeps of its machine.
 use Rattle.std.specs.Prelude.{◌≡◌, ℕ, List, length, Bool, true, false, Option, Some}
 use Rattle.tf_states.specs.declared.record.Entry.{Entry}
 use Rattle.tf_states.specs.declared.record.What.{What}

@@ -1,9 +1,10 @@
 pub mod Constants
 pub mod Accepted
-pub mod Tasks
 pub mod BuiltIns
 pub mod Lines
 pub mod Standing
 pub mod Going
 pub mod Words
 pub mod Course
+pub mod Run
+pub mod Opened

@@ -25,7 +25,7 @@ use Rattle.tf_states.specs.declared.state.AtomState.TheVariants as atom
 use Rattle.tf_states.specs.declared.state.FlowState.{FlowState}
 use Rattle.tf_states.specs.declared.state.FlowState.TheVariants as flow
 use Rattle.tf_model.specs.Before.{Flow}
-use Rattle.tf_model.specs.Numbers.{which_below}
+use Rattle.tf_numbers.specs.Numbers.{which_below}
 use Rattle.tf_model.specs.Plan.{Outline, count, is_task, atom_name}
 use Rattle.taskflow.specs.declared.accepting.Refusal.{Refusal}
 use Rattle.taskflow.specs.declared.accepting.Refusal.TheVariants as refused

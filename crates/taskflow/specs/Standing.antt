@@ -1,4 +1,4 @@
--- Where a run stands: what it has recorded, and what is shown of it.
+-- What the loop of a run keeps: what it has recorded, and what is shown of it.
 use Rattle.std.specs.Prelude.{◌≡◌, ℕ, ◌+◌, ◌<◌, List, [], ◌∷◌, ◌++◌, length, Option, Some, None, true}
 use Rattle.std.specs.List.{list_all}
 use Rattle.tf_desk.specs.Shown.{shown_with, ShowsFront}
@@ -12,7 +12,9 @@ use Rattle.tf_model.specs.States.{is_settled}
 use Rattle.tf_model.specs.Sessions.{Session, flow_entry, is_inner_entry}
 use Rattle.tf_model.specs.Steps.{LegalPast}
 use Rattle.tf_facts.specs.Facts.{CompletedReversion}
+use Rattle.tf_bound.specs.Short.{AreShort}
 use Rattle.taskflow.specs.BuiltIns.{HasOutcomes}
+use Rattle.taskflow.specs.Run.{HasReached, IsLineCut}
 use Rattle.taskflow.specs.Lines.{line, lines}
 use Rattle.taskflow.specs.declared.log.Halt.{Halt}
 use Rattle.taskflow.specs.declared.log.Halt.TheVariants as halt
@@ -26,24 +28,23 @@ pub record GoesOn (plan : Outline) (before : Option (List ℕ)) (inner : List En
   pub legal : LegalPast plan (begun inner)
   pub inside : list_all is_inner_entry inner ≡ true
   pub outcomes : HasOutcomes plan (begun inner)
+  pub short : AreShort (begun inner)
   pub text : shown ≡ shown_with before (lines plan (begun inner))
-
--- the line of the newest entry couldn't be said to its end
-abbrev pub IsLineCut : Outline → Option (List ℕ) → List Entry → Option (List ℕ) → Type 0
-IsLineCut plan before [] shown = ⊥
-IsLineCut plan before (e ∷ past) shown = ShowsFront (shown_with before (lines plan past)) (line plan (length past + 1) e) shown
 
 -- the run was halted as it said the line of its newest entry
 pub record IsCut (plan : Outline) (before : Option (List ℕ)) (past : List Entry) (shown : Option (List ℕ)) : Type 0 where
   pub last : Option FlowState
   pub session : Session plan [] past last
   pub outcomes : HasOutcomes plan past
+  pub short : AreShort past
   pub text : IsLineCut plan before past shown
+  pub reached : (state : FlowState) → last ≡ Some state → HasReached plan past state
 
 -- the run was halted between two entries
 pub record IsStopped (plan : Outline) (before : Option (List ℕ)) (past : List Entry) (shown : Option (List ℕ)) : Type 0 where
   pub session : Session plan [] past None
   pub outcomes : HasOutcomes plan past
+  pub short : AreShort past
   pub text : shown ≡ shown_with before (lines plan past)
 
 -- the run was halted for that cause
@@ -56,19 +57,12 @@ pub record HasHalted (plan : Outline) (before shown : Option (List ℕ)) (cause 
   pub past : List Entry
   pub halted : IsHalted plan before past shown cause
 
--- the newest entry records the end of the history before it
-abbrev pub EndsBy : Outline → List Entry → FlowState → Type 0
-EndsBy plan [] last = ⊥
-EndsBy plan (e ∷ past) last = end_of plan (snapshot plan past) ≡ Some last
-
--- the run ended: in the end of the history before its last entry, and where that is REVERTED, the
--- reversion is completed, and every atom is settled, so that each one that was executed is undone
+-- the run ended, and its lines were said
 pub record IsEnded (plan : Outline) (before : Option (List ℕ)) (past : List Entry) (shown : Option (List ℕ)) (last : FlowState) : Type 0 where
   pub session : Session plan [] past (Some last)
-  pub end : EndsBy plan past last
-  pub completed : last ≡ flow.Reverted → CompletedReversion plan past
-  pub undone : last ≡ flow.Reverted → (a : ℕ) → a < count plan → is_settled (state_of past a) ≡ true
+  pub reached : HasReached plan past last
   pub outcomes : HasOutcomes plan past
+  pub short : AreShort past
   pub text : shown ≡ shown_with before (lines plan past)
 
 -- the same of some history

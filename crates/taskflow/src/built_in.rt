@@ -7,21 +7,20 @@ ghost use Rattle.taskflow.specs.BuiltIns.{outcome_at, given_by, plain, plain_arg
 ghost use Rattle.taskflow.specs.Constants.{constant as constant_value, constant_argument, constant_arguments, is_usable};
 
 use crate::constants::constant;
-use crate::tasks::task_at;
 use std::alloc::Global;
-use tf_flow::{Arg, Bind, Plan, Task, TaskKind};
+use tf_flow::{Arg, Bind, Part, Plan, Task, TaskKind};
 use tf_ports::Outcome;
 use tf_states::Failure;
 use tf_values::{MakeFault, Memory, Text, Val};
 
 /// What the task of that number gives, at whatever moment it is executed.
-#[tactic(auto, using(crate::proofs::TaskLemmas::is_there))]
+#[tactic(auto, using(crate::proofs::TaskLemmas::within, crate::proofs::TaskLemmas::no_retry))]
 pub fn perform(alloc: Global, plan: &Plan, atom: u16) -> Result<Outcome, Memory>
     requires usable { is_usable plan.now.store (tree_of plan.now.root) ≡ true }
     requires task { is_task (outline_of plan.now) atom ≡ true }
     ensures { IfOk result (λ outcome. (s : Snapshot) → outcome_at (outline_of plan.now) s atom ≡ Some outcome) }
 {
-    let Some(task) = task_at(plan, atom) else {
+    let Part::Task(task) = plan.part(atom) else {
         unreachable!();
     };
     outcome_of(alloc, plan.store().items(), task)

@@ -3,17 +3,21 @@ ghost use Rattle.tf_desk.specs.Counts.{Rises};
 ghost use Rattle.tf_flow.specs.Tree.{tree_of};
 ghost use Rattle.tf_files.specs.FlowFile.{plan_tree};
 ghost use Rattle.tf_model.specs.Plan.{outline_of};
+ghost use Rattle.tf_model.specs.Bound.{entry_bound};
 ghost use Rattle.tf_machine.specs.Machine.{outline, StandsFor};
 ghost use Rattle.tf_machine.specs.Plain.{IsPlain};
 ghost use Rattle.taskflow.specs.Accepted.{plan_in, IsRefusal, is_memory as is_want_of_memory};
 ghost use Rattle.taskflow.specs.Constants.{is_usable};
 ghost use Rattle.taskflow.specs.Lines.{report, checked, refusal, refusal_text};
-ghost use Rattle.taskflow.specs.Course.{Closes, ClosesOrStops, BytesRead, FileRead, Undone, Opened, Ran, Tries, Checks, status_of};
+ghost use Rattle.taskflow.specs.Course.{Closes, ClosesOrStops, BytesRead, FileRead, Undone, Tries, Checks};
+ghost use Rattle.taskflow.specs.Opened.{Opened};
+ghost use Rattle.taskflow.specs.Run.{Ran, status_of};
 
 use crate::accepting::{Refusal, accept};
 use crate::engine::run;
 use crate::lines::{CANNOT_READ, TOO_LONG, append_checked, append_refusal, append_report};
 use crate::log::Halt;
+use crate::statuses::{FAILED, OUT_OF_MEMORY, REFUSED, REVERTED, SUCCEEDED, UNREAD, UNSAID};
 use std::alloc::Global;
 use tf_desk::Desk;
 use tf_flow::Plan;
@@ -21,23 +25,6 @@ use tf_machine::Machine;
 use tf_ports::{SourceFault, Sources};
 use tf_states::FlowState;
 use tf_values::Text;
-
-/// The statuses of a command.
-pub const SUCCEEDED: u8 = 0;
-
-pub const NO_COMMAND: u8 = 2;
-
-pub const UNREAD: u8 = 3;
-
-pub const REFUSED: u8 = 4;
-
-pub const UNSAID: u8 = 7;
-
-pub const OUT_OF_MEMORY: u8 = 9;
-
-pub const REVERTED: u8 = 10;
-
-pub const FAILED: u8 = 11;
 
 /// Says a command's message, and answers the status: the one that belongs to it, or that of a failed output.
 pub fn close<K: Desk>(message: &[u8], status: u8, desk: &mut K) -> u8
@@ -158,11 +145,13 @@ fn run_machine<K: Desk>(alloc: Global, machine: &mut Machine, desk: &mut K) -> u
     requires empty { StandsFor machine.old [] }
     requires plain { IsPlain machine.old.plan }
     requires usable { is_usable machine.old.plan.store (tree_of machine.old.plan.root) ≡ true }
-    ensures ran { Ran (outline machine.old) (K.shown desk.old) (K.shown desk.new) result }
+    ensures ran { Ran (outline machine.old) (entry_bound machine.old.plan) (K.shown desk.old) (K.shown desk.new) result }
     ensures read { result ≢ UNREAD }
     ensures unsaid { result ≡ UNSAID → Rises (K.out_faults desk.old) (K.out_faults desk.new) }
     ensures no_fall { K.out_faults desk.old ≤ K.out_faults desk.new }
 {
+    // What the plan of every machine keeps bounds the run.
+    machine.plan();
     match run(alloc, machine, desk) {
         Ok(last) => report_end(alloc, machine.plan(), last, desk),
         Err(Halt::Out) => UNSAID,

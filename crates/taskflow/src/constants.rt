@@ -1,10 +1,11 @@
 ghost use Rattle.std.specs.Prelude.{◌≡◌, ◌==◌, option_map, ℤ};
 ghost use Rattle.std.specs.List.{list_all};
-ghost use Rattle.tf_flow.specs.Tree.{tree_of, item_tree};
+ghost use Rattle.tf_flow.specs.Tree.{tree_of};
+ghost use Rattle.tf_flow.specs.Ways.{shown_part};
 ghost use Rattle.tf_model.specs.Scope.{bound as bound_value};
-ghost use Rattle.taskflow.specs.Constants.{constant as constant_value, has_constant, is_usable_task as task_is_usable, is_usable as tree_is_usable};
+ghost use Rattle.taskflow.specs.Constants.{constant as constant_value, has_constant, usable_part, is_usable_task as task_is_usable, is_usable as tree_is_usable};
 
-use tf_flow::{Arg, Bind, Flow, Item, Plan, Task};
+use tf_flow::{Arg, Bind, Part, Plan, Task};
 use tf_values::{Name, Val};
 
 /// The value of a symbol that is known before a run: the injected one, else the store's.
@@ -30,31 +31,24 @@ fn bound<'a>(binds: &'a [Bind], symbol: &Name) -> Option<&'a Val>
 }
 
 /// Whether all tasks of the plan have priority 0 and arguments whose values are known before the run.
+#[tactic(auto, using(crate::proofs::ConstantLemmas::usable_next, crate::proofs::ConstantLemmas::usable_all, crate::proofs::ConstantLemmas::usable_never))]
 pub fn is_usable(plan: &Plan) -> bool
     ensures { result ≡ tree_is_usable plan.now.store (tree_of plan.now.root) }
 {
-    is_usable_flow(plan.store().items(), plan.root())
-}
-
-#[cycle(usable)]
-fn is_usable_flow(store: &[Bind], flow: &Flow) -> bool
-    ensures { result ≡ tree_is_usable store.now (tree_of flow.now) }
-{
-    for item in flow.items.items() {
-        if !is_usable_item(store, item) {
+    for atom in 0..plan.atoms() {
+        if !is_usable_part(plan.store().items(), plan.part(atom)) {
             return false;
         }
     }
     true
 }
 
-#[cycle(usable)]
-fn is_usable_item(store: &[Bind], item: &Item) -> bool
-    ensures { result ≡ tree_is_usable store.now (item_tree item.now) }
+fn is_usable_part(store: &[Bind], part: Part<'_>) -> bool
+    ensures { result ≡ usable_part store.now (shown_part part.entry) }
 {
-    match item {
-        Item::Task(task) => is_usable_task(store, task),
-        Item::Flow(flow) => is_usable_flow(store, flow),
+    match part {
+        Part::Task(task) => is_usable_task(store, task),
+        Part::Retry(_) => true,
     }
 }
 

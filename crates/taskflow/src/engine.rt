@@ -13,7 +13,8 @@ ghost use Rattle.tf_model.specs.Steps.{Step};
 ghost use Rattle.tf_machine.specs.Answers.{start_entry, action_in, ended_from, begun as begun_by};
 ghost use Rattle.tf_machine.specs.Machine.{outline, shown, StandsFor, HasHistory};
 ghost use Rattle.tf_machine.specs.Plain.{IsPlain};
-ghost use Rattle.tf_machine.specs.Remaining.{remaining};
+ghost use Rattle.tf_bound.specs.Owed.{left};
+ghost use Rattle.tf_states.specs.declared.state.FlowState.TheVariants.{Running as running_flow};
 ghost use Rattle.taskflow.specs.BuiltIns.{IsGiven};
 ghost use Rattle.taskflow.specs.Constants.{is_usable};
 ghost use Rattle.taskflow.specs.Going.{by_hand, is_within, IsOutcomeOf, Goes, GoesSomewhere, Rests};
@@ -81,7 +82,7 @@ fn step<K: Desk>(
     ensures plan { machine.new.plan ≡ machine.old.plan }
     ensures goes { (before : Option (List ℕ)) → GoesSomewhere machine.old log.old before (K.shown desk.old) → OnOk result (GoesSomewhere machine.new log.new before (K.shown desk.new)) }
     ensures rests { OnOk result (Rests machine.new) }
-    ensures less { result ≡ Ok true → remaining (outline machine.new) (shown machine.new) < remaining (outline machine.old) (shown machine.old) }
+    ensures less { result ≡ Ok true → left machine.new.plan (shown machine.new) < left machine.old.plan (shown machine.old) }
     ensures unforced { result ≡ Ok false → forced (outline machine.new) (shown machine.new) ≡ None }
     ensures unchosen { result ≡ Ok false → choice (outline machine.new) (shown machine.new) ≡ None }
     ensures halted { (before : Option (List ℕ)) → GoesSomewhere machine.old log.old before (K.shown desk.old) → IfErr result (HasHalted (outline machine.old) before (K.shown desk.new)) }
@@ -103,7 +104,7 @@ fn step<K: Desk>(
 }
 
 /// Records what is forced.
-#[tactic(auto, using(crate::proofs::EngineLemmas::forced_step, crate::proofs::EngineLemmas::forced_within, crate::proofs::EngineLemmas::forced_rests, crate::proofs::EngineLemmas::forced_falls))]
+#[tactic(auto, using(crate::proofs::EngineLemmas::forced_step, crate::proofs::EngineLemmas::forced_within, crate::proofs::EngineLemmas::forced_rests))]
 fn force<K: Desk>(
     machine: &mut Machine,
     log: &mut Log,
@@ -116,7 +117,7 @@ fn force<K: Desk>(
     ensures plan { machine.new.plan ≡ machine.old.plan }
     ensures goes { (before : Option (List ℕ)) → GoesSomewhere machine.old log.old before (K.shown desk.old) → OnOk result (GoesSomewhere machine.new log.new before (K.shown desk.new)) }
     ensures rests { OnOk result (Rests machine.new) }
-    ensures less { OnOk result (remaining (outline machine.new) (shown machine.new) < remaining (outline machine.old) (shown machine.old)) }
+    ensures less { OnOk result (left machine.new.plan (shown machine.new) < left machine.old.plan (shown machine.old)) }
     ensures halted { (before : Option (List ℕ)) → GoesSomewhere machine.old log.old before (K.shown desk.old) → IfErr result (HasHalted (outline machine.old) before (K.shown desk.new)) }
     ensures cause { IsErrOf result Halt.Out → Rises (K.out_faults desk.old) (K.out_faults desk.new) }
     ensures no_fall { K.out_faults desk.old ≤ K.out_faults desk.new }
@@ -125,7 +126,7 @@ fn force<K: Desk>(
 }
 
 /// Takes a task up, performs it and records its end.
-#[tactic(auto, using(crate::proofs::EngineLemmas::taken_step, crate::proofs::EngineLemmas::start_within, crate::proofs::EngineLemmas::task_here, crate::proofs::EngineLemmas::end_allowed, crate::proofs::EngineLemmas::end_within, crate::proofs::EngineLemmas::end_rests, crate::proofs::EngineLemmas::end_falls))]
+#[tactic(auto, using(crate::proofs::EngineLemmas::taken_step, crate::proofs::EngineLemmas::start_within, crate::proofs::EngineLemmas::task_here, crate::proofs::EngineLemmas::end_allowed, crate::proofs::EngineLemmas::end_within, crate::proofs::EngineLemmas::end_rests))]
 fn take_up<K: Desk>(
     alloc: Global,
     machine: &mut Machine,
@@ -141,7 +142,7 @@ fn take_up<K: Desk>(
     ensures plan { machine.new.plan ≡ machine.old.plan }
     ensures goes { (before : Option (List ℕ)) → GoesSomewhere machine.old log.old before (K.shown desk.old) → OnOk result (GoesSomewhere machine.new log.new before (K.shown desk.new)) }
     ensures rests { OnOk result (Rests machine.new) }
-    ensures less { OnOk result (remaining (outline machine.new) (shown machine.new) < remaining (outline machine.old) (shown machine.old)) }
+    ensures less { OnOk result (left machine.new.plan (shown machine.new) < left machine.old.plan (shown machine.old)) }
     ensures halted { (before : Option (List ℕ)) → GoesSomewhere machine.old log.old before (K.shown desk.old) → IfErr result (HasHalted (outline machine.old) before (K.shown desk.new)) }
     ensures cause { IsErrOf result Halt.Out → Rises (K.out_faults desk.old) (K.out_faults desk.new) }
     ensures no_fall { K.out_faults desk.old ≤ K.out_faults desk.new }
@@ -165,6 +166,7 @@ fn note<K: Desk>(
     ensures plan { machine.new.plan ≡ machine.old.plan }
     ensures counted { OnOk result (log.new ≡ log.old + 1) }
     ensures moved { OnOk result (shown machine.new ≡ later (outline machine.old) entry (shown machine.old)) }
+    ensures less { (shown machine.old).flow ≡ running_flow → OnOk result (left machine.new.plan (shown machine.new) < left machine.old.plan (shown machine.old)) }
     ensures goes { (before : Option (List ℕ)) (inner : List Record) → Goes machine.old log.old before inner (K.shown desk.old) → IsGiven (outline machine.old) (begun inner) entry.what → OnOk result (Goes machine.new log.new before (entry ∷ inner) (K.shown desk.new)) }
     ensures halted { (before : Option (List ℕ)) (inner : List Record) → Goes machine.old log.old before inner (K.shown desk.old) → IsGiven (outline machine.old) (begun inner) entry.what → IfErr result (HasHalted (outline machine.old) before (K.shown desk.new)) }
     ensures cause { IsErrOf result Halt.Out → Rises (K.out_faults desk.old) (K.out_faults desk.new) }
@@ -190,8 +192,10 @@ fn finish<K: Desk>(machine: &mut Machine, log: &mut Log, desk: &mut K) -> Result
     let Some(last) = machine.ended() else {
         unreachable!();
     };
-    match log.record(machine, entry_of(What::Flow(last)), desk) {
-        Ok(()) => Ok(machine.flow_state()),
+    let recorded = log.record(machine, entry_of(What::Flow(last)), desk);
+    let state = machine.flow_state();
+    match recorded {
+        Ok(()) => Ok(state),
         Err(halt) => Err(halt),
     }
 }

@@ -1,6 +1,6 @@
 ghost use Rattle.std.specs.Prelude.{◌≡◌, ◌≤◌, [], ◌∷◌, ◌++◌, OnOk, length};
 ghost use Rattle.std.specs.List.{flat_map};
-ghost use Rattle.tf_model.specs.Numbers.{which_below};
+ghost use Rattle.tf_numbers.specs.Numbers.{which_below};
 ghost use Rattle.tf_model.specs.Plan.{outline_of, count, is_task, atom_name as name_of_atom};
 ghost use Rattle.taskflow.specs.Lines.{atom_word as word_of_atom, flow_word as word_of_flow, kind_word as word_of_kind, limit_word as word_of_limit, failure_text, payload_text, part_word as word_of_part, flow_name as name_of_flow, what_text, line, report, checked, tasks_below, spaced, plan_fault_text, file_fault_text, compile_fault_text, refusal_text, refusal};
 

@@ -8,10 +8,11 @@ mod constants;
 mod engine;
 mod lines;
 mod log;
-mod tasks;
+mod statuses;
 mod top;
 mod words;
 
+use crate::statuses::OUT_OF_MEMORY;
 use crate::top::{Outside, taskflow};
 use crate::words::Word;
 use std::env::Env;
@@ -19,9 +20,6 @@ use std::process::ExitCode;
 use std::{env, io};
 use tf_desk::FileDesk;
 use tf_ports::Folder;
-
-/// The status where memory ran out.
-const OUT_OF_MEMORY: u8 = 9;
 
 fn main(rt: HostRuntime) -> ExitCode {
     let alloc = rt.alloc();

@@ -71,7 +71,13 @@ fn ran(
         bytes: Vec::from_slice(alloc, file)?,
     })?;
     let outside = Outside {
-        desk: MemoryDesk::make(alloc, 65_536, 1_000, Vec::from_slice(alloc, unsaid)?)?,
+        desk: MemoryDesk::make(
+            alloc,
+            65_536,
+            1_000,
+            Vec::from_slice(alloc, unsaid)?,
+            Vec::new(alloc),
+        )?,
         sources: MemorySources::make(sources, Vec::from_slice(alloc, unread)?),
     };
     let ended = taskflow(alloc, &made, outside);

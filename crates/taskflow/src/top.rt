@@ -3,10 +3,9 @@ ghost use Rattle.tf_desk.specs.Counts.{Rises};
 ghost use Rattle.taskflow.specs.Course.{Course, Obeys, IsRefused, IsAccepted, IsComplete};
 ghost use Rattle.taskflow.specs.Words.{command_of};
 
-use crate::command::{
-    NO_COMMAND, OUT_OF_MEMORY, REFUSED, UNREAD, UNSAID, check_file, close, try_file,
-};
+use crate::command::{check_file, close, try_file};
 use crate::lines::USAGE;
+use crate::statuses::{NO_COMMAND, OUT_OF_MEMORY, REFUSED, UNREAD, UNSAID};
 use crate::words::{Asked, Word, read_words};
 use std::alloc::Global;
 use tf_desk::Desk;

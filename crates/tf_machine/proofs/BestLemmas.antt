@@ -5,15 +5,15 @@ use Rattle.std.proofs.lemmas.Bool.{cases_lt}
 use Rattle.tf_states.specs.declared.record.What.{What}
 use Rattle.tf_states.specs.declared.state.AtomState.{AtomState}
 use Rattle.tf_states.specs.declared.state.AtomState.TheVariants as atom
-use Rattle.tf_model.specs.Numbers.{first_below}
+use Rattle.tf_numbers.specs.Numbers.{first_below}
 use Rattle.tf_model.specs.Plan.{Outline, count}
 use Rattle.tf_model.specs.Snapshot.{Snapshot}
 use Rattle.tf_model.specs.Forced.{forced, forced_if_running, is_active}
 use Rattle.tf_model.specs.Candidates.{priority, is_candidate, outranks, is_best, taken_up, candidate_entry, candidate_if_running, choice}
-use Rattle.tf_model.proofs.PairLemmas.{true_both}
+use Rattle.tf_numbers.proofs.TruthLemmas.{true_both, first_false}
 use Rattle.tf_machine.specs.Best.{outranked, best_below, is_start}
 use Rattle.std.proofs.lemmas.Int.{ints}
-use Rattle.tf_machine.proofs.TestLemmas.{first_found, never_first_below, any_below_at, never_any}
+use Rattle.tf_numbers.proofs.BelowLemmas.{first_found, first_none, any_of, never_any}
 
 -- the best so far, by what it means: a candidate that no candidate so far outranks, and that outranks
 -- all before it
@@ -80,10 +80,6 @@ best_so_far plan s (suc n) = one_more plan s n (best_below plan s n) (best_so_fa
 
 -- ---- it is the first of the best
 
-not_first : (x y : Bool) → x ≡ false → (x && y) ≡ false
-not_first true y is = absurd (cc)
-not_first false y is = refl
-
 not_second : (x y : Bool) → (x ≡ true → y ≡ false) → (x && y) ≡ false
 not_second true y is = is refl
 not_second false y is = refl
@@ -91,19 +87,19 @@ not_second false y is = refl
 -- what a candidate outranks isn't best
 outranked_by : (plan : Outline) (s : Snapshot) (a b : ℕ) → a < count plan → is_candidate plan s a ≡ true → int_lt (priority plan b) (priority plan a) ≡ true → is_best plan s b ≡ false
 outranked_by plan s a b below candidate over =
-    not_second (is_candidate plan s b) _ (λ is. ap not (any_below_at (count plan) (outranks plan s b) a below (true_both (is_candidate plan s a) _ candidate over)))
+    not_second (is_candidate plan s b) _ (λ is. ap not (any_of (count plan) (outranks plan s b) a below (true_both (is_candidate plan s a) _ candidate over)))
 
 first_by : (plan : Outline) (s : Snapshot) (o : Option ℕ) → IsBestSoFar plan s (count plan) o → o ≡ first_below (count plan) (is_best plan s)
-first_by plan s None each = sym (never_first_below (count plan) (is_best plan s) (λ k below. not_first (is_candidate plan s k) _ (each k below)))
+first_by plan s None each = sym (first_none (count plan) (is_best plan s) (λ k below. first_false (is_candidate plan s k) _ (each k below)))
 first_by plan s (Some a) (below, candidate_a, none_over, over_first) =
     sym (first_found (count plan) (is_best plan s) a
-    (never_first_below a (is_best plan s) (λ b before. not_first_by b before (is_candidate plan s b) refl))
+    (first_none a (is_best plan s) (λ b before. not_first_by b before (is_candidate plan s b) refl))
     (true_both (is_candidate plan s a) _ candidate_a (ap not (never_any (count plan) (outranks plan s a) (λ b within. not_second (is_candidate plan s b) _ (λ is. none_over b within is)))))
     below)
   where
     not_first_by : (b : ℕ) → b < a → (x : Bool) → is_candidate plan s b ≡ x → is_best plan s b ≡ false
     not_first_by b before true is = outranked_by plan s a b below candidate_a (over_first b before is)
-    not_first_by b before false is = not_first (is_candidate plan s b) _ is
+    not_first_by b before false is = first_false (is_candidate plan s b) _ is
 
 pub best_is : (plan : Outline) (s : Snapshot) (n : ℕ) → n ≡ count plan → best_below plan s n ≡ first_below (count plan) (is_best plan s)
 best_is plan s n all = ap (best_below plan s) all ∙ first_by plan s (best_below plan s (count plan)) (best_so_far plan s (count plan))

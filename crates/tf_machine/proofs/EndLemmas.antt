@@ -3,7 +3,7 @@ use Rattle.std.proofs.Common.{◌≡◌, ℕ, Bool, false, ◌&&◌, Option, Som
 use Rattle.std.specs.Prelude.{if◌then◌else◌, is_none, option_map}
 use Rattle.tf_states.specs.declared.state.FlowState.{FlowState}
 use Rattle.tf_states.specs.declared.state.FlowState.TheVariants as flow
-use Rattle.tf_model.specs.Numbers.{all_below, first_below}
+use Rattle.tf_numbers.specs.Numbers.{all_below, first_below}
 use Rattle.tf_model.specs.Plan.{Outline, count}
 use Rattle.tf_model.specs.Snapshot.{Snapshot}
 use Rattle.tf_model.specs.Candidates.{is_best, is_done_at, is_at_rest, candidate_entry, candidate_if_running, calm_end}

@@ -13,21 +13,22 @@ use Rattle.tf_states.specs.declared.state.AtomState.TheVariants as atom
 use Rattle.tf_states.specs.declared.state.FlowState.{FlowState}
 use Rattle.tf_states.specs.declared.state.FlowState.TheVariants as flow
 use Rattle.tf_model.specs.Plan.{Outline, count, is_task}
-use Rattle.tf_model.specs.Numbers.{is_number}
+use Rattle.tf_numbers.specs.Numbers.{is_number}
 use Rattle.tf_model.specs.Snapshot.{Snapshot, later, is_at_work, attempts_in, hand_after}
 use Rattle.tf_model.specs.History.{snapshot}
 use Rattle.tf_model.specs.States.{flow_runs, flow_suspends, flow_is_reverted}
 use Rattle.tf_model.specs.Forced.{enters}
 use Rattle.tf_model.specs.Candidates.{taken_up}
 use Rattle.tf_model.specs.Steps.{Step, LegalPast, is_hand, is_still, is_idle, ends_task, ends_as, turns_flow, may_turn}
-use Rattle.tf_model.proofs.StepLemmas.{and_first, and_second}
+use Rattle.tf_numbers.proofs.TruthLemmas.{and_first, and_second, true_first}
 use Rattle.tf_model.proofs.HistoryLemmas.{one_more}
 use Rattle.tf_machine.specs.Plain.{is_plain}
 use Rattle.tf_machine.specs.TableFacts.{Busy, is_young, TableFacts}
-use Rattle.tf_machine.proofs.TestLemmas.{all_below_at}
+use Rattle.tf_numbers.proofs.BelowLemmas.{all_at}
 use Rattle.tf_machine.proofs.PlanLemmas.{no_task}
 use Rattle.tf_machine.proofs.ForcedLemmas.{whole}
 use Rattle.tf_machine.proofs.MoveLemmas.{Move, resolves, starts, ends, turns, closes, puts_back, rests, move_of, candidate_task}
+use Rattle.tf_numbers.proofs.OptionLemmas.{is_this_number}
 
 -- the snapshot after what a hand recorded
 abbrev after : Outline → Snapshot → ℕ → What → Snapshot
@@ -157,17 +158,13 @@ turned_facts plan s hand _ facts (is_free_of_work state free) = record {
 still_free : (plan : Outline) (s : Snapshot) → TableFacts plan s → is_still plan s ≡ true → (b h : ℕ) → s.hand b ≡ Some h → ⊥
 unfolding is_still
 still_free plan s facts still b h is = elim (cases_lt b (count plan)) [
-  | inl below ↦ let none = all_below_at (count plan) (is_idle s) b still below in let some : is_idle s b ≡ false = ap is_none is in absurd (cc)
+  | inl below ↦ let none = all_at (count plan) (is_idle s) b still below in let some : is_idle s b ≡ false = ap is_none is in absurd (cc)
   | inr past ↦ let task = (facts.busy b h is).task in let none = no_task plan b past in absurd (cc)
 ]
 
 -- nothing is in flight while the flow is in another state
 away : (plan : Outline) (s : Snapshot) → TableFacts plan s → flow_runs s.flow || flow_suspends s.flow ≡ false → (b h : ℕ) → s.hand b ≡ Some h → ⊥
 away plan s facts goes b h is = let busy = (facts.busy b h is).goes in absurd (cc)
-
-runs_or : (b c : Bool) → b ≡ true → b || c ≡ true
-runs_or true c is = refl
-runs_or false c is = absurd (cc)
 
 taken_facts : (plan : Outline) (s : Snapshot) (hand a : ℕ) (state : AtomState) → s.state a ≡ state → TableFacts plan s → is_hand hand ≡ true → is_task plan a ≡ true → flow_runs s.flow || flow_suspends s.flow ≡ true
     → TableFacts plan (after plan s hand (taken_up state a))
@@ -221,7 +218,7 @@ reverted_away state is = absurd (cc)
 moved_facts : (plan : Outline) (s : Snapshot) (hand : ℕ) (w : What) → TableFacts plan s → is_hand hand ≡ true → Move plan s hand w → TableFacts plan (after plan s hand w)
 moved_facts plan s hand w facts numbered (resolves is) = subst (λ (v : What). TableFacts plan (after plan s hand v)) is (resolved_facts plan s hand facts)
 moved_facts plan s hand w facts numbered (starts a below candidate runs is) =
-    subst (λ (v : What). TableFacts plan (after plan s hand v)) is (taken_facts plan s hand a (s.state a) refl facts numbered (candidate_task plan s a candidate) (runs_or (flow_runs s.flow) (flow_suspends s.flow) runs))
+    subst (λ (v : What). TableFacts plan (after plan s hand v)) is (taken_facts plan s hand a (s.state a) refl facts numbered (candidate_task plan s a candidate) (true_first (flow_runs s.flow) (flow_suspends s.flow) runs))
 moved_facts plan s hand w facts numbered (ends is) = ended_facts plan s hand w facts is
 moved_facts plan s hand w facts numbered (turns is) = flow_facts plan s hand w facts is
 moved_facts plan s hand w facts numbered (closes state still is) =
@@ -242,10 +239,6 @@ past_facts plan [] plain legal = record { busy = λ a h is. absurd (cc); few = �
 past_facts plan (e ∷ past) plain legal = subst (TableFacts plan) (sym (one_more plan e past)) (step_facts plan (snapshot plan past) e plain (past_facts plan past plain legal.1) legal.0)
 
 -- ---- what a step needs of the tables
-
-pub numbered_hand : (o : Option ℕ) (hand : ℕ) → is_number o hand ≡ true → o ≡ Some hand
-numbered_hand None hand is = absurd (cc)
-numbered_hand (Some h) hand is = ap (λ (n : ℕ). Some n) (eqb-true h hand is)
 
 task_below : (plan : Outline) (a : ℕ) → is_task plan a ≡ true → a < count plan
 task_below plan a is = elim (cases_lt a (count plan)) [
@@ -275,7 +268,7 @@ ended_below : (plan : Outline) (s : Snapshot) (hand a : ℕ) (w : What) → Tabl
 unfolding ends_task
 ended_below plan s hand a (what.Atom b state held) facts is at =
     let same : b ≡ a = cc in
-    let has = numbered_hand (s.hand b) hand (and_first (is_number (s.hand b) hand) _ (and_second (flow_runs s.flow || flow_suspends s.flow) _ is)) in
+    let has = is_this_number (s.hand b) hand (and_first (is_number (s.hand b) hand) _ (and_second (flow_runs s.flow || flow_suspends s.flow) _ is)) in
     subst (λ (k : ℕ). k < count plan) same (task_below plan b (facts.busy b hand has).task)
 ended_below plan s hand a (what.Flow state) facts is at = absurd (cc)
 ended_below plan s hand a (what.Resolve named kind) facts is at = absurd (cc)

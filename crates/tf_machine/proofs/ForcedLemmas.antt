@@ -6,17 +6,17 @@ use Rattle.tf_states.specs.declared.record.Kind.TheVariants as kind
 use Rattle.tf_states.specs.declared.record.What.{What}
 use Rattle.tf_states.specs.declared.record.What.TheVariants as what
 use Rattle.tf_flow.specs.declared.deciders.Depth.{Depth}
-use Rattle.tf_model.specs.Numbers.{first_below}
+use Rattle.tf_numbers.specs.Numbers.{first_below}
 use Rattle.tf_model.specs.Plan.{Outline, count, is_retry}
 use Rattle.tf_model.specs.Snapshot.{Snapshot, Resolve}
 use Rattle.tf_model.specs.States.{is_running, is_success, is_reverting, is_retrying}
 use Rattle.tf_model.specs.Readiness.{can_run, can_revert}
 use Rattle.tf_model.specs.Deciders.{refused}
 use Rattle.tf_model.specs.Forced.{first_entry, forced_attempt, forced_again, forced_reverted, forced_resolution, forced_retrying, forced_revert, forced_ignore, forced_run, forced_if_running, forced, is_active, is_attempting, attempt_entry, is_beginning_again, again_entry, is_undone_retry, reverted_entry, is_unresolved, resolution_entry, resolve_entry, is_to_begin_again, retrying_entry, is_retry_to_revert, reverting_entry, is_refused, ignore_entry, is_retry_to_run, running_entry}
-use Rattle.tf_model.proofs.StepLemmas.{found_passes}
+use Rattle.tf_numbers.proofs.BelowLemmas.{found_passes, first_found, never_first, found_below}
 use Rattle.tf_machine.specs.Plain.{is_plain}
-use Rattle.tf_machine.proofs.TestLemmas.{first_found, never_first, found_below}
 use Rattle.tf_machine.proofs.PlainLemmas.{no_retry, never_refused, resolved_whole}
+use Rattle.tf_numbers.proofs.TruthLemmas.{and_false, first_false}
 
 -- the reversion of the whole flow
 abbrev pub whole : What
@@ -26,37 +26,29 @@ whole = what.Resolve 0 kind.RevertAll
 no_entry : (plan : Outline) (test : ℕ → Bool) (entry : ℕ → What) → ((a : ℕ) → test a ≡ false) → first_entry plan test entry ≡ None
 no_entry plan test entry each = ap (option_map entry) (never_first (count plan) test each)
 
-and_none : (a b : Bool) → a ≡ false → (a && b) ≡ false
-and_none true b is = absurd (cc)
-and_none false b is = refl
-
 none_refused : (plan : Outline) (s : Snapshot) (v : ℕ) (b : Bool) → is_plain plan ≡ true → (b && is_some (refused plan s v)) ≡ false
-none_refused plan s v b is = ap (λ (o : Option Depth). b && is_some o) (never_refused plan s v is) ∙ no_more b
-  where
-    no_more : (b : Bool) → (b && false) ≡ false
-    no_more true = refl
-    no_more false = refl
+none_refused plan s v b is = ap (λ (o : Option Depth). b && is_some o) (never_refused plan s v is) ∙ and_false b
 
 no_attempt : (plan : Outline) (s : Snapshot) → is_plain plan ≡ true → forced_attempt plan s ≡ None
 unfolding forced_attempt
-no_attempt plan s is = no_entry plan (is_attempting plan s) (attempt_entry plan s) (λ a. and_none (is_retry plan a) (is_running (s.state a)) (no_retry plan a is))
+no_attempt plan s is = no_entry plan (is_attempting plan s) (attempt_entry plan s) (λ a. first_false (is_retry plan a) (is_running (s.state a)) (no_retry plan a is))
 
 no_again : (plan : Outline) (s : Snapshot) → is_plain plan ≡ true → forced_again plan s ≡ None
 unfolding forced_again
-no_again plan s is = no_entry plan (is_beginning_again plan s) (again_entry plan s) (λ a. and_none (is_retry plan a) (is_retrying (s.state a)) (no_retry plan a is))
+no_again plan s is = no_entry plan (is_beginning_again plan s) (again_entry plan s) (λ a. first_false (is_retry plan a) (is_retrying (s.state a)) (no_retry plan a is))
 
 no_reverted : (plan : Outline) (s : Snapshot) → is_plain plan ≡ true → forced_reverted plan s ≡ None
 unfolding forced_reverted
-no_reverted plan s is = no_entry plan (is_undone_retry plan s) reverted_entry (λ a. and_none (is_retry plan a) (is_reverting (s.state a)) (no_retry plan a is))
+no_reverted plan s is = no_entry plan (is_undone_retry plan s) reverted_entry (λ a. first_false (is_retry plan a) (is_reverting (s.state a)) (no_retry plan a is))
 
 no_retrying : (plan : Outline) (s : Snapshot) → is_plain plan ≡ true → forced_retrying plan s ≡ None
 unfolding forced_retrying
 no_retrying plan s is = no_entry plan (is_to_begin_again plan s) retrying_entry
-    (λ a. and_none (is_retry plan a && is_success (s.state a)) _ (and_none (is_retry plan a) (is_success (s.state a)) (no_retry plan a is)))
+    (λ a. first_false (is_retry plan a && is_success (s.state a)) _ (first_false (is_retry plan a) (is_success (s.state a)) (no_retry plan a is)))
 
 no_revert : (plan : Outline) (s : Snapshot) → is_plain plan ≡ true → forced_revert plan s ≡ None
 unfolding forced_revert
-no_revert plan s is = no_entry plan (is_retry_to_revert plan s) reverting_entry (λ a. and_none (is_retry plan a) (can_revert plan s a) (no_retry plan a is))
+no_revert plan s is = no_entry plan (is_retry_to_revert plan s) reverting_entry (λ a. first_false (is_retry plan a) (can_revert plan s a) (no_retry plan a is))
 
 no_ignore : (plan : Outline) (s : Snapshot) → is_plain plan ≡ true → forced_ignore plan s ≡ None
 unfolding forced_ignore
@@ -64,7 +56,7 @@ no_ignore plan s is = no_entry plan (is_refused plan s) (ignore_entry plan s) (�
 
 no_run : (plan : Outline) (s : Snapshot) → is_plain plan ≡ true → forced_run plan s ≡ None
 unfolding forced_run
-no_run plan s is = no_entry plan (is_retry_to_run plan s) running_entry (λ a. and_none (is_retry plan a) (can_run plan s a) (no_retry plan a is))
+no_run plan s is = no_entry plan (is_retry_to_run plan s) running_entry (λ a. first_false (is_retry plan a) (can_run plan s a) (no_retry plan a is))
 
 or_nothing : (o : Option What) → option_or o None ≡ o
 or_nothing None = refl

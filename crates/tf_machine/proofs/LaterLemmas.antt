@@ -15,7 +15,7 @@ use Rattle.tf_states.specs.declared.state.FlowState.TheVariants as flow
 use Rattle.tf_machine.specs.declared.tables.Place.{Place}
 use Rattle.tf_model.specs.Plan.{Outline, count, holds, is_task, is_retry, own_flow}
 use Rattle.tf_model.specs.Before.{passes_flow, way_in}
-use Rattle.tf_model.specs.Outline.{Atom}
+use Rattle.tf_flow.specs.Outline.{Atom}
 use Rattle.tf_model.specs.Snapshot.{Resolve, Snapshot, later, state_after, payload_after, hand_after, mark_after, attempts_after, is_at_work, begun_again}
 use Rattle.tf_machine.specs.Tables.{hand_in, mark_in, attempts_told, resolve_of, shown_of}
 use Rattle.tf_machine.specs.Changes.{turned, marked}

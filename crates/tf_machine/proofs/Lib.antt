@@ -1,4 +1,3 @@
-pub mod TestLemmas
 pub mod PlanLemmas
 pub mod PlainLemmas
 pub mod ReadinessLemmas
@@ -12,5 +11,5 @@ pub mod ChangeLemmas
 pub mod LaterLemmas
 pub mod RecordLemmas
 pub mod MachineLemmas
-pub mod RemainingLemmas
+pub mod LeftLemmas
 pub mod Rows

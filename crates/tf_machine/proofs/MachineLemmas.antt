@@ -9,7 +9,7 @@ use Rattle.tf_states.specs.declared.state.FlowState.TheVariants as flow
 use Rattle.tf_ports.specs.declared.outcomes.Outcome.{Outcome}
 use Rattle.tf_ports.specs.declared.outcomes.Outcome.TheVariants as outcome
 use Rattle.tf_machine.specs.declared.tables.Place.{Place}
-use Rattle.tf_model.specs.Numbers.{is_number}
+use Rattle.tf_numbers.specs.Numbers.{is_number}
 use Rattle.tf_model.specs.Compilation.{compile_refusal}
 use Rattle.tf_model.specs.Plan.{Outline, outline_of, count}
 use Rattle.tf_model.specs.Snapshot.{Snapshot, later, is_at_work}
@@ -24,19 +24,29 @@ use Rattle.std.proofs.lemmas.Option.{slice_get-get_or}
 use Rattle.tf_facts.specs.Facts.{Facts, CompletedReversion}
 use Rattle.tf_facts.proofs.PastLemmas.{facts_hold, never_stuck, reversion_completed}
 use Rattle.tf_order.proofs.GraphLemmas.{rows_length, row_told}
-use Rattle.tf_model.proofs.StepLemmas.{found_passes}
+use Rattle.tf_numbers.proofs.BelowLemmas.{found_passes}
+use Rattle.tf_bound.specs.Kept.{IsKept, IsBounded}
+use Rattle.tf_bound.specs.Short.{IsShortEvent, IsWithinLimits}
+use Rattle.tf_bound.proofs.PastLemmas.{first_bounded, next_bounded, bounded_kept}
 use Rattle.tf_machine.specs.Answers.{view_at, views_of, is_with, task_of, end_by, ended_from}
 use Rattle.tf_machine.specs.TableFacts.{TableFacts}
 use Rattle.tf_machine.specs.Machine.{MachineValue, outline, shown, StandsFor, IsSound}
 use Rattle.tf_machine.specs.Plain.{IsPlain}
 use Rattle.tf_machine.specs.Tables.{state_in, payload_in, hand_in, mark_in, attempts_told}
 use Rattle.tf_machine.specs.Changes.{first_view, first_place, first_views, first_places}
-use Rattle.tf_machine.proofs.FactLemmas.{past_facts, numbered_hand}
+use Rattle.tf_machine.proofs.FactLemmas.{past_facts}
+use Rattle.tf_numbers.proofs.OptionLemmas.{is_this_number}
 use Rattle.tf_machine.proofs.LaterLemmas.{same_snapshot}
 
 -- the facts of legal histories hold of what a machine shows
 pub sound_facts : (m : MachineValue) → IsSound m → TableFacts (outline m) (shown m)
 sound_facts m sound = subst (TableFacts (outline m)) (sym sound.some.1.shows) (past_facts (outline m) sound.some.0 sound.plain sound.some.1.legal)
+
+-- what makes less owed holds of what a machine shows
+pub sound_kept : (m : MachineValue) → IsSound m → IsKept (outline m) (shown m)
+sound_kept m sound =
+    let facts : Facts (outline m) (shown m) = subst (Facts (outline m)) (sym sound.some.1.shows) (facts_hold m.plan sound.some.0 sound.compiles sound.some.1.legal) in
+    bounded_kept m.plan (shown m) sound.compiles facts.order sound.bounded
 
 -- after a step it stands for one entry more
 pub stands_later : (old new : MachineValue) (e : Entry) → new.plan ≡ old.plan → Step (outline old) (shown old) e → shown new ≡ later (outline old) e (shown old)
@@ -48,9 +58,9 @@ stands_later old new e plan step moved past stands =
       shows = moved ∙ (ap (later (outline old) e) stands.shows ∙ (sym (one_more (outline old) e past) ∙ ap (λ (o : Outline). snapshot o (e ∷ past)) (sym same)));
     }
 
-pub sound_later : (old new : MachineValue) (e : Entry) → IsSound old → new.plan ≡ old.plan → Step (outline old) (shown old) e → shown new ≡ later (outline old) e (shown old)
+pub sound_later : (old new : MachineValue) (e : Entry) → IsSound old → IsShortEvent e.what → new.plan ≡ old.plan → Step (outline old) (shown old) e → shown new ≡ later (outline old) e (shown old)
     → length new.views ≡ length old.views → length new.places ≡ length old.places → IsSound new
-sound_later old new e sound plan step moved views places =
+sound_later old new e sound short plan step moved views places =
     let same : outline new ≡ outline old = ap outline_of plan in
     record {
       compiles = ap compile_refusal plan ∙ sound.compiles;
@@ -58,6 +68,8 @@ sound_later old new e sound plan step moved views places =
       views = views ∙ (sound.views ∙ ap count (sym same));
       places = places ∙ (sound.places ∙ ap count (sym same));
       some = (e ∷ sound.some.0, stands_later old new e plan step moved sound.some.0 sound.some.1);
+      bounded = subst (λ (o : Outline). IsBounded o (shown new)) (sym same)
+          (subst (IsBounded (outline old)) (sym moved) (next_bounded old.plan (shown old) e sound.compiles short step sound.bounded));
     }
 
 -- ---- before a run
@@ -98,18 +110,19 @@ stands_first m n views places state = record {
       state;
 }
 
-pub sound_first : (m : MachineValue) (n : ℕ) → compile_refusal m.plan ≡ None → IsPlain m.plan → n ≡ count (outline m) → m.views ≡ first_views n → m.places ≡ first_places n → m.flow ≡ flow.Pending → IsSound m
-sound_first m n compiles plain all views places state = record {
+pub sound_first : (m : MachineValue) (n : ℕ) → compile_refusal m.plan ≡ None → IsPlain m.plan → IsWithinLimits (outline m) → n ≡ count (outline m) → m.views ≡ first_views n → m.places ≡ first_places n → m.flow ≡ flow.Pending → IsSound m
+sound_first m n compiles plain limits all views places state = record {
   compiles = compiles;
   plain = plain;
   views = ap (λ (xs : List AtomView). length xs) views ∙ (first_views_length n ∙ all);
   places = ap (λ (xs : List Place). length xs) places ∙ (first_places_length n ∙ all);
   some = ([], stands_first m n views places state);
+  bounded = subst (IsBounded (outline m)) (sym (stands_first m n views places state).shows) (first_bounded (outline m) limits);
 }
 
 -- ---- the end of a task in flight
 
-ended_as : (plan : Outline) (s : Snapshot) (hand a : ℕ) (state : AtomState) (result : Outcome) → s.state a ≡ state → is_at_work state ≡ true → flow_runs s.flow || flow_suspends s.flow ≡ true → is_number (s.hand a) hand ≡ true
+pub ended_as : (plan : Outline) (s : Snapshot) (hand a : ℕ) (state : AtomState) (result : Outcome) → s.state a ≡ state → is_at_work state ≡ true → flow_runs s.flow || flow_suspends s.flow ≡ true → is_number (s.hand a) hand ≡ true
     → ends_task s hand (ended_from a state result) ≡ true
 unfolding ends_task
 ended_as plan s hand a atom.Running (outcome.Gave v) was works goes has = rw (goes, has, was) refl
@@ -122,7 +135,7 @@ ended_as plan s hand a state result was works goes has = absurd (cc)
 pub settled_step : (plan : Outline) (s : Snapshot) (hand a : ℕ) (result : Outcome) → TableFacts plan s → task_of plan s hand ≡ Some a → Step plan s (end_by s hand result a)
 settled_step plan s hand a result facts is =
     let has = found_passes (count plan) (is_with s hand) a is in
-    let busy = facts.busy a hand (numbered_hand (s.hand a) hand has) in
+    let busy = facts.busy a hand (is_this_number (s.hand a) hand has) in
     record { hand = busy.numbered; rule = by_end_of_task (ended_as plan s hand a (s.state a) result refl busy.at_work busy.goes has) }
 
 -- ---- views

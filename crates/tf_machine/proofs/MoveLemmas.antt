@@ -7,17 +7,18 @@ use Rattle.tf_states.specs.declared.record.What.TheVariants as what
 use Rattle.tf_states.specs.declared.state.AtomState.TheVariants as atom
 use Rattle.tf_states.specs.declared.state.FlowState.{FlowState}
 use Rattle.tf_states.specs.declared.state.FlowState.TheVariants as flow
-use Rattle.tf_model.specs.Numbers.{all_below, first_below}
+use Rattle.tf_numbers.specs.Numbers.{all_below, first_below}
 use Rattle.tf_model.specs.Plan.{Outline, count, is_task}
 use Rattle.tf_model.specs.Snapshot.{Snapshot}
 use Rattle.tf_model.specs.States.{flow_runs, flow_suspends, flow_is_reverted}
 use Rattle.tf_model.specs.Forced.{forced, is_active, is_unhurt, enters}
 use Rattle.tf_model.specs.Candidates.{is_interrupted, is_candidate, is_best, taken_up, candidate_entry, candidate_if_running, choice, end_of}
 use Rattle.tf_model.specs.Steps.{Rule, by_force, by_choice, by_end_of_task, by_turn, by_end, by_suspension, by_reset, is_still, ends_task, turns_flow, may_suspend, reset, put_back_or_rest, is_put_back_at, is_settled_at}
-use Rattle.tf_model.proofs.StepLemmas.{and_first, and_second, or_either, found_passes}
+use Rattle.tf_numbers.proofs.TruthLemmas.{and_first, and_second, or_either}
+use Rattle.tf_numbers.proofs.BelowLemmas.{found_passes, found_below}
 use Rattle.tf_machine.specs.Plain.{is_plain}
 use Rattle.tf_machine.proofs.ForcedLemmas.{whole, forced_is}
-use Rattle.tf_machine.proofs.TestLemmas.{found_below}
+use Rattle.tf_numbers.proofs.OptionLemmas.{if_some, only_if}
 
 -- what a step is: the reversion of the whole flow is recorded, a candidate is taken up, a task in flight
 -- ends, the flow turns or ends or is suspended, or it is put back
@@ -29,10 +30,6 @@ pub data Move (plan : Outline) (s : Snapshot) (hand : ℕ) (w : What) : Type 0 w
   closes : (state : FlowState) → is_still plan s ≡ true → what.Flow state ≡ w → Move plan s hand w
   puts_back : (a : ℕ) → a < count plan → enters a atom.Pending ≡ w → Move plan s hand w
   rests : flow_is_reverted s.flow ≡ true → what.Flow flow.Pending ≡ w → Move plan s hand w
-
-only_if : {X : Type 0} (b : Bool) (x : Option X) (w : X) → (if b then x else None) ≡ Some w → (b ≡ true) × (x ≡ Some w)
-only_if true x w is = (refl, is)
-only_if false x w is = absurd (cc)
 
 -- a candidate is a task
 pub candidate_task : (plan : Outline) (s : Snapshot) (a : ℕ) → is_candidate plan s a ≡ true → is_task plan a ≡ true
@@ -76,10 +73,6 @@ closed plan s hand w (Some state) still is = closes state still (let same : what
 put_back : (plan : Outline) (s : Snapshot) (hand : ℕ) (w : What) (o : Option ℕ) → flow_is_reverted s.flow ≡ true → first_below (count plan) (is_put_back_at s) ≡ o → put_back_or_rest o ≡ w → Move plan s hand w
 put_back plan s hand w None reverted found is = rests reverted is
 put_back plan s hand w (Some a) reverted found is = puts_back a (found_below (count plan) (is_put_back_at s) a found) is
-
-if_some : (b : Bool) (v w : What) → (if b then Some v else None) ≡ Some w → (b ≡ true) × (v ≡ w)
-if_some true v w is = let same : v ≡ w = cc in (refl, same)
-if_some false v w is = absurd (cc)
 
 cleared : (plan : Outline) (s : Snapshot) (hand : ℕ) (w : What) → reset plan s ≡ Some w → Move plan s hand w
 unfolding reset

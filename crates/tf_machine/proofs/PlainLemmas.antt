@@ -8,17 +8,18 @@ use Rattle.tf_flow.specs.declared.deciders.Link.{Link}
 use Rattle.tf_flow.specs.declared.deciders.Decider.{Decider}
 use Rattle.tf_flow.specs.Plan.{PlanValue}
 use Rattle.tf_flow.specs.Tree.{Tree, Trees, task, flow, no_trees, tree, tree_of}
-use Rattle.tf_model.specs.Conditions.{Connection, connection_of}
-use Rattle.tf_model.specs.Outline.{Turn, Part, a_task, a_retry, Atom, FlowPlace, atoms_of, atoms_among, retry_atoms, retry_number, enter, flows_of, flows_among, flow_count, atom_count, retry_count}
+use Rattle.tf_flow.specs.Conditions.{Connection, connection_of}
+use Rattle.tf_flow.specs.Outline.{Part, a_task, a_retry, Atom, FlowPlace, atoms_of, atoms_among, retry_atoms, retry_number, enter, flows_of, flows_among, flow_count, atom_count, retry_count, is_task_part, is_retry_part}
+use Rattle.tf_flow.specs.declared.ways.Turn.{Turn}
 use Rattle.tf_model.specs.Before.{Flow, flow_at, has_flow_number}
 use Rattle.tf_model.specs.Linked.{arranged}
-use Rattle.tf_model.specs.Plan.{Outline, outline_of, count, way, is_task, is_retry, is_task_part, is_retry_part, is_task_in, is_retry_in, retry_in, retry_of, own_flow}
+use Rattle.tf_model.specs.Plan.{Outline, outline_of, count, way, is_task, is_retry, is_task_in, is_retry_in, retry_in, retry_of, own_flow}
 use Rattle.tf_model.specs.Snapshot.{Snapshot}
 use Rattle.tf_model.specs.Retries.{Controlled, controlled, controlled_on, resolution, resolution_by, revert_all}
 use Rattle.tf_model.specs.Deciders.{connections_in, decides_on, flow_in, seen, refused_depth, widest, refused}
-use Rattle.tf_model.proofs.StepLemmas.{and_first, and_second}
+use Rattle.tf_numbers.proofs.TruthLemmas.{and_first, and_second}
 use Rattle.tf_machine.specs.Plain.{is_task_atom, has_no_decider, is_plain_place, is_plain_flow, is_plain, is_undecided, is_plain_tree, are_plain_trees}
-use Rattle.tf_machine.proofs.TestLemmas.{all_at}
+use Rattle.tf_numbers.proofs.ListLemmas.{list_all_at}
 
 -- ---- the tree of a plain plan
 
@@ -26,7 +27,7 @@ links_told : (links : List Link) → list_all has_no_decider (map connection_of 
 links_told [] = refl
 links_told (link ∷ links) = ap (λ (b : Bool). b && list_all has_no_decider (map connection_of links)) (one link.decider) ∙ ap (λ (b : Bool). is_none link.decider && b) (links_told links)
   where
-    one : (decider : Option Decider) → is_none (Rattle.tf_model.specs.Conditions.decision_of decider) ≡ is_none decider
+    one : (decider : Option Decider) → is_none (Rattle.tf_flow.specs.Conditions.decision_of decider) ≡ is_none decider
     one None = refl
     one (Some d) = refl
 
@@ -60,7 +61,7 @@ mutual
   plain_in (task t) g n a = refl
   plain_in (flow head items) g n a =
       let rest = flows_among (suc n) (a + retry_count head.retry) items in
-      ap (λ (b : Bool). b && (is_plain_place (Rattle.tf_model.specs.Outline.flow_place n a head items) && list_all is_plain_place rest))
+      ap (λ (b : Bool). b && (is_plain_place (Rattle.tf_flow.specs.Outline.flow_place n a head items) && list_all is_plain_place rest))
       (list_all-append is_task_atom (retry_atoms g head.retry) (atoms_among g 0 (suc g) items) ∙ ap (λ (b : Bool). b && list_all is_task_atom (atoms_among g 0 (suc g) items)) (control_told g head.retry))
       ∙ (ap (λ (b : Bool). (is_none head.retry && list_all is_task_atom (atoms_among g 0 (suc g) items)) && (b && list_all is_plain_place rest))
       (ap (λ (b : Bool). b && list_all has_no_decider (map connection_of head.links)) (number_told a head.retry) ∙ ap (λ (b : Bool). is_none head.retry && b) (links_told head.links))
@@ -104,7 +105,7 @@ not_both (a_retry r) is = absurd (cc)
 
 no_retry_at : (plan : Outline) (a : ℕ) (o : Option Atom) → is_plain plan ≡ true → slice_get plan.atoms a ≡ o → is_retry_in o ≡ false
 no_retry_at plan a None is at = refl
-no_retry_at plan a (Some atom) is at = not_both atom.part (all_at is_task_atom plan.atoms a atom (all_tasks plan is) at)
+no_retry_at plan a (Some atom) is at = not_both atom.part (list_all_at is_task_atom plan.atoms a atom (all_tasks plan is) at)
 
 pub no_retry : (plan : Outline) (a : ℕ) → is_plain plan ≡ true → is_retry plan a ≡ false
 no_retry plan a is = no_retry_at plan a (slice_get plan.atoms a) is refl
@@ -149,7 +150,7 @@ none_decide name (link ∷ links) all =
     ap (λ (b : Bool). Rattle.std.specs.Prelude.cond b (link ∷ filter (decides_on name) links) (filter (decides_on name) links)) no
     ∙ none_decide name links (and_second (is_none link.decision) (list_all has_no_decider links) all)
   where
-    without : (b : Bool) (decision : Option Rattle.tf_model.specs.Conditions.Decision) → is_none decision ≡ true → (b && is_some decision) ≡ false
+    without : (b : Bool) (decision : Option Rattle.tf_flow.specs.Conditions.Decision) → is_none decision ≡ true → (b && is_some decision) ≡ false
     without true None is = refl
     without false None is = refl
     without b (Some d) is = absurd (cc)

@@ -1,17 +1,17 @@
 -- The numbers, the parts and the priorities of a plan's atoms.
-use Rattle.std.proofs.Common.{◌≡◌, ℕ, ℤ, suc, ◌+◌, ◌≤◌, List, [], ◌∷◌, ◌++◌, length, map, Bool, true, false, not, Option, Some, None, refl, sym, ap, ◌∙◌, slice_get}
+use Rattle.std.proofs.Common.{◌≡◌, ℕ, zero, ℤ, suc, ◌+◌, ◌≤◌, List, [], ◌∷◌, ◌++◌, length, map, take, Bool, true, false, not, Option, Some, None, refl, sym, ap, ◌∙◌, slice_get, add-one, arith}
 use Rattle.std.specs.Prelude.{option_map}
-use Rattle.std.proofs.lemmas.List.{map-append, length-map}
+use Rattle.std.proofs.lemmas.List.{length-map}
 use Rattle.std.proofs.lemmas.Option.{slice_get-map, slice_get_past}
-use Rattle.tf_flow.specs.declared.atoms.Retry.{Retry}
 use Rattle.tf_flow.specs.Plan.{PlanValue}
 use Rattle.tf_flow.specs.Plan as numbering
-use Rattle.tf_flow.specs.Tree.{Tree, Trees, task, flow, no_trees, tree, tree_of}
-use Rattle.tf_model.specs.Outline.{Part, a_task, a_retry, Atom, atoms_of, atoms_among, retry_atoms, enter, flow_count}
+use Rattle.tf_flow.specs.declared.ways.Part.{Part as CodePart}
+use Rattle.tf_flow.specs.Ways.{shown_part}
+use Rattle.tf_flow.specs.Outline.{Part, a_task, a_retry, Atom, part_of, priority_of, name_of_atom, is_retry_atom, is_retry_part, is_task_part}
 use Rattle.tf_model.specs.Plan.{Outline, outline_of, count, is_task, is_task_in, is_retry}
-use Rattle.tf_model.specs.Laws.{name_of_atom, is_retry_atom}
-use Rattle.tf_model.proofs.OutlineLemmas.{same_atoms, same_retries}
-use Rattle.tf_machine.specs.Compiled.{priority_at, control_priorities, priorities_of, priorities_among}
+use Rattle.tf_flow.proofs.OutlineLemmas.{same_atoms, same_retries}
+use Rattle.tf_machine.specs.Compiled.{priority_at}
+use Rattle.tf_numbers.proofs.ListLemmas.{take_whole}
 
 -- a plan has as many atoms as its outline
 pub atoms_counted : (plan : PlanValue) → length (numbering.atoms plan) ≡ count (outline_of plan)
@@ -21,7 +21,7 @@ task_by : (o : Option Atom) (b : Bool) → option_map is_retry_atom o ≡ Some b
 task_by None b is = absurd (cc)
 task_by (Some atom) b is = by atom.part b (let same : is_retry_atom atom ≡ b = cc in same)
   where
-    by : (part : Part) (b : Bool) → Rattle.tf_model.specs.Plan.is_retry_part part ≡ b → Rattle.tf_model.specs.Plan.is_task_part part ≡ not b
+    by : (part : Part) (b : Bool) → is_retry_part part ≡ b → is_task_part part ≡ not b
     by (a_task t) true is = absurd (cc)
     by (a_task t) false is = refl
     by (a_retry r) true is = refl
@@ -38,29 +38,17 @@ no_task plan a past = ap is_task_in (slice_get_past plan.atoms a past)
 
 -- ---- priorities
 
-entered_priorities : (g i : ℕ) (xs : List Atom) → map priority_at (map (enter g i) xs) ≡ map priority_at xs
-entered_priorities g i [] = refl
-entered_priorities g i (x ∷ xs) = ap (λ (rest : List ℤ). priority_at x ∷ rest) (entered_priorities g i xs)
+-- the priorities of the atoms so far, with one more
+priorities_on : (xs : List Atom) (k : ℕ) (p : Part) → option_map part_of (slice_get xs k) ≡ Some p → map priority_at (take k xs) ++ priority_of p ∷ [] ≡ map priority_at (take (suc k) xs)
+priorities_on [] k p is = absurd (cc)
+priorities_on (x ∷ xs) zero p is = let same : x.part ≡ p = cc in ap (λ (q : Part). priority_of q ∷ []) (sym same)
+priorities_on (x ∷ xs) (suc k) p is = ap (λ (rest : List ℤ). priority_at x ∷ rest) (priorities_on xs k p is)
 
-control_told : (g : ℕ) (control : Option Retry) → map priority_at (retry_atoms g control) ≡ control_priorities control
-control_told g None = refl
-control_told g (Some r) = refl
+pub priorities_next : (plan : PlanValue) (k : ℕ) (p : CodePart) (done : List ℤ) → done ≡ map priority_at (take k (outline_of plan).atoms) → numbering.part plan k ≡ Some (shown_part p)
+    → done ++ priority_of (shown_part p) ∷ [] ≡ map priority_at (take (k + 1) (outline_of plan).atoms)
+priorities_next plan k p done is there =
+    ap (λ (xs : List ℤ). xs ++ priority_of (shown_part p) ∷ []) is
+    ∙ (priorities_on (outline_of plan).atoms k (shown_part p) there ∙ ap (λ (n : ℕ). map priority_at (take n (outline_of plan).atoms)) (sym (add-one k)))
 
-mutual
-  priorities_in : (t : Tree) (g : ℕ) → map priority_at (atoms_of g t) ≡ priorities_of t
-  priorities_in (task t) g = refl
-  priorities_in (flow head items) g =
-      map-append priority_at (retry_atoms g head.retry) (atoms_among g 0 (suc g) items)
-      ∙ (ap (λ (front : List ℤ). front ++ map priority_at (atoms_among g 0 (suc g) items)) (control_told g head.retry)
-      ∙ ap (λ (rest : List ℤ). control_priorities head.retry ++ rest) (priorities_in_all items g 0 (suc g)))
-
-  priorities_in_all : (ts : Trees) (g i n : ℕ) → map priority_at (atoms_among g i n ts) ≡ priorities_among ts
-  priorities_in_all no_trees g i n = refl
-  priorities_in_all (tree first others) g i n =
-      map-append priority_at (map (enter g i) (atoms_of n first)) (atoms_among g (suc i) (n + flow_count first) others)
-      ∙ (ap (λ (front : List ℤ). front ++ map priority_at (atoms_among g (suc i) (n + flow_count first) others)) (entered_priorities g i (atoms_of n first) ∙ priorities_in first n)
-      ∙ ap (λ (rest : List ℤ). priorities_of first ++ rest) (priorities_in_all others g (suc i) (n + flow_count first)))
-
--- the priorities of a plan's tree are those of its atoms
-pub priorities_told : (plan : PlanValue) → priorities_of (tree_of plan.root) ≡ map priority_at (outline_of plan).atoms
-priorities_told plan = sym (priorities_in (tree_of plan.root) 0)
+pub priorities_all : (plan : PlanValue) (k : ℕ) (done : List ℤ) → done ≡ map priority_at (take k (outline_of plan).atoms) → length (numbering.atoms plan) ≤ k → done ≡ map priority_at (outline_of plan).atoms
+priorities_all plan k done is whole = is ∙ ap (map priority_at) (take_whole (outline_of plan).atoms k (let counted = atoms_counted plan in omega (arith, counted)))

@@ -9,7 +9,7 @@ use Rattle.tf_model.specs.Scope.{is_earlier}
 use Rattle.tf_model.specs.Readiness.{can_run, can_revert, is_unmarked}
 use Rattle.tf_model.specs.Candidates.{is_done_at}
 use Rattle.tf_model.specs.Steps.{is_settled_at}
-use Rattle.tf_machine.proofs.TestLemmas.{all_which}
+use Rattle.tf_numbers.proofs.BelowLemmas.{all_which}
 
 pub runs_by_predecessors : (plan : Outline) (s : Snapshot) (a : ℕ) → can_run plan s a ≡ ((is_pending (s.state a) && is_unmarked s a) && list_all (is_done_at s) (predecessors_of plan a))
 unfolding can_run

@@ -19,7 +19,7 @@ use Rattle.tf_machine.specs.declared.faults.BuildFault.{BuildFault}
 use Rattle.tf_machine.specs.declared.faults.BuildFault.TheVariants as build_fault
 use Rattle.tf_machine.specs.declared.candidates.Start.{Start}
 use Rattle.tf_model.specs.Compilation.{CompileRefusal}
-use Rattle.tf_model.specs.Numbers.{first_below, numbers_below, is_number}
+use Rattle.tf_numbers.specs.Numbers.{first_below, numbers_below, is_number}
 use Rattle.tf_model.specs.Plan.{Outline, count}
 use Rattle.tf_model.specs.Snapshot.{Snapshot}
 use Rattle.tf_model.specs.Forced.{enters}

@@ -7,4 +7,3 @@ pub mod Faults
 pub mod Best
 pub mod Changes
 pub mod TableFacts
-pub mod Remaining

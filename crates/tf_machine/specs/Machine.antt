@@ -10,6 +10,7 @@ use Rattle.tf_model.specs.Plan.{Outline, outline_of, count}
 use Rattle.tf_model.specs.Snapshot.{Snapshot}
 use Rattle.tf_model.specs.History.{snapshot}
 use Rattle.tf_model.specs.Steps.{LegalPast}
+use Rattle.tf_bound.specs.Kept.{IsBounded}
 use Rattle.tf_machine.specs.Plain.{IsPlain}
 use Rattle.tf_machine.specs.Tables.{shown_of}
 
@@ -37,11 +38,12 @@ pub record StandsFor (m : MachineValue) (past : List Entry) : Type 0 where
 abbrev pub HasHistory : MachineValue → Type 0
 HasHistory m = (past : List Entry) × StandsFor m past
 
--- the plan of every machine compiles and is plain; the machine has a view and a place for each atom, and
--- stands for some history
+-- the plan of every machine compiles and is plain; the machine has a view and a place for each atom, stands for some
+-- history, and what bounds a run holds of what it shows
 pub record IsSound (m : MachineValue) : Type 0 where
   pub compiles : compile_refusal m.plan ≡ None
   pub plain : IsPlain m.plan
   pub views : length m.views ≡ count (outline m)
   pub places : length m.places ≡ count (outline m)
   pub some : HasHistory m
+  pub bounded : IsBounded (outline m) (shown m)

@@ -4,10 +4,10 @@ use Rattle.std.specs.List.{list_all}
 use Rattle.tf_flow.specs.declared.deciders.Link.{Link}
 use Rattle.tf_flow.specs.Plan.{PlanValue}
 use Rattle.tf_flow.specs.Tree.{Tree, Trees, task, flow, no_trees, tree}
-use Rattle.tf_model.specs.Conditions.{Connection}
-use Rattle.tf_model.specs.Outline.{Atom, FlowPlace}
+use Rattle.tf_flow.specs.Conditions.{Connection}
+use Rattle.tf_flow.specs.Outline.{Atom, FlowPlace, is_task_part}
 use Rattle.tf_model.specs.Before.{Flow}
-use Rattle.tf_model.specs.Plan.{Outline, outline_of, is_task_part}
+use Rattle.tf_model.specs.Plan.{Outline, outline_of}
 
 -- the atom is a task
 abbrev pub is_task_atom : Atom → Bool

@@ -1,5 +1,5 @@
 ghost use Rattle.std.specs.Prelude.{◌≡◌, ◌≢◌, ◌&&◌, true, false, None, Some, IfSome, option_map};
-ghost use Rattle.tf_model.specs.Numbers.{first_below};
+ghost use Rattle.tf_numbers.specs.Numbers.{first_below};
 ghost use Rattle.tf_model.specs.Plan.{outline_of, count};
 ghost use Rattle.tf_model.specs.Candidates.{is_interrupted, is_candidate, is_best, taken_up, choice, candidate_if_running};
 ghost use Rattle.tf_machine.specs.Answers.{start_entry, action_in};

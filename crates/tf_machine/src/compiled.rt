@@ -1,17 +1,16 @@
 ghost use Rattle.std.specs.Prelude.{◌≡◌, ◌≤◌, ◌++◌, None, IfOk, IfErr, OnOk, map, length};
-ghost use Rattle.tf_flow.specs.Tree.{tree_of, item_tree};
 ghost use Rattle.tf_order.specs.Graph.{predecessors_of, successors_of};
 ghost use Rattle.tf_model.specs.Compilation.{compile_refusal};
 ghost use Rattle.tf_model.specs.Plan.{outline_of, count, is_task};
 ghost use Rattle.tf_model.specs.Candidates.{priority};
 ghost use Rattle.tf_machine.specs.Answers.{IsBuildRefusal};
-ghost use Rattle.tf_machine.specs.Compiled.{priorities_of};
+ghost use Rattle.tf_machine.specs.Compiled.{priority_at};
 ghost use Rattle.tf_machine.specs.Plain.{IsPlain};
 
 use crate::faults::BuildFault;
 use std::alloc::Global;
 use std::marker::Model;
-use tf_flow::{Flow, Item, Plan};
+use tf_flow::Plan;
 use tf_order::{Graph, compile};
 use tf_values::Memory;
 
@@ -40,7 +39,6 @@ impl Model for Compiled {
 
 impl Compiled {
     /// The plan with what is compiled of it; it is refused as it is by compilation.
-    #[tactic(auto, using(crate::proofs::PlanLemmas::priorities_told))]
     pub fn make(alloc: Global, plan: Plan) -> Result<Compiled, BuildFault>
         requires { IsPlain plan }
         ensures given { IfOk result (λ compiled. compiled ≡ plan) }
@@ -48,8 +46,7 @@ impl Compiled {
         ensures refused { IfErr result (IsBuildRefusal (compile_refusal plan)) }
     {
         let graph = compile(alloc, &plan)?;
-        let mut priorities = Vec::new(alloc);
-        add_flow(plan.root(), &mut priorities)?;
+        let priorities = priorities(alloc, &plan)?;
         Ok(Compiled {
             plan,
             graph,
@@ -113,30 +110,14 @@ impl Compiled {
     }
 }
 
-/// Adds the priorities of a flow's atoms, in tree order.
-#[cycle(priorities)]
-fn add_flow(flow: &Flow, priorities: &mut Vec<i32>) -> Result<(), Memory>
-    ensures { OnOk result (priorities.new.items ≡ priorities.old.items ++ priorities_of (tree_of flow.now)) }
+/// The priorities of a plan's atoms, by number.
+#[tactic(auto, using(crate::proofs::PlanLemmas::priorities_next, crate::proofs::PlanLemmas::priorities_all))]
+fn priorities(alloc: Global, plan: &Plan) -> Result<Vec<i32>, Memory>
+    ensures { IfOk result (λ numbers. numbers.items ≡ map priority_at (outline_of plan.now).atoms) }
 {
-    if flow.retry.is_some() {
-        priorities.push(0)?;
+    let mut priorities = Vec::new(alloc);
+    for atom in 0..plan.atoms() {
+        priorities.push(plan.part(atom).priority())?;
     }
-    for item in flow.items.items() {
-        add_item(item, priorities)?;
-    }
-    Ok(())
-}
-
-/// Adds the priorities of an item's atoms.
-#[cycle(priorities)]
-fn add_item(item: &Item, priorities: &mut Vec<i32>) -> Result<(), Memory>
-    ensures { OnOk result (priorities.new.items ≡ priorities.old.items ++ priorities_of (item_tree item.now)) }
-{
-    match item {
-        Item::Task(task) => {
-            priorities.push(task.priority)?;
-            Ok(())
-        }
-        Item::Flow(flow) => add_flow(flow, priorities),
-    }
+    Ok(priorities)
 }

@@ -1,5 +1,5 @@
 ghost use Rattle.std.specs.Prelude.{◌≡◌};
-ghost use Rattle.tf_model.specs.Numbers.{all_below};
+ghost use Rattle.tf_numbers.specs.Numbers.{all_below};
 ghost use Rattle.tf_model.specs.Plan.{outline_of, count};
 ghost use Rattle.tf_model.specs.Candidates.{is_done_at, is_at_rest, calm_end, end_of};
 ghost use Rattle.tf_machine.specs.Tables.{shown_by};

@@ -10,7 +10,7 @@ use crate::tables::Tables;
 use tf_states::{Kind, What};
 
 /// Whether no atom is REVERT_FAILURE.
-#[tactic(auto, using(crate::proofs::TestLemmas::none_below, crate::proofs::TestLemmas::still_all))]
+#[tactic(auto, using(tf_numbers::proofs::BelowLemmas::not_each, tf_numbers::proofs::BelowLemmas::still_all))]
 pub fn is_unhurt(compiled: &Compiled, tables: &Tables) -> bool
     ensures { result ≡ is_unhurt (outline_of compiled.now) (shown_by tables.now) }
 {

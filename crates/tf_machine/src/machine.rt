@@ -1,7 +1,8 @@
-ghost use Rattle.std.specs.Prelude.{◌≡◌, ◌<◌, ◌≤◌, ℕ, List, [], ◌∷◌, true, false, None, Some, IfOk, IfErr, OnOk, OnErr, IfSome, IsSome, Ok, Err, option_map, is_some};
+ghost use Rattle.std.specs.Prelude.{◌≡◌, ◌≢◌, ◌||◌, ◌<◌, ◌≤◌, ◌+◌, ℕ, List, [], ◌∷◌, true, false, None, Some, IfOk, IfErr, OnOk, OnErr, IfSome, IsSome, Ok, Err, option_map, is_some};
 ghost use Rattle.tf_states.specs.declared.record.Entry.{Entry as Record};
 ghost use Rattle.tf_states.specs.declared.record.What.{What as Event};
-ghost use Rattle.tf_states.specs.declared.state.FlowState.TheVariants.{Running as running, Reverted as reverted};
+ghost use Rattle.tf_states.specs.declared.record.What.TheVariants.{Flow as flow_turns};
+ghost use Rattle.tf_states.specs.declared.state.FlowState.TheVariants.{Running as running, Reverted as reverted, Resuming as resuming};
 ghost use Rattle.tf_ports.specs.declared.outcomes.Outcome.{Outcome as Came};
 ghost use Rattle.tf_ports.specs.declared.outcomes.Outcome.TheVariants.{Gave as given, Failed as failing};
 ghost use Rattle.tf_model.specs.Compilation.{compile_refusal};
@@ -15,7 +16,10 @@ ghost use Rattle.tf_machine.specs.declared.faults.ApplyFault.TheVariants.{NotASt
 ghost use Rattle.tf_machine.specs.Answers.{views_of, task_of, start_entry, action_in, end_by, ended_from, IsBuildRefusal, IsBack};
 ghost use Rattle.tf_machine.specs.Machine.{outline, shown, StandsFor, HasHistory};
 ghost use Rattle.tf_machine.specs.Plain.{IsPlain};
-ghost use Rattle.tf_machine.specs.Remaining.{remaining};
+ghost use Rattle.tf_model.specs.States.{flow_runs, flow_suspends};
+ghost use Rattle.tf_model.specs.Bound.{entry_bound};
+ghost use Rattle.tf_bound.specs.Owed.{left, left_later};
+ghost use Rattle.tf_bound.specs.Short.{IsWithinLimits};
 
 use crate::candidates::{Start, candidate};
 use crate::compiled::Compiled;
@@ -26,6 +30,7 @@ use crate::steps::{is_step, task_of};
 use crate::tables::Tables;
 use std::alloc::Global;
 use std::marker::Model;
+use tf_bound::{event_is_short, plan_is_within_limits};
 use tf_flow::Plan;
 use tf_ports::Outcome;
 use tf_states::{AtomState, AtomView, Entry, Failure, FlowState, Payload, What};
@@ -65,6 +70,7 @@ impl Machine {
         ensures accepted { OnOk result (compile_refusal plan ≡ None) }
         ensures refused { IfErr result (IsBuildRefusal (compile_refusal plan)) }
     {
+        plan_is_within_limits(&plan);
         let compiled = Compiled::make(alloc, plan)?;
         let tables = Tables::make(alloc, compiled.atoms())?;
         Ok(Machine { compiled, tables })
@@ -94,7 +100,9 @@ impl Machine {
         ensures plan { self.new.plan ≡ self.old.plan }
         ensures moved { shown self.new ≡ later (outline self.old) entry (shown self.old) }
         ensures stands { (past : List Record) → StandsFor self.old past → StandsFor self.new (entry ∷ past) }
+        ensures less { flow_runs (shown self.old).flow || flow_suspends (shown self.old).flow ≡ true → entry.what ≢ flow_turns resuming → left self.new.plan (shown self.new) < left self.old.plan (shown self.old) }
     {
+        event_is_short(&entry.what);
         self.tables.record(&self.compiled, entry);
     }
 
@@ -107,7 +115,7 @@ impl Machine {
         ensures step { (a : ℕ) → task_of (outline self.old) (shown self.old) hand ≡ Some a → Step (outline self.old) (shown self.old) (end_by (shown self.old) hand outcome a) }
         ensures moved { (a : ℕ) → task_of (outline self.old) (shown self.old) hand ≡ Some a → shown self.new ≡ later (outline self.old) (end_by (shown self.old) hand outcome a) (shown self.old) }
         ensures stands { (a : ℕ) → task_of (outline self.old) (shown self.old) hand ≡ Some a → (past : List Record) → StandsFor self.old past → StandsFor self.new (end_by (shown self.old) hand outcome a ∷ past) }
-        ensures less { remaining (outline self.new) (shown self.new) < remaining (outline self.old) (shown self.old) }
+        ensures less { left self.new.plan (shown self.new) < left self.old.plan (shown self.old) }
     {
         let Some(atom) = self.in_flight(hand) else {
             unreachable!();
@@ -120,19 +128,19 @@ impl Machine {
     pub fn forced(&self) -> Result<Option<What>, Memory>
         ensures is { IfOk result (λ found. found ≡ forced (outline self.now) (shown self.now)) }
         ensures after { IfOk result (λ found. (past : List Record) → StandsFor self.now past → found ≡ forced (outline self.now) (snapshot (outline self.now) past)) }
-        ensures less { IfOk result (λ found. (hand : ℕ) (w : Event) → found ≡ Some w → remaining (outline self.now) (later (outline self.now) (record { hand = hand; what = w }) (shown self.now)) < remaining (outline self.now) (shown self.now)) }
+        ensures less { IfOk result (λ found. (hand : ℕ) (w : Event) → found ≡ Some w → left_later self.now.plan hand w (shown self.now) < left self.now.plan (shown self.now)) }
     {
         Ok(forced(&self.compiled, &self.tables))
     }
 
     /// The task that a hand takes up next: the first candidate, of the greatest priority and then in
     /// tree order. There is none while something is forced, while the flow isn't RUNNING, or while an
-    /// atom is REVERT_FAILURE. After its entry no more of the run is to come than before it.
+    /// atom is REVERT_FAILURE. After its entry less of the run is to come.
     pub fn candidate(&self) -> Option<Start>
         ensures is { option_map start_entry result ≡ choice (outline self.now) (shown self.now) }
         ensures after { (past : List Record) → StandsFor self.now past → option_map start_entry result ≡ choice (outline self.now) (snapshot (outline self.now) past) }
         ensures action { IfSome result (λ start. start.action ≡ action_in ((shown self.now).state start.atom)) }
-        ensures no_more { IfSome result (λ start. (hand : ℕ) → remaining (outline self.now) (later (outline self.now) (record { hand = hand; what = start_entry start }) (shown self.now)) ≤ remaining (outline self.now) (shown self.now)) }
+        ensures less { IfSome result (λ start. (hand : ℕ) → left_later self.now.plan hand (start_entry start) (shown self.now) < left self.now.plan (shown self.now)) }
     {
         candidate(&self.compiled, &self.tables)
     }
@@ -152,7 +160,7 @@ impl Machine {
         ensures is { result ≡ task_of (outline self.now) (shown self.now) hand }
         ensures after { (past : List Record) → StandsFor self.now past → result ≡ task_of (outline self.now) (snapshot (outline self.now) past) hand }
         ensures ends { (a : ℕ) (outcome : Came) → result ≡ Some a → Step (outline self.now) (shown self.now) (end_by (shown self.now) hand outcome a) }
-        ensures less { (a : ℕ) (outcome : Came) → result ≡ Some a → remaining (outline self.now) (later (outline self.now) (end_by (shown self.now) hand outcome a) (shown self.now)) < remaining (outline self.now) (shown self.now) }
+        ensures less { (a : ℕ) (outcome : Came) → result ≡ Some a → left self.now.plan (later (outline self.now) (end_by (shown self.now) hand outcome a) (shown self.now)) < left self.now.plan (shown self.now) }
     {
         task_of(&self.compiled, &self.tables, hand)
     }
@@ -181,6 +189,7 @@ impl Machine {
     pub fn plan(&self) -> &Plan
         ensures is { result.now ≡ self.now.plan }
         ensures compiles { compile_refusal self.now.plan ≡ None }
+        ensures limits { IsWithinLimits (outline self.now) }
         ensures history { HasHistory self.now }
     {
         self.compiled.plan()

@@ -1,7 +1,7 @@
 ghost use Rattle.std.specs.Prelude.{◌≡◌, ◌≢◌, true, false, Some};
 ghost use Rattle.tf_states.specs.declared.state.FlowState.TheVariants.{Suspended as suspended};
 ghost use Rattle.tf_states.specs.declared.record.What.TheVariants.{Flow as flow_enters};
-ghost use Rattle.tf_model.specs.Numbers.{all_below, first_below};
+ghost use Rattle.tf_numbers.specs.Numbers.{all_below, first_below};
 ghost use Rattle.tf_model.specs.Plan.{outline_of, count};
 ghost use Rattle.tf_model.specs.Steps.{Rule, Step, is_free, is_still, is_settled_at, is_put_back_at, ends_as, ends_task, may_turn, turns_flow, end_entry, may_suspend, reset, put_back_or_rest};
 ghost use Rattle.tf_machine.specs.Answers.{task_of, is_with};
@@ -17,7 +17,7 @@ use crate::tables::Tables;
 use tf_states::{AtomState, Entry, FlowState, Payload, What};
 
 /// The task that a hand has in flight.
-#[tactic(auto, using(crate::proofs::TestLemmas::still_none))]
+#[tactic(auto, using(tf_numbers::proofs::BelowLemmas::still_none))]
 pub fn task_of(compiled: &Compiled, tables: &Tables, hand: u8) -> Option<u16>
     ensures { result ≡ task_of (outline_of compiled.now) (shown_by tables.now) hand }
 {
@@ -159,7 +159,7 @@ fn are_all_settled(compiled: &Compiled, tables: &Tables) -> bool
 }
 
 /// The first atom that is REVERTED or IGNORE.
-#[tactic(auto, using(crate::proofs::TestLemmas::still_none))]
+#[tactic(auto, using(tf_numbers::proofs::BelowLemmas::still_none))]
 fn first_put_back(compiled: &Compiled, tables: &Tables) -> Option<u16>
     ensures { result ≡ first_below (count (outline_of compiled.now)) (is_put_back_at (shown_by tables.now)) }
 {

@@ -4,4 +4,4 @@ use Rattle.taskflow.proofs.built_in.perform.Goals as goal
 
 pub returns : goal.returns
 returns c =
-    outcome_told c.args.plan.now c.args.atom c.in-Some.task.now c.items.result.now c.outcome_of.result c.requires.usable c.in-Some.ensures (c.items.ensures ∙ c.store.ensures.value) c.outcome_of.ensures
+    outcome_told c.args.plan.now c.args.atom c.in-Task.task.now c.items.result.now c.outcome_of.result c.requires.usable c.in-Task.ensures (c.items.ensures ∙ c.store.ensures.value) c.outcome_of.ensures

@@ -3,10 +3,13 @@ use Rattle.taskflow.proofs.command.run_machine.Goals as goal
 
 pub returns-in-Ok-clause-ran : goal.returns-in-Ok-clause-ran
 returns-in-Ok-clause-ran g c =
-    ended_run _ _ _ _ c.report_end.result c.in-Ok.last c.in-Ok.ensures.ended (rw (c.plan.ensures.is, c.in-Ok.ensures.plan) at c.report_end.ensures.closes)
+    ended_run c.args.machine.now.plan _ _ _ c.report_end.result c.in-Ok.last c.plan.ensures.compiles c.plan.ensures.limits c.in-Ok.ensures.ended
+    (rw (c.plan-in-Ok.ensures.is, c.in-Ok.ensures.plan) at c.report_end.ensures.closes)
 
 pub returns-in-Err-Out-clause-ran : goal.returns-in-Err-Out-clause-ran
-returns-in-Err-Out-clause-ran g c = cut_run _ _ _ (rw c.in-Err-Out.field-0-is at c.in-Err-Out.ensures.halted)
+returns-in-Err-Out-clause-ran g c =
+    cut_run c.args.machine.now.plan _ _ c.plan.ensures.compiles c.plan.ensures.limits (rw c.in-Err-Out.field-0-is at c.in-Err-Out.ensures.halted)
 
 pub returns-in-Err-Memory-clause-ran : goal.returns-in-Err-Memory-clause-ran
-returns-in-Err-Memory-clause-ran g c = stopped_run _ _ _ (rw c.in-Err-Memory.field-0-is at c.in-Err-Memory.ensures.halted)
+returns-in-Err-Memory-clause-ran g c =
+    stopped_run c.args.machine.now.plan _ _ c.plan.ensures.compiles c.plan.ensures.limits (rw c.in-Err-Memory.field-0-is at c.in-Err-Memory.ensures.halted)

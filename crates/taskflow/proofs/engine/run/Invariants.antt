@@ -1,6 +1,6 @@
 use Rattle.std.proofs.Common.{◌≡◌, ◌≤◌}
-use Rattle.tf_machine.specs.Machine.{outline, shown}
-use Rattle.tf_machine.specs.Remaining.{remaining}
+use Rattle.tf_machine.specs.Machine.{shown}
+use Rattle.tf_bound.specs.Owed.{left}
 use Rattle.taskflow.specs.Going.{GoesSomewhere, Rests}
 use Rattle.taskflow.proofs.engine.run.Given as goal
 
@@ -13,4 +13,4 @@ invariant-steps g l = record {
 }
 
 abbrev pub decreases-steps : goal.decreases-steps
-decreases-steps g l = remaining (outline l.machine) (shown l.machine)
+decreases-steps g l = left l.machine.plan (shown l.machine)

@@ -1,7 +1,7 @@
 use Rattle.std.proofs.Common.{◌∷◌}
 use Rattle.taskflow.specs.Standing.{begun}
 use Rattle.taskflow.proofs.StandingLemmas.{somewhere_on, stops_after, halts_before}
-use Rattle.taskflow.proofs.EngineLemmas.{start_given, end_given}
+use Rattle.taskflow.proofs.EngineLemmas.{start_given, end_given, start_runs, both_less}
 use Rattle.taskflow.proofs.engine.take_up.Goals as goal
 
 pub returns-in_default-clause-halted : goal.returns-in_default-clause-halted
@@ -22,3 +22,9 @@ returns-clause-halted g c before somewhere =
     (c.note-2.ensures.halted before (c.entry_of.result ∷ somewhere.inner)
     (c.in_ok-note.ensures.goes before somewhere.inner somewhere.goes (rw (c.entry_of.ensures, c.started.ensures) (start_given _ (begun somewhere.inner) c.args.start)))
     (rw (c.entry_of-2.ensures, c.ended.ensures) (end_given _ (begun (c.entry_of.result ∷ somewhere.inner)) c.args.start.atom c.args.start.action c.in-Ok.outcome c.in-Ok.ensures)))
+
+pub returns-clause-less : goal.returns-clause-less
+returns-clause-less g c =
+    let goes = rw (c.entry_of.ensures, c.started.ensures) at c.in_ok-note.ensures.moved in
+    both_less c.args.machine.now c.note.new.machine c.note-2.new.machine c.note-2.result (c.in_ok-note.ensures.less c.requires.rests.runs)
+    (c.note-2.ensures.less (start_runs c.args.machine.now c.note.new.machine c.args.start c.requires.chosen c.requires.action c.requires.rests goes))

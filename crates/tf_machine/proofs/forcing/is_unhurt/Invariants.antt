@@ -1,5 +1,5 @@
 use Rattle.std.proofs.Common.{◌≡◌, true}
-use Rattle.tf_model.specs.Numbers.{all_below}
+use Rattle.tf_numbers.specs.Numbers.{all_below}
 use Rattle.tf_model.specs.Forced.{is_unhurt_at}
 use Rattle.tf_machine.specs.Tables.{shown_by}
 use Rattle.tf_machine.proofs.forcing.is_unhurt.Given as goal

@@ -2,11 +2,11 @@ use Rattle.std.proofs.Common.{◌≡◌, ◌<◌, false, sym, arith, rules}
 use Rattle.tf_model.specs.Plan.{outline_of, count}
 use Rattle.tf_model.specs.Steps.{is_settled_at}
 use Rattle.tf_machine.specs.Tables.{shown_by}
-use Rattle.tf_machine.proofs.TestLemmas.{none_below}
+use Rattle.tf_numbers.proofs.BelowLemmas.{not_each}
 use Rattle.tf_machine.proofs.steps.are_all_settled.Goals as goal
 
 pub returns-then-not-is_settled : goal.returns-then-not-is_settled
 returns-then-not-is_settled c =
     let within : c.loop-atom.atom < count (outline_of c.args.compiled.now) = omega arith in
     let fails : is_settled_at (shown_by c.args.tables.now) c.loop-atom.atom ≡ false = search rules in
-    sym (none_below (count (outline_of c.args.compiled.now)) (is_settled_at (shown_by c.args.tables.now)) c.loop-atom.atom within fails)
+    sym (not_each (count (outline_of c.args.compiled.now)) (is_settled_at (shown_by c.args.tables.now)) c.loop-atom.atom within fails)

@@ -2,7 +2,7 @@ use Rattle.std.proofs.Common.{◌≡◌, ◌<◌, true, sym, arith, rules}
 use Rattle.tf_model.specs.Plan.{outline_of, count}
 use Rattle.tf_model.specs.Steps.{is_put_back_at}
 use Rattle.tf_machine.specs.Tables.{shown_by}
-use Rattle.tf_machine.proofs.TestLemmas.{first_found}
+use Rattle.tf_numbers.proofs.BelowLemmas.{first_found}
 use Rattle.tf_machine.proofs.steps.first_put_back.Goals as goal
 
 pub returns-then-is_put_back : goal.returns-then-is_put_back

@@ -1,5 +1,5 @@
 use Rattle.std.proofs.Common.{◌≡◌, None}
-use Rattle.tf_model.specs.Numbers.{first_below}
+use Rattle.tf_numbers.specs.Numbers.{first_below}
 use Rattle.tf_model.specs.Steps.{is_put_back_at}
 use Rattle.tf_machine.specs.Tables.{shown_by}
 use Rattle.tf_machine.proofs.steps.first_put_back.Given as goal

@@ -2,7 +2,7 @@ use Rattle.std.proofs.Common.{◌≡◌, ◌<◌, false, sym, arith, rules}
 use Rattle.tf_model.specs.Plan.{outline_of, count}
 use Rattle.tf_model.specs.Steps.{is_still, is_idle}
 use Rattle.tf_machine.specs.Tables.{shown_by}
-use Rattle.tf_machine.proofs.TestLemmas.{none_below}
+use Rattle.tf_numbers.proofs.BelowLemmas.{not_each}
 use Rattle.tf_machine.proofs.steps.is_still.Goals as goal
 
 pub returns-then-is_some : goal.returns-then-is_some
@@ -10,4 +10,4 @@ unfolding is_still
 returns-then-is_some c =
     let within : c.loop-atom.atom < count (outline_of c.args.compiled.now) = omega arith in
     let fails : is_idle (shown_by c.args.tables.now) c.loop-atom.atom ≡ false = search rules in
-    sym (none_below (count (outline_of c.args.compiled.now)) (is_idle (shown_by c.args.tables.now)) c.loop-atom.atom within fails)
+    sym (not_each (count (outline_of c.args.compiled.now)) (is_idle (shown_by c.args.tables.now)) c.loop-atom.atom within fails)

@@ -1,5 +1,5 @@
 use Rattle.std.proofs.Common.{◌≡◌, None}
-use Rattle.tf_model.specs.Numbers.{first_below}
+use Rattle.tf_numbers.specs.Numbers.{first_below}
 use Rattle.tf_machine.specs.Answers.{is_with}
 use Rattle.tf_machine.specs.Tables.{shown_by}
 use Rattle.tf_machine.proofs.steps.task_of.Given as goal

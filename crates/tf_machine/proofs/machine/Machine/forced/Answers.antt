@@ -1,7 +1,7 @@
 use Rattle.std.proofs.Common.{◌∙◌, ap, sym, subst}
 use Rattle.tf_model.specs.Forced.{forced}
 use Rattle.tf_machine.specs.Machine.{MachineValue, IsSound, outline, shown}
-use Rattle.tf_machine.proofs.RemainingLemmas.{machine_forced}
+use Rattle.tf_machine.proofs.LeftLemmas.{machine_forced}
 use Rattle.tf_machine.proofs.machine.Machine.forced.Goals as goal
 
 pub returns-clause-less : goal.returns-clause-less

@@ -2,10 +2,10 @@ use Rattle.std.proofs.Common.{◌∙◌, ◌<◌, sym, subst}
 use Rattle.tf_model.specs.Steps.{Step}
 use Rattle.tf_model.specs.Snapshot.{later}
 use Rattle.tf_machine.specs.Answers.{end_by}
-use Rattle.tf_machine.specs.Remaining.{remaining}
+use Rattle.tf_bound.specs.Owed.{left}
 use Rattle.tf_machine.specs.Machine.{MachineValue, outline, shown}
 use Rattle.tf_machine.proofs.MachineLemmas.{sound_facts, settled_step}
-use Rattle.tf_machine.proofs.RemainingLemmas.{machine_ended}
+use Rattle.tf_machine.proofs.LeftLemmas.{machine_ended}
 use Rattle.tf_machine.proofs.machine.Machine.in_flight.Goals as goal
 
 pub returns-clause-ends : goal.returns-clause-ends
@@ -15,5 +15,5 @@ returns-clause-ends c = λ a outcome is.
 
 pub returns-clause-less : goal.returns-clause-less
 returns-clause-less c = λ a outcome is.
-    subst (λ (m : MachineValue). remaining (outline m) (later (outline m) (end_by (shown m) c.args.hand outcome a) (shown m)) < remaining (outline m) (shown m)) c.self.view_is
+    subst (λ (m : MachineValue). left m.plan (later (outline m) (end_by (shown m) c.args.hand outcome a) (shown m)) < left m.plan (shown m)) c.self.view_is
     (machine_ended _ c.args.hand a outcome c.self.invariant (sym c.task_of.ensures ∙ is))

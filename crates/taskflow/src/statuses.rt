@@ -1,0 +1,25 @@
+//! The exit statuses of a command.
+
+/// What was asked for was done, or the run ended SUCCESS.
+pub const SUCCEEDED: u8 = 0;
+
+/// The words are no command.
+pub const NO_COMMAND: u8 = 2;
+
+/// The file can't be read.
+pub const UNREAD: u8 = 3;
+
+/// The file gives no plan to run.
+pub const REFUSED: u8 = 4;
+
+/// A text couldn't be said.
+pub const UNSAID: u8 = 7;
+
+/// Memory ran out.
+pub const OUT_OF_MEMORY: u8 = 9;
+
+/// The run ended REVERTED.
+pub const REVERTED: u8 = 10;
+
+/// The run ended FAILURE.
+pub const FAILED: u8 = 11;

@@ -1,0 +1,15 @@
+pub mod SumLemmas
+pub mod CostLemmas
+pub mod RoomLemmas
+pub mod OwedLemmas
+pub mod BeginLemmas
+pub mod FallLemmas
+pub mod PlaceLemmas
+pub mod ShortLemmas
+pub mod AnswerLemmas
+pub mod CountLemmas
+pub mod KeepLemmas
+pub mod PastLemmas
+pub mod SessionLemmas
+pub mod AcceptedLemmas
+pub mod RowsOfBounds

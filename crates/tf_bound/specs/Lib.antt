@@ -1,0 +1,4 @@
+pub mod Costs
+pub mod Owed
+pub mod Short
+pub mod Kept
