@@ -1,0 +1,9 @@
+pub mod CrashLemmas
+pub mod FoundLemmas
+pub mod ReachLemmas
+pub mod HeaderLemmas
+pub mod LieLemmas
+pub mod TornLemmas
+pub mod BirthLemmas
+pub mod AppendLemmas
+pub mod PlaceLemmas

@@ -1,0 +1,114 @@
+-- The bytes of a journal: an open gate, the title, and one record after another; a record is its gate, its length and its body.
+-- A gate that isn't open ends the records, and what stands after it has no meaning.
+use Rattle.std.specs.Prelude.{ℕ, zero, suc, ◌+◌, ◌*◌, ◌/◌, ◌%◌, Bool, true, ◌&&◌, ◌||◌, not, if◌then◌else◌, List, [], ◌∷◌, ◌++◌, length, take, drop, Option, Some, None, slice_index, ◌==◌, nat_eq, nat_lt, nat_le}
+use Rattle.std.specs.List.{flat_map}
+use Rattle.std.specs.Cmp.Lexicographic.{pointwise}
+use Rattle.tf_journal.specs.declared.title.Title.{Title}
+use Rattle.tf_journal.specs.declared.title.Title.TheVariants.{Book, Jobs}
+
+-- an open gate; every other byte counts as not open
+abbrev pub OPEN : ℕ
+OPEN = 165
+
+-- the greatest length of a body
+abbrev pub BODY_LIMIT : ℕ
+BODY_LIMIT = 1048576
+
+-- the greatest size of a journal: no gate stands at or after this place
+abbrev pub SIZE_LIMIT : ℕ
+SIZE_LIMIT = 67108864
+
+-- `TASKFLOW BOOK 1` or `TASKFLOW JOBS 1`, and a line feed
+abbrev pub title_of : Title → List ℕ
+title_of Book = 84 ∷ 65 ∷ 83 ∷ 75 ∷ 70 ∷ 76 ∷ 79 ∷ 87 ∷ 32 ∷ 66 ∷ 79 ∷ 79 ∷ 75 ∷ 32 ∷ 49 ∷ 10 ∷ []
+title_of Jobs = 84 ∷ 65 ∷ 83 ∷ 75 ∷ 70 ∷ 76 ∷ 79 ∷ 87 ∷ 32 ∷ 74 ∷ 79 ∷ 66 ∷ 83 ∷ 32 ∷ 49 ∷ 10 ∷ []
+
+-- a length as four bytes, the greatest part first
+abbrev pub length_bytes : ℕ → List ℕ
+length_bytes n = n / 256 / 256 / 256 ∷ n / 256 / 256 % 256 ∷ n / 256 % 256 ∷ n % 256 ∷ []
+
+-- the length that stands in the four bytes from that place on
+abbrev pub length_at : List ℕ → ℕ → ℕ
+length_at bytes place = 256 * (256 * (256 * slice_index bytes place + slice_index bytes (place + 1)) + slice_index bytes (place + 2)) + slice_index bytes (place + 3)
+
+-- a record whose gate is open
+abbrev pub record_of : List ℕ → List ℕ
+record_of body = OPEN ∷ (length_bytes (length body) ++ body)
+
+-- what stands before the last gate of a journal with these bodies
+abbrev pub front_of : List ℕ → List (List ℕ) → List ℕ
+front_of title bodies = (OPEN ∷ title) ++ flat_map record_of bodies
+
+-- a journal with these bodies: its last gate is written as closed
+abbrev pub journal_bytes : List ℕ → List (List ℕ) → List ℕ
+journal_bytes title bodies = front_of title bodies ++ 0 ∷ []
+
+-- what the record at a place is: none behind a gate that isn't open or isn't there; a body and the next gate's place;
+-- or no record, by the place and the byte that show it, or the file's end
+pub data Found : Type 0 where
+  closed : Found
+  body : List ℕ → ℕ → Found
+  bad : ℕ → Option ℕ → Found
+
+-- the record of that length at that place: the file has to have its body and the next gate
+abbrev pub record_within : List ℕ → ℕ → ℕ → Found
+record_within bytes place n =
+    if n == 0 || nat_lt BODY_LIMIT n || nat_lt SIZE_LIMIT (place + 6 + n)
+    then bad (place + 1) (Some (slice_index bytes (place + 1)))
+    else (if nat_lt (length bytes) (place + 6 + n) then bad (length bytes) None else body (take n (drop (place + 5) bytes)) (place + 5 + n))
+
+-- the record whose gate is at that place
+abbrev pub record_at : List ℕ → ℕ → Found
+record_at bytes place =
+    if nat_lt place (length bytes) && slice_index bytes place == OPEN
+    then (if nat_lt (length bytes) (place + 5) then bad (length bytes) None else record_within bytes place (length_at bytes (place + 1)))
+    else closed
+
+-- what a file is: unborn, a journal with these bodies, or none, by the place and the byte that show it, or the file's end
+pub data Recovered : Type 0 where
+  unborn : Recovered
+  bodies : List (List ℕ) → Recovered
+  not_a_book : ℕ → Option ℕ → Recovered
+
+-- one body more at the front
+abbrev pub with_body : List ℕ → Recovered → Recovered
+with_body first unborn = unborn
+with_body first (bodies others) = bodies (first ∷ others)
+with_body first (not_a_book offset byte) = not_a_book offset byte
+
+-- what is found at a place, and what follows a body
+abbrev pub then_from : Found → (ℕ → Recovered) → Recovered
+then_from closed next = bodies []
+then_from (body first place) next = with_body first (next place)
+then_from (bad offset byte) next = not_a_book offset byte
+
+-- the records from that place on, of which there are no more than that number
+abbrev pub records_from : ℕ → List ℕ → ℕ → Recovered
+records_from zero bytes place = bodies []
+records_from (suc most) bytes place = then_from (record_at bytes place) (records_from most bytes)
+
+-- the first byte that differs from the title, or the end that comes before the byte after it; the bytes stand from that offset on
+abbrev pub title_fault : List ℕ → List ℕ → ℕ → Option (ℕ × Option ℕ)
+title_fault [] [] offset = Some (offset, None)
+title_fault [] (gate ∷ rest) offset = None
+title_fault (letter ∷ letters) [] offset = Some (offset, None)
+title_fault (letter ∷ letters) (byte ∷ rest) offset = if letter == byte then title_fault letters rest (offset + 1) else Some (offset, Some byte)
+
+-- a file that a creation may have left: it has a byte at most; or 18 at most, the first of them 0; or the title and 0 after it, and no open gate
+abbrev pub is_unborn : List ℕ → List ℕ → Bool
+is_unborn title [] = true
+is_unborn title (gate ∷ rest) = nat_eq (length rest) 0 || (nat_le (length rest) 17 && gate == 0) || (pointwise ◌==◌ rest (title ++ 0 ∷ []) && not (gate == OPEN))
+
+-- the records of a file whose title is as it should be
+abbrev pub titled : Option (ℕ × Option ℕ) → Recovered → Recovered
+titled None records = records
+titled (Some fault) records = not_a_book fault.0 fault.1
+
+-- what a file is that isn't unborn
+abbrev pub recovered_born : List ℕ → List ℕ → Recovered
+recovered_born title [] = unborn
+recovered_born title (gate ∷ rest) = if gate == OPEN then titled (title_fault title rest 1) (records_from (length (gate ∷ rest)) (gate ∷ rest) 17) else not_a_book 0 (Some gate)
+
+-- what a file is, by all its bytes
+abbrev pub recovered : List ℕ → List ℕ → Recovered
+recovered title bytes = if is_unborn title bytes then unborn else recovered_born title bytes

@@ -1,0 +1,11 @@
+-- What the first bytes of a file tell of it.
+use Rattle.std.specs.Prelude.{◌≡◌, ℕ, ◌≤◌, List, ◌∷◌, length, take}
+use Rattle.tf_journal.specs.declared.header.Header.{Header}
+use Rattle.tf_journal.specs.declared.header.Header.TheVariants.{Unborn, Titled, Bad}
+use Rattle.tf_journal.specs.Format.{OPEN, recovered, unborn, not_a_book, records_from}
+
+-- the file is unborn; it is what its records are; or it is no journal
+abbrev pub ShowsHeader : Header → List ℕ → List ℕ → Type 0
+ShowsHeader Unborn title bytes = recovered title bytes ≡ unborn
+ShowsHeader Titled title bytes = (take 17 bytes ≡ OPEN ∷ title) × (18 ≤ length bytes) × (recovered title bytes ≡ records_from (length bytes) bytes 17)
+ShowsHeader (Bad offset byte) title bytes = recovered title bytes ≡ not_a_book offset byte

@@ -1,0 +1,49 @@
+-- How far a reading of a journal's records has come.
+use Rattle.std.specs.Prelude.{◌≡◌, ℕ, ◌+◌, ◌≤◌, ◌<◌, List, [], ◌∷◌, ◌++◌, length, take}
+use Rattle.std.specs.List.{flat_map}
+use Rattle.tf_journal.specs.declared.scanning.Look.{Look}
+use Rattle.tf_journal.specs.declared.scanning.Look.TheVariants.{Closed, Body, Bad}
+use Rattle.tf_journal.specs.Format.{SIZE_LIMIT, record_of, closed, body, bad, record_at, Recovered, with_body, records_from}
+use Rattle.tf_journal.specs.Rest.{IsBody, AreBodies}
+
+-- the record at that place has this body; the file has the gate behind it
+pub record HasRecord (bytes : List ℕ) (place : ℕ) (record_body : List ℕ) : Type 0 where
+  pub found : record_at bytes place ≡ body record_body (place + 5 + length record_body)
+  pub front : take (place + 5 + length record_body) bytes ≡ take place bytes ++ record_of record_body
+  pub is_body : IsBody record_body
+  pub within : place + 6 + length record_body ≤ length bytes
+  pub limit : place + 6 + length record_body ≤ SIZE_LIMIT
+
+-- what a look at a place tells of the record there
+abbrev pub Shows : Look → List ℕ → ℕ → Type 0
+Shows Closed bytes place = record_at bytes place ≡ closed
+Shows (Body n) bytes place = (record_body : List ℕ) × (length record_body ≡ n) × HasRecord bytes place record_body
+Shows (Bad offset byte) bytes place = record_at bytes place ≡ bad offset byte
+
+-- a record that a look shows ends before the greatest size
+abbrev pub IsNear : Look → ℕ → Type 0
+IsNear Closed place = Unit {0}
+IsNear (Body n) place = place + 6 + n ≤ SIZE_LIMIT
+IsNear (Bad offset byte) place = Unit {0}
+
+-- these bodies at the front of what follows
+abbrev pub with_bodies : List (List ℕ) → Recovered → Recovered
+with_bodies [] others = others
+with_bodies (first ∷ rest) others = with_body first (with_bodies rest others)
+
+-- these bodies stand from place 17 up to that place, and the gate at that place is there
+pub record Reaches (bytes : List ℕ) (held : List (List ℕ)) (place : ℕ) : Type 0 where
+  pub front : take place bytes ≡ take 17 bytes ++ flat_map record_of held
+  pub start : 17 ≤ place
+  pub within : place < length bytes
+  pub limit : place < SIZE_LIMIT
+  pub fit : AreBodies held
+  pub left : (most : ℕ) × (most + length held ≡ length bytes) × (records_from (length bytes) bytes 17 ≡ with_bodies held (records_from most bytes place))
+
+-- these bodies stand up to a gate that isn't open, which that place is behind
+pub record EndsRecords (bytes : List ℕ) (end : ℕ) : Type 0 where
+  pub held : List (List ℕ)
+  pub place : ℕ
+  pub reaches : Reaches bytes held place
+  pub ends : record_at bytes place ≡ closed
+  pub behind : end ≡ place + 1

@@ -1,0 +1,18 @@
+//! The journal: bodies in a file, each acknowledged once no crash can take it away.
+#![tactic(auto)]
+
+mod birth;
+mod faults;
+mod gates;
+mod header;
+mod journal;
+mod reading;
+mod scanning;
+mod title;
+
+pub use faults::{AppendFault, JournalFault, LoadFault};
+pub use journal::Journal;
+pub use title::Title;
+
+#[cfg(test)]
+mod tests;

@@ -1,0 +1,171 @@
+//! What a journal's file is, read a few bytes at a time.
+ghost use Rattle.std.specs.Prelude.{◌≡◌, ◌<◌, ◌+◌, ◌*◌, ◌≤◌, List, ℕ, IsTrue, length, take, drop, IfOk, OnOk, OnErr, IsErrOf, MatchResult};
+ghost use Rattle.tf_desk.specs.Content.{bytes_of};
+ghost use Rattle.tf_desk.specs.Counts.{Rises};
+ghost use Rattle.tf_desk.specs.Crash.{IsDurable};
+ghost use Rattle.tf_journal.specs.Answers.{RefusesFile};
+ghost use Rattle.tf_journal.specs.Format.{bodies, records_from, recovered, title_of};
+ghost use Rattle.tf_journal.specs.Reach.{IsNear, Shows, EndsRecords};
+ghost use Rattle.tf_journal.specs.Rest.{LiesAs, Rests};
+
+use crate::faults::JournalFault;
+use crate::gates::OPEN;
+use crate::header::{Header, read_header};
+use crate::title::Title;
+use tf_desk::{Desk, DeskFault};
+
+/// The greatest length of a body.
+pub const BODY_LIMIT: u64 = 1_048_576;
+
+/// The greatest size of a journal.
+pub const SIZE_LIMIT: u64 = 67_108_864;
+
+/// What a look at a place shows: a gate that isn't open, a record with a body of that length, or none.
+pub enum Look {
+    Closed,
+    Body { length: u64 },
+    Bad { offset: u64, byte: Option<u8> },
+}
+
+/// The length that four bytes spell, the greatest part first.
+fn length_of(first: u8, second: u8, third: u8, fourth: u8) -> u64
+    ensures { result ≡ 256 * (256 * (256 * first + second) + third) + fourth }
+{
+    256 * (256 * (256 * u64::from(first) + u64::from(second)) + u64::from(third))
+        + u64::from(fourth)
+}
+
+/// What the bytes from a place on show, of which five are enough, in a file of that size.
+fn read_head(head: &[u8], size: u64, place: u64) -> Look
+    requires { place < SIZE_LIMIT }
+    ensures near { IsNear result place }
+    ensures shows { (bytes : List ℕ) → head.now ≡ take 5 (drop place bytes) → length bytes ≡ size
+        → Shows result bytes place }
+{
+    if head.is_empty() || head[0] != OPEN {
+        return Look::Closed;
+    }
+    if head.len() < 5 {
+        return Look::Bad {
+            offset: size,
+            byte: None,
+        };
+    }
+    let length = length_of(head[1], head[2], head[3], head[4]);
+    if length == 0 || length > BODY_LIMIT || place + 6 + length > SIZE_LIMIT {
+        return Look::Bad {
+            offset: place + 1,
+            byte: Some(head[1]),
+        };
+    }
+    if size < place + 6 + length {
+        return Look::Bad {
+            offset: size,
+            byte: None,
+        };
+    }
+    Look::Body { length }
+}
+
+/// Looks at the record whose gate is at that place, in a file of that size.
+pub fn look_at<K: Desk>(desk: &mut K, size: u64, place: u64) -> Result<Look, DeskFault>
+    requires { place < SIZE_LIMIT }
+    ensures near { IfOk result (λ look. IsNear look place) }
+    ensures shows { IfOk result (λ look. IsTrue (K.tells desk.old) → length (bytes_of (K.content desk.old)) ≡ size
+        → Shows look (bytes_of (K.content desk.old)) place) }
+    ensures rests { IsTrue (K.tells desk.old)
+        → Rests (K.content desk.old) (K.content desk.new) (K.left desk.old) (K.left desk.new) (K.crashes desk.old)
+        (K.crashes desk.new) }
+    ensures cause { OnErr result (Rises (K.disk_faults desk.old) (K.disk_faults desk.new)) }
+    ensures no_fall { K.disk_faults desk.old ≤ K.disk_faults desk.new }
+    ensures others { (K.out_faults desk.new ≡ K.out_faults desk.old) × (K.asks desk.new ≡ K.asks desk.old)
+        × (K.turns desk.new ≡ K.turns desk.old) }
+    ensures quiet { (K.tells desk.new ≡ K.tells desk.old) × (K.shown desk.new ≡ K.shown desk.old) }
+{
+    let mut head = [0; 5];
+    let count = desk.read(place, &mut head)?;
+    Ok(read_head(&head[..count], size, place))
+}
+
+/// Reads the records from place 17 on, and answers the place after the gate that ends them.
+fn scan_records<K: Desk>(desk: &mut K, size: u64) -> Result<u64, JournalFault>
+    ensures scanned { IsTrue (K.tells desk.old) → length (bytes_of (K.content desk.old)) ≡ size → 18 ≤ size
+        → MatchResult result (λ end. EndsRecords (bytes_of (K.content desk.old)) end)
+        (λ fault. RefusesFile fault
+        (records_from (length (bytes_of (K.content desk.old))) (bytes_of (K.content desk.old)) 17)) }
+    ensures not_memory { IsErrOf result JournalFault.Memory → ⊥ }
+    ensures bounds { IfOk result (λ end. (18 ≤ end) × (end ≤ 67108864)) }
+    ensures rests { IsTrue (K.tells desk.old)
+        → Rests (K.content desk.old) (K.content desk.new) (K.left desk.old) (K.left desk.new) (K.crashes desk.old)
+        (K.crashes desk.new) }
+    ensures cause { IsErrOf result JournalFault.Disk → Rises (K.disk_faults desk.old) (K.disk_faults desk.new) }
+    ensures no_fall { K.disk_faults desk.old ≤ K.disk_faults desk.new }
+    ensures others { (K.out_faults desk.new ≡ K.out_faults desk.old) × (K.asks desk.new ≡ K.asks desk.old)
+        × (K.turns desk.new ≡ K.turns desk.old) }
+    ensures quiet { (K.tells desk.new ≡ K.tells desk.old) × (K.shown desk.new ≡ K.shown desk.old) }
+{
+    let mut place = 17;
+    loop {
+        match look_at(desk, size, place) {
+            Ok(Look::Closed) => return Ok(place + 1),
+            Ok(Look::Body { length }) => place += 5 + length,
+            Ok(Look::Bad { offset, byte }) => return Err(JournalFault::NotABook { offset, byte }),
+            Err(_) => return Err(JournalFault::Disk),
+        }
+    }
+}
+
+/// Syncs the file, and reads its size and its first bytes.
+pub fn read_start<K: Desk>(desk: &mut K, head: &mut [u8; 18]) -> Result<(u64, usize), DeskFault>
+    ensures bound { IfOk result (λ start. start.1 ≤ 18) }
+    ensures size { IfOk result (λ start. IsTrue (K.tells desk.old)
+        → length (bytes_of (K.content desk.old)) ≡ start.0) }
+    ensures bytes { IfOk result (λ start. IsTrue (K.tells desk.old)
+        → take start.1 head.new ≡ take 18 (bytes_of (K.content desk.old))) }
+    ensures durable { OnOk result (IsTrue (K.tells desk.old) → IsDurable (K.content desk.new) (K.left desk.new)) }
+    ensures disk_alone { OnErr result (IsErrOf result DeskFault.Disk) }
+    ensures rests { IsTrue (K.tells desk.old)
+        → Rests (K.content desk.old) (K.content desk.new) (K.left desk.old) (K.left desk.new) (K.crashes desk.old)
+        (K.crashes desk.new) }
+    ensures cause { OnErr result (Rises (K.disk_faults desk.old) (K.disk_faults desk.new)) }
+    ensures no_fall { K.disk_faults desk.old ≤ K.disk_faults desk.new }
+    ensures others { (K.out_faults desk.new ≡ K.out_faults desk.old) × (K.asks desk.new ≡ K.asks desk.old)
+        × (K.turns desk.new ≡ K.turns desk.old) }
+    ensures quiet { (K.tells desk.new ≡ K.tells desk.old) × (K.shown desk.new ≡ K.shown desk.old) }
+{
+    desk.sync()?;
+    let size = desk.size()?;
+    let count = desk.read(0, head)?;
+    Ok((size, count))
+}
+
+/// What the picked file is, by all its bytes: of a journal the place after the gate that ends its records.
+/// `Unborn` and `NotABook` come exactly where the file is so, and `Disk` only where the count of disk faults
+/// rose. The file is synced first.
+pub fn scan<K: Desk>(desk: &mut K, title: Title) -> Result<u64, JournalFault>
+    ensures scanned { IsTrue (K.tells desk.old) → MatchResult result
+        (λ end. (held : List (List ℕ)) × (recovered (title_of title) (bytes_of (K.content desk.old)) ≡ bodies held)
+        × LiesAs (title_of title) held end (bytes_of (K.content desk.new)))
+        (λ fault. RefusesFile fault (recovered (title_of title) (bytes_of (K.content desk.old)))) }
+    ensures durable { OnOk result (IsTrue (K.tells desk.old) → IsDurable (K.content desk.new) (K.left desk.new)) }
+    ensures not_memory { IsErrOf result JournalFault.Memory → ⊥ }
+    ensures bounds { IfOk result (λ end. (18 ≤ end) × (end ≤ 67108864)) }
+    ensures rests { IsTrue (K.tells desk.old)
+        → Rests (K.content desk.old) (K.content desk.new) (K.left desk.old) (K.left desk.new) (K.crashes desk.old)
+        (K.crashes desk.new) }
+    ensures cause { IsErrOf result JournalFault.Disk → Rises (K.disk_faults desk.old) (K.disk_faults desk.new) }
+    ensures no_fall { K.disk_faults desk.old ≤ K.disk_faults desk.new }
+    ensures others { (K.out_faults desk.new ≡ K.out_faults desk.old) × (K.asks desk.new ≡ K.asks desk.old)
+        × (K.turns desk.new ≡ K.turns desk.old) }
+    ensures quiet { (K.tells desk.new ≡ K.tells desk.old) × (K.shown desk.new ≡ K.shown desk.old) }
+{
+    let mut head = [0; 18];
+    let Ok((size, count)) = read_start(desk, &mut head) else {
+        return Err(JournalFault::Disk);
+    };
+    match read_header(&head[..count], size, title) {
+        Header::Unborn => Err(JournalFault::Unborn),
+        Header::Bad { offset, byte } => Err(JournalFault::NotABook { offset, byte }),
+        Header::Titled => scan_records(desk, size),
+    }
+}
