@@ -1,0 +1,9 @@
+pub mod NumberedLemmas
+pub mod OrderLemmas
+pub mod StepLemmas
+pub mod PassLemmas
+pub mod TurnLemmas
+pub mod DealLemmas
+pub mod BackLemmas
+pub mod TallyLemmas
+pub mod PassesLemmas
