@@ -1,0 +1,10 @@
+pub mod MemberLemmas
+pub mod PlaceLemmas
+pub mod PlanLemmas
+pub mod SourceLemmas
+pub mod ValueLemmas
+pub mod TableLemmas
+pub mod StandingLemmas
+pub mod FrontLemmas
+pub mod TreeLemmas
+pub mod ScopeLemmas

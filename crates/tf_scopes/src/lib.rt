@@ -1,0 +1,14 @@
+//! From whom each atom of a plan takes the values of its arguments.
+#![tactic(auto)]
+
+mod faults;
+mod found;
+mod members;
+mod providers;
+mod sources;
+#[cfg(test)]
+mod tests;
+
+pub use faults::ScopeFault;
+pub use found::Found;
+pub use providers::{Providers, find_providers};
