@@ -5,9 +5,9 @@ pub mod Laws
 pub mod MemoryCrew
 pub mod MemoryPerformer
 pub mod MemorySources
-pub mod Folder
 pub mod MemorySpawner
 pub mod PlayedLaws
+pub mod Remaining
 pub mod Told
 pub mod Wanted
 pub mod Whole

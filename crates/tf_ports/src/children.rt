@@ -1,9 +1,11 @@
 ghost use Rattle.std.specs.Prelude.{◌≤◌, length, IfOk};
+ghost use Rattle.tf_ports.specs.Remaining.{IsFirstLeft};
 
 use crate::programs::{Done, OUTPUT_LIMIT, Output, SpawnFault, Spawner};
 use std::alloc::Global;
 use std::io::Read;
 use std::process::{Command, Processes, Stdio};
+use tf_desk::read_on;
 use tf_values::{Text, Texts};
 
 /// The real spawner: a program is a child of this process, with no input, and its standard error is
@@ -87,24 +89,36 @@ fn command_of(alloc: Global, program: &Text, args: &Texts) -> Result<Command, Sp
     Ok(command)
 }
 
-/// Reads an output to its end, and keeps as many of its bytes as are kept. The output is closed then.
+/// Reads an output to its end, and keeps as many of its bytes as are kept. An interrupted read is tried
+/// again. The output is closed then.
+#[tactic(auto, using(crate::proofs::RemainingLemmas::first_left))]
 fn read_output<F: Read + Drop>(alloc: Global, mut output: F) -> Result<Vec<u8>, SpawnFault>
     ensures short { IfOk result (λ bytes. length bytes.items ≤ OUTPUT_LIMIT) }
+    ensures first { IfOk result (λ bytes. IsFirstLeft (F.remaining output) OUTPUT_LIMIT bytes.items) }
 {
     let mut bytes = Vec::new(alloc);
+    if bytes.resize(OUTPUT_LIMIT, 0).is_err() {
+        return Err(SpawnFault::Memory);
+    }
+    let Some(count) = read_on(&mut output, &mut bytes) else {
+        return Err(SpawnFault::Failed);
+    };
+    if !read_out(&mut output) {
+        return Err(SpawnFault::Failed);
+    }
+    bytes.truncate(count);
+    Ok(bytes)
+}
+
+/// Reads what is left and drops it. `false`: a read failed.
+fn read_out<F: Read>(output: &mut F) -> bool {
     let mut piece = [0; 8192];
     for _ in 0..u64::MAX {
-        let Ok(count) = output.read(&mut piece) else {
-            return Err(SpawnFault::Failed);
-        };
-        if count == 0 {
-            break;
-        }
-        let room = OUTPUT_LIMIT - bytes.len();
-        let taken = if count < room { count } else { room };
-        if bytes.extend_from_slice(&piece[..taken]).is_err() {
-            return Err(SpawnFault::Memory);
+        match read_on(output, &mut piece) {
+            Some(8192) => {}
+            Some(_) => return true,
+            None => return false,
         }
     }
-    Ok(bytes)
+    false
 }

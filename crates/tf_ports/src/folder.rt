@@ -1,5 +1,5 @@
 ghost use Rattle.std.specs.Prelude.{◌≡◌, ◌≤◌, length, None, IfOk, IsErrOf};
-ghost use Rattle.tf_ports.specs.Folder.{IsAllLeft, HasMoreLeft};
+ghost use Rattle.tf_ports.specs.Remaining.{IsAllLeft, HasMoreLeft};
 
 use crate::reading::{SOURCE_LIMIT, SourceFault, Sources};
 use std::alloc::Global;
