@@ -6,12 +6,15 @@ use Rattle.tf_values.specs.declared.value.Val.{Val}
 use Rattle.tf_values.specs.declared.value.Val.TheVariants as value
 use Rattle.tf_flow.specs.declared.atoms.RetryKind.{RetryKind}
 use Rattle.tf_flow.specs.declared.atoms.RetryKind.TheVariants as retry
+use Rattle.tf_ports.specs.declared.orders.Given.{Given}
+use Rattle.tf_ports.specs.declared.orders.Given.TheVariants as given
+use Rattle.tf_ports.specs.declared.outcomes.Action.TheVariants as action
 use Rattle.tf_states.specs.declared.record.Kind.{Kind}
 use Rattle.tf_states.specs.declared.record.Kind.TheVariants as kind
 use Rattle.tf_flow.specs.declared.ways.Turn.{Turn}
 use Rattle.tf_model.specs.Plan.{Outline, way, retry_of}
 use Rattle.tf_model.specs.Snapshot.{Resolve, Snapshot, is_again}
-use Rattle.tf_model.specs.Scope.{Given, found, missing, given_to_execute}
+use Rattle.tf_model.specs.Scope.{given_for}
 use Rattle.tf_model.specs.Retries.{argument_named, give_up, try_again, answer_by_values, answer_by_given, answer_by, answer_of, answer, retry_kind, Controlled, controlled, controlled_on, enclosing, resolved, resolution_by, resolution, is_outermost, is_revert}
 use Rattle.tf_bound.specs.Costs.{tries_of, tries_at}
 use Rattle.tf_bound.specs.Short.{ShowsShort, IsWithinLimits}
@@ -38,25 +41,25 @@ values_again (Some (value.Int number)) m all short is = absurd (gives_up all is)
 values_again (Some (value.Text text)) m all short is = absurd (gives_up all is)
 values_again None m all short is = absurd (gives_up all is)
 
-given_again : (given : Given) (m : ℕ) (all : Bool) → GivenShort given → is_again (answer_by_given given m all) ≡ true → m < 1024
-given_again (missing symbol) m all short is = absurd (gives_up all is)
-given_again (found arguments) m all short is = values_again (argument_named arguments (codes "values")) m all (named_short arguments (codes "values") short) is
+given_again : (arguments : Given) (m : ℕ) (all : Bool) → GivenShort arguments → is_again (answer_by_given arguments m all) ≡ true → m < 1024
+given_again (given.Missing symbol) m all short is = absurd (gives_up all is)
+given_again (given.Found pairs) m all short is = values_again (argument_named pairs (codes "values")) m all (named_short pairs (codes "values") short) is
 
-kind_again : (how : RetryKind) (given : Given) (m : ℕ) → GivenShort given → is_again (answer_by how given m) ≡ true → m < tries_of (Some how)
-kind_again retry.AlwaysRevert given m short is = absurd (cc)
-kind_again retry.AlwaysRevertAll given m short is = absurd (cc)
-kind_again (retry.Times attempts all) given m short is = tries_again m attempts all is
-kind_again (retry.ForEach values all) given m short is = let less : m < length values = tries_again m (length values) all is in omega (arith, less)
-kind_again (retry.Parameterized all) given m short is = given_again given m all short is
+kind_again : (how : RetryKind) (arguments : Given) (m : ℕ) → GivenShort arguments → is_again (answer_by how arguments m) ≡ true → m < tries_of (Some how)
+kind_again retry.AlwaysRevert arguments m short is = absurd (cc)
+kind_again retry.AlwaysRevertAll arguments m short is = absurd (cc)
+kind_again (retry.Times attempts all) arguments m short is = tries_again m attempts all is
+kind_again (retry.ForEach values all) arguments m short is = let less : m < length values = tries_again m (length values) all is in omega (arith, less)
+kind_again (retry.Parameterized all) arguments m short is = given_again arguments m all short is
 
-answer_again : (o : Option RetryKind) (given : Given) (m : ℕ) → GivenShort given → is_again (answer_of o given m) ≡ true → m < tries_of o
-answer_again None given m short is = absurd (cc)
-answer_again (Some how) given m short is = kind_again how given m short is
+answer_again : (o : Option RetryKind) (arguments : Given) (m : ℕ) → GivenShort arguments → is_again (answer_of o arguments m) ≡ true → m < tries_of o
+answer_again None arguments m short is = absurd (cc)
+answer_again (Some how) arguments m short is = kind_again how arguments m short is
 
 -- a retry controller that answers RETRY has attempts left
 pub again_fewer : (plan : Outline) (s : Snapshot) (r : ℕ) → IsWithinLimits plan → ShowsShort s → is_again (answer plan s r) ≡ true → s.attempts r < tries_at plan r
 unfolding answer
-again_fewer plan s r limits shows is = answer_again (retry_kind plan r) (given_to_execute plan s r) (s.attempts r) (executes_short plan s r limits shows) is
+again_fewer plan s r limits shows is = answer_again (retry_kind plan r) (given_for plan s r action.Execute) (s.attempts r) (executes_short plan s r limits shows) is
 
 -- ---- a resolution to run again comes from such an answer
 

@@ -14,6 +14,10 @@ use Rattle.tf_flow.specs.declared.atoms.Bind.{Bind}
 use Rattle.tf_flow.specs.declared.atoms.Provides.{Provides}
 use Rattle.tf_flow.specs.declared.atoms.Provides.TheVariants as provides
 use Rattle.tf_flow.specs.Names.{same_name, first_some}
+use Rattle.tf_ports.specs.declared.orders.Given.{Given}
+use Rattle.tf_ports.specs.declared.orders.Given.TheVariants as given
+use Rattle.tf_ports.specs.declared.orders.Pair.{Pair}
+use Rattle.tf_ports.specs.declared.outcomes.Action.TheVariants as action
 use Rattle.tf_states.specs.declared.record.Entry.{Entry}
 use Rattle.tf_states.specs.declared.record.Payload.{Payload}
 use Rattle.tf_states.specs.declared.record.Payload.TheVariants as payload
@@ -25,7 +29,7 @@ use Rattle.tf_model.specs.Plan.{Outline, injects, arguments, provides_of}
 use Rattle.tf_model.specs.Snapshot.{Snapshot, later, held_after, payload_after}
 use Rattle.tf_model.specs.History.{snapshot, state_of, payload_of}
 use Rattle.tf_model.specs.States.{is_success}
-use Rattle.tf_model.specs.Scope.{bound, item_at, part_given, given_by_result, given_by_payload, given_by, symbol_value, members, Argument, Given, found, missing, with_argument, or_missing, given_arguments, given_to_execute}
+use Rattle.tf_model.specs.Scope.{bound, item_at, part_given, given_by_result, given_by_payload, given_by, symbol_value, members, with_argument, or_missing, given_arguments, given_for}
 use Rattle.tf_model.specs.Retries.{argument_named}
 use Rattle.tf_bound.specs.Short.{IsShortValue, IsShortPayload, IsShortEvent, AreShort, AreShortBinds, ShowsShort, IsWithinLimits}
 
@@ -96,17 +100,17 @@ symbol_short plan s y symbol limits shows =
 
 -- ---- what an atom is given
 
-abbrev pub ArgumentsShort : List Argument → Type 0
+abbrev pub ArgumentsShort : List Pair → Type 0
 ArgumentsShort [] = Unit {0}
 ArgumentsShort (argument ∷ others) = IsShortValue argument.value × ArgumentsShort others
 
 abbrev pub GivenShort : Given → Type 0
-GivenShort (missing symbol) = Unit {0}
-GivenShort (found arguments) = ArgumentsShort arguments
+GivenShort (given.Missing symbol) = Unit {0}
+GivenShort (given.Found arguments) = ArgumentsShort arguments
 
 with_short : (arg : Arg) (v : Val) (others : Given) → IsShortValue v → GivenShort others → GivenShort (with_argument arg v others)
-with_short arg v (found others) short rest = (short, rest)
-with_short arg v (missing symbol) short rest = tt
+with_short arg v (given.Found others) short rest = (short, rest)
+with_short arg v (given.Missing symbol) short rest = tt
 
 or_missing_short : (arg : Arg) (o : Option Val) (others : Given) → FoundShort o → GivenShort others → GivenShort (or_missing arg o others)
 or_missing_short arg None others short rest = tt
@@ -117,10 +121,10 @@ arguments_short plan s a [] limits shows = tt
 arguments_short plan s a (arg ∷ args) limits shows =
     or_missing_short arg (symbol_value plan s a arg.symbol) (given_arguments plan s a args) (symbol_short plan s a arg.symbol limits shows) (arguments_short plan s a args limits shows)
 
-pub executes_short : (plan : Outline) (s : Snapshot) (a : ℕ) → IsWithinLimits plan → ShowsShort s → GivenShort (given_to_execute plan s a)
+pub executes_short : (plan : Outline) (s : Snapshot) (a : ℕ) → IsWithinLimits plan → ShowsShort s → GivenShort (given_for plan s a action.Execute)
 executes_short plan s a limits shows = arguments_short plan s a (arguments plan a) limits shows
 
-pub named_short : (given : List Argument) (name : List ℕ) → ArgumentsShort given → FoundShort (argument_named given name)
+pub named_short : (pairs : List Pair) (name : List ℕ) → ArgumentsShort pairs → FoundShort (argument_named pairs name)
 named_short [] name short = tt
 named_short (argument ∷ others) name short = picked_short (same_name argument.name name) (Some argument.value) (argument_named others name) short.0 (named_short others name short.1)
 

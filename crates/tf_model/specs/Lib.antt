@@ -6,6 +6,8 @@ pub mod Snapshot
 pub mod History
 pub mod States
 pub mod Scope
+pub mod Views
+pub mod Orders
 pub mod Readiness
 pub mod Deciders
 pub mod Retries

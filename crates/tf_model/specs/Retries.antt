@@ -5,6 +5,10 @@ use Rattle.tf_values.specs.declared.value.Val.TheVariants as value
 use Rattle.tf_flow.specs.declared.atoms.RetryKind.{RetryKind}
 use Rattle.tf_flow.specs.declared.atoms.RetryKind.TheVariants as retry
 use Rattle.tf_flow.specs.Names.{same_name}
+use Rattle.tf_ports.specs.declared.orders.Given.{Given}
+use Rattle.tf_ports.specs.declared.orders.Given.TheVariants as given
+use Rattle.tf_ports.specs.declared.orders.Pair.{Pair}
+use Rattle.tf_ports.specs.declared.outcomes.Action.TheVariants as action
 use Rattle.tf_states.specs.declared.record.Failure.TheVariants as failure
 use Rattle.tf_states.specs.declared.record.Kind.{Kind}
 use Rattle.tf_states.specs.declared.record.Kind.TheVariants as kind
@@ -17,7 +21,7 @@ use Rattle.tf_flow.specs.Outline.{Part, a_task, a_retry, Atom}
 use Rattle.tf_flow.specs.declared.ways.Turn.{Turn}
 use Rattle.tf_model.specs.Plan.{Outline, way, retry_of}
 use Rattle.tf_model.specs.Snapshot.{Resolve, Snapshot}
-use Rattle.tf_model.specs.Scope.{item_value, Argument, Given, found, missing, given_to_execute}
+use Rattle.tf_model.specs.Scope.{item_value, given_for}
 
 -- the kind of a retry controller
 abbrev pub kind_of_part : Part → Option RetryKind
@@ -34,7 +38,7 @@ abbrev pub retry_kind : Outline → ℕ → Option RetryKind
 retry_kind plan r = kind_in (slice_get plan.atoms r)
 
 -- the argument of a name
-abbrev pub argument_named : List Argument → List ℕ → Option Val
+abbrev pub argument_named : List Pair → List ℕ → Option Val
 argument_named [] name = None
 argument_named (argument ∷ others) name = if same_name argument.name name then Some argument.value else argument_named others name
 
@@ -50,25 +54,25 @@ item_of_values other k = payload.Fault (failure.WrongKind (codes "values"))
 
 -- of its arguments a parameterized retry controller goes through `values`
 abbrev pub item_of_given : Given → ℕ → Payload
-item_of_given (missing symbol) k = payload.Fault (failure.Lookup symbol)
-item_of_given (found arguments) k = item_of_values (argument_named arguments (codes "values")) k
+item_of_given (given.Missing symbol) k = payload.Fault (failure.Lookup symbol)
+item_of_given (given.Found arguments) k = item_of_values (argument_named arguments (codes "values")) k
 
 -- what the attempt after k others has: a value, or a failure
 abbrev pub attempt_by : RetryKind → Given → ℕ → Payload
-attempt_by retry.AlwaysRevert given k = payload.Value value.Nothing
-attempt_by retry.AlwaysRevertAll given k = payload.Value value.Nothing
-attempt_by (retry.Times attempts all) given k = payload.Value (value.Int (pos (k + 1)))
-attempt_by (retry.ForEach values all) given k = item_or_exhausted (item_value values k)
-attempt_by (retry.Parameterized all) given k = item_of_given given k
+attempt_by retry.AlwaysRevert arguments k = payload.Value value.Nothing
+attempt_by retry.AlwaysRevertAll arguments k = payload.Value value.Nothing
+attempt_by (retry.Times attempts all) arguments k = payload.Value (value.Int (pos (k + 1)))
+attempt_by (retry.ForEach values all) arguments k = item_or_exhausted (item_value values k)
+attempt_by (retry.Parameterized all) arguments k = item_of_given arguments k
 
 -- the same of a retry controller, where there is one
 abbrev pub attempt_of : Option RetryKind → Given → ℕ → Payload
-attempt_of None given k = payload.Empty
-attempt_of (Some how) given k = attempt_by how given k
+attempt_of None arguments k = payload.Empty
+attempt_of (Some how) arguments k = attempt_by how arguments k
 
 -- the payload with which the attempt of r that began last ends
 unfoldable pub attempt : Outline → Snapshot → ℕ → Payload
-attempt plan s r = attempt_of (retry_kind plan r) (given_to_execute plan s r) (s.attempts r)
+attempt plan s r = attempt_of (retry_kind plan r) (given_for plan s r action.Execute) (s.attempts r)
 
 -- the atom ends SUCCESS with a value, and FAILURE with a failure
 abbrev pub ends_with : ℕ → Payload → What
@@ -91,25 +95,25 @@ answer_by_values other m all = give_up all
 
 -- with a missing symbol it gives up
 abbrev pub answer_by_given : Given → ℕ → Bool → Kind
-answer_by_given (missing symbol) m all = give_up all
-answer_by_given (found arguments) m all = answer_by_values (argument_named arguments (codes "values")) m all
+answer_by_given (given.Missing symbol) m all = give_up all
+answer_by_given (given.Found arguments) m all = answer_by_values (argument_named arguments (codes "values")) m all
 
 -- the answer after m attempts
 abbrev pub answer_by : RetryKind → Given → ℕ → Kind
-answer_by retry.AlwaysRevert given m = kind.Revert
-answer_by retry.AlwaysRevertAll given m = kind.RevertAll
-answer_by (retry.Times attempts all) given m = try_again m attempts all
-answer_by (retry.ForEach values all) given m = try_again m (length values) all
-answer_by (retry.Parameterized all) given m = answer_by_given given m all
+answer_by retry.AlwaysRevert arguments m = kind.Revert
+answer_by retry.AlwaysRevertAll arguments m = kind.RevertAll
+answer_by (retry.Times attempts all) arguments m = try_again m attempts all
+answer_by (retry.ForEach values all) arguments m = try_again m (length values) all
+answer_by (retry.Parameterized all) arguments m = answer_by_given arguments m all
 
 -- the same of a retry controller, where there is one
 abbrev pub answer_of : Option RetryKind → Given → ℕ → Kind
-answer_of None given m = kind.Revert
-answer_of (Some how) given m = answer_by how given m
+answer_of None arguments m = kind.Revert
+answer_of (Some how) arguments m = answer_by how arguments m
 
 -- what retry controller r answers where its flow failed
 unfoldable pub answer : Outline → Snapshot → ℕ → Kind
-answer plan s r = answer_of (retry_kind plan r) (given_to_execute plan s r) (s.attempts r)
+answer plan s r = answer_of (retry_kind plan r) (given_for plan s r action.Execute) (s.attempts r)
 
 -- a flow that has a retry controller
 pub record Controlled : Type 0 where

@@ -1,5 +1,5 @@
 -- From whom an atom takes the value of a symbol.
-use Rattle.std.specs.Prelude.{ℕ, suc, List, [], ◌∷◌, Bool, not, ◌||◌, Option, Some, None, option_map, reverse, filter, flat_map, take_while, slice_get, if◌then◌else◌}
+use Rattle.std.specs.Prelude.{ℕ, suc, List, [], ◌∷◌, Bool, not, ◌||◌, Option, Some, None, option_map, reverse, filter, map, flat_map, take_while, slice_get, if◌then◌else◌}
 use Rattle.std.specs.List.{list_any}
 use Rattle.std.specs.Option.{option_or}
 use Rattle.tf_values.specs.declared.elements.Scalar.{Scalar}
@@ -12,6 +12,11 @@ use Rattle.tf_flow.specs.declared.atoms.Provides.{Provides}
 use Rattle.tf_flow.specs.declared.atoms.Provides.TheVariants as provides
 use Rattle.tf_flow.specs.Names.{same_name, is_among, first_some}
 use Rattle.tf_flow.specs.Rules.{bind_symbols}
+use Rattle.tf_ports.specs.declared.orders.Given.{Given}
+use Rattle.tf_ports.specs.declared.orders.Given.TheVariants as given
+use Rattle.tf_ports.specs.declared.orders.Pair.{Pair}
+use Rattle.tf_ports.specs.declared.outcomes.Action.{Action}
+use Rattle.tf_ports.specs.declared.outcomes.Action.TheVariants as action
 use Rattle.tf_states.specs.declared.record.Payload.{Payload}
 use Rattle.tf_states.specs.declared.record.Payload.TheVariants as payload
 use Rattle.tf_numbers.specs.Numbers.{numbers_below}
@@ -85,49 +90,35 @@ unfoldable pub symbol_value : Outline → Snapshot → ℕ → List ℕ → Opti
 symbol_value plan s y symbol =
     option_or (bound (injects plan y) symbol) (option_or (bound plan.store symbol) (first_some (given_by plan s symbol) (members plan y)))
 
--- an argument's name with its value
-pub record Argument : Type 0 where
-  pub name : List ℕ
-  pub value : Val
-
--- what an atom is given: its arguments with their values, or the first symbol that is missing
-pub data Given : Type 0 where
-  found : List Argument → Given
-  missing : List ℕ → Given
-
 -- one more argument before the others
 abbrev pub with_argument : Arg → Val → Given → Given
-with_argument arg v (found others) = found (record { name = arg.name; value = v } ∷ others)
-with_argument arg v (missing symbol) = missing symbol
+with_argument arg v (given.Found others) = given.Found (record { name = arg.name; value = v } ∷ others)
+with_argument arg v (given.Missing symbol) = given.Missing symbol
 
 -- the argument with its value, or its symbol where that is missing
 abbrev pub or_missing : Arg → Option Val → Given → Given
-or_missing arg None others = missing arg.symbol
+or_missing arg None others = given.Missing arg.symbol
 or_missing arg (Some v) others = with_argument arg v others
 
 -- the arguments with their values, or the first symbol that is missing
 abbrev pub given_arguments : Outline → Snapshot → ℕ → List Arg → Given
-given_arguments plan s a [] = found []
+given_arguments plan s a [] = given.Found []
 given_arguments plan s a (arg ∷ args) = or_missing arg (symbol_value plan s a arg.symbol) (given_arguments plan s a args)
-
--- to execute, the first missing symbol takes the place of the arguments
-abbrev pub given_to_execute : Outline → Snapshot → ℕ → Given
-given_to_execute plan s a = given_arguments plan s a (arguments plan a)
 
 -- the value, or Nothing
 abbrev pub or_nothing : Option Val → Val
 or_nothing None = value.Nothing
 or_nothing (Some v) = v
 
--- the arguments with their values, or Nothing
-abbrev pub arguments_to_revert : Outline → Snapshot → ℕ → List Arg → List Argument
-arguments_to_revert plan s a [] = []
-arguments_to_revert plan s a (arg ∷ args) =
-    record { name = arg.name; value = or_nothing (symbol_value plan s a arg.symbol) } ∷ arguments_to_revert plan s a args
+-- the argument with its value, or with Nothing
+abbrev pub argument_to_revert : Outline → Snapshot → ℕ → Arg → Pair
+argument_to_revert plan s a arg = record { name = arg.name; value = or_nothing (symbol_value plan s a arg.symbol) }
 
--- to revert, a missing value is Nothing
-abbrev pub given_to_revert : Outline → Snapshot → ℕ → Given
-given_to_revert plan s a = found (arguments_to_revert plan s a (arguments plan a))
+-- what atom a is given: to execute, its arguments with their values, or the first missing symbol in their
+-- place; to revert, a missing value is Nothing
+abbrev pub given_for : Outline → Snapshot → ℕ → Action → Given
+given_for plan s a action.Execute = given_arguments plan s a (arguments plan a)
+given_for plan s a action.Revert = given.Found (map (argument_to_revert plan s a) (arguments plan a))
 
 -- an atom and a symbol that nobody gives it
 pub record Missing : Type 0 where

@@ -8,3 +8,4 @@ pub mod StandingLemmas
 pub mod FrontLemmas
 pub mod TreeLemmas
 pub mod ScopeLemmas
+pub mod GivenLemmas

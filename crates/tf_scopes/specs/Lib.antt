@@ -1,5 +1,5 @@
 pub mod Sources
 pub mod Providers
 pub mod Found
-pub mod Views
 pub mod Standing
+pub mod Given

@@ -1,5 +1,5 @@
 -- What is told of a plan's arguments, and when a symbol is missing.
-use Rattle.std.specs.Prelude.{◌≡◌, ℕ, List, [], Option, Some, None, map}
+use Rattle.std.specs.Prelude.{◌≡◌, List, Option, Some, map}
 use Rattle.tf_flow.specs.Plan.{PlanValue}
 use Rattle.tf_model.specs.Plan.{outline_of, count}
 use Rattle.tf_model.specs.Scope.{Missing}

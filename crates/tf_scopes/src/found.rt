@@ -7,7 +7,7 @@ ghost use Rattle.tf_model.specs.Snapshot.{Snapshot};
 ghost use Rattle.tf_numbers.specs.Numbers.{has_number};
 ghost use Rattle.tf_scopes.specs.Sources.{bound_at, source_of};
 ghost use Rattle.tf_scopes.specs.Found.{shown_in};
-ghost use Rattle.tf_scopes.specs.Views.{Shows, result_of};
+ghost use Rattle.tf_model.specs.Views.{Shows, result_of};
 
 use crate::sources::Source;
 use tf_flow::{Bind, Plan, Provides};

@@ -3,6 +3,7 @@
 
 mod faults;
 mod found;
+mod given;
 mod members;
 mod providers;
 mod sources;

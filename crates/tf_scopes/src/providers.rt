@@ -9,7 +9,7 @@ ghost use Rattle.tf_order.specs.Graph.{IsGraphOf};
 ghost use Rattle.tf_scopes.specs.Sources.{place_bound, givers, source_of, sources_of};
 ghost use Rattle.tf_scopes.specs.Providers.{IsOf, IsMissing};
 ghost use Rattle.tf_scopes.specs.Found.{shown_in};
-ghost use Rattle.tf_scopes.specs.Views.{Shows};
+ghost use Rattle.tf_model.specs.Views.{Shows};
 
 use crate::faults::ScopeFault;
 use crate::found::{Found, found_in};
@@ -93,11 +93,27 @@ pub fn find_providers(alloc: Global, plan: &Plan, graph: &Graph) -> Result<Provi
 {
     let mut providers = Providers::new(alloc);
     for atom in 0..plan.atoms() {
-        let scope = members(alloc, plan, graph, atom)?;
-        let row = find_sources(alloc, plan, atom, &scope)?;
+        let row = find_row(alloc, plan, graph, atom)?;
         providers.push(row)?;
     }
     Ok(providers)
+}
+
+/// From where an atom takes the values of its arguments, or the first symbol that is missing. The scope of
+/// an atom without arguments isn't looked for.
+#[tactic(auto, using(crate::proofs::PlanLemmas::atoms_counted))]
+fn find_row(alloc: Global, plan: &Plan, graph: &Graph, atom: u16) -> Result<Sources, ScopeFault>
+    requires graph { IsGraphOf graph.now plan.now }
+    requires atom { atom < count (outline_of plan.now) }
+    ensures found { IfOk result (λ sources. sources ≡ sources_of (outline_of plan.now) atom) }
+    ensures complete { OnOk result (missing_of (outline_of plan.now) atom ≡ None) }
+    ensures missing { IfErr result (IsMissing (missing_of (outline_of plan.now) atom)) }
+{
+    if plan.part(atom).args().is_empty() {
+        return Ok(Sources::new(alloc));
+    }
+    let scope = members(alloc, plan, graph, atom)?;
+    find_sources(alloc, plan, atom, &scope)
 }
 
 /// From where an atom with this scope takes the values of its arguments, or the first symbol that is

@@ -3,7 +3,7 @@ use Rattle.tf_flow.specs.Names.{first_some}
 use Rattle.tf_model.specs.Plan.{outline_of}
 use Rattle.tf_model.specs.Scope.{given_by}
 use Rattle.tf_model.specs.Snapshot.{Snapshot}
-use Rattle.tf_scopes.specs.Views.{Shows}
+use Rattle.tf_model.specs.Views.{Shows}
 use Rattle.tf_scopes.proofs.found.first_given.Given as goal
 
 abbrev pub invariant-loop-atom : goal.invariant-loop-atom
