@@ -1,0 +1,6 @@
+pub mod Answers
+pub mod Flows
+pub mod Resolutions
+pub mod Seen
+pub mod Deciders
+pub mod Depths

@@ -1,0 +1,16 @@
+//! What retry controllers give and answer, what a failure is resolved to, and when deciders refuse a task.
+#![tactic(auto)]
+
+mod attempts;
+mod conditions;
+mod deciders;
+mod depths;
+mod flows;
+mod resolutions;
+#[cfg(test)]
+mod tests;
+
+pub use attempts::{attempt_value, retry_at, strategy};
+pub use deciders::{has_decider, widest};
+pub use depths::affected;
+pub use resolutions::{Resolution, resolve};
