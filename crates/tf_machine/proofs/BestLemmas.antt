@@ -6,14 +6,15 @@ use Rattle.tf_states.specs.declared.record.What.{What}
 use Rattle.tf_states.specs.declared.state.AtomState.{AtomState}
 use Rattle.tf_states.specs.declared.state.AtomState.TheVariants as atom
 use Rattle.tf_numbers.specs.Numbers.{first_below}
-use Rattle.tf_model.specs.Plan.{Outline, count}
+use Rattle.tf_model.specs.Plan.{Outline, count, is_task}
 use Rattle.tf_model.specs.Snapshot.{Snapshot}
 use Rattle.tf_model.specs.Forced.{forced, forced_if_running, is_active}
 use Rattle.tf_model.specs.Candidates.{priority, is_candidate, outranks, is_best, taken_up, candidate_entry, candidate_if_running, choice}
-use Rattle.tf_numbers.proofs.TruthLemmas.{true_both, first_false}
+use Rattle.tf_numbers.proofs.TruthLemmas.{and_first, true_both, first_false}
+use Rattle.tf_machine.proofs.FitLemmas.{candidate_task}
 use Rattle.tf_machine.specs.Best.{outranked, best_below, is_start}
 use Rattle.std.proofs.lemmas.Int.{ints}
-use Rattle.tf_numbers.proofs.BelowLemmas.{first_found, first_none, any_of, never_any}
+use Rattle.tf_numbers.proofs.BelowLemmas.{found_passes, first_found, first_none, any_of, never_any}
 
 -- the best so far, by what it means: a candidate that no candidate so far outranks, and that outranks
 -- all before it
@@ -142,3 +143,7 @@ pub never_chosen : (plan : Outline) (s : Snapshot) (w : What) → is_start w ≡
 unfolding choice candidate_if_running
 never_chosen plan s w is chosen =
     let starts = chosen_starts s (is_active plan s && is_none (forced plan s)) (first_below (count plan) (is_best plan s)) w chosen in absurd (cc)
+
+-- the best candidate is a task
+pub best_task : (plan : Outline) (s : Snapshot) (a : ℕ) → Some a ≡ first_below (count plan) (is_best plan s) → is_task plan a ≡ true
+best_task plan s a is = candidate_task plan s a (and_first (is_candidate plan s a) _ (found_passes (count plan) (is_best plan s) a (sym is)))

@@ -1,16 +1,20 @@
 -- How the tables change at one place or at each.
-use Rattle.std.proofs.Common.{◌≡◌, ℕ, zero, suc, ◌+◌, ◌<◌, List, [], ◌∷◌, ◌++◌, length, map, take, drop, get_or, Bool, true, false, Option, Some, None, refl, sym, ap, ◌∙◌, arith, slice_get, eqb-true, eq-eqb, ◌≢◌}
+use Rattle.std.proofs.Common.{◌≡◌, ℕ, zero, suc, ◌+◌, ◌<◌, ◌≤◌, List, [], ◌∷◌, length, get_or, Bool, true, false, ◌&&◌, Option, Some, None, refl, sym, ap, ◌∙◌, inl, inr, arith, slice_get, length-set, eqb-true, eq-eqb, ◌≢◌}
 use Rattle.std.specs.Prelude.{if◌then◌else◌, nat_eq, option_map}
+use Rattle.std.proofs.lemmas.Bool.{cases_lt}
 use Rattle.std.proofs.Math.ListN.{set}
-use Rattle.std.proofs.lemmas.Option.{slice_get-get_or}
+use Rattle.std.proofs.lemmas.Option.{slice_get-get_or, slice_get_past}
 use Rattle.tf_states.specs.declared.record.AtomView.{AtomView}
 use Rattle.tf_states.specs.declared.record.Payload.{Payload}
 use Rattle.tf_states.specs.declared.state.AtomState.{AtomState}
 use Rattle.tf_states.specs.declared.state.FlowState.{FlowState}
 use Rattle.tf_machine.specs.declared.tables.Place.{Place}
+use Rattle.tf_model.specs.Plan.{Outline, is_retry, own_flow}
 use Rattle.tf_model.specs.Snapshot.{held_after, attempts_in}
-use Rattle.tf_machine.specs.Tables.{state_in, payload_in, hand_in, mark_in, attempts_told, resolve_of}
-use Rattle.tf_machine.specs.Changes.{entered_view, flow_resumes, flow_rests, turned, marked, released}
+use Rattle.tf_model.specs.States.{is_running}
+use Rattle.tf_model.specs.Views.{state_in, payload_in}
+use Rattle.tf_machine.specs.Tables.{hand_in, mark_in, attempts_told, resolve_of}
+use Rattle.tf_machine.specs.Changes.{AreChanged, entered_view, flow_resumes, flow_rests, turned, marked, released, begun, cleared}
 
 -- ---- one element
 
@@ -33,19 +37,6 @@ set_told {X = X} xs i k y below = by (nat_eq i k) refl
     by : (b : Bool) → nat_eq i k ≡ b → slice_get (set xs i y) k ≡ (if b then Some y else slice_get xs k)
     by true is = ap (slice_get (set xs i y)) (sym (eqb-true i k is)) ∙ set_same xs i y below
     by false is = set_other xs i k y (λ same. let no : nat_eq i k ≡ true = eq-eqb i k same in absurd (cc))
-
-change_more : {X : Type 0} (f : X → X) (xs : List X) (k : ℕ) (d : X) → k < length xs
-    → set (map f (take k xs) ++ drop k xs) k (f (get_or (map f (take k xs) ++ drop k xs) k d)) ≡ map f (take (suc k) xs) ++ drop (suc k) xs
-change_more {X = X} f [] k d below = absurd (omega arith)
-change_more {X = X} f (x ∷ xs) zero d below = refl
-change_more {X = X} f (x ∷ xs) (suc k) d below = ap (λ (rest : List X). f x ∷ rest) (change_more f xs k d (omega arith))
-
--- each element up to k is changed, and then one more
-pub map_more : {X : Type 0} (f : X → X) (xs ys : List X) (k : ℕ) (d : X) → k < length xs → ys ≡ map f (take k xs) ++ drop k xs
-    → set ys k (f (get_or ys k d)) ≡ map f (take (k + 1) xs) ++ drop (k + 1) xs
-map_more {X = X} f xs ys k d below is =
-    let next : suc k ≡ k + 1 = omega arith in
-    ap (λ (zs : List X). set zs k (f (get_or zs k d))) is ∙ (change_more f xs k d below ∙ ap (λ (n : ℕ). map f (take n xs) ++ drop n xs) next)
 
 -- ---- the view of an atom
 
@@ -103,30 +94,84 @@ pub attempts_kept : (places : List Place) (i a : ℕ) (new was : Place) → i < 
     → attempts_told (slice_get (set places i new) a) ≡ attempts_told (slice_get places a)
 attempts_kept places i a new was below at is = place_set attempts_told (λ m. m) places i a new was below at is ∙ as_before (nat_eq i a) (attempts_told (slice_get places a))
 
+-- ---- the place of each atom
+
+-- the places below k are changed, and the others as they were
+pub record AreChangedBelow (change : ℕ → Place → Place) (k : ℕ) (old new : List Place) : Type 0 where
+  pub as_many : length new ≡ length old
+  pub changed : (a : ℕ) → a < k → slice_get new a ≡ option_map (change a) (slice_get old a)
+  pub same : (a : ℕ) → k ≤ a → slice_get new a ≡ slice_get old a
+
+pub none_changed : (change : ℕ → Place → Place) (places : List Place) → AreChangedBelow change 0 places places
+none_changed change places = record { as_many = refl; changed = λ a below. absurd (omega arith); same = λ a from. refl }
+
+pub one_changed : (change : ℕ → Place → Place) (k : ℕ) (old new : List Place) (d p : Place) → k < length new → p ≡ change k (get_or new k d) → AreChangedBelow change k old new
+    → AreChangedBelow change (k + 1) old (set new k p)
+one_changed change k old new d p within is below = record {
+  as_many = length-set new k p ∙ below.as_many;
+  changed = λ a before. set_told new k a p within ∙ at a (nat_eq k a) refl before;
+  same = λ a from. set_told new k a p within ∙ (past a (nat_eq k a) refl from ∙ below.same a (omega (arith, from)));
+}
+  where
+    here : Some p ≡ option_map (change k) (slice_get old k)
+    here = ap (λ (q : Place). Some q) is ∙ ap (option_map (change k)) (sym (slice_get-get_or new k d within) ∙ below.same k (omega arith))
+
+    at : (a : ℕ) (b : Bool) → nat_eq k a ≡ b → a < k + 1 → (if b then Some p else slice_get new a) ≡ option_map (change a) (slice_get old a)
+    at a true same before = here ∙ ap (λ (n : ℕ). option_map (change n) (slice_get old n)) (eqb-true k a same)
+    at a false same before = below.changed a (let other : k ≢ a = λ is_same. (let no : nat_eq k a ≡ true = eq-eqb k a is_same in absurd (cc)) in omega (arith, before, other))
+
+    past : (a : ℕ) (b : Bool) → nat_eq k a ≡ b → k + 1 ≤ a → (if b then Some p else slice_get new a) ≡ slice_get new a
+    past a true same from = let equal : k ≡ a = eqb-true k a same in absurd (omega (arith, from, equal))
+    past a false same from = refl
+
+pub all_changed : (change : ℕ → Place → Place) (k : ℕ) (old new : List Place) → length old ≤ k → AreChangedBelow change k old new → AreChanged change old new
+all_changed change k old new all below = record {
+  as_many = below.as_many;
+  each = λ a. elim (cases_lt a k) [
+    | inl before ↦ below.changed a before
+    | inr from ↦ below.same a from ∙ (past a from ∙ ap (option_map (change a)) (sym (past a from)))
+  ];
+}
+  where
+    past : (a : ℕ) → k ≤ a → slice_get old a ≡ None
+    past a from = slice_get_past old a (omega (arith, all, from))
+
+-- another change that makes the same of each place
+pub same_changes : (f g : ℕ → Place → Place) (old new : List Place) → ((a : ℕ) (p : Place) → f a p ≡ g a p) → AreChanged f old new → AreChanged g old new
+same_changes f g old new same are = record { as_many = are.as_many; each = λ a. are.each a ∙ by a (slice_get old a) }
+  where
+    by : (a : ℕ) (o : Option Place) → option_map (f a) o ≡ option_map (g a) o
+    by a None = refl
+    by a (Some p) = ap (λ (q : Place). Some q) (same a p)
+
+-- a change that makes nothing of each place
+pub not_changed : (f : ℕ → Place → Place) (places : List Place) → ((a : ℕ) (p : Place) → p ≡ f a p) → AreChanged f places places
+not_changed f places same = record { as_many = refl; each = λ a. by a (slice_get places a) }
+  where
+    by : (a : ℕ) (o : Option Place) → o ≡ option_map (f a) o
+    by a None = refl
+    by a (Some p) = ap (λ (q : Place). Some q) (same a p)
+
 -- ---- the flow enters a state
 
-turned_resuming : (state : FlowState) (p : Place) → flow_resumes state ≡ true → released p ≡ turned state p
-turned_resuming state p is = ap (λ (b : Bool). if b then released p else if flow_rests state then marked None p else p) (sym is)
+pub released_by_turn : (state : FlowState) (old new : List Place) → flow_resumes state ≡ true → AreChanged (λ a. released) old new → AreChanged (λ a. turned state) old new
+released_by_turn state old new is = same_changes (λ a. released) (λ a. turned state) old new (λ a p. ap (λ (b : Bool). if b then released p else if flow_rests state then marked None p else p) (sym is))
 
-turned_pending : (state : FlowState) (p : Place) → flow_resumes state ≡ false → flow_rests state ≡ true → marked None p ≡ turned state p
-turned_pending state p goes is = rw (goes, is) refl
+pub unmarked_by_turn : (state : FlowState) (old new : List Place) → flow_resumes state ≡ false → flow_rests state ≡ true → AreChanged (λ a. marked None) old new → AreChanged (λ a. turned state) old new
+unmarked_by_turn state old new goes is = same_changes (λ a. marked None) (λ a. turned state) old new (λ a p. rw (goes, is) refl)
 
-turned_else : (state : FlowState) (p : Place) → flow_resumes state ≡ false → flow_rests state ≡ false → p ≡ turned state p
-turned_else state p goes is = rw (goes, is) refl
+pub kept_by_turn : (state : FlowState) (places : List Place) → flow_resumes state ≡ false → flow_rests state ≡ false → AreChanged (λ a. turned state) places places
+kept_by_turn state places goes is = not_changed (λ a. turned state) places (λ a p. rw (goes, is) refl)
 
-map_same : (f g : Place → Place) (xs : List Place) → ((p : Place) → f p ≡ g p) → map f xs ≡ map g xs
-map_same f g [] each = refl
-map_same f g (x ∷ xs) each = ap (λ (p : Place). p ∷ map f xs) (each x) ∙ ap (λ (rest : List Place). g x ∷ rest) (map_same f g xs each)
+-- ---- a retry controller begins to run
 
-map_none : (f : Place → Place) (xs : List Place) → ((p : Place) → p ≡ f p) → xs ≡ map f xs
-map_none f [] each = refl
-map_none f (x ∷ xs) each = ap (λ (p : Place). p ∷ xs) (each x) ∙ ap (λ (rest : List Place). f x ∷ rest) (map_none f xs each)
+pub cleared_by_run : (plan : Outline) (i : ℕ) (state : AtomState) (own : Option ℕ) (old new : List Place) → is_running state ≡ true → is_retry plan i ≡ true → own ≡ own_flow plan i
+    → AreChanged (λ a. begun own) old new → AreChanged (λ a. cleared plan i state) old new
+cleared_by_run plan i state own old new runs retry home =
+    same_changes (λ a. begun own) (λ a. cleared plan i state) old new (λ a p. ap (λ (g : Option ℕ). begun g p) home ∙ by p (is_running state) (is_retry plan i) runs retry)
+  where
+    by : (p : Place) (x y : Bool) → x ≡ true → y ≡ true → begun (own_flow plan i) p ≡ (if x && y then begun (own_flow plan i) p else p)
+    by p x y first second = rw (first, second) refl
 
-pub released_by_turn : (state : FlowState) (xs : List Place) → flow_resumes state ≡ true → map released xs ≡ map (turned state) xs
-released_by_turn state xs is = map_same released (turned state) xs (λ p. turned_resuming state p is)
-
-pub unmarked_by_turn : (state : FlowState) (xs : List Place) → flow_resumes state ≡ false → flow_rests state ≡ true → map (marked None) xs ≡ map (turned state) xs
-unmarked_by_turn state xs goes is = map_same (marked None) (turned state) xs (λ p. turned_pending state p goes is)
-
-pub kept_by_turn : (state : FlowState) (xs : List Place) → flow_resumes state ≡ false → flow_rests state ≡ false → xs ≡ map (turned state) xs
-kept_by_turn state xs goes is = map_none (turned state) xs (λ p. turned_else state p goes is)
+pub kept_by_run : (plan : Outline) (i : ℕ) (state : AtomState) (places : List Place) → is_running state && is_retry plan i ≡ false → AreChanged (λ a. cleared plan i state) places places
+kept_by_run plan i state places is = not_changed (λ a. cleared plan i state) places (λ a p. ap (λ (b : Bool). if b then begun (own_flow plan i) p else p) (sym is))

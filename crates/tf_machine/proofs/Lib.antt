@@ -1,11 +1,14 @@
 pub mod PlanLemmas
-pub mod PlainLemmas
+pub mod TriesLemmas
+pub mod WholeLemmas
 pub mod ReadinessLemmas
-pub mod ForcedLemmas
+pub mod CaseLemmas
+pub mod EntryLemmas
+pub mod DecidedLemmas
 pub mod BestLemmas
 pub mod EndLemmas
 pub mod RuleLemmas
-pub mod MoveLemmas
+pub mod FitLemmas
 pub mod FactLemmas
 pub mod ChangeLemmas
 pub mod LaterLemmas

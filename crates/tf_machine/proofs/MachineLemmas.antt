@@ -1,5 +1,5 @@
 -- For which histories a machine stands.
-use Rattle.std.proofs.Common.{◌≡◌, ℕ, zero, suc, ◌<◌, List, [], ◌∷◌, ◌++◌, length, true, ◌||◌, Option, Some, None, refl, sym, ap, ◌∙◌, subst, arith, slice_get, length-append}
+use Rattle.std.proofs.Common.{◌≡◌, ℕ, zero, suc, ◌<◌, ◌≤◌, List, [], ◌∷◌, ◌++◌, length, true, ◌||◌, Option, Some, None, refl, sym, ap, ◌∙◌, subst, arith, slice_get, length-append}
 use Rattle.tf_states.specs.declared.record.AtomView.{AtomView}
 use Rattle.tf_states.specs.declared.record.Entry.{Entry}
 use Rattle.tf_states.specs.declared.state.AtomState.{AtomState}
@@ -11,7 +11,8 @@ use Rattle.tf_ports.specs.declared.outcomes.Outcome.TheVariants as outcome
 use Rattle.tf_machine.specs.declared.tables.Place.{Place}
 use Rattle.tf_numbers.specs.Numbers.{is_number}
 use Rattle.tf_model.specs.Compilation.{compile_refusal}
-use Rattle.tf_model.specs.Plan.{Outline, outline_of, count}
+use Rattle.tf_model.specs.Plan.{Outline, outline_of, count, is_task}
+use Rattle.tf_model.specs.Scope.{missing_symbol}
 use Rattle.tf_model.specs.Snapshot.{Snapshot, later, is_at_work}
 use Rattle.tf_model.specs.History.{snapshot, flow_of}
 use Rattle.tf_model.specs.States.{flow_runs, flow_suspends}
@@ -25,22 +26,23 @@ use Rattle.tf_facts.specs.Facts.{Facts, CompletedReversion}
 use Rattle.tf_facts.proofs.PastLemmas.{facts_hold, never_stuck, reversion_completed}
 use Rattle.tf_order.proofs.GraphLemmas.{rows_length, row_told}
 use Rattle.tf_numbers.proofs.BelowLemmas.{found_passes}
+use Rattle.tf_bound.specs.Costs.{tries_at}
 use Rattle.tf_bound.specs.Kept.{IsKept, IsBounded}
 use Rattle.tf_bound.specs.Short.{IsShortEvent, IsWithinLimits}
 use Rattle.tf_bound.proofs.PastLemmas.{first_bounded, next_bounded, bounded_kept}
 use Rattle.tf_machine.specs.Answers.{view_at, views_of, is_with, task_of, end_by, ended_from}
-use Rattle.tf_machine.specs.TableFacts.{TableFacts}
+use Rattle.tf_machine.specs.TableFacts.{TableFacts, HasTries, HasFewTries}
 use Rattle.tf_machine.specs.Machine.{MachineValue, outline, shown, StandsFor, IsSound}
-use Rattle.tf_machine.specs.Plain.{IsPlain}
-use Rattle.tf_machine.specs.Tables.{state_in, payload_in, hand_in, mark_in, attempts_told}
+use Rattle.tf_model.specs.Views.{state_in, payload_in}
+use Rattle.tf_machine.specs.Tables.{hand_in, mark_in, attempts_told}
 use Rattle.tf_machine.specs.Changes.{first_view, first_place, first_views, first_places}
-use Rattle.tf_machine.proofs.FactLemmas.{past_facts}
+use Rattle.tf_machine.proofs.FactLemmas.{past_facts, step_tries, first_tries}
 use Rattle.tf_numbers.proofs.OptionLemmas.{is_this_number}
 use Rattle.tf_machine.proofs.LaterLemmas.{same_snapshot}
 
 -- the facts of legal histories hold of what a machine shows
 pub sound_facts : (m : MachineValue) → IsSound m → TableFacts (outline m) (shown m)
-sound_facts m sound = subst (TableFacts (outline m)) (sym sound.some.1.shows) (past_facts (outline m) sound.some.0 sound.plain sound.some.1.legal)
+sound_facts m sound = subst (TableFacts (outline m)) (sym sound.some.1.shows) (past_facts (outline m) sound.some.0 sound.some.1.legal)
 
 -- what makes less owed holds of what a machine shows
 pub sound_kept : (m : MachineValue) → IsSound m → IsKept (outline m) (shown m)
@@ -64,13 +66,23 @@ sound_later old new e sound short plan step moved views places =
     let same : outline new ≡ outline old = ap outline_of plan in
     record {
       compiles = ap compile_refusal plan ∙ sound.compiles;
-      plain = subst IsPlain (sym plan) sound.plain;
+      complete = ap missing_symbol same ∙ sound.complete;
+      few = subst HasFewTries (sym same) sound.few;
       views = views ∙ (sound.views ∙ ap count (sym same));
       places = places ∙ (sound.places ∙ ap count (sym same));
       some = (e ∷ sound.some.0, stands_later old new e plan step moved sound.some.0 sound.some.1);
       bounded = subst (λ (o : Outline). IsBounded o (shown new)) (sym same)
           (subst (IsBounded (outline old)) (sym moved) (next_bounded old.plan (shown old) e sound.compiles short step sound.bounded));
+      tries = subst (λ (o : Outline). HasTries o (shown new)) (sym same)
+          (subst (HasTries (outline old)) (sym moved) (step_tries (outline old) (shown old) e sound.bounded.limits.attempts sound.bounded.counted (sound_facts old sound) sound.tries step));
     }
+
+-- attempts of what a machine shows fit 16 bits
+pub sound_few : (m : MachineValue) → IsSound m → (a : ℕ) → (shown m).attempts a < 65536
+sound_few m sound a =
+    let most : (shown m).attempts a ≤ tries_at (outline m) a = sound.tries.most a in
+    let few : tries_at (outline m) a < 65536 = sound.few a in
+    omega (arith, most, few)
 
 -- ---- before a run
 
@@ -110,14 +122,16 @@ stands_first m n views places state = record {
       state;
 }
 
-pub sound_first : (m : MachineValue) (n : ℕ) → compile_refusal m.plan ≡ None → IsPlain m.plan → IsWithinLimits (outline m) → n ≡ count (outline m) → m.views ≡ first_views n → m.places ≡ first_places n → m.flow ≡ flow.Pending → IsSound m
-sound_first m n compiles plain limits all views places state = record {
+pub sound_first : (m : MachineValue) (n : ℕ) → compile_refusal m.plan ≡ None → missing_symbol (outline m) ≡ None → HasFewTries (outline m) → IsWithinLimits (outline m) → n ≡ count (outline m) → m.views ≡ first_views n → m.places ≡ first_places n → m.flow ≡ flow.Pending → IsSound m
+sound_first m n compiles complete few limits all views places state = record {
   compiles = compiles;
-  plain = plain;
+  complete = complete;
+  few = few;
   views = ap (λ (xs : List AtomView). length xs) views ∙ (first_views_length n ∙ all);
   places = ap (λ (xs : List Place). length xs) places ∙ (first_places_length n ∙ all);
   some = ([], stands_first m n views places state);
   bounded = subst (IsBounded (outline m)) (sym (stands_first m n views places state).shows) (first_bounded (outline m) limits);
+  tries = subst (HasTries (outline m)) (sym (stands_first m n views places state).shows) (first_tries (outline m));
 }
 
 -- ---- the end of a task in flight
@@ -130,6 +144,11 @@ ended_as plan s hand a atom.Running (outcome.Failed f) was works goes has = rw (
 ended_as plan s hand a atom.Reverting (outcome.Gave v) was works goes has = rw (goes, has, was) refl
 ended_as plan s hand a atom.Reverting (outcome.Failed f) was works goes has = rw (goes, has, was) refl
 ended_as plan s hand a state result was works goes has = absurd (cc)
+
+-- what a hand has in flight is a task
+pub flying_task : (m : MachineValue) (hand a : ℕ) → IsSound m → task_of (outline m) (shown m) hand ≡ Some a → is_task (outline m) a ≡ true
+flying_task m hand a sound is =
+    ((sound_facts m sound).busy a hand (is_this_number ((shown m).hand a) hand (found_passes (count (outline m)) (is_with (shown m) hand) a is))).task
 
 -- it may follow
 pub settled_step : (plan : Outline) (s : Snapshot) (hand a : ℕ) (result : Outcome) → TableFacts plan s → task_of plan s hand ≡ Some a → Step plan s (end_by s hand result a)

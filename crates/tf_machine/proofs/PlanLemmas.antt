@@ -1,17 +1,24 @@
 -- The numbers, the parts and the priorities of a plan's atoms.
-use Rattle.std.proofs.Common.{◌≡◌, ℕ, zero, ℤ, suc, ◌+◌, ◌≤◌, List, [], ◌∷◌, ◌++◌, length, map, take, Bool, true, false, not, Option, Some, None, refl, sym, ap, ◌∙◌, slice_get, add-one, arith}
+use Rattle.std.proofs.Common.{◌≡◌, ℕ, zero, ℤ, suc, ◌+◌, ◌<◌, ◌≤◌, List, [], ◌∷◌, ◌++◌, length, map, take, Bool, true, false, not, Option, Some, None, refl, sym, ap, ◌∙◌, slice_get, add-one, inl, inr, arith}
 use Rattle.std.specs.Prelude.{option_map}
+use Rattle.std.proofs.lemmas.Bool.{cases_lt}
 use Rattle.std.proofs.lemmas.List.{length-map}
 use Rattle.std.proofs.lemmas.Option.{slice_get-map, slice_get_past}
+use Rattle.tf_flow.specs.declared.atoms.Retry.{Retry}
+use Rattle.tf_flow.specs.declared.atoms.Task.{Task}
 use Rattle.tf_flow.specs.Plan.{PlanValue}
 use Rattle.tf_flow.specs.Plan as numbering
 use Rattle.tf_flow.specs.declared.ways.Part.{Part as CodePart}
 use Rattle.tf_flow.specs.Ways.{shown_part}
-use Rattle.tf_flow.specs.Outline.{Part, a_task, a_retry, Atom, part_of, priority_of, name_of_atom, is_retry_atom, is_retry_part, is_task_part}
-use Rattle.tf_model.specs.Plan.{Outline, outline_of, count, is_task, is_task_in, is_retry}
+use Rattle.tf_flow.specs.Outline.{Part, a_task, a_retry, Atom, part_of, way_of, priority_of, name_of_atom, is_retry_atom, is_retry_part, is_task_part}
+use Rattle.tf_flow.specs.declared.ways.Turn.{Turn}
+use Rattle.tf_model.specs.Before.{way_in, passes_flow}
+use Rattle.tf_model.specs.Plan.{Outline, outline_of, count, way, holds, is_task, is_task_in, is_retry, is_retry_in, own_flow, last_flow}
 use Rattle.tf_flow.proofs.OutlineLemmas.{same_atoms, same_retries}
 use Rattle.tf_machine.specs.Compiled.{priority_at}
+use Rattle.tf_model.specs.Orders.{task_part, task_in, task_at}
 use Rattle.tf_numbers.proofs.ListLemmas.{take_whole}
+use Rattle.tf_numbers.proofs.TruthLemmas.{clash}
 
 -- a plan has as many atoms as its outline
 pub atoms_counted : (plan : PlanValue) → length (numbering.atoms plan) ≡ count (outline_of plan)
@@ -35,6 +42,66 @@ task_told plan a b is = task_by (slice_get (outline_of plan).atoms a) b
 -- a number past the last atom's is no task's
 pub no_task : (plan : Outline) (a : ℕ) → count plan ≤ a → is_task plan a ≡ false
 no_task plan a past = ap is_task_in (slice_get_past plan.atoms a past)
+
+-- an atom is a retry controller where it is marked so
+pub retry_told : (plan : PlanValue) (a : ℕ) (b : Bool) → slice_get (numbering.retries plan) a ≡ Some b → is_retry (outline_of plan) a ≡ b
+retry_told plan a b is = by (slice_get (outline_of plan).atoms a)
+    (sym (slice_get-map is_retry_atom (outline_of plan).atoms a) ∙ (ap (λ (marks : List Bool). slice_get marks a) (same_retries plan) ∙ is))
+  where
+    by : (o : Option Atom) → option_map is_retry_atom o ≡ Some b → is_retry_in o ≡ b
+    by None told = absurd (cc)
+    by (Some atom) told = let same : is_retry_atom atom ≡ b = cc in same
+
+pub no_retry : (plan : Outline) (a : ℕ) → count plan ≤ a → is_retry plan a ≡ false
+no_retry plan a past = ap is_retry_in (slice_get_past plan.atoms a past)
+
+-- a task is one of the plan's atoms
+pub task_below : (plan : Outline) (a : ℕ) → is_task plan a ≡ true → a < count plan
+task_below plan a is = elim (cases_lt a (count plan)) [
+  | inl below ↦ below
+  | inr past ↦ absurd (clash (is_task plan a) is (no_task plan a past))
+]
+
+-- the task that an atom is, by what the plan has at its number
+pub task_read : (plan : PlanValue) (a : ℕ) (t : Task) → numbering.part plan a ≡ Some (a_task t) → task_at (outline_of plan) a ≡ Some t
+task_read plan a t is = by (slice_get (outline_of plan).atoms a) is
+  where
+    by : (o : Option Atom) → option_map part_of o ≡ Some (a_task t) → task_in o ≡ Some t
+    by None told = absurd (cc)
+    by (Some x) told = let same : x.part ≡ a_task t = cc in ap task_part same
+
+-- a task is no retry controller
+pub never_retry : (plan : PlanValue) (a : ℕ) (r : Retry) → is_task (outline_of plan) a ≡ true → numbering.part plan a ≡ Some (a_retry r) → ⊥
+never_retry plan a r task is = by (slice_get (outline_of plan).atoms a) task is
+  where
+    by : (o : Option Atom) → is_task_in o ≡ true → option_map part_of o ≡ Some (a_retry r) → ⊥
+    by None which told = cc
+    by (Some x) which told = let same : x.part ≡ a_retry r = cc in clash (is_task_part x.part) which (ap is_task_part same)
+
+-- ---- ways
+
+way_by : (o : Option Atom) (w : List Turn) → option_map way_of o ≡ Some w → way_in o ≡ w
+way_by None w is = absurd (cc)
+way_by (Some atom) w is = let same : atom.way ≡ w = cc in same
+
+way_told : (plan : PlanValue) (a : ℕ) (w : List Turn) → slice_get (numbering.ways plan) a ≡ Some w → way (outline_of plan) a ≡ w
+way_told plan a w is = way_by (slice_get (outline_of plan).atoms a) w (sym (slice_get-map way_of (outline_of plan).atoms a) ∙ is)
+
+-- a flow holds an atom where the atom's way passes it
+pub holds_told : (plan : PlanValue) (g a : ℕ) (w : List Turn) → slice_get (numbering.ways plan) a ≡ Some w → passes_flow g w ≡ holds (outline_of plan) g a
+unfolding holds
+holds_told plan g a w is = ap (passes_flow g) (sym (way_told plan a w is))
+
+pub own_flow_told : (plan : PlanValue) (a : ℕ) (w : List Turn) → slice_get (numbering.ways plan) a ≡ Some w → last_flow w ≡ own_flow (outline_of plan) a
+own_flow_told plan a w is = ap last_flow (sym (way_told plan a w is))
+
+-- a number past the last atom's stands in no flow
+pub never_held : (plan : Outline) (g a : ℕ) → count plan ≤ a → holds plan g a ≡ false
+unfolding holds
+never_held plan g a past = ap (λ (o : Option Atom). passes_flow g (way_in o)) (slice_get_past plan.atoms a past)
+
+pub no_own_flow : (plan : Outline) (a : ℕ) → count plan ≤ a → own_flow plan a ≡ None
+no_own_flow plan a past = ap (λ (o : Option Atom). last_flow (way_in o)) (slice_get_past plan.atoms a past)
 
 -- ---- priorities
 

@@ -1,5 +1,5 @@
 -- What a machine answers, by what it shows.
-use Rattle.std.specs.Prelude.{◌≡◌, ◌≢◌, ℕ, List, Bool, Option, map, if◌then◌else◌}
+use Rattle.std.specs.Prelude.{◌≡◌, ◌≢◌, ℕ, List, Bool, Option, None, map, if◌then◌else◌}
 use Rattle.tf_states.specs.declared.record.AtomView.{AtomView}
 use Rattle.tf_states.specs.declared.record.Entry.{Entry}
 use Rattle.tf_states.specs.declared.record.Payload.TheVariants as payload
@@ -18,9 +18,13 @@ use Rattle.tf_machine.specs.declared.faults.ApplyFault.TheVariants as apply_faul
 use Rattle.tf_machine.specs.declared.faults.BuildFault.{BuildFault}
 use Rattle.tf_machine.specs.declared.faults.BuildFault.TheVariants as build_fault
 use Rattle.tf_machine.specs.declared.candidates.Start.{Start}
-use Rattle.tf_model.specs.Compilation.{CompileRefusal}
+use Rattle.tf_flow.specs.Plan.{PlanValue}
+use Rattle.tf_scopes.specs.declared.faults.ScopeFault.TheVariants as scope_fault
+use Rattle.tf_scopes.specs.Providers.{IsMissing}
+use Rattle.tf_model.specs.Compilation.{compile_refusal}
+use Rattle.tf_model.specs.Scope.{missing_symbol}
 use Rattle.tf_numbers.specs.Numbers.{first_below, numbers_below, is_number}
-use Rattle.tf_model.specs.Plan.{Outline, count}
+use Rattle.tf_model.specs.Plan.{Outline, outline_of, count}
 use Rattle.tf_model.specs.Snapshot.{Snapshot}
 use Rattle.tf_model.specs.Forced.{enters}
 
@@ -67,10 +71,13 @@ ended_from a state (outcome.Failed fault) = what.Atom a atom.RevertFailure (payl
 abbrev pub end_by : Snapshot → ℕ → Outcome → ℕ → Entry
 end_by s hand result a = record { hand = hand; what = ended_from a (s.state a) result }
 
--- the fault is this refusal of a plan; want of memory says nothing of it, and is no refusal to compile
-abbrev pub IsBuildRefusal : Option CompileRefusal → BuildFault → Type 0
-IsBuildRefusal refusal (build_fault.Compile fault) = IsRefusedBy refusal fault × (fault ≢ compile_fault.Memory)
-IsBuildRefusal refusal build_fault.Memory = Unit {0}
+-- the fault is the plan's first refusal: to compile it, or else the symbol that is missing; want of memory says nothing of
+-- it, and is neither
+abbrev pub IsBuildRefusal : PlanValue → BuildFault → Type 0
+IsBuildRefusal plan (build_fault.Compile fault) = IsRefusedBy (compile_refusal plan) fault × (fault ≢ compile_fault.Memory)
+IsBuildRefusal plan (build_fault.Scope fault) =
+    (compile_refusal plan ≡ None) × IsMissing (missing_symbol (outline_of plan)) fault × (fault ≢ scope_fault.Memory)
+IsBuildRefusal plan build_fault.Memory = Unit {0}
 
 -- the entry comes back
 abbrev pub IsBack : Entry → ApplyFault → Type 0

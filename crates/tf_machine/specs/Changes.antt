@@ -1,5 +1,5 @@
 -- The tables before a run, and how they change.
-use Rattle.std.specs.Prelude.{ℕ, zero, suc, List, [], ◌∷◌, ◌++◌, Bool, true, false, Option, None, if◌then◌else◌}
+use Rattle.std.specs.Prelude.{◌≡◌, ℕ, zero, suc, List, [], ◌∷◌, ◌++◌, length, Bool, true, false, ◌&&◌, Option, Some, None, option_map, slice_get, if◌then◌else◌}
 use Rattle.tf_states.specs.declared.record.AtomView.{AtomView}
 use Rattle.tf_states.specs.declared.record.Payload.{Payload}
 use Rattle.tf_states.specs.declared.record.Payload.TheVariants as payload
@@ -7,9 +7,15 @@ use Rattle.tf_states.specs.declared.state.AtomState.{AtomState}
 use Rattle.tf_states.specs.declared.state.AtomState.TheVariants as atom
 use Rattle.tf_states.specs.declared.state.FlowState.{FlowState}
 use Rattle.tf_states.specs.declared.state.FlowState.TheVariants as flow
+use Rattle.tf_machine.specs.declared.tables.Change.{Change}
+use Rattle.tf_machine.specs.declared.tables.Change.TheVariants as change
 use Rattle.tf_machine.specs.declared.tables.Mark.{Mark}
 use Rattle.tf_machine.specs.declared.tables.Place.{Place}
+use Rattle.tf_model.specs.Forced.{is_marked_again}
+use Rattle.tf_model.specs.Plan.{Outline, holds, is_retry, own_flow}
 use Rattle.tf_model.specs.Snapshot.{held_after, attempts_in}
+use Rattle.tf_model.specs.States.{is_running}
+use Rattle.tf_machine.specs.Tables.{resolve_of}
 
 -- the view of an atom before a run
 abbrev pub first_view : AtomView
@@ -54,6 +60,26 @@ abbrev pub flow_rests : FlowState → Bool
 flow_rests flow.Pending = true
 flow_rests state = false
 
+-- a place after a retry controller of this flow began another attempt: a mark of that flow's resolve to run again is gone
+abbrev pub begun : Option ℕ → Place → Place
+begun own place = if is_marked_again own (option_map resolve_of place.mark) then marked None place else place
+
+-- what becomes of the place of atom a
+abbrev pub changed : Outline → Change → ℕ → Place → Place
+changed plan change.Release a place = released place
+changed plan change.Unmark a place = marked None place
+changed plan (change.Begin own) a place = begun own place
+changed plan (change.Resolve mark) a place = if holds plan mark.flow a then marked (Some mark) place else place
+
+-- the place of each atom became what a change makes of it
+pub record AreChanged (change : ℕ → Place → Place) (old new : List Place) : Type 0 where
+  pub as_many : length new ≡ length old
+  pub each : (a : ℕ) → slice_get new a ≡ option_map (change a) (slice_get old a)
+
 -- a place after the flow entered a state: in RESUMING nothing is in flight, and in PENDING no mark is left
 abbrev pub turned : FlowState → Place → Place
 turned state place = if flow_resumes state then released place else if flow_rests state then marked None place else place
+
+-- a place after an atom entered a state: where a retry controller begins to run, marks of its own flow are gone
+abbrev pub cleared : Outline → ℕ → AtomState → Place → Place
+cleared plan entered state place = if is_running state && is_retry plan entered then begun (own_flow plan entered) place else place

@@ -1,9 +1,10 @@
-pub mod Plain
 pub mod Compiled
 pub mod Tables
 pub mod Machine
 pub mod Answers
 pub mod Faults
 pub mod Best
+pub mod Cases
+pub mod Entries
 pub mod Changes
 pub mod TableFacts

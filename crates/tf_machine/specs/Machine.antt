@@ -7,11 +7,12 @@ use Rattle.tf_states.specs.declared.state.FlowState.{FlowState}
 use Rattle.tf_machine.specs.declared.tables.Place.{Place}
 use Rattle.tf_model.specs.Compilation.{compile_refusal}
 use Rattle.tf_model.specs.Plan.{Outline, outline_of, count}
+use Rattle.tf_model.specs.Scope.{missing_symbol}
 use Rattle.tf_model.specs.Snapshot.{Snapshot}
 use Rattle.tf_model.specs.History.{snapshot}
 use Rattle.tf_model.specs.Steps.{LegalPast}
 use Rattle.tf_bound.specs.Kept.{IsBounded}
-use Rattle.tf_machine.specs.Plain.{IsPlain}
+use Rattle.tf_machine.specs.TableFacts.{HasTries, HasFewTries}
 use Rattle.tf_machine.specs.Tables.{shown_of}
 
 -- a machine: its plan, and of each atom its view and what else is kept; and the flow's state
@@ -38,12 +39,14 @@ pub record StandsFor (m : MachineValue) (past : List Entry) : Type 0 where
 abbrev pub HasHistory : MachineValue → Type 0
 HasHistory m = (past : List Entry) × StandsFor m past
 
--- the plan of every machine compiles and is plain; the machine has a view and a place for each atom, stands for some
--- history, and what bounds a run holds of what it shows
+-- the plan of every machine compiles, lacks no symbol and has tries that a number of 16 bits counts; the machine has a view and
+-- a place for each atom, stands for some history, and what bounds a run and its attempts holds of what it shows
 pub record IsSound (m : MachineValue) : Type 0 where
   pub compiles : compile_refusal m.plan ≡ None
-  pub plain : IsPlain m.plan
+  pub complete : missing_symbol (outline m) ≡ None
+  pub few : HasFewTries (outline m)
   pub views : length m.views ≡ count (outline m)
   pub places : length m.places ≡ count (outline m)
   pub some : HasHistory m
   pub bounded : IsBounded (outline m) (shown m)
+  pub tries : HasTries (outline m) (shown m)

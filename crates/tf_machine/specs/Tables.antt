@@ -1,25 +1,12 @@
 -- The tables of a machine, read as the snapshot that they show.
 use Rattle.std.specs.Prelude.{ℕ, List, Option, Some, None, option_map, slice_get}
 use Rattle.tf_states.specs.declared.record.AtomView.{AtomView}
-use Rattle.tf_states.specs.declared.record.Payload.{Payload}
-use Rattle.tf_states.specs.declared.record.Payload.TheVariants as payload
-use Rattle.tf_states.specs.declared.state.AtomState.{AtomState}
-use Rattle.tf_states.specs.declared.state.AtomState.TheVariants as atom
 use Rattle.tf_states.specs.declared.state.FlowState.{FlowState}
 use Rattle.tf_machine.specs.declared.tables.Mark.{Mark}
 use Rattle.tf_machine.specs.declared.tables.Place.{Place}
 use Rattle.tf_machine.specs.declared.tables.Tables.{Tables}
 use Rattle.tf_model.specs.Snapshot.{Resolve, Snapshot}
-
--- the state in a view; an atom without one is PENDING
-abbrev pub state_in : Option AtomView → AtomState
-state_in None = atom.Pending
-state_in (Some view) = view.state
-
--- the payload in a view, and none where there is no view
-abbrev pub payload_in : Option AtomView → Payload
-payload_in None = payload.Empty
-payload_in (Some view) = view.payload
+use Rattle.tf_model.specs.Views.{state_in, payload_in}
 
 -- the hand that a place tells
 abbrev pub hand_in : Option Place → Option ℕ

@@ -1,6 +1,6 @@
 ghost use Rattle.std.specs.Prelude.{◌≡◌, ◌≢◌, ◌&&◌, true, false, None, Some, IfSome, option_map};
 ghost use Rattle.tf_numbers.specs.Numbers.{first_below};
-ghost use Rattle.tf_model.specs.Plan.{outline_of, count};
+ghost use Rattle.tf_model.specs.Plan.{outline_of, count, is_task};
 ghost use Rattle.tf_model.specs.Candidates.{is_interrupted, is_candidate, is_best, taken_up, choice, candidate_if_running};
 ghost use Rattle.tf_machine.specs.Answers.{start_entry, action_in};
 ghost use Rattle.tf_machine.specs.Best.{outranked, is_start};
@@ -88,6 +88,7 @@ fn start_of(state: AtomState, atom: u16) -> Start
 pub fn candidate(compiled: &Compiled, tables: &Tables) -> Option<Start>
     ensures entry { option_map start_entry result ≡ choice (outline_of compiled.now) (shown_by tables.now) }
     ensures action { IfSome result (λ start. start.action ≡ action_in ((shown_by tables.now).state start.atom)) }
+    ensures task { IfSome result (λ start. is_task (outline_of compiled.now) start.atom ≡ true) }
 {
     if !is_active(compiled, tables) {
         return None;

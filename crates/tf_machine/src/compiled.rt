@@ -1,25 +1,40 @@
-ghost use Rattle.std.specs.Prelude.{◌≡◌, ◌≤◌, ◌++◌, None, IfOk, IfErr, OnOk, map, length};
+ghost use Rattle.std.specs.Prelude.{◌≡◌, ◌<◌, ◌≤◌, ◌++◌, None, Some, true, false, IfOk, IfErr, OnOk, map, length, option_map};
 ghost use Rattle.tf_order.specs.Graph.{predecessors_of, successors_of};
+ghost use Rattle.tf_flow.specs.Refusal.{first_refusal};
 ghost use Rattle.tf_model.specs.Compilation.{compile_refusal};
-ghost use Rattle.tf_model.specs.Plan.{outline_of, count, is_task};
+ghost use Rattle.tf_model.specs.Orders.{task_at};
+ghost use Rattle.tf_model.specs.Scope.{missing_symbol, given_for};
+ghost use Rattle.tf_model.specs.Deciders.{refused, ignores};
+ghost use Rattle.tf_model.specs.Forced.{is_of_its_flow};
+ghost use Rattle.tf_model.specs.Retries.{retry_kind};
+ghost use Rattle.tf_model.specs.Snapshot.{Snapshot};
+ghost use Rattle.tf_model.specs.Views.{Shows};
+ghost use Rattle.tf_model.specs.Before.{passes_flow};
+ghost use Rattle.tf_model.specs.Plan.{outline_of, count, is_task, is_retry, holds, own_flow, last_flow};
 ghost use Rattle.tf_model.specs.Candidates.{priority};
 ghost use Rattle.tf_machine.specs.Answers.{IsBuildRefusal};
-ghost use Rattle.tf_machine.specs.Compiled.{priority_at};
-ghost use Rattle.tf_machine.specs.Plain.{IsPlain};
+ghost use Rattle.tf_machine.specs.Compiled.{priority_at, AreDecided};
 
 use crate::faults::BuildFault;
 use std::alloc::Global;
 use std::marker::Model;
-use tf_flow::Plan;
+use tf_flow::{Depth, Part, Plan, Retry, Task, Turn};
 use tf_order::{Graph, compile};
+use tf_ports::{Action, Given};
+use tf_rules::{affected, has_decider, retry_at, widest};
+use tf_scopes::{Providers, find_providers};
+use tf_states::AtomView;
 use tf_values::Memory;
 
-/// A plan with its graph and the priorities of its atoms. Contracts see the plan.
+/// A plan with its graph, from where its atoms take the values of their arguments, their priorities, and
+/// which of them a link with a decider leads to. Contracts see the plan.
 #[derive(Drop)]
 pub struct Compiled {
     plan: Plan,
     graph: Graph,
+    providers: Providers,
     priorities: Vec<i32>,
+    decided: Vec<bool>,
 }
 
 impl Model for Compiled {
@@ -34,31 +49,36 @@ impl Model for Compiled {
 
     ghost view = { λ compiled. compiled.plan };
 
-    ghost invariant = { λ compiled. IsCompiled compiled.plan compiled.graph compiled.priorities.items };
+    ghost invariant = { λ compiled. IsCompiled compiled.plan compiled.graph compiled.providers compiled.priorities.items compiled.decided.items };
 }
 
 impl Compiled {
-    /// The plan with what is compiled of it; it is refused as it is by compilation.
+    /// The plan with what is compiled of it. It is refused as it is by compilation, and then where a symbol
+    /// is missing.
     pub fn make(alloc: Global, plan: Plan) -> Result<Compiled, BuildFault>
-        requires { IsPlain plan }
         ensures given { IfOk result (λ compiled. compiled ≡ plan) }
         ensures accepted { OnOk result (compile_refusal plan ≡ None) }
-        ensures refused { IfErr result (IsBuildRefusal (compile_refusal plan)) }
+        ensures complete { OnOk result (missing_symbol (outline_of plan) ≡ None) }
+        ensures refused { IfErr result (IsBuildRefusal plan) }
     {
         let graph = compile(alloc, &plan)?;
+        let providers = find_providers(alloc, &plan, &graph)?;
         let priorities = priorities(alloc, &plan)?;
+        let decided = decided(alloc, &plan)?;
         Ok(Compiled {
             plan,
             graph,
+            providers,
             priorities,
+            decided,
         })
     }
 
     /// The plan.
     pub fn plan(&self) -> &Plan
         ensures value { result.now ≡ self.now }
-        ensures plain { IsPlain self.now }
         ensures accepted { compile_refusal self.now ≡ None }
+        ensures complete { missing_symbol (outline_of self.now) ≡ None }
     {
         &self.plan
     }
@@ -68,8 +88,8 @@ impl Compiled {
     pub fn atoms(&self) -> u16
         ensures count { result ≡ count (outline_of self.now) }
         ensures few { result ≤ 1000 }
-        ensures plain { IsPlain self.now }
         ensures accepted { compile_refusal self.now ≡ None }
+        ensures complete { missing_symbol (outline_of self.now) ≡ None }
     {
         self.plan.atoms()
     }
@@ -85,6 +105,112 @@ impl Compiled {
         !self.plan.is_retry(atom)
     }
 
+    /// Whether an atom is a retry controller.
+    #[tactic(auto, using(crate::proofs::PlanLemmas::atoms_counted, crate::proofs::PlanLemmas::retry_told, crate::proofs::PlanLemmas::no_retry))]
+    pub fn is_retry(&self, atom: u16) -> bool
+        ensures { result ≡ is_retry (outline_of self.now) atom }
+    {
+        if atom >= self.plan.atoms() {
+            return false;
+        }
+        self.plan.is_retry(atom)
+    }
+
+    /// The task of that number.
+    #[tactic(auto, using(crate::proofs::PlanLemmas::atoms_counted, crate::proofs::PlanLemmas::task_below))]
+    pub fn task(&self, atom: u16) -> &Task
+        requires { is_task (outline_of self.now) atom ≡ true }
+        ensures task { task_at (outline_of self.now) atom ≡ Some result.now }
+        ensures accepted { first_refusal self.now.root self.now.store ≡ None }
+    {
+        self.plan.root();
+        match self.plan.part(atom) {
+            Part::Task(task) => task,
+            Part::Retry(_) => unreachable!(),
+        }
+    }
+
+    /// What an atom is given at the moment that the views show.
+    #[tactic(auto, using(crate::proofs::PlanLemmas::task_below))]
+    pub fn given(
+        &self,
+        alloc: Global,
+        views: &[AtomView],
+        atom: u16,
+        action: Action,
+    ) -> Result<Given, Memory>
+        requires { atom < count (outline_of self.now) }
+        ensures { (s : Snapshot) → Shows views.now s → IfOk result (λ given. given ≡ given_for (outline_of self.now) s atom action) }
+    {
+        self.providers
+            .arguments(alloc, &self.plan, views, atom, action)
+    }
+
+    /// The retry controller of that number; none where a task has it.
+    pub fn retry(&self, atom: u16) -> Option<&Retry>
+        requires { atom < count (outline_of self.now) }
+        ensures { option_map (λ retry. retry.now.kind) result ≡ retry_kind (outline_of self.now) atom }
+    {
+        retry_at(&self.plan, atom)
+    }
+
+    /// Whether a link with a decider leads to an atom. Where none does, nothing refuses it.
+    pub fn is_decided(&self, atom: u16) -> bool
+        ensures { result ≡ false → (s : Snapshot) → refused (outline_of self.now) s atom ≡ None }
+    {
+        match self.decided.get(atom as usize) {
+            Some(decided) => *decided,
+            None => true,
+        }
+    }
+
+    /// The widest depth among the links that refuse an atom at the moment that the views show.
+    pub fn widest(&self, views: &[AtomView], atom: u16) -> Option<Depth>
+        requires { atom < count (outline_of self.now) }
+        ensures { (s : Snapshot) → Shows views.now s → result ≡ refused (outline_of self.now) s atom }
+    {
+        widest(&self.plan, views, atom)
+    }
+
+    /// Whether an atom that was refused with this depth ignores another.
+    pub fn ignores(&self, refused: u16, depth: Depth, atom: u16) -> bool
+        requires refused { refused < count (outline_of self.now) }
+        requires atom { atom < count (outline_of self.now) }
+        ensures { result ≡ ignores (outline_of self.now) refused depth atom }
+    {
+        affected(&self.plan, &self.graph, refused, depth, atom)
+    }
+
+    /// Whether an atom is another one of a retry controller's flow.
+    pub fn is_of_its_flow(&self, retry: u16, atom: u16) -> bool
+        ensures { result ≡ is_of_its_flow (outline_of self.now) retry atom }
+    {
+        match self.own_flow(retry) {
+            None => false,
+            Some(flow) => self.holds(flow, atom) && atom != retry,
+        }
+    }
+
+    /// Whether a flow holds an atom, at any depth; it holds its own retry controller.
+    pub fn holds(&self, flow: usize, atom: u16) -> bool
+        ensures { result ≡ holds (outline_of self.now) flow atom }
+    {
+        if atom >= self.plan.atoms() {
+            return false;
+        }
+        passes_flow(self.plan.way(atom), flow)
+    }
+
+    /// The flow in which an atom stands itself, as its retry controller or as an item.
+    pub fn own_flow(&self, atom: u16) -> Option<usize>
+        ensures { result ≡ own_flow (outline_of self.now) atom }
+    {
+        if atom >= self.plan.atoms() {
+            return None;
+        }
+        last_flow(self.plan.way(atom))
+    }
+
     /// All atoms before this one, ascending.
     pub fn predecessors(&self, atom: u16) -> &[u16]
         ensures { result.now ≡ predecessors_of (outline_of self.now) atom }
@@ -94,7 +220,8 @@ impl Compiled {
 
     /// All atoms after this one, ascending.
     pub fn successors(&self, atom: u16) -> &[u16]
-        ensures { result.now ≡ successors_of (outline_of self.now) atom }
+        ensures atoms { result.now ≡ successors_of (outline_of self.now) atom }
+        ensures accepted { compile_refusal self.now ≡ None }
     {
         self.graph.successors(atom)
     }
@@ -110,6 +237,29 @@ impl Compiled {
     }
 }
 
+/// Whether a way leads into a flow.
+fn passes_flow(way: &[Turn], flow: usize) -> bool
+    ensures { result ≡ passes_flow flow way.now }
+{
+    for turn in way {
+        if turn.flow == flow {
+            return true;
+        }
+    }
+    false
+}
+
+/// The flow into which the last turn of a way leads.
+#[tactic(auto, using(tf_order::proofs::WayLemmas::last_turn_flow))]
+fn last_flow(way: &[Turn]) -> Option<usize>
+    ensures { result ≡ last_flow way.now }
+{
+    match way.last() {
+        Some(turn) => Some(turn.flow),
+        None => None,
+    }
+}
+
 /// The priorities of a plan's atoms, by number.
 #[tactic(auto, using(crate::proofs::PlanLemmas::priorities_next, crate::proofs::PlanLemmas::priorities_all))]
 fn priorities(alloc: Global, plan: &Plan) -> Result<Vec<i32>, Memory>
@@ -120,4 +270,16 @@ fn priorities(alloc: Global, plan: &Plan) -> Result<Vec<i32>, Memory>
         priorities.push(plan.part(atom).priority())?;
     }
     Ok(priorities)
+}
+
+/// To which of a plan's atoms a link with a decider leads, by number.
+#[tactic(auto, using(crate::proofs::PlanLemmas::atoms_counted))]
+fn decided(alloc: Global, plan: &Plan) -> Result<Vec<bool>, Memory>
+    ensures { IfOk result (λ decided. AreDecided (outline_of plan.now) decided.items) }
+{
+    let mut decided = Vec::new(alloc);
+    for atom in 0..plan.atoms() {
+        decided.push(has_decider(plan, atom))?;
+    }
+    Ok(decided)
 }

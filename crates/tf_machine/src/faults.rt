@@ -1,8 +1,9 @@
 ghost use Rattle.std.specs.Prelude.{◌≡◌};
-ghost use Rattle.tf_machine.specs.Faults.{build_gives};
+ghost use Rattle.tf_machine.specs.Faults.{build_gives, scope_gives};
 ghost use Rattle.tf_machine.specs.declared.faults.BuildFault.TheVariants.{Memory as OutOfMemory};
 
 use tf_order::CompileFault;
+use tf_scopes::ScopeFault;
 use tf_states::Entry;
 use tf_values::Memory;
 
@@ -11,6 +12,8 @@ use tf_values::Memory;
 pub enum BuildFault {
     /// The plan doesn't compile.
     Compile(CompileFault),
+    /// It compiles, and a symbol is missing.
+    Scope(ScopeFault),
     /// Memory ran out. It says nothing of the plan.
     Memory,
 }
@@ -48,6 +51,19 @@ impl From<CompileFault> for BuildFault {
                 second,
             }),
             CompileFault::Cycle(names) => BuildFault::Compile(CompileFault::Cycle(names)),
+        }
+    }
+}
+
+impl From<ScopeFault> for BuildFault {
+    ghost from_gives = { scope_gives };
+
+    fn from(fault: ScopeFault) -> BuildFault {
+        match fault {
+            ScopeFault::Memory => BuildFault::Memory,
+            ScopeFault::Missing { atom, symbol } => {
+                BuildFault::Scope(ScopeFault::Missing { atom, symbol })
+            }
         }
     }
 }

@@ -1,13 +1,17 @@
-ghost use Rattle.std.specs.Prelude.{◌≡◌, ◌≢◌, true, false, Some, is_some};
+ghost use Rattle.std.specs.Prelude.{◌≡◌, ◌≢◌, true, false, Some, Ok, IfOk, is_some};
 ghost use Rattle.tf_model.specs.Plan.{outline_of};
 ghost use Rattle.tf_model.specs.Forced.{is_unhurt, is_active, forced_if_running, forced};
-ghost use Rattle.tf_machine.specs.Plain.{IsPlain};
 ghost use Rattle.tf_machine.specs.Tables.{shown_by};
 
+use crate::cases::first_case;
 use crate::compiled::Compiled;
-use crate::states::{flow_runs, is_failure, is_revert_failure};
+use crate::entries::entry_of;
+use crate::equality::same_event;
+use crate::states::{flow_runs, is_revert_failure};
 use crate::tables::Tables;
-use tf_states::{Kind, What};
+use std::alloc::Global;
+use tf_states::What;
+use tf_values::Memory;
 
 /// Whether no atom is REVERT_FAILURE.
 #[tactic(auto, using(tf_numbers::proofs::BelowLemmas::not_each, tf_numbers::proofs::BelowLemmas::still_all))]
@@ -30,53 +34,39 @@ pub fn is_active(compiled: &Compiled, tables: &Tables) -> bool
     flow_runs(tables.flow) && is_unhurt(compiled, tables)
 }
 
-/// The forced entry, read as if the flow were RUNNING. In a plan without retry controllers and
-/// deciders it is the resolution of the first failure that has none, and that is the reversion of the
-/// whole flow.
-#[tactic(auto, using(crate::proofs::ForcedLemmas::resolution_first, crate::proofs::ForcedLemmas::nothing_first))]
-pub fn forced_if_running(compiled: &Compiled, tables: &Tables) -> Option<What>
-    ensures { result ≡ forced_if_running (outline_of compiled.now) (shown_by tables.now) }
-{
-    for atom in 0..compiled.atoms() {
-        if is_failure(tables.state(atom)) && tables.is_unmarked(atom) {
-            return Some(What::Resolve {
-                flow: 0,
-                kind: Kind::RevertAll,
-            });
-        }
-    }
-    None
-}
-
-/// Whether something is forced, read as if the flow were RUNNING.
+/// Whether something is forced, read as if the flow were RUNNING. It takes no memory.
 pub fn something_forced(compiled: &Compiled, tables: &Tables) -> bool
     ensures { result ≡ is_some (forced_if_running (outline_of compiled.now) (shown_by tables.now)) }
 {
-    forced_if_running(compiled, tables).is_some()
+    first_case(compiled, tables).is_some()
 }
 
 /// The forced entry.
 #[tactic(auto, unfolding(tf_model::specs::Forced::forced))]
-pub fn forced(compiled: &Compiled, tables: &Tables) -> Option<What>
-    ensures { result ≡ forced (outline_of compiled.now) (shown_by tables.now) }
+pub fn forced(alloc: Global, compiled: &Compiled, tables: &Tables) -> Result<Option<What>, Memory>
+    ensures { IfOk result (λ found. found ≡ forced (outline_of compiled.now) (shown_by tables.now)) }
 {
     if !is_active(compiled, tables) {
-        return None;
+        return Ok(None);
     }
-    forced_if_running(compiled, tables)
+    match first_case(compiled, tables) {
+        None => Ok(None),
+        Some(found) => Ok(Some(entry_of(alloc, compiled, tables, found)?)),
+    }
 }
 
 /// Whether this is the forced entry.
-#[tactic(auto, using(crate::proofs::ForcedLemmas::forced_is))]
-pub fn is_forced(compiled: &Compiled, tables: &Tables, what: &What) -> bool
-    requires { IsPlain compiled.now }
-    ensures yes { result ≡ true → forced (outline_of compiled.now) (shown_by tables.now) ≡ Some what.now }
-    ensures no { result ≡ false → forced (outline_of compiled.now) (shown_by tables.now) ≢ Some what.now }
+pub fn is_forced(
+    alloc: Global,
+    compiled: &Compiled,
+    tables: &Tables,
+    what: &What,
+) -> Result<bool, Memory>
+    ensures yes { result ≡ Ok true → forced (outline_of compiled.now) (shown_by tables.now) ≡ Some what.now }
+    ensures no { result ≡ Ok false → forced (outline_of compiled.now) (shown_by tables.now) ≢ Some what.now }
 {
-    match what {
-        What::Resolve { flow, kind } => {
-            *flow == 0 && matches!(kind, Kind::RevertAll) && forced(compiled, tables).is_some()
-        }
-        _ => false,
+    match forced(alloc, compiled, tables)? {
+        None => Ok(false),
+        Some(entry) => Ok(same_event(&entry, what)),
     }
 }

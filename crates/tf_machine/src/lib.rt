@@ -3,20 +3,23 @@
 #![tactic(auto)]
 
 mod candidates;
+mod cases;
 mod compiled;
 mod ending;
+mod entries;
+mod equality;
 mod faults;
 mod forcing;
 mod machine;
-mod plain;
+mod orders;
 mod readiness;
 mod states;
 mod steps;
 mod tables;
 #[cfg(test)]
 mod tests;
+mod tries;
 
 pub use candidates::Start;
 pub use faults::{ApplyFault, BuildFault};
 pub use machine::Machine;
-pub use plain::is_plain;

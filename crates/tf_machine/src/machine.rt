@@ -3,9 +3,13 @@ ghost use Rattle.tf_states.specs.declared.record.Entry.{Entry as Record};
 ghost use Rattle.tf_states.specs.declared.record.What.{What as Event};
 ghost use Rattle.tf_states.specs.declared.record.What.TheVariants.{Flow as flow_turns};
 ghost use Rattle.tf_states.specs.declared.state.FlowState.TheVariants.{Running as running, Reverted as reverted, Resuming as resuming};
+ghost use Rattle.tf_ports.specs.Whole.{IsWhole};
 ghost use Rattle.tf_ports.specs.declared.outcomes.Outcome.{Outcome as Came};
 ghost use Rattle.tf_ports.specs.declared.outcomes.Outcome.TheVariants.{Gave as given, Failed as failing};
 ghost use Rattle.tf_model.specs.Compilation.{compile_refusal};
+ghost use Rattle.tf_model.specs.Orders.{order_of};
+ghost use Rattle.tf_model.specs.Plan.{outline_of, is_task};
+ghost use Rattle.tf_model.specs.Scope.{missing_symbol};
 ghost use Rattle.tf_model.specs.Snapshot.{later};
 ghost use Rattle.tf_model.specs.History.{snapshot, flow_of};
 ghost use Rattle.tf_model.specs.Forced.{forced};
@@ -15,7 +19,6 @@ ghost use Rattle.tf_facts.specs.Facts.{Facts, CompletedReversion};
 ghost use Rattle.tf_machine.specs.declared.faults.ApplyFault.TheVariants.{NotAStep as refuses};
 ghost use Rattle.tf_machine.specs.Answers.{views_of, task_of, start_entry, action_in, end_by, ended_from, IsBuildRefusal, IsBack};
 ghost use Rattle.tf_machine.specs.Machine.{outline, shown, StandsFor, HasHistory};
-ghost use Rattle.tf_machine.specs.Plain.{IsPlain};
 ghost use Rattle.tf_model.specs.States.{flow_runs, flow_suspends};
 ghost use Rattle.tf_model.specs.Bound.{entry_bound};
 ghost use Rattle.tf_bound.specs.Owed.{left, left_later};
@@ -26,13 +29,15 @@ use crate::compiled::Compiled;
 use crate::ending::end_of;
 use crate::faults::{ApplyFault, BuildFault};
 use crate::forcing::forced;
+use crate::orders::order;
 use crate::steps::{is_step, task_of};
 use crate::tables::Tables;
+use crate::tries::tries_are_few;
 use std::alloc::Global;
 use std::marker::Model;
 use tf_bound::{event_is_short, plan_is_within_limits};
 use tf_flow::Plan;
-use tf_ports::Outcome;
+use tf_ports::{Order, Outcome};
 use tf_states::{AtomState, AtomView, Entry, Failure, FlowState, Payload, What};
 use tf_values::{Memory, Val};
 
@@ -60,38 +65,43 @@ impl Model for Machine {
 }
 
 impl Machine {
-    /// A machine before a run of this plan, which has neither retry controllers nor deciders
-    /// ([`is_plain`](crate::is_plain) tells). The plan is refused as it is by compilation. The machine
-    /// has all the room that later calls need.
+    /// A machine before a run of this plan. The plan is refused as it is by compilation, and then where a
+    /// symbol is missing. The machine has all the room that later calls need.
     pub fn make(alloc: Global, plan: Plan) -> Result<Machine, BuildFault>
-        requires { IsPlain plan }
         ensures given { IfOk result (λ machine. machine.plan ≡ plan) }
         ensures empty { IfOk result (λ machine. StandsFor machine []) }
         ensures accepted { OnOk result (compile_refusal plan ≡ None) }
-        ensures refused { IfErr result (IsBuildRefusal (compile_refusal plan)) }
+        ensures complete { OnOk result (missing_symbol (outline_of plan) ≡ None) }
+        ensures refused { IfErr result (IsBuildRefusal plan) }
     {
         plan_is_within_limits(&plan);
+        tries_are_few(&plan);
         let compiled = Compiled::make(alloc, plan)?;
         let tables = Tables::make(alloc, compiled.atoms())?;
         Ok(Machine { compiled, tables })
     }
 
     /// Appends an entry, if it may follow the history. Else it comes back, and the machine is as it was.
-    pub fn apply(&mut self, entry: Entry) -> Result<(), ApplyFault>
+    /// Memory is wanted only to tell the entry that is forced.
+    pub fn apply(&mut self, alloc: Global, entry: Entry) -> Result<(), ApplyFault>
         ensures plan { self.new.plan ≡ self.old.plan }
         ensures step { OnOk result (Step (outline self.old) (shown self.old) entry) }
         ensures moved { OnOk result (shown self.new ≡ later (outline self.old) entry (shown self.old)) }
         ensures stands { OnOk result ((past : List Record) → StandsFor self.old past → StandsFor self.new (entry ∷ past)) }
         ensures refused { (e : Record) → result ≡ Err (refuses e) → ¬ (Step (outline self.old) (shown self.old) entry) }
-        ensures refused_after { (e : Record) → result ≡ Err (refuses e) → (past : List Record) → StandsFor self.old past → ¬ (Step (outline self.old) (snapshot (outline self.old) past) entry) }
+        ensures refused_after { (e : Record) → result ≡ Err (refuses e) → (past : List Record) → StandsFor self.old past
+            → ¬ (Step (outline self.old) (snapshot (outline self.old) past) entry) }
         ensures back { IfErr result (IsBack entry) }
         ensures kept { OnErr result (self.new ≡ self.old) }
     {
-        if !self.is_step(&entry) {
-            return Err(ApplyFault::NotAStep(entry));
+        match self.is_step(alloc, &entry) {
+            Err(_) => Err(ApplyFault::Memory(entry)),
+            Ok(false) => Err(ApplyFault::NotAStep(entry)),
+            Ok(true) => {
+                self.advance(entry);
+                Ok(())
+            }
         }
-        self.advance(entry);
-        Ok(())
     }
 
     /// Appends an entry that may follow the history. It takes no memory.
@@ -100,7 +110,8 @@ impl Machine {
         ensures plan { self.new.plan ≡ self.old.plan }
         ensures moved { shown self.new ≡ later (outline self.old) entry (shown self.old) }
         ensures stands { (past : List Record) → StandsFor self.old past → StandsFor self.new (entry ∷ past) }
-        ensures less { flow_runs (shown self.old).flow || flow_suspends (shown self.old).flow ≡ true → entry.what ≢ flow_turns resuming → left self.new.plan (shown self.new) < left self.old.plan (shown self.old) }
+        ensures less { flow_runs (shown self.old).flow || flow_suspends (shown self.old).flow ≡ true
+            → entry.what ≢ flow_turns resuming → left self.new.plan (shown self.new) < left self.old.plan (shown self.old) }
     {
         event_is_short(&entry.what);
         self.tables.record(&self.compiled, entry);
@@ -112,9 +123,12 @@ impl Machine {
     pub fn settle(&mut self, hand: u8, outcome: Outcome)
         requires { IsSome (task_of (outline self.old) (shown self.old) hand) }
         ensures plan { self.new.plan ≡ self.old.plan }
-        ensures step { (a : ℕ) → task_of (outline self.old) (shown self.old) hand ≡ Some a → Step (outline self.old) (shown self.old) (end_by (shown self.old) hand outcome a) }
-        ensures moved { (a : ℕ) → task_of (outline self.old) (shown self.old) hand ≡ Some a → shown self.new ≡ later (outline self.old) (end_by (shown self.old) hand outcome a) (shown self.old) }
-        ensures stands { (a : ℕ) → task_of (outline self.old) (shown self.old) hand ≡ Some a → (past : List Record) → StandsFor self.old past → StandsFor self.new (end_by (shown self.old) hand outcome a ∷ past) }
+        ensures step { (a : ℕ) → task_of (outline self.old) (shown self.old) hand ≡ Some a
+            → Step (outline self.old) (shown self.old) (end_by (shown self.old) hand outcome a) }
+        ensures moved { (a : ℕ) → task_of (outline self.old) (shown self.old) hand ≡ Some a
+            → shown self.new ≡ later (outline self.old) (end_by (shown self.old) hand outcome a) (shown self.old) }
+        ensures stands { (a : ℕ) → task_of (outline self.old) (shown self.old) hand ≡ Some a → (past : List Record)
+            → StandsFor self.old past → StandsFor self.new (end_by (shown self.old) hand outcome a ∷ past) }
         ensures less { left self.new.plan (shown self.new) < left self.old.plan (shown self.old) }
     {
         let Some(atom) = self.in_flight(hand) else {
@@ -125,12 +139,15 @@ impl Machine {
     }
 
     /// The entry that must come next, if one must. After it less of the run is to come.
-    pub fn forced(&self) -> Result<Option<What>, Memory>
+    pub fn forced(&self, alloc: Global) -> Result<Option<What>, Memory>
         ensures is { IfOk result (λ found. found ≡ forced (outline self.now) (shown self.now)) }
-        ensures after { IfOk result (λ found. (past : List Record) → StandsFor self.now past → found ≡ forced (outline self.now) (snapshot (outline self.now) past)) }
-        ensures less { IfOk result (λ found. (hand : ℕ) (w : Event) → found ≡ Some w → left_later self.now.plan hand w (shown self.now) < left self.now.plan (shown self.now)) }
+        ensures after { IfOk result (λ found. (past : List Record) → StandsFor self.now past
+            → found ≡ forced (outline self.now) (snapshot (outline self.now) past)) }
+        ensures less { IfOk result (λ found. (hand : ℕ) (w : Event) → found ≡ Some w
+            → left_later self.now.plan hand w (shown self.now) < left self.now.plan (shown self.now)) }
     {
-        Ok(forced(&self.compiled, &self.tables))
+        let found = forced(alloc, &self.compiled, &self.tables)?;
+        Ok(found)
     }
 
     /// The task that a hand takes up next: the first candidate, of the greatest priority and then in
@@ -138,19 +155,43 @@ impl Machine {
     /// atom is REVERT_FAILURE. After its entry less of the run is to come.
     pub fn candidate(&self) -> Option<Start>
         ensures is { option_map start_entry result ≡ choice (outline self.now) (shown self.now) }
-        ensures after { (past : List Record) → StandsFor self.now past → option_map start_entry result ≡ choice (outline self.now) (snapshot (outline self.now) past) }
+        ensures after { (past : List Record) → StandsFor self.now past
+            → option_map start_entry result ≡ choice (outline self.now) (snapshot (outline self.now) past) }
         ensures action { IfSome result (λ start. start.action ≡ action_in ((shown self.now).state start.atom)) }
+        ensures task { IfSome result (λ start. is_task (outline self.now) start.atom ≡ true) }
         ensures less { IfSome result (λ start. (hand : ℕ) → left_later self.now.plan hand (start_entry start) (shown self.now) < left self.now.plan (shown self.now)) }
     {
         candidate(&self.compiled, &self.tables)
+    }
+
+    /// The order to do so with a task at this moment: what a performer is asked for where the start is
+    /// recorded.
+    pub fn order(&self, alloc: Global, start: &Start) -> Result<Order, Memory>
+        requires { is_task (outline self.now) start.now.atom ≡ true }
+        ensures is { IfOk result (λ order. Some order ≡ order_of (outline self.now) (shown self.now) start.now.atom start.now.action) }
+        ensures after { IfOk result (λ order. (past : List Record) → StandsFor self.now past
+            → Some order ≡ order_of (outline self.now) (snapshot (outline self.now) past) start.now.atom start.now.action) }
+        ensures whole { IfOk result (λ order. IsWhole order) }
+    {
+        order(
+            alloc,
+            &self.compiled,
+            &self.tables,
+            start.atom,
+            start.action,
+        )
     }
 
     /// How the run ends, if it does. It always does where the flow is RUNNING, nothing is forced, there is
     /// no candidate and nothing is in flight.
     pub fn ended(&self) -> Option<FlowState>
         ensures is { result ≡ end_of (outline self.now) (shown self.now) }
-        ensures after { (past : List Record) → StandsFor self.now past → result ≡ end_of (outline self.now) (snapshot (outline self.now) past) }
-        ensures never_stuck { (past : List Record) → StandsFor self.now past → flow_of past ≡ running → forced (outline self.now) (snapshot (outline self.now) past) ≡ None → choice (outline self.now) (snapshot (outline self.now) past) ≡ None → is_still (outline self.now) (snapshot (outline self.now) past) ≡ true → is_some result ≡ true }
+        ensures after { (past : List Record) → StandsFor self.now past
+            → result ≡ end_of (outline self.now) (snapshot (outline self.now) past) }
+        ensures never_stuck { (past : List Record) → StandsFor self.now past → flow_of past ≡ running
+            → forced (outline self.now) (snapshot (outline self.now) past) ≡ None
+            → choice (outline self.now) (snapshot (outline self.now) past) ≡ None
+            → is_still (outline self.now) (snapshot (outline self.now) past) ≡ true → is_some result ≡ true }
     {
         end_of(&self.compiled, &self.tables)
     }
@@ -158,9 +199,13 @@ impl Machine {
     /// The task that the hand has in flight, if it has one.
     pub fn in_flight(&self, hand: u8) -> Option<u16>
         ensures is { result ≡ task_of (outline self.now) (shown self.now) hand }
-        ensures after { (past : List Record) → StandsFor self.now past → result ≡ task_of (outline self.now) (snapshot (outline self.now) past) hand }
-        ensures ends { (a : ℕ) (outcome : Came) → result ≡ Some a → Step (outline self.now) (shown self.now) (end_by (shown self.now) hand outcome a) }
-        ensures less { (a : ℕ) (outcome : Came) → result ≡ Some a → left self.now.plan (later (outline self.now) (end_by (shown self.now) hand outcome a) (shown self.now)) < left self.now.plan (shown self.now) }
+        ensures after { (past : List Record) → StandsFor self.now past
+            → result ≡ task_of (outline self.now) (snapshot (outline self.now) past) hand }
+        ensures task { (a : ℕ) → result ≡ Some a → is_task (outline self.now) a ≡ true }
+        ensures ends { (a : ℕ) (outcome : Came) → result ≡ Some a
+            → Step (outline self.now) (shown self.now) (end_by (shown self.now) hand outcome a) }
+        ensures less { (a : ℕ) (outcome : Came) → result ≡ Some a
+            → left self.now.plan (later (outline self.now) (end_by (shown self.now) hand outcome a) (shown self.now)) < left self.now.plan (shown self.now) }
     {
         task_of(&self.compiled, &self.tables, hand)
     }
@@ -169,7 +214,8 @@ impl Machine {
     pub fn views(&self) -> &[AtomView]
         ensures kept { result.now ≡ self.now.views }
         ensures is { result.now ≡ views_of (outline self.now) (shown self.now) }
-        ensures after { (past : List Record) → StandsFor self.now past → result.now ≡ views_of (outline self.now) (snapshot (outline self.now) past) }
+        ensures after { (past : List Record) → StandsFor self.now past
+            → result.now ≡ views_of (outline self.now) (snapshot (outline self.now) past) }
     {
         &self.tables.views
     }
@@ -180,7 +226,8 @@ impl Machine {
         ensures is { result ≡ (shown self.now).flow }
         ensures after { (past : List Record) → StandsFor self.now past → result ≡ (snapshot (outline self.now) past).flow }
         ensures facts { (past : List Record) → StandsFor self.now past → Facts (outline self.now) (snapshot (outline self.now) past) }
-        ensures reversion { (past : List Record) → StandsFor self.now past → result ≡ reverted → CompletedReversion (outline self.now) past }
+        ensures reversion { (past : List Record) → StandsFor self.now past → result ≡ reverted
+            → CompletedReversion (outline self.now) past }
     {
         self.tables.flow
     }
@@ -189,6 +236,7 @@ impl Machine {
     pub fn plan(&self) -> &Plan
         ensures is { result.now ≡ self.now.plan }
         ensures compiles { compile_refusal self.now.plan ≡ None }
+        ensures complete { missing_symbol (outline self.now) ≡ None }
         ensures limits { IsWithinLimits (outline self.now) }
         ensures history { HasHistory self.now }
     {
@@ -203,11 +251,11 @@ impl Machine {
     }
 
     /// Whether the entry may follow.
-    fn is_step(&self, entry: &Entry) -> bool
-        ensures yes { result ≡ true → Step (outline self.now) (shown self.now) entry.now }
-        ensures no { result ≡ false → ¬ (Step (outline self.now) (shown self.now) entry.now) }
+    fn is_step(&self, alloc: Global, entry: &Entry) -> Result<bool, Memory>
+        ensures yes { result ≡ Ok true → Step (outline self.now) (shown self.now) entry.now }
+        ensures no { result ≡ Ok false → ¬ (Step (outline self.now) (shown self.now) entry.now) }
     {
-        is_step(&self.compiled, &self.tables, entry)
+        is_step(alloc, &self.compiled, &self.tables, entry)
     }
 }
 

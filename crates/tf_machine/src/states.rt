@@ -11,6 +11,12 @@ pub fn is_pending(state: AtomState) -> bool
     matches!(state, AtomState::Pending)
 }
 
+pub fn is_running(state: AtomState) -> bool
+    ensures { result ≡ model.is_running state }
+{
+    matches!(state, AtomState::Running)
+}
+
 pub fn is_failure(state: AtomState) -> bool
     ensures { result ≡ model.is_failure state }
 {
@@ -21,6 +27,18 @@ pub fn is_success(state: AtomState) -> bool
     ensures { result ≡ model.is_success state }
 {
     matches!(state, AtomState::Success)
+}
+
+pub fn is_reverting(state: AtomState) -> bool
+    ensures { result ≡ model.is_reverting state }
+{
+    matches!(state, AtomState::Reverting)
+}
+
+pub fn is_retrying(state: AtomState) -> bool
+    ensures { result ≡ model.is_retrying state }
+{
+    matches!(state, AtomState::Retrying)
 }
 
 pub fn is_revert_failure(state: AtomState) -> bool

@@ -1,11 +1,11 @@
-ghost use Rattle.std.specs.Prelude.{◌≡◌, ◌≢◌, true, false, Some};
+ghost use Rattle.std.specs.Prelude.{◌≡◌, ◌≢◌, true, false, Some, Ok};
 ghost use Rattle.tf_states.specs.declared.state.FlowState.TheVariants.{Suspended as suspended};
 ghost use Rattle.tf_states.specs.declared.record.What.TheVariants.{Flow as flow_enters};
 ghost use Rattle.tf_numbers.specs.Numbers.{all_below, first_below};
 ghost use Rattle.tf_model.specs.Plan.{outline_of, count};
+ghost use Rattle.tf_model.specs.Forced.{forced};
 ghost use Rattle.tf_model.specs.Steps.{Rule, Step, is_free, is_still, is_settled_at, is_put_back_at, ends_as, ends_task, may_turn, turns_flow, end_entry, may_suspend, reset, put_back_or_rest};
 ghost use Rattle.tf_machine.specs.Answers.{task_of, is_with};
-ghost use Rattle.tf_machine.specs.Plain.{IsPlain};
 ghost use Rattle.tf_machine.specs.Tables.{shown_by};
 
 use crate::candidates::is_choice;
@@ -14,7 +14,9 @@ use crate::ending::end_of;
 use crate::forcing::is_forced;
 use crate::states::{flow_is_reverted, flow_runs, flow_suspends, is_put_back, is_settled};
 use crate::tables::Tables;
+use std::alloc::Global;
 use tf_states::{AtomState, Entry, FlowState, Payload, What};
+use tf_values::Memory;
 
 /// The task that a hand has in flight.
 #[tactic(auto, using(tf_numbers::proofs::BelowLemmas::still_none))]
@@ -203,14 +205,16 @@ fn is_reset(compiled: &Compiled, tables: &Tables, what: &What) -> bool
     puts_back(what, first_put_back(compiled, tables))
 }
 
-/// Whether an event may be recorded by the hand, by one of the rules.
+/// Whether an event may be recorded by the hand, by one of the rules, where it is told whether it is the
+/// forced one.
 #[tactic(auto, using(crate::proofs::RuleLemmas::no_rule))]
-fn has_rule(compiled: &Compiled, tables: &Tables, entry: &Entry) -> bool
-    requires { IsPlain compiled.now }
+fn has_rule(compiled: &Compiled, tables: &Tables, entry: &Entry, is_forced: bool) -> bool
+    requires forced { is_forced ≡ true → forced (outline_of compiled.now) (shown_by tables.now) ≡ Some entry.now.what }
+    requires unforced { is_forced ≡ false → forced (outline_of compiled.now) (shown_by tables.now) ≢ Some entry.now.what }
     ensures yes { result ≡ true → Rule (outline_of compiled.now) (shown_by tables.now) entry.now }
     ensures no { result ≡ false → ¬ (Rule (outline_of compiled.now) (shown_by tables.now) entry.now) }
 {
-    if is_forced(compiled, tables, &entry.what) || turns_flow(tables.flow, &entry.what) {
+    if is_forced || turns_flow(tables.flow, &entry.what) {
         return true;
     }
     if ends_task(tables, entry.hand, &entry.what) || is_suspension(compiled, tables, &entry.what) {
@@ -226,10 +230,25 @@ fn has_rule(compiled: &Compiled, tables: &Tables, entry: &Entry) -> bool
 }
 
 /// Whether the entry may follow.
-pub fn is_step(compiled: &Compiled, tables: &Tables, entry: &Entry) -> bool
-    requires { IsPlain compiled.now }
+pub fn is_step(
+    alloc: Global,
+    compiled: &Compiled,
+    tables: &Tables,
+    entry: &Entry,
+) -> Result<bool, Memory>
+    ensures yes { result ≡ Ok true → Step (outline_of compiled.now) (shown_by tables.now) entry.now }
+    ensures no { result ≡ Ok false → ¬ (Step (outline_of compiled.now) (shown_by tables.now) entry.now) }
+{
+    let is_forced = is_forced(alloc, compiled, tables, &entry.what)?;
+    Ok(may_follow(compiled, tables, entry, is_forced))
+}
+
+/// Whether the entry may follow, where it is told whether it is the forced one.
+fn may_follow(compiled: &Compiled, tables: &Tables, entry: &Entry, is_forced: bool) -> bool
+    requires forced { is_forced ≡ true → forced (outline_of compiled.now) (shown_by tables.now) ≡ Some entry.now.what }
+    requires unforced { is_forced ≡ false → forced (outline_of compiled.now) (shown_by tables.now) ≢ Some entry.now.what }
     ensures yes { result ≡ true → Step (outline_of compiled.now) (shown_by tables.now) entry.now }
     ensures no { result ≡ false → ¬ (Step (outline_of compiled.now) (shown_by tables.now) entry.now) }
 {
-    entry.hand < 64 && has_rule(compiled, tables, entry)
+    entry.hand < 64 && has_rule(compiled, tables, entry, is_forced)
 }

@@ -1,4 +1,4 @@
-ghost use Rattle.std.specs.Prelude.{◌≡◌, ◌<◌, ◌≤◌, ◌&&◌, ℕ, Some, None, IfOk, length, map, nat_eq, if◌then◌else◌};
+ghost use Rattle.std.specs.Prelude.{◌≡◌, ◌<◌, ◌&&◌, ℕ, Some, None, IfOk, length, option_map, nat_eq, if◌then◌else◌};
 ghost use Rattle.tf_states.specs.declared.record.Payload.{Payload as PayloadValue};
 ghost use Rattle.tf_states.specs.declared.record.What.TheVariants.{Atom as atom_enters};
 ghost use Rattle.tf_states.specs.declared.state.FlowState.TheVariants.{Pending as pending_flow};
@@ -6,14 +6,14 @@ ghost use Rattle.tf_model.specs.Plan.{outline_of, count, is_task};
 ghost use Rattle.tf_model.specs.Snapshot.{later, is_at_work, state_after, payload_after, held_after, attempts_in, attempts_after};
 ghost use Rattle.tf_model.specs.Steps.{Step};
 ghost use Rattle.tf_machine.specs.TableFacts.{TableFacts};
-ghost use Rattle.tf_machine.specs.Plain.{IsPlain};
 ghost use Rattle.tf_model.specs.Readiness.{is_unmarked, is_to_revert};
 ghost use Rattle.tf_machine.specs.Answers.{is_with};
-ghost use Rattle.tf_machine.specs.Tables.{shown_by};
-ghost use Rattle.tf_machine.specs.Changes.{first_views, first_places, entered_view, entered_place, turned, marked, released};
+ghost use Rattle.tf_model.specs.Forced.{is_marked_again};
+ghost use Rattle.tf_machine.specs.Tables.{shown_by, resolve_of};
+ghost use Rattle.tf_machine.specs.Changes.{first_views, first_places, entered_view, entered_place, AreChanged, changed, turned, cleared, marked, begun};
 
 use crate::compiled::Compiled;
-use crate::states::{flow_rests, flow_resumes, is_at_work};
+use crate::states::{flow_rests, flow_resumes, is_at_work, is_running};
 use std::alloc::Global;
 use tf_states::{AtomState, AtomView, Entry, FlowState, Kind, Payload, What};
 use tf_values::Memory;
@@ -31,6 +31,20 @@ pub struct Place {
     pub mark: Option<Mark>,
     pub hand: Option<u8>,
     pub attempts: u32,
+}
+
+/// What an entry changes in the places of all atoms.
+#[derive(Clone, Copy, Debug)]
+pub enum Change {
+    /// Nothing is in flight any more.
+    Release,
+    /// No mark is left.
+    Unmark,
+    /// A retry controller of this flow begins another attempt: the marks of the flow's resolve to run again
+    /// are gone.
+    Begin(Option<usize>),
+    /// What the mark's flow holds is marked.
+    Resolve(Mark),
 }
 
 /// A view and a place for each atom, and the flow's state.
@@ -98,6 +112,26 @@ impl Tables {
         }
     }
 
+    /// The mark of an atom; none is EXECUTE.
+    pub fn mark(&self, atom: u16) -> Option<Mark>
+        ensures { option_map resolve_of result ≡ (shown_by self.now).mark atom }
+    {
+        match self.places.get(atom as usize) {
+            Some(place) => place.mark,
+            None => None,
+        }
+    }
+
+    /// The attempts of an atom.
+    pub fn attempts(&self, atom: u16) -> u32
+        ensures { result ≡ (shown_by self.now).attempts atom }
+    {
+        match self.places.get(atom as usize) {
+            Some(place) => place.attempts,
+            None => 0,
+        }
+    }
+
     /// Whether an atom's mark is EXECUTE.
     pub fn is_unmarked(&self, atom: u16) -> bool
         ensures { result ≡ is_unmarked (shown_by self.now) atom }
@@ -123,8 +157,8 @@ impl Tables {
 
     /// Records an entry that may follow. It takes no memory.
     pub fn record(&mut self, compiled: &Compiled, entry: Entry)
-        requires plain { IsPlain compiled.now }
         requires facts { TableFacts (outline_of compiled.now) (shown_by self.old) }
+        requires few { (a : ℕ) → (shown_by self.old).attempts a < 65536 }
         requires views { length self.old.views.items ≡ count (outline_of compiled.now) }
         requires places { length self.old.places.items ≡ count (outline_of compiled.now) }
         requires step { Step (outline_of compiled.now) (shown_by self.old) entry }
@@ -140,10 +174,17 @@ impl Tables {
                 payload,
             } => {
                 let taken = taken_by(compiled, hand, atom, state);
-                self.enter(atom, state, payload, taken)
+                self.enter(atom, state, payload, taken);
+                clear_each(compiled, &mut self.places, atom, state)
             }
-            What::Flow(state) => self.turn(state),
-            What::Resolve { flow, kind } => self.resolve(flow, kind),
+            What::Flow(state) => {
+                turn_each(compiled, &mut self.places, state);
+                self.flow = state;
+            }
+            What::Resolve { flow, kind } => {
+                let mark = Mark { flow, kind };
+                change_each(compiled, &mut self.places, Change::Resolve(mark))
+            }
             What::Restart(atom) => self.take(hand, atom),
         }
     }
@@ -152,12 +193,15 @@ impl Tables {
     fn enter(&mut self, atom: u16, state: AtomState, payload: Payload, hand: Option<u8>)
         requires view { atom < length self.old.views.items }
         requires place { atom < length self.old.places.items }
-        requires few { (shown_by self.old).attempts atom ≤ 1 }
-        ensures state { (a : ℕ) → (shown_by self.new).state a ≡ state_after (atom_enters atom state payload) a ((shown_by self.old).state a) }
-        ensures payload { (a : ℕ) → (shown_by self.new).payload a ≡ payload_after (atom_enters atom state payload) a ((shown_by self.old).state a) ((shown_by self.old).payload a) }
+        requires few { (shown_by self.old).attempts atom < 65536 }
+        ensures state { (a : ℕ) → (shown_by self.new).state a
+            ≡ state_after (atom_enters atom state payload) a ((shown_by self.old).state a) }
+        ensures payload { (a : ℕ) → (shown_by self.new).payload a
+            ≡ payload_after (atom_enters atom state payload) a ((shown_by self.old).state a) ((shown_by self.old).payload a) }
         ensures hand { (a : ℕ) → (shown_by self.new).hand a ≡ (if nat_eq atom a then hand else (shown_by self.old).hand a) }
         ensures mark { (a : ℕ) → (shown_by self.new).mark a ≡ (shown_by self.old).mark a }
-        ensures attempts { (a : ℕ) → (shown_by self.new).attempts a ≡ attempts_after (atom_enters atom state payload) a ((shown_by self.old).attempts a) }
+        ensures attempts { (a : ℕ) → (shown_by self.new).attempts a
+            ≡ attempts_after (atom_enters atom state payload) a ((shown_by self.old).attempts a) }
         ensures flow { self.new.flow ≡ self.old.flow }
         ensures views { length self.new.views.items ≡ length self.old.views.items }
         ensures places { length self.new.places.items ≡ length self.old.places.items }
@@ -177,26 +221,6 @@ impl Tables {
         ensures places { length self.new.places.items ≡ length self.old.places.items }
     {
         self.places[atom as usize].hand = Some(hand);
-    }
-
-    /// The flow enters a state: as it becomes RESUMING no hand has anything in flight any more, and as it
-    /// becomes PENDING no mark is left.
-    fn turn(&mut self, state: FlowState)
-        ensures places { self.new.places.items ≡ map (turned state) self.old.places.items }
-        ensures views { self.new.views.items ≡ self.old.views.items }
-        ensures flow { self.new.flow ≡ state }
-    {
-        turn_each(&mut self.places, state);
-        self.flow = state;
-    }
-
-    /// A failure is resolved: each atom has that mark.
-    fn resolve(&mut self, flow: u16, kind: Kind)
-        ensures places { self.new.places.items ≡ map (marked (Some (record { flow = flow; kind = kind }))) self.old.places.items }
-        ensures views { self.new.views.items ≡ self.old.views.items }
-        ensures flow { self.new.flow ≡ self.old.flow }
-    {
-        mark_each(&mut self.places, Some(Mark { flow, kind }));
     }
 }
 
@@ -224,7 +248,7 @@ fn enter_view(view: &mut AtomView, state: AtomState, payload: Payload)
 
 /// The atom of this place enters a state, in which the hand has it in flight.
 fn enter_place(place: &mut Place, state: AtomState, hand: Option<u8>)
-    requires few { place.old.attempts ≤ 1 }
+    requires few { place.old.attempts < 65536 }
     ensures { place.new ≡ entered_place state hand place.old }
 {
     place.hand = hand;
@@ -244,7 +268,7 @@ fn keeps_payload(before: AtomState, state: AtomState) -> bool
 
 /// An atom's attempts after it entered a state.
 fn attempts_in(state: AtomState, before: u32) -> u32
-    requires few { before ≤ 1 }
+    requires few { before < 65536 }
     ensures { result ≡ attempts_in state before }
 {
     match state {
@@ -254,34 +278,89 @@ fn attempts_in(state: AtomState, before: u32) -> u32
     }
 }
 
-/// The flow enters a state.
-#[tactic(auto, using(crate::proofs::ChangeLemmas::kept_by_turn, crate::proofs::ChangeLemmas::released_by_turn, crate::proofs::ChangeLemmas::unmarked_by_turn))]
-fn turn_each(places: &mut [Place], state: FlowState)
-    ensures { places.new ≡ map (turned state) places.old }
+/// An atom enters a state: where it is a retry controller that begins to run, the marks of its own flow's
+/// resolve to run again are gone.
+fn clear_each(compiled: &Compiled, places: &mut [Place], atom: u16, state: AtomState)
+    requires { length places.old ≡ count (outline_of compiled.now) }
+    ensures { AreChanged (λ a. cleared (outline_of compiled.now) atom state) places.old places.new }
+{
+    if !is_running(state) || !compiled.is_retry(atom) {
+        return;
+    }
+    change_each(compiled, places, Change::Begin(compiled.own_flow(atom)))
+}
+
+/// The flow enters a state: as it becomes RESUMING nothing is in flight any more, and as it becomes
+/// PENDING no mark is left.
+fn turn_each(compiled: &Compiled, places: &mut [Place], state: FlowState)
+    requires { length places.old ≡ count (outline_of compiled.now) }
+    ensures { AreChanged (λ a. turned state) places.old places.new }
 {
     if flow_resumes(state) {
-        release_each(places);
+        change_each(compiled, places, Change::Release);
         return;
     }
     if flow_rests(state) {
-        mark_each(places, None);
+        change_each(compiled, places, Change::Unmark)
     }
 }
 
-/// No atom is in flight any more.
-fn release_each(places: &mut [Place])
-    ensures { places.new ≡ map released places.old }
+/// Changes the place of each atom.
+fn change_each(compiled: &Compiled, places: &mut [Place], change: Change)
+    requires { length places.old ≡ count (outline_of compiled.now) }
+    ensures { AreChanged (changed (outline_of compiled.now) change) places.old places.new }
 {
-    for place in places.iter_mut() {
-        place.hand = None;
+    for atom in 0..compiled.atoms() {
+        let place = places[atom as usize];
+        places[atom as usize] = changed(compiled, change, atom, place);
     }
 }
 
-/// Each atom has that mark.
-fn mark_each(places: &mut [Place], mark: Option<Mark>)
-    ensures { places.new ≡ map (marked mark) places.old }
+/// What a change makes of the place of an atom.
+fn changed(compiled: &Compiled, change: Change, atom: u16, place: Place) -> Place
+    ensures { result ≡ changed (outline_of compiled.now) change atom place }
 {
-    for place in places.iter_mut() {
-        place.mark = mark;
+    match change {
+        Change::Release => Place {
+            hand: None,
+            ..place
+        },
+        Change::Unmark => marked(None, place),
+        Change::Begin(own) => begun(own, place),
+        Change::Resolve(mark) => {
+            if compiled.holds(mark.flow as usize, atom) {
+                marked(Some(mark), place)
+            } else {
+                place
+            }
+        }
+    }
+}
+
+/// A place with another mark.
+fn marked(mark: Option<Mark>, place: Place) -> Place
+    ensures { result ≡ marked mark place }
+{
+    Place { mark, ..place }
+}
+
+/// A place after a retry controller of this flow began another attempt.
+fn begun(own: Option<usize>, place: Place) -> Place
+    ensures { result ≡ begun own place }
+{
+    if is_marked_again(own, place.mark) {
+        marked(None, place)
+    } else {
+        place
+    }
+}
+
+/// Whether a mark comes from a resolve to run this flow again.
+pub fn is_marked_again(own: Option<usize>, mark: Option<Mark>) -> bool
+    ensures { result ≡ is_marked_again own (option_map resolve_of mark) }
+{
+    match (own, mark) {
+        (Some(own), Some(mark)) => matches!(mark.kind, Kind::Retry) && own == mark.flow as usize,
+        _ => false,
     }
 }

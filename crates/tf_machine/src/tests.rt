@@ -1,8 +1,9 @@
-use crate::{Machine, Start, is_plain};
+use crate::{Machine, Start};
 use std::alloc::Global;
 use std::test::Fail;
 use tf_flow::{
-    ArgList, Binds, Flow, FlowKind, Item, Items, Links, Plan, Provides, Task, TaskKind, Undo,
+    ArgList, Binds, Flow, FlowKind, Item, Items, Links, Plan, Provides, Retry, RetryKind, Task,
+    TaskKind, Undo,
 };
 use tf_ports::{Action, Outcome};
 use tf_states::{AtomState, Entry, Failure, FlowState, Kind, Payload, What};
@@ -25,23 +26,39 @@ fn task(alloc: Global, text: &[u8], priority: i32) -> Result<Item, Fail> {
     }))
 }
 
-/// A machine for a flow of the tasks `a` and `b`; `b` has the greater priority.
-fn machine(alloc: Global, kind: FlowKind) -> Result<Machine, Fail> {
+/// A retry controller of two attempts.
+fn two_attempts(alloc: Global) -> Result<Retry, Fail> {
+    Ok(Retry {
+        name: name(b"r")?,
+        kind: RetryKind::Times {
+            attempts: 2,
+            all: false,
+        },
+        args: ArgList::make(Vec::new(alloc)),
+        inject: Binds::make(Vec::new(alloc)),
+        provides: Provides::Nothing,
+    })
+}
+
+/// A machine for a flow of the tasks `a` and `b`; the second has this priority.
+fn machine(
+    alloc: Global,
+    kind: FlowKind,
+    retry: Option<Retry>,
+    priority: i32,
+) -> Result<Machine, Fail> {
     let mut items = Vec::new(alloc);
     items.push(task(alloc, b"a", 0)?)?;
-    items.push(task(alloc, b"b", 1)?)?;
+    items.push(task(alloc, b"b", priority)?)?;
     let root = Flow {
         name: name(b"main")?,
         kind,
-        retry: None,
+        retry,
         items: Items::make(items),
         links: Links::make(Vec::new(alloc)),
     };
     let plan = Plan::make(alloc, root, Binds::make(Vec::new(alloc)), false);
     let plan = plan.ok().ok_or("no plan")?;
-    if !is_plain(&plan) {
-        return Err("not plain".into());
-    }
     Ok(Machine::make(alloc, plan).ok().ok_or("no machine")?)
 }
 
@@ -62,6 +79,10 @@ enum Act {
     Fail(u8),
     /// The reversion of the whole flow is forced.
     Forced,
+    /// It is forced that the atom enters the state, and the hand records it.
+    Forces(u8, u16, AtomState),
+    /// It is forced that the whole flow is to run again, and the hand records it.
+    ForcesAgain(u8),
     /// The first candidate is this atom, and is begun.
     Starts(u16, Action),
     /// The first candidate is this atom, and is taken up again.
@@ -76,8 +97,45 @@ enum Act {
     Is(u16, AtomState),
 }
 
-fn applies(machine: &mut Machine, hand: u8, what: What) -> bool {
-    machine.apply(Entry { hand, what }).is_ok()
+fn applies(alloc: Global, machine: &mut Machine, hand: u8, what: What) -> bool {
+    machine.apply(alloc, Entry { hand, what }).is_ok()
+}
+
+/// Whether the event is that the atom enters the state.
+fn is_entering(what: &What, atom: u16, state: AtomState) -> bool {
+    match what {
+        What::Atom {
+            atom: entered,
+            state: new,
+            ..
+        } => *entered == atom && *new == state,
+        _ => false,
+    }
+}
+
+/// Whether the event is that the whole flow is to run again.
+fn is_running_again(what: &What) -> bool {
+    matches!(
+        what,
+        What::Resolve {
+            flow: 0,
+            kind: Kind::Retry,
+        }
+    )
+}
+
+/// Whether what is forced is what the act tells, and the hand could record it.
+fn forces(alloc: Global, machine: &mut Machine, act: Act) -> bool {
+    let Ok(Some(what)) = machine.forced(alloc) else {
+        return false;
+    };
+    match act {
+        Act::Forces(hand, atom, state) => {
+            is_entering(&what, atom, state) && applies(alloc, machine, hand, what)
+        }
+        Act::ForcesAgain(hand) => is_running_again(&what) && applies(alloc, machine, hand, what),
+        _ => false,
+    }
 }
 
 /// Whether the hand had a task in flight, which then ends with this outcome.
@@ -89,9 +147,9 @@ fn settles(machine: &mut Machine, hand: u8, outcome: Outcome) -> bool {
     true
 }
 
-fn is_forced(machine: &Machine) -> bool {
+fn is_forced(alloc: Global, machine: &Machine) -> bool {
     matches!(
-        machine.forced(),
+        machine.forced(alloc),
         Ok(Some(What::Resolve {
             flow: 0,
             kind: Kind::RevertAll,
@@ -116,9 +174,9 @@ fn is_in(machine: &Machine, atom: u16, state: AtomState) -> bool {
 }
 
 /// Whether what is looked at is so.
-fn shows(machine: &Machine, act: Act) -> bool {
+fn shows(alloc: Global, machine: &Machine, act: Act) -> bool {
     match act {
-        Act::Forced => is_forced(machine),
+        Act::Forced => is_forced(alloc, machine),
         Act::Starts(atom, action) => is_next(machine, atom, action, false),
         Act::StartsAgain(atom, action) => is_next(machine, atom, action, true),
         Act::NoNext => machine.candidate().is_none(),
@@ -130,12 +188,13 @@ fn shows(machine: &Machine, act: Act) -> bool {
 }
 
 /// Whether it can be done, or is so.
-fn passes(machine: &mut Machine, act: Act) -> bool {
+fn passes(alloc: Global, machine: &mut Machine, act: Act) -> bool {
     match act {
-        Act::Turn(state) => applies(machine, 0, What::Flow(state)),
+        Act::Turn(state) => applies(alloc, machine, 0, What::Flow(state)),
         Act::Enter(hand, atom, state) => {
             let payload = Payload::Empty;
             applies(
+                alloc,
                 machine,
                 hand,
                 What::Atom {
@@ -147,24 +206,24 @@ fn passes(machine: &mut Machine, act: Act) -> bool {
         }
         Act::Resolve => {
             let kind = Kind::RevertAll;
-            applies(machine, 0, What::Resolve { flow: 0, kind })
+            applies(alloc, machine, 0, What::Resolve { flow: 0, kind })
         }
-        Act::Restart(hand, atom) => applies(machine, hand, What::Restart(atom)),
+        Act::Restart(hand, atom) => applies(alloc, machine, hand, What::Restart(atom)),
+        Act::Forces(..) | Act::ForcesAgain(_) => forces(alloc, machine, act),
         Act::Give(hand) => settles(machine, hand, Outcome::Gave(Val::Int(1))),
         Act::Fail(hand) => settles(machine, hand, Outcome::Failed(Failure::Range)),
-        _ => shows(machine, act),
+        _ => shows(alloc, machine, act),
     }
 }
 
 /// The first row that doesn't come as it tells.
-fn first_wrong(alloc: Global, kind: FlowKind, rows: &[(bool, Act)]) -> Result<Option<usize>, Fail> {
-    let mut machine = machine(alloc, kind)?;
+fn first_wrong(alloc: Global, mut machine: Machine, rows: &[(bool, Act)]) -> Option<usize> {
     for (place, row) in rows.iter().enumerate() {
-        if passes(&mut machine, row.1) != row.0 {
-            return Ok(Some(place));
+        if passes(alloc, &mut machine, row.1) != row.0 {
+            return Some(place);
         }
     }
-    Ok(None)
+    None
 }
 
 const TWO_ECHOES: [(bool, Act); 18] = [
@@ -190,7 +249,8 @@ const TWO_ECHOES: [(bool, Act); 18] = [
 
 #[test]
 fn two_echoes_run_one_after_the_other(rt: HostRuntime) -> Result<(), Fail> {
-    let wrong = first_wrong(rt.alloc(), FlowKind::Linear, &TWO_ECHOES)?;
+    let machine = machine(rt.alloc(), FlowKind::Linear, None, 1)?;
+    let wrong = first_wrong(rt.alloc(), machine, &TWO_ECHOES);
     assert_eq!(rt; wrong, None);
     Ok(())
 }
@@ -227,7 +287,8 @@ const REVERSION: [(bool, Act); 27] = [
 
 #[test]
 fn a_failure_is_reverted_in_reverse_and_put_back(rt: HostRuntime) -> Result<(), Fail> {
-    let wrong = first_wrong(rt.alloc(), FlowKind::Linear, &REVERSION)?;
+    let machine = machine(rt.alloc(), FlowKind::Linear, None, 1)?;
+    let wrong = first_wrong(rt.alloc(), machine, &REVERSION);
     assert_eq!(rt; wrong, None);
     Ok(())
 }
@@ -253,7 +314,8 @@ const INTERRUPTION: [(bool, Act); 16] = [
 
 #[test]
 fn an_interrupted_task_is_taken_up_again(rt: HostRuntime) -> Result<(), Fail> {
-    let wrong = first_wrong(rt.alloc(), FlowKind::Linear, &INTERRUPTION)?;
+    let machine = machine(rt.alloc(), FlowKind::Linear, None, 1)?;
+    let wrong = first_wrong(rt.alloc(), machine, &INTERRUPTION);
     assert_eq!(rt; wrong, None);
     Ok(())
 }
@@ -273,7 +335,8 @@ const SUSPENSION: [(bool, Act); 10] = [
 
 #[test]
 fn a_flow_is_suspended_once_its_task_has_ended(rt: HostRuntime) -> Result<(), Fail> {
-    let wrong = first_wrong(rt.alloc(), FlowKind::Linear, &SUSPENSION)?;
+    let machine = machine(rt.alloc(), FlowKind::Linear, None, 1)?;
+    let wrong = first_wrong(rt.alloc(), machine, &SUSPENSION);
     assert_eq!(rt; wrong, None);
     Ok(())
 }
@@ -300,7 +363,46 @@ const TWO_HANDS: [(bool, Act); 17] = [
 
 #[test]
 fn another_hand_goes_on_while_a_task_fails(rt: HostRuntime) -> Result<(), Fail> {
-    let wrong = first_wrong(rt.alloc(), FlowKind::Unordered, &TWO_HANDS)?;
+    let machine = machine(rt.alloc(), FlowKind::Unordered, None, 1)?;
+    let wrong = first_wrong(rt.alloc(), machine, &TWO_HANDS);
+    assert_eq!(rt; wrong, None);
+    Ok(())
+}
+
+const ONE_RESOLUTION: [(bool, Act); 26] = [
+    (true, Act::Turn(FlowState::Running)),
+    (true, Act::Forces(0, 0, AtomState::Running)),
+    (true, Act::Forces(0, 0, AtomState::Success)),
+    (true, Act::Enter(0, 1, AtomState::Running)),
+    (true, Act::Enter(1, 2, AtomState::Running)),
+    (true, Act::Fail(0)),
+    (true, Act::ForcesAgain(0)),
+    (true, Act::Enter(0, 1, AtomState::Reverting)),
+    (true, Act::Fail(1)),
+    (true, Act::Enter(1, 2, AtomState::Reverting)),
+    (true, Act::Give(0)),
+    (true, Act::NoNext),
+    (true, Act::Give(1)),
+    (true, Act::Forces(1, 0, AtomState::Retrying)),
+    (true, Act::Forces(1, 1, AtomState::Pending)),
+    (true, Act::Forces(1, 2, AtomState::Pending)),
+    (true, Act::Forces(1, 0, AtomState::Running)),
+    (true, Act::Forces(1, 0, AtomState::Success)),
+    (true, Act::Enter(1, 1, AtomState::Running)),
+    (true, Act::Enter(0, 2, AtomState::Running)),
+    (true, Act::Give(1)),
+    (true, Act::NoNext),
+    (false, Act::Ends(FlowState::Success)),
+    (true, Act::Give(0)),
+    (true, Act::Ends(FlowState::Success)),
+    (true, Act::Turn(FlowState::Success)),
+];
+
+#[test]
+fn one_resolution_covers_two_failures(rt: HostRuntime) -> Result<(), Fail> {
+    let retry = two_attempts(rt.alloc())?;
+    let machine = machine(rt.alloc(), FlowKind::Unordered, Some(retry), 0)?;
+    let wrong = first_wrong(rt.alloc(), machine, &ONE_RESOLUTION);
     assert_eq!(rt; wrong, None);
     Ok(())
 }

@@ -1,5 +1,4 @@
-use Rattle.std.proofs.Common.{◌≡◌, ◌∙◌, ◌++◌, ◌∷◌, [], ap, sym, List, ℤ, arith, rules}
-use Rattle.std.proofs.lemmas.Grind.{common_steps}
+use Rattle.std.proofs.Common.{rules}
 use Rattle.tf_machine.proofs.PlanLemmas.{priorities_next}
 use Rattle.tf_machine.proofs.compiled.priorities.Goals as goal
 

@@ -6,11 +6,14 @@ use Rattle.tf_bound.specs.Owed.{left}
 use Rattle.tf_machine.proofs.LeftLemmas.{moved_less}
 use Rattle.tf_model.specs.Steps.{Step}
 use Rattle.tf_machine.specs.Machine.{MachineValue, outline, shown, StandsFor}
-use Rattle.tf_machine.proofs.MachineLemmas.{sound_facts, stands_later, sound_later}
+use Rattle.tf_machine.proofs.MachineLemmas.{sound_facts, sound_few, stands_later, sound_later}
 use Rattle.tf_machine.proofs.machine.Machine.advance.Goals as goal
 
 pub record-requires-clause-facts : goal.record-requires-clause-facts
 record-requires-clause-facts c = sound_facts _ c.self.invariant
+
+pub record-requires-clause-few : goal.record-requires-clause-few
+record-requires-clause-few c = sound_few _ c.self.invariant
 
 pub invariant_of-self : goal.invariant_of-self
 invariant_of-self c =

@@ -1,0 +1,79 @@
+-- The first case that applies is what is forced.
+use Rattle.std.proofs.Common.{◌≡◌, ℕ, suc, ◌+◌, ◌<◌, ◌≤◌, List, ◌∷◌, length, drop, get_or, add-one, Bool, true, false, not, ◌||◌, Option, Some, None, refl, sym, ap, ◌∙◌, inl, inr}
+use Rattle.std.specs.Option.{option_or, option_map}
+use Rattle.std.specs.List.{list_all}
+use Rattle.tf_states.specs.declared.record.What.{What}
+use Rattle.tf_machine.specs.declared.cases.Case.{Case}
+use Rattle.tf_order.specs.Graph.{successors_of}
+use Rattle.tf_numbers.specs.Numbers.{all_below, first_below}
+use Rattle.tf_model.specs.Plan.{Outline, count, is_before, holds, is_retry, own_flow}
+use Rattle.tf_model.specs.Snapshot.{Snapshot}
+use Rattle.tf_model.specs.States.{is_settled}
+use Rattle.tf_model.specs.Forced.{forced_attempt, forced_again, forced_reverted, forced_resolution, forced_retrying, forced_revert, forced_ignore, forced_run, forced_if_running, holds_with, is_of_its_flow, is_settled_beside}
+use Rattle.tf_numbers.proofs.BelowLemmas.{all_same, all_which}
+use Rattle.tf_numbers.proofs.ListLemmas.{drop_first, drop_whole}
+use Rattle.tf_numbers.proofs.OptionLemmas.{or_none}
+use Rattle.tf_numbers.proofs.TruthLemmas.{and_first, clash, never_true}
+use Rattle.tf_facts.proofs.LayoutLemmas.{IsLaidOut}
+use Rattle.tf_bound.proofs.BeginLemmas.{not_itself}
+use Rattle.tf_machine.specs.Cases.{applies, entry_in, cases, entry_among}
+
+-- ---- the cases in their order
+
+eight : (a b c d e f g h : Option What) → option_or a (option_or b (option_or c (option_or d (option_or e (option_or f (option_or g (option_or h None)))))))
+    ≡ option_or a (option_or b (option_or c (option_or d (option_or e (option_or f (option_or g h))))))
+eight a b c d e f g h = ap (λ (o : Option What). option_or a (option_or b (option_or c (option_or d (option_or e (option_or f (option_or g o))))))) (or_none h)
+
+pub all_cases : (plan : Outline) (s : Snapshot) → entry_among plan s cases ≡ forced_if_running plan s
+unfolding forced_if_running forced_attempt forced_again forced_reverted forced_resolution forced_retrying forced_revert forced_ignore forced_run
+all_cases plan s =
+    eight (forced_attempt plan s) (forced_again plan s) (forced_reverted plan s) (forced_resolution plan s) (forced_retrying plan s) (forced_revert plan s) (forced_ignore plan s) (forced_run plan s)
+
+-- this case applies to an atom
+pub case_found : (plan : Outline) (s : Snapshot) (first : Case) (others : List Case) (a : ℕ) → first_below (count plan) (applies plan s first) ≡ Some a
+    → Some (entry_in plan s first a) ≡ entry_among plan s (first ∷ others)
+case_found plan s first others a is = sym (ap (λ (o : Option ℕ). option_or (option_map (entry_in plan s first) o) (entry_among plan s others)) is)
+
+-- it applies to none
+pub case_passed : (plan : Outline) (s : Snapshot) (first : Case) (others : List Case) → first_below (count plan) (applies plan s first) ≡ None
+    → entry_among plan s (first ∷ others) ≡ entry_among plan s others
+case_passed plan s first others is = ap (λ (o : Option ℕ). option_or (option_map (entry_in plan s first) o) (entry_among plan s others)) is
+
+-- the case at a place applies to an atom, where those before it apply to none
+pub case_here : (plan : Outline) (s : Snapshot) (k : ℕ) (d : Case) (a : ℕ) → k < length cases → entry_among plan s (drop k cases) ≡ forced_if_running plan s
+    → first_below (count plan) (applies plan s (get_or cases k d)) ≡ Some a → Some (entry_in plan s (get_or cases k d) a) ≡ forced_if_running plan s
+case_here plan s k d a below is here =
+    case_found plan s (get_or cases k d) (drop (suc k) cases) a here ∙ (ap (entry_among plan s) (sym (drop_first cases k d below)) ∙ is)
+
+pub case_next : (plan : Outline) (s : Snapshot) (k : ℕ) (d : Case) → k < length cases → entry_among plan s (drop k cases) ≡ forced_if_running plan s
+    → first_below (count plan) (applies plan s (get_or cases k d)) ≡ None → entry_among plan s (drop (k + 1) cases) ≡ forced_if_running plan s
+case_next plan s k d below is none =
+    ap (λ (n : ℕ). entry_among plan s (drop n cases)) (add-one k)
+    ∙ (sym (case_passed plan s (get_or cases k d) (drop (suc k) cases) none) ∙ (ap (entry_among plan s) (sym (drop_first cases k d below)) ∙ is))
+
+pub no_case : (plan : Outline) (s : Snapshot) (k : ℕ) → length cases ≤ k → entry_among plan s (drop k cases) ≡ forced_if_running plan s → None ≡ forced_if_running plan s
+no_case plan s k past is = sym (ap (entry_among plan s) (drop_whole cases k past)) ∙ is
+
+-- ---- a retry controller is before the other atoms of its flow
+
+retry_before : (plan : Outline) (r a : ℕ) → IsLaidOut plan → is_retry plan r ≡ true → is_of_its_flow plan r a ≡ true → is_before plan r a ≡ true
+retry_before plan r a layout retry inside = by (own_flow plan r) refl
+  where
+    by : (o : Option ℕ) → own_flow plan r ≡ o → is_before plan r a ≡ true
+    by None home = absurd (clash (holds_with plan (own_flow plan r) a) (and_first (holds_with plan (own_flow plan r) a) _ inside) (ap (λ (o : Option ℕ). holds_with plan o a) home))
+    by (Some g) home =
+        let held : holds plan g a ≡ true = ap (λ (o : Option ℕ). holds_with plan o a) (sym home) ∙ and_first (holds_with plan (own_flow plan r) a) _ inside in
+        layout.retry_first r g a retry home held (λ same. not_itself plan r a inside (sym same))
+
+-- so whether these are settled is told by what is after it
+pub settled_by_successors : (plan : Outline) (s : Snapshot) (r : ℕ) → IsLaidOut plan → is_retry plan r ≡ true
+    → all_below (count plan) (is_settled_beside plan s r) ≡ list_all (is_settled_beside plan s r) (successors_of plan r)
+settled_by_successors plan s r layout retry =
+    sym (all_which (count plan) (is_before plan r) (is_settled_beside plan s r)
+    ∙ all_same (count plan) (λ b. not (is_before plan r b) || is_settled_beside plan s r b) (is_settled_beside plan s r) (λ b below. by b (is_before plan r b) refl))
+  where
+    by : (b : ℕ) (x : Bool) → is_before plan r b ≡ x → (not x || is_settled_beside plan s r b) ≡ is_settled_beside plan s r b
+    by b true is = refl
+    by b false is =
+        let outside : is_of_its_flow plan r b ≡ false = never_true (is_of_its_flow plan r b) (λ inside. clash (is_before plan r b) (retry_before plan r b layout retry inside) is) in
+        sym (ap (λ (x : Bool). not x || is_settled (s.state b)) outside)

@@ -1,0 +1,11 @@
+use Rattle.std.proofs.Common.{◌≡◌, drop}
+use Rattle.std.specs.List.{list_all}
+use Rattle.tf_model.specs.Plan.{outline_of}
+use Rattle.tf_model.specs.Forced.{is_settled_beside}
+use Rattle.tf_machine.specs.Tables.{shown_by}
+use Rattle.tf_machine.proofs.cases.are_settled_among.Given as goal
+
+abbrev pub invariant-loop-atom : goal.invariant-loop-atom
+invariant-loop-atom l =
+    list_all (is_settled_beside (outline_of l.compiled) (shown_by l.tables) l.retry) l.atoms
+    ≡ list_all (is_settled_beside (outline_of l.compiled) (shown_by l.tables) l.retry) (drop l.atom-index l.atoms)

@@ -1,0 +1,142 @@
+ghost use Rattle.std.specs.Prelude.{◌≡◌, ◌<◌, IfSome, Some, None, true, option_map};
+ghost use Rattle.std.specs.List.{list_all};
+ghost use Rattle.tf_numbers.specs.Numbers.{all_below, first_below};
+ghost use Rattle.tf_model.specs.Plan.{outline_of, count, is_retry};
+ghost use Rattle.tf_model.specs.Forced as rule;
+ghost use Rattle.tf_machine.specs.Cases as specs;
+ghost use Rattle.tf_machine.specs.Tables.{shown_by};
+
+use crate::compiled::Compiled;
+use crate::readiness::{can_revert, can_run};
+use crate::states::{is_failure, is_retrying, is_reverting, is_running, is_settled, is_success};
+use crate::tables::{Tables, is_marked_again};
+
+/// A case in which an entry is forced.
+#[derive(Clone, Copy, Debug)]
+pub enum Case {
+    /// A retry controller in RUNNING ends its attempt.
+    Attempt,
+    /// The flow of a retry controller in RETRYING is put back; then the controller becomes RUNNING.
+    Again,
+    /// A retry controller in REVERTING becomes REVERTED.
+    Reverted,
+    /// The resolution of a failure is recorded.
+    Resolution,
+    /// A retry controller whose flow is undone becomes RETRYING.
+    Retrying,
+    /// A retry controller that can revert becomes REVERTING.
+    Revert,
+    /// What a refused task ignores becomes IGNORE, and then the task.
+    Ignore,
+    /// A retry controller that can run becomes RUNNING.
+    Run,
+}
+
+/// A case that applies, and the atom to which it does.
+#[derive(Clone, Copy, Debug)]
+pub struct Forcing {
+    pub case: Case,
+    pub atom: u16,
+}
+
+/// The cases in their order.
+const CASES: [Case; 8] = [
+    Case::Attempt,
+    Case::Again,
+    Case::Reverted,
+    Case::Resolution,
+    Case::Retrying,
+    Case::Revert,
+    Case::Ignore,
+    Case::Run,
+];
+
+/// The first case that applies, with the first atom to which it does.
+pub fn first_case(compiled: &Compiled, tables: &Tables) -> Option<Forcing>
+    ensures entry { option_map (specs.entry_of (outline_of compiled.now) (shown_by tables.now)) result
+        ≡ rule.forced_if_running (outline_of compiled.now) (shown_by tables.now) }
+    ensures atom { IfSome result (λ found. found.atom < count (outline_of compiled.now)) }
+{
+    for case in &CASES {
+        if let Some(atom) = first_of(compiled, tables, *case) {
+            return Some(Forcing { case: *case, atom });
+        }
+    }
+    None
+}
+
+/// The first atom to which a case applies.
+#[tactic(auto, using(tf_numbers::proofs::BelowLemmas::still_none))]
+fn first_of(compiled: &Compiled, tables: &Tables, case: Case) -> Option<u16>
+    ensures { result ≡ first_below (count (outline_of compiled.now)) (specs.applies (outline_of compiled.now) (shown_by tables.now) case) }
+{
+    for atom in 0..compiled.atoms() {
+        if applies(compiled, tables, case, atom) {
+            return Some(atom);
+        }
+    }
+    None
+}
+
+/// Whether a case applies to an atom.
+fn applies(compiled: &Compiled, tables: &Tables, case: Case, atom: u16) -> bool
+    requires { atom < count (outline_of compiled.now) }
+    ensures { result ≡ specs.applies (outline_of compiled.now) (shown_by tables.now) case atom }
+{
+    let state = tables.state(atom);
+    match case {
+        Case::Attempt => compiled.is_retry(atom) && is_running(state),
+        Case::Again => compiled.is_retry(atom) && is_retrying(state),
+        Case::Reverted => compiled.is_retry(atom) && is_reverting(state),
+        Case::Resolution => is_failure(state) && tables.is_unmarked(atom),
+        Case::Retrying => is_to_begin_again(compiled, tables, atom),
+        Case::Revert => compiled.is_retry(atom) && can_revert(compiled, tables, atom),
+        Case::Ignore => is_refused(compiled, tables, atom),
+        Case::Run => compiled.is_retry(atom) && can_run(compiled, tables, atom),
+    }
+}
+
+/// Whether a retry controller is to become RETRYING: it is SUCCESS, a resolve of its own flow is to run it
+/// again, and every other atom of its flow is settled.
+fn is_to_begin_again(compiled: &Compiled, tables: &Tables, atom: u16) -> bool
+    ensures { result ≡ rule.is_to_begin_again (outline_of compiled.now) (shown_by tables.now) atom }
+{
+    if !compiled.is_retry(atom) || !is_success(tables.state(atom)) {
+        return false;
+    }
+    if !is_marked_again(compiled.own_flow(atom), tables.mark(atom)) {
+        return false;
+    }
+    are_settled_beside(compiled, tables, atom)
+}
+
+/// Whether every other atom of a retry controller's flow is settled. Each of these is after it.
+fn are_settled_beside(compiled: &Compiled, tables: &Tables, retry: u16) -> bool
+    requires { is_retry (outline_of compiled.now) retry ≡ true }
+    ensures { result ≡ all_below (count (outline_of compiled.now)) (rule.is_settled_beside (outline_of compiled.now) (shown_by tables.now) retry) }
+{
+    are_settled_among(compiled, tables, retry, compiled.successors(retry))
+}
+
+/// Whether each of these atoms that is another one of a retry controller's flow is settled.
+fn are_settled_among(compiled: &Compiled, tables: &Tables, retry: u16, atoms: &[u16]) -> bool
+    ensures { result ≡ list_all (rule.is_settled_beside (outline_of compiled.now) (shown_by tables.now) retry) atoms.now }
+{
+    for atom in atoms {
+        if compiled.is_of_its_flow(retry, *atom) && !is_settled(tables.state(*atom)) {
+            return false;
+        }
+    }
+    true
+}
+
+/// Whether an atom can run and is refused.
+fn is_refused(compiled: &Compiled, tables: &Tables, atom: u16) -> bool
+    requires { atom < count (outline_of compiled.now) }
+    ensures { result ≡ rule.is_refused (outline_of compiled.now) (shown_by tables.now) atom }
+{
+    if !compiled.is_decided(atom) {
+        return false;
+    }
+    can_run(compiled, tables, atom) && compiled.widest(&tables.views, atom).is_some()
+}

@@ -1,0 +1,69 @@
+ghost use Rattle.std.specs.Prelude.{◌≡◌, ◌↔◌, IsTrue};
+
+use tf_states::{Failure, Payload, What};
+
+/// Whether two events are equal.
+pub fn same_event(event: &What, other: &What) -> bool
+    ensures { IsTrue result ↔ (event.now ≡ other.now) }
+{
+    match (event, other) {
+        (
+            What::Atom {
+                atom,
+                state,
+                payload,
+            },
+            What::Atom {
+                atom: other_atom,
+                state: other_state,
+                payload: other_payload,
+            },
+        ) => {
+            *atom == *other_atom && *state == *other_state && same_payload(payload, other_payload)
+        }
+        (What::Flow(state), What::Flow(other)) => *state == *other,
+        (
+            What::Resolve { flow, kind },
+            What::Resolve {
+                flow: other_flow,
+                kind: other_kind,
+            },
+        ) => *flow == *other_flow && *kind == *other_kind,
+        (What::Restart(atom), What::Restart(other)) => *atom == *other,
+        _ => false,
+    }
+}
+
+/// Whether two payloads are equal.
+fn same_payload(payload: &Payload, other: &Payload) -> bool
+    ensures { IsTrue result ↔ (payload.now ≡ other.now) }
+{
+    match payload {
+        Payload::Empty => matches!(other, Payload::Empty),
+        Payload::Value(value) => matches!(other, Payload::Value(other) if value.same(other)),
+        Payload::Fault(fault) =>
+            matches!(other, Payload::Fault(other) if same_failure(fault, other)),
+    }
+}
+
+/// Whether two failures are equal.
+fn same_failure(fault: &Failure, other: &Failure) -> bool
+    ensures { IsTrue result ↔ (fault.now ≡ other.now) }
+{
+    match fault {
+        Failure::Raised(text) => {
+            matches!(other, Failure::Raised(other) if text.bytes() == other.bytes())
+        }
+        Failure::WrongKind(name) => matches!(other, Failure::WrongKind(other) if *name == *other),
+        Failure::Overflow => matches!(other, Failure::Overflow),
+        Failure::Range => matches!(other, Failure::Range),
+        Failure::TooLong => matches!(other, Failure::TooLong),
+        Failure::Lookup(name) => matches!(other, Failure::Lookup(other) if *name == *other),
+        Failure::Exit(status) => matches!(other, Failure::Exit(other) if *status == *other),
+        Failure::Spawn => matches!(other, Failure::Spawn),
+        Failure::NotText => matches!(other, Failure::NotText),
+        Failure::Lost => matches!(other, Failure::Lost),
+        Failure::BadReply(len) => matches!(other, Failure::BadReply(other) if *len == *other),
+        Failure::Exhausted => matches!(other, Failure::Exhausted),
+    }
+}
