@@ -84,6 +84,10 @@ pub optional_goes : {A : Type 0} (path key : List ℕ) (table : Members) (other 
     → get_member key table ≡ Some found → optional path key table other reads ≡ reads (below path key) found
 optional_goes path key table other reads found is = rw is
 
+pub optional_there : {A : Type 0} (path key : List ℕ) (table : Members) (other : A) (reads : List ℕ → Data → Result A FileFault) (place : List ℕ) (found : Data)
+    → place ≡ below path key → Some found ≡ get_member key table → optional path key table other reads ≡ reads place found
+optional_there path key table other reads place found at is = rw (← is, ← at) refl
+
 -- what refuses the value at a key refuses what is read there
 pub optional_refuses : {A X : Type 0} (result : Result X FileFault) (path key : List ℕ) (table : Members) (other : A) (reads : List ℕ → Data → Result A FileFault) (place : List ℕ) (found : Data)
     → place ≡ below path key → Some found ≡ get_member key table → IfErr result (Refuses (reads place found)) → IfErr result (Refuses (optional path key table other reads))

@@ -1,4 +1,8 @@
 pub mod Paths
 pub mod Reading
 pub mod Values
+pub mod Signatures
 pub mod Tasks
+pub mod Retries
+pub mod Conditions
+pub mod Deciders

@@ -1,11 +1,11 @@
 -- How a document is read: what a part of it spells, or the first reason why it spells nothing.
 use Rattle.std.specs.Prelude.{◌≡◌, ℕ, suc, List, [], ◌∷◌, Bool, true, false, is_some, Option, Some, None, Result, Ok, Err, if◌then◌else◌}
 use Rattle.std.specs.Fmt.{decimal}
-use Rattle.tf_flow.specs.Names.{is_among}
+use Rattle.tf_flow.specs.Names.{same_name, is_among}
 use Rattle.tf_document.specs.Paths.{below, step_of}
 use Rattle.tf_document.specs.declared.faults.FileFault.{FileFault}
 use Rattle.tf_document.specs.declared.faults.FileFault.TheVariants as fault
-use Rattle.toml.specs.Data.{Data, as_array, Items, no_items, item, Members, no_members, member, get_member}
+use Rattle.toml.specs.Data.{Data, as_str, as_array, Items, no_items, item, Members, no_members, member, get_member}
 
 -- reading goes on with what was read
 abbrev pub chain : {A B : Type 0} → Result A FileFault → (A → Result B FileFault) → Result B FileFault
@@ -15,6 +15,20 @@ chain (Err reason) next = Err reason
 -- the members have the key
 abbrev pub has_key : List ℕ → Members → Bool
 has_key key members = is_some (get_member key members)
+
+-- the text, where there is one, is this one
+abbrev pub same_text : List ℕ → Option (List ℕ) → Bool
+same_text word None = false
+same_text word (Some text) = same_name text word
+
+-- it is this text
+abbrev pub is_text : List ℕ → Option Data → Bool
+is_text word None = false
+is_text word (Some found) = same_text word (as_str found)
+
+-- the members have this text at the key
+abbrev pub has_text : List ℕ → List ℕ → Members → Bool
+has_text key word members = is_text word (get_member key members)
 
 -- the first key that isn't one of those that are known; a table's keys stand in byte order
 abbrev pub unknown_key : List (List ℕ) → Members → Option (List ℕ)

@@ -1,60 +1,40 @@
 -- The task that a table of a document spells.
-use Rattle.std.specs.Prelude.{ℕ, ℤ, pos, negsuc, int_le, List, [], ◌∷◌, ◌++◌, codes, Bool, not, ◌&&◌, ◌||◌, map, filter, Result, Ok, Err, if◌then◌else◌}
-use Rattle.std.specs.List.{list_any}
-use Rattle.tf_flow.specs.Names.{same_name, is_among}
-use Rattle.tf_flow.specs.declared.atoms.Arg.{Arg}
-use Rattle.tf_flow.specs.declared.atoms.Bind.{Bind}
-use Rattle.tf_flow.specs.declared.atoms.Provides.{Provides}
-use Rattle.tf_flow.specs.declared.atoms.Provides.TheVariants as provides
+use Rattle.std.specs.Prelude.{ℕ, ℤ, pos, negsuc, int_le, List, [], ◌∷◌, codes, Bool, ◌&&◌, Result, Ok, Err, if◌then◌else◌}
+use Rattle.tf_flow.specs.Names.{same_name}
 use Rattle.tf_flow.specs.declared.atoms.Task.{Task}
 use Rattle.tf_flow.specs.declared.atoms.TaskKind.{TaskKind}
 use Rattle.tf_flow.specs.declared.atoms.TaskKind.TheVariants as kind
+use Rattle.tf_flow.specs.declared.atoms.Undo.{Undo}
 use Rattle.tf_flow.specs.declared.atoms.Undo.TheVariants as undo
-use Rattle.tf_document.specs.Reading.{chain, known_only, required, optional, built_without, of_kind, put_first, each}
-use Rattle.tf_document.specs.Paths.{below}
-use Rattle.tf_document.specs.Values.{named, name_form, names_form, key_form, binds_form}
+use Rattle.tf_document.specs.Reading.{chain, known_only, required, optional, built_without, of_kind}
+use Rattle.tf_document.specs.Signatures.{signature_form}
+use Rattle.tf_document.specs.Values.{name_form}
 use Rattle.tf_document.specs.declared.faults.FileFault.{FileFault}
 use Rattle.tf_document.specs.declared.faults.FileFault.TheVariants as fault
-use Rattle.toml.specs.Data.{Data, string, array, as_str, as_integer, as_table, Members, no_members, member}
+use Rattle.toml.specs.Data.{Data, string, array, as_str, as_integer, Members}
 
 -- the keys of a task
 abbrev pub task_keys : List (List ℕ)
 task_keys = codes "task" ∷ codes "kind" ∷ codes "requires" ∷ codes "rebind" ∷ codes "inject" ∷ codes "provides" ∷ codes "priority" ∷ codes "run" ∷ codes "revert" ∷ []
 
--- the words for the kinds of task that are of no use yet
-abbrev pub later_kinds : List (List ℕ)
-later_kinds = codes "concat" ∷ codes "sum" ∷ codes "length" ∷ codes "pick" ∷ codes "list" ∷ codes "fail_below" ∷ codes "fail_unless" ∷ codes "command" ∷ []
-
--- the kind of task that a word is
+-- the kind of task that a word is; that of commands is of no use yet
 abbrev pub kind_named : List ℕ → List ℕ → Result TaskKind FileFault
 kind_named path word =
     if same_name word (codes "echo") then Ok kind.Echo
+    else if same_name word (codes "concat") then Ok kind.Concat
+    else if same_name word (codes "sum") then Ok kind.Sum
+    else if same_name word (codes "length") then Ok kind.Length
+    else if same_name word (codes "pick") then Ok kind.Pick
+    else if same_name word (codes "list") then Ok kind.List
     else if same_name word (codes "fail") then Ok kind.Fail
-    else if is_among later_kinds word then Err fault.NotBuilt
+    else if same_name word (codes "fail_below") then Ok kind.FailBelow
+    else if same_name word (codes "fail_unless") then Ok kind.FailUnless
+    else if same_name word (codes "command") then Err fault.NotBuilt
     else Err (fault.BadChoice path)
 
 -- a kind of task
 abbrev pub task_kind_form : List ℕ → Data → Result TaskKind FileFault
 task_kind_form path found = of_kind path (as_str found) (kind_named path)
-
--- an argument's name with the symbol that it is bound to
-abbrev pub rebound_form : List ℕ → List ℕ → Data → Result Arg FileFault
-rebound_form path key found = chain (key_form path key) (λ name. chain (name_form (below path name) found) (λ symbol. Ok (record { name = name; symbol = symbol })))
-
--- the names of a table with their symbols, in byte order
-abbrev pub rebounds_of : List ℕ → Members → Result (List Arg) FileFault
-rebounds_of path no_members = Ok []
-rebounds_of path (member key found others) = put_first (rebound_form path key found) (rebounds_of path others)
-
--- a table of names
-abbrev pub rebind_form : List ℕ → Data → Result (List Arg) FileFault
-rebind_form path found = of_kind path (as_table found) (rebounds_of path)
-
--- what a task provides: a name, or a list of names
-abbrev pub provides_form : List ℕ → Data → Result Provides FileFault
-provides_form path (string text) = chain (named path text) (λ name. Ok (provides.Whole name))
-provides_form path (array items) = chain (each name_form path 0 items) (λ names. Ok (provides.Parts names))
-provides_form path other = Err (fault.WrongKind path)
 
 -- an integer of 32 bits
 abbrev pub is_priority : ℤ → Bool
@@ -67,42 +47,18 @@ ranked path number = if is_priority number then Ok number else Err (fault.BadNum
 abbrev pub priority_form : List ℕ → Data → Result ℤ FileFault
 priority_form path found = of_kind path (as_integer found) (ranked path)
 
--- the symbol that a name is bound to, or the name itself
-abbrev pub symbol_for : List Arg → List ℕ → List ℕ
-symbol_for [] name = name
-symbol_for (arg ∷ args) name = if same_name arg.name name then arg.symbol else symbol_for args name
+-- what a word reverts a task by
+abbrev pub undo_named : List ℕ → List ℕ → Result Undo FileFault
+undo_named path word =
+    if same_name word (codes "ok") then Ok undo.Pass
+    else if same_name word (codes "fail") then Ok undo.Fail
+    else Err (fault.BadChoice path)
 
--- the argument of a required name
-abbrev pub required_argument : List Arg → List ℕ → Arg
-required_argument rebound name = record { name = name; symbol = symbol_for rebound name }
-
--- the argument has a name that isn't required
-abbrev pub is_additional : List (List ℕ) → Arg → Bool
-is_additional required arg = not (is_among required arg.name)
-
--- the arguments by name: those that are required, in order, and then the others that are bound to symbols
-abbrev pub named_arguments : List (List ℕ) → List Arg → List Arg
-named_arguments required rebound = map (required_argument rebound) required ++ filter (is_additional required) rebound
-
--- the argument has this name or symbol
-abbrev pub speaks_of : List ℕ → Arg → Bool
-speaks_of symbol arg = same_name arg.name symbol || same_name arg.symbol symbol
-
--- no argument has the symbol as its name or symbol
-abbrev pub is_unnamed : List Arg → Bind → Bool
-is_unnamed args bind = not (list_any (speaks_of bind.symbol) args)
-
--- an argument under its symbol's name
-abbrev pub injected_argument : Bind → Arg
-injected_argument bind = record { name = bind.symbol; symbol = bind.symbol }
-
--- the injected symbols that no argument speaks of are arguments too
-abbrev pub with_injected : List Arg → List Bind → List Arg
-with_injected args inject = args ++ map injected_argument (filter (is_unnamed args) inject)
-
--- the arguments of a task
-abbrev pub arguments_of : List (List ℕ) → List Arg → List Bind → List Arg
-arguments_of required rebound inject = with_injected (named_arguments required rebound) inject
+-- what reverts a task; the words of a program are of no use yet
+abbrev pub undo_form : List ℕ → Data → Result Undo FileFault
+undo_form path (string word) = undo_named path word
+undo_form path (array items) = Err fault.NotBuilt
+undo_form path other = Err (fault.WrongKind path)
 
 -- the task that the table under the path spells; its keys are read in this order
 abbrev pub task_form : List ℕ → Members → Result Task FileFault
@@ -110,20 +66,17 @@ task_form path members =
     known_only path task_keys members
     (chain (required path (codes "task") members name_form) (λ name.
     chain (required path (codes "kind") members task_kind_form) (λ kind.
-    chain (optional path (codes "requires") members [] names_form) (λ required.
-    chain (optional path (codes "rebind") members [] rebind_form) (λ rebound.
-    chain (optional path (codes "inject") members [] binds_form) (λ inject.
-    chain (optional path (codes "provides") members provides.Nothing provides_form) (λ provided.
+    chain (signature_form path members) (λ signature.
     chain (optional path (codes "priority") members (pos 0) priority_form) (λ priority.
     built_without (codes "run") members
-    (built_without (codes "revert") members
-    (Ok record {
+    (chain (optional path (codes "revert") members undo.Pass undo_form) (λ revert.
+    Ok record {
       name = name;
       kind = kind;
       words = [];
-      args = arguments_of required rebound inject;
-      inject = inject;
-      provides = provided;
+      args = signature.args;
+      inject = signature.inject;
+      provides = signature.provides;
       priority = priority;
-      undo = undo.Pass;
-    }))))))))))
+      undo = revert;
+    })))))))

@@ -2,7 +2,7 @@ ghost use Rattle.std.specs.Prelude.{◌≡◌, Some, Ok, IfOk, IfErr, IfSome, On
 ghost use Rattle.std.specs.Fmt.{decimal};
 ghost use Rattle.tf_flow.specs.Names.{is_among};
 ghost use Rattle.tf_document.specs.Paths.{below};
-ghost use Rattle.tf_document.specs.Reading.{Refuses, known_only as read_known, unknown_key as first_unknown, required_at, of_kind, has_key as key_is_there};
+ghost use Rattle.tf_document.specs.Reading.{Refuses, known_only as read_known, unknown_key as first_unknown, required_at, of_kind, has_key as key_is_there, has_text as text_is_there, same_text as is_that_text};
 ghost use Rattle.toml.specs.Data.{get_member, as_str, as_array, as_table};
 ghost use Rattle.toml.specs.View.{view, items_view, table_view};
 
@@ -75,6 +75,26 @@ pub fn has_key(table: &Table, key: &str) -> bool
     ensures { result ≡ key_is_there key.now (table_view table.now) }
 {
     value_at(table, key).is_some()
+}
+
+/// Whether the value at the key is this text.
+pub fn has_text(table: &Table, key: &str, word: &str) -> bool
+    ensures { result ≡ text_is_there key.now word.now (table_view table.now) }
+{
+    match value_at(table, key) {
+        Some(value) => is_text(value, word),
+        None => false,
+    }
+}
+
+/// Whether the value is this text.
+fn is_text(value: &Value, word: &str) -> bool
+    ensures { result ≡ is_that_text word.now (as_str (view value.now)) }
+{
+    match value.as_str() {
+        Some(text) => text == word,
+        None => false,
+    }
 }
 
 /// The value at a key.

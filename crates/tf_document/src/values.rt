@@ -99,7 +99,7 @@ fn bind_form(alloc: Global, path: &Path, key: &str, value: &Value) -> Result<Bin
 }
 
 /// The value under the path, or `BadValue`.
-fn value_form(alloc: Global, path: &Path, value: &Value) -> Result<Val, FileFault>
+pub fn value_form(alloc: Global, path: &Path, value: &Value) -> Result<Val, FileFault>
     ensures ok { IfOk result (λ made. value_read path.now (view value.now) ≡ Ok made) }
     ensures refused { IfErr result (Refuses (value_read path.now (view value.now))) }
 {
@@ -110,7 +110,7 @@ fn value_form(alloc: Global, path: &Path, value: &Value) -> Result<Val, FileFaul
 }
 
 /// The value that stands there, or none.
-fn value_of(alloc: Global, value: &Value) -> Result<Option<Val>, Memory>
+pub fn value_of(alloc: Global, value: &Value) -> Result<Option<Val>, Memory>
     ensures { IfOk result (λ made. made ≡ value_spelled (view value.now)) }
 {
     match value {

@@ -1,4 +1,9 @@
 pub mod DocumentLemmas
-pub mod BuiltLemmas
 pub mod NestedLemmas
 pub mod RootLemmas
+pub mod StoreLemmas
+pub mod WrittenLemmas
+pub mod RefusalLemmas
+pub mod MeasureLemmas
+pub mod AlikeLemmas
+pub mod OutlineLemmas

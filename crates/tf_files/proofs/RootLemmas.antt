@@ -6,7 +6,7 @@ use Rattle.tf_document.specs.Values.{name_form, binds_form}
 use Rattle.tf_document.specs.declared.faults.FileFault.{FileFault}
 use Rattle.tf_flow.specs.declared.atoms.Bind.{Bind}
 use Rattle.tf_flow.specs.declared.nested.FlowKind.{FlowKind}
-use Rattle.tf_flow.specs.Tree.{Tree}
+use Rattle.tf_files.specs.Written.{WrittenTree}
 use Rattle.tf_files.specs.FlowFile.{root_form, root_keys, pattern_form, flow_inside}
 use Rattle.toml.specs.Data.{Members}
 
@@ -30,7 +30,7 @@ root_goes document name kind store begun =
 at_root : (path : List ℕ) (document : Members) (name : List ℕ) (kind : FlowKind) (store : List Bind) → Begun path document name kind store → Begun [] document name kind store
 at_root path document name kind store begun = subst (λ p. Begun p document name kind store) begun.root begun
 
-pub root_read : (path : List ℕ) (document : Members) (name : List ℕ) (kind : FlowKind) (store : List Bind) (root : Tree) → Begun path document name kind store
+pub root_read : (path : List ℕ) (document : Members) (name : List ℕ) (kind : FlowKind) (store : List Bind) (root : WrittenTree) → Begun path document name kind store
     → flow_inside 15 path document name kind ≡ Ok root → root_form document ≡ Ok (record { root = root; store = store })
 root_read path document name kind store root begun inside =
     let here : flow_inside 15 [] document name kind ≡ Ok root = subst (λ p. flow_inside 15 p document name kind ≡ Ok root) begun.root inside in

@@ -1,1 +1,4 @@
+pub mod Store
+pub mod Pairs
+pub mod Written
 pub mod FlowFile

@@ -1,8 +1,9 @@
-ghost use Rattle.std.specs.Prelude.{◌≡◌, [], suc, true, map, codes, Ok, IfOk, IfErr};
+ghost use Rattle.std.specs.Prelude.{◌≡◌, [], suc, map, codes, None, Ok, IfOk, IfErr};
 ghost use Rattle.tf_document.specs.Reading.{Refuses, each, required as spelled_at, optional as spelled_perhaps, array_of};
 ghost use Rattle.tf_document.specs.Values.{binds_form as binds_spelled};
-ghost use Rattle.tf_flow.specs.Tree.{tree_of, item_tree, trees_of};
-ghost use Rattle.tf_files.specs.FlowFile.{root_form as root_spelled, flow_inside as inside_spelled, item_form as item_spelled, item_table as item_of, nested_flow as nested_of, task_item as task_of, pattern_form as pattern_spelled, pattern_named as pattern_of, is_flow_table as is_table_of_flow, is_built, are_built};
+ghost use Rattle.tf_flow.specs.Tree.{tree_of};
+ghost use Rattle.tf_files.specs.Written.{as_written, item_as_written};
+ghost use Rattle.tf_files.specs.FlowFile.{root_form as root_spelled, flow_inside as inside_spelled, item_form as item_spelled, item_table as item_of, own_retry as retry_of_flow, nested_flow as nested_of, task_item as task_of, pattern_form as pattern_spelled, pattern_named as pattern_of, is_flow_table as is_table_of_flow};
 ghost use Rattle.toml.specs.View.{view, items_view, table_view};
 
 use crate::keys::name_at;
@@ -10,9 +11,10 @@ use crate::links::links_at;
 use crate::lists::add;
 use std::alloc::Global;
 use tf_document::{
-    Field, FileFault, Path, binds_form, has_key, item_at, known_only, optional, required, task_form,
+    Field, FileFault, Path, binds_form, has_key, item_at, known_only, optional, required,
+    retry_form, task_form,
 };
-use tf_flow::{Bind, Flow, FlowKind, Item, Items, Limit, Links, PlanFault};
+use tf_flow::{Bind, Flow, FlowKind, Item, Items, Limit, Links, PlanFault, Retry};
 use tf_values::Name;
 use toml::{Table, Value};
 
@@ -25,9 +27,8 @@ pub struct RootFlow {
 
 /// The root flow of a document, with the store.
 pub fn root_form(alloc: Global, document: &Table) -> Result<RootFlow, FileFault>
-    ensures ok { IfOk result (λ made. root_spelled (table_view document.now) ≡ Ok record { root = tree_of made.flow; store = made.store.items }) }
+    ensures ok { IfOk result (λ made. root_spelled (table_view document.now) ≡ Ok record { root = as_written (tree_of made.flow); store = made.store.items }) }
     ensures refused { IfErr result (Refuses (root_spelled (table_view document.now))) }
-    ensures built { IfOk result (λ made. is_built (tree_of made.flow) ≡ true) }
 {
     let path = Path::root(alloc);
     known_only(
@@ -89,6 +90,7 @@ fn pattern_named(path: Path, word: &str) -> Result<FlowKind, FileFault>
 /// The flow of a name and a kind with what else its table spells. `left` is how many flows may still
 /// stand in one another within it.
 #[cycle(flows)]
+#[tactic(auto, using(crate::proofs::WrittenLemmas::flow_written))]
 fn flow_inside(
     alloc: Global,
     left: u8,
@@ -97,30 +99,46 @@ fn flow_inside(
     name: Name,
     kind: FlowKind,
 ) -> Result<Flow, FileFault>
-    ensures ok { IfOk result (λ flow. inside_spelled left path.now (table_view table.now) name kind ≡ Ok (tree_of flow)) }
+    ensures ok { IfOk result (λ flow. inside_spelled left path.now (table_view table.now) name kind ≡ Ok (as_written (tree_of flow))) }
     ensures refused { IfErr result (Refuses (inside_spelled left path.now (table_view table.now) name kind)) }
-    ensures built { IfOk result (λ flow. is_built (tree_of flow) ≡ true) }
 {
-    if has_key(table, "retry") {
-        return Err(FileFault::NotBuilt);
-    }
+    let retry = retry_at(alloc, path, table)?;
     let items = items_at(alloc, left, path, table)?;
     let links = links_at(alloc, path, table)?;
     Ok(Flow {
         name,
         kind,
-        retry: None,
+        retry,
         items: Items::make(items),
         links: Links::make(links),
     })
 }
 
+/// The retry controller at the key `retry`; none where it isn't there.
+fn retry_at(alloc: Global, path: &Path, table: &Table) -> Result<Option<Retry>, FileFault>
+    ensures ok { IfOk result (λ retry. spelled_perhaps path.now (codes "retry") (table_view table.now) None retry_of_flow ≡ Ok retry) }
+    ensures refused { IfErr result (Refuses (spelled_perhaps path.now (codes "retry") (table_view table.now) None retry_of_flow)) }
+{
+    match optional(alloc, path, "retry", table)? {
+        Some(field) => own_retry(alloc, &field),
+        None => Ok(None),
+    }
+}
+
+/// A flow's own retry controller.
+fn own_retry(alloc: Global, field: &Field<'_>) -> Result<Option<Retry>, FileFault>
+    ensures ok { IfOk result (λ retry. retry_of_flow field.now.path (view field.now.value.now) ≡ Ok retry) }
+    ensures refused { IfErr result (Refuses (retry_of_flow field.now.path (view field.now.value.now))) }
+{
+    let retry = retry_form(alloc, field)?;
+    Ok(Some(retry))
+}
+
 /// The items at the key `items`; none where it isn't there.
 #[cycle(flows)]
 fn items_at(alloc: Global, left: u8, path: &Path, table: &Table) -> Result<Vec<Item>, FileFault>
-    ensures ok { IfOk result (λ items. spelled_perhaps path.now (codes "items") (table_view table.now) [] (array_of (item_spelled left)) ≡ Ok (map item_tree items.items)) }
+    ensures ok { IfOk result (λ items. spelled_perhaps path.now (codes "items") (table_view table.now) [] (array_of (item_spelled left)) ≡ Ok (map item_as_written items.items)) }
     ensures refused { IfErr result (Refuses (spelled_perhaps path.now (codes "items") (table_view table.now) [] (array_of (item_spelled left)))) }
-    ensures built { IfOk result (λ items. are_built (trees_of (map item_tree items.items)) ≡ true) }
 {
     match optional(alloc, path, "items", table)? {
         Some(field) => items_form(alloc, left, &field),
@@ -131,9 +149,8 @@ fn items_at(alloc: Global, left: u8, path: &Path, table: &Table) -> Result<Vec<I
 /// The items of an array.
 #[cycle(flows)]
 fn items_form(alloc: Global, left: u8, field: &Field<'_>) -> Result<Vec<Item>, FileFault>
-    ensures ok { IfOk result (λ items. array_of (item_spelled left) field.now.path (view field.now.value.now) ≡ Ok (map item_tree items.items)) }
+    ensures ok { IfOk result (λ items. array_of (item_spelled left) field.now.path (view field.now.value.now) ≡ Ok (map item_as_written items.items)) }
     ensures refused { IfErr result (Refuses (array_of (item_spelled left) field.now.path (view field.now.value.now))) }
-    ensures built { IfOk result (λ items. are_built (trees_of (map item_tree items.items)) ≡ true) }
 {
     let array = field.items(alloc)?;
     each_item(alloc, left, &field.path, array)
@@ -142,9 +159,8 @@ fn items_form(alloc: Global, left: u8, field: &Field<'_>) -> Result<Vec<Item>, F
 /// Each item of an array.
 #[cycle(flows)]
 fn each_item(alloc: Global, left: u8, path: &Path, array: &[Value]) -> Result<Vec<Item>, FileFault>
-    ensures ok { IfOk result (λ items. each (item_spelled left) path.now 0 (items_view array.now) ≡ Ok (map item_tree items.items)) }
+    ensures ok { IfOk result (λ items. each (item_spelled left) path.now 0 (items_view array.now) ≡ Ok (map item_as_written items.items)) }
     ensures refused { IfErr result (Refuses (each (item_spelled left) path.now 0 (items_view array.now))) }
-    ensures built { IfOk result (λ items. are_built (trees_of (map item_tree items.items)) ≡ true) }
 {
     let mut items = Vec::new(alloc);
     for (number, value) in array.iter().enumerate() {
@@ -158,9 +174,8 @@ fn each_item(alloc: Global, left: u8, path: &Path, array: &[Value]) -> Result<Ve
 /// An item: `WrongKind` where the value is no table.
 #[cycle(flows)]
 fn item_form(alloc: Global, left: u8, field: &Field<'_>) -> Result<Item, FileFault>
-    ensures ok { IfOk result (λ item. item_spelled left field.now.path (view field.now.value.now) ≡ Ok (item_tree item)) }
+    ensures ok { IfOk result (λ item. item_spelled left field.now.path (view field.now.value.now) ≡ Ok (item_as_written item)) }
     ensures refused { IfErr result (Refuses (item_spelled left field.now.path (view field.now.value.now))) }
-    ensures built { IfOk result (λ item. is_built (item_tree item) ≡ true) }
 {
     let table = field.table(alloc)?;
     item_table(alloc, left, &field.path, table)
@@ -169,9 +184,8 @@ fn item_form(alloc: Global, left: u8, field: &Field<'_>) -> Result<Item, FileFau
 /// The item of a table: a flow where it has the key `flow` and not the key `task`, else a task.
 #[cycle(flows)]
 fn item_table(alloc: Global, left: u8, path: &Path, table: &Table) -> Result<Item, FileFault>
-    ensures ok { IfOk result (λ item. item_of left path.now (table_view table.now) ≡ Ok (item_tree item)) }
+    ensures ok { IfOk result (λ item. item_of left path.now (table_view table.now) ≡ Ok (item_as_written item)) }
     ensures refused { IfErr result (Refuses (item_of left path.now (table_view table.now))) }
-    ensures built { IfOk result (λ item. is_built (item_tree item) ≡ true) }
 {
     if !is_flow_table(table) {
         return task_item(alloc, path, table);
@@ -189,9 +203,8 @@ fn is_flow_table(table: &Table) -> bool
 
 /// The task of an item's table.
 fn task_item(alloc: Global, path: &Path, table: &Table) -> Result<Item, FileFault>
-    ensures ok { IfOk result (λ item. task_of path.now (table_view table.now) ≡ Ok (item_tree item)) }
+    ensures ok { IfOk result (λ item. task_of path.now (table_view table.now) ≡ Ok (item_as_written item)) }
     ensures refused { IfErr result (Refuses (task_of path.now (table_view table.now))) }
-    ensures built { IfOk result (λ item. is_built (item_tree item) ≡ true) }
 {
     let task = task_form(alloc, path, table)?;
     Ok(Item::Task(task))
@@ -201,9 +214,8 @@ fn task_item(alloc: Global, path: &Path, table: &Table) -> Result<Item, FileFaul
 #[cycle(flows)]
 #[tactic(auto, using(crate::proofs::NestedLemmas::below))]
 fn nested_flow(alloc: Global, left: u8, path: &Path, table: &Table) -> Result<Flow, FileFault>
-    ensures ok { IfOk result (λ flow. nested_of left path.now (table_view table.now) ≡ Ok (tree_of flow)) }
+    ensures ok { IfOk result (λ flow. nested_of left path.now (table_view table.now) ≡ Ok (as_written (tree_of flow))) }
     ensures refused { IfErr result (Refuses (nested_of left path.now (table_view table.now))) }
-    ensures built { IfOk result (λ flow. is_built (tree_of flow) ≡ true) }
 {
     if left == 0 {
         return Err(FileFault::Plan(PlanFault::TooLarge {
@@ -217,9 +229,8 @@ fn nested_flow(alloc: Global, left: u8, path: &Path, table: &Table) -> Result<Fl
 /// The flow of a table. `left` is how many flows may still stand in one another within it.
 #[cycle(flows)]
 fn flow_table(alloc: Global, left: u8, path: &Path, table: &Table) -> Result<Flow, FileFault>
-    ensures ok { IfOk result (λ flow. nested_of (suc left) path.now (table_view table.now) ≡ Ok (tree_of flow)) }
+    ensures ok { IfOk result (λ flow. nested_of (suc left) path.now (table_view table.now) ≡ Ok (as_written (tree_of flow))) }
     ensures refused { IfErr result (Refuses (nested_of (suc left) path.now (table_view table.now))) }
-    ensures built { IfOk result (λ flow. is_built (tree_of flow) ≡ true) }
 {
     known_only(
         alloc,

@@ -1,21 +1,20 @@
-ghost use Rattle.std.specs.Prelude.{◌≡◌, [], true, codes, None, Ok, IfOk, OnOk, IfErr};
-ghost use Rattle.std.specs.List.{list_all};
+ghost use Rattle.std.specs.Prelude.{◌≡◌, [], map, codes, None, Ok, IfOk, OnOk, IfErr};
+ghost use Rattle.tf_flow.specs.Conditions.{connection_of};
 ghost use Rattle.tf_document.specs.Reading.{Refuses, each, known_only as read_known, unknown_key, optional as spelled_perhaps};
-ghost use Rattle.tf_files.specs.FlowFile.{link_keys as keys_of, link_table as link_of, link_form as link_spelled, links_form as links_spelled, is_undecided};
+ghost use Rattle.tf_files.specs.FlowFile.{link_keys as keys_of, link_table as link_of, link_form as link_spelled, links_form as links_spelled};
 ghost use Rattle.toml.specs.View.{view, items_view, table_view};
 
 use crate::keys::name_at;
 use crate::lists::add;
 use std::alloc::Global;
-use tf_document::{Field, FileFault, Path, has_key, item_at, known_only, optional};
+use tf_document::{Field, FileFault, Path, decider_of, has_key, item_at, known_only, optional};
 use tf_flow::Link;
 use toml::{Table, Value};
 
 /// The links at the key `links`; none where it isn't there.
 pub fn links_at(alloc: Global, path: &Path, table: &Table) -> Result<Vec<Link>, FileFault>
-    ensures ok { IfOk result (λ links. spelled_perhaps path.now (codes "links") (table_view table.now) [] links_spelled ≡ Ok links.items) }
+    ensures ok { IfOk result (λ links. spelled_perhaps path.now (codes "links") (table_view table.now) [] links_spelled ≡ Ok (map connection_of links.items)) }
     ensures refused { IfErr result (Refuses (spelled_perhaps path.now (codes "links") (table_view table.now) [] links_spelled)) }
-    ensures undecided { IfOk result (λ links. list_all is_undecided links.items ≡ true) }
 {
     match optional(alloc, path, "links", table)? {
         Some(field) => links_form(alloc, &field),
@@ -25,9 +24,8 @@ pub fn links_at(alloc: Global, path: &Path, table: &Table) -> Result<Vec<Link>, 
 
 /// The links of an array.
 fn links_form(alloc: Global, field: &Field<'_>) -> Result<Vec<Link>, FileFault>
-    ensures ok { IfOk result (λ links. links_spelled field.now.path (view field.now.value.now) ≡ Ok links.items) }
+    ensures ok { IfOk result (λ links. links_spelled field.now.path (view field.now.value.now) ≡ Ok (map connection_of links.items)) }
     ensures refused { IfErr result (Refuses (links_spelled field.now.path (view field.now.value.now))) }
-    ensures undecided { IfOk result (λ links. list_all is_undecided links.items ≡ true) }
 {
     let array = field.items(alloc)?;
     each_link(alloc, &field.path, array)
@@ -35,9 +33,8 @@ fn links_form(alloc: Global, field: &Field<'_>) -> Result<Vec<Link>, FileFault>
 
 /// The links of an array's items.
 fn each_link(alloc: Global, path: &Path, array: &[Value]) -> Result<Vec<Link>, FileFault>
-    ensures ok { IfOk result (λ links. each link_spelled path.now 0 (items_view array.now) ≡ Ok links.items) }
+    ensures ok { IfOk result (λ links. each link_spelled path.now 0 (items_view array.now) ≡ Ok (map connection_of links.items)) }
     ensures refused { IfErr result (Refuses (each link_spelled path.now 0 (items_view array.now))) }
-    ensures undecided { IfOk result (λ links. list_all is_undecided links.items ≡ true) }
 {
     let mut links = Vec::new(alloc);
     for (number, value) in array.iter().enumerate() {
@@ -50,9 +47,8 @@ fn each_link(alloc: Global, path: &Path, array: &[Value]) -> Result<Vec<Link>, F
 
 /// The link of an item.
 fn link_form(alloc: Global, field: &Field<'_>) -> Result<Link, FileFault>
-    ensures ok { IfOk result (λ link. link_spelled field.now.path (view field.now.value.now) ≡ Ok link) }
+    ensures ok { IfOk result (λ link. link_spelled field.now.path (view field.now.value.now) ≡ Ok (connection_of link)) }
     ensures refused { IfErr result (Refuses (link_spelled field.now.path (view field.now.value.now))) }
-    ensures undecided { IfOk result (λ link. is_undecided link ≡ true) }
 {
     let table = field.table(alloc)?;
     link_table(alloc, &field.path, table)
@@ -60,21 +56,14 @@ fn link_form(alloc: Global, field: &Field<'_>) -> Result<Link, FileFault>
 
 /// The link of a table.
 fn link_table(alloc: Global, path: &Path, table: &Table) -> Result<Link, FileFault>
-    ensures ok { IfOk result (λ link. link_of path.now (table_view table.now) ≡ Ok link) }
+    ensures ok { IfOk result (λ link. link_of path.now (table_view table.now) ≡ Ok (connection_of link)) }
     ensures refused { IfErr result (Refuses (link_of path.now (table_view table.now))) }
-    ensures undecided { IfOk result (λ link. is_undecided link ≡ true) }
 {
     known_keys(alloc, path, table)?;
     let from = name_at(alloc, path, "from", table)?;
     let to = name_at(alloc, path, "to", table)?;
-    if has_key(table, "decider") {
-        return Err(FileFault::NotBuilt);
-    }
-    Ok(Link {
-        from,
-        to,
-        decider: None,
-    })
+    let decider = decider_of(alloc, path, table)?;
+    Ok(Link { from, to, decider })
 }
 
 /// Refuses a link's table for an unknown key; the depth of a decider is one where there is no decider.

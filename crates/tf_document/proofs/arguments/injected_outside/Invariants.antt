@@ -1,7 +1,7 @@
 use Rattle.std.proofs.Common.{◌≡◌, not, map, filter, take}
 use Rattle.indexmap.specs.IndexSet.{contains}
 use Rattle.tf_flow.specs.Names.{same_name}
-use Rattle.tf_document.specs.Tasks.{injected_argument}
+use Rattle.tf_document.specs.Signatures.{injected_argument}
 use Rattle.tf_document.proofs.arguments.injected_outside.Given as goal
 
 abbrev pub invariant-loop-bind : goal.invariant-loop-bind

@@ -1,5 +1,5 @@
 use Rattle.std.proofs.Common.{◌≡◌, map, take}
-use Rattle.tf_document.specs.Tasks.{required_argument}
+use Rattle.tf_document.specs.Signatures.{required_argument}
 use Rattle.tf_document.proofs.arguments.required_arguments.Given as goal
 
 abbrev pub invariant-loop-name : goal.invariant-loop-name

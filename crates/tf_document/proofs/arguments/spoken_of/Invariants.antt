@@ -2,7 +2,7 @@ use Rattle.std.proofs.Common.{◌≡◌, take, List, ℕ}
 use Rattle.std.specs.List.{list_any}
 use Rattle.indexmap.specs.IndexSet.{contains}
 use Rattle.tf_flow.specs.Names.{same_name}
-use Rattle.tf_document.specs.Tasks.{speaks_of}
+use Rattle.tf_document.specs.Signatures.{speaks_of}
 use Rattle.tf_document.proofs.arguments.spoken_of.Given as goal
 
 abbrev pub invariant-loop-arg : goal.invariant-loop-arg

@@ -2,7 +2,7 @@ use Rattle.std.proofs.Common.{◌≡◌, drop, List, ℕ}
 use Rattle.std.specs.Prelude.{unwrap_or}
 use Rattle.indexmap.specs.IndexMap.{get}
 use Rattle.tf_flow.specs.Names.{same_name}
-use Rattle.tf_document.specs.Tasks.{symbol_for}
+use Rattle.tf_document.specs.Signatures.{symbol_for}
 use Rattle.tf_document.proofs.arguments.symbols_of.Given as goal
 
 abbrev pub invariant-loop-i : goal.invariant-loop-i

@@ -1,6 +1,6 @@
 use Rattle.std.proofs.Common.{◌≡◌, ◌∙◌, ◌∷◌, ap, sym}
 use Rattle.toml.specs.View.{view, members_view}
-use Rattle.tf_document.specs.Tasks.{rebound_form, rebounds_of}
+use Rattle.tf_document.specs.Signatures.{rebound_form, rebounds_of}
 use Rattle.tf_document.proofs.ReadingLemmas.{after, after_one}
 use Rattle.tf_document.proofs.rebinds.rebounds_of.Goals as goal
 

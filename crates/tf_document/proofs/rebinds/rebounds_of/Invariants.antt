@@ -1,6 +1,6 @@
 use Rattle.std.proofs.Common.{◌≡◌}
 use Rattle.toml.specs.View.{members_view}
-use Rattle.tf_document.specs.Tasks.{rebounds_of}
+use Rattle.tf_document.specs.Signatures.{rebounds_of}
 use Rattle.tf_document.proofs.ReadingLemmas.{after}
 use Rattle.tf_document.proofs.rebinds.rebounds_of.Given as goal
 

@@ -5,19 +5,16 @@ use Rattle.tf_document.specs.Reading.{each, array_of}
 use Rattle.tf_document.specs.Paths.{below}
 use Rattle.tf_document.specs.declared.fields.Field.{Field}
 use Rattle.toml.specs.Data.{get_member}
-use Rattle.tf_flow.specs.Tree.{item_tree}
-use Rattle.tf_files.proofs.BuiltLemmas.{built_more}
 use Rattle.tf_files.specs.FlowFile.{item_form}
+use Rattle.tf_files.specs.Written.{item_as_written}
 use Rattle.toml.specs.View.{view, items_view, table_view}
 use Rattle.tf_files.proofs.flows.+flows.Goals as goal
 
 pub each_item-loop-number-preserved : goal.each_item-loop-number-preserved
-each_item-loop-number-preserved t c = rw c.in_ok-add.ensures (record {
-  made = rw (map-append item_tree c.loop-number.items.items (c.in_ok-item.item ∷ [])) (each_turn (item_form c.args.left) c.args.path.now c.loop-number.number c.args.array.now c.index-array-number.result c.in_ok-field.field.path c.in_ok-field.field.value.now
-      (map item_tree c.loop-number.items.items) (item_tree c.in_ok-item.item) (each (item_form c.args.left) c.args.path.now 0 (items_view c.args.array.now))
-      c.loop-number-test.true c.index-array-number.is c.in_ok-field.ensures.place c.in_ok-field.ensures.value c.in_ok-item.ensures.ok c.loop-number.invariant.made);
-  built = built_more c.loop-number.items.items c.in_ok-item.item c.loop-number.invariant.built c.in_ok-item.ensures.built;
-})
+each_item-loop-number-preserved t c = rw c.in_ok-add.ensures
+    (rw (map-append item_as_written c.loop-number.items.items (c.in_ok-item.item ∷ [])) (each_turn (item_form c.args.left) c.args.path.now c.loop-number.number c.args.array.now c.index-array-number.result c.in_ok-field.field.path c.in_ok-field.field.value.now
+    (map item_as_written c.loop-number.items.items) (item_as_written c.in_ok-item.item) (each (item_form c.args.left) c.args.path.now 0 (items_view c.args.array.now))
+    c.loop-number-test.true c.index-array-number.is c.in_ok-field.ensures.place c.in_ok-field.ensures.value c.in_ok-item.ensures.ok c.loop-number.invariant))
 
 pub items_at-returns-in-Some-clause-refused : goal.items_at-returns-in-Some-clause-refused
 items_at-returns-in-Some-clause-refused t c =

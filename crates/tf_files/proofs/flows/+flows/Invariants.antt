@@ -1,8 +1,8 @@
-use Rattle.std.proofs.Common.{◌≡◌, ◌+◌, ◌*◌, true, map}
+use Rattle.std.proofs.Common.{◌≡◌, ◌+◌, ◌*◌, map}
 use Rattle.tf_document.specs.Reading.{each}
-use Rattle.tf_flow.specs.Tree.{item_tree, trees_of}
 use Rattle.tf_document.proofs.ReadingLemmas.{after, each_from}
-use Rattle.tf_files.specs.FlowFile.{item_form, are_built}
+use Rattle.tf_files.specs.FlowFile.{item_form}
+use Rattle.tf_files.specs.Written.{item_as_written}
 use Rattle.toml.specs.View.{items_view}
 use Rattle.tf_files.proofs.flows.+flows.Given as goal
 
@@ -34,7 +34,4 @@ decreases-flow_table l = 8 * l.left + 8
 
 -- the items made, followed by those of what is left, are those of all
 abbrev pub invariant-each_item-loop-number : goal.invariant-each_item-loop-number
-invariant-each_item-loop-number l = record {
-  made : after (map item_tree l.items.items) (each_from (item_form l.left) l.path l.number l.array) ≡ each (item_form l.left) l.path 0 (items_view l.array);
-  built : are_built (trees_of (map item_tree l.items.items)) ≡ true;
-}
+invariant-each_item-loop-number l = after (map item_as_written l.items.items) (each_from (item_form l.left) l.path l.number l.array) ≡ each (item_form l.left) l.path 0 (items_view l.array)

@@ -1,14 +1,14 @@
+use Rattle.std.proofs.Common.{map, [], ◌∷◌}
+use Rattle.std.proofs.lemmas.List.{map-append}
+use Rattle.tf_flow.specs.Conditions.{connection_of}
 use Rattle.tf_document.proofs.ReadingLemmas.{each_turn}
 use Rattle.tf_document.specs.Reading.{each}
-use Rattle.tf_files.proofs.BuiltLemmas.{undecided_more}
 use Rattle.tf_files.specs.FlowFile.{link_form}
 use Rattle.toml.specs.View.{items_view}
 use Rattle.tf_files.proofs.links.each_link.Goals as goal
 
 pub loop-number-preserved : goal.loop-number-preserved
-loop-number-preserved c = rw c.in_ok-add.ensures (record {
-  made = each_turn link_form c.args.path.now c.loop-number.number c.args.array.now c.index-array-number.result c.in_ok-field.field.path c.in_ok-field.field.value.now
-      c.loop-number.links.items c.in_ok-link.link (each link_form c.args.path.now 0 (items_view c.args.array.now))
-      c.loop-number-test.true c.index-array-number.is c.in_ok-field.ensures.place c.in_ok-field.ensures.value c.in_ok-link.ensures.ok c.loop-number.invariant.made;
-  undecided = undecided_more c.loop-number.links.items c.in_ok-link.link c.loop-number.invariant.undecided c.in_ok-link.ensures.undecided;
-})
+loop-number-preserved c = rw c.in_ok-add.ensures
+    (rw (map-append connection_of c.loop-number.links.items (c.in_ok-link.link ∷ [])) (each_turn link_form c.args.path.now c.loop-number.number c.args.array.now c.index-array-number.result c.in_ok-field.field.path c.in_ok-field.field.value.now
+    (map connection_of c.loop-number.links.items) (connection_of c.in_ok-link.link) (each link_form c.args.path.now 0 (items_view c.args.array.now))
+    c.loop-number-test.true c.index-array-number.is c.in_ok-field.ensures.place c.in_ok-field.ensures.value c.in_ok-link.ensures.ok c.loop-number.invariant))

@@ -1,9 +1,9 @@
 use Rattle.std.proofs.Common.{codes}
 use Rattle.toml.specs.View.{view, table_view}
 use Rattle.tf_flow.specs.declared.atoms.Provides.TheVariants as provided
-use Rattle.tf_document.specs.Tasks.{provides_form}
+use Rattle.tf_document.specs.Signatures.{provides_form}
 use Rattle.tf_document.proofs.ReadingLemmas.{optional_refuses}
-use Rattle.tf_document.proofs.tasks.provides_at.Goals as goal
+use Rattle.tf_document.proofs.signatures.provides_at.Goals as goal
 
 pub returns-in-Some-clause-refused : goal.returns-in-Some-clause-refused
 returns-in-Some-clause-refused c =

@@ -2,7 +2,7 @@ use Rattle.std.proofs.Common.{[], codes}
 use Rattle.toml.specs.View.{view, table_view}
 use Rattle.tf_document.specs.Values.{names_form}
 use Rattle.tf_document.proofs.ReadingLemmas.{optional_refuses}
-use Rattle.tf_document.proofs.tasks.requires_at.Goals as goal
+use Rattle.tf_document.proofs.signatures.requires_at.Goals as goal
 
 pub returns-in-Some-clause-refused : goal.returns-in-Some-clause-refused
 returns-in-Some-clause-refused c =
