@@ -1,0 +1,5 @@
+pub mod Quotes
+pub mod Spelled
+pub mod Sorting
+pub mod Pairs
+pub mod Words
