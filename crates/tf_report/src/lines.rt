@@ -1,0 +1,66 @@
+ghost use Rattle.std.specs.Prelude.{◌≡◌, ◌++◌, OnOk, OnErr};
+ghost use Rattle.tf_values.specs.Growth.{KeepsFront};
+ghost use Rattle.tf_model.specs.Plan.{outline_of};
+ghost use Rattle.tf_report.specs.Lines.{what_text, line as line_of};
+
+use crate::appending::{append, append_named, append_number, append_pair};
+use crate::failures::append_payload;
+use crate::names::{atom_name, flow_name, part_word};
+use crate::state_words::{atom_word, flow_word, kind_word};
+use tf_flow::Plan;
+use tf_states::{Entry, What};
+use tf_values::Memory;
+
+/// Appends the line of the entry of that number, counted from 1 in its history. An atom or a flow that
+/// the plan doesn't have is shown without a name. Want of memory leaves the output as it was.
+pub fn line(plan: &Plan, number: u64, entry: &Entry, out: &mut Vec<u8>) -> Result<(), Memory>
+    ensures ok { OnOk result (out.new.items ≡ out.old.items ++ line_of (outline_of plan.now) number entry.now) }
+    ensures err { OnErr result (out.new.items ≡ out.old.items) }
+{
+    let before = out.len();
+    match append_line(plan, number, entry, out) {
+        Ok(()) => Ok(()),
+        Err(fault) => {
+            out.truncate(before);
+            Err(fault)
+        }
+    }
+}
+
+#[tactic(auto, using(tf_values::proofs::GrowthLemmas::keeps_shorter), unfolding(crate::specs::Lines::line))]
+fn append_line(plan: &Plan, number: u64, entry: &Entry, out: &mut Vec<u8>) -> Result<(), Memory>
+    ensures ok { OnOk result (out.new.items ≡ out.old.items ++ line_of (outline_of plan.now) number entry.now) }
+    ensures err { OnErr result (KeepsFront out.old.items out.new.items) }
+{
+    append_number(number, out)?;
+    append(b" ", out)?;
+    append_number(entry.hand, out)?;
+    append(b" ", out)?;
+    append_what(plan, &entry.what, out)?;
+    append(b"\n", out)
+}
+
+#[tactic(auto, using(tf_values::proofs::GrowthLemmas::keeps_shorter))]
+fn append_what(plan: &Plan, what: &What, out: &mut Vec<u8>) -> Result<(), Memory>
+    ensures ok { OnOk result (out.new.items ≡ out.old.items ++ what_text (outline_of plan.now) what.now) }
+    ensures err { OnErr result (KeepsFront out.old.items out.new.items) }
+{
+    match what {
+        What::Atom {
+            atom,
+            state,
+            payload,
+        } => {
+            append(part_word(plan, *atom).as_bytes(), out)?;
+            append(atom_name(plan, *atom), out)?;
+            append(b" ", out)?;
+            append(atom_word(*state).as_bytes(), out)?;
+            append_payload(payload, out)
+        }
+        What::Flow(state) => append_named(b"flow ", flow_name(plan, 0), flow_word(*state), out),
+        What::Resolve { flow, kind } => {
+            append_named(b"resolve ", flow_name(plan, *flow), kind_word(*kind), out)
+        }
+        What::Restart(atom) => append_pair(b"restart ", atom_name(plan, *atom), out),
+    }
+}
