@@ -1,6 +1,8 @@
 -- What the one hand of a run records may follow, and leaves nothing in flight.
 use Rattle.std.proofs.Common.{◌≡◌, ◌≢◌, ℕ, ◌<◌, List, [], Bool, true, false, ◌&&◌, ◌||◌, not, Option, Some, None, refl, sym, ap, ◌∙◌, subst, arith, eqb-true, eq-eqb}
-use Rattle.std.specs.Prelude.{Result, Ok, Err, OnOk, nat_eq, is_none, is_some, if◌then◌else◌, option_map}
+use Rattle.std.specs.Prelude.{Result, Ok, Err, OnOk, nat_eq, is_none, is_some, if◌then◌else◌, option_map, slice_get, ◌∷◌}
+use Rattle.std.specs.Option.{option_or}
+use Rattle.tf_values.specs.declared.value.Val.{Val}
 use Rattle.tf_flow.specs.Plan.{PlanValue}
 use Rattle.tf_values.specs.declared.value.Val.TheVariants as value
 use Rattle.tf_states.specs.declared.record.Entry.{Entry}
@@ -17,25 +19,31 @@ use Rattle.tf_ports.specs.declared.outcomes.Action.TheVariants as action
 use Rattle.tf_ports.specs.declared.outcomes.Outcome.{Outcome}
 use Rattle.tf_ports.specs.declared.outcomes.Outcome.TheVariants as outcome
 use Rattle.tf_model.specs.Candidates.{choice, end_of, calm_end, candidate_if_running, is_done_at, is_at_rest, is_candidate, taken_up}
-use Rattle.tf_model.specs.Forced.{forced, forced_if_running, is_unhurt}
+use Rattle.tf_model.specs.Forced.{forced, forced_if_running, is_unhurt, is_active, first_entry, forced_attempt, is_attempting, attempt_entry, forced_again, is_beginning_again, again_entry, is_to_put_back, put_back_or_run, forced_reverted, is_undone_retry, reverted_entry, forced_resolution, is_unresolved, resolution_entry, forced_retrying, is_to_begin_again, retrying_entry, forced_revert, is_retry_to_revert, reverting_entry, forced_ignore, is_refused, is_to_ignore, ignore_or_self, ignore_by, ignore_entry, forced_run, is_retry_to_run, running_entry}
+use Rattle.tf_model.specs.Retries.{attempt, ends_with}
+use Rattle.tf_model.specs.Deciders.{refused}
+use Rattle.tf_model.specs.Scope.{given_for}
+use Rattle.tf_model.specs.Orders.{task_part, task_in, task_at, order_with, order_of, takes_up, before_start, order_at, Allows, IsUnasked, IsGiven}
+use Rattle.tf_numbers.proofs.BelowLemmas.{all_of, all_at, found_passes}
+use Rattle.tf_flow.specs.declared.atoms.Task.{Task}
+use Rattle.tf_flow.specs.declared.deciders.Depth.{Depth}
+use Rattle.tf_flow.specs.Outline.{Atom, Part, a_task, a_retry, is_task_part, is_retry_part}
+use Rattle.tf_ports.specs.declared.orders.Order.{Order}
+use Rattle.tf_ports.specs.Laws.{RevertsToNothing}
 use Rattle.tf_model.specs.History.{snapshot, flow_of}
-use Rattle.tf_numbers.specs.Numbers.{all_below, is_number}
-use Rattle.tf_model.specs.Plan.{Outline, outline_of, count, is_task}
+use Rattle.tf_numbers.specs.Numbers.{all_below, first_below, is_number}
+use Rattle.tf_model.specs.Plan.{Outline, outline_of, count, is_task, is_task_in, is_retry, is_retry_in}
 use Rattle.tf_model.specs.Sessions.{is_last}
-use Rattle.tf_model.specs.States.{flow_runs, flow_suspends}
-use Rattle.tf_model.specs.Snapshot.{Snapshot, later, is_at_work, hand_after}
+use Rattle.tf_model.specs.States.{flow_runs, flow_suspends, is_success}
+use Rattle.tf_model.specs.Snapshot.{Snapshot, later, is_at_work, hand_after, flow_after}
 use Rattle.tf_model.specs.Steps.{Step, by_force, by_choice, by_end_of_task, by_turn, by_end, is_still, is_idle, is_free, is_not_with, ends_task}
-use Rattle.tf_numbers.proofs.BelowLemmas.{all_of, all_at}
 use Rattle.tf_bound.specs.Owed.{left}
 use Rattle.tf_machine.specs.Answers.{start_entry, action_in, ended_from, begun as begun_by}
 use Rattle.tf_machine.specs.Machine.{MachineValue, outline, shown, StandsFor, HasHistory}
-use Rattle.tf_machine.specs.Plain.{is_plain}
 use Rattle.tf_machine.specs.declared.candidates.Start.{Start}
-use Rattle.tf_machine.proofs.ForcedLemmas.{whole, forced_is}
-use Rattle.tf_machine.proofs.MoveLemmas.{taken_of}
-use Rattle.taskflow.specs.BuiltIns.{IsGiven}
-use Rattle.taskflow.specs.Going.{by_hand, is_within, IsOutcome, Rests}
-use Rattle.tf_numbers.proofs.TruthLemmas.{and_false}
+use Rattle.taskflow.proofs.TakenLemmas.{taken_of}
+use Rattle.taskflow.specs.Going.{by_hand, is_within, Rests}
+use Rattle.tf_numbers.proofs.TruthLemmas.{and_false, and_first}
 
 -- ---- the hand is free where nothing is in flight
 
@@ -75,27 +83,230 @@ begin_rests m n plan empty moved =
 pub forced_step : (plan : Outline) (s : Snapshot) (w : What) → forced plan s ≡ Some w → Step plan s (by_hand w)
 forced_step plan s w is = record { hand = refl; rule = by_force is }
 
-pub forced_within : (plan : Outline) (s : Snapshot) (w : What) → is_plain plan ≡ true → forced plan s ≡ Some w → is_within w ≡ true
-forced_within plan s w plain is = ap is_within (sym (forced_is plan s w plain is))
+-- ---- what is forced leaves tasks alone
 
-pub forced_given : (plan : Outline) (s : Snapshot) (past : List Entry) (w : What) → is_plain plan ≡ true → forced plan s ≡ Some w → IsGiven plan past w
-forced_given plan s past w plain is = subst (IsGiven plan past) (forced_is plan s w plain is) tt
+-- the entry isn't of the flow, takes no task up and ends none
+abbrev pub leaves_tasks : Outline → What → Bool
+leaves_tasks plan (what.Flow state) = false
+leaves_tasks plan (what.Resolve named resolved) = true
+leaves_tasks plan (what.Restart again) = false
+leaves_tasks plan (what.Atom a atom.Pending held) = true
+leaves_tasks plan (what.Atom a atom.Ignore held) = true
+leaves_tasks plan (what.Atom a state held) = not (is_task plan a)
 
-whole_still : (plan : Outline) (s : Snapshot) → is_still plan s ≡ true → is_still plan (later plan (by_hand whole) s) ≡ true
+no_task : (o : Option Atom) → is_retry_in o ≡ true → is_task_in o ≡ false
+no_task None is = absurd (cc)
+no_task (Some atom) is = no_task_part atom.part is
+  where
+    no_task_part : (p : Part) → is_retry_part p ≡ true → is_task_part p ≡ false
+    no_task_part (a_task t) is = absurd (cc)
+    no_task_part (a_retry r) is = refl
+
+retry_alone : (plan : Outline) (r : ℕ) (state : AtomState) (held : Payload) → is_retry plan r ≡ true → leaves_tasks plan (what.Atom r state held) ≡ true
+retry_alone plan r atom.Pending held is = refl
+retry_alone plan r atom.Ignore held is = refl
+retry_alone plan r atom.Running held is = ap not (no_task (slice_get plan.atoms r) is)
+retry_alone plan r atom.Success held is = ap not (no_task (slice_get plan.atoms r) is)
+retry_alone plan r atom.Failure held is = ap not (no_task (slice_get plan.atoms r) is)
+retry_alone plan r atom.Reverting held is = ap not (no_task (slice_get plan.atoms r) is)
+retry_alone plan r atom.Reverted held is = ap not (no_task (slice_get plan.atoms r) is)
+retry_alone plan r atom.RevertFailure held is = ap not (no_task (slice_get plan.atoms r) is)
+retry_alone plan r atom.Retrying held is = ap not (no_task (slice_get plan.atoms r) is)
+
+-- a first entry leaves tasks alone where each of those that it may be does
+first_alone : (plan : Outline) (test : ℕ → Bool) (entry : ℕ → What) (w : What) → ((a : ℕ) → test a ≡ true → leaves_tasks plan (entry a) ≡ true) → first_entry plan test entry ≡ Some w
+    → leaves_tasks plan w ≡ true
+first_alone plan test entry w each is = by (first_below (count plan) test) refl is
+  where
+    by : (o : Option ℕ) → first_below (count plan) test ≡ o → option_map entry o ≡ Some w → leaves_tasks plan w ≡ true
+    by None none is = absurd (cc)
+    by (Some a) at is = let same : entry a ≡ w = cc in ap (leaves_tasks plan) (sym same) ∙ each a (found_passes (count plan) test a at)
+
+ends_alone : (plan : Outline) (r : ℕ) (p : Payload) → is_retry plan r ≡ true → leaves_tasks plan (ends_with r p) ≡ true
+ends_alone plan r (payload.Value v) is = retry_alone plan r atom.Success (payload.Value v) is
+ends_alone plan r (payload.Fault f) is = retry_alone plan r atom.Failure (payload.Fault f) is
+ends_alone plan r payload.Empty is = retry_alone plan r atom.Success payload.Empty is
+
+put_back_alone : (plan : Outline) (r : ℕ) (o : Option ℕ) → is_retry plan r ≡ true → leaves_tasks plan (put_back_or_run r o) ≡ true
+put_back_alone plan r None is = retry_alone plan r atom.Running payload.Empty is
+put_back_alone plan r (Some a) is = refl
+
+ignored_alone : (plan : Outline) (v : ℕ) (o : Option ℕ) → leaves_tasks plan (ignore_or_self v o) ≡ true
+ignored_alone plan v None = refl
+ignored_alone plan v (Some a) = refl
+
+ignore_alone : (plan : Outline) (s : Snapshot) (v : ℕ) (o : Option Depth) → leaves_tasks plan (ignore_by plan s v o) ≡ true
+ignore_alone plan s v None = refl
+ignore_alone plan s v (Some how) = ignored_alone plan v (first_below (count plan) (is_to_ignore plan s v how))
+
+either_alone : (plan : Outline) (o p : Option What) (w : What) → (o ≡ Some w → leaves_tasks plan w ≡ true) → (p ≡ Some w → leaves_tasks plan w ≡ true) → option_or o p ≡ Some w → leaves_tasks plan w ≡ true
+either_alone plan None p w first second is = second is
+either_alone plan (Some v) p w first second is = first is
+
+case_attempt : (plan : Outline) (s : Snapshot) (w : What) → forced_attempt plan s ≡ Some w → leaves_tasks plan w ≡ true
+unfolding forced_attempt
+case_attempt plan s w is = first_alone plan (is_attempting plan s) (attempt_entry plan s) w (λ r at. ends_alone plan r (attempt plan s r) (and_first (is_retry plan r) _ at)) is
+
+case_again : (plan : Outline) (s : Snapshot) (w : What) → forced_again plan s ≡ Some w → leaves_tasks plan w ≡ true
+unfolding forced_again
+case_again plan s w is =
+    first_alone plan (is_beginning_again plan s) (again_entry plan s) w (λ r at. put_back_alone plan r (first_below (count plan) (is_to_put_back plan s r)) (and_first (is_retry plan r) _ at)) is
+
+case_reverted : (plan : Outline) (s : Snapshot) (w : What) → forced_reverted plan s ≡ Some w → leaves_tasks plan w ≡ true
+unfolding forced_reverted
+case_reverted plan s w is = first_alone plan (is_undone_retry plan s) reverted_entry w (λ r at. retry_alone plan r atom.Reverted payload.Empty (and_first (is_retry plan r) _ at)) is
+
+case_resolution : (plan : Outline) (s : Snapshot) (w : What) → forced_resolution plan s ≡ Some w → leaves_tasks plan w ≡ true
+unfolding forced_resolution
+case_resolution plan s w is = first_alone plan (is_unresolved s) (resolution_entry plan s) w (λ a at. refl) is
+
+case_retrying : (plan : Outline) (s : Snapshot) (w : What) → forced_retrying plan s ≡ Some w → leaves_tasks plan w ≡ true
+unfolding forced_retrying
+case_retrying plan s w is =
+    first_alone plan (is_to_begin_again plan s) retrying_entry w (λ r at. retry_alone plan r atom.Retrying payload.Empty (and_first (is_retry plan r) _ (and_first (is_retry plan r && is_success (s.state r)) _ at))) is
+
+case_revert : (plan : Outline) (s : Snapshot) (w : What) → forced_revert plan s ≡ Some w → leaves_tasks plan w ≡ true
+unfolding forced_revert
+case_revert plan s w is = first_alone plan (is_retry_to_revert plan s) reverting_entry w (λ r at. retry_alone plan r atom.Reverting payload.Empty (and_first (is_retry plan r) _ at)) is
+
+case_ignore : (plan : Outline) (s : Snapshot) (w : What) → forced_ignore plan s ≡ Some w → leaves_tasks plan w ≡ true
+unfolding forced_ignore
+case_ignore plan s w is = first_alone plan (is_refused plan s) (ignore_entry plan s) w (λ v at. ignore_alone plan s v (refused plan s v)) is
+
+case_run : (plan : Outline) (s : Snapshot) (w : What) → forced_run plan s ≡ Some w → leaves_tasks plan w ≡ true
+unfolding forced_run
+case_run plan s w is = first_alone plan (is_retry_to_run plan s) running_entry w (λ r at. retry_alone plan r atom.Running payload.Empty (and_first (is_retry plan r) _ at)) is
+
+running_alone : (plan : Outline) (s : Snapshot) (w : What) → forced_if_running plan s ≡ Some w → leaves_tasks plan w ≡ true
+unfolding forced_if_running
+running_alone plan s w is =
+    either_alone plan (forced_attempt plan s) _ w (case_attempt plan s w)
+    (either_alone plan (forced_again plan s) _ w (case_again plan s w)
+    (either_alone plan (forced_reverted plan s) _ w (case_reverted plan s w)
+    (either_alone plan (forced_resolution plan s) _ w (case_resolution plan s w)
+    (either_alone plan (forced_retrying plan s) _ w (case_retrying plan s w)
+    (either_alone plan (forced_revert plan s) _ w (case_revert plan s w)
+    (either_alone plan (forced_ignore plan s) (forced_run plan s) w (case_ignore plan s w) (case_run plan s w))))))) is
+
+forced_alone : (plan : Outline) (s : Snapshot) (w : What) → forced plan s ≡ Some w → leaves_tasks plan w ≡ true
+unfolding forced
+forced_alone plan s w is = by (is_active plan s) is
+  where
+    by : (b : Bool) → (if b then forced_if_running plan s else None) ≡ Some w → leaves_tasks plan w ≡ true
+    by true is = running_alone plan s w is
+    by false is = absurd (cc)
+
+alone_within : (plan : Outline) (w : What) → leaves_tasks plan w ≡ true → is_within w ≡ true
+alone_within plan (what.Flow state) is = absurd (cc)
+alone_within plan (what.Atom a state held) is = refl
+alone_within plan (what.Resolve named resolved) is = refl
+alone_within plan (what.Restart again) is = refl
+
+pub forced_within : (plan : Outline) (s : Snapshot) (w : What) → forced plan s ≡ Some w → is_within w ≡ true
+forced_within plan s w is = alone_within plan w (forced_alone plan s w is)
+
+-- nobody is asked for an atom that is no task
+not_true : (b : Bool) → not b ≡ true → b ≡ false
+not_true false is = refl
+not_true true is = absurd (cc)
+
+no_task_at : (o : Option Atom) → is_task_in o ≡ false → task_in o ≡ None
+no_task_at None is = refl
+no_task_at (Some atom) is = by atom.part is
+  where
+    by : (p : Part) → is_task_part p ≡ false → task_part p ≡ None
+    by (a_task t) is = absurd (cc)
+    by (a_retry r) is = refl
+
+unasked : (plan : Outline) (s : Snapshot) (a : ℕ) (how : Action) → not (is_task plan a) ≡ true → order_of plan s a how ≡ None
+unfolding order_of
+unasked plan s a how is = ap (option_map (order_with a how (given_for plan s a how))) (no_task_at (slice_get plan.atoms a) (not_true (is_task plan a) is))
+
+allowed_unasked : (gives : Order → Outcome → Type 0) (o : Option Order) (came : Outcome) → o ≡ None → Allows gives o came
+allowed_unasked gives None came is = tt
+allowed_unasked gives (Some order) came is = absurd (cc)
+
+none_unasked : (o : Option Order) → o ≡ None → IsUnasked o
+none_unasked None is = tt
+none_unasked (Some order) is = absurd (cc)
+
+alone_given : (gives : Order → Outcome → Type 0) (plan : Outline) (past : List Entry) (w : What) → leaves_tasks plan w ≡ true → IsGiven gives plan past w
+alone_given gives plan past (what.Flow state) is = tt
+alone_given gives plan past (what.Resolve named resolved) is = tt
+alone_given gives plan past (what.Restart again) is = tt
+alone_given gives plan past (what.Atom a atom.Pending held) is = tt
+alone_given gives plan past (what.Atom a atom.Ignore held) is = tt
+alone_given gives plan past (what.Atom a atom.Running held) is = tt
+alone_given gives plan past (what.Atom a atom.Reverting held) is = tt
+alone_given gives plan past (what.Atom a atom.Retrying held) is = tt
+alone_given gives plan past (what.Atom a atom.Reverted held) is = allowed_unasked gives _ _ (unasked plan _ a action.Revert is)
+alone_given gives plan past (what.Atom a atom.Success (payload.Value v)) is = allowed_unasked gives _ _ (unasked plan _ a action.Execute is)
+alone_given gives plan past (what.Atom a atom.Success (payload.Fault f)) is = none_unasked _ (unasked plan _ a action.Execute is)
+alone_given gives plan past (what.Atom a atom.Success payload.Empty) is = none_unasked _ (unasked plan _ a action.Execute is)
+alone_given gives plan past (what.Atom a atom.Failure (payload.Fault f)) is = allowed_unasked gives _ _ (unasked plan _ a action.Execute is)
+alone_given gives plan past (what.Atom a atom.Failure (payload.Value v)) is = none_unasked _ (unasked plan _ a action.Execute is)
+alone_given gives plan past (what.Atom a atom.Failure payload.Empty) is = none_unasked _ (unasked plan _ a action.Execute is)
+alone_given gives plan past (what.Atom a atom.RevertFailure (payload.Fault f)) is = allowed_unasked gives _ _ (unasked plan _ a action.Revert is)
+alone_given gives plan past (what.Atom a atom.RevertFailure (payload.Value v)) is = none_unasked _ (unasked plan _ a action.Revert is)
+alone_given gives plan past (what.Atom a atom.RevertFailure payload.Empty) is = none_unasked _ (unasked plan _ a action.Revert is)
+
+pub forced_given : (gives : Order → Outcome → Type 0) (plan : Outline) (s : Snapshot) (past : List Entry) (w : What) → forced plan s ≡ Some w → IsGiven gives plan past w
+forced_given gives plan s past w is = alone_given gives plan past w (forced_alone plan s w is)
+
+idle_none : (task : Bool) (o : Option ℕ) → is_none (if task && false then o else None) ≡ true
+idle_none true o = refl
+idle_none false o = refl
+
+none_either : (b : Bool) (o p : Option ℕ) → is_none o ≡ true → is_none p ≡ true → is_none (if b then o else p) ≡ true
+none_either true o p first second = first
+none_either false o p first second = second
+
+none_there : (plan : Outline) (a k : ℕ) (o before : Option ℕ) (busy : Bool) → not (is_task plan a) ≡ true → is_none before ≡ true
+    → is_none (if nat_eq a k then (if is_task plan k && busy then o else None) else before) ≡ true
+none_there plan a k o before busy off none = by (nat_eq a k) refl
+  where
+    by : (b : Bool) → nat_eq a k ≡ b → is_none (if b then (if is_task plan k && busy then o else None) else before) ≡ true
+    by true is = let idle : is_task plan k ≡ false = ap (is_task plan) (sym (eqb-true a k is)) ∙ not_true (is_task plan a) off in rw idle refl
+    by false is = none
+
+-- what leaves tasks alone leaves nothing in flight, and the flow as it is
+alone_none : (plan : Outline) (w : What) (k : ℕ) (before : Option ℕ) → leaves_tasks plan w ≡ true → is_none before ≡ true → is_none (hand_after plan 0 w k before) ≡ true
+alone_none plan (what.Flow state) k before is none = absurd (cc)
+alone_none plan (what.Resolve named resolved) k before is none = none
+alone_none plan (what.Restart again) k before is none = absurd (cc)
+alone_none plan (what.Atom a atom.Pending held) k before is none = none_either (nat_eq a k) _ before (idle_none (is_task plan k) (Some 0)) none
+alone_none plan (what.Atom a atom.Ignore held) k before is none = none_either (nat_eq a k) _ before (idle_none (is_task plan k) (Some 0)) none
+alone_none plan (what.Atom a atom.Success held) k before is none = none_either (nat_eq a k) _ before (idle_none (is_task plan k) (Some 0)) none
+alone_none plan (what.Atom a atom.Failure held) k before is none = none_either (nat_eq a k) _ before (idle_none (is_task plan k) (Some 0)) none
+alone_none plan (what.Atom a atom.Reverted held) k before is none = none_either (nat_eq a k) _ before (idle_none (is_task plan k) (Some 0)) none
+alone_none plan (what.Atom a atom.RevertFailure held) k before is none = none_either (nat_eq a k) _ before (idle_none (is_task plan k) (Some 0)) none
+alone_none plan (what.Atom a atom.Retrying held) k before is none = none_either (nat_eq a k) _ before (idle_none (is_task plan k) (Some 0)) none
+alone_none plan (what.Atom a atom.Running held) k before is none = none_there plan a k (Some 0) before true is none
+alone_none plan (what.Atom a atom.Reverting held) k before is none = none_there plan a k (Some 0) before true is none
+
+alone_still : (plan : Outline) (s : Snapshot) (w : What) → leaves_tasks plan w ≡ true → is_still plan s ≡ true → is_still plan (later plan (by_hand w) s) ≡ true
 unfolding later is_still
-whole_still plan s still = still
+alone_still plan s w is still =
+    all_of (count plan) (is_idle (later plan (by_hand w) s)) (λ k below. alone_none plan w k (s.hand k) is (all_at (count plan) (is_idle s) k still below))
 
-whole_runs : (plan : Outline) (s : Snapshot) → (later plan (by_hand whole) s).flow ≡ s.flow
+alone_flow : (plan : Outline) (w : What) (before : FlowState) → leaves_tasks plan w ≡ true → flow_after w before ≡ before
+alone_flow plan (what.Flow state) before is = absurd (cc)
+alone_flow plan (what.Atom a state held) before is = refl
+alone_flow plan (what.Resolve named resolved) before is = refl
+alone_flow plan (what.Restart again) before is = refl
+
+alone_runs : (plan : Outline) (s : Snapshot) (w : What) → leaves_tasks plan w ≡ true → (later plan (by_hand w) s).flow ≡ s.flow
 unfolding later
-whole_runs plan s = refl
+alone_runs plan s w is = alone_flow plan w s.flow is
 
 same_outline : (m n : MachineValue) (s : Snapshot) → n.plan ≡ m.plan → is_still (outline m) s ≡ true → is_still (outline n) s ≡ true
 same_outline m n s plan is = subst (λ (p : PlanValue). is_still (outline_of p) s ≡ true) (sym plan) is
 
-pub forced_rests : (m n : MachineValue) (w : What) → n.plan ≡ m.plan → is_plain (outline m) ≡ true → forced (outline m) (shown m) ≡ Some w → Rests m → shown n ≡ later (outline m) (by_hand w) (shown m) → Rests n
-forced_rests m n w plan plain is rests moved =
-    let moves : shown n ≡ later (outline m) (by_hand whole) (shown m) = moved ∙ ap (λ (v : What). later (outline m) (by_hand v) (shown m)) (sym (forced_is (outline m) (shown m) w plain is)) in
-    rests_by n (later (outline m) (by_hand whole) (shown m)) moves (whole_runs (outline m) (shown m) ∙ rests.runs) (same_outline m n (later (outline m) (by_hand whole) (shown m)) plan (whole_still (outline m) (shown m) rests.still))
+pub forced_rests : (m n : MachineValue) (w : What) → n.plan ≡ m.plan → forced (outline m) (shown m) ≡ Some w → Rests m → shown n ≡ later (outline m) (by_hand w) (shown m) → Rests n
+forced_rests m n w plan is rests moved =
+    let alone : leaves_tasks (outline m) w ≡ true = forced_alone (outline m) (shown m) w is in
+    rests_by n (later (outline m) (by_hand w) (shown m)) moved (alone_runs (outline m) (shown m) w alone ∙ rests.runs)
+    (same_outline m n (later (outline m) (by_hand w) (shown m)) plan (alone_still (outline m) (shown m) w alone rests.still))
 
 -- ---- a task is taken up
 
@@ -234,13 +445,21 @@ start_within start = by start.restart
     by true = refl
     by false = refl
 
-pub start_given : (plan : Outline) (past : List Entry) (start : Start) → IsGiven plan past (start_entry start)
-start_given plan past start = by start.restart start.action
+pub start_given : (gives : Order → Outcome → Type 0) (plan : Outline) (past : List Entry) (start : Start) → IsGiven gives plan past (start_entry start)
+start_given gives plan past start = by start.restart start.action
   where
-    by : (b : Bool) (how : Action) → IsGiven plan past (if b then what.Restart start.atom else what.Atom start.atom (begun_by how) payload.Empty)
+    by : (b : Bool) (how : Action) → IsGiven gives plan past (if b then what.Restart start.atom else what.Atom start.atom (begun_by how) payload.Empty)
     by true how = tt
     by false action.Execute = tt
     by false action.Revert = tt
+
+-- a start takes its task up
+start_takes : (start : Start) → takes_up (start_entry start) start.atom ≡ true
+start_takes start = by start.restart
+  where
+    by : (b : Bool) → takes_up (if b then what.Restart start.atom else what.Atom start.atom (begun_by start.action) payload.Empty) start.atom ≡ true
+    by true = eq-eqb start.atom start.atom refl
+    by false = set_here start.atom (is_at_work (begun_by start.action)) false ∙ begun_works start.action
 
 -- ---- the task ends
 
@@ -250,12 +469,44 @@ end_within a action.Execute (outcome.Failed f) = refl
 end_within a action.Revert (outcome.Gave v) = refl
 end_within a action.Revert (outcome.Failed f) = refl
 
--- it carries what the task gives
-pub end_given : (plan : Outline) (past : List Entry) (a : ℕ) (how : Action) (came : Outcome) → ((s : Snapshot) → IsOutcome how plan s a came) → IsGiven plan past (ended_from a (begun_by how) came)
-end_given plan past a action.Execute (outcome.Gave v) is = is _
-end_given plan past a action.Execute (outcome.Failed f) is = is _
-end_given plan past a action.Revert (outcome.Gave v) is = tt
-end_given plan past a action.Revert (outcome.Failed f) is = let same : outcome.Failed f ≡ outcome.Gave value.Nothing = is (snapshot plan past) in absurd (cc)
+-- the order's action is the one that it was made for
+order_does : (plan : Outline) (s : Snapshot) (a : ℕ) (how : Action) (order : Order) → order_of plan s a how ≡ Some order → order.action ≡ how
+unfolding order_of
+order_does plan s a how order is = by (task_at plan a) is
+  where
+    by : (o : Option Task) → option_map (order_with a how (given_for plan s a how)) o ≡ Some order → order.action ≡ how
+    by None is = absurd (cc)
+    by (Some t) is = let same : order_with a how (given_for plan s a how) t ≡ order = cc in ap (λ (x : Order). x.action) (sym same)
+
+-- where it ends straight after its start, the end carries what the order gives
+came_given : (gives : Order → Outcome → Type 0) (plan : Outline) (past : List Entry) (a : ℕ) (how : Action) (order : Order) (came : Outcome) → RevertsToNothing gives
+    → order_at plan past a how ≡ Some order → order.action ≡ how → gives order came → IsGiven gives plan past (ended_from a (begun_by how) came)
+came_given gives plan past a action.Execute order (outcome.Gave v) law asked does gave = subst (λ (o : Option Order). Allows gives o (outcome.Gave v)) (sym asked) gave
+came_given gives plan past a action.Execute order (outcome.Failed f) law asked does gave = subst (λ (o : Option Order). Allows gives o (outcome.Failed f)) (sym asked) gave
+came_given gives plan past a action.Revert order (outcome.Gave v) law asked does gave =
+    subst (λ (o : Option Order). Allows gives o (outcome.Gave value.Nothing)) (sym asked) (subst (λ (x : Val). gives order (outcome.Gave x)) (law order v does gave) gave)
+came_given gives plan past a action.Revert order (outcome.Failed f) law asked does gave = subst (λ (o : Option Order). Allows gives o (outcome.Failed f)) (sym asked) gave
+
+-- the order of a start is the one at the moment before it
+asked_at : (plan : Outline) (past : List Entry) (start : Start) (how : Action) → order_at plan (by_hand (start_entry start) ∷ past) start.atom how ≡ order_of plan (snapshot plan past) start.atom how
+asked_at plan past start how = ap (λ (b : Bool). order_of plan (snapshot plan (if b then past else before_start past start.atom)) start.atom how) (start_takes start)
+
+pub end_given : (gives : Order → Outcome → Type 0) (m : MachineValue) (past : List Entry) (start : Start) (order : Order) (came : Outcome) → RevertsToNothing gives → StandsFor m past
+    → order_of (outline m) (shown m) start.atom start.action ≡ Some order → gives order came
+    → IsGiven gives (outline m) (by_hand (start_entry start) ∷ past) (ended_from start.atom (begun_by start.action) came)
+end_given gives m past start order came law stands asks gave =
+    came_given gives (outline m) (by_hand (start_entry start) ∷ past) start.atom start.action order came law
+    (asked_at (outline m) past start start.action ∙ (ap (λ (s : Snapshot). order_of (outline m) s start.atom start.action) (sym stands.shows) ∙ asks))
+    (order_does (outline m) (shown m) start.atom start.action order asks) gave
+
+-- the same of the entries of a start and of its end
+pub end_carries : (gives : Order → Outcome → Type 0) (m n : MachineValue) (past : List Entry) (start : Start) (order : Order) (came : Outcome) (first second : Entry) → RevertsToNothing gives → n.plan ≡ m.plan
+    → first ≡ by_hand (start_entry start) → second ≡ by_hand (ended_from start.atom (begun_by start.action) came) → StandsFor m past
+    → order_of (outline m) (shown m) start.atom start.action ≡ Some order → gives order came → IsGiven gives (outline n) (first ∷ past) second.what
+end_carries gives m n past start order came first second law plan begins ends stands asks gave =
+    subst (λ (p : PlanValue). IsGiven gives (outline_of p) (first ∷ past) second.what) (sym plan)
+    (subst (λ (e : Entry). IsGiven gives (outline m) (e ∷ past) second.what) (sym begins)
+    (subst (λ (e : Entry). IsGiven gives (outline m) (by_hand (start_entry start) ∷ past) e.what) (sym ends) (end_given gives m past start order came law stands asks gave)))
 
 same_hand : (o : Option ℕ) → o ≡ Some 0 → is_number o 0 ≡ true
 same_hand o is = rw is refl

@@ -1,6 +1,5 @@
-pub mod TaskLemmas
-pub mod ConstantLemmas
-pub mod LineLemmas
+pub mod TakenLemmas
+pub mod MessageLemmas
 pub mod AcceptLemmas
 pub mod RegionLemmas
 pub mod StandingLemmas

@@ -1,12 +1,18 @@
--- The plan that a flow file gives to run, or the first reason why it gives none.
-use Rattle.std.specs.Prelude.{◌≡◌, ℕ, List, Bool, true, false, Option, Some, None, Result, Ok, Err, if◌then◌else◌}
+-- Which plan a flow file gives to run, and the first reason why it gives none.
+use Rattle.std.specs.Prelude.{◌≡◌, ℕ, List, Bool, true, false, Some, None, Ok}
+use Rattle.tf_document.specs.Reading.{is_memory as is_memory_fault}
 use Rattle.tf_document.specs.declared.faults.FileFault.{FileFault}
-use Rattle.tf_files.specs.FlowFile.{PlanTree, flow_of}
+use Rattle.tf_files.specs.FlowFile.{flow_of, IsBroken, IsFirstReason}
+use Rattle.tf_files.specs.Written.{PlanTree, plan_as_written}
+use Rattle.tf_flow.specs.declared.atoms.Bind.{Bind}
+use Rattle.tf_flow.specs.declared.faults.PlanFault.{PlanFault}
 use Rattle.tf_model.specs.Compilation.{CompileRefusal, ambiguous, cycle, tree_refusal}
 use Rattle.tf_model.specs.Plan.{Outline, outline_of_tree}
+use Rattle.tf_model.specs.Scope.{Missing, missing_symbol}
 use Rattle.tf_order.specs.declared.faults.CompileFault.{CompileFault}
 use Rattle.tf_order.specs.declared.faults.CompileFault.TheVariants as compile_fault
-use Rattle.taskflow.specs.Constants.{is_usable}
+use Rattle.tf_scopes.specs.declared.faults.ScopeFault.{ScopeFault}
+use Rattle.tf_scopes.specs.declared.faults.ScopeFault.TheVariants as scope_fault
 use Rattle.taskflow.specs.declared.accepting.Refusal.{Refusal}
 use Rattle.taskflow.specs.declared.accepting.Refusal.TheVariants as refusal
 
@@ -19,30 +25,39 @@ abbrev pub fault_of : CompileRefusal → CompileFault
 fault_of (ambiguous symbol first second) = compile_fault.Ambiguous symbol first second
 fault_of (cycle names) = compile_fault.Cycle names
 
--- a plan that compiles is of use yet where its tasks have priority 0 and arguments that are known before
-abbrev pub usable : PlanTree → Result PlanTree Refusal
-usable plan = if is_usable plan.store plan.root then Ok plan else Err refusal.NotBuilt
+-- the fault that tells a symbol that nobody gives an atom
+abbrev pub missing_fault : Missing → ScopeFault
+missing_fault missing = scope_fault.Missing missing.atom missing.symbol
 
--- a plan that was read is compiled first
-abbrev pub compiled : PlanTree → Option CompileRefusal → Result PlanTree Refusal
-compiled plan None = usable plan
-compiled plan (Some reason) = Err (refusal.Compile (fault_of reason))
+-- the bytes of a flow file spell the plan, with these values beside its store's and its reverts deferred or not, and it
+-- passes no limit and breaks no rule of plans
+pub record Spells (sets : List Bind) (defer : Bool) (bytes : List ℕ) (plan : PlanTree) : Type 0 where
+  pub spelled : flow_of bytes sets defer ≡ Ok (plan_as_written plan)
+  pub unbroken : (reason : PlanFault) → ¬ (IsBroken (plan_as_written plan) reason)
 
--- what was read of a file
-abbrev pub after_reading : Result PlanTree FileFault → Result PlanTree Refusal
-after_reading (Ok plan) = compiled plan (tree_refusal plan.root (outline_in plan))
-after_reading (Err reason) = Err (refusal.File reason)
+-- they give it to run: it compiles besides, and somebody gives each symbol
+pub record GivesPlan (sets : List Bind) (defer : Bool) (bytes : List ℕ) (plan : PlanTree) : Type 0 where
+  pub spells : Spells sets defer bytes plan
+  pub compiles : tree_refusal plan.root (outline_in plan) ≡ None
+  pub provided : missing_symbol (outline_in plan) ≡ None
 
--- the plan that a flow file gives to run, or the first reason why it gives none
-unfoldable pub plan_in : List ℕ → Result PlanTree Refusal
-plan_in bytes = after_reading (flow_of bytes)
+-- this is the first reason why they give none
+pub data GivesNone (sets : List Bind) (defer : Bool) (bytes : List ℕ) : Refusal → Type 0 where
+  -- they spell none, or one that passes a limit or breaks a rule
+  misspelled : (fault : FileFault) → is_memory_fault fault ≡ false → IsFirstReason (flow_of bytes sets defer) fault → GivesNone sets defer bytes (refusal.File fault)
+  -- the plan that they spell doesn't compile
+  uncompiled : (plan : PlanTree) (reason : CompileRefusal) → Spells sets defer bytes plan → tree_refusal plan.root (outline_in plan) ≡ Some reason
+      → GivesNone sets defer bytes (refusal.Compile (fault_of reason))
+  -- it compiles, and nobody gives one of its atoms a symbol
+  unprovided : (plan : PlanTree) (missing : Missing) → Spells sets defer bytes plan → tree_refusal plan.root (outline_in plan) ≡ None
+      → missing_symbol (outline_in plan) ≡ Some missing → GivesNone sets defer bytes (refusal.Scope (missing_fault missing))
 
 -- it is want of memory
 abbrev pub is_memory : Refusal → Bool
 is_memory refusal.Memory = true
 is_memory reason = false
 
--- it is the reason why a file gives no plan, or want of memory
-abbrev pub IsRefusal : Result PlanTree Refusal → Refusal → Type 0
-IsRefusal given refusal.Memory = Unit {0}
-IsRefusal given reason = given ≡ Err reason
+-- it is that reason, or want of memory
+abbrev pub IsReason : List Bind → Bool → List ℕ → Refusal → Type 0
+IsReason sets defer bytes refusal.Memory = Unit {0}
+IsReason sets defer bytes reason = GivesNone sets defer bytes reason

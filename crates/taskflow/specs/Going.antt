@@ -1,20 +1,13 @@
 -- What the loop of a run keeps of its machine.
-use Rattle.std.specs.Prelude.{◌≡◌, ℕ, List, length, Bool, true, false, Option, Some}
+use Rattle.std.specs.Prelude.{◌≡◌, ℕ, List, length, Bool, true, false, Option}
 use Rattle.tf_states.specs.declared.record.Entry.{Entry}
 use Rattle.tf_states.specs.declared.record.What.{What}
 use Rattle.tf_states.specs.declared.record.What.TheVariants as what
 use Rattle.tf_states.specs.declared.state.FlowState.TheVariants as flow
-use Rattle.tf_values.specs.declared.value.Val.TheVariants as value
-use Rattle.tf_ports.specs.declared.outcomes.Action.{Action}
-use Rattle.tf_ports.specs.declared.outcomes.Action.TheVariants as action
+use Rattle.tf_ports.specs.declared.orders.Order.{Order}
 use Rattle.tf_ports.specs.declared.outcomes.Outcome.{Outcome}
-use Rattle.tf_ports.specs.declared.outcomes.Outcome.TheVariants as outcome
-use Rattle.tf_model.specs.Plan.{Outline}
-use Rattle.tf_model.specs.Snapshot.{Snapshot}
 use Rattle.tf_model.specs.Steps.{is_still}
 use Rattle.tf_machine.specs.Machine.{MachineValue, outline, shown, StandsFor}
-use Rattle.tf_machine.specs.declared.candidates.Start.{Start}
-use Rattle.taskflow.specs.BuiltIns.{outcome_at}
 use Rattle.taskflow.specs.Standing.{begun, GoesOn}
 
 -- the entry isn't of the flow
@@ -28,24 +21,16 @@ is_within (what.Restart again) = true
 abbrev pub by_hand : What → Entry
 by_hand event = record { hand = 0; what = event }
 
--- what a task gives that is taken up so: an execution gives what its kind says, and a reversion nothing
-abbrev pub IsOutcome : Action → Outline → Snapshot → ℕ → Outcome → Type 0
-IsOutcome action.Execute plan s a came = outcome_at plan s a ≡ Some came
-IsOutcome action.Revert plan s a came = came ≡ outcome.Gave value.Nothing
-
-abbrev pub IsOutcomeOf : Outline → Snapshot → Start → Outcome → Type 0
-IsOutcomeOf plan s start came = IsOutcome start.action plan s start.atom came
-
 -- the machine stands for the history of a run that goes on, of which so many lines were said
-pub record Goes (m : MachineValue) (number : ℕ) (before : Option (List ℕ)) (inner : List Entry) (text : Option (List ℕ)) : Type 0 where
+pub record Goes (gives : Order → Outcome → Type 0) (m : MachineValue) (number : ℕ) (before : Option (List ℕ)) (inner : List Entry) (text : Option (List ℕ)) : Type 0 where
   pub stands : StandsFor m (begun inner)
-  pub on : GoesOn (outline m) before inner text
+  pub on : GoesOn gives (outline m) before inner text
   pub counted : number ≡ length (begun inner)
 
 -- the same of some history
-pub record GoesSomewhere (m : MachineValue) (number : ℕ) (before : Option (List ℕ)) (text : Option (List ℕ)) : Type 0 where
+pub record GoesSomewhere (gives : Order → Outcome → Type 0) (m : MachineValue) (number : ℕ) (before : Option (List ℕ)) (text : Option (List ℕ)) : Type 0 where
   pub inner : List Entry
-  pub goes : Goes m number before inner text
+  pub goes : Goes gives m number before inner text
 
 -- the flow is RUNNING, and nothing is in flight
 pub record Rests (m : MachineValue) : Type 0 where

@@ -1,10 +1,7 @@
-pub mod Constants
 pub mod Accepted
-pub mod BuiltIns
-pub mod Lines
+pub mod Messages
 pub mod Standing
 pub mod Going
-pub mod Words
 pub mod Course
 pub mod Run
 pub mod Opened

@@ -1,21 +1,20 @@
-ghost use Rattle.std.specs.Prelude.{◌≡◌, [], true, None, Ok, IfOk, IfErr};
-ghost use Rattle.tf_flow.specs.Tree.{tree_of};
-ghost use Rattle.tf_document.specs.Reading.{Refuses};
-ghost use Rattle.tf_files.specs.FlowFile.{flow_of, plan_tree, is_built};
+ghost use Rattle.std.specs.Prelude.{◌≡◌, [], ℕ, List, Bool, None, IfOk, IfErr};
+ghost use Rattle.tf_files.specs.Written.{plan_tree};
+ghost use Rattle.tf_flow.specs.declared.atoms.Bind.{Bind};
 ghost use Rattle.tf_model.specs.Compilation.{compile_refusal};
+ghost use Rattle.tf_model.specs.Plan.{outline_of};
+ghost use Rattle.tf_model.specs.Scope.{missing_symbol};
 ghost use Rattle.tf_machine.specs.Answers.{IsBuildRefusal};
 ghost use Rattle.tf_machine.specs.Machine.{StandsFor};
-ghost use Rattle.tf_machine.specs.Plain.{IsPlain};
-ghost use Rattle.taskflow.specs.Accepted.{plan_in, after_reading, compiled, usable, IsRefusal};
-ghost use Rattle.taskflow.specs.Constants.{is_usable as is_usable_tree};
+ghost use Rattle.taskflow.specs.Accepted.{GivesPlan, Spells, IsReason};
 
-use crate::constants::is_usable;
 use std::alloc::Global;
 use tf_document::FileFault;
 use tf_files::read_flow;
-use tf_flow::Plan;
+use tf_flow::{Binds, Plan};
 use tf_machine::{BuildFault, Machine};
 use tf_order::CompileFault;
+use tf_scopes::ScopeFault;
 
 /// Why a flow file gives no plan to run.
 #[derive(Debug, Drop)]
@@ -24,8 +23,8 @@ pub enum Refusal {
     File(FileFault),
     /// Its plan doesn't compile.
     Compile(CompileFault),
-    /// Its plan has what is of no use yet.
-    NotBuilt,
+    /// An atom of its plan takes a symbol that nobody gives it.
+    Scope(ScopeFault),
     /// Memory ran out. It says nothing of the file.
     Memory,
 }
@@ -41,31 +40,23 @@ impl Refusal {
     }
 }
 
-/// A machine before a run of the plan that the bytes of a flow file give, or the first reason why they
-/// give none.
-#[tactic(auto, unfolding(crate::specs::Accepted::plan_in))]
-pub fn accept(alloc: Global, bytes: &[u8]) -> Result<Machine, Refusal>
-    ensures ok { IfOk result (λ machine. plan_in bytes.now ≡ Ok (plan_tree machine.plan)) }
+/// A machine before a run of the plan that the bytes of a flow file give with these values beside its
+/// store's, its reverts deferred or not; or the first reason why they give none.
+pub fn accept(alloc: Global, bytes: &[u8], sets: Binds, defer: bool) -> Result<Machine, Refusal>
+    ensures ok { IfOk result (λ machine. GivesPlan sets defer bytes.now (plan_tree machine.plan)) }
     ensures empty { IfOk result (λ machine. StandsFor machine []) }
-    ensures plain { IfOk result (λ machine. IsPlain machine.plan) }
-    ensures usable { IfOk result (λ machine. is_usable_tree machine.plan.store (tree_of machine.plan.root) ≡ true) }
-    ensures refused { IfErr result (IsRefusal (plan_in bytes.now)) }
+    ensures refused { IfErr result (IsReason sets defer bytes.now) }
 {
-    let plan = read(alloc, bytes)?;
-    let machine = compile(alloc, plan)?;
-    if !is_usable(machine.plan()) {
-        return Err(Refusal::NotBuilt);
-    }
-    Ok(machine)
+    let plan = read(alloc, bytes, sets, defer)?;
+    compile(alloc, plan)
 }
 
 /// The plan that the bytes of a flow file spell.
-fn read(alloc: Global, bytes: &[u8]) -> Result<Plan, Refusal>
-    ensures ok { IfOk result (λ plan. flow_of bytes.now ≡ Ok (plan_tree plan)) }
-    ensures built { IfOk result (λ plan. IsPlain plan) }
-    ensures refused { IfErr result (IsRefusal (after_reading (flow_of bytes.now))) }
+fn read(alloc: Global, bytes: &[u8], sets: Binds, defer: bool) -> Result<Plan, Refusal>
+    ensures ok { IfOk result (λ plan. Spells sets defer bytes.now (plan_tree plan)) }
+    ensures refused { IfErr result (IsReason sets defer bytes.now) }
 {
-    match read_flow(alloc, bytes) {
+    match read_flow(alloc, bytes, sets, defer) {
         Ok(plan) => Ok(plan),
         Err(fault) => {
             if fault.is_memory() {
@@ -79,15 +70,16 @@ fn read(alloc: Global, bytes: &[u8]) -> Result<Plan, Refusal>
 
 /// A machine before a run of the plan.
 fn compile(alloc: Global, plan: Plan) -> Result<Machine, Refusal>
-    requires { IsPlain plan }
     ensures given { IfOk result (λ machine. machine.plan ≡ plan) }
     ensures empty { IfOk result (λ machine. StandsFor machine []) }
     ensures accepted { IfOk result (λ machine. compile_refusal plan ≡ None) }
-    ensures refused { IfErr result (IsRefusal (compiled (plan_tree plan) (compile_refusal plan))) }
+    ensures provided { IfOk result (λ machine. missing_symbol (outline_of plan) ≡ None) }
+    ensures refused { (sets : List Bind) (defer : Bool) (bytes : List ℕ) → Spells sets defer bytes (plan_tree plan) → IfErr result (IsReason sets defer bytes) }
 {
     match Machine::make(alloc, plan) {
         Ok(machine) => Ok(machine),
         Err(BuildFault::Compile(fault)) => Err(Refusal::Compile(fault)),
+        Err(BuildFault::Scope(fault)) => Err(Refusal::Scope(fault)),
         Err(BuildFault::Memory) => Err(Refusal::Memory),
     }
 }

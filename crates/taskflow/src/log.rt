@@ -10,14 +10,14 @@ ghost use Rattle.tf_model.specs.Snapshot.{later};
 ghost use Rattle.tf_model.specs.Steps.{Step};
 ghost use Rattle.tf_bound.specs.Short.{IsShortEvent};
 ghost use Rattle.tf_machine.specs.Machine.{outline, shown, StandsFor};
-ghost use Rattle.taskflow.specs.Lines.{line};
+ghost use Rattle.tf_report.specs.Lines.{line as line_of};
 
-use crate::lines::append_line;
 use std::alloc::Global;
 use std::marker::Model;
 use tf_bound::event_is_short;
 use tf_desk::Desk;
 use tf_machine::Machine;
+use tf_report::line;
 use tf_states::Entry;
 use tf_values::Memory;
 
@@ -80,8 +80,8 @@ impl Log {
         ensures moved { OnOk result (shown machine.new ≡ later (outline machine.old) entry (shown machine.old)) }
         ensures stands { OnOk result ((past : List Record) → StandsFor machine.old past → StandsFor machine.new (entry ∷ past)) }
         ensures less { OnOk result (flow_runs (shown machine.old).flow || flow_suspends (shown machine.old).flow ≡ true → entry.what ≢ flow_turns resuming → left machine.new.plan (shown machine.new) < left machine.old.plan (shown machine.old)) }
-        ensures said { OnOk result (K.shown desk.new ≡ shown_with (K.shown desk.old) (line (outline machine.old) (self.old + 1) entry)) }
-        ensures out { IsErrOf result Halt.Out → ShowsFront (K.shown desk.old) (line (outline machine.old) (self.old + 1) entry) (K.shown desk.new) }
+        ensures said { OnOk result (K.shown desk.new ≡ shown_with (K.shown desk.old) (line_of (outline machine.old) (self.old + 1) entry)) }
+        ensures out { IsErrOf result Halt.Out → ShowsFront (K.shown desk.old) (line_of (outline machine.old) (self.old + 1) entry) (K.shown desk.new) }
         ensures recorded { IsErrOf result Halt.Out → (past : List Record) → StandsFor machine.old past → StandsFor machine.new (entry ∷ past) }
         ensures cause { IsErrOf result Halt.Out → Rises (K.out_faults desk.old) (K.out_faults desk.new) }
         ensures memory { IsErrOf result Halt.Memory → K.shown desk.new ≡ K.shown desk.old }
@@ -94,7 +94,7 @@ impl Log {
             return Err(Halt::Memory);
         };
         self.line.clear();
-        append_line(machine.plan(), number, &entry, &mut self.line)?;
+        line(machine.plan(), number, &entry, &mut self.line)?;
         self.number = number;
         machine.advance(entry);
         match desk.say(&self.line) {

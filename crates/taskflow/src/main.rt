@@ -2,24 +2,23 @@
 #![tactic(auto)]
 
 mod accepting;
-mod built_in;
 mod command;
-mod constants;
+mod crew;
 mod engine;
-mod lines;
 mod log;
+mod messages;
 mod statuses;
 mod top;
-mod words;
 
+use crate::crew::LocalCrew;
 use crate::statuses::OUT_OF_MEMORY;
 use crate::top::{Outside, taskflow};
-use crate::words::Word;
 use std::env::Env;
 use std::process::ExitCode;
 use std::{env, io};
 use tf_desk::FileDesk;
 use tf_ports::Folder;
+use tf_words::Word;
 
 fn main(rt: HostRuntime) -> ExitCode {
     let alloc = rt.alloc();
@@ -36,6 +35,7 @@ fn main(rt: HostRuntime) -> ExitCode {
     let outside = Outside {
         desk: FileDesk::make(rt),
         sources: Folder::make(rt),
+        crew: LocalCrew::make(rt),
     };
     let ended = taskflow(alloc, &words, outside);
     ExitCode::from(ended.status)

@@ -15,6 +15,9 @@ pub const REFUSED: u8 = 4;
 /// A text couldn't be said.
 pub const UNSAID: u8 = 7;
 
+/// No hand could be hired.
+pub const UNHIRED: u8 = 8;
+
 /// Memory ran out.
 pub const OUT_OF_MEMORY: u8 = 9;
 

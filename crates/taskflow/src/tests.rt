@@ -1,14 +1,16 @@
 use crate::top::{Outside, taskflow};
-use crate::words::Word;
 use std::alloc::Global;
 use std::test::Fail;
 use tf_desk::MemoryDesk;
-use tf_ports::{MemorySource, MemorySources};
+use tf_ports::{MemoryCrew, MemorySource, MemorySources, MemorySpawner, Want};
+use tf_tasks::LocalHand;
 use tf_values::Text;
+use tf_words::Word;
 
-/// A flow file, what is said of it, and the status.
+/// A flow file, the words behind it, what is said of it, and the status.
 struct Case {
     shows: &'static str,
+    words: &'static [&'static str],
     file: &'static str,
     says: &'static str,
     status: u8,
@@ -20,46 +22,165 @@ const TWO_ECHOES: &str =
 const NESTED: &str =
     "name = \"main\"\nkind = \"linear\"\nitems = [{ task = \"a\", kind = \"echo\", inject = { value = 1 } }, { flow = \"g\", kind = \"graph\", items = [{ task = \"x\", kind = \"echo\", inject = { value = 2 } }, { task = \"y\", kind = \"echo\", inject = { value = 3 } }], links = [{ from = \"y\", to = \"x\" }] }, { task = \"z\", kind = \"fail\", inject = { text = \"no\" } }]\n";
 
-const RUNS: [Case; 5] = [
+const RUNS: [Case; 21] = [
     Case {
         shows: "two echoes",
+        words: &[],
         file: TWO_ECHOES,
         says: "1 0 flow main RUNNING\n2 0 task a RUNNING\n3 0 task a SUCCESS 1\n4 0 task b RUNNING\n5 0 task b SUCCESS \"two\"\n6 0 flow main SUCCESS\nend main SUCCESS\n",
         status: 0,
     },
     Case {
         shows: "failure reverted in reverse",
+        words: &[],
         file: "name = \"main\"\nkind = \"linear\"\nitems = [{ task = \"a\", kind = \"echo\", inject = { value = 1 } }, { task = \"b\", kind = \"echo\", inject = { value = 2 } }, { task = \"c\", kind = \"fail\", inject = { text = \"boom\" } }]\n",
         says: "1 0 flow main RUNNING\n2 0 task a RUNNING\n3 0 task a SUCCESS 1\n4 0 task b RUNNING\n5 0 task b SUCCESS 2\n6 0 task c RUNNING\n7 0 task c FAILURE raised \"boom\"\n8 0 resolve main REVERT_ALL\n9 0 task c REVERTING\n10 0 task c REVERTED\n11 0 task b REVERTING\n12 0 task b REVERTED\n13 0 task a REVERTING\n14 0 task a REVERTED\n15 0 flow main REVERTED\nend main REVERTED\n",
         status: 10,
     },
     Case {
         shows: "the nested graph reverted",
+        words: &[],
         file: NESTED,
         says: "1 0 flow main RUNNING\n2 0 task a RUNNING\n3 0 task a SUCCESS 1\n4 0 task y RUNNING\n5 0 task y SUCCESS 3\n6 0 task x RUNNING\n7 0 task x SUCCESS 2\n8 0 task z RUNNING\n9 0 task z FAILURE raised \"no\"\n10 0 resolve main REVERT_ALL\n11 0 task z REVERTING\n12 0 task z REVERTED\n13 0 task x REVERTING\n14 0 task x REVERTED\n15 0 task y REVERTING\n16 0 task y REVERTED\n17 0 task a REVERTING\n18 0 task a REVERTED\n19 0 flow main REVERTED\nend main REVERTED\n",
         status: 10,
     },
     Case {
         shows: "links inferred in a graph, and values of the store before injected ones of other names",
+        words: &[],
         file: "name = \"main\"\nkind = \"graph\"\nstore = { size = 3, zone = [\"a\", 1] }\nitems = [{ task = \"b\", kind = \"echo\", requires = [\"size\"], rebind = { extra = \"disk\" }, inject = { disk = 7 } }, { task = \"a\", kind = \"echo\", requires = [\"zone\"], provides = [\"disk\", \"size\"] }]\n",
         says: "1 0 flow main RUNNING\n2 0 task a RUNNING\n3 0 task a SUCCESS [\"a\",1]\n4 0 task b RUNNING\n5 0 task b SUCCESS 3\n6 0 flow main SUCCESS\nend main SUCCESS\n",
         status: 0,
     },
     Case {
-        shows: "values without an argument, truth, and several arguments joined",
-        file: "name = \"main\"\nkind = \"unordered\"\nitems = [{ task = \"a\", kind = \"echo\" }, { task = \"b\", kind = \"echo\", inject = { v = true } }, { task = \"c\", kind = \"fail\", inject = { v = -7, w = \"x\" } }, { task = \"d\", kind = \"echo\" }]\n",
-        says: "1 0 flow main RUNNING\n2 0 task a RUNNING\n3 0 task a SUCCESS null\n4 0 task b RUNNING\n5 0 task b SUCCESS true\n6 0 task c RUNNING\n7 0 task c FAILURE raised \"-7x\"\n8 0 resolve main REVERT_ALL\n9 0 task a REVERTING\n10 0 task a REVERTED\n11 0 task b REVERTING\n12 0 task b REVERTED\n13 0 task c REVERTING\n14 0 task c REVERTED\n15 0 flow main REVERTED\nend main REVERTED\n",
+        shows: "the third attempt succeeds",
+        words: &[],
+        file: "name = \"main\"\nkind = \"linear\"\nretry = { name = \"r\", kind = \"times\", attempts = 3, provides = \"n\" }\nitems = [{ task = \"t\", kind = \"fail_below\", requires = [\"n\"], inject = { limit = 3 } }]\n",
+        says: "1 0 flow main RUNNING\n2 0 retry r RUNNING\n3 0 retry r SUCCESS 1\n4 0 task t RUNNING\n5 0 task t FAILURE raised \"1 below 3\"\n6 0 resolve main RETRY\n7 0 task t REVERTING\n8 0 task t REVERTED\n9 0 retry r RETRYING\n10 0 task t PENDING\n11 0 retry r RUNNING\n12 0 retry r SUCCESS 2\n13 0 task t RUNNING\n14 0 task t FAILURE raised \"2 below 3\"\n15 0 resolve main RETRY\n16 0 task t REVERTING\n17 0 task t REVERTED\n18 0 retry r RETRYING\n19 0 task t PENDING\n20 0 retry r RUNNING\n21 0 retry r SUCCESS 3\n22 0 task t RUNNING\n23 0 task t SUCCESS 3\n24 0 flow main SUCCESS\nend main SUCCESS\n",
+        status: 0,
+    },
+    Case {
+        shows: "the only attempt fails",
+        words: &[],
+        file: "name = \"main\"\nkind = \"linear\"\nretry = { name = \"r\", kind = \"times\", attempts = 1, provides = \"n\" }\nitems = [{ task = \"t\", kind = \"fail_below\", requires = [\"n\"], inject = { limit = 3 } }]\n",
+        says: "1 0 flow main RUNNING\n2 0 retry r RUNNING\n3 0 retry r SUCCESS 1\n4 0 task t RUNNING\n5 0 task t FAILURE raised \"1 below 3\"\n6 0 resolve main REVERT\n7 0 task t REVERTING\n8 0 task t REVERTED\n9 0 retry r REVERTING\n10 0 retry r REVERTED\n11 0 flow main REVERTED\nend main REVERTED\n",
         status: 10,
+    },
+    Case {
+        shows: "a nested flow is reverted alone",
+        words: &[],
+        file: "name = \"main\"\nkind = \"linear\"\nitems = [{ task = \"a\", kind = \"echo\", inject = { value = 1 } }, { flow = \"s\", kind = \"linear\", retry = { name = \"v\", kind = \"always_revert\" }, items = [{ task = \"b\", kind = \"fail\", inject = { text = \"no\" } }] }]\n",
+        says: "1 0 flow main RUNNING\n2 0 task a RUNNING\n3 0 task a SUCCESS 1\n4 0 retry v RUNNING\n5 0 retry v SUCCESS null\n6 0 task b RUNNING\n7 0 task b FAILURE raised \"no\"\n8 0 resolve s REVERT\n9 0 task b REVERTING\n10 0 task b REVERTED\n11 0 retry v REVERTING\n12 0 retry v REVERTED\n13 0 flow main REVERTED\nend main REVERTED\n",
+        status: 10,
+    },
+    Case {
+        shows: "a deferred revert is of the whole flow",
+        words: &["--defer-reverts"],
+        file: "name = \"main\"\nkind = \"linear\"\nitems = [{ task = \"a\", kind = \"echo\", inject = { value = 1 } }, { flow = \"s\", kind = \"linear\", retry = { name = \"v\", kind = \"always_revert\" }, items = [{ task = \"b\", kind = \"fail\", inject = { text = \"no\" } }] }]\n",
+        says: "1 0 flow main RUNNING\n2 0 task a RUNNING\n3 0 task a SUCCESS 1\n4 0 retry v RUNNING\n5 0 retry v SUCCESS null\n6 0 task b RUNNING\n7 0 task b FAILURE raised \"no\"\n8 0 resolve main REVERT_ALL\n9 0 task b REVERTING\n10 0 task b REVERTED\n11 0 retry v REVERTING\n12 0 retry v REVERTED\n13 0 task a REVERTING\n14 0 task a REVERTED\n15 0 flow main REVERTED\nend main REVERTED\n",
+        status: 10,
+    },
+    Case {
+        shows: "an inner retry controller without values",
+        words: &[],
+        file: "name = \"main\"\nkind = \"linear\"\nretry = { name = \"o\", kind = \"times\", attempts = 2 }\nitems = [{ flow = \"s\", kind = \"linear\", retry = { name = \"p\", kind = \"parameterized_for_each\", requires = [\"values\"], inject = { values = [] } }, items = [{ task = \"t\", kind = \"echo\", inject = { value = 1 } }] }]\n",
+        says: "1 0 flow main RUNNING\n2 0 retry o RUNNING\n3 0 retry o SUCCESS 1\n4 0 retry p RUNNING\n5 0 retry p FAILURE exhausted\n6 0 resolve main RETRY\n7 0 retry p REVERTING\n8 0 retry p REVERTED\n9 0 retry o RETRYING\n10 0 retry p PENDING\n11 0 retry o RUNNING\n12 0 retry o SUCCESS 2\n13 0 retry p RUNNING\n14 0 retry p FAILURE exhausted\n15 0 resolve main REVERT\n16 0 retry p REVERTING\n17 0 retry p REVERTED\n18 0 retry o REVERTING\n19 0 retry o REVERTED\n20 0 flow main REVERTED\nend main REVERTED\n",
+        status: 10,
+    },
+    Case {
+        shows: "a provider that was ignored",
+        words: &[],
+        file: "name = \"g\"\nkind = \"graph\"\nitems = [{ task = \"p\", kind = \"echo\", inject = { value = 0 } }, { task = \"u\", kind = \"echo\", inject = { value = 5 }, provides = \"k\" }, { task = \"c\", kind = \"echo\", requires = [\"k\"] }]\nlinks = [{ from = \"p\", to = \"u\", decider = { result = \"p\", is = 1 }, depth = \"ATOM\" }]\n",
+        says: "1 0 flow g RUNNING\n2 0 task p RUNNING\n3 0 task p SUCCESS 0\n4 0 task u IGNORE\n5 0 task c RUNNING\n6 0 task c FAILURE lookup k\n7 0 resolve g REVERT_ALL\n8 0 task c REVERTING\n9 0 task c REVERTED\n10 0 task p REVERTING\n11 0 task p REVERTED\n12 0 flow g REVERTED\nend g REVERTED\n",
+        status: 10,
+    },
+    Case {
+        shows: "a revert that fails",
+        words: &[],
+        file: "name = \"main\"\nkind = \"linear\"\nitems = [{ task = \"a\", kind = \"echo\", inject = { value = 1 }, revert = \"fail\" }, { task = \"b\", kind = \"fail\", inject = { text = \"no\" } }]\n",
+        says: "1 0 flow main RUNNING\n2 0 task a RUNNING\n3 0 task a SUCCESS 1\n4 0 task b RUNNING\n5 0 task b FAILURE raised \"no\"\n6 0 resolve main REVERT_ALL\n7 0 task b REVERTING\n8 0 task b REVERTED\n9 0 task a REVERTING\n10 0 task a REVERT_FAILURE raised \"revert\"\n11 0 flow main FAILURE\nend main FAILURE\nunreverted a raised \"revert\"\n",
+        status: 11,
+    },
+    Case {
+        shows: "a decider that looks for an absent name",
+        words: &[],
+        file: "name = \"g\"\nkind = \"graph\"\nitems = [{ task = \"p\", kind = \"echo\", inject = { value = 0 } }, { task = \"q\", kind = \"echo\", inject = { value = 1 } }, { task = \"v\", kind = \"echo\", inject = { value = 2 } }]\nlinks = [{ from = \"p\", to = \"v\", decider = { result = \"p\", is = 0 } }, { from = \"q\", to = \"v\", decider = { all = [{ result = \"q\", above = 0 }, { result = \"z\", is = 1 }] }, depth = \"ATOM\" }]\n",
+        says: "1 0 flow g RUNNING\n2 0 task p RUNNING\n3 0 task p SUCCESS 0\n4 0 task q RUNNING\n5 0 task q SUCCESS 1\n6 0 task v IGNORE\n7 0 flow g SUCCESS\nend g SUCCESS\n",
+        status: 0,
+    },
+    Case {
+        shows: "depth ALL",
+        words: &[],
+        file: "name = \"g\"\nkind = \"graph\"\nitems = [{ task = \"p\", kind = \"echo\", inject = { value = 0 } }, { task = \"v\", kind = \"echo\", inject = { value = 1 } }, { task = \"w\", kind = \"echo\", inject = { value = 2 } }, { task = \"x\", kind = \"echo\", inject = { value = 3 } }, { flow = \"n\", kind = \"linear\", items = [{ task = \"y\", kind = \"echo\", inject = { value = 4 } }] }]\nlinks = [{ from = \"p\", to = \"v\", decider = { result = \"p\", is = 1 }, depth = \"ALL\" }, { from = \"v\", to = \"w\" }, { from = \"w\", to = \"x\" }, { from = \"v\", to = \"n\" }]\n",
+        says: "1 0 flow g RUNNING\n2 0 task p RUNNING\n3 0 task p SUCCESS 0\n4 0 task w IGNORE\n5 0 task x IGNORE\n6 0 task y IGNORE\n7 0 task v IGNORE\n8 0 flow g SUCCESS\nend g SUCCESS\n",
+        status: 0,
+    },
+    Case {
+        shows: "depth FLOW",
+        words: &[],
+        file: "name = \"g\"\nkind = \"graph\"\nitems = [{ task = \"p\", kind = \"echo\", inject = { value = 0 } }, { task = \"v\", kind = \"echo\", inject = { value = 1 } }, { task = \"w\", kind = \"echo\", inject = { value = 2 } }, { task = \"x\", kind = \"echo\", inject = { value = 3 } }, { flow = \"n\", kind = \"linear\", items = [{ task = \"y\", kind = \"echo\", inject = { value = 4 } }] }]\nlinks = [{ from = \"p\", to = \"v\", decider = { result = \"p\", is = 1 }, depth = \"FLOW\" }, { from = \"v\", to = \"w\" }, { from = \"w\", to = \"x\" }, { from = \"v\", to = \"n\" }]\n",
+        says: "1 0 flow g RUNNING\n2 0 task p RUNNING\n3 0 task p SUCCESS 0\n4 0 task w IGNORE\n5 0 task x IGNORE\n6 0 task v IGNORE\n7 0 task y RUNNING\n8 0 task y SUCCESS 4\n9 0 flow g SUCCESS\nend g SUCCESS\n",
+        status: 0,
+    },
+    Case {
+        shows: "depth NEIGHBORS",
+        words: &[],
+        file: "name = \"g\"\nkind = \"graph\"\nitems = [{ task = \"p\", kind = \"echo\", inject = { value = 0 } }, { task = \"v\", kind = \"echo\", inject = { value = 1 } }, { task = \"w\", kind = \"echo\", inject = { value = 2 } }, { task = \"x\", kind = \"echo\", inject = { value = 3 } }, { flow = \"n\", kind = \"linear\", items = [{ task = \"y\", kind = \"echo\", inject = { value = 4 } }] }]\nlinks = [{ from = \"p\", to = \"v\", decider = { result = \"p\", is = 1 }, depth = \"NEIGHBORS\" }, { from = \"v\", to = \"w\" }, { from = \"w\", to = \"x\" }, { from = \"v\", to = \"n\" }]\n",
+        says: "1 0 flow g RUNNING\n2 0 task p RUNNING\n3 0 task p SUCCESS 0\n4 0 task w IGNORE\n5 0 task v IGNORE\n6 0 task x RUNNING\n7 0 task x SUCCESS 3\n8 0 task y RUNNING\n9 0 task y SUCCESS 4\n10 0 flow g SUCCESS\nend g SUCCESS\n",
+        status: 0,
+    },
+    Case {
+        shows: "depth ATOM",
+        words: &[],
+        file: "name = \"g\"\nkind = \"graph\"\nitems = [{ task = \"p\", kind = \"echo\", inject = { value = 0 } }, { task = \"v\", kind = \"echo\", inject = { value = 1 } }, { task = \"w\", kind = \"echo\", inject = { value = 2 } }, { task = \"x\", kind = \"echo\", inject = { value = 3 } }, { flow = \"n\", kind = \"linear\", items = [{ task = \"y\", kind = \"echo\", inject = { value = 4 } }] }]\nlinks = [{ from = \"p\", to = \"v\", decider = { result = \"p\", is = 1 }, depth = \"ATOM\" }, { from = \"v\", to = \"w\" }, { from = \"w\", to = \"x\" }, { from = \"v\", to = \"n\" }]\n",
+        says: "1 0 flow g RUNNING\n2 0 task p RUNNING\n3 0 task p SUCCESS 0\n4 0 task v IGNORE\n5 0 task w RUNNING\n6 0 task w SUCCESS 2\n7 0 task x RUNNING\n8 0 task x SUCCESS 3\n9 0 task y RUNNING\n10 0 task y SUCCESS 4\n11 0 flow g SUCCESS\nend g SUCCESS\n",
+        status: 0,
+    },
+    Case {
+        shows: "the store's value",
+        words: &[],
+        file: "name = \"main\"\nkind = \"linear\"\nstore = { x = 1 }\nitems = [{ task = \"t\", kind = \"echo\", requires = [\"x\"] }]\n",
+        says: "1 0 flow main RUNNING\n2 0 task t RUNNING\n3 0 task t SUCCESS 1\n4 0 flow main SUCCESS\nend main SUCCESS\n",
+        status: 0,
+    },
+    Case {
+        shows: "a value of the words before the store's",
+        words: &["x=2"],
+        file: "name = \"main\"\nkind = \"linear\"\nstore = { x = 1 }\nitems = [{ task = \"t\", kind = \"echo\", requires = [\"x\"] }]\n",
+        says: "1 0 flow main RUNNING\n2 0 task t RUNNING\n3 0 task t SUCCESS 2\n4 0 flow main SUCCESS\nend main SUCCESS\n",
+        status: 0,
+    },
+    Case {
+        shows: "an injected value before both",
+        words: &["x=2"],
+        file: "name = \"main\"\nkind = \"linear\"\nstore = { x = 1 }\nitems = [{ task = \"t\", kind = \"echo\", requires = [\"x\"], inject = { x = 3 } }]\n",
+        says: "1 0 flow main RUNNING\n2 0 task t RUNNING\n3 0 task t SUCCESS 3\n4 0 flow main SUCCESS\nend main SUCCESS\n",
+        status: 0,
+    },
+    Case {
+        shows: "a rebound argument",
+        words: &["x=2"],
+        file: "name = \"main\"\nkind = \"linear\"\nstore = { x = 1 }\nitems = [{ task = \"t\", kind = \"echo\", rebind = { v = \"x\" } }]\n",
+        says: "1 0 flow main RUNNING\n2 0 task t RUNNING\n3 0 task t SUCCESS 2\n4 0 flow main SUCCESS\nend main SUCCESS\n",
+        status: 0,
+    },
+    Case {
+        shows: "the nearest provider",
+        words: &[],
+        file: "name = \"main\"\nkind = \"linear\"\nitems = [{ task = \"A\", kind = \"echo\", inject = { value = 1 }, provides = \"x\" }, { flow = \"n\", kind = \"linear\", items = [{ task = \"B\", kind = \"echo\", inject = { value = 2 }, provides = \"x\" }] }, { task = \"C\", kind = \"echo\", requires = [\"x\"] }]\n",
+        says: "1 0 flow main RUNNING\n2 0 task A RUNNING\n3 0 task A SUCCESS 1\n4 0 task B RUNNING\n5 0 task B SUCCESS 2\n6 0 task C RUNNING\n7 0 task C SUCCESS 2\n8 0 flow main SUCCESS\nend main SUCCESS\n",
+        status: 0,
     },
 ];
 
-/// Runs the words over a desk and sources in memory: the text shown, and the status.
+/// Runs the words over a desk, sources and a crew of one hand in memory, of whose calls the stated ones fail: the
+/// text shown, and the status.
 fn ran(
     alloc: Global,
     words: &[&str],
     file: &[u8],
     unsaid: &[u64],
     unread: &[u64],
+    unhired: &[u64],
 ) -> Result<(Vec<u8>, u8), Fail> {
     let mut made = Vec::new(alloc);
     for word in words {
@@ -70,6 +191,9 @@ fn ran(
         name: Text::make(alloc, b"flow.toml")?,
         bytes: Vec::from_slice(alloc, file)?,
     })?;
+    let spawner = MemorySpawner::make(Vec::new(alloc), Vec::new(alloc));
+    let mut hands = Vec::new(alloc);
+    hands.push(LocalHand::make(spawner))?;
     let outside = Outside {
         desk: MemoryDesk::make(
             alloc,
@@ -79,6 +203,7 @@ fn ran(
             Vec::new(alloc),
         )?,
         sources: MemorySources::make(sources, Vec::from_slice(alloc, unread)?),
+        crew: MemoryCrew::make(alloc, hands, Vec::from_slice(alloc, unhired)?),
     };
     let ended = taskflow(alloc, &made, outside);
     Ok((
@@ -94,7 +219,9 @@ const CHECK: [&str; 2] = ["check", "flow.toml"];
 #[test]
 fn runs_and_reverts(rt: HostRuntime) -> Result<(), Fail> {
     for case in &RUNS {
-        let (text, status) = ran(rt.alloc(), &TRY, case.file.as_bytes(), &[], &[])?;
+        let mut words = Vec::from_slice(rt.alloc(), &TRY)?;
+        words.extend_from_slice(case.words)?;
+        let (text, status) = ran(rt.alloc(), &words, case.file.as_bytes(), &[], &[], &[])?;
         let shows = case.shows;
         assert_eq!(rt; status, case.status, "{shows}");
         assert!(rt; text.as_slice() == case.says.as_bytes(), "{shows}");
@@ -103,7 +230,7 @@ fn runs_and_reverts(rt: HostRuntime) -> Result<(), Fail> {
 }
 
 /// What is refused, and the reason that is said.
-const REFUSALS: [(&str, &str); 25] = [
+const REFUSALS: [(&str, &str); 23] = [
     ("name = \"m\"\nkind = \"linear\"\n", "empty"),
     (
         "name = \"m\"\nkind = \"linear\"\nitems = [{ task = \"x\", kind = \"echo\" }, { task = \"x\", kind = \"fail\" }]",
@@ -164,17 +291,12 @@ const REFUSALS: [(&str, &str); 25] = [
         "bad value items.0.inject.v",
     ),
     (
-        "name = \"m\"\nkind = \"linear\"\nitems = [{ task = \"x\", kind = \"sum\" }]",
-        "not built",
-    ),
-    ("name = \"m\"\nkind = \"linear\"\nretry = 1", "not built"),
-    (
-        "name = \"m\"\nkind = \"linear\"\nitems = [{ task = \"x\", kind = \"echo\", priority = 1 }]",
+        "name = \"m\"\nkind = \"linear\"\nitems = [{ task = \"x\", kind = \"command\", run = [\"true\"] }]",
         "not built",
     ),
     (
-        "name = \"m\"\nkind = \"linear\"\nitems = [{ task = \"x\", kind = \"echo\", provides = \"s\" }, { task = \"y\", kind = \"echo\", requires = [\"s\"] }]",
-        "not built",
+        "name = \"m\"\nkind = \"unordered\"\nitems = [{ task = \"x\", kind = \"echo\", provides = \"s\" }, { task = \"y\", kind = \"echo\", requires = [\"s\"] }]",
+        "missing y s",
     ),
     (
         "name = \"m\"\nkind = \"linear\"\nitems = [{ flow = \"f1\", kind = \"linear\", items = [{ flow = \"f2\", kind = \"linear\", items = [{ flow = \"f3\", kind = \"linear\", items = [{ flow = \"f4\", kind = \"linear\", items = [{ flow = \"f5\", kind = \"linear\", items = [{ flow = \"f6\", kind = \"linear\", items = [{ flow = \"f7\", kind = \"linear\", items = [{ flow = \"f8\", kind = \"linear\", items = [{ flow = \"f9\", kind = \"linear\", items = [{ flow = \"f10\", kind = \"linear\", items = [{ flow = \"f11\", kind = \"linear\", items = [{ flow = \"f12\", kind = \"linear\", items = [{ flow = \"f13\", kind = \"linear\", items = [{ flow = \"f14\", kind = \"linear\", items = [{ flow = \"f15\", kind = \"linear\", items = [{ flow = \"f16\", kind = \"linear\", items = [{ task = \"x\", kind = \"echo\" }] }] }] }] }] }] }] }] }] }] }] }] }] }] }] }] }]",
@@ -186,22 +308,22 @@ const REFUSALS: [(&str, &str); 25] = [
 fn refuses_with_the_reason(rt: HostRuntime) -> Result<(), Fail> {
     let alloc = rt.alloc();
     for (file, reason) in &REFUSALS {
-        let (text, status) = ran(alloc, &TRY, file.as_bytes(), &[], &[])?;
+        let (text, status) = ran(alloc, &TRY, file.as_bytes(), &[], &[], &[])?;
         let want = format!(in alloc; "taskflow: flow file: {reason}\n")?;
         assert_eq!(rt; status, 4, "{file}");
         assert!(rt; text.as_slice() == want.as_bytes(), "{file}");
-        let (text, status) = ran(alloc, &CHECK, file.as_bytes(), &[], &[])?;
+        let (text, status) = ran(alloc, &CHECK, file.as_bytes(), &[], &[], &[])?;
         assert_eq!(rt; status, 4, "{file}");
         assert!(rt; text.as_slice() == want.as_bytes(), "{file}");
     }
-    let (text, status) = ran(alloc, &TRY, b"name = \"\xff\"", &[], &[])?;
+    let (text, status) = ran(alloc, &TRY, b"name = \"\xff\"", &[], &[], &[])?;
     assert_eq!(rt; status, 4);
     assert!(rt; text.as_slice() == b"taskflow: flow file: not toml\n".as_slice());
     let long = vec![in alloc; b'#'; 262_145]?;
-    let (text, status) = ran(alloc, &TRY, &long, &[], &[])?;
+    let (text, status) = ran(alloc, &TRY, &long, &[], &[], &[])?;
     assert_eq!(rt; status, 4);
     assert!(rt; text.as_slice() == b"taskflow: flow file: too long\n".as_slice());
-    let (text, _) = ran(alloc, &TRY, &long[1..], &[], &[])?;
+    let (text, _) = ran(alloc, &TRY, &long[1..], &[], &[], &[])?;
     assert!(rt; text.as_slice() == b"taskflow: flow file: missing key name\n".as_slice());
     Ok(())
 }
@@ -224,7 +346,7 @@ const WORDS: [(&[&str], bool); 11] = [
 #[test]
 fn reads_words(rt: HostRuntime) -> Result<(), Fail> {
     for (words, is_command) in &WORDS {
-        let (text, status) = ran(rt.alloc(), words, TWO_ECHOES.as_bytes(), &[], &[])?;
+        let (text, status) = ran(rt.alloc(), words, TWO_ECHOES.as_bytes(), &[], &[], &[])?;
         assert_eq!(rt; status, if *is_command { 0 } else { 2 }, "{words:?}");
         assert!(rt; *is_command || text.as_slice() == b"taskflow: usage\n".as_slice());
     }
@@ -235,28 +357,31 @@ fn reads_words(rt: HostRuntime) -> Result<(), Fail> {
 fn ends_by_its_faults(rt: HostRuntime) -> Result<(), Fail> {
     let alloc = rt.alloc();
     let file = TWO_ECHOES.as_bytes();
-    let (text, status) = ran(alloc, &TRY, file, &[], &[1])?;
+    let (text, status) = ran(alloc, &TRY, file, &[], &[1], &[])?;
     assert_eq!(rt; status, 3);
     assert!(rt; text.as_slice() == b"taskflow: cannot read\n".as_slice());
-    let (_, status) = ran(alloc, &["try", "absent"], file, &[], &[])?;
+    let (_, status) = ran(alloc, &["try", "absent"], file, &[], &[], &[])?;
     assert_eq!(rt; status, 3);
-    let (text, status) = ran(alloc, &TRY, file, &[3], &[])?;
+    let (text, status) = ran(alloc, &TRY, file, &[3], &[], &[])?;
     assert_eq!(rt; status, 7);
     assert!(rt;
         text.as_slice() == b"1 0 flow main RUNNING\n2 0 task a RUNNING\n3 0 task a".as_slice()
     );
-    let (text, status) = ran(alloc, &TRY, file, &[7], &[])?;
+    let (text, status) = ran(alloc, &TRY, file, &[7], &[], &[])?;
     assert_eq!(rt; status, 7);
     assert!(rt;
         text.as_slice()
             .ends_with(b"6 0 flow main SUCCESS\nend main".as_slice())
     );
-    let (_, status) = ran(alloc, &[], file, &[1], &[])?;
+    let (text, status) = ran(alloc, &TRY, file, &[], &[], &[1])?;
+    assert_eq!(rt; status, 8);
+    assert!(rt; text.as_slice() == b"taskflow: cannot hire\n".as_slice());
+    let (_, status) = ran(alloc, &[], file, &[1], &[], &[])?;
     assert_eq!(rt; status, 7);
-    let (text, status) = ran(alloc, &CHECK, NESTED.as_bytes(), &[], &[])?;
+    let (text, status) = ran(alloc, &CHECK, NESTED.as_bytes(), &[], &[], &[])?;
     assert_eq!(rt; status, 0);
     assert!(rt; text.as_slice() == b"ok main: 4 tasks, 0 retries, 2 flows\n".as_slice());
-    let (text, status) = ran(alloc, &CHECK, NESTED.as_bytes(), &[1], &[])?;
+    let (text, status) = ran(alloc, &CHECK, NESTED.as_bytes(), &[1], &[], &[])?;
     assert_eq!(rt; status, 7);
     assert!(rt; text.as_slice() == b"ok main: 4 tasks, ".as_slice());
     Ok(())

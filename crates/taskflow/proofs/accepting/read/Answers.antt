@@ -1,5 +1,6 @@
-use Rattle.taskflow.proofs.AcceptLemmas.{built_is_plain}
+use Rattle.std.proofs.Common.{sym, ◌∙◌}
+use Rattle.taskflow.specs.Accepted.{misspelled}
 use Rattle.taskflow.proofs.accepting.read.Goals as goal
 
-pub returns-in-Ok-clause-built : goal.returns-in-Ok-clause-built
-returns-in-Ok-clause-built c = built_is_plain c.in-Ok.plan c.in-Ok.ensures.built
+pub returns-else-is_memory-clause-refused : goal.returns-else-is_memory-clause-refused
+returns-else-is_memory-clause-refused c = misspelled c.in-Err.fault (sym c.is_memory.ensures ∙ c.if-is_memory.false) c.in-Err.ensures.refused

@@ -4,7 +4,8 @@ use Rattle.taskflow.proofs.command.check_file.Goals as goal
 
 pub returns-in-Ok-clause-checked : goal.returns-in-Ok-clause-checked
 returns-in-Ok-clause-checked g c =
-    done_file _ c.args.file.now c.in-Ok.machine (Checks _ _) _ _ c.say_checked.result c.in-Ok.ensures.opened (rw (c.plan.ensures.is, c.in-Ok.ensures.quiet) at c.say_checked.ensures.closes)
+    done_file _ c.args.source.file c.args.source.sets c.args.source.defer c.in-Ok.machine (Checks _ _) _ _ c.say_checked.result c.in-Ok.ensures.opened
+    (rw (c.plan.ensures.is, c.in-Ok.ensures.quiet) at c.say_checked.ensures.closes)
 
 pub returns-in-Err-clause-checked : goal.returns-in-Err-clause-checked
-returns-in-Err-clause-checked g c = undone_file _ c.args.file.now (Checks _ _) _ _ c.in-Err.status c.in-Err.ensures.closed
+returns-in-Err-clause-checked g c = undone_file _ c.args.source.file c.args.source.sets c.args.source.defer (Checks _ _) _ _ c.in-Err.status c.in-Err.ensures.closed

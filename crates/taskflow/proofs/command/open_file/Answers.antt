@@ -1,11 +1,11 @@
 use Rattle.taskflow.specs.Course.{unread, too_long}
-use Rattle.taskflow.specs.Lines.{refusal}
+use Rattle.taskflow.specs.Messages.{refusal}
 use Rattle.taskflow.proofs.CourseLemmas.{closed_file}
 use Rattle.taskflow.proofs.command.open_file.Goals as goal
 
 pub returns-in-Ok-clause-closed : goal.returns-in-Ok-clause-closed
 returns-in-Ok-clause-closed g c =
-    closed_file c.open_bytes.result _ c.args.file.now c.in-Ok.bytes.items _ _ c.in-Ok.ensures.whole (rw c.deref.ensures.value at c.open_bytes.ensures.closed)
+    closed_file c.open_bytes.result _ c.args.source.file c.args.source.sets c.args.source.defer c.in-Ok.bytes.items _ _ c.in-Ok.ensures.whole (rw c.deref.ensures.value at c.open_bytes.ensures.closed)
 
 pub returns-in-Err-Read-clause-closed : goal.returns-in-Err-Read-clause-closed
 returns-in-Err-Read-clause-closed g c = unread c.close.ensures.closes

@@ -3,8 +3,8 @@ use Rattle.taskflow.proofs.command.run_machine.Goals as goal
 
 pub returns-in-Ok-clause-ran : goal.returns-in-Ok-clause-ran
 returns-in-Ok-clause-ran g c =
-    ended_run c.args.machine.now.plan _ _ _ c.report_end.result c.in-Ok.last c.plan.ensures.compiles c.plan.ensures.limits c.in-Ok.ensures.ended
-    (rw (c.plan-in-Ok.ensures.is, c.in-Ok.ensures.plan) at c.report_end.ensures.closes)
+    ended_run c.args.machine.now.plan _ _ _ c.report_end.result _ c.in-Ok.last c.plan.ensures.compiles c.plan.ensures.limits c.in-Ok.ensures.ended
+    (rw c.in-Ok.ensures.plan at c.report_end.ensures.closes)
 
 pub returns-in-Err-Out-clause-ran : goal.returns-in-Err-Out-clause-ran
 returns-in-Err-Out-clause-ran g c =

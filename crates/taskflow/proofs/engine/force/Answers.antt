@@ -5,8 +5,8 @@ use Rattle.taskflow.proofs.engine.force.Goals as goal
 
 pub returns-clause-goes : goal.returns-clause-goes
 returns-clause-goes g c before somewhere =
-    somewhere_on _ _ before _ _ c.note.result (c.note.ensures.goes before somewhere.inner somewhere.goes (rw c.entry_of.ensures (forced_given _ _ (begun somewhere.inner) _ c.requires.plain c.requires.forced)))
+    somewhere_on _ _ _ before _ _ c.note.result (c.note.ensures.goes before somewhere.inner somewhere.goes (rw c.entry_of.ensures (forced_given _ _ _ (begun somewhere.inner) _ c.requires.forced)))
 
 pub returns-clause-halted : goal.returns-clause-halted
 returns-clause-halted g c before somewhere =
-    c.note.ensures.halted before somewhere.inner somewhere.goes (rw c.entry_of.ensures (forced_given _ _ (begun somewhere.inner) _ c.requires.plain c.requires.forced))
+    c.note.ensures.halted before somewhere.inner somewhere.goes (rw c.entry_of.ensures (forced_given _ _ _ (begun somewhere.inner) _ c.requires.forced))

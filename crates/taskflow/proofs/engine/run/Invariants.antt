@@ -7,7 +7,7 @@ use Rattle.taskflow.proofs.engine.run.Given as goal
 abbrev pub invariant-steps : goal.invariant-steps
 invariant-steps g l = record {
   plan : l.machine.plan ≡ l.fn.machine.plan;
-  goes : GoesSomewhere l.machine l.log (g.K.Desk.shown l.fn.desk) (g.K.Desk.shown l.desk);
+  goes : GoesSomewhere g.P.Performer.gives l.machine l.log (g.K.Desk.shown l.fn.desk) (g.K.Desk.shown l.desk);
   rests : Rests l.machine;
   no_fall : g.K.Desk.out_faults l.fn.desk ≤ g.K.Desk.out_faults l.desk;
 }

@@ -1,0 +1,66 @@
+-- How many tasks a plan has, and what a check says of it.
+use Rattle.std.proofs.Common.{◌≡◌, ℕ, suc, ◌+◌, List, [], ◌∷◌, ◌++◌, length, Bool, true, false, not, Some, sym, ap, ◌∙◌, arith, codes, ◌-◌}
+use Rattle.std.specs.Prelude.{slice_get, if◌then◌else◌}
+use Rattle.std.specs.Fmt.{decimal}
+use Rattle.std.proofs.lemmas.List.{length-map, length-append, append_assoc}
+use Rattle.tf_flow.specs.Plan.{PlanValue}
+use Rattle.tf_flow.specs.Plan as numbering
+use Rattle.tf_model.specs.Laws as laws
+use Rattle.tf_numbers.specs.Numbers.{which_below}
+use Rattle.tf_model.specs.Plan.{Outline, outline_of, count, is_task}
+use Rattle.tf_model.proofs.OutlineLemmas.{same_flows}
+use Rattle.tf_machine.proofs.PlanLemmas as plan_lemmas
+use Rattle.tf_report.specs.Lines.{flow_name}
+use Rattle.taskflow.specs.Messages.{tasks_below, checked}
+
+-- ---- atoms
+
+pub atoms_counted : (plan : PlanValue) → length (numbering.atoms plan) ≡ count (outline_of plan)
+atoms_counted plan = plan_lemmas.atoms_counted plan
+
+pub part_told : (plan : PlanValue) (a : ℕ) (b : Bool) → slice_get (numbering.retries plan) a ≡ Some b → is_task (outline_of plan) a ≡ not b
+part_told plan a b is = plan_lemmas.task_told plan a b is
+
+-- ---- flows
+
+pub flows_counted : (plan : PlanValue) → length (numbering.flows plan) ≡ length (outline_of plan).flows
+flows_counted plan = ap length (sym (same_flows plan)) ∙ length-map (outline_of plan).flows laws.name_of_flow
+
+-- ---- how many atoms are tasks
+
+-- one atom more, which is a task
+pub counted_task : (plan : Outline) (a tasks : ℕ) → is_task plan a ≡ true → tasks ≡ tasks_below plan a → tasks + 1 ≡ tasks_below plan (a + 1)
+counted_task plan a tasks is counted =
+    let next : a + 1 ≡ suc a = omega arith in
+    ap (λ (n : ℕ). n + 1) counted
+    ∙ (sym (length-append (which_below a (is_task plan)) (if is_task plan a then a ∷ [] else []) ∙ ap (λ (test : Bool). tasks_below plan a + length (if test then a ∷ [] else [])) is)
+    ∙ ap (tasks_below plan) (sym next))
+
+-- one atom more, which is none
+pub counted_other : (plan : Outline) (a tasks : ℕ) → is_task plan a ≡ false → tasks ≡ tasks_below plan a → tasks ≡ tasks_below plan (a + 1)
+counted_other plan a tasks is counted =
+    let next : a + 1 ≡ suc a = omega arith in
+    let none : tasks_below plan a + 0 ≡ tasks_below plan a = omega arith in
+    counted
+    ∙ (sym (length-append (which_below a (is_task plan)) (if is_task plan a then a ∷ [] else []) ∙ (ap (λ (test : Bool). tasks_below plan a + length (if test then a ∷ [] else [])) is ∙ none))
+    ∙ ap (tasks_below plan) (sym next))
+
+-- ---- what a check says
+
+-- nine texts that were appended by twos
+by_twos : (front a b c d e f g h i : List ℕ) → ((((front ++ (a ++ b)) ++ (c ++ d)) ++ (e ++ f)) ++ (g ++ h)) ++ i ≡ front ++ (a ++ b ++ c ++ d ++ e ++ f ++ g ++ h ++ i)
+by_twos front a b c d e f g h i = search (append_assoc)
+
+-- what was appended of a plan
+pub checked_told : (plan : PlanValue) (front : List ℕ) (tasks atoms flows : ℕ) → tasks ≡ tasks_below (outline_of plan) (count (outline_of plan)) → atoms ≡ length (numbering.atoms plan) → flows ≡ length (numbering.flows plan)
+    → ((((front ++ (codes "ok " ++ flow_name (outline_of plan) 0)) ++ (codes ": " ++ decimal tasks)) ++ (codes " tasks, " ++ decimal (atoms - tasks))) ++ (codes " retries, " ++ decimal flows)) ++ codes " flows\n"
+    ≡ front ++ checked (outline_of plan)
+unfolding checked
+checked_told plan front tasks atoms flows counted all flowing =
+    let outline : Outline = outline_of plan in
+    let number : atoms ≡ count outline = all ∙ atoms_counted plan in
+    let flow_number : flows ≡ length outline.flows = flowing ∙ flows_counted plan in
+    by_twos front (codes "ok ") (flow_name outline 0) (codes ": ") (decimal tasks) (codes " tasks, ") (decimal (atoms - tasks)) (codes " retries, ") (decimal flows) (codes " flows\n")
+    ∙ (ap (λ (n : ℕ). front ++ (codes "ok " ++ flow_name outline 0 ++ codes ": " ++ decimal n ++ codes " tasks, " ++ decimal (atoms - n) ++ codes " retries, " ++ decimal flows ++ codes " flows\n")) counted
+    ∙ (ap (λ (n : ℕ). front ++ (codes "ok " ++ flow_name outline 0 ++ codes ": " ++ decimal (tasks_below outline (count outline)) ++ codes " tasks, " ++ decimal (n - tasks_below outline (count outline)) ++ codes " retries, " ++ decimal flows ++ codes " flows\n")) number
+    ∙ ap (λ (n : ℕ). front ++ (codes "ok " ++ flow_name outline 0 ++ codes ": " ++ decimal (tasks_below outline (count outline)) ++ codes " tasks, " ++ decimal (count outline - tasks_below outline (count outline)) ++ codes " retries, " ++ decimal n ++ codes " flows\n")) flow_number))
