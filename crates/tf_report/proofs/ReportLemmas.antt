@@ -1,8 +1,8 @@
--- The report by what the views show.
+-- The report and the table by what the views show.
 use Rattle.std.proofs.Common.{◌≡◌, ℕ, suc, ◌+◌, List, [], ◌∷◌, ◌++◌, OnErr, Result, Ok, Err, codes, sym, ap, ◌∙◌, append_assoc, arith}
 use Rattle.std.proofs.Math.Path.{fun_ext}
-use Rattle.std.proofs.lemmas.List.{append-nil}
-use Rattle.std.proofs.lemmas.Grind.{flat_map-append}
+use Rattle.std.proofs.lemmas.List.{flat_map_more}
+use Rattle.std.specs.List.{flat_map}
 use Rattle.tf_numbers.specs.Numbers.{numbers_below}
 use Rattle.tf_states.specs.declared.record.AtomView.{AtomView}
 use Rattle.tf_states.specs.declared.record.Payload.{Payload}
@@ -12,7 +12,8 @@ use Rattle.tf_model.specs.Plan.{Outline, atom_name}
 use Rattle.tf_model.specs.Snapshot.{Snapshot}
 use Rattle.tf_model.specs.Views.{Shows}
 use Rattle.tf_report.specs.Lines.{payload_text}
-use Rattle.tf_report.specs.Report.{failed, unreverted, unreverted_below, state_shown, payload_shown, report_shown, report}
+use Rattle.tf_report.specs.Report.{failed, state_shown, payload_shown, report_shown, report}
+use Rattle.tf_report.specs.Table.{table_shown, table}
 
 by_four : (front a b c d : List ℕ) → (((front ++ a) ++ b) ++ c) ++ d ≡ front ++ (a ++ b ++ c ++ d)
 by_four front a b c d = simp append_assoc
@@ -29,17 +30,9 @@ pub on_err_always : {T E P : Type 0} (r : Result T E) → P → OnErr r P
 on_err_always (Ok x) p = tt
 on_err_always (Err e) p = p
 
--- one atom more
-pub unreverted_next : (plan : Outline) (state : ℕ → AtomState) (held : ℕ → Payload) (before : List ℕ) (a : ℕ)
-    → (before ++ unreverted_below plan state held a) ++ unreverted plan a (state a) (held a) ≡ before ++ unreverted_below plan state held (a + 1)
-unreverted_next plan state held before a =
-    let next : a + 1 ≡ suc a = omega arith in
-    let line : List ℕ = unreverted plan a (state a) (held a) in
-    append_assoc before (unreverted_below plan state held a) line
-    ∙ ap (λ (text : List ℕ). before ++ text)
-    (ap (λ (text : List ℕ). unreverted_below plan state held a ++ text) (sym (append-nil line))
-    ∙ sym (flat_map-append (λ (n : ℕ). unreverted plan n (state n) (held n)) (numbers_below a) (a ∷ []))
-    ∙ ap (unreverted_below plan state held) (sym next))
+-- the line of one number more
+pub lines_next : (line : ℕ → List ℕ) (before : List ℕ) (a : ℕ) → (before ++ flat_map line (numbers_below a)) ++ line a ≡ before ++ flat_map line (numbers_below (a + 1))
+lines_next line before a = let next : a + 1 ≡ suc a = omega arith in rw next (flat_map_more line before (numbers_below a) a)
 
 -- what the views show of a moment is the report at this moment
 pub report_told : (plan : Outline) (views : List AtomView) (state : FlowState) (s : Snapshot) → Shows views s → s.flow ≡ state → report_shown plan state (state_shown views) (payload_shown views) ≡ report plan s
@@ -48,3 +41,11 @@ report_told plan views state s shows flow =
     ap (λ (f : FlowState). report_shown plan f (state_shown views) (payload_shown views)) (sym flow)
     ∙ ap (λ (f : ℕ → AtomState). report_shown plan s.flow f (payload_shown views)) (fun_ext (λ a. sym (shows.state a)))
     ∙ ap (λ (f : ℕ → Payload). report_shown plan s.flow s.state f) (fun_ext (λ a. sym (shows.payload a)))
+
+-- and their table is the table at this moment
+pub table_told : (plan : Outline) (views : List AtomView) (state : FlowState) (s : Snapshot) → Shows views s → s.flow ≡ state → table_shown plan state (state_shown views) (payload_shown views) ≡ table plan s
+unfolding table
+table_told plan views state s shows flow =
+    ap (λ (f : FlowState). table_shown plan f (state_shown views) (payload_shown views)) (sym flow)
+    ∙ ap (λ (f : ℕ → AtomState). table_shown plan s.flow f (payload_shown views)) (fun_ext (λ a. sym (shows.state a)))
+    ∙ ap (λ (f : ℕ → Payload). table_shown plan s.flow s.state f) (fun_ext (λ a. sym (shows.payload a)))

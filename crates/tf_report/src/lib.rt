@@ -1,4 +1,4 @@
-//! The texts that a run shows: the line of each entry, and the report at its end.
+//! The texts that a run shows: the line of each entry, the report at its end, and the table of where its atoms stand.
 #![tactic(auto)]
 
 mod appending;
@@ -7,6 +7,7 @@ mod lines;
 mod names;
 mod reports;
 mod state_words;
+mod tables;
 #[cfg(test)]
 mod tests;
 
@@ -14,3 +15,4 @@ pub use appending::{append, append_counted, append_number, append_pair};
 pub use lines::line;
 pub use names::flow_name;
 pub use reports::report;
+pub use tables::table;

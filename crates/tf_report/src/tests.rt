@@ -1,5 +1,6 @@
 use crate::lines::line;
 use crate::reports::report;
+use crate::tables::table;
 use std::alloc::Global;
 use std::test::Fail;
 use tf_flow::{
@@ -189,5 +190,30 @@ fn a_failure_names_the_reversions_that_failed(rt: HostRuntime) -> Result<(), Fai
     );
     let success = reported(alloc, FlowState::Success)?;
     assert!(rt; success.as_slice() == b"end main SUCCESS\n".as_slice());
+    Ok(())
+}
+
+/// The table of a linear flow `main` of a task `a` that gave 1.
+#[test]
+fn a_table_has_the_flow_and_its_atom(rt: HostRuntime) -> Result<(), Fail> {
+    let alloc = rt.alloc();
+    let mut items = Vec::new(alloc);
+    items.push(task(alloc, "a")?)?;
+    let root = flow(alloc, "main", None, items)?;
+    let plan = Plan::make(alloc, root, Binds::make(Vec::new(alloc)), false).ok();
+    let views = vec![in alloc;
+        AtomView {
+            state: AtomState::Success,
+            payload: Payload::Value(Val::Int(1))
+        },
+    ]?;
+    let mut out = Vec::new(alloc);
+    table(
+        &plan.ok_or("no plan")?,
+        FlowState::Success,
+        &views,
+        &mut out,
+    )?;
+    assert!(rt; out.as_slice() == b"state main SUCCESS\natom a SUCCESS 1\n".as_slice());
     Ok(())
 }

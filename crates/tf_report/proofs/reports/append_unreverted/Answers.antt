@@ -4,14 +4,15 @@ use Rattle.tf_values.proofs.GrowthLemmas.{keeps_shorter}
 use Rattle.tf_model.specs.Plan.{outline_of, count}
 use Rattle.tf_report.specs.Report.{unreverted, unreverted_below, state_shown, payload_shown}
 use Rattle.tf_report.proofs.LineLemmas.{atoms_counted}
-use Rattle.tf_report.proofs.ReportLemmas.{unreverted_next, on_err_always}
+use Rattle.tf_report.proofs.ReportLemmas.{lines_next, on_err_always}
 use Rattle.tf_report.proofs.reports.append_unreverted.Goals as goal
 
 pub loop-atom-preserved : goal.loop-atom-preserved
 loop-atom-preserved c =
+    let line : ℕ → List ℕ = λ n. unreverted (outline_of c.args.plan.now) n (state_shown c.args.views.now n) (payload_shown c.args.views.now n) in
     c.in_ok-append_atom.ensures.ok
-    ∙ ap (λ (text : List ℕ). text ++ unreverted (outline_of c.args.plan.now) c.loop-atom.atom (state_shown c.args.views.now c.loop-atom.atom) (payload_shown c.args.views.now c.loop-atom.atom)) c.loop-atom.invariant
-    ∙ unreverted_next (outline_of c.args.plan.now) (state_shown c.args.views.now) (payload_shown c.args.views.now) c.args.out.now.items c.loop-atom.atom
+    ∙ ap (λ (text : List ℕ). text ++ line c.loop-atom.atom) c.loop-atom.invariant
+    ∙ lines_next line c.args.out.now.items c.loop-atom.atom
 
 pub returns-clause-ok : goal.returns-clause-ok
 returns-clause-ok c =
