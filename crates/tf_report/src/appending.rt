@@ -1,4 +1,4 @@
-ghost use Rattle.std.specs.Prelude.{◌≡◌, ◌++◌, ◌∷◌, OnOk, OnErr};
+ghost use Rattle.std.specs.Prelude.{◌≡◌, ◌<◌, ◌≤◌, ◌+◌, ◌++◌, ◌∷◌, length, OnOk, OnErr, vec_capacity};
 ghost use Rattle.tf_values.specs.Growth.{KeepsFront};
 
 use itoa::{Buffer, Integer};
@@ -8,6 +8,8 @@ use tf_values::Memory;
 pub fn append(bytes: &[u8], out: &mut Vec<u8>) -> Result<(), Memory>
     ensures ok { OnOk result (out.new.items ≡ out.old.items ++ bytes.now) }
     ensures err { OnErr result (KeepsFront out.old.items out.new.items) }
+    ensures full { OnErr result (vec_capacity out.old < length out.old.items + length bytes.now) }
+    ensures capacity { vec_capacity out.old ≤ vec_capacity out.new }
 {
     out.extend_from_slice(bytes)?;
     Ok(())
@@ -17,6 +19,9 @@ pub fn append(bytes: &[u8], out: &mut Vec<u8>) -> Result<(), Memory>
 pub fn append_number<I: Integer + Drop>(number: I, out: &mut Vec<u8>) -> Result<(), Memory>
     ensures ok { OnOk result (out.new.items ≡ out.old.items ++ I.text number) }
     ensures err { OnErr result (KeepsFront out.old.items out.new.items) }
+    ensures full { OnErr result (vec_capacity out.old < length out.old.items + length (I.text number)) }
+    ensures capacity { vec_capacity out.old ≤ vec_capacity out.new }
+    ensures short { length (I.text number) ≤ 40 }
 {
     let mut buffer = Buffer::new();
     append(buffer.format(number).as_bytes(), out)
@@ -31,6 +36,9 @@ pub fn append_counted<I: Integer + Drop>(
 ) -> Result<(), Memory>
     ensures ok { OnOk result (out.new.items ≡ out.old.items ++ (head.now ++ I.text number)) }
     ensures err { OnErr result (KeepsFront out.old.items out.new.items) }
+    ensures full { OnErr result (vec_capacity out.old < length out.old.items + (length head.now + 40)) }
+    ensures capacity { vec_capacity out.old ≤ vec_capacity out.new }
+    ensures short { OnOk result (length (I.text number) ≤ 40) }
 {
     append(head, out)?;
     append_number(number, out)
@@ -41,6 +49,8 @@ pub fn append_counted<I: Integer + Drop>(
 pub fn append_pair(head: &[u8], name: &[u8], out: &mut Vec<u8>) -> Result<(), Memory>
     ensures ok { OnOk result (out.new.items ≡ out.old.items ++ (head.now ++ name.now)) }
     ensures err { OnErr result (KeepsFront out.old.items out.new.items) }
+    ensures full { OnErr result (vec_capacity out.old < length out.old.items + (length head.now + length name.now)) }
+    ensures capacity { vec_capacity out.old ≤ vec_capacity out.new }
 {
     append(head, out)?;
     append(name, out)
@@ -51,6 +61,8 @@ pub fn append_pair(head: &[u8], name: &[u8], out: &mut Vec<u8>) -> Result<(), Me
 pub fn append_named(head: &[u8], name: &[u8], word: &str, out: &mut Vec<u8>) -> Result<(), Memory>
     ensures ok { OnOk result (out.new.items ≡ out.old.items ++ (head.now ++ name.now ++ 32 ∷ word.now)) }
     ensures err { OnErr result (KeepsFront out.old.items out.new.items) }
+    ensures full { OnErr result (vec_capacity out.old < length out.old.items + (length head.now + length name.now + 1 + length word.now)) }
+    ensures capacity { vec_capacity out.old ≤ vec_capacity out.new }
 {
     append_pair(head, name, out)?;
     append_pair(b" ", word.as_bytes(), out)

@@ -1,4 +1,4 @@
-ghost use Rattle.std.specs.Prelude.{◌≡◌, ◌++◌, OnOk, OnErr};
+ghost use Rattle.std.specs.Prelude.{◌≡◌, ◌<◌, ◌≤◌, ◌+◌, ◌++◌, length, OnOk, OnErr, vec_capacity};
 ghost use Rattle.tf_values.specs.Growth.{KeepsFront};
 ghost use Rattle.tf_report.specs.Lines.{failure_text, payload_text};
 
@@ -11,6 +11,9 @@ use tf_values::Memory;
 pub fn append_payload(payload: &Payload, out: &mut Vec<u8>) -> Result<(), Memory>
     ensures ok { OnOk result (out.new.items ≡ out.old.items ++ payload_text payload.now) }
     ensures err { OnErr result (KeepsFront out.old.items out.new.items) }
+    ensures full { OnErr result (vec_capacity out.old < length out.old.items + 800000) }
+    ensures capacity { vec_capacity out.old ≤ vec_capacity out.new }
+    ensures grown { OnOk result (length out.new.items ≤ length out.old.items + 800000) }
 {
     match payload {
         Payload::Empty => Ok(()),
@@ -29,6 +32,9 @@ pub fn append_payload(payload: &Payload, out: &mut Vec<u8>) -> Result<(), Memory
 fn append_failure(failure: &Failure, out: &mut Vec<u8>) -> Result<(), Memory>
     ensures ok { OnOk result (out.new.items ≡ out.old.items ++ failure_text failure.now) }
     ensures err { OnErr result (KeepsFront out.old.items out.new.items) }
+    ensures full { OnErr result (vec_capacity out.old < length out.old.items + 400000) }
+    ensures capacity { vec_capacity out.old ≤ vec_capacity out.new }
+    ensures grown { OnOk result (length out.new.items ≤ length out.old.items + 400000) }
 {
     match failure {
         Failure::Raised(text) => {

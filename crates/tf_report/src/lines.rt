@@ -1,4 +1,4 @@
-ghost use Rattle.std.specs.Prelude.{◌≡◌, ◌++◌, OnOk, OnErr};
+ghost use Rattle.std.specs.Prelude.{◌≡◌, ◌<◌, ◌≤◌, ◌+◌, ◌++◌, length, IsOk, OnOk, OnErr, vec_capacity};
 ghost use Rattle.tf_values.specs.Growth.{KeepsFront};
 ghost use Rattle.tf_model.specs.Plan.{outline_of};
 ghost use Rattle.tf_report.specs.Lines.{what_text, line as line_of};
@@ -12,10 +12,13 @@ use tf_states::{Entry, What};
 use tf_values::Memory;
 
 /// Appends the line of the entry of that number, counted from 1 in its history. An atom or a flow that
-/// the plan doesn't have is shown without a name. Want of memory leaves the output as it was.
+/// the plan doesn't have is shown without a name. Want of memory leaves the output as it was, and doesn't
+/// come where there is room for 1,048,576 bytes more.
 pub fn line(plan: &Plan, number: u64, entry: &Entry, out: &mut Vec<u8>) -> Result<(), Memory>
     ensures ok { OnOk result (out.new.items ≡ out.old.items ++ line_of (outline_of plan.now) number entry.now) }
     ensures err { OnErr result (out.new.items ≡ out.old.items) }
+    ensures room { length out.old.items + 1048576 ≤ vec_capacity out.old → IsOk result }
+    ensures capacity { vec_capacity out.old ≤ vec_capacity out.new }
 {
     let before = out.len();
     match append_line(plan, number, entry, out) {
@@ -31,6 +34,9 @@ pub fn line(plan: &Plan, number: u64, entry: &Entry, out: &mut Vec<u8>) -> Resul
 fn append_line(plan: &Plan, number: u64, entry: &Entry, out: &mut Vec<u8>) -> Result<(), Memory>
     ensures ok { OnOk result (out.new.items ≡ out.old.items ++ line_of (outline_of plan.now) number entry.now) }
     ensures err { OnErr result (KeepsFront out.old.items out.new.items) }
+    ensures full { OnErr result (vec_capacity out.old < length out.old.items + 1048576) }
+    ensures capacity { vec_capacity out.old ≤ vec_capacity out.new }
+    ensures grown { OnOk result (length out.new.items ≤ length out.old.items + 1048576) }
 {
     append_number(number, out)?;
     append(b" ", out)?;
@@ -44,6 +50,9 @@ fn append_line(plan: &Plan, number: u64, entry: &Entry, out: &mut Vec<u8>) -> Re
 fn append_what(plan: &Plan, what: &What, out: &mut Vec<u8>) -> Result<(), Memory>
     ensures ok { OnOk result (out.new.items ≡ out.old.items ++ what_text (outline_of plan.now) what.now) }
     ensures err { OnErr result (KeepsFront out.old.items out.new.items) }
+    ensures full { OnErr result (vec_capacity out.old < length out.old.items + 900000) }
+    ensures capacity { vec_capacity out.old ≤ vec_capacity out.new }
+    ensures grown { OnOk result (length out.new.items ≤ length out.old.items + 900000) }
 {
     match what {
         What::Atom {

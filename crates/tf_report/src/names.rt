@@ -1,4 +1,4 @@
-ghost use Rattle.std.specs.Prelude.{◌≡◌};
+ghost use Rattle.std.specs.Prelude.{◌≡◌, ◌≤◌, length};
 ghost use Rattle.tf_model.specs.Plan.{outline_of, is_task, atom_name as name_of_atom};
 ghost use Rattle.tf_report.specs.Lines.{part_word as word_of_part, flow_name as name_of_flow};
 
@@ -7,7 +7,8 @@ use tf_flow::Plan;
 /// The name of the atom of that number, and nothing where there is none.
 #[tactic(auto, using(crate::proofs::LineLemmas::atom_named, crate::proofs::LineLemmas::atom_past, crate::proofs::LineLemmas::atoms_counted))]
 pub fn atom_name(plan: &Plan, atom: u16) -> &[u8]
-    ensures { result.now ≡ name_of_atom (outline_of plan.now) atom }
+    ensures name { result.now ≡ name_of_atom (outline_of plan.now) atom }
+    ensures short { length result.now ≤ 64 }
 {
     if atom >= plan.atoms() {
         return b"";
@@ -18,7 +19,8 @@ pub fn atom_name(plan: &Plan, atom: u16) -> &[u8]
 /// The word for what the atom of that number is.
 #[tactic(auto, using(crate::proofs::LineLemmas::part_told, crate::proofs::LineLemmas::part_past, crate::proofs::LineLemmas::atoms_counted))]
 pub fn part_word(plan: &Plan, atom: u16) -> &'static str
-    ensures { result.now ≡ word_of_part (is_task (outline_of plan.now) atom) }
+    ensures word { result.now ≡ word_of_part (is_task (outline_of plan.now) atom) }
+    ensures short { length result.now ≤ 6 }
 {
     if atom >= plan.atoms() {
         return "retry ";
@@ -32,7 +34,8 @@ pub fn part_word(plan: &Plan, atom: u16) -> &'static str
 /// The name of the flow of that number, and nothing where there is none.
 #[tactic(auto, using(crate::proofs::LineLemmas::flow_named, crate::proofs::LineLemmas::flow_past))]
 pub fn flow_name(plan: &Plan, flow: u16) -> &[u8]
-    ensures { result.now ≡ name_of_flow (outline_of plan.now) flow }
+    ensures name { result.now ≡ name_of_flow (outline_of plan.now) flow }
+    ensures short { length result.now ≤ 64 }
 {
     if flow >= plan.flows() {
         return b"";

@@ -1,11 +1,12 @@
-ghost use Rattle.std.specs.Prelude.{◌≡◌};
+ghost use Rattle.std.specs.Prelude.{◌≡◌, ◌≤◌, length};
 ghost use Rattle.tf_report.specs.Lines.{atom_word as word_of_atom, flow_word as word_of_flow, kind_word as word_of_kind};
 
 use tf_states::{AtomState, FlowState, Kind};
 
 /// The word for the state of an atom.
 pub fn atom_word(state: AtomState) -> &'static str
-    ensures { result.now ≡ word_of_atom state }
+    ensures word { result.now ≡ word_of_atom state }
+    ensures short { length result.now ≤ 14 }
 {
     match state {
         AtomState::Pending => "PENDING",
@@ -22,7 +23,8 @@ pub fn atom_word(state: AtomState) -> &'static str
 
 /// The word for the state of the flow.
 pub fn flow_word(state: FlowState) -> &'static str
-    ensures { result.now ≡ word_of_flow state }
+    ensures word { result.now ≡ word_of_flow state }
+    ensures short { length result.now ≤ 14 }
 {
     match state {
         FlowState::Pending => "PENDING",
@@ -38,7 +40,8 @@ pub fn flow_word(state: FlowState) -> &'static str
 
 /// The word for what a failure is resolved to.
 pub fn kind_word(kind: Kind) -> &'static str
-    ensures { result.now ≡ word_of_kind kind }
+    ensures word { result.now ≡ word_of_kind kind }
+    ensures short { length result.now ≤ 14 }
 {
     match kind {
         Kind::Retry => "RETRY",

@@ -11,3 +11,4 @@ pub mod ScalarLemmas
 pub mod ValueLemmas
 pub mod ReadingLemmas
 pub mod NumberLemmas
+pub mod RoomLemmas

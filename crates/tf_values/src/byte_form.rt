@@ -1,4 +1,4 @@
-ghost use Rattle.std.specs.Prelude.{◌≡◌, ◌≤◌, ◌++◌, ◌∷◌, [], ◌<◌, ◌^◌, length, true, OnOk, OnErr};
+ghost use Rattle.std.specs.Prelude.{◌≡◌, ◌≤◌, ◌+◌, ◌++◌, ◌∷◌, [], ◌<◌, ◌^◌, length, true, OnOk, OnErr, vec_capacity};
 ghost use Rattle.std.specs.List.{flat_map};
 ghost use Rattle.std.specs.Int.{to_be_bytes, cast_unsigned, w64};
 ghost use Rattle.tf_values.specs.ByteForm.{scalar_bytes, list_bytes, text_bytes};
@@ -27,10 +27,14 @@ impl Val {
         }
     }
 
-    /// Appends the byte form.
+    /// Appends the byte form. Where there is room for it, it succeeds.
+    #[tactic(auto, using(crate::proofs::RoomLemmas::byte_form_is_short))]
     pub fn encode(&self, out: &mut Vec<u8>) -> Result<(), Memory>
         ensures ok { OnOk result (out.new.items ≡ out.old.items ++ byte_form self.now) }
         ensures err { OnErr result (out.new.items ≡ out.old.items) }
+        ensures full { OnErr result (vec_capacity out.old < length out.old.items + length (byte_form self.now)) }
+        ensures capacity { vec_capacity out.old ≤ vec_capacity out.new }
+        ensures bound { length (byte_form self.now) ≤ 131072 }
         ensures value { IsValue self.now }
     {
         let before = out.len();
@@ -48,6 +52,8 @@ impl Val {
 fn append_value(value: &Val, out: &mut Vec<u8>) -> Result<(), AllocError>
     ensures ok { OnOk result (out.new.items ≡ out.old.items ++ byte_form value.now) }
     ensures err { OnErr result (KeepsFront out.old.items out.new.items) }
+    ensures full { OnErr result (vec_capacity out.old < length out.old.items + length (byte_form value.now)) }
+    ensures capacity { vec_capacity out.old ≤ vec_capacity out.new }
     ensures value { IsValue value.now }
 {
     match value {
@@ -64,6 +70,8 @@ fn append_list(scalars: &[Scalar], out: &mut Vec<u8>) -> Result<(), AllocError>
     requires { are_scalars scalars.now ≡ true }
     ensures ok { OnOk result (out.new.items ≡ out.old.items ++ list_bytes scalars.now) }
     ensures err { OnErr result (KeepsFront out.old.items out.new.items) }
+    ensures full { OnErr result (vec_capacity out.old < length out.old.items + length (list_bytes scalars.now)) }
+    ensures capacity { vec_capacity out.old ≤ vec_capacity out.new }
 {
     let count = scalars.len() as u16;
     out.extend_from_slice(&[5])?;
@@ -75,6 +83,8 @@ fn append_list(scalars: &[Scalar], out: &mut Vec<u8>) -> Result<(), AllocError>
 fn append_scalars(scalars: &[Scalar], out: &mut Vec<u8>) -> Result<(), AllocError>
     ensures ok { OnOk result (out.new.items ≡ out.old.items ++ flat_map scalar_bytes scalars.now) }
     ensures err { OnErr result (KeepsFront out.old.items out.new.items) }
+    ensures full { OnErr result (vec_capacity out.old < length out.old.items + length (flat_map scalar_bytes scalars.now)) }
+    ensures capacity { vec_capacity out.old ≤ vec_capacity out.new }
 {
     for scalar in scalars {
         append_scalar(scalar, out)?;
@@ -86,6 +96,8 @@ fn append_scalars(scalars: &[Scalar], out: &mut Vec<u8>) -> Result<(), AllocErro
 fn append_scalar(scalar: &Scalar, out: &mut Vec<u8>) -> Result<(), AllocError>
     ensures ok { OnOk result (out.new.items ≡ out.old.items ++ scalar_bytes scalar.now) }
     ensures err { OnErr result (KeepsFront out.old.items out.new.items) }
+    ensures full { OnErr result (vec_capacity out.old < length out.old.items + length (scalar_bytes scalar.now)) }
+    ensures capacity { vec_capacity out.old ≤ vec_capacity out.new }
 {
     match scalar {
         Scalar::Nothing => out.extend_from_slice(&[0]),
@@ -100,6 +112,8 @@ fn append_int(number: i64, out: &mut Vec<u8>) -> Result<(), AllocError>
     ensures ok { OnOk result (out.new.items
         ≡ out.old.items ++ 3 ∷ to_be_bytes w64 (cast_unsigned w64 number)) }
     ensures err { OnErr result (KeepsFront out.old.items out.new.items) }
+    ensures full { OnErr result (vec_capacity out.old < length out.old.items + 9) }
+    ensures capacity { vec_capacity out.old ≤ vec_capacity out.new }
 {
     out.extend_from_slice(&[3])?;
     out.extend_from_slice(&number.to_be_bytes())
@@ -110,6 +124,8 @@ fn append_text(text: &[u8], out: &mut Vec<u8>) -> Result<(), AllocError>
     requires { is_text text.now ≡ true }
     ensures ok { OnOk result (out.new.items ≡ out.old.items ++ 4 ∷ text_bytes text.now) }
     ensures err { OnErr result (KeepsFront out.old.items out.new.items) }
+    ensures full { OnErr result (vec_capacity out.old < length out.old.items + (5 + length text.now)) }
+    ensures capacity { vec_capacity out.old ≤ vec_capacity out.new }
 {
     let len = text.len() as u32;
     out.extend_from_slice(&[4])?;

@@ -1,7 +1,8 @@
-ghost use Rattle.std.specs.Prelude.{◌≡◌, ◌<◌, [], ◌∷◌, ◌++◌, OnOk, OnErr};
+ghost use Rattle.std.specs.Prelude.{◌≡◌, ◌<◌, ◌≤◌, ◌+◌, [], ◌∷◌, ◌++◌, length, OnOk, OnErr, vec_capacity};
 ghost use Rattle.std.specs.Fmt.{signed_decimal};
 ghost use Rattle.std.specs.List.{flat_map};
 ghost use Rattle.tf_values.specs.TextForm.{hexadecimal, quoted_byte, quoted, truth_text, scalar_text, further_text, scalars_text, text_form};
+ghost use Rattle.tf_values.specs.Value.{IsValue};
 ghost use Rattle.tf_values.specs.Growth.{KeepsFront};
 
 use crate::elements::Scalar;
@@ -12,10 +13,14 @@ use itoa::Buffer;
 use std::alloc::AllocError;
 
 impl Val {
-    /// Appends the text form.
+    /// Appends the text form. Where there is room for it, it succeeds.
+    #[tactic(auto, using(crate::proofs::RoomLemmas::text_form_is_within))]
     pub fn print(&self, out: &mut Vec<u8>) -> Result<(), Memory>
         ensures ok { OnOk result (out.new.items ≡ out.old.items ++ text_form self.now) }
         ensures err { OnErr result (out.new.items ≡ out.old.items) }
+        ensures full { OnErr result (vec_capacity out.old < length out.old.items + length (text_form self.now)) }
+        ensures capacity { vec_capacity out.old ≤ vec_capacity out.new }
+        ensures bound { length (text_form self.now) ≤ 786432 }
     {
         let before = out.len();
         match append_value(self, out) {
@@ -29,20 +34,26 @@ impl Val {
 }
 
 impl Text {
-    /// Appends the text form: the text in double quotes.
+    /// Appends the text form: the text in double quotes. Where there is room for it, it succeeds.
+    #[tactic(auto, using(crate::proofs::RoomLemmas::quoted_is_within))]
     pub fn print(&self, out: &mut Vec<u8>) -> Result<(), Memory>
         ensures ok { OnOk result (out.new.items ≡ out.old.items ++ quoted self.now) }
         ensures err { OnErr result (out.new.items ≡ out.old.items) }
+        ensures full { OnErr result (vec_capacity out.old < length out.old.items + length (quoted self.now)) }
+        ensures capacity { vec_capacity out.old ≤ vec_capacity out.new }
+        ensures bound { length (quoted self.now) ≤ 393218 }
     {
         quote(self.bytes(), out)
     }
 }
 
 /// Appends bytes in double quotes, as the text form of a text has them; there may be more of them than
-/// a text holds. Without memory for them nothing is appended.
+/// a text holds. Where there is room for them it succeeds, and without memory nothing is appended.
 pub fn quote(bytes: &[u8], out: &mut Vec<u8>) -> Result<(), Memory>
     ensures ok { OnOk result (out.new.items ≡ out.old.items ++ quoted bytes.now) }
     ensures err { OnErr result (out.new.items ≡ out.old.items) }
+    ensures full { OnErr result (vec_capacity out.old < length out.old.items + length (quoted bytes.now)) }
+    ensures capacity { vec_capacity out.old ≤ vec_capacity out.new }
 {
     let before = out.len();
     match append_quoted(bytes, out) {
@@ -58,6 +69,9 @@ pub fn quote(bytes: &[u8], out: &mut Vec<u8>) -> Result<(), Memory>
 fn append_value(value: &Val, out: &mut Vec<u8>) -> Result<(), AllocError>
     ensures ok { OnOk result (out.new.items ≡ out.old.items ++ text_form value.now) }
     ensures err { OnErr result (KeepsFront out.old.items out.new.items) }
+    ensures full { OnErr result (vec_capacity out.old < length out.old.items + length (text_form value.now)) }
+    ensures capacity { vec_capacity out.old ≤ vec_capacity out.new }
+    ensures value { IsValue value.now }
 {
     match value {
         Val::Nothing => out.extend_from_slice(b"null"),
@@ -72,6 +86,8 @@ fn append_value(value: &Val, out: &mut Vec<u8>) -> Result<(), AllocError>
 fn append_list(scalars: &[Scalar], out: &mut Vec<u8>) -> Result<(), AllocError>
     ensures ok { OnOk result (out.new.items ≡ out.old.items ++ 91 ∷ scalars_text scalars.now ++ 93 ∷ []) }
     ensures err { OnErr result (KeepsFront out.old.items out.new.items) }
+    ensures full { OnErr result (vec_capacity out.old < length out.old.items + (2 + length (scalars_text scalars.now))) }
+    ensures capacity { vec_capacity out.old ≤ vec_capacity out.new }
 {
     out.extend_from_slice(b"[")?;
     append_scalars(scalars, out)?;
@@ -82,6 +98,8 @@ fn append_list(scalars: &[Scalar], out: &mut Vec<u8>) -> Result<(), AllocError>
 fn append_scalars(scalars: &[Scalar], out: &mut Vec<u8>) -> Result<(), AllocError>
     ensures ok { OnOk result (out.new.items ≡ out.old.items ++ scalars_text scalars.now) }
     ensures err { OnErr result (KeepsFront out.old.items out.new.items) }
+    ensures full { OnErr result (vec_capacity out.old < length out.old.items + length (scalars_text scalars.now)) }
+    ensures capacity { vec_capacity out.old ≤ vec_capacity out.new }
 {
     let Some((first, others)) = scalars.split_first() else {
         return Ok(());
@@ -97,6 +115,8 @@ fn append_scalars(scalars: &[Scalar], out: &mut Vec<u8>) -> Result<(), AllocErro
 fn append_further(scalar: &Scalar, out: &mut Vec<u8>) -> Result<(), AllocError>
     ensures ok { OnOk result (out.new.items ≡ out.old.items ++ further_text scalar.now) }
     ensures err { OnErr result (KeepsFront out.old.items out.new.items) }
+    ensures full { OnErr result (vec_capacity out.old < length out.old.items + length (further_text scalar.now)) }
+    ensures capacity { vec_capacity out.old ≤ vec_capacity out.new }
 {
     out.extend_from_slice(b",")?;
     append_scalar(scalar, out)
@@ -106,6 +126,8 @@ fn append_further(scalar: &Scalar, out: &mut Vec<u8>) -> Result<(), AllocError>
 fn append_scalar(scalar: &Scalar, out: &mut Vec<u8>) -> Result<(), AllocError>
     ensures ok { OnOk result (out.new.items ≡ out.old.items ++ scalar_text scalar.now) }
     ensures err { OnErr result (KeepsFront out.old.items out.new.items) }
+    ensures full { OnErr result (vec_capacity out.old < length out.old.items + length (scalar_text scalar.now)) }
+    ensures capacity { vec_capacity out.old ≤ vec_capacity out.new }
 {
     match scalar {
         Scalar::Nothing => out.extend_from_slice(b"null"),
@@ -119,6 +141,8 @@ fn append_scalar(scalar: &Scalar, out: &mut Vec<u8>) -> Result<(), AllocError>
 fn append_truth(truth: bool, out: &mut Vec<u8>) -> Result<(), AllocError>
     ensures ok { OnOk result (out.new.items ≡ out.old.items ++ truth_text truth) }
     ensures err { OnErr result (KeepsFront out.old.items out.new.items) }
+    ensures full { OnErr result (vec_capacity out.old < length out.old.items + length (truth_text truth)) }
+    ensures capacity { vec_capacity out.old ≤ vec_capacity out.new }
 {
     if truth {
         out.extend_from_slice(b"true")
@@ -131,6 +155,8 @@ fn append_truth(truth: bool, out: &mut Vec<u8>) -> Result<(), AllocError>
 fn append_int(number: i64, out: &mut Vec<u8>) -> Result<(), AllocError>
     ensures ok { OnOk result (out.new.items ≡ out.old.items ++ signed_decimal number) }
     ensures err { OnErr result (KeepsFront out.old.items out.new.items) }
+    ensures full { OnErr result (vec_capacity out.old < length out.old.items + length (signed_decimal number)) }
+    ensures capacity { vec_capacity out.old ≤ vec_capacity out.new }
 {
     let mut buffer = Buffer::new();
     out.extend_from_slice(buffer.format(number).as_bytes())
@@ -140,6 +166,8 @@ fn append_int(number: i64, out: &mut Vec<u8>) -> Result<(), AllocError>
 fn append_quoted(text: &[u8], out: &mut Vec<u8>) -> Result<(), AllocError>
     ensures ok { OnOk result (out.new.items ≡ out.old.items ++ quoted text.now) }
     ensures err { OnErr result (KeepsFront out.old.items out.new.items) }
+    ensures full { OnErr result (vec_capacity out.old < length out.old.items + length (quoted text.now)) }
+    ensures capacity { vec_capacity out.old ≤ vec_capacity out.new }
 {
     out.extend_from_slice(b"\"")?;
     append_quoted_bytes(text, out)?;
@@ -150,6 +178,8 @@ fn append_quoted(text: &[u8], out: &mut Vec<u8>) -> Result<(), AllocError>
 fn append_quoted_bytes(text: &[u8], out: &mut Vec<u8>) -> Result<(), AllocError>
     ensures ok { OnOk result (out.new.items ≡ out.old.items ++ flat_map quoted_byte text.now) }
     ensures err { OnErr result (KeepsFront out.old.items out.new.items) }
+    ensures full { OnErr result (vec_capacity out.old < length out.old.items + length (flat_map quoted_byte text.now)) }
+    ensures capacity { vec_capacity out.old ≤ vec_capacity out.new }
 {
     for byte in text {
         append_quoted_byte(*byte, out)?;
@@ -161,6 +191,8 @@ fn append_quoted_bytes(text: &[u8], out: &mut Vec<u8>) -> Result<(), AllocError>
 fn append_quoted_byte(byte: u8, out: &mut Vec<u8>) -> Result<(), AllocError>
     ensures ok { OnOk result (out.new.items ≡ out.old.items ++ quoted_byte byte) }
     ensures err { OnErr result (KeepsFront out.old.items out.new.items) }
+    ensures full { OnErr result (vec_capacity out.old < length out.old.items + length (quoted_byte byte)) }
+    ensures capacity { vec_capacity out.old ≤ vec_capacity out.new }
 {
     match byte {
         b'"' => out.extend_from_slice(b"\\\""),
