@@ -5,7 +5,7 @@ ghost use Rattle.tf_report.specs.Lines.{what_text, line as line_of};
 
 use crate::appending::{append, append_named, append_number, append_pair};
 use crate::failures::append_payload;
-use crate::names::{atom_name, flow_name, part_word};
+use crate::names::{atom_name, part_word, short_flow_name};
 use crate::state_words::{atom_word, flow_word, kind_word};
 use tf_flow::Plan;
 use tf_states::{Entry, What};
@@ -66,9 +66,19 @@ fn append_what(plan: &Plan, what: &What, out: &mut Vec<u8>) -> Result<(), Memory
             append(atom_word(*state).as_bytes(), out)?;
             append_payload(payload, out)
         }
-        What::Flow(state) => append_named(b"flow ", flow_name(plan, 0), flow_word(*state), out),
+        What::Flow(state) => append_named(
+            b"flow ",
+            short_flow_name(plan, 0),
+            flow_word(*state),
+            out,
+        ),
         What::Resolve { flow, kind } => {
-            append_named(b"resolve ", flow_name(plan, *flow), kind_word(*kind), out)
+            append_named(
+                b"resolve ",
+                short_flow_name(plan, *flow),
+                kind_word(*kind),
+                out,
+            )
         }
         What::Restart(atom) => append_pair(b"restart ", atom_name(plan, *atom), out),
     }

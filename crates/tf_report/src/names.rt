@@ -32,8 +32,15 @@ pub fn part_word(plan: &Plan, atom: u16) -> &'static str
 }
 
 /// The name of the flow of that number, and nothing where there is none.
-#[tactic(auto, using(crate::proofs::LineLemmas::flow_named, crate::proofs::LineLemmas::flow_past))]
 pub fn flow_name(plan: &Plan, flow: u16) -> &[u8]
+    ensures { result.now ≡ name_of_flow (outline_of plan.now) flow }
+{
+    short_flow_name(plan, flow)
+}
+
+/// The same, of which it is also known that it is short.
+#[tactic(auto, using(crate::proofs::LineLemmas::flow_named, crate::proofs::LineLemmas::flow_past))]
+pub fn short_flow_name(plan: &Plan, flow: u16) -> &[u8]
     ensures name { result.now ≡ name_of_flow (outline_of plan.now) flow }
     ensures short { length result.now ≤ 64 }
 {

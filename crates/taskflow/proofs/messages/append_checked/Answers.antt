@@ -14,6 +14,6 @@ returns c = on_ok_weaker c.append.result
     ∙ ap (λ (text : List ℕ). text ++ (codes " tasks, " ++ decimal (c.atoms.result - c.count_tasks-tasks.result)))
     (c.in_ok-append_counted.ensures.ok
     ∙ ap (λ (text : List ℕ). text ++ (codes ": " ++ decimal c.count_tasks-tasks.result))
-    (c.in_ok-append_pair.ensures.ok ∙ ap (λ (name : List ℕ). c.args.out.now.items ++ (codes "ok " ++ name)) c.flow_name.ensures.name))))
+    (c.in_ok-append_pair.ensures.ok ∙ ap (λ (name : List ℕ). c.args.out.now.items ++ (codes "ok " ++ name)) c.flow_name.ensures))))
     ∙ checked_told c.args.plan.now c.args.out.now.items c.count_tasks-tasks.result c.atoms.result c.flows.result c.count_tasks-tasks.ensures.is c.atoms.ensures.count c.flows.ensures.count))
     c.append.ensures.ok
