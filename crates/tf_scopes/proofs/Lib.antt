@@ -1,4 +1,3 @@
-pub mod MemberLemmas
 pub mod PlaceLemmas
 pub mod PlanLemmas
 pub mod SourceLemmas
@@ -9,3 +8,5 @@ pub mod FrontLemmas
 pub mod TreeLemmas
 pub mod ScopeLemmas
 pub mod GivenLemmas
+pub mod SymbolLemmas
+pub mod GiverLemmas

@@ -1,14 +1,11 @@
 -- Lists that are gone through.
-use Rattle.std.proofs.Common.{◌≡◌, ◌≢◌, ℕ, zero, suc, ◌<◌, ◌≤◌, List, [], ◌∷◌, ◌++◌, length, take, drop, Bool, true, false, not, Option, Some, None, refl, sym, ap, ◌∙◌, arith, eq-eqb, slice_index_or}
-use Rattle.std.specs.Prelude.{cond, filter, reverse, take_while, slice_get}
+use Rattle.std.proofs.Common.{◌≡◌, ◌≢◌, ℕ, zero, suc, ◌<◌, ◌≤◌, List, [], ◌∷◌, ◌++◌, length, take, drop, Bool, not, Option, Some, None, refl, sym, ap, ◌∙◌, arith, eq-eqb, slice_index_or}
+use Rattle.std.specs.Prelude.{cond, reverse, take_while, slice_get}
 use Rattle.std.specs.Option.{option_or}
-use Rattle.std.specs.List.{list_all}
 use Rattle.std.proofs.lemmas.List.Sums.{take_while-cons}
 use Rattle.std.proofs.lemmas.List.{reverse-append}
 use Rattle.std.proofs.lemmas.Bool.{ne_eqb}
 use Rattle.tf_flow.specs.Names.{first_some}
-use Rattle.tf_numbers.proofs.ListLemmas.{filter_append}
-use Rattle.tf_numbers.proofs.TruthLemmas.{and_first, and_second}
 use Rattle.tf_scopes.specs.Standing.{is_other}
 
 -- ---- what stands before a number
@@ -33,49 +30,17 @@ up_to_all number [] (suc k) whole = refl
 up_to_all number (x ∷ xs) zero whole = absurd (omega arith)
 up_to_all number (x ∷ xs) (suc k) whole = ap (λ (ys : List ℕ). x ∷ ys) (up_to_all number xs k (omega arith))
 
--- ---- what passes of the first so many
+-- ---- one more of the first so many
 
 pub take_more : (xs : List ℕ) (k : ℕ) → k < length xs → take (suc k) xs ≡ take k xs ++ slice_index_or xs k 0 ∷ []
 take_more [] k below = absurd (omega arith)
 take_more (x ∷ xs) zero below = refl
 take_more (x ∷ xs) (suc k) below = ap (λ (ys : List ℕ). x ∷ ys) (take_more xs k (omega arith))
 
-one_passes : (test : ℕ → Bool) (x : ℕ) (xs : List ℕ) → test x ≡ true → cond (test x) (x ∷ xs) xs ≡ x ∷ xs
-one_passes test x xs is = ap (λ (b : Bool). cond b (x ∷ xs) xs) is
-
-one_fails : (test : ℕ → Bool) (x : ℕ) (xs : List ℕ) → test x ≡ false → cond (test x) (x ∷ xs) xs ≡ xs
-one_fails test x xs is = ap (λ (b : Bool). cond b (x ∷ xs) xs) is
-
-pub filter_kept : (test : ℕ → Bool) (xs : List ℕ) (k : ℕ) → k < length xs → test (slice_index_or xs k 0) ≡ true → filter test (take (suc k) xs) ≡ filter test (take k xs) ++ slice_index_or xs k 0 ∷ []
-filter_kept test xs k below is =
-    ap (filter test) (take_more xs k below)
-    ∙ (filter_append test (take k xs) (slice_index_or xs k 0 ∷ [])
-    ∙ ap (λ (ys : List ℕ). filter test (take k xs) ++ ys) (one_passes test (slice_index_or xs k 0) [] is))
-
-pub filter_left : (test : ℕ → Bool) (xs : List ℕ) (k : ℕ) → k < length xs → test (slice_index_or xs k 0) ≡ false → filter test (take (suc k) xs) ≡ filter test (take k xs)
-filter_left test xs k below is =
-    ap (filter test) (take_more xs k below)
-    ∙ (filter_append test (take k xs) (slice_index_or xs k 0 ∷ [])
-    ∙ (ap (λ (ys : List ℕ). filter test (take k xs) ++ ys) (one_fails test (slice_index_or xs k 0) [] is)
-    ∙ no_more (filter test (take k xs))))
-  where
-    no_more : (ys : List ℕ) → ys ++ [] ≡ ys
-    no_more [] = refl
-    no_more (y ∷ ys) = ap (λ (zs : List ℕ). y ∷ zs) (no_more ys)
-
--- ---- the same backwards
+-- ---- the last comes first backwards
 
 pub reverse_both : (xs : List ℕ) (y : ℕ) → reverse (xs ++ y ∷ []) ≡ y ∷ reverse xs
 reverse_both xs y = reverse-append xs (y ∷ [])
-
-back : (test : ℕ → Bool) (xs : List ℕ) (k : ℕ) → k < length xs → filter test (reverse (take (suc k) xs)) ≡ cond (test (slice_index_or xs k 0)) (slice_index_or xs k 0 ∷ filter test (reverse (take k xs))) (filter test (reverse (take k xs)))
-back test xs k below = ap (filter test) (ap reverse (take_more xs k below) ∙ reverse_both (take k xs) (slice_index_or xs k 0))
-
-pub back_kept : (test : ℕ → Bool) (xs : List ℕ) (k : ℕ) → k < length xs → test (slice_index_or xs k 0) ≡ true → filter test (reverse (take (suc k) xs)) ≡ slice_index_or xs k 0 ∷ filter test (reverse (take k xs))
-back_kept test xs k below is = back test xs k below ∙ one_passes test (slice_index_or xs k 0) (filter test (reverse (take k xs))) is
-
-pub back_left : (test : ℕ → Bool) (xs : List ℕ) (k : ℕ) → k < length xs → test (slice_index_or xs k 0) ≡ false → filter test (reverse (take (suc k) xs)) ≡ filter test (reverse (take k xs))
-back_left test xs k below is = back test xs k below ∙ one_fails test (slice_index_or xs k 0) (filter test (reverse (take k xs))) is
 
 -- ---- the first that gives something
 
@@ -99,8 +64,3 @@ pub number_there : (xs : List ℕ) (k : ℕ) → k < length xs → slice_get xs 
 number_there [] k below = absurd (omega arith)
 number_there (x ∷ xs) zero below = refl
 number_there (x ∷ xs) (suc k) below = number_there xs k (omega arith)
-
-pub all_at : (test : ℕ → Bool) (xs : List ℕ) (k : ℕ) → list_all test xs ≡ true → k < length xs → test (slice_index_or xs k 0) ≡ true
-all_at test [] k all below = absurd (omega arith)
-all_at test (x ∷ xs) zero all below = and_first (test x) (list_all test xs) all
-all_at test (x ∷ xs) (suc k) all below = all_at test xs k (and_second (test x) (list_all test xs) all) (omega arith)

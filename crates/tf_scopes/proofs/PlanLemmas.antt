@@ -1,8 +1,6 @@
 -- The numbers and the parts of a plan's atoms.
-use Rattle.std.proofs.Common.{◌≡◌, ℕ, ◌<◌, List, length, true, false, Option, Some, None, sym, ap, ◌∙◌, slice_get, inl, inr}
-use Rattle.std.specs.Prelude.{option_map, slice_index_or}
-use Rattle.tf_model.proofs.BeforeLemmas.{members_before}
-use Rattle.std.specs.List.{list_all}
+use Rattle.std.proofs.Common.{◌≡◌, ℕ, ◌<◌, length, true, false, Option, Some, None, sym, ap, ◌∙◌, slice_get, inl, inr}
+use Rattle.std.specs.Prelude.{option_map}
 use Rattle.std.proofs.lemmas.Bool.{cases_lt}
 use Rattle.std.proofs.lemmas.List.{length-map}
 use Rattle.std.proofs.lemmas.Option.{slice_get_past}
@@ -12,9 +10,6 @@ use Rattle.tf_flow.specs.Outline.{Part, Atom, part_of, name_of_atom, name_of, ar
 use Rattle.tf_flow.proofs.OutlineLemmas.{same_atoms}
 use Rattle.tf_model.specs.Before.{way_in, way_before}
 use Rattle.tf_model.specs.Plan.{Outline, outline_of, count, way, is_before, arguments, arguments_in, injects, injects_in, provides_of, provides_in, atom_name, name_in}
-use Rattle.tf_model.specs.Scope.{is_earlier}
-use Rattle.tf_model.specs.Scope.{members}
-use Rattle.tf_scopes.proofs.PlaceLemmas.{all_at}
 
 -- a plan has as many atoms as its outline
 pub atoms_counted : (plan : PlanValue) → length (numbering.atoms plan) ≡ count (outline_of plan)
@@ -59,10 +54,3 @@ before_is_atom plan a b is = elim (cases_lt a (count plan)) [
   | inr past ↦ let no : way_before plan.flows (way_in (slice_get plan.atoms a)) (way plan b) ≡ false = ap (λ (o : Option Atom). way_before plan.flows (way_in o) (way plan b)) (slice_get_past plan.atoms a past) in
       let clash : true ≡ false = sym is ∙ no in absurd (cc)
 ]
-
--- an atom of a scope is an atom
-pub member_is_atom : (plan : PlanValue) (y k b : ℕ) (scope : List ℕ) → scope ≡ members (outline_of plan) y → k < length scope → b ≡ slice_index_or scope k 0 → b < count (outline_of plan)
-member_is_atom plan y k b scope is below there =
-    before_is_atom (outline_of plan) b y
-    (ap (λ (n : ℕ). is_earlier (outline_of plan) y n) there
-    ∙ all_at (is_earlier (outline_of plan) y) scope k (ap (list_all (is_earlier (outline_of plan) y)) is ∙ members_before (outline_of plan) y) below)

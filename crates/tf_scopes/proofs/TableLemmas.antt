@@ -1,49 +1,23 @@
 -- The table of sources, row by row.
-use Rattle.std.proofs.Common.{◌≡◌, ℕ, zero, suc, ◌+◌, ◌<◌, ◌≤◌, List, [], ◌∷◌, ◌++◌, length, map, take, drop, Bool, true, false, Option, Some, None, refl, sym, ap, ◌∙◌, arith, add-one, slice_get, slice_index_or, inl, inr}
-use Rattle.std.specs.Prelude.{filter, option_map}
+use Rattle.std.proofs.Common.{◌≡◌, ℕ, zero, suc, ◌+◌, ◌<◌, List, [], ◌∷◌, ◌++◌, length, map, take, drop, Bool, true, false, Some, None, refl, sym, ap, ◌∙◌, arith, add-one, slice_get, slice_index_or, inl, inr}
 use Rattle.std.proofs.lemmas.Bool.{cases_lt}
 use Rattle.std.proofs.lemmas.List.{length-map}
-use Rattle.tf_flow.specs.Limits.{provided}
-use Rattle.tf_flow.specs.Names.{is_among, first_some}
+use Rattle.tf_flow.specs.Names.{first_some}
 use Rattle.tf_flow.specs.Plan.{PlanValue}
 use Rattle.tf_flow.specs.Plan as numbering
-use Rattle.tf_flow.specs.Outline.{Atom, Part, part_of, provided_by, arguments_of, name_of}
+use Rattle.tf_flow.specs.Outline.{Part, arguments_of, name_of}
 use Rattle.tf_flow.specs.declared.atoms.Arg.{Arg}
 use Rattle.tf_model.specs.Plan.{Outline, outline_of, count, arguments}
-use Rattle.tf_model.specs.Scope.{lists_symbol}
-use Rattle.tf_model.specs.Scope.{members, missing_argument, missing_of}
-use Rattle.tf_model.specs.Linked.{listed_by}
+use Rattle.tf_model.specs.Scope.{missing_argument, missing_of}
 use Rattle.tf_numbers.specs.Numbers.{numbers_below}
 use Rattle.tf_numbers.proofs.EquationLemmas.{ap2}
-use Rattle.tf_numbers.proofs.ListLemmas.{take_whole, map_append}
+use Rattle.tf_numbers.proofs.ListLemmas.{map_append}
 use Rattle.tf_scopes.specs.declared.sources.Source.{Source}
 use Rattle.tf_scopes.specs.Providers.{IsOf}
-use Rattle.tf_scopes.specs.Sources.{givers, gives_nothing, source_of, source_of_argument, sources_of}
-use Rattle.tf_scopes.proofs.PlaceLemmas.{filter_kept, filter_left, first_kept, first_here}
+use Rattle.tf_scopes.specs.Sources.{gives_nothing, source_of, source_of_argument, sources_of}
+use Rattle.tf_scopes.proofs.PlaceLemmas.{first_kept, first_here}
 use Rattle.tf_scopes.proofs.PlanLemmas.{arguments_are, name_is}
 use Rattle.tf_scopes.proofs.SourceLemmas.{is_missing, not_missing, none_so_far}
-
--- ---- the atoms that list a symbol
-
-listed_in : (o : Option Atom) (p : Part) (symbol : List ℕ) (on : Bool) → option_map part_of o ≡ Some p → on ≡ is_among (provided (provided_by p)) symbol → listed_by o symbol ≡ on
-listed_in None p symbol on is told = absurd (cc)
-listed_in (Some atom) p symbol on is told = let same : atom.part ≡ p = cc in ap (λ (q : Part). is_among (provided (provided_by q)) symbol) same ∙ sym told
-
-pub listed_told : (plan : PlanValue) (b : ℕ) (p : Part) (symbol : List ℕ) (on : Bool) → numbering.part plan b ≡ Some p → on ≡ is_among (provided (provided_by p)) symbol → lists_symbol (outline_of plan) symbol b ≡ on
-listed_told plan b p symbol on is told = listed_in (slice_get (outline_of plan).atoms b) p symbol on is told
-
-pub giver_kept : (test : ℕ → Bool) (xs found new : List ℕ) (k : ℕ) (on : Bool) → found ≡ filter test (take k xs) → k < length xs → on ≡ true → test (slice_index_or xs k 0) ≡ on → new ≡ found ++ slice_index_or xs k 0 ∷ [] → new ≡ filter test (take (k + 1) xs)
-giver_kept test xs found new k on is below passes told more =
-    more ∙ (ap (λ (ys : List ℕ). ys ++ slice_index_or xs k 0 ∷ []) is ∙ (sym (filter_kept test xs k below (told ∙ passes)) ∙ ap (λ (n : ℕ). filter test (take n xs)) (sym (add-one k))))
-
-pub giver_left : (test : ℕ → Bool) (xs found : List ℕ) (k : ℕ) (on : Bool) → found ≡ filter test (take k xs) → k < length xs → on ≡ false → test (slice_index_or xs k 0) ≡ on → found ≡ filter test (take (k + 1) xs)
-giver_left test xs found k on is below fails told =
-    is ∙ (sym (filter_left test xs k below (told ∙ fails)) ∙ ap (λ (n : ℕ). filter test (take n xs)) (sym (add-one k)))
-
-pub givers_all : (plan : Outline) (y : ℕ) (symbol scope found : List ℕ) (k : ℕ) → found ≡ filter (lists_symbol plan symbol) (take k scope) → length scope ≤ k → scope ≡ members plan y → found ≡ givers plan y symbol
-unfolding givers
-givers_all plan y symbol scope found k is whole same =
-    is ∙ ap (filter (lists_symbol plan symbol)) (take_whole scope k whole ∙ same)
 
 -- ---- the arguments of an atom
 

@@ -3,3 +3,5 @@ pub mod Providers
 pub mod Found
 pub mod Standing
 pub mod Given
+pub mod Symbols
+pub mod Scope

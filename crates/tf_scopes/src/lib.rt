@@ -4,9 +4,10 @@
 mod faults;
 mod found;
 mod given;
-mod members;
 mod providers;
+mod scope;
 mod sources;
+mod symbols;
 #[cfg(test)]
 mod tests;
 

@@ -1,23 +1,24 @@
 ghost use Rattle.std.specs.Prelude.{◌≡◌, ◌<◌, ◌++◌, ◌∷◌, [], None, Some, IfOk, IfErr, OnOk, length, slice_get, option_map};
 ghost use Rattle.tf_flow.specs.declared.atoms.Arg.{Arg};
-ghost use Rattle.tf_flow.specs.Limits.{provided};
-ghost use Rattle.tf_flow.specs.Names.{is_among};
 ghost use Rattle.tf_model.specs.Plan.{outline_of, count, arguments};
-ghost use Rattle.tf_model.specs.Scope.{members, missing_symbol, missing_of, symbol_value};
+ghost use Rattle.tf_model.specs.Scope.{missing_symbol, missing_of, symbol_value};
 ghost use Rattle.tf_model.specs.Snapshot.{Snapshot};
 ghost use Rattle.tf_order.specs.Graph.{IsGraphOf};
-ghost use Rattle.tf_scopes.specs.Sources.{place_bound, givers, source_of, sources_of};
+ghost use Rattle.tf_scopes.specs.Scope.{IsScopeIn};
+ghost use Rattle.tf_scopes.specs.Sources.{place_bound, source_of, sources_of};
+ghost use Rattle.tf_scopes.specs.Symbols.{Tells};
 ghost use Rattle.tf_scopes.specs.Providers.{IsOf, IsMissing};
 ghost use Rattle.tf_scopes.specs.Found.{shown_in};
 ghost use Rattle.tf_model.specs.Views.{Shows};
 
 use crate::faults::ScopeFault;
 use crate::found::{Found, found_in};
-use crate::members::members;
-use crate::sources::{Givers, Source, Sources};
+use crate::scope::{Scope, find_givers, front_of};
+use crate::sources::{Source, Sources};
+use crate::symbols::Symbols;
 use std::alloc::Global;
 use std::marker::Model;
-use tf_flow::{Bind, Plan, Provides};
+use tf_flow::{Bind, Plan};
 use tf_order::Graph;
 use tf_states::AtomView;
 use tf_values::{Memory, Name};
@@ -91,45 +92,52 @@ pub fn find_providers(alloc: Global, plan: &Plan, graph: &Graph) -> Result<Provi
     ensures complete { OnOk result (missing_symbol (outline_of plan.now) ≡ None) }
     ensures missing { IfErr result (IsMissing (missing_symbol (outline_of plan.now))) }
 {
+    let symbols = Symbols::make(alloc, plan, graph)?;
     let mut providers = Providers::new(alloc);
     for atom in 0..plan.atoms() {
-        let row = find_row(alloc, plan, graph, atom)?;
+        let row = find_row(alloc, plan, graph, &symbols, atom)?;
         providers.push(row)?;
     }
     Ok(providers)
 }
 
-/// From where an atom takes the values of its arguments, or the first symbol that is missing. The scope of
-/// an atom without arguments isn't looked for.
+/// From where an atom takes the values of its arguments, or the first symbol that is missing.
 #[tactic(auto, using(crate::proofs::PlanLemmas::atoms_counted))]
-fn find_row(alloc: Global, plan: &Plan, graph: &Graph, atom: u16) -> Result<Sources, ScopeFault>
+fn find_row(
+    alloc: Global,
+    plan: &Plan,
+    graph: &Graph,
+    symbols: &Symbols,
+    atom: u16,
+) -> Result<Sources, ScopeFault>
     requires graph { IsGraphOf graph.now plan.now }
+    requires symbols { Tells symbols.now (outline_of plan.now) }
     requires atom { atom < count (outline_of plan.now) }
     ensures found { IfOk result (λ sources. sources ≡ sources_of (outline_of plan.now) atom) }
     ensures complete { OnOk result (missing_of (outline_of plan.now) atom ≡ None) }
     ensures missing { IfErr result (IsMissing (missing_of (outline_of plan.now) atom)) }
 {
-    if plan.part(atom).args().is_empty() {
-        return Ok(Sources::new(alloc));
-    }
-    let scope = members(alloc, plan, graph, atom)?;
-    find_sources(alloc, plan, atom, &scope)
+    let scope = Scope {
+        graph,
+        symbols,
+        front: front_of(graph, atom),
+        atom,
+    };
+    find_sources(alloc, plan, &scope)
 }
 
-/// From where an atom with this scope takes the values of its arguments, or the first symbol that is
-/// missing.
+/// From where the atom of a scope takes the values of its arguments, or the first symbol that is missing.
 #[tactic(auto, using(crate::proofs::PlanLemmas::atoms_counted))]
-fn find_sources(alloc: Global, plan: &Plan, atom: u16, scope: &[u16]) -> Result<Sources, ScopeFault>
-    requires atom { atom < count (outline_of plan.now) }
-    requires scope { scope.now ≡ members (outline_of plan.now) atom }
-    ensures found { IfOk result (λ sources. sources ≡ sources_of (outline_of plan.now) atom) }
-    ensures complete { OnOk result (missing_of (outline_of plan.now) atom ≡ None) }
-    ensures missing { IfErr result (IsMissing (missing_of (outline_of plan.now) atom)) }
+fn find_sources(alloc: Global, plan: &Plan, scope: &Scope<'_>) -> Result<Sources, ScopeFault>
+    requires { IsScopeIn scope.now plan.now }
+    ensures found { IfOk result (λ sources. sources ≡ sources_of (outline_of plan.now) scope.now.atom) }
+    ensures complete { OnOk result (missing_of (outline_of plan.now) scope.now.atom ≡ None) }
+    ensures missing { IfErr result (IsMissing (missing_of (outline_of plan.now) scope.now.atom)) }
 {
-    let part = plan.part(atom);
+    let part = plan.part(scope.atom);
     let mut sources = Sources::new(alloc);
     for arg in part.args() {
-        let source = find_source(alloc, plan, atom, &arg.symbol, scope)?;
+        let source = find_source(alloc, plan, scope, &arg.symbol)?;
         if source.gives_nothing() {
             return Err(ScopeFault::Missing {
                 atom: part.name(),
@@ -141,26 +149,24 @@ fn find_sources(alloc: Global, plan: &Plan, atom: u16, scope: &[u16]) -> Result<
     Ok(sources)
 }
 
-/// From where an atom with this scope takes the value of a symbol.
+/// From where the atom of a scope takes the value of a symbol.
 #[tactic(auto, using(crate::proofs::PlanLemmas::atoms_counted))]
 fn find_source(
     alloc: Global,
     plan: &Plan,
-    atom: u16,
+    scope: &Scope<'_>,
     symbol: &Name,
-    scope: &[u16],
 ) -> Result<Source, Memory>
-    requires atom { atom < count (outline_of plan.now) }
-    requires scope { scope.now ≡ members (outline_of plan.now) atom }
-    ensures { IfOk result (λ source. source ≡ source_of (outline_of plan.now) atom symbol.now) }
+    requires { IsScopeIn scope.now plan.now }
+    ensures { IfOk result (λ source. source ≡ source_of (outline_of plan.now) scope.now.atom symbol.now) }
 {
-    if let Some(place) = place_bound(plan.part(atom).injects(), symbol) {
+    if let Some(place) = place_bound(plan.part(scope.atom).injects(), symbol) {
         return Ok(Source::Injected(place));
     }
     if let Some(place) = place_bound(plan.store().items(), symbol) {
         return Ok(Source::Stored(place));
     }
-    let givers = find_givers(alloc, plan, atom, symbol, scope)?;
+    let givers = find_givers(alloc, scope, symbol)?;
     Ok(Source::Given(givers))
 }
 
@@ -169,36 +175,4 @@ fn place_bound(binds: &[Bind], symbol: &Name) -> Option<usize>
     ensures { result ≡ place_bound binds.now symbol.now }
 {
     binds.iter().position(|bind| bind.symbol == *symbol)
-}
-
-/// The atoms of the scope that list a symbol, in the order of the scope.
-#[tactic(auto, using(crate::proofs::PlanLemmas::atoms_counted))]
-fn find_givers(
-    alloc: Global,
-    plan: &Plan,
-    atom: u16,
-    symbol: &Name,
-    scope: &[u16],
-) -> Result<Givers, Memory>
-    requires scope { scope.now ≡ members (outline_of plan.now) atom }
-    ensures { IfOk result (λ found. found ≡ givers (outline_of plan.now) atom symbol.now) }
-{
-    let mut found = Vec::new(alloc);
-    for other in scope {
-        if lists(plan.part(*other).provides(), symbol) {
-            found.push(*other)?;
-        }
-    }
-    Ok(Givers::make(found))
-}
-
-/// Whether what an atom provides lists a symbol.
-fn lists(provides: &Provides, symbol: &Name) -> bool
-    ensures { result ≡ is_among (provided provides.now) symbol.now }
-{
-    match provides {
-        Provides::Nothing => false,
-        Provides::Whole(name) => name == symbol,
-        Provides::Parts(names) => names.items().contains(symbol),
-    }
 }

@@ -16,7 +16,7 @@ returns-in_err-row-clause-missing c =
     let ends = c.atoms-atom-end.ensures.count in
     let test = c.loop-atom-test.true in
     let below : c.loop-atom.atom < count (outline_of c.args.plan.now) = omega (arith, counted, ends, test) in
-    let p = err_from_is_err_and c.from_residual.result c.from_residual.ensures.1 in
+    let p = err_from_is_err_and c.from_residual-in_err-row.result c.from_residual-in_err-row.ensures.1 in
     rw (p.1, p.2)
     (missing_first (outline_of c.args.plan.now) c.loop-atom.atom c.in_err-row.field-0.0 below c.loop-atom.invariant.1 c.in_err-row.ensures.missing)
 

@@ -6,5 +6,5 @@ use Rattle.tf_scopes.specs.Sources.{source_of_argument}
 use Rattle.tf_scopes.proofs.providers.find_sources.Given as goal
 
 abbrev pub invariant-loop-arg : goal.invariant-loop-arg
-invariant-loop-arg l = (l.sources ≡ map (source_of_argument (outline_of l.plan) l.atom) (take l.arg-index (arguments (outline_of l.plan) l.atom)))
-    × (missing_of (outline_of l.plan) l.atom ≡ first_some (missing_argument (outline_of l.plan) l.atom) (drop l.arg-index (arguments (outline_of l.plan) l.atom)))
+invariant-loop-arg l = (l.sources ≡ map (source_of_argument (outline_of l.plan) l.scope.atom) (take l.arg-index (arguments (outline_of l.plan) l.scope.atom)))
+    × (missing_of (outline_of l.plan) l.scope.atom ≡ first_some (missing_argument (outline_of l.plan) l.scope.atom) (drop l.arg-index (arguments (outline_of l.plan) l.scope.atom)))

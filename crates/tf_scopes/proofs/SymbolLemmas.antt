@@ -1,0 +1,71 @@
+-- The places of those that list a symbol, and who gives it to an atom.
+use Rattle.std.proofs.Common.{◌≡◌, ℕ, zero, suc, ◌+◌, ◌-◌, ◌<◌, ◌≤◌, List, [], ◌∷◌, ◌++◌, length, Bool, true, false, Option, Some, None, refl, sym, ap, ◌∙◌, add-one, arith, slice_get, slice_index_or, eqb-true}
+use Rattle.std.specs.Prelude.{nat_eq, if◌then◌else◌}
+use Rattle.std.proofs.lemmas.Option.{slice_get_past}
+use Rattle.tf_flow.specs.Plan.{PlanValue}
+use Rattle.tf_flow.specs.Plan as numbering
+use Rattle.tf_flow.specs.Outline.{Atom}
+use Rattle.tf_model.specs.Plan.{Outline, outline_of}
+use Rattle.tf_model.specs.Linked.{listed_by}
+use Rattle.tf_model.specs.Scope.{lists_symbol}
+use Rattle.tf_numbers.specs.Numbers.{is_number, which_below}
+use Rattle.tf_numbers.proofs.ListLemmas.{nothing_after}
+use Rattle.tf_numbers.proofs.TruthLemmas.{never_true}
+use Rattle.tf_order.specs.Graph.{standing_of_plan}
+use Rattle.tf_order.specs.Index.{add_once, ends_with}
+use Rattle.tf_scopes.specs.Symbols.{lists_in, lists_at}
+use Rattle.tf_scopes.proofs.PlaceLemmas.{number_there}
+use Rattle.tf_scopes.proofs.PlanLemmas.{atoms_counted}
+
+-- ---- numbers that pass, one more
+
+last_pushed : (xs : List ℕ) (x : ℕ) → slice_get (xs ++ x ∷ []) (length xs) ≡ Some x
+last_pushed [] x = refl
+last_pushed (y ∷ xs) x = last_pushed xs x
+
+length_pushed : (xs : List ℕ) (x : ℕ) → length (xs ++ x ∷ []) ≡ suc (length xs)
+length_pushed [] x = refl
+length_pushed (y ∷ xs) x = omega (arith, length_pushed xs x)
+
+ends_pushed : (xs : List ℕ) (x n : ℕ) → ends_with (xs ++ x ∷ []) n ≡ nat_eq x n
+ends_pushed xs x n =
+    let at : length (xs ++ x ∷ []) - 1 ≡ length xs = omega (arith, length_pushed xs x) in
+    ap (λ (k : ℕ). is_number (slice_get (xs ++ x ∷ []) k) n) at ∙ ap (λ (o : Option ℕ). is_number o n) (last_pushed xs x)
+
+ends_before : (xs : List ℕ) (m n : ℕ) (b : Bool) → m < n → ends_with xs n ≡ false → ends_with (xs ++ (if b then m ∷ [] else [])) n ≡ false
+ends_before xs m n true below others = ends_pushed xs m n ∙ never_true (nat_eq m n) (λ same. let e : m ≡ n = eqb-true m n same in omega (arith, e, below))
+ends_before xs m n false below others = ap (λ (ys : List ℕ). ends_with ys n) (nothing_after xs) ∙ others
+
+-- numbers below another don't end with it
+not_last : (m n : ℕ) (test : ℕ → Bool) → m ≤ n → ends_with (which_below m test) n ≡ false
+not_last zero n test below = refl
+not_last (suc m) n test below = ends_before (which_below m test) m n (test m) (omega (arith, below)) (not_last m n test (omega (arith, below)))
+
+which_more : (n : ℕ) (test : ℕ → Bool) → (if test n then add_once (which_below n test) n else which_below n test) ≡ which_below (suc n) test
+which_more n test = by_test (test n)
+  where
+    by_test : (b : Bool) → (if b then add_once (which_below n test) n else which_below n test) ≡ which_below n test ++ (if b then n ∷ [] else [])
+    by_test true = ap (λ (b : Bool). if b then which_below n test else which_below n test ++ n ∷ []) (not_last n n test (omega arith))
+    by_test false = sym (nothing_after (which_below n test))
+
+-- ---- the places of a symbol
+
+listed_past : (o : Option Atom) (symbol : List ℕ) → o ≡ None → listed_by o symbol ≡ false
+listed_past o symbol is = ap (λ (p : Option Atom). listed_by p symbol) is
+
+-- a number that no atom has lists no symbol
+pub lists_nothing : (plan : PlanValue) (a : ℕ) (symbol : List ℕ) → length (numbering.atoms plan) ≤ a → lists_symbol (outline_of plan) symbol a ≡ false
+lists_nothing plan a symbol past = listed_past (slice_get (outline_of plan).atoms a) symbol (slice_get_past (outline_of plan).atoms a (omega (arith, past, atoms_counted plan)))
+
+-- one place more of the standing order
+pub places_more : (plan : Outline) (symbol standing : List ℕ) (place atom : ℕ) (old new : List ℕ) → standing ≡ standing_of_plan plan → place < length standing → atom ≡ slice_index_or standing place 0
+    → old ≡ which_below place (lists_at plan symbol) → new ≡ (if lists_symbol plan symbol atom then add_once old place else old) → new ≡ which_below (place + 1) (lists_at plan symbol)
+places_more plan symbol standing place atom old new is below there was added =
+    let here : lists_at plan symbol place ≡ lists_symbol plan symbol atom =
+    ap (lists_in plan symbol) (ap (λ (xs : List ℕ). slice_get xs place) (sym is) ∙ number_there standing place below) ∙ ap (lists_symbol plan symbol) (sym there)
+    in
+    added
+    ∙ (ap (λ (b : Bool). if b then add_once old place else old) (sym here)
+    ∙ (ap (λ (xs : List ℕ). if lists_at plan symbol place then add_once xs place else xs) was
+    ∙ (which_more place (lists_at plan symbol)
+    ∙ ap (λ (n : ℕ). which_below n (lists_at plan symbol)) (sym (add-one place)))))
