@@ -23,6 +23,26 @@ pub struct Start {
     pub restart: bool,
 }
 
+impl Start {
+    /// The entry with which the task is taken up.
+    pub fn what(&self) -> What
+        ensures { result ≡ start_entry self.now }
+    {
+        if self.restart {
+            return What::Restart(self.atom);
+        }
+        let state = match self.action {
+            Action::Execute => AtomState::Running,
+            Action::Revert => AtomState::Reverting,
+        };
+        What::Atom {
+            atom: self.atom,
+            state,
+            payload: Payload::Empty,
+        }
+    }
+}
+
 /// Whether a task is at work, and no hand has it in flight.
 fn is_interrupted(compiled: &Compiled, tables: &Tables, atom: u16) -> bool
     ensures { result ≡ is_interrupted (outline_of compiled.now) (shown_by tables.now) atom }

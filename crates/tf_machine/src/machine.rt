@@ -30,7 +30,7 @@ use crate::ending::end_of;
 use crate::faults::{ApplyFault, BuildFault};
 use crate::forcing::forced;
 use crate::orders::order;
-use crate::steps::{is_step, task_of};
+use crate::steps::{is_step, is_still, task_of};
 use crate::tables::Tables;
 use crate::tries::tries_are_few;
 use std::alloc::Global;
@@ -208,6 +208,30 @@ impl Machine {
             → left self.now.plan (later (outline self.now) (end_by (shown self.now) hand outcome a) (shown self.now)) < left self.now.plan (shown self.now) }
     {
         task_of(&self.compiled, &self.tables, hand)
+    }
+
+    /// The entry with which the hand ends the task that it has in flight, with this outcome: the one that
+    /// `settle` appends.
+    pub fn end(&self, hand: u8, outcome: Outcome) -> Entry
+        requires { IsSome (task_of (outline self.now) (shown self.now) hand) }
+        ensures is { (a : ℕ) → task_of (outline self.now) (shown self.now) hand ≡ Some a
+            → result ≡ end_by (shown self.now) hand outcome a }
+        ensures step { Step (outline self.now) (shown self.now) result }
+    {
+        let Some(atom) = self.in_flight(hand) else {
+            unreachable!();
+        };
+        let what = ended_from(atom, self.state(atom), outcome);
+        Entry { hand, what }
+    }
+
+    /// Whether nothing is in flight.
+    pub fn is_still(&self) -> bool
+        ensures is { result ≡ is_still (outline self.now) (shown self.now) }
+        ensures after { (past : List Record) → StandsFor self.now past
+            → result ≡ is_still (outline self.now) (snapshot (outline self.now) past) }
+    {
+        is_still(&self.compiled, &self.tables)
     }
 
     /// The state and the payload of each atom, by its number.

@@ -46,7 +46,7 @@ fn is_free(compiled: &Compiled, tables: &Tables, hand: u8) -> bool
 
 /// Whether nothing is in flight.
 #[tactic(auto, unfolding(tf_model::specs::Steps::is_still))]
-fn is_still(compiled: &Compiled, tables: &Tables) -> bool
+pub fn is_still(compiled: &Compiled, tables: &Tables) -> bool
     ensures { result ≡ is_still (outline_of compiled.now) (shown_by tables.now) }
 {
     for atom in 0..compiled.atoms() {
