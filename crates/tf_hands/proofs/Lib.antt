@@ -1,0 +1,11 @@
+pub mod EntryLemmas
+pub mod ForcedLemmas
+pub mod TakenLemmas
+pub mod KeptLemmas
+pub mod FlightLemmas
+pub mod LeaveLemmas
+pub mod ChoiceLemmas
+pub mod EndLemmas
+pub mod GivenLemmas
+pub mod RestLemmas
+pub mod OtherLemmas
