@@ -1,0 +1,11 @@
+pub mod Fields
+pub mod Entries
+pub mod Reading
+pub mod EntryReading
+pub mod Written
+pub mod Atoms
+pub mod Tests
+pub mod Plans
+pub mod AtomReading
+pub mod PlanReading
+pub mod Shown
