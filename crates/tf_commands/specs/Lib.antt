@@ -1,0 +1,10 @@
+pub mod Quotes
+pub mod Spelled
+pub mod Pairs
+pub mod Pieces
+pub mod Verbs
+pub mod Held
+pub mod Table
+pub mod Numbers
+pub mod Commands
+pub mod Words
