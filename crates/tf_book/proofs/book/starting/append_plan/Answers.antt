@@ -1,0 +1,28 @@
+use Rattle.std.proofs.Common.{rules, ◌≡◌, List, [], ◌∷◌, ℕ, subst, ap, sym, ◌∙◌}
+use Rattle.tf_desk.specs.Content.{bytes_of}
+use Rattle.tf_desk.specs.Crash.{Passes}
+use Rattle.tf_entries.specs.Plans.{plan_bytes}
+use Rattle.tf_journal.specs.Format.{bodies, recovered, title_of}
+use Rattle.tf_journal.specs.Rest.{IsAtRest, LeavesBeforeOrAfter}
+use Rattle.tf_journal.specs.declared.title.Title.{Title}
+use Rattle.tf_book.proofs.StartLemmas.{begun_crash}
+use Rattle.tf_book.proofs.book.starting.append_plan.Goals as goal
+
+pub returns-in-Ok-append-clause-rests : goal.returns-in-Ok-append-clause-rests
+returns-in-Ok-append-clause-rests g c = λ opened.
+    let same : c.deref.result.now ≡ plan_bytes c.args.plan.now = search rules in
+    subst (λ (b : List ℕ). IsAtRest g.K.Desk.content g.K.Desk.left c.append.new.self (b ∷ [])) same (c.in-Ok-append.ensures.adds opened [] (c.requires.ready opened))
+
+pub returns-in-Ok-append-clause-recovers : goal.returns-in-Ok-append-clause-recovers
+returns-in-Ok-append-clause-recovers g c = λ opened.
+    let same : c.deref.result.now ≡ plan_bytes c.args.plan.now = search rules in
+    ap (λ (t : Title). recovered (title_of t) (bytes_of (g.K.Desk.content c.append.new.self.desk))) (sym c.requires.title)
+    ∙ c.in-Ok-append.ensures.recovers opened [] (c.requires.ready opened) ∙ ap (λ (b : List ℕ). bodies (b ∷ [])) same
+
+pub returns-in-Ok-append-clause-crash : goal.returns-in-Ok-append-clause-crash
+returns-in-Ok-append-clause-crash g c = λ opened.
+    begun_crash _ _ _ _ _ _ c.deref.result.now c.args.plan.now c.requires.title (search rules) (c.append.ensures.any_moment opened [] (c.requires.ready opened))
+
+pub returns-in-Err-Disk-clause-crash : goal.returns-in-Err-Disk-clause-crash
+returns-in-Err-Disk-clause-crash g c = λ opened.
+    begun_crash _ _ _ _ _ _ c.deref.result.now c.args.plan.now c.requires.title (search rules) (c.append.ensures.any_moment opened [] (c.requires.ready opened))

@@ -1,0 +1,10 @@
+pub mod Logging
+pub mod Book
+pub mod Kept
+pub mod History
+pub mod Recording
+pub mod Sound
+pub mod Faults
+pub mod Turns
+pub mod Starting
+pub mod Closed

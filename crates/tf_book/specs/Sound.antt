@@ -1,0 +1,24 @@
+-- What a book keeps of its parts.
+use Rattle.std.specs.Prelude.{◌≡◌, ◌≤◌, Bool, false, None, ℕ, List}
+use Rattle.tf_desk.specs.Content.{Content}
+use Rattle.tf_desk.specs.Crash.{Images}
+use Rattle.tf_bound.specs.Short.{AreShort}
+use Rattle.tf_journal.specs.Format.{SIZE_LIMIT}
+use Rattle.tf_journal.specs.Rest.{IsAtRest, IsOpen}
+use Rattle.tf_journal.specs.declared.title.Title.TheVariants.{Book as book_title}
+use Rattle.tf_machine.specs.Machine.{MachineValue, StandsFor}
+use Rattle.tf_book.specs.Book.{BookValue, bodies_of, size_of}
+use Rattle.tf_book.specs.History.{framed}
+
+-- the machine stands for the history, whose bodies are in memory; while the book isn't halted, the journal has them, no
+-- append found a disk fault, and where the desk tells its content the file is as the last call left it
+pub record IsSound {K : Type 0} (tells : K → Bool) (content : K → Content) (left : K → Images) (machine : MachineValue) (kept : List ℕ) (b : BookValue K) : Type 0 where
+  pub stands : StandsFor machine b.past
+  pub plan : machine.plan ≡ b.plan
+  pub kept_is : kept ≡ framed b.past
+  pub short : AreShort b.past
+  pub title : b.journal.title ≡ book_title
+  pub sound : b.halt ≡ None → b.journal.halted ≡ false
+  pub ready : b.halt ≡ None → IsOpen tells b.journal → IsAtRest content left b.journal (bodies_of b.plan b.past)
+  pub size : b.journal.halted ≡ false → b.journal.size ≡ size_of b.plan b.past
+  pub limit : b.journal.size ≤ SIZE_LIMIT

@@ -1,0 +1,172 @@
+-- What the calls of a book record, and what they answer. Histories have the newest entry first.
+use Rattle.std.specs.Prelude.{◌≡◌, ◌⊎◌, ◌<◌, ◌-◌, ℕ, Bool, true, false, List, [], ◌∷◌, ◌++◌, Option, Some, None, map, reverse}
+use Rattle.tf_ports.specs.Whole.{IsWhole}
+use Rattle.tf_ports.specs.declared.orders.Order.{Order}
+use Rattle.tf_ports.specs.declared.outcomes.Outcome.{Outcome}
+use Rattle.tf_states.specs.declared.record.Entry.{Entry}
+use Rattle.tf_states.specs.declared.record.What.{What}
+use Rattle.tf_states.specs.declared.record.What.TheVariants as what
+use Rattle.tf_states.specs.declared.state.FlowState.{FlowState}
+use Rattle.tf_states.specs.declared.state.FlowState.TheVariants as flow
+use Rattle.tf_machine.specs.Answers.{start_entry, action_in, task_of, end_by}
+use Rattle.tf_machine.specs.declared.candidates.Start.{Start}
+use Rattle.tf_hands.specs.Hands.{by_hand}
+use Rattle.tf_model.specs.Candidates.{choice, end_of}
+use Rattle.tf_model.specs.Forced.{forced}
+use Rattle.tf_model.specs.History.{flow_of, snapshot}
+use Rattle.tf_model.specs.Orders.{order_of}
+use Rattle.tf_model.specs.Plan.{Outline}
+use Rattle.tf_model.specs.Sessions.{entering, has_ended, is_last}
+use Rattle.tf_model.specs.Steps.{is_still}
+use Rattle.tf_book.specs.declared.turn.Entered.{Entered}
+use Rattle.tf_book.specs.declared.turn.Entered.TheVariants as entered
+use Rattle.tf_book.specs.declared.turn.Turn.{Turn}
+use Rattle.tf_book.specs.declared.turn.Turn.TheVariants as turn
+
+-- ---- entering
+
+-- an entry by that hand
+abbrev pub with_hand : ℕ → Entry → Entry
+with_hand hand e = record e { hand = hand }
+
+-- what a session enters with, the first entry first, by that hand
+abbrev pub entering_by : ℕ → FlowState → List Entry
+entering_by hand state = map (with_hand hand) (entering state)
+
+-- some of what it enters with was recorded, the first entries
+pub record IsEntering (hand : ℕ) (past after : List Entry) : Type 0 where
+  pub some : List Entry
+  pub others : List Entry
+  pub front : entering_by hand (flow_of past) ≡ some ++ others
+  pub is : after ≡ reverse some ++ past
+
+-- a session was entered: the flow hadn't ended, and all of it was recorded; or the flow had ended, and nothing was
+abbrev pub IsEntered : ℕ → List Entry → List Entry → Entered → Type 0
+IsEntered hand past after entered.Running = (has_ended (flow_of past) ≡ false) × (after ≡ reverse (entering_by hand (flow_of past)) ++ past)
+IsEntered hand past after (entered.Ended state) = (flow_of past ≡ state) × (has_ended state ≡ true) × (after ≡ past)
+
+-- ---- turns
+
+-- each of these entries after a history is the forced one at its place, by that hand
+abbrev pub AreForced : Outline → ℕ → List Entry → List Entry → Type 0
+AreForced plan hand [] past = Unit {0}
+AreForced plan hand (e ∷ entries) past =
+    (e.hand ≡ hand) × (forced plan (snapshot plan (entries ++ past)) ≡ Some e.what) × AreForced plan hand entries past
+
+-- entries were recorded that were forced, one after another
+pub record IsForcedOn (plan : Outline) (hand : ℕ) (past after : List Entry) : Type 0 where
+  pub entries : List Entry
+  pub are : AreForced plan hand entries past
+  pub is : after ≡ entries ++ past
+
+-- they were recorded until no more was forced; the flow is RUNNING
+pub record RanOn (plan : Outline) (hand : ℕ) (past between : List Entry) : Type 0 where
+  pub on : IsForcedOn plan hand past between
+  pub running : flow_of between ≡ flow.Running
+  pub unforced : forced plan (snapshot plan between) ≡ None
+
+-- the first candidate was taken up, with this order
+pub record TakesUp (plan : Outline) (hand : ℕ) (past after : List Entry) (start : Start) (order : Order) : Type 0 where
+  pub chosen : choice plan (snapshot plan past) ≡ Some (start_entry start)
+  pub action : start.action ≡ action_in ((snapshot plan past).state start.atom)
+  pub asked : order_of plan (snapshot plan past) start.atom start.action ≡ Some order
+  pub is : after ≡ by_hand hand (start_entry start) ∷ past
+
+-- the same with some order
+pub record IsStartedSo (plan : Outline) (hand : ℕ) (past after : List Entry) (start : Start) : Type 0 where
+  pub order : Order
+  pub takes : TakesUp plan hand past after start order
+
+-- the answer is that order, and a performer may be asked for it
+abbrev pub IsStartOf : Outline → ℕ → List Entry → List Entry → Start → Turn → Type 0
+IsStartOf plan hand past after start (turn.Start order) = TakesUp plan hand past after start order × IsWhole order
+IsStartOf plan hand past after start other = ⊥
+
+-- forced entries were recorded until no more was forced, and then the first candidate was taken up, with this order
+pub record IsStarted (plan : Outline) (hand : ℕ) (past after : List Entry) (order : Order) : Type 0 where
+  pub between : List Entry
+  pub ran : RanOn plan hand past between
+  pub start : Start
+  pub takes : TakesUp plan hand between after start order
+
+-- the end was recorded, where nothing is in flight
+pub record IsEndOf (plan : Outline) (hand : ℕ) (past after : List Entry) (state : FlowState) : Type 0 where
+  pub still : is_still plan (snapshot plan past) ≡ true
+  pub ends : end_of plan (snapshot plan past) ≡ Some state
+  pub is : after ≡ by_hand hand (what.Flow state) ∷ past
+
+-- in SUSPENDING the suspension was recorded, where nothing is in flight and there is no end
+pub record IsSuspensionOf (plan : Outline) (hand : ℕ) (past after : List Entry) : Type 0 where
+  pub suspending : flow_of past ≡ flow.Suspending
+  pub still : is_still plan (snapshot plan past) ≡ true
+  pub endless : end_of plan (snapshot plan past) ≡ None
+  pub is : after ≡ by_hand hand (what.Flow flow.Suspended) ∷ past
+
+-- what a hand answers that finds nothing to take up: it waits while a task is in flight; else the run ends or is suspended
+abbrev pub HasRested : Outline → ℕ → List Entry → List Entry → Turn → Type 0
+HasRested plan hand past after (turn.Start order) = ⊥
+HasRested plan hand past after turn.Idle = (is_still plan (snapshot plan past) ≡ false) × (after ≡ past)
+HasRested plan hand past after (turn.Ended state) = IsEndOf plan hand past after state
+HasRested plan hand past after turn.Suspended = IsSuspensionOf plan hand past after
+
+-- one of these two was recorded, or nothing
+pub data IsClosedOr (plan : Outline) (hand : ℕ) (past after : List Entry) : Type 0 where
+  stays : after ≡ past → IsClosedOr plan hand past after
+  ended : (state : FlowState) → IsEndOf plan hand past after state → IsClosedOr plan hand past after
+  suspended : IsSuspensionOf plan hand past after → IsClosedOr plan hand past after
+
+-- in RUNNING nothing is left to take up
+pub record HasNothing (plan : Outline) (hand : ℕ) (past between : List Entry) : Type 0 where
+  pub ran : RanOn plan hand past between
+  pub unchosen : choice plan (snapshot plan between) ≡ None
+
+-- so it rests: in RUNNING after that, in SUSPENDING at once
+pub data Rests (plan : Outline) (hand : ℕ) (past between : List Entry) : Type 0 where
+  nothing_left : HasNothing plan hand past between → Rests plan hand past between
+  suspending : flow_of past ≡ flow.Suspending → between ≡ past → Rests plan hand past between
+
+-- what it answers then
+pub record RestsAs (plan : Outline) (hand : ℕ) (past after : List Entry) (answer : Turn) : Type 0 where
+  pub between : List Entry
+  pub rests : Rests plan hand past between
+  pub rested : HasRested plan hand between after answer
+
+-- the flow was in that last state already, and nothing was recorded
+abbrev pub IsOver : List Entry → List Entry → FlowState → Type 0
+IsOver past after state = (flow_of past ≡ state) × (is_last state ≡ true) × (after ≡ past)
+
+-- what the next turn of a hand recorded and answered
+abbrev pub IsTurn : Outline → ℕ → List Entry → List Entry → Turn → Type 0
+IsTurn plan hand past after (turn.Start order) = IsStarted plan hand past after order × IsWhole order
+IsTurn plan hand past after turn.Idle = RestsAs plan hand past after turn.Idle
+IsTurn plan hand past after (turn.Ended state) = RestsAs plan hand past after (turn.Ended state) ⊎ IsOver past after state
+IsTurn plan hand past after turn.Suspended = RestsAs plan hand past after turn.Suspended ⊎ IsOver past after flow.Suspended
+
+-- what a turn recorded that was halted: forced entries; and then perhaps a start, whose order nobody gets, or a last entry of the flow
+pub data IsHaltedTurn (plan : Outline) (hand : ℕ) (past after : List Entry) : Type 0 where
+  forcing : IsForcedOn plan hand past after → IsHaltedTurn plan hand past after
+  starting : (between : List Entry) (start : Start) → RanOn plan hand past between → IsStartedSo plan hand between after start → IsHaltedTurn plan hand past after
+  resting : (between : List Entry) → Rests plan hand past between → IsClosedOr plan hand between after → IsHaltedTurn plan hand past after
+
+-- a session was entered, and goes on or has stopped
+abbrev pub is_entered : FlowState → Bool
+is_entered flow.Pending = false
+is_entered flow.Resuming = false
+is_entered state = true
+
+-- one forced entry was recorded
+pub record IsForcedBy (plan : Outline) (hand : ℕ) (past after : List Entry) : Type 0 where
+  pub event : What
+  pub is_forced : forced plan (snapshot plan past) ≡ Some event
+  pub is : after ≡ by_hand hand event ∷ past
+
+-- the hand's task was ended with this outcome
+pub record IsFinished (plan : Outline) (hand : ℕ) (came : Outcome) (past after : List Entry) : Type 0 where
+  pub task : ℕ
+  pub held : task_of plan (snapshot plan past) hand ≡ Some task
+  pub is : after ≡ end_by (snapshot plan past) hand came task ∷ past
+
+-- a turn that gives an order leaves less room in the journal than there was
+abbrev pub IsLessAfterStart : ℕ → ℕ → Turn → Type 0
+IsLessAfterStart old new (turn.Start order) = 67108864 - new < 67108864 - old
+IsLessAfterStart old new other = Unit {0}

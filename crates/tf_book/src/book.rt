@@ -1,0 +1,85 @@
+ghost use Rattle.std.specs.Prelude.{◌≡◌, ◌<◌, ◌≤◌, ◌-◌, ◌∷◌, List, None, Some, OnOk};
+ghost use Rattle.tf_model.specs.Steps.{Step};
+ghost use Rattle.tf_book.specs.Book.{BookValue, outline, moment};
+ghost use Rattle.tf_book.specs.Kept.{Kept};
+ghost use Rattle.tf_book.specs.Recording.{halt_after, past_after};
+
+mod closing;
+mod entering;
+mod parts;
+mod reading;
+mod starting;
+mod turning;
+
+use crate::faults::Halt;
+use crate::history::History;
+use crate::writing::{Draft, write};
+use std::alloc::Global;
+use std::marker::Model;
+use tf_desk::Desk;
+use tf_journal::Journal;
+use tf_machine::Machine;
+use tf_states::Entry;
+
+/// A run of a plan, recorded in a journal entry by entry. Contracts see its plan, its history, its journal with
+/// the desk, whether it says no lines, and why it was halted, if it was.
+#[derive(Drop)]
+pub struct Book<K: Desk> {
+    alloc: Global,
+    journal: Journal<K>,
+    machine: Machine,
+    history: History,
+    draft: Draft,
+    quiet: bool,
+    halt: Option<Halt>,
+}
+
+impl<K: Desk> Model for Book<K> {
+    ghost use Rattle.std.specs.Coded.{codes};
+    ghost use Rattle.tf_flow.specs.contracts.nested.Flow as flow;
+    ghost use Rattle.tf_book.specs.Book.{BookValue};
+    ghost use Rattle.tf_book.specs.History.{past_of};
+    ghost use Rattle.tf_book.specs.Sound.{IsSound};
+
+    ghost Value = { BookValue K };
+
+    ghost coded = { Prim.hlevel (codes, flow.the_row.coded) };
+
+    ghost view = { λ b. record { plan = b.machine.plan; past = past_of b.history.entries.items; journal = b.journal; quiet = b.quiet; halt = b.halt } };
+
+    ghost invariant = { λ b. IsSound K.tells K.content K.left b.machine b.history.bodies.items (record { plan = b.machine.plan; past = past_of b.history.entries.items; journal = b.journal; quiet = b.quiet; halt = b.halt }) };
+}
+
+impl<K: Desk> Book<K> {
+    /// Records an entry that may follow, and says its line, unless the book is quiet. Where that fails the book
+    /// is halted.
+    fn record(&mut self, entry: Entry) -> Result<(), Halt>
+        requires sound { self.old.halt ≡ None }
+        requires allowed { Step (outline self.old) (moment self.old) entry }
+        ensures keeps { (start : BookValue K)
+            → Kept K.tells K.shown K.content K.crashes K.disk_faults K.out_faults start self.old
+            → Kept K.tells K.shown K.content K.crashes K.disk_faults K.out_faults start self.new }
+        ensures same { self.new ≡ record self.old {
+          past = past_after entry self.old.past result;
+          journal = self.new.journal;
+          halt = halt_after result;
+        } }
+        ensures less { OnOk result (67108864 - self.new.journal.size < 67108864 - self.old.journal.size) }
+        ensures no_more { 67108864 - self.new.journal.size ≤ 67108864 - self.old.journal.size }
+    {
+        match write(
+            &mut self.journal,
+            &mut self.machine,
+            &mut self.history,
+            &mut self.draft,
+            self.quiet,
+            entry,
+        ) {
+            Ok(()) => Ok(()),
+            Err(halt) => {
+                self.halt = Some(halt);
+                Err(halt)
+            }
+        }
+    }
+}

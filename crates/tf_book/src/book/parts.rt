@@ -1,0 +1,60 @@
+ghost use Rattle.std.specs.Prelude.{◌≡◌, None, false, IsTrue, length};
+ghost use Rattle.tf_desk.specs.Content.{bytes_of};
+ghost use Rattle.tf_desk.specs.Crash.{IsDurable};
+ghost use Rattle.tf_journal.specs.Format.{title_of};
+ghost use Rattle.tf_journal.specs.Rest.{LiesAs};
+ghost use Rattle.tf_journal.specs.declared.title.Title.TheVariants.{Book as book_title};
+ghost use Rattle.tf_machine.specs.Machine.{StandsFor};
+ghost use Rattle.tf_book.specs.Book.{bodies_of, size_of};
+
+use super::Book;
+use crate::faults::Halt;
+use tf_desk::Desk;
+use tf_machine::Machine;
+
+impl<K: Desk> Book<K> {
+    /// How many entries the history has.
+    #[tactic(auto, using(crate::proofs::HistoryLemmas::past_long))]
+    pub fn count(&self) -> u64
+        ensures { result ≡ length self.now.past }
+    {
+        self.history.entries.len() as u64
+    }
+
+    /// Why the book was halted first, if it was.
+    pub fn halted(&self) -> Option<Halt>
+        ensures { result ≡ self.now.halt }
+    {
+        self.halt
+    }
+
+    /// The machine, which stands for the history.
+    pub fn machine(&self) -> &Machine
+        ensures plan { result.now.plan ≡ self.now.plan }
+        ensures stands { StandsFor result.now self.now.past }
+    {
+        &self.machine
+    }
+
+    /// The desk back. Where the book wasn't halted and the desk tells its content, the file has the plan and the
+    /// history, and a crash now leaves nothing else.
+    pub fn close(self) -> K
+        ensures desk { result ≡ self.journal.desk }
+        ensures file { self.halt ≡ None → IsTrue (K.tells self.journal.desk) → self.journal.volatile ≡ false
+            → LiesAs (title_of book_title) (bodies_of self.plan self.past) (size_of self.plan self.past)
+            (bytes_of (K.content result)) }
+        ensures durable { self.halt ≡ None → IsTrue (K.tells self.journal.desk) → self.journal.volatile ≡ false
+            → IsDurable (K.content result) (K.left result) }
+    {
+        let Book {
+            alloc: _,
+            journal,
+            machine: _,
+            history: _,
+            draft: _,
+            quiet: _,
+            halt: _,
+        } = self;
+        journal.into_desk()
+    }
+}

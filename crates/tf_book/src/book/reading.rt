@@ -1,0 +1,96 @@
+ghost use Rattle.std.specs.Prelude.{◌≡◌, None, Some, true, ℕ, IsSome, IfOk, IfSome, option_map, is_some};
+ghost use Rattle.tf_states.specs.declared.state.FlowState.TheVariants as flow;
+ghost use Rattle.tf_machine.specs.Answers.{start_entry, action_in, task_of, end_by};
+ghost use Rattle.tf_model.specs.Candidates.{choice, end_of};
+ghost use Rattle.tf_model.specs.Forced.{forced as forced_entry};
+ghost use Rattle.tf_model.specs.Orders.{order_of};
+ghost use Rattle.tf_model.specs.Plan.{is_task};
+ghost use Rattle.tf_model.specs.Steps.{Step, LegalPast, is_still};
+ghost use Rattle.tf_ports.specs.Whole.{IsWhole};
+ghost use Rattle.tf_bound.specs.Short.{AreShort, IsWithinLimits};
+ghost use Rattle.tf_model.specs.Compilation.{compile_refusal};
+ghost use Rattle.tf_book.specs.Book.{outline, moment, state};
+
+use super::Book;
+use tf_desk::Desk;
+use tf_machine::Start;
+use tf_ports::{Order, Outcome};
+use tf_states::{Entry, FlowState, What};
+use tf_values::Memory;
+
+impl<K: Desk> Book<K> {
+    /// The state of the flow.
+    pub(super) fn flow(&self) -> FlowState
+        ensures { result ≡ state self.now }
+    {
+        self.machine.flow_state()
+    }
+
+    /// The state of the flow. The history is legal, and its plan compiles.
+    pub fn state(&self) -> FlowState
+        ensures is { result ≡ state self.now }
+        ensures legal { LegalPast (outline self.now) self.now.past }
+        ensures compiles { compile_refusal self.now.plan ≡ None }
+        ensures limits { IsWithinLimits (outline self.now) }
+        ensures short { AreShort self.now.past }
+    {
+        let _plan = self.machine.plan();
+        self.flow()
+    }
+
+    /// The entry that must come next, if one must.
+    pub(super) fn forced(&self) -> Result<Option<What>, Memory>
+        ensures { IfOk result (λ found. found ≡ forced_entry (outline self.now) (moment self.now)) }
+    {
+        let found = self.machine.forced(self.alloc)?;
+        Ok(found)
+    }
+
+    /// The task that a hand takes up next.
+    pub(super) fn candidate(&self) -> Option<Start>
+        ensures is { option_map start_entry result ≡ choice (outline self.now) (moment self.now) }
+        ensures action { IfSome result (λ start. start.action ≡ action_in ((moment self.now).state start.atom)) }
+        ensures task { IfSome result (λ start. is_task (outline self.now) start.atom ≡ true) }
+        ensures legal { LegalPast (outline self.now) self.now.past }
+    {
+        self.machine.candidate()
+    }
+
+    /// The order to do so with a task.
+    pub(super) fn order(&self, start: &Start) -> Result<Order, Memory>
+        requires { is_task (outline self.now) start.now.atom ≡ true }
+        ensures is { IfOk result (λ order. order_of (outline self.now) (moment self.now) start.now.atom start.now.action ≡ Some order) }
+        ensures whole { IfOk result (λ order. IsWhole order) }
+    {
+        let order = self.machine.order(self.alloc, start)?;
+        Ok(order)
+    }
+
+    /// Whether nothing is in flight.
+    pub(super) fn is_still(&self) -> bool
+        ensures { result ≡ is_still (outline self.now) (moment self.now) }
+    {
+        self.machine.is_still()
+    }
+
+    /// How the run ends, if it does: always where the flow is RUNNING, nothing is forced, there is no candidate
+    /// and nothing is in flight.
+    pub(super) fn ended(&self) -> Option<FlowState>
+        ensures is { result ≡ end_of (outline self.now) (moment self.now) }
+        ensures never_stuck { state self.now ≡ flow.Running → forced_entry (outline self.now) (moment self.now) ≡ None
+            → choice (outline self.now) (moment self.now) ≡ None → is_still (outline self.now) (moment self.now) ≡ true
+            → is_some result ≡ true }
+    {
+        self.machine.ended()
+    }
+
+    /// The entry with which the hand ends the task that it has in flight, with this outcome.
+    pub(super) fn end(&self, hand: u8, outcome: Outcome) -> Entry
+        requires { IsSome (task_of (outline self.now) (moment self.now) hand) }
+        ensures is { (a : ℕ) → task_of (outline self.now) (moment self.now) hand ≡ Some a
+            → result ≡ end_by (moment self.now) hand outcome a }
+        ensures step { Step (outline self.now) (moment self.now) result }
+    {
+        self.machine.end(hand, outcome)
+    }
+}

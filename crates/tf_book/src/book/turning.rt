@@ -1,0 +1,303 @@
+ghost use Rattle.std.specs.Prelude.{◌≡◌, ◌⊎◌, ◌<◌, ◌≤◌, ◌-◌, None, Some, Ok, true, false, IsSome, IfOk, IfErr, OnOk, OnErr};
+ghost use Rattle.tf_states.specs.declared.state.FlowState.TheVariants as flow;
+ghost use Rattle.tf_machine.specs.Answers.{start_entry, action_in, task_of};
+ghost use Rattle.tf_model.specs.Candidates.{choice, end_of};
+ghost use Rattle.tf_model.specs.Forced.{forced as forced_entry};
+ghost use Rattle.tf_model.specs.Plan.{is_task};
+ghost use Rattle.tf_model.specs.Sessions.{is_last};
+ghost use Rattle.tf_model.specs.States.{flow_runs, flow_suspends};
+ghost use Rattle.tf_model.specs.Steps.{is_free, is_still};
+ghost use Rattle.tf_hands.specs.Hands.{by_hand};
+ghost use Rattle.tf_states.specs.declared.record.What.TheVariants.{Flow as flow_turns};
+ghost use Rattle.tf_ports.specs.Whole.{IsWhole};
+ghost use Rattle.tf_book.specs.Book.{BookValue, outline, moment, state as state_of};
+ghost use Rattle.tf_book.specs.Faults.{IsFault};
+ghost use Rattle.tf_book.specs.Kept.{Kept};
+ghost use Rattle.tf_book.specs.Recording.{halt_for_memory, halt_after, past_after};
+ghost use Rattle.tf_book.specs.Turns.{RanOn, IsForcedBy, IsForcedOn, IsStartedSo, IsStartOf, HasRested, IsClosedOr, IsFinished, IsLessAfterStart, IsTurn, IsHaltedTurn, is_entered};
+ghost use Rattle.tf_book.specs.declared.faults.Halt.{Halt as Cause};
+ghost use Rattle.tf_states.specs.declared.record.Entry.{Entry as Record};
+
+use super::Book;
+use crate::faults::{BookFault, Halt};
+use crate::turn::Turn;
+use tf_desk::Desk;
+use tf_machine::Start;
+use tf_ports::Outcome;
+use tf_states::{Entry, FlowState, What};
+
+impl<K: Desk> Book<K> {
+    /// Halts a book that isn't halted, for want of memory.
+    pub fn halt_for_memory(&mut self)
+        ensures keeps { (start : BookValue K)
+            → Kept K.tells K.shown K.content K.crashes K.disk_faults K.out_faults start self.old
+            → Kept K.tells K.shown K.content K.crashes K.disk_faults K.out_faults start self.new }
+        ensures same { self.new ≡ record self.old { halt = halt_for_memory self.old.halt } }
+    {
+        if self.halt.is_none() {
+            self.halt = Some(Halt::Memory);
+        }
+    }
+
+    /// Records what is forced, if something is, and answers whether it was.
+    fn force_once(&mut self, hand: u8) -> Result<bool, Halt>
+        requires sound { self.old.halt ≡ None }
+        requires hand { hand < 64 }
+        requires running { state_of self.old ≡ flow.Running }
+        ensures keeps { (start : BookValue K)
+            → Kept K.tells K.shown K.content K.crashes K.disk_faults K.out_faults start self.old
+            → Kept K.tells K.shown K.content K.crashes K.disk_faults K.out_faults start self.new }
+        ensures plan { self.new.plan ≡ self.old.plan }
+        ensures forced { result ≡ Ok true → IsForcedBy (outline self.old) hand self.old.past self.new.past }
+        ensures nothing { result ≡ Ok false
+            → (self.new.past ≡ self.old.past) × (forced_entry (outline self.old) (moment self.old) ≡ None) }
+        ensures cut { OnErr result (IsForcedBy (outline self.old) hand self.old.past self.new.past
+            ⊎ (self.new.past ≡ self.old.past)) }
+        ensures running { OnOk result (state_of self.new ≡ flow.Running) }
+        ensures sound { OnOk result (self.new.halt ≡ None) }
+        ensures halt { IfErr result (λ halt. self.new.halt ≡ Some halt) }
+        ensures no_more { 67108864 - self.new.journal.size ≤ 67108864 - self.old.journal.size }
+        ensures less { result ≡ Ok true → 67108864 - self.new.journal.size < 67108864 - self.old.journal.size }
+    {
+        let Ok(forced) = self.forced() else {
+            self.halt_for_memory();
+            return Err(Halt::Memory);
+        };
+        let Some(what) = forced else {
+            return Ok(false);
+        };
+        self.record(Entry { hand, what })?;
+        Ok(true)
+    }
+
+    /// Records what is forced, one entry after another, until nothing is.
+    fn force(&mut self, hand: u8) -> Result<(), Halt>
+        requires sound { self.old.halt ≡ None }
+        requires hand { hand < 64 }
+        requires running { state_of self.old ≡ flow.Running }
+        ensures keeps { (start : BookValue K)
+            → Kept K.tells K.shown K.content K.crashes K.disk_faults K.out_faults start self.old
+            → Kept K.tells K.shown K.content K.crashes K.disk_faults K.out_faults start self.new }
+        ensures plan { self.new.plan ≡ self.old.plan }
+        ensures ran { OnOk result (RanOn (outline self.old) hand self.old.past self.new.past) }
+        ensures cut { OnErr result (IsForcedOn (outline self.old) hand self.old.past self.new.past) }
+        ensures sound { OnOk result (self.new.halt ≡ None) }
+        ensures halt { IfErr result (λ halt. self.new.halt ≡ Some halt) }
+        ensures no_more { 67108864 - self.new.journal.size ≤ 67108864 - self.old.journal.size }
+    {
+        'forcing: loop {
+            if !self.force_once(hand)? {
+                break 'forcing;
+            }
+        }
+        Ok(())
+    }
+
+    /// Takes the first candidate up, after its order was made.
+    fn take_up(&mut self, hand: u8, start: Start) -> Result<Turn, Halt>
+        requires sound { self.old.halt ≡ None }
+        requires hand { hand < 64 }
+        requires free { is_free (outline self.old) (moment self.old) hand ≡ true }
+        requires chosen { choice (outline self.old) (moment self.old) ≡ Some (start_entry start) }
+        requires action { start.action ≡ action_in ((moment self.old).state start.atom) }
+        requires task { is_task (outline self.old) start.atom ≡ true }
+        ensures plan { self.new.plan ≡ self.old.plan }
+        ensures keeps { (start : BookValue K)
+            → Kept K.tells K.shown K.content K.crashes K.disk_faults K.out_faults start self.old
+            → Kept K.tells K.shown K.content K.crashes K.disk_faults K.out_faults start self.new }
+        ensures started { IfOk result (IsStartOf (outline self.old) hand self.old.past self.new.past start) }
+        ensures cut { OnErr result (IsStartedSo (outline self.old) hand self.old.past self.new.past start
+            ⊎ (self.new.past ≡ self.old.past)) }
+        ensures sound { OnOk result (self.new.halt ≡ None) }
+        ensures halt { IfErr result (λ halt. self.new.halt ≡ Some halt) }
+        ensures less { OnOk result (67108864 - self.new.journal.size < 67108864 - self.old.journal.size) }
+    {
+        let Ok(order) = self.order(&start) else {
+            self.halt_for_memory();
+            return Err(Halt::Memory);
+        };
+        let what = start.what();
+        self.record(Entry { hand, what })?;
+        Ok(Turn::Start(order))
+    }
+
+    /// Records a last entry of the flow.
+    #[tactic(auto, using(crate::proofs::ForceLemmas::last_step))]
+    fn close_session(&mut self, hand: u8, state: FlowState) -> Result<(), Halt>
+        requires sound { self.old.halt ≡ None }
+        requires hand { hand < 64 }
+        requires still { is_still (outline self.old) (moment self.old) ≡ true }
+        requires ends { (end_of (outline self.old) (moment self.old) ≡ Some state)
+            ⊎ ((end_of (outline self.old) (moment self.old) ≡ None) × (state_of self.old ≡ flow.Suspending)
+            × (state ≡ flow.Suspended)) }
+        ensures plan { self.new.plan ≡ self.old.plan }
+        ensures keeps { (start : BookValue K)
+            → Kept K.tells K.shown K.content K.crashes K.disk_faults K.out_faults start self.old
+            → Kept K.tells K.shown K.content K.crashes K.disk_faults K.out_faults start self.new }
+        ensures past { self.new.past ≡ past_after (by_hand hand (flow_turns state)) self.old.past result }
+        ensures halt { self.new.halt ≡ halt_after result }
+    {
+        self.record(Entry {
+            hand,
+            what: What::Flow(state),
+        })
+    }
+
+    /// What comes in RUNNING where nothing is forced and there is no candidate: the hand waits while a task is in
+    /// flight, and else the run ends.
+    fn rest(&mut self, hand: u8) -> Result<Turn, Halt>
+        requires sound { self.old.halt ≡ None }
+        requires hand { hand < 64 }
+        requires running { state_of self.old ≡ flow.Running }
+        requires unforced { forced_entry (outline self.old) (moment self.old) ≡ None }
+        requires unchosen { choice (outline self.old) (moment self.old) ≡ None }
+        ensures plan { self.new.plan ≡ self.old.plan }
+        ensures keeps { (start : BookValue K)
+            → Kept K.tells K.shown K.content K.crashes K.disk_faults K.out_faults start self.old
+            → Kept K.tells K.shown K.content K.crashes K.disk_faults K.out_faults start self.new }
+        ensures rested { IfOk result (HasRested (outline self.old) hand self.old.past self.new.past) }
+        ensures cut { OnErr result (IsClosedOr (outline self.old) hand self.old.past self.new.past) }
+        ensures sound { OnOk result (self.new.halt ≡ None) }
+        ensures halt { IfErr result (λ halt. self.new.halt ≡ Some halt) }
+    {
+        if !self.is_still() {
+            return Ok(Turn::Idle);
+        }
+        let Some(state) = self.ended() else {
+            unreachable!();
+        };
+        self.close_session(hand, state)?;
+        Ok(Turn::Ended(state))
+    }
+
+    /// What comes in SUSPENDING: the hand waits while a task is in flight; else the run ends, if it does, or is
+    /// suspended.
+    fn wind_up(&mut self, hand: u8) -> Result<Turn, Halt>
+        requires sound { self.old.halt ≡ None }
+        requires hand { hand < 64 }
+        requires suspending { state_of self.old ≡ flow.Suspending }
+        ensures plan { self.new.plan ≡ self.old.plan }
+        ensures keeps { (start : BookValue K)
+            → Kept K.tells K.shown K.content K.crashes K.disk_faults K.out_faults start self.old
+            → Kept K.tells K.shown K.content K.crashes K.disk_faults K.out_faults start self.new }
+        ensures rested { IfOk result (HasRested (outline self.old) hand self.old.past self.new.past) }
+        ensures cut { OnErr result (IsClosedOr (outline self.old) hand self.old.past self.new.past) }
+        ensures sound { OnOk result (self.new.halt ≡ None) }
+        ensures halt { IfErr result (λ halt. self.new.halt ≡ Some halt) }
+    {
+        if !self.is_still() {
+            return Ok(Turn::Idle);
+        }
+        let Some(state) = self.ended() else {
+            self.close_session(hand, FlowState::Suspended)?;
+            return Ok(Turn::Suspended);
+        };
+        self.close_session(hand, state)?;
+        Ok(Turn::Ended(state))
+    }
+
+    /// A turn in RUNNING: what is forced is recorded, and then the first candidate is taken up, if there is one.
+    fn run_on(&mut self, hand: u8) -> Result<Turn, Halt>
+        requires sound { self.old.halt ≡ None }
+        requires hand { hand < 64 }
+        requires free { is_free (outline self.old) (moment self.old) hand ≡ true }
+        requires running { state_of self.old ≡ flow.Running }
+        ensures plan { self.new.plan ≡ self.old.plan }
+        ensures keeps { (start : BookValue K)
+            → Kept K.tells K.shown K.content K.crashes K.disk_faults K.out_faults start self.old
+            → Kept K.tells K.shown K.content K.crashes K.disk_faults K.out_faults start self.new }
+        ensures turn { IfOk result (IsTurn (outline self.old) hand self.old.past self.new.past) }
+        ensures cut { OnErr result (IsHaltedTurn (outline self.old) hand self.old.past self.new.past) }
+        ensures sound { OnOk result (self.new.halt ≡ None) }
+        ensures halt { IfErr result (λ halt. self.new.halt ≡ Some halt) }
+        ensures less { IfOk result (IsLessAfterStart self.old.journal.size self.new.journal.size) }
+    {
+        self.force(hand)?;
+        match self.candidate() {
+            Some(start) => self.take_up(hand, start),
+            None => self.rest(hand),
+        }
+    }
+
+    /// A turn of a hand, by the state of the flow.
+    fn turn(&mut self, hand: u8) -> Result<Turn, Halt>
+        requires sound { self.old.halt ≡ None }
+        requires hand { hand < 64 }
+        requires free { is_free (outline self.old) (moment self.old) hand ≡ true }
+        requires entered { is_entered (state_of self.old) ≡ true }
+        ensures plan { self.new.plan ≡ self.old.plan }
+        ensures keeps { (start : BookValue K)
+            → Kept K.tells K.shown K.content K.crashes K.disk_faults K.out_faults start self.old
+            → Kept K.tells K.shown K.content K.crashes K.disk_faults K.out_faults start self.new }
+        ensures turn { IfOk result (IsTurn (outline self.old) hand self.old.past self.new.past) }
+        ensures cut { OnErr result (IsHaltedTurn (outline self.old) hand self.old.past self.new.past) }
+        ensures sound { OnOk result (self.new.halt ≡ None) }
+        ensures halt { IfErr result (λ halt. self.new.halt ≡ Some halt) }
+        ensures less { IfOk result (IsLessAfterStart self.old.journal.size self.new.journal.size) }
+    {
+        let state = self.flow();
+        match state {
+            FlowState::Running => self.run_on(hand),
+            FlowState::Suspending => self.wind_up(hand),
+            FlowState::Suspended => Ok(Turn::Suspended),
+            FlowState::Success | FlowState::Failure | FlowState::Reverted => Ok(Turn::Ended(state)),
+            FlowState::Pending | FlowState::Resuming => unreachable!(),
+        }
+    }
+
+    /// The next turn of a hand that has nothing in flight, in a session that was entered. In RUNNING what is forced
+    /// is recorded, entry by entry; then the first candidate is taken up, and its order is the answer; where there
+    /// is none the hand waits while a task is in flight, and else the end is recorded. In SUSPENDING the hand waits
+    /// while a task is in flight, and else the end or the suspension is recorded. A flow that has stopped gives
+    /// its state again, and nothing is recorded. An order is made before its start is recorded.
+    pub fn next(&mut self, hand: u8) -> Result<Turn, BookFault>
+        requires hand { hand < 64 }
+        requires free { is_free (outline self.old) (moment self.old) hand ≡ true }
+        requires entered { is_entered (state_of self.old) ≡ true }
+        ensures plan { self.new.plan ≡ self.old.plan }
+        ensures keeps { (start : BookValue K)
+            → Kept K.tells K.shown K.content K.crashes K.disk_faults K.out_faults start self.old
+            → Kept K.tells K.shown K.content K.crashes K.disk_faults K.out_faults start self.new }
+        ensures turn { IfOk result (IsTurn (outline self.old) hand self.old.past self.new.past) }
+        ensures cut { OnErr result (IsHaltedTurn (outline self.old) hand self.old.past self.new.past) }
+        ensures sound { OnOk result (self.new.halt ≡ None) }
+        ensures fault { IfErr result (IsFault self.old.halt self.new.halt) }
+        ensures halted { (cause : Cause) → self.old.halt ≡ Some cause → self.new ≡ self.old }
+        ensures less { IfOk result (IsLessAfterStart self.old.journal.size self.new.journal.size) }
+    {
+        if let Some(cause) = self.halt {
+            return Err(BookFault::Halted(cause));
+        }
+        match self.turn(hand) {
+            Ok(turn) => Ok(turn),
+            Err(halt) => Err(BookFault::from(halt)),
+        }
+    }
+
+    /// Records the end of the task that the hand has in flight, with its outcome.
+    pub fn finish(&mut self, hand: u8, outcome: Outcome) -> Result<(), BookFault>
+        requires hand { hand < 64 }
+        requires task { IsSome (task_of (outline self.old) (moment self.old) hand) }
+        ensures plan { self.new.plan ≡ self.old.plan }
+        ensures keeps { (start : BookValue K)
+            → Kept K.tells K.shown K.content K.crashes K.disk_faults K.out_faults start self.old
+            → Kept K.tells K.shown K.content K.crashes K.disk_faults K.out_faults start self.new }
+        ensures finished { OnOk result (IsFinished (outline self.old) hand outcome self.old.past self.new.past) }
+        ensures cut { OnErr result (IsFinished (outline self.old) hand outcome self.old.past self.new.past
+            ⊎ (self.new.past ≡ self.old.past)) }
+        ensures sound { OnOk result (self.new.halt ≡ None) }
+        ensures fault { IfErr result (IsFault self.old.halt self.new.halt) }
+        ensures halted { (cause : Cause) → self.old.halt ≡ Some cause → self.new ≡ self.old }
+        ensures no_more { 67108864 - self.new.journal.size ≤ 67108864 - self.old.journal.size }
+    {
+        if let Some(cause) = self.halt {
+            drop(outcome);
+            return Err(BookFault::Halted(cause));
+        }
+        let entry = self.end(hand, outcome);
+        match self.record(entry) {
+            Ok(()) => Ok(()),
+            Err(halt) => Err(BookFault::from(halt)),
+        }
+    }
+}

@@ -1,0 +1,36 @@
+/// Why a book was halted: the disk failed, the output failed, the journal is full, of that size where `need`
+/// bytes more were asked for, or memory ran out.
+#[derive(Clone, Copy, Debug, PartialEq, Eq)]
+pub enum Halt {
+    Disk,
+    Out,
+    Full { size: u64, need: u64 },
+    Memory,
+}
+
+/// Why a call of a book failed: for one of the causes that halt it, or since it was halted before, for that
+/// cause.
+#[derive(Clone, Copy, Debug, PartialEq, Eq)]
+pub enum BookFault {
+    Disk,
+    Out,
+    Full { size: u64, need: u64 },
+    Memory,
+    Halted(Halt),
+}
+
+impl From<Halt> for BookFault {
+    ghost use Rattle.std.specs.Prelude.{◌≡◌};
+    ghost use Rattle.tf_book.specs.Faults.{fault_of};
+
+    ghost from_gives = { λ halt fault. fault ≡ fault_of halt };
+
+    fn from(halt: Halt) -> BookFault {
+        match halt {
+            Halt::Disk => BookFault::Disk,
+            Halt::Out => BookFault::Out,
+            Halt::Full { size, need } => BookFault::Full { size, need },
+            Halt::Memory => BookFault::Memory,
+        }
+    }
+}

@@ -1,0 +1,13 @@
+//! The book: a run that is recorded in a journal entry by entry, each line shown once its record can't be lost.
+#![tactic(auto)]
+
+mod book;
+mod faults;
+mod history;
+mod log;
+mod turn;
+mod writing;
+
+pub use book::Book;
+pub use faults::{BookFault, Halt};
+pub use turn::{Entered, Turn};

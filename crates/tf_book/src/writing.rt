@@ -1,0 +1,162 @@
+ghost use Rattle.std.specs.Prelude.{◌≡◌, ◌≢◌, ◌<◌, ◌≤◌, ◌+◌, ◌++◌, ◌∷◌, [], ℕ, List, true, false, IsTrue, length, OnOk, OnErr, IsErrOf};
+ghost use Rattle.tf_desk.specs.Crash.{Passes};
+ghost use Rattle.tf_journal.specs.Format.{title_of, length_bytes};
+ghost use Rattle.tf_journal.specs.Rest.{IsBody, IsAtRest, IsOpen, IsReady, GoesOn};
+ghost use Rattle.tf_states.specs.declared.record.Entry.{Entry as Record};
+ghost use Rattle.tf_bound.specs.Short.{IsShortEvent};
+ghost use Rattle.tf_entries.specs.Entries.{entry_bytes, has_its_payload};
+ghost use Rattle.tf_machine.specs.Machine.{outline, shown, StandsFor};
+ghost use Rattle.tf_model.specs.Steps.{Step};
+ghost use Rattle.tf_report.specs.Lines.{line as line_of};
+ghost use Rattle.tf_model.specs.Plan.{outline_of};
+ghost use Rattle.tf_book.specs.History.{past_of, framed, HasRoom};
+ghost use Rattle.tf_book.specs.Logging.{said_of, is_recorded, journal_after, IsSaid, IsCaused, LeavesLogged};
+
+use crate::faults::Halt;
+use crate::history::History;
+use crate::log::log;
+use std::alloc::Global;
+use tf_bound::event_is_short;
+use tf_desk::Desk;
+use tf_entries::encode_entry;
+use tf_flow::Plan;
+use tf_journal::Journal;
+use tf_machine::Machine;
+use tf_report::line;
+use tf_states::Entry;
+
+/// The body and the line of the entry that is recorded.
+#[derive(Drop)]
+pub struct Draft {
+    pub body: Vec<u8>,
+    pub line: Vec<u8>,
+}
+
+impl Draft {
+    /// Nothing yet.
+    pub fn new(alloc: Global) -> Draft {
+        Draft {
+            body: Vec::new(alloc),
+            line: Vec::new(alloc),
+        }
+    }
+}
+
+/// Makes the body of an entry, its line and room to keep it.
+fn prepare(
+    plan: &Plan,
+    number: u64,
+    entry: &Entry,
+    history: &mut History,
+    draft: &mut Draft,
+) -> Result<(), Halt>
+    requires hand { entry.now.hand < 64 }
+    requires payload { has_its_payload entry.now.what ≡ true }
+    ensures body { OnOk result (draft.new.body.items ≡ entry_bytes entry.now) }
+    ensures line { OnOk result (draft.new.line.items ≡ line_of (outline_of plan.now) number entry.now) }
+    ensures is_body { OnOk result (IsBody draft.new.body.items) }
+    ensures room { OnOk result (HasRoom history.new (length draft.new.body.items)) }
+    ensures entries { history.new.entries.items ≡ history.old.entries.items }
+    ensures bodies { history.new.bodies.items ≡ history.old.bodies.items }
+    ensures memory { OnErr result (IsErrOf result Halt.Memory) }
+{
+    draft.body.clear();
+    draft.line.clear();
+    let Ok(()) = encode_entry(entry, &mut draft.body) else {
+        return Err(Halt::Memory);
+    };
+    let Ok(()) = line(plan, number, entry, &mut draft.line) else {
+        return Err(Halt::Memory);
+    };
+    match history.reserve(draft.body.len()) {
+        Ok(()) => Ok(()),
+        Err(_) => Err(Halt::Memory),
+    }
+}
+
+/// Keeps an entry that was recorded.
+fn keep(machine: &mut Machine, history: &mut History, entry: Entry, body: &[u8])
+    requires allowed { Step (outline machine.old) (shown machine.old) entry }
+    requires body { body.now ≡ entry_bytes entry }
+    requires is_body { IsBody body.now }
+    requires room { HasRoom history.old (length body.now) }
+    ensures plan { machine.new.plan ≡ machine.old.plan }
+    ensures stands { (past : List Record) → StandsFor machine.old past → StandsFor machine.new (entry ∷ past) }
+    ensures entries { past_of history.new.entries.items ≡ entry ∷ past_of history.old.entries.items }
+    ensures bodies { history.new.bodies.items ≡ history.old.bodies.items ++ (length_bytes (length (entry_bytes entry)) ++ entry_bytes entry) }
+{
+    history.keep(&entry, body);
+    machine.advance(entry);
+}
+
+/// Records an entry that may follow: its body and its line are made, with room to keep it; then the body is
+/// appended, the entry is kept, and the line is said. Want of memory comes before anything is recorded.
+#[tactic(auto, using(crate::proofs::PayloadLemmas::step_has_payload, crate::proofs::PayloadLemmas::step_has_hand))]
+pub fn write<K: Desk>(
+    journal: &mut Journal<K>,
+    machine: &mut Machine,
+    history: &mut History,
+    draft: &mut Draft,
+    quiet: bool,
+    entry: Entry,
+) -> Result<(), Halt>
+    requires ready { IsReady K.tells K.content K.left journal.old }
+    requires sound { journal.old.halted ≡ false }
+    requires allowed { Step (outline machine.old) (shown machine.old) entry }
+    requires few { length history.old.entries.items ≤ 67108864 }
+    ensures journal { journal.new ≡ journal_after journal.old journal.new.desk (length (entry_bytes entry)) result }
+    ensures text { IsSaid (K.shown journal.old.desk)
+        (said_of quiet (line_of (outline machine.old) (length history.old.entries.items + 1) entry))
+        (K.shown journal.new.desk) result }
+    ensures cause { IsCaused (K.disk_faults journal.old.desk) (K.disk_faults journal.new.desk)
+        (K.out_faults journal.old.desk) (K.out_faults journal.new.desk) journal.old.size (length (entry_bytes entry)) result }
+    ensures limit { is_recorded result ≡ true → journal.new.size ≤ 67108864 }
+    ensures no_disk_fall { K.disk_faults journal.old.desk ≤ K.disk_faults journal.new.desk }
+    ensures no_out_fall { K.out_faults journal.old.desk ≤ K.out_faults journal.new.desk }
+    ensures others { (K.asks journal.new.desk ≡ K.asks journal.old.desk)
+        × (K.turns journal.new.desk ≡ K.turns journal.old.desk)
+        × (K.tells journal.new.desk ≡ K.tells journal.old.desk) }
+    ensures rests { IsOpen K.tells journal.old → (held : List (List ℕ))
+        → IsAtRest K.content K.left journal.old held → is_recorded result ≡ true
+        → IsAtRest K.content K.left journal.new (held ++ entry_bytes entry ∷ []) }
+    ensures crash { IsOpen K.tells journal.old → (held : List (List ℕ))
+        → IsAtRest K.content K.left journal.old held
+        → Passes (K.content journal.old.desk).clock (K.content journal.new.desk).clock (K.crashes journal.old.desk)
+        (K.crashes journal.new.desk)
+        (LeavesLogged (title_of journal.old.title) held (entry_bytes entry)
+        (said_of quiet (line_of (outline machine.old) (length history.old.entries.items + 1) entry))
+        (K.shown journal.old.desk)) }
+    ensures goes { IsTrue (K.tells journal.old.desk)
+        → GoesOn (K.content journal.old.desk) (K.content journal.new.desk) }
+    ensures plan { machine.new.plan ≡ machine.old.plan }
+    ensures stands { is_recorded result ≡ true → (past : List Record) → StandsFor machine.old past → StandsFor machine.new (entry ∷ past) }
+    ensures entries { is_recorded result ≡ true → past_of history.new.entries.items ≡ entry ∷ past_of history.old.entries.items }
+    ensures bodies { is_recorded result ≡ true → history.new.bodies.items ≡ history.old.bodies.items ++ (length_bytes (length (entry_bytes entry)) ++ entry_bytes entry) }
+    ensures kept { is_recorded result ≡ false → (machine.new ≡ machine.old)
+        × (history.new.entries.items ≡ history.old.entries.items) × (history.new.bodies.items ≡ history.old.bodies.items) }
+    ensures short { IsShortEvent entry.what }
+    ensures long { is_recorded result ≡ true → 1 ≤ length (entry_bytes entry) }
+{
+    event_is_short(&entry.what);
+    let number = history.entries.len() as u64 + 1;
+    prepare(machine.plan(), number, &entry, history, draft)?;
+    match log(journal, &draft.body, &draft.line, quiet) {
+        Ok(()) => {
+            keep(machine, history, entry, &draft.body);
+            Ok(())
+        }
+        Err(Halt::Out) => {
+            keep(machine, history, entry, &draft.body);
+            Err(Halt::Out)
+        }
+        Err(Halt::Disk) => {
+            drop(entry);
+            Err(Halt::Disk)
+        }
+        Err(Halt::Full { size, need }) => {
+            drop(entry);
+            Err(Halt::Full { size, need })
+        }
+        Err(Halt::Memory) => unreachable!(),
+    }
+}
