@@ -1,0 +1,205 @@
+-- How the orders that a hand was given go with the history.
+use Rattle.std.proofs.Common.{◌≡◌, ◌≤◌, inl, inr, ◌⊎◌, ℕ, Bool, true, false, ◌&&◌, List, [], ◌∷◌, ◌++◌, length, Option, Some, None, refl, ap, ◌∙◌, sym, subst, append_assoc, append-nil, arith}
+use Rattle.std.specs.Prelude.{reverse}
+use Rattle.std.specs.List.{list_all}
+use Rattle.std.proofs.lemmas.List.Folds.{list_all-append}
+use Rattle.std.proofs.lemmas.List.{reverse-append}
+use Rattle.tf_numbers.proofs.TruthLemmas.{true_both, and_first, and_second}
+use Rattle.tf_book.specs.declared.faults.Halt.{Halt}
+use Rattle.tf_engines.specs.Runs.{HaltsAs}
+use Rattle.tf_engines.specs.declared.engine.How.{How}
+use Rattle.tf_ports.specs.Told.{told_with}
+use Rattle.tf_ports.specs.declared.orders.Order.{Order}
+use Rattle.tf_ports.specs.declared.outcomes.Outcome.{Outcome}
+use Rattle.tf_states.specs.declared.record.Entry.{Entry}
+use Rattle.tf_states.specs.declared.record.What.{What}
+use Rattle.tf_states.specs.declared.record.What.TheVariants as what
+use Rattle.tf_states.specs.declared.state.FlowState.{FlowState}
+use Rattle.tf_states.specs.declared.state.FlowState.TheVariants as flow
+use Rattle.tf_machine.specs.Answers.{end_by}
+use Rattle.tf_machine.specs.declared.candidates.Start.{Start}
+use Rattle.tf_hands.specs.Hands.{by_hand, is_of_flow, takes_task, orders}
+use Rattle.tf_hands.proofs.ForcedLemmas.{forced_takes_none}
+use Rattle.tf_hands.proofs.ChoiceLemmas.{choice_orders}
+use Rattle.tf_hands.proofs.EndLemmas.{end_orders}
+use Rattle.tf_hands.proofs.EntryLemmas.{no_orders}
+use Rattle.tf_model.specs.History.{flow_of, snapshot}
+use Rattle.tf_model.specs.Plan.{Outline}
+use Rattle.tf_model.specs.Sessions.{has_ended}
+use Rattle.tf_book.specs.Turns.{AreForced, IsForcedOn, RanOn, TakesUp, IsStartedSo, IsStarted, IsEndOf, IsSuspensionOf, IsClosedOr, stays, ended, suspended, HasRested, Rests, nothing_left, suspending, RestsAs, IsOver, IsHaltedTurn, forcing, starting, resting, IsFinished, IsEntering, entering_by}
+use Rattle.tf_book.specs.declared.turn.Turn.TheVariants as turn
+use Rattle.tf_engines.specs.Asked.{told_all, HasDone, HasDoneAllButOne, HasToDo, HasDoneBy}
+
+-- ---- lists of orders
+
+told_none : (told : Option (List Order)) → told ≡ told_all told []
+told_none None = refl
+told_none (Some xs) = ap Some (sym (append-nil xs))
+
+told_more : (told : Option (List Order)) (done : List Order) (order : Order) → told_with (told_all told done) order ≡ told_all told (done ++ order ∷ [])
+told_more None done order = refl
+told_more (Some xs) done order = ap Some (append_assoc xs done (order ∷ []))
+
+-- at the start
+pub done_none : (told : Option (List Order)) (base : List Order) → HasDone told base told base
+done_none told base = record { done = []; since = sym (append-nil base); is = told_none told }
+
+-- where nothing is missing
+pub done_whole : (told : Option (List Order)) (base : List Order) (did : Option (List Order)) (asked : List Order) → HasDone told base did asked → HasDoneAllButOne told base did asked
+done_whole told base did asked is = record {
+  done = is.done;
+  missing = [];
+  one = omega arith;
+  since = is.since ∙ ap (λ (l : List Order). base ++ l) (sym (append-nil is.done));
+  is = is.is;
+}
+
+-- where the last one is missing
+pub done_but : (told : Option (List Order)) (base : List Order) (did : Option (List Order)) (asked : List Order) (next : Order) → HasToDo told base did asked next → HasDoneAllButOne told base did asked
+done_but told base did asked next is = record { done = is.done; missing = next ∷ []; one = omega arith; since = is.since; is = is.is }
+
+-- it is given
+pub done_next : (told : Option (List Order)) (base : List Order) (did new : Option (List Order)) (asked : List Order) (next : Order) → HasToDo told base did asked next → new ≡ told_with did next → HasDone told base new asked
+done_next told base did new asked next is given = record {
+  done = is.done ++ next ∷ [];
+  since = is.since;
+  is = given ∙ ap (λ (d : Option (List Order)). told_with d next) is.is ∙ told_more told is.done next;
+}
+
+-- one more is asked for
+to_do : (told : Option (List Order)) (base : List Order) (did : Option (List Order)) (asked now : List Order) (next : Order) → now ≡ asked ++ next ∷ [] → HasDone told base did asked → HasToDo told base did now next
+to_do told base did asked now next more is = record {
+  done = is.done;
+  since = more ∙ ap (λ (l : List Order). l ++ next ∷ []) is.since ∙ append_assoc base is.done (next ∷ []);
+  is = is.is;
+}
+
+same_done : (told : Option (List Order)) (base : List Order) (did : Option (List Order)) (asked now : List Order) → now ≡ asked → HasDone told base did asked → HasDone told base did now
+same_done told base did asked now same is = subst (λ (l : List Order). HasDone told base did l) (sym same) is
+
+-- ---- what entries ask for
+
+forced_asks : (plan : Outline) (past entries : List Entry) → AreForced plan 0 entries past → orders plan 0 (entries ++ past) ≡ orders plan 0 past
+forced_asks plan past [] are = refl
+forced_asks plan past (e ∷ entries) are =
+    no_orders plan 0 e (entries ++ past) (forced_takes_none plan (snapshot plan (entries ++ past)) e.what are.1) ∙ forced_asks plan past entries are.2
+
+on_asks : (plan : Outline) (past after : List Entry) → IsForcedOn plan 0 past after → orders plan 0 after ≡ orders plan 0 past
+on_asks plan past after is = ap (orders plan 0) is.is ∙ forced_asks plan past is.entries is.are
+
+up_asks : (plan : Outline) (past after : List Entry) (start : Start) (order : Order) → TakesUp plan 0 past after start order → orders plan 0 after ≡ orders plan 0 past ++ order ∷ []
+up_asks plan past after start order takes = ap (orders plan 0) takes.is ∙ choice_orders plan past 0 start order takes.chosen takes.action takes.asked
+
+started_asks : (plan : Outline) (past after : List Entry) (order : Order) → IsStarted plan 0 past after order → orders plan 0 after ≡ orders plan 0 past ++ order ∷ []
+started_asks plan past after order is = up_asks plan is.between after is.start order is.takes ∙ ap (λ (l : List Order). l ++ order ∷ []) (on_asks plan past is.between is.ran.on)
+
+rests_asks : (plan : Outline) (past between : List Entry) → Rests plan 0 past between → orders plan 0 between ≡ orders plan 0 past
+rests_asks plan past between (nothing_left nothing) = on_asks plan past between nothing.ran.on
+rests_asks plan past between (suspending winds same) = ap (orders plan 0) same
+
+flow_asks : (plan : Outline) (past after : List Entry) (state : FlowState) → after ≡ by_hand 0 (what.Flow state) ∷ past → orders plan 0 after ≡ orders plan 0 past
+flow_asks plan past after state is = ap (orders plan 0) is ∙ no_orders plan 0 (by_hand 0 (what.Flow state)) past refl
+
+-- ---- turns
+
+pub started_to_do : (told : Option (List Order)) (base : List Order) (did : Option (List Order)) (plan : Outline) (past after : List Entry) (order : Order) → IsStarted plan 0 past after order
+    → HasDone told base did (orders plan 0 past) → HasToDo told base did (orders plan 0 after) order
+started_to_do told base did plan past after order is = to_do told base did (orders plan 0 past) (orders plan 0 after) order (started_asks plan past after order is)
+
+pub ended_done : (told : Option (List Order)) (base : List Order) (did : Option (List Order)) (plan : Outline) (past after : List Entry) (state : FlowState) → RestsAs plan 0 past after (turn.Ended state) ⊎ IsOver past after state
+    → HasDone told base did (orders plan 0 past) → HasDone told base did (orders plan 0 after)
+ended_done told base did plan past after state (inl is) = same_done told base did (orders plan 0 past) (orders plan 0 after) (flow_asks plan is.between after state is.rested.is ∙ rests_asks plan past is.between is.rests)
+ended_done told base did plan past after state (inr is) = same_done told base did (orders plan 0 past) (orders plan 0 after) (ap (orders plan 0) is.2)
+
+pub suspended_done : (told : Option (List Order)) (base : List Order) (did : Option (List Order)) (plan : Outline) (past after : List Entry) → RestsAs plan 0 past after turn.Suspended ⊎ IsOver past after flow.Suspended
+    → HasDone told base did (orders plan 0 past) → HasDone told base did (orders plan 0 after)
+suspended_done told base did plan past after (inl is) = same_done told base did (orders plan 0 past) (orders plan 0 after) (flow_asks plan is.between after flow.Suspended is.rested.is ∙ rests_asks plan past is.between is.rests)
+suspended_done told base did plan past after (inr is) = same_done told base did (orders plan 0 past) (orders plan 0 after) (ap (orders plan 0) is.2)
+
+closed_asks : (plan : Outline) (past after : List Entry) → IsClosedOr plan 0 past after → orders plan 0 after ≡ orders plan 0 past
+closed_asks plan past after (stays same) = ap (orders plan 0) same
+closed_asks plan past after (ended state is) = flow_asks plan past after state is.is
+closed_asks plan past after (suspended is) = flow_asks plan past after flow.Suspended is.is
+
+pub halted_done : (told : Option (List Order)) (base : List Order) (did : Option (List Order)) (plan : Outline) (past after : List Entry) → IsHaltedTurn plan 0 past after
+    → HasDone told base did (orders plan 0 past) → HasDoneAllButOne told base did (orders plan 0 after)
+halted_done told base did plan past after (forcing is) has =
+    done_whole told base did (orders plan 0 after) (same_done told base did (orders plan 0 past) (orders plan 0 after) (on_asks plan past after is) has)
+halted_done told base did plan past after (starting between start ran is) has =
+    done_but told base did (orders plan 0 after) is.order
+    (to_do told base did (orders plan 0 past) (orders plan 0 after) is.order (up_asks plan between after start is.order is.takes ∙ ap (λ (l : List Order). l ++ is.order ∷ []) (on_asks plan past between ran.on)) has)
+halted_done told base did plan past after (resting between rests closed) has =
+    done_whole told base did (orders plan 0 after) (same_done told base did (orders plan 0 past) (orders plan 0 after) (closed_asks plan between after closed ∙ rests_asks plan past between rests) has)
+
+finished_asks : (plan : Outline) (past after : List Entry) (came : Outcome) → IsFinished plan 0 came past after → orders plan 0 after ≡ orders plan 0 past
+finished_asks plan past after came is = ap (orders plan 0) is.is ∙ end_orders plan past 0 0 is.task came
+
+pub finished_done : (told : Option (List Order)) (base : List Order) (did : Option (List Order)) (plan : Outline) (past after : List Entry) (came : Outcome) → IsFinished plan 0 came past after
+    → HasDone told base did (orders plan 0 past) → HasDone told base did (orders plan 0 after)
+finished_done told base did plan past after came is = same_done told base did (orders plan 0 past) (orders plan 0 after) (finished_asks plan past after came is)
+
+pub finished_or_done : (told : Option (List Order)) (base : List Order) (did : Option (List Order)) (plan : Outline) (past after : List Entry) (came : Outcome) → IsFinished plan 0 came past after ⊎ (after ≡ past)
+    → HasDone told base did (orders plan 0 past) → HasDone told base did (orders plan 0 after)
+finished_or_done told base did plan past after came (inl is) = finished_done told base did plan past after came is
+finished_or_done told base did plan past after came (inr same) = same_done told base did (orders plan 0 past) (orders plan 0 after) (ap (orders plan 0) same)
+
+-- ---- halts
+
+-- an answer that tells a halt
+pub halted_asks : (told : Option (List Order)) (base : List Order) (did : Option (List Order)) (asked : List Order) (cause : Option Halt) (answer : How) → HaltsAs cause answer → HasDoneAllButOne told base did asked → HasDoneBy told base did asked answer
+halted_asks told base did asked cause answer is has = subst (λ (h : How). HasDoneBy told base did asked h) (sym is.told) has
+
+-- the hand was told as before
+pub same_to_do : (told : Option (List Order)) (base : List Order) (did new : Option (List Order)) (asked now : List Order) (next : Order) → new ≡ did → now ≡ asked → HasToDo told base did asked next → HasToDo told base new now next
+same_to_do told base did new asked now next same lists is =
+    subst (λ (d : Option (List Order)). HasToDo told base d now next) (sym same) (subst (λ (l : List Order). HasToDo told base did l next) (sym lists) is)
+
+-- ---- entering
+
+is_flow_entry : Entry → Bool
+is_flow_entry e = is_of_flow e.what
+
+flow_takes : (plan : Outline) (w : What) → is_of_flow w ≡ true → takes_task plan w ≡ None
+flow_takes plan (what.Flow state) is = refl
+flow_takes plan (what.Atom a state held) is = absurd (cc)
+flow_takes plan (what.Resolve named resolved) is = absurd (cc)
+flow_takes plan (what.Restart again) is = absurd (cc)
+
+flows_ask : (plan : Outline) (past entries : List Entry) → list_all is_flow_entry entries ≡ true → orders plan 0 (entries ++ past) ≡ orders plan 0 past
+unfolding is_flow_entry
+flows_ask plan past [] all = refl
+flows_ask plan past (e ∷ entries) all =
+    no_orders plan 0 e (entries ++ past) (flow_takes plan e.what (and_first (is_of_flow e.what) (list_all is_flow_entry entries) all)) ∙ flows_ask plan past entries (and_second (is_of_flow e.what) (list_all is_flow_entry entries) all)
+
+entering_flows : (f : FlowState) → list_all is_flow_entry (entering_by 0 f) ≡ true
+unfolding is_flow_entry
+entering_flows flow.Pending = refl
+entering_flows flow.Suspended = refl
+entering_flows flow.Running = refl
+entering_flows flow.Suspending = refl
+entering_flows flow.Resuming = refl
+entering_flows flow.Success = refl
+entering_flows flow.Failure = refl
+entering_flows flow.Reverted = refl
+
+all_turned : (p : Entry → Bool) (xs : List Entry) → list_all p xs ≡ true → list_all p (reverse xs) ≡ true
+all_turned p [] all = refl
+all_turned p (x ∷ xs) all =
+    ap (list_all p) (reverse-append (x ∷ []) xs) ∙ list_all-append p (reverse xs) (x ∷ [])
+    ∙ true_both (list_all p (reverse xs)) (p x && true) (all_turned p xs (and_second (p x) (list_all p xs) all)) (true_both (p x) true (and_first (p x) (list_all p xs) all) refl)
+
+pub entered_done : (told : Option (List Order)) (base : List Order) (did : Option (List Order)) (plan : Outline) (past after : List Entry) → (has_ended (flow_of past) ≡ false) × (after ≡ reverse (entering_by 0 (flow_of past)) ++ past)
+    → HasDone told base did (orders plan 0 past) → HasDone told base did (orders plan 0 after)
+entered_done told base did plan past after is =
+    same_done told base did (orders plan 0 past) (orders plan 0 after) (ap (orders plan 0) is.1 ∙ flows_ask plan past (reverse (entering_by 0 (flow_of past))) (all_turned is_flow_entry (entering_by 0 (flow_of past)) (entering_flows (flow_of past))))
+
+pub cut_done : (told : Option (List Order)) (base : List Order) (did : Option (List Order)) (plan : Outline) (past after : List Entry) → IsEntering 0 past after
+    → HasDone told base did (orders plan 0 past) → HasDoneAllButOne told base did (orders plan 0 after)
+cut_done told base did plan past after is has =
+    let flows : list_all is_flow_entry is.some ≡ true =
+    and_first (list_all is_flow_entry is.some) (list_all is_flow_entry is.others) (sym (list_all-append is_flow_entry is.some is.others) ∙ ap (list_all is_flow_entry) (sym is.front) ∙ entering_flows (flow_of past)) in
+    done_whole told base did (orders plan 0 after)
+    (same_done told base did (orders plan 0 past) (orders plan 0 after) (ap (orders plan 0) is.is ∙ flows_ask plan past (reverse is.some) (all_turned is_flow_entry is.some flows)) has)
+
+pub stays_done : (told : Option (List Order)) (base : List Order) (did : Option (List Order)) (plan : Outline) (past after : List Entry) → after ≡ past → HasDone told base did (orders plan 0 past) → HasDone told base did (orders plan 0 after)
+stays_done told base did plan past after same = same_done told base did (orders plan 0 past) (orders plan 0 after) (ap (orders plan 0) same)

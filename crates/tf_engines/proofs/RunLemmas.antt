@@ -1,0 +1,101 @@
+-- How a run goes on, and how it stops.
+use Rattle.std.proofs.Common.{◌≡◌, inl, inr, ◌⊎◌, ⊎_elim, ℕ, Bool, true, false, List, [], ◌∷◌, ◌++◌, Option, Some, None, refl, ap, ◌∙◌, sym, subst, append_assoc}
+use Rattle.std.specs.Prelude.{IsSome, Result, Ok, Err, OnErr, not, nat_eq, reverse}
+use Rattle.std.specs.List.{list_all}
+use Rattle.tf_flow.specs.Plan.{PlanValue}
+use Rattle.tf_ports.specs.Laws.{RevertsToNothing}
+use Rattle.tf_ports.specs.declared.orders.Order.{Order}
+use Rattle.tf_ports.specs.declared.outcomes.Outcome.{Outcome}
+use Rattle.tf_states.specs.declared.record.Entry.{Entry}
+use Rattle.tf_states.specs.declared.record.What.{What}
+use Rattle.tf_states.specs.declared.record.What.TheVariants as what
+use Rattle.tf_states.specs.declared.state.FlowState.{FlowState}
+use Rattle.tf_states.specs.declared.state.FlowState.TheVariants as flow
+use Rattle.tf_machine.specs.Answers.{start_entry, task_of, end_by, ended_from}
+use Rattle.tf_hands.specs.Hands.{by_hand, is_of_flow, is_no_end, HasOrder, IsAlone}
+use Rattle.tf_hands.proofs.ForcedLemmas.{forced_no_end, forced_within, forced_inner}
+use Rattle.tf_hands.proofs.ChoiceLemmas.{start_no_end, start_within, start_inner}
+use Rattle.tf_hands.proofs.EndLemmas.{ended_within, ended_inner, end_frees, end_given}
+use Rattle.tf_hands.proofs.FlightLemmas.{order_told}
+use Rattle.tf_hands.proofs.GivenLemmas.{no_end_given}
+use Rattle.tf_hands.proofs.RestLemmas.{alone_still, own_alone}
+use Rattle.tf_model.specs.History.{flow_of, snapshot}
+use Rattle.tf_model.specs.Orders.{IsGiven}
+use Rattle.tf_model.specs.Plan.{Outline, outline_of}
+use Rattle.tf_model.specs.Sessions.{Session, already_ended, entered, halted, whole, entering, has_ended, is_inner_entry, is_inner, is_last}
+use Rattle.tf_model.specs.Steps.{LegalPast, is_still, is_free}
+use Rattle.tf_numbers.proofs.TruthLemmas.{true_both}
+use Rattle.tf_book.specs.Turns.{IsFinished}
+use Rattle.tf_book.proofs.ForceLemmas.{flow_stays}
+use Rattle.tf_book.specs.declared.faults.Halt.{Halt}
+use Rattle.tf_engines.specs.declared.engine.How.{How}
+use Rattle.tf_engines.specs.declared.engine.How.TheVariants as how
+use Rattle.tf_engines.specs.Runs.{AreGiven, is_of_one, suspends, is_unsuspended, IsSession, HasRun, HaltsAs, GoesOn, IsGoing}
+
+-- what isn't of the flow doesn't suspend it
+within_goes : (w : What) → is_of_flow w ≡ false → not (suspends w) ≡ true
+within_goes (what.Flow state) is = absurd (cc)
+within_goes (what.Atom a state held) is = refl
+within_goes (what.Resolve named resolved) is = refl
+within_goes (what.Restart again) is = refl
+
+-- one more entry inside a session
+pub goes_more : (gives : Order → Outcome → Type 0) (plan : Outline) (before past : List Entry) (w : What) → is_of_flow w ≡ false → is_inner w ≡ true → IsGiven gives plan past w
+    → GoesOn gives plan before past → GoesOn gives plan before (by_hand 0 w ∷ past)
+goes_more gives plan before past w within inner given on =
+    let entries : List Entry = on.inner ++ reverse (entering (flow_of before)) in
+    let is : past ≡ entries ++ before = on.recorded ∙ sym (append_assoc on.inner (reverse (entering (flow_of before))) before) in
+    record {
+      inner = by_hand 0 w ∷ on.inner;
+      recorded = ap (λ (l : List Entry). by_hand 0 w ∷ l) on.recorded;
+      inside = true_both (is_inner w) (list_all is_inner_entry on.inner) inner on.inside;
+      begun = on.begun;
+      given = (subst (λ (l : List Entry). IsGiven gives plan l w) is given, on.given);
+      hands = on.hands;
+      unsuspended = true_both (not (suspends w)) (list_all is_unsuspended entries) (within_goes w within) on.unsuspended;
+    }
+
+-- a run that goes on is a session that was halted
+pub goes_session : (gives : Order → Outcome → Type 0) (plan : Outline) (before past : List Entry) → LegalPast plan past → GoesOn gives plan before past → IsSession gives plan before past None
+goes_session gives plan before past legal on = record {
+  entries = on.inner ++ reverse (entering (flow_of before));
+  recorded = on.recorded ∙ sym (append_assoc on.inner (reverse (entering (flow_of before))) before);
+  session = halted on.inner on.begun on.inside (subst (LegalPast plan) on.recorded legal);
+  given = on.given;
+  hands = on.hands;
+  unsuspended = on.unsuspended;
+}
+
+-- an answer that tells a halt
+pub halts_so : (gives : Order → Outcome → Type 0) (plan : Outline) (before after : List Entry) (cause : Option Halt) (answer : How) → HaltsAs cause answer
+    → (stop : Option FlowState) → IsSession gives plan before after stop → HasRun gives plan before after answer
+halts_so gives plan before after cause answer is stop session = subst (λ (h : How). HasRun gives plan before after h) (sym is.told) (stop, session)
+
+-- the end of the task that the hand had an order for
+pub goes_finished : (gives : Order → Outcome → Type 0) (plan : Outline) (before past after : List Entry) (order : Order) (came : Outcome) → RevertsToNothing gives → LegalPast plan past
+    → HasOrder plan past 0 order → gives order came → IsFinished plan 0 came past after → GoesOn gives plan before past → GoesOn gives plan before after
+goes_finished gives plan before past after order came law legal has gave is on =
+    subst (λ (l : List Entry). GoesOn gives plan before l) (sym is.is)
+    (goes_more gives plan before past (ended_from is.task ((snapshot plan past).state is.task) came) (ended_within is.task ((snapshot plan past).state is.task) came) (ended_inner is.task ((snapshot plan past).state is.task) came)
+    (end_given gives plan past 0 is.task order came law legal is.held has gave) on)
+
+-- then nothing is in flight
+pub still_after : (plan : Outline) (past after : List Entry) (came : Outcome) → LegalPast plan past → IsAlone plan past 0 → IsFinished plan 0 came past after → is_still plan (snapshot plan after) ≡ true
+still_after plan past after came legal alone is =
+    subst (λ (l : List Entry). is_still plan (snapshot plan l) ≡ true) (sym is.is)
+    (alone_still plan (end_by (snapshot plan past) 0 came is.task ∷ past) 0 (own_alone plan past (end_by (snapshot plan past) 0 came is.task) 0 refl alone) (end_frees plan past 0 is.task came legal is.held))
+
+pub runs_after : (plan : Outline) (past after : List Entry) (came : Outcome) → IsFinished plan 0 came past after → flow_of after ≡ flow_of past
+runs_after plan past after came is =
+    ap flow_of is.is ∙ flow_stays 0 (ended_from is.task ((snapshot plan past).state is.task) came) past (ended_within is.task ((snapshot plan past).state is.task) came)
+
+-- there is a number where one is told
+pub told_some : {A : Type 0} (o : Option A) (a : A) → o ≡ Some a → IsSome o
+told_some (Some b) a is = refl
+told_some None a is = absurd (cc)
+
+-- the end may have been recorded as the run was halted
+pub finished_or_not : (gives : Order → Outcome → Type 0) (plan : Outline) (before past after : List Entry) (order : Order) (came : Outcome) → RevertsToNothing gives → LegalPast plan past → LegalPast plan after
+    → HasOrder plan past 0 order → gives order came → IsFinished plan 0 came past after ⊎ (after ≡ past) → GoesOn gives plan before past → IsSession gives plan before after None
+finished_or_not gives plan before past after order came law legal later has gave (inl is) on = goes_session gives plan before after later (goes_finished gives plan before past after order came law legal has gave is on)
+finished_or_not gives plan before past after order came law legal later has gave (inr is) on = goes_session gives plan before after later (subst (λ (l : List Entry). GoesOn gives plan before l) (sym is) on)

@@ -1,0 +1,23 @@
+use Rattle.std.proofs.Common.{◌≡◌, ◌-◌, List, Option}
+use Rattle.tf_states.specs.declared.record.Entry.{Entry}
+use Rattle.tf_ports.specs.declared.orders.Order.{Order}
+use Rattle.tf_hands.specs.Hands.{orders}
+use Rattle.tf_engines.specs.Asked.{HasDone}
+use Rattle.tf_book.specs.Book.{BookValue, outline}
+use Rattle.tf_book.specs.Kept.{Kept}
+use Rattle.tf_engines.specs.Runs.{GoesOn, IsGoing}
+use Rattle.tf_engines.proofs.one_hand.run.Given as goal
+
+abbrev pub invariant-turns : goal.invariant-turns
+invariant-turns g l = record {
+  keeps : (start : BookValue g.row.K.Denot) → Kept g.K.Desk.tells g.K.Desk.shown g.K.Desk.content g.K.Desk.crashes g.K.Desk.disk_faults g.K.Desk.out_faults start l.fn.book
+      → Kept g.K.Desk.tells g.K.Desk.shown g.K.Desk.content g.K.Desk.crashes g.K.Desk.disk_faults g.K.Desk.out_faults start l.book;
+  plan : l.book.plan ≡ l.fn.book.plan;
+  going : IsGoing (outline l.book) l.book.past l.book.halt;
+  asked : (told : Option (List Order)) (base : List Order) → HasDone told base (g.P.Performer.did l.fn.hand) (orders (outline l.fn.book) 0 l.fn.book.past)
+      → HasDone told base (g.P.Performer.did l.hand) (orders (outline l.fn.book) 0 l.book.past);
+  on : (before : List Entry) → GoesOn g.P.Performer.gives (outline l.fn.book) before l.fn.book.past → GoesOn g.P.Performer.gives (outline l.fn.book) before l.book.past;
+}
+
+abbrev pub decreases-turns : goal.decreases-turns
+decreases-turns g l = 67108864 - l.book.journal.size

@@ -1,0 +1,84 @@
+-- What a run by one hand records, from the history that it began with to the one that it leaves. Histories have the newest entry first.
+use Rattle.std.specs.Prelude.{◌≡◌, ℕ, ◌≤◌, Bool, true, false, List, [], ◌∷◌, ◌++◌, length, nat_eq, not, Option, Some, None, reverse}
+use Rattle.std.specs.List.{list_all}
+use Rattle.tf_flow.specs.Plan.{PlanValue}
+use Rattle.tf_ports.specs.declared.orders.Order.{Order}
+use Rattle.tf_ports.specs.declared.outcomes.Outcome.{Outcome}
+use Rattle.tf_states.specs.declared.record.Entry.{Entry}
+use Rattle.tf_states.specs.declared.record.What.{What}
+use Rattle.tf_states.specs.declared.record.What.TheVariants as what
+use Rattle.tf_states.specs.declared.state.FlowState.{FlowState}
+use Rattle.tf_states.specs.declared.state.FlowState.TheVariants as flow
+use Rattle.tf_model.specs.Bound.{entry_bound}
+use Rattle.tf_model.specs.History.{flow_of, snapshot}
+use Rattle.tf_model.specs.Steps.{is_still}
+use Rattle.tf_model.specs.Orders.{IsGiven}
+use Rattle.tf_model.specs.Plan.{Outline, outline_of}
+use Rattle.tf_model.specs.Sessions.{Session, entering, has_ended, is_inner_entry}
+use Rattle.tf_model.specs.States.{flow_suspends}
+use Rattle.tf_book.specs.declared.faults.Halt.{Halt}
+use Rattle.tf_engines.specs.declared.engine.How.{How}
+use Rattle.tf_engines.specs.declared.engine.How.TheVariants as how
+
+-- each end among the entries recorded after a history carries an outcome that the order of its start may have
+abbrev pub AreGiven : (Order → Outcome → Type 0) → Outline → List Entry → List Entry → Type 0
+AreGiven gives plan before [] = Unit {0}
+AreGiven gives plan before (e ∷ entries) = IsGiven gives plan (entries ++ before) e.what × AreGiven gives plan before entries
+
+-- hand 0 recorded it
+abbrev pub is_of_one : Entry → Bool
+is_of_one e = nat_eq e.hand 0
+
+-- what is recorded begins to suspend the flow
+abbrev pub suspends : What → Bool
+suspends (what.Flow state) = flow_suspends state
+suspends (what.Atom a state held) = false
+suspends (what.Resolve named resolved) = false
+suspends (what.Restart again) = false
+
+-- the entry doesn't begin to suspend the flow
+abbrev pub is_unsuspended : Entry → Bool
+is_unsuspended e = not (suspends e.what)
+
+-- a session was recorded by hand 0, which nobody suspended, with outcomes that the hand gave; it stopped in this state, or was halted before
+pub record IsSession (gives : Order → Outcome → Type 0) (plan : Outline) (before after : List Entry) (stop : Option FlowState) : Type 0 where
+  pub entries : List Entry
+  pub recorded : after ≡ entries ++ before
+  pub session : Session plan before entries stop
+  pub given : AreGiven gives plan before entries
+  pub hands : list_all is_of_one entries ≡ true
+  pub unsuspended : list_all is_unsuspended entries ≡ true
+
+-- the same where the state in which it stopped is told by the answer; one that was halted may have stopped too, in its last line
+abbrev pub HasRun : (Order → Outcome → Type 0) → Outline → List Entry → List Entry → How → Type 0
+HasRun gives plan before after (how.Ended state) = IsSession gives plan before after (Some state)
+HasRun gives plan before after how.Suspended = IsSession gives plan before after (Some flow.Suspended)
+HasRun gives plan before after (how.Halted cause) = (stop : Option FlowState) × IsSession gives plan before after stop
+
+-- the answer is how the book stands: halted for that cause; or not halted, with the flow in that last state
+abbrev pub StandsAs : Option Halt → FlowState → How → Type 0
+StandsAs halted state (how.Ended last) = (halted ≡ None) × (state ≡ last) × (has_ended last ≡ true)
+StandsAs halted state how.Suspended = (halted ≡ None) × (state ≡ flow.Suspended)
+StandsAs halted state (how.Halted cause) = halted ≡ Some cause
+
+-- the book was halted, and the answer tells the cause
+pub record HaltsAs (halted : Option Halt) (answer : How) : Type 0 where
+  pub cause : Halt
+  pub is : halted ≡ Some cause
+  pub told : answer ≡ how.Halted cause
+
+-- a run goes on after it was entered: all that it recorded since is within the session
+pub record GoesOn (gives : Order → Outcome → Type 0) (plan : Outline) (before past : List Entry) : Type 0 where
+  pub inner : List Entry
+  pub recorded : past ≡ inner ++ (reverse (entering (flow_of before)) ++ before)
+  pub inside : list_all is_inner_entry inner ≡ true
+  pub begun : has_ended (flow_of before) ≡ false
+  pub given : AreGiven gives plan before (inner ++ reverse (entering (flow_of before)))
+  pub hands : list_all is_of_one (inner ++ reverse (entering (flow_of before))) ≡ true
+  pub unsuspended : list_all is_unsuspended (inner ++ reverse (entering (flow_of before))) ≡ true
+
+-- between two turns: the book isn't halted, the flow is RUNNING, and nothing is in flight
+pub record IsGoing (plan : Outline) (past : List Entry) (halted : Option Halt) : Type 0 where
+  pub sound : halted ≡ None
+  pub running : flow_of past ≡ flow.Running
+  pub still : is_still plan (snapshot plan past) ≡ true

@@ -1,0 +1,179 @@
+ghost use Rattle.std.specs.Prelude.{◌≡◌, ◌<◌, ◌≤◌, ◌-◌, None, Some, true, List, Option, IfSome, IfNone, IsSome};
+ghost use Rattle.tf_states.specs.declared.record.Entry.{Entry as Record};
+ghost use Rattle.tf_states.specs.declared.state.FlowState.TheVariants as flow;
+ghost use Rattle.tf_hands.specs.Hands.{IsAlone, HasOrder, orders};
+ghost use Rattle.tf_model.specs.Steps.{LegalPast};
+ghost use Rattle.tf_ports.specs.Whole.{IsWhole};
+ghost use Rattle.tf_ports.specs.declared.orders.Order.{Order as AnOrder};
+ghost use Rattle.tf_book.specs.Book.{BookValue, outline, moment, state as state_of};
+ghost use Rattle.tf_book.specs.Kept.{Kept};
+ghost use Rattle.tf_engines.specs.Asked.{HasDone, HasToDo, HasDoneBy};
+ghost use Rattle.tf_engines.specs.Runs.{GoesOn, HasRun, HaltsAs, StandsAs, IsGoing};
+
+use crate::engine::{How, RunEnd};
+use std::alloc::Global;
+use tf_book::{Book, Entered, Turn};
+use tf_desk::Desk;
+use tf_ports::{Order, Performer};
+
+/// The number of the one hand.
+const HAND: u8 = 0;
+
+/// How a book that is halted stopped.
+fn halted<K: Desk>(book: &Book<K>) -> How
+    requires { IsSome book.now.halt }
+    ensures stands { StandsAs book.now.halt (state_of book.now) result }
+    ensures cause { HaltsAs book.now.halt result }
+    ensures legal { LegalPast (outline book.now) book.now.past }
+{
+    let _state = book.state();
+    match book.halted() {
+        Some(cause) => How::Halted(cause),
+        None => unreachable!(),
+    }
+}
+
+/// Performs the order that the hand has, and records the end of its task. `None` where the run goes on.
+fn perform<K: Desk, P: Performer>(
+    alloc: Global,
+    book: &mut Book<K>,
+    hand: &mut P,
+    order: Order,
+) -> Option<How>
+    requires sound { book.old.halt ≡ None }
+    requires running { state_of book.old ≡ flow.Running }
+    requires has { HasOrder (outline book.old) book.old.past 0 order }
+    requires alone { IsAlone (outline book.old) book.old.past 0 }
+    requires whole { IsWhole order }
+    ensures keeps { (start : BookValue K)
+        → Kept K.tells K.shown K.content K.crashes K.disk_faults K.out_faults start book.old
+        → Kept K.tells K.shown K.content K.crashes K.disk_faults K.out_faults start book.new }
+    ensures stops { IfSome result (StandsAs book.new.halt (state_of book.new)) }
+    ensures plan { book.new.plan ≡ book.old.plan }
+    ensures ran { (before : List Record) → GoesOn P.gives (outline book.old) before book.old.past
+        → IfSome result (HasRun P.gives (outline book.old) before book.new.past) }
+    ensures on { (before : List Record) → GoesOn P.gives (outline book.old) before book.old.past
+        → IfNone result (GoesOn P.gives (outline book.old) before book.new.past) }
+    ensures goes { IfNone result (IsGoing (outline book.new) book.new.past book.new.halt) }
+    ensures no_more { 67108864 - book.new.journal.size ≤ 67108864 - book.old.journal.size }
+    ensures asked { (told : Option (List AnOrder)) (base : List AnOrder)
+        → HasToDo told base (P.did hand.old) (orders (outline book.old) 0 book.old.past) order
+        → IfNone result (HasDone told base (P.did hand.new) (orders (outline book.old) 0 book.new.past)) }
+    ensures stopped { (told : Option (List AnOrder)) (base : List AnOrder)
+        → HasToDo told base (P.did hand.old) (orders (outline book.old) 0 book.old.past) order
+        → IfSome result (HasDoneBy told base (P.did hand.new) (orders (outline book.old) 0 book.new.past)) }
+{
+    let Ok(outcome) = hand.perform(alloc, &order) else {
+        book.halt_for_memory();
+        return Some(halted(book));
+    };
+    let _before = book.state();
+    match book.finish(HAND, outcome) {
+        Ok(()) => None,
+        Err(_) => Some(halted(book)),
+    }
+}
+
+/// One turn of the hand: what the book records for it, and the order that it performs. `None` where the run
+/// goes on.
+fn take_turn<K: Desk, P: Performer>(alloc: Global, book: &mut Book<K>, hand: &mut P) -> Option<How>
+    requires going { IsGoing (outline book.old) book.old.past book.old.halt }
+    ensures keeps { (start : BookValue K)
+        → Kept K.tells K.shown K.content K.crashes K.disk_faults K.out_faults start book.old
+        → Kept K.tells K.shown K.content K.crashes K.disk_faults K.out_faults start book.new }
+    ensures stops { IfSome result (StandsAs book.new.halt (state_of book.new)) }
+    ensures plan { book.new.plan ≡ book.old.plan }
+    ensures ran { (before : List Record) → GoesOn P.gives (outline book.old) before book.old.past
+        → IfSome result (HasRun P.gives (outline book.old) before book.new.past) }
+    ensures on { (before : List Record) → GoesOn P.gives (outline book.old) before book.old.past
+        → IfNone result (GoesOn P.gives (outline book.old) before book.new.past) }
+    ensures goes { IfNone result (IsGoing (outline book.new) book.new.past book.new.halt) }
+    ensures less { IfNone result (67108864 - book.new.journal.size < 67108864 - book.old.journal.size) }
+    ensures asked { (told : Option (List AnOrder)) (base : List AnOrder)
+        → HasDone told base (P.did hand.old) (orders (outline book.old) 0 book.old.past)
+        → IfNone result (HasDone told base (P.did hand.new) (orders (outline book.old) 0 book.new.past)) }
+    ensures stopped { (told : Option (List AnOrder)) (base : List AnOrder)
+        → HasDone told base (P.did hand.old) (orders (outline book.old) 0 book.old.past)
+        → IfSome result (HasDoneBy told base (P.did hand.new) (orders (outline book.old) 0 book.new.past)) }
+{
+    let _before = book.state();
+    match book.next(HAND) {
+        Ok(Turn::Start(order)) => perform(alloc, book, hand, order),
+        Ok(Turn::Idle) => {
+            let _after = book.state();
+            unreachable!()
+        }
+        Ok(Turn::Ended(state)) => {
+            let _after = book.state();
+            Some(How::Ended(state))
+        }
+        Ok(Turn::Suspended) => {
+            let _after = book.state();
+            Some(How::Suspended)
+        }
+        Err(_) => Some(halted(book)),
+    }
+}
+
+/// Goes through a session that was entered, turn by turn.
+fn run<K: Desk, P: Performer>(alloc: Global, book: &mut Book<K>, hand: &mut P) -> How
+    requires going { IsGoing (outline book.old) book.old.past book.old.halt }
+    ensures keeps { (start : BookValue K)
+        → Kept K.tells K.shown K.content K.crashes K.disk_faults K.out_faults start book.old
+        → Kept K.tells K.shown K.content K.crashes K.disk_faults K.out_faults start book.new }
+    ensures stops { StandsAs book.new.halt (state_of book.new) result }
+    ensures plan { book.new.plan ≡ book.old.plan }
+    ensures ran { (before : List Record) → GoesOn P.gives (outline book.old) before book.old.past
+        → HasRun P.gives (outline book.old) before book.new.past result }
+    ensures stopped { (told : Option (List AnOrder)) (base : List AnOrder)
+        → HasDone told base (P.did hand.old) (orders (outline book.old) 0 book.old.past)
+        → HasDoneBy told base (P.did hand.new) (orders (outline book.old) 0 book.new.past) result }
+{
+    'turns: loop {
+        if let Some(how) = take_turn(alloc, book, hand) {
+            return how;
+        }
+    }
+}
+
+/// Goes through a session with one hand: enters it, lets the hand perform each order that the book gives, and
+/// records its outcome, until the flow has ended or is suspended, or the book is halted.
+fn run_session<K: Desk, P: Performer>(alloc: Global, book: &mut Book<K>, hand: &mut P) -> How
+    ensures keeps { (start : BookValue K)
+        → Kept K.tells K.shown K.content K.crashes K.disk_faults K.out_faults start book.old
+        → Kept K.tells K.shown K.content K.crashes K.disk_faults K.out_faults start book.new }
+    ensures stops { StandsAs book.new.halt (state_of book.new) result }
+    ensures plan { book.new.plan ≡ book.old.plan }
+    ensures ran { HasRun P.gives (outline book.old) book.old.past book.new.past result }
+    ensures stopped { (told : Option (List AnOrder)) (base : List AnOrder)
+        → HasDone told base (P.did hand.old) (orders (outline book.old) 0 book.old.past)
+        → HasDoneBy told base (P.did hand.new) (orders (outline book.old) 0 book.new.past) result }
+{
+    let _before = book.state();
+    match book.enter(HAND) {
+        Ok(Entered::Running) => {
+            let _after = book.state();
+            run(alloc, book, hand)
+        }
+        Ok(Entered::Ended(state)) => How::Ended(state),
+        Err(_) => halted(book),
+    }
+}
+
+/// Runs a book's flow with one hand, which records as hand 0, and gives the book back with how it stopped. Of
+/// every start that the book has kept to, it still keeps to it; what it recorded is a session whose ends carry
+/// outcomes that the hand may give for their orders.
+pub fn serial<K: Desk, P: Performer>(alloc: Global, book: Book<K>, hand: &mut P) -> RunEnd<K>
+    ensures keeps { (start : BookValue K)
+        → Kept K.tells K.shown K.content K.crashes K.disk_faults K.out_faults start book
+        → Kept K.tells K.shown K.content K.crashes K.disk_faults K.out_faults start result.book }
+    ensures stops { StandsAs result.book.halt (state_of result.book) result.how }
+    ensures plan { result.book.plan ≡ book.plan }
+    ensures ran { HasRun P.gives (outline book) book.past result.book.past result.how }
+    ensures orders { HasDoneBy (P.did hand.old) (orders (outline book) 0 book.past) (P.did hand.new)
+        (orders (outline book) 0 result.book.past) result.how }
+{
+    let mut book = book;
+    let how = run_session(alloc, &mut book, hand);
+    RunEnd { book, how }
+}
