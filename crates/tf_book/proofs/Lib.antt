@@ -6,3 +6,5 @@ pub mod TurnLemmas
 pub mod ForceLemmas
 pub mod StartLemmas
 pub mod ClosingLemmas
+pub mod NextLemmas
+pub mod ReadingLemmas

@@ -8,3 +8,7 @@ pub mod Faults
 pub mod Turns
 pub mod Starting
 pub mod Closed
+pub mod Loading
+pub mod Reading
+pub mod Loaded
+pub mod Forms

@@ -6,6 +6,7 @@ ghost use Rattle.tf_book.specs.Recording.{halt_after, past_after};
 
 mod closing;
 mod entering;
+mod loading;
 mod parts;
 mod reading;
 mod starting;
@@ -14,6 +15,7 @@ mod turning;
 use crate::faults::Halt;
 use crate::history::History;
 use crate::writing::{Draft, write};
+pub use loading::Loaded;
 use std::alloc::Global;
 use std::marker::Model;
 use tf_desk::Desk;

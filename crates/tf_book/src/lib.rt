@@ -5,9 +5,10 @@ mod book;
 mod faults;
 mod history;
 mod log;
+mod recovering;
 mod turn;
 mod writing;
 
-pub use book::Book;
+pub use book::{Book, Loaded};
 pub use faults::{BookFault, Halt};
 pub use turn::{Entered, Turn};

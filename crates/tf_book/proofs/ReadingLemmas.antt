@@ -1,0 +1,300 @@
+-- How a history is read from a journal body by body.
+use Rattle.std.proofs.Common.{◌≡◌, ◌≢◌, ◌≤◌, ◌<◌, ℕ, ◌+◌, Bool, true, List, [], ◌∷◌, ◌++◌, length, Option, refl, sym, ◌∙◌, ap, subst, arith, append-nil, append_assoc, length-append}
+use Rattle.std.specs.Prelude.{IsTrue, Result, Ok, Err, IfErr, slice_get}
+use Rattle.std.specs.List.{flat_map}
+use Rattle.tf_desk.specs.Content.{Content, bytes_of}
+use Rattle.tf_desk.specs.Crash.{Images, Crashes}
+use Rattle.tf_flow.specs.Plan.{PlanValue}
+use Rattle.tf_states.specs.declared.record.Entry.{Entry}
+use Rattle.tf_entries.specs.Entries.{entry_bytes}
+use Rattle.tf_entries.specs.Plans.{plan_bytes}
+use Rattle.tf_journal.specs.Format.{SIZE_LIMIT, OPEN, Recovered, bodies, record_of, front_of, title_of, length_bytes}
+use Rattle.tf_journal.specs.Held.{Held}
+use Rattle.tf_journal.specs.Rest.{LiesAs}
+use Rattle.tf_journal.specs.declared.faults.LoadFault.{LoadFault}
+use Rattle.tf_journal.specs.declared.faults.LoadFault.TheVariants as load_fault
+use Rattle.tf_journal.specs.declared.title.Title.{Title}
+use Rattle.tf_journal.specs.declared.title.Title.TheVariants.{Book as book_title}
+use Rattle.tf_journal.proofs.CrashLemmas.{rests_none, rests_on, goes_bytes}
+use Rattle.tf_journal.proofs.PlaceLemmas.{first_place}
+use Rattle.tf_journal.proofs.ReachLemmas.{flat_map-push, length-record_of, records_long}
+use Rattle.tf_values.specs.declared.faults.MakeFault.{MakeFault}
+use Rattle.tf_values.specs.declared.faults.MakeFault.TheVariants as make_fault
+use Rattle.tf_machine.specs.Machine.{MachineValue, StandsFor}
+use Rattle.tf_model.specs.Plan.{outline_of}
+use Rattle.tf_model.specs.Steps.{LegalPast}
+use Rattle.tf_bound.specs.Short.{AreShort}
+use Rattle.tf_book.specs.Book.{bodies_of, size_of}
+use Rattle.tf_book.specs.Forms.{AreForms}
+use Rattle.tf_book.specs.History.{past_of, framed}
+use Rattle.tf_book.specs.Loading.{CanRun, IsNoPlan, IsNoStep, first, later, IsRefusedAt, RefusesBodies, RefusesBook, bad_body}
+use Rattle.tf_book.specs.Reading.{IsNext, IsNoRefusal, HasReadEntry, IsReadBack, HasBodies, OnlyReads, HasRead, HasReadAll}
+use Rattle.tf_book.specs.declared.history.History.{History}
+
+-- the next gate of a journal with these bodies stands before its size
+pub front_long : (plan : PlanValue) (past : List Entry) → length (front_of (title_of book_title) (bodies_of plan past)) + 1 ≡ size_of plan past
+front_long plan past = omega (arith, front plan past, length-append (OPEN ∷ title_of book_title) (flat_map record_of (bodies_of plan past)))
+  where
+    front : (plan : PlanValue) (past : List Entry) → length (flat_map record_of (bodies_of plan past)) + 18 ≡ size_of plan past
+    front plan [] = omega (arith, length-record_of (plan_bytes plan), length-append (record_of (plan_bytes plan)) [])
+    front plan (e ∷ past) =
+        omega (arith, front plan past, ap length (flat_map-push (bodies_of plan past) (entry_bytes e)), length-append (flat_map record_of (bodies_of plan past)) (record_of (entry_bytes e)), length-record_of (entry_bytes e))
+
+-- a fault that says nothing of the file refuses nothing
+pub refuses_nothing : (fault : LoadFault) (held : List (List ℕ)) → IsNoRefusal fault → RefusesBodies fault held
+refuses_nothing load_fault.Disk held is = tt
+refuses_nothing load_fault.Memory held is = tt
+refuses_nothing (load_fault.NotABook offset byte) held is = absurd is
+
+-- a journal whose bodies are refused is refused as a book
+pub refuses_book : {A K : Type 0} (r : Result A (K × LoadFault)) (here there : Bool) (file : Recovered) (HasThem : List (List ℕ) → Type 0) → here ≡ there
+    → (IsTrue here → (held : List (List ℕ)) × (file ≡ bodies held) × HasThem held)
+    → IfErr r (λ back. IsTrue there → (held : List (List ℕ)) → HasThem held → RefusesBodies back.1 held)
+    → IfErr r (λ back. IsTrue here → RefusesBook back.1 file)
+refuses_book (Ok a) here there file HasThem same lies refused = tt
+refuses_book (Err back) here there file HasThem same lies refused = λ told.
+    let held = lies told in
+    by back.1 held.0 held.1 (refused (subst (λ (t : Bool). IsTrue t) same told) held.0 held.2)
+  where
+    by : (fault : LoadFault) (held : List (List ℕ)) → file ≡ bodies held → RefusesBodies fault held → RefusesBook fault file
+    by load_fault.Disk held is refused = tt
+    by load_fault.Memory held is refused = tt
+    by (load_fault.NotABook offset byte) held is refused = bad_body held is refused
+
+-- why a body is refused
+pub refuses_so : (fault : MakeFault) (answer : LoadFault) (held : List (List ℕ)) (offset : ℕ) (byte : Option ℕ) → (fault ≡ make_fault.No → answer ≡ load_fault.NotABook offset byte) → (fault ≡ make_fault.Memory → answer ≡ load_fault.Memory)
+    → (fault ≡ make_fault.No → IsRefusedAt held offset byte) → RefusesBodies answer held
+refuses_so make_fault.No answer held offset byte bad memory refused = subst (λ (f : LoadFault). RefusesBodies f held) (sym (bad refl)) (refused refl)
+refuses_so make_fault.Memory answer held offset byte bad memory refused = subst (λ (f : LoadFault). RefusesBodies f held) (sym (memory refl)) tt
+
+-- the history with one entry more
+pub read_back_on : (before after : MachineValue) (old new : History) (bytes : List ℕ) → IsReadBack before old → HasReadEntry before after old new bytes → IsReadBack after new
+read_back_on before after old new bytes back one =
+    let past = past_of old.entries.items in
+    let longer : past_of new.entries.items ≡ one.entry ∷ past = one.past in
+    record {
+      runs = subst CanRun (sym one.plan) back.runs;
+      stands = subst (λ (p : List Entry). StandsFor after p) (sym longer) (one.stands past back.stands);
+      kept = one.kept ∙ ap (λ (l : List ℕ). l ++ (length_bytes (length bytes) ++ bytes)) back.kept
+          ∙ ap (λ (b : List ℕ). framed past ++ (length_bytes (length b) ++ b)) (sym one.form) ∙ ap framed (sym longer);
+      short = subst (λ (p : List Entry). AreShort p) (sym longer) (one.short, back.short);
+      forms = subst (λ (p : List Entry). AreForms p) (sym longer) ((one.is_entry.hand, one.is_entry.payload), back.forms);
+    }
+
+module _ {K : Type 0} (tells : K → Bool) (shown : K → Option (List ℕ)) (content : K → Content) (left : K → Images) (crashes : K → Crashes) (disk_faults out_faults asks turns : K → ℕ) where
+  abbrev Reads : Held K → Held K → Type 0
+  Reads old new = OnlyReads tells shown content left crashes disk_faults out_faults asks turns old new
+
+  abbrev Read : Held K → MachineValue → History → ℕ → Type 0
+  Read j machine history place = HasRead tells shown content left crashes disk_faults out_faults asks turns j machine history place
+
+  abbrev ReadAll : Held K → MachineValue → History → Type 0
+  ReadAll j machine history = HasReadAll tells shown content left crashes disk_faults out_faults asks turns j machine history
+
+  pub reads_none : (j : Held K) → Reads j j
+  reads_none j = record {
+    journal = refl;
+    stays = λ told held rest. rest;
+    rests = λ told. rests_none (content j.desk) (left j.desk) (crashes j.desk);
+    no_fall = omega arith;
+    others = (refl, refl, refl);
+    quiet = (refl, refl);
+  }
+
+  pub reads_on : (a b c : Held K) → Reads a b → Reads b c → Reads a c
+  reads_on a b c one two =
+      let told_on : IsTrue (tells a.desk) → IsTrue (tells b.desk) = λ told. subst (λ (t : Bool). IsTrue t) (sym one.quiet.0) told in
+      record {
+        journal = two.journal ∙ ap (λ (h : Held K). record h { desk = c.desk }) one.journal;
+        stays = λ told held rest. two.stays (told_on told) held (one.stays told held rest);
+        rests = λ told. rests_on (content a.desk) (content b.desk) (content c.desk) (left a.desk) (left b.desk) (left c.desk) (crashes a.desk) (crashes b.desk) (crashes c.desk) (one.rests told) (two.rests (told_on told));
+        no_fall = omega (arith, one.no_fall, two.no_fall);
+        others = (two.others.0 ∙ one.others.0, two.others.1 ∙ one.others.1, two.others.2 ∙ one.others.2);
+        quiet = (two.quiet.0 ∙ one.quiet.0, two.quiet.1 ∙ one.quiet.1);
+      }
+
+  -- the bodies in the file stay
+  pub same_file : (a b : Held K) → Reads a b → IsTrue (tells a.desk) → bytes_of (content b.desk) ≡ bytes_of (content a.desk)
+  same_file a b reads told = goes_bytes (content a.desk) (content b.desk) (reads.rests told).content
+
+  pub bodies_stay : (a b : Held K) → Reads a b → IsTrue (tells a.desk) → (held : List (List ℕ)) → HasBodies content a held → HasBodies content b held
+  bodies_stay a b reads told held lies =
+      subst (λ (j : Held K). LiesAs (title_of j.title) held j.size (bytes_of (content b.desk))) (sym reads.journal)
+      (subst (λ (bytes : List ℕ). LiesAs (title_of a.title) held a.size bytes) (sym (same_file a b reads told)) lies)
+
+  pub bodies_were : (a b : Held K) → Reads a b → IsTrue (tells a.desk) → (held : List (List ℕ)) → HasBodies content b held → HasBodies content a held
+  bodies_were a b reads told held lies =
+      subst (λ (bytes : List ℕ). LiesAs (title_of a.title) held a.size bytes) (same_file a b reads told)
+      (subst (λ (j : Held K). LiesAs (title_of j.title) held j.size (bytes_of (content b.desk))) reads.journal lies)
+
+  told_was : (a b : Held K) → Reads a b → IsTrue (tells b.desk) → IsTrue (tells a.desk)
+  told_was a b reads told = subst (λ (t : Bool). IsTrue t) reads.quiet.0 told
+
+  told_is : (a b : Held K) → Reads a b → IsTrue (tells a.desk) → IsTrue (tells b.desk)
+  told_is a b reads told = subst (λ (t : Bool). IsTrue t) (sym reads.quiet.0) told
+
+  -- what was read stays read
+  pub read_moved : (a b : Held K) (machine : MachineValue) (history : History) (place : ℕ) → Reads a b → Read a machine history place → Read b machine history place
+  read_moved a b machine history place reads read = record {
+    back = read.back;
+    place_is = read.place_is;
+    front = λ told held lies. (let was = told_was a b reads told in read.front was held (bodies_were a b reads was held lies));
+  }
+
+  pub all_moved : (a b : Held K) (machine : MachineValue) (history : History) → Reads a b → ReadAll b machine history → ReadAll a machine history
+  all_moved a b machine history reads read = record {
+    back = read.back;
+    size = sym (ap (λ (j : Held K). j.size) reads.journal) ∙ read.size;
+    limit = subst (λ (n : ℕ). n ≤ SIZE_LIMIT) (ap (λ (j : Held K). j.size) reads.journal) read.limit;
+    whole = λ told held lies. read.whole (told_is a b reads told) held (bodies_stay a b reads told held lies);
+  }
+
+  pub refused_moved : (a b : Held K) (fault : LoadFault) → Reads a b → (IsTrue (tells b.desk) → (held : List (List ℕ)) → HasBodies content b held → RefusesBodies fault held)
+      → IsTrue (tells a.desk) → (held : List (List ℕ)) → HasBodies content a held → RefusesBodies fault held
+  refused_moved a b fault reads refused told held lies = refused (told_is a b reads told) held (bodies_stay a b reads told held lies)
+
+  -- what was found at the next gate comes behind the bodies so far
+  pub found_next_body : (a b : Held K) (machine : MachineValue) (history : History) (place : ℕ) (Says : List (List ℕ) → Type 0) → Read a machine history place → Reads a b → a.title ≡ book_title
+      → ((before rest : List (List ℕ)) → IsTrue (tells b.desk) → HasBodies content b (before ++ rest) → place ≡ length (front_of (title_of b.title) before) → Says rest)
+      → IsTrue (tells a.desk) → (held : List (List ℕ)) → HasBodies content a held
+      → (rest : List (List ℕ)) × (held ≡ bodies_of machine.plan (past_of history.entries.items) ++ rest) × Says rest
+  found_next_body a b machine history place Says read reads titled found told held lies =
+      let past = past_of history.entries.items in
+      let front = read.front told held lies in
+      let title : b.title ≡ book_title = ap (λ (h : Held K). h.title) reads.journal ∙ titled in
+      let long : length (front_of (title_of book_title) (bodies_of machine.plan past)) + 1 ≡ size_of machine.plan past = front_long machine.plan past in
+      let at : place ≡ length (front_of (title_of book_title) (bodies_of machine.plan past)) = omega (arith, read.place_is, long) in (
+        front.0,
+        front.1,
+        found (bodies_of machine.plan past) front.0 (subst (λ (t : Bool). IsTrue t) (sym reads.quiet.0) told)
+            (subst (λ (h : List (List ℕ)). HasBodies content b h) front.1 (bodies_stay a b reads told held lies))
+            (at ∙ ap (λ (t : Title). length (front_of (title_of t) (bodies_of machine.plan past))) (sym title)),
+      )
+
+  -- one entry more was read
+  pub read_on : (a b : Held K) (m0 m1 : MachineValue) (h0 h1 : History) (place next : ℕ) (bytes : List ℕ) → Read a m0 h0 place → Reads a b → a.title ≡ book_title
+      → ((before rest : List (List ℕ)) → IsTrue (tells b.desk) → HasBodies content b (before ++ rest) → place ≡ length (front_of (title_of b.title) before) → IsNext true rest bytes)
+      → HasReadEntry m0 m1 h0 h1 bytes → next ≡ place + (5 + length bytes) → Read a m1 h1 next
+  read_on a b m0 m1 h0 h1 place next bytes read reads titled found one moved =
+      let longer : past_of h1.entries.items ≡ one.entry ∷ past_of h0.entries.items = one.past in
+      record {
+        back = read_back_on m0 m1 h0 h1 bytes read.back one;
+        place_is = omega (arith, moved, read.place_is, ap length one.form) ∙ ap (λ (p : PlanValue). size_of p (one.entry ∷ past_of h0.entries.items)) (sym one.plan) ∙ ap (size_of m1.plan) (sym longer);
+        front = λ told held lies.
+            let n = found_next_body a b m0 h0 place (λ rest. IsNext true rest bytes) read reads titled found told held lies in (
+              n.2.0,
+              n.1
+                  ∙ ap (λ (r : List (List ℕ)). bodies_of m0.plan (past_of h0.entries.items) ++ r) n.2.1
+                  ∙ sym (append_assoc (bodies_of m0.plan (past_of h0.entries.items)) (bytes ∷ []) n.2.0)
+                  ∙ ap (λ (b : List ℕ). (bodies_of m0.plan (past_of h0.entries.items) ++ b ∷ []) ++ n.2.0) (sym one.form)
+                  ∙ ap (λ (p : PlanValue). bodies_of p (one.entry ∷ past_of h0.entries.items) ++ n.2.0) (sym one.plan)
+                  ∙ ap (λ (p : List Entry). bodies_of m1.plan p ++ n.2.0) (sym longer),
+            );
+      }
+
+  -- no entry that may follow was read
+  pub read_refused : (a b : Held K) (machine : MachineValue) (history : History) (place offset : ℕ) (bytes : List ℕ) (byte : Option ℕ) → Read a machine history place → Reads a b → a.title ≡ book_title
+      → ((before rest : List (List ℕ)) → IsTrue (tells b.desk) → HasBodies content b (before ++ rest) → place ≡ length (front_of (title_of b.title) before) → IsNext true rest bytes)
+      → IsNoStep machine.plan (past_of history.entries.items) bytes → offset ≡ place + 5 → byte ≡ slice_get bytes 0
+      → IsTrue (tells a.desk) → (held : List (List ℕ)) → HasBodies content a held → IsRefusedAt held offset byte
+  read_refused a b machine history place offset bytes byte read reads titled found no_step at its told held lies =
+      let past = past_of history.entries.items in
+      let n = found_next_body a b machine history place (λ rest. IsNext true rest bytes) read reads titled found told held lies in
+      record {
+        before = bodies_of machine.plan past;
+        body = bytes;
+        after = n.2.0;
+        splits = n.1 ∙ ap (λ (r : List (List ℕ)). bodies_of machine.plan past ++ r) n.2.1;
+        cannot = later machine.plan past read.back.runs (legal machine.plan machine past refl read.back.stands) refl no_step;
+        offset_is = omega (arith, at, read.place_is, front_long machine.plan past);
+        byte_is = its;
+      }
+    where
+      legal : (plan : PlanValue) (m : MachineValue) (past : List Entry) → m.plan ≡ plan → StandsFor m past → LegalPast (outline_of plan) past
+      legal plan m past same stands = subst (λ (p : PlanValue). LegalPast (outline_of p) past) same stands.legal
+
+  -- nothing is left
+  pub read_out : (a b : Held K) (machine : MachineValue) (history : History) (place : ℕ) → Read a machine history place → Reads a b → a.title ≡ book_title
+      → ((before rest : List (List ℕ)) → IsTrue (tells b.desk) → HasBodies content b (before ++ rest) → place ≡ length (front_of (title_of b.title) before) → rest ≡ [])
+      → place + 1 ≡ a.size → place < SIZE_LIMIT → ReadAll a machine history
+  read_out a b machine history place read reads titled found ends below = record {
+    back = read.back;
+    size = sym ends ∙ read.place_is;
+    limit = omega (arith, ends, below);
+    whole = λ told held lies.
+        let n = found_next_body a b machine history place (λ rest. rest ≡ []) read reads titled found told held lies in
+        n.1 ∙ ap (λ (r : List (List ℕ)). bodies_of machine.plan (past_of history.entries.items) ++ r) n.2 ∙ append-nil (bodies_of machine.plan (past_of history.entries.items));
+  }
+
+  -- a file that is told ends where its size says
+  pub read_ends : (a b : Held K) (machine : MachineValue) (history : History) (place : ℕ) → Read a machine history place → Reads a b → a.title ≡ book_title
+      → ((before rest : List (List ℕ)) → IsTrue (tells b.desk) → HasBodies content b (before ++ rest) → place ≡ length (front_of (title_of b.title) before) → rest ≡ [])
+      → place + 1 ≢ a.size → IsTrue (tells a.desk) → (held : List (List ℕ)) → HasBodies content a held → ⊥
+  read_ends a b machine history place read reads titled found apart told held lies =
+      let past = past_of history.entries.items in
+      let n = found_next_body a b machine history place (λ rest. rest ≡ []) read reads titled found told held lies in
+      let whole : held ≡ bodies_of machine.plan past = n.1 ∙ ap (λ (r : List (List ℕ)). bodies_of machine.plan past ++ r) n.2 ∙ append-nil (bodies_of machine.plan past) in
+      let size : a.size ≡ length (front_of (title_of a.title) held) + 1 = lies.place in
+      let same : length (front_of (title_of a.title) held) ≡ length (front_of (title_of book_title) (bodies_of machine.plan past)) =
+      ap (λ (t : Title). length (front_of (title_of t) held)) titled ∙ ap (λ (h : List (List ℕ)). length (front_of (title_of book_title) h)) whole in
+      apart (omega (arith, size, same, front_long machine.plan past, read.place_is))
+
+  -- the first body is found at the first place
+  pub found_first : (j : Held K) (Says : List (List ℕ) → Type 0) → j.title ≡ book_title
+      → ((before rest : List (List ℕ)) → IsTrue (tells j.desk) → HasBodies content j (before ++ rest) → 17 ≡ length (front_of (title_of j.title) before) → Says rest)
+      → IsTrue (tells j.desk) → (held : List (List ℕ)) → HasBodies content j held → Says held
+  found_first j Says titled found told held lies =
+      let at : 17 ≡ length (front_of (title_of j.title) []) = sym (first_place (title_of book_title) refl) ∙ ap (λ (t : Title). length (front_of (title_of t) [])) (sym titled) in
+      found [] held told lies at
+
+  -- a journal that has more than its title has a record
+  pub found_some : (j : Held K) (held : List (List ℕ)) → j.title ≡ book_title → j.size ≢ 18 → HasBodies content j held → held ≢ []
+  found_some j held titled some lies none =
+      let size : j.size ≡ length (front_of (title_of j.title) held) + 1 = lies.place in
+      let start : length (front_of (title_of book_title) []) ≡ 17 = first_place (title_of book_title) refl in
+      let same : length (front_of (title_of j.title) held) ≡ length (front_of (title_of book_title) []) = ap (λ (t : Title). length (front_of (title_of t) held)) titled ∙ ap (λ (h : List (List ℕ)). length (front_of (title_of book_title) h)) none in
+      some (omega (arith, size, same, start))
+
+  -- the plan was read
+  pub read_plan_first : (j : Held K) (machine : MachineValue) (history : History) (place : ℕ) (bytes : List ℕ) → plan_bytes machine.plan ≡ bytes → StandsFor machine [] → CanRun machine.plan
+      → past_of history.entries.items ≡ [] → history.bodies.items ≡ [] → place ≡ 22 + length bytes
+      → (IsTrue (tells j.desk) → (held : List (List ℕ)) → HasBodies content j held → IsNext true held bytes) → Read j machine history place
+  read_plan_first j machine history place bytes form fresh runs none empty at leads = record {
+    back = record {
+      runs = runs;
+      stands = subst (λ (p : List Entry). StandsFor machine p) (sym none) fresh;
+      kept = empty ∙ ap framed (sym none);
+      short = subst (λ (p : List Entry). AreShort p) (sym none) tt;
+      forms = subst (λ (p : List Entry). AreForms p) (sym none) tt;
+    };
+    place_is = omega (arith, at, ap length form) ∙ ap (size_of machine.plan) (sym none);
+    front = λ told held lies.
+        let n = leads told held lies in
+        (n.0, n.1 ∙ ap (λ (b : List ℕ). b ∷ n.0) (sym form) ∙ ap (λ (p : List Entry). bodies_of machine.plan p ++ n.0) (sym none));
+  }
+
+  -- no plan was read
+  pub refused_first : (held : List (List ℕ)) (bytes : List ℕ) (offset : ℕ) (byte : Option ℕ) → IsNext true held bytes → IsNoPlan bytes → offset ≡ 17 + 5 → byte ≡ slice_get bytes 0 → IsRefusedAt held offset byte
+  refused_first held bytes offset byte found none at its = record {
+    before = [];
+    body = bytes;
+    after = found.0;
+    splits = found.1;
+    cannot = first refl none;
+    offset_is = omega (arith, at, first_place (title_of book_title) refl);
+    byte_is = its;
+  }
+
+  -- a journal that has no more than its title has no record
+  pub found_none : (j : Held K) (held : List (List ℕ)) → j.title ≡ book_title → j.size ≡ 18 → HasBodies content j held → held ≡ []
+  found_none j held titled empty lies = by held (omega (arith, records_long held, length-append (OPEN ∷ title_of book_title) (flat_map record_of held), size, same, empty))
+    where
+      size : j.size ≡ length (front_of (title_of j.title) held) + 1
+      size = lies.place
+
+      same : length (front_of (title_of j.title) held) ≡ length (front_of (title_of book_title) held)
+      same = ap (λ (t : Title). length (front_of (title_of t) held)) titled
+
+      by : (l : List (List ℕ)) → length l ≡ 0 → l ≡ []
+      by [] none = refl
+      by (x ∷ l) none = absurd (omega (arith, none))

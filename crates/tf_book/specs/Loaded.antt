@@ -1,0 +1,42 @@
+-- What a load answers of a file.
+use Rattle.std.specs.Prelude.{◌≡◌, ℕ, Bool, false, IsTrue, List, [], None, Result, Ok, Err}
+use Rattle.tf_desk.specs.Content.{Content}
+use Rattle.tf_desk.specs.Crash.{Images}
+use Rattle.tf_journal.specs.Format.{Recovered, unborn, bodies}
+use Rattle.tf_journal.specs.Rest.{IsAtRest}
+use Rattle.tf_journal.specs.declared.title.Title.TheVariants.{Book as book_title}
+use Rattle.tf_book.specs.Book.{bodies_of}
+use Rattle.tf_book.specs.Loading.{CanRun}
+use Rattle.tf_book.specs.declared.book.loading.Loaded.{Loaded}
+use Rattle.tf_book.specs.declared.book.loading.Loaded.TheVariants as loaded
+
+-- the desk that an answer has
+abbrev pub desk_of : {K : Type 0} → Loaded K → K
+desk_of (loaded.Book book) = book.journal.desk
+desk_of (loaded.NoFlow journal) = journal.desk
+desk_of (loaded.Unborn desk) = desk
+
+abbrev pub desk_loaded : {K F : Type 0} → Result (Loaded K) (K × F) → K
+desk_loaded (Ok found) = desk_of found
+desk_loaded (Err back) = back.0
+
+-- the file has exactly the bodies of the book's plan, which can run, and of its history; or none; or it is unborn
+abbrev pub IsLoaded : {K : Type 0} → Loaded K → Recovered → Type 0
+IsLoaded (loaded.Book book) file = (file ≡ bodies (bodies_of book.plan book.past)) × CanRun book.plan
+IsLoaded (loaded.NoFlow journal) file = file ≡ bodies []
+IsLoaded (loaded.Unborn desk) file = file ≡ unborn
+
+-- the same of the bodies of a file that is a journal
+abbrev pub IsLoadedFrom : {K : Type 0} → Loaded K → List (List ℕ) → Type 0
+IsLoadedFrom (loaded.Book book) held = (held ≡ bodies_of book.plan book.past) × CanRun book.plan
+IsLoadedFrom (loaded.NoFlow journal) held = held ≡ []
+IsLoadedFrom (loaded.Unborn desk) held = ⊥
+
+-- a book that was loaded isn't halted, says its lines and is kept in the file; a journal without a record is one in which a book may
+-- start
+abbrev pub IsMade : {K : Type 0} → (K → Bool) → (K → Content) → (K → Images) → Loaded K → Type 0
+IsMade tells content left (loaded.Book book) = (book.halt ≡ None) × (book.quiet ≡ false) × (book.journal.volatile ≡ false)
+IsMade tells content left (loaded.NoFlow journal) =
+    (journal.title ≡ book_title) × (journal.size ≡ 18) × (journal.halted ≡ false) × (journal.volatile ≡ false)
+    × (IsTrue (tells journal.desk) → IsAtRest content left journal [])
+IsMade tells content left (loaded.Unborn desk) = Unit {0}
