@@ -148,7 +148,7 @@ fn take_up<K: Desk, P: Performer>(
     let Ok(order) = machine.order(alloc, &start) else {
         return Err(Halt::Memory);
     };
-    note::<K, P>(machine, log, entry_of(started(start)), desk)?;
+    note::<K, P>(machine, log, entry_of(start.what()), desk)?;
     let Ok(outcome) = hand.perform(alloc, &order) else {
         return Err(Halt::Memory);
     };
@@ -210,24 +210,6 @@ fn entry_of(what: What) -> Entry
     ensures { result ≡ by_hand what }
 {
     Entry { hand: HAND, what }
-}
-
-/// What is recorded as a task is taken up.
-fn started(start: Start) -> What
-    ensures { result ≡ start_entry start }
-{
-    if start.restart {
-        return What::Restart(start.atom);
-    }
-    let state = match start.action {
-        Action::Execute => AtomState::Running,
-        Action::Revert => AtomState::Reverting,
-    };
-    What::Atom {
-        atom: start.atom,
-        state,
-        payload: Payload::Empty,
-    }
 }
 
 /// What is recorded as a task ends.
