@@ -1,5 +1,5 @@
 -- How many tasks a plan has, and what a check says of it.
-use Rattle.std.proofs.Common.{◌≡◌, ℕ, suc, ◌+◌, List, [], ◌∷◌, ◌++◌, length, Bool, true, false, not, Some, sym, ap, ◌∙◌, arith, codes, ◌-◌}
+use Rattle.std.proofs.Common.{◌≡◌, ℕ, suc, ◌+◌, List, [], ◌∷◌, ◌++◌, length, Bool, true, false, not, Option, Some, sym, ap, ◌∙◌, arith, codes, ◌-◌}
 use Rattle.std.specs.Prelude.{slice_get, if◌then◌else◌}
 use Rattle.std.specs.Fmt.{decimal}
 use Rattle.std.proofs.lemmas.List.{length-map, length-append, append_assoc}
@@ -10,8 +10,9 @@ use Rattle.tf_numbers.specs.Numbers.{which_below}
 use Rattle.tf_model.specs.Plan.{Outline, outline_of, count, is_task}
 use Rattle.tf_model.proofs.OutlineLemmas.{same_flows}
 use Rattle.tf_machine.proofs.PlanLemmas as plan_lemmas
-use Rattle.tf_report.specs.Lines.{flow_name}
-use Rattle.taskflow.specs.Messages.{tasks_below, checked}
+use Rattle.tf_report.specs.Lines.{flow_name, flow_word}
+use Rattle.tf_states.specs.declared.state.FlowState.{FlowState}
+use Rattle.taskflow.specs.Messages.{tasks_below, checked, byte_or_end, not_a_book, book_full, state_forbids}
 
 -- ---- atoms
 
@@ -50,6 +51,36 @@ counted_other plan a tasks is counted =
 -- nine texts that were appended by twos
 by_twos : (front a b c d e f g h i : List ℕ) → ((((front ++ (a ++ b)) ++ (c ++ d)) ++ (e ++ f)) ++ (g ++ h)) ++ i ≡ front ++ (a ++ b ++ c ++ d ++ e ++ f ++ g ++ h ++ i)
 by_twos front a b c d e f g h i = search (append_assoc)
+
+-- four texts, of which the first three were appended at once
+three_at_once : (front a b c d : List ℕ) → (front ++ (a ++ (b ++ c))) ++ d ≡ front ++ (a ++ b ++ c ++ d)
+three_at_once front a b c d = search (append_assoc)
+
+-- five texts that were appended by twos
+five_by_twos : (front a b c d e : List ℕ) → ((front ++ (a ++ b)) ++ (c ++ d)) ++ e ≡ front ++ (a ++ b ++ c ++ d ++ e)
+five_by_twos front a b c d e = search (append_assoc)
+
+-- what was appended of a book that is full
+pub full_told : (front : List ℕ) (size need : ℕ)
+    → ((front ++ (codes "taskflow: book full: " ++ decimal size)) ++ (codes " + " ++ decimal need)) ++ codes "\n" ≡ front ++ book_full size need
+unfolding book_full
+full_told front size need = five_by_twos front (codes "taskflow: book full: ") (decimal size) (codes " + ") (decimal need) (codes "\n")
+
+-- five texts, of which the first two were appended at once
+five_by_one : (front a b c d e : List ℕ) → (((front ++ (a ++ b)) ++ c) ++ d) ++ e ≡ front ++ (a ++ b ++ c ++ d ++ e)
+five_by_one front a b c d e = search (append_assoc)
+
+-- what was appended of a file that is no book
+pub no_book_told : (front : List ℕ) (offset : ℕ) (byte : Option ℕ)
+    → (((front ++ (codes "taskflow: not a book: offset " ++ decimal offset)) ++ codes ", ") ++ byte_or_end byte) ++ codes "\n" ≡ front ++ not_a_book offset byte
+unfolding not_a_book
+no_book_told front offset byte = five_by_one front (codes "taskflow: not a book: offset ") (decimal offset) (codes ", ") (byte_or_end byte) (codes "\n")
+
+-- what was appended of a flow whose state forbids a command
+pub forbids_told : (front : List ℕ) (plan : Outline) (state : FlowState)
+    → (front ++ (codes "taskflow: state forbids: " ++ (flow_name plan 0 ++ 32 ∷ flow_word state))) ++ codes "\n" ≡ front ++ state_forbids plan state
+unfolding state_forbids
+forbids_told front plan state = three_at_once front (codes "taskflow: state forbids: ") (flow_name plan 0) (32 ∷ flow_word state) (codes "\n")
 
 -- what was appended of a plan
 pub checked_told : (plan : PlanValue) (front : List ℕ) (tasks atoms flows : ℕ) → tasks ≡ tasks_below (outline_of plan) (count (outline_of plan)) → atoms ≡ length (numbering.atoms plan) → flows ≡ length (numbering.flows plan)

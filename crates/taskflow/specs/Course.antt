@@ -1,124 +1,196 @@
 -- The ways that a command can go.
-use Rattle.std.specs.Prelude.{◌≡◌, ◌≤◌, ◌⊎◌, ℕ, List, length, codes, Bool, false, Option, Some, None}
-use Rattle.tf_desk.specs.Shown.{shown_with, ShowsFront}
+use Rattle.std.specs.Prelude.{◌≡◌, ◌≢◌, ◌≤◌, ◌⊎◌, ℕ, List, [], length, codes, false, IsTrue, Bool, Option, Some, None}
+use Rattle.tf_desk.specs.Content.{Content}
+use Rattle.tf_desk.specs.Crash.{Images, Crashes}
 use Rattle.tf_flow.specs.declared.atoms.Bind.{Bind}
 use Rattle.tf_ports.specs.Contents.{Contents, GivesBytes, PassesLimit}
-use Rattle.tf_ports.specs.Told.{told_with}
 use Rattle.tf_ports.specs.declared.crews.Want.{Want}
-use Rattle.tf_ports.specs.declared.crews.Want.TheVariants as want
 use Rattle.tf_ports.specs.declared.orders.Order.{Order}
 use Rattle.tf_ports.specs.declared.outcomes.Outcome.{Outcome}
-use Rattle.tf_files.specs.Written.{PlanTree}
-use Rattle.tf_model.specs.Bound.{tree_bound}
+use Rattle.tf_ports.specs.declared.reading.TheConstants.{SOURCE_LIMIT}
+use Rattle.tf_flow.specs.Plan.{PlanValue}
+use Rattle.tf_journal.specs.Format.{Recovered}
+use Rattle.tf_book.specs.Loading.{IsNoBook}
+use Rattle.tf_files.specs.Written.{PlanTree, plan_tree}
+use Rattle.tf_states.specs.declared.record.Entry.{Entry}
+use Rattle.tf_states.specs.declared.state.FlowState.{FlowState}
+use Rattle.tf_commands.specs.declared.asked.Asked.{Asked}
+use Rattle.tf_commands.specs.declared.asked.Asked.TheVariants as asked
 use Rattle.taskflow.specs.Accepted.{outline_in, GivesPlan, GivesNone}
+use Rattle.taskflow.specs.Asking.{source_of, asked_for}
+use Rattle.taskflow.specs.Books.{HiresOne, Runs, Resumes, ShowsBook}
+use Rattle.taskflow.specs.Durable.{file_of, book_in, HoldsNoFlow}
 use Rattle.taskflow.specs.Messages.{checked, usage, cannot_read, cannot_hire, refusal, refusal_text}
 use Rattle.taskflow.specs.Run.{Ran}
-use Rattle.tf_words.specs.Words.{command_of, file_named}
-use Rattle.tf_ports.specs.declared.reading.TheConstants.{SOURCE_LIMIT}
-use Rattle.taskflow.specs.declared.statuses.TheConstants.{SUCCEEDED, NO_COMMAND, UNREAD, REFUSED, UNSAID, UNHIRED, OUT_OF_MEMORY, REVERTED, FAILED}
+use Rattle.taskflow.specs.Saying.{Closes, ClosesOrStops}
+use Rattle.taskflow.specs.declared.statuses.TheConstants.{SUCCEEDED, NO_COMMAND, UNREAD, REFUSED, UNHIRED, OUT_OF_MEMORY, REVERTED, FAILED, FULL}
 use Rattle.taskflow.specs.declared.accepting.Refusal.{Refusal}
-use Rattle.tf_words.specs.declared.asked.Asked.{Asked}
-use Rattle.tf_words.specs.declared.asked.Asked.TheVariants as asked
+use Rattle.taskflow.specs.declared.reading.Source.{Source}
 
--- a command says its message and ends with its status, or with that of a failed output where a front of the message was shown
-pub data Closes (before : Option (List ℕ)) (message : List ℕ) (wanted : ℕ) (after : Option (List ℕ)) : ℕ → Type 0 where
-  said : after ≡ shown_with before message → Closes before message wanted after wanted
-  cut : ShowsFront before message after → Closes before message wanted after UNSAID
+-- ---- flow files
 
--- memory ran out and nothing was said, or a message closed the command
-abbrev pub ClosesOrStops : Option (List ℕ) → List ℕ → ℕ → Option (List ℕ) → ℕ → Type 0
-ClosesOrStops before message wanted after status = ((status ≡ OUT_OF_MEMORY) × (after ≡ before)) ⊎ Closes before message wanted after status
-
--- what becomes of the bytes of a flow file, which these values and this deferral go with, where its plan is dealt with so
-pub data BytesRead (sets : List Bind) (defer : Bool) (bytes : List ℕ) (does : PlanTree → ℕ → Type 0) (before after : Option (List ℕ)) (status : ℕ) : Type 0 where
+-- what becomes of the bytes of a flow file, which these values and this deferral go with, where its plan is dealt with so; where they
+-- give none, all else is untouched
+pub data BytesRead (source : Source) (bytes : List ℕ) (untouched : Type 0) (does : PlanTree → ℕ → Type 0) (before after : Option (List ℕ)) (status : ℕ) : Type 0 where
   -- memory ran out before anything was said or run
-  exhausted : status ≡ OUT_OF_MEMORY → after ≡ before → BytesRead sets defer bytes does before after status
+  exhausted : untouched → status ≡ OUT_OF_MEMORY → after ≡ before → BytesRead source bytes untouched does before after status
   -- they are refused for the first reason why they give no plan, and that is said
-  refused : (reason : Refusal) → GivesNone sets defer bytes reason
-      → Closes before (refusal (refusal_text reason)) REFUSED after status → BytesRead sets defer bytes does before after status
+  refused : untouched → (reason : Refusal) → GivesNone source.sets source.defer bytes reason
+      → Closes before (refusal (refusal_text reason)) REFUSED after status → BytesRead source bytes untouched does before after status
   -- the plan that they give is dealt with
-  done : (plan : PlanTree) → GivesPlan sets defer bytes plan → does plan status → BytesRead sets defer bytes does before after status
+  done : (plan : PlanTree) → GivesPlan source.sets source.defer bytes plan → does plan status → BytesRead source bytes untouched does before after status
 
--- what becomes of a flow file, where its plan is dealt with so
-pub data FileRead (files : Contents) (file : List ℕ) (sets : List Bind) (defer : Bool) (does : PlanTree → ℕ → Type 0) (before after : Option (List ℕ)) (status : ℕ) : Type 0 where
+-- what becomes of a flow file, where its plan is dealt with so; where it gives none, all else is untouched
+pub data FileRead (files : Contents) (source : Source) (untouched : Type 0) (does : PlanTree → ℕ → Type 0) (before after : Option (List ℕ)) (status : ℕ) : Type 0 where
   -- memory ran out before anything was said or run
-  unfinished : status ≡ OUT_OF_MEMORY → after ≡ before → FileRead files file sets defer does before after status
+  unfinished : untouched → status ≡ OUT_OF_MEMORY → after ≡ before → FileRead files source untouched does before after status
   -- it can't be read
-  unread : Closes before cannot_read UNREAD after status → FileRead files file sets defer does before after status
+  unread : untouched → Closes before cannot_read UNREAD after status → FileRead files source untouched does before after status
   -- it is longer than a flow file may be
-  too_long : PassesLimit files file → Closes before (refusal (codes "too long")) REFUSED after status → FileRead files file sets defer does before after status
+  too_long : untouched → PassesLimit files source.file → Closes before (refusal (codes "too long")) REFUSED after status
+      → FileRead files source untouched does before after status
   -- its bytes are those that the sources have under its name
-  read : (bytes : List ℕ) → GivesBytes files file bytes → BytesRead sets defer bytes does before after status → FileRead files file sets defer does before after status
+  read : (bytes : List ℕ) → GivesBytes files source.file bytes → BytesRead source bytes untouched does before after status
+      → FileRead files source untouched does before after status
 
 -- nothing is done with a plan
 abbrev pub Undone : PlanTree → ℕ → Type 0
 Undone plan status = ⊥
 
--- to try a plan is to hire one hand of this process and to run the plan with it, within the bound of its tree
-pub data Tries (gives : Order → Outcome → Type 0) (hired after_hiring : Option (List Want)) (before after : Option (List ℕ)) (plan : PlanTree) (status : ℕ) : Type 0 where
-  -- memory ran out as the hand was hired, and nothing was said
-  unfinished_hire : after_hiring ≡ hired → status ≡ OUT_OF_MEMORY → after ≡ before → Tries gives hired after_hiring before after plan status
+-- ---- trials and checks
+
+-- a run of a plan of which nothing is kept
+pub record Tried (gives : Order → Outcome → Type 0) (tree : PlanTree) (shown now : Option (List ℕ)) (status : ℕ) : Type 0 where
+  pub plan : PlanValue
+  pub same : plan_tree plan ≡ tree
+  pub entries : List Entry
+  pub stop : Option FlowState
+  pub closing : List ℕ
+  pub ran : Ran gives plan [] entries stop shown now closing status
+
+-- to try a plan is to hire one hand of this process and to run the plan with it
+pub data Tries (gives : Order → Outcome → Type 0) (hired after_hiring : Option (List Want)) (before after : Option (List ℕ)) (tree : PlanTree) (status : ℕ) : Type 0 where
+  -- memory ran out as the hand was hired, or before the run began, and nothing was said
+  unfinished_hire : status ≡ OUT_OF_MEMORY → after ≡ before → Tries gives hired after_hiring before after tree status
   -- no hand could be hired, and that is said
-  unhired : after_hiring ≡ hired → Closes before cannot_hire UNHIRED after status → Tries gives hired after_hiring before after plan status
+  unhired : after_hiring ≡ hired → Closes before cannot_hire UNHIRED after status → Tries gives hired after_hiring before after tree status
   -- the hand was hired, and ran the plan
-  ran : after_hiring ≡ told_with hired (want.Local 1) → Ran gives (outline_in plan) (tree_bound plan.root) before after status
-      → Tries gives hired after_hiring before after plan status
+  tried : HiresOne hired after_hiring → Tried gives tree before after status → Tries gives hired after_hiring before after tree status
 
 -- nobody was hired, or one hand of this process
 abbrev pub HiresOneAtMost : Option (List Want) → Option (List Want) → Type 0
-HiresOneAtMost hired after_hiring = (after_hiring ≡ hired) ⊎ (after_hiring ≡ told_with hired (want.Local 1))
+HiresOneAtMost hired after_hiring = (after_hiring ≡ hired) ⊎ HiresOne hired after_hiring
 
 -- to check a plan is to say what it has, unless memory runs out
 abbrev pub Checks : Option (List ℕ) → Option (List ℕ) → PlanTree → ℕ → Type 0
 Checks before after plan status = ClosesOrStops before (checked (outline_in plan)) SUCCEEDED after status
 
--- what becomes of what the words ask for
-abbrev pub Obeys : (Order → Outcome → Type 0) → Asked → Contents → Option (List Want) → Option (List Want) → Option (List ℕ) → Option (List ℕ) → ℕ → Type 0
-Obeys gives (asked.Try file sets defer) files hired after_hiring before after status =
-    FileRead files file sets defer (Tries gives hired after_hiring before after) before after status
-Obeys gives (asked.Check file sets) files hired after_hiring before after status = FileRead files file sets false (Checks before after) before after status
+-- ---- all commands
 
--- the way that a command went, with hands that keep this relation of orders and outcomes: its words, what the sources
--- tell, which hands were hired before and after, the texts shown before and after, the status
-pub data Course (gives : Order → Outcome → Type 0) (words : List (List ℕ)) (files : Contents) (hired after_hiring : Option (List Want))
-    (before after : Option (List ℕ)) (status : ℕ) : Type 0 where
-  -- memory ran out before the words were read
-  unheard : status ≡ OUT_OF_MEMORY → after ≡ before → Course gives words files hired after_hiring before after status
-  -- the words are no command
-  no_command : command_of words ≡ None → Closes before usage NO_COMMAND after status → Course gives words files hired after_hiring before after status
-  -- what they ask for was done, or it was said why not
-  obeyed : (command : Asked) → command_of words ≡ Some command → Obeys gives command files hired after_hiring before after status
-      → Course gives words files hired after_hiring before after status
+-- these values and this deferral of that flow file
+abbrev pub source_so : List ℕ → List Bind → Bool → Source
+source_so file sets defer = record { file = file; sets = sets; defer = defer }
 
--- these bytes give this plan to run for a command, or none for this reason; a check defers no reverts
-abbrev pub GivesAsked : Asked → List ℕ → PlanTree → Type 0
-GivesAsked (asked.Try file sets defer) = GivesPlan sets defer
-GivesAsked (asked.Check file sets) = GivesPlan sets false
+module _ {K : Type 0} (tells : K → Bool) (content : K → Content) where
+  -- no file changed
+  abbrev pub FilesStay : K → K → Type 0
+  FilesStay entry now = IsTrue (tells entry) → (content now).files ≡ (content entry).files
 
-abbrev pub GivesNoneAsked : Asked → List ℕ → Refusal → Type 0
-GivesNoneAsked (asked.Try file sets defer) = GivesNone sets defer
-GivesNoneAsked (asked.Check file sets) = GivesNone sets false
+  -- no file changed but that of the name that was picked, if one was
+  abbrev pub OthersStay : K → K → Type 0
+  OthersStay entry now = IsTrue (tells entry) → (other : List ℕ) → (content entry).picked ≢ Some other → (content now).files other ≡ (content entry).files other
 
--- the words ask for a file that the sources refuse as too long or whose bytes give no plan
+  -- nobody was hired, and no file changed
+  abbrev pub IsUntouched : Option (List Want) → Option (List Want) → K → K → Type 0
+  IsUntouched hired after_hiring entry now = (after_hiring ≡ hired) × FilesStay entry now
+
+module _ {K : Type 0} (tells : K → Bool) (shown : K → Option (List ℕ)) (content : K → Content) (left : K → Images) (crashes : K → Crashes) (disk_faults : K → ℕ) where
+  -- what becomes of what the words ask for; a trial changes no file but one that was picked before, and a check none
+  abbrev pub Obeys : (Order → Outcome → Type 0) → Asked → Contents → Option (List Want) → Option (List Want) → K → K → ℕ → Type 0
+  Obeys gives (asked.Try file sets defer wanted) files hired after_hiring entry now status =
+      FileRead files (source_so file sets defer) (IsUntouched tells content hired after_hiring entry now)
+      (Tries gives hired after_hiring (shown entry) (shown now)) (shown entry) (shown now) status × OthersStay tells content entry now
+  Obeys gives (asked.Check file sets) files hired after_hiring entry now status =
+      FileRead files (source_so file sets false) (IsUntouched tells content hired after_hiring entry now)
+      (Checks (shown entry) (shown now)) (shown entry) (shown now) status × IsUntouched tells content hired after_hiring entry now
+  Obeys gives (asked.Run file book sets defer wanted stop) files hired after_hiring entry now status =
+      FileRead files (source_so file sets defer) (IsUntouched tells content hired after_hiring entry now)
+      (Runs tells shown content left crashes disk_faults gives book hired after_hiring entry now) (shown entry) (shown now) status
+  Obeys gives (asked.Resume book wanted stop) files hired after_hiring entry now status =
+      Resumes tells shown content left crashes disk_faults gives book hired after_hiring entry now status
+  Obeys gives (asked.Show book) files hired after_hiring entry now status =
+      ShowsBook tells shown content left crashes disk_faults book entry now status × (after_hiring ≡ hired)
+  Obeys gives other files hired after_hiring entry now status = ⊥
+
+  -- the way that a command went, with hands that keep this relation of orders and outcomes: its words, what the sources tell, which
+  -- hands were hired before and after, the desk before and after, the status
+  pub data Course (gives : Order → Outcome → Type 0) (words : List (List ℕ)) (files : Contents) (hired after_hiring : Option (List Want)) (entry now : K)
+      (status : ℕ) : Type 0 where
+    -- memory ran out before the words were read
+    unheard : status ≡ OUT_OF_MEMORY → shown now ≡ shown entry → IsUntouched tells content hired after_hiring entry now
+        → Course gives words files hired after_hiring entry now status
+    -- the words are no command
+    no_command : asked_for words ≡ None → Closes (shown entry) usage NO_COMMAND (shown now) status → IsUntouched tells content hired after_hiring entry now
+        → Course gives words files hired after_hiring entry now status
+    -- what they ask for was done, or it was said why not
+    obeyed : (command : Asked) → asked_for words ≡ Some command → Obeys gives command files hired after_hiring entry now status
+        → Course gives words files hired after_hiring entry now status
+
+-- ---- what a status tells
+
+-- the words ask for a flow file that the sources refuse as too long or whose bytes give no plan
 pub data IsRefused (words : List (List ℕ)) (files : Contents) : Type 0 where
-  passes_limit : (command : Asked) → command_of words ≡ Some command → PassesLimit files (file_named command) → IsRefused words files
-  gives_none : (command : Asked) (bytes : List ℕ) (reason : Refusal) → command_of words ≡ Some command → GivesBytes files (file_named command) bytes
-      → GivesNoneAsked command bytes reason → IsRefused words files
+  passes_limit : (command : Asked) (source : Source) → asked_for words ≡ Some command → source_of command ≡ Some source → PassesLimit files source.file
+      → IsRefused words files
+  gives_none : (command : Asked) (source : Source) (bytes : List ℕ) (reason : Refusal) → asked_for words ≡ Some command → source_of command ≡ Some source
+      → GivesBytes files source.file bytes → GivesNone source.sets source.defer bytes reason → IsRefused words files
 
--- the words ask for a file under which the sources tell bytes that give a plan, and that isn't too long
-pub record IsAccepted (words : List (List ℕ)) (files : Contents) : Type 0 where
+-- the sources tell bytes under the name of a flow file that give a plan, and that aren't too long
+pub record IsAccepted (source : Source) (files : Contents) : Type 0 where
   pub told : List ℕ → Option (List ℕ)
-  pub command : Asked
   pub bytes : List ℕ
   pub plan : PlanTree
   pub sources : files ≡ Some told
-  pub asks : command_of words ≡ Some command
-  pub under : told (file_named command) ≡ Some bytes
+  pub under : told source.file ≡ Some bytes
   pub short : length bytes ≤ SOURCE_LIMIT
-  pub given : GivesAsked command bytes plan
+  pub given : GivesPlan source.sets source.defer bytes plan
 
--- what was accepted and met no fault ends so, or memory runs out: a run with SUCCESS, in completed reversion or in FAILURE,
--- and a check with what it has to say
+-- a file is a book
+abbrev pub IsBook : Recovered → Type 0
+IsBook found = (offset : ℕ) (byte : Option ℕ) → ¬ (IsNoBook found offset byte)
+
+-- a book that holds a flow
+abbrev pub HoldsFlow : Recovered → Type 0
+HoldsFlow found = IsBook found × ¬ (HoldsNoFlow found)
+
+-- a run that met no fault ends with SUCCESS, in completed reversion or in FAILURE, or memory runs out; or its next record would make the
+-- book longer than its limit
+abbrev pub IsRunComplete : ℕ → Type 0
+IsRunComplete status = (status ≡ SUCCEEDED) ⊎ (status ≡ REVERTED) ⊎ (status ≡ FAILED) ⊎ (status ≡ OUT_OF_MEMORY) ⊎ (status ≡ FULL)
+
+-- what else was done and met no fault ends well, or memory runs out
+abbrev pub IsDoneComplete : ℕ → Type 0
+IsDoneComplete status = (status ≡ SUCCEEDED) ⊎ (status ≡ OUT_OF_MEMORY)
+
+module _ {K : Type 0} (tells : K → Bool) (content : K → Content) where
+  -- what the desk has under a name is this, and it tells so
+  abbrev pub HasFile : List ℕ → K → (Recovered → Type 0) → Type 0
+  HasFile name entry is = IsTrue (tells entry) × is (book_in (file_of (content entry) name))
+
+  -- nothing stands against what the words ask for: the flow file gives a plan, and the book is as the command wants it
+  abbrev pub IsReady : Asked → Contents → K → Type 0
+  IsReady (asked.Try file sets defer wanted) files entry = IsAccepted (source_so file sets defer) files
+  IsReady (asked.Run file book sets defer wanted stop) files entry = IsAccepted (source_so file sets defer) files × HasFile book entry HoldsNoFlow
+  IsReady (asked.Resume book wanted stop) files entry = HasFile book entry HoldsFlow
+  IsReady (asked.Show book) files entry = HasFile book entry HoldsFlow
+  IsReady (asked.Check file sets) files entry = IsAccepted (source_so file sets false) files
+  IsReady other files entry = ⊥
+
+-- it ends so, where no count of faults rose
 abbrev pub IsComplete : Asked → ℕ → Type 0
-IsComplete (asked.Try file sets defer) status = (status ≡ SUCCEEDED) ⊎ (status ≡ REVERTED) ⊎ (status ≡ FAILED) ⊎ (status ≡ OUT_OF_MEMORY)
-IsComplete (asked.Check file sets) status = (status ≡ SUCCEEDED) ⊎ (status ≡ OUT_OF_MEMORY)
+IsComplete (asked.Try file sets defer wanted) status = IsRunComplete status
+IsComplete (asked.Run file book sets defer wanted stop) status = IsRunComplete status
+IsComplete (asked.Resume book wanted stop) status = IsRunComplete status
+IsComplete (asked.Show book) status = IsDoneComplete status
+IsComplete (asked.Check file sets) status = IsDoneComplete status
+IsComplete other status = Unit {0}

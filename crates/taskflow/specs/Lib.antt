@@ -1,7 +1,13 @@
+pub mod Asking
 pub mod Accepted
 pub mod Messages
-pub mod Standing
-pub mod Going
-pub mod Course
+pub mod Saying
+pub mod Causes
 pub mod Run
+pub mod Durable
+pub mod Books
+pub mod Course
 pub mod Opened
+pub mod Way
+pub mod Runs
+pub mod Begun

@@ -1,5 +1,5 @@
 -- What a command says.
-use Rattle.std.specs.Prelude.{ℕ, ◌-◌, List, [], ◌∷◌, ◌++◌, codes, length}
+use Rattle.std.specs.Prelude.{ℕ, ◌-◌, List, [], ◌∷◌, ◌++◌, codes, length, Option, Some, None}
 use Rattle.std.specs.Fmt.{decimal}
 use Rattle.std.specs.List.{flat_map}
 use Rattle.tf_flow.specs.declared.faults.Limit.{Limit}
@@ -12,7 +12,8 @@ use Rattle.tf_order.specs.declared.faults.CompileFault.{CompileFault}
 use Rattle.tf_order.specs.declared.faults.CompileFault.TheVariants as compile_fault
 use Rattle.tf_numbers.specs.Numbers.{which_below}
 use Rattle.tf_model.specs.Plan.{Outline, count, is_task}
-use Rattle.tf_report.specs.Lines.{flow_name}
+use Rattle.tf_report.specs.Lines.{flow_name, flow_word}
+use Rattle.tf_states.specs.declared.state.FlowState.{FlowState}
 use Rattle.tf_scopes.specs.declared.faults.ScopeFault.{ScopeFault}
 use Rattle.tf_scopes.specs.declared.faults.ScopeFault.TheVariants as scope_fault
 use Rattle.taskflow.specs.declared.accepting.Refusal.{Refusal}
@@ -45,7 +46,6 @@ plan_fault_text plan_fault.Memory = []
 
 -- why a file makes no plan; want of memory says nothing
 abbrev pub file_fault_text : FileFault → List ℕ
-file_fault_text file_fault.NotBuilt = codes "not built"
 file_fault_text file_fault.NotToml = codes "not toml"
 file_fault_text (file_fault.UnknownKey path) = codes "unknown key " ++ path
 file_fault_text (file_fault.MissingKey path) = codes "missing key " ++ path
@@ -83,16 +83,42 @@ refusal_text refused.Memory = []
 unfoldable pub refusal : List ℕ → List ℕ
 refusal reason = codes "taskflow: flow file: " ++ reason ++ 10 ∷ []
 
--- the messages for words that are no command, and for a file that can't be read
+-- the message for words that are no command
 abbrev pub usage : List ℕ
 usage = codes "taskflow: usage\n"
 
+-- the message for a flow file that can't be read
 abbrev pub cannot_read : List ℕ
 cannot_read = codes "taskflow: cannot read\n"
 
 -- the message where no hand could be hired
 abbrev pub cannot_hire : List ℕ
 cannot_hire = codes "taskflow: cannot hire\n"
+
+-- the message for a fault of the disk
+abbrev pub disk_fault : List ℕ
+disk_fault = codes "taskflow: disk fault\n"
+
+-- the message for a book that holds no flow
+abbrev pub no_flow : List ℕ
+no_flow = codes "taskflow: no flow in the book\n"
+
+-- the byte that shows that a file is no book, or the file's end
+abbrev pub byte_or_end : Option ℕ → List ℕ
+byte_or_end None = codes "end"
+byte_or_end (Some byte) = codes "byte " ++ decimal byte
+
+-- the message for a file that is no book: the offset and the byte that show it
+unfoldable pub not_a_book : ℕ → Option ℕ → List ℕ
+not_a_book offset byte = codes "taskflow: not a book: offset " ++ decimal offset ++ codes ", " ++ byte_or_end byte ++ 10 ∷ []
+
+-- the message for a book that is full: its size, and how many bytes more were asked for
+unfoldable pub book_full : ℕ → ℕ → List ℕ
+book_full size need = codes "taskflow: book full: " ++ decimal size ++ codes " + " ++ decimal need ++ 10 ∷ []
+
+-- the message for a flow whose state forbids a command: the name of its root and the state
+unfoldable pub state_forbids : Outline → FlowState → List ℕ
+state_forbids plan state = codes "taskflow: state forbids: " ++ flow_name plan 0 ++ 32 ∷ flow_word state ++ 10 ∷ []
 
 -- how many of the atoms below n are tasks
 abbrev pub tasks_below : Outline → ℕ → ℕ

@@ -1,36 +1,53 @@
--- What is promised of a run: its steps, its outcomes, the text that it shows and its end.
-use Rattle.std.specs.Prelude.{◌≡◌, ℕ, ◌+◌, ◌<◌, ◌≤◌, List, [], ◌∷◌, length, Bool, not, is_none, Option, Some, true, false, nat_lt}
+-- What is promised of a run: its steps, its outcomes, the text that it shows and its end. Histories have the newest entry first.
+use Rattle.std.specs.Prelude.{◌≡◌, ℕ, ◌<◌, ◌≤◌, List, [], ◌∷◌, ◌++◌, length, Bool, not, is_none, Option, Some, true, false}
 use Rattle.std.specs.List.{list_all}
-use Rattle.tf_desk.specs.Shown.{shown_with, ShowsFront}
+use Rattle.tf_desk.specs.Shown.{shown_with}
+use Rattle.tf_flow.specs.Plan.{PlanValue}
 use Rattle.tf_states.specs.declared.record.Entry.{Entry}
-use Rattle.tf_states.specs.declared.record.What.{What}
 use Rattle.tf_states.specs.declared.record.What.TheVariants as what
 use Rattle.tf_states.specs.declared.state.FlowState.{FlowState}
 use Rattle.tf_states.specs.declared.state.FlowState.TheVariants as flow
 use Rattle.tf_ports.specs.declared.orders.Order.{Order}
 use Rattle.tf_ports.specs.declared.outcomes.Outcome.{Outcome}
-use Rattle.tf_model.specs.Candidates.{end_of}
 use Rattle.tf_model.specs.Before.{Flow}
+use Rattle.tf_model.specs.Bound.{entry_bound}
+use Rattle.tf_model.specs.Candidates.{end_of}
 use Rattle.tf_model.specs.History.{snapshot, state_of}
-use Rattle.tf_model.specs.Orders.{HasOutcomes}
-use Rattle.tf_model.specs.Plan.{Outline, count}
-use Rattle.tf_model.specs.States.{flow_suspends, is_settled}
-use Rattle.tf_model.specs.Sessions.{Session}
+use Rattle.tf_model.specs.Plan.{Outline, outline_of, count}
+use Rattle.tf_model.specs.Sessions.{Session, has_ended}
+use Rattle.tf_model.specs.States.{is_settled}
 use Rattle.tf_facts.specs.Facts.{CompletedReversion}
-use Rattle.tf_report.specs.Lines.{line, lines}
+use Rattle.tf_hands.specs.Hands.{is_of_flow}
 use Rattle.tf_report.specs.Report.{report}
-use Rattle.taskflow.specs.declared.statuses.TheConstants.{SUCCEEDED, UNSAID, OUT_OF_MEMORY, REVERTED, FAILED}
+use Rattle.tf_book.specs.Kept.{said, IsCut, IsFull}
+use Rattle.tf_engines.specs.Runs.{AreGiven, is_of_one, is_unsuspended}
+use Rattle.taskflow.specs.Messages.{disk_fault, book_full}
+use Rattle.taskflow.specs.Saying.{Closes}
+use Rattle.taskflow.specs.declared.statuses.TheConstants.{SUCCEEDED, DISK_FAILED, UNSAID, OUT_OF_MEMORY, REVERTED, FAILED, SUSPENDED, FULL}
 
--- the status of a run that ended in a state
-abbrev pub status_of : FlowState → ℕ
-status_of flow.Success = SUCCEEDED
-status_of flow.Reverted = REVERTED
-status_of _ = FAILED
+-- ---- steps
 
--- the newest entry records the end of the history before it
-abbrev pub EndsBy : Outline → List Entry → FlowState → Type 0
-EndsBy plan [] last = ⊥
-EndsBy plan (e ∷ past) last = end_of plan (snapshot plan past) ≡ Some last
+-- what is recorded is a session of the plan: each entry is a step that a rule allows after those before it; hand 0, which was hired,
+-- records it, and nobody asks it to be suspended
+pub record HasSteps (plan : Outline) (before entries : List Entry) (stop : Option FlowState) : Type 0 where
+  pub session : Session plan before entries stop
+  pub hands : list_all is_of_one entries ≡ true
+  pub unsuspended : list_all is_unsuspended entries ≡ true
+
+-- ---- the end
+
+-- an entry that isn't of the flow
+abbrev pub is_beside_flow : Entry → Bool
+is_beside_flow e = not (is_of_flow e.what)
+
+-- the flow's last entry records the end of the history before it
+pub record EndsBy (plan : Outline) (past : List Entry) (last : FlowState) : Type 0 where
+  pub since : List Entry
+  pub hand : ℕ
+  pub earlier : List Entry
+  pub splits : past ≡ since ++ record { hand = hand; what = what.Flow last } ∷ earlier
+  pub is_last : list_all is_beside_flow since ≡ true
+  pub ends : end_of plan (snapshot plan earlier) ≡ Some last
 
 -- the flow has no retry controller
 abbrev pub has_no_retry : Flow → Bool
@@ -40,55 +57,47 @@ has_no_retry f = is_none f.place.retry
 abbrev pub has_no_retries : Outline → Bool
 has_no_retries plan = list_all has_no_retry plan.flows
 
--- the end: the last entry records the end of the history before it; and where that is REVERTED, the reversion
--- is completed, and in a plan without retry controllers every atom is settled, so that all that was executed is undone
+-- the end: where the run stopped with an end, the flow's last entry records it; and where that is REVERTED, the reversion is
+-- completed, and in a plan without retry controllers every atom is settled, so that all that was executed is undone
 pub record HasReached (plan : Outline) (past : List Entry) (last : FlowState) : Type 0 where
-  pub end : EndsBy plan past last
+  pub end : has_ended last ≡ true → EndsBy plan past last
   pub completed : last ≡ flow.Reverted → CompletedReversion plan past
   pub undone : last ≡ flow.Reverted → has_no_retries plan ≡ true → (a : ℕ) → a < count plan → is_settled (state_of past a) ≡ true
 
--- the entry is recorded by one of so many hands, which are numbered from 0
-abbrev pub is_of_hands : ℕ → Entry → Bool
-is_of_hands hands e = nat_lt e.hand hands
+-- ---- the text
 
--- what is recorded begins to suspend the flow
-abbrev pub suspends : What → Bool
-suspends (what.Flow state) = flow_suspends state
-suspends (what.Atom a state held) = false
-suspends (what.Resolve named resolved) = false
-suspends (what.Restart again) = false
+-- the status of a run that stopped in a state
+abbrev pub status_of : FlowState → ℕ
+status_of flow.Success = SUCCEEDED
+status_of flow.Reverted = REVERTED
+status_of flow.Suspended = SUSPENDED
+status_of _ = FAILED
 
--- the entry doesn't begin to suspend the flow
-abbrev pub is_unsuspended : Entry → Bool
-is_unsuspended e = not (suspends e.what)
+-- what a run says last, and its status: the report, where it stopped in a state; or why it was halted
+pub data IsLastSaid (plan : PlanValue) (past : List Entry) : Option FlowState → List ℕ → ℕ → Type 0 where
+  reported : (last : FlowState) → IsLastSaid plan past (Some last) (report (outline_of plan) (snapshot (outline_of plan) past)) (status_of last)
+  disk_failed : (stop : Option FlowState) → IsLastSaid plan past stop disk_fault DISK_FAILED
+  filled : (stop : Option FlowState) (size need : ℕ) → IsFull plan past size need → IsLastSaid plan past stop (book_full size need) FULL
 
--- the line of the newest entry couldn't be said to its end
-abbrev pub IsLineCut : Outline → Option (List ℕ) → List Entry → Option (List ℕ) → Type 0
-IsLineCut plan before [] shown = ⊥
-IsLineCut plan before (e ∷ past) shown = ShowsFront (shown_with before (lines plan past)) (line plan (length past + 1) e) shown
-
--- the text after a run, by the state in which it stopped, if it did, and by its status
-pub data RunShows (plan : Outline) (before : Option (List ℕ)) (past : List Entry) (after : Option (List ℕ)) : Option FlowState → ℕ → Type 0 where
-  -- the lines of its entries and the report were said
-  reported : (last : FlowState) → after ≡ shown_with (shown_with before (lines plan past)) (report plan (snapshot plan past)) → RunShows plan before past after (Some last) (status_of last)
-  -- the report couldn't be said to its end
-  report_cut : (last : FlowState) → ShowsFront (shown_with before (lines plan past)) (report plan (snapshot plan past)) after → RunShows plan before past after (Some last) UNSAID
-  -- the line of its newest entry couldn't be said to its end, and no entry was recorded after it
-  line_cut : (stop : Option FlowState) → IsLineCut plan before past after → RunShows plan before past after stop UNSAID
+-- the text after a run: the one before it, the lines of its entries, and what it says last, which is the closing; where the output
+-- failed it is cut within the line of the newest entry, and no entry was recorded after it, or within the closing
+pub data RunShows (plan : PlanValue) (before entries : List Entry) (shown now : Option (List ℕ)) (stop : Option FlowState) : List ℕ → ℕ → Type 0 where
+  closed : (closing : List ℕ) (wanted status : ℕ) → IsLastSaid plan (entries ++ before) stop closing wanted
+      → Closes (shown_with shown (said false (outline_of plan) before entries)) closing wanted now status
+      → RunShows plan before entries shown now stop closing status
+  line_cut : IsCut false (outline_of plan) before shown entries now → RunShows plan before entries shown now stop [] UNSAID
   -- memory ran out after the lines of its entries were said
-  stopped : (stop : Option FlowState) → after ≡ shown_with before (lines plan past) → RunShows plan before past after stop OUT_OF_MEMORY
+  stopped : now ≡ shown_with shown (said false (outline_of plan) before entries) → RunShows plan before entries shown now stop [] OUT_OF_MEMORY
 
--- a run of the plan within a bound by one hand, which keeps a relation of orders and outcomes: from the text shown
--- before it to the one after it and the status; what was recorded, the newest entry first, and the state in which it
--- stopped, or None where it was halted before that
-pub record Ran (gives : Order → Outcome → Type 0) (plan : Outline) (most : ℕ) (before after : Option (List ℕ)) (status : ℕ) : Type 0 where
-  pub past : List Entry
-  pub stop : Option FlowState
-  -- steps: it records a session, by the hand that was hired, and nobody asks it to be suspended
-  pub steps : Session plan [] past stop
-  pub hands : list_all (is_of_hands 1) past ≡ true
-  pub unsuspended : list_all is_unsuspended past ≡ true
-  pub bound : length past ≤ most
-  pub outcomes : HasOutcomes gives plan past
-  pub text : RunShows plan before past after stop status
-  pub end : (last : FlowState) → stop ≡ Some last → HasReached plan past last
+-- ---- all of it
+
+-- a run of the plan by one hand, which keeps a relation of orders and outcomes: from the history before it to its entries and the
+-- state in which it stopped, or None where it was halted before that; from the text shown before it to the one after it, its closing
+-- and its status
+pub record Ran (gives : Order → Outcome → Type 0) (plan : PlanValue) (before entries : List Entry) (stop : Option FlowState)
+    (shown now : Option (List ℕ)) (closing : List ℕ) (status : ℕ) : Type 0 where
+  pub steps : HasSteps (outline_of plan) before entries stop
+  pub bound : length entries ≤ entry_bound plan
+  pub outcomes : AreGiven gives (outline_of plan) before entries
+  pub text : RunShows plan before entries shown now stop closing status
+  pub end : (last : FlowState) → stop ≡ Some last → HasReached (outline_of plan) (entries ++ before) last

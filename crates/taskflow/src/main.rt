@@ -1,14 +1,20 @@
-//! The program: it reads a flow file, checks it or runs its flow, and says each transition.
+//! The program: it checks flow files, runs their flows, keeps a run in a book and goes on from it, and says each transition.
 #![tactic(auto)]
 
 mod accepting;
-mod command;
+mod books;
+mod checking;
+mod closing;
 mod crew;
-mod engine;
-mod log;
 mod messages;
+mod reading;
+mod recording;
+mod resuming;
+mod running;
+mod showing;
 mod statuses;
 mod top;
+mod trying;
 
 use crate::crew::LocalCrew;
 use crate::statuses::OUT_OF_MEMORY;
@@ -16,9 +22,9 @@ use crate::top::{Outside, taskflow};
 use std::env::Env;
 use std::process::ExitCode;
 use std::{env, io};
+use tf_commands::Word;
 use tf_desk::FileDesk;
 use tf_ports::Folder;
-use tf_words::Word;
 
 fn main(rt: HostRuntime) -> ExitCode {
     let alloc = rt.alloc();

@@ -2,14 +2,17 @@ ghost use Rattle.std.specs.Prelude.{◌≡◌, ◌≤◌, [], ◌∷◌, ◌++�
 ghost use Rattle.std.specs.List.{flat_map};
 ghost use Rattle.tf_numbers.specs.Numbers.{which_below};
 ghost use Rattle.tf_model.specs.Plan.{outline_of, count, is_task};
-ghost use Rattle.taskflow.specs.Messages.{limit_word as word_of_limit, checked, tasks_below, spaced, plan_fault_text, file_fault_text, compile_fault_text, scope_fault_text, refusal_text, refusal};
+ghost use Rattle.taskflow.specs.Messages.{limit_word as word_of_limit, checked, tasks_below, spaced, plan_fault_text, file_fault_text, compile_fault_text, scope_fault_text, refusal_text, refusal, byte_or_end, not_a_book, book_full, state_forbids};
 
 use crate::accepting::Refusal;
 use tf_document::{FileFault, Path};
 use tf_flow::{Limit, Plan, PlanFault};
 use tf_order::CompileFault;
-use tf_report::{append, append_counted, append_number, append_pair, flow_name};
+use tf_report::{
+    append, append_counted, append_named, append_number, append_pair, flow_name, flow_word,
+};
 use tf_scopes::ScopeFault;
+use tf_states::FlowState;
 use tf_values::{Memory, Name};
 
 /// The message for words that are no command.
@@ -23,6 +26,57 @@ pub const CANNOT_HIRE: &[u8] = b"taskflow: cannot hire\n";
 
 /// The message for a file that is longer than a flow file may be.
 pub const TOO_LONG: &[u8] = b"taskflow: flow file: too long\n";
+
+/// The message for a fault of the disk.
+pub const DISK_FAULT: &[u8] = b"taskflow: disk fault\n";
+
+/// The message for a book that holds no flow.
+pub const NO_FLOW: &[u8] = b"taskflow: no flow in the book\n";
+
+/// Appends the message for a file that is no book: the offset and the byte that show it, or the file's end.
+#[tactic(auto, unfolding(crate::specs::Messages::not_a_book))]
+pub fn append_not_a_book(offset: u64, byte: Option<u8>, out: &mut Vec<u8>) -> Result<(), Memory>
+    ensures { OnOk result (out.new.items ≡ out.old.items ++ not_a_book offset byte) }
+{
+    append_counted(b"taskflow: not a book: offset ", offset, out)?;
+    append(b", ", out)?;
+    append_byte(byte, out)?;
+    append(b"\n", out)
+}
+
+/// Appends a byte of a file, or that there is none.
+fn append_byte(byte: Option<u8>, out: &mut Vec<u8>) -> Result<(), Memory>
+    ensures { OnOk result (out.new.items ≡ out.old.items ++ byte_or_end byte) }
+{
+    match byte {
+        Some(byte) => append_counted(b"byte ", byte, out),
+        None => append(b"end", out),
+    }
+}
+
+/// Appends the message for a book that is full: its size, and how many bytes more were asked for.
+#[tactic(auto, unfolding(crate::specs::Messages::book_full))]
+pub fn append_book_full(size: u64, need: u64, out: &mut Vec<u8>) -> Result<(), Memory>
+    ensures { OnOk result (out.new.items ≡ out.old.items ++ book_full size need) }
+{
+    append_counted(b"taskflow: book full: ", size, out)?;
+    append_counted(b" + ", need, out)?;
+    append(b"\n", out)
+}
+
+/// Appends the message for a flow whose state forbids a command.
+#[tactic(auto, unfolding(crate::specs::Messages::state_forbids))]
+pub fn append_state_forbids(plan: &Plan, state: FlowState, out: &mut Vec<u8>) -> Result<(), Memory>
+    ensures { OnOk result (out.new.items ≡ out.old.items ++ state_forbids (outline_of plan.now) state) }
+{
+    append_named(
+        b"taskflow: state forbids: ",
+        flow_name(plan, 0),
+        flow_word(state),
+        out,
+    )?;
+    append(b"\n", out)
+}
 
 /// Appends what a check says of a plan.
 #[tactic(auto, unfolding(crate::specs::Messages::checked), using(crate::proofs::MessageLemmas::atoms_counted, crate::proofs::MessageLemmas::flows_counted))]
@@ -119,7 +173,6 @@ fn append_file_fault(fault: &FileFault, out: &mut Vec<u8>) -> Result<(), Memory>
     ensures { OnOk result (out.new.items ≡ out.old.items ++ file_fault_text fault.now) }
 {
     match fault {
-        FileFault::NotBuilt => append(b"not built", out),
         FileFault::NotToml => append(b"not toml", out),
         FileFault::UnknownKey(path) => append_place(b"unknown key ", path, out),
         FileFault::MissingKey(path) => append_place(b"missing key ", path, out),

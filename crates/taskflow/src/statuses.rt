@@ -12,6 +12,12 @@ pub const UNREAD: u8 = 3;
 /// The file gives no plan to run.
 pub const REFUSED: u8 = 4;
 
+/// The disk failed.
+pub const DISK_FAILED: u8 = 5;
+
+/// The file isn't a book.
+pub const NO_BOOK: u8 = 6;
+
 /// A text couldn't be said.
 pub const UNSAID: u8 = 7;
 
@@ -26,3 +32,12 @@ pub const REVERTED: u8 = 10;
 
 /// The run ended FAILURE.
 pub const FAILED: u8 = 11;
+
+/// The run was suspended.
+pub const SUSPENDED: u8 = 12;
+
+/// The next record would make the book longer than its limit.
+pub const FULL: u8 = 13;
+
+/// The book holds a flow already, or holds none, where the command wants it otherwise.
+pub const FORBIDDEN: u8 = 14;

@@ -1,11 +1,11 @@
-use crate::top::{Outside, taskflow};
+use crate::top::{Ended, Outside, taskflow};
 use std::alloc::Global;
 use std::test::Fail;
+use tf_commands::Word;
 use tf_desk::MemoryDesk;
 use tf_ports::{MemoryCrew, MemorySource, MemorySources, MemorySpawner, Want};
 use tf_tasks::LocalHand;
 use tf_values::Text;
-use tf_words::Word;
 
 /// A flow file, the words behind it, what is said of it, and the status.
 struct Case {
@@ -172,16 +172,16 @@ const RUNS: [Case; 21] = [
     },
 ];
 
-/// Runs the words over a desk, sources and a crew of one hand in memory, of whose calls the stated ones fail: the
-/// text shown, and the status.
-fn ran(
+/// Runs the words over a desk, over sources and a crew of one hand in memory, of whose calls the stated ones fail: the
+/// desk, and the status.
+fn ran_over(
     alloc: Global,
+    desk: MemoryDesk,
     words: &[&str],
     file: &[u8],
-    unsaid: &[u64],
     unread: &[u64],
     unhired: &[u64],
-) -> Result<(Vec<u8>, u8), Fail> {
+) -> Result<(MemoryDesk, u8), Fail> {
     let mut made = Vec::new(alloc);
     for word in words {
         made.push(Word::make(String::from_str(alloc, word)?))?;
@@ -195,21 +195,28 @@ fn ran(
     let mut hands = Vec::new(alloc);
     hands.push(LocalHand::make(spawner))?;
     let outside = Outside {
-        desk: MemoryDesk::make(
-            alloc,
-            65_536,
-            1_000,
-            Vec::from_slice(alloc, unsaid)?,
-            Vec::new(alloc),
-        )?,
+        desk,
         sources: MemorySources::make(sources, Vec::from_slice(alloc, unread)?),
         crew: MemoryCrew::make(alloc, hands, Vec::from_slice(alloc, unhired)?),
     };
-    let ended = taskflow(alloc, &made, outside);
-    Ok((
-        Vec::from_slice(alloc, ended.outside.desk.shown())?,
-        ended.status,
-    ))
+    let Ended { outside, status } = taskflow(alloc, &made, outside);
+    let Outside { desk, .. } = outside;
+    Ok((desk, status))
+}
+
+/// The same over a fresh desk, of whose calls the stated ones fail: the text shown, and the status.
+fn ran(
+    alloc: Global,
+    words: &[&str],
+    file: &[u8],
+    unsaid: &[u64],
+    unread: &[u64],
+    unhired: &[u64],
+) -> Result<(Vec<u8>, u8), Fail> {
+    let failing = Vec::from_slice(alloc, unsaid)?;
+    let desk = MemoryDesk::make(alloc, 65_536, 1_000, failing, Vec::new(alloc))?;
+    let (desk, status) = ran_over(alloc, desk, words, file, unread, unhired)?;
+    Ok((Vec::from_slice(alloc, desk.shown())?, status))
 }
 
 const TRY: [&str; 2] = ["try", "flow.toml"];
@@ -291,8 +298,8 @@ const REFUSALS: [(&str, &str); 23] = [
         "bad value items.0.inject.v",
     ),
     (
-        "name = \"m\"\nkind = \"linear\"\nitems = [{ task = \"x\", kind = \"command\", run = [\"true\"] }]",
-        "not built",
+        "name = \"m\"\nkind = \"linear\"\nitems = [{ task = \"x\", kind = \"command\", run = [] }]",
+        "bad atom x",
     ),
     (
         "name = \"m\"\nkind = \"unordered\"\nitems = [{ task = \"x\", kind = \"echo\", provides = \"s\" }, { task = \"y\", kind = \"echo\", requires = [\"s\"] }]",
@@ -329,12 +336,15 @@ fn refuses_with_the_reason(rt: HostRuntime) -> Result<(), Fail> {
 }
 
 /// Words, and whether they are a command.
-const WORDS: [(&[&str], bool); 11] = [
+const WORDS: [(&[&str], bool); 14] = [
     (&["check"], false),
     (&["check", "--", "flow.toml"], true),
     (&[], false),
     (&["try"], false),
     (&["run", "flow.toml"], false),
+    (&["reset", "B"], false),
+    (&["try", "flow.toml", "--hands", "2"], false),
+    (&["try", "flow.toml", "--hands", "1"], true),
     (&["try", "flow.toml", "x"], false),
     (&["try", "--flow"], false),
     (&["try", ""], false),
@@ -384,5 +394,98 @@ fn ends_by_its_faults(rt: HostRuntime) -> Result<(), Fail> {
     let (text, status) = ran(alloc, &CHECK, NESTED.as_bytes(), &[1], &[], &[])?;
     assert_eq!(rt; status, 7);
     assert!(rt; text.as_slice() == b"ok main: 4 tasks, ".as_slice());
+    Ok(())
+}
+
+/// Words one after another over one desk with one book, what is said in all, and the statuses.
+struct Session {
+    shows: &'static str,
+    file: &'static str,
+    commands: &'static [(&'static [&'static str], u8)],
+    says: &'static str,
+}
+
+const SESSIONS: [Session; 3] = [
+    Session {
+        shows: "a book is begun once, shown, and resumed after its end",
+        file: "name = \"main\"\nkind = \"linear\"\nitems = [{ task = \"a\", kind = \"echo\", inject = { value = 1 } }]\n",
+        commands: &[
+            (&["resume", "B"], 14),
+            (&["run", "flow.toml", "B"], 0),
+            (&["show", "B"], 0),
+            (&["resume", "B"], 0),
+            (&["run", "flow.toml", "B"], 14),
+        ],
+        says: "taskflow: no flow in the book\n1 0 flow main RUNNING\n2 0 task a RUNNING\n3 0 task a SUCCESS 1\n4 0 flow main SUCCESS\nend main SUCCESS\n1 0 flow main RUNNING\n2 0 task a RUNNING\n3 0 task a SUCCESS 1\n4 0 flow main SUCCESS\nstate main SUCCESS\natom a SUCCESS 1\nend main SUCCESS\ntaskflow: state forbids: main SUCCESS\n",
+    },
+    Session {
+        shows: "a revert that fails stays failed",
+        file: "name = \"main\"\nkind = \"linear\"\nitems = [{ task = \"a\", kind = \"echo\", inject = { value = 1 }, revert = \"fail\" }, { task = \"b\", kind = \"fail\", inject = { text = \"no\" } }]\n",
+        commands: &[(&["run", "flow.toml", "B"], 11), (&["resume", "B"], 11)],
+        says: "1 0 flow main RUNNING\n2 0 task a RUNNING\n3 0 task a SUCCESS 1\n4 0 task b RUNNING\n5 0 task b FAILURE raised \"no\"\n6 0 resolve main REVERT_ALL\n7 0 task b REVERTING\n8 0 task b REVERTED\n9 0 task a REVERTING\n10 0 task a REVERT_FAILURE raised \"revert\"\n11 0 flow main FAILURE\nend main FAILURE\nunreverted a raised \"revert\"\nend main FAILURE\nunreverted a raised \"revert\"\n",
+    },
+    Session {
+        shows: "a file is refused before the book is looked at, and a check and a trial need none",
+        file: "name = \"m\"\nkind = \"linear\"\n",
+        commands: &[
+            (&["run", "flow.toml", "B"], 4),
+            (&["run", "absent", "B"], 3),
+            (&["show", "B"], 14),
+        ],
+        says: "taskflow: flow file: empty\ntaskflow: cannot read\ntaskflow: no flow in the book\n",
+    },
+];
+
+#[test]
+fn keeps_runs_in_a_book(rt: HostRuntime) -> Result<(), Fail> {
+    let alloc = rt.alloc();
+    for session in &SESSIONS {
+        let mut desk = MemoryDesk::make(alloc, 65_536, 1_000, Vec::new(alloc), Vec::new(alloc))?;
+        let shows = session.shows;
+        for (words, wanted) in session.commands {
+            let (after, status) = ran_over(alloc, desk, words, session.file.as_bytes(), &[], &[])?;
+            assert_eq!(rt; status, *wanted, "{shows}: {words:?}");
+            desk = after;
+        }
+        assert!(rt; desk.shown() == session.says.as_bytes(), "{shows}");
+    }
+    Ok(())
+}
+
+/// The call of the desk that fails in a run of the file of two echoes over a book, its status, and what is said.
+const HALTS: [(u64, u8, &str); 4] = [
+    (1, 5, "taskflow: disk fault\n"),
+    (2, 5, "taskflow: disk fault\n"),
+    (29, 5, "1 0 flow main RUNNING\n2 0 task a RUNNING\n"),
+    (27, 7, "1 0 flow main RUNNING\n"),
+];
+
+#[test]
+fn goes_on_after_a_fault(rt: HostRuntime) -> Result<(), Fail> {
+    let alloc = rt.alloc();
+    let file = TWO_ECHOES.as_bytes();
+    for (call, wanted, says) in &HALTS {
+        let mut failing = Vec::new(alloc);
+        failing.push(*call)?;
+        let desk = MemoryDesk::make(alloc, 65_536, 1_000, failing, Vec::new(alloc))?;
+        let (desk, status) = ran_over(alloc, desk, &["run", "flow.toml", "B"], file, &[], &[])?;
+        assert_eq!(rt; status, *wanted, "call {call}");
+        assert!(rt; desk.shown().starts_with(says.as_bytes()), "call {call}");
+        let (desk, status) = ran_over(alloc, desk, &["resume", "B"], file, &[], &[])?;
+        if status == 14 {
+            let (desk, status) = ran_over(alloc, desk, &["run", "flow.toml", "B"], file, &[], &[])?;
+            assert_eq!(rt; status, 0, "call {call}");
+            assert!(rt;
+                desk.shown().ends_with(b"end main SUCCESS\n".as_slice()),
+                "call {call}"
+            );
+        } else {
+            assert_eq!(rt; status, 0, "call {call}");
+            assert!(rt;
+                desk.shown().ends_with(b"end main SUCCESS\n".as_slice()),
+                "call {call}"
+            );
+        }
+    }
     Ok(())
 }

@@ -1,15 +1,23 @@
-ghost use Rattle.std.specs.Prelude.{◌≡◌, ◌≤◌, None};
-ghost use Rattle.tf_desk.specs.Counts.{Rises};
-ghost use Rattle.taskflow.specs.Course.{Course, HiresOneAtMost, Obeys, IsRefused, IsAccepted, IsComplete};
-ghost use Rattle.tf_words.specs.Words.{command_of};
+ghost use Rattle.std.specs.Prelude.{◌≡◌, true, None, Some, IfSome};
+ghost use Rattle.taskflow.specs.Asking.{is_one_hand as wants_one, is_done_here as is_done, asked_for, if_done_here};
+ghost use Rattle.taskflow.specs.Causes.{HasCauses, HasNoFault, counts};
+ghost use Rattle.taskflow.specs.Course.{Course, HiresOneAtMost, Obeys, IsRefused, IsReady, IsComplete};
+ghost use Rattle.tf_commands.specs.declared.asked.Asked.{Asked as AnAsked};
 
-use crate::command::{Source, check_file, close, try_file};
+use crate::checking::check_file;
+use crate::closing::close;
 use crate::messages::USAGE;
-use crate::statuses::{NO_COMMAND, OUT_OF_MEMORY, REFUSED, UNHIRED, UNREAD, UNSAID};
+use crate::reading::Source;
+use crate::recording::run_file;
+use crate::resuming::resume_book;
+use crate::running::Over;
+use crate::showing::show_book;
+use crate::statuses::{DISK_FAILED, NO_COMMAND, OUT_OF_MEMORY, REFUSED, UNHIRED, UNREAD, UNSAID};
+use crate::trying::try_file;
 use std::alloc::Global;
+use tf_commands::{Asked, Word, read_words};
 use tf_desk::Desk;
-use tf_ports::{Crew, Sources};
-use tf_words::{Asked, Word, read_words};
+use tf_ports::{Crew, Sources, Want};
 
 /// What a command reaches beside its words: the desk, the sources, and the crew that hires hands.
 #[derive(Drop)]
@@ -33,46 +41,42 @@ pub fn taskflow<K: Desk, S: Sources, W: Crew>(
     outside: Outside<K, S, W>,
 ) -> Ended<K, S, W>
     // The way that the command went: which command the words are, which plan the sources' bytes give or
-    // why they give none, which hand was hired, what was recorded, what was shown, and the status.
-    ensures course { Course W.Hand.gives words.now (S.contents outside.sources) (W.hired outside.crew) (W.hired result.outside.crew)
-        (K.shown outside.desk) (K.shown result.outside.desk) result.status }
+    // why they give none, what the book held and holds, which hand was hired, what was recorded, what was
+    // shown, what a crash may leave, and the status.
+    ensures course { Course K.tells K.shown K.content K.left K.crashes K.disk_faults W.Hand.gives words.now (S.contents outside.sources)
+        (W.hired outside.crew) (W.hired result.outside.crew) outside.desk result.outside.desk result.status }
 
     // Status 2 comes only where the words are no command.
-    ensures no_command { result.status ≡ NO_COMMAND → command_of words.now ≡ None }
+    ensures no_command { result.status ≡ NO_COMMAND → asked_for words.now ≡ None }
 
     // Status 4 comes only where the file is too long or gives no plan to run.
     ensures refused { result.status ≡ REFUSED → IsRefused words.now (S.contents outside.sources) }
 
-    // A file that gives a plan is run to its end, or said to be in order, unless a count of faults rose or
-    // memory ran out.
-    ensures complete { (accepted : IsAccepted words.now (S.contents outside.sources))
-        → ¬ (Rises (S.faults outside.sources) (S.faults result.outside.sources))
-        → ¬ (Rises (K.out_faults outside.desk) (K.out_faults result.outside.desk))
-        → ¬ (Rises (W.faults outside.crew) (W.faults result.outside.crew))
-        → IsComplete accepted.command result.status }
-
-    // The file can't be read only where a count of the sources' faults rose.
-    ensures unread { result.status ≡ UNREAD → Rises (S.faults outside.sources) (S.faults result.outside.sources) }
-
-    // A text can't be said only where the count of the desk's output faults rose.
-    ensures unsaid { result.status ≡ UNSAID → Rises (K.out_faults outside.desk) (K.out_faults result.outside.desk) }
+    // A file that gives a plan is run to its end, or said to be in order, a book that holds a flow is resumed to its
+    // end, or shown, unless a count of faults rose or memory ran out; 13 comes only as the course says.
+    ensures complete { (command : AnAsked) → asked_for words.now ≡ Some command
+        → IsReady K.tells K.content command (S.contents outside.sources) outside.desk
+        → HasNoFault (counts (K.disk_faults outside.desk) (K.out_faults outside.desk) (S.faults outside.sources) (W.faults outside.crew))
+        (counts (K.disk_faults result.outside.desk) (K.out_faults result.outside.desk) (S.faults result.outside.sources)
+        (W.faults result.outside.crew))
+        → IsComplete command result.status }
 
     // At most one hand of this process is hired, and one is where something was recorded, as the course says.
     ensures hires { HiresOneAtMost (W.hired outside.crew) (W.hired result.outside.crew) }
 
-    // No hand can be hired only where a count of the crew's faults rose.
-    ensures unhired { result.status ≡ UNHIRED → Rises (W.faults outside.crew) (W.faults result.outside.crew) }
-
-    ensures no_fall { K.out_faults outside.desk ≤ K.out_faults result.outside.desk }
-    ensures no_source_fall { S.faults outside.sources ≤ S.faults result.outside.sources }
-    ensures no_crew_fall { W.faults outside.crew ≤ W.faults result.outside.crew }
+    // A file can't be read, the disk fails, a text can't be said and no hand is hired only where the count of such
+    // faults rose; no count falls.
+    ensures causes { HasCauses result.status
+        (counts (K.disk_faults outside.desk) (K.out_faults outside.desk) (S.faults outside.sources) (W.faults outside.crew))
+        (counts (K.disk_faults result.outside.desk) (K.out_faults result.outside.desk) (S.faults result.outside.sources)
+        (W.faults result.outside.crew)) }
 {
     let Outside {
-        mut desk,
+        desk,
         mut sources,
         mut crew,
     } = outside;
-    let status = answer(alloc, words, &mut desk, &mut sources, &mut crew);
+    let Over { desk, status } = answer(alloc, words, desk, &mut sources, &mut crew);
     Ended {
         outside: Outside {
             desk,
@@ -83,58 +87,126 @@ pub fn taskflow<K: Desk, S: Sources, W: Crew>(
     }
 }
 
-/// Does what the words ask for, and answers the status.
+/// Does what the words ask for, and answers the desk and the status.
 fn answer<K: Desk, S: Sources, W: Crew>(
     alloc: Global,
     words: &[Word],
-    desk: &mut K,
+    mut desk: K,
     sources: &mut S,
     crew: &mut W,
-) -> u8
-    ensures course { Course W.Hand.gives words.now (S.contents sources.old) (W.hired crew.old) (W.hired crew.new) (K.shown desk.old) (K.shown desk.new) result }
-    ensures unread { result ≡ UNREAD → Rises (S.faults sources.old) (S.faults sources.new) }
-    ensures unsaid { result ≡ UNSAID → Rises (K.out_faults desk.old) (K.out_faults desk.new) }
-    ensures unhired { result ≡ UNHIRED → Rises (W.faults crew.old) (W.faults crew.new) }
-    ensures no_fall { K.out_faults desk.old ≤ K.out_faults desk.new }
-    ensures no_source_fall { S.faults sources.old ≤ S.faults sources.new }
+) -> Over<K>
+    ensures course { Course K.tells K.shown K.content K.left K.crashes K.disk_faults W.Hand.gives words.now (S.contents sources.old)
+        (W.hired crew.old) (W.hired crew.new) desk result.desk result.status }
     ensures hires { HiresOneAtMost (W.hired crew.old) (W.hired crew.new) }
-    ensures no_crew_fall { W.faults crew.old ≤ W.faults crew.new }
+    ensures causes { HasCauses result.status (counts (K.disk_faults desk) (K.out_faults desk) (S.faults sources.old) (W.faults crew.old))
+        (counts (K.disk_faults result.desk) (K.out_faults result.desk) (S.faults sources.new) (W.faults crew.new)) }
 {
     let Ok(found) = read_words(alloc, words) else {
-        return OUT_OF_MEMORY;
+        return Over {
+            desk,
+            status: OUT_OF_MEMORY,
+        };
     };
-    match found {
+    match done_here(found) {
         Some(asked) => obey(alloc, asked, desk, sources, crew),
-        None => close(USAGE, NO_COMMAND, desk),
+        None => {
+            let status = close(USAGE, NO_COMMAND, &mut desk);
+            Over { desk, status }
+        }
     }
 }
 
-/// Does what is asked for, and answers the status.
+/// The command, where the program does it.
+fn done_here(found: Option<Asked>) -> Option<Asked>
+    ensures is { result ≡ if_done_here found }
+    ensures done { IfSome result (λ asked. is_done asked ≡ true) }
+{
+    match found {
+        Some(asked) => {
+            if is_done_here(&asked) {
+                Some(asked)
+            } else {
+                None
+            }
+        }
+        None => None,
+    }
+}
+
+/// Whether the program does the command.
+fn is_done_here(asked: &Asked) -> bool
+    ensures { result ≡ is_done asked.now }
+{
+    match asked {
+        Asked::Try { want, .. } => is_one_hand(want),
+        Asked::Run {
+            want,
+            stop_after,
+            ..
+        } => is_one_hand(want) && stop_after.is_none(),
+        Asked::Resume {
+            want,
+            stop_after,
+            ..
+        } => is_one_hand(want) && stop_after.is_none(),
+        Asked::Show { .. } | Asked::Check { .. } => true,
+        Asked::Reset { .. } | Asked::Demo { .. } => false,
+    }
+}
+
+/// Whether one hand of this process is wanted.
+fn is_one_hand(want: &Want) -> bool
+    ensures { result ≡ wants_one want.now }
+{
+    match want {
+        Want::Local(hands) => *hands == 1,
+        Want::Remote(_) => false,
+    }
+}
+
+/// Does what is asked for, and answers the desk and the status.
 fn obey<K: Desk, S: Sources, W: Crew>(
     alloc: Global,
     asked: Asked,
-    desk: &mut K,
+    mut desk: K,
     sources: &mut S,
     crew: &mut W,
-) -> u8
-    ensures obeys { Obeys W.Hand.gives asked (S.contents sources.old) (W.hired crew.old) (W.hired crew.new) (K.shown desk.old) (K.shown desk.new) result }
-    ensures unread { result ≡ UNREAD → Rises (S.faults sources.old) (S.faults sources.new) }
-    ensures unsaid { result ≡ UNSAID → Rises (K.out_faults desk.old) (K.out_faults desk.new) }
-    ensures unhired { result ≡ UNHIRED → Rises (W.faults crew.old) (W.faults crew.new) }
-    ensures no_fall { K.out_faults desk.old ≤ K.out_faults desk.new }
-    ensures no_source_fall { S.faults sources.old ≤ S.faults sources.new }
+) -> Over<K>
+    requires done { is_done asked ≡ true }
+    ensures obeys { Obeys K.tells K.shown K.content K.left K.crashes K.disk_faults W.Hand.gives asked (S.contents sources.old)
+        (W.hired crew.old) (W.hired crew.new) desk result.desk result.status }
     ensures hires { HiresOneAtMost (W.hired crew.old) (W.hired crew.new) }
-    ensures no_crew_fall { W.faults crew.old ≤ W.faults crew.new }
+    ensures causes { HasCauses result.status (counts (K.disk_faults desk) (K.out_faults desk) (S.faults sources.old) (W.faults crew.old))
+        (counts (K.disk_faults result.desk) (K.out_faults result.desk) (S.faults sources.new) (W.faults crew.new)) }
 {
     match asked {
-        Asked::Try { file, sets, defer } => {
+        Asked::Try {
+            file,
+            sets,
+            defer,
+            ..
+        } => {
             let source = Source { file, sets, defer };
             try_file(alloc, source, desk, sources, crew)
         }
+        Asked::Run {
+            file,
+            book,
+            sets,
+            defer,
+            ..
+        } => {
+            let source = Source { file, sets, defer };
+            run_file(alloc, source, &book, desk, sources, crew)
+        }
+        Asked::Resume { book, .. } => resume_book(alloc, &book, desk, crew),
+        Asked::Show { book } => show_book(alloc, &book, desk),
         Asked::Check { file, sets } => {
             let defer = false;
             let source = Source { file, sets, defer };
-            check_file(alloc, source, desk, sources)
+            let status = check_file(alloc, source, &mut desk, sources);
+            Over { desk, status }
         }
+        Asked::Reset { .. } | Asked::Demo { .. } => unreachable!(),
     }
 }

@@ -1,5 +1,5 @@
 -- How many entries a book has.
-use Rattle.std.proofs.Common.{◌≡◌, ◌≤◌, ℕ, ◌+◌, List, [], ◌∷◌, ◌++◌, length, Bool, true, false, refl, ap, ◌∙◌, arith}
+use Rattle.std.proofs.Common.{◌≡◌, ◌≤◌, ℕ, ◌+◌, List, [], ◌∷◌, ◌++◌, length, Bool, true, false, refl, ap, ◌∙◌, arith, length-append}
 use Rattle.std.proofs.lemmas.List.{length-map, length-reverse}
 use Rattle.std.specs.Prelude.{map, reverse, Result, if◌then◌else◌}
 use Rattle.std.specs.declared.snapshot.Snapshot.{Snapshot}
@@ -8,7 +8,9 @@ use Rattle.tf_states.specs.declared.record.Entry.{Entry}
 use Rattle.tf_entries.specs.Entries.{entry_bytes}
 use Rattle.tf_entries.specs.Plans.{plan_bytes}
 use Rattle.tf_book.specs.Book.{size_of}
-use Rattle.tf_book.specs.History.{entry_in, past_of}
+use Rattle.tf_journal.specs.Format.{length_bytes}
+use Rattle.tf_book.specs.History.{entry_in, past_of, framed, HasRoom, HasAllRoom}
+use Rattle.tf_book.specs.declared.history.History.{History}
 use Rattle.tf_book.specs.Logging.{is_recorded}
 use Rattle.tf_book.specs.Recording.{past_after}
 use Rattle.tf_book.specs.declared.faults.Halt.{Halt}
@@ -30,3 +32,13 @@ past_turned r e old new on off = by (is_recorded r) refl
     by : (b : Bool) → is_recorded r ≡ b → past_of new ≡ (if b then e ∷ past_of old else past_of old)
     by true is = on is
     by false is = ap past_of (off is)
+
+-- the bodies in memory have fewer bytes than the journal
+pub framed_short : (plan : PlanValue) (past : List Entry) → length (framed past) ≤ size_of plan past
+framed_short plan [] = omega arith
+framed_short plan (e ∷ past) =
+    omega (arith, framed_short plan past, length-append (framed past) (length_bytes (length (entry_bytes e)) ++ entry_bytes e), length-append (length_bytes (length (entry_bytes e))) (entry_bytes e))
+
+-- where the journal has room for one more body, so has the history
+pub room_for : (history : History) (size len : ℕ) → HasAllRoom history → length history.entries.items ≤ size → length history.bodies.items ≤ size → size + 5 + len ≤ 67108864 → HasRoom history len
+room_for history size len all few fits within = record { entry = omega (arith, all.entries); body = omega (arith, all.bodies) }

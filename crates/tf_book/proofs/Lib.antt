@@ -8,3 +8,6 @@ pub mod StartLemmas
 pub mod ClosingLemmas
 pub mod NextLemmas
 pub mod ReadingLemmas
+pub mod AmongLemmas
+pub mod ShowLemmas
+pub mod ResetLemmas

@@ -2,17 +2,17 @@
 use Rattle.std.specs.Prelude.{◌≡◌, ◌⊎◌, ◌≤◌, ℕ, Bool, false, IsTrue, List, ◌++◌, Option, Some, None, Result, Ok, Err}
 use Rattle.tf_desk.specs.Content.{Content}
 use Rattle.tf_desk.specs.Counts.{Rises}
-use Rattle.tf_desk.specs.Crash.{Crashes, Passes}
+use Rattle.tf_desk.specs.Crash.{Images, Crashes, LeavesNoMore, Passes}
 use Rattle.tf_desk.specs.Shown.{shown_with, ShowsFront}
 use Rattle.tf_flow.specs.Plan.{PlanValue}
 use Rattle.tf_states.specs.declared.record.Entry.{Entry}
 use Rattle.tf_journal.specs.Format.{bodies, recovered, title_of}
 use Rattle.tf_journal.specs.Held.{Held}
-use Rattle.tf_journal.specs.Rest.{IsOpen, GoesOn}
+use Rattle.tf_journal.specs.Rest.{IsOpen, GoesOn, GoesUnchanged, LeavesBodies}
 use Rattle.tf_journal.specs.declared.title.Title.TheVariants.{Book as book_title}
 use Rattle.tf_model.specs.Plan.{outline_of}
 use Rattle.tf_book.specs.Book.{BookValue, bodies_of}
-use Rattle.tf_book.specs.Kept.{said, IsLeft, HasCause}
+use Rattle.tf_book.specs.Kept.{said, IsLeft, IsExact, HasCause}
 use Rattle.tf_book.specs.Recording.{halt_after}
 use Rattle.tf_book.specs.declared.faults.Halt.{Halt}
 use Rattle.tf_book.specs.declared.faults.Halt.TheVariants as halt
@@ -42,7 +42,7 @@ IsClosedLeft plan quiet before entries shown closing image text =
     IsLeft plan quiet before entries shown image text
     ⊎ LeavesClosing plan (entries ++ before) (shown_with shown (said quiet (outline_of plan) before entries)) closing image text
 
-module _ {K : Type 0} (tells : K → Bool) (shown : K → Option (List ℕ)) (content : K → Content) (crashes : K → Crashes) (disk_faults out_faults : K → ℕ) where
+module _ {K : Type 0} (tells : K → Bool) (shown : K → Option (List ℕ)) (content : K → Content) (left : K → Images) (crashes : K → Crashes) (disk_faults out_faults : K → ℕ) where
   -- how a closing was said through a journal, which changes nothing else of it
   pub record SaidClosing (plan : PlanValue) (past : List Entry) (old now : Held K) (closing : List ℕ) (halted : Option Halt) : Type 0 where
     pub journal : now ≡ record old { desk = now.desk }
@@ -51,7 +51,8 @@ module _ {K : Type 0} (tells : K → Bool) (shown : K → Option (List ℕ)) (co
     pub told : tells now.desk ≡ tells old.desk
     pub crash : IsOpen tells old
         → Passes (content old.desk).clock (content now.desk).clock (crashes old.desk) (crashes now.desk) (LeavesClosing plan past (shown old.desk) closing)
-    pub goes : IsTrue (tells old.desk) → GoesOn (content old.desk) (content now.desk)
+    pub goes : IsTrue (tells old.desk) → GoesUnchanged (content old.desk) (content now.desk)
+    pub leaves : IsTrue (tells old.desk) → LeavesNoMore (left old.desk) (left now.desk)
     pub disk : disk_faults now.desk ≡ disk_faults old.desk
     pub no_out_fall : out_faults old.desk ≤ out_faults now.desk
 
@@ -68,6 +69,11 @@ module _ {K : Type 0} (tells : K → Bool) (shown : K → Option (List ℕ)) (co
     pub crash : IsTrue (tells start.journal.desk) → start.journal.volatile ≡ false
         → Passes (content start.journal.desk).clock (content now.journal.desk).clock (crashes start.journal.desk) (crashes now.journal.desk)
         (IsClosedLeft start.plan start.quiet start.past entries (shown start.journal.desk) closing)
+    pub left_now : IsTrue (tells start.journal.desk) → start.journal.volatile ≡ false
+        → LeavesBodies (title_of book_title) (content start.journal.desk) (left start.journal.desk) (bodies_of start.plan start.past)
+        → LeavesBodies (title_of book_title) (content now.journal.desk) (left now.journal.desk) (bodies_of start.plan (entries ++ start.past))
+    pub exact : IsTrue (tells start.journal.desk) → start.journal.volatile ≡ false
+        → IsExact (content start.journal.desk) start.plan start.past → IsExact (content now.journal.desk) now.plan now.past
     pub goes : IsTrue (tells start.journal.desk) → GoesOn (content start.journal.desk) (content now.journal.desk)
     pub cause : HasCause start.plan now.past (disk_faults start.journal.desk) (disk_faults now.journal.desk)
         (out_faults start.journal.desk) (out_faults now.journal.desk) now.halt

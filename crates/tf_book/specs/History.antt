@@ -5,6 +5,7 @@ use Rattle.tf_states.specs.declared.record.Entry.{Entry}
 use Rattle.tf_entries.specs.Entries.{entry_bytes}
 use Rattle.tf_journal.specs.Format.{length_bytes}
 use Rattle.tf_book.specs.declared.history.History.{History}
+use Rattle.tf_book.specs.declared.writing.Draft.{Draft}
 
 -- the entry that a snapshot shows
 abbrev pub entry_in : Snapshot Entry → Entry
@@ -23,3 +24,13 @@ framed (e ∷ past) = framed past ++ (length_bytes (length (entry_bytes e)) ++ e
 pub record HasRoom (history : History) (len : ℕ) : Type 0 where
   pub entry : vec_len history.entries < vec_capacity history.entries
   pub body : vec_len history.bodies + 4 + len ≤ vec_capacity history.bodies
+
+-- there is room for every history that a journal can hold
+pub record HasAllRoom (history : History) : Type 0 where
+  pub entries : 67108864 ≤ vec_capacity history.entries
+  pub bodies : 67108864 ≤ vec_capacity history.bodies
+
+-- there is room for the body and the line of every entry
+pub record HasDraftRoom (draft : Draft) : Type 0 where
+  pub body : 131200 ≤ vec_capacity draft.body
+  pub line : 1048576 ≤ vec_capacity draft.line

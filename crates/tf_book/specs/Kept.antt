@@ -1,14 +1,14 @@
 -- What stays true of a book from the start of a session on: what is recorded since, what is shown, what a crash may leave, and why the book was halted.
 use Rattle.std.specs.Prelude.{◌≡◌, ◌≢◌, ◌<◌, ◌≤◌, ℕ, ◌+◌, Bool, false, IsTrue, List, [], ◌∷◌, ◌++◌, length, Option, Some, None}
-use Rattle.tf_desk.specs.Content.{Content}
+use Rattle.tf_desk.specs.Content.{Content, bytes_of}
 use Rattle.tf_desk.specs.Counts.{Rises}
-use Rattle.tf_desk.specs.Crash.{Crashes, Passes}
+use Rattle.tf_desk.specs.Crash.{Images, Crashes, Passes}
 use Rattle.tf_desk.specs.Shown.{shown_with, ShowsFront}
 use Rattle.tf_flow.specs.Plan.{PlanValue}
 use Rattle.tf_states.specs.declared.record.Entry.{Entry}
 use Rattle.tf_entries.specs.Entries.{entry_bytes}
-use Rattle.tf_journal.specs.Format.{SIZE_LIMIT, bodies, recovered, title_of}
-use Rattle.tf_journal.specs.Rest.{GoesOn}
+use Rattle.tf_journal.specs.Format.{SIZE_LIMIT, bodies, journal_bytes, recovered, title_of}
+use Rattle.tf_journal.specs.Rest.{GoesOn, LeavesBodies, LeavesEither}
 use Rattle.tf_journal.specs.declared.title.Title.TheVariants.{Book as book_title}
 use Rattle.tf_model.specs.History.{snapshot}
 use Rattle.tf_model.specs.Plan.{Outline, outline_of}
@@ -49,11 +49,18 @@ abbrev pub IsPending : Option Halt → List Entry → Type 0
 IsPending (Some halt.Disk) pending = length pending ≤ 1
 IsPending other pending = pending ≡ []
 
--- since the start a crash left no more than that
-pub record IsDurable (plan : PlanValue) (quiet : Bool) (before entries : List Entry) (halted : Option Halt) (shown : Option (List ℕ)) (then_clock now_clock : ℕ) (was is : Crashes) : Type 0 where
+-- since the start a crash left no more than that; and where one at the start left just the bodies of the history then, one now leaves
+-- those of all entries, or the pending one with them
+pub record IsDurable (plan : PlanValue) (quiet : Bool) (before entries : List Entry) (halted : Option Halt) (shown : Option (List ℕ)) (old now : Content) (left_old left_now : Images) (was is : Crashes) : Type 0 where
   pub pending : List Entry
   pub few : IsPending halted pending
-  pub passes : Passes then_clock now_clock was is (IsLeft plan quiet before (pending ++ entries) shown)
+  pub passes : Passes old.clock now.clock was is (IsLeft plan quiet before (pending ++ entries) shown)
+  pub left : LeavesBodies (title_of book_title) old left_old (bodies_of plan before)
+      → LeavesEither (title_of book_title) now left_now (bodies_of plan (entries ++ before)) (bodies_of plan ((pending ++ entries) ++ before))
+
+-- the picked file has just the journal of a plan and a history
+abbrev pub IsExact : Content → PlanValue → List Entry → Type 0
+IsExact content plan past = bytes_of content ≡ journal_bytes (title_of book_title) (bodies_of plan past)
 
 -- the record of some entry that may follow would have made the journal longer than its limit
 pub record IsFull (plan : PlanValue) (past : List Entry) (size need : ℕ) : Type 0 where
@@ -71,8 +78,8 @@ HasCause plan past disk_then disk_now out_then out_now (Some halt.Out) = Rises o
 HasCause plan past disk_then disk_now out_then out_now (Some (halt.Full size need)) = IsFull plan past size need
 HasCause plan past disk_then disk_now out_then out_now (Some halt.Memory) = Unit {0}
 
-module _ {K : Type 0} (tells : K → Bool) (shown : K → Option (List ℕ)) (content : K → Content) (crashes : K → Crashes) (disk_faults out_faults : K → ℕ) where
-  -- from the start until now: the entries recorded since; the plan and the kind of book stay; and the four facts
+module _ {K : Type 0} (tells : K → Bool) (shown : K → Option (List ℕ)) (content : K → Content) (left : K → Images) (crashes : K → Crashes) (disk_faults out_faults : K → ℕ) where
+  -- from the start until now: the entries recorded since; the plan and the kind of book stay; and the facts
   pub record Kept (start now : BookValue K) : Type 0 where
     pub entries : List Entry
     pub recorded : now.past ≡ entries ++ start.past
@@ -82,8 +89,10 @@ module _ {K : Type 0} (tells : K → Bool) (shown : K → Option (List ℕ)) (co
     pub told : tells now.journal.desk ≡ tells start.journal.desk
     pub text : IsSpoken start.quiet (outline_of start.plan) start.past (shown start.journal.desk) entries now.halt (shown now.journal.desk)
     pub crash : IsTrue (tells start.journal.desk) → start.journal.volatile ≡ false
-        → IsDurable start.plan start.quiet start.past entries now.halt (shown start.journal.desk) (content start.journal.desk).clock
-        (content now.journal.desk).clock (crashes start.journal.desk) (crashes now.journal.desk)
+        → IsDurable start.plan start.quiet start.past entries now.halt (shown start.journal.desk) (content start.journal.desk)
+        (content now.journal.desk) (left start.journal.desk) (left now.journal.desk) (crashes start.journal.desk) (crashes now.journal.desk)
+    pub exact : IsTrue (tells start.journal.desk) → start.journal.volatile ≡ false → now.journal.halted ≡ false
+        → IsExact (content start.journal.desk) start.plan start.past → IsExact (content now.journal.desk) now.plan now.past
     pub goes : IsTrue (tells start.journal.desk) → GoesOn (content start.journal.desk) (content now.journal.desk)
     pub cause : HasCause start.plan now.past (disk_faults start.journal.desk) (disk_faults now.journal.desk)
         (out_faults start.journal.desk) (out_faults now.journal.desk) now.halt

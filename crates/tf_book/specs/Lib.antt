@@ -12,3 +12,5 @@ pub mod Loading
 pub mod Reading
 pub mod Loaded
 pub mod Forms
+pub mod Showing
+pub mod Resetting

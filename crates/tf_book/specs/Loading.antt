@@ -1,5 +1,6 @@
 -- What a book's file is read as, and where it is refused.
 use Rattle.std.specs.Prelude.{◌≡◌, ◌≢◌, ℕ, ◌+◌, List, [], ◌∷◌, ◌++◌, length, Option, None, slice_get}
+use Rattle.std.specs.List.{AllByRecursion}
 use Rattle.tf_flow.specs.Plan as numbering
 use Rattle.tf_flow.specs.Plan.{PlanValue}
 use Rattle.tf_flow.specs.Refusal.{first_refusal}
@@ -28,6 +29,10 @@ CanRun plan = (compile_refusal plan ≡ None) × (missing_symbol (outline_of pla
 -- an entry of the plan: its numbers are in the plan's range
 abbrev pub IsEntryOf : PlanValue → Entry → Type 0
 IsEntryOf plan e = IsEntry (length (numbering.atoms plan)) (length (numbering.flows plan)) e
+
+-- the same of all entries
+abbrev pub AreEntriesOf : PlanValue → List Entry → Type 0
+AreEntriesOf plan entries = AllByRecursion (IsEntryOf plan) entries
 
 -- the body is no plan's form, or that of a plan that can't run
 pub data IsNoPlan (body : List ℕ) : Type 0 where

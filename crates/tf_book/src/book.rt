@@ -1,4 +1,4 @@
-ghost use Rattle.std.specs.Prelude.{◌≡◌, ◌<◌, ◌≤◌, ◌-◌, ◌∷◌, List, None, Some, OnOk};
+ghost use Rattle.std.specs.Prelude.{◌≡◌, ◌<◌, ◌≤◌, ◌-◌, ◌∷◌, List, None, Some, OnOk, IsErrOf};
 ghost use Rattle.tf_model.specs.Steps.{Step};
 ghost use Rattle.tf_book.specs.Book.{BookValue, outline, moment};
 ghost use Rattle.tf_book.specs.Kept.{Kept};
@@ -9,6 +9,8 @@ mod entering;
 mod loading;
 mod parts;
 mod reading;
+mod resetting;
+mod showing;
 mod starting;
 mod turning;
 
@@ -40,7 +42,7 @@ impl<K: Desk> Model for Book<K> {
     ghost use Rattle.std.specs.Coded.{codes};
     ghost use Rattle.tf_flow.specs.contracts.nested.Flow as flow;
     ghost use Rattle.tf_book.specs.Book.{BookValue};
-    ghost use Rattle.tf_book.specs.History.{past_of};
+    ghost use Rattle.tf_book.specs.History.{past_of, HasAllRoom, HasDraftRoom};
     ghost use Rattle.tf_book.specs.Sound.{IsSound};
 
     ghost Value = { BookValue K };
@@ -49,7 +51,7 @@ impl<K: Desk> Model for Book<K> {
 
     ghost view = { λ b. record { plan = b.machine.plan; past = past_of b.history.entries.items; journal = b.journal; quiet = b.quiet; halt = b.halt } };
 
-    ghost invariant = { λ b. IsSound K.tells K.content K.left b.machine b.history.bodies.items (record { plan = b.machine.plan; past = past_of b.history.entries.items; journal = b.journal; quiet = b.quiet; halt = b.halt }) };
+    ghost invariant = { λ b. HasAllRoom b.history × HasDraftRoom b.draft × IsSound K.tells K.content K.left b.machine b.history.bodies.items (record { plan = b.machine.plan; past = past_of b.history.entries.items; journal = b.journal; quiet = b.quiet; halt = b.halt }) };
 }
 
 impl<K: Desk> Book<K> {
@@ -59,13 +61,14 @@ impl<K: Desk> Book<K> {
         requires sound { self.old.halt ≡ None }
         requires allowed { Step (outline self.old) (moment self.old) entry }
         ensures keeps { (start : BookValue K)
-            → Kept K.tells K.shown K.content K.crashes K.disk_faults K.out_faults start self.old
-            → Kept K.tells K.shown K.content K.crashes K.disk_faults K.out_faults start self.new }
+            → Kept K.tells K.shown K.content K.left K.crashes K.disk_faults K.out_faults start self.old
+            → Kept K.tells K.shown K.content K.left K.crashes K.disk_faults K.out_faults start self.new }
         ensures same { self.new ≡ record self.old {
           past = past_after entry self.old.past result;
           journal = self.new.journal;
           halt = halt_after result;
         } }
+        ensures no_memory { IsErrOf result Halt.Memory → ⊥ }
         ensures less { OnOk result (67108864 - self.new.journal.size < 67108864 - self.old.journal.size) }
         ensures no_more { 67108864 - self.new.journal.size ≤ 67108864 - self.old.journal.size }
     {

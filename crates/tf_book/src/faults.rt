@@ -1,3 +1,5 @@
+use tf_states::FlowState;
+
 /// Why a book was halted: the disk failed, the output failed, the journal is full, of that size where `need`
 /// bytes more were asked for, or memory ran out.
 #[derive(Clone, Copy, Debug, PartialEq, Eq)]
@@ -17,6 +19,14 @@ pub enum BookFault {
     Full { size: u64, need: u64 },
     Memory,
     Halted(Halt),
+}
+
+/// Why a flow wasn't put back: it isn't reverted, or an atom isn't settled, and the flow is in that state; or the
+/// book failed.
+#[derive(Clone, Copy, Debug, PartialEq, Eq)]
+pub enum ResetFault {
+    Forbidden(FlowState),
+    Book(BookFault),
 }
 
 impl From<Halt> for BookFault {

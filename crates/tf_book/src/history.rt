@@ -1,11 +1,14 @@
-ghost use Rattle.std.specs.Prelude.{◌≡◌, ◌≤◌, ◌<◌, ◌+◌, ◌++◌, ◌∷◌, [], List, ℕ, length, vec_len, vec_capacity, OnOk};
+ghost use Rattle.std.specs.Prelude.{◌≡◌, ◌≤◌, ◌<◌, ◌+◌, ◌++◌, ◌∷◌, [], List, ℕ, length, vec_len, vec_capacity, OnOk, IfOk};
 ghost use Rattle.tf_journal.specs.Format.{length_bytes};
 ghost use Rattle.tf_journal.specs.Rest.{IsBody};
-ghost use Rattle.tf_book.specs.History.{past_of, HasRoom};
+ghost use Rattle.tf_book.specs.History.{past_of, HasRoom, HasAllRoom};
 
 use std::alloc::{AllocError, Global};
 use std::snapshot::Snapshot;
 use tf_states::Entry;
+
+/// The greatest size of a journal: a history has fewer entries and fewer bytes.
+const SIZE_LIMIT: usize = 67_108_864;
 
 /// The entries of a book as clauses see them, which take no bytes, and their bodies in memory, each behind its
 /// length in four bytes.
@@ -16,15 +19,16 @@ pub struct History {
 }
 
 impl History {
-    /// No entry yet.
-    pub fn new(alloc: Global) -> History
-        ensures entries { past_of result.entries.items ≡ [] }
-        ensures bodies { result.bodies.items ≡ [] }
+    /// No entry yet, with room for every history that a journal can hold, so that to keep an entry takes no memory.
+    /// What is reserved isn't written: it costs addresses until it is used.
+    pub fn with_room(alloc: Global) -> Result<History, AllocError>
+        ensures entries { IfOk result (λ history. past_of history.entries.items ≡ []) }
+        ensures bodies { IfOk result (λ history. history.bodies.items ≡ []) }
+        ensures room { IfOk result HasAllRoom }
     {
-        History {
-            entries: Vec::new(alloc),
-            bodies: Vec::new(alloc),
-        }
+        let entries = Vec::with_capacity(alloc, SIZE_LIMIT)?;
+        let bodies = Vec::with_capacity(alloc, SIZE_LIMIT)?;
+        Ok(History { entries, bodies })
     }
 
     /// Makes room for an entry with a body of that length.
@@ -33,6 +37,7 @@ impl History {
         ensures entries { self.new.entries.items ≡ self.old.entries.items }
         ensures bodies { self.new.bodies.items ≡ self.old.bodies.items }
         ensures room { OnOk result (HasRoom self.new len) }
+        ensures all_room { HasAllRoom self.old → HasAllRoom self.new }
     {
         self.entries.reserve(1)?;
         self.bodies.reserve(len + 4)
@@ -44,6 +49,7 @@ impl History {
         requires room { HasRoom self.old (length body.now) }
         ensures entries { past_of self.new.entries.items ≡ entry.now ∷ past_of self.old.entries.items }
         ensures bodies { self.new.bodies.items ≡ self.old.bodies.items ++ (length_bytes (length body.now) ++ body.now) }
+        ensures all_room { HasAllRoom self.old → HasAllRoom self.new }
     {
         let n = body.len();
         let _ = self.entries.push(Snapshot::of(entry));

@@ -5,10 +5,12 @@ mod book;
 mod faults;
 mod history;
 mod log;
+mod putting_back;
 mod recovering;
+mod showing;
 mod turn;
 mod writing;
 
 pub use book::{Book, Loaded};
-pub use faults::{BookFault, Halt};
+pub use faults::{BookFault, Halt, ResetFault};
 pub use turn::{Entered, Turn};

@@ -3,8 +3,8 @@ ghost use Rattle.tf_desk.specs.Content.{bytes_of};
 ghost use Rattle.tf_desk.specs.Counts.{Rises};
 ghost use Rattle.tf_desk.specs.Crash.{LeavesNoMore, SaysFront, Passes};
 ghost use Rattle.tf_desk.specs.Shown.{shown_with, ShowsFront};
-ghost use Rattle.tf_journal.specs.Format.{title_of};
-ghost use Rattle.tf_journal.specs.Rest.{IsBody, IsAtRest, IsOpen, IsReady, GoesOn, GoesUnchanged};
+ghost use Rattle.tf_journal.specs.Format.{title_of, journal_bytes};
+ghost use Rattle.tf_journal.specs.Rest.{IsBody, IsAtRest, IsOpen, IsReady, GoesOn, GoesUnchanged, LeavesEither};
 ghost use Rattle.tf_book.specs.Logging.{said_of, is_recorded, journal_after, IsSaid, IsCaused, LeavesLogged};
 
 use crate::faults::Halt;
@@ -67,6 +67,14 @@ pub fn log<K: Desk>(
     ensures rests { IsOpen K.tells journal.old → (held : List (List ℕ))
         → IsAtRest K.content K.left journal.old held → is_recorded result ≡ true
         → IsAtRest K.content K.left journal.new (held ++ body.now ∷ []) }
+    ensures exact { IsOpen K.tells journal.old → (held : List (List ℕ))
+        → IsAtRest K.content K.left journal.old held → is_recorded result ≡ true
+        → bytes_of (K.content journal.old.desk) ≡ journal_bytes (title_of journal.old.title) held
+        → bytes_of (K.content journal.new.desk) ≡ journal_bytes (title_of journal.old.title) (held ++ body.now ∷ []) }
+    ensures leaves { IsOpen K.tells journal.old → (held : List (List ℕ))
+        → IsAtRest K.content K.left journal.old held
+        → LeavesEither (title_of journal.old.title) (K.content journal.new.desk) (K.left journal.new.desk) held
+        (held ++ body.now ∷ []) }
     ensures crash { IsOpen K.tells journal.old → (held : List (List ℕ))
         → IsAtRest K.content K.left journal.old held
         → Passes (K.content journal.old.desk).clock (K.content journal.new.desk).clock (K.crashes journal.old.desk)

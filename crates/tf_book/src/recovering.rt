@@ -9,6 +9,7 @@ ghost use Rattle.tf_flow.specs.Plan.{PlanValue};
 ghost use Rattle.tf_machine.specs.Answers.{IsBuildRefusal, IsBack};
 ghost use Rattle.tf_machine.specs.Machine.{StandsFor};
 ghost use Rattle.tf_machine.specs.declared.faults.ApplyFault.TheVariants.{NotAStep as refuses};
+ghost use Rattle.tf_book.specs.History.{HasAllRoom};
 ghost use Rattle.tf_book.specs.Loading.{CanRun, IsAccepted, IsNoPlan, IsNoStep, RefusesBodies};
 ghost use Rattle.tf_book.specs.Reading.{IsNext, IsNoRefusal, HasReadEntry, HasBodies, OnlyReads, HasRead, HasReadAll};
 
@@ -87,6 +88,7 @@ fn read_entry(
     ensures ok { OnOk result (HasReadEntry machine.old machine.new history.old history.new body.now) }
     ensures refused { IsErrOf result MakeFault.No → (past : List Record) → StandsFor machine.old past
         → IsNoStep machine.old.plan past body.now }
+    ensures room { HasAllRoom history.old → HasAllRoom history.new }
 {
     entry_has_one_form();
     let entry = decode_entry(alloc, machine.plan(), body)?;
@@ -205,6 +207,7 @@ fn read_history<K: Desk>(
         journal.old back.old.machine back.old.history start }
     ensures read { OnOk result (HasReadAll K.tells K.shown K.content K.left K.crashes K.disk_faults K.out_faults
         K.asks K.turns journal.old back.new.machine back.new.history) }
+    ensures room { HasAllRoom back.old.history → HasAllRoom back.new.history }
     ensures refused { IfErr result (λ fault. IsTrue (K.tells journal.old.desk) → (held : List (List ℕ))
         → HasBodies K.content journal.old held → RefusesBodies fault held) }
     ensures cause { IsErrOf result LoadFault.Disk
@@ -240,6 +243,7 @@ pub fn read_back<K: Desk>(alloc: Global, journal: &mut Journal<K>) -> Result<Rea
     requires some { journal.old.size ≢ 18 }
     ensures read { IfOk result (λ back. HasReadAll K.tells K.shown K.content K.left K.crashes K.disk_faults
         K.out_faults K.asks K.turns journal.old back.machine back.history) }
+    ensures room { IfOk result (λ back. HasAllRoom back.history) }
     ensures refused { IfErr result (λ fault. IsTrue (K.tells journal.old.desk) → (held : List (List ℕ))
         → HasBodies K.content journal.old held → RefusesBodies fault held) }
     ensures cause { IsErrOf result LoadFault.Disk
@@ -249,7 +253,9 @@ pub fn read_back<K: Desk>(alloc: Global, journal: &mut Journal<K>) -> Result<Rea
 {
     let mut body = Vec::new(alloc);
     let machine = read_first(alloc, journal, &mut body)?;
-    let history = History::new(alloc);
+    let Ok(history) = History::with_room(alloc) else {
+        return Err(LoadFault::Memory);
+    };
     let mut back = ReadBack { machine, history };
     match read_history(
         alloc,

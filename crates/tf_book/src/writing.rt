@@ -1,21 +1,23 @@
-ghost use Rattle.std.specs.Prelude.{◌≡◌, ◌≢◌, ◌<◌, ◌≤◌, ◌+◌, ◌++◌, ◌∷◌, [], ℕ, List, true, false, IsTrue, length, OnOk, OnErr, IsErrOf};
+ghost use Rattle.std.specs.Prelude.{◌≡◌, ◌≢◌, ◌<◌, ◌≤◌, ◌+◌, ◌++◌, ◌∷◌, [], ℕ, List, true, false, IsTrue, length, OnOk, OnErr, IfOk, IsErrOf};
+ghost use Rattle.tf_desk.specs.Content.{bytes_of};
 ghost use Rattle.tf_desk.specs.Crash.{Passes};
-ghost use Rattle.tf_journal.specs.Format.{title_of, length_bytes};
-ghost use Rattle.tf_journal.specs.Rest.{IsBody, IsAtRest, IsOpen, IsReady, GoesOn};
+ghost use Rattle.tf_journal.specs.Format.{title_of, journal_bytes, length_bytes};
+ghost use Rattle.tf_journal.specs.Rest.{IsBody, IsAtRest, IsOpen, IsReady, GoesOn, LeavesEither};
 ghost use Rattle.tf_states.specs.declared.record.Entry.{Entry as Record};
 ghost use Rattle.tf_bound.specs.Short.{IsShortEvent};
-ghost use Rattle.tf_entries.specs.Entries.{entry_bytes, has_its_payload};
+ghost use Rattle.tf_entries.specs.Entries.{entry_bytes, has_its_payload, HasItsPayload};
 ghost use Rattle.tf_machine.specs.Machine.{outline, shown, StandsFor};
 ghost use Rattle.tf_model.specs.Steps.{Step};
 ghost use Rattle.tf_report.specs.Lines.{line as line_of};
 ghost use Rattle.tf_model.specs.Plan.{outline_of};
-ghost use Rattle.tf_book.specs.History.{past_of, framed, HasRoom};
+ghost use Rattle.tf_book.specs.Forms.{IsForm};
+ghost use Rattle.tf_book.specs.History.{past_of, framed, HasRoom, HasAllRoom, HasDraftRoom};
 ghost use Rattle.tf_book.specs.Logging.{said_of, is_recorded, journal_after, IsSaid, IsCaused, LeavesLogged};
 
 use crate::faults::Halt;
 use crate::history::History;
 use crate::log::log;
-use std::alloc::Global;
+use std::alloc::{AllocError, Global};
 use tf_bound::event_is_short;
 use tf_desk::Desk;
 use tf_entries::encode_entry;
@@ -25,6 +27,12 @@ use tf_machine::Machine;
 use tf_report::line;
 use tf_states::Entry;
 
+/// The greatest length of an entry's body.
+const BODY_LIMIT: usize = 131_200;
+
+/// The greatest length of an entry's line.
+const LINE_LIMIT: usize = 1_048_576;
+
 /// The body and the line of the entry that is recorded.
 #[derive(Drop)]
 pub struct Draft {
@@ -33,45 +41,35 @@ pub struct Draft {
 }
 
 impl Draft {
-    /// Nothing yet.
-    pub fn new(alloc: Global) -> Draft {
-        Draft {
-            body: Vec::new(alloc),
-            line: Vec::new(alloc),
-        }
+    /// Nothing yet, with room for the body and the line of every entry.
+    pub fn make(alloc: Global) -> Result<Draft, AllocError>
+        ensures { IfOk result HasDraftRoom }
+    {
+        let body = Vec::with_capacity(alloc, BODY_LIMIT)?;
+        let line = Vec::with_capacity(alloc, LINE_LIMIT)?;
+        Ok(Draft { body, line })
     }
 }
 
-/// Makes the body of an entry, its line and room to keep it.
-fn prepare(
-    plan: &Plan,
-    number: u64,
-    entry: &Entry,
-    history: &mut History,
-    draft: &mut Draft,
-) -> Result<(), Halt>
+/// Makes the body of an entry and its line.
+fn prepare(plan: &Plan, number: u64, entry: &Entry, draft: &mut Draft)
     requires hand { entry.now.hand < 64 }
     requires payload { has_its_payload entry.now.what ≡ true }
-    ensures body { OnOk result (draft.new.body.items ≡ entry_bytes entry.now) }
-    ensures line { OnOk result (draft.new.line.items ≡ line_of (outline_of plan.now) number entry.now) }
-    ensures is_body { OnOk result (IsBody draft.new.body.items) }
-    ensures room { OnOk result (HasRoom history.new (length draft.new.body.items)) }
-    ensures entries { history.new.entries.items ≡ history.old.entries.items }
-    ensures bodies { history.new.bodies.items ≡ history.old.bodies.items }
-    ensures memory { OnErr result (IsErrOf result Halt.Memory) }
+    requires room { HasDraftRoom draft.old }
+    ensures body { draft.new.body.items ≡ entry_bytes entry.now }
+    ensures line { draft.new.line.items ≡ line_of (outline_of plan.now) number entry.now }
+    ensures is_body { IsBody draft.new.body.items }
+    ensures form { HasItsPayload entry.now.what }
+    ensures room { HasDraftRoom draft.new }
 {
     draft.body.clear();
     draft.line.clear();
     let Ok(()) = encode_entry(entry, &mut draft.body) else {
-        return Err(Halt::Memory);
+        unreachable!();
     };
     let Ok(()) = line(plan, number, entry, &mut draft.line) else {
-        return Err(Halt::Memory);
+        unreachable!();
     };
-    match history.reserve(draft.body.len()) {
-        Ok(()) => Ok(()),
-        Err(_) => Err(Halt::Memory),
-    }
 }
 
 /// Keeps an entry that was recorded.
@@ -84,14 +82,15 @@ fn keep(machine: &mut Machine, history: &mut History, entry: Entry, body: &[u8])
     ensures stands { (past : List Record) → StandsFor machine.old past → StandsFor machine.new (entry ∷ past) }
     ensures entries { past_of history.new.entries.items ≡ entry ∷ past_of history.old.entries.items }
     ensures bodies { history.new.bodies.items ≡ history.old.bodies.items ++ (length_bytes (length (entry_bytes entry)) ++ entry_bytes entry) }
+    ensures all_room { HasAllRoom history.old → HasAllRoom history.new }
 {
     history.keep(&entry, body);
     machine.advance(entry);
 }
 
-/// Records an entry that may follow: its body and its line are made, with room to keep it; then the body is
-/// appended, the entry is kept, and the line is said. Want of memory comes before anything is recorded.
-#[tactic(auto, using(crate::proofs::PayloadLemmas::step_has_payload, crate::proofs::PayloadLemmas::step_has_hand))]
+/// Records an entry that may follow: its body and its line are made; then the body is appended, the entry is kept,
+/// and the line is said. It takes no memory: there is room for each.
+#[tactic(auto, using(crate::proofs::PayloadLemmas::step_has_payload, crate::proofs::PayloadLemmas::step_has_hand, crate::proofs::HistoryLemmas::room_for))]
 pub fn write<K: Desk>(
     journal: &mut Journal<K>,
     machine: &mut Machine,
@@ -104,6 +103,13 @@ pub fn write<K: Desk>(
     requires sound { journal.old.halted ≡ false }
     requires allowed { Step (outline machine.old) (shown machine.old) entry }
     requires few { length history.old.entries.items ≤ 67108864 }
+    requires fewer { length history.old.entries.items ≤ journal.old.size }
+    requires fits { length history.old.bodies.items ≤ journal.old.size }
+    requires room { HasAllRoom history.old }
+    requires draft_room { HasDraftRoom draft.old }
+    ensures room { HasAllRoom history.new }
+    ensures draft_room { HasDraftRoom draft.new }
+    ensures no_memory { IsErrOf result Halt.Memory → ⊥ }
     ensures journal { journal.new ≡ journal_after journal.old journal.new.desk (length (entry_bytes entry)) result }
     ensures text { IsSaid (K.shown journal.old.desk)
         (said_of quiet (line_of (outline machine.old) (length history.old.entries.items + 1) entry))
@@ -119,6 +125,14 @@ pub fn write<K: Desk>(
     ensures rests { IsOpen K.tells journal.old → (held : List (List ℕ))
         → IsAtRest K.content K.left journal.old held → is_recorded result ≡ true
         → IsAtRest K.content K.left journal.new (held ++ entry_bytes entry ∷ []) }
+    ensures exact { IsOpen K.tells journal.old → (held : List (List ℕ))
+        → IsAtRest K.content K.left journal.old held → is_recorded result ≡ true
+        → bytes_of (K.content journal.old.desk) ≡ journal_bytes (title_of journal.old.title) held
+        → bytes_of (K.content journal.new.desk) ≡ journal_bytes (title_of journal.old.title) (held ++ entry_bytes entry ∷ []) }
+    ensures leaves { IsOpen K.tells journal.old → (held : List (List ℕ))
+        → IsAtRest K.content K.left journal.old held
+        → LeavesEither (title_of journal.old.title) (K.content journal.new.desk) (K.left journal.new.desk) held
+        (held ++ entry_bytes entry ∷ []) }
     ensures crash { IsOpen K.tells journal.old → (held : List (List ℕ))
         → IsAtRest K.content K.left journal.old held
         → Passes (K.content journal.old.desk).clock (K.content journal.new.desk).clock (K.crashes journal.old.desk)
@@ -135,11 +149,12 @@ pub fn write<K: Desk>(
     ensures kept { is_recorded result ≡ false → (machine.new ≡ machine.old)
         × (history.new.entries.items ≡ history.old.entries.items) × (history.new.bodies.items ≡ history.old.bodies.items) }
     ensures short { IsShortEvent entry.what }
+    ensures form { is_recorded result ≡ true → IsForm entry }
     ensures long { is_recorded result ≡ true → 1 ≤ length (entry_bytes entry) }
 {
     event_is_short(&entry.what);
     let number = history.entries.len() as u64 + 1;
-    prepare(machine.plan(), number, &entry, history, draft)?;
+    prepare(machine.plan(), number, &entry, draft);
     match log(journal, &draft.body, &draft.line, quiet) {
         Ok(()) => {
             keep(machine, history, entry, &draft.body);

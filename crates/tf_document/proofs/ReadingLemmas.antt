@@ -3,7 +3,7 @@ use Rattle.std.proofs.Common.{◌≡◌, ℕ, ◌+◌, ◌<◌, List, [], ◌∷
 use Rattle.std.specs.Prelude.{IfErr}
 use Rattle.std.specs.Fmt.{decimal}
 use Rattle.tf_document.specs.Paths.{below}
-use Rattle.tf_document.specs.Reading.{Refuses, chain, has_key, unknown_key, unless_unknown, known_only, required_at, required, optional, built_without, of_kind, put_first, each}
+use Rattle.tf_document.specs.Reading.{Refuses, chain, has_key, unknown_key, unless_unknown, known_only, required_at, required, optional, of_kind, put_first, each}
 use Rattle.tf_document.specs.declared.faults.FileFault.{FileFault}
 use Rattle.tf_document.specs.declared.faults.FileFault.TheVariants as fault
 use Rattle.toml.proofs.Views.{items_view-drop}
@@ -14,7 +14,6 @@ use Rattle.toml.specs.declared.value.Value.{Value}
 -- what fails with a reason fails with it wherever it is read first
 pub refuses_as : {A B : Type 0} (part : Result A FileFault) (whole : Result B FileFault) (e : FileFault)
     → ((reason : FileFault) → part ≡ Err reason → whole ≡ Err reason) → Refuses part e → Refuses whole e
-refuses_as part whole fault.NotBuilt same refused = same fault.NotBuilt refused
 refuses_as part whole fault.NotToml same refused = same fault.NotToml refused
 refuses_as part whole (fault.UnknownKey path) same refused = same (fault.UnknownKey path) refused
 refuses_as part whole (fault.MissingKey path) same refused = same (fault.MissingKey path) refused
@@ -101,13 +100,6 @@ optional_passes path key table other reads is = rw is
 -- to a value of the kind that is wanted
 pub kind_goes : {A B : Type 0} (path : List ℕ) (found : Option A) (next : A → Result B FileFault) (x : A) → found ≡ Some x → of_kind path found next ≡ next x
 kind_goes path found next x is = rw is
-
--- past a key that is of no use yet
-pub built_goes : {A : Type 0} (key : List ℕ) (table : Members) (read : Result A FileFault) → has_key key table ≡ false → built_without key table read ≡ read
-built_goes key table read is = rw is
-
-pub built_stops : {A : Type 0} (key : List ℕ) (table : Members) (read : Result A FileFault) → has_key key table ≡ true → built_without key table read ≡ Err fault.NotBuilt
-built_stops key table read is = rw is
 
 -- ---- lists
 

@@ -62,10 +62,6 @@ optional_at path other reads (Some found) = reads path found
 abbrev pub optional : {A : Type 0} → List ℕ → List ℕ → Members → A → (List ℕ → Data → Result A FileFault) → Result A FileFault
 optional path key members other reads = optional_at (below path key) other reads (get_member key members)
 
--- a key that is of no use yet isn't there
-abbrev pub built_without : {A : Type 0} → List ℕ → Members → Result A FileFault → Result A FileFault
-built_without key members read = if has_key key members then Err fault.NotBuilt else read
-
 -- the value under the path is of the kind that is wanted
 abbrev pub of_kind : {A B : Type 0} → List ℕ → Option A → (A → Result B FileFault) → Result B FileFault
 of_kind path None next = Err (fault.WrongKind path)

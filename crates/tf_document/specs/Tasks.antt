@@ -6,9 +6,9 @@ use Rattle.tf_flow.specs.declared.atoms.TaskKind.{TaskKind}
 use Rattle.tf_flow.specs.declared.atoms.TaskKind.TheVariants as kind
 use Rattle.tf_flow.specs.declared.atoms.Undo.{Undo}
 use Rattle.tf_flow.specs.declared.atoms.Undo.TheVariants as undo
-use Rattle.tf_document.specs.Reading.{chain, known_only, required, optional, built_without, of_kind}
+use Rattle.tf_document.specs.Reading.{chain, known_only, required, optional, of_kind, each}
 use Rattle.tf_document.specs.Signatures.{signature_form}
-use Rattle.tf_document.specs.Values.{name_form}
+use Rattle.tf_document.specs.Values.{name_form, text_form, texts_form}
 use Rattle.tf_document.specs.declared.faults.FileFault.{FileFault}
 use Rattle.tf_document.specs.declared.faults.FileFault.TheVariants as fault
 use Rattle.toml.specs.Data.{Data, string, array, as_str, as_integer, Members}
@@ -17,7 +17,7 @@ use Rattle.toml.specs.Data.{Data, string, array, as_str, as_integer, Members}
 abbrev pub task_keys : List (List ℕ)
 task_keys = codes "task" ∷ codes "kind" ∷ codes "requires" ∷ codes "rebind" ∷ codes "inject" ∷ codes "provides" ∷ codes "priority" ∷ codes "run" ∷ codes "revert" ∷ []
 
--- the kind of task that a word is; that of commands is of no use yet
+-- the kind of task that a word is
 abbrev pub kind_named : List ℕ → List ℕ → Result TaskKind FileFault
 kind_named path word =
     if same_name word (codes "echo") then Ok kind.Echo
@@ -29,7 +29,7 @@ kind_named path word =
     else if same_name word (codes "fail") then Ok kind.Fail
     else if same_name word (codes "fail_below") then Ok kind.FailBelow
     else if same_name word (codes "fail_unless") then Ok kind.FailUnless
-    else if same_name word (codes "command") then Err fault.NotBuilt
+    else if same_name word (codes "command") then Ok kind.Command
     else Err (fault.BadChoice path)
 
 -- a kind of task
@@ -54,10 +54,10 @@ undo_named path word =
     else if same_name word (codes "fail") then Ok undo.Fail
     else Err (fault.BadChoice path)
 
--- what reverts a task; the words of a program are of no use yet
+-- what reverts a task: a word, or a program with its words
 abbrev pub undo_form : List ℕ → Data → Result Undo FileFault
 undo_form path (string word) = undo_named path word
-undo_form path (array items) = Err fault.NotBuilt
+undo_form path (array items) = chain (each text_form path 0 items) (λ words. Ok (undo.Run words))
 undo_form path other = Err (fault.WrongKind path)
 
 -- the task that the table under the path spells; its keys are read in this order
@@ -68,12 +68,12 @@ task_form path members =
     chain (required path (codes "kind") members task_kind_form) (λ kind.
     chain (signature_form path members) (λ signature.
     chain (optional path (codes "priority") members (pos 0) priority_form) (λ priority.
-    built_without (codes "run") members
-    (chain (optional path (codes "revert") members undo.Pass undo_form) (λ revert.
+    chain (optional path (codes "run") members [] texts_form) (λ words.
+    chain (optional path (codes "revert") members undo.Pass undo_form) (λ revert.
     Ok record {
       name = name;
       kind = kind;
-      words = [];
+      words = words;
       args = signature.args;
       inject = signature.inject;
       provides = signature.provides;

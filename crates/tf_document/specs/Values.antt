@@ -26,6 +26,18 @@ name_form path found = of_kind path (as_str found) (named path)
 abbrev pub names_form : List ℕ → Data → Result (List (List ℕ)) FileFault
 names_form path found = array_of name_form path found
 
+-- the string under the path is a text
+abbrev pub a_text : List ℕ → List ℕ → Result (List ℕ) FileFault
+a_text path word = if is_text word then Ok word else Err (fault.BadValue path)
+
+-- a text
+abbrev pub text_form : List ℕ → Data → Result (List ℕ) FileFault
+text_form path found = of_kind path (as_str found) (a_text path)
+
+-- a list of texts
+abbrev pub texts_form : List ℕ → Data → Result (List (List ℕ)) FileFault
+texts_form path found = array_of text_form path found
+
 -- a key that should be a name
 abbrev pub key_form : List ℕ → List ℕ → Result (List ℕ) FileFault
 key_form path key = named (below path (step_of key)) key

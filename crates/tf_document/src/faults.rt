@@ -8,8 +8,6 @@ use tf_values::Memory;
 /// Why a flow file makes no plan. A path tells where in the document the reason stands.
 #[derive(Debug, Drop)]
 pub enum FileFault {
-    /// Something stands there that is of no use yet.
-    NotBuilt,
     /// The bytes are no TOML document.
     NotToml,
     /// The first key, in byte order, that such a table hasn't.

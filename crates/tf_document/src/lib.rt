@@ -12,6 +12,7 @@ mod retries;
 mod signatures;
 mod tasks;
 mod values;
+mod words;
 
 pub use deciders::decider_of;
 pub use faults::FileFault;

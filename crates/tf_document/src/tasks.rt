@@ -1,18 +1,19 @@
-ghost use Rattle.std.specs.Prelude.{◌≡◌, Ok, IfOk, IfErr, codes, pos};
+ghost use Rattle.std.specs.Prelude.{◌≡◌, [], Ok, IfOk, IfErr, codes, pos};
 ghost use Rattle.tf_document.specs.Reading.{Refuses, required as required_there, optional as optional_there};
-ghost use Rattle.tf_document.specs.Values.{name_form as name_spelled};
+ghost use Rattle.tf_document.specs.Values.{name_form as name_spelled, texts_form as texts_spelled};
 ghost use Rattle.tf_document.specs.Tasks.{task_form as task_spelled, task_kind_form as kind_spelled, kind_named as kind_of, priority_form as priority_spelled, ranked as ranked_spelled, undo_form as undo_spelled, undo_named as undo_of};
 ghost use Rattle.tf_flow.specs.declared.atoms.Undo.TheVariants as undone;
 ghost use Rattle.toml.specs.View.{view, table_view};
 
 use crate::faults::FileFault;
-use crate::fields::{Field, has_key, known_only, optional, required};
+use crate::fields::{Field, known_only, optional, required};
 use crate::paths::Path;
 use crate::signatures::signature_form;
 use crate::values::name_form;
+use crate::words::{each_text, texts_form};
 use std::alloc::Global;
 use tf_flow::{Task, TaskKind, Undo};
-use tf_values::{Name, Texts};
+use tf_values::{Name, Text, Texts};
 use toml::{Table, Value};
 
 /// The task that the table under the path spells, or the first reason why it spells none.
@@ -28,14 +29,12 @@ pub fn task_form(alloc: Global, path: &Path, table: &Table) -> Result<Task, File
     let kind = kind_at(alloc, path, table)?;
     let signature = signature_form(alloc, path, table)?;
     let priority = priority_at(alloc, path, table)?;
-    if has_key(table, "run") {
-        return Err(FileFault::NotBuilt);
-    }
+    let words = run_at(alloc, path, table)?;
     let undo = revert_at(alloc, path, table)?;
     Ok(Task {
         name,
         kind,
-        words: Texts::make(Vec::new(alloc)),
+        words: Texts::make(words),
         args: signature.args,
         inject: signature.inject,
         provides: signature.provides,
@@ -70,6 +69,16 @@ fn priority_at(alloc: Global, path: &Path, table: &Table) -> Result<i32, FileFau
     }
 }
 
+fn run_at(alloc: Global, path: &Path, table: &Table) -> Result<Vec<Text>, FileFault>
+    ensures ok { IfOk result (λ words. optional_there path.now (codes "run") (table_view table.now) [] texts_spelled ≡ Ok words.items) }
+    ensures refused { IfErr result (Refuses (optional_there path.now (codes "run") (table_view table.now) [] texts_spelled)) }
+{
+    match optional(alloc, path, "run", table)? {
+        Some(field) => texts_form(alloc, &field),
+        None => Ok(Vec::new(alloc)),
+    }
+}
+
 fn revert_at(alloc: Global, path: &Path, table: &Table) -> Result<Undo, FileFault>
     ensures ok { IfOk result (λ undo. optional_there path.now (codes "revert") (table_view table.now) undone.Pass undo_spelled ≡ Ok undo) }
     ensures refused { IfErr result (Refuses (optional_there path.now (codes "revert") (table_view table.now) undone.Pass undo_spelled)) }
@@ -80,8 +89,7 @@ fn revert_at(alloc: Global, path: &Path, table: &Table) -> Result<Undo, FileFaul
     }
 }
 
-/// A kind of task: `WrongKind` where the value is no string, `BadChoice` where it is no kind, and
-/// `NotBuilt` where it is the kind of commands, which is of no use yet.
+/// A kind of task: `WrongKind` where the value is no string, `BadChoice` where it is no kind.
 fn kind_form(alloc: Global, field: &Field<'_>) -> Result<TaskKind, FileFault>
     ensures ok { IfOk result (λ kind. kind_spelled field.now.path (view field.now.value.now) ≡ Ok kind) }
     ensures refused { IfErr result (Refuses (kind_spelled field.now.path (view field.now.value.now))) }
@@ -104,7 +112,7 @@ fn kind_named(alloc: Global, path: &Path, word: &str) -> Result<TaskKind, FileFa
         "fail" => Ok(TaskKind::Fail),
         "fail_below" => Ok(TaskKind::FailBelow),
         "fail_unless" => Ok(TaskKind::FailUnless),
-        "command" => Err(FileFault::NotBuilt),
+        "command" => Ok(TaskKind::Command),
         _ => Err(FileFault::BadChoice(path.copy(alloc)?)),
     }
 }
@@ -131,14 +139,17 @@ fn ranked(alloc: Global, path: &Path, number: i64) -> Result<i32, FileFault>
 }
 
 /// What reverts a task: `WrongKind` where the value is neither a string nor an array, `BadChoice` where
-/// it is another word, and `NotBuilt` for the words of a program, which are of no use yet.
+/// it is another word, and for the words of a program what refuses the first that is no text.
 fn undo_form(alloc: Global, field: &Field<'_>) -> Result<Undo, FileFault>
     ensures ok { IfOk result (λ undo. undo_spelled field.now.path (view field.now.value.now) ≡ Ok undo) }
     ensures refused { IfErr result (Refuses (undo_spelled field.now.path (view field.now.value.now))) }
 {
     match field.value {
         Value::String(string) => undo_named(alloc, &field.path, string.as_str()),
-        Value::Array(_) => Err(FileFault::NotBuilt),
+        Value::Array(items) => {
+            let words = each_text(alloc, &field.path, items)?;
+            Ok(Undo::Run(Texts::make(words)))
+        }
         _ => Err(FileFault::WrongKind(field.path.copy(alloc)?)),
     }
 }

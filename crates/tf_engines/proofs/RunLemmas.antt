@@ -1,5 +1,5 @@
 -- How a run goes on, and how it stops.
-use Rattle.std.proofs.Common.{◌≡◌, inl, inr, ◌⊎◌, ⊎_elim, ℕ, Bool, true, false, List, [], ◌∷◌, ◌++◌, Option, Some, None, refl, ap, ◌∙◌, sym, subst, append_assoc}
+use Rattle.std.proofs.Common.{◌≡◌, ◌≤◌, inl, inr, ◌⊎◌, ⊎_elim, ℕ, ◌+◌, Bool, true, false, List, [], ◌∷◌, ◌++◌, length, Option, Some, None, refl, ap, ◌∙◌, sym, subst, arith, append_assoc, length-append}
 use Rattle.std.specs.Prelude.{IsSome, Result, Ok, Err, OnErr, not, nat_eq, reverse}
 use Rattle.std.specs.List.{list_all}
 use Rattle.tf_flow.specs.Plan.{PlanValue}
@@ -19,6 +19,8 @@ use Rattle.tf_hands.proofs.EndLemmas.{ended_within, ended_inner, end_frees, end_
 use Rattle.tf_hands.proofs.FlightLemmas.{order_told}
 use Rattle.tf_hands.proofs.GivenLemmas.{no_end_given}
 use Rattle.tf_hands.proofs.RestLemmas.{alone_still, own_alone}
+use Rattle.tf_bound.specs.Short.{AreShort}
+use Rattle.tf_model.specs.Bound.{entry_bound}
 use Rattle.tf_model.specs.History.{flow_of, snapshot}
 use Rattle.tf_model.specs.Orders.{IsGiven}
 use Rattle.tf_model.specs.Plan.{Outline, outline_of}
@@ -99,3 +101,23 @@ pub finished_or_not : (gives : Order → Outcome → Type 0) (plan : Outline) (b
     → HasOrder plan past 0 order → gives order came → IsFinished plan 0 came past after ⊎ (after ≡ past) → GoesOn gives plan before past → IsSession gives plan before after None
 finished_or_not gives plan before past after order came law legal later has gave (inl is) on = goes_session gives plan before after later (goes_finished gives plan before past after order came law legal has gave is on)
 finished_or_not gives plan before past after order came law legal later has gave (inr is) on = goes_session gives plan before after later (subst (λ (l : List Entry). GoesOn gives plan before l) (sym is) on)
+
+-- ---- how long a run is
+
+short_front : (newer past : List Entry) → AreShort (newer ++ past) → AreShort newer
+short_front [] past are = tt
+short_front (e ∷ newer) past are = (are.0, short_front newer past are.1)
+
+session_bounded : (gives : Order → Outcome → Type 0) (plan : PlanValue) (before after : List Entry) (stop : Option FlowState)
+    → ((entries : List Entry) (last : Option FlowState) → AreShort entries → Session (outline_of plan) before entries last → length entries ≤ entry_bound plan)
+    → AreShort after → IsSession gives (outline_of plan) before after stop → length after ≤ length before + entry_bound plan
+session_bounded gives plan before after stop bound short is =
+    omega (arith, bound is.entries stop (short_front is.entries before (subst (λ (l : List Entry). AreShort l) is.recorded short)) is.session, ap length is.recorded, length-append is.entries before)
+
+-- a run records at most as many entries as any session of its plan may
+pub ran_bounded : (gives : Order → Outcome → Type 0) (plan : PlanValue) (before after : List Entry) (h : How)
+    → ((entries : List Entry) (last : Option FlowState) → AreShort entries → Session (outline_of plan) before entries last → length entries ≤ entry_bound plan)
+    → AreShort after → HasRun gives (outline_of plan) before after h → length after ≤ length before + entry_bound plan
+ran_bounded gives plan before after (how.Ended state) bound short ran = session_bounded gives plan before after (Some state) bound short ran
+ran_bounded gives plan before after how.Suspended bound short ran = session_bounded gives plan before after (Some flow.Suspended) bound short ran
+ran_bounded gives plan before after (how.Halted cause) bound short ran = session_bounded gives plan before after ran.0 bound short ran.1

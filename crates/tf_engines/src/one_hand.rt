@@ -1,7 +1,8 @@
-ghost use Rattle.std.specs.Prelude.{◌≡◌, ◌<◌, ◌≤◌, ◌-◌, None, Some, true, List, Option, IfSome, IfNone, IsSome};
+ghost use Rattle.std.specs.Prelude.{◌≡◌, ◌<◌, ◌≤◌, ◌+◌, ◌-◌, None, Some, true, List, Option, length, IfSome, IfNone, IsSome};
 ghost use Rattle.tf_states.specs.declared.record.Entry.{Entry as Record};
 ghost use Rattle.tf_states.specs.declared.state.FlowState.TheVariants as flow;
 ghost use Rattle.tf_hands.specs.Hands.{IsAlone, HasOrder, orders};
+ghost use Rattle.tf_model.specs.Bound.{entry_bound};
 ghost use Rattle.tf_model.specs.Steps.{LegalPast};
 ghost use Rattle.tf_ports.specs.Whole.{IsWhole};
 ghost use Rattle.tf_ports.specs.declared.orders.Order.{Order as AnOrder};
@@ -13,6 +14,7 @@ ghost use Rattle.tf_engines.specs.Runs.{GoesOn, HasRun, HaltsAs, StandsAs, IsGoi
 use crate::engine::{How, RunEnd};
 use std::alloc::Global;
 use tf_book::{Book, Entered, Turn};
+use tf_bound::runs_are_bounded;
 use tf_desk::Desk;
 use tf_ports::{Order, Performer};
 
@@ -46,8 +48,8 @@ fn perform<K: Desk, P: Performer>(
     requires alone { IsAlone (outline book.old) book.old.past 0 }
     requires whole { IsWhole order }
     ensures keeps { (start : BookValue K)
-        → Kept K.tells K.shown K.content K.crashes K.disk_faults K.out_faults start book.old
-        → Kept K.tells K.shown K.content K.crashes K.disk_faults K.out_faults start book.new }
+        → Kept K.tells K.shown K.content K.left K.crashes K.disk_faults K.out_faults start book.old
+        → Kept K.tells K.shown K.content K.left K.crashes K.disk_faults K.out_faults start book.new }
     ensures stops { IfSome result (StandsAs book.new.halt (state_of book.new)) }
     ensures plan { book.new.plan ≡ book.old.plan }
     ensures ran { (before : List Record) → GoesOn P.gives (outline book.old) before book.old.past
@@ -79,8 +81,8 @@ fn perform<K: Desk, P: Performer>(
 fn take_turn<K: Desk, P: Performer>(alloc: Global, book: &mut Book<K>, hand: &mut P) -> Option<How>
     requires going { IsGoing (outline book.old) book.old.past book.old.halt }
     ensures keeps { (start : BookValue K)
-        → Kept K.tells K.shown K.content K.crashes K.disk_faults K.out_faults start book.old
-        → Kept K.tells K.shown K.content K.crashes K.disk_faults K.out_faults start book.new }
+        → Kept K.tells K.shown K.content K.left K.crashes K.disk_faults K.out_faults start book.old
+        → Kept K.tells K.shown K.content K.left K.crashes K.disk_faults K.out_faults start book.new }
     ensures stops { IfSome result (StandsAs book.new.halt (state_of book.new)) }
     ensures plan { book.new.plan ≡ book.old.plan }
     ensures ran { (before : List Record) → GoesOn P.gives (outline book.old) before book.old.past
@@ -119,8 +121,8 @@ fn take_turn<K: Desk, P: Performer>(alloc: Global, book: &mut Book<K>, hand: &mu
 fn run<K: Desk, P: Performer>(alloc: Global, book: &mut Book<K>, hand: &mut P) -> How
     requires going { IsGoing (outline book.old) book.old.past book.old.halt }
     ensures keeps { (start : BookValue K)
-        → Kept K.tells K.shown K.content K.crashes K.disk_faults K.out_faults start book.old
-        → Kept K.tells K.shown K.content K.crashes K.disk_faults K.out_faults start book.new }
+        → Kept K.tells K.shown K.content K.left K.crashes K.disk_faults K.out_faults start book.old
+        → Kept K.tells K.shown K.content K.left K.crashes K.disk_faults K.out_faults start book.new }
     ensures stops { StandsAs book.new.halt (state_of book.new) result }
     ensures plan { book.new.plan ≡ book.old.plan }
     ensures ran { (before : List Record) → GoesOn P.gives (outline book.old) before book.old.past
@@ -140,8 +142,8 @@ fn run<K: Desk, P: Performer>(alloc: Global, book: &mut Book<K>, hand: &mut P) -
 /// records its outcome, until the flow has ended or is suspended, or the book is halted.
 fn run_session<K: Desk, P: Performer>(alloc: Global, book: &mut Book<K>, hand: &mut P) -> How
     ensures keeps { (start : BookValue K)
-        → Kept K.tells K.shown K.content K.crashes K.disk_faults K.out_faults start book.old
-        → Kept K.tells K.shown K.content K.crashes K.disk_faults K.out_faults start book.new }
+        → Kept K.tells K.shown K.content K.left K.crashes K.disk_faults K.out_faults start book.old
+        → Kept K.tells K.shown K.content K.left K.crashes K.disk_faults K.out_faults start book.new }
     ensures stops { StandsAs book.new.halt (state_of book.new) result }
     ensures plan { book.new.plan ≡ book.old.plan }
     ensures ran { HasRun P.gives (outline book.old) book.old.past book.new.past result }
@@ -162,18 +164,22 @@ fn run_session<K: Desk, P: Performer>(alloc: Global, book: &mut Book<K>, hand: &
 
 /// Runs a book's flow with one hand, which records as hand 0, and gives the book back with how it stopped. Of
 /// every start that the book has kept to, it still keeps to it; what it recorded is a session whose ends carry
-/// outcomes that the hand may give for their orders.
+/// outcomes that the hand may give for their orders, and at most as long as the plan's bound.
 pub fn serial<K: Desk, P: Performer>(alloc: Global, book: Book<K>, hand: &mut P) -> RunEnd<K>
     ensures keeps { (start : BookValue K)
-        → Kept K.tells K.shown K.content K.crashes K.disk_faults K.out_faults start book
-        → Kept K.tells K.shown K.content K.crashes K.disk_faults K.out_faults start result.book }
+        → Kept K.tells K.shown K.content K.left K.crashes K.disk_faults K.out_faults start book
+        → Kept K.tells K.shown K.content K.left K.crashes K.disk_faults K.out_faults start result.book }
     ensures stops { StandsAs result.book.halt (state_of result.book) result.how }
     ensures plan { result.book.plan ≡ book.plan }
     ensures ran { HasRun P.gives (outline book) book.past result.book.past result.how }
     ensures orders { HasDoneBy (P.did hand.old) (orders (outline book) 0 book.past) (P.did hand.new)
         (orders (outline book) 0 result.book.past) result.how }
+    ensures bound { length result.book.past ≤ length book.past + entry_bound book.plan }
 {
     let mut book = book;
+    let _before = book.state();
     let how = run_session(alloc, &mut book, hand);
+    let _after = book.state();
+    runs_are_bounded();
     RunEnd { book, how }
 }

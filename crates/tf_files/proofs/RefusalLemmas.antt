@@ -14,7 +14,6 @@ use Rattle.tf_files.specs.Written.{as_written, WrittenPlan}
 
 -- the reason why nothing is spelled comes first
 pub reads_first : (spelled : Result WrittenPlan FileFault) (e : FileFault) → Refuses spelled e → IsFirstReason spelled e
-reads_first spelled fault.NotBuilt is = unspelled fault.NotBuilt is
 reads_first spelled fault.NotToml is = unspelled fault.NotToml is
 reads_first spelled (fault.UnknownKey path) is = unspelled (fault.UnknownKey path) is
 reads_first spelled (fault.MissingKey path) is = unspelled (fault.MissingKey path) is

@@ -15,9 +15,9 @@ use tf_flow::{Binds, Flow, Plan, PlanFault};
 use toml::Table;
 
 /// The plan that the bytes of a flow file spell with the values that are set beside its store, or the
-/// first reason why they give none: `NotToml` where they are no TOML document, `NotBuilt` where
-/// something stands there that is of no use yet, `Plan` where the flow passes a limit or breaks a rule,
-/// and else what can't stand at a path of the document. `Memory` says nothing of the file.
+/// first reason why they give none: `NotToml` where they are no TOML document, `Plan` where the flow
+/// passes a limit or breaks a rule, and else what can't stand at a path of the document. `Memory` says
+/// nothing of the file.
 pub fn read_flow(alloc: Global, bytes: &[u8], sets: Binds, defer: bool) -> Result<Plan, FileFault>
     ensures ok { IfOk result (λ plan. flow_of bytes.now sets defer ≡ Ok (plan_as_written (plan_tree plan))) }
     ensures unbroken { IfOk result (λ plan. (reason : BrokenRule) → ¬ (IsBroken (plan_as_written (plan_tree plan)) reason)) }

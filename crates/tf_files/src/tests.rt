@@ -4,7 +4,7 @@ use std::test::Fail;
 use tf_flow::{
     Bind, Binds, Depth, Item, Limit, Plan, PlanFault, Retry, RetryKind, TaskKind, Test, Undo,
 };
-use tf_values::{Name, Val};
+use tf_values::{Name, Texts, Val};
 
 /// The plan that a file spells with nothing set.
 fn plan_of(alloc: Global, file: &str) -> Result<Plan, FileFault> {
@@ -14,7 +14,6 @@ fn plan_of(alloc: Global, file: &str) -> Result<Plan, FileFault> {
 /// What a fault says, with its path.
 fn told(fault: &FileFault) -> (&'static str, &[u8]) {
     match fault {
-        FileFault::NotBuilt => ("not built", b"".as_slice()),
         FileFault::NotToml => ("not toml", b"".as_slice()),
         FileFault::UnknownKey(path) => ("unknown key", path.bytes()),
         FileFault::MissingKey(path) => ("missing key", path.bytes()),
@@ -29,7 +28,7 @@ fn told(fault: &FileFault) -> (&'static str, &[u8]) {
 }
 
 /// A document that is refused, the reason, and where it stands.
-const REFUSALS: [(&str, &str, &str); 28] = [
+const REFUSALS: [(&str, &str, &str); 34] = [
     ("name = 'x'\nname = 'y'\n", "not toml", ""),
     (
         "name = 'main'\nkind = 'linear'\n'a b' = 1\n",
@@ -161,6 +160,36 @@ const REFUSALS: [(&str, &str, &str); 28] = [
         "bad choice",
         "links.0.depth",
     ),
+    (
+        "name = 'main'\nkind = 'linear'\nitems = [{ task = 'a', kind = 'command', priority = 'x', run = 1 }]\n",
+        "wrong kind",
+        "items.0.priority",
+    ),
+    (
+        "name = 'main'\nkind = 'linear'\nitems = [{ task = 'a', kind = 'echo', run = ['x', 1], revert = 1 }]\n",
+        "wrong kind",
+        "items.0.run.1",
+    ),
+    (
+        "name = 'main'\nkind = 'linear'\nitems = [{ task = 'a', kind = 'echo', revert = [1] }]\n",
+        "wrong kind",
+        "items.0.revert.0",
+    ),
+    (
+        "name = 'main'\nkind = 'linear'\nitems = [{ task = 'a', kind = 'command' }]\n",
+        "plan",
+        "",
+    ),
+    (
+        "name = 'main'\nkind = 'linear'\nitems = [{ task = 'a', kind = 'echo', run = ['x'] }]\n",
+        "plan",
+        "",
+    ),
+    (
+        "name = 'main'\nkind = 'linear'\nitems = [{ task = 'a', kind = 'echo', revert = [] }]\n",
+        "plan",
+        "",
+    ),
     ("name = 'main'\nkind = 'linear'\n", "plan", ""),
 ];
 
@@ -177,21 +206,35 @@ fn refuses_at_the_first_reason(rt: HostRuntime) -> Result<(), Fail> {
     Ok(())
 }
 
-/// Documents in which something stands that is of no use yet.
-const UNBUILT: [&str; 3] = [
-    "name = 'main'\nkind = 'linear'\nitems = [{ task = 'a', kind = 'command', priority = 'x' }]\n",
-    "name = 'main'\nkind = 'linear'\nitems = [{ task = 'a', kind = 'echo', run = 1, revert = 1 }]\n",
-    "name = 'main'\nkind = 'linear'\nitems = [{ task = 'a', kind = 'echo', revert = [1] }]\n",
-];
+/// A command, undone by another one.
+const COMMAND: &str = "
+name = 'main'
+kind = 'linear'
+items = [{ task = 'a', kind = 'command', run = ['cp', ''], revert = ['rm', '-f', 'x y'] }]
+";
+
+/// Whether these are the words.
+fn are_words(texts: &Texts, words: &[&str]) -> bool {
+    let texts = texts.items();
+    texts.len() == words.len()
+        && texts
+            .iter()
+            .zip(words.iter())
+            .all(|(text, word)| text.bytes() == word.as_bytes())
+}
 
 #[test]
-fn refuses_what_is_of_no_use_yet(rt: HostRuntime) -> Result<(), Fail> {
-    for file in &UNBUILT {
-        assert!(rt;
-            matches!(plan_of(rt.alloc(), file), Err(FileFault::NotBuilt)),
-            "{file}"
-        );
-    }
+fn reads_commands_and_what_undoes_them(rt: HostRuntime) -> Result<(), Fail> {
+    let plan = plan_of(rt.alloc(), COMMAND).ok().ok_or("refused")?;
+    let Some(Item::Task(task)) = plan.root().items.items().first() else {
+        return Err(Fail::from("no task was read"));
+    };
+    assert!(rt; task.kind == TaskKind::Command);
+    assert!(rt; are_words(&task.words, &["cp", ""]));
+    let Undo::Run(words) = &task.undo else {
+        return Err(Fail::from("no command was read that undoes"));
+    };
+    assert!(rt; are_words(words, &["rm", "-f", "x y"]));
     Ok(())
 }
 

@@ -1,11 +1,11 @@
 -- How what a crash may leave goes on through the calls of a desk.
-use Rattle.std.proofs.Common.{◌≡◌, inl, ⊎_elim, ℕ, ◌+◌, ◌≤◌, List, [], ◌∷◌, ◌++◌, take, drop, Option, Some, None, Result, Ok, Err, OnOk, OnErr, refl, sym, ◌∙◌, ap, subst, arith}
+use Rattle.std.proofs.Common.{◌≡◌, inl, inr, ⊎_elim, ℕ, ◌+◌, ◌≤◌, List, [], ◌∷◌, ◌++◌, take, drop, Option, Some, None, Result, Ok, Err, OnOk, OnErr, refl, sym, ◌∙◌, ap, subst, arith}
 use Rattle.std.proofs.lemmas.List.{take_all, append-nil, append_assoc}
 use Rattle.std.specs.Prelude.{unwrap_or}
 use Rattle.std.specs.Option.{option_and_then}
 use Rattle.tf_desk.specs.Content.{Mark, at_sync, Content, bytes_of, Torn, Syncs, Stands}
 use Rattle.tf_desk.specs.Crash.{Images, Crashes, IsLeft, IsLeftNow, IsDurable, LeavesNoMore, LeavesTorn, Passes, passes_none, passes_on}
-use Rattle.tf_journal.specs.Rest.{GoesUnchanged, Rests, nothing_left, LiesAs, IsAtRest}
+use Rattle.tf_journal.specs.Rest.{GoesUnchanged, Rests, nothing_left, LiesAs, IsAtRest, HasSynced, IsSynced}
 use Rattle.tf_journal.specs.Format.{title_of}
 use Rattle.tf_journal.specs.Held.{Held}
 use Rattle.tf_journal.specs.Gates.{LeavesTornAt}
@@ -105,4 +105,28 @@ pub at_rest_on : {K : Type 0} (content : K → Content) (left : K → Images) (j
 at_rest_on content left journal desk held rest goes no_more = record {
   lies = subst (LiesAs (title_of journal.title) held journal.size) (sym (goes_bytes (content journal.desk) (content desk) goes)) rest.lies;
   durable = durable_on (content journal.desk) (content desk) (left journal.desk) (left desk) rest.durable goes no_more;
+}
+
+-- a sync that answers Ok
+pub synced_here : (old new : Content) (left : Images) (shown shown_new : Option (List ℕ)) (was is : Crashes) (during : List ℕ → List ℕ → Type 0) → Syncs old new → IsDurable new left → shown_new ≡ shown
+    → Passes old.clock new.clock was is during → ((image text : List ℕ) → is new.clock image text → IsLeftNow new left shown_new image text)
+    → HasSynced old new is shown
+synced_here old new left shown shown_new was is during syncs durable same passes only = record {
+  moment = new.clock;
+  others = [];
+  marks = syncs.marks;
+  not_before = passes.later;
+  within = omega arith;
+  since = λ image text left_now. (let now = only image text left_now in (durable image now.0 ∙ goes_bytes old new (syncs_goes old new syncs), sym same ∙ now.1));
+}
+
+-- what a sync left stays so while nothing changes
+pub synced_on : (old mid new : Content) (left_mid left_new : Images) (shown : Option (List ℕ)) (was is : Crashes) → HasSynced old mid was shown → Rests mid new left_mid left_new was is → HasSynced old new is shown
+synced_on old mid new left_mid left_new shown was is synced rests = record {
+  moment = synced.moment;
+  others = synced.others ++ rests.content.marks.0;
+  marks = rests.content.marks.1 ∙ ap (λ (m : List Mark). m ++ rests.content.marks.0) synced.marks ∙ append_assoc old.marks (at_sync synced.moment ∷ synced.others) rests.content.marks.0;
+  not_before = synced.not_before;
+  within = omega (arith, synced.within, rests.crash.later);
+  since = λ image text left_now. ⊎_elim (λ earlier. synced.since image text earlier) (λ none. absurd none) (rests.crash.since synced.moment image text synced.within left_now);
 }

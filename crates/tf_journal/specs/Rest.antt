@@ -1,7 +1,7 @@
 -- When a journal's file is at rest: its bodies and a gate that isn't open stand in it, all on the disk.
 use Rattle.std.specs.Prelude.{◌≡◌, ◌≢◌, ◌⊎◌, ℕ, ◌+◌, ◌≤◌, Bool, false, IsTrue, List, [], ◌∷◌, ◌++◌, length, take, Option, Some, Result, Ok, Err, slice_index}
-use Rattle.tf_desk.specs.Content.{Mark, Content, bytes_of}
-use Rattle.tf_desk.specs.Crash.{Images, Crashes, IsDurable, LeavesNoMore, Passes}
+use Rattle.tf_desk.specs.Content.{Mark, at_sync, Content, bytes_of}
+use Rattle.tf_desk.specs.Crash.{Images, Crashes, IsLeft, IsDurable, LeavesNoMore, Passes}
 use Rattle.tf_journal.specs.Format.{OPEN, BODY_LIMIT, SIZE_LIMIT, front_of, bodies, unborn, recovered, title_of}
 use Rattle.tf_journal.specs.Held.{Held}
 
@@ -65,6 +65,19 @@ pub record Rests (old new : Content) (left_old left_new : Images) (was is : Cras
   pub leaves : LeavesNoMore left_old left_new
   pub crash : Passes old.clock new.clock was is nothing_left
 
+-- a first sync answered Ok in a call: since then a crash leaves what a read gave before the call, and shows nothing more
+pub record HasSynced (old new : Content) (crashes : Crashes) (shown : Option (List ℕ)) : Type 0 where
+  pub moment : ℕ
+  pub others : List Mark
+  pub marks : new.marks ≡ old.marks ++ at_sync moment ∷ others
+  pub not_before : old.clock ≤ moment
+  pub within : moment ≤ new.clock
+  pub since : (image text : List ℕ) → crashes moment image text → (image ≡ bytes_of old) × (shown ≡ Some text)
+
+-- a call in which no pick and no sync answered Ok, or a sync did
+abbrev pub IsSynced : Content → Content → Crashes → Option (List ℕ) → Type 0
+IsSynced old new crashes shown = (new.marks ≡ old.marks) ⊎ HasSynced old new crashes shown
+
 -- a crash inside a creation: the file is unborn, or a journal without a record; the shown text stays
 abbrev pub LeavesBirth : List ℕ → Option (List ℕ) → List ℕ → List ℕ → Type 0
 LeavesBirth title shown image text = ((recovered title image ≡ unborn) ⊎ (recovered title image ≡ bodies [])) × (shown ≡ Some text)
@@ -72,3 +85,11 @@ LeavesBirth title shown image text = ((recovered title image ≡ unborn) ⊎ (re
 -- a crash inside an append: the bodies from before, with the new one or without; the shown text stays
 abbrev pub LeavesBeforeOrAfter : List ℕ → List (List ℕ) → List ℕ → Option (List ℕ) → List ℕ → List ℕ → Type 0
 LeavesBeforeOrAfter title held new shown image text = ((recovered title image ≡ bodies held) ⊎ (recovered title image ≡ bodies (held ++ new ∷ []))) × (shown ≡ Some text)
+
+-- recovery finds these bodies in each image that a crash now may leave of the picked file
+abbrev pub LeavesBodies : List ℕ → Content → Images → List (List ℕ) → Type 0
+LeavesBodies title content left held = (image : List ℕ) → IsLeft content.picked left image → recovered title image ≡ bodies held
+
+-- it finds these bodies or those
+abbrev pub LeavesEither : List ℕ → Content → Images → List (List ℕ) → List (List ℕ) → Type 0
+LeavesEither title content left held others = (image : List ℕ) → IsLeft content.picked left image → (recovered title image ≡ bodies held) ⊎ (recovered title image ≡ bodies others)

@@ -1,10 +1,10 @@
-ghost use Rattle.std.specs.Prelude.{◌≡◌, ◌≤◌, ◌<◌, ◌+◌, ◌++◌, ◌∷◌, [], ◌↔◌, ◌⊎◌, ℕ, List, Option, None, Some, true, false, IsTrue, length, vec_capacity, OnOk, IfOk, IfErr, IsErrOf, MatchResult};
+ghost use Rattle.std.specs.Prelude.{◌≡◌, ◌≢◌, ◌≤◌, ◌<◌, ◌+◌, ◌++◌, ◌∷◌, [], ◌↔◌, ◌⊎◌, ℕ, List, Option, None, Some, true, false, IsTrue, length, vec_capacity, OnOk, IfOk, IfErr, IsErrOf, MatchResult};
 ghost use Rattle.tf_desk.specs.Content.{bytes_of};
 ghost use Rattle.tf_desk.specs.Counts.{Rises};
 ghost use Rattle.tf_desk.specs.Crash.{IsDurable, Passes};
 ghost use Rattle.tf_journal.specs.Answers.{RefusesFile, RefusesRecord, GivesRecord};
 ghost use Rattle.tf_journal.specs.Format.{length_bytes, is_unborn, journal_bytes, bodies, recovered, record_at, title_of};
-ghost use Rattle.tf_journal.specs.Rest.{IsBody, IsAtRest, IsOpen, IsReady, GoesOn, Rests, LeavesBirth, LeavesBeforeOrAfter, desk_after};
+ghost use Rattle.tf_journal.specs.Rest.{IsBody, IsAtRest, IsOpen, IsReady, GoesOn, Rests, HasSynced, IsSynced, LeavesBirth, LeavesEither, LeavesBeforeOrAfter, desk_after};
 
 use crate::birth::bear;
 use crate::faults::{AppendFault, JournalFault};
@@ -105,7 +105,9 @@ impl<K: Desk> Journal<K> {
     }
 
     /// Reads the picked file as a journal of that title. `Unborn` and `NotABook` come exactly where recovery
-    /// says so of the whole file, `Disk` only where the count of disk faults rose. No file changes.
+    /// says so of the whole file, `Disk` only where the count of disk faults rose. No file changes. The file is
+    /// synced first: unless the answer is `Disk`, there is a moment in it since which a crash leaves just what a
+    /// read gives.
     pub fn load(alloc: Global, mut desk: K, title: Title) -> Result<Journal<K>, (K, JournalFault)>
         ensures made { IfOk result (λ journal. (journal.title ≡ title) × (journal.halted ≡ false)
             × (journal.volatile ≡ false)) }
@@ -117,6 +119,10 @@ impl<K: Desk> Journal<K> {
         ensures rests { IsTrue (K.tells desk)
             → Rests (K.content desk) (K.content (desk_after result)) (K.left desk) (K.left (desk_after result))
             (K.crashes desk) (K.crashes (desk_after result)) }
+        ensures synced { IsTrue (K.tells desk) → IsSynced (K.content desk) (K.content (desk_after result))
+            (K.crashes (desk_after result)) (K.shown desk) }
+        ensures at_sync { IsTrue (K.tells desk) → IfErr result (λ back. back.1 ≢ JournalFault.Disk)
+            → HasSynced (K.content desk) (K.content (desk_after result)) (K.crashes (desk_after result)) (K.shown desk) }
         ensures cause { IfErr result (λ back. back.1 ≡ JournalFault.Disk
             → Rises (K.disk_faults desk) (K.disk_faults back.0)) }
         ensures no_fall { K.disk_faults desk ≤ K.disk_faults (desk_after result) }
@@ -124,18 +130,18 @@ impl<K: Desk> Journal<K> {
             × (K.asks (desk_after result) ≡ K.asks desk) × (K.turns (desk_after result) ≡ K.turns desk) }
         ensures quiet { (K.tells (desk_after result) ≡ K.tells desk) × (K.shown (desk_after result) ≡ K.shown desk) }
     {
-        let Ok(buffer) = Vec::with_capacity(alloc, TAIL_LIMIT) else {
-            return Err((desk, JournalFault::Memory));
-        };
         match scan(&mut desk, title) {
-            Ok(size) => Ok(Journal {
-                desk,
-                title,
-                size,
-                halted: false,
-                volatile: false,
-                buffer,
-            }),
+            Ok(size) => match Vec::with_capacity(alloc, TAIL_LIMIT) {
+                Ok(buffer) => Ok(Journal {
+                    desk,
+                    title,
+                    size,
+                    halted: false,
+                    volatile: false,
+                    buffer,
+                }),
+                Err(_) => Err((desk, JournalFault::Memory)),
+            },
             Err(fault) => Err((desk, fault)),
         }
     }
@@ -176,6 +182,10 @@ impl<K: Desk> Journal<K> {
             → IsAtRest K.content K.left self.old held
             → recovered (title_of self.old.title) (bytes_of (K.content self.new.desk)) ≡ bodies
             (held ++ body.now ∷ [])) }
+        ensures exact { OnOk result (IsOpen K.tells self.old → (held : List (List ℕ))
+            → IsAtRest K.content K.left self.old held
+            → bytes_of (K.content self.old.desk) ≡ journal_bytes (title_of self.old.title) held
+            → bytes_of (K.content self.new.desk) ≡ journal_bytes (title_of self.old.title) (held ++ body.now ∷ [])) }
         ensures lasts { OnOk result (IsOpen K.tells self.old → (held : List (List ℕ))
             → IsAtRest K.content K.left self.old held
             → (image text : List ℕ) → K.crashes self.new.desk (K.content self.new.desk).clock image text
@@ -185,6 +195,10 @@ impl<K: Desk> Journal<K> {
             → Passes (K.content self.old.desk).clock (K.content self.new.desk).clock (K.crashes self.old.desk)
             (K.crashes self.new.desk)
             (LeavesBeforeOrAfter (title_of self.old.title) held body.now (K.shown self.old.desk)) }
+        ensures leaves { IsOpen K.tells self.old → (held : List (List ℕ))
+            → IsAtRest K.content K.left self.old held
+            → LeavesEither (title_of self.old.title) (K.content self.new.desk) (K.left self.new.desk) held
+            (held ++ body.now ∷ []) }
         ensures full { (result ≡ Err (AppendFault.Full self.old.size (5 + length body.now)))
             ↔ ((self.old.halted ≡ false) × (67108864 < self.old.size + 5 + length body.now)) }
         ensures full_numbers { (size need : ℕ) → result ≡ Err (AppendFault.Full size need) → (size ≡ self.old.size)

@@ -1,12 +1,12 @@
 //! What a journal's file is, read a few bytes at a time.
-ghost use Rattle.std.specs.Prelude.{◌≡◌, ◌<◌, ◌+◌, ◌*◌, ◌≤◌, List, ℕ, IsTrue, length, take, drop, IfOk, OnOk, OnErr, IsErrOf, MatchResult};
+ghost use Rattle.std.specs.Prelude.{◌≡◌, ◌≢◌, ◌<◌, ◌+◌, ◌*◌, ◌≤◌, List, ℕ, IsTrue, length, take, drop, IfOk, OnOk, OnErr, IsErrOf, MatchResult, Err};
 ghost use Rattle.tf_desk.specs.Content.{bytes_of};
 ghost use Rattle.tf_desk.specs.Counts.{Rises};
 ghost use Rattle.tf_desk.specs.Crash.{IsDurable};
 ghost use Rattle.tf_journal.specs.Answers.{RefusesFile};
 ghost use Rattle.tf_journal.specs.Format.{bodies, records_from, recovered, title_of};
 ghost use Rattle.tf_journal.specs.Reach.{IsNear, Shows, EndsRecords};
-ghost use Rattle.tf_journal.specs.Rest.{LiesAs, Rests};
+ghost use Rattle.tf_journal.specs.Rest.{LiesAs, Rests, HasSynced, IsSynced};
 
 use crate::faults::JournalFault;
 use crate::gates::OPEN;
@@ -127,6 +127,10 @@ pub fn read_start<K: Desk>(desk: &mut K, head: &mut [u8; 18]) -> Result<(u64, us
     ensures rests { IsTrue (K.tells desk.old)
         → Rests (K.content desk.old) (K.content desk.new) (K.left desk.old) (K.left desk.new) (K.crashes desk.old)
         (K.crashes desk.new) }
+    ensures synced { IsTrue (K.tells desk.old)
+        → IsSynced (K.content desk.old) (K.content desk.new) (K.crashes desk.new) (K.shown desk.old) }
+    ensures at_sync { OnOk result (IsTrue (K.tells desk.old)
+        → HasSynced (K.content desk.old) (K.content desk.new) (K.crashes desk.new) (K.shown desk.old)) }
     ensures cause { OnErr result (Rises (K.disk_faults desk.old) (K.disk_faults desk.new)) }
     ensures no_fall { K.disk_faults desk.old ≤ K.disk_faults desk.new }
     ensures others { (K.out_faults desk.new ≡ K.out_faults desk.old) × (K.asks desk.new ≡ K.asks desk.old)
@@ -153,6 +157,10 @@ pub fn scan<K: Desk>(desk: &mut K, title: Title) -> Result<u64, JournalFault>
     ensures rests { IsTrue (K.tells desk.old)
         → Rests (K.content desk.old) (K.content desk.new) (K.left desk.old) (K.left desk.new) (K.crashes desk.old)
         (K.crashes desk.new) }
+    ensures synced { IsTrue (K.tells desk.old)
+        → IsSynced (K.content desk.old) (K.content desk.new) (K.crashes desk.new) (K.shown desk.old) }
+    ensures at_sync { IsTrue (K.tells desk.old) → result ≢ Err JournalFault.Disk
+        → HasSynced (K.content desk.old) (K.content desk.new) (K.crashes desk.new) (K.shown desk.old) }
     ensures cause { IsErrOf result JournalFault.Disk → Rises (K.disk_faults desk.old) (K.disk_faults desk.new) }
     ensures no_fall { K.disk_faults desk.old ≤ K.disk_faults desk.new }
     ensures others { (K.out_faults desk.new ≡ K.out_faults desk.old) × (K.asks desk.new ≡ K.asks desk.old)

@@ -11,8 +11,9 @@ mod tables;
 #[cfg(test)]
 mod tests;
 
-pub use appending::{append, append_counted, append_number, append_pair};
+pub use appending::{append, append_counted, append_named, append_number, append_pair};
 pub use lines::line;
 pub use names::flow_name;
 pub use reports::report;
+pub use state_words::flow_word;
 pub use tables::table;

@@ -1,4 +1,4 @@
-ghost use Rattle.std.specs.Prelude.{◌≡◌, ◌⊎◌, ℕ, List, None, Some, OnOk, OnErr, IfOk, IfErr, IsErrOf};
+ghost use Rattle.std.specs.Prelude.{◌≡◌, ◌⊎◌, ℕ, List, [], None, Some, OnOk, OnErr, IfOk, IfErr, IsErrOf};
 ghost use Rattle.tf_report.specs.Report.{report as report_of};
 ghost use Rattle.tf_book.specs.Book.{BookValue, outline, moment};
 ghost use Rattle.tf_book.specs.Closed.{Closed};
@@ -20,8 +20,8 @@ impl<K: Desk> Book<K> {
     fn say_closing(&mut self, closing: &[u8]) -> Result<(), Halt>
         requires sound { self.old.halt ≡ None }
         ensures closes { (start : BookValue K)
-            → Kept K.tells K.shown K.content K.crashes K.disk_faults K.out_faults start self.old
-            → Closed K.tells K.shown K.content K.crashes K.disk_faults K.out_faults start self.new closing.now }
+            → Kept K.tells K.shown K.content K.left K.crashes K.disk_faults K.out_faults start self.old
+            → Closed K.tells K.shown K.content K.left K.crashes K.disk_faults K.out_faults start self.new closing.now }
         ensures same { self.new ≡ record self.old {
           journal = record self.old.journal { desk = self.new.journal.desk };
           halt = halt_after result;
@@ -41,8 +41,8 @@ impl<K: Desk> Book<K> {
     fn leave_unsaid(&mut self)
         requires sound { self.old.halt ≡ None }
         ensures closes { (start : BookValue K) (closing : List ℕ)
-            → Kept K.tells K.shown K.content K.crashes K.disk_faults K.out_faults start self.old
-            → Closed K.tells K.shown K.content K.crashes K.disk_faults K.out_faults start self.new closing }
+            → Kept K.tells K.shown K.content K.left K.crashes K.disk_faults K.out_faults start self.old
+            → Closed K.tells K.shown K.content K.left K.crashes K.disk_faults K.out_faults start self.new closing }
         ensures same { self.new ≡ record self.old { halt = Some Halt.Memory } }
     {
         self.halt = Some(Halt::Memory);
@@ -63,20 +63,23 @@ impl<K: Desk> Book<K> {
         Ok(text)
     }
 
-    /// Says the report, if it can be made and said.
-    fn say_report(&mut self) -> Result<(), Halt>
+    /// Says what closes a run, if it could be made.
+    pub(super) fn say_made(&mut self, made: Result<Vec<u8>, Memory>) -> Result<(), Halt>
         requires sound { self.old.halt ≡ None }
-        ensures closes { (start : BookValue K)
-            → Kept K.tells K.shown K.content K.crashes K.disk_faults K.out_faults start self.old
-            → Closed K.tells K.shown K.content K.crashes K.disk_faults K.out_faults start self.new
-            (report_of (outline self.old) (moment self.old)) }
+        ensures closes { (start : BookValue K) (closing : List ℕ)
+            → Kept K.tells K.shown K.content K.left K.crashes K.disk_faults K.out_faults start self.old
+            → IfOk made (λ text. text.items ≡ closing)
+            → Closed K.tells K.shown K.content K.left K.crashes K.disk_faults K.out_faults start self.new closing }
         ensures same { self.new ≡ record self.old {
           journal = record self.old.journal { desk = self.new.journal.desk };
           halt = halt_after result;
         } }
         ensures faults { IfErr result (λ halt. (halt ≡ Halt.Out) ⊎ (halt ≡ Halt.Memory)) }
+        ensures unsaid { IsErrOf result Halt.Memory → (start : BookValue K)
+            → Kept K.tells K.shown K.content K.left K.crashes K.disk_faults K.out_faults start self.old
+            → Closed K.tells K.shown K.content K.left K.crashes K.disk_faults K.out_faults start self.new [] }
     {
-        let Ok(text) = self.report_text() else {
+        let Ok(text) = made else {
             self.leave_unsaid();
             return Err(Halt::Memory);
         };
@@ -87,8 +90,8 @@ impl<K: Desk> Book<K> {
     /// a full journal; where it is halted for want of memory, nothing was said.
     pub fn report(&mut self) -> Result<(), BookFault>
         ensures closes { (start : BookValue K)
-            → Kept K.tells K.shown K.content K.crashes K.disk_faults K.out_faults start self.old → self.old.halt ≡ None
-            → Closed K.tells K.shown K.content K.crashes K.disk_faults K.out_faults start self.new
+            → Kept K.tells K.shown K.content K.left K.crashes K.disk_faults K.out_faults start self.old → self.old.halt ≡ None
+            → Closed K.tells K.shown K.content K.left K.crashes K.disk_faults K.out_faults start self.new
             (report_of (outline self.old) (moment self.old)) }
         ensures same { self.new ≡ record self.old {
           journal = record self.old.journal { desk = self.new.journal.desk };
@@ -99,11 +102,15 @@ impl<K: Desk> Book<K> {
         ensures faults { IfErr result (λ fault. self.old.halt ≡ None
             → (fault ≡ BookFault.Out) ⊎ (fault ≡ BookFault.Memory)) }
         ensures halted { (cause : Cause) → self.old.halt ≡ Some cause → self.new ≡ self.old }
+        ensures unsaid { IsErrOf result BookFault.Memory → (start : BookValue K)
+            → Kept K.tells K.shown K.content K.left K.crashes K.disk_faults K.out_faults start self.old → self.old.halt ≡ None
+            → Closed K.tells K.shown K.content K.left K.crashes K.disk_faults K.out_faults start self.new [] }
     {
         if let Some(cause) = self.halt {
             return Err(BookFault::Halted(cause));
         }
-        match self.say_report() {
+        let made = self.report_text();
+        match self.say_made(made) {
             Ok(()) => Ok(()),
             Err(halt) => Err(BookFault::from(halt)),
         }

@@ -24,8 +24,8 @@ impl<K: Desk> Book<K> {
         requires hand { hand < 64 }
         requires allowed { may_turn (state_of self.old) state ≡ true }
         ensures keeps { (start : BookValue K)
-            → Kept K.tells K.shown K.content K.crashes K.disk_faults K.out_faults start self.old
-            → Kept K.tells K.shown K.content K.crashes K.disk_faults K.out_faults start self.new }
+            → Kept K.tells K.shown K.content K.left K.crashes K.disk_faults K.out_faults start self.old
+            → Kept K.tells K.shown K.content K.left K.crashes K.disk_faults K.out_faults start self.new }
         ensures same { self.new ≡ record self.old {
           past = past_after (by_hand hand (flow_turns state)) self.old.past result;
           journal = self.new.journal;
@@ -45,8 +45,8 @@ impl<K: Desk> Book<K> {
         requires from { may_turn (state_of self.old) flow.Running ≡ true }
         ensures plan { self.new.plan ≡ self.old.plan }
         ensures keeps { (start : BookValue K)
-            → Kept K.tells K.shown K.content K.crashes K.disk_faults K.out_faults start self.old
-            → Kept K.tells K.shown K.content K.crashes K.disk_faults K.out_faults start self.new }
+            → Kept K.tells K.shown K.content K.left K.crashes K.disk_faults K.out_faults start self.old
+            → Kept K.tells K.shown K.content K.left K.crashes K.disk_faults K.out_faults start self.new }
         ensures entered { OnOk result (IsEntered hand self.old.past self.new.past Entered.Running) }
         ensures cut { OnErr result (IsEntering hand self.old.past self.new.past) }
         ensures halt { self.new.halt ≡ halt_after result }
@@ -61,8 +61,8 @@ impl<K: Desk> Book<K> {
         requires from { state_of self.old ≡ flow.Resuming }
         ensures plan { self.new.plan ≡ self.old.plan }
         ensures keeps { (start : BookValue K)
-            → Kept K.tells K.shown K.content K.crashes K.disk_faults K.out_faults start self.old
-            → Kept K.tells K.shown K.content K.crashes K.disk_faults K.out_faults start self.new }
+            → Kept K.tells K.shown K.content K.left K.crashes K.disk_faults K.out_faults start self.old
+            → Kept K.tells K.shown K.content K.left K.crashes K.disk_faults K.out_faults start self.new }
         ensures entered { OnOk result (IsEntered hand self.old.past self.new.past Entered.Running) }
         ensures cut { OnErr result (IsEntering hand self.old.past self.new.past) }
         ensures halt { self.new.halt ≡ halt_after result }
@@ -78,8 +78,8 @@ impl<K: Desk> Book<K> {
         requires from { may_turn (state_of self.old) flow.Resuming ≡ true }
         ensures plan { self.new.plan ≡ self.old.plan }
         ensures keeps { (start : BookValue K)
-            → Kept K.tells K.shown K.content K.crashes K.disk_faults K.out_faults start self.old
-            → Kept K.tells K.shown K.content K.crashes K.disk_faults K.out_faults start self.new }
+            → Kept K.tells K.shown K.content K.left K.crashes K.disk_faults K.out_faults start self.old
+            → Kept K.tells K.shown K.content K.left K.crashes K.disk_faults K.out_faults start self.new }
         ensures entered { OnOk result (IsEntered hand self.old.past self.new.past Entered.Running) }
         ensures cut { OnErr result (IsEntering hand self.old.past self.new.past) }
         ensures halt { self.new.halt ≡ halt_after result }
@@ -95,8 +95,8 @@ impl<K: Desk> Book<K> {
         requires hand { hand < 64 }
         ensures plan { self.new.plan ≡ self.old.plan }
         ensures keeps { (start : BookValue K)
-            → Kept K.tells K.shown K.content K.crashes K.disk_faults K.out_faults start self.old
-            → Kept K.tells K.shown K.content K.crashes K.disk_faults K.out_faults start self.new }
+            → Kept K.tells K.shown K.content K.left K.crashes K.disk_faults K.out_faults start self.old
+            → Kept K.tells K.shown K.content K.left K.crashes K.disk_faults K.out_faults start self.new }
         ensures entered { IfOk result (IsEntered hand self.old.past self.new.past) }
         ensures cut { OnErr result (IsEntering hand self.old.past self.new.past) }
         ensures sound { OnOk result (self.new.halt ≡ None) }
@@ -128,8 +128,8 @@ impl<K: Desk> Book<K> {
         requires { hand < 64 }
         ensures plan { self.new.plan ≡ self.old.plan }
         ensures keeps { (start : BookValue K)
-            → Kept K.tells K.shown K.content K.crashes K.disk_faults K.out_faults start self.old
-            → Kept K.tells K.shown K.content K.crashes K.disk_faults K.out_faults start self.new }
+            → Kept K.tells K.shown K.content K.left K.crashes K.disk_faults K.out_faults start self.old
+            → Kept K.tells K.shown K.content K.left K.crashes K.disk_faults K.out_faults start self.new }
         ensures entered { IfOk result (IsEntered hand self.old.past self.new.past) }
         ensures cut { OnErr result (IsEntering hand self.old.past self.new.past) }
         ensures sound { OnOk result (self.new.halt ≡ None) }

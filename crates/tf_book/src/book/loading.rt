@@ -1,8 +1,8 @@
-ghost use Rattle.std.specs.Prelude.{◌≡◌, ◌≤◌, ℕ, List, [], None, false, IsTrue, IfOk, IfErr};
+ghost use Rattle.std.specs.Prelude.{◌≡◌, ◌≢◌, ◌≤◌, ℕ, List, [], None, false, IsTrue, IfOk, IfErr};
 ghost use Rattle.tf_desk.specs.Content.{bytes_of};
 ghost use Rattle.tf_desk.specs.Counts.{Rises};
 ghost use Rattle.tf_journal.specs.Format.{title_of, recovered};
-ghost use Rattle.tf_journal.specs.Rest.{IsAtRest, Rests};
+ghost use Rattle.tf_journal.specs.Rest.{IsAtRest, Rests, HasSynced, IsSynced};
 ghost use Rattle.tf_journal.specs.declared.title.Title.TheVariants.{Book as book_title};
 ghost use Rattle.tf_book.specs.Loading.{RefusesBodies, RefusesBook};
 ghost use Rattle.tf_book.specs.Loaded.{desk_loaded, IsMade, IsLoadedFrom, IsLoaded};
@@ -51,13 +51,16 @@ impl<K: Desk> Book<K> {
         if journal.size() == 18 {
             return Ok(Loaded::NoFlow(journal));
         }
+        let Ok(draft) = Draft::make(alloc) else {
+            return Err((journal.into_desk(), LoadFault::Memory));
+        };
         match read_back(alloc, &mut journal) {
             Ok(back) => Ok(Loaded::Book(Book {
                 alloc,
                 journal,
                 machine: back.machine,
                 history: back.history,
-                draft: Draft::new(alloc),
+                draft,
                 quiet: false,
                 halt: None,
             })),
@@ -68,7 +71,9 @@ impl<K: Desk> Book<K> {
     /// Reads the picked file as a book, body by body. `NotABook` comes only where the file is no journal of a
     /// book, or where one of its bodies can't come: the first is no plan that can run, or a later one is no entry
     /// that may follow; the offset and the byte are those of the body's first byte. `Disk` comes only where the
-    /// count of disk faults rose. No file changes.
+    /// count of disk faults rose. No file changes. The file is synced first: unless the answer is `Disk`, there is a
+    /// moment in it since which a crash leaves just what a read gives.
+    #[tactic(auto, using(tf_journal::proofs::CrashLemmas::synced_on))]
     pub fn load(alloc: Global, desk: K) -> Result<Loaded<K>, (K, LoadFault)>
         ensures made { IfOk result (IsMade K.tells K.content K.left) }
         ensures loads { IfOk result (λ loaded. IsTrue (K.tells desk)
@@ -80,6 +85,10 @@ impl<K: Desk> Book<K> {
         ensures rests { IsTrue (K.tells desk)
             → Rests (K.content desk) (K.content (desk_loaded result)) (K.left desk) (K.left (desk_loaded result))
             (K.crashes desk) (K.crashes (desk_loaded result)) }
+        ensures synced { IsTrue (K.tells desk) → IsSynced (K.content desk) (K.content (desk_loaded result))
+            (K.crashes (desk_loaded result)) (K.shown desk) }
+        ensures at_sync { IsTrue (K.tells desk) → IfErr result (λ back. back.1 ≢ LoadFault.Disk)
+            → HasSynced (K.content desk) (K.content (desk_loaded result)) (K.crashes (desk_loaded result)) (K.shown desk) }
         ensures no_fall { K.disk_faults desk ≤ K.disk_faults (desk_loaded result) }
         ensures others { (K.out_faults (desk_loaded result) ≡ K.out_faults desk)
             × (K.asks (desk_loaded result) ≡ K.asks desk) × (K.turns (desk_loaded result) ≡ K.turns desk) }

@@ -1,4 +1,4 @@
-ghost use Rattle.std.specs.Prelude.{◌≡◌, None, Some, true, ℕ, IsSome, IfOk, IfSome, option_map, is_some};
+ghost use Rattle.std.specs.Prelude.{◌≡◌, ◌≢◌, None, Some, true, false, ℕ, IsSome, IsTrue, IfOk, IfSome, option_map, is_some};
 ghost use Rattle.tf_states.specs.declared.state.FlowState.TheVariants as flow;
 ghost use Rattle.tf_machine.specs.Answers.{start_entry, action_in, task_of, end_by};
 ghost use Rattle.tf_model.specs.Candidates.{choice, end_of};
@@ -9,7 +9,11 @@ ghost use Rattle.tf_model.specs.Steps.{Step, LegalPast, is_still};
 ghost use Rattle.tf_ports.specs.Whole.{IsWhole};
 ghost use Rattle.tf_bound.specs.Short.{AreShort, IsWithinLimits};
 ghost use Rattle.tf_model.specs.Compilation.{compile_refusal};
-ghost use Rattle.tf_book.specs.Book.{outline, moment, state};
+ghost use Rattle.tf_journal.specs.Format.{title_of};
+ghost use Rattle.tf_journal.specs.Rest.{LeavesBodies};
+ghost use Rattle.tf_journal.specs.declared.title.Title.TheVariants.{Book as book_title};
+ghost use Rattle.tf_book.specs.Book.{outline, moment, state, bodies_of};
+ghost use Rattle.tf_book.specs.declared.faults.Halt.{Halt as Cause};
 
 use super::Book;
 use tf_desk::Desk;
@@ -26,13 +30,19 @@ impl<K: Desk> Book<K> {
         self.machine.flow_state()
     }
 
-    /// The state of the flow. The history is legal, and its plan compiles.
+    /// The state of the flow. The history is legal, and its plan compiles. Unless the book was halted by the disk, a
+    /// crash now leaves just its plan and its history, where the desk tells its content.
     pub fn state(&self) -> FlowState
         ensures is { result ≡ state self.now }
         ensures legal { LegalPast (outline self.now) self.now.past }
         ensures compiles { compile_refusal self.now.plan ≡ None }
         ensures limits { IsWithinLimits (outline self.now) }
         ensures short { AreShort self.now.past }
+        ensures open { self.now.halt ≢ Some Cause.Disk → self.now.journal.halted ≡ false }
+        ensures leaves { IsTrue (K.tells self.now.journal.desk) → self.now.journal.volatile ≡ false
+            → self.now.halt ≢ Some Cause.Disk
+            → LeavesBodies (title_of book_title) (K.content self.now.journal.desk) (K.left self.now.journal.desk)
+            (bodies_of self.now.plan self.now.past) }
     {
         let _plan = self.machine.plan();
         self.flow()

@@ -2,23 +2,37 @@ ghost use Rattle.std.specs.Prelude.{◌≡◌, ◌⊎◌, ◌≤◌, [], None, t
 ghost use Rattle.tf_desk.specs.Content.{bytes_of};
 ghost use Rattle.tf_desk.specs.Counts.{Rises};
 ghost use Rattle.tf_desk.specs.Crash.{Passes};
-ghost use Rattle.tf_journal.specs.Format.{title_of, bodies, recovered};
+ghost use Rattle.tf_journal.specs.Format.{title_of, bodies, journal_bytes, recovered};
 ghost use Rattle.tf_journal.specs.Rest.{IsAtRest, IsOpen, GoesOn};
 ghost use Rattle.tf_journal.specs.declared.title.Title.TheVariants.{Book as book_title};
 ghost use Rattle.tf_machine.specs.Machine.{StandsFor};
 ghost use Rattle.tf_book.specs.Book.{bodies_of, size_of};
+ghost use Rattle.tf_book.specs.History.{past_of, HasAllRoom, HasDraftRoom};
+ghost use Rattle.tf_book.specs.Kept.{IsExact};
 ghost use Rattle.tf_book.specs.Starting.{begun, desk_started, LeavesPlan};
 
 use super::Book;
 use crate::faults::BookFault;
 use crate::history::History;
 use crate::writing::Draft;
-use std::alloc::Global;
+use std::alloc::{AllocError, Global};
 use tf_desk::Desk;
 use tf_entries::encode_plan;
 use tf_flow::Plan;
 use tf_journal::{AppendFault, Journal};
 use tf_machine::Machine;
+
+/// An empty history, and a draft, with room for all that a book may record.
+fn room(alloc: Global) -> Result<(History, Draft), AllocError>
+    ensures none { IfOk result (λ made. past_of made.0.entries.items ≡ []) }
+    ensures bodies { IfOk result (λ made. made.0.bodies.items ≡ []) }
+    ensures room { IfOk result (λ made. HasAllRoom made.0) }
+    ensures draft { IfOk result (λ made. HasDraftRoom made.1) }
+{
+    let history = History::with_room(alloc)?;
+    let draft = Draft::make(alloc)?;
+    Ok((history, draft))
+}
 
 /// Appends a plan's body to a journal without a record.
 fn append_plan<K: Desk>(
@@ -36,6 +50,9 @@ fn append_plan<K: Desk>(
         → IsAtRest K.content K.left journal.new (bodies_of plan.now [])) }
     ensures recovers { OnOk result (IsOpen K.tells journal.old
         → recovered (title_of book_title) (bytes_of (K.content journal.new.desk)) ≡ bodies (bodies_of plan.now [])) }
+    ensures exact { OnOk result (IsOpen K.tells journal.old
+        → bytes_of (K.content journal.old.desk) ≡ journal_bytes (title_of book_title) []
+        → IsExact (K.content journal.new.desk) plan.now []) }
     ensures short { OnOk result (size_of plan.now [] ≤ 67108864) }
     ensures crash { IsOpen K.tells journal.old
         → Passes (K.content journal.old.desk).clock (K.content journal.new.desk).clock (K.crashes journal.old.desk)
@@ -83,6 +100,9 @@ impl<K: Desk> Book<K> {
         ensures made { IfOk result (λ book. book ≡ begun machine.plan journal book.journal.desk quiet) }
         ensures recovers { IfOk result (λ book. IsOpen K.tells journal
             → recovered (title_of book_title) (bytes_of (K.content book.journal.desk)) ≡ bodies (bodies_of machine.plan [])) }
+        ensures exact { IfOk result (λ book. IsOpen K.tells journal
+            → bytes_of (K.content journal.desk) ≡ journal_bytes (title_of book_title) []
+            → IsExact (K.content book.journal.desk) machine.plan []) }
         ensures crash { IsOpen K.tells journal
             → Passes (K.content journal.desk).clock (K.content (desk_started result)).clock (K.crashes journal.desk)
             (K.crashes (desk_started result)) (LeavesPlan machine.plan (K.shown journal.desk)) }
@@ -100,13 +120,16 @@ impl<K: Desk> Book<K> {
         ensures same { (K.tells (desk_started result) ≡ K.tells journal.desk)
             × (K.shown (desk_started result) ≡ K.shown journal.desk) }
     {
-        let mut draft = Draft::new(alloc);
-        match append_plan(&mut journal, machine.plan(), &mut draft.body) {
+        let Ok((history, draft)) = room(alloc) else {
+            return Err((journal.into_desk(), BookFault::Memory));
+        };
+        let mut body = Vec::new(alloc);
+        match append_plan(&mut journal, machine.plan(), &mut body) {
             Ok(()) => Ok(Book {
                 alloc,
                 journal,
                 machine,
-                history: History::new(alloc),
+                history,
                 draft,
                 quiet,
                 halt: None,

@@ -1,4 +1,4 @@
-ghost use Rattle.std.specs.Prelude.{◌≡◌, ◌⊎◌, ◌<◌, ◌≤◌, ◌-◌, None, Some, Ok, true, false, IsSome, IfOk, IfErr, OnOk, OnErr};
+ghost use Rattle.std.specs.Prelude.{◌≡◌, ◌⊎◌, ◌<◌, ◌≤◌, ◌-◌, None, Some, Ok, true, false, IsSome, IfOk, IfErr, OnOk, OnErr, IsErrOf};
 ghost use Rattle.tf_states.specs.declared.state.FlowState.TheVariants as flow;
 ghost use Rattle.tf_machine.specs.Answers.{start_entry, action_in, task_of};
 ghost use Rattle.tf_model.specs.Candidates.{choice, end_of};
@@ -30,8 +30,8 @@ impl<K: Desk> Book<K> {
     /// Halts a book that isn't halted, for want of memory.
     pub fn halt_for_memory(&mut self)
         ensures keeps { (start : BookValue K)
-            → Kept K.tells K.shown K.content K.crashes K.disk_faults K.out_faults start self.old
-            → Kept K.tells K.shown K.content K.crashes K.disk_faults K.out_faults start self.new }
+            → Kept K.tells K.shown K.content K.left K.crashes K.disk_faults K.out_faults start self.old
+            → Kept K.tells K.shown K.content K.left K.crashes K.disk_faults K.out_faults start self.new }
         ensures same { self.new ≡ record self.old { halt = halt_for_memory self.old.halt } }
     {
         if self.halt.is_none() {
@@ -45,8 +45,8 @@ impl<K: Desk> Book<K> {
         requires hand { hand < 64 }
         requires running { state_of self.old ≡ flow.Running }
         ensures keeps { (start : BookValue K)
-            → Kept K.tells K.shown K.content K.crashes K.disk_faults K.out_faults start self.old
-            → Kept K.tells K.shown K.content K.crashes K.disk_faults K.out_faults start self.new }
+            → Kept K.tells K.shown K.content K.left K.crashes K.disk_faults K.out_faults start self.old
+            → Kept K.tells K.shown K.content K.left K.crashes K.disk_faults K.out_faults start self.new }
         ensures plan { self.new.plan ≡ self.old.plan }
         ensures forced { result ≡ Ok true → IsForcedBy (outline self.old) hand self.old.past self.new.past }
         ensures nothing { result ≡ Ok false
@@ -76,8 +76,8 @@ impl<K: Desk> Book<K> {
         requires hand { hand < 64 }
         requires running { state_of self.old ≡ flow.Running }
         ensures keeps { (start : BookValue K)
-            → Kept K.tells K.shown K.content K.crashes K.disk_faults K.out_faults start self.old
-            → Kept K.tells K.shown K.content K.crashes K.disk_faults K.out_faults start self.new }
+            → Kept K.tells K.shown K.content K.left K.crashes K.disk_faults K.out_faults start self.old
+            → Kept K.tells K.shown K.content K.left K.crashes K.disk_faults K.out_faults start self.new }
         ensures plan { self.new.plan ≡ self.old.plan }
         ensures ran { OnOk result (RanOn (outline self.old) hand self.old.past self.new.past) }
         ensures cut { OnErr result (IsForcedOn (outline self.old) hand self.old.past self.new.past) }
@@ -103,8 +103,8 @@ impl<K: Desk> Book<K> {
         requires task { is_task (outline self.old) start.atom ≡ true }
         ensures plan { self.new.plan ≡ self.old.plan }
         ensures keeps { (start : BookValue K)
-            → Kept K.tells K.shown K.content K.crashes K.disk_faults K.out_faults start self.old
-            → Kept K.tells K.shown K.content K.crashes K.disk_faults K.out_faults start self.new }
+            → Kept K.tells K.shown K.content K.left K.crashes K.disk_faults K.out_faults start self.old
+            → Kept K.tells K.shown K.content K.left K.crashes K.disk_faults K.out_faults start self.new }
         ensures started { IfOk result (IsStartOf (outline self.old) hand self.old.past self.new.past start) }
         ensures cut { OnErr result (IsStartedSo (outline self.old) hand self.old.past self.new.past start
             ⊎ (self.new.past ≡ self.old.past)) }
@@ -132,8 +132,8 @@ impl<K: Desk> Book<K> {
             × (state ≡ flow.Suspended)) }
         ensures plan { self.new.plan ≡ self.old.plan }
         ensures keeps { (start : BookValue K)
-            → Kept K.tells K.shown K.content K.crashes K.disk_faults K.out_faults start self.old
-            → Kept K.tells K.shown K.content K.crashes K.disk_faults K.out_faults start self.new }
+            → Kept K.tells K.shown K.content K.left K.crashes K.disk_faults K.out_faults start self.old
+            → Kept K.tells K.shown K.content K.left K.crashes K.disk_faults K.out_faults start self.new }
         ensures past { self.new.past ≡ past_after (by_hand hand (flow_turns state)) self.old.past result }
         ensures halt { self.new.halt ≡ halt_after result }
     {
@@ -153,8 +153,8 @@ impl<K: Desk> Book<K> {
         requires unchosen { choice (outline self.old) (moment self.old) ≡ None }
         ensures plan { self.new.plan ≡ self.old.plan }
         ensures keeps { (start : BookValue K)
-            → Kept K.tells K.shown K.content K.crashes K.disk_faults K.out_faults start self.old
-            → Kept K.tells K.shown K.content K.crashes K.disk_faults K.out_faults start self.new }
+            → Kept K.tells K.shown K.content K.left K.crashes K.disk_faults K.out_faults start self.old
+            → Kept K.tells K.shown K.content K.left K.crashes K.disk_faults K.out_faults start self.new }
         ensures rested { IfOk result (HasRested (outline self.old) hand self.old.past self.new.past) }
         ensures cut { OnErr result (IsClosedOr (outline self.old) hand self.old.past self.new.past) }
         ensures sound { OnOk result (self.new.halt ≡ None) }
@@ -178,8 +178,8 @@ impl<K: Desk> Book<K> {
         requires suspending { state_of self.old ≡ flow.Suspending }
         ensures plan { self.new.plan ≡ self.old.plan }
         ensures keeps { (start : BookValue K)
-            → Kept K.tells K.shown K.content K.crashes K.disk_faults K.out_faults start self.old
-            → Kept K.tells K.shown K.content K.crashes K.disk_faults K.out_faults start self.new }
+            → Kept K.tells K.shown K.content K.left K.crashes K.disk_faults K.out_faults start self.old
+            → Kept K.tells K.shown K.content K.left K.crashes K.disk_faults K.out_faults start self.new }
         ensures rested { IfOk result (HasRested (outline self.old) hand self.old.past self.new.past) }
         ensures cut { OnErr result (IsClosedOr (outline self.old) hand self.old.past self.new.past) }
         ensures sound { OnOk result (self.new.halt ≡ None) }
@@ -204,8 +204,8 @@ impl<K: Desk> Book<K> {
         requires running { state_of self.old ≡ flow.Running }
         ensures plan { self.new.plan ≡ self.old.plan }
         ensures keeps { (start : BookValue K)
-            → Kept K.tells K.shown K.content K.crashes K.disk_faults K.out_faults start self.old
-            → Kept K.tells K.shown K.content K.crashes K.disk_faults K.out_faults start self.new }
+            → Kept K.tells K.shown K.content K.left K.crashes K.disk_faults K.out_faults start self.old
+            → Kept K.tells K.shown K.content K.left K.crashes K.disk_faults K.out_faults start self.new }
         ensures turn { IfOk result (IsTurn (outline self.old) hand self.old.past self.new.past) }
         ensures cut { OnErr result (IsHaltedTurn (outline self.old) hand self.old.past self.new.past) }
         ensures sound { OnOk result (self.new.halt ≡ None) }
@@ -227,8 +227,8 @@ impl<K: Desk> Book<K> {
         requires entered { is_entered (state_of self.old) ≡ true }
         ensures plan { self.new.plan ≡ self.old.plan }
         ensures keeps { (start : BookValue K)
-            → Kept K.tells K.shown K.content K.crashes K.disk_faults K.out_faults start self.old
-            → Kept K.tells K.shown K.content K.crashes K.disk_faults K.out_faults start self.new }
+            → Kept K.tells K.shown K.content K.left K.crashes K.disk_faults K.out_faults start self.old
+            → Kept K.tells K.shown K.content K.left K.crashes K.disk_faults K.out_faults start self.new }
         ensures turn { IfOk result (IsTurn (outline self.old) hand self.old.past self.new.past) }
         ensures cut { OnErr result (IsHaltedTurn (outline self.old) hand self.old.past self.new.past) }
         ensures sound { OnOk result (self.new.halt ≡ None) }
@@ -256,8 +256,8 @@ impl<K: Desk> Book<K> {
         requires entered { is_entered (state_of self.old) ≡ true }
         ensures plan { self.new.plan ≡ self.old.plan }
         ensures keeps { (start : BookValue K)
-            → Kept K.tells K.shown K.content K.crashes K.disk_faults K.out_faults start self.old
-            → Kept K.tells K.shown K.content K.crashes K.disk_faults K.out_faults start self.new }
+            → Kept K.tells K.shown K.content K.left K.crashes K.disk_faults K.out_faults start self.old
+            → Kept K.tells K.shown K.content K.left K.crashes K.disk_faults K.out_faults start self.new }
         ensures turn { IfOk result (IsTurn (outline self.old) hand self.old.past self.new.past) }
         ensures cut { OnErr result (IsHaltedTurn (outline self.old) hand self.old.past self.new.past) }
         ensures sound { OnOk result (self.new.halt ≡ None) }
@@ -280,11 +280,12 @@ impl<K: Desk> Book<K> {
         requires task { IsSome (task_of (outline self.old) (moment self.old) hand) }
         ensures plan { self.new.plan ≡ self.old.plan }
         ensures keeps { (start : BookValue K)
-            → Kept K.tells K.shown K.content K.crashes K.disk_faults K.out_faults start self.old
-            → Kept K.tells K.shown K.content K.crashes K.disk_faults K.out_faults start self.new }
+            → Kept K.tells K.shown K.content K.left K.crashes K.disk_faults K.out_faults start self.old
+            → Kept K.tells K.shown K.content K.left K.crashes K.disk_faults K.out_faults start self.new }
         ensures finished { OnOk result (IsFinished (outline self.old) hand outcome self.old.past self.new.past) }
         ensures cut { OnErr result (IsFinished (outline self.old) hand outcome self.old.past self.new.past
             ⊎ (self.new.past ≡ self.old.past)) }
+        ensures no_memory { IsErrOf result BookFault.Memory → ⊥ }
         ensures sound { OnOk result (self.new.halt ≡ None) }
         ensures fault { IfErr result (IsFault self.old.halt self.new.halt) }
         ensures halted { (cause : Cause) → self.old.halt ≡ Some cause → self.new ≡ self.old }

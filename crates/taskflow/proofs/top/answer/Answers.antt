@@ -1,9 +1,15 @@
-use Rattle.std.proofs.Common.{sym, ◌∙◌}
-use Rattle.taskflow.specs.Course.{obeyed, no_command}
+use Rattle.std.proofs.Common.{sym, ap, ◌∙◌, refl}
+use Rattle.taskflow.specs.Asking.{if_done_here}
+use Rattle.taskflow.specs.Course.{unheard, obeyed, no_command}
 use Rattle.taskflow.proofs.top.answer.Goals as goal
 
+pub returns-in_default-clause-course : goal.returns-in_default-clause-course
+returns-in_default-clause-course g c = unheard refl refl (refl, λ told. refl)
+
 pub returns-in-Some-clause-course : goal.returns-in-Some-clause-course
-returns-in-Some-clause-course g c = obeyed c.in-Some.asked (sym c.in-Ok.ensures ∙ c.in-Some.is) c.obey.ensures.obeys
+returns-in-Some-clause-course g c =
+    obeyed c.in-Some.asked (ap if_done_here (sym c.in-Ok.ensures) ∙ sym c.done_here.ensures.is ∙ c.in-Some.is) c.obey.ensures.obeys
 
 pub returns-in-None-clause-course : goal.returns-in-None-clause-course
-returns-in-None-clause-course g c = no_command (sym c.in-Ok.ensures ∙ c.in-None.is) c.close.ensures.closes
+returns-in-None-clause-course g c =
+    no_command (ap if_done_here (sym c.in-Ok.ensures) ∙ sym c.done_here.ensures.is ∙ c.in-None.is) c.close-status.ensures.closes (refl, λ told. (c.close-status.ensures.stands told).files)

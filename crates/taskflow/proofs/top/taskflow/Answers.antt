@@ -2,12 +2,10 @@ use Rattle.taskflow.proofs.CauseLemmas.{usage_tells, refused_tells, completes}
 use Rattle.taskflow.proofs.top.taskflow.Goals as goal
 
 pub returns-clause-no_command : goal.returns-clause-no_command
-returns-clause-no_command g c = usage_tells _ _ _ _ _ _ _ c.answer-status.ensures.course
+returns-clause-no_command g c = usage_tells _ _ _ _ _ _ _ _ _ _ _ _ _ c.answer-desk.ensures.course
 
 pub returns-clause-refused : goal.returns-clause-refused
-returns-clause-refused g c = refused_tells _ _ _ _ _ _ _ c.answer-status.ensures.course
+returns-clause-refused g c = refused_tells _ _ _ _ _ _ _ _ _ _ _ _ _ c.answer-desk.ensures.course
 
 pub returns-clause-complete : goal.returns-clause-complete
-returns-clause-complete g c accepted readable sayable hirable =
-    completes _ _ _ _ _ _ _ c.answer-status.ensures.course accepted (λ is. readable (c.answer-status.ensures.unread is)) (λ is. sayable (c.answer-status.ensures.unsaid is))
-    (λ is. hirable (c.answer-status.ensures.unhired is))
+returns-clause-complete g c command asks ready none = completes _ _ _ _ _ _ _ _ _ _ _ _ _ _ _ c.answer-desk.ensures.course c.answer-desk.ensures.causes command asks ready none

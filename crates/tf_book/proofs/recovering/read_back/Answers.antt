@@ -5,5 +5,5 @@ use Rattle.tf_book.proofs.recovering.read_back.Goals as goal
 pub read_history-requires-clause-read : goal.read_history-requires-clause-read
 read_history-requires-clause-read g c =
     let e = c.in_ok-machine.ensures in
-    read_moved g.K.Desk.tells g.K.Desk.shown g.K.Desk.content g.K.Desk.left g.K.Desk.crashes g.K.Desk.disk_faults g.K.Desk.out_faults g.K.Desk.asks g.K.Desk.turns c.args.journal.now c.read_first.new.journal c.in_ok-machine.machine c.new-history.result _ e.reads
-    (read_plan_first g.K.Desk.tells g.K.Desk.shown g.K.Desk.content g.K.Desk.left g.K.Desk.crashes g.K.Desk.disk_faults g.K.Desk.out_faults g.K.Desk.asks g.K.Desk.turns c.args.journal.now c.in_ok-machine.machine c.new-history.result _ c.read_first.new.body.items e.form e.fresh e.runs c.new-history.ensures.entries c.new-history.ensures.bodies (search rules) e.first)
+    read_moved g.K.Desk.tells g.K.Desk.shown g.K.Desk.content g.K.Desk.left g.K.Desk.crashes g.K.Desk.disk_faults g.K.Desk.out_faults g.K.Desk.asks g.K.Desk.turns c.args.journal.now c.read_first.new.journal c.in_ok-machine.machine c.in-Ok.history _ e.reads
+    (read_plan_first g.K.Desk.tells g.K.Desk.shown g.K.Desk.content g.K.Desk.left g.K.Desk.crashes g.K.Desk.disk_faults g.K.Desk.out_faults g.K.Desk.asks g.K.Desk.turns c.args.journal.now c.in_ok-machine.machine c.in-Ok.history _ c.read_first.new.body.items e.form e.fresh e.runs c.in-Ok.ensures.entries c.in-Ok.ensures.bodies (search rules) e.first)

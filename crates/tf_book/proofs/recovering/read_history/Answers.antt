@@ -34,6 +34,7 @@ reading-preserved g c =
       read = read_on _ _ _ _ _ _ _ _ _ _ _ _ _ _ _ _ _ items l.read l.reads c.requires.title
           (λ before rest told_now rest_now at. subst (λ (v : Bool). IsNext v rest items) c.if-not-branch.false (c.in_ok-next_body.ensures.found before rest told_now rest_now at))
           (subst (λ (b : List ℕ). HasReadEntry c.reading.back.machine c.read_entry.new.machine c.reading.back.history c.read_entry.new.history b) c.deref.ensures.value c.in-Ok.ensures.ok) (search rules);
+      room = λ all. c.read_entry.ensures.room (l.room all);
       reads = reads_on _ _ _ _ _ _ _ _ _ _ _ _ l.reads c.in_ok-next_body.ensures.reads;
     }
 

@@ -1,4 +1,5 @@
 use Rattle.std.proofs.Common.{◌≤◌, ◌-◌}
+use Rattle.tf_book.specs.History.{HasAllRoom}
 use Rattle.tf_book.specs.Reading.{OnlyReads, HasRead}
 use Rattle.tf_book.proofs.recovering.read_history.Given as goal
 
@@ -6,6 +7,7 @@ abbrev pub invariant-reading : goal.invariant-reading
 invariant-reading g l = record {
   low : 17 ≤ l.place;
   read : HasRead g.K.Desk.tells g.K.Desk.shown g.K.Desk.content g.K.Desk.left g.K.Desk.crashes g.K.Desk.disk_faults g.K.Desk.out_faults g.K.Desk.asks g.K.Desk.turns l.fn.journal l.back.machine l.back.history l.place;
+  room : HasAllRoom l.fn.back.history → HasAllRoom l.back.history;
   reads : OnlyReads g.K.Desk.tells g.K.Desk.shown g.K.Desk.content g.K.Desk.left g.K.Desk.crashes g.K.Desk.disk_faults g.K.Desk.out_faults g.K.Desk.asks g.K.Desk.turns l.fn.journal l.journal;
 }
 

@@ -10,8 +10,8 @@ use Rattle.tf_engines.proofs.one_hand.run.Given as goal
 
 abbrev pub invariant-turns : goal.invariant-turns
 invariant-turns g l = record {
-  keeps : (start : BookValue g.row.K.Denot) → Kept g.K.Desk.tells g.K.Desk.shown g.K.Desk.content g.K.Desk.crashes g.K.Desk.disk_faults g.K.Desk.out_faults start l.fn.book
-      → Kept g.K.Desk.tells g.K.Desk.shown g.K.Desk.content g.K.Desk.crashes g.K.Desk.disk_faults g.K.Desk.out_faults start l.book;
+  keeps : (start : BookValue g.row.K.Denot) → Kept g.K.Desk.tells g.K.Desk.shown g.K.Desk.content g.K.Desk.left g.K.Desk.crashes g.K.Desk.disk_faults g.K.Desk.out_faults start l.fn.book
+      → Kept g.K.Desk.tells g.K.Desk.shown g.K.Desk.content g.K.Desk.left g.K.Desk.crashes g.K.Desk.disk_faults g.K.Desk.out_faults start l.book;
   plan : l.book.plan ≡ l.fn.book.plan;
   going : IsGoing (outline l.book) l.book.past l.book.halt;
   asked : (told : Option (List Order)) (base : List Order) → HasDone told base (g.P.Performer.did l.fn.hand) (orders (outline l.fn.book) 0 l.fn.book.past)

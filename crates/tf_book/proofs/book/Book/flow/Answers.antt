@@ -4,4 +4,4 @@ use Rattle.tf_book.specs.Book.{BookValue, state}
 use Rattle.tf_book.proofs.book.Book.flow.Goals as goal
 
 pub returns : goal.returns
-returns g c = c.flow_state.ensures.after _ c.self.invariant.stands ∙ flow_shown _ _ ∙ ap (λ (b : BookValue _). state b) c.self.view_is
+returns g c = c.flow_state.ensures.after _ c.self.invariant.2.stands ∙ flow_shown _ _ ∙ ap (λ (b : BookValue _). state b) c.self.view_is

@@ -7,8 +7,8 @@ use Rattle.tf_book.proofs.book.Book.force.Given as goal
 
 abbrev pub invariant-forcing : goal.invariant-forcing
 invariant-forcing g l = record {
-  keeps : (start : BookValue g.row.K.Denot) → Kept g.K.Desk.tells g.K.Desk.shown g.K.Desk.content g.K.Desk.crashes g.K.Desk.disk_faults g.K.Desk.out_faults start l.fn.self
-      → Kept g.K.Desk.tells g.K.Desk.shown g.K.Desk.content g.K.Desk.crashes g.K.Desk.disk_faults g.K.Desk.out_faults start l.self;
+  keeps : (start : BookValue g.row.K.Denot) → Kept g.K.Desk.tells g.K.Desk.shown g.K.Desk.content g.K.Desk.left g.K.Desk.crashes g.K.Desk.disk_faults g.K.Desk.out_faults start l.fn.self
+      → Kept g.K.Desk.tells g.K.Desk.shown g.K.Desk.content g.K.Desk.left g.K.Desk.crashes g.K.Desk.disk_faults g.K.Desk.out_faults start l.self;
   plan : l.self.plan ≡ l.fn.self.plan;
   on : IsForcedOn (outline l.fn.self) l.hand l.fn.self.past l.self.past;
   sound : l.self.halt ≡ None;

@@ -2,7 +2,8 @@ use Rattle.std.proofs.Common.{rules, ◌≡◌, List, [], ◌∷◌, ℕ, subst,
 use Rattle.tf_desk.specs.Content.{bytes_of}
 use Rattle.tf_desk.specs.Crash.{Passes}
 use Rattle.tf_entries.specs.Plans.{plan_bytes}
-use Rattle.tf_journal.specs.Format.{bodies, recovered, title_of}
+use Rattle.tf_journal.specs.Format.{bodies, journal_bytes, recovered, title_of}
+use Rattle.tf_journal.specs.declared.title.Title.TheVariants.{Book as book_title}
 use Rattle.tf_journal.specs.Rest.{IsAtRest, LeavesBeforeOrAfter}
 use Rattle.tf_journal.specs.declared.title.Title.{Title}
 use Rattle.tf_book.proofs.StartLemmas.{begun_crash}
@@ -26,3 +27,9 @@ returns-in-Ok-append-clause-crash g c = λ opened.
 pub returns-in-Err-Disk-clause-crash : goal.returns-in-Err-Disk-clause-crash
 returns-in-Err-Disk-clause-crash g c = λ opened.
     begun_crash _ _ _ _ _ _ c.deref.result.now c.args.plan.now c.requires.title (search rules) (c.append.ensures.any_moment opened [] (c.requires.ready opened))
+
+pub returns-in-Ok-append-clause-exact : goal.returns-in-Ok-append-clause-exact
+returns-in-Ok-append-clause-exact g c = λ opened just.
+    let same : c.deref.result.now ≡ plan_bytes c.args.plan.now = search rules in
+    c.in-Ok-append.ensures.exact opened [] (c.requires.ready opened) (just ∙ ap (λ (t : Title). journal_bytes (title_of t) []) (sym c.requires.title))
+    ∙ ap (λ (t : Title). journal_bytes (title_of t) (c.deref.result.now ∷ [])) c.requires.title ∙ ap (λ (b : List ℕ). journal_bytes (title_of book_title) (b ∷ [])) same

@@ -1,0 +1,63 @@
+-- A run that goes on from the history which a book holds.
+use Rattle.std.proofs.Common.{◌≡◌, ◌⊎◌, ℕ, List, [], Bool, true, false, Option, Some, None, refl, sym, ap, subst, inl, inr}
+use Rattle.std.specs.Prelude.{IsTrue}
+use Rattle.tf_desk.specs.Content.{Content, bytes_of}
+use Rattle.tf_desk.specs.Crash.{Images, Crashes}
+use Rattle.tf_ports.specs.declared.crews.Want.{Want}
+use Rattle.tf_ports.specs.declared.orders.Order.{Order}
+use Rattle.tf_ports.specs.declared.outcomes.Outcome.{Outcome}
+use Rattle.tf_states.specs.declared.state.FlowState.{FlowState}
+use Rattle.tf_states.specs.declared.state.FlowState.TheVariants as flow
+use Rattle.tf_model.specs.Compilation.{compile_refusal}
+use Rattle.tf_model.specs.Sessions.{already_ended, has_ended}
+use Rattle.tf_model.specs.Steps.{LegalPast}
+use Rattle.tf_bound.specs.Short.{AreShort, IsWithinLimits}
+use Rattle.tf_book.specs.Book.{BookValue, outline, state}
+use Rattle.tf_book.proofs.KeptLemmas.{keeps_none}
+use Rattle.taskflow.specs.Runs.{HoldsBook, IsRunTo, RunsOn, Continues, went_on}
+use Rattle.taskflow.specs.Way.{Open}
+use Rattle.taskflow.proofs.PromiseLemmas.{resumed_promised}
+
+-- a flow that has ended, in one of the three ways
+pub ended_so : (last : FlowState) → (last ≡ flow.Success) ⊎ (last ≡ flow.Failure) ⊎ (last ≡ flow.Reverted) → has_ended last ≡ true
+ended_so last (inl is) = ap has_ended is
+ended_so last (inr (inl is)) = ap has_ended is
+ended_so last (inr (inr is)) = ap has_ended is
+
+module _ {K : Type 0} (tells : K → Bool) (shown : K → Option (List ℕ)) (content : K → Content) (left : K → Images) (crashes : K → Crashes) (disk_faults out_faults : K → ℕ) where
+  -- the run of a book whose flow had ended: nothing was recorded
+  pub ended_run : (gives : Order → Outcome → Type 0) (book : BookValue K) → book.halt ≡ None → book.quiet ≡ false → has_ended (state book) ≡ true → LegalPast (outline book) book.past
+      → compile_refusal book.plan ≡ None → IsWithinLimits (outline book) → AreShort book.past
+      → IsRunTo tells shown content left crashes disk_faults out_faults gives book book (Some (state book))
+  ended_run gives book sound speaks ended legal compiles limits short = record {
+    kept = keeps_none tells shown content left crashes disk_faults out_faults book sound;
+    session = record { entries = []; recorded = refl; session = already_ended ended legal; given = tt; hands = refl; unsuspended = refl };
+    compiles = compiles;
+    limits = limits;
+    short_before = short;
+    short = short;
+    speaks = speaks;
+  }
+
+  -- such a run, said with its report
+  pub ended_on : (gives : Order → Outcome → Type 0) (book : BookValue K) (now : K) (status : ℕ) (last : FlowState)
+      → book.halt ≡ None → book.quiet ≡ false → last ≡ state book → has_ended last ≡ true → LegalPast (outline book) book.past
+      → compile_refusal book.plan ≡ None → IsWithinLimits (outline book) → AreShort book.past
+      → ((start : BookValue K) → IsRunTo tells shown content left crashes disk_faults out_faults gives start book (Some last)
+      → RunsOn tells shown content left crashes disk_faults out_faults gives start now status)
+      → RunsOn tells shown content left crashes disk_faults out_faults gives book now status
+  ended_on gives book now status last sound speaks same ended legal compiles limits short runs =
+      runs book (subst (λ (s : FlowState). IsRunTo tells shown content left crashes disk_faults out_faults gives book book (Some s)) (sym same)
+      (ended_run gives book sound speaks (subst (λ (s : FlowState). has_ended s ≡ true) same ended) legal compiles limits short))
+
+  -- a book whose flow had ended is reported, and no hand is hired
+  pub ended_goes : (gives : Order → Outcome → Type 0) (name : List ℕ) (entry : K) (book : BookValue K) (now : K) (status : ℕ) (hired : Option (List Want)) (last : FlowState)
+      → Open tells shown content left crashes disk_faults out_faults name entry book.journal.desk → HoldsBook tells content name entry book
+      → book.journal.volatile ≡ false → last ≡ state book → has_ended last ≡ true
+      → RunsOn tells shown content left crashes disk_faults out_faults gives book now status
+      → (IsTrue (tells now) → (content now).picked ≡ Some name → (content now).files name ≡ Some (bytes_of (content now)))
+      → (IsTrue (tells now) → (bytes : List ℕ) → (content now).files name ≡ Some bytes → left now name bytes)
+      → Continues tells shown content left crashes disk_faults out_faults gives name entry book hired hired now status
+  ended_goes gives name entry book now status hired last opened holds kept same ended runs there reads =
+      went_on (inl (subst (λ (s : FlowState). has_ended s ≡ true) same ended, refl))
+      (resumed_promised tells shown content left crashes disk_faults out_faults gives name entry book now status opened kept holds runs there reads)

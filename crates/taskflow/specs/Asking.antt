@@ -1,0 +1,39 @@
+-- What the words ask for.
+use Rattle.std.specs.Prelude.{ℕ, List, Bool, true, false, ◌&&◌, nat_eq, is_none, Option, Some, None, if◌then◌else◌}
+use Rattle.tf_ports.specs.declared.crews.Want.{Want}
+use Rattle.tf_ports.specs.declared.crews.Want.TheVariants as want
+use Rattle.tf_commands.specs.Words.{command_of}
+use Rattle.tf_commands.specs.declared.asked.Asked.{Asked}
+use Rattle.tf_commands.specs.declared.asked.Asked.TheVariants as asked
+use Rattle.taskflow.specs.declared.reading.Source.{Source}
+
+-- one hand of this process is wanted
+abbrev pub is_one_hand : Want → Bool
+is_one_hand (want.Local hands) = nat_eq hands 1
+is_one_hand (want.Remote addresses) = false
+
+-- the program does it: so far with one hand, to its end, and of no flow that is made by numbers
+abbrev pub is_done_here : Asked → Bool
+is_done_here (asked.Try file sets defer wanted) = is_one_hand wanted
+is_done_here (asked.Run file book sets defer wanted stop) = is_one_hand wanted && is_none stop
+is_done_here (asked.Resume book wanted stop) = is_one_hand wanted && is_none stop
+is_done_here (asked.Show book) = true
+is_done_here (asked.Reset book) = false
+is_done_here (asked.Check file sets) = true
+is_done_here (asked.Demo seed size book hands) = false
+
+-- a command that the program does
+abbrev pub if_done_here : Option Asked → Option Asked
+if_done_here None = None
+if_done_here (Some command) = if is_done_here command then Some command else None
+
+-- the command that the words are, where the program does it
+abbrev pub asked_for : List (List ℕ) → Option Asked
+asked_for words = if_done_here (command_of words)
+
+-- the flow file that a command is about, with the values that its store gets besides; a check defers no reverts
+abbrev pub source_of : Asked → Option Source
+source_of (asked.Try file sets defer wanted) = Some (record { file = file; sets = sets; defer = defer })
+source_of (asked.Run file book sets defer wanted stop) = Some (record { file = file; sets = sets; defer = defer })
+source_of (asked.Check file sets) = Some (record { file = file; sets = sets; defer = false })
+source_of command = None

@@ -1,0 +1,102 @@
+-- What becomes of the commands on a book.
+use Rattle.std.specs.Prelude.{◌≡◌, ◌⊎◌, ℕ, Bool, true, false, IsTrue, List, [], Option}
+use Rattle.tf_desk.specs.Content.{Content}
+use Rattle.tf_desk.specs.Crash.{Images, Crashes}
+use Rattle.tf_flow.specs.Plan.{PlanValue}
+use Rattle.tf_states.specs.declared.record.Entry.{Entry}
+use Rattle.tf_states.specs.declared.state.FlowState.{FlowState}
+use Rattle.tf_ports.specs.Told.{told_with}
+use Rattle.tf_ports.specs.declared.crews.Want.{Want}
+use Rattle.tf_ports.specs.declared.crews.Want.TheVariants as want
+use Rattle.tf_ports.specs.declared.orders.Order.{Order}
+use Rattle.tf_ports.specs.declared.outcomes.Outcome.{Outcome}
+use Rattle.tf_files.specs.Written.{PlanTree, plan_tree}
+use Rattle.tf_journal.specs.Format.{Recovered}
+use Rattle.tf_model.specs.History.{flow_of}
+use Rattle.tf_model.specs.Plan.{outline_of}
+use Rattle.tf_model.specs.Sessions.{has_ended}
+use Rattle.tf_book.specs.Loading.{IsNoBook, CanRun}
+use Rattle.tf_book.specs.Showing.{history_text}
+use Rattle.taskflow.specs.Durable.{file_of, book_in, HoldsNoFlow, Holds, StaysAlone, Lasts}
+use Rattle.taskflow.specs.Messages.{disk_fault, not_a_book, no_flow, state_forbids, cannot_hire}
+use Rattle.taskflow.specs.Run.{Ran}
+use Rattle.taskflow.specs.Saying.{Closes}
+use Rattle.taskflow.specs.declared.statuses.TheConstants.{SUCCEEDED, UNHIRED, OUT_OF_MEMORY, DISK_FAILED, NO_BOOK, FORBIDDEN}
+
+-- one hand of this process was hired
+abbrev pub HiresOne : Option (List Want) → Option (List Want) → Type 0
+HiresOne hired after_hiring = after_hiring ≡ told_with hired (want.Local 1)
+
+module _ {K : Type 0} (tells : K → Bool) (shown : K → Option (List ℕ)) (content : K → Content) (left : K → Images) (crashes : K → Crashes) (disk_faults : K → ℕ) where
+  -- what the file of that name is, where the desk tells its content
+  abbrev pub IsFile : List ℕ → K → (Recovered → Type 0) → Type 0
+  IsFile name entry is = IsTrue (tells entry) → is (book_in (file_of (content entry) name))
+
+  -- nothing was recorded, and this was said last, if it was
+  abbrev pub IsAlone : List ℕ → K → K → List ℕ → Type 0
+  IsAlone name entry now closing =
+      IsTrue (tells entry) → StaysAlone name (content entry) (content now) (left entry) (crashes now) (shown entry) closing
+
+  -- a command ends with this message where it did nothing
+  pub record Refuses (name : List ℕ) (entry now : K) (message : List ℕ) (wanted status : ℕ) : Type 0 where
+    pub closes : Closes (shown entry) message wanted (shown now) status
+    pub alone : IsAlone name entry now message
+
+  -- memory ran out, and nothing was done or said
+  pub record Stops (name : List ℕ) (entry now : K) (status : ℕ) : Type 0 where
+    pub status_is : status ≡ OUT_OF_MEMORY
+    pub quiet : shown now ≡ shown entry
+    pub alone : IsAlone name entry now []
+
+  -- one or the other
+  abbrev pub RefusesOrStops : List ℕ → K → K → List ℕ → ℕ → ℕ → Type 0
+  RefusesOrStops name entry now message wanted status = Stops name entry now status ⊎ Refuses name entry now message wanted status
+
+  -- the book couldn't be opened: memory ran out, the disk failed, or the file is no book
+  pub data Unopened (name : List ℕ) (entry now : K) (status : ℕ) : Type 0 where
+    exhausted : Stops name entry now status → Unopened name entry now status
+    disk_failed : Refuses name entry now disk_fault DISK_FAILED status → Unopened name entry now status
+    no_book : (offset : ℕ) (byte : Option ℕ) → IsFile name entry (λ found. IsNoBook found offset byte)
+        → Refuses name entry now (not_a_book offset byte) NO_BOOK status → Unopened name entry now status
+
+  -- a run of the plan from this history on, with what is promised of its file
+  pub record Promised (gives : Order → Outcome → Type 0) (name : List ℕ) (plan : PlanValue) (before : List Entry) (entry now : K) (status : ℕ) : Type 0 where
+    pub entries : List Entry
+    pub stop : Option FlowState
+    pub closing : List ℕ
+    pub ran : Ran gives plan before entries stop (shown entry) (shown now) closing status
+    pub lasts : IsTrue (tells entry)
+        → Lasts name plan before entries (content entry) (content now) (left entry) (crashes now) (shown entry) closing (disk_faults entry) (disk_faults now)
+
+  -- no hand was hired, and nothing was recorded: memory ran out, or none could be hired
+  pub data Unhired (name : List ℕ) (entry now : K) (hired after_hiring : Option (List Want)) (status : ℕ) : Type 0 where
+    exhausted_hire : after_hiring ≡ hired → Stops name entry now status → Unhired name entry now hired after_hiring status
+    unhired : after_hiring ≡ hired → Refuses name entry now cannot_hire UNHIRED status → Unhired name entry now hired after_hiring status
+
+  -- to run a plan over a book: it can't be opened; it holds a flow already, whose state is said; no hand is hired; or one is, and runs
+  -- this plan from the empty history on
+  pub data Runs (gives : Order → Outcome → Type 0) (name : List ℕ) (hired after_hiring : Option (List Want)) (entry now : K) (tree : PlanTree) (status : ℕ) : Type 0 where
+    unopened : after_hiring ≡ hired → Unopened name entry now status → Runs gives name hired after_hiring entry now tree status
+    forbidden : (plan : PlanValue) (past : List Entry) → after_hiring ≡ hired → IsFile name entry (Holds plan past)
+        → Refuses name entry now (state_forbids (outline_of plan) (flow_of past)) FORBIDDEN status → Runs gives name hired after_hiring entry now tree status
+    unhired_run : IsFile name entry HoldsNoFlow → Unhired name entry now hired after_hiring status → Runs gives name hired after_hiring entry now tree status
+    ran : (plan : PlanValue) → plan_tree plan ≡ tree → IsFile name entry HoldsNoFlow → HiresOne hired after_hiring
+        → Promised gives name plan [] entry now status → Runs gives name hired after_hiring entry now tree status
+
+  -- to resume a book: it can't be opened; it holds no flow; no hand is hired; or the plan that it holds runs on from the history that it
+  -- holds, with a hand that was hired, or without one where the flow had ended
+  pub data Resumes (gives : Order → Outcome → Type 0) (name : List ℕ) (hired after_hiring : Option (List Want)) (entry now : K) (status : ℕ) : Type 0 where
+    unopened_again : after_hiring ≡ hired → Unopened name entry now status → Resumes gives name hired after_hiring entry now status
+    empty : after_hiring ≡ hired → IsFile name entry HoldsNoFlow → Refuses name entry now no_flow FORBIDDEN status → Resumes gives name hired after_hiring entry now status
+    unhired_again : (plan : PlanValue) (past : List Entry) → IsFile name entry (Holds plan past) → has_ended (flow_of past) ≡ false
+        → Unhired name entry now hired after_hiring status → Resumes gives name hired after_hiring entry now status
+    resumed : (plan : PlanValue) (past : List Entry) → CanRun plan → IsFile name entry (Holds plan past)
+        → ((has_ended (flow_of past) ≡ true) × (after_hiring ≡ hired)) ⊎ ((has_ended (flow_of past) ≡ false) × HiresOne hired after_hiring)
+        → Promised gives name plan past entry now status → Resumes gives name hired after_hiring entry now status
+
+  -- to show a book: it can't be opened; it holds no flow; or the lines of its whole history are said, and then the table
+  pub data ShowsBook (name : List ℕ) (entry now : K) (status : ℕ) : Type 0 where
+    unopened_show : Unopened name entry now status → ShowsBook name entry now status
+    nothing_shown : IsFile name entry HoldsNoFlow → Refuses name entry now no_flow FORBIDDEN status → ShowsBook name entry now status
+    shown_whole : (plan : PlanValue) (past : List Entry) → IsFile name entry (Holds plan past)
+        → Refuses name entry now (history_text (outline_of plan) past) SUCCEEDED status → ShowsBook name entry now status

@@ -1,0 +1,44 @@
+-- Why a status tells a fault of the outside: a count rose.
+use Rattle.std.specs.Prelude.{◌≡◌, ◌≢◌, ℕ, ◌≤◌}
+use Rattle.tf_desk.specs.Counts.{Rises}
+use Rattle.taskflow.specs.declared.statuses.TheConstants.{UNREAD, DISK_FAILED, UNSAID, UNHIRED}
+
+-- the counts of faults: of the disk, of the output, of the sources and of the crew
+pub record Counts : Type 0 where
+  pub disk : ℕ
+  pub out : ℕ
+  pub sources : ℕ
+  pub crew : ℕ
+
+-- no count falls
+pub record NoneFalls (before after : Counts) : Type 0 where
+  pub disk : before.disk ≤ after.disk
+  pub out : before.out ≤ after.out
+  pub sources : before.sources ≤ after.sources
+  pub crew : before.crew ≤ after.crew
+
+-- a file can't be read, the disk fails, a text can't be said and no hand is hired only where the count of such faults rose
+pub record HasCauses (status : ℕ) (before after : Counts) : Type 0 where
+  pub none_falls : NoneFalls before after
+  pub unread : status ≡ UNREAD → Rises before.sources after.sources
+  pub failed : status ≡ DISK_FAILED → Rises before.disk after.disk
+  pub unsaid : status ≡ UNSAID → Rises before.out after.out
+  pub unhired : status ≡ UNHIRED → Rises before.crew after.crew
+
+-- the counts of a desk, of sources and of a crew
+abbrev pub counts : ℕ → ℕ → ℕ → ℕ → Counts
+counts disk out sources crew = record { disk = disk; out = out; sources = sources; crew = crew }
+
+-- a command said its last: the disk's count stays, and only a text that couldn't be said tells of an output fault
+pub record HasSaid (disk_then disk_now out_then out_now status : ℕ) : Type 0 where
+  pub disk : disk_now ≡ disk_then
+  pub out : out_then ≤ out_now
+  pub unsaid : status ≡ UNSAID → Rises out_then out_now
+  pub read : status ≢ UNREAD
+
+-- no count rose
+pub record HasNoFault (before after : Counts) : Type 0 where
+  pub disk : ¬ (Rises before.disk after.disk)
+  pub out : ¬ (Rises before.out after.out)
+  pub sources : ¬ (Rises before.sources after.sources)
+  pub crew : ¬ (Rises before.crew after.crew)

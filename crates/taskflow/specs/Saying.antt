@@ -1,0 +1,13 @@
+-- How a command says what it says last, and with which status it ends.
+use Rattle.std.specs.Prelude.{◌≡◌, ◌⊎◌, ℕ, List, Option}
+use Rattle.tf_desk.specs.Shown.{shown_with, ShowsFront}
+use Rattle.taskflow.specs.declared.statuses.TheConstants.{UNSAID, OUT_OF_MEMORY}
+
+-- a command says its message and ends with its status, or with that of a failed output where a front of the message was shown
+pub data Closes (before : Option (List ℕ)) (message : List ℕ) (wanted : ℕ) (after : Option (List ℕ)) : ℕ → Type 0 where
+  said : after ≡ shown_with before message → Closes before message wanted after wanted
+  cut : ShowsFront before message after → Closes before message wanted after UNSAID
+
+-- memory ran out and nothing was said, or a message closed the command
+abbrev pub ClosesOrStops : Option (List ℕ) → List ℕ → ℕ → Option (List ℕ) → ℕ → Type 0
+ClosesOrStops before message wanted after status = ((status ≡ OUT_OF_MEMORY) × (after ≡ before)) ⊎ Closes before message wanted after status

@@ -1,0 +1,9 @@
+pub mod StreamLemmas
+pub mod KeepingLemmas
+pub mod PrintLemmas
+pub mod AllowedLemmas
+pub mod MessageLemmas
+pub mod ItemLemmas
+pub mod LimitLemmas
+pub mod BackLemmas
+pub mod BoundLemmas

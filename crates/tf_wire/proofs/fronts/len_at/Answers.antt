@@ -1,0 +1,8 @@
+use Rattle.std.proofs.Common.{arith}
+use Rattle.tf_values.proofs.NumberLemmas.{cut, front_4}
+use Rattle.tf_wire.proofs.fronts.len_at.Goals as goal
+
+pub returns : goal.returns
+returns c =
+    let found = c.in_ok-front.ensures.cases in
+    front_4 c.args.bytes.now c.in_ok-front.front.now c.in_ok-front.rest.now c.from_be_bytes.result (cut 4 c.args.bytes.now c.in_ok-front.front.now c.in_ok-front.rest.now (λ i. omega (arith, c.type_inv.bytes i)) found.0 found.1 found.2) c.from_be_bytes.ensures

@@ -1,0 +1,23 @@
+//! Frames of a stream, and the messages between a remote hand and its worker.
+#![tactic(auto)]
+
+mod allowing;
+mod failures;
+mod faults;
+mod frames;
+mod fronts;
+mod messages;
+mod orders;
+mod printing;
+mod reading;
+mod requests;
+#[cfg(test)]
+mod tests;
+mod values;
+mod waiting;
+
+pub use faults::WireFault;
+pub use frames::Frames;
+pub use messages::{Request, Response};
+pub use printing::{print_request, print_response};
+pub use reading::{read_request, read_response};

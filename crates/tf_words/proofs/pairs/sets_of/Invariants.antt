@@ -1,6 +1,0 @@
-use Rattle.std.proofs.Common.{◌≡◌, [], drop}
-use Rattle.tf_words.specs.Pairs.{sets_behind}
-use Rattle.tf_words.proofs.pairs.sets_of.Given as goal
-
-abbrev pub invariant-loop-word : goal.invariant-loop-word
-invariant-loop-word l = sets_behind [] l.words ≡ sets_behind l.sets.items (drop l.word-index l.words)

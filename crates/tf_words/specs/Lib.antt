@@ -1,5 +1,0 @@
-pub mod Quotes
-pub mod Spelled
-pub mod Sorting
-pub mod Pairs
-pub mod Words
