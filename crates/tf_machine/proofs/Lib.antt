@@ -1,8 +1,10 @@
 pub mod PlanLemmas
 pub mod TriesLemmas
 pub mod WholeLemmas
+pub mod CountLemmas
 pub mod ReadinessLemmas
 pub mod CaseLemmas
+pub mod FirstLemmas
 pub mod EntryLemmas
 pub mod DecidedLemmas
 pub mod BestLemmas

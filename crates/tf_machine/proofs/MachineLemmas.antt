@@ -96,6 +96,10 @@ views_first : {Y : Type 0} (f : Option AtomView → Y) (n a : ℕ) (y : Y) → f
 views_first f zero a y none here = none
 views_first f (suc n) a y none here = first_at f first_view (first_views n) a y none here (λ b. views_first f n b y none here)
 
+-- every atom is PENDING
+pub first_pending : (views : List AtomView) (n a : ℕ) → views ≡ first_views n → state_in (slice_get views a) ≡ atom.Pending
+first_pending views n a is = ap (λ (xs : List AtomView). state_in (slice_get xs a)) is ∙ views_first state_in n a _ refl refl
+
 places_first : {Y : Type 0} (f : Option Place → Y) (n a : ℕ) (y : Y) → f None ≡ y → f (Some first_place) ≡ y → f (slice_get (first_places n) a) ≡ y
 places_first f zero a y none here = none
 places_first f (suc n) a y none here = first_at f first_place (first_places n) a y none here (λ b. places_first f n b y none here)

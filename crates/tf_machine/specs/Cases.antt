@@ -1,10 +1,11 @@
 -- The eight cases in which an entry is forced.
-use Rattle.std.specs.Prelude.{ℕ, List, [], ◌∷◌, Bool, Option, None}
+use Rattle.std.specs.Prelude.{◌≡◌, ℕ, ◌<◌, List, [], ◌∷◌, Bool, true, false, Option, Some, None, get_or, nat_lt, if◌then◌else◌}
 use Rattle.std.specs.Option.{option_or}
 use Rattle.tf_states.specs.declared.record.What.{What}
 use Rattle.tf_machine.specs.declared.cases.Case.{Case}
 use Rattle.tf_machine.specs.declared.cases.Case.TheVariants as case
 use Rattle.tf_machine.specs.declared.cases.Forcing.{Forcing}
+use Rattle.tf_machine.specs.declared.cases.Placed.{Placed}
 use Rattle.tf_model.specs.Plan.{Outline}
 use Rattle.tf_model.specs.Snapshot.{Snapshot}
 use Rattle.tf_model.specs.Forced as rule
@@ -37,6 +38,22 @@ cases =
     case.Attempt ∷ case.Again ∷ case.Reverted ∷ case.Resolution
     ∷ case.Retrying ∷ case.Revert ∷ case.Ignore ∷ case.Run
     ∷ []
+
+-- the case at a place in this order
+abbrev pub case_of : ℕ → Case
+case_of k = get_or cases k case.Attempt
+
+-- the place of the first case that applies to atom a, where one does
+abbrev pub IsCaseAt : Outline → Snapshot → ℕ → Option ℕ → Type 0
+IsCaseAt plan s a None = (j : ℕ) → j < 8 → applies plan s (case_of j) a ≡ false
+IsCaseAt plan s a (Some k) = (k < 8) × (applies plan s (case_of k) a ≡ true) × ((j : ℕ) → j < k → applies plan s (case_of j) a ≡ false)
+
+-- what was found before, or a case of atom a at an earlier place
+abbrev pub sooner : Option Placed → Option ℕ → ℕ → Option Placed
+sooner None None a = None
+sooner (Some found) None a = Some found
+sooner None (Some k) a = Some (record { place = k; atom = a })
+sooner (Some found) (Some k) a = if nat_lt k found.place then Some (record { place = k; atom = a }) else Some found
 
 -- the entry of the first of some cases that applies, for the first atom to which it does
 abbrev pub entry_among : Outline → Snapshot → List Case → Option What

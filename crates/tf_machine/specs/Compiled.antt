@@ -1,5 +1,5 @@
 -- A plan with what is compiled of it.
-use Rattle.std.specs.Prelude.{◌≡◌, ℕ, ℤ, pos, List, [], ◌∷◌, ◌++◌, length, Bool, false, Option, Some, None, map, slice_get}
+use Rattle.std.specs.Prelude.{◌≡◌, ℕ, ℤ, List, length, Bool, false, Some, None, map, slice_get}
 use Rattle.tf_flow.specs.Plan.{PlanValue}
 use Rattle.tf_order.specs.Graph.{GraphValue, IsGraphOf}
 use Rattle.tf_flow.specs.Outline.{Atom, priority_of}

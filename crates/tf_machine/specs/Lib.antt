@@ -8,3 +8,4 @@ pub mod Cases
 pub mod Entries
 pub mod Changes
 pub mod TableFacts
+pub mod Counts

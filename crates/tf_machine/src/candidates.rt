@@ -1,9 +1,10 @@
-ghost use Rattle.std.specs.Prelude.{◌≡◌, ◌≢◌, ◌&&◌, true, false, None, Some, IfSome, option_map};
+ghost use Rattle.std.specs.Prelude.{◌≡◌, ◌≢◌, ◌<◌, ◌&&◌, true, false, None, Some, IfSome, option_map};
 ghost use Rattle.tf_numbers.specs.Numbers.{first_below};
 ghost use Rattle.tf_model.specs.Plan.{outline_of, count, is_task};
 ghost use Rattle.tf_model.specs.Candidates.{is_interrupted, is_candidate, is_best, taken_up, choice, candidate_if_running};
 ghost use Rattle.tf_machine.specs.Answers.{start_entry, action_in};
 ghost use Rattle.tf_machine.specs.Best.{outranked, is_start};
+ghost use Rattle.tf_machine.specs.Counts.{IsCounted};
 ghost use Rattle.tf_machine.specs.Tables.{shown_by};
 
 use crate::compiled::Compiled;
@@ -52,6 +53,8 @@ fn is_interrupted(compiled: &Compiled, tables: &Tables, atom: u16) -> bool
 
 /// Whether a task may be taken up.
 fn is_candidate(compiled: &Compiled, tables: &Tables, atom: u16) -> bool
+    requires counted { IsCounted (outline_of compiled.now) tables.now }
+    requires atom { atom < count (outline_of compiled.now) }
     ensures { result ≡ is_candidate (outline_of compiled.now) (shown_by tables.now) atom }
 {
     is_interrupted(compiled, tables, atom)
@@ -73,6 +76,7 @@ fn outranks(compiled: &Compiled, best: Option<u16>, atom: u16) -> bool
 /// RUNNING.
 #[tactic(auto, using(crate::proofs::BestLemmas::best_is))]
 pub fn best(compiled: &Compiled, tables: &Tables) -> Option<u16>
+    requires counted { IsCounted (outline_of compiled.now) tables.now }
     ensures { result ≡ first_below (count (outline_of compiled.now)) (is_best (outline_of compiled.now) (shown_by tables.now)) }
 {
     let mut best = None;
@@ -106,6 +110,7 @@ fn start_of(state: AtomState, atom: u16) -> Start
 /// The first candidate, while the flow is RUNNING, no atom is REVERT_FAILURE and nothing is forced.
 #[tactic(auto, using(crate::proofs::BestLemmas::choice_none))]
 pub fn candidate(compiled: &Compiled, tables: &Tables) -> Option<Start>
+    requires counted { IsCounted (outline_of compiled.now) tables.now }
     ensures entry { option_map start_entry result ≡ choice (outline_of compiled.now) (shown_by tables.now) }
     ensures action { IfSome result (λ start. start.action ≡ action_in ((shown_by tables.now).state start.atom)) }
     ensures task { IfSome result (λ start. is_task (outline_of compiled.now) start.atom ≡ true) }
@@ -162,6 +167,7 @@ fn is_entry_of(start: &Start, what: &What) -> bool
 /// Whether the first candidate is taken up by this entry.
 #[tactic(auto, using(crate::proofs::BestLemmas::never_chosen))]
 pub fn is_choice(compiled: &Compiled, tables: &Tables, what: &What) -> bool
+    requires counted { IsCounted (outline_of compiled.now) tables.now }
     ensures yes { result ≡ true → choice (outline_of compiled.now) (shown_by tables.now) ≡ Some what.now }
     ensures no { result ≡ false → choice (outline_of compiled.now) (shown_by tables.now) ≢ Some what.now }
 {

@@ -1,9 +1,11 @@
-ghost use Rattle.std.specs.Prelude.{◌≡◌, ◌<◌, IfSome, Some, None, true, option_map};
+ghost use Rattle.std.specs.Prelude.{◌≡◌, ◌<◌, IfSome, true, false, option_map};
 ghost use Rattle.std.specs.List.{list_all};
-ghost use Rattle.tf_numbers.specs.Numbers.{all_below, first_below};
+ghost use Rattle.tf_numbers.specs.Numbers.{all_below};
 ghost use Rattle.tf_model.specs.Plan.{outline_of, count, is_retry};
 ghost use Rattle.tf_model.specs.Forced as rule;
+ghost use Rattle.tf_machine.specs.declared.cases.Case.{Case as AnyCase};
 ghost use Rattle.tf_machine.specs.Cases as specs;
+ghost use Rattle.tf_machine.specs.Counts.{IsCounted};
 ghost use Rattle.tf_machine.specs.Tables.{shown_by};
 
 use crate::compiled::Compiled;
@@ -39,6 +41,13 @@ pub struct Forcing {
     pub atom: u16,
 }
 
+/// The place of a case in their order, and an atom to which it applies.
+#[derive(Clone, Copy, Debug)]
+pub struct Placed {
+    pub place: usize,
+    pub atom: u16,
+}
+
 /// The cases in their order.
 const CASES: [Case; 8] = [
     Case::Attempt,
@@ -51,36 +60,78 @@ const CASES: [Case; 8] = [
     Case::Run,
 ];
 
-/// The first case that applies, with the first atom to which it does.
+/// The first case that applies, with the first atom to which it does. It is found in one pass over the atoms.
+#[tactic(auto, using(crate::proofs::FirstLemmas::none_first, crate::proofs::FirstLemmas::next_first, crate::proofs::FirstLemmas::first_forced, crate::proofs::FirstLemmas::first_within, crate::proofs::FirstLemmas::none_forced))]
 pub fn first_case(compiled: &Compiled, tables: &Tables) -> Option<Forcing>
+    requires counted { IsCounted (outline_of compiled.now) tables.now }
     ensures entry { option_map (specs.entry_of (outline_of compiled.now) (shown_by tables.now)) result
         ≡ rule.forced_if_running (outline_of compiled.now) (shown_by tables.now) }
     ensures atom { IfSome result (λ found. found.atom < count (outline_of compiled.now)) }
 {
-    for case in &CASES {
-        if let Some(atom) = first_of(compiled, tables, *case) {
-            return Some(Forcing { case: *case, atom });
+    let mut first = None;
+    for atom in 0..compiled.atoms() {
+        first = sooner(first, case_at(compiled, tables, atom), atom);
+    }
+    match first {
+        None => None,
+        Some(found) => Some(Forcing {
+            case: CASES[found.place],
+            atom: found.atom,
+        }),
+    }
+}
+
+/// What was found so far, or a case that applies to a later atom where it is sooner in their order.
+fn sooner(first: Option<Placed>, next: Option<usize>, atom: u16) -> Option<Placed>
+    ensures { result ≡ specs.sooner first next atom }
+{
+    match (first, next) {
+        (_, None) => first,
+        (None, Some(place)) => Some(Placed { place, atom }),
+        (Some(found), Some(place)) => {
+            if place < found.place {
+                Some(Placed { place, atom })
+            } else {
+                first
+            }
+        }
+    }
+}
+
+/// The place of the first case that applies to an atom.
+fn case_at(compiled: &Compiled, tables: &Tables, atom: u16) -> Option<usize>
+    requires counted { IsCounted (outline_of compiled.now) tables.now }
+    requires atom { atom < count (outline_of compiled.now) }
+    ensures { specs.IsCaseAt (outline_of compiled.now) (shown_by tables.now) atom result }
+{
+    if is_quiet(compiled, tables, atom) {
+        return None;
+    }
+    for place in 0..CASES.len() {
+        if applies(compiled, tables, CASES[place], atom) {
+            return Some(place);
         }
     }
     None
 }
 
-/// The first atom to which a case applies.
-#[tactic(auto, using(tf_numbers::proofs::BelowLemmas::still_none))]
-fn first_of(compiled: &Compiled, tables: &Tables, case: Case) -> Option<u16>
-    ensures { result ≡ first_below (count (outline_of compiled.now)) (specs.applies (outline_of compiled.now) (shown_by tables.now) case) }
+/// Whether an atom is a task that is neither FAILURE nor refused: no case applies to it then.
+#[tactic(auto, using(crate::proofs::FirstLemmas::no_case_at))]
+fn is_quiet(compiled: &Compiled, tables: &Tables, atom: u16) -> bool
+    requires counted { IsCounted (outline_of compiled.now) tables.now }
+    requires atom { atom < count (outline_of compiled.now) }
+    ensures { result ≡ true → (k : AnyCase) → specs.applies (outline_of compiled.now) (shown_by tables.now) k atom ≡ false }
 {
-    for atom in 0..compiled.atoms() {
-        if applies(compiled, tables, case, atom) {
-            return Some(atom);
-        }
+    if compiled.is_retry(atom) || is_failure(tables.state(atom)) {
+        return false;
     }
-    None
+    !is_refused(compiled, tables, atom)
 }
 
 /// Whether a case applies to an atom.
 fn applies(compiled: &Compiled, tables: &Tables, case: Case, atom: u16) -> bool
-    requires { atom < count (outline_of compiled.now) }
+    requires counted { IsCounted (outline_of compiled.now) tables.now }
+    requires atom { atom < count (outline_of compiled.now) }
     ensures { result ≡ specs.applies (outline_of compiled.now) (shown_by tables.now) case atom }
 {
     let state = tables.state(atom);
@@ -132,7 +183,8 @@ fn are_settled_among(compiled: &Compiled, tables: &Tables, retry: u16, atoms: &[
 
 /// Whether an atom can run and is refused.
 fn is_refused(compiled: &Compiled, tables: &Tables, atom: u16) -> bool
-    requires { atom < count (outline_of compiled.now) }
+    requires counted { IsCounted (outline_of compiled.now) tables.now }
+    requires atom { atom < count (outline_of compiled.now) }
     ensures { result ≡ rule.is_refused (outline_of compiled.now) (shown_by tables.now) atom }
 {
     if !compiled.is_decided(atom) {

@@ -2,6 +2,7 @@ ghost use Rattle.std.specs.Prelude.{◌≡◌};
 ghost use Rattle.tf_numbers.specs.Numbers.{all_below};
 ghost use Rattle.tf_model.specs.Plan.{outline_of, count};
 ghost use Rattle.tf_model.specs.Candidates.{is_done_at, is_at_rest, calm_end, end_of};
+ghost use Rattle.tf_machine.specs.Counts.{IsCounted};
 ghost use Rattle.tf_machine.specs.Tables.{shown_by};
 
 use crate::candidates::best;
@@ -45,6 +46,7 @@ fn are_all_at_rest(compiled: &Compiled, tables: &Tables) -> bool
 
 /// How a run ends that nothing is forced in.
 fn calm_end(compiled: &Compiled, tables: &Tables) -> Option<FlowState>
+    requires counted { IsCounted (outline_of compiled.now) tables.now }
     ensures { result ≡ calm_end (outline_of compiled.now) (shown_by tables.now) }
 {
     if are_all_done(compiled, tables) {
@@ -62,6 +64,7 @@ fn calm_end(compiled: &Compiled, tables: &Tables) -> Option<FlowState>
 /// The end of the run.
 #[tactic(auto, unfolding(tf_model::specs::Candidates::end_of))]
 pub fn end_of(compiled: &Compiled, tables: &Tables) -> Option<FlowState>
+    requires counted { IsCounted (outline_of compiled.now) tables.now }
     ensures { result ≡ end_of (outline_of compiled.now) (shown_by tables.now) }
 {
     if !flow_runs(tables.flow) && !flow_suspends(tables.flow) {

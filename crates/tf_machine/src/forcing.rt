@@ -1,6 +1,7 @@
 ghost use Rattle.std.specs.Prelude.{◌≡◌, ◌≢◌, true, false, Some, Ok, IfOk, is_some};
 ghost use Rattle.tf_model.specs.Plan.{outline_of};
 ghost use Rattle.tf_model.specs.Forced.{is_unhurt, is_active, forced_if_running, forced};
+ghost use Rattle.tf_machine.specs.Counts.{IsCounted};
 ghost use Rattle.tf_machine.specs.Tables.{shown_by};
 
 use crate::cases::first_case;
@@ -36,6 +37,7 @@ pub fn is_active(compiled: &Compiled, tables: &Tables) -> bool
 
 /// Whether something is forced, read as if the flow were RUNNING. It takes no memory.
 pub fn something_forced(compiled: &Compiled, tables: &Tables) -> bool
+    requires counted { IsCounted (outline_of compiled.now) tables.now }
     ensures { result ≡ is_some (forced_if_running (outline_of compiled.now) (shown_by tables.now)) }
 {
     first_case(compiled, tables).is_some()
@@ -44,6 +46,7 @@ pub fn something_forced(compiled: &Compiled, tables: &Tables) -> bool
 /// The forced entry.
 #[tactic(auto, unfolding(tf_model::specs::Forced::forced))]
 pub fn forced(alloc: Global, compiled: &Compiled, tables: &Tables) -> Result<Option<What>, Memory>
+    requires counted { IsCounted (outline_of compiled.now) tables.now }
     ensures { IfOk result (λ found. found ≡ forced (outline_of compiled.now) (shown_by tables.now)) }
 {
     if !is_active(compiled, tables) {
@@ -62,6 +65,7 @@ pub fn is_forced(
     tables: &Tables,
     what: &What,
 ) -> Result<bool, Memory>
+    requires counted { IsCounted (outline_of compiled.now) tables.now }
     ensures yes { result ≡ Ok true → forced (outline_of compiled.now) (shown_by tables.now) ≡ Some what.now }
     ensures no { result ≡ Ok false → forced (outline_of compiled.now) (shown_by tables.now) ≢ Some what.now }
 {

@@ -5,6 +5,7 @@
 mod candidates;
 mod cases;
 mod compiled;
+mod counters;
 mod ending;
 mod entries;
 mod equality;

@@ -8,7 +8,7 @@ ghost use Rattle.tf_ports.specs.declared.outcomes.Outcome.{Outcome as Came};
 ghost use Rattle.tf_ports.specs.declared.outcomes.Outcome.TheVariants.{Gave as given, Failed as failing};
 ghost use Rattle.tf_model.specs.Compilation.{compile_refusal};
 ghost use Rattle.tf_model.specs.Orders.{order_of};
-ghost use Rattle.tf_model.specs.Plan.{outline_of, is_task};
+ghost use Rattle.tf_model.specs.Plan.{outline_of, count, is_task};
 ghost use Rattle.tf_model.specs.Scope.{missing_symbol};
 ghost use Rattle.tf_model.specs.Snapshot.{later};
 ghost use Rattle.tf_model.specs.History.{snapshot, flow_of};
@@ -18,6 +18,7 @@ ghost use Rattle.tf_model.specs.Steps.{Step, is_still};
 ghost use Rattle.tf_facts.specs.Facts.{Facts, CompletedReversion};
 ghost use Rattle.tf_machine.specs.declared.faults.ApplyFault.TheVariants.{NotAStep as refuses};
 ghost use Rattle.tf_machine.specs.Answers.{views_of, task_of, start_entry, action_in, end_by, ended_from, IsBuildRefusal, IsBack};
+ghost use Rattle.tf_machine.specs.Counts.{waiting_of, holding_of};
 ghost use Rattle.tf_machine.specs.Machine.{outline, shown, StandsFor, HasHistory};
 ghost use Rattle.tf_model.specs.States.{flow_runs, flow_suspends};
 ghost use Rattle.tf_model.specs.Bound.{entry_bound};
@@ -53,7 +54,7 @@ pub struct Machine {
 impl Model for Machine {
     ghost use Rattle.std.specs.Coded.{codes};
     ghost use Rattle.tf_flow.specs.contracts.nested.Flow as flow;
-    ghost use Rattle.tf_machine.specs.Machine.{MachineValue, IsSound};
+    ghost use Rattle.tf_machine.specs.Machine.{MachineValue, IsSoundWith};
 
     ghost Value = { MachineValue };
 
@@ -61,7 +62,7 @@ impl Model for Machine {
 
     ghost view = { λ m. record { plan = m.compiled; views = m.tables.views.items; places = m.tables.places.items; flow = m.tables.flow } };
 
-    ghost invariant = { λ m. IsSound (record { plan = m.compiled; views = m.tables.views.items; places = m.tables.places.items; flow = m.tables.flow }) };
+    ghost invariant = { λ m. IsSoundWith (record { plan = m.compiled; views = m.tables.views.items; places = m.tables.places.items; flow = m.tables.flow }) m.tables.counters };
 }
 
 impl Machine {
@@ -77,7 +78,7 @@ impl Machine {
         plan_is_within_limits(&plan);
         tries_are_few(&plan);
         let compiled = Compiled::make(alloc, plan)?;
-        let tables = Tables::make(alloc, compiled.atoms())?;
+        let tables = Tables::make(alloc, &compiled)?;
         Ok(Machine { compiled, tables })
     }
 
@@ -242,6 +243,26 @@ impl Machine {
             → result.now ≡ views_of (outline self.now) (snapshot (outline self.now) past) }
     {
         &self.tables.views
+    }
+
+    /// How many atoms before an atom are neither SUCCESS nor IGNORE. It takes no memory.
+    pub fn waiting(&self, atom: u16) -> u16
+        requires { atom < count (outline self.now) }
+        ensures is { result ≡ waiting_of (outline self.now) (shown self.now) atom }
+        ensures after { (past : List Record) → StandsFor self.now past
+            → result ≡ waiting_of (outline self.now) (snapshot (outline self.now) past) atom }
+    {
+        self.tables.counters.waiting(atom)
+    }
+
+    /// How many atoms after an atom aren't settled: PENDING, REVERTED and IGNORE are. It takes no memory.
+    pub fn holding(&self, atom: u16) -> u16
+        requires { atom < count (outline self.now) }
+        ensures is { result ≡ holding_of (outline self.now) (shown self.now) atom }
+        ensures after { (past : List Record) → StandsFor self.now past
+            → result ≡ holding_of (outline self.now) (snapshot (outline self.now) past) atom }
+    {
+        self.tables.counters.holding(atom)
     }
 
     /// The flow's state. At every moment the facts on states and marks hold; and where the flow is

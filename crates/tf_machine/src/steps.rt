@@ -6,6 +6,7 @@ ghost use Rattle.tf_model.specs.Plan.{outline_of, count};
 ghost use Rattle.tf_model.specs.Forced.{forced};
 ghost use Rattle.tf_model.specs.Steps.{Rule, Step, is_free, is_still, is_settled_at, is_put_back_at, ends_as, ends_task, may_turn, turns_flow, end_entry, may_suspend, reset, put_back_or_rest};
 ghost use Rattle.tf_machine.specs.Answers.{task_of, is_with};
+ghost use Rattle.tf_machine.specs.Counts.{IsCounted};
 ghost use Rattle.tf_machine.specs.Tables.{shown_by};
 
 use crate::candidates::is_choice;
@@ -116,6 +117,7 @@ fn turns_flow(from: FlowState, what: &What) -> bool
 
 /// Whether the entry records the end.
 fn is_end(compiled: &Compiled, tables: &Tables, what: &What) -> bool
+    requires counted { IsCounted (outline_of compiled.now) tables.now }
     ensures yes { result ≡ true → end_entry (outline_of compiled.now) (shown_by tables.now) ≡ Some what.now }
     ensures no { result ≡ false → end_entry (outline_of compiled.now) (shown_by tables.now) ≢ Some what.now }
 {
@@ -130,6 +132,7 @@ fn is_end(compiled: &Compiled, tables: &Tables, what: &What) -> bool
 
 /// Whether the entry suspends the flow, which nothing forbids.
 fn is_suspension(compiled: &Compiled, tables: &Tables, what: &What) -> bool
+    requires counted { IsCounted (outline_of compiled.now) tables.now }
     ensures may { result ≡ true → may_suspend (outline_of compiled.now) (shown_by tables.now) ≡ true }
     ensures yes { result ≡ true → what.now ≡ flow_enters suspended }
     ensures no { result ≡ false → may_suspend (outline_of compiled.now) (shown_by tables.now) ≡ true → what.now ≢ flow_enters suspended }
@@ -143,6 +146,7 @@ fn is_suspension(compiled: &Compiled, tables: &Tables, what: &What) -> bool
 /// Whether in SUSPENDING nothing is in flight and there is no end.
 #[tactic(auto, unfolding(tf_model::specs::Steps::may_suspend))]
 fn may_suspend(compiled: &Compiled, tables: &Tables) -> bool
+    requires counted { IsCounted (outline_of compiled.now) tables.now }
     ensures { result ≡ may_suspend (outline_of compiled.now) (shown_by tables.now) }
 {
     flow_suspends(tables.flow) && is_still(compiled, tables) && end_of(compiled, tables).is_none()
@@ -209,6 +213,7 @@ fn is_reset(compiled: &Compiled, tables: &Tables, what: &What) -> bool
 /// forced one.
 #[tactic(auto, using(crate::proofs::RuleLemmas::no_rule))]
 fn has_rule(compiled: &Compiled, tables: &Tables, entry: &Entry, is_forced: bool) -> bool
+    requires counted { IsCounted (outline_of compiled.now) tables.now }
     requires forced { is_forced ≡ true → forced (outline_of compiled.now) (shown_by tables.now) ≡ Some entry.now.what }
     requires unforced { is_forced ≡ false → forced (outline_of compiled.now) (shown_by tables.now) ≢ Some entry.now.what }
     ensures yes { result ≡ true → Rule (outline_of compiled.now) (shown_by tables.now) entry.now }
@@ -236,6 +241,7 @@ pub fn is_step(
     tables: &Tables,
     entry: &Entry,
 ) -> Result<bool, Memory>
+    requires counted { IsCounted (outline_of compiled.now) tables.now }
     ensures yes { result ≡ Ok true → Step (outline_of compiled.now) (shown_by tables.now) entry.now }
     ensures no { result ≡ Ok false → ¬ (Step (outline_of compiled.now) (shown_by tables.now) entry.now) }
 {
@@ -245,6 +251,7 @@ pub fn is_step(
 
 /// Whether the entry may follow, where it is told whether it is the forced one.
 fn may_follow(compiled: &Compiled, tables: &Tables, entry: &Entry, is_forced: bool) -> bool
+    requires counted { IsCounted (outline_of compiled.now) tables.now }
     requires forced { is_forced ≡ true → forced (outline_of compiled.now) (shown_by tables.now) ≡ Some entry.now.what }
     requires unforced { is_forced ≡ false → forced (outline_of compiled.now) (shown_by tables.now) ≢ Some entry.now.what }
     ensures yes { result ≡ true → Step (outline_of compiled.now) (shown_by tables.now) entry.now }

@@ -10,9 +10,11 @@ ghost use Rattle.tf_model.specs.Readiness.{is_unmarked, is_to_revert};
 ghost use Rattle.tf_machine.specs.Answers.{is_with};
 ghost use Rattle.tf_model.specs.Forced.{is_marked_again};
 ghost use Rattle.tf_machine.specs.Tables.{shown_by, resolve_of};
+ghost use Rattle.tf_machine.specs.Counts.{IsCounted};
 ghost use Rattle.tf_machine.specs.Changes.{first_views, first_places, entered_view, entered_place, AreChanged, changed, turned, cleared, marked, begun};
 
 use crate::compiled::Compiled;
+use crate::counters::Counters;
 use crate::states::{flow_rests, flow_resumes, is_at_work, is_running};
 use std::alloc::Global;
 use tf_states::{AtomState, AtomView, Entry, FlowState, Kind, Payload, What};
@@ -47,24 +49,27 @@ pub enum Change {
     Resolve(Mark),
 }
 
-/// A view and a place for each atom, and the flow's state.
+/// A view and a place for each atom, the flow's state, and the counters of each atom.
 #[derive(Drop)]
 pub struct Tables {
     pub views: Vec<AtomView>,
     pub places: Vec<Place>,
     pub flow: FlowState,
+    pub counters: Counters,
 }
 
 impl Tables {
-    /// The tables of so many atoms before a run.
-    pub fn make(alloc: Global, atoms: u16) -> Result<Tables, Memory>
-        ensures views { IfOk result (λ tables. tables.views.items ≡ first_views atoms) }
-        ensures places { IfOk result (λ tables. tables.places.items ≡ first_places atoms) }
+    /// The tables of a plan before a run.
+    pub fn make(alloc: Global, compiled: &Compiled) -> Result<Tables, Memory>
+        ensures views { IfOk result (λ tables. tables.views.items ≡ first_views (count (outline_of compiled.now))) }
+        ensures places { IfOk result (λ tables. tables.places.items ≡ first_places (count (outline_of compiled.now))) }
         ensures flow { IfOk result (λ tables. tables.flow ≡ pending_flow) }
+        ensures counted { IfOk result (IsCounted (outline_of compiled.now)) }
     {
+        let counters = Counters::make(alloc, compiled)?;
         let mut views = Vec::new(alloc);
         let mut places = Vec::new(alloc);
-        for _atom in 0..atoms {
+        for _atom in 0..compiled.atoms() {
             views.push(AtomView {
                 state: AtomState::Pending,
                 payload: Payload::Empty,
@@ -79,6 +84,7 @@ impl Tables {
             views,
             places,
             flow: FlowState::Pending,
+            counters,
         })
     }
 
@@ -161,10 +167,12 @@ impl Tables {
         requires few { (a : ℕ) → (shown_by self.old).attempts a < 65536 }
         requires views { length self.old.views.items ≡ count (outline_of compiled.now) }
         requires places { length self.old.places.items ≡ count (outline_of compiled.now) }
+        requires counted { IsCounted (outline_of compiled.now) self.old }
         requires step { Step (outline_of compiled.now) (shown_by self.old) entry }
         ensures moved { shown_by self.new ≡ later (outline_of compiled.now) entry (shown_by self.old) }
         ensures views { length self.new.views.items ≡ length self.old.views.items }
         ensures places { length self.new.places.items ≡ length self.old.places.items }
+        ensures counted { IsCounted (outline_of compiled.now) self.new }
     {
         let Entry { hand, what } = entry;
         match what {
@@ -173,8 +181,10 @@ impl Tables {
                 state,
                 payload,
             } => {
+                let from = self.state(atom);
                 let taken = taken_by(compiled, hand, atom, state);
                 self.enter(atom, state, payload, taken);
+                self.counters.follow(compiled, atom, from, state);
                 clear_each(compiled, &mut self.places, atom, state)
             }
             What::Flow(state) => {
@@ -203,6 +213,7 @@ impl Tables {
         ensures attempts { (a : ℕ) → (shown_by self.new).attempts a
             ≡ attempts_after (atom_enters atom state payload) a ((shown_by self.old).attempts a) }
         ensures flow { self.new.flow ≡ self.old.flow }
+        ensures counters { self.new.counters ≡ self.old.counters }
         ensures views { length self.new.views.items ≡ length self.old.views.items }
         ensures places { length self.new.places.items ≡ length self.old.places.items }
     {
@@ -218,6 +229,7 @@ impl Tables {
         ensures attempts { (a : ℕ) → (shown_by self.new).attempts a ≡ (shown_by self.old).attempts a }
         ensures views { self.new.views.items ≡ self.old.views.items }
         ensures flow { self.new.flow ≡ self.old.flow }
+        ensures counters { self.new.counters ≡ self.old.counters }
         ensures places { length self.new.places.items ≡ length self.old.places.items }
     {
         self.places[atom as usize].hand = Some(hand);

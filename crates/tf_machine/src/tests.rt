@@ -95,6 +95,10 @@ enum Act {
     InFlight(u8, u16),
     /// The atom is in the state.
     Is(u16, AtomState),
+    /// So many atoms before the atom are neither SUCCESS nor IGNORE.
+    Waits(u16, u16),
+    /// So many atoms after the atom aren't settled.
+    Holds(u16, u16),
 }
 
 fn applies(alloc: Global, machine: &mut Machine, hand: u8, what: What) -> bool {
@@ -173,6 +177,26 @@ fn is_in(machine: &Machine, atom: u16, state: AtomState) -> bool {
     }
 }
 
+/// For how many atoms an atom waits, where there is such an atom.
+#[tactic(auto, using(crate::proofs::PlanLemmas::atoms_counted))]
+fn waits(machine: &Machine, atom: u16) -> Option<u16> {
+    if atom < machine.plan().atoms() {
+        Some(machine.waiting(atom))
+    } else {
+        None
+    }
+}
+
+/// How many atoms hold an atom, where there is such an atom.
+#[tactic(auto, using(crate::proofs::PlanLemmas::atoms_counted))]
+fn holds(machine: &Machine, atom: u16) -> Option<u16> {
+    if atom < machine.plan().atoms() {
+        Some(machine.holding(atom))
+    } else {
+        None
+    }
+}
+
 /// Whether what is looked at is so.
 fn shows(alloc: Global, machine: &Machine, act: Act) -> bool {
     match act {
@@ -183,6 +207,8 @@ fn shows(alloc: Global, machine: &Machine, act: Act) -> bool {
         Act::Ends(state) => machine.ended() == Some(state),
         Act::InFlight(hand, atom) => machine.in_flight(hand) == Some(atom),
         Act::Is(atom, state) => is_in(machine, atom, state),
+        Act::Waits(atom, count) => waits(machine, atom) == Some(count),
+        Act::Holds(atom, count) => holds(machine, atom) == Some(count),
         _ => false,
     }
 }
@@ -226,19 +252,22 @@ fn first_wrong(alloc: Global, mut machine: Machine, rows: &[(bool, Act)]) -> Opt
     None
 }
 
-const TWO_ECHOES: [(bool, Act); 18] = [
+const TWO_ECHOES: [(bool, Act); 21] = [
     (true, Act::NoNext),
     (true, Act::Turn(FlowState::Running)),
+    (true, Act::Waits(1, 1)),
     (true, Act::Starts(0, Action::Execute)),
     (false, Act::Enter(0, 1, AtomState::Running)),
     (true, Act::Enter(0, 0, AtomState::Running)),
     (true, Act::InFlight(0, 0)),
     (true, Act::NoNext),
     (true, Act::Give(0)),
+    (true, Act::Waits(1, 0)),
     (true, Act::Starts(1, Action::Execute)),
     (false, Act::Ends(FlowState::Success)),
     (true, Act::Enter(0, 1, AtomState::Running)),
     (true, Act::Give(0)),
+    (true, Act::Holds(0, 1)),
     (true, Act::Is(0, AtomState::Success)),
     (true, Act::Is(1, AtomState::Success)),
     (true, Act::Ends(FlowState::Success)),
@@ -255,7 +284,7 @@ fn two_echoes_run_one_after_the_other(rt: HostRuntime) -> Result<(), Fail> {
     Ok(())
 }
 
-const REVERSION: [(bool, Act); 27] = [
+const REVERSION: [(bool, Act); 30] = [
     (true, Act::Turn(FlowState::Running)),
     (true, Act::Enter(0, 0, AtomState::Running)),
     (true, Act::Give(0)),
@@ -266,6 +295,7 @@ const REVERSION: [(bool, Act); 27] = [
     (true, Act::Resolve),
     (false, Act::Resolve),
     (false, Act::Enter(0, 0, AtomState::Reverting)),
+    (true, Act::Holds(0, 1)),
     (true, Act::Starts(1, Action::Revert)),
     (true, Act::Enter(0, 1, AtomState::Reverting)),
     (true, Act::Give(0)),
@@ -277,7 +307,9 @@ const REVERSION: [(bool, Act); 27] = [
     (true, Act::Ends(FlowState::Reverted)),
     (true, Act::Turn(FlowState::Reverted)),
     (false, Act::Enter(0, 1, AtomState::Pending)),
+    (true, Act::Holds(0, 0)),
     (true, Act::Enter(0, 0, AtomState::Pending)),
+    (true, Act::Waits(1, 1)),
     (false, Act::Turn(FlowState::Pending)),
     (true, Act::Enter(0, 1, AtomState::Pending)),
     (true, Act::Turn(FlowState::Pending)),

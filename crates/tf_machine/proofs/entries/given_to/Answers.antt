@@ -1,4 +1,3 @@
-use Rattle.tf_model.specs.Plan.{outline_of}
 use Rattle.tf_machine.specs.Tables.{shown_by}
 use Rattle.tf_machine.proofs.EntryLemmas.{same_given, views_seen}
 use Rattle.tf_machine.proofs.entries.given_to.Goals as goal

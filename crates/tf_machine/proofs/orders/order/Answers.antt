@@ -1,4 +1,4 @@
-use Rattle.std.proofs.Common.{◌≡◌, ◌∙◌, ap, sym, List}
+use Rattle.std.proofs.Common.{◌≡◌, ◌∙◌, ap, List}
 use Rattle.std.specs.Prelude.{ℕ, Some}
 use Rattle.tf_flow.specs.declared.atoms.Undo.{Undo}
 use Rattle.tf_ports.specs.declared.orders.Given.{Given}

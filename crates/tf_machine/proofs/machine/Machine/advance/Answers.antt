@@ -10,14 +10,16 @@ use Rattle.tf_machine.proofs.MachineLemmas.{sound_facts, sound_few, stands_later
 use Rattle.tf_machine.proofs.machine.Machine.advance.Goals as goal
 
 pub record-requires-clause-facts : goal.record-requires-clause-facts
-record-requires-clause-facts c = sound_facts _ c.self.invariant
+record-requires-clause-facts c = sound_facts _ c.self.invariant.sound
 
 pub record-requires-clause-few : goal.record-requires-clause-few
-record-requires-clause-few c = sound_few _ c.self.invariant
+record-requires-clause-few c = sound_few _ c.self.invariant.sound
 
 pub invariant_of-self : goal.invariant_of-self
-invariant_of-self c =
-    sound_later _ _ c.args.entry c.self.invariant c.event_is_short.ensures refl (subst (λ (m : MachineValue). Step (outline m) (shown m) c.args.entry) (sym c.self.view_is) c.requires) c.record.ensures.moved c.record.ensures.views c.record.ensures.places
+invariant_of-self c = record {
+  sound = sound_later _ _ c.args.entry c.self.invariant.sound c.event_is_short.ensures refl (subst (λ (m : MachineValue). Step (outline m) (shown m) c.args.entry) (sym c.self.view_is) c.requires) c.record.ensures.moved c.record.ensures.views c.record.ensures.places;
+  counted = c.record.ensures.counted;
+}
 
 pub returns-clause-stands : goal.returns-clause-stands
 returns-clause-stands c = λ past stands.
@@ -28,5 +30,5 @@ pub returns-clause-less : goal.returns-clause-less
 returns-clause-less c =
     let now : MachineValue = record { plan = c.self.inside.compiled; views = c.record.new.self.views.items; places = c.record.new.self.places.items; flow = c.record.new.self.flow } in
     subst (λ (m : MachineValue). flow_runs (shown m).flow || flow_suspends (shown m).flow ≡ true → c.args.entry.what ≢ what.Flow flow.Resuming → left now.plan (shown now) < left m.plan (shown m)) c.self.view_is
-    (moved_less _ now c.args.entry c.self.invariant refl c.record.ensures.moved
+    (moved_less _ now c.args.entry c.self.invariant.sound refl c.record.ensures.moved
     (subst (λ (m : MachineValue). Step (outline m) (shown m) c.args.entry) (sym c.self.view_is) c.requires))

@@ -6,5 +6,5 @@ use Rattle.tf_machine.proofs.machine.Machine.candidate.Goals as goal
 
 pub returns-clause-less : goal.returns-clause-less
 returns-clause-less c =
-    machine_chosen c.args.self.now c.candidate.result (subst IsSound c.self.view_is c.self.invariant)
+    machine_chosen c.args.self.now c.candidate.result (subst IsSound c.self.view_is c.self.invariant.sound)
     (c.candidate.ensures.entry ∙ ap (λ (m : MachineValue). choice (outline m) (shown m)) c.self.view_is)

@@ -9,4 +9,4 @@ pub returns-clause-never_stuck : goal.returns-clause-never_stuck
 returns-clause-never_stuck c = λ past stands runs unforced unstarted still.
     ap is_some c.end_of.ensures
     ∙ (ap (λ (m : MachineValue). is_some (end_of (outline m) (shown m))) c.self.view_is
-    ∙ stuck_never c.args.self.now past (subst IsSound c.self.view_is c.self.invariant) stands runs unforced unstarted still)
+    ∙ stuck_never c.args.self.now past (subst IsSound c.self.view_is c.self.invariant.sound) stands runs unforced unstarted still)

@@ -5,8 +5,8 @@ use Rattle.tf_machine.proofs.MachineLemmas.{views_told}
 use Rattle.tf_machine.proofs.machine.Machine.views.Goals as goal
 
 pub returns-clause-is : goal.returns-clause-is
-returns-clause-is c = c.deref.ensures.value ∙ (views_told _ c.self.invariant ∙ ap (λ (m : MachineValue). views_of (outline m) (shown m)) c.self.view_is)
+returns-clause-is c = c.deref.ensures.value ∙ (views_told _ c.self.invariant.sound ∙ ap (λ (m : MachineValue). views_of (outline m) (shown m)) c.self.view_is)
 
 pub returns-clause-after : goal.returns-clause-after
 returns-clause-after c = λ past stands.
-    c.deref.ensures.value ∙ (views_told _ c.self.invariant ∙ (ap (λ (m : MachineValue). views_of (outline m) (shown m)) c.self.view_is ∙ ap (views_of (outline c.args.self.now)) stands.shows))
+    c.deref.ensures.value ∙ (views_told _ c.self.invariant.sound ∙ (ap (λ (m : MachineValue). views_of (outline m) (shown m)) c.self.view_is ∙ ap (views_of (outline c.args.self.now)) stands.shows))

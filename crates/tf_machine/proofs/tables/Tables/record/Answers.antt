@@ -6,8 +6,10 @@ use Rattle.tf_machine.specs.declared.tables.Place.{Place}
 use Rattle.tf_model.specs.Plan.{outline_of, count}
 use Rattle.tf_model.specs.Views.{state_in, payload_in}
 use Rattle.tf_machine.specs.Changes.{AreChanged, changed, cleared, turned}
+use Rattle.tf_machine.specs.Counts.{AreCounted}
 use Rattle.tf_machine.specs.Tables.{shown_of, shown_by}
 use Rattle.std.specs.Prelude.{slice_get}
+use Rattle.tf_machine.proofs.CountLemmas.{same_counted}
 use Rattle.tf_machine.proofs.FitLemmas.{entered_below, restarted_below}
 use Rattle.tf_machine.proofs.RecordLemmas.{written_back, entered_recorded, taken_recorded, turned_recorded, resolved_recorded}
 use Rattle.tf_machine.proofs.tables.Tables.record.Goals as goal
@@ -39,6 +41,9 @@ returns-in-Atom c =
           c.in-Atom.is c.taken_by-taken.ensures are c.enter.ensures.state c.enter.ensures.payload c.enter.ensures.hand c.enter.ensures.mark c.enter.ensures.attempts c.enter.ensures.flow;
       views = c.enter.ensures.views;
       places = ap (λ (ps : List Place). length ps) back ∙ (are.as_many ∙ c.enter.ensures.places);
+      counted = c.follow.ensures (shown_by c.args.self.now) _
+          (subst (AreCounted (outline_of c.args.compiled.now) (shown_by c.args.self.now)) (sym c.enter.ensures.counters) c.requires.counted)
+          (sym c.state-from.ensures) c.enter.ensures.state;
     }
 
 pub returns-in-Flow : goal.returns-in-Flow
@@ -52,6 +57,7 @@ returns-in-Flow c =
           ∙ turned_recorded (outline_of c.args.compiled.now) c.args.self.now.views.items old new c.args.self.now.flow c.in-Flow.state c.args.entry c.in-Flow.is are;
       views = refl;
       places = ap (λ (ps : List Place). length ps) back ∙ are.as_many;
+      counted = same_counted (outline_of c.args.compiled.now) (shown_by c.args.self.now) _ c.args.self.now.counters (λ a. refl) c.requires.counted;
     }
 
 pub returns-in-Resolve : goal.returns-in-Resolve
@@ -67,6 +73,7 @@ returns-in-Resolve c =
           ∙ resolved_recorded (outline_of c.args.compiled.now) c.args.self.now.views.items old new c.args.self.now.flow c.args.entry mark c.requires.places c.in-Resolve.is are;
       views = refl;
       places = ap (λ (ps : List Place). length ps) back ∙ are.as_many;
+      counted = same_counted (outline_of c.args.compiled.now) (shown_by c.args.self.now) _ c.args.self.now.counters (λ a. refl) c.requires.counted;
     }
 
 pub returns-in-Restart : goal.returns-in-Restart
@@ -76,4 +83,7 @@ returns-in-Restart c = record {
       c.take.ensures.hand c.take.ensures.mark c.take.ensures.attempts c.take.ensures.flow;
   views = ap (λ (xs : List AtomView). length xs) c.take.ensures.views;
   places = c.take.ensures.places;
+  counted = subst (AreCounted (outline_of c.args.compiled.now) (shown_by c.take.new.self)) (sym c.take.ensures.counters)
+      (same_counted (outline_of c.args.compiled.now) (shown_by c.args.self.now) (shown_by c.take.new.self) c.args.self.now.counters
+      (λ a. ap (λ (xs : List AtomView). state_in (slice_get xs a)) c.take.ensures.views) c.requires.counted);
 }
