@@ -1,7 +1,0 @@
-use Rattle.std.proofs.Common.{◌≡◌, drop, is_some}
-use Rattle.tf_commands.specs.declared.quotes.Inside.TheVariants as at
-use Rattle.tf_commands.specs.Quotes.{text_from}
-use Rattle.tf_commands.proofs.quotes.closes.Given as goal
-
-abbrev pub invariant-loop-byte : goal.invariant-loop-byte
-invariant-loop-byte l = is_some (text_from at.Bytes l.inner) ≡ is_some (text_from l.place (drop l.byte-index l.inner))

@@ -1,0 +1,14 @@
+pub mod PairLemmas
+pub mod SpelledLemmas
+pub mod FormLemmas
+pub mod ReadingLemmas
+pub mod SpelledFormLemmas
+pub mod RuleLemmas
+pub mod SortLemmas
+pub mod TableLemmas
+pub mod WalkLemmas
+pub mod ParseLemmas
+pub mod FoundLemmas
+pub mod TextLemmas
+pub mod NumberLemmas
+pub mod DemoLemmas

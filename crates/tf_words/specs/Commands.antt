@@ -1,0 +1,92 @@
+-- What each command asks for, by the values that its words give to the names of its options and, as positional words, to the empty name.
+use Rattle.std.specs.Prelude.{ℕ, List, [], ◌∷◌, codes, Bool, true, false, Option, Some, None, option_map, option_and_then}
+use Rattle.tf_ports.specs.declared.crews.Want.TheVariants as want
+use Rattle.tf_words.specs.declared.asked.Asked.{Asked}
+use Rattle.tf_words.specs.declared.asked.Asked.TheVariants as asked
+use Rattle.tf_words.specs.declared.verbs.Verb.{Verb}
+use Rattle.tf_words.specs.declared.verbs.Verb.TheVariants as verb
+use Rattle.tf_words.specs.Numbers.{number_between}
+use Rattle.tf_words.specs.Pairs.{sets_behind}
+
+-- the values that words give to each name
+abbrev pub Said : Type 0
+Said = List ℕ → List (List ℕ)
+
+-- an option stands at most once: what its value is read as, or what holds where it doesn't stand
+abbrev pub once : {A : Type 0} → A → (List ℕ → Option A) → List (List ℕ) → Option A
+once absent read [] = Some absent
+once absent read (value ∷ []) = read value
+once absent read _ = None
+
+-- whether reverts are deferred
+abbrev pub deferral_in : Said → Option Bool
+deferral_in said = once false (λ value. Some true) (said (codes "defer-reverts"))
+
+-- how many hands are wanted, 1 to 64 and else one
+abbrev pub hands_in : Said → Option ℕ
+hands_in said = once 1 (number_between 1 64) (said (codes "hands"))
+
+-- after how many entries the run stops, if it does
+abbrev pub stop_in : Said → Option (Option ℕ)
+stop_in said = once None (λ value. option_map Some (number_between 1 999999999 value)) (said (codes "stop-after"))
+
+-- `try FILE [NAME=VALUE]...`
+abbrev pub try_of : Said → List (List ℕ) → Option Asked
+try_of said [] = None
+try_of said (file ∷ pairs) =
+    option_and_then (λ defer.
+    option_and_then (λ hands.
+    option_map (λ sets. asked.Try file sets defer (want.Local hands))
+    (sets_behind [] pairs)) (hands_in said)) (deferral_in said)
+
+-- `run FILE BOOK [NAME=VALUE]...`
+abbrev pub run_of : Said → List (List ℕ) → Option Asked
+run_of said (file ∷ book ∷ pairs) =
+    option_and_then (λ defer.
+    option_and_then (λ hands.
+    option_and_then (λ stop.
+    option_map (λ sets. asked.Run file book sets defer (want.Local hands) stop)
+    (sets_behind [] pairs)) (stop_in said)) (hands_in said)) (deferral_in said)
+run_of said _ = None
+
+-- `resume BOOK`
+abbrev pub resume_of : Said → List (List ℕ) → Option Asked
+resume_of said (book ∷ []) =
+    option_and_then (λ hands.
+    option_map (λ stop. asked.Resume book (want.Local hands) stop)
+    (stop_in said)) (hands_in said)
+resume_of said _ = None
+
+-- `show BOOK`
+abbrev pub show_of : List (List ℕ) → Option Asked
+show_of (book ∷ []) = Some (asked.Show book)
+show_of _ = None
+
+-- `reset BOOK`
+abbrev pub reset_of : List (List ℕ) → Option Asked
+reset_of (book ∷ []) = Some (asked.Reset book)
+reset_of _ = None
+
+-- `check FILE [NAME=VALUE]...`
+abbrev pub check_of : List (List ℕ) → Option Asked
+check_of [] = None
+check_of (file ∷ pairs) = option_map (λ sets. asked.Check file sets) (sets_behind [] pairs)
+
+-- `demo SEED SIZE BOOK`
+abbrev pub demo_of : Said → List (List ℕ) → Option Asked
+demo_of said (seed ∷ size ∷ book ∷ []) =
+    option_and_then (λ seed.
+    option_and_then (λ size.
+    option_map (λ hands. asked.Demo seed size book hands)
+    (hands_in said)) (number_between 1 900 size)) (number_between 0 65536 seed)
+demo_of said _ = None
+
+-- what the command asks for
+abbrev pub asked_by : Verb → Said → Option Asked
+asked_by verb.Try said = try_of said (said [])
+asked_by verb.Run said = run_of said (said [])
+asked_by verb.Resume said = resume_of said (said [])
+asked_by verb.Show said = show_of (said [])
+asked_by verb.Reset said = reset_of (said [])
+asked_by verb.Check said = check_of (said [])
+asked_by verb.Demo said = demo_of said (said [])

@@ -1,0 +1,74 @@
+ghost use Rattle.std.specs.Prelude.{◌≡◌, IfOk};
+ghost use Rattle.tf_words.specs.Words.{command_of};
+
+use crate::commands::asked_by;
+use crate::given::given_by;
+use crate::verbs::{Choice, chosen_in, keys_of};
+use crate::word::{Word, are_filled};
+use std::alloc::Global;
+use tf_flow::Binds;
+use tf_ports::Want;
+use tf_values::{Memory, Text};
+
+/// What the words ask for.
+#[derive(Debug, Drop)]
+pub enum Asked {
+    /// Run the flow of a file with these values, and keep nothing of it.
+    Try {
+        file: Text,
+        sets: Binds,
+        defer: bool,
+        want: Want,
+    },
+    /// Run the flow of a file with these values, and keep its history in a book.
+    Run {
+        file: Text,
+        book: Text,
+        sets: Binds,
+        defer: bool,
+        want: Want,
+        stop_after: Option<u32>,
+    },
+    /// Run the flow of a book on.
+    Resume {
+        book: Text,
+        want: Want,
+        stop_after: Option<u32>,
+    },
+    /// Say the history of a book's flow, and how it stands.
+    Show {
+        book: Text,
+    },
+    /// Make a book's flow ready to run anew.
+    Reset {
+        book: Text,
+    },
+    /// Read the flow of a file with these values, and say what it has.
+    Check {
+        file: Text,
+        sets: Binds,
+    },
+    /// Run a flow that is made by numbers, and keep its history in a book.
+    Demo {
+        seed: u32,
+        size: u16,
+        book: Text,
+        hands: u8,
+    },
+}
+
+/// The command that the words are, or none.
+pub fn read_words(alloc: Global, words: &[Word]) -> Result<Option<Asked>, Memory>
+    ensures { IfOk result (λ asked. asked ≡ command_of words.now) }
+{
+    if !are_filled(words) {
+        return Ok(None);
+    }
+    let Some(Choice { verb, others }) = chosen_in(words) else {
+        return Ok(None);
+    };
+    match given_by(alloc, keys_of(verb), others)? {
+        Some(given) => asked_by(alloc, verb, &given),
+        None => Ok(None),
+    }
+}

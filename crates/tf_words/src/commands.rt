@@ -1,0 +1,229 @@
+ghost use Rattle.std.specs.Prelude.{◌≡◌, ◌≤◌, ℕ, List, [], IfOk, IfSome, Some, option_map, true};
+ghost use Rattle.std.specs.List.{All};
+ghost use Rattle.tf_values.specs.Text.{is_text};
+ghost use Rattle.tf_words.specs.Held.{held_by, texts_in};
+ghost use Rattle.tf_words.specs.Commands.{asked_by as asked_in, deferral_in as deferral_said, hands_in as hands_said, stop_in as stop_said};
+ghost use Rattle.tf_words.specs.Commands.{try_of as try_said, run_of as run_said, resume_of as resume_said, show_of as show_said, reset_of as reset_said, check_of as check_said, demo_of as demo_said};
+
+use crate::asked::Asked;
+use crate::given::Given;
+use crate::numbers::number_between;
+use crate::pairs::sets_of;
+use crate::verbs::Verb;
+use std::alloc::Global;
+use tf_ports::Want;
+use tf_values::{Memory, Text};
+
+/// What the command asks for, or none where the values are not those of the command.
+pub fn asked_by(alloc: Global, verb: Verb, given: &Given<'_>) -> Result<Option<Asked>, Memory>
+    ensures { IfOk result (λ asked. asked ≡ asked_in verb (held_by given.now.matches)) }
+{
+    let Some(words) = given.values("") else {
+        return Ok(None);
+    };
+    match verb {
+        Verb::Try => try_of(alloc, given, words),
+        Verb::Run => run_of(alloc, given, words),
+        Verb::Resume => resume_of(alloc, given, words),
+        Verb::Show => show_of(alloc, words),
+        Verb::Reset => reset_of(alloc, words),
+        Verb::Check => check_of(alloc, words),
+        Verb::Demo => demo_of(alloc, given, words),
+    }
+}
+
+/// `try FILE [NAME=VALUE]...`
+fn try_of(alloc: Global, given: &Given<'_>, words: &[&str]) -> Result<Option<Asked>, Memory>
+    requires { All (λ word. is_text word.now ≡ true) words.now }
+    ensures { IfOk result (λ asked. asked ≡ try_said (held_by given.now.matches) (texts_in words.now)) }
+{
+    let [file, pairs @ ..] = words else {
+        return Ok(None);
+    };
+    let Some(defer) = deferral_in(given) else {
+        return Ok(None);
+    };
+    let Some(hands) = hands_in(given) else {
+        return Ok(None);
+    };
+    let Some(sets) = sets_of(alloc, pairs)? else {
+        return Ok(None);
+    };
+    let file = text_of(alloc, file)?;
+    let want = Want::Local(hands);
+    Ok(Some(Asked::Try {
+        file,
+        sets,
+        defer,
+        want,
+    }))
+}
+
+/// `run FILE BOOK [NAME=VALUE]...`
+fn run_of(alloc: Global, given: &Given<'_>, words: &[&str]) -> Result<Option<Asked>, Memory>
+    requires { All (λ word. is_text word.now ≡ true) words.now }
+    ensures { IfOk result (λ asked. asked ≡ run_said (held_by given.now.matches) (texts_in words.now)) }
+{
+    let [file, book, pairs @ ..] = words else {
+        return Ok(None);
+    };
+    let Some(defer) = deferral_in(given) else {
+        return Ok(None);
+    };
+    let Some(hands) = hands_in(given) else {
+        return Ok(None);
+    };
+    let Some(stop_after) = stop_in(given) else {
+        return Ok(None);
+    };
+    let Some(sets) = sets_of(alloc, pairs)? else {
+        return Ok(None);
+    };
+    let file = text_of(alloc, file)?;
+    let book = text_of(alloc, book)?;
+    let want = Want::Local(hands);
+    Ok(Some(Asked::Run {
+        file,
+        book,
+        sets,
+        defer,
+        want,
+        stop_after,
+    }))
+}
+
+/// `resume BOOK`
+fn resume_of(alloc: Global, given: &Given<'_>, words: &[&str]) -> Result<Option<Asked>, Memory>
+    requires { All (λ word. is_text word.now ≡ true) words.now }
+    ensures { IfOk result (λ asked. asked ≡ resume_said (held_by given.now.matches) (texts_in words.now)) }
+{
+    let [book] = words else {
+        return Ok(None);
+    };
+    let Some(hands) = hands_in(given) else {
+        return Ok(None);
+    };
+    let Some(stop_after) = stop_in(given) else {
+        return Ok(None);
+    };
+    let book = text_of(alloc, book)?;
+    let want = Want::Local(hands);
+    Ok(Some(Asked::Resume {
+        book,
+        want,
+        stop_after,
+    }))
+}
+
+/// `show BOOK`
+fn show_of(alloc: Global, words: &[&str]) -> Result<Option<Asked>, Memory>
+    requires { All (λ word. is_text word.now ≡ true) words.now }
+    ensures { IfOk result (λ asked. asked ≡ show_said (texts_in words.now)) }
+{
+    let [book] = words else {
+        return Ok(None);
+    };
+    let book = text_of(alloc, book)?;
+    Ok(Some(Asked::Show { book }))
+}
+
+/// `reset BOOK`
+fn reset_of(alloc: Global, words: &[&str]) -> Result<Option<Asked>, Memory>
+    requires { All (λ word. is_text word.now ≡ true) words.now }
+    ensures { IfOk result (λ asked. asked ≡ reset_said (texts_in words.now)) }
+{
+    let [book] = words else {
+        return Ok(None);
+    };
+    let book = text_of(alloc, book)?;
+    Ok(Some(Asked::Reset { book }))
+}
+
+/// `check FILE [NAME=VALUE]...`
+fn check_of(alloc: Global, words: &[&str]) -> Result<Option<Asked>, Memory>
+    requires { All (λ word. is_text word.now ≡ true) words.now }
+    ensures { IfOk result (λ asked. asked ≡ check_said (texts_in words.now)) }
+{
+    let [file, pairs @ ..] = words else {
+        return Ok(None);
+    };
+    let Some(sets) = sets_of(alloc, pairs)? else {
+        return Ok(None);
+    };
+    let file = text_of(alloc, file)?;
+    Ok(Some(Asked::Check { file, sets }))
+}
+
+/// `demo SEED SIZE BOOK`
+fn demo_of(alloc: Global, given: &Given<'_>, words: &[&str]) -> Result<Option<Asked>, Memory>
+    requires { All (λ word. is_text word.now ≡ true) words.now }
+    ensures { IfOk result (λ asked. asked ≡ demo_said (held_by given.now.matches) (texts_in words.now)) }
+{
+    let [seed, size, book] = words else {
+        return Ok(None);
+    };
+    let Some(seed) = number_between(0, 65_536, seed) else {
+        return Ok(None);
+    };
+    let Some(size) = number_between(1, 900, size) else {
+        return Ok(None);
+    };
+    let Some(hands) = hands_in(given) else {
+        return Ok(None);
+    };
+    let book = text_of(alloc, book)?;
+    let size = size as u16;
+    Ok(Some(Asked::Demo {
+        seed,
+        size,
+        book,
+        hands,
+    }))
+}
+
+/// Whether reverts are deferred, or none where that stands twice.
+fn deferral_in(given: &Given<'_>) -> Option<bool>
+    ensures { result ≡ deferral_said (held_by given.now.matches) }
+{
+    match given.once("defer-reverts")? {
+        None => Some(false),
+        Some(_) => Some(true),
+    }
+}
+
+/// How many hands are wanted, or none where that is no number of hands.
+fn hands_in(given: &Given<'_>) -> Option<u8>
+    ensures { result ≡ hands_said (held_by given.now.matches) }
+{
+    match given.once("hands")? {
+        None => Some(1),
+        Some(value) => {
+            let hands = number_between(1, 64, value)?;
+            Some(hands as u8)
+        }
+    }
+}
+
+/// After how many entries the run stops, or none where that is no number of entries.
+fn stop_in(given: &Given<'_>) -> Option<Option<u32>>
+    ensures { result ≡ stop_said (held_by given.now.matches) }
+{
+    match given.once("stop-after")? {
+        None => Some(None),
+        Some(value) => {
+            let stop = number_between(1, 999_999_999, value)?;
+            Some(Some(stop))
+        }
+    }
+}
+
+/// The text of a word.
+fn text_of(alloc: Global, word: &str) -> Result<Text, Memory>
+    requires { is_text word.now ≡ true }
+    ensures { IfOk result (λ text. text ≡ word.now) }
+{
+    match Text::make(alloc, word.as_bytes()) {
+        Ok(text) => Ok(text),
+        Err(_) => Err(Memory),
+    }
+}

@@ -1,0 +1,20 @@
+//! The words of a command, and what they ask for.
+#![tactic(auto)]
+
+mod asked;
+mod commands;
+mod given;
+mod laws;
+mod numbers;
+mod pairs;
+mod parsing;
+mod quotes;
+mod spelled;
+#[cfg(test)]
+mod tests;
+mod verbs;
+mod word;
+
+pub use asked::{Asked, read_words};
+pub use laws::demo_numbers_are_within;
+pub use word::Word;
