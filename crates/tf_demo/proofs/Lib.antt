@@ -1,0 +1,9 @@
+pub mod GroupLemmas
+pub mod TreeLemmas
+pub mod NameLemmas
+pub mod ListLemmas
+pub mod PlaceLemmas
+pub mod RefusalLemmas
+pub mod CompileLemmas
+pub mod SymbolLemmas
+pub mod OrderLemmas

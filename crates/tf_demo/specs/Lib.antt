@@ -1,0 +1,3 @@
+pub mod Draws
+pub mod Demo
+pub mod Order
