@@ -50,7 +50,7 @@ unchanged_goes old new goes = record {
 }
 
 -- an image that a crash leaves now was left before
-image_was : (old new : Content) (left_old left_new : Images) (image : List ℕ) → GoesUnchanged old new → LeavesNoMore left_old left_new → IsImage new.picked left_new image → IsImage old.picked left_old image
+pub image_was : (old new : Content) (left_old left_new : Images) (image : List ℕ) → GoesUnchanged old new → LeavesNoMore left_old left_new → IsImage new.picked left_new image → IsImage old.picked left_old image
 image_was old new left_old left_new image goes no_more left_now = narrows old.picked (subst (λ (p : Option (List ℕ)). IsImage p left_new image) goes.picked left_now)
   where
     narrows : (p : Option (List ℕ)) → IsImage p left_new image → IsImage p left_old image

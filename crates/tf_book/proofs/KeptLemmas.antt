@@ -372,7 +372,7 @@ module _ {K : Type 0} (tells : K → Bool) (shown : K → Option (List ℕ)) (co
       → bytes_of (content o.journal.desk) ≡ journal_bytes (title_of o.journal.title) held → bytes_of (content j.desk) ≡ journal_bytes (title_of o.journal.title) (held ++ entry_bytes e ∷ []))
       → (IsOpen tells o.journal → (held : List (List ℕ)) → IsAtRest content left o.journal held → LeavesEither (title_of o.journal.title) (content j.desk) (left j.desk) held (held ++ entry_bytes e ∷ []))
       → p ≡ o.plan → past ≡ past_after e o.past r → h ≡ halt_after r
-      → Keeps start old → Keeps start (record { plan = p; past = past; journal = j; quiet = o.quiet; halt = h })
+      → Keeps start old → Keeps start (record { plan = p; past = past; journal = j; quiet = o.quiet; halt = h; limit = o.limit })
   book_keeps start old o p past j h n machine kept e r same number sound step is journal text cause no_disk no_out told crash goes rests exact leaves plan_is past_is halt_is k =
       let wrote : WroteSo o j e r = record {
         step = subst (λ (b : BookValue K). Step (outline b) (moment b) e) (sym same) step;
@@ -393,7 +393,7 @@ module _ {K : Type 0} (tells : K → Bool) (shown : K → Option (List ℕ)) (co
         exact = exact;
         leaves = leaves;
       } in
-      let next : BookValue K = record { plan = p; past = past; journal = j; quiet = o.quiet; halt = h } in
+      let next : BookValue K = record { plan = p; past = past; journal = j; quiet = o.quiet; halt = h; limit = o.limit } in
       let turned : next ≡ record o { past = past_after e o.past r; journal = j; halt = halt_after r } =
       ap (λ (x : Option Halt). record o { plan = p; past = past; journal = j; halt = x }) halt_is ∙ ap (λ (x : PlanValue). record o { plan = x; past = past; journal = j; halt = halt_after r }) plan_is ∙ ap (λ (x : List Entry). record o { past = x; journal = j; halt = halt_after r }) past_is in
       keeps_on start o next e r sound_here wrote turned (subst (λ (b : BookValue K). Keeps start b) (sym same) k)

@@ -11,3 +11,4 @@ pub mod ReadingLemmas
 pub mod AmongLemmas
 pub mod ShowLemmas
 pub mod ResetLemmas
+pub mod AskLemmas

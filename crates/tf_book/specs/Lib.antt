@@ -14,3 +14,4 @@ pub mod Loaded
 pub mod Forms
 pub mod Showing
 pub mod Resetting
+pub mod Stopping

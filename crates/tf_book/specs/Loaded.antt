@@ -32,10 +32,10 @@ IsLoadedFrom (loaded.Book book) held = (held ≡ bodies_of book.plan book.past) 
 IsLoadedFrom (loaded.NoFlow journal) held = held ≡ []
 IsLoadedFrom (loaded.Unborn desk) held = ⊥
 
--- a book that was loaded isn't halted, says its lines and is kept in the file; a journal without a record is one in which a book may
+-- a book that was loaded isn't halted, says its lines, is kept in the file and has no limit; a journal without a record is one in which a book may
 -- start
 abbrev pub IsMade : {K : Type 0} → (K → Bool) → (K → Content) → (K → Images) → Loaded K → Type 0
-IsMade tells content left (loaded.Book book) = (book.halt ≡ None) × (book.quiet ≡ false) × (book.journal.volatile ≡ false)
+IsMade tells content left (loaded.Book book) = (book.halt ≡ None) × (book.quiet ≡ false) × (book.journal.volatile ≡ false) × (book.limit ≡ None)
 IsMade tells content left (loaded.NoFlow journal) =
     (journal.title ≡ book_title) × (journal.size ≡ 18) × (journal.halted ≡ false) × (journal.volatile ≡ false)
     × (IsTrue (tells journal.desk) → IsAtRest content left journal [])

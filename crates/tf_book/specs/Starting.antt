@@ -15,7 +15,7 @@ desk_started (Err back) = back.0
 
 -- the book of a plan before its first entry, in this journal with this desk
 abbrev pub begun : {K : Type 0} → PlanValue → Held K → K → Bool → BookValue K
-begun plan journal desk quiet = record { plan = plan; past = []; journal = record journal { desk = desk; size = size_of plan [] }; quiet = quiet; halt = None }
+begun plan journal desk quiet = record { plan = plan; past = []; journal = record journal { desk = desk; size = size_of plan [] }; quiet = quiet; halt = None; limit = None }
 
 -- a crash inside a start leaves no record, or the plan alone; the shown text stays
 abbrev pub LeavesPlan : PlanValue → Option (List ℕ) → List ℕ → List ℕ → Type 0

@@ -1,5 +1,5 @@
 -- What the calls of a book record, and what they answer. Histories have the newest entry first.
-use Rattle.std.specs.Prelude.{◌≡◌, ◌⊎◌, ◌<◌, ◌-◌, ℕ, Bool, true, false, List, [], ◌∷◌, ◌++◌, Option, Some, None, map, reverse}
+use Rattle.std.specs.Prelude.{◌≡◌, ◌⊎◌, ◌<◌, ◌-◌, ℕ, Bool, true, false, List, [], ◌∷◌, ◌++◌, length, Option, Some, None, map, reverse, is_some, if◌then◌else◌}
 use Rattle.tf_ports.specs.Whole.{IsWhole}
 use Rattle.tf_ports.specs.declared.orders.Order.{Order}
 use Rattle.tf_ports.specs.declared.outcomes.Outcome.{Outcome}
@@ -16,8 +16,10 @@ use Rattle.tf_model.specs.Forced.{forced}
 use Rattle.tf_model.specs.History.{flow_of, snapshot}
 use Rattle.tf_model.specs.Orders.{order_of}
 use Rattle.tf_model.specs.Plan.{Outline}
+use Rattle.tf_model.specs.Snapshot.{Snapshot}
 use Rattle.tf_model.specs.Sessions.{entering, has_ended, is_last}
 use Rattle.tf_model.specs.Steps.{is_still}
+use Rattle.tf_book.specs.Stopping.{is_to_stop, IsAnswered}
 use Rattle.tf_book.specs.declared.turn.Entered.{Entered}
 use Rattle.tf_book.specs.declared.turn.Entered.TheVariants as entered
 use Rattle.tf_book.specs.declared.turn.Turn.{Turn}
@@ -47,23 +49,31 @@ IsEntered hand past after (entered.Ended state) = (flow_of past ≡ state) × (h
 
 -- ---- turns
 
--- each of these entries after a history is the forced one at its place, by that hand
-abbrev pub AreForced : Outline → ℕ → List Entry → List Entry → Type 0
-AreForced plan hand [] past = Unit {0}
-AreForced plan hand (e ∷ entries) past =
-    (e.hand ≡ hand) × (forced plan (snapshot plan (entries ++ past)) ≡ Some e.what) × AreForced plan hand entries past
+-- each of these entries after a history is the forced one at its place, by that hand, where the session wasn't to stop
+abbrev pub AreForced : Outline → ℕ → Bool → Option ℕ → List Entry → List Entry → Type 0
+AreForced plan hand asked limit [] past = Unit {0}
+AreForced plan hand asked limit (e ∷ entries) past =
+    (e.hand ≡ hand) × (forced plan (snapshot plan (entries ++ past)) ≡ Some e.what) × (is_to_stop asked limit (length (entries ++ past)) ≡ false)
+    × AreForced plan hand asked limit entries past
 
--- entries were recorded that were forced, one after another
-pub record IsForcedOn (plan : Outline) (hand : ℕ) (past after : List Entry) : Type 0 where
+-- entries were recorded that were forced, one after another, while the session wasn't to stop
+pub record IsForcedOn (plan : Outline) (hand : ℕ) (asked : Bool) (limit : Option ℕ) (past after : List Entry) : Type 0 where
   pub entries : List Entry
-  pub are : AreForced plan hand entries past
+  pub are : AreForced plan hand asked limit entries past
   pub is : after ≡ entries ++ past
 
--- they were recorded until no more was forced; the flow is RUNNING
-pub record RanOn (plan : Outline) (hand : ℕ) (past between : List Entry) : Type 0 where
-  pub on : IsForcedOn plan hand past between
+-- they were recorded until no more was forced; the flow is RUNNING, and the session isn't to stop
+pub record RanOn (plan : Outline) (hand : ℕ) (asked : Bool) (limit : Option ℕ) (past between : List Entry) : Type 0 where
+  pub on : IsForcedOn plan hand asked limit past between
   pub running : flow_of between ≡ flow.Running
   pub unforced : forced plan (snapshot plan between) ≡ None
+  pub unstopped : is_to_stop asked limit (length between) ≡ false
+
+-- they were recorded until the session was to stop; the flow is RUNNING
+pub record RanUntilStop (plan : Outline) (hand : ℕ) (asked : Bool) (limit : Option ℕ) (past between : List Entry) : Type 0 where
+  pub on : IsForcedOn plan hand asked limit past between
+  pub running : flow_of between ≡ flow.Running
+  pub stops : is_to_stop asked limit (length between) ≡ true
 
 -- the first candidate was taken up, with this order
 pub record TakesUp (plan : Outline) (hand : ℕ) (past after : List Entry) (start : Start) (order : Order) : Type 0 where
@@ -83,9 +93,9 @@ IsStartOf plan hand past after start (turn.Start order) = TakesUp plan hand past
 IsStartOf plan hand past after start other = ⊥
 
 -- forced entries were recorded until no more was forced, and then the first candidate was taken up, with this order
-pub record IsStarted (plan : Outline) (hand : ℕ) (past after : List Entry) (order : Order) : Type 0 where
+pub record IsStarted (plan : Outline) (hand : ℕ) (asked : Bool) (limit : Option ℕ) (past after : List Entry) (order : Order) : Type 0 where
   pub between : List Entry
-  pub ran : RanOn plan hand past between
+  pub ran : RanOn plan hand asked limit past between
   pub start : Start
   pub takes : TakesUp plan hand between after start order
 
@@ -115,38 +125,82 @@ pub data IsClosedOr (plan : Outline) (hand : ℕ) (past after : List Entry) : Ty
   ended : (state : FlowState) → IsEndOf plan hand past after state → IsClosedOr plan hand past after
   suspended : IsSuspensionOf plan hand past after → IsClosedOr plan hand past after
 
+-- the end that may be recorded: there is none while a task is in flight
+abbrev pub end_now : Outline → Snapshot → Option FlowState
+end_now plan s = if is_still plan s then end_of plan s else None
+
+-- SUSPENDING by that hand, after a history
+abbrev pub suspending_after : ℕ → List Entry → List Entry
+suspending_after hand past = by_hand hand (what.Flow flow.Suspending) ∷ past
+
+-- what comes in RUNNING where the session is to stop: at an end that may be recorded, the end; else SUSPENDING, and what comes in it
+abbrev pub HasStopped : Outline → ℕ → List Entry → List Entry → Turn → Type 0
+HasStopped plan hand past after answer =
+    ((is_some (end_now plan (snapshot plan past)) ≡ true) × HasRested plan hand past after answer)
+    ⊎ ((end_now plan (snapshot plan past) ≡ None) × HasRested plan hand (suspending_after hand past) after answer)
+
+-- the same where it was halted: perhaps nothing was recorded
+abbrev pub IsStoppedOr : Outline → ℕ → List Entry → List Entry → Type 0
+IsStoppedOr plan hand past after =
+    ((is_some (end_now plan (snapshot plan past)) ≡ true) × IsClosedOr plan hand past after)
+    ⊎ ((end_now plan (snapshot plan past) ≡ None) × (IsClosedOr plan hand (suspending_after hand past) after ⊎ (after ≡ past)))
+
+-- a session that was to stop where no end may be recorded: SUSPENDING was recorded
+pub record IsToSuspend (plan : Outline) (hand : ℕ) (asked : Bool) (limit : Option ℕ) (past between : List Entry) : Type 0 where
+  pub before : List Entry
+  pub ran : RanUntilStop plan hand asked limit past before
+  pub endless : end_now plan (snapshot plan before) ≡ None
+  pub is : between ≡ suspending_after hand before
+
 -- in RUNNING nothing is left to take up
-pub record HasNothing (plan : Outline) (hand : ℕ) (past between : List Entry) : Type 0 where
-  pub ran : RanOn plan hand past between
+pub record HasNothing (plan : Outline) (hand : ℕ) (asked : Bool) (limit : Option ℕ) (past between : List Entry) : Type 0 where
+  pub ran : RanOn plan hand asked limit past between
   pub unchosen : choice plan (snapshot plan between) ≡ None
 
--- so it rests: in RUNNING after that, in SUSPENDING at once
-pub data Rests (plan : Outline) (hand : ℕ) (past between : List Entry) : Type 0 where
-  nothing_left : HasNothing plan hand past between → Rests plan hand past between
-  suspending : flow_of past ≡ flow.Suspending → between ≡ past → Rests plan hand past between
+-- so it rests: in RUNNING after that; or where the session is to stop, at an end that may be recorded, or else after SUSPENDING; in
+-- SUSPENDING at once
+pub data Rests (plan : Outline) (hand : ℕ) (asked : Bool) (limit : Option ℕ) (past between : List Entry) : Type 0 where
+  nothing_left : HasNothing plan hand asked limit past between → Rests plan hand asked limit past between
+  at_end : RanUntilStop plan hand asked limit past between → is_some (end_now plan (snapshot plan between)) ≡ true → Rests plan hand asked limit past between
+  to_suspend : IsToSuspend plan hand asked limit past between → Rests plan hand asked limit past between
+  suspending : flow_of past ≡ flow.Suspending → between ≡ past → Rests plan hand asked limit past between
 
 -- what it answers then
-pub record RestsAs (plan : Outline) (hand : ℕ) (past after : List Entry) (answer : Turn) : Type 0 where
+pub record RestsAs (plan : Outline) (hand : ℕ) (asked : Bool) (limit : Option ℕ) (past after : List Entry) (answer : Turn) : Type 0 where
   pub between : List Entry
-  pub rests : Rests plan hand past between
+  pub rests : Rests plan hand asked limit past between
   pub rested : HasRested plan hand between after answer
 
 -- the flow was in that last state already, and nothing was recorded
 abbrev pub IsOver : List Entry → List Entry → FlowState → Type 0
 IsOver past after state = (flow_of past ≡ state) × (is_last state ≡ true) × (after ≡ past)
 
--- what the next turn of a hand recorded and answered
-abbrev pub IsTurn : Outline → ℕ → List Entry → List Entry → Turn → Type 0
-IsTurn plan hand past after (turn.Start order) = IsStarted plan hand past after order × IsWhole order
-IsTurn plan hand past after turn.Idle = RestsAs plan hand past after turn.Idle
-IsTurn plan hand past after (turn.Ended state) = RestsAs plan hand past after (turn.Ended state) ⊎ IsOver past after state
-IsTurn plan hand past after turn.Suspended = RestsAs plan hand past after turn.Suspended ⊎ IsOver past after flow.Suspended
+-- what the next turn of a hand recorded and answered, where a stop was asked for or wasn't
+abbrev pub IsTurn : Outline → ℕ → Bool → Option ℕ → List Entry → List Entry → Turn → Type 0
+IsTurn plan hand asked limit past after (turn.Start order) = IsStarted plan hand asked limit past after order × IsWhole order
+IsTurn plan hand asked limit past after turn.Idle = RestsAs plan hand asked limit past after turn.Idle
+IsTurn plan hand asked limit past after (turn.Ended state) = RestsAs plan hand asked limit past after (turn.Ended state) ⊎ IsOver past after state
+IsTurn plan hand asked limit past after turn.Suspended = RestsAs plan hand asked limit past after turn.Suspended ⊎ IsOver past after flow.Suspended
 
--- what a turn recorded that was halted: forced entries; and then perhaps a start, whose order nobody gets, or a last entry of the flow
-pub data IsHaltedTurn (plan : Outline) (hand : ℕ) (past after : List Entry) : Type 0 where
-  forcing : IsForcedOn plan hand past after → IsHaltedTurn plan hand past after
-  starting : (between : List Entry) (start : Start) → RanOn plan hand past between → IsStartedSo plan hand between after start → IsHaltedTurn plan hand past after
-  resting : (between : List Entry) → Rests plan hand past between → IsClosedOr plan hand between after → IsHaltedTurn plan hand past after
+-- what a turn recorded that was halted: forced entries; and then perhaps a start, whose order nobody gets, SUSPENDING, or a last
+-- entry of the flow
+pub data IsHaltedTurn (plan : Outline) (hand : ℕ) (asked : Bool) (limit : Option ℕ) (past after : List Entry) : Type 0 where
+  forcing : IsForcedOn plan hand asked limit past after → IsHaltedTurn plan hand asked limit past after
+  starting : (between : List Entry) (start : Start) → RanOn plan hand asked limit past between → IsStartedSo plan hand between after start
+      → IsHaltedTurn plan hand asked limit past after
+  resting : (between : List Entry) → Rests plan hand asked limit past between → IsClosedOr plan hand between after → IsHaltedTurn plan hand asked limit past after
+
+-- a turn, where the count of stops tells whether one was asked for in it
+pub record IsTurnAsked (plan : Outline) (hand : ℕ) (limit : Option ℕ) (asks_then asks_now : ℕ) (past after : List Entry) (answer : Turn) : Type 0 where
+  pub stop : Bool
+  pub answered : IsAnswered stop asks_then asks_now
+  pub is : IsTurn plan hand stop limit past after answer
+
+-- the same of a turn that was halted
+pub record IsHaltedTurnAsked (plan : Outline) (hand : ℕ) (limit : Option ℕ) (asks_then asks_now : ℕ) (past after : List Entry) : Type 0 where
+  pub stop : Bool
+  pub answered : IsAnswered stop asks_then asks_now
+  pub is : IsHaltedTurn plan hand stop limit past after
 
 -- a session was entered, and goes on or has stopped
 abbrev pub is_entered : FlowState → Bool

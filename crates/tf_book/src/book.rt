@@ -26,7 +26,8 @@ use tf_machine::Machine;
 use tf_states::Entry;
 
 /// A run of a plan, recorded in a journal entry by entry. Contracts see its plan, its history, its journal with
-/// the desk, whether it says no lines, and why it was halted, if it was.
+/// the desk, whether it says no lines, why it was halted, if it was, and where its session is to be suspended, if
+/// it has a limit.
 #[derive(Drop)]
 pub struct Book<K: Desk> {
     alloc: Global,
@@ -36,6 +37,7 @@ pub struct Book<K: Desk> {
     draft: Draft,
     quiet: bool,
     halt: Option<Halt>,
+    limit: Option<u64>,
 }
 
 impl<K: Desk> Model for Book<K> {
@@ -49,9 +51,9 @@ impl<K: Desk> Model for Book<K> {
 
     ghost coded = { Prim.hlevel (codes, flow.the_row.coded) };
 
-    ghost view = { λ b. record { plan = b.machine.plan; past = past_of b.history.entries.items; journal = b.journal; quiet = b.quiet; halt = b.halt } };
+    ghost view = { λ b. record { plan = b.machine.plan; past = past_of b.history.entries.items; journal = b.journal; quiet = b.quiet; halt = b.halt; limit = b.limit } };
 
-    ghost invariant = { λ b. HasAllRoom b.history × HasDraftRoom b.draft × IsSound K.tells K.content K.left b.machine b.history.bodies.items (record { plan = b.machine.plan; past = past_of b.history.entries.items; journal = b.journal; quiet = b.quiet; halt = b.halt }) };
+    ghost invariant = { λ b. HasAllRoom b.history × HasDraftRoom b.draft × IsSound K.tells K.content K.left b.machine b.history.bodies.items (record { plan = b.machine.plan; past = past_of b.history.entries.items; journal = b.journal; quiet = b.quiet; halt = b.halt; limit = b.limit }) };
 }
 
 impl<K: Desk> Book<K> {
@@ -69,6 +71,8 @@ impl<K: Desk> Book<K> {
           halt = halt_after result;
         } }
         ensures no_memory { IsErrOf result Halt.Memory → ⊥ }
+        ensures asks { (K.asks self.new.journal.desk ≡ K.asks self.old.journal.desk)
+            × (K.turns self.new.journal.desk ≡ K.turns self.old.journal.desk) }
         ensures less { OnOk result (67108864 - self.new.journal.size < 67108864 - self.old.journal.size) }
         ensures no_more { 67108864 - self.new.journal.size ≤ 67108864 - self.old.journal.size }
     {

@@ -4,7 +4,8 @@ ghost use Rattle.tf_desk.specs.Counts.{Rises};
 ghost use Rattle.tf_desk.specs.Crash.{LeavesNoMore, SaysFront, Passes};
 ghost use Rattle.tf_desk.specs.Shown.{shown_with, ShowsFront};
 ghost use Rattle.tf_journal.specs.Format.{title_of, journal_bytes};
-ghost use Rattle.tf_journal.specs.Rest.{IsBody, IsAtRest, IsOpen, IsReady, GoesOn, GoesUnchanged, LeavesEither};
+ghost use Rattle.tf_journal.specs.Rest.{IsBody, IsAtRest, IsOpen, IsReady, GoesOn, GoesUnchanged, LeavesEither, Rests};
+ghost use Rattle.tf_book.specs.Stopping.{IsAnswered};
 ghost use Rattle.tf_book.specs.Logging.{said_of, is_recorded, journal_after, IsSaid, IsCaused, LeavesLogged};
 
 use crate::faults::Halt;
@@ -40,6 +41,25 @@ pub fn say_line<K: Desk>(journal: &mut Journal<K>, line: &[u8], quiet: bool) -> 
         Ok(()) => Ok(()),
         Err(_) => Err(Halt::Out),
     }
+}
+
+/// Asks the desk whether a stop is asked for.
+#[tactic(auto, using(tf_journal::proofs::CrashLemmas::stands_goes))]
+pub fn ask<K: Desk>(journal: &mut Journal<K>) -> bool
+    ensures same { journal.new ≡ record journal.old { desk = journal.new.desk } }
+    ensures answered { IsAnswered result (K.asks journal.old.desk) (K.asks journal.new.desk) }
+    ensures turned { Rises (K.turns journal.old.desk) (K.turns journal.new.desk) }
+    ensures no_fall { (K.asks journal.old.desk ≤ K.asks journal.new.desk)
+        × (K.turns journal.old.desk ≤ K.turns journal.new.desk) }
+    ensures rests { IsTrue (K.tells journal.old.desk)
+        → Rests (K.content journal.old.desk) (K.content journal.new.desk) (K.left journal.old.desk)
+        (K.left journal.new.desk) (K.crashes journal.old.desk) (K.crashes journal.new.desk) }
+    ensures others { (K.disk_faults journal.new.desk ≡ K.disk_faults journal.old.desk)
+        × (K.out_faults journal.new.desk ≡ K.out_faults journal.old.desk) }
+    ensures quiet { (K.tells journal.new.desk ≡ K.tells journal.old.desk)
+        × (K.shown journal.new.desk ≡ K.shown journal.old.desk) }
+{
+    journal.desk().stop_asked()
 }
 
 /// Appends a body, and then says its line, unless the book is quiet. The line is said only where the append

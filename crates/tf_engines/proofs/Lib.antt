@@ -1,3 +1,4 @@
 pub mod RunLemmas
 pub mod TurnLemmas
 pub mod OrderLemmas
+pub mod StopLemmas

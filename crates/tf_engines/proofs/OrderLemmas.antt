@@ -1,5 +1,5 @@
 -- How the orders that a hand was given go with the history.
-use Rattle.std.proofs.Common.{◌≡◌, ◌≤◌, inl, inr, ◌⊎◌, ℕ, Bool, true, false, ◌&&◌, List, [], ◌∷◌, ◌++◌, length, Option, Some, None, refl, ap, ◌∙◌, sym, subst, append_assoc, append-nil, arith}
+use Rattle.std.proofs.Common.{◌≡◌, ◌≤◌, inl, inr, ◌⊎◌, ⊎_elim, ℕ, Bool, true, false, ◌&&◌, List, [], ◌∷◌, ◌++◌, length, Option, Some, None, refl, ap, ◌∙◌, sym, subst, append_assoc, append-nil, arith}
 use Rattle.std.specs.Prelude.{reverse}
 use Rattle.std.specs.List.{list_all}
 use Rattle.std.proofs.lemmas.List.Folds.{list_all-append}
@@ -26,7 +26,7 @@ use Rattle.tf_hands.proofs.EntryLemmas.{no_orders}
 use Rattle.tf_model.specs.History.{flow_of, snapshot}
 use Rattle.tf_model.specs.Plan.{Outline}
 use Rattle.tf_model.specs.Sessions.{has_ended}
-use Rattle.tf_book.specs.Turns.{AreForced, IsForcedOn, RanOn, TakesUp, IsStartedSo, IsStarted, IsEndOf, IsSuspensionOf, IsClosedOr, stays, ended, suspended, HasRested, Rests, nothing_left, suspending, RestsAs, IsOver, IsHaltedTurn, forcing, starting, resting, IsFinished, IsEntering, entering_by}
+use Rattle.tf_book.specs.Turns.{AreForced, IsForcedOn, RanOn, TakesUp, IsStartedSo, IsStarted, IsEndOf, IsSuspensionOf, IsClosedOr, stays, ended, suspended, HasRested, Rests, nothing_left, at_end, to_suspend, suspending, RestsAs, IsOver, IsHaltedTurn, forcing, starting, resting, IsTurnAsked, IsHaltedTurnAsked, IsFinished, IsEntering, entering_by}
 use Rattle.tf_book.specs.declared.turn.Turn.TheVariants as turn
 use Rattle.tf_engines.specs.Asked.{told_all, HasDone, HasDoneAllButOne, HasToDo, HasDoneBy}
 
@@ -79,57 +79,68 @@ same_done told base did asked now same is = subst (λ (l : List Order). HasDone 
 
 -- ---- what entries ask for
 
-forced_asks : (plan : Outline) (past entries : List Entry) → AreForced plan 0 entries past → orders plan 0 (entries ++ past) ≡ orders plan 0 past
-forced_asks plan past [] are = refl
-forced_asks plan past (e ∷ entries) are =
-    no_orders plan 0 e (entries ++ past) (forced_takes_none plan (snapshot plan (entries ++ past)) e.what are.1) ∙ forced_asks plan past entries are.2
+forced_asks : (plan : Outline) (past entries : List Entry) (stop : Bool) (kept : Option ℕ) → AreForced plan 0 stop kept entries past → orders plan 0 (entries ++ past) ≡ orders plan 0 past
+forced_asks plan past [] stop kept are = refl
+forced_asks plan past (e ∷ entries) stop kept are =
+    no_orders plan 0 e (entries ++ past) (forced_takes_none plan (snapshot plan (entries ++ past)) e.what are.1) ∙ forced_asks plan past entries stop kept are.3
 
-on_asks : (plan : Outline) (past after : List Entry) → IsForcedOn plan 0 past after → orders plan 0 after ≡ orders plan 0 past
-on_asks plan past after is = ap (orders plan 0) is.is ∙ forced_asks plan past is.entries is.are
+on_asks : (plan : Outline) (past after : List Entry) (stop : Bool) (kept : Option ℕ) → IsForcedOn plan 0 stop kept past after → orders plan 0 after ≡ orders plan 0 past
+on_asks plan past after stop kept is = ap (orders plan 0) is.is ∙ forced_asks plan past is.entries stop kept is.are
 
 up_asks : (plan : Outline) (past after : List Entry) (start : Start) (order : Order) → TakesUp plan 0 past after start order → orders plan 0 after ≡ orders plan 0 past ++ order ∷ []
 up_asks plan past after start order takes = ap (orders plan 0) takes.is ∙ choice_orders plan past 0 start order takes.chosen takes.action takes.asked
 
-started_asks : (plan : Outline) (past after : List Entry) (order : Order) → IsStarted plan 0 past after order → orders plan 0 after ≡ orders plan 0 past ++ order ∷ []
-started_asks plan past after order is = up_asks plan is.between after is.start order is.takes ∙ ap (λ (l : List Order). l ++ order ∷ []) (on_asks plan past is.between is.ran.on)
-
-rests_asks : (plan : Outline) (past between : List Entry) → Rests plan 0 past between → orders plan 0 between ≡ orders plan 0 past
-rests_asks plan past between (nothing_left nothing) = on_asks plan past between nothing.ran.on
-rests_asks plan past between (suspending winds same) = ap (orders plan 0) same
+started_asks : (plan : Outline) (past after : List Entry) (stop : Bool) (kept : Option ℕ) (order : Order) → IsStarted plan 0 stop kept past after order → orders plan 0 after ≡ orders plan 0 past ++ order ∷ []
+started_asks plan past after stop kept order is =
+    up_asks plan is.between after is.start order is.takes ∙ ap (λ (l : List Order). l ++ order ∷ []) (on_asks plan past is.between stop kept is.ran.on)
 
 flow_asks : (plan : Outline) (past after : List Entry) (state : FlowState) → after ≡ by_hand 0 (what.Flow state) ∷ past → orders plan 0 after ≡ orders plan 0 past
 flow_asks plan past after state is = ap (orders plan 0) is ∙ no_orders plan 0 (by_hand 0 (what.Flow state)) past refl
 
+rests_asks : (plan : Outline) (past between : List Entry) (stop : Bool) (kept : Option ℕ) → Rests plan 0 stop kept past between → orders plan 0 between ≡ orders plan 0 past
+rests_asks plan past between stop kept (nothing_left nothing) = on_asks plan past between stop kept nothing.ran.on
+rests_asks plan past between stop kept (at_end ran ends) = on_asks plan past between stop kept ran.on
+rests_asks plan past between stop kept (to_suspend s) = flow_asks plan s.before between flow.Suspending s.is ∙ on_asks plan past s.before stop kept s.ran.on
+rests_asks plan past between stop kept (suspending winds same) = ap (orders plan 0) same
+
 -- ---- turns
 
-pub started_to_do : (told : Option (List Order)) (base : List Order) (did : Option (List Order)) (plan : Outline) (past after : List Entry) (order : Order) → IsStarted plan 0 past after order
-    → HasDone told base did (orders plan 0 past) → HasToDo told base did (orders plan 0 after) order
-started_to_do told base did plan past after order is = to_do told base did (orders plan 0 past) (orders plan 0 after) order (started_asks plan past after order is)
+pub started_to_do : (told : Option (List Order)) (base : List Order) (did : Option (List Order)) (plan : Outline) (past after : List Entry) (stop : Bool) (kept : Option ℕ) (order : Order)
+    → IsStarted plan 0 stop kept past after order → HasDone told base did (orders plan 0 past) → HasToDo told base did (orders plan 0 after) order
+started_to_do told base did plan past after stop kept order is = to_do told base did (orders plan 0 past) (orders plan 0 after) order (started_asks plan past after stop kept order is)
 
-pub ended_done : (told : Option (List Order)) (base : List Order) (did : Option (List Order)) (plan : Outline) (past after : List Entry) (state : FlowState) → RestsAs plan 0 past after (turn.Ended state) ⊎ IsOver past after state
-    → HasDone told base did (orders plan 0 past) → HasDone told base did (orders plan 0 after)
-ended_done told base did plan past after state (inl is) = same_done told base did (orders plan 0 past) (orders plan 0 after) (flow_asks plan is.between after state is.rested.is ∙ rests_asks plan past is.between is.rests)
-ended_done told base did plan past after state (inr is) = same_done told base did (orders plan 0 past) (orders plan 0 after) (ap (orders plan 0) is.2)
+pub ended_done : (told : Option (List Order)) (base : List Order) (did : Option (List Order)) (plan : Outline) (past after : List Entry) (kept : Option ℕ) (asks_then asks_now : ℕ) (state : FlowState)
+    → IsTurnAsked plan 0 kept asks_then asks_now past after (turn.Ended state) → HasDone told base did (orders plan 0 past) → HasDone told base did (orders plan 0 after)
+ended_done told base did plan past after kept asks_then asks_now state t =
+    same_done told base did (orders plan 0 past) (orders plan 0 after)
+    (⊎_elim (λ is. flow_asks plan is.between after state is.rested.is ∙ rests_asks plan past is.between t.stop kept is.rests) (λ over. ap (orders plan 0) over.2) t.is)
 
-pub suspended_done : (told : Option (List Order)) (base : List Order) (did : Option (List Order)) (plan : Outline) (past after : List Entry) → RestsAs plan 0 past after turn.Suspended ⊎ IsOver past after flow.Suspended
-    → HasDone told base did (orders plan 0 past) → HasDone told base did (orders plan 0 after)
-suspended_done told base did plan past after (inl is) = same_done told base did (orders plan 0 past) (orders plan 0 after) (flow_asks plan is.between after flow.Suspended is.rested.is ∙ rests_asks plan past is.between is.rests)
-suspended_done told base did plan past after (inr is) = same_done told base did (orders plan 0 past) (orders plan 0 after) (ap (orders plan 0) is.2)
+pub suspended_done : (told : Option (List Order)) (base : List Order) (did : Option (List Order)) (plan : Outline) (past after : List Entry) (kept : Option ℕ) (asks_then asks_now : ℕ)
+    → IsTurnAsked plan 0 kept asks_then asks_now past after turn.Suspended → HasDone told base did (orders plan 0 past) → HasDone told base did (orders plan 0 after)
+suspended_done told base did plan past after kept asks_then asks_now t =
+    same_done told base did (orders plan 0 past) (orders plan 0 after)
+    (⊎_elim (λ is. flow_asks plan is.between after flow.Suspended is.rested.is ∙ rests_asks plan past is.between t.stop kept is.rests) (λ over. ap (orders plan 0) over.2) t.is)
 
 closed_asks : (plan : Outline) (past after : List Entry) → IsClosedOr plan 0 past after → orders plan 0 after ≡ orders plan 0 past
 closed_asks plan past after (stays same) = ap (orders plan 0) same
 closed_asks plan past after (ended state is) = flow_asks plan past after state is.is
 closed_asks plan past after (suspended is) = flow_asks plan past after flow.Suspended is.is
 
-pub halted_done : (told : Option (List Order)) (base : List Order) (did : Option (List Order)) (plan : Outline) (past after : List Entry) → IsHaltedTurn plan 0 past after
+halted_turn_done : (told : Option (List Order)) (base : List Order) (did : Option (List Order)) (plan : Outline) (past after : List Entry) (stop : Bool) (kept : Option ℕ) → IsHaltedTurn plan 0 stop kept past after
     → HasDone told base did (orders plan 0 past) → HasDoneAllButOne told base did (orders plan 0 after)
-halted_done told base did plan past after (forcing is) has =
-    done_whole told base did (orders plan 0 after) (same_done told base did (orders plan 0 past) (orders plan 0 after) (on_asks plan past after is) has)
-halted_done told base did plan past after (starting between start ran is) has =
+halted_turn_done told base did plan past after stop kept (forcing is) has =
+    done_whole told base did (orders plan 0 after) (same_done told base did (orders plan 0 past) (orders plan 0 after) (on_asks plan past after stop kept is) has)
+halted_turn_done told base did plan past after stop kept (starting between start ran is) has =
     done_but told base did (orders plan 0 after) is.order
-    (to_do told base did (orders plan 0 past) (orders plan 0 after) is.order (up_asks plan between after start is.order is.takes ∙ ap (λ (l : List Order). l ++ is.order ∷ []) (on_asks plan past between ran.on)) has)
-halted_done told base did plan past after (resting between rests closed) has =
-    done_whole told base did (orders plan 0 after) (same_done told base did (orders plan 0 past) (orders plan 0 after) (closed_asks plan between after closed ∙ rests_asks plan past between rests) has)
+    (to_do told base did (orders plan 0 past) (orders plan 0 after) is.order
+    (up_asks plan between after start is.order is.takes ∙ ap (λ (l : List Order). l ++ is.order ∷ []) (on_asks plan past between stop kept ran.on)) has)
+halted_turn_done told base did plan past after stop kept (resting between rests closed) has =
+    done_whole told base did (orders plan 0 after)
+    (same_done told base did (orders plan 0 past) (orders plan 0 after) (closed_asks plan between after closed ∙ rests_asks plan past between stop kept rests) has)
+
+pub halted_done : (told : Option (List Order)) (base : List Order) (did : Option (List Order)) (plan : Outline) (past after : List Entry) (kept : Option ℕ) (asks_then asks_now : ℕ)
+    → IsHaltedTurnAsked plan 0 kept asks_then asks_now past after → HasDone told base did (orders plan 0 past) → HasDoneAllButOne told base did (orders plan 0 after)
+halted_done told base did plan past after kept asks_then asks_now t has = halted_turn_done told base did plan past after t.stop kept t.is has
 
 finished_asks : (plan : Outline) (past after : List Entry) (came : Outcome) → IsFinished plan 0 came past after → orders plan 0 after ≡ orders plan 0 past
 finished_asks plan past after came is = ap (orders plan 0) is.is ∙ end_orders plan past 0 0 is.task came

@@ -1,5 +1,5 @@
 -- What a run by one hand records, from the history that it began with to the one that it leaves. Histories have the newest entry first.
-use Rattle.std.specs.Prelude.{◌≡◌, ℕ, ◌≤◌, Bool, true, false, List, [], ◌∷◌, ◌++◌, length, nat_eq, not, Option, Some, None, reverse}
+use Rattle.std.specs.Prelude.{◌≡◌, ◌⊎◌, ℕ, ◌≤◌, Bool, true, false, ◌&&◌, ◌||◌, List, [], ◌∷◌, ◌++◌, length, nat_eq, not, Option, Some, None, reverse}
 use Rattle.std.specs.List.{list_all}
 use Rattle.tf_flow.specs.Plan.{PlanValue}
 use Rattle.tf_ports.specs.declared.orders.Order.{Order}
@@ -13,9 +13,11 @@ use Rattle.tf_model.specs.Bound.{entry_bound}
 use Rattle.tf_model.specs.History.{flow_of, snapshot}
 use Rattle.tf_model.specs.Steps.{is_still}
 use Rattle.tf_model.specs.Orders.{IsGiven}
-use Rattle.tf_model.specs.Plan.{Outline, outline_of}
-use Rattle.tf_model.specs.Sessions.{Session, entering, has_ended, is_inner_entry}
+use Rattle.tf_hands.specs.Hands.{is_over}
+use Rattle.tf_model.specs.Plan.{Outline, outline_of, is_task}
+use Rattle.tf_model.specs.Sessions.{Session, entering, flow_entry, has_ended, is_inner_entry, is_last}
 use Rattle.tf_model.specs.States.{flow_suspends}
+use Rattle.tf_book.specs.Stopping.{limit_from, is_reached}
 use Rattle.tf_book.specs.declared.faults.Halt.{Halt}
 use Rattle.tf_engines.specs.declared.engine.How.{How}
 use Rattle.tf_engines.specs.declared.engine.How.TheVariants as how
@@ -40,20 +42,47 @@ suspends (what.Restart again) = false
 abbrev pub is_unsuspended : Entry → Bool
 is_unsuspended e = not (suspends e.what)
 
--- a session was recorded by hand 0, which nobody suspended, with outcomes that the hand gave; it stopped in this state, or was halted before
-pub record IsSession (gives : Order → Outcome → Type 0) (plan : Outline) (before after : List Entry) (stop : Option FlowState) : Type 0 where
+-- what is recorded ends a task, begins to suspend the flow, or is the flow's last state
+abbrev pub winds_up : Outline → What → Bool
+winds_up plan (what.Flow state) = flow_suspends state || is_last state
+winds_up plan (what.Atom a state held) = is_over state && is_task plan a
+winds_up plan (what.Resolve named resolved) = false
+winds_up plan (what.Restart again) = false
+
+-- each entry of a session that begins to suspend the flow stands where a stop was asked for, or where the limit of entries is reached
+abbrev pub AreDue : Type 0 → Option ℕ → List Entry → Type 0
+AreDue asked limit [] = Unit {0}
+AreDue asked limit (e ∷ entries) = (suspends e.what ≡ true → asked ⊎ (is_reached limit (length entries) ≡ true)) × AreDue asked limit entries
+
+-- each entry of a session that stands where the limit is reached winds it up, but for so many with which it was entered
+abbrev pub AreWithin : Outline → Option ℕ → ℕ → List Entry → Type 0
+AreWithin plan limit entered [] = Unit {0}
+AreWithin plan limit entered (e ∷ entries) =
+    (entered ≤ length entries → is_reached limit (length entries) ≡ true → winds_up plan e.what ≡ true) × AreWithin plan limit entered entries
+
+-- the session ends with the flow's suspension, since a stop was asked for or the limit is reached
+pub record IsSuspended (asked : Type 0) (limit : Option ℕ) (entries : List Entry) : Type 0 where
+  pub cause : asked ⊎ (is_reached limit (length entries) ≡ true)
+  pub before : List Entry
+  pub last : entries ≡ flow_entry flow.Suspended ∷ before
+
+-- a session was recorded by hand 0, with outcomes that the hand gave, and was suspended only where a stop was asked for or its limit is
+-- reached; it stopped in this state, or was halted before
+pub record IsSession (gives : Order → Outcome → Type 0) (asked : Type 0) (limit : Option ℕ) (plan : Outline) (before after : List Entry) (stop : Option FlowState) : Type 0 where
   pub entries : List Entry
   pub recorded : after ≡ entries ++ before
   pub session : Session plan before entries stop
   pub given : AreGiven gives plan before entries
   pub hands : list_all is_of_one entries ≡ true
-  pub unsuspended : list_all is_unsuspended entries ≡ true
+  pub due : AreDue asked limit entries
+  pub within : AreWithin plan limit (length (entering (flow_of before))) entries
+  pub suspended : stop ≡ Some flow.Suspended → IsSuspended asked limit entries
 
 -- the same where the state in which it stopped is told by the answer; one that was halted may have stopped too, in its last line
-abbrev pub HasRun : (Order → Outcome → Type 0) → Outline → List Entry → List Entry → How → Type 0
-HasRun gives plan before after (how.Ended state) = IsSession gives plan before after (Some state)
-HasRun gives plan before after how.Suspended = IsSession gives plan before after (Some flow.Suspended)
-HasRun gives plan before after (how.Halted cause) = (stop : Option FlowState) × IsSession gives plan before after stop
+abbrev pub HasRun : (Order → Outcome → Type 0) → Type 0 → Option ℕ → Outline → List Entry → List Entry → How → Type 0
+HasRun gives asked limit plan before after (how.Ended state) = IsSession gives asked limit plan before after (Some state)
+HasRun gives asked limit plan before after how.Suspended = IsSession gives asked limit plan before after (Some flow.Suspended)
+HasRun gives asked limit plan before after (how.Halted cause) = (stop : Option FlowState) × IsSession gives asked limit plan before after stop
 
 -- the answer is how the book stands: halted for that cause; or not halted, with the flow in that last state
 abbrev pub StandsAs : Option Halt → FlowState → How → Type 0
@@ -67,8 +96,9 @@ pub record HaltsAs (halted : Option Halt) (answer : How) : Type 0 where
   pub is : halted ≡ Some cause
   pub told : answer ≡ how.Halted cause
 
--- a run goes on after it was entered: all that it recorded since is within the session
-pub record GoesOn (gives : Order → Outcome → Type 0) (plan : Outline) (before past : List Entry) : Type 0 where
+-- a run goes on after it was entered: all that it recorded since is within the session, and nobody suspended it; the book has the
+-- session's limit
+pub record GoesOn (gives : Order → Outcome → Type 0) (limit : Option ℕ) (plan : Outline) (before past : List Entry) (kept : Option ℕ) : Type 0 where
   pub inner : List Entry
   pub recorded : past ≡ inner ++ (reverse (entering (flow_of before)) ++ before)
   pub inside : list_all is_inner_entry inner ≡ true
@@ -76,6 +106,8 @@ pub record GoesOn (gives : Order → Outcome → Type 0) (plan : Outline) (befor
   pub given : AreGiven gives plan before (inner ++ reverse (entering (flow_of before)))
   pub hands : list_all is_of_one (inner ++ reverse (entering (flow_of before))) ≡ true
   pub unsuspended : list_all is_unsuspended (inner ++ reverse (entering (flow_of before))) ≡ true
+  pub within : AreWithin plan limit (length (entering (flow_of before))) (inner ++ reverse (entering (flow_of before)))
+  pub limited : kept ≡ limit_from limit (length before)
 
 -- between two turns: the book isn't halted, the flow is RUNNING, and nothing is in flight
 pub record IsGoing (plan : Outline) (past : List Entry) (halted : Option Halt) : Type 0 where

@@ -3,6 +3,8 @@
 
 mod engine;
 mod one_hand;
+#[cfg(test)]
+mod tests;
 
 pub use engine::{How, RunEnd};
 pub use one_hand::serial;

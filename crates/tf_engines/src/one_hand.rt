@@ -1,4 +1,5 @@
-ghost use Rattle.std.specs.Prelude.{◌≡◌, ◌<◌, ◌≤◌, ◌+◌, ◌-◌, None, Some, true, List, Option, length, IfSome, IfNone, IsSome};
+ghost use Rattle.std.specs.Prelude.{◌≡◌, ◌<◌, ◌≤◌, ◌+◌, ◌-◌, ℕ, None, Some, true, List, Option, length, IfSome, IfNone, IsSome};
+ghost use Rattle.tf_desk.specs.Counts.{Rises};
 ghost use Rattle.tf_states.specs.declared.record.Entry.{Entry as Record};
 ghost use Rattle.tf_states.specs.declared.state.FlowState.TheVariants as flow;
 ghost use Rattle.tf_hands.specs.Hands.{IsAlone, HasOrder, orders};
@@ -52,10 +53,14 @@ fn perform<K: Desk, P: Performer>(
         → Kept K.tells K.shown K.content K.left K.crashes K.disk_faults K.out_faults start book.new }
     ensures stops { IfSome result (StandsAs book.new.halt (state_of book.new)) }
     ensures plan { book.new.plan ≡ book.old.plan }
-    ensures ran { (before : List Record) → GoesOn P.gives (outline book.old) before book.old.past
-        → IfSome result (HasRun P.gives (outline book.old) before book.new.past) }
-    ensures on { (before : List Record) → GoesOn P.gives (outline book.old) before book.old.past
-        → IfNone result (GoesOn P.gives (outline book.old) before book.new.past) }
+    ensures ran { (limit : Option ℕ) (before : List Record)
+        → GoesOn P.gives limit (outline book.old) before book.old.past book.old.limit
+        → IfSome result (HasRun P.gives (Rises (K.asks book.old.journal.desk) (K.asks book.new.journal.desk)) limit
+        (outline book.old) before book.new.past) }
+    ensures on { (limit : Option ℕ) (before : List Record)
+        → GoesOn P.gives limit (outline book.old) before book.old.past book.old.limit
+        → IfNone result (GoesOn P.gives limit (outline book.old) before book.new.past book.new.limit) }
+    ensures asks { K.asks book.old.journal.desk ≤ K.asks book.new.journal.desk }
     ensures goes { IfNone result (IsGoing (outline book.new) book.new.past book.new.halt) }
     ensures no_more { 67108864 - book.new.journal.size ≤ 67108864 - book.old.journal.size }
     ensures asked { (told : Option (List AnOrder)) (base : List AnOrder)
@@ -85,10 +90,14 @@ fn take_turn<K: Desk, P: Performer>(alloc: Global, book: &mut Book<K>, hand: &mu
         → Kept K.tells K.shown K.content K.left K.crashes K.disk_faults K.out_faults start book.new }
     ensures stops { IfSome result (StandsAs book.new.halt (state_of book.new)) }
     ensures plan { book.new.plan ≡ book.old.plan }
-    ensures ran { (before : List Record) → GoesOn P.gives (outline book.old) before book.old.past
-        → IfSome result (HasRun P.gives (outline book.old) before book.new.past) }
-    ensures on { (before : List Record) → GoesOn P.gives (outline book.old) before book.old.past
-        → IfNone result (GoesOn P.gives (outline book.old) before book.new.past) }
+    ensures ran { (limit : Option ℕ) (before : List Record)
+        → GoesOn P.gives limit (outline book.old) before book.old.past book.old.limit
+        → IfSome result (HasRun P.gives (Rises (K.asks book.old.journal.desk) (K.asks book.new.journal.desk)) limit
+        (outline book.old) before book.new.past) }
+    ensures on { (limit : Option ℕ) (before : List Record)
+        → GoesOn P.gives limit (outline book.old) before book.old.past book.old.limit
+        → IfNone result (GoesOn P.gives limit (outline book.old) before book.new.past book.new.limit) }
+    ensures asks { K.asks book.old.journal.desk ≤ K.asks book.new.journal.desk }
     ensures goes { IfNone result (IsGoing (outline book.new) book.new.past book.new.halt) }
     ensures less { IfNone result (67108864 - book.new.journal.size < 67108864 - book.old.journal.size) }
     ensures asked { (told : Option (List AnOrder)) (base : List AnOrder)
@@ -125,8 +134,11 @@ fn run<K: Desk, P: Performer>(alloc: Global, book: &mut Book<K>, hand: &mut P) -
         → Kept K.tells K.shown K.content K.left K.crashes K.disk_faults K.out_faults start book.new }
     ensures stops { StandsAs book.new.halt (state_of book.new) result }
     ensures plan { book.new.plan ≡ book.old.plan }
-    ensures ran { (before : List Record) → GoesOn P.gives (outline book.old) before book.old.past
-        → HasRun P.gives (outline book.old) before book.new.past result }
+    ensures ran { (limit : Option ℕ) (before : List Record)
+        → GoesOn P.gives limit (outline book.old) before book.old.past book.old.limit
+        → HasRun P.gives (Rises (K.asks book.old.journal.desk) (K.asks book.new.journal.desk)) limit (outline book.old)
+        before book.new.past result }
+    ensures asks { K.asks book.old.journal.desk ≤ K.asks book.new.journal.desk }
     ensures stopped { (told : Option (List AnOrder)) (base : List AnOrder)
         → HasDone told base (P.did hand.old) (orders (outline book.old) 0 book.old.past)
         → HasDoneBy told base (P.did hand.new) (orders (outline book.old) 0 book.new.past) result }
@@ -140,19 +152,26 @@ fn run<K: Desk, P: Performer>(alloc: Global, book: &mut Book<K>, hand: &mut P) -
 
 /// Goes through a session with one hand: enters it, lets the hand perform each order that the book gives, and
 /// records its outcome, until the flow has ended or is suspended, or the book is halted.
-fn run_session<K: Desk, P: Performer>(alloc: Global, book: &mut Book<K>, hand: &mut P) -> How
+fn run_session<K: Desk, P: Performer>(
+    alloc: Global,
+    book: &mut Book<K>,
+    hand: &mut P,
+    limit: Option<u32>,
+) -> How
     ensures keeps { (start : BookValue K)
         → Kept K.tells K.shown K.content K.left K.crashes K.disk_faults K.out_faults start book.old
         → Kept K.tells K.shown K.content K.left K.crashes K.disk_faults K.out_faults start book.new }
     ensures stops { StandsAs book.new.halt (state_of book.new) result }
     ensures plan { book.new.plan ≡ book.old.plan }
-    ensures ran { HasRun P.gives (outline book.old) book.old.past book.new.past result }
+    ensures ran { HasRun P.gives (Rises (K.asks book.old.journal.desk) (K.asks book.new.journal.desk)) limit
+        (outline book.old) book.old.past book.new.past result }
+    ensures asks { K.asks book.old.journal.desk ≤ K.asks book.new.journal.desk }
     ensures stopped { (told : Option (List AnOrder)) (base : List AnOrder)
         → HasDone told base (P.did hand.old) (orders (outline book.old) 0 book.old.past)
         → HasDoneBy told base (P.did hand.new) (orders (outline book.old) 0 book.new.past) result }
 {
     let _before = book.state();
-    match book.enter(HAND) {
+    match book.enter(HAND, limit) {
         Ok(Entered::Running) => {
             let _after = book.state();
             run(alloc, book, hand)
@@ -164,21 +183,30 @@ fn run_session<K: Desk, P: Performer>(alloc: Global, book: &mut Book<K>, hand: &
 
 /// Runs a book's flow with one hand, which records as hand 0, and gives the book back with how it stopped. Of
 /// every start that the book has kept to, it still keeps to it; what it recorded is a session whose ends carry
-/// outcomes that the hand may give for their orders, and at most as long as the plan's bound.
-pub fn serial<K: Desk, P: Performer>(alloc: Global, book: Book<K>, hand: &mut P) -> RunEnd<K>
+/// outcomes that the hand may give for their orders, and at most as long as the plan's bound. It is suspended only
+/// where a stop was asked for meanwhile, or where it recorded at least so many entries as the limit says, those of
+/// its beginning included; then only the end of the task in flight, SUSPENDING and a last state of the flow come.
+pub fn serial<K: Desk, P: Performer>(
+    alloc: Global,
+    book: Book<K>,
+    hand: &mut P,
+    limit: Option<u32>,
+) -> RunEnd<K>
     ensures keeps { (start : BookValue K)
         → Kept K.tells K.shown K.content K.left K.crashes K.disk_faults K.out_faults start book
         → Kept K.tells K.shown K.content K.left K.crashes K.disk_faults K.out_faults start result.book }
     ensures stops { StandsAs result.book.halt (state_of result.book) result.how }
     ensures plan { result.book.plan ≡ book.plan }
-    ensures ran { HasRun P.gives (outline book) book.past result.book.past result.how }
+    ensures ran { HasRun P.gives (Rises (K.asks book.journal.desk) (K.asks result.book.journal.desk)) limit
+        (outline book) book.past result.book.past result.how }
+    ensures asks { K.asks book.journal.desk ≤ K.asks result.book.journal.desk }
     ensures orders { HasDoneBy (P.did hand.old) (orders (outline book) 0 book.past) (P.did hand.new)
         (orders (outline book) 0 result.book.past) result.how }
     ensures bound { length result.book.past ≤ length book.past + entry_bound book.plan }
 {
     let mut book = book;
     let _before = book.state();
-    let how = run_session(alloc, &mut book, hand);
+    let how = run_session(alloc, &mut book, hand, limit);
     let _after = book.state();
     runs_are_bounded();
     RunEnd { book, how }

@@ -26,6 +26,8 @@ impl<K: Desk> Book<K> {
           journal = record self.old.journal { desk = self.new.journal.desk };
           halt = halt_after result;
         } }
+        ensures asks { (K.asks self.new.journal.desk ≡ K.asks self.old.journal.desk)
+            × (K.turns self.new.journal.desk ≡ K.turns self.old.journal.desk) }
         ensures out_alone { OnErr result (IsErrOf result Halt.Out) }
     {
         match say_line(&mut self.journal, closing, false) {
@@ -48,8 +50,8 @@ impl<K: Desk> Book<K> {
         self.halt = Some(Halt::Memory);
     }
 
-    /// The report at this moment.
-    fn report_text(&self) -> Result<Vec<u8>, Memory>
+    /// The report at this moment, which nobody says here.
+    pub fn report_text(&self) -> Result<Vec<u8>, Memory>
         ensures { IfOk result (λ text. text.items ≡ report_of (outline self.now) (moment self.now)) }
     {
         let mut text = Vec::new(self.alloc);
@@ -74,6 +76,8 @@ impl<K: Desk> Book<K> {
           journal = record self.old.journal { desk = self.new.journal.desk };
           halt = halt_after result;
         } }
+        ensures asks { (K.asks self.new.journal.desk ≡ K.asks self.old.journal.desk)
+            × (K.turns self.new.journal.desk ≡ K.turns self.old.journal.desk) }
         ensures faults { IfErr result (λ halt. (halt ≡ Halt.Out) ⊎ (halt ≡ Halt.Memory)) }
         ensures unsaid { IsErrOf result Halt.Memory → (start : BookValue K)
             → Kept K.tells K.shown K.content K.left K.crashes K.disk_faults K.out_faults start self.old
@@ -97,6 +101,8 @@ impl<K: Desk> Book<K> {
           journal = record self.old.journal { desk = self.new.journal.desk };
           halt = self.new.halt;
         } }
+        ensures asks { (K.asks self.new.journal.desk ≡ K.asks self.old.journal.desk)
+            × (K.turns self.new.journal.desk ≡ K.turns self.old.journal.desk) }
         ensures sound { OnOk result (self.new.halt ≡ None) }
         ensures fault { IfErr result (IsFault self.old.halt self.new.halt) }
         ensures faults { IfErr result (λ fault. self.old.halt ≡ None

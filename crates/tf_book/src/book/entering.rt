@@ -1,4 +1,4 @@
-ghost use Rattle.std.specs.Prelude.{◌≡◌, ◌<◌, None, Some, true, IfOk, IfErr, OnOk, OnErr};
+ghost use Rattle.std.specs.Prelude.{◌≡◌, ◌<◌, None, Some, true, length, IfOk, IfErr, OnOk, OnErr};
 ghost use Rattle.tf_book.specs.declared.faults.Halt.{Halt as Cause};
 ghost use Rattle.tf_states.specs.declared.record.What.TheVariants.{Flow as flow_turns};
 ghost use Rattle.tf_states.specs.declared.state.FlowState.TheVariants as flow;
@@ -8,6 +8,7 @@ ghost use Rattle.tf_book.specs.Book.{BookValue, state as state_of};
 ghost use Rattle.tf_book.specs.Faults.{IsFault};
 ghost use Rattle.tf_book.specs.Kept.{Kept};
 ghost use Rattle.tf_book.specs.Recording.{halt_after, past_after};
+ghost use Rattle.tf_book.specs.Stopping.{limit_from};
 ghost use Rattle.tf_book.specs.Turns.{IsEntering, IsEntered};
 
 use super::Book;
@@ -19,7 +20,7 @@ use tf_states::{Entry, FlowState, What};
 impl<K: Desk> Book<K> {
     /// Records that the flow turns to a state.
     #[tactic(auto, using(crate::proofs::TurnLemmas::turn_step))]
-    fn turn_to(&mut self, hand: u8, state: FlowState) -> Result<(), Halt>
+    pub(super) fn turn_to(&mut self, hand: u8, state: FlowState) -> Result<(), Halt>
         requires sound { self.old.halt ≡ None }
         requires hand { hand < 64 }
         requires allowed { may_turn (state_of self.old) state ≡ true }
@@ -31,6 +32,8 @@ impl<K: Desk> Book<K> {
           journal = self.new.journal;
           halt = halt_after result;
         } }
+        ensures asks { (K.asks self.new.journal.desk ≡ K.asks self.old.journal.desk)
+            × (K.turns self.new.journal.desk ≡ K.turns self.old.journal.desk) }
     {
         self.record(Entry {
             hand,
@@ -44,6 +47,9 @@ impl<K: Desk> Book<K> {
         requires hand { hand < 64 }
         requires from { may_turn (state_of self.old) flow.Running ≡ true }
         ensures plan { self.new.plan ≡ self.old.plan }
+        ensures limit { self.new.limit ≡ self.old.limit }
+        ensures asks { (K.asks self.new.journal.desk ≡ K.asks self.old.journal.desk)
+            × (K.turns self.new.journal.desk ≡ K.turns self.old.journal.desk) }
         ensures keeps { (start : BookValue K)
             → Kept K.tells K.shown K.content K.left K.crashes K.disk_faults K.out_faults start self.old
             → Kept K.tells K.shown K.content K.left K.crashes K.disk_faults K.out_faults start self.new }
@@ -60,6 +66,9 @@ impl<K: Desk> Book<K> {
         requires hand { hand < 64 }
         requires from { state_of self.old ≡ flow.Resuming }
         ensures plan { self.new.plan ≡ self.old.plan }
+        ensures limit { self.new.limit ≡ self.old.limit }
+        ensures asks { (K.asks self.new.journal.desk ≡ K.asks self.old.journal.desk)
+            × (K.turns self.new.journal.desk ≡ K.turns self.old.journal.desk) }
         ensures keeps { (start : BookValue K)
             → Kept K.tells K.shown K.content K.left K.crashes K.disk_faults K.out_faults start self.old
             → Kept K.tells K.shown K.content K.left K.crashes K.disk_faults K.out_faults start self.new }
@@ -77,6 +86,9 @@ impl<K: Desk> Book<K> {
         requires hand { hand < 64 }
         requires from { may_turn (state_of self.old) flow.Resuming ≡ true }
         ensures plan { self.new.plan ≡ self.old.plan }
+        ensures limit { self.new.limit ≡ self.old.limit }
+        ensures asks { (K.asks self.new.journal.desk ≡ K.asks self.old.journal.desk)
+            × (K.turns self.new.journal.desk ≡ K.turns self.old.journal.desk) }
         ensures keeps { (start : BookValue K)
             → Kept K.tells K.shown K.content K.left K.crashes K.disk_faults K.out_faults start self.old
             → Kept K.tells K.shown K.content K.left K.crashes K.disk_faults K.out_faults start self.new }
@@ -94,6 +106,9 @@ impl<K: Desk> Book<K> {
         requires sound { self.old.halt ≡ None }
         requires hand { hand < 64 }
         ensures plan { self.new.plan ≡ self.old.plan }
+        ensures limit { self.new.limit ≡ self.old.limit }
+        ensures asks { (K.asks self.new.journal.desk ≡ K.asks self.old.journal.desk)
+            × (K.turns self.new.journal.desk ≡ K.turns self.old.journal.desk) }
         ensures keeps { (start : BookValue K)
             → Kept K.tells K.shown K.content K.left K.crashes K.disk_faults K.out_faults start self.old
             → Kept K.tells K.shown K.content K.left K.crashes K.disk_faults K.out_faults start self.new }
@@ -122,14 +137,32 @@ impl<K: Desk> Book<K> {
         }
     }
 
+    /// Keeps where the session is to be suspended, which begins now and may record so many entries before.
+    fn keep_limit(&mut self, limit: Option<u32>)
+        requires sound { self.old.halt ≡ None }
+        ensures keeps { (start : BookValue K)
+            → Kept K.tells K.shown K.content K.left K.crashes K.disk_faults K.out_faults start self.old
+            → Kept K.tells K.shown K.content K.left K.crashes K.disk_faults K.out_faults start self.new }
+        ensures same { self.new ≡ record self.old { limit = limit_from limit (length self.old.past) } }
+    {
+        match limit {
+            Some(limit) => self.limit = Some(self.count() + limit as u64),
+            None => self.limit = None,
+        }
+    }
+
     /// Enters a session by that hand: from PENDING and SUSPENDED the flow runs; a run that was interrupted is
-    /// resumed and suspended before; and of a flow that has ended nothing is recorded.
-    pub fn enter(&mut self, hand: u8) -> Result<Entered, BookFault>
+    /// resumed and suspended before; and of a flow that has ended nothing is recorded. The session is to be
+    /// suspended once it recorded so many entries as the limit says, those recorded here included.
+    pub fn enter(&mut self, hand: u8, limit: Option<u32>) -> Result<Entered, BookFault>
         requires { hand < 64 }
         ensures plan { self.new.plan ≡ self.old.plan }
         ensures keeps { (start : BookValue K)
             → Kept K.tells K.shown K.content K.left K.crashes K.disk_faults K.out_faults start self.old
             → Kept K.tells K.shown K.content K.left K.crashes K.disk_faults K.out_faults start self.new }
+        ensures limit { self.old.halt ≡ None → self.new.limit ≡ limit_from limit (length self.old.past) }
+        ensures asks { (K.asks self.new.journal.desk ≡ K.asks self.old.journal.desk)
+            × (K.turns self.new.journal.desk ≡ K.turns self.old.journal.desk) }
         ensures entered { IfOk result (IsEntered hand self.old.past self.new.past) }
         ensures cut { OnErr result (IsEntering hand self.old.past self.new.past) }
         ensures sound { OnOk result (self.new.halt ≡ None) }
@@ -139,6 +172,7 @@ impl<K: Desk> Book<K> {
         if let Some(cause) = self.halt {
             return Err(BookFault::Halted(cause));
         }
+        self.keep_limit(limit);
         match self.begin(hand) {
             Ok(entered) => Ok(entered),
             Err(halt) => Err(BookFault::from(halt)),

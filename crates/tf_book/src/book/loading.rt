@@ -63,6 +63,7 @@ impl<K: Desk> Book<K> {
                 draft,
                 quiet: false,
                 halt: None,
+                limit: None,
             })),
             Err(fault) => Err((journal.into_desk(), fault)),
         }

@@ -54,6 +54,7 @@ impl<K: Desk> Book<K> {
             draft: _,
             quiet: _,
             halt: _,
+            limit: _,
         } = self;
         journal.into_desk()
     }

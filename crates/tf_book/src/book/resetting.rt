@@ -43,6 +43,9 @@ impl<K: Desk> Book<K> {
             → Kept K.tells K.shown K.content K.left K.crashes K.disk_faults K.out_faults start self.old
             → Kept K.tells K.shown K.content K.left K.crashes K.disk_faults K.out_faults start self.new }
         ensures plan { self.new.plan ≡ self.old.plan }
+        ensures limit { self.new.limit ≡ self.old.limit }
+        ensures asks { (K.asks self.new.journal.desk ≡ K.asks self.old.journal.desk)
+            × (K.turns self.new.journal.desk ≡ K.turns self.old.journal.desk) }
         ensures put { OnOk result (IsPutBackBy (outline self.old) self.old.past self.new.past) }
         ensures more { result ≡ Ok true → may (outline self.new) (moment self.new) ≡ true }
         ensures done { result ≡ Ok false → state_of self.new ≡ flow.Pending }
@@ -69,6 +72,9 @@ impl<K: Desk> Book<K> {
             → Kept K.tells K.shown K.content K.left K.crashes K.disk_faults K.out_faults start self.old
             → Kept K.tells K.shown K.content K.left K.crashes K.disk_faults K.out_faults start self.new }
         ensures plan { self.new.plan ≡ self.old.plan }
+        ensures limit { self.new.limit ≡ self.old.limit }
+        ensures asks { (K.asks self.new.journal.desk ≡ K.asks self.old.journal.desk)
+            × (K.turns self.new.journal.desk ≡ K.turns self.old.journal.desk) }
         ensures put_back { OnOk result (IsPutBack (outline self.old) self.old.past self.new.past) }
         ensures cut { OnErr result (IsPutBackOn (outline self.old) self.old.past self.new.past) }
         ensures sound { OnOk result (self.new.halt ≡ None) }
@@ -86,6 +92,9 @@ impl<K: Desk> Book<K> {
     /// settled, and the book isn't halted; it names the flow's state, and nothing changes.
     pub fn reset(&mut self) -> Result<(), ResetFault>
         ensures plan { self.new.plan ≡ self.old.plan }
+        ensures limit { self.new.limit ≡ self.old.limit }
+        ensures asks { (K.asks self.new.journal.desk ≡ K.asks self.old.journal.desk)
+            × (K.turns self.new.journal.desk ≡ K.turns self.old.journal.desk) }
         ensures keeps { (start : BookValue K)
             → Kept K.tells K.shown K.content K.left K.crashes K.disk_faults K.out_faults start self.old
             → Kept K.tells K.shown K.content K.left K.crashes K.disk_faults K.out_faults start self.new }

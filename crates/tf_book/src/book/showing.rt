@@ -43,6 +43,8 @@ impl<K: Desk> Book<K> {
           journal = record self.old.journal { desk = self.new.journal.desk };
           halt = self.new.halt;
         } }
+        ensures asks { (K.asks self.new.journal.desk ≡ K.asks self.old.journal.desk)
+            × (K.turns self.new.journal.desk ≡ K.turns self.old.journal.desk) }
         ensures sound { OnOk result (self.new.halt ≡ None) }
         ensures fault { IfErr result (IsFault self.old.halt self.new.halt) }
         ensures faults { IfErr result (λ fault. self.old.halt ≡ None

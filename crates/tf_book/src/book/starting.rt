@@ -133,6 +133,7 @@ impl<K: Desk> Book<K> {
                 draft,
                 quiet,
                 halt: None,
+                limit: None,
             }),
             Err(fault) => Err((journal.into_desk(), fault)),
         }

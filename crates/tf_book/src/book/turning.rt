@@ -1,4 +1,4 @@
-ghost use Rattle.std.specs.Prelude.{◌≡◌, ◌⊎◌, ◌<◌, ◌≤◌, ◌-◌, None, Some, Ok, true, false, IsSome, IfOk, IfErr, OnOk, OnErr, IsErrOf};
+ghost use Rattle.std.specs.Prelude.{◌≡◌, ◌≢◌, ◌⊎◌, ◌<◌, ◌≤◌, ◌-◌, None, Some, Ok, true, false, length, IsSome, IfOk, IfErr, OnOk, OnErr, IsErrOf};
 ghost use Rattle.tf_states.specs.declared.state.FlowState.TheVariants as flow;
 ghost use Rattle.tf_machine.specs.Answers.{start_entry, action_in, task_of};
 ghost use Rattle.tf_model.specs.Candidates.{choice, end_of};
@@ -14,12 +14,15 @@ ghost use Rattle.tf_book.specs.Book.{BookValue, outline, moment, state as state_
 ghost use Rattle.tf_book.specs.Faults.{IsFault};
 ghost use Rattle.tf_book.specs.Kept.{Kept};
 ghost use Rattle.tf_book.specs.Recording.{halt_for_memory, halt_after, past_after};
-ghost use Rattle.tf_book.specs.Turns.{RanOn, IsForcedBy, IsForcedOn, IsStartedSo, IsStartOf, HasRested, IsClosedOr, IsFinished, IsLessAfterStart, IsTurn, IsHaltedTurn, is_entered};
+ghost use Rattle.tf_desk.specs.Counts.{Rises};
+ghost use Rattle.tf_book.specs.Stopping.{is_to_stop, IsAnswered};
+ghost use Rattle.tf_book.specs.Turns.{RanOn, RanUntilStop, IsForcedBy, IsForcedOn, IsStartedSo, IsStartOf, HasRested, IsClosedOr, HasStopped, IsStoppedOr, IsFinished, IsLessAfterStart, IsTurn, IsHaltedTurn, IsTurnAsked, IsHaltedTurnAsked, is_entered, end_now, suspending_after};
 ghost use Rattle.tf_book.specs.declared.faults.Halt.{Halt as Cause};
 ghost use Rattle.tf_states.specs.declared.record.Entry.{Entry as Record};
 
 use super::Book;
 use crate::faults::{BookFault, Halt};
+use crate::log::ask;
 use crate::turn::Turn;
 use tf_desk::Desk;
 use tf_machine::Start;
@@ -48,6 +51,9 @@ impl<K: Desk> Book<K> {
             → Kept K.tells K.shown K.content K.left K.crashes K.disk_faults K.out_faults start self.old
             → Kept K.tells K.shown K.content K.left K.crashes K.disk_faults K.out_faults start self.new }
         ensures plan { self.new.plan ≡ self.old.plan }
+        ensures limit { self.new.limit ≡ self.old.limit }
+        ensures asks { (K.asks self.new.journal.desk ≡ K.asks self.old.journal.desk)
+            × (K.turns self.new.journal.desk ≡ K.turns self.old.journal.desk) }
         ensures forced { result ≡ Ok true → IsForcedBy (outline self.old) hand self.old.past self.new.past }
         ensures nothing { result ≡ Ok false
             → (self.new.past ≡ self.old.past) × (forced_entry (outline self.old) (moment self.old) ≡ None) }
@@ -70,8 +76,22 @@ impl<K: Desk> Book<K> {
         Ok(true)
     }
 
-    /// Records what is forced, one entry after another, until nothing is.
-    fn force(&mut self, hand: u8) -> Result<(), Halt>
+    /// Whether the session is to stop: a stop was asked for, or its limit is reached.
+    fn is_to_stop(&self, asked: bool) -> bool
+        ensures { result ≡ is_to_stop asked self.now.limit (length self.now.past) }
+    {
+        if asked {
+            return true;
+        }
+        match self.limit {
+            Some(limit) => limit <= self.count(),
+            None => false,
+        }
+    }
+
+    /// Records what is forced, one entry after another, until nothing is or the session is to stop, and answers
+    /// whether it is.
+    fn force(&mut self, hand: u8, asked: bool) -> Result<bool, Halt>
         requires sound { self.old.halt ≡ None }
         requires hand { hand < 64 }
         requires running { state_of self.old ≡ flow.Running }
@@ -79,18 +99,26 @@ impl<K: Desk> Book<K> {
             → Kept K.tells K.shown K.content K.left K.crashes K.disk_faults K.out_faults start self.old
             → Kept K.tells K.shown K.content K.left K.crashes K.disk_faults K.out_faults start self.new }
         ensures plan { self.new.plan ≡ self.old.plan }
-        ensures ran { OnOk result (RanOn (outline self.old) hand self.old.past self.new.past) }
-        ensures cut { OnErr result (IsForcedOn (outline self.old) hand self.old.past self.new.past) }
+        ensures limit { self.new.limit ≡ self.old.limit }
+        ensures asks { (K.asks self.new.journal.desk ≡ K.asks self.old.journal.desk)
+            × (K.turns self.new.journal.desk ≡ K.turns self.old.journal.desk) }
+        ensures ran { result ≡ Ok false
+            → RanOn (outline self.old) hand asked self.old.limit self.old.past self.new.past }
+        ensures stops { result ≡ Ok true
+            → RanUntilStop (outline self.old) hand asked self.old.limit self.old.past self.new.past }
+        ensures cut { OnErr result (IsForcedOn (outline self.old) hand asked self.old.limit self.old.past self.new.past) }
         ensures sound { OnOk result (self.new.halt ≡ None) }
         ensures halt { IfErr result (λ halt. self.new.halt ≡ Some halt) }
         ensures no_more { 67108864 - self.new.journal.size ≤ 67108864 - self.old.journal.size }
     {
         'forcing: loop {
+            if self.is_to_stop(asked) {
+                return Ok(true);
+            }
             if !self.force_once(hand)? {
-                break 'forcing;
+                return Ok(false);
             }
         }
-        Ok(())
     }
 
     /// Takes the first candidate up, after its order was made.
@@ -102,6 +130,9 @@ impl<K: Desk> Book<K> {
         requires action { start.action ≡ action_in ((moment self.old).state start.atom) }
         requires task { is_task (outline self.old) start.atom ≡ true }
         ensures plan { self.new.plan ≡ self.old.plan }
+        ensures limit { self.new.limit ≡ self.old.limit }
+        ensures asks { (K.asks self.new.journal.desk ≡ K.asks self.old.journal.desk)
+            × (K.turns self.new.journal.desk ≡ K.turns self.old.journal.desk) }
         ensures keeps { (start : BookValue K)
             → Kept K.tells K.shown K.content K.left K.crashes K.disk_faults K.out_faults start self.old
             → Kept K.tells K.shown K.content K.left K.crashes K.disk_faults K.out_faults start self.new }
@@ -131,6 +162,9 @@ impl<K: Desk> Book<K> {
             ⊎ ((end_of (outline self.old) (moment self.old) ≡ None) × (state_of self.old ≡ flow.Suspending)
             × (state ≡ flow.Suspended)) }
         ensures plan { self.new.plan ≡ self.old.plan }
+        ensures limit { self.new.limit ≡ self.old.limit }
+        ensures asks { (K.asks self.new.journal.desk ≡ K.asks self.old.journal.desk)
+            × (K.turns self.new.journal.desk ≡ K.turns self.old.journal.desk) }
         ensures keeps { (start : BookValue K)
             → Kept K.tells K.shown K.content K.left K.crashes K.disk_faults K.out_faults start self.old
             → Kept K.tells K.shown K.content K.left K.crashes K.disk_faults K.out_faults start self.new }
@@ -152,6 +186,9 @@ impl<K: Desk> Book<K> {
         requires unforced { forced_entry (outline self.old) (moment self.old) ≡ None }
         requires unchosen { choice (outline self.old) (moment self.old) ≡ None }
         ensures plan { self.new.plan ≡ self.old.plan }
+        ensures limit { self.new.limit ≡ self.old.limit }
+        ensures asks { (K.asks self.new.journal.desk ≡ K.asks self.old.journal.desk)
+            × (K.turns self.new.journal.desk ≡ K.turns self.old.journal.desk) }
         ensures keeps { (start : BookValue K)
             → Kept K.tells K.shown K.content K.left K.crashes K.disk_faults K.out_faults start self.old
             → Kept K.tells K.shown K.content K.left K.crashes K.disk_faults K.out_faults start self.new }
@@ -177,6 +214,9 @@ impl<K: Desk> Book<K> {
         requires hand { hand < 64 }
         requires suspending { state_of self.old ≡ flow.Suspending }
         ensures plan { self.new.plan ≡ self.old.plan }
+        ensures limit { self.new.limit ≡ self.old.limit }
+        ensures asks { (K.asks self.new.journal.desk ≡ K.asks self.old.journal.desk)
+            × (K.turns self.new.journal.desk ≡ K.turns self.old.journal.desk) }
         ensures keeps { (start : BookValue K)
             → Kept K.tells K.shown K.content K.left K.crashes K.disk_faults K.out_faults start self.old
             → Kept K.tells K.shown K.content K.left K.crashes K.disk_faults K.out_faults start self.new }
@@ -196,23 +236,88 @@ impl<K: Desk> Book<K> {
         Ok(Turn::Ended(state))
     }
 
-    /// A turn in RUNNING: what is forced is recorded, and then the first candidate is taken up, if there is one.
-    fn run_on(&mut self, hand: u8) -> Result<Turn, Halt>
+    /// Records SUSPENDING, and then what comes in it.
+    fn suspend(&mut self, hand: u8) -> Result<Turn, Halt>
+        requires sound { self.old.halt ≡ None }
+        requires hand { hand < 64 }
+        requires running { state_of self.old ≡ flow.Running }
+        ensures plan { self.new.plan ≡ self.old.plan }
+        ensures limit { self.new.limit ≡ self.old.limit }
+        ensures asks { (K.asks self.new.journal.desk ≡ K.asks self.old.journal.desk)
+            × (K.turns self.new.journal.desk ≡ K.turns self.old.journal.desk) }
+        ensures keeps { (start : BookValue K)
+            → Kept K.tells K.shown K.content K.left K.crashes K.disk_faults K.out_faults start self.old
+            → Kept K.tells K.shown K.content K.left K.crashes K.disk_faults K.out_faults start self.new }
+        ensures rested { IfOk result
+            (HasRested (outline self.old) hand (suspending_after hand self.old.past) self.new.past) }
+        ensures cut { OnErr result (IsClosedOr (outline self.old) hand (suspending_after hand self.old.past) self.new.past
+            ⊎ (self.new.past ≡ self.old.past)) }
+        ensures sound { OnOk result (self.new.halt ≡ None) }
+        ensures halt { IfErr result (λ halt. self.new.halt ≡ Some halt) }
+    {
+        self.turn_to(hand, FlowState::Suspending)?;
+        self.wind_up(hand)
+    }
+
+    /// The end that may be recorded: there is none while a task is in flight.
+    fn end_now(&self) -> Option<FlowState>
+        ensures { result ≡ end_now (outline self.now) (moment self.now) }
+    {
+        if !self.is_still() {
+            return None;
+        }
+        self.ended()
+    }
+
+    /// What comes in RUNNING where the session is to stop: the end, where it may be recorded, or else SUSPENDING and
+    /// what comes in it.
+    fn stop(&mut self, hand: u8) -> Result<Turn, Halt>
+        requires sound { self.old.halt ≡ None }
+        requires hand { hand < 64 }
+        requires running { state_of self.old ≡ flow.Running }
+        ensures plan { self.new.plan ≡ self.old.plan }
+        ensures limit { self.new.limit ≡ self.old.limit }
+        ensures asks { (K.asks self.new.journal.desk ≡ K.asks self.old.journal.desk)
+            × (K.turns self.new.journal.desk ≡ K.turns self.old.journal.desk) }
+        ensures keeps { (start : BookValue K)
+            → Kept K.tells K.shown K.content K.left K.crashes K.disk_faults K.out_faults start self.old
+            → Kept K.tells K.shown K.content K.left K.crashes K.disk_faults K.out_faults start self.new }
+        ensures stopped { IfOk result (HasStopped (outline self.old) hand self.old.past self.new.past) }
+        ensures cut { OnErr result (IsStoppedOr (outline self.old) hand self.old.past self.new.past) }
+        ensures sound { OnOk result (self.new.halt ≡ None) }
+        ensures halt { IfErr result (λ halt. self.new.halt ≡ Some halt) }
+    {
+        let Some(state) = self.end_now() else {
+            return self.suspend(hand);
+        };
+        self.close_session(hand, state)?;
+        Ok(Turn::Ended(state))
+    }
+
+    /// A turn in RUNNING: what is forced is recorded, and then the first candidate is taken up, if there is one; unless
+    /// the session is to stop before.
+    fn run_on(&mut self, hand: u8, asked: bool) -> Result<Turn, Halt>
         requires sound { self.old.halt ≡ None }
         requires hand { hand < 64 }
         requires free { is_free (outline self.old) (moment self.old) hand ≡ true }
         requires running { state_of self.old ≡ flow.Running }
         ensures plan { self.new.plan ≡ self.old.plan }
+        ensures limit { self.new.limit ≡ self.old.limit }
+        ensures asks { (K.asks self.new.journal.desk ≡ K.asks self.old.journal.desk)
+            × (K.turns self.new.journal.desk ≡ K.turns self.old.journal.desk) }
         ensures keeps { (start : BookValue K)
             → Kept K.tells K.shown K.content K.left K.crashes K.disk_faults K.out_faults start self.old
             → Kept K.tells K.shown K.content K.left K.crashes K.disk_faults K.out_faults start self.new }
-        ensures turn { IfOk result (IsTurn (outline self.old) hand self.old.past self.new.past) }
-        ensures cut { OnErr result (IsHaltedTurn (outline self.old) hand self.old.past self.new.past) }
+        ensures turn { IfOk result (IsTurn (outline self.old) hand asked self.old.limit self.old.past self.new.past) }
+        ensures cut { OnErr result
+            (IsHaltedTurn (outline self.old) hand asked self.old.limit self.old.past self.new.past) }
         ensures sound { OnOk result (self.new.halt ≡ None) }
         ensures halt { IfErr result (λ halt. self.new.halt ≡ Some halt) }
         ensures less { IfOk result (IsLessAfterStart self.old.journal.size self.new.journal.size) }
     {
-        self.force(hand)?;
+        if self.force(hand, asked)? {
+            return self.stop(hand);
+        }
         match self.candidate() {
             Some(start) => self.take_up(hand, start),
             None => self.rest(hand),
@@ -220,24 +325,28 @@ impl<K: Desk> Book<K> {
     }
 
     /// A turn of a hand, by the state of the flow.
-    fn turn(&mut self, hand: u8) -> Result<Turn, Halt>
+    fn turn(&mut self, hand: u8, asked: bool) -> Result<Turn, Halt>
         requires sound { self.old.halt ≡ None }
         requires hand { hand < 64 }
         requires free { is_free (outline self.old) (moment self.old) hand ≡ true }
         requires entered { is_entered (state_of self.old) ≡ true }
         ensures plan { self.new.plan ≡ self.old.plan }
+        ensures limit { self.new.limit ≡ self.old.limit }
+        ensures asks { (K.asks self.new.journal.desk ≡ K.asks self.old.journal.desk)
+            × (K.turns self.new.journal.desk ≡ K.turns self.old.journal.desk) }
         ensures keeps { (start : BookValue K)
             → Kept K.tells K.shown K.content K.left K.crashes K.disk_faults K.out_faults start self.old
             → Kept K.tells K.shown K.content K.left K.crashes K.disk_faults K.out_faults start self.new }
-        ensures turn { IfOk result (IsTurn (outline self.old) hand self.old.past self.new.past) }
-        ensures cut { OnErr result (IsHaltedTurn (outline self.old) hand self.old.past self.new.past) }
+        ensures turn { IfOk result (IsTurn (outline self.old) hand asked self.old.limit self.old.past self.new.past) }
+        ensures cut { OnErr result
+            (IsHaltedTurn (outline self.old) hand asked self.old.limit self.old.past self.new.past) }
         ensures sound { OnOk result (self.new.halt ≡ None) }
         ensures halt { IfErr result (λ halt. self.new.halt ≡ Some halt) }
         ensures less { IfOk result (IsLessAfterStart self.old.journal.size self.new.journal.size) }
     {
         let state = self.flow();
         match state {
-            FlowState::Running => self.run_on(hand),
+            FlowState::Running => self.run_on(hand, asked),
             FlowState::Suspending => self.wind_up(hand),
             FlowState::Suspended => Ok(Turn::Suspended),
             FlowState::Success | FlowState::Failure | FlowState::Reverted => Ok(Turn::Ended(state)),
@@ -245,21 +354,55 @@ impl<K: Desk> Book<K> {
         }
     }
 
-    /// The next turn of a hand that has nothing in flight, in a session that was entered. In RUNNING what is forced
-    /// is recorded, entry by entry; then the first candidate is taken up, and its order is the answer; where there
-    /// is none the hand waits while a task is in flight, and else the end is recorded. In SUSPENDING the hand waits
-    /// while a task is in flight, and else the end or the suspension is recorded. A flow that has stopped gives
-    /// its state again, and nothing is recorded. An order is made before its start is recorded.
+    /// Asks the desk in RUNNING whether a stop is asked for. In another state of the flow it isn't asked.
+    fn ask(&mut self) -> bool
+        requires sound { self.old.halt ≡ None }
+        ensures keeps { (start : BookValue K)
+            → Kept K.tells K.shown K.content K.left K.crashes K.disk_faults K.out_faults start self.old
+            → Kept K.tells K.shown K.content K.left K.crashes K.disk_faults K.out_faults start self.new }
+        ensures same { self.new ≡ record self.old { journal = record self.old.journal { desk = self.new.journal.desk } } }
+        ensures answered { IsAnswered result (K.asks self.old.journal.desk) (K.asks self.new.journal.desk) }
+        ensures turned { state_of self.old ≡ flow.Running
+            → Rises (K.turns self.old.journal.desk) (K.turns self.new.journal.desk) }
+        ensures unasked { state_of self.old ≢ flow.Running
+            → (K.asks self.new.journal.desk ≡ K.asks self.old.journal.desk)
+            × (K.turns self.new.journal.desk ≡ K.turns self.old.journal.desk) }
+        ensures no_fall { (K.asks self.old.journal.desk ≤ K.asks self.new.journal.desk)
+            × (K.turns self.old.journal.desk ≤ K.turns self.new.journal.desk) }
+    {
+        if !matches!(self.flow(), FlowState::Running) {
+            return false;
+        }
+        ask(&mut self.journal)
+    }
+
+    /// The next turn of a hand that has nothing in flight, in a session that was entered. In RUNNING the desk is asked
+    /// once whether a stop is asked for. Then, while the session isn't to stop, what is forced is recorded, entry by
+    /// entry; then the first candidate is taken up, and its order is the answer; where there is none the hand waits
+    /// while a task is in flight, and else the end is recorded. Where a stop was asked for or the limit is reached, the
+    /// end is recorded, if it may be, and else SUSPENDING. In SUSPENDING the hand waits while a task is in flight, and
+    /// else the end or the suspension is recorded. A flow that has stopped gives its state again, and nothing is
+    /// recorded. An order is made before its start is recorded.
     pub fn next(&mut self, hand: u8) -> Result<Turn, BookFault>
         requires hand { hand < 64 }
         requires free { is_free (outline self.old) (moment self.old) hand ≡ true }
         requires entered { is_entered (state_of self.old) ≡ true }
         ensures plan { self.new.plan ≡ self.old.plan }
+        ensures limit { self.new.limit ≡ self.old.limit }
         ensures keeps { (start : BookValue K)
             → Kept K.tells K.shown K.content K.left K.crashes K.disk_faults K.out_faults start self.old
             → Kept K.tells K.shown K.content K.left K.crashes K.disk_faults K.out_faults start self.new }
-        ensures turn { IfOk result (IsTurn (outline self.old) hand self.old.past self.new.past) }
-        ensures cut { OnErr result (IsHaltedTurn (outline self.old) hand self.old.past self.new.past) }
+        ensures turn { IfOk result (IsTurnAsked (outline self.old) hand self.old.limit (K.asks self.old.journal.desk)
+            (K.asks self.new.journal.desk) self.old.past self.new.past) }
+        ensures cut { OnErr result (IsHaltedTurnAsked (outline self.old) hand self.old.limit
+            (K.asks self.old.journal.desk) (K.asks self.new.journal.desk) self.old.past self.new.past) }
+        ensures turned { self.old.halt ≡ None → state_of self.old ≡ flow.Running
+            → Rises (K.turns self.old.journal.desk) (K.turns self.new.journal.desk) }
+        ensures unasked { state_of self.old ≢ flow.Running
+            → (K.asks self.new.journal.desk ≡ K.asks self.old.journal.desk)
+            × (K.turns self.new.journal.desk ≡ K.turns self.old.journal.desk) }
+        ensures no_fall { (K.asks self.old.journal.desk ≤ K.asks self.new.journal.desk)
+            × (K.turns self.old.journal.desk ≤ K.turns self.new.journal.desk) }
         ensures sound { OnOk result (self.new.halt ≡ None) }
         ensures fault { IfErr result (IsFault self.old.halt self.new.halt) }
         ensures halted { (cause : Cause) → self.old.halt ≡ Some cause → self.new ≡ self.old }
@@ -268,7 +411,8 @@ impl<K: Desk> Book<K> {
         if let Some(cause) = self.halt {
             return Err(BookFault::Halted(cause));
         }
-        match self.turn(hand) {
+        let asked = self.ask();
+        match self.turn(hand, asked) {
             Ok(turn) => Ok(turn),
             Err(halt) => Err(BookFault::from(halt)),
         }
@@ -279,6 +423,9 @@ impl<K: Desk> Book<K> {
         requires hand { hand < 64 }
         requires task { IsSome (task_of (outline self.old) (moment self.old) hand) }
         ensures plan { self.new.plan ≡ self.old.plan }
+        ensures limit { self.new.limit ≡ self.old.limit }
+        ensures asks { (K.asks self.new.journal.desk ≡ K.asks self.old.journal.desk)
+            × (K.turns self.new.journal.desk ≡ K.turns self.old.journal.desk) }
         ensures keeps { (start : BookValue K)
             → Kept K.tells K.shown K.content K.left K.crashes K.disk_faults K.out_faults start self.old
             → Kept K.tells K.shown K.content K.left K.crashes K.disk_faults K.out_faults start self.new }

@@ -1,4 +1,4 @@
-use Rattle.std.proofs.Common.{◌≡◌, true, ap, subst, sym, None, ◌∙◌, List}
+use Rattle.std.proofs.Common.{◌≡◌, true, ap, subst, sym, None, ◌∙◌, ℕ, List, Option}
 use Rattle.tf_flow.specs.Plan.{PlanValue}
 use Rattle.tf_model.specs.History.{snapshot}
 use Rattle.tf_model.specs.Plan.{outline_of}
@@ -12,18 +12,19 @@ use Rattle.tf_engines.proofs.RunLemmas.{goes_session, halts_so, goes_finished, f
 use Rattle.tf_engines.proofs.one_hand.perform.Goals as goal
 
 pub returns-in_default-clause-ran : goal.returns-in_default-clause-ran
-returns-in_default-clause-ran g c = λ before on.
+returns-in_default-clause-ran g c = λ limit before on.
     let same = c.halt_for_memory.ensures.same in
-    halts_so _ _ before _ _ _ c.halted.ensures.cause None
-    (goes_session _ _ before _ (subst (λ (p : PlanValue). LegalPast (outline_of p) c.halt_for_memory.new.self.past) (ap (λ (b : BookValue _). b.plan) same) c.halted.ensures.legal)
-    (subst (λ (l : List Entry). GoesOn g.P.Performer.gives (outline_of c.args.book.now.plan) before l) (sym (ap (λ (b : BookValue _). b.past) same)) on))
+    halts_so _ _ _ _ before _ _ _ c.halted.ensures.cause None
+    (goes_session _ _ _ _ before _ c.args.book.now.limit (subst (λ (p : PlanValue). LegalPast (outline_of p) c.halt_for_memory.new.self.past) (ap (λ (b : BookValue _). b.plan) same) c.halted.ensures.legal)
+    (subst (λ (l : List Entry). GoesOn g.P.Performer.gives limit (outline_of c.args.book.now.plan) before l c.args.book.now.limit) (sym (ap (λ (b : BookValue _). b.past) same)) on))
 
 pub finish-requires-clause-task : goal.finish-requires-clause-task
 finish-requires-clause-task g c = told_some _ _ (order_told _ _ 0 _ c.state-before.ensures.legal c.requires.has)
 
 pub returns-in-Ok-finish-clause-on : goal.returns-in-Ok-finish-clause-on
-returns-in-Ok-finish-clause-on g c = λ before on.
-    goes_finished _ _ before _ _ _ _ g.met.P.Performer.reverts_to_nothing c.state-before.ensures.legal c.requires.has c.in-Ok.ensures.given c.in-Ok-finish.ensures.finished on
+returns-in-Ok-finish-clause-on g c = λ limit before on.
+    subst (λ (k : Option ℕ). GoesOn g.P.Performer.gives limit (outline_of c.args.book.now.plan) before c.finish.new.self.past k) (sym c.finish.ensures.limit)
+    (goes_finished _ _ _ before _ _ _ _ _ g.met.P.Performer.reverts_to_nothing c.state-before.ensures.legal c.requires.has c.in-Ok.ensures.given c.in-Ok-finish.ensures.finished on)
 
 pub returns-in-Ok-finish-clause-goes : goal.returns-in-Ok-finish-clause-goes
 returns-in-Ok-finish-clause-goes g c =
@@ -36,9 +37,9 @@ returns-in-Ok-finish-clause-goes g c =
     }
 
 pub returns-clause-ran : goal.returns-clause-ran
-returns-clause-ran g c = λ before on.
-    halts_so _ _ before _ _ _ c.halted-in-Err.ensures.cause None
-    (finished_or_not _ _ before _ _ _ _ g.met.P.Performer.reverts_to_nothing c.state-before.ensures.legal
+returns-clause-ran g c = λ limit before on.
+    halts_so _ _ _ _ before _ _ _ c.halted-in-Err.ensures.cause None
+    (finished_or_not _ _ _ _ before _ _ _ _ _ g.met.P.Performer.reverts_to_nothing c.state-before.ensures.legal
     (subst (λ (p : PlanValue). LegalPast (outline_of p) c.finish.new.self.past) c.in-Err.ensures.plan c.halted-in-Err.ensures.legal) c.requires.has c.in-Ok.ensures.given c.in-Err.ensures.cut on)
 
 pub returns-in-Ok-finish-clause-asked : goal.returns-in-Ok-finish-clause-asked

@@ -1,4 +1,4 @@
-use Rattle.std.proofs.Common.{◌≡◌, ◌-◌, List, Option}
+use Rattle.std.proofs.Common.{◌≡◌, ◌≤◌, ◌-◌, ℕ, List, Option}
 use Rattle.tf_states.specs.declared.record.Entry.{Entry}
 use Rattle.tf_ports.specs.declared.orders.Order.{Order}
 use Rattle.tf_hands.specs.Hands.{orders}
@@ -13,10 +13,12 @@ invariant-turns g l = record {
   keeps : (start : BookValue g.row.K.Denot) → Kept g.K.Desk.tells g.K.Desk.shown g.K.Desk.content g.K.Desk.left g.K.Desk.crashes g.K.Desk.disk_faults g.K.Desk.out_faults start l.fn.book
       → Kept g.K.Desk.tells g.K.Desk.shown g.K.Desk.content g.K.Desk.left g.K.Desk.crashes g.K.Desk.disk_faults g.K.Desk.out_faults start l.book;
   plan : l.book.plan ≡ l.fn.book.plan;
+  asks : g.K.Desk.asks l.fn.book.journal.desk ≤ g.K.Desk.asks l.book.journal.desk;
   going : IsGoing (outline l.book) l.book.past l.book.halt;
   asked : (told : Option (List Order)) (base : List Order) → HasDone told base (g.P.Performer.did l.fn.hand) (orders (outline l.fn.book) 0 l.fn.book.past)
       → HasDone told base (g.P.Performer.did l.hand) (orders (outline l.fn.book) 0 l.book.past);
-  on : (before : List Entry) → GoesOn g.P.Performer.gives (outline l.fn.book) before l.fn.book.past → GoesOn g.P.Performer.gives (outline l.fn.book) before l.book.past;
+  on : (limit : Option ℕ) (before : List Entry) → GoesOn g.P.Performer.gives limit (outline l.fn.book) before l.fn.book.past l.fn.book.limit
+      → GoesOn g.P.Performer.gives limit (outline l.fn.book) before l.book.past l.book.limit;
 }
 
 abbrev pub decreases-turns : goal.decreases-turns

@@ -1,4 +1,9 @@
-use Rattle.std.proofs.Common.{◌≡◌, ap, subst, sym, ◌∙◌, List}
+use Rattle.std.proofs.Common.{◌≡◌, ap, subst, sym, ◌∙◌, ℕ, List, arith}
+use Rattle.tf_desk.specs.Counts.{Rises}
+use Rattle.tf_book.proofs.KeptLemmas.{rises_later}
+use Rattle.tf_engines.specs.Runs.{HasRun, GoesOn}
+use Rattle.tf_engines.proofs.RunLemmas.{was_sound}
+use Rattle.tf_engines.proofs.StopLemmas.{run_later}
 use Rattle.tf_flow.specs.Plan.{PlanValue}
 use Rattle.tf_model.specs.Plan.{outline_of}
 use Rattle.tf_model.specs.Steps.{LegalPast}
@@ -11,14 +16,26 @@ run-requires g c =
     let t = rw c.in-Ok-Running.field-0-is at c.in-Ok-Running.ensures.entered in
     record { going = entered_going _ c.args.book.now.past _ _ c.in-Ok-Running.ensures.sound c.state-after.ensures.legal t }
 
+pub returns-in-Ok-Running-clause-ran : goal.returns-in-Ok-Running-clause-ran
+returns-in-Ok-Running-clause-ran g c =
+    let t = rw c.in-Ok-Running.field-0-is at c.in-Ok-Running.ensures.entered in
+    let e = c.enter.ensures in
+    let mid : ℕ = g.K.Desk.asks c.enter.new.self.journal.desk in
+    let last : ℕ = g.K.Desk.asks c.run.new.book.journal.desk in
+    let on = entered_goes g.P.Performer.gives c.args.limit _ _ _ c.enter.new.self.limit (e.limit (was_sound _ _ c.in-Ok-Running.ensures.sound e.halted)) t.0 t.1 in
+    run_later g.P.Performer.gives (Rises mid last) _ c.args.limit _ _ _ c.run.result (rises_later _ mid last (omega (arith, e.asks.0)))
+    (subst (λ (p : PlanValue). HasRun g.P.Performer.gives (Rises mid last) c.args.limit (outline_of p) c.args.book.now.past c.run.new.book.past c.run.result) e.plan
+    (c.run.ensures.ran c.args.limit c.args.book.now.past
+    (subst (λ (p : PlanValue). GoesOn g.P.Performer.gives c.args.limit (outline_of p) c.args.book.now.past c.enter.new.self.past c.enter.new.self.limit) (sym e.plan) on)))
+
 pub returns-in-Ok-Ended-clause-ran : goal.returns-in-Ok-Ended-clause-ran
 returns-in-Ok-Ended-clause-ran g c =
     let t = rw c.in-Ok-Ended.field-0-is at c.in-Ok-Ended.ensures.entered in
-    ended_before g.P.Performer.gives _ _ _ _ c.state-before.ensures.legal t
+    ended_before g.P.Performer.gives _ _ _ _ _ _ c.state-before.ensures.legal t
 
 pub returns-in-Err-clause-ran : goal.returns-in-Err-clause-ran
 returns-in-Err-clause-ran g c =
-    cut_before g.P.Performer.gives _ _ _ _ _ c.halted.ensures.cause (subst (λ (p : PlanValue). LegalPast (outline_of p) c.enter.new.self.past) c.enter.ensures.plan c.halted.ensures.legal) c.in-Err.ensures.cut
+    cut_before g.P.Performer.gives _ _ _ _ _ _ _ c.halted.ensures.cause (subst (λ (p : PlanValue). LegalPast (outline_of p) c.enter.new.self.past) c.enter.ensures.plan c.halted.ensures.legal) c.in-Err.ensures.cut
 
 pub returns-in-Err-clause-stopped : goal.returns-in-Err-clause-stopped
 returns-in-Err-clause-stopped g c = λ told base has.

@@ -22,6 +22,8 @@ putting-preserved g c =
     record {
       keeps = λ start k. e.keeps start (l.keeps start k);
       plan = e.plan ∙ l.plan;
+      limit = e.limit ∙ l.limit;
+      asks = (e.asks.0 ∙ l.asks.0, e.asks.1 ∙ l.asks.1);
       on = put_more _ _ _ _ _ (ap outline_of l.plan) l.on e.put;
       sound = e.sound;
       may = e.more (ap (λ (b : Bool). Ok b) c.if-not-branch.false);
