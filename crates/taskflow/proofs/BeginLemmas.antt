@@ -125,18 +125,17 @@ module _ {K : Type 0} (tells : K → Bool) (shown : K → Option (List ℕ)) (co
 
   -- the book of the plan began
   pub begins_on : (name : List ℕ) (entry mid : K) (plan : PlanValue) (book : BookValue K) → Unbegun tells shown content left crashes disk_faults out_faults name entry plan mid
-      → book.plan ≡ plan → book.past ≡ [] → book.halt ≡ None → book.quiet ≡ false → book.journal.volatile ≡ false
+      → book.plan ≡ plan → book.past ≡ [] → book.halt ≡ None → book.journal.volatile ≡ false
       → tells book.journal.desk ≡ tells mid → shown book.journal.desk ≡ shown mid → disk_faults mid ≤ disk_faults book.journal.desk → out_faults book.journal.desk ≡ out_faults mid
       → (IsTrue (tells mid) → GoesOn (content mid) (content book.journal.desk))
       → (IsTrue (tells mid) → Passes (content mid).clock (content book.journal.desk).clock (crashes mid) (crashes book.journal.desk) (LeavesPlan plan (shown mid)))
       → (IsTrue (tells book.journal.desk) → LeavesBodies (title_of book_title) (content book.journal.desk) (left book.journal.desk) (bodies_of book.plan book.past))
       → (IsTrue (tells mid) → IsFresh (file_of (content entry) name) → length (file_of (content entry) name) ≤ 18 → bytes_of (content book.journal.desk) ≡ journal_bytes (title_of book_title) (bodies_of plan []))
       → Begins tells shown content left crashes disk_faults out_faults name entry plan book
-  begins_on name entry mid plan book u plan_is past_is sound speaks kept told_same shown_same disk out goes passes rest exact = record {
+  begins_on name entry mid plan book u plan_is past_is sound kept told_same shown_same disk out goes passes rest exact = record {
     plan_is = plan_is;
     past_is = past_is;
     sound = sound;
-    speaks = speaks;
     kept = kept;
     told = told_same ∙ u.told;
     quiet = shown_same ∙ u.quiet;

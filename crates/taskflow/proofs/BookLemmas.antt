@@ -19,9 +19,11 @@ use Rattle.tf_book.specs.Loading.{CanRun}
 use Rattle.taskflow.specs.Books.{HiresOne, IsFile, RefusesOrStops, exhausted, Promised, Unhired, exhausted_hire, unhired, Runs, unopened, forbidden, unhired_run, ran, Resumes, unhired_again, resumed}
 use Rattle.taskflow.specs.Durable.{file_of, book_in, HoldsNoFlow, Holds}
 use Rattle.taskflow.specs.Messages.{state_forbids, cannot_hire}
+use Rattle.taskflow.specs.declared.running.Request.{Request}
 use Rattle.taskflow.specs.Runs.{Continues, nobody, went_on}
 use Rattle.taskflow.specs.Way.{Untouched, Open}
 use Rattle.taskflow.specs.declared.statuses.TheConstants.{FORBIDDEN, UNHIRED}
+use Rattle.taskflow.proofs.AskedLemmas.{promised_more}
 
 -- the bytes of a file that is picked
 picked_reads : (name : List ℕ) (content : Content) → content.picked ≡ Some name → bytes_of content ≡ file_of content name
@@ -88,21 +90,23 @@ module _ {K : Type 0} (tells : K → Bool) (shown : K → Option (List ℕ)) (co
       unborn_found (title_of book_title) (bytes_of (content now)) (ap book_in (opened_bytes name entry now opened told) ∙ found told_entry)
 
   -- the flow that a book holds forbids a run, or memory ran out
-  pub forbidden_over : (gives : Order → Outcome → Type 0) (name : List ℕ) (hired after_hiring : Option (List Want)) (entry now : K) (tree : PlanTree) (status : ℕ) (plan : PlanValue) (past : List Entry)
+  pub forbidden_over : (gives : Order → Outcome → Type 0) (request : Request) (asked : Type 0) (name : List ℕ) (hired after_hiring : Option (List Want)) (entry now : K) (tree : PlanTree) (status : ℕ) (plan : PlanValue) (past : List Entry)
       → after_hiring ≡ hired → IsFile tells shown content left crashes disk_faults name entry (Holds plan past)
       → RefusesOrStops tells shown content left crashes disk_faults name entry now (state_forbids (outline_of plan) (flow_of past)) FORBIDDEN status
-      → Runs tells shown content left crashes disk_faults gives name hired after_hiring entry now tree status
-  forbidden_over gives name hired after_hiring entry now tree status plan past same is (inl stops) = unopened same (exhausted stops)
-  forbidden_over gives name hired after_hiring entry now tree status plan past same is (inr refuses) = forbidden plan past same is refuses
+      → Runs tells shown content left crashes disk_faults gives request asked name hired after_hiring entry now tree status
+  forbidden_over gives request asked name hired after_hiring entry now tree status plan past same is (inl stops) = unopened same (exhausted stops)
+  forbidden_over gives request asked name hired after_hiring entry now tree status plan past same is (inr refuses) = forbidden plan past same is refuses
 
   -- a run began in a file that holds no flow, or nobody was hired
-  pub begun_over : (gives : Order → Outcome → Type 0) (name : List ℕ) (hired after_hiring : Option (List Want)) (entry now : K) (status : ℕ) (plan : PlanValue)
+  pub begun_over : (gives : Order → Outcome → Type 0) (request : Request) (asked more : Type 0) (name : List ℕ) (hired after_hiring : Option (List Want)) (entry now : K) (status : ℕ) (plan : PlanValue)
       → IsFile tells shown content left crashes disk_faults name entry HoldsNoFlow
       → Unhired tells shown content left crashes disk_faults name entry now hired after_hiring status
-      ⊎ (HiresOne hired after_hiring × Promised tells shown content left crashes disk_faults gives name plan [] entry now status)
-      → Runs tells shown content left crashes disk_faults gives name hired after_hiring entry now (plan_tree plan) status
-  begun_over gives name hired after_hiring entry now status plan is (inl none) = unhired_run is none
-  begun_over gives name hired after_hiring entry now status plan is (inr begun) = ran plan refl is begun.0 begun.1
+      ⊎ (HiresOne hired after_hiring × Promised tells shown content left crashes disk_faults gives request asked name plan [] entry now status)
+      → (asked → more)
+      → Runs tells shown content left crashes disk_faults gives request more name hired after_hiring entry now (plan_tree plan) status
+  begun_over gives request asked more name hired after_hiring entry now status plan is (inl none) widens = unhired_run is none
+  begun_over gives request asked more name hired after_hiring entry now status plan is (inr begun) widens =
+      ran plan refl is begun.0 (promised_more tells shown content left crashes disk_faults gives request asked more name plan [] entry now status widens begun.1)
 
   -- nobody was hired: it was said, or memory ran out
   pub unhired_so : (name : List ℕ) (entry now : K) (hired after_hiring : Option (List Want)) (status : ℕ) → after_hiring ≡ hired
@@ -112,9 +116,9 @@ module _ {K : Type 0} (tells : K → Bool) (shown : K → Option (List ℕ)) (co
   unhired_so name entry now hired after_hiring status same (inr refuses) = unhired same refuses
 
   -- a book that was opened went on
-  pub resumed_over : (gives : Order → Outcome → Type 0) (name : List ℕ) (hired after_hiring : Option (List Want)) (entry now : K) (status : ℕ) (book : BookValue K) → CanRun book.plan
+  pub resumed_over : (gives : Order → Outcome → Type 0) (request : Request) (asked : Type 0) (name : List ℕ) (hired after_hiring : Option (List Want)) (entry now : K) (status : ℕ) (book : BookValue K) → CanRun book.plan
       → IsFile tells shown content left crashes disk_faults name entry (Holds book.plan book.past)
-      → Continues tells shown content left crashes disk_faults out_faults gives name entry book hired after_hiring now status
-      → Resumes tells shown content left crashes disk_faults gives name hired after_hiring entry now status
-  resumed_over gives name hired after_hiring entry now status book can is (nobody going none) = unhired_again book.plan book.past is going none
-  resumed_over gives name hired after_hiring entry now status book can is (went_on how promised) = resumed book.plan book.past can is how promised
+      → Continues tells shown content left crashes disk_faults out_faults gives request asked name entry book hired after_hiring now status
+      → Resumes tells shown content left crashes disk_faults gives request asked name hired after_hiring entry now status
+  resumed_over gives request asked name hired after_hiring entry now status book can is (nobody going none) = unhired_again book.plan book.past is going none
+  resumed_over gives request asked name hired after_hiring entry now status book can is (went_on how promised) = resumed book.plan book.past can is how promised

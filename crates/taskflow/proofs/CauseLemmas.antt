@@ -1,5 +1,5 @@
 -- What a status tells of the way that a command went.
-use Rattle.std.proofs.Common.{◌≡◌, ◌⊎◌, ℕ, List, [], ◌∷◌, ◌++◌, length, Option, Some, None, Bool, false, inl, inr, refl, ◌∙◌, sym, ap, subst, arith, ⊎_elim}
+use Rattle.std.proofs.Common.{◌≡◌, ◌⊎◌, ℕ, List, [], ◌∷◌, ◌++◌, length, Option, Some, None, Bool, true, false, inl, inr, refl, ◌∙◌, sym, ap, subst, arith, ⊎_elim}
 use Rattle.std.specs.Prelude.{IsTrue}
 use Rattle.tf_desk.specs.Content.{Content}
 use Rattle.tf_desk.specs.Crash.{Images, Crashes}
@@ -13,24 +13,28 @@ use Rattle.tf_ports.specs.declared.outcomes.Outcome.{Outcome}
 use Rattle.tf_states.specs.declared.record.Entry.{Entry}
 use Rattle.tf_states.specs.declared.state.FlowState.{FlowState}
 use Rattle.tf_states.specs.declared.state.FlowState.TheVariants as flow
+use Rattle.tf_model.specs.History.{snapshot}
 use Rattle.tf_model.specs.Plan.{outline_of}
 use Rattle.tf_book.specs.Book.{bodies_of}
 use Rattle.tf_book.specs.Loading.{IsNoBook, no_journal, bad_body}
-use Rattle.tf_commands.specs.declared.asked.Asked.{Asked}
-use Rattle.tf_commands.specs.declared.asked.Asked.TheVariants as asked
-use Rattle.taskflow.specs.Accepted.{GivesPlan, GivesNone}
+use Rattle.tf_book.specs.Resetting.{may_reset}
+use Rattle.tf_book.specs.Stopping.{is_reached}
+use Rattle.tf_words.specs.declared.asked.Asked.{Asked}
+use Rattle.tf_words.specs.declared.asked.Asked.TheVariants as asked
+use Rattle.taskflow.specs.Accepted.{GivesPlan, GivesNone, demo_tree}
 use Rattle.taskflow.specs.Asking.{source_of, asked_for}
-use Rattle.taskflow.specs.Books.{Unopened, exhausted, disk_failed, no_book, Refuses, Unhired, exhausted_hire, unhired, Promised, Runs, unopened, forbidden, unhired_run, ran, Resumes, unopened_again, empty, unhired_again, resumed, ShowsBook, unopened_show, nothing_shown, shown_whole}
+use Rattle.taskflow.specs.Books.{Unopened, exhausted, disk_failed, no_book, Refuses, Unhired, exhausted_hire, unhired, Promised, Runs, unopened, forbidden, unhired_run, ran, Demonstrates, ungenerated, demonstrated, Resumes, unopened_again, empty, unhired_again, resumed, ShowsBook, unopened_show, nothing_shown, shown_whole, ResetsBook, unopened_reset, nothing_put_back, reset_forbidden, was_reset}
 use Rattle.taskflow.specs.Causes.{Counts, HasCauses, HasNoFault}
 use Rattle.taskflow.specs.Course as course
-use Rattle.taskflow.specs.Course.{BytesRead, FileRead, Tried, Tries, Checks, Course, Obeys, source_so, IsRefused, passes_limit, gives_none, IsAccepted, IsBook, HoldsFlow, IsRunComplete, IsDoneComplete, IsReady, IsComplete}
+use Rattle.taskflow.specs.Course.{BytesRead, FileRead, Tried, Tries, Checks, Course, Obeys, source_so, IsRefused, passes_limit, gives_none, IsAccepted, IsBook, HoldsFlow, HoldsReverted, IsRunComplete, IsRunCompleteBy, IsDoneComplete, IsResetComplete, IsReady, IsComplete}
 use Rattle.taskflow.specs.Durable.{book_in, file_of, HoldsNoFlow, Holds}
-use Rattle.taskflow.specs.Run.{HasSteps, status_of, Ran, RunShows, closed, line_cut, stopped, IsLastSaid, reported, disk_failed as disk_said, filled}
+use Rattle.taskflow.specs.Resets.{IsResetSaid, all_back, disk_failed_back, filled_back}
+use Rattle.taskflow.specs.declared.running.Request.{Request}
+use Rattle.taskflow.specs.Run.{spoken, unspoken, heading_of, status_of, Ran, Shows, closed, line_cut, stopped, IsLastSaid, reported, disk_failed as disk_said, filled}
 use Rattle.taskflow.specs.Saying.{Closes, said, cut, ClosesOrStops}
 use Rattle.taskflow.specs.declared.accepting.Refusal.{Refusal}
 use Rattle.taskflow.specs.declared.reading.Source.{Source}
 use Rattle.taskflow.proofs.AcceptLemmas.{gives_one}
-use Rattle.taskflow.proofs.SuspensionLemmas.{never_suspended}
 
 -- ---- how what was done ends
 
@@ -41,6 +45,7 @@ data Ended (status : ℕ) : Type 0 where
   is_unsaid : status ≡ 7 → Ended status
   is_unhired : status ≡ 8 → Ended status
   is_forbidden : status ≡ 14 → Ended status
+  is_suspended : status ≡ 12 → Ended status
 
 out_ends : (status : ℕ) → status ≡ 9 → Ended status
 out_ends status is = is_complete (inr (inr (inr (inl is))))
@@ -67,40 +72,71 @@ ended_apart status wanted (is_no_book a) is one = apart_three status wanted 6 a 
 ended_apart status wanted (is_unsaid a) is one = apart_three status wanted 7 a is one (λ e. omega arith) (λ e. omega arith) (λ e. omega arith)
 ended_apart status wanted (is_unhired a) is one = apart_three status wanted 8 a is one (λ e. omega arith) (λ e. omega arith) (λ e. omega arith)
 ended_apart status wanted (is_forbidden a) is one = apart_three status wanted 14 a is one (λ e. omega arith) (λ e. omega arith) (λ e. omega arith)
+ended_apart status wanted (is_suspended a) is one = apart_three status wanted 12 a is one (λ e. omega arith) (λ e. omega arith) (λ e. omega arith)
 
 -- ---- runs
 
-stopped_with : (last : FlowState) → (last ≡ flow.Suspended → ⊥) → Ended (status_of last)
-stopped_with flow.Success on = is_complete (inl refl)
-stopped_with flow.Reverted on = is_complete (inr (inl refl))
-stopped_with flow.Pending on = is_complete (inr (inr (inl refl)))
-stopped_with flow.Running on = is_complete (inr (inr (inl refl)))
-stopped_with flow.Failure on = is_complete (inr (inr (inl refl)))
-stopped_with flow.Suspending on = is_complete (inr (inr (inl refl)))
-stopped_with flow.Suspended on = absurd (on refl)
-stopped_with flow.Resuming on = is_complete (inr (inr (inl refl)))
+stopped_with : (last : FlowState) → Ended (status_of last)
+stopped_with flow.Success = is_complete (inl refl)
+stopped_with flow.Reverted = is_complete (inr (inl refl))
+stopped_with flow.Pending = is_complete (inr (inr (inl refl)))
+stopped_with flow.Running = is_complete (inr (inr (inl refl)))
+stopped_with flow.Failure = is_complete (inr (inr (inl refl)))
+stopped_with flow.Suspending = is_complete (inr (inr (inl refl)))
+stopped_with flow.Suspended = is_suspended refl
+stopped_with flow.Resuming = is_complete (inr (inr (inl refl)))
 
-last_said : (plan : PlanValue) (past : List Entry) (stop : Option FlowState) (closing : List ℕ) (wanted : ℕ) → (stop ≡ Some flow.Suspended → ⊥) → IsLastSaid plan past stop closing wanted → Ended wanted
-last_said plan past stop closing wanted on (reported last) = stopped_with last (λ is. on (ap Some is))
-last_said plan past stop closing wanted on (disk_said halted) = is_failed refl
-last_said plan past stop closing wanted on (filled halted size need full) = is_complete (inr (inr (inr (inr refl))))
+last_said : (plan : PlanValue) (heading : List ℕ) (past : List Entry) (stop : Option FlowState) (closing : List ℕ) (wanted : ℕ) → IsLastSaid plan heading past stop closing wanted → Ended wanted
+last_said plan heading past stop closing wanted (reported last) = stopped_with last
+last_said plan heading past stop closing wanted (disk_said halted) = is_failed refl
+last_said plan heading past stop closing wanted (filled halted size need full) = is_complete (inr (inr (inr (inr refl))))
 
-ran_shown : (plan : PlanValue) (before entries : List Entry) (shown now : Option (List ℕ)) (stop : Option FlowState) (closing : List ℕ) (status : ℕ) → (stop ≡ Some flow.Suspended → ⊥)
-    → RunShows plan before entries shown now stop closing status → Ended status
-ran_shown plan before entries shown now stop closing status on (closed text wanted ended is closes) =
-    ⊎_elim (λ same. subst Ended (sym same) (last_said plan (entries ++ before) stop text wanted on is)) (λ seven. is_unsaid seven) (closes_status _ now text wanted ended closes)
-ran_shown plan before entries shown now stop closing status on (line_cut front) = is_unsaid refl
-ran_shown plan before entries shown now stop closing status on (stopped text) = out_ends 9 refl
+-- what records and says its last ends as that tells
+shows_last : (plan : PlanValue) (quiet : Bool) (before entries : List Entry) (shown now : Option (List ℕ)) (last : List ℕ → ℕ → Type 0) (closing : List ℕ) (status : ℕ)
+    → ((text : List ℕ) (wanted : ℕ) → last text wanted → Ended wanted) → Shows plan quiet before entries shown now last closing status → Ended status
+shows_last plan quiet before entries shown now last closing status ends (closed text wanted ended is closes) =
+    ⊎_elim (λ same. subst Ended (sym same) (ends text wanted is)) (λ seven. is_unsaid seven) (closes_status _ now text wanted ended closes)
+shows_last plan quiet before entries shown now last closing status ends (line_cut front) = is_unsaid refl
+shows_last plan quiet before entries shown now last closing status ends (stopped text) = out_ends 9 refl
 
-ran_ended : {gives : Order → Outcome → Type 0} (plan : PlanValue) (before entries : List Entry) (stop : Option FlowState) (shown now : Option (List ℕ)) (closing : List ℕ) (status : ℕ)
-    → Ran gives plan before entries stop shown now closing status → Ended status
-ran_ended plan before entries stop shown now closing status r =
-    ran_shown plan before entries shown now stop closing status
-    (λ is. never_suspended (outline_of plan) before entries (subst (λ (o : Option FlowState). HasSteps (outline_of plan) before entries o) is r.steps)) r.text
+ran_ended : {gives : Order → Outcome → Type 0} {request : Request} {asked : Type 0} (plan : PlanValue) (before entries : List Entry) (stop : Option FlowState) (shown now : Option (List ℕ)) (closing : List ℕ) (status : ℕ)
+    → Ran gives request asked plan before entries stop shown now closing status → Ended status
+ran_ended {gives} {request} plan before entries stop shown now closing status r =
+    shows_last plan request.quiet before entries shown now (IsLastSaid plan (heading_of request (outline_of plan) (entries ++ before)) (entries ++ before) stop) closing status
+    (λ text wanted is. last_said plan (heading_of request (outline_of plan) (entries ++ before)) (entries ++ before) stop text wanted is) r.text
+
+-- the status of a suspension comes from one, which was asked for or reached the limit
+suspends_by : (last : FlowState) → status_of last ≡ 12 → last ≡ flow.Suspended
+suspends_by flow.Suspended is = refl
+suspends_by flow.Success is = absurd (omega (arith, is))
+suspends_by flow.Reverted is = absurd (omega (arith, is))
+suspends_by flow.Pending is = absurd (omega (arith, is))
+suspends_by flow.Running is = absurd (omega (arith, is))
+suspends_by flow.Failure is = absurd (omega (arith, is))
+suspends_by flow.Suspending is = absurd (omega (arith, is))
+suspends_by flow.Resuming is = absurd (omega (arith, is))
+
+last_suspends : (plan : PlanValue) (heading : List ℕ) (past : List Entry) (stop : Option FlowState) (closing : List ℕ) (wanted : ℕ) → IsLastSaid plan heading past stop closing wanted → wanted ≡ 12
+    → stop ≡ Some flow.Suspended
+last_suspends plan heading past stop closing wanted (reported last) is = ap Some (suspends_by last is)
+last_suspends plan heading past stop closing wanted (disk_said halted) is = absurd (omega (arith, is))
+last_suspends plan heading past stop closing wanted (filled halted size need full) is = absurd (omega (arith, is))
+
+shows_suspended : (plan : PlanValue) (quiet : Bool) (heading : List ℕ) (before entries past : List Entry) (shown now : Option (List ℕ)) (stop : Option FlowState) (closing : List ℕ) (status : ℕ)
+    → Shows plan quiet before entries shown now (IsLastSaid plan heading past stop) closing status → status ≡ 12 → stop ≡ Some flow.Suspended
+shows_suspended plan quiet heading before entries past shown now stop closing status (closed text wanted ended last closes) is =
+    ⊎_elim (λ same. last_suspends plan heading past stop text wanted last (sym same ∙ is)) (λ seven. absurd (omega (arith, seven, is))) (closes_status _ now text wanted ended closes)
+shows_suspended plan quiet heading before entries past shown now stop closing status (line_cut front) is = absurd (omega (arith, is))
+shows_suspended plan quiet heading before entries past shown now stop closing status (stopped text) is = absurd (omega (arith, is))
+
+ran_suspended : {gives : Order → Outcome → Type 0} {request : Request} {asked : Type 0} (plan : PlanValue) (before entries : List Entry) (stop : Option FlowState) (shown now : Option (List ℕ)) (closing : List ℕ) (status : ℕ)
+    → Ran gives request asked plan before entries stop shown now closing status → status ≡ 12 → asked ⊎ (is_reached request.limit (length entries) ≡ true)
+ran_suspended {gives} {request} plan before entries stop shown now closing status r is =
+    (r.steps.suspended (shows_suspended plan request.quiet (heading_of request (outline_of plan) (entries ++ before)) before entries (entries ++ before) shown now stop closing status r.text is)).cause
 
 -- ---- trials and checks
 
-tries_ended : {gives : Order → Outcome → Type 0} (hired after_hiring : Option (List Want)) (before after : Option (List ℕ)) (tree : PlanTree) (status : ℕ) → Tries gives hired after_hiring before after tree status → Ended status
+tries_ended : {gives : Order → Outcome → Type 0} {asked : Type 0} (hired after_hiring : Option (List Want)) (before after : Option (List ℕ)) (tree : PlanTree) (status : ℕ) → Tries gives asked hired after_hiring before after tree status → Ended status
 tries_ended hired after_hiring before after tree status (course.unfinished_hire is same) = out_ends status is
 tries_ended hired after_hiring before after tree status (course.unhired same closes) = ⊎_elim (λ is. is_unhired is) (λ is. is_unsaid is) (closes_status before after _ 8 status closes)
 tries_ended hired after_hiring before after tree status (course.tried hires t) = ran_ended t.plan [] t.entries t.stop before after t.closing status t.ran
@@ -123,19 +159,24 @@ module _ {K : Type 0} (tells : K → Bool) (shown : K → Option (List ℕ)) (co
   unhired_ended name entry now hired after_hiring status (exhausted_hire same stops) = out_ends status stops.status_is
   unhired_ended name entry now hired after_hiring status (unhired same r) = refuses_ended name entry now _ 8 status (is_unhired refl) r
 
-  promised_ended : {gives : Order → Outcome → Type 0} (name : List ℕ) (plan : PlanValue) (before : List Entry) (entry now : K) (status : ℕ)
-      → Promised tells shown content left crashes disk_faults gives name plan before entry now status → Ended status
+  promised_ended : {gives : Order → Outcome → Type 0} {request : Request} {asked : Type 0} (name : List ℕ) (plan : PlanValue) (before : List Entry) (entry now : K) (status : ℕ)
+      → Promised tells shown content left crashes disk_faults gives request asked name plan before entry now status → Ended status
   promised_ended name plan before entry now status p = ran_ended plan before p.entries p.stop (shown entry) (shown now) p.closing status p.ran
 
-  runs_ended : {gives : Order → Outcome → Type 0} (name : List ℕ) (hired after_hiring : Option (List Want)) (entry now : K) (tree : PlanTree) (status : ℕ)
-      → Runs tells shown content left crashes disk_faults gives name hired after_hiring entry now tree status → Ended status
+  runs_ended : {gives : Order → Outcome → Type 0} {request : Request} {asked : Type 0} (name : List ℕ) (hired after_hiring : Option (List Want)) (entry now : K) (tree : PlanTree) (status : ℕ)
+      → Runs tells shown content left crashes disk_faults gives request asked name hired after_hiring entry now tree status → Ended status
   runs_ended name hired after_hiring entry now tree status (unopened same u) = unopened_ended name entry now status u
   runs_ended name hired after_hiring entry now tree status (forbidden plan past same held r) = refuses_ended name entry now _ 14 status (is_forbidden refl) r
   runs_ended name hired after_hiring entry now tree status (unhired_run none u) = unhired_ended name entry now hired after_hiring status u
   runs_ended name hired after_hiring entry now tree status (ran plan same none hires p) = promised_ended name plan [] entry now status p
 
-  resumes_ended : {gives : Order → Outcome → Type 0} (name : List ℕ) (hired after_hiring : Option (List Want)) (entry now : K) (status : ℕ)
-      → Resumes tells shown content left crashes disk_faults gives name hired after_hiring entry now status → Ended status
+  demonstrates_ended : {gives : Order → Outcome → Type 0} {asked : Type 0} (name : List ℕ) (hired after_hiring : Option (List Want)) (entry now : K) (seed size status : ℕ)
+      → Demonstrates tells shown content left crashes disk_faults gives asked name hired after_hiring entry now seed size status → Ended status
+  demonstrates_ended name hired after_hiring entry now seed size status (ungenerated is same still) = out_ends status is
+  demonstrates_ended name hired after_hiring entry now seed size status (demonstrated runs) = runs_ended name hired after_hiring entry now (demo_tree seed size) status runs
+
+  resumes_ended : {gives : Order → Outcome → Type 0} {request : Request} {asked : Type 0} (name : List ℕ) (hired after_hiring : Option (List Want)) (entry now : K) (status : ℕ)
+      → Resumes tells shown content left crashes disk_faults gives request asked name hired after_hiring entry now status → Ended status
   resumes_ended name hired after_hiring entry now status (unopened_again same u) = unopened_ended name entry now status u
   resumes_ended name hired after_hiring entry now status (empty same none r) = refuses_ended name entry now _ 14 status (is_forbidden refl) r
   resumes_ended name hired after_hiring entry now status (unhired_again plan past held going u) = unhired_ended name entry now hired after_hiring status u
@@ -145,6 +186,18 @@ module _ {K : Type 0} (tells : K → Bool) (shown : K → Option (List ℕ)) (co
   shows_ended name entry now status (unopened_show u) = unopened_ended name entry now status u
   shows_ended name entry now status (nothing_shown none r) = refuses_ended name entry now _ 14 status (is_forbidden refl) r
   shows_ended name entry now status (shown_whole plan past held r) = refuses_ended name entry now _ 0 status (is_complete (inl refl)) r
+
+  resets_ended : (name : List ℕ) (entry now : K) (status : ℕ) → ResetsBook tells shown content left crashes disk_faults name entry now status → Ended status
+  resets_ended name entry now status (unopened_reset u) = unopened_ended name entry now status u
+  resets_ended name entry now status (nothing_put_back none r) = refuses_ended name entry now _ 14 status (is_forbidden refl) r
+  resets_ended name entry now status (reset_forbidden plan past held never r) = refuses_ended name entry now _ 14 status (is_forbidden refl) r
+  resets_ended name entry now status (was_reset plan past held may p) =
+      shows_last plan false past p.entries (shown entry) (shown now) (IsResetSaid plan (p.entries ++ past)) p.closing status reset_said p.put_back.text
+    where
+      reset_said : (text : List ℕ) (wanted : ℕ) → IsResetSaid plan (p.entries ++ past) text wanted → Ended wanted
+      reset_said text wanted (all_back pending) = is_complete (inl refl)
+      reset_said text wanted disk_failed_back = is_failed refl
+      reset_said text wanted (filled_back size need full) = is_complete (inr (inr (inr (inr refl))))
 
 -- ---- flow files
 
@@ -253,16 +306,34 @@ flow_held found plan past (inl is) held = let both : unborn ≡ bodies (bodies_o
 flow_held found plan past (inr is) held = let both : bodies [] ≡ bodies (bodies_of plan past) = sym is ∙ held in bodies_some plan past (let same : bodies_of plan past ≡ [] = cc in same)
 
 -- what ended and met no fault ended well
-ended_well : (status : ℕ) → Ended status → ¬ (status ≡ 5) → ¬ (status ≡ 6) → ¬ (status ≡ 7) → ¬ (status ≡ 8) → ¬ (status ≡ 14) → IsRunComplete status
-ended_well status (is_complete is) sound book sayable hirable allowed = is
-ended_well status (is_failed is) sound book sayable hirable allowed = absurd (sound is)
-ended_well status (is_no_book is) sound book sayable hirable allowed = absurd (book is)
-ended_well status (is_unsaid is) sound book sayable hirable allowed = absurd (sayable is)
-ended_well status (is_unhired is) sound book sayable hirable allowed = absurd (hirable is)
-ended_well status (is_forbidden is) sound book sayable hirable allowed = absurd (allowed is)
+ended_well : (status : ℕ) → Ended status → ¬ (status ≡ 5) → ¬ (status ≡ 6) → ¬ (status ≡ 7) → ¬ (status ≡ 8) → ¬ (status ≡ 14) → ¬ (status ≡ 12) → IsRunComplete status
+ended_well status (is_complete is) sound book sayable hirable allowed on = is
+ended_well status (is_failed is) sound book sayable hirable allowed on = absurd (sound is)
+ended_well status (is_no_book is) sound book sayable hirable allowed on = absurd (book is)
+ended_well status (is_unsaid is) sound book sayable hirable allowed on = absurd (sayable is)
+ended_well status (is_unhired is) sound book sayable hirable allowed on = absurd (hirable is)
+ended_well status (is_forbidden is) sound book sayable hirable allowed on = absurd (allowed is)
+ended_well status (is_suspended is) sound book sayable hirable allowed on = absurd (on is)
+
+-- the same, where a limit of entries may suspend it
+ended_well_by : (limit : Option ℕ) (status count : ℕ) (asked : Type 0) → Ended status → ¬ (status ≡ 5) → ¬ (status ≡ 6) → ¬ (status ≡ 7) → ¬ (status ≡ 8) → ¬ (status ≡ 14) → ¬ asked
+    → (status ≡ 12 → asked ⊎ (is_reached limit count ≡ true)) → IsRunCompleteBy limit status
+ended_well_by None status count asked ended sound book sayable hirable allowed unasked why =
+    ended_well status ended sound book sayable hirable allowed (λ is. ⊎_elim unasked (λ reached. cc) (why is))
+ended_well_by (Some limit) status count asked (is_suspended is) sound book sayable hirable allowed unasked why = inr is
+ended_well_by (Some limit) status count asked (is_complete is) sound book sayable hirable allowed unasked why = inl is
+ended_well_by (Some limit) status count asked (is_failed is) sound book sayable hirable allowed unasked why = absurd (sound is)
+ended_well_by (Some limit) status count asked (is_no_book is) sound book sayable hirable allowed unasked why = absurd (book is)
+ended_well_by (Some limit) status count asked (is_unsaid is) sound book sayable hirable allowed unasked why = absurd (sayable is)
+ended_well_by (Some limit) status count asked (is_unhired is) sound book sayable hirable allowed unasked why = absurd (hirable is)
+ended_well_by (Some limit) status count asked (is_forbidden is) sound book sayable hirable allowed unasked why = absurd (allowed is)
 
 out_well : (status : ℕ) → status ≡ 9 → IsRunComplete status
 out_well status is = inr (inr (inr (inl is)))
+
+out_well_by : (limit : Option ℕ) (status : ℕ) → status ≡ 9 → IsRunCompleteBy limit status
+out_well_by None status is = out_well status is
+out_well_by (Some limit) status is = inl (out_well status is)
 
 ran_last : (last : FlowState) → ¬ (status_of last ≡ 6) × ¬ (status_of last ≡ 14) × ¬ (status_of last ≡ 8)
 ran_last flow.Pending = (λ is. omega arith, λ is. omega arith, λ is. omega arith)
@@ -275,24 +346,29 @@ ran_last flow.Suspended = (λ is. omega arith, λ is. omega arith, λ is. omega 
 ran_last flow.Resuming = (λ is. omega arith, λ is. omega arith, λ is. omega arith)
 
 -- a run tells nothing of a book that can't be opened, and nothing of a state that forbids it
-ran_apart : {gives : Order → Outcome → Type 0} (plan : PlanValue) (before entries : List Entry) (stop : Option FlowState) (shown now : Option (List ℕ)) (closing : List ℕ) (status : ℕ)
-    → Ran gives plan before entries stop shown now closing status → ¬ (status ≡ 6) × ¬ (status ≡ 14) × ¬ (status ≡ 8)
-ran_apart plan before entries stop shown now closing status r = by closing status r.text
-  where
-    said_apart : (stopped_in : Option FlowState) (text : List ℕ) (wanted : ℕ) → IsLastSaid plan (entries ++ before) stopped_in text wanted
-        → ¬ (wanted ≡ 6) × ¬ (wanted ≡ 14) × ¬ (wanted ≡ 8)
-    said_apart stopped_in text wanted (reported last) = ran_last last
-    said_apart stopped_in text wanted (disk_said halted) = (λ is. omega arith, λ is. omega arith, λ is. omega arith)
-    said_apart stopped_in text wanted (filled halted size need full) = (λ is. omega arith, λ is. omega arith, λ is. omega arith)
+abbrev IsApart : ℕ → Type 0
+IsApart status = ¬ (status ≡ 6) × ¬ (status ≡ 14) × ¬ (status ≡ 8)
 
-    by : (c : List ℕ) (n : ℕ) → RunShows plan before entries shown now stop c n → ¬ (n ≡ 6) × ¬ (n ≡ 14) × ¬ (n ≡ 8)
-    by c n (closed text wanted ended is closes) =
-        ⊎_elim
-        (λ same. let apart = said_apart stop text wanted is in (λ e. apart.0 (sym same ∙ e), λ e. apart.1 (sym same ∙ e), λ e. apart.2 (sym same ∙ e)))
-        (λ seven. (λ e. omega arith, λ e. omega arith, λ e. omega arith))
-        (closes_status _ now text wanted ended closes)
-    by c n (line_cut front) = (λ is. omega arith, λ is. omega arith, λ is. omega arith)
-    by c n (stopped text) = (λ is. omega arith, λ is. omega arith, λ is. omega arith)
+shows_apart : (plan : PlanValue) (quiet : Bool) (before entries : List Entry) (shown now : Option (List ℕ)) (last : List ℕ → ℕ → Type 0) (closing : List ℕ) (status : ℕ)
+    → ((text : List ℕ) (wanted : ℕ) → last text wanted → IsApart wanted) → Shows plan quiet before entries shown now last closing status → IsApart status
+shows_apart plan quiet before entries shown now last closing status told (closed text wanted ended is closes) =
+    ⊎_elim
+    (λ same. let apart = told text wanted is in (λ e. apart.0 (sym same ∙ e), λ e. apart.1 (sym same ∙ e), λ e. apart.2 (sym same ∙ e)))
+    (λ seven. (λ e. omega arith, λ e. omega arith, λ e. omega arith))
+    (closes_status _ now text wanted ended closes)
+shows_apart plan quiet before entries shown now last closing status told (line_cut front) = (λ is. omega arith, λ is. omega arith, λ is. omega arith)
+shows_apart plan quiet before entries shown now last closing status told (stopped text) = (λ is. omega arith, λ is. omega arith, λ is. omega arith)
+
+said_apart : (plan : PlanValue) (heading : List ℕ) (past : List Entry) (stop : Option FlowState) (text : List ℕ) (wanted : ℕ) → IsLastSaid plan heading past stop text wanted → IsApart wanted
+said_apart plan heading past stop text wanted (reported last) = ran_last last
+said_apart plan heading past stop text wanted (disk_said halted) = (λ is. omega arith, λ is. omega arith, λ is. omega arith)
+said_apart plan heading past stop text wanted (filled halted size need full) = (λ is. omega arith, λ is. omega arith, λ is. omega arith)
+
+ran_apart : {gives : Order → Outcome → Type 0} {request : Request} {asked : Type 0} (plan : PlanValue) (before entries : List Entry) (stop : Option FlowState) (shown now : Option (List ℕ)) (closing : List ℕ) (status : ℕ)
+    → Ran gives request asked plan before entries stop shown now closing status → IsApart status
+ran_apart {gives} {request} plan before entries stop shown now closing status r =
+    shows_apart plan request.quiet before entries shown now (IsLastSaid plan (heading_of request (outline_of plan) (entries ++ before)) (entries ++ before) stop) closing status
+    (λ text wanted is. said_apart plan (heading_of request (outline_of plan) (entries ++ before)) (entries ++ before) stop text wanted is) r.text
 
 -- no fault of these kinds came
 record IsUnhurt (status : ℕ) : Type 0 where
@@ -309,43 +385,60 @@ unhurt status before after causes none = record {
   hirable = λ is. none.crew (causes.unhired is);
 }
 
-tries_well : {gives : Order → Outcome → Type 0} (hired after_hiring : Option (List Want)) (before after : Option (List ℕ)) (tree : PlanTree) (status : ℕ) → IsUnhurt status → Tries gives hired after_hiring before after tree status → IsRunComplete status
-tries_well hired after_hiring before after tree status u (course.unfinished_hire is same) = out_well status is
-tries_well hired after_hiring before after tree status u (course.unhired same closes) = absurd (⊎_elim u.hirable u.sayable (closes_status before after _ 8 status closes))
-tries_well hired after_hiring before after tree status u (course.tried hires t) =
+tries_well : {gives : Order → Outcome → Type 0} {asked : Type 0} (hired after_hiring : Option (List Want)) (before after : Option (List ℕ)) (tree : PlanTree) (status : ℕ) → IsUnhurt status → ¬ asked
+    → Tries gives asked hired after_hiring before after tree status → IsRunComplete status
+tries_well hired after_hiring before after tree status u unasked (course.unfinished_hire is same) = out_well status is
+tries_well hired after_hiring before after tree status u unasked (course.unhired same closes) = absurd (⊎_elim u.hirable u.sayable (closes_status before after _ 8 status closes))
+tries_well {gives} {asked} hired after_hiring before after tree status u unasked (course.tried hires t) =
     let apart = ran_apart t.plan [] t.entries t.stop before after t.closing status t.ran in
-    ended_well status (ran_ended t.plan [] t.entries t.stop before after t.closing status t.ran) u.sound apart.0 u.sayable u.hirable apart.1
+    ended_well_by None status (length t.entries) asked (ran_ended t.plan [] t.entries t.stop before after t.closing status t.ran) u.sound apart.0 u.sayable u.hirable apart.1 unasked
+    (ran_suspended t.plan [] t.entries t.stop before after t.closing status t.ran)
 
 checks_well : (before after : Option (List ℕ)) (message : List ℕ) (status : ℕ) → IsUnhurt status → ClosesOrStops before message 0 after status → IsDoneComplete status
 checks_well before after message status u (inl out) = inr out.0
 checks_well before after message status u (inr closes) = ⊎_elim (λ is. inl is) (λ is. absurd (u.sayable is)) (closes_status before after message 0 status closes)
 
-well_or_out : (status : ℕ) (does : PlanTree → ℕ → Type 0) → ((plan : PlanTree) → does plan status → IsRunComplete status) → (status ≡ 9) ⊎ ((plan : PlanTree) × does plan status) → IsRunComplete status
-well_or_out status does well (inl out) = out_well status out
-well_or_out status does well (inr did) = well did.0 did.1
+well_or_out : (limit : Option ℕ) (status : ℕ) (does : PlanTree → ℕ → Type 0) → ((plan : PlanTree) → does plan status → IsRunCompleteBy limit status) → (status ≡ 9) ⊎ ((plan : PlanTree) × does plan status)
+    → IsRunCompleteBy limit status
+well_or_out limit status does well (inl out) = out_well_by limit status out
+well_or_out limit status does well (inr did) = well did.0 did.1
 
 done_or_out : (status : ℕ) (does : PlanTree → ℕ → Type 0) → ((plan : PlanTree) → does plan status → IsDoneComplete status) → (status ≡ 9) ⊎ ((plan : PlanTree) × does plan status) → IsDoneComplete status
 done_or_out status does well (inl out) = inr out
 done_or_out status does well (inr did) = well did.0 did.1
 
+reset_said_well : (plan : PlanValue) (past : List Entry) (text : List ℕ) (wanted status : ℕ) → IsUnhurt status → IsResetSaid plan past text wanted → status ≡ wanted → IsResetComplete status
+reset_said_well plan past text wanted status u (all_back pending) same = inl same
+reset_said_well plan past text wanted status u disk_failed_back same = absurd (u.sound same)
+reset_said_well plan past text wanted status u (filled_back size need full) same = inr (inr same)
+
+reset_well : (plan : PlanValue) (past entries : List Entry) (before after : Option (List ℕ)) (closing : List ℕ) (status : ℕ) → IsUnhurt status
+    → Shows plan false past entries before after (IsResetSaid plan (entries ++ past)) closing status → IsResetComplete status
+reset_well plan past entries before after closing status u (closed text wanted ended is closes) =
+    ⊎_elim (λ same. reset_said_well plan (entries ++ past) text wanted status u is same) (λ seven. absurd (u.sayable seven)) (closes_status _ after text wanted status closes)
+reset_well plan past entries before after closing status u (line_cut front) = absurd (u.sayable refl)
+reset_well plan past entries before after closing status u (stopped text) = inr (inl refl)
+
 module _ {K : Type 0} (tells : K → Bool) (shown : K → Option (List ℕ)) (content : K → Content) (left : K → Images) (crashes : K → Crashes) (disk_faults : K → ℕ) where
-  asked_status : (gives : Order → Outcome → Type 0) (command : Asked) (files : Contents) (hired after_hiring : Option (List Want)) (entry now : K) (status : ℕ)
-      → Obeys tells shown content left crashes disk_faults gives command files hired after_hiring entry now status → AskedStatus command files status
-  asked_status gives (asked.Try file sets defer wanted) files hired after_hiring entry now status obeys =
+  asked_status : (gives : Order → Outcome → Type 0) (asked_so : Type 0) (command : Asked) (files : Contents) (hired after_hiring : Option (List Want)) (entry now : K) (status : ℕ)
+      → Obeys tells shown content left crashes disk_faults gives asked_so command files hired after_hiring entry now status → AskedStatus command files status
+  asked_status gives asked_so (asked.Try file sets defer wanted) files hired after_hiring entry now status obeys =
       by_file (source_so file sets defer) refl (file_status files (source_so file sets defer) _ _ (shown entry) (shown now) status
       (λ plan did. tries_ended hired after_hiring (shown entry) (shown now) plan status did) obeys.0)
-  asked_status gives (asked.Check file sets) files hired after_hiring entry now status obeys =
+  asked_status gives asked_so (asked.Check file sets) files hired after_hiring entry now status obeys =
       by_file (source_so file sets false) refl (file_status files (source_so file sets false) _ _ (shown entry) (shown now) status
       (λ plan did. checks_ended (shown entry) (shown now) _ status did) obeys.0)
-  asked_status gives (asked.Run file book sets defer wanted stop) files hired after_hiring entry now status obeys =
+  asked_status gives asked_so (asked.Run file book sets defer wanted stop) files hired after_hiring entry now status obeys =
       by_file (source_so file sets defer) refl (file_status files (source_so file sets defer) _ _ (shown entry) (shown now) status
       (λ plan did. runs_ended tells shown content left crashes disk_faults book hired after_hiring entry now plan status did) obeys)
-  asked_status gives (asked.Resume book wanted stop) files hired after_hiring entry now status obeys =
+  asked_status gives asked_so (asked.Resume book wanted stop) files hired after_hiring entry now status obeys =
       by_book (resumes_ended tells shown content left crashes disk_faults book hired after_hiring entry now status obeys)
-  asked_status gives (asked.Show book) files hired after_hiring entry now status obeys =
+  asked_status gives asked_so (asked.Show book) files hired after_hiring entry now status obeys =
       by_book (shows_ended tells shown content left crashes disk_faults book entry now status obeys.0)
-  asked_status gives (asked.Reset book) files hired after_hiring entry now status obeys = absurd obeys
-  asked_status gives (asked.Demo seed size book hands) files hired after_hiring entry now status obeys = absurd obeys
+  asked_status gives asked_so (asked.Reset book) files hired after_hiring entry now status obeys =
+      by_book (resets_ended tells shown content left crashes disk_faults book entry now status obeys.0)
+  asked_status gives asked_so (asked.Demo seed size book hands) files hired after_hiring entry now status obeys =
+      by_book (demonstrates_ended tells shown content left crashes disk_faults book hired after_hiring entry now seed size status obeys)
 
   status_usage : (command : Asked) (files : Contents) (status : ℕ) → AskedStatus command files status → status ≡ 2 → ⊥
   status_usage command files status (by_file source about is) two = file_usage files source status is two
@@ -356,21 +449,21 @@ module _ {K : Type 0} (tells : K → Bool) (shown : K → Option (List ℕ)) (co
   status_refused words files command status asks (by_book ended) four = absurd (ended_apart status 4 ended four (inr (inr refl)))
 
   -- status 2 comes only where the words are no command
-  pub usage_tells : {gives : Order → Outcome → Type 0} (words : List (List ℕ)) (files : Contents) (hired after_hiring : Option (List Want)) (entry now : K) (status : ℕ)
-      → Course tells shown content left crashes disk_faults gives words files hired after_hiring entry now status → status ≡ 2 → asked_for words ≡ None
+  pub usage_tells : {gives : Order → Outcome → Type 0} {asked_so : Type 0} (words : List (List ℕ)) (files : Contents) (hired after_hiring : Option (List Want)) (entry now : K) (status : ℕ)
+      → Course tells shown content left crashes disk_faults gives asked_so words files hired after_hiring entry now status → status ≡ 2 → asked_for words ≡ None
   usage_tells words files hired after_hiring entry now status (course.unheard is same still) two = absurd (omega arith)
   usage_tells words files hired after_hiring entry now status (course.no_command none closes still) two = none
-  usage_tells {gives} words files hired after_hiring entry now status (course.obeyed command asks obeys) two =
-      absurd (status_usage command files status (asked_status gives command files hired after_hiring entry now status obeys) two)
+  usage_tells {gives} {asked_so} words files hired after_hiring entry now status (course.obeyed command asks obeys) two =
+      absurd (status_usage command files status (asked_status gives asked_so command files hired after_hiring entry now status obeys) two)
 
   -- status 4 comes only where the file is refused
-  pub refused_tells : {gives : Order → Outcome → Type 0} (words : List (List ℕ)) (files : Contents) (hired after_hiring : Option (List Want)) (entry now : K) (status : ℕ)
-      → Course tells shown content left crashes disk_faults gives words files hired after_hiring entry now status → status ≡ 4 → IsRefused words files
+  pub refused_tells : {gives : Order → Outcome → Type 0} {asked_so : Type 0} (words : List (List ℕ)) (files : Contents) (hired after_hiring : Option (List Want)) (entry now : K) (status : ℕ)
+      → Course tells shown content left crashes disk_faults gives asked_so words files hired after_hiring entry now status → status ≡ 4 → IsRefused words files
   refused_tells words files hired after_hiring entry now status (course.unheard is same still) four = absurd (omega arith)
   refused_tells words files hired after_hiring entry now status (course.no_command none closes still) four =
       absurd (⊎_elim (λ is. omega arith) (λ is. omega arith) (closes_status (shown entry) (shown now) _ 2 status closes))
-  refused_tells {gives} words files hired after_hiring entry now status (course.obeyed command asks obeys) four =
-      status_refused words files command status asks (asked_status gives command files hired after_hiring entry now status obeys) four
+  refused_tells {gives} {asked_so} words files hired after_hiring entry now status (course.obeyed command asks obeys) four =
+      status_refused words files command status asks (asked_status gives asked_so command files hired after_hiring entry now status obeys) four
 
   -- ---- what met no fault is done
 
@@ -385,26 +478,43 @@ module _ {K : Type 0} (tells : K → Bool) (shown : K → Option (List ℕ)) (co
   unhired_well name entry now hired after_hiring status u (exhausted_hire same stops) = stops.status_is
   unhired_well name entry now hired after_hiring status u (unhired same r) = absurd (⊎_elim u.hirable u.sayable (closes_status (shown entry) (shown now) _ 8 status r.closes))
 
-  promised_well : {gives : Order → Outcome → Type 0} (name : List ℕ) (plan : PlanValue) (before : List Entry) (entry now : K) (status : ℕ) → IsUnhurt status
-      → Promised tells shown content left crashes disk_faults gives name plan before entry now status → IsRunComplete status
-  promised_well name plan before entry now status u p =
+  promised_well : {gives : Order → Outcome → Type 0} {request : Request} {asked : Type 0} (name : List ℕ) (plan : PlanValue) (before : List Entry) (entry now : K) (status : ℕ) → IsUnhurt status → ¬ asked
+      → Promised tells shown content left crashes disk_faults gives request asked name plan before entry now status → IsRunCompleteBy request.limit status
+  promised_well {gives} {request} {asked} name plan before entry now status u unasked p =
       let apart = ran_apart plan before p.entries p.stop (shown entry) (shown now) p.closing status p.ran in
-      ended_well status (ran_ended plan before p.entries p.stop (shown entry) (shown now) p.closing status p.ran) u.sound apart.0 u.sayable u.hirable apart.1
+      ended_well_by request.limit status (length p.entries) asked (ran_ended plan before p.entries p.stop (shown entry) (shown now) p.closing status p.ran) u.sound apart.0 u.sayable u.hirable apart.1 unasked
+      (ran_suspended plan before p.entries p.stop (shown entry) (shown now) p.closing status p.ran)
 
-  runs_well : {gives : Order → Outcome → Type 0} (name : List ℕ) (hired after_hiring : Option (List Want)) (entry now : K) (tree : PlanTree) (status : ℕ) → IsUnhurt status → IsTrue (tells entry)
-      → HoldsNoFlow (book_in (file_of (content entry) name)) → Runs tells shown content left crashes disk_faults gives name hired after_hiring entry now tree status → IsRunComplete status
-  runs_well name hired after_hiring entry now tree status u told none (unopened same is) =
-      out_well status (unopened_well name entry now status u (λ offset byte isnt. no_book_held _ offset byte none isnt) told is)
-  runs_well name hired after_hiring entry now tree status u told none (forbidden plan past same held r) = absurd (flow_held _ plan past none (held told))
-  runs_well name hired after_hiring entry now tree status u told none (unhired_run so is) = out_well status (unhired_well name entry now hired after_hiring status u is)
-  runs_well name hired after_hiring entry now tree status u told none (ran plan same so hires p) = promised_well name plan [] entry now status u p
+  runs_well : {gives : Order → Outcome → Type 0} {request : Request} {asked : Type 0} (name : List ℕ) (hired after_hiring : Option (List Want)) (entry now : K) (tree : PlanTree) (status : ℕ) → IsUnhurt status → ¬ asked → IsTrue (tells entry)
+      → HoldsNoFlow (book_in (file_of (content entry) name)) → Runs tells shown content left crashes disk_faults gives request asked name hired after_hiring entry now tree status → IsRunCompleteBy request.limit status
+  runs_well {gives} {request} name hired after_hiring entry now tree status u unasked told none (unopened same is) =
+      out_well_by request.limit status (unopened_well name entry now status u (λ offset byte isnt. no_book_held _ offset byte none isnt) told is)
+  runs_well name hired after_hiring entry now tree status u unasked told none (forbidden plan past same held r) = absurd (flow_held _ plan past none (held told))
+  runs_well {gives} {request} name hired after_hiring entry now tree status u unasked told none (unhired_run so is) = out_well_by request.limit status (unhired_well name entry now hired after_hiring status u is)
+  runs_well name hired after_hiring entry now tree status u unasked told none (ran plan same so hires p) = promised_well name plan [] entry now status u unasked p
 
-  resumes_well : {gives : Order → Outcome → Type 0} (name : List ℕ) (hired after_hiring : Option (List Want)) (entry now : K) (status : ℕ) → IsUnhurt status → IsTrue (tells entry)
-      → HoldsFlow (book_in (file_of (content entry) name)) → Resumes tells shown content left crashes disk_faults gives name hired after_hiring entry now status → IsRunComplete status
-  resumes_well name hired after_hiring entry now status u told has (unopened_again same is) = out_well status (unopened_well name entry now status u has.0 told is)
-  resumes_well name hired after_hiring entry now status u told has (empty same none r) = absurd (has.1 (none told))
-  resumes_well name hired after_hiring entry now status u told has (unhired_again plan past held going is) = out_well status (unhired_well name entry now hired after_hiring status u is)
-  resumes_well name hired after_hiring entry now status u told has (resumed plan past runs held hires p) = promised_well name plan past entry now status u p
+  demonstrates_well : {gives : Order → Outcome → Type 0} {asked : Type 0} (name : List ℕ) (hired after_hiring : Option (List Want)) (entry now : K) (seed size status : ℕ) → IsUnhurt status → ¬ asked → IsTrue (tells entry)
+      → HoldsNoFlow (book_in (file_of (content entry) name)) → Demonstrates tells shown content left crashes disk_faults gives asked name hired after_hiring entry now seed size status → IsRunComplete status
+  demonstrates_well name hired after_hiring entry now seed size status u unasked told none (ungenerated is same still) = out_well status is
+  demonstrates_well name hired after_hiring entry now seed size status u unasked told none (demonstrated runs) =
+      runs_well name hired after_hiring entry now (demo_tree seed size) status u unasked told none runs
+
+  resumes_well : {gives : Order → Outcome → Type 0} {request : Request} {asked : Type 0} (name : List ℕ) (hired after_hiring : Option (List Want)) (entry now : K) (status : ℕ) → IsUnhurt status → ¬ asked → IsTrue (tells entry)
+      → HoldsFlow (book_in (file_of (content entry) name)) → Resumes tells shown content left crashes disk_faults gives request asked name hired after_hiring entry now status → IsRunCompleteBy request.limit status
+  resumes_well {gives} {request} name hired after_hiring entry now status u unasked told has (unopened_again same is) = out_well_by request.limit status (unopened_well name entry now status u has.0 told is)
+  resumes_well name hired after_hiring entry now status u unasked told has (empty same none r) = absurd (has.1 (none told))
+  resumes_well {gives} {request} name hired after_hiring entry now status u unasked told has (unhired_again plan past held going is) = out_well_by request.limit status (unhired_well name entry now hired after_hiring status u is)
+  resumes_well name hired after_hiring entry now status u unasked told has (resumed plan past runs held hires p) = promised_well name plan past entry now status u unasked p
+
+  resets_well : (name : List ℕ) (entry now : K) (status : ℕ) → IsUnhurt status → IsTrue (tells entry) → HoldsReverted (book_in (file_of (content entry) name))
+      → ResetsBook tells shown content left crashes disk_faults name entry now status → IsResetComplete status
+  resets_well name entry now status u told has (unopened_reset is) = inr (inl (unopened_well name entry now status u has.0.0 told is))
+  resets_well name entry now status u told has (nothing_put_back none r) = absurd (has.0.1 (none told))
+  resets_well name entry now status u told has (reset_forbidden plan past held never r) = absurd (clash (may_reset (outline_of plan) (snapshot (outline_of plan) past)) (has.1 plan past (held told)) never)
+    where
+      clash : (b : Bool) → b ≡ true → b ≡ false → ⊥
+      clash b is isnt = cc
+  resets_well name entry now status u told has (was_reset plan past held may p) = reset_well plan past p.entries (shown entry) (shown now) p.closing status u p.put_back.text
 
   shows_well : (name : List ℕ) (entry now : K) (status : ℕ) → IsUnhurt status → IsTrue (tells entry) → HoldsFlow (book_in (file_of (content entry) name))
       → ShowsBook tells shown content left crashes disk_faults name entry now status → IsDoneComplete status
@@ -412,38 +522,41 @@ module _ {K : Type 0} (tells : K → Bool) (shown : K → Option (List ℕ)) (co
   shows_well name entry now status u told has (nothing_shown none r) = absurd (has.1 (none told))
   shows_well name entry now status u told has (shown_whole plan past held r) = ⊎_elim (λ is. inl is) (λ is. absurd (u.sayable is)) (closes_status (shown entry) (shown now) _ 0 status r.closes)
 
-  asked_well : (gives : Order → Outcome → Type 0) (command : Asked) (files : Contents) (hired after_hiring : Option (List Want)) (entry now : K) (status : ℕ) → IsUnhurt status
-      → IsReady tells content command files entry → Obeys tells shown content left crashes disk_faults gives command files hired after_hiring entry now status → IsComplete command status
-  asked_well gives (asked.Try file sets defer wanted) files hired after_hiring entry now status u ready obeys =
-      well_or_out status (Tries gives hired after_hiring (shown entry) (shown now)) (λ plan did. tries_well hired after_hiring (shown entry) (shown now) plan status u did)
+  asked_well : (gives : Order → Outcome → Type 0) (asked_so : Type 0) (command : Asked) (files : Contents) (hired after_hiring : Option (List Want)) (entry now : K) (status : ℕ) → IsUnhurt status → ¬ asked_so
+      → IsReady tells content command files entry → Obeys tells shown content left crashes disk_faults gives asked_so command files hired after_hiring entry now status → IsComplete command status
+  asked_well gives asked_so (asked.Try file sets defer wanted) files hired after_hiring entry now status u unasked ready obeys =
+      well_or_out None status (Tries gives asked_so hired after_hiring (shown entry) (shown now)) (λ plan did. tries_well hired after_hiring (shown entry) (shown now) plan status u unasked did)
       (accepted_done files (source_so file sets defer) _ _ (shown entry) (shown now) status ready u.readable u.sayable obeys.0)
-  asked_well gives (asked.Check file sets) files hired after_hiring entry now status u ready obeys =
+  asked_well gives asked_so (asked.Check file sets) files hired after_hiring entry now status u unasked ready obeys =
       done_or_out status (Checks (shown entry) (shown now)) (λ plan did. checks_well (shown entry) (shown now) _ status u did)
       (accepted_done files (source_so file sets false) _ _ (shown entry) (shown now) status ready u.readable u.sayable obeys.0)
-  asked_well gives (asked.Run file book sets defer wanted stop) files hired after_hiring entry now status u ready obeys =
-      well_or_out status (Runs tells shown content left crashes disk_faults gives book hired after_hiring entry now) (λ plan did. runs_well book hired after_hiring entry now plan status u ready.1.0 ready.1.1 did)
+  asked_well gives asked_so (asked.Run file book sets defer wanted stop) files hired after_hiring entry now status u unasked ready obeys =
+      well_or_out stop status (Runs tells shown content left crashes disk_faults gives (spoken stop) asked_so book hired after_hiring entry now)
+      (λ plan did. runs_well book hired after_hiring entry now plan status u unasked ready.1.0 ready.1.1 did)
       (accepted_done files (source_so file sets defer) _ _ (shown entry) (shown now) status ready.0 u.readable u.sayable obeys)
-  asked_well gives (asked.Resume book wanted stop) files hired after_hiring entry now status u ready obeys = resumes_well book hired after_hiring entry now status u ready.0 ready.1 obeys
-  asked_well gives (asked.Show book) files hired after_hiring entry now status u ready obeys = shows_well book entry now status u ready.0 ready.1 obeys.0
-  asked_well gives (asked.Reset book) files hired after_hiring entry now status u ready obeys = tt
-  asked_well gives (asked.Demo seed size book hands) files hired after_hiring entry now status u ready obeys = tt
+  asked_well gives asked_so (asked.Resume book wanted stop) files hired after_hiring entry now status u unasked ready obeys =
+      resumes_well book hired after_hiring entry now status u unasked ready.0 ready.1 obeys
+  asked_well gives asked_so (asked.Show book) files hired after_hiring entry now status u unasked ready obeys = shows_well book entry now status u ready.0 ready.1 obeys.0
+  asked_well gives asked_so (asked.Reset book) files hired after_hiring entry now status u unasked ready obeys = resets_well book entry now status u ready.0 ready.1 obeys.0
+  asked_well gives asked_so (asked.Demo seed size book hands) files hired after_hiring entry now status u unasked ready obeys =
+      demonstrates_well book hired after_hiring entry now seed size status u unasked ready.0 ready.1 obeys
 
   out_complete : (command : Asked) (status : ℕ) → status ≡ 9 → IsComplete command status
   out_complete (asked.Try file sets defer wanted) status is = out_well status is
-  out_complete (asked.Run file book sets defer wanted stop) status is = out_well status is
-  out_complete (asked.Resume book wanted stop) status is = out_well status is
+  out_complete (asked.Run file book sets defer wanted stop) status is = out_well_by stop status is
+  out_complete (asked.Resume book wanted stop) status is = out_well_by stop status is
   out_complete (asked.Show book) status is = inr is
   out_complete (asked.Check file sets) status is = inr is
-  out_complete (asked.Reset book) status is = tt
-  out_complete (asked.Demo seed size book hands) status is = tt
+  out_complete (asked.Reset book) status is = inr (inl is)
+  out_complete (asked.Demo seed size book hands) status is = out_well status is
 
   -- where nothing stands against it and no count of faults rose, what was asked for was done
-  pub completes : {gives : Order → Outcome → Type 0} (words : List (List ℕ)) (files : Contents) (hired after_hiring : Option (List Want)) (entry now : K) (status : ℕ) (before after : Counts)
-      → Course tells shown content left crashes disk_faults gives words files hired after_hiring entry now status → HasCauses status before after
-      → (command : Asked) → asked_for words ≡ Some command → IsReady tells content command files entry → HasNoFault before after → IsComplete command status
-  completes words files hired after_hiring entry now status before after (course.unheard is same still) causes command wanted ready none = out_complete command status is
-  completes words files hired after_hiring entry now status before after (course.no_command unknown closes still) causes command wanted ready none = absurd (cc)
-  completes {gives} words files hired after_hiring entry now status before after (course.obeyed other asks obeys) causes command wanted ready none =
+  pub completes : {gives : Order → Outcome → Type 0} {asked_so : Type 0} (words : List (List ℕ)) (files : Contents) (hired after_hiring : Option (List Want)) (entry now : K) (status : ℕ) (before after : Counts)
+      → Course tells shown content left crashes disk_faults gives asked_so words files hired after_hiring entry now status → HasCauses status before after
+      → (command : Asked) → asked_for words ≡ Some command → IsReady tells content command files entry → HasNoFault before after → ¬ asked_so → IsComplete command status
+  completes words files hired after_hiring entry now status before after (course.unheard is same still) causes command wanted ready none unasked = out_complete command status is
+  completes words files hired after_hiring entry now status before after (course.no_command unknown closes still) causes command wanted ready none unasked = absurd (cc)
+  completes {gives} {asked_so} words files hired after_hiring entry now status before after (course.obeyed other asks obeys) causes command wanted ready none unasked =
       let same : other ≡ command = cc in
-      asked_well gives command files hired after_hiring entry now status (unhurt status before after causes none) ready
-      (subst (λ (c : Asked). Obeys tells shown content left crashes disk_faults gives c files hired after_hiring entry now status) same obeys)
+      asked_well gives asked_so command files hired after_hiring entry now status (unhurt status before after causes none) unasked ready
+      (subst (λ (c : Asked). Obeys tells shown content left crashes disk_faults gives asked_so c files hired after_hiring entry now status) same obeys)

@@ -1,6 +1,6 @@
 -- The way that a command went, put together from its parts.
-use Rattle.std.proofs.Common.{◌≡◌, ℕ, List, Option, Bool, true, false, refl, sym, inl, inr, subst}
-use Rattle.std.specs.Prelude.{Result, Ok, Err, IfErr}
+use Rattle.std.proofs.Common.{◌≡◌, ℕ, List, Option, Some, None, Bool, true, false, refl, sym, inl, inr, subst}
+use Rattle.std.specs.Prelude.{Result, Ok, Err, IfErr, if◌then◌else◌}
 use Rattle.tf_files.specs.Written.{PlanTree, plan_tree}
 use Rattle.tf_ports.specs.Contents.{Contents, GivesBytes}
 use Rattle.tf_desk.specs.Content.{Content}
@@ -9,7 +9,10 @@ use Rattle.tf_ports.specs.declared.crews.Want.{Want}
 use Rattle.tf_ports.specs.declared.orders.Order.{Order}
 use Rattle.tf_ports.specs.declared.outcomes.Outcome.{Outcome}
 use Rattle.tf_machine.specs.Machine.{MachineValue}
-use Rattle.tf_commands.specs.declared.asked.Asked.{Asked}
+use Rattle.tf_words.specs.Demos.{IsDemo}
+use Rattle.tf_words.specs.declared.asked.Asked.{Asked}
+use Rattle.tf_words.specs.declared.asked.Asked.TheVariants as asked
+use Rattle.taskflow.specs.Asking.{is_done_here, if_done_here, IsWithin}
 use Rattle.taskflow.specs.Accepted.{GivesNone, is_memory, IsReason}
 use Rattle.taskflow.specs.Course.{BytesRead, exhausted, refused, done, FileRead, unfinished, unread, too_long, read, Undone, Obeys}
 use Rattle.taskflow.specs.Messages.{refusal, refusal_text}
@@ -83,8 +86,30 @@ done_file files source quiet m does before after status opened did = read opened
 
 module _ {K : Type 0} (tells : K → Bool) (shown : K → Option (List ℕ)) (content : K → Content) (left : K → Images) (crashes : K → Crashes) (disk_faults : K → ℕ) where
   -- what becomes of a command that is another's
-  pub obeys_so : (gives : Order → Outcome → Type 0) (command other : Asked) (files : Contents) (hired after_hiring : Option (List Want)) (entry now : K) (status : ℕ) → command ≡ other
-      → Obeys tells shown content left crashes disk_faults gives other files hired after_hiring entry now status
-      → Obeys tells shown content left crashes disk_faults gives command files hired after_hiring entry now status
-  obeys_so gives command other files hired after_hiring entry now status is obeys =
-      subst (λ (asks : Asked). Obeys tells shown content left crashes disk_faults gives asks files hired after_hiring entry now status) (sym is) obeys
+  pub obeys_so : (gives : Order → Outcome → Type 0) (stopped : Type 0) (command other : Asked) (files : Contents) (hired after_hiring : Option (List Want)) (entry now : K) (status : ℕ) → command ≡ other
+      → Obeys tells shown content left crashes disk_faults gives stopped other files hired after_hiring entry now status
+      → Obeys tells shown content left crashes disk_faults gives stopped command files hired after_hiring entry now status
+  obeys_so gives stopped command other files hired after_hiring entry now status is obeys =
+      subst (λ (asks : Asked). Obeys tells shown content left crashes disk_faults gives stopped asks files hired after_hiring entry now status) (sym is) obeys
+
+-- ---- the numbers of a generated flow
+
+-- a command that the program does is the one that the words are
+done_some : (found : Option Asked) (command : Asked) → if_done_here found ≡ Some command → found ≡ Some command
+done_some None command is = absurd (cc)
+done_some (Some other) command is = by (is_done_here other) is
+  where
+    by : (b : Bool) → (if b then Some other else None) ≡ Some command → Some other ≡ Some command
+    by true same = same
+    by false same = absurd (cc)
+
+-- so its numbers are within their bounds
+pub within_so : (found : Option Asked) (command : Asked) → ((seed size : ℕ) (book : List ℕ) (hands : ℕ) → found ≡ Some (asked.Demo seed size book hands) → IsDemo seed size)
+    → if_done_here found ≡ Some command → IsWithin command
+within_so found (asked.Demo seed size book hands) bounds is = bounds seed size book hands (done_some found (asked.Demo seed size book hands) is)
+within_so found (asked.Try file sets defer wanted) bounds is = tt
+within_so found (asked.Run file book sets defer wanted stop) bounds is = tt
+within_so found (asked.Resume book wanted stop) bounds is = tt
+within_so found (asked.Show book) bounds is = tt
+within_so found (asked.Reset book) bounds is = tt
+within_so found (asked.Check file sets) bounds is = tt

@@ -5,7 +5,9 @@ pub mod RegionLemmas
 pub mod ReachLemmas
 pub mod RunLemmas
 pub mod WayLemmas
-pub mod SuspensionLemmas
+pub mod AskedLemmas
+pub mod HaltLemmas
+pub mod ResetLemmas
 pub mod CourseLemmas
 pub mod CauseLemmas
 pub mod OpenLemmas

@@ -14,6 +14,7 @@ use Rattle.tf_model.specs.Steps.{LegalPast}
 use Rattle.tf_bound.specs.Short.{AreShort, IsWithinLimits}
 use Rattle.tf_book.specs.Book.{BookValue, outline, state}
 use Rattle.tf_book.proofs.KeptLemmas.{keeps_none}
+use Rattle.taskflow.specs.declared.running.Request.{Request}
 use Rattle.taskflow.specs.Runs.{HoldsBook, IsRunTo, RunsOn, Continues, went_on}
 use Rattle.taskflow.specs.Way.{Open}
 use Rattle.taskflow.proofs.PromiseLemmas.{resumed_promised}
@@ -24,14 +25,25 @@ ended_so last (inl is) = ap has_ended is
 ended_so last (inr (inl is)) = ap has_ended is
 ended_so last (inr (inr is)) = ap has_ended is
 
+-- a flow that has ended isn't suspended
+ended_apart : (state : FlowState) → has_ended state ≡ true → Some state ≡ Some flow.Suspended → ⊥
+ended_apart flow.Suspended ended is = cc
+ended_apart flow.Pending ended is = cc
+ended_apart flow.Running ended is = cc
+ended_apart flow.Success ended is = cc
+ended_apart flow.Failure ended is = cc
+ended_apart flow.Reverted ended is = cc
+ended_apart flow.Suspending ended is = cc
+ended_apart flow.Resuming ended is = cc
+
 module _ {K : Type 0} (tells : K → Bool) (shown : K → Option (List ℕ)) (content : K → Content) (left : K → Images) (crashes : K → Crashes) (disk_faults out_faults : K → ℕ) where
   -- the run of a book whose flow had ended: nothing was recorded
-  pub ended_run : (gives : Order → Outcome → Type 0) (book : BookValue K) → book.halt ≡ None → book.quiet ≡ false → has_ended (state book) ≡ true → LegalPast (outline book) book.past
+  pub ended_run : (gives : Order → Outcome → Type 0) (request : Request) (asked : Type 0) (book : BookValue K) → book.halt ≡ None → book.quiet ≡ request.quiet → has_ended (state book) ≡ true → LegalPast (outline book) book.past
       → compile_refusal book.plan ≡ None → IsWithinLimits (outline book) → AreShort book.past
-      → IsRunTo tells shown content left crashes disk_faults out_faults gives book book (Some (state book))
-  ended_run gives book sound speaks ended legal compiles limits short = record {
+      → IsRunTo tells shown content left crashes disk_faults out_faults gives request asked book book (Some (state book))
+  ended_run gives request asked book sound speaks ended legal compiles limits short = record {
     kept = keeps_none tells shown content left crashes disk_faults out_faults book sound;
-    session = record { entries = []; recorded = refl; session = already_ended ended legal; given = tt; hands = refl; unsuspended = refl };
+    session = record { entries = []; recorded = refl; session = already_ended ended legal; given = tt; hands = refl; due = tt; within = tt; suspended = λ is. absurd (ended_apart (state book) ended is) };
     compiles = compiles;
     limits = limits;
     short_before = short;
@@ -40,24 +52,25 @@ module _ {K : Type 0} (tells : K → Bool) (shown : K → Option (List ℕ)) (co
   }
 
   -- such a run, said with its report
-  pub ended_on : (gives : Order → Outcome → Type 0) (book : BookValue K) (now : K) (status : ℕ) (last : FlowState)
-      → book.halt ≡ None → book.quiet ≡ false → last ≡ state book → has_ended last ≡ true → LegalPast (outline book) book.past
+  pub ended_on : (gives : Order → Outcome → Type 0) (request : Request) (asked : Type 0) (book : BookValue K) (now : K) (status : ℕ) (last : FlowState)
+      → book.halt ≡ None → book.quiet ≡ request.quiet → last ≡ state book → has_ended last ≡ true → LegalPast (outline book) book.past
       → compile_refusal book.plan ≡ None → IsWithinLimits (outline book) → AreShort book.past
-      → ((start : BookValue K) → IsRunTo tells shown content left crashes disk_faults out_faults gives start book (Some last)
-      → RunsOn tells shown content left crashes disk_faults out_faults gives start now status)
-      → RunsOn tells shown content left crashes disk_faults out_faults gives book now status
-  ended_on gives book now status last sound speaks same ended legal compiles limits short runs =
-      runs book (subst (λ (s : FlowState). IsRunTo tells shown content left crashes disk_faults out_faults gives book book (Some s)) (sym same)
-      (ended_run gives book sound speaks (subst (λ (s : FlowState). has_ended s ≡ true) same ended) legal compiles limits short))
+      → (IsRunTo tells shown content left crashes disk_faults out_faults gives request asked book book (Some last)
+      → RunsOn tells shown content left crashes disk_faults out_faults gives request asked book now status)
+      → RunsOn tells shown content left crashes disk_faults out_faults gives request asked book now status
+  ended_on gives request asked book now status last sound speaks same ended legal compiles limits short runs =
+      runs (subst (λ (s : FlowState). IsRunTo tells shown content left crashes disk_faults out_faults gives request asked book book (Some s)) (sym same)
+      (ended_run gives request asked book sound speaks (subst (λ (s : FlowState). has_ended s ≡ true) same ended) legal compiles limits short))
 
   -- a book whose flow had ended is reported, and no hand is hired
-  pub ended_goes : (gives : Order → Outcome → Type 0) (name : List ℕ) (entry : K) (book : BookValue K) (now : K) (status : ℕ) (hired : Option (List Want)) (last : FlowState)
+  pub ended_goes : (gives : Order → Outcome → Type 0) (request : Request) (asked : Type 0) (name : List ℕ) (entry : K) (book : BookValue K) (now : K) (status : ℕ) (hired : Option (List Want)) (last : FlowState)
       → Open tells shown content left crashes disk_faults out_faults name entry book.journal.desk → HoldsBook tells content name entry book
       → book.journal.volatile ≡ false → last ≡ state book → has_ended last ≡ true
-      → RunsOn tells shown content left crashes disk_faults out_faults gives book now status
+      → RunsOn tells shown content left crashes disk_faults out_faults gives request asked book now status
       → (IsTrue (tells now) → (content now).picked ≡ Some name → (content now).files name ≡ Some (bytes_of (content now)))
       → (IsTrue (tells now) → (bytes : List ℕ) → (content now).files name ≡ Some bytes → left now name bytes)
-      → Continues tells shown content left crashes disk_faults out_faults gives name entry book hired hired now status
-  ended_goes gives name entry book now status hired last opened holds kept same ended runs there reads =
+      → book.quiet ≡ request.quiet
+      → Continues tells shown content left crashes disk_faults out_faults gives request asked name entry book hired hired now status
+  ended_goes gives request asked name entry book now status hired last opened holds kept same ended runs there reads speaks =
       went_on (inl (subst (λ (s : FlowState). has_ended s ≡ true) same ended, refl))
-      (resumed_promised tells shown content left crashes disk_faults out_faults gives name entry book now status opened kept holds runs there reads)
+      (resumed_promised tells shown content left crashes disk_faults out_faults gives request asked name entry book now status opened kept holds runs there reads speaks)

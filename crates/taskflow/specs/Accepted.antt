@@ -1,5 +1,6 @@
 -- Which plan a flow file gives to run, and the first reason why it gives none.
-use Rattle.std.specs.Prelude.{◌≡◌, ℕ, List, Bool, true, false, Some, None, Ok}
+use Rattle.std.specs.Prelude.{◌≡◌, ℕ, List, [], Bool, true, false, Some, None, Ok}
+use Rattle.tf_demo.specs.Demo.{demo_flow}
 use Rattle.tf_document.specs.Reading.{is_memory as is_memory_fault}
 use Rattle.tf_document.specs.declared.faults.FileFault.{FileFault}
 use Rattle.tf_files.specs.FlowFile.{flow_of, IsBroken, IsFirstReason}
@@ -61,3 +62,7 @@ is_memory reason = false
 abbrev pub IsReason : List Bind → Bool → List ℕ → Refusal → Type 0
 IsReason sets defer bytes refusal.Memory = Unit {0}
 IsReason sets defer bytes reason = GivesNone sets defer bytes reason
+
+-- the plan of the flow that is generated from a seed and a size
+abbrev pub demo_tree : ℕ → ℕ → PlanTree
+demo_tree seed size = record { root = demo_flow seed size; store = []; defer = false }

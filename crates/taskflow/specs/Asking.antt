@@ -1,10 +1,11 @@
 -- What the words ask for.
-use Rattle.std.specs.Prelude.{ℕ, List, Bool, true, false, ◌&&◌, nat_eq, is_none, Option, Some, None, if◌then◌else◌}
+use Rattle.std.specs.Prelude.{ℕ, List, Bool, true, false, nat_eq, Option, Some, None, if◌then◌else◌}
 use Rattle.tf_ports.specs.declared.crews.Want.{Want}
 use Rattle.tf_ports.specs.declared.crews.Want.TheVariants as want
-use Rattle.tf_commands.specs.Words.{command_of}
-use Rattle.tf_commands.specs.declared.asked.Asked.{Asked}
-use Rattle.tf_commands.specs.declared.asked.Asked.TheVariants as asked
+use Rattle.tf_words.specs.Demos.{IsDemo}
+use Rattle.tf_words.specs.Words.{command_of}
+use Rattle.tf_words.specs.declared.asked.Asked.{Asked}
+use Rattle.tf_words.specs.declared.asked.Asked.TheVariants as asked
 use Rattle.taskflow.specs.declared.reading.Source.{Source}
 
 -- one hand of this process is wanted
@@ -12,15 +13,20 @@ abbrev pub is_one_hand : Want → Bool
 is_one_hand (want.Local hands) = nat_eq hands 1
 is_one_hand (want.Remote addresses) = false
 
--- the program does it: so far with one hand, to its end, and of no flow that is made by numbers
+-- the program does it: so far with one hand
 abbrev pub is_done_here : Asked → Bool
 is_done_here (asked.Try file sets defer wanted) = is_one_hand wanted
-is_done_here (asked.Run file book sets defer wanted stop) = is_one_hand wanted && is_none stop
-is_done_here (asked.Resume book wanted stop) = is_one_hand wanted && is_none stop
+is_done_here (asked.Run file book sets defer wanted stop) = is_one_hand wanted
+is_done_here (asked.Resume book wanted stop) = is_one_hand wanted
 is_done_here (asked.Show book) = true
-is_done_here (asked.Reset book) = false
+is_done_here (asked.Reset book) = true
 is_done_here (asked.Check file sets) = true
-is_done_here (asked.Demo seed size book hands) = false
+is_done_here (asked.Demo seed size book hands) = nat_eq hands 1
+
+-- the numbers of a generated flow are within their bounds
+abbrev pub IsWithin : Asked → Type 0
+IsWithin (asked.Demo seed size book hands) = IsDemo seed size
+IsWithin command = Unit {0}
 
 -- a command that the program does
 abbrev pub if_done_here : Option Asked → Option Asked

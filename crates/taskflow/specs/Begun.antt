@@ -61,7 +61,6 @@ module _ {K : Type 0} (tells : K → Bool) (shown : K → Option (List ℕ)) (co
     pub plan_is : book.plan ≡ plan
     pub past_is : book.past ≡ []
     pub sound : book.halt ≡ None
-    pub speaks : book.quiet ≡ false
     pub kept : book.journal.volatile ≡ false
     pub told : tells book.journal.desk ≡ tells entry
     pub quiet : shown book.journal.desk ≡ shown entry

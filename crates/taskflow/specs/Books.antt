@@ -12,14 +12,18 @@ use Rattle.tf_ports.specs.declared.orders.Order.{Order}
 use Rattle.tf_ports.specs.declared.outcomes.Outcome.{Outcome}
 use Rattle.tf_files.specs.Written.{PlanTree, plan_tree}
 use Rattle.tf_journal.specs.Format.{Recovered}
-use Rattle.tf_model.specs.History.{flow_of}
+use Rattle.tf_model.specs.History.{flow_of, snapshot}
 use Rattle.tf_model.specs.Plan.{outline_of}
 use Rattle.tf_model.specs.Sessions.{has_ended}
 use Rattle.tf_book.specs.Loading.{IsNoBook, CanRun}
+use Rattle.tf_book.specs.Resetting.{may_reset}
 use Rattle.tf_book.specs.Showing.{history_text}
+use Rattle.taskflow.specs.Accepted.{demo_tree}
 use Rattle.taskflow.specs.Durable.{file_of, book_in, HoldsNoFlow, Holds, StaysAlone, Lasts}
 use Rattle.taskflow.specs.Messages.{disk_fault, not_a_book, no_flow, state_forbids, cannot_hire}
-use Rattle.taskflow.specs.Run.{Ran}
+use Rattle.taskflow.specs.Resets.{PutBack}
+use Rattle.taskflow.specs.Run.{unspoken, Ran}
+use Rattle.taskflow.specs.declared.running.Request.{Request}
 use Rattle.taskflow.specs.Saying.{Closes}
 use Rattle.taskflow.specs.declared.statuses.TheConstants.{SUCCEEDED, UNHIRED, OUT_OF_MEMORY, DISK_FAILED, NO_BOOK, FORBIDDEN}
 
@@ -59,14 +63,25 @@ module _ {K : Type 0} (tells : K → Bool) (shown : K → Option (List ℕ)) (co
     no_book : (offset : ℕ) (byte : Option ℕ) → IsFile name entry (λ found. IsNoBook found offset byte)
         → Refuses name entry now (not_a_book offset byte) NO_BOOK status → Unopened name entry now status
 
-  -- a run of the plan from this history on, with what is promised of its file
-  pub record Promised (gives : Order → Outcome → Type 0) (name : List ℕ) (plan : PlanValue) (before : List Entry) (entry now : K) (status : ℕ) : Type 0 where
+  -- a run of the plan from this history on, as it is requested, with what is promised of its file
+  pub record Promised (gives : Order → Outcome → Type 0) (request : Request) (asked : Type 0) (name : List ℕ) (plan : PlanValue) (before : List Entry)
+      (entry now : K) (status : ℕ) : Type 0 where
     pub entries : List Entry
     pub stop : Option FlowState
     pub closing : List ℕ
-    pub ran : Ran gives plan before entries stop (shown entry) (shown now) closing status
+    pub ran : Ran gives request asked plan before entries stop (shown entry) (shown now) closing status
     pub lasts : IsTrue (tells entry)
-        → Lasts name plan before entries (content entry) (content now) (left entry) (crashes now) (shown entry) closing (disk_faults entry) (disk_faults now)
+        → Lasts name plan request.quiet before entries (content entry) (content now) (left entry) (crashes now) (shown entry) closing
+        (disk_faults entry) (disk_faults now)
+
+  -- a flow that was put back from this history on, with what is promised of its file
+  pub record PutsBack (name : List ℕ) (plan : PlanValue) (before : List Entry) (entry now : K) (status : ℕ) : Type 0 where
+    pub entries : List Entry
+    pub closing : List ℕ
+    pub put_back : PutBack plan before entries (shown entry) (shown now) closing status
+    pub lasts : IsTrue (tells entry)
+        → Lasts name plan false before entries (content entry) (content now) (left entry) (crashes now) (shown entry) closing
+        (disk_faults entry) (disk_faults now)
 
   -- no hand was hired, and nothing was recorded: memory ran out, or none could be hired
   pub data Unhired (name : List ℕ) (entry now : K) (hired after_hiring : Option (List Want)) (status : ℕ) : Type 0 where
@@ -75,24 +90,31 @@ module _ {K : Type 0} (tells : K → Bool) (shown : K → Option (List ℕ)) (co
 
   -- to run a plan over a book: it can't be opened; it holds a flow already, whose state is said; no hand is hired; or one is, and runs
   -- this plan from the empty history on
-  pub data Runs (gives : Order → Outcome → Type 0) (name : List ℕ) (hired after_hiring : Option (List Want)) (entry now : K) (tree : PlanTree) (status : ℕ) : Type 0 where
-    unopened : after_hiring ≡ hired → Unopened name entry now status → Runs gives name hired after_hiring entry now tree status
+  pub data Runs (gives : Order → Outcome → Type 0) (request : Request) (asked : Type 0) (name : List ℕ) (hired after_hiring : Option (List Want)) (entry now : K) (tree : PlanTree) (status : ℕ) : Type 0 where
+    unopened : after_hiring ≡ hired → Unopened name entry now status → Runs gives request asked name hired after_hiring entry now tree status
     forbidden : (plan : PlanValue) (past : List Entry) → after_hiring ≡ hired → IsFile name entry (Holds plan past)
-        → Refuses name entry now (state_forbids (outline_of plan) (flow_of past)) FORBIDDEN status → Runs gives name hired after_hiring entry now tree status
-    unhired_run : IsFile name entry HoldsNoFlow → Unhired name entry now hired after_hiring status → Runs gives name hired after_hiring entry now tree status
+        → Refuses name entry now (state_forbids (outline_of plan) (flow_of past)) FORBIDDEN status → Runs gives request asked name hired after_hiring entry now tree status
+    unhired_run : IsFile name entry HoldsNoFlow → Unhired name entry now hired after_hiring status → Runs gives request asked name hired after_hiring entry now tree status
     ran : (plan : PlanValue) → plan_tree plan ≡ tree → IsFile name entry HoldsNoFlow → HiresOne hired after_hiring
-        → Promised gives name plan [] entry now status → Runs gives name hired after_hiring entry now tree status
+        → Promised gives request asked name plan [] entry now status → Runs gives request asked name hired after_hiring entry now tree status
+
+  -- to demonstrate is to run the generated flow, without a line of an entry; memory may run out before it was generated
+  pub data Demonstrates (gives : Order → Outcome → Type 0) (asked : Type 0) (name : List ℕ) (hired after_hiring : Option (List Want)) (entry now : K)
+      (seed size status : ℕ) : Type 0 where
+    ungenerated : status ≡ OUT_OF_MEMORY → after_hiring ≡ hired → now ≡ entry → Demonstrates gives asked name hired after_hiring entry now seed size status
+    demonstrated : Runs gives unspoken asked name hired after_hiring entry now (demo_tree seed size) status
+        → Demonstrates gives asked name hired after_hiring entry now seed size status
 
   -- to resume a book: it can't be opened; it holds no flow; no hand is hired; or the plan that it holds runs on from the history that it
   -- holds, with a hand that was hired, or without one where the flow had ended
-  pub data Resumes (gives : Order → Outcome → Type 0) (name : List ℕ) (hired after_hiring : Option (List Want)) (entry now : K) (status : ℕ) : Type 0 where
-    unopened_again : after_hiring ≡ hired → Unopened name entry now status → Resumes gives name hired after_hiring entry now status
-    empty : after_hiring ≡ hired → IsFile name entry HoldsNoFlow → Refuses name entry now no_flow FORBIDDEN status → Resumes gives name hired after_hiring entry now status
+  pub data Resumes (gives : Order → Outcome → Type 0) (request : Request) (asked : Type 0) (name : List ℕ) (hired after_hiring : Option (List Want)) (entry now : K) (status : ℕ) : Type 0 where
+    unopened_again : after_hiring ≡ hired → Unopened name entry now status → Resumes gives request asked name hired after_hiring entry now status
+    empty : after_hiring ≡ hired → IsFile name entry HoldsNoFlow → Refuses name entry now no_flow FORBIDDEN status → Resumes gives request asked name hired after_hiring entry now status
     unhired_again : (plan : PlanValue) (past : List Entry) → IsFile name entry (Holds plan past) → has_ended (flow_of past) ≡ false
-        → Unhired name entry now hired after_hiring status → Resumes gives name hired after_hiring entry now status
+        → Unhired name entry now hired after_hiring status → Resumes gives request asked name hired after_hiring entry now status
     resumed : (plan : PlanValue) (past : List Entry) → CanRun plan → IsFile name entry (Holds plan past)
         → ((has_ended (flow_of past) ≡ true) × (after_hiring ≡ hired)) ⊎ ((has_ended (flow_of past) ≡ false) × HiresOne hired after_hiring)
-        → Promised gives name plan past entry now status → Resumes gives name hired after_hiring entry now status
+        → Promised gives request asked name plan past entry now status → Resumes gives request asked name hired after_hiring entry now status
 
   -- to show a book: it can't be opened; it holds no flow; or the lines of its whole history are said, and then the table
   pub data ShowsBook (name : List ℕ) (entry now : K) (status : ℕ) : Type 0 where
@@ -100,3 +122,13 @@ module _ {K : Type 0} (tells : K → Bool) (shown : K → Option (List ℕ)) (co
     nothing_shown : IsFile name entry HoldsNoFlow → Refuses name entry now no_flow FORBIDDEN status → ShowsBook name entry now status
     shown_whole : (plan : PlanValue) (past : List Entry) → IsFile name entry (Holds plan past)
         → Refuses name entry now (history_text (outline_of plan) past) SUCCEEDED status → ShowsBook name entry now status
+
+  -- to put a flow back: the book can't be opened; it holds no flow; the flow isn't REVERTED or an atom isn't settled, and its state is
+  -- said; or it is put back
+  pub data ResetsBook (name : List ℕ) (entry now : K) (status : ℕ) : Type 0 where
+    unopened_reset : Unopened name entry now status → ResetsBook name entry now status
+    nothing_put_back : IsFile name entry HoldsNoFlow → Refuses name entry now no_flow FORBIDDEN status → ResetsBook name entry now status
+    reset_forbidden : (plan : PlanValue) (past : List Entry) → IsFile name entry (Holds plan past) → may_reset (outline_of plan) (snapshot (outline_of plan) past) ≡ false
+        → Refuses name entry now (state_forbids (outline_of plan) (flow_of past)) FORBIDDEN status → ResetsBook name entry now status
+    was_reset : (plan : PlanValue) (past : List Entry) → IsFile name entry (Holds plan past) → may_reset (outline_of plan) (snapshot (outline_of plan) past) ≡ true
+        → PutsBack name plan past entry now status → ResetsBook name entry now status

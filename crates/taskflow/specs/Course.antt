@@ -1,5 +1,5 @@
 -- The ways that a command can go.
-use Rattle.std.specs.Prelude.{◌≡◌, ◌≢◌, ◌≤◌, ◌⊎◌, ℕ, List, [], length, codes, false, IsTrue, Bool, Option, Some, None}
+use Rattle.std.specs.Prelude.{◌≡◌, ◌≢◌, ◌≤◌, ◌⊎◌, ℕ, List, [], length, codes, true, false, IsTrue, Bool, Option, Some, None}
 use Rattle.tf_desk.specs.Content.{Content}
 use Rattle.tf_desk.specs.Crash.{Images, Crashes}
 use Rattle.tf_flow.specs.declared.atoms.Bind.{Bind}
@@ -11,19 +11,22 @@ use Rattle.tf_ports.specs.declared.reading.TheConstants.{SOURCE_LIMIT}
 use Rattle.tf_flow.specs.Plan.{PlanValue}
 use Rattle.tf_journal.specs.Format.{Recovered}
 use Rattle.tf_book.specs.Loading.{IsNoBook}
+use Rattle.tf_book.specs.Resetting.{may_reset}
+use Rattle.tf_model.specs.History.{snapshot}
+use Rattle.tf_model.specs.Plan.{outline_of}
 use Rattle.tf_files.specs.Written.{PlanTree, plan_tree}
 use Rattle.tf_states.specs.declared.record.Entry.{Entry}
 use Rattle.tf_states.specs.declared.state.FlowState.{FlowState}
-use Rattle.tf_commands.specs.declared.asked.Asked.{Asked}
-use Rattle.tf_commands.specs.declared.asked.Asked.TheVariants as asked
+use Rattle.tf_words.specs.declared.asked.Asked.{Asked}
+use Rattle.tf_words.specs.declared.asked.Asked.TheVariants as asked
 use Rattle.taskflow.specs.Accepted.{outline_in, GivesPlan, GivesNone}
 use Rattle.taskflow.specs.Asking.{source_of, asked_for}
-use Rattle.taskflow.specs.Books.{HiresOne, Runs, Resumes, ShowsBook}
-use Rattle.taskflow.specs.Durable.{file_of, book_in, HoldsNoFlow}
+use Rattle.taskflow.specs.Books.{HiresOne, Runs, Demonstrates, Resumes, ShowsBook, ResetsBook}
+use Rattle.taskflow.specs.Durable.{file_of, book_in, HoldsNoFlow, Holds}
 use Rattle.taskflow.specs.Messages.{checked, usage, cannot_read, cannot_hire, refusal, refusal_text}
-use Rattle.taskflow.specs.Run.{Ran}
+use Rattle.taskflow.specs.Run.{spoken, Ran}
 use Rattle.taskflow.specs.Saying.{Closes, ClosesOrStops}
-use Rattle.taskflow.specs.declared.statuses.TheConstants.{SUCCEEDED, NO_COMMAND, UNREAD, REFUSED, UNHIRED, OUT_OF_MEMORY, REVERTED, FAILED, FULL}
+use Rattle.taskflow.specs.declared.statuses.TheConstants.{SUCCEEDED, NO_COMMAND, UNREAD, REFUSED, UNHIRED, OUT_OF_MEMORY, REVERTED, FAILED, SUSPENDED, FULL}
 use Rattle.taskflow.specs.declared.accepting.Refusal.{Refusal}
 use Rattle.taskflow.specs.declared.reading.Source.{Source}
 
@@ -60,22 +63,22 @@ Undone plan status = ⊥
 -- ---- trials and checks
 
 -- a run of a plan of which nothing is kept
-pub record Tried (gives : Order → Outcome → Type 0) (tree : PlanTree) (shown now : Option (List ℕ)) (status : ℕ) : Type 0 where
+pub record Tried (gives : Order → Outcome → Type 0) (stopped : Type 0) (tree : PlanTree) (shown now : Option (List ℕ)) (status : ℕ) : Type 0 where
   pub plan : PlanValue
   pub same : plan_tree plan ≡ tree
   pub entries : List Entry
   pub stop : Option FlowState
   pub closing : List ℕ
-  pub ran : Ran gives plan [] entries stop shown now closing status
+  pub ran : Ran gives (spoken None) stopped plan [] entries stop shown now closing status
 
 -- to try a plan is to hire one hand of this process and to run the plan with it
-pub data Tries (gives : Order → Outcome → Type 0) (hired after_hiring : Option (List Want)) (before after : Option (List ℕ)) (tree : PlanTree) (status : ℕ) : Type 0 where
+pub data Tries (gives : Order → Outcome → Type 0) (stopped : Type 0) (hired after_hiring : Option (List Want)) (before after : Option (List ℕ)) (tree : PlanTree) (status : ℕ) : Type 0 where
   -- memory ran out as the hand was hired, or before the run began, and nothing was said
-  unfinished_hire : status ≡ OUT_OF_MEMORY → after ≡ before → Tries gives hired after_hiring before after tree status
+  unfinished_hire : status ≡ OUT_OF_MEMORY → after ≡ before → Tries gives stopped hired after_hiring before after tree status
   -- no hand could be hired, and that is said
-  unhired : after_hiring ≡ hired → Closes before cannot_hire UNHIRED after status → Tries gives hired after_hiring before after tree status
+  unhired : after_hiring ≡ hired → Closes before cannot_hire UNHIRED after status → Tries gives stopped hired after_hiring before after tree status
   -- the hand was hired, and ran the plan
-  tried : HiresOne hired after_hiring → Tried gives tree before after status → Tries gives hired after_hiring before after tree status
+  tried : HiresOne hired after_hiring → Tried gives stopped tree before after status → Tries gives stopped hired after_hiring before after tree status
 
 -- nobody was hired, or one hand of this process
 abbrev pub HiresOneAtMost : Option (List Want) → Option (List Want) → Type 0
@@ -105,36 +108,40 @@ module _ {K : Type 0} (tells : K → Bool) (content : K → Content) where
   IsUntouched hired after_hiring entry now = (after_hiring ≡ hired) × FilesStay entry now
 
 module _ {K : Type 0} (tells : K → Bool) (shown : K → Option (List ℕ)) (content : K → Content) (left : K → Images) (crashes : K → Crashes) (disk_faults : K → ℕ) where
-  -- what becomes of what the words ask for; a trial changes no file but one that was picked before, and a check none
-  abbrev pub Obeys : (Order → Outcome → Type 0) → Asked → Contents → Option (List Want) → Option (List Want) → K → K → ℕ → Type 0
-  Obeys gives (asked.Try file sets defer wanted) files hired after_hiring entry now status =
+  -- what becomes of what the words ask for, where a run may be suspended for a stop that was asked for; a trial changes no file but one that was picked before, and a check none
+  abbrev pub Obeys : (Order → Outcome → Type 0) → Type 0 → Asked → Contents → Option (List Want) → Option (List Want) → K → K → ℕ → Type 0
+  Obeys gives stopped (asked.Try file sets defer wanted) files hired after_hiring entry now status =
       FileRead files (source_so file sets defer) (IsUntouched tells content hired after_hiring entry now)
-      (Tries gives hired after_hiring (shown entry) (shown now)) (shown entry) (shown now) status × OthersStay tells content entry now
-  Obeys gives (asked.Check file sets) files hired after_hiring entry now status =
+      (Tries gives stopped hired after_hiring (shown entry) (shown now)) (shown entry) (shown now) status × OthersStay tells content entry now
+  Obeys gives stopped (asked.Check file sets) files hired after_hiring entry now status =
       FileRead files (source_so file sets false) (IsUntouched tells content hired after_hiring entry now)
       (Checks (shown entry) (shown now)) (shown entry) (shown now) status × IsUntouched tells content hired after_hiring entry now
-  Obeys gives (asked.Run file book sets defer wanted stop) files hired after_hiring entry now status =
+  Obeys gives stopped (asked.Run file book sets defer wanted stop) files hired after_hiring entry now status =
       FileRead files (source_so file sets defer) (IsUntouched tells content hired after_hiring entry now)
-      (Runs tells shown content left crashes disk_faults gives book hired after_hiring entry now) (shown entry) (shown now) status
-  Obeys gives (asked.Resume book wanted stop) files hired after_hiring entry now status =
-      Resumes tells shown content left crashes disk_faults gives book hired after_hiring entry now status
-  Obeys gives (asked.Show book) files hired after_hiring entry now status =
+      (Runs tells shown content left crashes disk_faults gives (spoken stop) stopped book hired after_hiring entry now) (shown entry) (shown now) status
+  Obeys gives stopped (asked.Resume book wanted stop) files hired after_hiring entry now status =
+      Resumes tells shown content left crashes disk_faults gives (spoken stop) stopped book hired after_hiring entry now status
+  Obeys gives stopped (asked.Show book) files hired after_hiring entry now status =
       ShowsBook tells shown content left crashes disk_faults book entry now status × (after_hiring ≡ hired)
-  Obeys gives other files hired after_hiring entry now status = ⊥
+  Obeys gives stopped (asked.Reset book) files hired after_hiring entry now status =
+      ResetsBook tells shown content left crashes disk_faults book entry now status × (after_hiring ≡ hired)
+  Obeys gives stopped (asked.Demo seed size book hands) files hired after_hiring entry now status =
+      Demonstrates tells shown content left crashes disk_faults gives stopped book hired after_hiring entry now seed size status
 
-  -- the way that a command went, with hands that keep this relation of orders and outcomes: its words, what the sources tell, which
-  -- hands were hired before and after, the desk before and after, the status
-  pub data Course (gives : Order → Outcome → Type 0) (words : List (List ℕ)) (files : Contents) (hired after_hiring : Option (List Want)) (entry now : K)
+  -- the way that a command went, with hands that keep this relation of orders and outcomes, and with runs that may be suspended where
+  -- a stop was asked for: its words, what the sources tell, which hands were hired before and after, the desk before and after, the
+  -- status
+  pub data Course (gives : Order → Outcome → Type 0) (stopped : Type 0) (words : List (List ℕ)) (files : Contents) (hired after_hiring : Option (List Want)) (entry now : K)
       (status : ℕ) : Type 0 where
     -- memory ran out before the words were read
     unheard : status ≡ OUT_OF_MEMORY → shown now ≡ shown entry → IsUntouched tells content hired after_hiring entry now
-        → Course gives words files hired after_hiring entry now status
+        → Course gives stopped words files hired after_hiring entry now status
     -- the words are no command
     no_command : asked_for words ≡ None → Closes (shown entry) usage NO_COMMAND (shown now) status → IsUntouched tells content hired after_hiring entry now
-        → Course gives words files hired after_hiring entry now status
+        → Course gives stopped words files hired after_hiring entry now status
     -- what they ask for was done, or it was said why not
-    obeyed : (command : Asked) → asked_for words ≡ Some command → Obeys gives command files hired after_hiring entry now status
-        → Course gives words files hired after_hiring entry now status
+    obeyed : (command : Asked) → asked_for words ≡ Some command → Obeys gives stopped command files hired after_hiring entry now status
+        → Course gives stopped words files hired after_hiring entry now status
 
 -- ---- what a status tells
 
@@ -168,9 +175,23 @@ HoldsFlow found = IsBook found × ¬ (HoldsNoFlow found)
 abbrev pub IsRunComplete : ℕ → Type 0
 IsRunComplete status = (status ≡ SUCCEEDED) ⊎ (status ≡ REVERTED) ⊎ (status ≡ FAILED) ⊎ (status ≡ OUT_OF_MEMORY) ⊎ (status ≡ FULL)
 
+-- the same, where it may be suspended after so many entries
+abbrev pub IsRunCompleteBy : Option ℕ → ℕ → Type 0
+IsRunCompleteBy None status = IsRunComplete status
+IsRunCompleteBy (Some limit) status = IsRunComplete status ⊎ (status ≡ SUSPENDED)
+
 -- what else was done and met no fault ends well, or memory runs out
 abbrev pub IsDoneComplete : ℕ → Type 0
 IsDoneComplete status = (status ≡ SUCCEEDED) ⊎ (status ≡ OUT_OF_MEMORY)
+
+-- a reset that met no fault ends well, or memory runs out, or its next record would make the book longer than its limit
+abbrev pub IsResetComplete : ℕ → Type 0
+IsResetComplete status = (status ≡ SUCCEEDED) ⊎ (status ≡ OUT_OF_MEMORY) ⊎ (status ≡ FULL)
+
+-- a book that holds a flow which may be put back: it is REVERTED, and every atom is settled
+abbrev pub HoldsReverted : Recovered → Type 0
+HoldsReverted found = HoldsFlow found
+    × ((plan : PlanValue) (past : List Entry) → Holds plan past found → may_reset (outline_of plan) (snapshot (outline_of plan) past) ≡ true)
 
 module _ {K : Type 0} (tells : K → Bool) (content : K → Content) where
   -- what the desk has under a name is this, and it tells so
@@ -183,14 +204,16 @@ module _ {K : Type 0} (tells : K → Bool) (content : K → Content) where
   IsReady (asked.Run file book sets defer wanted stop) files entry = IsAccepted (source_so file sets defer) files × HasFile book entry HoldsNoFlow
   IsReady (asked.Resume book wanted stop) files entry = HasFile book entry HoldsFlow
   IsReady (asked.Show book) files entry = HasFile book entry HoldsFlow
+  IsReady (asked.Reset book) files entry = HasFile book entry HoldsReverted
   IsReady (asked.Check file sets) files entry = IsAccepted (source_so file sets false) files
-  IsReady other files entry = ⊥
+  IsReady (asked.Demo seed size book hands) files entry = HasFile book entry HoldsNoFlow
 
 -- it ends so, where no count of faults rose
 abbrev pub IsComplete : Asked → ℕ → Type 0
 IsComplete (asked.Try file sets defer wanted) status = IsRunComplete status
-IsComplete (asked.Run file book sets defer wanted stop) status = IsRunComplete status
-IsComplete (asked.Resume book wanted stop) status = IsRunComplete status
+IsComplete (asked.Run file book sets defer wanted stop) status = IsRunCompleteBy stop status
+IsComplete (asked.Resume book wanted stop) status = IsRunCompleteBy stop status
 IsComplete (asked.Show book) status = IsDoneComplete status
+IsComplete (asked.Reset book) status = IsResetComplete status
 IsComplete (asked.Check file sets) status = IsDoneComplete status
-IsComplete other status = Unit {0}
+IsComplete (asked.Demo seed size book hands) status = IsRunComplete status

@@ -1,5 +1,5 @@
 -- What is promised of a book's file, and of what a crash leaves of it. Histories have the newest entry first.
-use Rattle.std.specs.Prelude.{◌≡◌, ◌≢◌, ◌⊎◌, ℕ, ◌≤◌, false, List, [], ◌∷◌, ◌++◌, length, Option, Some, None, unwrap_or}
+use Rattle.std.specs.Prelude.{◌≡◌, ◌≢◌, ◌⊎◌, ℕ, ◌≤◌, Bool, List, [], ◌∷◌, ◌++◌, length, Option, Some, None, unwrap_or}
 use Rattle.tf_desk.specs.Content.{Mark, at_pick, at_sync, Content}
 use Rattle.tf_desk.specs.Counts.{Rises}
 use Rattle.tf_desk.specs.Crash.{Images, Crashes}
@@ -69,20 +69,20 @@ Finds plan past found = Holds plan past found ⊎ ((past ≡ []) × HoldsNoFlow 
 
 -- what is shown after a crash: a front of the lines of the entries that recovery finds, or, where these are all that the call recorded
 -- and perhaps the pending one, all lines of the recorded entries and a front of the closing
-abbrev pub IsShownThen : PlanValue → (before entries kept : List Entry) → Option (List ℕ) → List ℕ → List ℕ → Type 0
-IsShownThen plan before entries kept shown closing text =
-    ShowsFront shown (said false (outline_of plan) before kept) (Some text)
+abbrev pub IsShownThen : PlanValue → Bool → (before entries kept : List Entry) → Option (List ℕ) → List ℕ → List ℕ → Type 0
+IsShownThen plan quiet before entries kept shown closing text =
+    ShowsFront shown (said quiet (outline_of plan) before kept) (Some text)
     ⊎ ((more : List Entry) × (kept ≡ more ++ entries)
-    × ShowsFront (shown_with shown (said false (outline_of plan) before entries)) closing (Some text))
+    × ShowsFront (shown_with shown (said quiet (outline_of plan) before entries)) closing (Some text))
 
 -- a crash leaves this image and this text: recovery finds the history before the call with some of its entries, the oldest, and perhaps
 -- the pending one the last
-pub record MayLeave (plan : PlanValue) (before entries pending : List Entry) (shown : Option (List ℕ)) (closing image text : List ℕ) : Type 0 where
+pub record MayLeave (plan : PlanValue) (quiet : Bool) (before entries pending : List Entry) (shown : Option (List ℕ)) (closing image text : List ℕ) : Type 0 where
   pub lost : List Entry
   pub kept : List Entry
   pub front : pending ++ entries ≡ lost ++ kept
   pub finds : Finds plan (kept ++ before) (book_in image)
-  pub spoken : IsShownThen plan before entries kept shown closing text
+  pub spoken : IsShownThen plan quiet before entries kept shown closing text
 
 -- the file has the plan and the history, and after a disk fault perhaps the pending entry besides; where nothing was recorded it may
 -- still hold no flow
@@ -101,7 +101,7 @@ pub record IsPendingSo (pending : List Entry) (disk_then disk_now : ℕ) : Type 
 
 -- what is promised of the file and of a crash, where the desk tells its content; of a fresh file of at most 18 bytes that wasn't met by
 -- a fault of the disk each byte is told
-pub record Lasts (name : List ℕ) (plan : PlanValue) (before entries : List Entry) (entry now : Content) (left : Images) (crashes : Crashes)
+pub record Lasts (name : List ℕ) (plan : PlanValue) (quiet : Bool) (before entries : List Entry) (entry now : Content) (left : Images) (crashes : Crashes)
     (shown : Option (List ℕ)) (closing : List ℕ) (disk_then disk_now : ℕ) : Type 0 where
   pub pending : List Entry
   pub few : IsPendingSo pending disk_then disk_now
@@ -111,4 +111,4 @@ pub record Lasts (name : List ℕ) (plan : PlanValue) (before entries : List Ent
       → file_of now name ≡ journal_bytes (title_of book_title) (bodies_of plan (entries ++ before))
   pub others : (other : List ℕ) → other ≢ name → now.files other ≡ entry.files other
   pub crash : (moment : ℕ) → IsStart entry left name now moment → (image text : List ℕ) → crashes moment image text
-      → MayLeave plan before entries pending shown closing image text
+      → MayLeave plan quiet before entries pending shown closing image text

@@ -4,6 +4,7 @@ pub mod Messages
 pub mod Saying
 pub mod Causes
 pub mod Run
+pub mod Resets
 pub mod Durable
 pub mod Books
 pub mod Course

@@ -124,6 +124,10 @@ state_forbids plan state = codes "taskflow: state forbids: " ++ flow_name plan 0
 abbrev pub tasks_below : Outline → ℕ → ℕ
 tasks_below plan n = length (which_below n (is_task plan))
 
+-- what a generated flow's run says before its report: how many tasks it has, and how many entries its history
+unfoldable pub summary : Outline → ℕ → List ℕ
+summary plan entries = codes "demo " ++ decimal (tasks_below plan (count plan)) ++ codes " tasks, " ++ decimal entries ++ codes " entries\n"
+
 -- what a check says of a plan: how many tasks, retry controllers and flows it has
 unfoldable pub checked : Outline → List ℕ
 checked plan =

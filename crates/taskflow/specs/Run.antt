@@ -1,5 +1,5 @@
 -- What is promised of a run: its steps, its outcomes, the text that it shows and its end. Histories have the newest entry first.
-use Rattle.std.specs.Prelude.{◌≡◌, ℕ, ◌<◌, ◌≤◌, List, [], ◌∷◌, ◌++◌, length, Bool, not, is_none, Option, Some, true, false}
+use Rattle.std.specs.Prelude.{◌≡◌, ℕ, ◌<◌, ◌≤◌, List, [], ◌∷◌, ◌++◌, length, Bool, not, is_none, Option, Some, None, true, false, if◌then◌else◌}
 use Rattle.std.specs.List.{list_all}
 use Rattle.tf_desk.specs.Shown.{shown_with}
 use Rattle.tf_flow.specs.Plan.{PlanValue}
@@ -12,27 +12,39 @@ use Rattle.tf_ports.specs.declared.outcomes.Outcome.{Outcome}
 use Rattle.tf_model.specs.Before.{Flow}
 use Rattle.tf_model.specs.Bound.{entry_bound}
 use Rattle.tf_model.specs.Candidates.{end_of}
-use Rattle.tf_model.specs.History.{snapshot, state_of}
+use Rattle.tf_model.specs.History.{flow_of, snapshot, state_of}
 use Rattle.tf_model.specs.Plan.{Outline, outline_of, count}
-use Rattle.tf_model.specs.Sessions.{Session, has_ended}
+use Rattle.tf_model.specs.Sessions.{Session, entering, has_ended}
 use Rattle.tf_model.specs.States.{is_settled}
 use Rattle.tf_facts.specs.Facts.{CompletedReversion}
 use Rattle.tf_hands.specs.Hands.{is_of_flow}
 use Rattle.tf_report.specs.Report.{report}
 use Rattle.tf_book.specs.Kept.{said, IsCut, IsFull}
-use Rattle.tf_engines.specs.Runs.{AreGiven, is_of_one, is_unsuspended}
-use Rattle.taskflow.specs.Messages.{disk_fault, book_full}
+use Rattle.tf_engines.specs.Runs.{AreGiven, AreDue, AreWithin, IsSuspended, is_of_one}
+use Rattle.taskflow.specs.Messages.{disk_fault, book_full, summary}
+use Rattle.taskflow.specs.declared.running.Request.{Request}
 use Rattle.taskflow.specs.Saying.{Closes}
 use Rattle.taskflow.specs.declared.statuses.TheConstants.{SUCCEEDED, DISK_FAILED, UNSAID, OUT_OF_MEMORY, REVERTED, FAILED, SUSPENDED, FULL}
+
+-- a run that says each line, and is suspended after so many entries, if after so many
+abbrev pub spoken : Option ℕ → Request
+spoken limit = record { quiet = false; limit = limit }
+
+-- a run that says no line of its entries
+abbrev pub unspoken : Request
+unspoken = record { quiet = true; limit = None }
 
 -- ---- steps
 
 -- what is recorded is a session of the plan: each entry is a step that a rule allows after those before it; hand 0, which was hired,
--- records it, and nobody asks it to be suspended
-pub record HasSteps (plan : Outline) (before entries : List Entry) (stop : Option FlowState) : Type 0 where
+-- records it; it is suspended only where a stop was asked for or after so many entries; and past so many entries only the end of a task,
+-- SUSPENDING and a last state of the flow come
+pub record HasSteps (asked : Type 0) (limit : Option ℕ) (plan : Outline) (before entries : List Entry) (stop : Option FlowState) : Type 0 where
   pub session : Session plan before entries stop
   pub hands : list_all is_of_one entries ≡ true
-  pub unsuspended : list_all is_unsuspended entries ≡ true
+  pub due : AreDue asked limit entries
+  pub within : AreWithin plan limit (length (entering (flow_of before))) entries
+  pub suspended : stop ≡ Some flow.Suspended → IsSuspended asked limit entries
 
 -- ---- the end
 
@@ -73,31 +85,40 @@ status_of flow.Reverted = REVERTED
 status_of flow.Suspended = SUSPENDED
 status_of _ = FAILED
 
--- what a run says last, and its status: the report, where it stopped in a state; or why it was halted
-pub data IsLastSaid (plan : PlanValue) (past : List Entry) : Option FlowState → List ℕ → ℕ → Type 0 where
-  reported : (last : FlowState) → IsLastSaid plan past (Some last) (report (outline_of plan) (snapshot (outline_of plan) past)) (status_of last)
-  disk_failed : (stop : Option FlowState) → IsLastSaid plan past stop disk_fault DISK_FAILED
-  filled : (stop : Option FlowState) (size need : ℕ) → IsFull plan past size need → IsLastSaid plan past stop (book_full size need) FULL
+-- what is said before the report: of a run that said no lines, how many tasks the plan has and how many entries the history
+abbrev pub heading_of : Request → Outline → List Entry → List ℕ
+heading_of request plan past = if request.quiet then summary plan (length past) else []
 
--- the text after a run: the one before it, the lines of its entries, and what it says last, which is the closing; where the output
--- failed it is cut within the line of the newest entry, and no entry was recorded after it, or within the closing
-pub data RunShows (plan : PlanValue) (before entries : List Entry) (shown now : Option (List ℕ)) (stop : Option FlowState) : List ℕ → ℕ → Type 0 where
-  closed : (closing : List ℕ) (wanted status : ℕ) → IsLastSaid plan (entries ++ before) stop closing wanted
-      → Closes (shown_with shown (said false (outline_of plan) before entries)) closing wanted now status
-      → RunShows plan before entries shown now stop closing status
-  line_cut : IsCut false (outline_of plan) before shown entries now → RunShows plan before entries shown now stop [] UNSAID
+-- what a run says last, and its status: the report behind its heading, where it stopped in a state; or why it was halted
+pub data IsLastSaid (plan : PlanValue) (heading : List ℕ) (past : List Entry) : Option FlowState → List ℕ → ℕ → Type 0 where
+  reported : (last : FlowState) → IsLastSaid plan heading past (Some last) (heading ++ report (outline_of plan) (snapshot (outline_of plan) past)) (status_of last)
+  disk_failed : (stop : Option FlowState) → IsLastSaid plan heading past stop disk_fault DISK_FAILED
+  filled : (stop : Option FlowState) (size need : ℕ) → IsFull plan past size need → IsLastSaid plan heading past stop (book_full size need) FULL
+
+-- the text after a command that records: the one before it, the lines of its entries, and what it says last, which is the closing; where
+-- the output failed it is cut within the line of the newest entry, and no entry was recorded after it, or within the closing
+pub data Shows (plan : PlanValue) (quiet : Bool) (before entries : List Entry) (shown now : Option (List ℕ)) (last : List ℕ → ℕ → Type 0) : List ℕ → ℕ → Type 0 where
+  closed : (closing : List ℕ) (wanted status : ℕ) → last closing wanted
+      → Closes (shown_with shown (said quiet (outline_of plan) before entries)) closing wanted now status
+      → Shows plan quiet before entries shown now last closing status
+  line_cut : IsCut quiet (outline_of plan) before shown entries now → Shows plan quiet before entries shown now last [] UNSAID
   -- memory ran out after the lines of its entries were said
-  stopped : now ≡ shown_with shown (said false (outline_of plan) before entries) → RunShows plan before entries shown now stop [] OUT_OF_MEMORY
+  stopped : now ≡ shown_with shown (said quiet (outline_of plan) before entries) → Shows plan quiet before entries shown now last [] OUT_OF_MEMORY
+
+-- the text after a run that stopped so
+abbrev pub RunShows : Request → PlanValue → (before entries : List Entry) → (shown now : Option (List ℕ)) → Option FlowState → List ℕ → ℕ → Type 0
+RunShows request plan before entries shown now stop =
+    Shows plan request.quiet before entries shown now (IsLastSaid plan (heading_of request (outline_of plan) (entries ++ before)) (entries ++ before) stop)
 
 -- ---- all of it
 
--- a run of the plan by one hand, which keeps a relation of orders and outcomes: from the history before it to its entries and the
--- state in which it stopped, or None where it was halted before that; from the text shown before it to the one after it, its closing
--- and its status
-pub record Ran (gives : Order → Outcome → Type 0) (plan : PlanValue) (before entries : List Entry) (stop : Option FlowState)
-    (shown now : Option (List ℕ)) (closing : List ℕ) (status : ℕ) : Type 0 where
-  pub steps : HasSteps (outline_of plan) before entries stop
+-- a run of the plan by one hand, which keeps a relation of orders and outcomes, as it is requested: from the history before it to its
+-- entries and the state in which it stopped, or None where it was halted before that; from the text shown before it to the one after
+-- it, its closing and its status
+pub record Ran (gives : Order → Outcome → Type 0) (request : Request) (asked : Type 0) (plan : PlanValue) (before entries : List Entry)
+    (stop : Option FlowState) (shown now : Option (List ℕ)) (closing : List ℕ) (status : ℕ) : Type 0 where
+  pub steps : HasSteps asked request.limit (outline_of plan) before entries stop
   pub bound : length entries ≤ entry_bound plan
   pub outcomes : AreGiven gives (outline_of plan) before entries
-  pub text : RunShows plan before entries shown now stop closing status
+  pub text : RunShows request plan before entries shown now stop closing status
   pub end : (last : FlowState) → stop ≡ Some last → HasReached (outline_of plan) (entries ++ before) last

@@ -16,6 +16,7 @@ ghost use Rattle.taskflow.specs.Causes.{HasSaid};
 ghost use Rattle.taskflow.specs.Course.{FilesStay};
 ghost use Rattle.taskflow.specs.Durable.{file_of, book_in};
 ghost use Rattle.taskflow.specs.Messages.{not_a_book, no_flow, cannot_hire};
+ghost use Rattle.taskflow.specs.declared.running.Request.{Request};
 ghost use Rattle.taskflow.specs.Saying.{ClosesOrStops};
 ghost use Rattle.taskflow.specs.Way.{Untouched, Open};
 
@@ -39,6 +40,8 @@ pub fn open<K: Desk>(alloc: Global, mut desk: K, name: &Text) -> Result<Loaded<K
     ensures unopened { IfErr result (λ back. Untouched K.tells K.shown K.content K.left K.crashes K.disk_faults K.out_faults name.now desk back.0) }
     ensures refused { IfErr result (λ back. IsTrue (K.tells desk) → RefusesBook back.1 (book_in (file_of (K.content desk) name.now))) }
     ensures cause { IfErr result (λ back. back.1 ≡ LoadFault.Disk → Rises (K.disk_faults desk) (K.disk_faults back.0)) }
+    ensures asks { IfOk result (λ loaded. K.asks desk ≤ K.asks (desk_of loaded)) }
+    ensures back_asks { IfErr result (λ back. K.asks desk ≤ K.asks back.0) }
 {
     match desk.pick(alloc, name) {
         Ok(()) => Book::load(alloc, desk),
@@ -55,6 +58,7 @@ pub fn refuse_book<K: Desk>(alloc: Global, mut desk: K, fault: LoadFault) -> Ove
         → (IsTrue (K.tells entry) → RefusesBook fault (book_in (file_of (K.content entry) name)))
         → Unopened K.tells K.shown K.content K.left K.crashes K.disk_faults name entry result.desk result.status }
     ensures said { HasSaid (K.disk_faults desk) (K.disk_faults result.desk) (K.out_faults desk) (K.out_faults result.desk) result.status }
+    ensures asks { K.asks desk ≤ K.asks result.desk }
     ensures failed { result.status ≡ DISK_FAILED → fault ≡ LoadFault.Disk }
 {
     let status = match fault {
@@ -71,6 +75,7 @@ fn say_no_book<K: Desk>(alloc: Global, offset: u64, byte: Option<u8>, mut desk: 
         → Untouched K.tells K.shown K.content K.left K.crashes K.disk_faults K.out_faults name entry desk
         → RefusesOrStops K.tells K.shown K.content K.left K.crashes K.disk_faults name entry result.desk (not_a_book offset byte) NO_BOOK result.status }
     ensures said { HasSaid (K.disk_faults desk) (K.disk_faults result.desk) (K.out_faults desk) (K.out_faults result.desk) result.status }
+    ensures asks { K.asks desk ≤ K.asks result.desk }
     ensures sound { result.status ≢ DISK_FAILED }
 {
     let mut text = Vec::new(alloc);
@@ -90,6 +95,7 @@ pub fn say_over<K: Desk>(message: &[u8], status: u8, mut desk: K) -> Over<K>
         → Untouched K.tells K.shown K.content K.left K.crashes K.disk_faults K.out_faults name entry desk
         → Refuses K.tells K.shown K.content K.left K.crashes K.disk_faults name entry result.desk message.now status result.status }
     ensures said { HasSaid (K.disk_faults desk) (K.disk_faults result.desk) (K.out_faults desk) (K.out_faults result.desk) result.status }
+    ensures asks { K.asks desk ≤ K.asks result.desk }
     ensures status { (result.status ≡ status) ⊎ (result.status ≡ UNSAID) }
 {
     let status = close(message, status, &mut desk);
@@ -102,6 +108,7 @@ pub fn say_empty<K: Desk>(desk: K) -> Over<K>
         → Untouched K.tells K.shown K.content K.left K.crashes K.disk_faults K.out_faults name entry desk
         → Refuses K.tells K.shown K.content K.left K.crashes K.disk_faults name entry result.desk no_flow FORBIDDEN result.status }
     ensures said { HasSaid (K.disk_faults desk) (K.disk_faults result.desk) (K.out_faults desk) (K.out_faults result.desk) result.status }
+    ensures asks { K.asks desk ≤ K.asks result.desk }
     ensures status { (result.status ≡ FORBIDDEN) ⊎ (result.status ≡ UNSAID) }
 {
     say_over(NO_FLOW, FORBIDDEN, desk)
@@ -127,6 +134,7 @@ pub fn say_unhired<K: Desk>(desk: K, fault: PortFault) -> Over<K>
         → Untouched K.tells K.shown K.content K.left K.crashes K.disk_faults K.out_faults name entry desk
         → RefusesOrStops K.tells K.shown K.content K.left K.crashes K.disk_faults name entry result.desk cannot_hire UNHIRED result.status }
     ensures said { HasSaid (K.disk_faults desk) (K.disk_faults result.desk) (K.out_faults desk) (K.out_faults result.desk) result.status }
+    ensures asks { K.asks desk ≤ K.asks result.desk }
     ensures closes { ClosesOrStops (K.shown desk) cannot_hire UNHIRED (K.shown result.desk) result.status }
     ensures stays { FilesStay K.tells K.content desk result.desk }
     ensures unhired { result.status ≡ UNHIRED → fault ≡ PortFault.Failed }
@@ -179,8 +187,10 @@ fn create<K: Desk>(alloc: Global, desk: K) -> Result<Journal<K>, (K, BookFault)>
     ensures cause { IfErr result (λ back. back.1 ≡ BookFault.Disk → Rises (K.disk_faults desk) (K.disk_faults back.0)) }
     ensures disk { IfOk result (λ journal. K.disk_faults desk ≤ K.disk_faults journal.desk) }
     ensures out { IfOk result (λ journal. K.out_faults journal.desk ≡ K.out_faults desk) }
+    ensures asks { IfOk result (λ journal. K.asks desk ≤ K.asks journal.desk) }
     ensures back_disk { IfErr result (λ back. K.disk_faults desk ≤ K.disk_faults back.0) }
     ensures back_out { IfErr result (λ back. K.out_faults back.0 ≡ K.out_faults desk) }
+    ensures back_asks { IfErr result (λ back. K.asks desk ≤ K.asks back.0) }
 {
     match Journal::create(alloc, desk, Title::Book) {
         Ok(journal) => Ok(journal),
@@ -194,6 +204,7 @@ fn start<K: Desk>(
     alloc: Global,
     journal: Journal<K>,
     machine: Machine,
+    quiet: bool,
 ) -> Result<Book<K>, (K, BookFault)>
     requires fresh { StandsFor machine [] }
     requires title { journal.title ≡ book_title }
@@ -208,15 +219,17 @@ fn start<K: Desk>(
     ensures unbegun { IfErr result (λ back. (name : List ℕ) (entry : K)
         → Unbegun K.tells K.shown K.content K.left K.crashes K.disk_faults K.out_faults name entry machine.plan journal.desk
         → Unbegun K.tells K.shown K.content K.left K.crashes K.disk_faults K.out_faults name entry machine.plan back.0) }
-    ensures ready { IfOk result (λ book. (book.halt ≡ None) × (book.quiet ≡ false)) }
+    ensures ready { IfOk result (λ book. (book.halt ≡ None) × (book.quiet ≡ quiet)) }
     ensures faults { IfErr result (λ back. (back.1 ≡ BookFault.Disk) ⊎ (back.1 ≡ BookFault.Memory)) }
     ensures cause { IfErr result (λ back. back.1 ≡ BookFault.Disk → Rises (K.disk_faults journal.desk) (K.disk_faults back.0)) }
     ensures disk { IfOk result (λ book. K.disk_faults journal.desk ≤ K.disk_faults book.journal.desk) }
     ensures out { IfOk result (λ book. K.out_faults book.journal.desk ≡ K.out_faults journal.desk) }
+    ensures asks { IfOk result (λ book. K.asks journal.desk ≤ K.asks book.journal.desk) }
     ensures back_disk { IfErr result (λ back. K.disk_faults journal.desk ≤ K.disk_faults back.0) }
     ensures back_out { IfErr result (λ back. K.out_faults back.0 ≡ K.out_faults journal.desk) }
+    ensures back_asks { IfErr result (λ back. K.asks journal.desk ≤ K.asks back.0) }
 {
-    match Book::start(alloc, journal, machine, false) {
+    match Book::start(alloc, journal, machine, quiet) {
         Ok(book) => {
             let _pending = book.state();
             Ok(book)
@@ -230,6 +243,7 @@ pub fn begin<K: Desk>(
     alloc: Global,
     blank: Blank<K>,
     machine: Machine,
+    quiet: bool,
 ) -> Result<Book<K>, (K, BookFault)>
     requires fresh { StandsFor machine [] }
     requires blank { IsBlank K.tells K.content K.left blank }
@@ -241,18 +255,20 @@ pub fn begin<K: Desk>(
         → Open K.tells K.shown K.content K.left K.crashes K.disk_faults K.out_faults name entry (desk_in blank)
         → IsFoundBlank K.tells K.content name entry blank
         → Unbegun K.tells K.shown K.content K.left K.crashes K.disk_faults K.out_faults name entry machine.plan back.0) }
-    ensures ready { IfOk result (λ book. (book.halt ≡ None) × (book.quiet ≡ false)) }
+    ensures ready { IfOk result (λ book. (book.halt ≡ None) × (book.quiet ≡ quiet)) }
     ensures faults { IfErr result (λ back. (back.1 ≡ BookFault.Disk) ⊎ (back.1 ≡ BookFault.Memory)) }
     ensures cause { IfErr result (λ back. back.1 ≡ BookFault.Disk → Rises (K.disk_faults (desk_in blank)) (K.disk_faults back.0)) }
     ensures disk { IfOk result (λ book. K.disk_faults (desk_in blank) ≤ K.disk_faults book.journal.desk) }
     ensures out { IfOk result (λ book. K.out_faults book.journal.desk ≡ K.out_faults (desk_in blank)) }
+    ensures asks { IfOk result (λ book. K.asks (desk_in blank) ≤ K.asks book.journal.desk) }
     ensures back_disk { IfErr result (λ back. K.disk_faults (desk_in blank) ≤ K.disk_faults back.0) }
     ensures back_out { IfErr result (λ back. K.out_faults back.0 ≡ K.out_faults (desk_in blank)) }
+    ensures back_asks { IfErr result (λ back. K.asks (desk_in blank) ≤ K.asks back.0) }
 {
     match blank {
-        Blank::Titled(journal) => start(alloc, journal, machine),
+        Blank::Titled(journal) => start(alloc, journal, machine, quiet),
         Blank::Unborn(desk) => match create(alloc, desk) {
-            Ok(journal) => start(alloc, journal, machine),
+            Ok(journal) => start(alloc, journal, machine, quiet),
             Err(back) => Err(back),
         },
     }
@@ -261,12 +277,13 @@ pub fn begin<K: Desk>(
 /// Says why a book couldn't begin, unless memory ran out.
 pub fn say_unbegun<K: Desk, P: Performer>(desk: K, fault: BookFault) -> Over<K>
     requires faults { (fault ≡ BookFault.Disk) ⊎ (fault ≡ BookFault.Memory) }
-    ensures promised { (name : List ℕ) (entry : K) (plan : PlanValue)
+    ensures promised { (request : Request) (asks : ℕ) (name : List ℕ) (entry : K) (plan : PlanValue)
         → Unbegun K.tells K.shown K.content K.left K.crashes K.disk_faults K.out_faults name entry plan desk
-        → Promised K.tells K.shown K.content K.left K.crashes K.disk_faults P.gives name plan [] entry result.desk result.status }
+        → Promised K.tells K.shown K.content K.left K.crashes K.disk_faults P.gives request (Rises asks (K.asks result.desk)) name plan [] entry result.desk result.status }
     ensures closes { SaysUnbegun (K.shown desk) (K.shown result.desk) result.status }
     ensures stays { FilesStay K.tells K.content desk result.desk }
     ensures said { HasSaid (K.disk_faults desk) (K.disk_faults result.desk) (K.out_faults desk) (K.out_faults result.desk) result.status }
+    ensures asks { K.asks desk ≤ K.asks result.desk }
     ensures failed { result.status ≡ DISK_FAILED → fault ≡ BookFault.Disk }
     ensures apart { result.status ≢ UNHIRED }
 {

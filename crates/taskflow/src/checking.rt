@@ -30,6 +30,7 @@ pub fn check_file<K: Desk, S: Sources>(
     ensures apart { (result ≢ UNHIRED) × (result ≢ DISK_FAILED) }
     ensures no_fall { K.out_faults desk.old ≤ K.out_faults desk.new }
     ensures disk { K.disk_faults desk.new ≡ K.disk_faults desk.old }
+    ensures asks { K.asks desk.old ≤ K.asks desk.new }
     ensures no_source_fall { S.faults sources.old ≤ S.faults sources.new }
 {
     match open_file(alloc, source, desk, sources) {
@@ -46,6 +47,7 @@ fn say_checked<K: Desk>(alloc: Global, plan: &Plan, desk: &mut K) -> u8
     ensures unsaid { result ≡ UNSAID → Rises (K.out_faults desk.old) (K.out_faults desk.new) }
     ensures no_fall { K.out_faults desk.old ≤ K.out_faults desk.new }
     ensures disk { K.disk_faults desk.new ≡ K.disk_faults desk.old }
+    ensures asks { K.asks desk.old ≤ K.asks desk.new }
 {
     let mut text = Vec::new(alloc);
     match append_checked(plan, &mut text) {

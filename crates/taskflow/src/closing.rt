@@ -16,6 +16,7 @@ pub fn close<K: Desk>(message: &[u8], status: u8, desk: &mut K) -> u8
     ensures status { result ≢ UNSAID → result ≡ status }
     ensures no_fall { K.out_faults desk.old ≤ K.out_faults desk.new }
     ensures disk { K.disk_faults desk.new ≡ K.disk_faults desk.old }
+    ensures asks { K.asks desk.old ≤ K.asks desk.new }
     ensures tells { K.tells desk.new ≡ K.tells desk.old }
     ensures stands { IsTrue (K.tells desk.old) → Stands (K.content desk.old) (K.content desk.new) }
     ensures leaves { IsTrue (K.tells desk.old) → LeavesNoMore (K.left desk.old) (K.left desk.new) }

@@ -6,9 +6,11 @@ mod books;
 mod checking;
 mod closing;
 mod crew;
+mod demoing;
 mod messages;
 mod reading;
 mod recording;
+mod resetting;
 mod resuming;
 mod running;
 mod showing;
@@ -22,9 +24,9 @@ use crate::top::{Outside, taskflow};
 use std::env::Env;
 use std::process::ExitCode;
 use std::{env, io};
-use tf_commands::Word;
 use tf_desk::FileDesk;
 use tf_ports::Folder;
+use tf_words::Word;
 
 fn main(rt: HostRuntime) -> ExitCode {
     let alloc = rt.alloc();

@@ -2,7 +2,7 @@ ghost use Rattle.std.specs.Prelude.{◌≡◌, ◌≤◌, [], ◌∷◌, ◌++�
 ghost use Rattle.std.specs.List.{flat_map};
 ghost use Rattle.tf_numbers.specs.Numbers.{which_below};
 ghost use Rattle.tf_model.specs.Plan.{outline_of, count, is_task};
-ghost use Rattle.taskflow.specs.Messages.{limit_word as word_of_limit, checked, tasks_below, spaced, plan_fault_text, file_fault_text, compile_fault_text, scope_fault_text, refusal_text, refusal, byte_or_end, not_a_book, book_full, state_forbids};
+ghost use Rattle.taskflow.specs.Messages.{limit_word as word_of_limit, checked, summary, tasks_below, spaced, plan_fault_text, file_fault_text, compile_fault_text, scope_fault_text, refusal_text, refusal, byte_or_end, not_a_book, book_full, state_forbids};
 
 use crate::accepting::Refusal;
 use tf_document::{FileFault, Path};
@@ -89,6 +89,16 @@ pub fn append_checked(plan: &Plan, out: &mut Vec<u8>) -> Result<(), Memory>
     append_counted(b" tasks, ", plan.atoms() - tasks, out)?;
     append_counted(b" retries, ", plan.flows(), out)?;
     append(b" flows\n", out)
+}
+
+/// Appends how many tasks a generated flow has, and how many entries its history.
+#[tactic(auto, unfolding(crate::specs::Messages::summary))]
+pub fn append_summary(plan: &Plan, entries: u64, out: &mut Vec<u8>) -> Result<(), Memory>
+    ensures { OnOk result (out.new.items ≡ out.old.items ++ summary (outline_of plan.now) entries) }
+{
+    append_counted(b"demo ", count_tasks(plan), out)?;
+    append_counted(b" tasks, ", entries, out)?;
+    append(b" entries\n", out)
 }
 
 /// How many tasks the plan has.

@@ -48,6 +48,7 @@ pub fn open_file<K: Desk, S: Sources>(
     ensures stays { FilesStay K.tells K.content desk.old desk.new }
     ensures no_fall { K.out_faults desk.old ≤ K.out_faults desk.new }
     ensures disk { K.disk_faults desk.new ≡ K.disk_faults desk.old }
+    ensures asks { K.asks desk.old ≤ K.asks desk.new }
     ensures no_source_fall { S.faults sources.old ≤ S.faults sources.new }
 {
     match sources.read_all(alloc, &source.file) {
@@ -75,6 +76,7 @@ fn open_bytes<K: Desk>(
     ensures unsaid { result ≡ Err UNSAID → Rises (K.out_faults desk.old) (K.out_faults desk.new) }
     ensures no_fall { K.out_faults desk.old ≤ K.out_faults desk.new }
     ensures disk { K.disk_faults desk.new ≡ K.disk_faults desk.old }
+    ensures asks { K.asks desk.old ≤ K.asks desk.new }
 {
     let Source { file, sets, defer } = source;
     drop(file);
@@ -93,6 +95,7 @@ fn refuse<K: Desk>(alloc: Global, reason: &Refusal, desk: &mut K) -> u8
     ensures unsaid { result ≡ UNSAID → Rises (K.out_faults desk.old) (K.out_faults desk.new) }
     ensures no_fall { K.out_faults desk.old ≤ K.out_faults desk.new }
     ensures disk { K.disk_faults desk.new ≡ K.disk_faults desk.old }
+    ensures asks { K.asks desk.old ≤ K.asks desk.new }
 {
     if reason.is_memory() {
         return OUT_OF_MEMORY;

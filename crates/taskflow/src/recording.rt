@@ -1,6 +1,7 @@
 //! A run that is recorded in a book: it begins in a file that holds no flow.
 
-ghost use Rattle.std.specs.Prelude.{◌≡◌, ◌⊎◌, ℕ, List, []};
+ghost use Rattle.std.specs.Prelude.{◌≡◌, ◌≤◌, ◌⊎◌, ℕ, List, []};
+ghost use Rattle.tf_desk.specs.Counts.{Rises};
 ghost use Rattle.tf_files.specs.Written.{plan_tree};
 ghost use Rattle.tf_machine.specs.Machine.{StandsFor};
 ghost use Rattle.tf_book.specs.Book.{outline, state};
@@ -14,7 +15,7 @@ ghost use Rattle.taskflow.specs.Way.{Untouched, Open};
 use crate::books::{Blank, begin, hire_one, open, refuse_book, say_over, say_unbegun, say_unhired};
 use crate::messages::append_state_forbids;
 use crate::reading::{Source, open_file};
-use crate::running::{Over, run_book};
+use crate::running::{Over, Request, run_book};
 use crate::statuses::{FORBIDDEN, OUT_OF_MEMORY, UNSAID};
 use std::alloc::Global;
 use tf_book::{Book, Loaded};
@@ -28,52 +29,69 @@ pub fn run_file<K: Desk, S: Sources, W: Crew>(
     alloc: Global,
     source: Source,
     name: &Text,
+    request: Request,
     mut desk: K,
     sources: &mut S,
     crew: &mut W,
 ) -> Over<K>
     ensures runs { FileRead (S.contents sources.old) source (IsUntouched K.tells K.content (W.hired crew.old) (W.hired crew.new) desk result.desk)
-        (Runs K.tells K.shown K.content K.left K.crashes K.disk_faults W.Hand.gives name.now (W.hired crew.old) (W.hired crew.new) desk result.desk)
+        (Runs K.tells K.shown K.content K.left K.crashes K.disk_faults W.Hand.gives request (Rises (K.asks desk) (K.asks result.desk)) name.now (W.hired crew.old) (W.hired crew.new) desk result.desk)
         (K.shown desk) (K.shown result.desk) result.status }
     ensures hires { HiresOneAtMost (W.hired crew.old) (W.hired crew.new) }
+    ensures asks { K.asks desk ≤ K.asks result.desk }
     ensures causes { HasCauses result.status (counts (K.disk_faults desk) (K.out_faults desk) (S.faults sources.old) (W.faults crew.old))
         (counts (K.disk_faults result.desk) (K.out_faults result.desk) (S.faults sources.new) (W.faults crew.new)) }
 {
     match open_file(alloc, source, &mut desk, sources) {
-        Ok(machine) => run_plan(alloc, machine, name, desk, crew),
+        Ok(machine) => run_plan(alloc, machine, name, request, desk, crew),
         Err(status) => Over { desk, status },
     }
 }
 
 /// Opens the book, and runs the plan of a machine over it with a hand that is hired then.
-fn run_plan<K: Desk, W: Crew>(
+pub fn run_plan<K: Desk, W: Crew>(
     alloc: Global,
     machine: Machine,
     name: &Text,
+    request: Request,
     desk: K,
     crew: &mut W,
 ) -> Over<K>
     requires fresh { StandsFor machine [] }
-    ensures runs { Runs K.tells K.shown K.content K.left K.crashes K.disk_faults W.Hand.gives name.now (W.hired crew.old) (W.hired crew.new)
+    ensures runs { Runs K.tells K.shown K.content K.left K.crashes K.disk_faults W.Hand.gives request (Rises (K.asks desk) (K.asks result.desk)) name.now (W.hired crew.old) (W.hired crew.new)
         desk result.desk (plan_tree machine.plan) result.status }
     ensures hires { HiresOneAtMost (W.hired crew.old) (W.hired crew.new) }
+    ensures asks { K.asks desk ≤ K.asks result.desk }
     ensures causes { HasCauses result.status (counts (K.disk_faults desk) (K.out_faults desk) 0 (W.faults crew.old))
         (counts (K.disk_faults result.desk) (K.out_faults result.desk) 0 (W.faults crew.new)) }
 {
     match open(alloc, desk, name) {
         Ok(Loaded::Book(book)) => forbid(alloc, book),
-        Ok(Loaded::NoFlow(journal)) => hire_and_run(alloc, machine, Blank::Titled(journal), crew),
-        Ok(Loaded::Unborn(desk)) => hire_and_run(alloc, machine, Blank::Unborn(desk), crew),
+        Ok(Loaded::NoFlow(journal)) => hire_and_run(
+            alloc,
+            machine,
+            Blank::Titled(journal),
+            request,
+            crew,
+        ),
+        Ok(Loaded::Unborn(desk)) => hire_and_run(
+            alloc,
+            machine,
+            Blank::Unborn(desk),
+            request,
+            crew,
+        ),
         Err((desk, fault)) => refuse_book(alloc, desk, fault),
     }
 }
 
-/// Says that the flow which a book holds already forbids a run.
-fn forbid<K: Desk>(alloc: Global, book: Book<K>) -> Over<K>
+/// Says that the flow which a book holds forbids what is asked for.
+pub fn forbid<K: Desk>(alloc: Global, book: Book<K>) -> Over<K>
     ensures refuses { (name : List ℕ) (entry : K)
         → Untouched K.tells K.shown K.content K.left K.crashes K.disk_faults K.out_faults name entry book.journal.desk
         → RefusesOrStops K.tells K.shown K.content K.left K.crashes K.disk_faults name entry result.desk (state_forbids (outline book) (state book)) FORBIDDEN result.status }
     ensures said { HasSaid (K.disk_faults book.journal.desk) (K.disk_faults result.desk) (K.out_faults book.journal.desk) (K.out_faults result.desk) result.status }
+    ensures asks { K.asks book.journal.desk ≤ K.asks result.desk }
     ensures status { (result.status ≡ FORBIDDEN) ⊎ (result.status ≡ UNSAID) ⊎ (result.status ≡ OUT_OF_MEMORY) }
 {
     let mut text = Vec::new(alloc);
@@ -94,6 +112,7 @@ fn hire_and_run<K: Desk, W: Crew>(
     alloc: Global,
     machine: Machine,
     blank: Blank<K>,
+    request: Request,
     crew: &mut W,
 ) -> Over<K>
     requires fresh { StandsFor machine [] }
@@ -103,13 +122,15 @@ fn hire_and_run<K: Desk, W: Crew>(
         → IsFoundBlank K.tells K.content name entry blank
         → (Unhired K.tells K.shown K.content K.left K.crashes K.disk_faults name entry result.desk (W.hired crew.old) (W.hired crew.new) result.status
         ⊎ (HiresOne (W.hired crew.old) (W.hired crew.new)
-        × Promised K.tells K.shown K.content K.left K.crashes K.disk_faults W.Hand.gives name machine.plan [] entry result.desk result.status)) }
+        × Promised K.tells K.shown K.content K.left K.crashes K.disk_faults W.Hand.gives request
+        (Rises (K.asks (desk_in blank)) (K.asks result.desk)) name machine.plan [] entry result.desk result.status)) }
     ensures hires { HiresOneAtMost (W.hired crew.old) (W.hired crew.new) }
+    ensures asks { K.asks (desk_in blank) ≤ K.asks result.desk }
     ensures causes { HasCauses result.status (counts (K.disk_faults (desk_in blank)) (K.out_faults (desk_in blank)) 0 (W.faults crew.old))
         (counts (K.disk_faults result.desk) (K.out_faults result.desk) 0 (W.faults crew.new)) }
 {
     match hire_one(alloc, crew) {
-        Ok(mut hand) => run_in(alloc, machine, blank, &mut hand),
+        Ok(mut hand) => run_in(alloc, machine, blank, request, &mut hand),
         Err(fault) => say_unhired(blank.into_desk(), fault),
     }
 }
@@ -119,6 +140,7 @@ fn run_in<K: Desk, P: Performer>(
     alloc: Global,
     machine: Machine,
     blank: Blank<K>,
+    request: Request,
     hand: &mut P,
 ) -> Over<K>
     requires fresh { StandsFor machine [] }
@@ -126,12 +148,14 @@ fn run_in<K: Desk, P: Performer>(
     ensures runs { (name : List ℕ) (entry : K)
         → Open K.tells K.shown K.content K.left K.crashes K.disk_faults K.out_faults name entry (desk_in blank)
         → IsFoundBlank K.tells K.content name entry blank
-        → Promised K.tells K.shown K.content K.left K.crashes K.disk_faults P.gives name machine.plan [] entry result.desk result.status }
+        → Promised K.tells K.shown K.content K.left K.crashes K.disk_faults P.gives request
+        (Rises (K.asks (desk_in blank)) (K.asks result.desk)) name machine.plan [] entry result.desk result.status }
+    ensures asks { K.asks (desk_in blank) ≤ K.asks result.desk }
     ensures causes { HasCauses result.status (counts (K.disk_faults (desk_in blank)) (K.out_faults (desk_in blank)) 0 0)
         (counts (K.disk_faults result.desk) (K.out_faults result.desk) 0 0) }
 {
-    match begin(alloc, blank, machine) {
-        Ok(book) => run_book(alloc, book, hand),
+    match begin(alloc, blank, machine, request.quiet) {
+        Ok(book) => run_book(alloc, book, hand, request),
         Err((desk, fault)) => say_unbegun::<K, P>(desk, fault),
     }
 }

@@ -1,14 +1,18 @@
 //! A run of a book with one hand, and what it says last.
 
-ghost use Rattle.std.specs.Prelude.{◌≡◌, ◌≢◌, false, None, Some, Option};
+ghost use Rattle.std.specs.Prelude.{◌≡◌, ◌≢◌, ◌≤◌, ◌++◌, length, true, false, None, Some, Option, IfOk};
+ghost use Rattle.tf_desk.specs.Counts.{Rises};
 ghost use Rattle.tf_states.specs.declared.state.FlowState.{FlowState as AFlowState};
-ghost use Rattle.tf_book.specs.Book.{BookValue};
+ghost use Rattle.tf_report.specs.Report.{report};
+ghost use Rattle.tf_book.specs.Book.{BookValue, outline, moment};
 ghost use Rattle.tf_book.specs.declared.faults.Halt.{Halt as Cause};
+ghost use Rattle.taskflow.specs.Messages.{summary};
 ghost use Rattle.taskflow.specs.Run.{status_of};
 ghost use Rattle.taskflow.specs.Runs.{HasSaidHalt, IsRunTo, RunsOn};
+ghost use Rattle.taskflow.specs.declared.running.Request.{Request as ARequest};
 
 use crate::closing::close;
-use crate::messages::{DISK_FAULT, append_book_full};
+use crate::messages::{DISK_FAULT, append_book_full, append_summary};
 use crate::statuses::{
     DISK_FAILED, FAILED, FULL, OUT_OF_MEMORY, REVERTED, SUCCEEDED, SUSPENDED, UNHIRED, UNREAD,
     UNSAID,
@@ -19,6 +23,7 @@ use tf_desk::Desk;
 use tf_engines::{How, RunEnd, serial};
 use tf_ports::Performer;
 use tf_states::FlowState;
+use tf_values::Memory;
 
 /// A command that is over: the desk, and the status.
 #[derive(Drop)]
@@ -27,30 +32,106 @@ pub struct Over<K> {
     pub status: u8,
 }
 
-/// Runs a book's flow on with a hand, and says how it stopped.
-pub fn run_book<K: Desk, P: Performer>(alloc: Global, book: Book<K>, hand: &mut P) -> Over<K>
+/// How a run is to go: whether it says no lines of its entries, but how many they are before its report; and after how
+/// many entries it is suspended, if after so many.
+#[derive(Clone, Copy, Debug, PartialEq, Eq)]
+pub struct Request {
+    pub quiet: bool,
+    pub limit: Option<u32>,
+}
+
+/// Runs a book's flow on with a hand, as it is requested, and says how it stopped.
+pub fn run_book<K: Desk, P: Performer>(
+    alloc: Global,
+    book: Book<K>,
+    hand: &mut P,
+    request: Request,
+) -> Over<K>
     requires sound { book.halt ≡ None }
-    requires speaks { book.quiet ≡ false }
-    ensures runs { RunsOn K.tells K.shown K.content K.left K.crashes K.disk_faults K.out_faults P.gives book result.desk result.status }
+    requires speaks { book.quiet ≡ request.quiet }
+    ensures runs { RunsOn K.tells K.shown K.content K.left K.crashes K.disk_faults K.out_faults P.gives request
+        (Rises (K.asks book.journal.desk) (K.asks result.desk)) book result.desk result.status }
     ensures apart { (result.status ≢ UNREAD) × (result.status ≢ UNHIRED) }
+    ensures asks { K.asks book.journal.desk ≤ K.asks result.desk }
 {
     let _before = book.state();
-    let RunEnd { book, how } = serial(alloc, book, hand);
+    let RunEnd { book, how } = serial(alloc, book, hand, request.limit);
     let _after = book.state();
     match how {
-        How::Ended(last) => report_end::<K, P>(book, last),
-        How::Suspended => report_end::<K, P>(book, FlowState::Suspended),
+        How::Ended(last) => end_run::<K, P>(alloc, book, last, request),
+        How::Suspended => end_run::<K, P>(alloc, book, FlowState::Suspended, request),
         How::Halted(halt) => say_halt::<K, P>(alloc, book, halt),
     }
+}
+
+/// Says last what was requested of a book whose run stopped in that state.
+fn end_run<K: Desk, P: Performer>(
+    alloc: Global,
+    book: Book<K>,
+    last: FlowState,
+    request: Request,
+) -> Over<K>
+    requires sound { book.halt ≡ None }
+    ensures runs { (start : BookValue K)
+        → IsRunTo K.tells K.shown K.content K.left K.crashes K.disk_faults K.out_faults P.gives request
+        (Rises (K.asks start.journal.desk) (K.asks result.desk)) start book (Some last)
+        → RunsOn K.tells K.shown K.content K.left K.crashes K.disk_faults K.out_faults P.gives request
+        (Rises (K.asks start.journal.desk) (K.asks result.desk)) start result.desk result.status }
+    ensures apart { (result.status ≢ UNREAD) × (result.status ≢ UNHIRED) }
+    ensures asks { K.asks book.journal.desk ≤ K.asks result.desk }
+{
+    if request.quiet {
+        return sum_up::<K, P>(alloc, book, last);
+    }
+    report_end::<K, P>(book, last)
+}
+
+/// Says how many tasks and entries a book has whose run stopped in that state, and its report.
+fn sum_up<K: Desk, P: Performer>(alloc: Global, book: Book<K>, last: FlowState) -> Over<K>
+    requires sound { book.halt ≡ None }
+    ensures runs { (request : ARequest) (start : BookValue K) → request.quiet ≡ true
+        → IsRunTo K.tells K.shown K.content K.left K.crashes K.disk_faults K.out_faults P.gives request
+        (Rises (K.asks start.journal.desk) (K.asks result.desk)) start book (Some last)
+        → RunsOn K.tells K.shown K.content K.left K.crashes K.disk_faults K.out_faults P.gives request
+        (Rises (K.asks start.journal.desk) (K.asks result.desk)) start result.desk result.status }
+    ensures apart { (result.status ≢ UNREAD) × (result.status ≢ UNHIRED) }
+    ensures asks { K.asks book.journal.desk ≤ K.asks result.desk }
+{
+    let _standing = book.state();
+    let made = summary_text(alloc, &book);
+    let mut desk = book.close();
+    match made {
+        Ok(text) => {
+            let status = close(&text, status_for(last), &mut desk);
+            Over { desk, status }
+        }
+        Err(_) => Over {
+            desk,
+            status: OUT_OF_MEMORY,
+        },
+    }
+}
+
+/// How many tasks and entries a book has, and its report.
+fn summary_text<K: Desk>(alloc: Global, book: &Book<K>) -> Result<Vec<u8>, Memory>
+    ensures { IfOk result (λ text. text.items ≡ summary (outline book.now) (length book.now.past) ++ report (outline book.now) (moment book.now)) }
+{
+    let mut text = Vec::new(alloc);
+    append_summary(book.machine().plan(), book.count(), &mut text)?;
+    text.extend_from_slice(&book.report_text()?)?;
+    Ok(text)
 }
 
 /// Says the report of a book whose run stopped in that state.
 pub fn report_end<K: Desk, P: Performer>(mut book: Book<K>, last: FlowState) -> Over<K>
     requires sound { book.halt ≡ None }
-    ensures runs { (start : BookValue K)
-        → IsRunTo K.tells K.shown K.content K.left K.crashes K.disk_faults K.out_faults P.gives start book (Some last)
-        → RunsOn K.tells K.shown K.content K.left K.crashes K.disk_faults K.out_faults P.gives start result.desk result.status }
+    ensures runs { (request : ARequest) (start : BookValue K) → request.quiet ≡ false
+        → IsRunTo K.tells K.shown K.content K.left K.crashes K.disk_faults K.out_faults P.gives request
+        (Rises (K.asks start.journal.desk) (K.asks result.desk)) start book (Some last)
+        → RunsOn K.tells K.shown K.content K.left K.crashes K.disk_faults K.out_faults P.gives request
+        (Rises (K.asks start.journal.desk) (K.asks result.desk)) start result.desk result.status }
     ensures apart { (result.status ≢ UNREAD) × (result.status ≢ UNHIRED) }
+    ensures asks { K.asks book.journal.desk ≤ K.asks result.desk }
 {
     match book.report() {
         Ok(()) => Over {
@@ -72,10 +153,13 @@ pub fn report_end<K: Desk, P: Performer>(mut book: Book<K>, last: FlowState) -> 
 /// Says why a book was halted, unless its output failed or memory ran out.
 fn say_halt<K: Desk, P: Performer>(alloc: Global, book: Book<K>, halt: Halt) -> Over<K>
     requires halted { book.halt ≡ Some halt }
-    ensures runs { (start : BookValue K) (stop : Option AFlowState)
-        → IsRunTo K.tells K.shown K.content K.left K.crashes K.disk_faults K.out_faults P.gives start book stop
-        → RunsOn K.tells K.shown K.content K.left K.crashes K.disk_faults K.out_faults P.gives start result.desk result.status }
+    ensures runs { (request : ARequest) (start : BookValue K) (stop : Option AFlowState)
+        → IsRunTo K.tells K.shown K.content K.left K.crashes K.disk_faults K.out_faults P.gives request
+        (Rises (K.asks start.journal.desk) (K.asks result.desk)) start book stop
+        → RunsOn K.tells K.shown K.content K.left K.crashes K.disk_faults K.out_faults P.gives request
+        (Rises (K.asks start.journal.desk) (K.asks result.desk)) start result.desk result.status }
     ensures apart { (result.status ≢ UNREAD) × (result.status ≢ UNHIRED) }
+    ensures asks { K.asks book.journal.desk ≤ K.asks result.desk }
 {
     let _standing = book.state();
     let mut desk = book.close();
@@ -84,8 +168,9 @@ fn say_halt<K: Desk, P: Performer>(alloc: Global, book: Book<K>, halt: Halt) -> 
 }
 
 /// Says for which cause a book was halted, unless its output failed or memory ran out.
-fn say_cause<K: Desk>(alloc: Global, halt: Halt, desk: &mut K) -> u8
+pub fn say_cause<K: Desk>(alloc: Global, halt: Halt, desk: &mut K) -> u8
     ensures says { HasSaidHalt K.tells K.shown K.content K.left K.crashes K.disk_faults K.out_faults halt desk.old desk.new result }
+    ensures asks { K.asks desk.old ≤ K.asks desk.new }
 {
     match halt {
         Halt::Disk => close(DISK_FAULT, DISK_FAILED, desk),
@@ -98,6 +183,7 @@ fn say_cause<K: Desk>(alloc: Global, halt: Halt, desk: &mut K) -> u8
 /// Says that a book is full, unless memory runs out.
 fn say_full<K: Desk>(alloc: Global, size: u64, need: u64, desk: &mut K) -> u8
     ensures says { HasSaidHalt K.tells K.shown K.content K.left K.crashes K.disk_faults K.out_faults (Cause.Full size need) desk.old desk.new result }
+    ensures asks { K.asks desk.old ≤ K.asks desk.new }
 {
     let mut text = Vec::new(alloc);
     match append_book_full(size, need, &mut text) {

@@ -1,11 +1,11 @@
 use crate::top::{Ended, Outside, taskflow};
 use std::alloc::Global;
 use std::test::Fail;
-use tf_commands::Word;
 use tf_desk::MemoryDesk;
 use tf_ports::{MemoryCrew, MemorySource, MemorySources, MemorySpawner, Want};
 use tf_tasks::LocalHand;
 use tf_values::Text;
+use tf_words::Word;
 
 /// A flow file, the words behind it, what is said of it, and the status.
 struct Case {
@@ -18,6 +18,9 @@ struct Case {
 
 const TWO_ECHOES: &str =
     "name = \"main\"\nkind = \"linear\"\n[[items]]\ntask = \"a\"\nkind = \"echo\"\ninject = { value = 1 }\n[[items]]\ntask = \"b\"\nkind = \"echo\"\ninject = { value = \"two\" }\n";
+
+const THREE_ECHOES: &str =
+    "name = \"main\"\nkind = \"linear\"\nitems = [{ task = \"a\", kind = \"echo\", inject = { value = 1 } }, { task = \"b\", kind = \"echo\", inject = { value = 2 } }, { task = \"c\", kind = \"echo\", inject = { value = 3 } }]\n";
 
 const NESTED: &str =
     "name = \"main\"\nkind = \"linear\"\nitems = [{ task = \"a\", kind = \"echo\", inject = { value = 1 } }, { flow = \"g\", kind = \"graph\", items = [{ task = \"x\", kind = \"echo\", inject = { value = 2 } }, { task = \"y\", kind = \"echo\", inject = { value = 3 } }], links = [{ from = \"y\", to = \"x\" }] }, { task = \"z\", kind = \"fail\", inject = { text = \"no\" } }]\n";
@@ -336,13 +339,12 @@ fn refuses_with_the_reason(rt: HostRuntime) -> Result<(), Fail> {
 }
 
 /// Words, and whether they are a command.
-const WORDS: [(&[&str], bool); 14] = [
+const WORDS: [(&[&str], bool); 13] = [
     (&["check"], false),
     (&["check", "--", "flow.toml"], true),
     (&[], false),
     (&["try"], false),
     (&["run", "flow.toml"], false),
-    (&["reset", "B"], false),
     (&["try", "flow.toml", "--hands", "2"], false),
     (&["try", "flow.toml", "--hands", "1"], true),
     (&["try", "flow.toml", "x"], false),
@@ -372,12 +374,12 @@ fn ends_by_its_faults(rt: HostRuntime) -> Result<(), Fail> {
     assert!(rt; text.as_slice() == b"taskflow: cannot read\n".as_slice());
     let (_, status) = ran(alloc, &["try", "absent"], file, &[], &[], &[])?;
     assert_eq!(rt; status, 3);
-    let (text, status) = ran(alloc, &TRY, file, &[3], &[], &[])?;
+    let (text, status) = ran(alloc, &TRY, file, &[4], &[], &[])?;
     assert_eq!(rt; status, 7);
     assert!(rt;
         text.as_slice() == b"1 0 flow main RUNNING\n2 0 task a RUNNING\n3 0 task a".as_slice()
     );
-    let (text, status) = ran(alloc, &TRY, file, &[7], &[], &[])?;
+    let (text, status) = ran(alloc, &TRY, file, &[10], &[], &[])?;
     assert_eq!(rt; status, 7);
     assert!(rt;
         text.as_slice()
@@ -405,7 +407,7 @@ struct Session {
     says: &'static str,
 }
 
-const SESSIONS: [Session; 3] = [
+const SESSIONS: [Session; 6] = [
     Session {
         shows: "a book is begun once, shown, and resumed after its end",
         file: "name = \"main\"\nkind = \"linear\"\nitems = [{ task = \"a\", kind = \"echo\", inject = { value = 1 } }]\n",
@@ -434,7 +436,70 @@ const SESSIONS: [Session; 3] = [
         ],
         says: "taskflow: flow file: empty\ntaskflow: cannot read\ntaskflow: no flow in the book\n",
     },
+    Session {
+        shows: "a run is suspended after five entries, and goes on",
+        file: THREE_ECHOES,
+        commands: &[
+            (&["run", "flow.toml", "B", "--stop-after", "5"], 12),
+            (&["reset", "B"], 14),
+            (&["resume", "B"], 0),
+        ],
+        says: "1 0 flow main RUNNING\n2 0 task a RUNNING\n3 0 task a SUCCESS 1\n4 0 task b RUNNING\n5 0 task b SUCCESS 2\n6 0 flow main SUSPENDING\n7 0 flow main SUSPENDED\nend main SUSPENDED\ntaskflow: state forbids: main SUSPENDED\n8 0 flow main RUNNING\n9 0 task c RUNNING\n10 0 task c SUCCESS 3\n11 0 flow main SUCCESS\nend main SUCCESS\n",
+    },
+    Session {
+        shows: "a generated flow is run without its lines, once a book",
+        file: THREE_ECHOES,
+        commands: &[
+            (&["demo", "1", "2", "B"], 0),
+            (&["demo", "1", "2", "B"], 14),
+            (&["resume", "B"], 0),
+        ],
+        says: "demo 2 tasks, 17 entries\nend demo SUCCESS\ntaskflow: state forbids: demo SUCCESS\nend demo SUCCESS\n",
+    },
+    Session {
+        shows: "a reverted flow is put back, and run anew",
+        file: "name = \"main\"\nkind = \"linear\"\nitems = [{ task = \"a\", kind = \"echo\", inject = { value = 1 } }, { task = \"b\", kind = \"fail\", inject = { text = \"no\" } }]\n",
+        commands: &[
+            (&["reset", "B"], 14),
+            (&["run", "flow.toml", "B"], 10),
+            (&["reset", "B"], 0),
+            (&["reset", "B"], 14),
+            (&["resume", "B", "--stop-after", "2"], 12),
+        ],
+        says: "taskflow: no flow in the book\n1 0 flow main RUNNING\n2 0 task a RUNNING\n3 0 task a SUCCESS 1\n4 0 task b RUNNING\n5 0 task b FAILURE raised \"no\"\n6 0 resolve main REVERT_ALL\n7 0 task b REVERTING\n8 0 task b REVERTED\n9 0 task a REVERTING\n10 0 task a REVERTED\n11 0 flow main REVERTED\nend main REVERTED\n12 0 task a PENDING\n13 0 task b PENDING\n14 0 flow main PENDING\ntaskflow: state forbids: main PENDING\n15 0 flow main RUNNING\n16 0 task a RUNNING\n17 0 task a SUCCESS 1\n18 0 flow main SUSPENDING\n19 0 flow main SUSPENDED\nend main SUSPENDED\n",
+    },
 ];
+
+/// The turn at which a stop is asked for in a run of the file of three echoes over a book, the status, and how what is said ends.
+const STOPS: [(u64, u8, &str); 4] = [
+    (
+        1,
+        12,
+        "1 0 flow main RUNNING\n2 0 flow main SUSPENDING\n3 0 flow main SUSPENDED\nend main SUSPENDED\n",
+    ),
+    (
+        3,
+        12,
+        "5 0 task b SUCCESS 2\n6 0 flow main SUSPENDING\n7 0 flow main SUSPENDED\nend main SUSPENDED\n",
+    ),
+    (4, 0, "8 0 flow main SUCCESS\nend main SUCCESS\n"),
+    (5, 0, "8 0 flow main SUCCESS\nend main SUCCESS\n"),
+];
+
+#[test]
+fn stops_where_it_is_asked(rt: HostRuntime) -> Result<(), Fail> {
+    let alloc = rt.alloc();
+    for (turn, wanted, ends) in &STOPS {
+        let mut asking = Vec::new(alloc);
+        asking.push(*turn)?;
+        let desk = MemoryDesk::make(alloc, 65_536, 1_000, Vec::new(alloc), asking)?;
+        let words = ["run", "flow.toml", "B"];
+        let (desk, status) = ran_over(alloc, desk, &words, THREE_ECHOES.as_bytes(), &[], &[])?;
+        assert_eq!(rt; status, *wanted, "turn {turn}");
+        assert!(rt; desk.shown().ends_with(ends.as_bytes()), "turn {turn}");
+    }
+    Ok(())
+}
 
 #[test]
 fn keeps_runs_in_a_book(rt: HostRuntime) -> Result<(), Fail> {
@@ -456,8 +521,8 @@ fn keeps_runs_in_a_book(rt: HostRuntime) -> Result<(), Fail> {
 const HALTS: [(u64, u8, &str); 4] = [
     (1, 5, "taskflow: disk fault\n"),
     (2, 5, "taskflow: disk fault\n"),
-    (29, 5, "1 0 flow main RUNNING\n2 0 task a RUNNING\n"),
-    (27, 7, "1 0 flow main RUNNING\n"),
+    (30, 5, "1 0 flow main RUNNING\n2 0 task a RUNNING\n"),
+    (28, 7, "1 0 flow main RUNNING\n"),
 ];
 
 #[test]

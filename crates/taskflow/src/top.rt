@@ -1,23 +1,26 @@
-ghost use Rattle.std.specs.Prelude.{◌≡◌, true, None, Some, IfSome};
-ghost use Rattle.taskflow.specs.Asking.{is_one_hand as wants_one, is_done_here as is_done, asked_for, if_done_here};
+ghost use Rattle.std.specs.Prelude.{◌≡◌, ◌≤◌, true, None, Some, IfSome};
+ghost use Rattle.tf_desk.specs.Counts.{Rises};
+ghost use Rattle.taskflow.specs.Asking.{is_one_hand as wants_one, is_done_here as is_done, asked_for, if_done_here, IsWithin};
 ghost use Rattle.taskflow.specs.Causes.{HasCauses, HasNoFault, counts};
 ghost use Rattle.taskflow.specs.Course.{Course, HiresOneAtMost, Obeys, IsRefused, IsReady, IsComplete};
-ghost use Rattle.tf_commands.specs.declared.asked.Asked.{Asked as AnAsked};
+ghost use Rattle.tf_words.specs.declared.asked.Asked.{Asked as AnAsked};
 
 use crate::checking::check_file;
 use crate::closing::close;
+use crate::demoing::demo_book;
 use crate::messages::USAGE;
 use crate::reading::Source;
 use crate::recording::run_file;
+use crate::resetting::reset_book;
 use crate::resuming::resume_book;
-use crate::running::Over;
+use crate::running::{Over, Request};
 use crate::showing::show_book;
 use crate::statuses::{DISK_FAILED, NO_COMMAND, OUT_OF_MEMORY, REFUSED, UNHIRED, UNREAD, UNSAID};
 use crate::trying::try_file;
 use std::alloc::Global;
-use tf_commands::{Asked, Word, read_words};
 use tf_desk::Desk;
 use tf_ports::{Crew, Sources, Want};
+use tf_words::{Asked, Word, demo_numbers_are_within, read_words};
 
 /// What a command reaches beside its words: the desk, the sources, and the crew that hires hands.
 #[derive(Drop)]
@@ -43,7 +46,8 @@ pub fn taskflow<K: Desk, S: Sources, W: Crew>(
     // The way that the command went: which command the words are, which plan the sources' bytes give or
     // why they give none, what the book held and holds, which hand was hired, what was recorded, what was
     // shown, what a crash may leave, and the status.
-    ensures course { Course K.tells K.shown K.content K.left K.crashes K.disk_faults W.Hand.gives words.now (S.contents outside.sources)
+    ensures course { Course K.tells K.shown K.content K.left K.crashes K.disk_faults W.Hand.gives (Rises (K.asks outside.desk) (K.asks result.outside.desk))
+        words.now (S.contents outside.sources)
         (W.hired outside.crew) (W.hired result.outside.crew) outside.desk result.outside.desk result.status }
 
     // Status 2 comes only where the words are no command.
@@ -53,9 +57,11 @@ pub fn taskflow<K: Desk, S: Sources, W: Crew>(
     ensures refused { result.status ≡ REFUSED → IsRefused words.now (S.contents outside.sources) }
 
     // A file that gives a plan is run to its end, or said to be in order, a book that holds a flow is resumed to its
-    // end, or shown, unless a count of faults rose or memory ran out; 13 comes only as the course says.
+    // end, or shown, or put back, unless a count of faults rose, a stop was asked for or memory ran out; 13 comes only as
+    // the course says, and 12 only where there is a limit of entries.
     ensures complete { (command : AnAsked) → asked_for words.now ≡ Some command
         → IsReady K.tells K.content command (S.contents outside.sources) outside.desk
+        → ¬ (Rises (K.asks outside.desk) (K.asks result.outside.desk))
         → HasNoFault (counts (K.disk_faults outside.desk) (K.out_faults outside.desk) (S.faults outside.sources) (W.faults outside.crew))
         (counts (K.disk_faults result.outside.desk) (K.out_faults result.outside.desk) (S.faults result.outside.sources)
         (W.faults result.outside.crew))
@@ -66,6 +72,7 @@ pub fn taskflow<K: Desk, S: Sources, W: Crew>(
 
     // A file can't be read, the disk fails, a text can't be said and no hand is hired only where the count of such
     // faults rose; no count falls.
+    ensures asks { K.asks outside.desk ≤ K.asks result.outside.desk }
     ensures causes { HasCauses result.status
         (counts (K.disk_faults outside.desk) (K.out_faults outside.desk) (S.faults outside.sources) (W.faults outside.crew))
         (counts (K.disk_faults result.outside.desk) (K.out_faults result.outside.desk) (S.faults result.outside.sources)
@@ -95,9 +102,10 @@ fn answer<K: Desk, S: Sources, W: Crew>(
     sources: &mut S,
     crew: &mut W,
 ) -> Over<K>
-    ensures course { Course K.tells K.shown K.content K.left K.crashes K.disk_faults W.Hand.gives words.now (S.contents sources.old)
+    ensures course { Course K.tells K.shown K.content K.left K.crashes K.disk_faults W.Hand.gives (Rises (K.asks desk) (K.asks result.desk)) words.now (S.contents sources.old)
         (W.hired crew.old) (W.hired crew.new) desk result.desk result.status }
     ensures hires { HiresOneAtMost (W.hired crew.old) (W.hired crew.new) }
+    ensures asks { K.asks desk ≤ K.asks result.desk }
     ensures causes { HasCauses result.status (counts (K.disk_faults desk) (K.out_faults desk) (S.faults sources.old) (W.faults crew.old))
         (counts (K.disk_faults result.desk) (K.out_faults result.desk) (S.faults sources.new) (W.faults crew.new)) }
 {
@@ -107,6 +115,7 @@ fn answer<K: Desk, S: Sources, W: Crew>(
             status: OUT_OF_MEMORY,
         };
     };
+    demo_numbers_are_within();
     match done_here(found) {
         Some(asked) => obey(alloc, asked, desk, sources, crew),
         None => {
@@ -139,18 +148,10 @@ fn is_done_here(asked: &Asked) -> bool
 {
     match asked {
         Asked::Try { want, .. } => is_one_hand(want),
-        Asked::Run {
-            want,
-            stop_after,
-            ..
-        } => is_one_hand(want) && stop_after.is_none(),
-        Asked::Resume {
-            want,
-            stop_after,
-            ..
-        } => is_one_hand(want) && stop_after.is_none(),
-        Asked::Show { .. } | Asked::Check { .. } => true,
-        Asked::Reset { .. } | Asked::Demo { .. } => false,
+        Asked::Run { want, .. } => is_one_hand(want),
+        Asked::Resume { want, .. } => is_one_hand(want),
+        Asked::Show { .. } | Asked::Reset { .. } | Asked::Check { .. } => true,
+        Asked::Demo { hands, .. } => *hands == 1,
     }
 }
 
@@ -173,9 +174,11 @@ fn obey<K: Desk, S: Sources, W: Crew>(
     crew: &mut W,
 ) -> Over<K>
     requires done { is_done asked ≡ true }
-    ensures obeys { Obeys K.tells K.shown K.content K.left K.crashes K.disk_faults W.Hand.gives asked (S.contents sources.old)
+    requires within { IsWithin asked }
+    ensures obeys { Obeys K.tells K.shown K.content K.left K.crashes K.disk_faults W.Hand.gives (Rises (K.asks desk) (K.asks result.desk)) asked (S.contents sources.old)
         (W.hired crew.old) (W.hired crew.new) desk result.desk result.status }
     ensures hires { HiresOneAtMost (W.hired crew.old) (W.hired crew.new) }
+    ensures asks { K.asks desk ≤ K.asks result.desk }
     ensures causes { HasCauses result.status (counts (K.disk_faults desk) (K.out_faults desk) (S.faults sources.old) (W.faults crew.old))
         (counts (K.disk_faults result.desk) (K.out_faults result.desk) (S.faults sources.new) (W.faults crew.new)) }
 {
@@ -194,19 +197,34 @@ fn obey<K: Desk, S: Sources, W: Crew>(
             book,
             sets,
             defer,
+            stop_after,
             ..
         } => {
             let source = Source { file, sets, defer };
-            run_file(alloc, source, &book, desk, sources, crew)
+            let request = Request {
+                quiet: false,
+                limit: stop_after,
+            };
+            run_file(alloc, source, &book, request, desk, sources, crew)
         }
-        Asked::Resume { book, .. } => resume_book(alloc, &book, desk, crew),
+        Asked::Resume {
+            book,
+            stop_after,
+            ..
+        } => resume_book(alloc, &book, stop_after, desk, crew),
         Asked::Show { book } => show_book(alloc, &book, desk),
+        Asked::Reset { book } => reset_book(alloc, &book, desk),
         Asked::Check { file, sets } => {
             let defer = false;
             let source = Source { file, sets, defer };
             let status = check_file(alloc, source, &mut desk, sources);
             Over { desk, status }
         }
-        Asked::Reset { .. } | Asked::Demo { .. } => unreachable!(),
+        Asked::Demo {
+            seed,
+            size,
+            book,
+            ..
+        } => demo_book(alloc, seed, size, &book, desk, crew),
     }
 }

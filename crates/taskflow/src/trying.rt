@@ -1,6 +1,7 @@
 //! A trial: a run of a flow file's plan of which nothing is kept.
 
-ghost use Rattle.std.specs.Prelude.{◌≡◌, [], IsTrue};
+ghost use Rattle.std.specs.Prelude.{◌≡◌, ◌≤◌, [], IsTrue};
+ghost use Rattle.tf_desk.specs.Counts.{Rises};
 ghost use Rattle.tf_files.specs.Written.{plan_tree};
 ghost use Rattle.tf_machine.specs.Machine.{StandsFor};
 ghost use Rattle.taskflow.specs.Causes.{HasCauses, counts};
@@ -8,7 +9,7 @@ ghost use Rattle.taskflow.specs.Course.{FileRead, OthersStay, IsUntouched, Tries
 
 use crate::books::{hire_one, say_unbegun, say_unhired};
 use crate::reading::{Source, open_file};
-use crate::running::{Over, run_book};
+use crate::running::{Over, Request, run_book};
 use crate::statuses::OUT_OF_MEMORY;
 use std::alloc::Global;
 use tf_book::Book;
@@ -26,9 +27,10 @@ pub fn try_file<K: Desk, S: Sources, W: Crew>(
     crew: &mut W,
 ) -> Over<K>
     ensures tried { FileRead (S.contents sources.old) source (IsUntouched K.tells K.content (W.hired crew.old) (W.hired crew.new) desk result.desk)
-        (Tries W.Hand.gives (W.hired crew.old) (W.hired crew.new) (K.shown desk) (K.shown result.desk)) (K.shown desk) (K.shown result.desk) result.status }
+        (Tries W.Hand.gives (Rises (K.asks desk) (K.asks result.desk)) (W.hired crew.old) (W.hired crew.new) (K.shown desk) (K.shown result.desk)) (K.shown desk) (K.shown result.desk) result.status }
     ensures stays { OthersStay K.tells K.content desk result.desk }
     ensures hires { HiresOneAtMost (W.hired crew.old) (W.hired crew.new) }
+    ensures asks { K.asks desk ≤ K.asks result.desk }
     ensures causes { HasCauses result.status (counts (K.disk_faults desk) (K.out_faults desk) (S.faults sources.old) (W.faults crew.old))
         (counts (K.disk_faults result.desk) (K.out_faults result.desk) (S.faults sources.new) (W.faults crew.new)) }
 {
@@ -41,9 +43,10 @@ pub fn try_file<K: Desk, S: Sources, W: Crew>(
 /// Hires a hand, and runs the plan of a machine with it.
 fn try_plan<K: Desk, W: Crew>(alloc: Global, machine: Machine, desk: K, crew: &mut W) -> Over<K>
     requires fresh { StandsFor machine [] }
-    ensures tried { Tries W.Hand.gives (W.hired crew.old) (W.hired crew.new) (K.shown desk) (K.shown result.desk) (plan_tree machine.plan) result.status }
+    ensures tried { Tries W.Hand.gives (Rises (K.asks desk) (K.asks result.desk)) (W.hired crew.old) (W.hired crew.new) (K.shown desk) (K.shown result.desk) (plan_tree machine.plan) result.status }
     ensures stays { OthersStay K.tells K.content desk result.desk }
     ensures hires { HiresOneAtMost (W.hired crew.old) (W.hired crew.new) }
+    ensures asks { K.asks desk ≤ K.asks result.desk }
     ensures causes { HasCauses result.status (counts (K.disk_faults desk) (K.out_faults desk) 0 (W.faults crew.old))
         (counts (K.disk_faults result.desk) (K.out_faults result.desk) 0 (W.faults crew.new)) }
 {
@@ -61,14 +64,23 @@ fn try_with<K: Desk, P: Performer>(
     hand: &mut P,
 ) -> Over<K>
     requires fresh { StandsFor machine [] }
-    ensures tried { Tried P.gives (plan_tree machine.plan) (K.shown desk) (K.shown result.desk) result.status }
+    ensures tried { Tried P.gives (Rises (K.asks desk) (K.asks result.desk)) (plan_tree machine.plan) (K.shown desk) (K.shown result.desk) result.status }
     ensures stays { OthersStay K.tells K.content desk result.desk }
+    ensures asks { K.asks desk ≤ K.asks result.desk }
     ensures causes { HasCauses result.status (counts (K.disk_faults desk) (K.out_faults desk) 0 0)
         (counts (K.disk_faults result.desk) (K.out_faults result.desk) 0 0) }
 {
     match Journal::volatile(alloc, desk) {
         Ok(journal) => match Book::start(alloc, journal, machine, false) {
-            Ok(book) => run_book(alloc, book, hand),
+            Ok(book) => run_book(
+                alloc,
+                book,
+                hand,
+                Request {
+                    quiet: false,
+                    limit: None,
+                },
+            ),
             Err((desk, fault)) => say_unbegun::<K, P>(desk, fault),
         },
         Err((desk, _)) => Over {

@@ -1,4 +1,4 @@
-use Rattle.std.proofs.Common.{refl, inr, subst}
+use Rattle.std.proofs.Common.{refl, inr, subst, arith}
 use Rattle.std.specs.Prelude.{IsTrue}
 use Rattle.taskflow.proofs.BeginLemmas.{no_flow_left, no_record_left, created_unbegun}
 use Rattle.taskflow.proofs.books.create.Goals as goal
@@ -42,4 +42,6 @@ returns-in-Err g c =
       out = tt;
       back_disk = e.no_fall;
       back_out = e.others.0;
+      asks = tt;
+      back_asks = omega (arith, e.others.1);
     }

@@ -17,7 +17,7 @@ returns-in-Ok-clause-begins g c = λ name entry unbegun exact.
     let halt_is : book.halt ≡ None = ap (λ (b : BookValue g.row.K.Denot). b.halt) e.made in
     let kept : book.journal.volatile ≡ false = ap (λ (b : BookValue g.row.K.Denot). b.journal.volatile) e.made ∙ c.requires.kept in
     begins_on D.tells D.shown D.content D.left D.crashes D.disk_faults D.out_faults name entry journal.desk plan book unbegun
-    (ap (λ (b : BookValue g.row.K.Denot). b.plan) e.made) (ap (λ (b : BookValue g.row.K.Denot). b.past) e.made) halt_is (ap (λ (b : BookValue g.row.K.Denot). b.quiet) e.made) kept
+    (ap (λ (b : BookValue g.row.K.Denot). b.plan) e.made) (ap (λ (b : BookValue g.row.K.Denot). b.past) e.made) halt_is kept
     e.same.0 e.same.1 e.no_fall e.others.0 e.goes (λ told. e.crash (opened told))
     (λ told. c.state-pending.ensures.leaves told kept (not_halted book.halt halt_is))
     (λ told fresh short. e.exact (opened told) (exact told fresh short))

@@ -1,5 +1,13 @@
-use Rattle.std.proofs.Common.{inr}
+use Rattle.std.proofs.Common.{inl, inr, sym}
+use Rattle.taskflow.proofs.BookLemmas.{untouched_by, unhired_so}
 use Rattle.taskflow.proofs.recording.hire_and_run.Goals as goal
 
 pub returns-in-Ok-clause-runs : goal.returns-in-Ok-clause-runs
 returns-in-Ok-clause-runs g c = λ name entry opened found. inr (c.in-Ok.ensures.hired, c.run_in.ensures.runs name entry opened found)
+
+pub returns-in-Err-clause-runs : goal.returns-in-Err-clause-runs
+returns-in-Err-clause-runs g c =
+    let D = g.K.Desk in
+    λ name entry opened found.
+    inl (unhired_so D.tells D.shown D.content D.left D.crashes D.disk_faults D.out_faults name entry c.say_unhired.result.desk _ _ c.say_unhired.result.status c.in-Err.ensures.not_hired
+    (c.say_unhired.ensures.refuses name entry (untouched_by D.tells D.shown D.content D.left D.crashes D.disk_faults D.out_faults name entry _ _ (sym c.into_desk.ensures) opened.untouched)))

@@ -1,5 +1,5 @@
 use Rattle.std.proofs.Common.{arith}
-use Rattle.taskflow.proofs.CountLemmas.{ran_causes}
+use Rattle.taskflow.proofs.CountLemmas.{ran_causes, rises_since}
 use Rattle.taskflow.proofs.PromiseLemmas.{begun_promised}
 use Rattle.taskflow.proofs.recording.run_in.Goals as goal
 
@@ -8,9 +8,10 @@ returns-in-Ok-clause-runs g c =
     let D = g.K.Desk in
     let now = c.run_book.result.desk in
     λ name entry opened found.
-    begun_promised D.tells D.shown D.content D.left D.crashes D.disk_faults D.out_faults g.P.Performer.gives name c.args.machine.plan entry c.in-Ok.book now c.run_book.result.status
+    begun_promised D.tells D.shown D.content D.left D.crashes D.disk_faults D.out_faults g.P.Performer.gives c.args.request _ _ name c.args.machine.plan entry c.in-Ok.book now c.run_book.result.status
     (c.in-Ok.ensures.begins name entry opened found) c.run_book.ensures.runs
     (λ told picked. g.met.K.Desk.picked_is_there now name told picked) (λ told bytes is. g.met.K.Desk.reads_left now name bytes told is)
+    c.in-Ok.ensures.ready.1 (λ rose. rises_since _ (D.asks c.in-Ok.book.journal.desk) _ c.in-Ok.ensures.asks rose)
 
 pub returns-in-Ok-clause-causes : goal.returns-in-Ok-clause-causes
 returns-in-Ok-clause-causes g c =
@@ -20,4 +21,4 @@ returns-in-Ok-clause-causes g c =
     r.disk r.out (omega arith) r.unsaid r.failed c.run_book.ensures.apart
 
 pub returns-in-Err-clause-runs : goal.returns-in-Err-clause-runs
-returns-in-Err-clause-runs g c = λ name entry opened found. c.say_unbegun.ensures.promised name entry c.args.machine.plan (c.in-Err.ensures.unbegun name entry opened found)
+returns-in-Err-clause-runs g c = λ name entry opened found. c.say_unbegun.ensures.promised c.args.request _ name entry c.args.machine.plan (c.in-Err.ensures.unbegun name entry opened found)

@@ -1,4 +1,6 @@
 use Rattle.std.proofs.Common.{refl, arith}
+use Rattle.tf_desk.specs.Counts.{Rises}
+use Rattle.taskflow.specs.Run.{spoken}
 use Rattle.taskflow.proofs.CountLemmas.{ran_causes}
 use Rattle.taskflow.proofs.ResumeLemmas.{ended_so, ended_on, ended_goes}
 use Rattle.taskflow.proofs.resuming.go_on.Goals as goal
@@ -10,11 +12,11 @@ returns-in-Success-clause-goes g c =
     let status = c.report_end.result.status in
     let at = c.state-state.ensures in
     λ name entry opened holds.
-    ended_goes D.tells D.shown D.content D.left D.crashes D.disk_faults D.out_faults g.W.Hand.Performer.gives name entry c.args.book now status _ c.state-state.result
+    ended_goes D.tells D.shown D.content D.left D.crashes D.disk_faults D.out_faults g.W.Hand.Performer.gives (spoken c.args.limit) _ name entry c.args.book now status _ c.state-state.result
     opened holds c.requires.kept at.is (ended_so c.state-state.result c.in-Success.is)
-    (ended_on D.tells D.shown D.content D.left D.crashes D.disk_faults D.out_faults g.W.Hand.Performer.gives c.args.book now status c.state-state.result
-    c.requires.sound c.requires.speaks at.is (ended_so c.state-state.result c.in-Success.is) at.legal at.compiles at.limits at.short c.report_end.ensures.runs)
-    (λ told picked. g.met.K.Desk.picked_is_there now name told picked) (λ told bytes is. g.met.K.Desk.reads_left now name bytes told is)
+    (ended_on D.tells D.shown D.content D.left D.crashes D.disk_faults D.out_faults g.W.Hand.Performer.gives (spoken c.args.limit) (Rises (D.asks c.args.book.journal.desk) (D.asks now)) c.args.book now status c.state-state.result
+    c.requires.sound c.requires.speaks at.is (ended_so c.state-state.result c.in-Success.is) at.legal at.compiles at.limits at.short (c.report_end.ensures.runs (spoken c.args.limit) c.args.book refl))
+    (λ told picked. g.met.K.Desk.picked_is_there now name told picked) (λ told bytes is. g.met.K.Desk.reads_left now name bytes told is) c.requires.speaks
 
 pub returns-in-Success-clause-causes : goal.returns-in-Success-clause-causes
 returns-in-Success-clause-causes g c =
@@ -22,8 +24,8 @@ returns-in-Success-clause-causes g c =
     let now = c.report_end.result.desk in
     let status = c.report_end.result.status in
     let at = c.state-state.ensures in
-    let runs = ended_on D.tells D.shown D.content D.left D.crashes D.disk_faults D.out_faults g.W.Hand.Performer.gives c.args.book now status c.state-state.result
-    c.requires.sound c.requires.speaks at.is (ended_so c.state-state.result c.in-Success.is) at.legal at.compiles at.limits at.short c.report_end.ensures.runs in
+    let runs = ended_on D.tells D.shown D.content D.left D.crashes D.disk_faults D.out_faults g.W.Hand.Performer.gives (spoken c.args.limit) (Rises (D.asks c.args.book.journal.desk) (D.asks now)) c.args.book now status c.state-state.result
+    c.requires.sound c.requires.speaks at.is (ended_so c.state-state.result c.in-Success.is) at.legal at.compiles at.limits at.short (c.report_end.ensures.runs (spoken c.args.limit) c.args.book refl) in
     let disk = D.disk_faults c.args.book.journal.desk in
     let out = D.out_faults c.args.book.journal.desk in
     let faults = g.W.Crew.faults c.args.crew.now in

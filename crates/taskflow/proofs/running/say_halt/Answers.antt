@@ -2,6 +2,6 @@ use Rattle.taskflow.proofs.RunLemmas.{halts_run}
 use Rattle.taskflow.proofs.running.say_halt.Goals as goal
 
 pub returns-clause-runs : goal.returns-clause-runs
-returns-clause-runs g c start stop to =
-    halts_run _ _ _ _ _ _ _ g.P.Performer.gives start c.args.book stop c.args.halt c.say_cause-status.new.desk c.say_cause-status.result to c.requires.halted
+returns-clause-runs g c request start stop to =
+    halts_run _ _ _ _ _ _ _ g.P.Performer.gives request _ start c.args.book stop c.args.halt c.say_cause-status.new.desk c.say_cause-status.result to c.requires.halted
     c.state-standing.ensures.open (rw c.close-desk.ensures.desk at c.say_cause-status.ensures.says)

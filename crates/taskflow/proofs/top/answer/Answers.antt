@@ -1,7 +1,14 @@
 use Rattle.std.proofs.Common.{sym, ap, ◌∙◌, refl}
 use Rattle.taskflow.specs.Asking.{if_done_here}
 use Rattle.taskflow.specs.Course.{unheard, obeyed, no_command}
+use Rattle.tf_words.specs.Words.{command_of}
+use Rattle.taskflow.proofs.CourseLemmas.{within_so}
 use Rattle.taskflow.proofs.top.answer.Goals as goal
+
+pub obey-requires-clause-within : goal.obey-requires-clause-within
+obey-requires-clause-within g c = λ lives kept.
+    within_so (command_of c.args.words.now) c.in-Some.asked (λ seed size book hands is. c.demo_numbers_are_within.ensures c.args.words.now seed size book hands is)
+    (ap if_done_here (sym c.in-Ok.ensures) ∙ sym c.done_here.ensures.is ∙ c.in-Some.is)
 
 pub returns-in_default-clause-course : goal.returns-in_default-clause-course
 returns-in_default-clause-course g c = unheard refl refl (refl, λ told. refl)

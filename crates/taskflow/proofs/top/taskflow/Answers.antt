@@ -8,4 +8,4 @@ pub returns-clause-refused : goal.returns-clause-refused
 returns-clause-refused g c = refused_tells _ _ _ _ _ _ _ _ _ _ _ _ _ c.answer-desk.ensures.course
 
 pub returns-clause-complete : goal.returns-clause-complete
-returns-clause-complete g c command asks ready none = completes _ _ _ _ _ _ _ _ _ _ _ _ _ _ _ c.answer-desk.ensures.course c.answer-desk.ensures.causes command asks ready none
+returns-clause-complete g c command asks ready unasked none = completes _ _ _ _ _ _ _ _ _ _ _ _ _ _ _ c.answer-desk.ensures.course c.answer-desk.ensures.causes command asks ready none unasked

@@ -1,0 +1,8 @@
+use Rattle.std.proofs.Common.{sym}
+use Rattle.taskflow.proofs.ResetLemmas.{halts_back}
+use Rattle.taskflow.proofs.resetting.stop.Goals as goal
+
+pub returns-clause-goes : goal.returns-clause-goes
+returns-clause-goes g c start to =
+    halts_back _ _ _ _ _ _ _ start c.args.book c.in-Some.halt c.say_cause-status.new.desk c.say_cause-status.result to (sym c.in-Some.ensures)
+    c.state-standing.ensures.open (rw c.close-desk.ensures.desk at c.say_cause-status.ensures.says)

@@ -1,0 +1,66 @@
+//! A demonstration: a run of a flow that is generated from a seed and a size, recorded in a book, which says no line of an
+//! entry.
+
+ghost use Rattle.std.specs.Prelude.{◌≡◌, ◌≤◌, [], IfOk};
+ghost use Rattle.tf_desk.specs.Counts.{Rises};
+ghost use Rattle.tf_files.specs.Written.{plan_tree};
+ghost use Rattle.tf_machine.specs.Machine.{StandsFor};
+ghost use Rattle.tf_words.specs.Demos.{IsDemo};
+ghost use Rattle.taskflow.specs.Accepted.{demo_tree};
+ghost use Rattle.taskflow.specs.Books.{Demonstrates};
+ghost use Rattle.taskflow.specs.Causes.{HasCauses, counts};
+ghost use Rattle.taskflow.specs.Course.{HiresOneAtMost};
+
+use crate::recording::run_plan;
+use crate::running::{Over, Request};
+use crate::statuses::OUT_OF_MEMORY;
+use std::alloc::Global;
+use tf_demo::demo_plan;
+use tf_desk::Desk;
+use tf_machine::{BuildFault, Machine};
+use tf_ports::Crew;
+use tf_values::{Memory, Text};
+
+/// Generates a flow, opens the book, hires a hand and runs the flow with it.
+pub fn demo_book<K: Desk, W: Crew>(
+    alloc: Global,
+    seed: u32,
+    size: u16,
+    name: &Text,
+    desk: K,
+    crew: &mut W,
+) -> Over<K>
+    requires numbers { IsDemo seed size }
+    ensures demonstrates { Demonstrates K.tells K.shown K.content K.left K.crashes K.disk_faults W.Hand.gives (Rises (K.asks desk) (K.asks result.desk)) name.now
+        (W.hired crew.old) (W.hired crew.new) desk result.desk seed size result.status }
+    ensures hires { HiresOneAtMost (W.hired crew.old) (W.hired crew.new) }
+    ensures asks { K.asks desk ≤ K.asks result.desk }
+    ensures causes { HasCauses result.status (counts (K.disk_faults desk) (K.out_faults desk) 0 (W.faults crew.old))
+        (counts (K.disk_faults result.desk) (K.out_faults result.desk) 0 (W.faults crew.new)) }
+{
+    let request = Request {
+        quiet: true,
+        limit: None,
+    };
+    match generate(alloc, seed, size) {
+        Ok(machine) => run_plan(alloc, machine, name, request, desk, crew),
+        Err(_) => Over {
+            desk,
+            status: OUT_OF_MEMORY,
+        },
+    }
+}
+
+/// A machine before a run of the generated flow.
+fn generate(alloc: Global, seed: u32, size: u16) -> Result<Machine, Memory>
+    requires numbers { IsDemo seed size }
+    ensures generated { IfOk result (λ machine. plan_tree machine.plan ≡ demo_tree seed size) }
+    ensures empty { IfOk result (λ machine. StandsFor machine []) }
+{
+    let plan = demo_plan(alloc, seed, size)?;
+    match Machine::make(alloc, plan) {
+        Ok(machine) => Ok(machine),
+        Err(BuildFault::Memory) => Err(Memory),
+        Err(BuildFault::Compile(_)) | Err(BuildFault::Scope(_)) => unreachable!(),
+    }
+}
