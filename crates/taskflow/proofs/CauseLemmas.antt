@@ -1,6 +1,7 @@
 -- What a status tells of the way that a command went.
-use Rattle.std.proofs.Common.{◌≡◌, ◌⊎◌, ℕ, List, [], ◌∷◌, ◌++◌, length, Option, Some, None, Bool, true, false, inl, inr, refl, ◌∙◌, sym, ap, subst, arith, ⊎_elim}
-use Rattle.std.specs.Prelude.{IsTrue}
+use Rattle.std.proofs.Common.{◌≡◌, ◌⊎◌, ℕ, ◌≤◌, List, [], ◌∷◌, ◌++◌, length, Option, Some, None, Bool, true, false, inl, inr, refl, ◌∙◌, sym, ap, subst, arith, ⊎_elim}
+use Rattle.std.specs.Prelude.{IsTrue, is_some}
+use Rattle.tf_desk.specs.Counts.{Rises}
 use Rattle.tf_desk.specs.Content.{Content}
 use Rattle.tf_desk.specs.Crash.{Images, Crashes}
 use Rattle.tf_flow.specs.Plan.{PlanValue}
@@ -24,9 +25,9 @@ use Rattle.tf_words.specs.declared.asked.Asked.TheVariants as asked
 use Rattle.taskflow.specs.Accepted.{GivesPlan, GivesNone, demo_tree}
 use Rattle.taskflow.specs.Asking.{source_of, asked_for}
 use Rattle.taskflow.specs.Books.{Unopened, exhausted, disk_failed, no_book, Refuses, Unhired, exhausted_hire, unhired, Promised, Runs, unopened, forbidden, unhired_run, ran, Demonstrates, ungenerated, demonstrated, Resumes, unopened_again, empty, unhired_again, resumed, ShowsBook, unopened_show, nothing_shown, shown_whole, ResetsBook, unopened_reset, nothing_put_back, reset_forbidden, was_reset}
-use Rattle.taskflow.specs.Causes.{Counts, HasCauses, HasNoFault}
+use Rattle.taskflow.specs.Causes.{Counts, HasCauses, HasCausesOr, HasNoFault, counts}
 use Rattle.taskflow.specs.Course as course
-use Rattle.taskflow.specs.Course.{BytesRead, FileRead, Tried, Tries, Checks, Course, Obeys, source_so, IsRefused, passes_limit, gives_none, IsAccepted, IsBook, HoldsFlow, HoldsReverted, IsRunComplete, IsRunCompleteBy, IsDoneComplete, IsResetComplete, IsReady, IsComplete}
+use Rattle.taskflow.specs.Course.{BytesRead, FileRead, Tried, Tries, Checks, Course, Obeys, source_so, IsRefused, IsBoardRefused, passes_limit, gives_none, IsAccepted, IsBook, HoldsFlow, HoldsReverted, IsRunComplete, IsRunCompleteBy, IsDoneComplete, IsResetComplete, IsReady, IsComplete}
 use Rattle.taskflow.specs.Durable.{book_in, file_of, HoldsNoFlow, Holds}
 use Rattle.taskflow.specs.Resets.{IsResetSaid, all_back, disk_failed_back, filled_back}
 use Rattle.taskflow.specs.declared.running.Request.{Request}
@@ -34,7 +35,12 @@ use Rattle.taskflow.specs.Run.{spoken, unspoken, heading_of, status_of, Ran, Sho
 use Rattle.taskflow.specs.Saying.{Closes, said, cut, ClosesOrStops}
 use Rattle.taskflow.specs.declared.accepting.Refusal.{Refusal}
 use Rattle.taskflow.specs.declared.reading.Source.{Source}
+use Rattle.tf_board.specs.Answers.{board_of}
+use Rattle.tf_board.specs.Does.{Does, IsBoardStatus}
+use Rattle.tf_board.proofs.DoesLemmas.{complete_so, does_status}
 use Rattle.taskflow.proofs.AcceptLemmas.{gives_one}
+use Rattle.taskflow.proofs.WorkLemmas.{works_one}
+use Rattle.taskflow.proofs.BoardLemmas.{board_apart, board_refuses}
 
 -- ---- how what was done ends
 
@@ -49,6 +55,13 @@ data Ended (status : ℕ) : Type 0 where
 
 out_ends : (status : ℕ) → status ≡ 9 → Ended status
 out_ends status is = is_complete (inr (inr (inr (inl is))))
+
+-- a worker's statuses
+works_ended : (status : ℕ) → (status ≡ 0) ⊎ (status ≡ 9) ⊎ (status ≡ 8) ⊎ (status ≡ 7) → Ended status
+works_ended status (inl is) = is_complete (inl is)
+works_ended status (inr (inl is)) = out_ends status is
+works_ended status (inr (inr (inl is))) = is_unhired is
+works_ended status (inr (inr (inr is))) = is_unsaid is
 
 -- a message closes a command with its status or that of a failed output
 closes_status : (before after : Option (List ℕ)) (message : List ℕ) (wanted status : ℕ) → Closes before message wanted after status → (status ≡ wanted) ⊎ (status ≡ 7)
@@ -262,9 +275,30 @@ accepted_done files source untouched does before after status accepted readable 
 
 -- ---- what the words ask for
 
+-- no status of what was done with a flow is a board's refusal
+ended_unrefused : (status : ℕ) → Ended status → status ≡ 15 → ⊥
+ended_unrefused status (is_complete (inl a)) is = omega (arith, a, is)
+ended_unrefused status (is_complete (inr (inl a))) is = omega (arith, a, is)
+ended_unrefused status (is_complete (inr (inr (inl a)))) is = omega (arith, a, is)
+ended_unrefused status (is_complete (inr (inr (inr (inl a))))) is = omega (arith, a, is)
+ended_unrefused status (is_complete (inr (inr (inr (inr a))))) is = omega (arith, a, is)
+ended_unrefused status (is_failed a) is = omega (arith, a, is)
+ended_unrefused status (is_no_book a) is = omega (arith, a, is)
+ended_unrefused status (is_unsaid a) is = omega (arith, a, is)
+ended_unrefused status (is_unhired a) is = omega (arith, a, is)
+ended_unrefused status (is_forbidden a) is = omega (arith, a, is)
+ended_unrefused status (is_suspended a) is = omega (arith, a, is)
+
+file_unrefused : (files : Contents) (source : Source) (status : ℕ) → FileStatus files source status → status ≡ 15 → ⊥
+file_unrefused files source status (done_so ended) is = ended_unrefused status ended is
+file_unrefused files source status (not_read three) is = omega (arith, three, is)
+file_unrefused files source status (not_short four passes) is = omega (arith, four, is)
+file_unrefused files source status (not_plan four bytes why given none) is = omega (arith, four, is)
+
 data AskedStatus (command : Asked) (files : Contents) (status : ℕ) : Type 0 where
   by_file : (source : Source) → source_of command ≡ Some source → FileStatus files source status → AskedStatus command files status
   by_book : Ended status → AskedStatus command files status
+  by_board : is_some (board_of command) ≡ true → IsBoardStatus status → AskedStatus command files status
 
 file_usage : (files : Contents) (source : Source) (status : ℕ) → FileStatus files source status → status ≡ 2 → ⊥
 file_usage files source status (done_so ended) two = ended_apart status 2 ended two (inl refl)
@@ -394,6 +428,12 @@ tries_well {gives} {asked} hired after_hiring before after tree status u unasked
     ended_well_by None status (length t.entries) asked (ran_ended t.plan [] t.entries t.stop before after t.closing status t.ran) u.sound apart.0 u.sayable u.hirable apart.1 unasked
     (ran_suspended t.plan [] t.entries t.stop before after t.closing status t.ran)
 
+works_well : (status : ℕ) → IsUnhurt status → (status ≡ 0) ⊎ (status ≡ 9) ⊎ (status ≡ 8) ⊎ (status ≡ 7) → IsDoneComplete status
+works_well status u (inl is) = inl is
+works_well status u (inr (inl is)) = inr is
+works_well status u (inr (inr (inl is))) = absurd (u.hirable is)
+works_well status u (inr (inr (inr is))) = absurd (u.sayable is)
+
 checks_well : (before after : Option (List ℕ)) (message : List ℕ) (status : ℕ) → IsUnhurt status → ClosesOrStops before message 0 after status → IsDoneComplete status
 checks_well before after message status u (inl out) = inr out.0
 checks_well before after message status u (inr closes) = ⊎_elim (λ is. inl is) (λ is. absurd (u.sayable is)) (closes_status before after message 0 status closes)
@@ -439,14 +479,32 @@ module _ {K : Type 0} (tells : K → Bool) (shown : K → Option (List ℕ)) (co
       by_book (resets_ended tells shown content left crashes disk_faults book entry now status obeys.0)
   asked_status gives asked_so (asked.Demo seed size book hands) files hired after_hiring entry now status obeys =
       by_book (demonstrates_ended tells shown content left crashes disk_faults book hired after_hiring entry now seed size status obeys)
+  asked_status gives asked_so (asked.Worker address sessions) files hired after_hiring entry now status obeys =
+      by_book (works_ended status (works_one hired after_hiring (shown entry) (shown now) sessions status obeys.0))
+  asked_status gives asked_so (asked.Post board name priority details) files hired after_hiring entry now status obeys =
+      by_board refl (does_status tells shown content left crashes disk_faults disk_faults (asked.Post board name priority details) board entry now status obeys.0)
+  asked_status gives asked_so (asked.Claim board id owner) files hired after_hiring entry now status obeys =
+      by_board refl (does_status tells shown content left crashes disk_faults disk_faults (asked.Claim board id owner) board entry now status obeys.0)
+  asked_status gives asked_so (asked.Abandon board id owner) files hired after_hiring entry now status obeys =
+      by_board refl (does_status tells shown content left crashes disk_faults disk_faults (asked.Abandon board id owner) board entry now status obeys.0)
+  asked_status gives asked_so (asked.Consume board id owner) files hired after_hiring entry now status obeys =
+      by_board refl (does_status tells shown content left crashes disk_faults disk_faults (asked.Consume board id owner) board entry now status obeys.0)
+  asked_status gives asked_so (asked.Trash board id owner) files hired after_hiring entry now status obeys =
+      by_board refl (does_status tells shown content left crashes disk_faults disk_faults (asked.Trash board id owner) board entry now status obeys.0)
+  asked_status gives asked_so (asked.Owner board id) files hired after_hiring entry now status obeys =
+      by_board refl (does_status tells shown content left crashes disk_faults disk_faults (asked.Owner board id) board entry now status obeys.0)
+  asked_status gives asked_so (asked.List board) files hired after_hiring entry now status obeys =
+      by_board refl (does_status tells shown content left crashes disk_faults disk_faults (asked.List board) board entry now status obeys.0)
 
   status_usage : (command : Asked) (files : Contents) (status : ℕ) → AskedStatus command files status → status ≡ 2 → ⊥
   status_usage command files status (by_file source about is) two = file_usage files source status is two
   status_usage command files status (by_book ended) two = ended_apart status 2 ended two (inl refl)
+  status_usage command files status (by_board about ended) two = (board_apart status ended).0 two
 
   status_refused : (words : List (List ℕ)) (files : Contents) (command : Asked) (status : ℕ) → asked_for words ≡ Some command → AskedStatus command files status → status ≡ 4 → IsRefused words files
   status_refused words files command status asks (by_file source about is) four = file_refused words files command source status asks about is four
   status_refused words files command status asks (by_book ended) four = absurd (ended_apart status 4 ended four (inr (inr refl)))
+  status_refused words files command status asks (by_board about ended) four = absurd ((board_apart status ended).2 four)
 
   -- status 2 comes only where the words are no command
   pub usage_tells : {gives : Order → Outcome → Type 0} {asked_so : Type 0} (words : List (List ℕ)) (files : Contents) (hired after_hiring : Option (List Want)) (entry now : K) (status : ℕ)
@@ -464,6 +522,47 @@ module _ {K : Type 0} (tells : K → Bool) (shown : K → Option (List ℕ)) (co
       absurd (⊎_elim (λ is. omega arith) (λ is. omega arith) (closes_status (shown entry) (shown now) _ 2 status closes))
   refused_tells {gives} {asked_so} words files hired after_hiring entry now status (course.obeyed command asks obeys) four =
       status_refused words files command status asks (asked_status gives asked_so command files hired after_hiring entry now status obeys) four
+
+  -- status 15 comes only where a board refuses
+  status_of_board : (command : Asked) (files : Contents) (status : ℕ) → AskedStatus command files status → status ≡ 15 → is_some (board_of command) ≡ true
+  status_of_board command files status (by_file source about is) fifteen = absurd (file_unrefused files source status is fifteen)
+  status_of_board command files status (by_book ended) fifteen = absurd (ended_unrefused status ended fifteen)
+  status_of_board command files status (by_board about ended) fifteen = about
+
+  on_board : (gives : Order → Outcome → Type 0) (asked_so : Type 0) (words : List (List ℕ)) (command : Asked) (files : Contents) (hired after_hiring : Option (List Want)) (entry now : K) (status : ℕ)
+      → asked_for words ≡ Some command → is_some (board_of command) ≡ true → Obeys tells shown content left crashes disk_faults gives asked_so command files hired after_hiring entry now status → status ≡ 15
+      → IsBoardRefused tells content words entry
+  on_board gives asked_so words (asked.Post board name priority details) files hired after_hiring entry now status asks about obeys is =
+      board_refuses tells shown content left crashes words (asked.Post board name priority details) board entry now status asks refl obeys.0 is
+  on_board gives asked_so words (asked.Claim board id owner) files hired after_hiring entry now status asks about obeys is =
+      board_refuses tells shown content left crashes words (asked.Claim board id owner) board entry now status asks refl obeys.0 is
+  on_board gives asked_so words (asked.Abandon board id owner) files hired after_hiring entry now status asks about obeys is =
+      board_refuses tells shown content left crashes words (asked.Abandon board id owner) board entry now status asks refl obeys.0 is
+  on_board gives asked_so words (asked.Consume board id owner) files hired after_hiring entry now status asks about obeys is =
+      board_refuses tells shown content left crashes words (asked.Consume board id owner) board entry now status asks refl obeys.0 is
+  on_board gives asked_so words (asked.Trash board id owner) files hired after_hiring entry now status asks about obeys is =
+      board_refuses tells shown content left crashes words (asked.Trash board id owner) board entry now status asks refl obeys.0 is
+  on_board gives asked_so words (asked.Owner board id) files hired after_hiring entry now status asks about obeys is =
+      board_refuses tells shown content left crashes words (asked.Owner board id) board entry now status asks refl obeys.0 is
+  on_board gives asked_so words (asked.List board) files hired after_hiring entry now status asks about obeys is =
+      board_refuses tells shown content left crashes words (asked.List board) board entry now status asks refl obeys.0 is
+  on_board gives asked_so words (asked.Try file sets defer wanted) files hired after_hiring entry now status asks about obeys is = absurd (cc)
+  on_board gives asked_so words (asked.Run file book sets defer wanted stop) files hired after_hiring entry now status asks about obeys is = absurd (cc)
+  on_board gives asked_so words (asked.Resume book wanted stop) files hired after_hiring entry now status asks about obeys is = absurd (cc)
+  on_board gives asked_so words (asked.Show book) files hired after_hiring entry now status asks about obeys is = absurd (cc)
+  on_board gives asked_so words (asked.Reset book) files hired after_hiring entry now status asks about obeys is = absurd (cc)
+  on_board gives asked_so words (asked.Check file sets) files hired after_hiring entry now status asks about obeys is = absurd (cc)
+  on_board gives asked_so words (asked.Demo seed size book hands) files hired after_hiring entry now status asks about obeys is = absurd (cc)
+  on_board gives asked_so words (asked.Worker address sessions) files hired after_hiring entry now status asks about obeys is = absurd (cc)
+
+  pub board_tells : {gives : Order → Outcome → Type 0} {asked_so : Type 0} (words : List (List ℕ)) (files : Contents) (hired after_hiring : Option (List Want)) (entry now : K) (status : ℕ)
+      → Course tells shown content left crashes disk_faults gives asked_so words files hired after_hiring entry now status → status ≡ 15 → IsBoardRefused tells content words entry
+  board_tells words files hired after_hiring entry now status (course.unheard is same still) fifteen = absurd (omega (arith, is, fifteen))
+  board_tells words files hired after_hiring entry now status (course.no_command none closes still) fifteen =
+      absurd (⊎_elim (λ is. omega (arith, is, fifteen)) (λ is. omega (arith, is, fifteen)) (closes_status (shown entry) (shown now) _ 2 status closes))
+  board_tells {gives} {asked_so} words files hired after_hiring entry now status (course.obeyed command asks obeys) fifteen =
+      on_board gives asked_so words command files hired after_hiring entry now status asks
+      (status_of_board command files status (asked_status gives asked_so command files hired after_hiring entry now status obeys) fifteen) obeys fifteen
 
   -- ---- what met no fault is done
 
@@ -540,6 +639,22 @@ module _ {K : Type 0} (tells : K → Bool) (shown : K → Option (List ℕ)) (co
   asked_well gives asked_so (asked.Reset book) files hired after_hiring entry now status u unasked ready obeys = resets_well book entry now status u ready.0 ready.1 obeys.0
   asked_well gives asked_so (asked.Demo seed size book hands) files hired after_hiring entry now status u unasked ready obeys =
       demonstrates_well book hired after_hiring entry now seed size status u unasked ready.0 ready.1 obeys
+  asked_well gives asked_so (asked.Worker address sessions) files hired after_hiring entry now status u unasked ready obeys =
+      works_well status u (works_one hired after_hiring (shown entry) (shown now) sessions status obeys.0)
+  asked_well gives asked_so (asked.Post board name priority details) files hired after_hiring entry now status u unasked ready obeys =
+      complete_so tells shown content left crashes disk_faults disk_faults (asked.Post board name priority details) board entry now status obeys.0 ready.0 ready.1 u.sound u.sayable
+  asked_well gives asked_so (asked.Claim board id owner) files hired after_hiring entry now status u unasked ready obeys =
+      complete_so tells shown content left crashes disk_faults disk_faults (asked.Claim board id owner) board entry now status obeys.0 ready.0 ready.1 u.sound u.sayable
+  asked_well gives asked_so (asked.Abandon board id owner) files hired after_hiring entry now status u unasked ready obeys =
+      complete_so tells shown content left crashes disk_faults disk_faults (asked.Abandon board id owner) board entry now status obeys.0 ready.0 ready.1 u.sound u.sayable
+  asked_well gives asked_so (asked.Consume board id owner) files hired after_hiring entry now status u unasked ready obeys =
+      complete_so tells shown content left crashes disk_faults disk_faults (asked.Consume board id owner) board entry now status obeys.0 ready.0 ready.1 u.sound u.sayable
+  asked_well gives asked_so (asked.Trash board id owner) files hired after_hiring entry now status u unasked ready obeys =
+      complete_so tells shown content left crashes disk_faults disk_faults (asked.Trash board id owner) board entry now status obeys.0 ready.0 ready.1 u.sound u.sayable
+  asked_well gives asked_so (asked.Owner board id) files hired after_hiring entry now status u unasked ready obeys =
+      complete_so tells shown content left crashes disk_faults disk_faults (asked.Owner board id) board entry now status obeys.0 ready.0 ready.1 u.sound u.sayable
+  asked_well gives asked_so (asked.List board) files hired after_hiring entry now status u unasked ready obeys =
+      complete_so tells shown content left crashes disk_faults disk_faults (asked.List board) board entry now status obeys.0 ready.0 ready.1 u.sound u.sayable
 
   out_complete : (command : Asked) (status : ℕ) → status ≡ 9 → IsComplete command status
   out_complete (asked.Try file sets defer wanted) status is = out_well status is
@@ -549,6 +664,14 @@ module _ {K : Type 0} (tells : K → Bool) (shown : K → Option (List ℕ)) (co
   out_complete (asked.Check file sets) status is = inr is
   out_complete (asked.Reset book) status is = inr (inl is)
   out_complete (asked.Demo seed size book hands) status is = out_well status is
+  out_complete (asked.Worker address sessions) status is = inr is
+  out_complete (asked.Post board name priority details) status is = inr (inl is)
+  out_complete (asked.Claim board id owner) status is = inr (inl is)
+  out_complete (asked.Abandon board id owner) status is = inr (inl is)
+  out_complete (asked.Consume board id owner) status is = inr (inl is)
+  out_complete (asked.Trash board id owner) status is = inr (inl is)
+  out_complete (asked.Owner board id) status is = inr (inl is)
+  out_complete (asked.List board) status is = inr (inl is)
 
   -- where nothing stands against it and no count of faults rose, what was asked for was done
   pub completes : {gives : Order → Outcome → Type 0} {asked_so : Type 0} (words : List (List ℕ)) (files : Contents) (hired after_hiring : Option (List Want)) (entry now : K) (status : ℕ) (before after : Counts)
@@ -560,3 +683,44 @@ module _ {K : Type 0} (tells : K → Bool) (shown : K → Option (List ℕ)) (co
       let same : other ≡ command = cc in
       asked_well gives asked_so command files hired after_hiring entry now status (unhurt status before after causes none) unasked ready
       (subst (λ (c : Asked). Obeys tells shown content left crashes disk_faults gives asked_so c files hired after_hiring entry now status) same obeys)
+
+-- a cause that may be the door's is another's where the door had no fault
+pub alone : (unlistened : Type 0) (status : ℕ) (before after : Counts) → ¬ unlistened → HasCausesOr unlistened status before after → HasCauses status before after
+alone unlistened status before after none causes = record {
+  none_falls = causes.none_falls;
+  unread = causes.unread;
+  failed = causes.failed;
+  unsaid = causes.unsaid;
+  unhired = λ is. ⊎_elim (λ rose. rose) (λ door. absurd (none door)) (causes.unhired is);
+}
+
+pub widened : (unlistened : Type 0) (status : ℕ) (before after : Counts) → HasCauses status before after → HasCausesOr unlistened status before after
+widened unlistened status before after causes = record {
+  none_falls = causes.none_falls;
+  unread = causes.unread;
+  failed = causes.failed;
+  unsaid = causes.unsaid;
+  unhired = λ is. inl (causes.unhired is);
+}
+
+-- a worker's causes
+pub worked_causes : (status disk disk_now out out_now sources sources_now crew crew_now door door_now : ℕ) → disk_now ≡ disk → out ≤ out_now → sources_now ≡ sources → crew ≤ crew_now
+    → (status ≡ 8 → Rises crew crew_now ⊎ Rises door door_now) → (status ≡ 7 → Rises out out_now) → (status ≡ 0) ⊎ (status ≡ 9) ⊎ (status ≡ 8) ⊎ (status ≡ 7)
+    → HasCausesOr (Unit {0} × Rises door door_now) status (counts disk out sources crew) (counts disk_now out_now sources_now crew_now)
+worked_causes status disk disk_now out out_now sources sources_now crew crew_now door door_now disk_is out_le sources_is crew_le no_link no_text one = record {
+  none_falls = record { disk = omega arith; out = out_le; sources = omega arith; crew = crew_le };
+  unread = λ is. absurd (⊎_elim (λ a. omega arith) (⊎_elim (λ a. omega arith) (⊎_elim (λ a. omega arith) (λ a. omega arith))) one);
+  failed = λ is. absurd (⊎_elim (λ a. omega arith) (⊎_elim (λ a. omega arith) (⊎_elim (λ a. omega arith) (λ a. omega arith))) one);
+  unsaid = no_text;
+  unhired = λ is. ⊎_elim (λ rose. inl rose) (λ rose. inr (tt, rose)) (no_link is);
+}
+
+-- the same for a wider cause
+pub listened_so : (few more : Type 0) (status : ℕ) (before after : Counts) → (few → more) → HasCausesOr few status before after → HasCausesOr more status before after
+listened_so few more status before after widens causes = record {
+  none_falls = causes.none_falls;
+  unread = causes.unread;
+  failed = causes.failed;
+  unsaid = causes.unsaid;
+  unhired = λ is. ⊎_elim (λ rose. inl rose) (λ door. inr (widens door)) (causes.unhired is);
+}

@@ -15,5 +15,7 @@ pub mod PromiseLemmas
 pub mod BeginLemmas
 pub mod CountLemmas
 pub mod ResumeLemmas
+pub mod BoardLemmas
 pub mod BookLemmas
 pub mod TrialLemmas
+pub mod WorkLemmas

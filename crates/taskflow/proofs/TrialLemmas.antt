@@ -11,7 +11,7 @@ use Rattle.tf_book.specs.Book.{BookValue}
 use Rattle.tf_book.proofs.KeptLemmas.{shown_none}
 use Rattle.taskflow.specs.Begun.{SaysUnbegun}
 use Rattle.taskflow.specs.Causes.{HasCauses, counts}
-use Rattle.taskflow.specs.Course.{Tried}
+use Rattle.taskflow.specs.Course.{Tried, OthersStay}
 use Rattle.taskflow.specs.Messages.{disk_fault}
 use Rattle.taskflow.specs.declared.running.Request.{Request}
 use Rattle.taskflow.specs.Run.{spoken, Ran, RunShows, closed, stopped, disk_failed}
@@ -71,6 +71,12 @@ module _ {K : Type 0} (tells : K → Bool) (shown : K → Option (List ℕ)) (co
         unsaid = r.unsaid;
         unhired = λ is. absurd (apart.1 is);
       })
+
+  -- a run changes no file but one that was picked
+  pub stays_run : (gives : Order → Outcome → Type 0) (request : Request) (asked : Type 0) (entry : K) (book : BookValue K) (now : K) (status : ℕ) → book.journal.desk ≡ entry
+      → RunsOn tells shown content left crashes disk_faults out_faults gives request asked book now status → OthersStay tells content entry now
+  stays_run gives request asked entry book now status desk_is r =
+      subst (λ (d : K). OthersStay tells content d now) desk_is (λ told other apart. (r.goes told).others other apart)
 
   -- it couldn't begin on a desk that is the one at entry
   pub tried_unbegun_on : (gives : Order → Outcome → Type 0) (asked : Type 0) (plan : PlanValue) (entry mid now : K) (status : ℕ) → mid ≡ entry → SaysUnbegun (shown mid) (shown now) status

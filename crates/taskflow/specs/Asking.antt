@@ -1,5 +1,5 @@
 -- What the words ask for.
-use Rattle.std.specs.Prelude.{ℕ, List, Bool, true, false, nat_eq, Option, Some, None, if◌then◌else◌}
+use Rattle.std.specs.Prelude.{◌≡◌, ℕ, List, Bool, true, false, nat_eq, Option, Some, None, if◌then◌else◌}
 use Rattle.tf_ports.specs.declared.crews.Want.{Want}
 use Rattle.tf_ports.specs.declared.crews.Want.TheVariants as want
 use Rattle.tf_words.specs.Demos.{IsDemo}
@@ -22,6 +22,14 @@ is_done_here (asked.Show book) = true
 is_done_here (asked.Reset book) = true
 is_done_here (asked.Check file sets) = true
 is_done_here (asked.Demo seed size book hands) = nat_eq hands 1
+is_done_here (asked.Worker address sessions) = true
+is_done_here (asked.Post board name priority details) = true
+is_done_here (asked.Claim board id owner) = true
+is_done_here (asked.Abandon board id owner) = true
+is_done_here (asked.Consume board id owner) = true
+is_done_here (asked.Trash board id owner) = true
+is_done_here (asked.Owner board id) = true
+is_done_here (asked.List board) = true
 
 -- the numbers of a generated flow are within their bounds
 abbrev pub IsWithin : Asked → Type 0
@@ -36,6 +44,15 @@ if_done_here (Some command) = if is_done_here command then Some command else Non
 -- the command that the words are, where the program does it
 abbrev pub asked_for : List (List ℕ) → Option Asked
 asked_for words = if_done_here (command_of words)
+
+-- it asks for a worker
+abbrev pub IsWork : Asked → Type 0
+IsWork (asked.Worker address sessions) = Unit {0}
+IsWork command = ⊥
+
+-- the words ask for a worker
+abbrev pub AsksForWork : List (List ℕ) → Type 0
+AsksForWork words = (command : Asked) × (asked_for words ≡ Some command) × IsWork command
 
 -- the flow file that a command is about, with the values that its store gets besides; a check defers no reverts
 abbrev pub source_of : Asked → Option Source

@@ -1,5 +1,5 @@
 -- Why a status tells a fault of the outside: a count rose.
-use Rattle.std.specs.Prelude.{◌≡◌, ◌≢◌, ℕ, ◌≤◌}
+use Rattle.std.specs.Prelude.{◌≡◌, ◌≢◌, ◌⊎◌, ℕ, ◌≤◌}
 use Rattle.tf_desk.specs.Counts.{Rises}
 use Rattle.taskflow.specs.declared.statuses.TheConstants.{UNREAD, DISK_FAILED, UNSAID, UNHIRED}
 
@@ -24,6 +24,14 @@ pub record HasCauses (status : ℕ) (before after : Counts) : Type 0 where
   pub failed : status ≡ DISK_FAILED → Rises before.disk after.disk
   pub unsaid : status ≡ UNSAID → Rises before.out after.out
   pub unhired : status ≡ UNHIRED → Rises before.crew after.crew
+
+-- the same, where nobody could be listened to in place of no hand hired
+pub record HasCausesOr (unlistened : Type 0) (status : ℕ) (before after : Counts) : Type 0 where
+  pub none_falls : NoneFalls before after
+  pub unread : status ≡ UNREAD → Rises before.sources after.sources
+  pub failed : status ≡ DISK_FAILED → Rises before.disk after.disk
+  pub unsaid : status ≡ UNSAID → Rises before.out after.out
+  pub unhired : status ≡ UNHIRED → Rises before.crew after.crew ⊎ unlistened
 
 -- the counts of a desk, of sources and of a crew
 abbrev pub counts : ℕ → ℕ → ℕ → ℕ → Counts

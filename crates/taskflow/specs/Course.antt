@@ -19,6 +19,13 @@ use Rattle.tf_states.specs.declared.record.Entry.{Entry}
 use Rattle.tf_states.specs.declared.state.FlowState.{FlowState}
 use Rattle.tf_words.specs.declared.asked.Asked.{Asked}
 use Rattle.tf_words.specs.declared.asked.Asked.TheVariants as asked
+use Rattle.tf_journal.specs.Start.{file_of as board_file}
+use Rattle.tf_board.specs.Answers.{answer_of, board_of}
+use Rattle.tf_board.specs.Board.{board_in, Finds}
+use Rattle.tf_board.specs.Jobs.{LegalJobs}
+use Rattle.tf_board.specs.declared.commands.Command.{Command}
+use Rattle.tf_board.specs.declared.statuses.TheConstants.{BOARD_REFUSED}
+use Rattle.tf_board.specs.Does.{Does, IsAllowed, IsBoardComplete}
 use Rattle.taskflow.specs.Accepted.{outline_in, GivesPlan, GivesNone}
 use Rattle.taskflow.specs.Asking.{source_of, asked_for}
 use Rattle.taskflow.specs.Books.{HiresOne, Runs, Demonstrates, Resumes, ShowsBook, ResetsBook}
@@ -26,6 +33,7 @@ use Rattle.taskflow.specs.Durable.{file_of, book_in, HoldsNoFlow, Holds}
 use Rattle.taskflow.specs.Messages.{checked, usage, cannot_read, cannot_hire, refusal, refusal_text}
 use Rattle.taskflow.specs.Run.{spoken, Ran}
 use Rattle.taskflow.specs.Saying.{Closes, ClosesOrStops}
+use Rattle.taskflow.specs.Working.{Works}
 use Rattle.taskflow.specs.declared.statuses.TheConstants.{SUCCEEDED, NO_COMMAND, UNREAD, REFUSED, UNHIRED, OUT_OF_MEMORY, REVERTED, FAILED, SUSPENDED, FULL}
 use Rattle.taskflow.specs.declared.accepting.Refusal.{Refusal}
 use Rattle.taskflow.specs.declared.reading.Source.{Source}
@@ -127,6 +135,22 @@ module _ {K : Type 0} (tells : K → Bool) (shown : K → Option (List ℕ)) (co
       ResetsBook tells shown content left crashes disk_faults book entry now status × (after_hiring ≡ hired)
   Obeys gives stopped (asked.Demo seed size book hands) files hired after_hiring entry now status =
       Demonstrates tells shown content left crashes disk_faults gives stopped book hired after_hiring entry now seed size status
+  Obeys gives stopped (asked.Worker address sessions) files hired after_hiring entry now status =
+      Works hired after_hiring (shown entry) (shown now) sessions status × FilesStay tells content entry now
+  Obeys gives stopped (asked.Post board name priority details) files hired after_hiring entry now status =
+      Does tells shown content left crashes (asked.Post board name priority details) board entry now status × (after_hiring ≡ hired)
+  Obeys gives stopped (asked.Claim board id owner) files hired after_hiring entry now status =
+      Does tells shown content left crashes (asked.Claim board id owner) board entry now status × (after_hiring ≡ hired)
+  Obeys gives stopped (asked.Abandon board id owner) files hired after_hiring entry now status =
+      Does tells shown content left crashes (asked.Abandon board id owner) board entry now status × (after_hiring ≡ hired)
+  Obeys gives stopped (asked.Consume board id owner) files hired after_hiring entry now status =
+      Does tells shown content left crashes (asked.Consume board id owner) board entry now status × (after_hiring ≡ hired)
+  Obeys gives stopped (asked.Trash board id owner) files hired after_hiring entry now status =
+      Does tells shown content left crashes (asked.Trash board id owner) board entry now status × (after_hiring ≡ hired)
+  Obeys gives stopped (asked.Owner board id) files hired after_hiring entry now status =
+      Does tells shown content left crashes (asked.Owner board id) board entry now status × (after_hiring ≡ hired)
+  Obeys gives stopped (asked.List board) files hired after_hiring entry now status =
+      Does tells shown content left crashes (asked.List board) board entry now status × (after_hiring ≡ hired)
 
   -- the way that a command went, with hands that keep this relation of orders and outcomes, and with runs that may be suspended where
   -- a stop was asked for: its words, what the sources tell, which hands were hired before and after, the desk before and after, the
@@ -151,6 +175,17 @@ pub data IsRefused (words : List (List ℕ)) (files : Contents) : Type 0 where
       → IsRefused words files
   gives_none : (command : Asked) (source : Source) (bytes : List ℕ) (reason : Refusal) → asked_for words ≡ Some command → source_of command ≡ Some source
       → GivesBytes files source.file bytes → GivesNone source.sets source.defer bytes reason → IsRefused words files
+
+-- the words are a command on a board which refuses it, by the commands that its file has
+pub record IsBoardRefused {K : Type 0} (tells : K → Bool) (content : K → Content) (words : List (List ℕ)) (entry : K) : Type 0 where
+  pub command : Asked
+  pub name : List ℕ
+  pub past : List Command
+  pub asks : asked_for words ≡ Some command
+  pub about : board_of command ≡ Some name
+  pub legal : LegalJobs past
+  pub found : IsTrue (tells entry) → Finds past (board_in (board_file (content entry) name))
+  pub refuses : (answer_of command past).status ≡ BOARD_REFUSED
 
 -- the sources tell bytes under the name of a flow file that give a plan, and that aren't too long
 pub record IsAccepted (source : Source) (files : Contents) : Type 0 where
@@ -198,7 +233,11 @@ module _ {K : Type 0} (tells : K → Bool) (content : K → Content) where
   abbrev pub HasFile : List ℕ → K → (Recovered → Type 0) → Type 0
   HasFile name entry is = IsTrue (tells entry) × is (book_in (file_of (content entry) name))
 
-  -- nothing stands against what the words ask for: the flow file gives a plan, and the book is as the command wants it
+  -- the file of that name is a board on which the command isn't refused, and the desk tells so
+  abbrev pub HasBoard : List ℕ → K → Asked → Type 0
+  HasBoard name entry command = IsTrue (tells entry) × IsAllowed command (board_in (board_file (content entry) name))
+
+  -- nothing stands against what the words ask for: the flow file gives a plan, and the book or the board is as the command wants it
   abbrev pub IsReady : Asked → Contents → K → Type 0
   IsReady (asked.Try file sets defer wanted) files entry = IsAccepted (source_so file sets defer) files
   IsReady (asked.Run file book sets defer wanted stop) files entry = IsAccepted (source_so file sets defer) files × HasFile book entry HoldsNoFlow
@@ -207,6 +246,14 @@ module _ {K : Type 0} (tells : K → Bool) (content : K → Content) where
   IsReady (asked.Reset book) files entry = HasFile book entry HoldsReverted
   IsReady (asked.Check file sets) files entry = IsAccepted (source_so file sets false) files
   IsReady (asked.Demo seed size book hands) files entry = HasFile book entry HoldsNoFlow
+  IsReady (asked.Worker address sessions) files entry = Unit {0}
+  IsReady (asked.Post board name priority details) files entry = HasBoard board entry (asked.Post board name priority details)
+  IsReady (asked.Claim board id owner) files entry = HasBoard board entry (asked.Claim board id owner)
+  IsReady (asked.Abandon board id owner) files entry = HasBoard board entry (asked.Abandon board id owner)
+  IsReady (asked.Consume board id owner) files entry = HasBoard board entry (asked.Consume board id owner)
+  IsReady (asked.Trash board id owner) files entry = HasBoard board entry (asked.Trash board id owner)
+  IsReady (asked.Owner board id) files entry = HasBoard board entry (asked.Owner board id)
+  IsReady (asked.List board) files entry = HasBoard board entry (asked.List board)
 
 -- it ends so, where no count of faults rose
 abbrev pub IsComplete : Asked → ℕ → Type 0
@@ -217,3 +264,11 @@ IsComplete (asked.Show book) status = IsDoneComplete status
 IsComplete (asked.Reset book) status = IsResetComplete status
 IsComplete (asked.Check file sets) status = IsDoneComplete status
 IsComplete (asked.Demo seed size book hands) status = IsRunComplete status
+IsComplete (asked.Worker address sessions) status = IsDoneComplete status
+IsComplete (asked.Post board name priority details) status = IsBoardComplete status
+IsComplete (asked.Claim board id owner) status = IsBoardComplete status
+IsComplete (asked.Abandon board id owner) status = IsBoardComplete status
+IsComplete (asked.Consume board id owner) status = IsBoardComplete status
+IsComplete (asked.Trash board id owner) status = IsBoardComplete status
+IsComplete (asked.Owner board id) status = IsBoardComplete status
+IsComplete (asked.List board) status = IsBoardComplete status

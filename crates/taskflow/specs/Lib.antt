@@ -12,3 +12,4 @@ pub mod Opened
 pub mod Way
 pub mod Runs
 pub mod Begun
+pub mod Working

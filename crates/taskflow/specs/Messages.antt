@@ -95,6 +95,10 @@ cannot_read = codes "taskflow: cannot read\n"
 abbrev pub cannot_hire : List ℕ
 cannot_hire = codes "taskflow: cannot hire\n"
 
+-- the message where nobody can be listened to
+abbrev pub cannot_listen : List ℕ
+cannot_listen = codes "taskflow: cannot listen\n"
+
 -- the message for a fault of the disk
 abbrev pub disk_fault : List ℕ
 disk_fault = codes "taskflow: disk fault\n"

@@ -1,7 +1,9 @@
-//! The program: it checks flow files, runs their flows, keeps a run in a book and goes on from it, and says each transition.
+//! The program: it checks flow files, runs their flows, keeps a run in a book and goes on from it, says each
+//! transition, and keeps the jobs of a board.
 #![tactic(auto)]
 
 mod accepting;
+mod boards;
 mod books;
 mod checking;
 mod closing;
@@ -17,6 +19,7 @@ mod showing;
 mod statuses;
 mod top;
 mod trying;
+mod working;
 
 use crate::crew::LocalCrew;
 use crate::statuses::OUT_OF_MEMORY;
@@ -25,7 +28,7 @@ use std::env::Env;
 use std::process::ExitCode;
 use std::{env, io};
 use tf_desk::FileDesk;
-use tf_ports::Folder;
+use tf_ports::{Folder, SocketDoor};
 use tf_words::Word;
 
 fn main(rt: HostRuntime) -> ExitCode {
@@ -44,6 +47,7 @@ fn main(rt: HostRuntime) -> ExitCode {
         desk: FileDesk::make(rt),
         sources: Folder::make(rt),
         crew: LocalCrew::make(rt),
+        door: SocketDoor::make(rt),
     };
     let ended = taskflow(alloc, &words, outside);
     ExitCode::from(ended.status)
@@ -60,3 +64,5 @@ fn read_arguments(rt: &(impl Env + AllocGlobal)) -> io::Result<Vec<Word>> {
 
 #[cfg(test)]
 mod tests;
+#[cfg(test)]
+mod work_tests;

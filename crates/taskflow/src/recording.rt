@@ -131,7 +131,10 @@ fn hire_and_run<K: Desk, W: Crew>(
 {
     match hire_one(alloc, crew) {
         Ok(mut hand) => run_in(alloc, machine, blank, request, &mut hand),
-        Err(fault) => say_unhired(blank.into_desk(), fault),
+        Err(fault) => {
+            drop(machine);
+            say_unhired(blank.into_desk(), fault)
+        }
     }
 }
 

@@ -21,7 +21,7 @@ pub const NO_BOOK: u8 = 6;
 /// A text couldn't be said.
 pub const UNSAID: u8 = 7;
 
-/// No hand could be hired.
+/// No hand could be hired, or nobody could be listened to.
 pub const UNHIRED: u8 = 8;
 
 /// Memory ran out.

@@ -2,7 +2,9 @@ use crate::top::{Ended, Outside, taskflow};
 use std::alloc::Global;
 use std::test::Fail;
 use tf_desk::MemoryDesk;
-use tf_ports::{MemoryCrew, MemorySource, MemorySources, MemorySpawner, Want};
+use tf_ports::{
+    MemoryCrew, MemoryDoor, MemoryLink, MemorySource, MemorySources, MemorySpawner, Want,
+};
 use tf_tasks::LocalHand;
 use tf_values::Text;
 use tf_words::Word;
@@ -201,6 +203,7 @@ fn ran_over(
         desk,
         sources: MemorySources::make(sources, Vec::from_slice(alloc, unread)?),
         crew: MemoryCrew::make(alloc, hands, Vec::from_slice(alloc, unhired)?),
+        door: MemoryDoor::<MemoryLink>::make(Vec::new(alloc), Vec::new(alloc)),
     };
     let Ended { outside, status } = taskflow(alloc, &made, outside);
     let Outside { desk, .. } = outside;
@@ -407,7 +410,10 @@ struct Session {
     says: &'static str,
 }
 
-const SESSIONS: [Session; 6] = [
+/// The id of the first job that a board gets.
+const BUILD: &str = "584cd1e7-aed6-500d-8055-e04f2efc0be6";
+
+const SESSIONS: [Session; 9] = [
     Session {
         shows: "a book is begun once, shown, and resumed after its end",
         file: "name = \"main\"\nkind = \"linear\"\nitems = [{ task = \"a\", kind = \"echo\", inject = { value = 1 } }]\n",
@@ -467,6 +473,52 @@ const SESSIONS: [Session; 6] = [
             (&["resume", "B", "--stop-after", "2"], 12),
         ],
         says: "taskflow: no flow in the book\n1 0 flow main RUNNING\n2 0 task a RUNNING\n3 0 task a SUCCESS 1\n4 0 task b RUNNING\n5 0 task b FAILURE raised \"no\"\n6 0 resolve main REVERT_ALL\n7 0 task b REVERTING\n8 0 task b REVERTED\n9 0 task a REVERTING\n10 0 task a REVERTED\n11 0 flow main REVERTED\nend main REVERTED\n12 0 task a PENDING\n13 0 task b PENDING\n14 0 flow main PENDING\ntaskflow: state forbids: main PENDING\n15 0 flow main RUNNING\n16 0 task a RUNNING\n17 0 task a SUCCESS 1\n18 0 flow main SUSPENDING\n19 0 flow main SUSPENDED\nend main SUSPENDED\n",
+    },
+    Session {
+        shows: "two jobs of a board, of which one is claimed and finished",
+        file: "",
+        commands: &[
+            (&["board", "post", "B", "build"], 0),
+            (&["board", "post", "B", "test", "--priority", "HIGH"], 0),
+            (&["board", "list", "B"], 0),
+            (&["board", "claim", "B", BUILD, "ann"], 0),
+            (&["board", "claim", "B", BUILD, "bob"], 15),
+            (&["board", "abandon", "B", BUILD, "bob"], 15),
+            (&["board", "consume", "B", BUILD, "ann"], 0),
+            (&["board", "list", "B"], 0),
+            (&["board", "claim", "B", BUILD, "ann"], 15),
+            (&["show", "B"], 6),
+        ],
+        says: "posted 584cd1e7-aed6-500d-8055-e04f2efc0be6\nposted baf06c29-01b3-5083-a254-f0297b72a100\nHIGH 2 baf06c29-01b3-5083-a254-f0297b72a100 test UNCLAIMED -\nNORMAL 1 584cd1e7-aed6-500d-8055-e04f2efc0be6 build UNCLAIMED -\nclaimed 584cd1e7-aed6-500d-8055-e04f2efc0be6 ann\ntaskflow: claimed by ann\ntaskflow: not the owner: ann\nconsumed 584cd1e7-aed6-500d-8055-e04f2efc0be6\nHIGH 2 baf06c29-01b3-5083-a254-f0297b72a100 test UNCLAIMED -\ntaskflow: job gone: 584cd1e7-aed6-500d-8055-e04f2efc0be6\ntaskflow: not a book: offset 10, byte 74\n",
+    },
+    Session {
+        shows: "a job that nobody has isn't trashed",
+        file: "",
+        commands: &[
+            (&["board", "post", "B", "build", "--details", "5"], 0),
+            (&["board", "trash", "B", BUILD, "ann"], 15),
+            (&["board", "owner", "B", BUILD], 0),
+        ],
+        says: "posted 584cd1e7-aed6-500d-8055-e04f2efc0be6\ntaskflow: not the owner: -\nowner -\n",
+    },
+    Session {
+        shows: "an id that names no job",
+        file: "",
+        commands: &[
+            (
+                &[
+                    "board",
+                    "claim",
+                    "B",
+                    "{00000000-0000-0000-0000-00000000000A}",
+                    "ann",
+                ],
+                15,
+            ),
+            (&["board", "list", "B"], 0),
+            (&["board", "claim", "B", "build", "ann"], 2),
+        ],
+        says: "taskflow: no job: 00000000-0000-0000-0000-00000000000a\ntaskflow: usage\n",
     },
 ];
 

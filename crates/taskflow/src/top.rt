@@ -1,10 +1,13 @@
-ghost use Rattle.std.specs.Prelude.{◌≡◌, ◌≤◌, true, None, Some, IfSome};
+ghost use Rattle.std.specs.Prelude.{◌≡◌, ◌≤◌, true, false, is_some, None, Some, IfSome};
+ghost use Rattle.tf_board.specs.Answers.{board_of};
 ghost use Rattle.tf_desk.specs.Counts.{Rises};
-ghost use Rattle.taskflow.specs.Asking.{is_one_hand as wants_one, is_done_here as is_done, asked_for, if_done_here, IsWithin};
-ghost use Rattle.taskflow.specs.Causes.{HasCauses, HasNoFault, counts};
-ghost use Rattle.taskflow.specs.Course.{Course, HiresOneAtMost, Obeys, IsRefused, IsReady, IsComplete};
+ghost use Rattle.taskflow.specs.Asking.{is_one_hand as wants_one, is_done_here as is_done, asked_for, if_done_here, IsWithin, IsWork, AsksForWork};
+ghost use Rattle.taskflow.specs.Causes.{HasCausesOr, HasNoFault, counts};
+ghost use Rattle.taskflow.specs.Course.{Course, HiresOneAtMost, Obeys, IsRefused, IsBoardRefused, IsReady, IsComplete};
+ghost use Rattle.tf_board.specs.declared.statuses.TheConstants.{BOARD_REFUSED};
 ghost use Rattle.tf_words.specs.declared.asked.Asked.{Asked as AnAsked};
 
+use crate::boards::{is_of_board, on_board};
 use crate::checking::check_file;
 use crate::closing::close;
 use crate::demoing::demo_book;
@@ -17,32 +20,35 @@ use crate::running::{Over, Request};
 use crate::showing::show_book;
 use crate::statuses::{DISK_FAILED, NO_COMMAND, OUT_OF_MEMORY, REFUSED, UNHIRED, UNREAD, UNSAID};
 use crate::trying::try_file;
+use crate::working::work;
 use std::alloc::Global;
 use tf_desk::Desk;
-use tf_ports::{Crew, Sources, Want};
+use tf_ports::{Crew, Door, Sources, Want};
 use tf_words::{Asked, Word, demo_numbers_are_within, read_words};
 
-/// What a command reaches beside its words: the desk, the sources, and the crew that hires hands.
+/// What a command reaches beside its words: the desk, the sources, the crew that hires hands, and the door at
+/// which a worker listens.
 #[derive(Drop)]
-pub struct Outside<K, S, W> {
+pub struct Outside<K, S, W, L> {
     pub desk: K,
     pub sources: S,
     pub crew: W,
+    pub door: L,
 }
 
 /// What a command leaves: the outside, and its status.
 #[derive(Drop)]
-pub struct Ended<K, S, W> {
-    pub outside: Outside<K, S, W>,
+pub struct Ended<K, S, W, L> {
+    pub outside: Outside<K, S, W, L>,
     pub status: u8,
 }
 
 /// Does what the words ask for, and answers the outside and the status.
-pub fn taskflow<K: Desk, S: Sources, W: Crew>(
+pub fn taskflow<K: Desk, S: Sources, W: Crew, L: Door>(
     alloc: Global,
     words: &[Word],
-    outside: Outside<K, S, W>,
-) -> Ended<K, S, W>
+    outside: Outside<K, S, W, L>,
+) -> Ended<K, S, W, L>
     // The way that the command went: which command the words are, which plan the sources' bytes give or
     // why they give none, what the book held and holds, which hand was hired, what was recorded, what was
     // shown, what a crash may leave, and the status.
@@ -56,12 +62,16 @@ pub fn taskflow<K: Desk, S: Sources, W: Crew>(
     // Status 4 comes only where the file is too long or gives no plan to run.
     ensures refused { result.status ≡ REFUSED → IsRefused words.now (S.contents outside.sources) }
 
+    // Status 15 comes only where the words are a command on a board which refuses it, by the commands that its file has.
+    ensures board_refused { result.status ≡ BOARD_REFUSED → IsBoardRefused K.tells K.content words.now outside.desk }
+
     // A file that gives a plan is run to its end, or said to be in order, a book that holds a flow is resumed to its
-    // end, or shown, or put back, unless a count of faults rose, a stop was asked for or memory ran out; 13 comes only as
+    // end, or shown, or put back, and a command is done on a board that doesn't refuse it, unless a count of faults rose, a stop was asked for or memory ran out; 13 comes only as
     // the course says, and 12 only where there is a limit of entries.
     ensures complete { (command : AnAsked) → asked_for words.now ≡ Some command
         → IsReady K.tells K.content command (S.contents outside.sources) outside.desk
         → ¬ (Rises (K.asks outside.desk) (K.asks result.outside.desk))
+        → ¬ (Rises (L.faults outside.door) (L.faults result.outside.door))
         → HasNoFault (counts (K.disk_faults outside.desk) (K.out_faults outside.desk) (S.faults outside.sources) (W.faults outside.crew))
         (counts (K.disk_faults result.outside.desk) (K.out_faults result.outside.desk) (S.faults result.outside.sources)
         (W.faults result.outside.crew))
@@ -70,10 +80,11 @@ pub fn taskflow<K: Desk, S: Sources, W: Crew>(
     // At most one hand of this process is hired, and one is where something was recorded, as the course says.
     ensures hires { HiresOneAtMost (W.hired outside.crew) (W.hired result.outside.crew) }
 
-    // A file can't be read, the disk fails, a text can't be said and no hand is hired only where the count of such
-    // faults rose; no count falls.
+    // A file can't be read, the disk fails, a text can't be said, no hand is hired and a worker's door fails only where
+    // the count of such faults rose; no count falls.
     ensures asks { K.asks outside.desk ≤ K.asks result.outside.desk }
-    ensures causes { HasCauses result.status
+    ensures door { L.faults outside.door ≤ L.faults result.outside.door }
+    ensures causes { HasCausesOr (AsksForWork words.now × Rises (L.faults outside.door) (L.faults result.outside.door)) result.status
         (counts (K.disk_faults outside.desk) (K.out_faults outside.desk) (S.faults outside.sources) (W.faults outside.crew))
         (counts (K.disk_faults result.outside.desk) (K.out_faults result.outside.desk) (S.faults result.outside.sources)
         (W.faults result.outside.crew)) }
@@ -82,31 +93,36 @@ pub fn taskflow<K: Desk, S: Sources, W: Crew>(
         desk,
         mut sources,
         mut crew,
+        mut door,
     } = outside;
-    let Over { desk, status } = answer(alloc, words, desk, &mut sources, &mut crew);
+    let Over { desk, status } = answer(alloc, words, desk, &mut sources, &mut crew, &mut door);
     Ended {
         outside: Outside {
             desk,
             sources,
             crew,
+            door,
         },
         status,
     }
 }
 
 /// Does what the words ask for, and answers the desk and the status.
-fn answer<K: Desk, S: Sources, W: Crew>(
+#[tactic(auto, using(crate::proofs::CauseLemmas::widened))]
+fn answer<K: Desk, S: Sources, W: Crew, L: Door>(
     alloc: Global,
     words: &[Word],
     mut desk: K,
     sources: &mut S,
     crew: &mut W,
+    door: &mut L,
 ) -> Over<K>
     ensures course { Course K.tells K.shown K.content K.left K.crashes K.disk_faults W.Hand.gives (Rises (K.asks desk) (K.asks result.desk)) words.now (S.contents sources.old)
         (W.hired crew.old) (W.hired crew.new) desk result.desk result.status }
     ensures hires { HiresOneAtMost (W.hired crew.old) (W.hired crew.new) }
     ensures asks { K.asks desk ≤ K.asks result.desk }
-    ensures causes { HasCauses result.status (counts (K.disk_faults desk) (K.out_faults desk) (S.faults sources.old) (W.faults crew.old))
+    ensures door { L.faults door.old ≤ L.faults door.new }
+    ensures causes { HasCausesOr (AsksForWork words.now × Rises (L.faults door.old) (L.faults door.new)) result.status (counts (K.disk_faults desk) (K.out_faults desk) (S.faults sources.old) (W.faults crew.old))
         (counts (K.disk_faults result.desk) (K.out_faults result.desk) (S.faults sources.new) (W.faults crew.new)) }
 {
     let Ok(found) = read_words(alloc, words) else {
@@ -117,7 +133,7 @@ fn answer<K: Desk, S: Sources, W: Crew>(
     };
     demo_numbers_are_within();
     match done_here(found) {
-        Some(asked) => obey(alloc, asked, desk, sources, crew),
+        Some(asked) => obey(alloc, asked, desk, sources, crew, door),
         None => {
             let status = close(USAGE, NO_COMMAND, &mut desk);
             Over { desk, status }
@@ -152,6 +168,14 @@ fn is_done_here(asked: &Asked) -> bool
         Asked::Resume { want, .. } => is_one_hand(want),
         Asked::Show { .. } | Asked::Reset { .. } | Asked::Check { .. } => true,
         Asked::Demo { hands, .. } => *hands == 1,
+        Asked::Worker { .. } => true,
+        Asked::Post { .. }
+        | Asked::Claim { .. }
+        | Asked::Abandon { .. }
+        | Asked::Consume { .. }
+        | Asked::Trash { .. }
+        | Asked::Owner { .. }
+        | Asked::List { .. } => true,
     }
 }
 
@@ -166,12 +190,13 @@ fn is_one_hand(want: &Want) -> bool
 }
 
 /// Does what is asked for, and answers the desk and the status.
-fn obey<K: Desk, S: Sources, W: Crew>(
+fn obey<K: Desk, S: Sources, W: Crew, L: Door>(
     alloc: Global,
     asked: Asked,
-    mut desk: K,
+    desk: K,
     sources: &mut S,
     crew: &mut W,
+    door: &mut L,
 ) -> Over<K>
     requires done { is_done asked ≡ true }
     requires within { IsWithin asked }
@@ -179,7 +204,36 @@ fn obey<K: Desk, S: Sources, W: Crew>(
         (W.hired crew.old) (W.hired crew.new) desk result.desk result.status }
     ensures hires { HiresOneAtMost (W.hired crew.old) (W.hired crew.new) }
     ensures asks { K.asks desk ≤ K.asks result.desk }
-    ensures causes { HasCauses result.status (counts (K.disk_faults desk) (K.out_faults desk) (S.faults sources.old) (W.faults crew.old))
+    ensures door { L.faults door.old ≤ L.faults door.new }
+    ensures causes { HasCausesOr (IsWork asked × Rises (L.faults door.old) (L.faults door.new)) result.status (counts (K.disk_faults desk) (K.out_faults desk) (S.faults sources.old) (W.faults crew.old))
+        (counts (K.disk_faults result.desk) (K.out_faults result.desk) (S.faults sources.new) (W.faults crew.new)) }
+{
+    if is_of_board(&asked) {
+        on_board(alloc, asked, desk)
+    } else {
+        obey_flow(alloc, asked, desk, sources, crew, door)
+    }
+}
+
+/// Does what is asked for of a flow or of a worker, and answers the desk and the status.
+#[tactic(auto, using(crate::proofs::CauseLemmas::widened))]
+fn obey_flow<K: Desk, S: Sources, W: Crew, L: Door>(
+    alloc: Global,
+    asked: Asked,
+    mut desk: K,
+    sources: &mut S,
+    crew: &mut W,
+    door: &mut L,
+) -> Over<K>
+    requires done { is_done asked ≡ true }
+    requires no_board { is_some (board_of asked) ≡ false }
+    requires within { IsWithin asked }
+    ensures obeys { Obeys K.tells K.shown K.content K.left K.crashes K.disk_faults W.Hand.gives (Rises (K.asks desk) (K.asks result.desk)) asked (S.contents sources.old)
+        (W.hired crew.old) (W.hired crew.new) desk result.desk result.status }
+    ensures hires { HiresOneAtMost (W.hired crew.old) (W.hired crew.new) }
+    ensures asks { K.asks desk ≤ K.asks result.desk }
+    ensures door { L.faults door.old ≤ L.faults door.new }
+    ensures causes { HasCausesOr (IsWork asked × Rises (L.faults door.old) (L.faults door.new)) result.status (counts (K.disk_faults desk) (K.out_faults desk) (S.faults sources.old) (W.faults crew.old))
         (counts (K.disk_faults result.desk) (K.out_faults result.desk) (S.faults sources.new) (W.faults crew.new)) }
 {
     match asked {
@@ -226,5 +280,10 @@ fn obey<K: Desk, S: Sources, W: Crew>(
             book,
             ..
         } => demo_book(alloc, seed, size, &book, desk, crew),
+        Asked::Worker { address, sessions } => {
+            let status = work(alloc, &address, sessions, &mut desk, crew, door);
+            Over { desk, status }
+        }
+        _ => unreachable!(),
     }
 }

@@ -52,7 +52,10 @@ fn try_plan<K: Desk, W: Crew>(alloc: Global, machine: Machine, desk: K, crew: &m
 {
     match hire_one(alloc, crew) {
         Ok(mut hand) => try_with(alloc, machine, desk, &mut hand),
-        Err(fault) => say_unhired(desk, fault),
+        Err(fault) => {
+            drop(machine);
+            say_unhired(desk, fault)
+        }
     }
 }
 

@@ -10,7 +10,7 @@ mod streams;
 pub use device::{Desk, DeskFault};
 pub use files::FileDesk;
 pub use memory::MemoryDesk;
-pub use streams::read_on;
+pub use streams::{read_on, write_whole};
 
 #[cfg(test)]
 mod tests;

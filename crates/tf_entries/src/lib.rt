@@ -12,8 +12,6 @@ mod link_writing;
 mod plan_reading;
 mod plan_writing;
 mod reader;
-#[cfg(test)]
-mod tests;
 
 pub use entry_reading::decode_entry;
 pub use entry_writing::encode_entry;

@@ -7,8 +7,6 @@ mod links;
 mod lists;
 mod reading;
 mod store;
-#[cfg(test)]
-mod tests;
 
 pub use reading::read_flow;
 pub use tf_document::{FileFault, Path};

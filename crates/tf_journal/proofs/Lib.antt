@@ -7,3 +7,6 @@ pub mod TornLemmas
 pub mod BirthLemmas
 pub mod AppendLemmas
 pub mod PlaceLemmas
+pub mod WayLemmas
+pub mod OpenLemmas
+pub mod UnbornLemmas

@@ -6,3 +6,5 @@ pub mod Gates
 pub mod Reach
 pub mod Header
 pub mod Birth
+pub mod Start
+pub mod Way

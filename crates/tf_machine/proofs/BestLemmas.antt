@@ -1,5 +1,5 @@
 -- The best candidate, found in one pass over the atoms.
-use Rattle.std.proofs.Common.{◌≡◌, ◌≢◌, ℕ, ℤ, zero, suc, ◌<◌, Bool, true, false, not, ◌&&◌, Option, Some, None, refl, sym, ap, ◌∙◌, inl, inr, arith}
+use Rattle.std.proofs.Common.{◌≡◌, ◌≢◌, ℕ, ℤ, zero, suc, ◌<◌, ◌≤◌, Bool, true, false, not, ◌&&◌, Option, Some, None, refl, sym, ap, ◌∙◌, inl, inr, arith}
 use Rattle.std.specs.Prelude.{if◌then◌else◌, is_none, is_some, option_map, int_lt}
 use Rattle.std.proofs.lemmas.Bool.{cases_lt}
 use Rattle.tf_states.specs.declared.record.What.{What}
@@ -10,9 +10,12 @@ use Rattle.tf_model.specs.Plan.{Outline, count, is_task}
 use Rattle.tf_model.specs.Snapshot.{Snapshot}
 use Rattle.tf_model.specs.Forced.{forced, forced_if_running, is_active}
 use Rattle.tf_model.specs.Candidates.{priority, is_candidate, outranks, is_best, taken_up, candidate_entry, candidate_if_running, choice}
-use Rattle.tf_numbers.proofs.TruthLemmas.{and_first, true_both, first_false}
+use Rattle.tf_numbers.proofs.TruthLemmas.{and_first, true_both, first_false, second_false}
 use Rattle.tf_machine.proofs.FitLemmas.{candidate_task}
 use Rattle.tf_machine.specs.Best.{outranked, best_below, is_start}
+use Rattle.tf_links.specs.Bits.{has}
+use Rattle.tf_machine.specs.declared.worklists.Worklist.{Worklist}
+use Rattle.tf_machine.specs.Worklists.{IsListed}
 use Rattle.std.proofs.lemmas.Int.{ints}
 use Rattle.tf_numbers.proofs.BelowLemmas.{found_passes, first_found, first_none, any_of, never_any}
 
@@ -104,6 +107,31 @@ first_by plan s (Some a) (below, candidate_a, none_over, over_first) =
 
 pub best_is : (plan : Outline) (s : Snapshot) (n : ℕ) → n ≡ count plan → best_below plan s n ≡ first_below (count plan) (is_best plan s)
 best_is plan s n all = ap (best_below plan s) all ∙ first_by plan s (best_below plan s (count plan)) (best_so_far plan s (count plan))
+
+-- none of those that aren't listed
+pub none_best : (plan : Outline) (s : Snapshot) (list : Worklist) (n : ℕ) → IsListed plan s list → n ≤ count plan → ((a : ℕ) → a < n → has list.ready a ≡ false) → None ≡ best_below plan s n
+none_best plan s list zero listed within before = refl
+none_best plan s list (suc n) listed within before =
+    none_best plan s list n listed (omega (arith, within)) (λ a below. before a (omega (arith, below)))
+    ∙ sym (ap (λ (b : Bool). if b then Some n else best_below plan s n) (second_false (outranked plan (best_below plan s n) n) _ ((listed.each n (omega (arith, within))).ready (before n (omega arith)))))
+
+-- one that nobody outranks stays the best
+best_stays : (plan : Outline) (s : Snapshot) (a n : ℕ) → n ≤ count plan → ((b : ℕ) → b < count plan → int_lt (priority plan a) (priority plan b) ≡ false) → (k : ℕ) → k ≤ n → best_below plan s k ≡ Some a → best_below plan s n ≡ Some a
+best_stays plan s a zero within none k most is = let same : k ≡ 0 = omega (arith, most) in ap (best_below plan s) (sym same) ∙ is
+best_stays plan s a (suc n) within none k most is = elim (cases_lt k (suc n)) [
+  | inl below ↦
+      let before : best_below plan s n ≡ Some a = best_stays plan s a n (omega (arith, within)) none k (omega (arith, below)) is in
+      ap (λ (o : Option ℕ). if outranked plan o n && is_candidate plan s n then Some n else o) before
+      ∙ ap (λ (b : Bool). if b && is_candidate plan s n then Some n else Some a) (none n (omega (arith, within)))
+  | inr from ↦ let same : k ≡ suc n = omega (arith, most, from) in ap (best_below plan s) (sym same) ∙ is
+]
+
+pub top_best : (plan : Outline) (s : Snapshot) (a : ℕ) (before : Option ℕ) → before ≡ best_below plan s a → outranked plan before a ≡ true → is_candidate plan s a ≡ true → a < count plan
+    → ((b : ℕ) → b < count plan → int_lt (priority plan a) (priority plan b) ≡ false) → Some a ≡ first_below (count plan) (is_best plan s)
+top_best plan s a before is over candidate below none =
+    sym (best_stays plan s a (count plan) (omega arith) none (suc a) (omega (arith, below))
+    (ap (λ (b : Bool). if b then Some a else best_below plan s a) (true_both (outranked plan (best_below plan s a) a) _ (ap (λ (o : Option ℕ). outranked plan o a) (sym is) ∙ over) candidate)))
+    ∙ best_is plan s (count plan) refl
 
 -- ---- the choice
 

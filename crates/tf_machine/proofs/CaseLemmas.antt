@@ -56,7 +56,7 @@ no_case plan s k past is = sym (ap (entry_among plan s) (drop_whole cases k past
 
 -- ---- a retry controller is before the other atoms of its flow
 
-retry_before : (plan : Outline) (r a : ℕ) → IsLaidOut plan → is_retry plan r ≡ true → is_of_its_flow plan r a ≡ true → is_before plan r a ≡ true
+pub retry_before : (plan : Outline) (r a : ℕ) → IsLaidOut plan → is_retry plan r ≡ true → is_of_its_flow plan r a ≡ true → is_before plan r a ≡ true
 retry_before plan r a layout retry inside = by (own_flow plan r) refl
   where
     by : (o : Option ℕ) → own_flow plan r ≡ o → is_before plan r a ≡ true

@@ -139,11 +139,11 @@ listed n test k past = same_truth (has_number (which_below n test) k) (test k)
       | inr from ↦ let never : true ≡ false = sym is ∙ past from in absurd (cc)
     ])
 
-successor_told : (plan : Outline) (a b : ℕ) → has_number (successors_of plan a) b ≡ is_before plan a b
+pub successor_told : (plan : Outline) (a b : ℕ) → has_number (successors_of plan a) b ≡ is_before plan a b
 successor_told plan a b =
     listed (count plan) (is_before plan a) b (λ past. never_true (is_before plan a b) (λ is. let below : b < count plan = before_below plan a b is in absurd (omega (arith, past, below))))
 
-predecessor_told : (plan : Outline) (a b : ℕ) → has_number (predecessors_of plan b) a ≡ is_before plan a b
+pub predecessor_told : (plan : Outline) (a b : ℕ) → has_number (predecessors_of plan b) a ≡ is_before plan a b
 predecessor_told plan a b =
     listed (count plan) (is_earlier plan b) a (λ past. never_true (is_before plan a b) (λ is. let below : a < count plan = before_below_first plan a b is in absurd (omega (arith, past, below))))
 

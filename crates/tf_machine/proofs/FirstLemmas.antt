@@ -12,6 +12,9 @@ use Rattle.tf_model.specs.Snapshot.{Snapshot}
 use Rattle.tf_model.specs.States.{is_failure, is_success}
 use Rattle.tf_model.specs.Forced.{forced_if_running, is_refused}
 use Rattle.tf_machine.specs.Cases.{applies, entry_in, entry_among, cases, case_of, IsCaseAt, sooner}
+use Rattle.tf_links.specs.Bits.{has}
+use Rattle.tf_machine.specs.declared.worklists.Worklist.{Worklist}
+use Rattle.tf_machine.specs.Worklists.{IsListed}
 use Rattle.tf_machine.proofs.CaseLemmas.{all_cases, case_here, case_next, no_case}
 
 -- ---- the cases of an atom
@@ -36,8 +39,9 @@ IsFirstBelow plan s n (Some found) = (found.atom < n) × (found.place < 8) × (a
     × ((a : ℕ) → a < found.atom → applies plan s (case_of found.place) a ≡ false)
     × ((j a : ℕ) → j < found.place → a < n → applies plan s (case_of j) a ≡ false)
 
-pub none_first : (plan : Outline) (s : Snapshot) → IsFirstBelow plan s 0 None
-none_first plan s = λ j a place below. absurd (omega (arith, below))
+-- none applies to those that aren't listed
+pub none_yet : (plan : Outline) (s : Snapshot) (list : Worklist) (n : ℕ) → IsListed plan s list → n ≤ count plan → ((a : ℕ) → a < n → has list.forcing a ≡ false) → IsFirstBelow plan s n None
+none_yet plan s list n listed within before = λ j a place below. (listed.each a (omega (arith, within, below))).cases (before a below) (case_of j)
 
 -- what fails below n and at n fails below the next number
 fails_further : (test : ℕ → Bool) (n : ℕ) → ((a : ℕ) → a < n → test a ≡ false) → test n ≡ false → (a : ℕ) → a < suc n → test a ≡ false

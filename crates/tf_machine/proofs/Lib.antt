@@ -18,3 +18,5 @@ pub mod RecordLemmas
 pub mod MachineLemmas
 pub mod LeftLemmas
 pub mod Rows
+mod WorkLemmas
+mod ExtentLemmas

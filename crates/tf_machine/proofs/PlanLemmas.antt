@@ -1,6 +1,9 @@
 -- The numbers, the parts and the priorities of a plan's atoms.
 use Rattle.std.proofs.Common.{◌≡◌, ℕ, zero, ℤ, suc, ◌+◌, ◌<◌, ◌≤◌, List, [], ◌∷◌, ◌++◌, length, map, take, Bool, true, false, not, Option, Some, None, refl, sym, ap, ◌∙◌, slice_get, add-one, inl, inr, arith}
-use Rattle.std.specs.Prelude.{option_map}
+use Rattle.std.specs.Prelude.{option_map, int_lt}
+use Rattle.std.proofs.Common.{get_or, subst}
+use Rattle.std.proofs.Math.Seq.{take-suc}
+use Rattle.std.proofs.lemmas.Int.{ints}
 use Rattle.std.proofs.lemmas.Bool.{cases_lt}
 use Rattle.std.proofs.lemmas.List.{length-map}
 use Rattle.std.proofs.lemmas.Option.{slice_get-map, slice_get_past}
@@ -15,10 +18,11 @@ use Rattle.tf_flow.specs.declared.ways.Turn.{Turn}
 use Rattle.tf_model.specs.Before.{way_in, passes_flow}
 use Rattle.tf_model.specs.Plan.{Outline, outline_of, count, way, holds, is_task, is_task_in, is_retry, is_retry_in, own_flow, last_flow}
 use Rattle.tf_flow.proofs.OutlineLemmas.{same_atoms, same_retries}
-use Rattle.tf_machine.specs.Compiled.{priority_at}
+use Rattle.tf_model.specs.Candidates.{priority, priority_in}
+use Rattle.tf_machine.specs.Compiled.{priority_at, AreWithin}
 use Rattle.tf_model.specs.Orders.{task_part, task_in, task_at}
 use Rattle.tf_numbers.proofs.ListLemmas.{take_whole}
-use Rattle.tf_numbers.proofs.TruthLemmas.{clash}
+use Rattle.tf_numbers.proofs.TruthLemmas.{clash, not_true}
 
 -- a plan has as many atoms as its outline
 pub atoms_counted : (plan : PlanValue) → length (numbering.atoms plan) ≡ count (outline_of plan)
@@ -119,3 +123,55 @@ priorities_next plan k p done is there =
 
 pub priorities_all : (plan : PlanValue) (k : ℕ) (done : List ℤ) → done ≡ map priority_at (take k (outline_of plan).atoms) → length (numbering.atoms plan) ≤ k → done ≡ map priority_at (outline_of plan).atoms
 priorities_all plan k done is whole = is ∙ ap (map priority_at) (take_whole (outline_of plan).atoms k (let counted = atoms_counted plan in omega (arith, counted)))
+
+-- ---- the greatest priority
+
+within_more : (old most : ℤ) (numbers : List ℤ) (n : ℤ) → int_lt most old ≡ false → int_lt most n ≡ false → AreWithin old numbers → AreWithin most (numbers ++ n ∷ [])
+within_more old most [] n above last within = (last, tt)
+within_more old most (m ∷ numbers) n above last (first, others) = (not_above old most m above first, within_more old most numbers n above last others)
+  where
+    not_above : (x y z : ℤ) → int_lt y x ≡ false → int_lt x z ≡ false → int_lt y z ≡ false
+    not_above x y z first second = grind (arith, ints)
+
+pub greater_next : (old : ℤ) (numbers : List ℤ) (k : ℕ) (d : ℤ) → k < length numbers → int_lt old (get_or numbers k d) ≡ true → AreWithin old (take k numbers) → AreWithin (get_or numbers k d) (take (k + 1) numbers)
+greater_next old numbers k d below greater within =
+    subst (AreWithin (get_or numbers k d)) (sym (ap (λ (n : ℕ). take n numbers) (add-one k) ∙ take-suc numbers k d below))
+    (within_more old (get_or numbers k d) (take k numbers) (get_or numbers k d) (not_below old (get_or numbers k d) greater) (not_self (get_or numbers k d)) within)
+  where
+    not_below : (x y : ℤ) → int_lt x y ≡ true → int_lt y x ≡ false
+    not_below x y is = grind (arith, ints)
+
+    not_self : (x : ℤ) → int_lt x x ≡ false
+    not_self x = grind (arith, ints)
+
+pub no_greater_next : (old : ℤ) (numbers : List ℤ) (k : ℕ) (d : ℤ) → k < length numbers → int_lt old (get_or numbers k d) ≡ false → AreWithin old (take k numbers) → AreWithin old (take (k + 1) numbers)
+no_greater_next old numbers k d below is within =
+    subst (AreWithin old) (sym (ap (λ (n : ℕ). take n numbers) (add-one k) ∙ take-suc numbers k d below))
+    (within_more old old (take k numbers) (get_or numbers k d) (not_self old) is within)
+  where
+    not_self : (x : ℤ) → int_lt x x ≡ false
+    not_self x = grind (arith, ints)
+
+pub all_within : (most : ℤ) (numbers : List ℤ) (k : ℕ) → length numbers ≤ k → AreWithin most (take k numbers) → AreWithin most numbers
+all_within most numbers k past within = subst (AreWithin most) (take_whole numbers k past) within
+
+not_past : (atoms : List Atom) (a : ℕ) → a < length atoms → slice_get atoms a ≡ None → ⊥
+not_past [] a below out = absurd (omega (arith, below))
+not_past (atom ∷ atoms) zero below out = absurd (cc)
+not_past (atom ∷ atoms) (suc a) below out = not_past atoms a (omega (arith, below)) out
+
+within_at : (most : ℤ) (numbers : List ℤ) (a : ℕ) (n : ℤ) → AreWithin most numbers → slice_get numbers a ≡ Some n → int_lt most n ≡ false
+within_at most [] a n within is = absurd (cc)
+within_at most (m ∷ numbers) zero n (first, others) is = let same : m ≡ n = cc in ap (int_lt most) (sym same) ∙ first
+within_at most (m ∷ numbers) (suc a) n (first, others) is = within_at most numbers a n others is
+
+below_top : (top p n : ℤ) → int_lt p top ≡ false → int_lt top n ≡ false → int_lt p n ≡ false
+below_top top p n first second = grind (arith, ints)
+
+pub none_outranks : (plan : Outline) (numbers : List ℤ) (most p : ℤ) (b : Bool) → numbers ≡ map priority_at plan.atoms → AreWithin most numbers → b ≡ int_lt p most → not b ≡ true → (a : ℕ) → a < count plan → int_lt p (priority plan a) ≡ false
+none_outranks plan numbers most p b is within told lower a below = by (slice_get plan.atoms a) refl
+  where
+    by : (o : Option Atom) → slice_get plan.atoms a ≡ o → int_lt p (priority_in o) ≡ false
+    by None out = absurd (not_past plan.atoms a below out)
+    by (Some atom) here = below_top most p (priority_at atom) (sym told ∙ not_true b lower)
+        (within_at most numbers a (priority_at atom) within (ap (λ (xs : List ℤ). slice_get xs a) is ∙ (slice_get-map priority_at plan.atoms a ∙ ap (option_map priority_at) here)))

@@ -9,3 +9,4 @@ pub mod Entries
 pub mod Changes
 pub mod TableFacts
 pub mod Counts
+pub mod Worklists

@@ -14,6 +14,8 @@ use Rattle.tf_model.specs.Steps.{LegalPast}
 use Rattle.tf_bound.specs.Kept.{IsBounded}
 use Rattle.tf_machine.specs.Counts.{AreCounted}
 use Rattle.tf_machine.specs.declared.counters.Counters.{Counters}
+use Rattle.tf_machine.specs.declared.worklists.Worklist.{Worklist}
+use Rattle.tf_machine.specs.Worklists.{IsListed}
 use Rattle.tf_machine.specs.TableFacts.{HasTries, HasFewTries}
 use Rattle.tf_machine.specs.Tables.{shown_of}
 
@@ -53,7 +55,8 @@ pub record IsSound (m : MachineValue) : Type 0 where
   pub bounded : IsBounded (outline m) (shown m)
   pub tries : HasTries (outline m) (shown m)
 
--- what every machine keeps: it is sound, and its counters are those of what it shows
-pub record IsSoundWith (m : MachineValue) (counters : Counters) : Type 0 where
+-- what every machine keeps: it is sound, its counters are those of what it shows, and what is to be looked at then is listed
+pub record IsSoundWith (m : MachineValue) (counters : Counters) (list : Worklist) : Type 0 where
   pub sound : IsSound m
   pub counted : AreCounted (outline m) (shown m) counters
+  pub listed : IsListed (outline m) (shown m) list

@@ -6,12 +6,14 @@ ghost use Rattle.tf_machine.specs.Answers.{start_entry, action_in};
 ghost use Rattle.tf_machine.specs.Best.{outranked, is_start};
 ghost use Rattle.tf_machine.specs.Counts.{IsCounted};
 ghost use Rattle.tf_machine.specs.Tables.{shown_by};
+ghost use Rattle.tf_machine.specs.Worklists.{IsListed};
 
 use crate::compiled::Compiled;
 use crate::forcing::{is_active, something_forced};
 use crate::readiness::{can_revert, can_run};
 use crate::states::is_at_work;
 use crate::tables::Tables;
+use crate::worklists::{Worklist, first_of};
 use tf_ports::Action;
 use tf_states::{AtomState, Payload, What};
 
@@ -52,7 +54,7 @@ fn is_interrupted(compiled: &Compiled, tables: &Tables, atom: u16) -> bool
 }
 
 /// Whether a task may be taken up.
-fn is_candidate(compiled: &Compiled, tables: &Tables, atom: u16) -> bool
+pub fn is_candidate(compiled: &Compiled, tables: &Tables, atom: u16) -> bool
     requires counted { IsCounted (outline_of compiled.now) tables.now }
     requires atom { atom < count (outline_of compiled.now) }
     ensures { result ≡ is_candidate (outline_of compiled.now) (shown_by tables.now) atom }
@@ -72,17 +74,32 @@ fn outranks(compiled: &Compiled, best: Option<u16>, atom: u16) -> bool
     }
 }
 
+/// Whether a task may be taken up, which it may not where it isn't listed.
+fn is_listed_candidate(compiled: &Compiled, tables: &Tables, list: &Worklist, atom: u16) -> bool
+    requires counted { IsCounted (outline_of compiled.now) tables.now }
+    requires listed { IsListed (outline_of compiled.now) (shown_by tables.now) list.now }
+    requires atom { atom < count (outline_of compiled.now) }
+    ensures { result ≡ is_candidate (outline_of compiled.now) (shown_by tables.now) atom }
+{
+    list.ready.has(atom as usize) && is_candidate(compiled, tables, atom)
+}
+
 /// The first candidate, of the greatest priority and then in tree order, read as if the flow were
 /// RUNNING.
-#[tactic(auto, using(crate::proofs::BestLemmas::best_is))]
-pub fn best(compiled: &Compiled, tables: &Tables) -> Option<u16>
+#[tactic(auto, using(crate::proofs::BestLemmas::best_is, crate::proofs::BestLemmas::none_best))]
+pub fn best(compiled: &Compiled, tables: &Tables, list: &Worklist) -> Option<u16>
     requires counted { IsCounted (outline_of compiled.now) tables.now }
+    requires listed { IsListed (outline_of compiled.now) (shown_by tables.now) list.now }
     ensures { result ≡ first_below (count (outline_of compiled.now)) (is_best (outline_of compiled.now) (shown_by tables.now)) }
 {
     let mut best = None;
-    for atom in 0..compiled.atoms() {
-        if outranks(compiled, best, atom) && is_candidate(compiled, tables, atom) {
+    let start = first_of(&list.ready, compiled.atoms());
+    for atom in start..compiled.atoms() {
+        if outranks(compiled, best, atom) && is_listed_candidate(compiled, tables, list, atom) {
             best = Some(atom);
+            if compiled.is_outranked_by_none(atom) {
+                return best;
+            }
         }
     }
     best
@@ -109,19 +126,20 @@ fn start_of(state: AtomState, atom: u16) -> Start
 
 /// The first candidate, while the flow is RUNNING, no atom is REVERT_FAILURE and nothing is forced.
 #[tactic(auto, using(crate::proofs::BestLemmas::choice_none))]
-pub fn candidate(compiled: &Compiled, tables: &Tables) -> Option<Start>
+pub fn candidate(compiled: &Compiled, tables: &Tables, list: &Worklist) -> Option<Start>
     requires counted { IsCounted (outline_of compiled.now) tables.now }
+    requires listed { IsListed (outline_of compiled.now) (shown_by tables.now) list.now }
     ensures entry { option_map start_entry result ≡ choice (outline_of compiled.now) (shown_by tables.now) }
     ensures action { IfSome result (λ start. start.action ≡ action_in ((shown_by tables.now).state start.atom)) }
     ensures task { IfSome result (λ start. is_task (outline_of compiled.now) start.atom ≡ true) }
 {
-    if !is_active(compiled, tables) {
+    if !is_active(compiled, tables, list) {
         return None;
     }
-    if something_forced(compiled, tables) {
+    if something_forced(compiled, tables, list) {
         return None;
     }
-    match best(compiled, tables) {
+    match best(compiled, tables, list) {
         Some(atom) => Some(start_of(tables.state(atom), atom)),
         None => None,
     }
@@ -166,15 +184,16 @@ fn is_entry_of(start: &Start, what: &What) -> bool
 
 /// Whether the first candidate is taken up by this entry.
 #[tactic(auto, using(crate::proofs::BestLemmas::never_chosen))]
-pub fn is_choice(compiled: &Compiled, tables: &Tables, what: &What) -> bool
+pub fn is_choice(compiled: &Compiled, tables: &Tables, list: &Worklist, what: &What) -> bool
     requires counted { IsCounted (outline_of compiled.now) tables.now }
+    requires listed { IsListed (outline_of compiled.now) (shown_by tables.now) list.now }
     ensures yes { result ≡ true → choice (outline_of compiled.now) (shown_by tables.now) ≡ Some what.now }
     ensures no { result ≡ false → choice (outline_of compiled.now) (shown_by tables.now) ≢ Some what.now }
 {
     if !may_start(what) {
         return false;
     }
-    match candidate(compiled, tables) {
+    match candidate(compiled, tables, list) {
         Some(start) => is_entry_of(&start, what),
         None => false,
     }

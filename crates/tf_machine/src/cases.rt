@@ -7,11 +7,13 @@ ghost use Rattle.tf_machine.specs.declared.cases.Case.{Case as AnyCase};
 ghost use Rattle.tf_machine.specs.Cases as specs;
 ghost use Rattle.tf_machine.specs.Counts.{IsCounted};
 ghost use Rattle.tf_machine.specs.Tables.{shown_by};
+ghost use Rattle.tf_machine.specs.Worklists.{IsListed};
 
 use crate::compiled::Compiled;
 use crate::readiness::{can_revert, can_run};
 use crate::states::{is_failure, is_retrying, is_reverting, is_running, is_settled, is_success};
 use crate::tables::{Tables, is_marked_again};
+use crate::worklists::{Worklist, first_of};
 
 /// A case in which an entry is forced.
 #[derive(Clone, Copy, Debug)]
@@ -60,17 +62,19 @@ const CASES: [Case; 8] = [
     Case::Run,
 ];
 
-/// The first case that applies, with the first atom to which it does. It is found in one pass over the atoms.
-#[tactic(auto, using(crate::proofs::FirstLemmas::none_first, crate::proofs::FirstLemmas::next_first, crate::proofs::FirstLemmas::first_forced, crate::proofs::FirstLemmas::first_within, crate::proofs::FirstLemmas::none_forced))]
-pub fn first_case(compiled: &Compiled, tables: &Tables) -> Option<Forcing>
+/// The first case that applies, with the first atom to which it does. It is found in one pass over the atoms that are listed.
+#[tactic(auto, using(crate::proofs::FirstLemmas::none_yet, crate::proofs::FirstLemmas::next_first, crate::proofs::FirstLemmas::first_forced, crate::proofs::FirstLemmas::first_within, crate::proofs::FirstLemmas::none_forced))]
+pub fn first_case(compiled: &Compiled, tables: &Tables, list: &Worklist) -> Option<Forcing>
     requires counted { IsCounted (outline_of compiled.now) tables.now }
+    requires listed { IsListed (outline_of compiled.now) (shown_by tables.now) list.now }
     ensures entry { option_map (specs.entry_of (outline_of compiled.now) (shown_by tables.now)) result
         ≡ rule.forced_if_running (outline_of compiled.now) (shown_by tables.now) }
     ensures atom { IfSome result (λ found. found.atom < count (outline_of compiled.now)) }
 {
     let mut first = None;
-    for atom in 0..compiled.atoms() {
-        first = sooner(first, case_at(compiled, tables, atom), atom);
+    let start = first_of(&list.forcing, compiled.atoms());
+    for atom in start..compiled.atoms() {
+        first = sooner(first, listed_case(compiled, tables, list, atom), atom);
     }
     match first {
         None => None,
@@ -98,8 +102,21 @@ fn sooner(first: Option<Placed>, next: Option<usize>, atom: u16) -> Option<Place
     }
 }
 
+/// The place of the first case that applies to an atom, which is none where it isn't listed.
+fn listed_case(compiled: &Compiled, tables: &Tables, list: &Worklist, atom: u16) -> Option<usize>
+    requires counted { IsCounted (outline_of compiled.now) tables.now }
+    requires listed { IsListed (outline_of compiled.now) (shown_by tables.now) list.now }
+    requires atom { atom < count (outline_of compiled.now) }
+    ensures { specs.IsCaseAt (outline_of compiled.now) (shown_by tables.now) atom result }
+{
+    if !list.forcing.has(atom as usize) {
+        return None;
+    }
+    case_at(compiled, tables, atom)
+}
+
 /// The place of the first case that applies to an atom.
-fn case_at(compiled: &Compiled, tables: &Tables, atom: u16) -> Option<usize>
+pub fn case_at(compiled: &Compiled, tables: &Tables, atom: u16) -> Option<usize>
     requires counted { IsCounted (outline_of compiled.now) tables.now }
     requires atom { atom < count (outline_of compiled.now) }
     ensures { specs.IsCaseAt (outline_of compiled.now) (shown_by tables.now) atom result }

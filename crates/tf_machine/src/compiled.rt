@@ -1,4 +1,4 @@
-ghost use Rattle.std.specs.Prelude.{◌≡◌, ◌<◌, ◌≤◌, ◌++◌, None, Some, true, false, IfOk, IfErr, OnOk, map, length, option_map};
+ghost use Rattle.std.specs.Prelude.{◌≡◌, ◌<◌, ◌≤◌, ◌++◌, ℕ, int_lt, None, Some, true, false, IfOk, IfErr, OnOk, map, length, option_map};
 ghost use Rattle.tf_order.specs.Graph.{predecessors_of, successors_of};
 ghost use Rattle.tf_flow.specs.Refusal.{first_refusal};
 ghost use Rattle.tf_model.specs.Compilation.{compile_refusal};
@@ -13,7 +13,7 @@ ghost use Rattle.tf_model.specs.Before.{passes_flow};
 ghost use Rattle.tf_model.specs.Plan.{outline_of, count, is_task, is_retry, holds, own_flow, last_flow};
 ghost use Rattle.tf_model.specs.Candidates.{priority};
 ghost use Rattle.tf_machine.specs.Answers.{IsBuildRefusal};
-ghost use Rattle.tf_machine.specs.Compiled.{priority_at, AreDecided};
+ghost use Rattle.tf_machine.specs.Compiled.{priority_at, AreDecided, AreWithin};
 
 use crate::faults::BuildFault;
 use std::alloc::Global;
@@ -34,6 +34,7 @@ pub struct Compiled {
     graph: Graph,
     providers: Providers,
     priorities: Vec<i32>,
+    greatest: i32,
     decided: Vec<bool>,
 }
 
@@ -49,7 +50,7 @@ impl Model for Compiled {
 
     ghost view = { λ compiled. compiled.plan };
 
-    ghost invariant = { λ compiled. IsCompiled compiled.plan compiled.graph compiled.providers compiled.priorities.items compiled.decided.items };
+    ghost invariant = { λ compiled. IsCompiled compiled.plan compiled.graph compiled.providers compiled.priorities.items compiled.greatest compiled.decided.items };
 }
 
 impl Compiled {
@@ -64,12 +65,14 @@ impl Compiled {
         let graph = compile(alloc, &plan)?;
         let providers = find_providers(alloc, &plan, &graph)?;
         let priorities = priorities(alloc, &plan)?;
+        let greatest = greatest(&priorities);
         let decided = decided(alloc, &plan)?;
         Ok(Compiled {
             plan,
             graph,
             providers,
             priorities,
+            greatest,
             decided,
         })
     }
@@ -235,6 +238,14 @@ impl Compiled {
             None => 0,
         }
     }
+
+    /// Whether no atom has a greater priority than this one.
+    pub fn is_outranked_by_none(&self, atom: u16) -> bool
+        ensures { result ≡ true → (a : ℕ) → a < count (outline_of self.now)
+            → int_lt (priority (outline_of self.now) atom) (priority (outline_of self.now) a) ≡ false }
+    {
+        !is_less(self.priority(atom), self.greatest)
+    }
 }
 
 /// Whether a way leads into a flow.
@@ -270,6 +281,26 @@ fn priorities(alloc: Global, plan: &Plan) -> Result<Vec<i32>, Memory>
         priorities.push(plan.part(atom).priority())?;
     }
     Ok(priorities)
+}
+
+fn is_less(first: i32, second: i32) -> bool
+    ensures { result ≡ int_lt first second }
+{
+    first < second
+}
+
+/// The greatest of these numbers, or the least that there can be where there is none.
+#[tactic(auto, using(crate::proofs::PlanLemmas::greater_next, crate::proofs::PlanLemmas::no_greater_next, crate::proofs::PlanLemmas::all_within))]
+fn greatest(numbers: &[i32]) -> i32
+    ensures { AreWithin result numbers.now }
+{
+    let mut greatest = i32::MIN;
+    for number in numbers {
+        if greatest < *number {
+            greatest = *number;
+        }
+    }
+    greatest
 }
 
 /// To which of a plan's atoms a link with a decider leads, by number.

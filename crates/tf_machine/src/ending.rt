@@ -4,12 +4,14 @@ ghost use Rattle.tf_model.specs.Plan.{outline_of, count};
 ghost use Rattle.tf_model.specs.Candidates.{is_done_at, is_at_rest, calm_end, end_of};
 ghost use Rattle.tf_machine.specs.Counts.{IsCounted};
 ghost use Rattle.tf_machine.specs.Tables.{shown_by};
+ghost use Rattle.tf_machine.specs.Worklists.{IsListed};
 
 use crate::candidates::best;
 use crate::compiled::Compiled;
 use crate::forcing::{is_unhurt, something_forced};
 use crate::states::{flow_runs, flow_suspends, is_at_work, is_done, is_failure, is_success};
 use crate::tables::Tables;
+use crate::worklists::Worklist;
 use tf_states::FlowState;
 
 /// Whether every atom is SUCCESS or IGNORE.
@@ -45,8 +47,9 @@ fn are_all_at_rest(compiled: &Compiled, tables: &Tables) -> bool
 }
 
 /// How a run ends that nothing is forced in.
-fn calm_end(compiled: &Compiled, tables: &Tables) -> Option<FlowState>
+fn calm_end(compiled: &Compiled, tables: &Tables, list: &Worklist) -> Option<FlowState>
     requires counted { IsCounted (outline_of compiled.now) tables.now }
+    requires listed { IsListed (outline_of compiled.now) (shown_by tables.now) list.now }
     ensures { result ≡ calm_end (outline_of compiled.now) (shown_by tables.now) }
 {
     if are_all_done(compiled, tables) {
@@ -55,7 +58,7 @@ fn calm_end(compiled: &Compiled, tables: &Tables) -> Option<FlowState>
     if !are_all_at_rest(compiled, tables) {
         return None;
     }
-    match best(compiled, tables) {
+    match best(compiled, tables, list) {
         Some(_) => None,
         None => Some(FlowState::Reverted),
     }
@@ -63,18 +66,19 @@ fn calm_end(compiled: &Compiled, tables: &Tables) -> Option<FlowState>
 
 /// The end of the run.
 #[tactic(auto, unfolding(tf_model::specs::Candidates::end_of))]
-pub fn end_of(compiled: &Compiled, tables: &Tables) -> Option<FlowState>
+pub fn end_of(compiled: &Compiled, tables: &Tables, list: &Worklist) -> Option<FlowState>
     requires counted { IsCounted (outline_of compiled.now) tables.now }
+    requires listed { IsListed (outline_of compiled.now) (shown_by tables.now) list.now }
     ensures { result ≡ end_of (outline_of compiled.now) (shown_by tables.now) }
 {
     if !flow_runs(tables.flow) && !flow_suspends(tables.flow) {
         return None;
     }
-    if !is_unhurt(compiled, tables) {
+    if !is_unhurt(compiled, tables, list) {
         return Some(FlowState::Failure);
     }
-    if something_forced(compiled, tables) {
+    if something_forced(compiled, tables, list) {
         return None;
     }
-    calm_end(compiled, tables)
+    calm_end(compiled, tables, list)
 }

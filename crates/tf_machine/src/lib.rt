@@ -17,9 +17,8 @@ mod readiness;
 mod states;
 mod steps;
 mod tables;
-#[cfg(test)]
-mod tests;
 mod tries;
+mod worklists;
 
 pub use candidates::Start;
 pub use faults::{ApplyFault, BuildFault};

@@ -34,6 +34,7 @@ use crate::orders::order;
 use crate::steps::{is_step, is_still, task_of};
 use crate::tables::Tables;
 use crate::tries::tries_are_few;
+use crate::worklists::{Worklist, extent_of};
 use std::alloc::Global;
 use std::marker::Model;
 use tf_bound::{event_is_short, plan_is_within_limits};
@@ -49,6 +50,7 @@ use tf_values::{Memory, Val};
 pub struct Machine {
     compiled: Compiled,
     tables: Tables,
+    list: Worklist,
 }
 
 impl Model for Machine {
@@ -62,7 +64,7 @@ impl Model for Machine {
 
     ghost view = { λ m. record { plan = m.compiled; views = m.tables.views.items; places = m.tables.places.items; flow = m.tables.flow } };
 
-    ghost invariant = { λ m. IsSoundWith (record { plan = m.compiled; views = m.tables.views.items; places = m.tables.places.items; flow = m.tables.flow }) m.tables.counters };
+    ghost invariant = { λ m. IsSoundWith (record { plan = m.compiled; views = m.tables.views.items; places = m.tables.places.items; flow = m.tables.flow }) m.tables.counters m.list };
 }
 
 impl Machine {
@@ -78,8 +80,17 @@ impl Machine {
         plan_is_within_limits(&plan);
         tries_are_few(&plan);
         let compiled = Compiled::make(alloc, plan)?;
-        let tables = Tables::make(alloc, &compiled)?;
-        Ok(Machine { compiled, tables })
+        let Ok(tables) = Tables::make(alloc, &compiled) else {
+            return Err(BuildFault::Memory);
+        };
+        let Ok(list) = Worklist::make(alloc, &compiled) else {
+            return Err(BuildFault::Memory);
+        };
+        Ok(Machine {
+            compiled,
+            tables,
+            list,
+        })
     }
 
     /// Appends an entry, if it may follow the history. Else it comes back, and the machine is as it was.
@@ -115,7 +126,9 @@ impl Machine {
             → entry.what ≢ flow_turns resuming → left self.new.plan (shown self.new) < left self.old.plan (shown self.old) }
     {
         event_is_short(&entry.what);
+        let extent = extent_of(&self.compiled, &entry.what);
         self.tables.record(&self.compiled, entry);
+        self.list.follow(&self.compiled, &self.tables, extent);
     }
 
     /// Appends the end of the task that the hand has in flight: after RUNNING it is SUCCESS with the
@@ -147,7 +160,7 @@ impl Machine {
         ensures less { IfOk result (λ found. (hand : ℕ) (w : Event) → found ≡ Some w
             → left_later self.now.plan hand w (shown self.now) < left self.now.plan (shown self.now)) }
     {
-        let found = forced(alloc, &self.compiled, &self.tables)?;
+        let found = forced(alloc, &self.compiled, &self.tables, &self.list)?;
         Ok(found)
     }
 
@@ -162,7 +175,7 @@ impl Machine {
         ensures task { IfSome result (λ start. is_task (outline self.now) start.atom ≡ true) }
         ensures less { IfSome result (λ start. (hand : ℕ) → left_later self.now.plan hand (start_entry start) (shown self.now) < left self.now.plan (shown self.now)) }
     {
-        candidate(&self.compiled, &self.tables)
+        candidate(&self.compiled, &self.tables, &self.list)
     }
 
     /// The order to do so with a task at this moment: what a performer is asked for where the start is
@@ -194,7 +207,7 @@ impl Machine {
             → choice (outline self.now) (snapshot (outline self.now) past) ≡ None
             → is_still (outline self.now) (snapshot (outline self.now) past) ≡ true → is_some result ≡ true }
     {
-        end_of(&self.compiled, &self.tables)
+        end_of(&self.compiled, &self.tables, &self.list)
     }
 
     /// The task that the hand has in flight, if it has one.
@@ -208,7 +221,7 @@ impl Machine {
         ensures less { (a : ℕ) (outcome : Came) → result ≡ Some a
             → left self.now.plan (later (outline self.now) (end_by (shown self.now) hand outcome a) (shown self.now)) < left self.now.plan (shown self.now) }
     {
-        task_of(&self.compiled, &self.tables, hand)
+        task_of(&self.compiled, &self.tables, &self.list, hand)
     }
 
     /// The entry with which the hand ends the task that it has in flight, with this outcome: the one that
@@ -232,7 +245,7 @@ impl Machine {
         ensures after { (past : List Record) → StandsFor self.now past
             → result ≡ is_still (outline self.now) (snapshot (outline self.now) past) }
     {
-        is_still(&self.compiled, &self.tables)
+        is_still(&self.compiled, &self.tables, &self.list)
     }
 
     /// The state and the payload of each atom, by its number.
@@ -300,7 +313,7 @@ impl Machine {
         ensures yes { result ≡ Ok true → Step (outline self.now) (shown self.now) entry.now }
         ensures no { result ≡ Ok false → ¬ (Step (outline self.now) (shown self.now) entry.now) }
     {
-        is_step(alloc, &self.compiled, &self.tables, entry)
+        is_step(alloc, &self.compiled, &self.tables, &self.list, entry)
     }
 }
 

@@ -1,4 +1,4 @@
-ghost use Rattle.std.specs.Prelude.{◌≡◌, ◌<◌};
+ghost use Rattle.std.specs.Prelude.{◌≡◌, ◌<◌, true, false};
 ghost use Rattle.std.specs.List.{list_all};
 ghost use Rattle.tf_model.specs.Plan.{outline_of, count};
 ghost use Rattle.tf_model.specs.Readiness.{can_run, can_revert};
@@ -53,4 +53,24 @@ fn are_settled_after(compiled: &Compiled, tables: &Tables, atom: u16) -> bool
     ensures { result ≡ list_all (is_settled_at (shown_by tables.now)) (successors_of (outline_of compiled.now) atom) }
 {
     tables.counters.holding(atom) == 0
+}
+
+/// Whether an atom waits for another, so that it can't run.
+#[tactic(auto, using(crate::proofs::ReadinessLemmas::never_runs))]
+pub fn is_waiting(compiled: &Compiled, tables: &Tables, atom: u16) -> bool
+    requires counted { IsCounted (outline_of compiled.now) tables.now }
+    requires atom { atom < count (outline_of compiled.now) }
+    ensures { result ≡ true → can_run (outline_of compiled.now) (shown_by tables.now) atom ≡ false }
+{
+    !are_done_before(compiled, tables, atom)
+}
+
+/// Whether an atom is held by another, so that it can't revert.
+#[tactic(auto, using(crate::proofs::ReadinessLemmas::never_reverts))]
+pub fn is_held(compiled: &Compiled, tables: &Tables, atom: u16) -> bool
+    requires counted { IsCounted (outline_of compiled.now) tables.now }
+    requires atom { atom < count (outline_of compiled.now) }
+    ensures { result ≡ true → can_revert (outline_of compiled.now) (shown_by tables.now) atom ≡ false }
+{
+    !are_settled_after(compiled, tables, atom)
 }

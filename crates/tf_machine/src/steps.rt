@@ -8,6 +8,7 @@ ghost use Rattle.tf_model.specs.Steps.{Rule, Step, is_free, is_still, is_settled
 ghost use Rattle.tf_machine.specs.Answers.{task_of, is_with};
 ghost use Rattle.tf_machine.specs.Counts.{IsCounted};
 ghost use Rattle.tf_machine.specs.Tables.{shown_by};
+ghost use Rattle.tf_machine.specs.Worklists.{IsListed};
 
 use crate::candidates::is_choice;
 use crate::compiled::Compiled;
@@ -15,16 +16,19 @@ use crate::ending::end_of;
 use crate::forcing::is_forced;
 use crate::states::{flow_is_reverted, flow_runs, flow_suspends, is_put_back, is_settled};
 use crate::tables::Tables;
+use crate::worklists::{Worklist, first_of};
 use std::alloc::Global;
 use tf_states::{AtomState, Entry, FlowState, Payload, What};
 use tf_values::Memory;
 
 /// The task that a hand has in flight.
-#[tactic(auto, using(tf_numbers::proofs::BelowLemmas::still_none))]
-pub fn task_of(compiled: &Compiled, tables: &Tables, hand: u8) -> Option<u16>
+#[tactic(auto, using(tf_numbers::proofs::BelowLemmas::still_none, crate::proofs::WorkLemmas::none_with))]
+pub fn task_of(compiled: &Compiled, tables: &Tables, list: &Worklist, hand: u8) -> Option<u16>
+    requires listed { IsListed (outline_of compiled.now) (shown_by tables.now) list.now }
     ensures { result ≡ task_of (outline_of compiled.now) (shown_by tables.now) hand }
 {
-    for atom in 0..compiled.atoms() {
+    let start = first_of(&list.busy, compiled.atoms());
+    for atom in start..compiled.atoms() {
         if tables.is_with(hand, atom) {
             return Some(atom);
         }
@@ -33,11 +37,13 @@ pub fn task_of(compiled: &Compiled, tables: &Tables, hand: u8) -> Option<u16>
 }
 
 /// Whether a hand has nothing in flight.
-#[tactic(auto, unfolding(tf_model::specs::Steps::is_free))]
-fn is_free(compiled: &Compiled, tables: &Tables, hand: u8) -> bool
+#[tactic(auto, using(crate::proofs::WorkLemmas::none_is_with), unfolding(tf_model::specs::Steps::is_free))]
+fn is_free(compiled: &Compiled, tables: &Tables, list: &Worklist, hand: u8) -> bool
+    requires listed { IsListed (outline_of compiled.now) (shown_by tables.now) list.now }
     ensures { result ≡ is_free (outline_of compiled.now) (shown_by tables.now) hand }
 {
-    for atom in 0..compiled.atoms() {
+    let start = first_of(&list.busy, compiled.atoms());
+    for atom in start..compiled.atoms() {
         if tables.is_with(hand, atom) {
             return false;
         }
@@ -46,11 +52,13 @@ fn is_free(compiled: &Compiled, tables: &Tables, hand: u8) -> bool
 }
 
 /// Whether nothing is in flight.
-#[tactic(auto, unfolding(tf_model::specs::Steps::is_still))]
-pub fn is_still(compiled: &Compiled, tables: &Tables) -> bool
+#[tactic(auto, using(crate::proofs::WorkLemmas::none_in_flight), unfolding(tf_model::specs::Steps::is_still))]
+pub fn is_still(compiled: &Compiled, tables: &Tables, list: &Worklist) -> bool
+    requires listed { IsListed (outline_of compiled.now) (shown_by tables.now) list.now }
     ensures { result ≡ is_still (outline_of compiled.now) (shown_by tables.now) }
 {
-    for atom in 0..compiled.atoms() {
+    let start = first_of(&list.busy, compiled.atoms());
+    for atom in start..compiled.atoms() {
         if tables.hand(atom).is_some() {
             return false;
         }
@@ -116,13 +124,14 @@ fn turns_flow(from: FlowState, what: &What) -> bool
 }
 
 /// Whether the entry records the end.
-fn is_end(compiled: &Compiled, tables: &Tables, what: &What) -> bool
+fn is_end(compiled: &Compiled, tables: &Tables, list: &Worklist, what: &What) -> bool
     requires counted { IsCounted (outline_of compiled.now) tables.now }
+    requires listed { IsListed (outline_of compiled.now) (shown_by tables.now) list.now }
     ensures yes { result ≡ true → end_entry (outline_of compiled.now) (shown_by tables.now) ≡ Some what.now }
     ensures no { result ≡ false → end_entry (outline_of compiled.now) (shown_by tables.now) ≢ Some what.now }
 {
     match what {
-        What::Flow(state) => match end_of(compiled, tables) {
+        What::Flow(state) => match end_of(compiled, tables, list) {
             Some(end) => end == *state,
             None => false,
         },
@@ -131,25 +140,29 @@ fn is_end(compiled: &Compiled, tables: &Tables, what: &What) -> bool
 }
 
 /// Whether the entry suspends the flow, which nothing forbids.
-fn is_suspension(compiled: &Compiled, tables: &Tables, what: &What) -> bool
+fn is_suspension(compiled: &Compiled, tables: &Tables, list: &Worklist, what: &What) -> bool
     requires counted { IsCounted (outline_of compiled.now) tables.now }
+    requires listed { IsListed (outline_of compiled.now) (shown_by tables.now) list.now }
     ensures may { result ≡ true → may_suspend (outline_of compiled.now) (shown_by tables.now) ≡ true }
     ensures yes { result ≡ true → what.now ≡ flow_enters suspended }
     ensures no { result ≡ false → may_suspend (outline_of compiled.now) (shown_by tables.now) ≡ true → what.now ≢ flow_enters suspended }
 {
     match what {
-        What::Flow(FlowState::Suspended) => may_suspend(compiled, tables),
+        What::Flow(FlowState::Suspended) => may_suspend(compiled, tables, list),
         _ => false,
     }
 }
 
 /// Whether in SUSPENDING nothing is in flight and there is no end.
 #[tactic(auto, unfolding(tf_model::specs::Steps::may_suspend))]
-fn may_suspend(compiled: &Compiled, tables: &Tables) -> bool
+fn may_suspend(compiled: &Compiled, tables: &Tables, list: &Worklist) -> bool
     requires counted { IsCounted (outline_of compiled.now) tables.now }
+    requires listed { IsListed (outline_of compiled.now) (shown_by tables.now) list.now }
     ensures { result ≡ may_suspend (outline_of compiled.now) (shown_by tables.now) }
 {
-    flow_suspends(tables.flow) && is_still(compiled, tables) && end_of(compiled, tables).is_none()
+    flow_suspends(tables.flow)
+        && is_still(compiled, tables, list)
+        && end_of(compiled, tables, list).is_none()
 }
 
 /// Whether every atom is settled.
@@ -212,8 +225,15 @@ fn is_reset(compiled: &Compiled, tables: &Tables, what: &What) -> bool
 /// Whether an event may be recorded by the hand, by one of the rules, where it is told whether it is the
 /// forced one.
 #[tactic(auto, using(crate::proofs::RuleLemmas::no_rule))]
-fn has_rule(compiled: &Compiled, tables: &Tables, entry: &Entry, is_forced: bool) -> bool
+fn has_rule(
+    compiled: &Compiled,
+    tables: &Tables,
+    list: &Worklist,
+    entry: &Entry,
+    is_forced: bool,
+) -> bool
     requires counted { IsCounted (outline_of compiled.now) tables.now }
+    requires listed { IsListed (outline_of compiled.now) (shown_by tables.now) list.now }
     requires forced { is_forced ≡ true → forced (outline_of compiled.now) (shown_by tables.now) ≡ Some entry.now.what }
     requires unforced { is_forced ≡ false → forced (outline_of compiled.now) (shown_by tables.now) ≢ Some entry.now.what }
     ensures yes { result ≡ true → Rule (outline_of compiled.now) (shown_by tables.now) entry.now }
@@ -222,13 +242,17 @@ fn has_rule(compiled: &Compiled, tables: &Tables, entry: &Entry, is_forced: bool
     if is_forced || turns_flow(tables.flow, &entry.what) {
         return true;
     }
-    if ends_task(tables, entry.hand, &entry.what) || is_suspension(compiled, tables, &entry.what) {
+    if ends_task(tables, entry.hand, &entry.what)
+        || is_suspension(compiled, tables, list, &entry.what)
+    {
         return true;
     }
-    if is_free(compiled, tables, entry.hand) && is_choice(compiled, tables, &entry.what) {
+    if is_free(compiled, tables, list, entry.hand)
+        && is_choice(compiled, tables, list, &entry.what)
+    {
         return true;
     }
-    if is_end(compiled, tables, &entry.what) && is_still(compiled, tables) {
+    if is_end(compiled, tables, list, &entry.what) && is_still(compiled, tables, list) {
         return true;
     }
     is_reset(compiled, tables, &entry.what)
@@ -239,23 +263,32 @@ pub fn is_step(
     alloc: Global,
     compiled: &Compiled,
     tables: &Tables,
+    list: &Worklist,
     entry: &Entry,
 ) -> Result<bool, Memory>
     requires counted { IsCounted (outline_of compiled.now) tables.now }
+    requires listed { IsListed (outline_of compiled.now) (shown_by tables.now) list.now }
     ensures yes { result ≡ Ok true → Step (outline_of compiled.now) (shown_by tables.now) entry.now }
     ensures no { result ≡ Ok false → ¬ (Step (outline_of compiled.now) (shown_by tables.now) entry.now) }
 {
-    let is_forced = is_forced(alloc, compiled, tables, &entry.what)?;
-    Ok(may_follow(compiled, tables, entry, is_forced))
+    let is_forced = is_forced(alloc, compiled, tables, list, &entry.what)?;
+    Ok(may_follow(compiled, tables, list, entry, is_forced))
 }
 
 /// Whether the entry may follow, where it is told whether it is the forced one.
-fn may_follow(compiled: &Compiled, tables: &Tables, entry: &Entry, is_forced: bool) -> bool
+fn may_follow(
+    compiled: &Compiled,
+    tables: &Tables,
+    list: &Worklist,
+    entry: &Entry,
+    is_forced: bool,
+) -> bool
     requires counted { IsCounted (outline_of compiled.now) tables.now }
+    requires listed { IsListed (outline_of compiled.now) (shown_by tables.now) list.now }
     requires forced { is_forced ≡ true → forced (outline_of compiled.now) (shown_by tables.now) ≡ Some entry.now.what }
     requires unforced { is_forced ≡ false → forced (outline_of compiled.now) (shown_by tables.now) ≢ Some entry.now.what }
     ensures yes { result ≡ true → Step (outline_of compiled.now) (shown_by tables.now) entry.now }
     ensures no { result ≡ false → ¬ (Step (outline_of compiled.now) (shown_by tables.now) entry.now) }
 {
-    entry.hand < 64 && has_rule(compiled, tables, entry, is_forced)
+    entry.hand < 64 && has_rule(compiled, tables, list, entry, is_forced)
 }

@@ -14,8 +14,6 @@ mod rows;
 mod sight;
 mod standing_atoms;
 mod tables;
-#[cfg(test)]
-mod tests;
 mod ways;
 
 pub use compilation::compile;

@@ -1,1 +1,3 @@
+mod LinkLemmas
 mod RemainingLemmas
+mod SocketLemmas

@@ -2,12 +2,15 @@ pub mod Built
 pub mod Contents
 pub mod Gives
 pub mod Laws
+pub mod Links
 pub mod MemoryCrew
+pub mod MemoryLink
 pub mod MemoryPerformer
 pub mod MemorySources
 pub mod MemorySpawner
 pub mod PlayedLaws
 pub mod Remaining
+pub mod Sockets
 pub mod Told
 pub mod Wanted
 pub mod Whole

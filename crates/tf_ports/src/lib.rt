@@ -3,9 +3,13 @@
 
 mod children;
 mod crews;
+mod doors;
 mod folder;
+mod links;
 mod memory;
 mod memory_crew;
+mod memory_door;
+mod memory_link;
 mod memory_performer;
 mod memory_spawner;
 mod orders;
@@ -13,12 +17,17 @@ mod outcomes;
 mod performers;
 mod programs;
 mod reading;
+mod sockets;
 
 pub use children::Children;
 pub use crews::{Address, Addresses, Crew, PortFault, Want};
+pub use doors::Door;
 pub use folder::Folder;
+pub use links::{Came, Link, LinkFault};
 pub use memory::{MemorySource, MemorySources};
 pub use memory_crew::MemoryCrew;
+pub use memory_door::MemoryDoor;
+pub use memory_link::MemoryLink;
 pub use memory_performer::MemoryPerformer;
 pub use memory_spawner::{MemoryProgram, MemorySpawner};
 pub use orders::{Args, Given, Order, Pair};
@@ -26,6 +35,9 @@ pub use outcomes::{Action, Outcome};
 pub use performers::Performer;
 pub use programs::{Done, Output, SpawnFault, Spawner};
 pub use reading::{SourceFault, Sources};
+pub use sockets::{SocketDoor, SocketLink};
 
+#[cfg(test)]
+mod link_tests;
 #[cfg(test)]
 mod tests;

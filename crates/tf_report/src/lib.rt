@@ -1,8 +1,10 @@
-//! The texts that a run shows: the line of each entry, the report at its end, and the table of where its atoms stand.
+//! The texts that a run shows: the line of each entry, the report at its end, and the table of where its atoms stand;
+//! and the list of a board's jobs.
 #![tactic(auto)]
 
 mod appending;
 mod failures;
+mod job_lines;
 mod lines;
 mod names;
 mod reports;
@@ -12,6 +14,7 @@ mod tables;
 mod tests;
 
 pub use appending::{append, append_counted, append_named, append_number, append_pair};
+pub use job_lines::{JobLine, Priority, jobs, priority_word};
 pub use lines::line;
 pub use names::flow_name;
 pub use reports::report;

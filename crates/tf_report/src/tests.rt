@@ -1,3 +1,4 @@
+use crate::job_lines::{JobLine, Priority, jobs};
 use crate::lines::line;
 use crate::reports::report;
 use crate::tables::table;
@@ -7,7 +8,7 @@ use tf_flow::{
     ArgList, Binds, Flow, FlowKind, Item, Items, Links, Plan, Provides, Retry, RetryKind, Task,
     TaskKind, Undo,
 };
-use tf_states::{AtomState, AtomView, Entry, Failure, FlowState, Kind, Payload, What};
+use tf_states::{AtomState, AtomView, Entry, Failure, FlowState, JobState, Kind, Payload, What};
 use tf_values::{Name, Text, Texts, Val};
 
 fn name(text: &str) -> Result<Name, Fail> {
@@ -215,5 +216,52 @@ fn a_table_has_the_flow_and_its_atom(rt: HostRuntime) -> Result<(), Fail> {
         &mut out,
     )?;
     assert!(rt; out.as_slice() == b"state main SUCCESS\natom a SUCCESS 1\n".as_slice());
+    Ok(())
+}
+
+fn job(
+    alloc: Global,
+    number: u64,
+    id: &str,
+    title: &str,
+    priority: Priority,
+) -> Result<JobLine, Fail> {
+    Ok(JobLine {
+        number,
+        id: Text::make(alloc, id.as_bytes())?,
+        name: name(title)?,
+        priority,
+        state: JobState::Unclaimed,
+        owner: None,
+    })
+}
+
+/// Two jobs of which nobody has the first, and `ann` the second.
+#[test]
+fn each_job_has_its_line(rt: HostRuntime) -> Result<(), Fail> {
+    let alloc = rt.alloc();
+    let first = job(
+        alloc,
+        2,
+        "baf06c29-01b3-5083-a254-f0297b72a100",
+        "test",
+        Priority::High,
+    )?;
+    let mut second = job(
+        alloc,
+        1,
+        "584cd1e7-aed6-500d-8055-e04f2efc0be6",
+        "build",
+        Priority::Normal,
+    )?;
+    second.state = JobState::Claimed;
+    second.owner = Some(name("ann")?);
+    let list = vec![in alloc; first, second]?;
+    let mut out = Vec::new(alloc);
+    jobs(&list, &mut out)?;
+    assert!(rt;
+        out.as_slice()
+            == b"HIGH 2 baf06c29-01b3-5083-a254-f0297b72a100 test UNCLAIMED -\nNORMAL 1 584cd1e7-aed6-500d-8055-e04f2efc0be6 build CLAIMED ann\n".as_slice()
+    );
     Ok(())
 }

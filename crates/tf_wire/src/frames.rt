@@ -1,4 +1,4 @@
-ghost use Rattle.std.specs.Prelude.{◌≡◌, ℕ, List, [], ◌∷◌, ◌++◌, ◌≤◌, drop, length, true, OnOk, IfErr, IfSome, MatchOption};
+ghost use Rattle.std.specs.Prelude.{◌≡◌, ◌↔◌, IsTrue, ℕ, List, [], ◌∷◌, ◌++◌, ◌≤◌, drop, length, true, OnOk, IfErr, IfSome, MatchOption};
 ghost use Rattle.tf_wire.specs.Stream.{BeginsWithFrame, BeginsWithBadLength};
 ghost use Rattle.tf_wire.specs.Keeping.{StandsFor, IsCutOff, IsHere, GoesOn, IsAnswer, KeepsFrames};
 
@@ -70,6 +70,13 @@ impl Frames {
             Front::BadLength => Err(WireFault::Bad { at: self.place }),
             _ => Ok(()),
         }
+    }
+
+    /// Whether the stream so far ends between two frames: nothing stands behind its whole frames.
+    pub fn is_between(&self) -> bool
+        ensures { IsTrue result ↔ (self.now.rest ≡ []) }
+    {
+        self.rest.is_empty()
     }
 
     /// Takes the first whole frame that wasn't taken yet; none is there exactly where all were taken.

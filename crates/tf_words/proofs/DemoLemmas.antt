@@ -4,7 +4,11 @@ use Rattle.std.proofs.lemmas.Bool.Decides.{nat_tests}
 use Rattle.std.specs.Prelude.{option_map, option_and_then, if◌then◌else◌}
 use Rattle.std.specs.Str.Parse.{digits_value}
 use Rattle.tf_numbers.proofs.TruthLemmas.{and_first, and_second}
-use Rattle.tf_words.specs.Commands.{Said, hands_in, deferral_in, stop_in, try_of, run_of, resume_of, show_of, reset_of, check_of, demo_of, asked_by}
+use Rattle.tf_words.specs.Addresses.{worker_of, address_of, sessions_in}
+use Rattle.tf_words.specs.Boards.{id_in, Applied, post_of, claim_of, abandon_of, consume_of, trash_of, owner_of, list_of, applied_in, priority_in, details_in}
+use Rattle.tf_words.specs.Options.{Said}
+use Rattle.tf_words.specs.Commands.{hands_in, deferral_in, stop_in, try_of, run_of, resume_of, show_of, reset_of, check_of, demo_of, asked_by}
+use Rattle.tf_values.specs.Name.{is_name}
 use Rattle.tf_words.specs.Demos.{IsDemo}
 use Rattle.tf_words.specs.Numbers.{is_number, number_between}
 use Rattle.tf_words.specs.Pairs.{sets_behind}
@@ -102,6 +106,44 @@ reset_other [] seed size name hands is = cc
 reset_other (book ∷ []) seed size name hands is = cc
 reset_other (book ∷ more ∷ others) seed size name hands is = cc
 
+worker_other : (said : Said) (words : List (List ℕ)) (seed size : ℕ) (name : List ℕ) (hands : ℕ) → worker_of said words ≡ Some (asked.Demo seed size name hands) → ⊥
+worker_other said [] seed size name hands is = cc
+worker_other said (word ∷ []) seed size name hands is =
+    let a = then_some _ (sessions_in said) (asked.Demo seed size name hands) is in
+    let b = map_some _ (address_of word) (asked.Demo seed size name hands) a.2 in
+    let other = b.2 in cc
+worker_other said (word ∷ more ∷ others) seed size name hands is = cc
+
+where_some : {A : Type 0} (c : Bool) (o : Option A) (a : A) → (if c then o else None) ≡ Some a → o ≡ Some a
+where_some true o a is = is
+where_some false o a is = absurd (cc)
+
+post_other : (said : Said) (words : List (List ℕ)) (seed size : ℕ) (name : List ℕ) (hands : ℕ) → post_of said words ≡ Some (asked.Demo seed size name hands) → ⊥
+post_other said [] seed size name hands is = cc
+post_other said (board ∷ []) seed size name hands is = cc
+post_other said (board ∷ job ∷ []) seed size name hands is =
+    let a = then_some _ (priority_in said) (asked.Demo seed size name hands) (where_some (is_name job) _ (asked.Demo seed size name hands) is) in
+    let b = map_some _ (details_in said) (asked.Demo seed size name hands) a.2 in
+    let other = b.2 in cc
+post_other said (board ∷ job ∷ more ∷ others) seed size name hands is = cc
+
+applied_other : (gives : Applied → Asked) (words : List (List ℕ)) (seed size : ℕ) (name : List ℕ) (hands : ℕ) → ((found : Applied) → gives found ≡ asked.Demo seed size name hands → ⊥)
+    → option_map gives (applied_in words) ≡ Some (asked.Demo seed size name hands) → ⊥
+applied_other gives words seed size name hands apart is = let a = map_some gives (applied_in words) (asked.Demo seed size name hands) is in apart a.0 a.2
+
+owner_other : (words : List (List ℕ)) (seed size : ℕ) (name : List ℕ) (hands : ℕ) → owner_of words ≡ Some (asked.Demo seed size name hands) → ⊥
+owner_other [] seed size name hands is = cc
+owner_other (board ∷ []) seed size name hands is = cc
+owner_other (board ∷ id ∷ []) seed size name hands is =
+    let a = map_some _ (id_in id) (asked.Demo seed size name hands) is in
+    let other = a.2 in cc
+owner_other (board ∷ id ∷ more ∷ others) seed size name hands is = cc
+
+list_other : (words : List (List ℕ)) (seed size : ℕ) (name : List ℕ) (hands : ℕ) → list_of words ≡ Some (asked.Demo seed size name hands) → ⊥
+list_other [] seed size name hands is = cc
+list_other (board ∷ []) seed size name hands is = cc
+list_other (board ∷ more ∷ others) seed size name hands is = cc
+
 asked_within : (which : Verb) (said : Said) (seed size : ℕ) (name : List ℕ) (hands : ℕ) → asked_by which said ≡ Some (asked.Demo seed size name hands) → IsDemo seed size
 asked_within verb.Try said seed size name hands is = absurd (try_other said (said []) seed size name hands is)
 asked_within verb.Run said seed size name hands is = absurd (run_other said (said []) seed size name hands is)
@@ -110,6 +152,14 @@ asked_within verb.Show said seed size name hands is = absurd (show_other (said [
 asked_within verb.Reset said seed size name hands is = absurd (reset_other (said []) seed size name hands is)
 asked_within verb.Check said seed size name hands is = absurd (check_other (said []) seed size name hands is)
 asked_within verb.Demo said seed size name hands is = demo_within said (said []) seed size name hands is
+asked_within verb.Worker said seed size name hands is = absurd (worker_other said (said []) seed size name hands is)
+asked_within verb.Post said seed size name hands is = absurd (post_other said (said []) seed size name hands is)
+asked_within verb.Claim said seed size name hands is = absurd (applied_other _ (said []) seed size name hands (λ found other. cc) is)
+asked_within verb.Abandon said seed size name hands is = absurd (applied_other _ (said []) seed size name hands (λ found other. cc) is)
+asked_within verb.Consume said seed size name hands is = absurd (applied_other _ (said []) seed size name hands (λ found other. cc) is)
+asked_within verb.Trash said seed size name hands is = absurd (applied_other _ (said []) seed size name hands (λ found other. cc) is)
+asked_within verb.Owner said seed size name hands is = absurd (owner_other (said []) seed size name hands is)
+asked_within verb.List said seed size name hands is = absurd (list_other (said []) seed size name hands is)
 
 pub command_within : (words : List (List ℕ)) (seed size : ℕ) (name : List ℕ) (hands : ℕ) → command_of words ≡ Some (asked.Demo seed size name hands) → IsDemo seed size
 command_within words seed size name hands is = by (are_filled words) is

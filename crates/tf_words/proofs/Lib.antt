@@ -12,3 +12,5 @@ pub mod FoundLemmas
 pub mod TextLemmas
 pub mod NumberLemmas
 pub mod DemoLemmas
+pub mod AddressLemmas
+pub mod ChoiceLemmas

@@ -5,18 +5,11 @@ use Rattle.tf_words.specs.declared.asked.Asked.{Asked}
 use Rattle.tf_words.specs.declared.asked.Asked.TheVariants as asked
 use Rattle.tf_words.specs.declared.verbs.Verb.{Verb}
 use Rattle.tf_words.specs.declared.verbs.Verb.TheVariants as verb
+use Rattle.tf_words.specs.Addresses.{worker_of}
+use Rattle.tf_words.specs.Boards.{post_of, claim_of, abandon_of, consume_of, trash_of, owner_of, list_of}
 use Rattle.tf_words.specs.Numbers.{number_between}
+use Rattle.tf_words.specs.Options.{Said, once}
 use Rattle.tf_words.specs.Pairs.{sets_behind}
-
--- the values that words give to each name
-abbrev pub Said : Type 0
-Said = List ℕ → List (List ℕ)
-
--- an option stands at most once: what its value is read as, or what holds where it doesn't stand
-abbrev pub once : {A : Type 0} → A → (List ℕ → Option A) → List (List ℕ) → Option A
-once absent read [] = Some absent
-once absent read (value ∷ []) = read value
-once absent read _ = None
 
 -- whether reverts are deferred
 abbrev pub deferral_in : Said → Option Bool
@@ -90,3 +83,11 @@ asked_by verb.Show said = show_of (said [])
 asked_by verb.Reset said = reset_of (said [])
 asked_by verb.Check said = check_of (said [])
 asked_by verb.Demo said = demo_of said (said [])
+asked_by verb.Worker said = worker_of said (said [])
+asked_by verb.Post said = post_of said (said [])
+asked_by verb.Claim said = claim_of (said [])
+asked_by verb.Abandon said = abandon_of (said [])
+asked_by verb.Consume said = consume_of (said [])
+asked_by verb.Trash said = trash_of (said [])
+asked_by verb.Owner said = owner_of (said [])
+asked_by verb.List said = list_of (said [])

@@ -9,3 +9,6 @@ pub mod Numbers
 pub mod Commands
 pub mod Demos
 pub mod Words
+pub mod Options
+pub mod Addresses
+pub mod Boards

@@ -7,8 +7,10 @@ use crate::verbs::{Choice, chosen_in, keys_of};
 use crate::word::{Word, are_filled};
 use std::alloc::Global;
 use tf_flow::Binds;
-use tf_ports::Want;
-use tf_values::{Memory, Text};
+use tf_ports::{Address, Want};
+use tf_report::Priority;
+use tf_values::{Memory, Name, Text, Val};
+use uuid::Uuid;
 
 /// What the words ask for.
 #[derive(Debug, Drop)]
@@ -54,6 +56,51 @@ pub enum Asked {
         size: u16,
         book: Text,
         hands: u8,
+    },
+    /// Perform what comes to this address, for so many sessions.
+    Worker {
+        address: Address,
+        sessions: u32,
+    },
+    /// Post a job on a board.
+    Post {
+        board: Text,
+        name: Name,
+        priority: Priority,
+        details: Val,
+    },
+    /// Take a job of a board for an owner.
+    Claim {
+        board: Text,
+        id: Uuid,
+        owner: Name,
+    },
+    /// Give a job of a board back that an owner has.
+    Abandon {
+        board: Text,
+        id: Uuid,
+        owner: Name,
+    },
+    /// Finish a job of a board that an owner has.
+    Consume {
+        board: Text,
+        id: Uuid,
+        owner: Name,
+    },
+    /// Throw a job of a board away that an owner has.
+    Trash {
+        board: Text,
+        id: Uuid,
+        owner: Name,
+    },
+    /// Say who has a job of a board.
+    Owner {
+        board: Text,
+        id: Uuid,
+    },
+    /// Say which jobs a board has.
+    List {
+        board: Text,
     },
 }
 

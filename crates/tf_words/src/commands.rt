@@ -5,7 +5,9 @@ ghost use Rattle.tf_words.specs.Held.{held_by, texts_in};
 ghost use Rattle.tf_words.specs.Commands.{asked_by as asked_in, deferral_in as deferral_said, hands_in as hands_said, stop_in as stop_said};
 ghost use Rattle.tf_words.specs.Commands.{try_of as try_said, run_of as run_said, resume_of as resume_said, show_of as show_said, reset_of as reset_said, check_of as check_said, demo_of as demo_said};
 
+use crate::addresses::worker_of;
 use crate::asked::Asked;
+use crate::boards::{abandon_of, claim_of, consume_of, list_of, owner_of, post_of, trash_of};
 use crate::given::Given;
 use crate::numbers::number_between;
 use crate::pairs::sets_of;
@@ -29,6 +31,14 @@ pub fn asked_by(alloc: Global, verb: Verb, given: &Given<'_>) -> Result<Option<A
         Verb::Reset => reset_of(alloc, words),
         Verb::Check => check_of(alloc, words),
         Verb::Demo => demo_of(alloc, given, words),
+        Verb::Worker => worker_of(alloc, given, words),
+        Verb::Post => post_of(alloc, given, words),
+        Verb::Claim => claim_of(alloc, words),
+        Verb::Abandon => abandon_of(alloc, words),
+        Verb::Consume => consume_of(alloc, words),
+        Verb::Trash => trash_of(alloc, words),
+        Verb::Owner => owner_of(alloc, words),
+        Verb::List => list_of(alloc, words),
     }
 }
 
@@ -218,7 +228,7 @@ fn stop_in(given: &Given<'_>) -> Option<Option<u32>>
 }
 
 /// The text of a word.
-fn text_of(alloc: Global, word: &str) -> Result<Text, Memory>
+pub fn text_of(alloc: Global, word: &str) -> Result<Text, Memory>
     requires { is_text word.now ≡ true }
     ensures { IfOk result (λ text. text ≡ word.now) }
 {

@@ -4,7 +4,7 @@ ghost use Rattle.tf_values.specs.Text.{is_text};
 ghost use Rattle.tf_words.specs.Pieces.{are_filled, said_by, takes_value};
 ghost use Rattle.tf_words.specs.Verbs.{form_of};
 ghost use Rattle.tf_words.specs.Held.{held_by, texts_in};
-ghost use Rattle.tf_words.specs.Commands.{once};
+ghost use Rattle.tf_words.specs.Options.{once};
 
 use crate::parsing::parsed;
 use crate::verbs::Key;
@@ -48,7 +48,8 @@ impl<'a> Given<'a> {
 
     /// The value of an option, if it stands. None comes where it stands more than once.
     pub fn once(&self, name: &str) -> Option<Option<&'a str>>
-        ensures { option_map (option_map (λ text. text.now)) result ≡ once None (λ value. Some (Some value)) (held_by self.now.matches name.now) }
+        ensures text { IfSome result (λ found. IfSome found (λ text. is_text text.now ≡ true)) }
+        ensures once { option_map (option_map (λ text. text.now)) result ≡ once None (λ value. Some (Some value)) (held_by self.now.matches name.now) }
     {
         match self.values(name) {
             None => Some(None),

@@ -1,7 +1,9 @@
 //! The words of a command, and what they ask for.
 #![tactic(auto)]
 
+mod addresses;
 mod asked;
+mod boards;
 mod commands;
 mod given;
 mod laws;

@@ -183,7 +183,7 @@ fn is_integer(bytes: &[u8]) -> bool
 }
 
 /// Whether the bytes are digits without a leading zero, at least one.
-fn is_count(bytes: &[u8]) -> bool
+pub fn is_count(bytes: &[u8]) -> bool
     ensures { result ≡ count bytes.now }
 {
     let Some((first, digits)) = bytes.split_first() else {

@@ -3,7 +3,10 @@ use crate::word::Word;
 use std::alloc::Global;
 use std::test::Fail;
 use tf_flow::Binds;
-use tf_ports::Want;
+use tf_ports::{Address, Want};
+use tf_report::priority_word;
+use tf_values::{Name, Text};
+use uuid::Uuid;
 
 /// What words are: the command and its words with all its options; empty where they are no command.
 struct Case {
@@ -11,7 +14,7 @@ struct Case {
     reads: &'static str,
 }
 
-const COMMANDS: [Case; 17] = [
+const COMMANDS: [Case; 29] = [
     Case {
         words: &["try", "f", "x=1", "y=two"],
         reads: "try f x=1 y=\"two\" hands 1",
@@ -90,6 +93,97 @@ const COMMANDS: [Case; 17] = [
         words: &["run", "f", "B", "--hands="],
         reads: "",
     },
+    Case {
+        words: &["worker", "unix:/run/w.sock"],
+        reads: "worker unix /run/w.sock sessions 1",
+    },
+    Case {
+        words: &["worker", "--sessions=03", "tcp:127.0.0.1:65535"],
+        reads: "worker tcp 65535 sessions 3",
+    },
+    Case {
+        words: &["worker", "tcp:127.0.0.1:080"],
+        reads: "",
+    },
+    Case {
+        words: &["board", "post", "B", "build"],
+        reads: "post B build NORMAL null",
+    },
+    Case {
+        words: &[
+            "board",
+            "post",
+            "B",
+            "--priority",
+            "VERY_LOW",
+            "test",
+            "--details=[1,2]",
+        ],
+        reads: "post B test VERY_LOW [1,2]",
+    },
+    Case {
+        words: &[
+            "board",
+            "claim",
+            "B",
+            "{584CD1E7-AED6-500D-8055-E04F2EFC0BE6}",
+            "ann",
+        ],
+        reads: "claim B 584cd1e7-aed6-500d-8055-e04f2efc0be6 ann",
+    },
+    Case {
+        words: &[
+            "board",
+            "abandon",
+            "B",
+            "584cd1e7aed6500d8055e04f2efc0be6",
+            "ann",
+        ],
+        reads: "abandon B 584cd1e7-aed6-500d-8055-e04f2efc0be6 ann",
+    },
+    Case {
+        words: &[
+            "board",
+            "consume",
+            "B",
+            "584cd1e7-aed6-500d-8055-e04f2efc0be6",
+            "ann",
+        ],
+        reads: "consume B 584cd1e7-aed6-500d-8055-e04f2efc0be6 ann",
+    },
+    Case {
+        words: &[
+            "board",
+            "trash",
+            "B",
+            "urn:uuid:584cd1e7-aed6-500d-8055-e04f2efc0be6",
+            "ann",
+        ],
+        reads: "trash B 584cd1e7-aed6-500d-8055-e04f2efc0be6 ann",
+    },
+    Case {
+        words: &[
+            "board",
+            "owner",
+            "B",
+            "584cd1e7-aed6-500d-8055-e04f2efc0be6",
+        ],
+        reads: "owner B 584cd1e7-aed6-500d-8055-e04f2efc0be6",
+    },
+    Case {
+        words: &["board", "list", "B"],
+        reads: "list B",
+    },
+    Case {
+        words: &[
+            "board",
+            "claim",
+            "B",
+            "584cd1e7-aed6-500d-8055-e04f2efc0be",
+            "ann",
+        ],
+        reads: "",
+    },
 ];
 
 #[test]
@@ -162,6 +256,59 @@ fn show(alloc: Global, asked: &Asked, out: &mut Vec<u8>) -> Result<(), Fail> {
             out.extend_from_slice(format!(in alloc; "demo {seed} {size}")?.as_bytes())?;
             show_words(b"", &[book.bytes()], out)?;
             Ok(out.extend_from_slice(format!(in alloc; " hands {hands}")?.as_bytes())?)
+        }
+        Asked::Worker { address, sessions } => {
+            show_address(alloc, address, out)?;
+            Ok(out.extend_from_slice(format!(in alloc; " sessions {sessions}")?.as_bytes())?)
+        }
+        _ => show_board(alloc, asked, out),
+    }
+}
+
+fn show_board(alloc: Global, asked: &Asked, out: &mut Vec<u8>) -> Result<(), Fail> {
+    match asked {
+        Asked::Post {
+            board,
+            name,
+            priority,
+            details,
+        } => {
+            show_words(b"post", &[board.bytes(), name.bytes()], out)?;
+            show_words(b"", &[priority_word(*priority).as_bytes()], out)?;
+            out.extend_from_slice(b" ")?;
+            Ok(details.print(out)?)
+        }
+        Asked::Claim { board, id, owner } => show_job(alloc, b"claim", board, id, owner, out),
+        Asked::Abandon { board, id, owner } => show_job(alloc, b"abandon", board, id, owner, out),
+        Asked::Consume { board, id, owner } => show_job(alloc, b"consume", board, id, owner, out),
+        Asked::Trash { board, id, owner } => show_job(alloc, b"trash", board, id, owner, out),
+        Asked::Owner { board, id } => {
+            show_words(b"owner", &[board.bytes()], out)?;
+            Ok(out.extend_from_slice(format!(in alloc; " {id}")?.as_bytes())?)
+        }
+        Asked::List { board } => show_words(b"list", &[board.bytes()], out),
+        _ => Ok(()),
+    }
+}
+
+fn show_job(
+    alloc: Global,
+    head: &[u8],
+    board: &Text,
+    id: &Uuid,
+    owner: &Name,
+    out: &mut Vec<u8>,
+) -> Result<(), Fail> {
+    show_words(head, &[board.bytes()], out)?;
+    out.extend_from_slice(format!(in alloc; " {id}")?.as_bytes())?;
+    show_words(b"", &[owner.bytes()], out)
+}
+
+fn show_address(alloc: Global, address: &Address, out: &mut Vec<u8>) -> Result<(), Fail> {
+    match address {
+        Address::Unix(path) => show_words(b"worker unix", &[path.bytes()], out),
+        Address::Tcp(port) => {
+            Ok(out.extend_from_slice(format!(in alloc; "worker tcp {port}")?.as_bytes())?)
         }
     }
 }

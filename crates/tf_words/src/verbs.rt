@@ -1,6 +1,6 @@
-ghost use Rattle.std.specs.Prelude.{◌≡◌, [], Some, None, map, option_map};
-ghost use Rattle.tf_words.specs.Pieces.{takes_value};
-ghost use Rattle.tf_words.specs.Verbs.{form_of, forms_of, verb_named as verb_by_name, choice_of as chosen_by};
+ghost use Rattle.std.specs.Prelude.{◌≡◌, [], Some, None, true, IfSome, map, option_map};
+ghost use Rattle.tf_words.specs.Pieces.{are_filled, takes_value};
+ghost use Rattle.tf_words.specs.Verbs.{form_of, forms_of, verb_named as verb_by_name, board_verb_named as board_verb_by_name, choice_of as chosen_by, board_choice_of as chosen_behind_board};
 
 use crate::word::Word;
 
@@ -14,6 +14,14 @@ pub enum Verb {
     Reset,
     Check,
     Demo,
+    Worker,
+    Post,
+    Claim,
+    Abandon,
+    Consume,
+    Trash,
+    Owner,
+    List,
 }
 
 /// An option that a command knows, by its name without the hyphens.
@@ -46,6 +54,21 @@ const STOP_AFTER: Key = Key {
     valued: true,
 };
 
+const SESSIONS: Key = Key {
+    name: "sessions",
+    valued: true,
+};
+
+const PRIORITY: Key = Key {
+    name: "priority",
+    valued: true,
+};
+
+const DETAILS: Key = Key {
+    name: "details",
+    valued: true,
+};
+
 static TRY: [Key; 2] = [DEFER_REVERTS, HANDS];
 
 static RUN: [Key; 3] = [DEFER_REVERTS, HANDS, STOP_AFTER];
@@ -53,6 +76,10 @@ static RUN: [Key; 3] = [DEFER_REVERTS, HANDS, STOP_AFTER];
 static RESUME: [Key; 2] = [HANDS, STOP_AFTER];
 
 static DEMO: [Key; 1] = [HANDS];
+
+static WORKER: [Key; 1] = [SESSIONS];
+
+static POST: [Key; 2] = [PRIORITY, DETAILS];
 
 static NONE: [Key; 0] = [];
 
@@ -65,20 +92,64 @@ pub fn keys_of(verb: Verb) -> &'static [Key]
         Verb::Try => &TRY,
         Verb::Run => &RUN,
         Verb::Resume => &RESUME,
-        Verb::Show => &NONE,
-        Verb::Reset => &NONE,
-        Verb::Check => &NONE,
         Verb::Demo => &DEMO,
+        Verb::Worker => &WORKER,
+        Verb::Post => &POST,
+        Verb::Show | Verb::Reset | Verb::Check => &NONE,
+        Verb::Claim | Verb::Abandon | Verb::Consume | Verb::Trash => &NONE,
+        Verb::Owner | Verb::List => &NONE,
     }
 }
 
-/// The command that the first word chooses, if it chooses one.
+/// The command that the first word chooses, or `board` and the second, if they choose one.
 pub fn chosen_in(words: &[Word]) -> Option<Choice<'_>>
-    ensures { option_map (λ chosen. record { verb = chosen.verb; others = chosen.others.now }) result ≡ chosen_by words.now }
+    ensures is { option_map (λ chosen. record { verb = chosen.verb; others = chosen.others.now }) result ≡ chosen_by words.now }
+    ensures filled { are_filled words.now ≡ true → IfSome result (λ chosen. are_filled chosen.others.now ≡ true) }
 {
     let (first, others) = words.split_first()?;
+    if first.bytes() == b"board".as_slice() {
+        return chosen_of_board(others);
+    }
     let verb = verb_named(first.bytes())?;
     Some(Choice { verb, others })
+}
+
+/// The command of a board that the first of these words chooses.
+fn chosen_of_board(words: &[Word]) -> Option<Choice<'_>>
+    ensures is { option_map (λ chosen. record { verb = chosen.verb; others = chosen.others.now }) result ≡ chosen_behind_board words.now }
+    ensures filled { are_filled words.now ≡ true → IfSome result (λ chosen. are_filled chosen.others.now ≡ true) }
+{
+    let (first, others) = words.split_first()?;
+    let verb = board_verb_named(first.bytes())?;
+    Some(Choice { verb, others })
+}
+
+/// The command of a board of this name.
+fn board_verb_named(word: &[u8]) -> Option<Verb>
+    ensures { result ≡ board_verb_by_name word.now }
+{
+    if word == b"post".as_slice() {
+        return Some(Verb::Post);
+    }
+    if word == b"claim".as_slice() {
+        return Some(Verb::Claim);
+    }
+    if word == b"abandon".as_slice() {
+        return Some(Verb::Abandon);
+    }
+    if word == b"consume".as_slice() {
+        return Some(Verb::Consume);
+    }
+    if word == b"trash".as_slice() {
+        return Some(Verb::Trash);
+    }
+    if word == b"owner".as_slice() {
+        return Some(Verb::Owner);
+    }
+    if word == b"list".as_slice() {
+        return Some(Verb::List);
+    }
+    None
 }
 
 /// The command of this name.
@@ -105,6 +176,9 @@ fn verb_named(word: &[u8]) -> Option<Verb>
     }
     if word == b"demo".as_slice() {
         return Some(Verb::Demo);
+    }
+    if word == b"worker".as_slice() {
+        return Some(Verb::Worker);
     }
     None
 }

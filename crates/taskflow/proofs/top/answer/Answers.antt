@@ -2,6 +2,7 @@ use Rattle.std.proofs.Common.{sym, ap, ◌∙◌, refl}
 use Rattle.taskflow.specs.Asking.{if_done_here}
 use Rattle.taskflow.specs.Course.{unheard, obeyed, no_command}
 use Rattle.tf_words.specs.Words.{command_of}
+use Rattle.taskflow.proofs.CauseLemmas.{listened_so}
 use Rattle.taskflow.proofs.CourseLemmas.{within_so}
 use Rattle.taskflow.proofs.top.answer.Goals as goal
 
@@ -20,3 +21,7 @@ returns-in-Some-clause-course g c =
 pub returns-in-None-clause-course : goal.returns-in-None-clause-course
 returns-in-None-clause-course g c =
     no_command (ap if_done_here (sym c.in-Ok.ensures) ∙ sym c.done_here.ensures.is ∙ c.in-None.is) c.close-status.ensures.closes (refl, λ told. (c.close-status.ensures.stands told).files)
+
+pub returns-in-Some-clause-causes : goal.returns-in-Some-clause-causes
+returns-in-Some-clause-causes g c =
+    listened_so _ _ _ _ _ (λ both. ((c.in-Some.asked, ap if_done_here (sym c.in-Ok.ensures) ∙ sym c.done_here.ensures.is ∙ c.in-Some.is, both.0), both.1)) c.obey.ensures.causes

@@ -1,25 +1,15 @@
-use Rattle.std.proofs.Common.{refl}
-use Rattle.taskflow.proofs.CourseLemmas.{obeys_so, quiet_file}
+use Rattle.std.proofs.Common.{refl, sym, ◌∙◌}
+use Rattle.taskflow.proofs.BoardLemmas.{obeys_board, board_among}
 use Rattle.taskflow.proofs.top.obey.Goals as goal
 
-pub returns-in-Try-clause-obeys : goal.returns-in-Try-clause-obeys
-returns-in-Try-clause-obeys g c = obeys_so _ _ _ _ _ _ _ _ c.args.asked _ _ _ _ _ _ _ c.in-Try.is (c.try_file.ensures.tried, c.try_file.ensures.stays)
+pub returns-then-is_of_board-clause-obeys : goal.returns-then-is_of_board-clause-obeys
+returns-then-is_of_board-clause-obeys g c =
+    let D = g.K.Desk in
+    obeys_board D.tells D.shown D.content D.left D.crashes D.disk_faults _ _ c.args.asked _ _ _ c.args.desk c.on_board.result.desk c.on_board.result.status
+    (sym c.is_of_board.ensures ∙ c.if-is_of_board.true) c.on_board.ensures.does refl
 
-pub returns-in-Run-clause-obeys : goal.returns-in-Run-clause-obeys
-returns-in-Run-clause-obeys g c = obeys_so _ _ _ _ _ _ _ _ c.args.asked _ _ _ _ _ _ _ c.in-Run.is c.run_file.ensures.runs
-
-pub returns-in-Resume-clause-obeys : goal.returns-in-Resume-clause-obeys
-returns-in-Resume-clause-obeys g c = obeys_so _ _ _ _ _ _ _ _ c.args.asked _ _ _ _ _ _ _ c.in-Resume.is c.resume_book.ensures.resumes
-
-pub returns-in-Show-clause-obeys : goal.returns-in-Show-clause-obeys
-returns-in-Show-clause-obeys g c = obeys_so _ _ _ _ _ _ _ _ c.args.asked _ _ _ _ _ _ _ c.in-Show.is (c.show_book.ensures.shows, refl)
-
-pub returns-in-Reset-clause-obeys : goal.returns-in-Reset-clause-obeys
-returns-in-Reset-clause-obeys g c = obeys_so _ _ _ _ _ _ _ _ c.args.asked _ _ _ _ _ _ _ c.in-Reset.is (c.reset_book.ensures.resets, refl)
-
-pub returns-in-Check-clause-obeys : goal.returns-in-Check-clause-obeys
-returns-in-Check-clause-obeys g c = obeys_so _ _ _ _ _ _ _ _ c.args.asked _ _ _ _ _ _ _ c.in-Check.is
-    (quiet_file _ _ _ _ _ _ _ _ (λ still. (refl, still)) c.check_file-status.ensures.checked, (refl, c.check_file-status.ensures.stays))
-
-pub returns-clause-obeys : goal.returns-clause-obeys
-returns-clause-obeys g c = obeys_so _ _ _ _ _ _ _ _ c.args.asked _ _ _ _ _ _ _ c.in-Demo.is c.demo_book.ensures.demonstrates
+pub returns-then-is_of_board-clause-causes : goal.returns-then-is_of_board-clause-causes
+returns-then-is_of_board-clause-causes g c =
+    let D = g.K.Desk in
+    board_among _ (D.disk_faults c.args.desk) (D.disk_faults c.on_board.result.desk) (D.out_faults c.args.desk) (D.out_faults c.on_board.result.desk)
+    (g.S.Sources.faults c.args.sources.now) (g.W.Crew.faults c.args.crew.now) c.on_board.result.status c.on_board.ensures.causes

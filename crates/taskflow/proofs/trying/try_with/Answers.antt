@@ -1,7 +1,7 @@
 use Rattle.std.proofs.Common.{ap, refl, inr, ◌∙◌, arith}
 use Rattle.tf_book.specs.Book.{BookValue}
 use Rattle.taskflow.proofs.CountLemmas.{rises_since}
-use Rattle.taskflow.proofs.TrialLemmas.{tried_run, tried_unbegun, tried_unbegun_on, causes_run}
+use Rattle.taskflow.proofs.TrialLemmas.{tried_run, tried_unbegun, tried_unbegun_on, causes_run, stays_run}
 use Rattle.taskflow.proofs.trying.try_with.Goals as goal
 
 pub returns-in-Ok-start-clause-tried : goal.returns-in-Ok-start-clause-tried
@@ -15,6 +15,11 @@ pub returns-in-Ok-start-clause-causes : goal.returns-in-Ok-start-clause-causes
 returns-in-Ok-start-clause-causes g c =
     causes_run g.K.Desk.tells g.K.Desk.shown g.K.Desk.content g.K.Desk.left g.K.Desk.crashes g.K.Desk.disk_faults g.K.Desk.out_faults g.P.Performer.gives _ _ c.args.desk c.in-Ok-start.book c.run_book.result.desk c.run_book.result.status
     (c.in-Ok-start.ensures.volatile c.in-Ok.ensures.made.3 ∙ c.in-Ok.ensures.made.0) c.run_book.ensures.runs c.run_book.ensures.apart
+
+pub returns-in-Ok-start-clause-stays : goal.returns-in-Ok-start-clause-stays
+returns-in-Ok-start-clause-stays g c =
+    stays_run g.K.Desk.tells g.K.Desk.shown g.K.Desk.content g.K.Desk.left g.K.Desk.crashes g.K.Desk.disk_faults g.K.Desk.out_faults g.P.Performer.gives _ _ c.args.desk c.in-Ok-start.book c.run_book.result.desk c.run_book.result.status
+    (c.in-Ok-start.ensures.volatile c.in-Ok.ensures.made.3 ∙ c.in-Ok.ensures.made.0) c.run_book.ensures.runs
 
 pub returns-in-Err-start-clause-tried : goal.returns-in-Err-start-clause-tried
 returns-in-Err-start-clause-tried g c =

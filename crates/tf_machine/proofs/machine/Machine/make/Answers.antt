@@ -15,9 +15,10 @@ invariant_of-result c = record {
       (subst (λ (p : PlanValue). missing_symbol (outline_of p) ≡ None) (sym c.in_ok-compiled.ensures.given) c.in_ok-compiled.ensures.complete)
       (subst (λ (p : PlanValue). HasFewTries (outline_of p)) (sym c.in_ok-compiled.ensures.given) c.tries_are_few.ensures)
       (subst (λ (p : PlanValue). IsWithinLimits (outline_of p)) (sym c.in_ok-compiled.ensures.given) c.plan_is_within_limits.ensures)
-      refl c.in_ok-tables.ensures.views c.in_ok-tables.ensures.places c.in_ok-tables.ensures.flow;
-  counted = c.in_ok-tables.ensures.counted;
+      refl c.in-Ok.ensures.views c.in-Ok.ensures.places c.in-Ok.ensures.flow;
+  counted = c.in-Ok.ensures.counted;
+  listed = c.in-Ok-make.ensures _;
 }
 
 pub returns-clause-empty : goal.returns-clause-empty
-returns-clause-empty c = stands_first _ (count (outline_of c.in_ok-compiled.compiled)) c.in_ok-tables.ensures.views c.in_ok-tables.ensures.places c.in_ok-tables.ensures.flow
+returns-clause-empty c = stands_first _ (count (outline_of c.in_ok-compiled.compiled)) c.in-Ok.ensures.views c.in-Ok.ensures.places c.in-Ok.ensures.flow

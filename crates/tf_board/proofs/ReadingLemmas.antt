@@ -1,0 +1,213 @@
+-- How commands are read from a journal body by body.
+use Rattle.std.proofs.Common.{◌≡◌, ◌≢◌, ◌≤◌, ◌<◌, ℕ, ◌+◌, Bool, true, List, [], ◌∷◌, ◌++◌, length, Option, refl, sym, ◌∙◌, ap, subst, arith, append-nil, append_assoc, length-append}
+use Rattle.std.specs.Prelude.{IsTrue, Result, Ok, Err, IfErr, slice_get}
+use Rattle.std.specs.List.{flat_map}
+use Rattle.tf_desk.specs.Content.{Content, bytes_of}
+use Rattle.tf_desk.specs.Crash.{Images, Crashes}
+use Rattle.tf_journal.specs.Format.{SIZE_LIMIT, OPEN, Recovered, bodies, record_of, front_of, title_of, Found, closed, body, bad, record_at}
+use Rattle.tf_journal.specs.Held.{Held}
+use Rattle.tf_journal.specs.Rest.{LiesAs}
+use Rattle.tf_journal.specs.declared.faults.LoadFault.{LoadFault}
+use Rattle.tf_journal.specs.declared.faults.LoadFault.TheVariants as load_fault
+use Rattle.tf_journal.specs.declared.title.Title.{Title}
+use Rattle.tf_journal.specs.declared.title.Title.TheVariants.{Jobs as jobs_title}
+use Rattle.tf_journal.proofs.CrashLemmas.{rests_none, rests_on, goes_bytes}
+use Rattle.tf_journal.proofs.PlaceLemmas.{first_place, found_next, found_end}
+use Rattle.tf_journal.proofs.ReachLemmas.{flat_map-push, length-record_of}
+use Rattle.tf_values.specs.declared.faults.MakeFault.{MakeFault}
+use Rattle.tf_values.specs.declared.faults.MakeFault.TheVariants as make_fault
+use Rattle.tf_board.specs.Board.{bodies_of, size_of, IsNoCommand, IsRefusedAt, RefusesBodies, RefusesBoard, bad_body}
+use Rattle.tf_board.specs.Commands.{command_bytes}
+use Rattle.tf_board.specs.Kept.{past_in, IsTrueTo}
+use Rattle.tf_board.specs.Reading.{IsNext, IsNoRefusal, HasReadCommand, HasBodies, OnlyReads, HasRead, HasReadAll}
+use Rattle.tf_board.specs.declared.commands.Command.{Command}
+use Rattle.tf_board.specs.declared.kept.Kept.{Kept}
+
+-- ---- what is found
+
+-- what is found behind bodies of a file in which others lie after them
+abbrev pub NextBy : Found → List (List ℕ) → Type 0
+NextBy closed rest = rest ≡ []
+NextBy (body found next) rest = (others : List (List ℕ)) × (rest ≡ found ∷ others)
+NextBy (bad offset byte) rest = ⊥
+
+pub next_by : (title : List ℕ) (before rest : List (List ℕ)) (size : ℕ) (bytes : List ℕ) (place : ℕ) (found : Found) → LiesAs title (before ++ rest) size bytes
+    → place ≡ length (front_of title before) → record_at bytes place ≡ found → NextBy found rest
+next_by title before [] size bytes place found lies at is =
+    let here : found ≡ closed = sym is ∙ ap (record_at bytes) at ∙ found_end title before size bytes (subst (λ (h : List (List ℕ)). LiesAs title h size bytes) (append-nil before) lies) in
+    subst (λ (f : Found). NextBy f []) (sym here) refl
+next_by title before (first ∷ others) size bytes place found lies at is =
+    let here : found ≡ body first (length (front_of title (before ++ first ∷ []))) = sym is ∙ ap (record_at bytes) at ∙ found_next title before others first size bytes lies in
+    subst (λ (f : Found). NextBy f (first ∷ others)) (sym here) (others, refl)
+
+-- ---- places
+
+-- the next gate of a journal with these bodies stands before its size
+pub front_long : (past : List Command) → length (front_of (title_of jobs_title) (bodies_of past)) + 1 ≡ size_of past
+front_long past = omega (arith, front past, length-append (OPEN ∷ title_of jobs_title) (flat_map record_of (bodies_of past)))
+  where
+    front : (past : List Command) → length (flat_map record_of (bodies_of past)) + 18 ≡ size_of past
+    front [] = refl
+    front (c ∷ past) =
+        omega (arith, front past, ap length (flat_map-push (bodies_of past) (command_bytes c)), length-append (flat_map record_of (bodies_of past)) (record_of (command_bytes c)), length-record_of (command_bytes c))
+
+-- a fault that says nothing of the file refuses nothing
+pub refuses_nothing : (fault : LoadFault) (held : List (List ℕ)) → IsNoRefusal fault → RefusesBodies fault held
+refuses_nothing load_fault.Disk held is = tt
+refuses_nothing load_fault.Memory held is = tt
+refuses_nothing (load_fault.NotABook offset byte) held is = absurd is
+
+-- a journal whose bodies are refused is refused as a board
+pub refuses_board : (fault : LoadFault) (held : List (List ℕ)) (file : Recovered) → file ≡ bodies held → RefusesBodies fault held → RefusesBoard fault file
+refuses_board load_fault.Disk held file is refused = tt
+refuses_board load_fault.Memory held file is refused = tt
+refuses_board (load_fault.NotABook offset byte) held file is refused = bad_body held is refused
+
+-- why a body is refused
+pub refuses_so : (fault : MakeFault) (answer : LoadFault) (held : List (List ℕ)) (offset : ℕ) (byte : Option ℕ) → (fault ≡ make_fault.No → answer ≡ load_fault.NotABook offset byte) → (fault ≡ make_fault.Memory → answer ≡ load_fault.Memory)
+    → (fault ≡ make_fault.No → IsRefusedAt held offset byte) → RefusesBodies answer held
+refuses_so make_fault.No answer held offset byte refuses memory refused = subst (λ (f : LoadFault). RefusesBodies f held) (sym (refuses refl)) (refused refl)
+refuses_so make_fault.Memory answer held offset byte refuses memory refused = subst (λ (f : LoadFault). RefusesBodies f held) (sym (memory refl)) tt
+
+module _ {K : Type 0} (tells : K → Bool) (shown : K → Option (List ℕ)) (content : K → Content) (left : K → Images) (crashes : K → Crashes) (disk_faults out_faults asks turns : K → ℕ) where
+  abbrev Reads : Held K → Held K → Type 0
+  Reads old new = OnlyReads tells shown content left crashes disk_faults out_faults asks turns old new
+
+  abbrev Read : Held K → Kept → ℕ → Type 0
+  Read j kept place = HasRead tells shown content left crashes disk_faults out_faults asks turns j kept place
+
+  abbrev ReadAll : Held K → Kept → Type 0
+  ReadAll j kept = HasReadAll tells shown content left crashes disk_faults out_faults asks turns j kept
+
+  pub reads_none : (j : Held K) → Reads j j
+  reads_none j = record {
+    journal = refl;
+    stays = λ told held rest. rest;
+    rests = λ told. rests_none (content j.desk) (left j.desk) (crashes j.desk);
+    no_fall = omega arith;
+    others = (refl, refl, refl);
+    quiet = (refl, refl);
+  }
+
+  pub reads_on : (a b c : Held K) → Reads a b → Reads b c → Reads a c
+  reads_on a b c one two =
+      let told_on : IsTrue (tells a.desk) → IsTrue (tells b.desk) = λ told. subst (λ (t : Bool). IsTrue t) (sym one.quiet.0) told in
+      record {
+        journal = two.journal ∙ ap (λ (h : Held K). record h { desk = c.desk }) one.journal;
+        stays = λ told held rest. two.stays (told_on told) held (one.stays told held rest);
+        rests = λ told. rests_on (content a.desk) (content b.desk) (content c.desk) (left a.desk) (left b.desk) (left c.desk) (crashes a.desk) (crashes b.desk) (crashes c.desk) (one.rests told) (two.rests (told_on told));
+        no_fall = omega (arith, one.no_fall, two.no_fall);
+        others = (two.others.0 ∙ one.others.0, two.others.1 ∙ one.others.1, two.others.2 ∙ one.others.2);
+        quiet = (two.quiet.0 ∙ one.quiet.0, two.quiet.1 ∙ one.quiet.1);
+      }
+
+  -- the bodies in the file stay
+  pub same_file : (a b : Held K) → Reads a b → IsTrue (tells a.desk) → bytes_of (content b.desk) ≡ bytes_of (content a.desk)
+  same_file a b reads told = goes_bytes (content a.desk) (content b.desk) (reads.rests told).content
+
+  pub bodies_stay : (a b : Held K) → Reads a b → IsTrue (tells a.desk) → (held : List (List ℕ)) → HasBodies content a held → HasBodies content b held
+  bodies_stay a b reads told held lies =
+      subst (λ (j : Held K). LiesAs (title_of j.title) held j.size (bytes_of (content b.desk))) (sym reads.journal)
+      (subst (λ (bytes : List ℕ). LiesAs (title_of a.title) held a.size bytes) (sym (same_file a b reads told)) lies)
+
+  pub bodies_were : (a b : Held K) → Reads a b → IsTrue (tells a.desk) → (held : List (List ℕ)) → HasBodies content b held → HasBodies content a held
+  bodies_were a b reads told held lies =
+      subst (λ (bytes : List ℕ). LiesAs (title_of a.title) held a.size bytes) (same_file a b reads told)
+      (subst (λ (j : Held K). LiesAs (title_of j.title) held j.size (bytes_of (content b.desk))) reads.journal lies)
+
+  told_was : (a b : Held K) → Reads a b → IsTrue (tells b.desk) → IsTrue (tells a.desk)
+  told_was a b reads told = subst (λ (t : Bool). IsTrue t) reads.quiet.0 told
+
+  told_is : (a b : Held K) → Reads a b → IsTrue (tells a.desk) → IsTrue (tells b.desk)
+  told_is a b reads told = subst (λ (t : Bool). IsTrue t) (sym reads.quiet.0) told
+
+  -- no command was read yet
+  pub read_none : (j : Held K) (kept : Kept) → IsTrueTo kept [] → Read j kept 17
+  read_none j kept none = record {
+    true_to = subst (λ (p : List Command). IsTrueTo kept p) (sym none.commands) none;
+    place_is = ap size_of (sym none.commands);
+    front = λ told held lies. (held, ap (λ (p : List Command). bodies_of p ++ held) (sym none.commands));
+  }
+
+  -- what was found at the next gate comes behind the bodies so far
+  pub found_next_body : (a b : Held K) (kept : Kept) (place : ℕ) (Says : List (List ℕ) → Type 0) → Read a kept place → Reads a b → a.title ≡ jobs_title
+      → ((before rest : List (List ℕ)) → IsTrue (tells b.desk) → HasBodies content b (before ++ rest) → place ≡ length (front_of (title_of b.title) before) → Says rest)
+      → IsTrue (tells a.desk) → (held : List (List ℕ)) → HasBodies content a held
+      → (rest : List (List ℕ)) × (held ≡ bodies_of (past_in kept) ++ rest) × Says rest
+  found_next_body a b kept place Says read reads titled found told held lies =
+      let past = past_in kept in
+      let front = read.front told held lies in
+      let title : b.title ≡ jobs_title = ap (λ (h : Held K). h.title) reads.journal ∙ titled in
+      let long : length (front_of (title_of jobs_title) (bodies_of past)) + 1 ≡ size_of past = front_long past in
+      let at : place ≡ length (front_of (title_of jobs_title) (bodies_of past)) = omega (arith, read.place_is, long) in (
+        front.0,
+        front.1,
+        found (bodies_of past) front.0 (subst (λ (t : Bool). IsTrue t) (sym reads.quiet.0) told)
+            (subst (λ (h : List (List ℕ)). HasBodies content b h) front.1 (bodies_stay a b reads told held lies))
+            (at ∙ ap (λ (t : Title). length (front_of (title_of t) (bodies_of past))) (sym title)),
+      )
+
+  -- one command more was read
+  pub read_on : (a b : Held K) (old new : Kept) (place next : ℕ) (bytes : List ℕ) → Read a old place → Reads a b → a.title ≡ jobs_title
+      → ((before rest : List (List ℕ)) → IsTrue (tells b.desk) → HasBodies content b (before ++ rest) → place ≡ length (front_of (title_of b.title) before) → IsNext true rest bytes)
+      → HasReadCommand old new bytes → next ≡ place + (5 + length bytes) → Read a new next
+  read_on a b old new place next bytes read reads titled found one moved =
+      let longer : past_in new ≡ one.command ∷ past_in old = one.true_to.commands in
+      record {
+        true_to = subst (λ (p : List Command). IsTrueTo new p) (sym longer) one.true_to;
+        place_is = omega (arith, moved, read.place_is, ap length one.form) ∙ ap size_of (sym longer);
+        front = λ told held lies.
+            let n = found_next_body a b old place (λ rest. IsNext true rest bytes) read reads titled found told held lies in (
+              n.2.0,
+              n.1
+                  ∙ ap (λ (r : List (List ℕ)). bodies_of (past_in old) ++ r) n.2.1
+                  ∙ sym (append_assoc (bodies_of (past_in old)) (bytes ∷ []) n.2.0)
+                  ∙ ap (λ (b : List ℕ). (bodies_of (past_in old) ++ b ∷ []) ++ n.2.0) (sym one.form)
+                  ∙ ap (λ (p : List Command). bodies_of p ++ n.2.0) (sym longer),
+            );
+      }
+
+  -- no command that may come was read
+  pub read_refused : (a b : Held K) (kept : Kept) (place offset : ℕ) (bytes : List ℕ) (byte : Option ℕ) → Read a kept place → Reads a b → a.title ≡ jobs_title
+      → ((before rest : List (List ℕ)) → IsTrue (tells b.desk) → HasBodies content b (before ++ rest) → place ≡ length (front_of (title_of b.title) before) → IsNext true rest bytes)
+      → IsNoCommand (past_in kept) bytes → offset ≡ place + 5 → byte ≡ slice_get bytes 0
+      → IsTrue (tells a.desk) → (held : List (List ℕ)) → HasBodies content a held → IsRefusedAt held offset byte
+  read_refused a b kept place offset bytes byte read reads titled found no_command at its told held lies =
+      let past = past_in kept in
+      let n = found_next_body a b kept place (λ rest. IsNext true rest bytes) read reads titled found told held lies in
+      record {
+        past = past;
+        body = bytes;
+        after = n.2.0;
+        legal = read.true_to.legal;
+        splits = n.1 ∙ ap (λ (r : List (List ℕ)). bodies_of past ++ r) n.2.1;
+        cannot = no_command;
+        offset_is = omega (arith, at, read.place_is, front_long past);
+        byte_is = its;
+      }
+
+  -- nothing is left
+  pub read_out : (a b : Held K) (kept : Kept) (place : ℕ) → Read a kept place → Reads a b → a.title ≡ jobs_title
+      → ((before rest : List (List ℕ)) → IsTrue (tells b.desk) → HasBodies content b (before ++ rest) → place ≡ length (front_of (title_of b.title) before) → rest ≡ [])
+      → place + 1 ≡ a.size → place < SIZE_LIMIT → ReadAll a kept
+  read_out a b kept place read reads titled found ends below = record {
+    true_to = read.true_to;
+    size = sym ends ∙ read.place_is;
+    limit = omega (arith, ends, below);
+    whole = λ told held lies.
+        let n = found_next_body a b kept place (λ rest. rest ≡ []) read reads titled found told held lies in
+        n.1 ∙ ap (λ (r : List (List ℕ)). bodies_of (past_in kept) ++ r) n.2 ∙ append-nil (bodies_of (past_in kept));
+  }
+
+  -- a file that is told ends where its size says
+  pub read_ends : (a b : Held K) (kept : Kept) (place : ℕ) → Read a kept place → Reads a b → a.title ≡ jobs_title
+      → ((before rest : List (List ℕ)) → IsTrue (tells b.desk) → HasBodies content b (before ++ rest) → place ≡ length (front_of (title_of b.title) before) → rest ≡ [])
+      → place + 1 ≢ a.size → IsTrue (tells a.desk) → (held : List (List ℕ)) → HasBodies content a held → ⊥
+  read_ends a b kept place read reads titled found apart told held lies =
+      let past = past_in kept in
+      let n = found_next_body a b kept place (λ rest. rest ≡ []) read reads titled found told held lies in
+      let whole : held ≡ bodies_of past = n.1 ∙ ap (λ (r : List (List ℕ)). bodies_of past ++ r) n.2 ∙ append-nil (bodies_of past) in
+      let size : a.size ≡ length (front_of (title_of a.title) held) + 1 = lies.place in
+      let same : length (front_of (title_of a.title) held) ≡ length (front_of (title_of jobs_title) (bodies_of past)) =
+      ap (λ (t : Title). length (front_of (title_of t) held)) titled ∙ ap (λ (h : List (List ℕ)). length (front_of (title_of jobs_title) h)) whole in
+      apart (omega (arith, size, same, front_long past, read.place_is))

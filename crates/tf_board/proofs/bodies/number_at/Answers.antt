@@ -1,0 +1,9 @@
+use Rattle.std.proofs.Common.{arith}
+use Rattle.tf_values.proofs.NumberLemmas.{cut}
+use Rattle.tf_board.proofs.FormLemmas.{number_front}
+use Rattle.tf_board.proofs.bodies.number_at.Goals as goal
+
+pub returns : goal.returns
+returns c =
+    let found = c.in_ok-front.ensures.cases in
+    number_front c.args.bytes.now c.in_ok-front.front.now c.in_ok-front.rest.now c.from_be_bytes.result (cut 8 c.args.bytes.now c.in_ok-front.front.now c.in_ok-front.rest.now (λ i. omega (arith, c.type_inv.bytes i)) found.0 found.1 found.2) c.from_be_bytes.ensures

@@ -1,0 +1,63 @@
+use Rattle.std.proofs.Common.{rules, ◌≡◌, ◌∙◌, Bool, ℕ, List, ap, sym, subst, arith, Err}
+use Rattle.std.specs.Prelude.{slice_get}
+use Rattle.std.proofs.lemmas.Result.{err_from_is_err_and}
+use Rattle.tf_journal.specs.Held.{Held}
+use Rattle.tf_board.specs.Board.{IsNoCommand}
+use Rattle.tf_board.specs.Kept.{past_in}
+use Rattle.tf_board.specs.Reading.{IsNext, IsNoRefusal, HasReadCommand}
+use Rattle.tf_board.proofs.ReadingLemmas.{found_next_body, refuses_nothing, refuses_so, reads_none, reads_on, read_none, read_on, read_refused, read_out, read_ends}
+use Rattle.tf_board.proofs.recovering.read_commands.Goals as goal
+
+pub reading-init : goal.reading-init
+reading-init g c = record {
+  low = omega arith;
+  read = read_none _ _ _ _ _ _ _ _ _ c.args.journal.now c.args.kept.now c.requires.none;
+  reads = reads_none _ _ _ _ _ _ _ _ _ c.args.journal.now;
+}
+
+pub returns-in_err-next_body-clause-refused : goal.returns-in_err-next_body-clause-refused
+returns-in_err-next_body-clause-refused g c =
+    let l = c.reading.invariant in
+    let p = err_from_is_err_and c.from_residual.result c.from_residual.ensures.1 in
+    rw (p.1, p.2)
+    (λ told held lies. refuses_nothing _ held (found_next_body _ _ _ _ _ _ _ _ _ _ _ _ _ (λ rest. IsNoRefusal c.in_err-next_body.field-0.0) l.read l.reads c.requires.title c.in_err-next_body.ensures.whole told held lies).2)
+
+pub returns-in-Err-clause-refused : goal.returns-in-Err-clause-refused
+returns-in-Err-clause-refused g c = λ told held lies.
+    let l = c.reading.invariant in
+    let items = c.next_body.new.body.items in
+    refuses_so c.in-Err.fault c.refusal.result held _ _ c.refusal.ensures.no c.refusal.ensures.memory
+    (λ is. read_refused _ _ _ _ _ _ _ _ _ _ _ _ _ _ items _ l.read l.reads c.requires.title
+    (λ before rest told_now rest_now at. subst (λ (v : Bool). IsNext v rest items) c.if-not-branch.false (c.in_ok-next_body.ensures.found before rest told_now rest_now at))
+    (subst (λ (b : List ℕ). IsNoCommand (past_in c.reading.kept) b) c.deref.ensures.value (c.in-Err.ensures.refused (ap (λ f. Err f) is)))
+    (search rules) (ap (λ (b : List ℕ). slice_get b 0) c.deref-in-Err.ensures.value) told held lies)
+
+pub reading-preserved : goal.reading-preserved
+reading-preserved g c =
+    let l = c.reading.invariant in
+    let items = c.next_body.new.body.items in
+    record {
+      low = omega (arith, l.low);
+      read = read_on _ _ _ _ _ _ _ _ _ _ _ _ _ _ _ items l.read l.reads c.requires.title
+          (λ before rest told_now rest_now at. subst (λ (v : Bool). IsNext v rest items) c.if-not-branch.false (c.in_ok-next_body.ensures.found before rest told_now rest_now at))
+          (subst (λ (b : List ℕ). HasReadCommand c.reading.kept c.read_command.new.kept b) c.deref.ensures.value c.in-Ok.ensures.ok) (search rules);
+      reads = reads_on _ _ _ _ _ _ _ _ _ _ _ _ l.reads c.in_ok-next_body.ensures.reads;
+    }
+
+pub returns-then-place-size-clause-refused : goal.returns-then-place-size-clause-refused
+returns-then-place-size-clause-refused g c = λ told held lies.
+    let l = c.reading.invariant in
+    let reads = reads_on _ _ _ _ _ _ _ _ _ _ _ _ l.reads c.in_ok-next_body.ensures.reads in
+    let size : c.size.result ≡ c.args.journal.now.size = c.size.ensures ∙ ap (λ (h : Held _). h.size) reads.journal in
+    absurd (read_ends _ _ _ _ _ _ _ _ _ _ _ _ _ l.read l.reads c.requires.title
+    (λ before rest told_now rest_now at. subst (λ (v : Bool). IsNext v rest c.next_body.new.body.items) c.if-not-branch.true (c.in_ok-next_body.ensures.found before rest told_now rest_now at))
+    (λ same. c.if-place-size.true (same ∙ sym size)) told held lies)
+
+pub returns-clause-read : goal.returns-clause-read
+returns-clause-read g c =
+    let l = c.reading.invariant in
+    let reads = reads_on _ _ _ _ _ _ _ _ _ _ _ _ l.reads c.in_ok-next_body.ensures.reads in
+    let size : c.size.result ≡ c.args.journal.now.size = c.size.ensures ∙ ap (λ (h : Held _). h.size) reads.journal in
+    read_out _ _ _ _ _ _ _ _ _ _ _ _ _ l.read l.reads c.requires.title
+    (λ before rest told_now rest_now at. subst (λ (v : Bool). IsNext v rest c.next_body.new.body.items) c.if-not-branch.true (c.in_ok-next_body.ensures.found before rest told_now rest_now at))
+    (omega (arith, size, c.if-place-size.false)) c.in_ok-next_body.ensures.within

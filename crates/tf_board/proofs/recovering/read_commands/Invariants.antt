@@ -1,0 +1,13 @@
+use Rattle.std.proofs.Common.{◌≤◌, ◌-◌}
+use Rattle.tf_board.specs.Reading.{OnlyReads, HasRead}
+use Rattle.tf_board.proofs.recovering.read_commands.Given as goal
+
+abbrev pub invariant-reading : goal.invariant-reading
+invariant-reading g l = record {
+  low : 17 ≤ l.place;
+  read : HasRead g.K.Desk.tells g.K.Desk.shown g.K.Desk.content g.K.Desk.left g.K.Desk.crashes g.K.Desk.disk_faults g.K.Desk.out_faults g.K.Desk.asks g.K.Desk.turns l.fn.journal l.kept l.place;
+  reads : OnlyReads g.K.Desk.tells g.K.Desk.shown g.K.Desk.content g.K.Desk.left g.K.Desk.crashes g.K.Desk.disk_faults g.K.Desk.out_faults g.K.Desk.asks g.K.Desk.turns l.fn.journal l.journal;
+}
+
+abbrev pub decreases-reading : goal.decreases-reading
+decreases-reading g l = 67108864 - l.place

@@ -1,0 +1,85 @@
+-- What a board is, and what its file holds. Lists of commands have the newest first.
+use Rattle.std.specs.Prelude.{◌≡◌, ◌≢◌, ◌⊎◌, ◌≤◌, ℕ, ◌+◌, Bool, false, List, [], ◌∷◌, ◌++◌, length, Option, None, slice_get}
+use Rattle.tf_desk.specs.Content.{Content}
+use Rattle.tf_desk.specs.Crash.{Images}
+use Rattle.tf_journal.specs.Format.{SIZE_LIMIT, Recovered, bodies, unborn, not_a_book, front_of, recovered, title_of}
+use Rattle.tf_journal.specs.Held.{Held}
+use Rattle.tf_journal.specs.Rest.{IsAtRest, IsOpen}
+use Rattle.tf_journal.specs.declared.faults.LoadFault.{LoadFault}
+use Rattle.tf_journal.specs.declared.faults.LoadFault.TheVariants as load_fault
+use Rattle.tf_journal.specs.declared.title.Title.TheVariants.{Jobs as jobs_title}
+use Rattle.tf_board.specs.Commands.{IsCommand, command_bytes}
+use Rattle.tf_board.specs.Jobs.{refuses, LegalJobs}
+use Rattle.tf_board.specs.Kept.{IsTrueTo}
+use Rattle.tf_board.specs.declared.commands.Command.{Command}
+use Rattle.tf_board.specs.declared.kept.Kept.{Kept}
+
+-- a board: its accepted commands and its journal with its desk
+pub record BoardValue (K : Type 0) : Type 0 where
+  pub past : List Command
+  pub journal : Held K
+
+-- the bodies of a board's records: one for each command
+abbrev pub bodies_of : List Command → List (List ℕ)
+bodies_of [] = []
+bodies_of (last ∷ past) = bodies_of past ++ command_bytes last ∷ []
+
+-- the size of a journal of them: a gate and a length before each body, and the title and two gates besides
+abbrev pub size_of : List Command → ℕ
+size_of [] = 18
+size_of (last ∷ past) = size_of past + 5 + length (command_bytes last)
+
+-- what recovery makes of the bytes of a board's file
+abbrev pub board_in : List ℕ → Recovered
+board_in bytes = recovered (title_of jobs_title) bytes
+
+-- it holds these commands
+abbrev pub Holds : List Command → Recovered → Type 0
+Holds past found = found ≡ bodies (bodies_of past)
+
+-- it holds these commands, or no command and is still unborn
+abbrev pub Finds : List Command → Recovered → Type 0
+Finds past found = Holds past found ⊎ ((past ≡ []) × (found ≡ unborn))
+
+-- what a board keeps of its parts: the jobs are those of its legal commands, its journal is kept in a file and has just these commands,
+-- and unless an append found a disk fault the file is as the last call left it, where the desk tells its content
+pub record IsSound {K : Type 0} (tells : K → Bool) (content : K → Content) (left : K → Images) (kept : Kept) (b : BoardValue K) : Type 0 where
+  pub true_to : IsTrueTo kept b.past
+  pub title : b.journal.title ≡ jobs_title
+  pub in_file : b.journal.volatile ≡ false
+  pub ready : IsOpen tells b.journal → IsAtRest content left b.journal (bodies_of b.past)
+  pub size : b.journal.size ≡ size_of b.past
+  pub limit : b.journal.size ≤ SIZE_LIMIT
+
+-- no command that isn't refused after these has this form
+abbrev pub IsNoCommand : List Command → List ℕ → Type 0
+IsNoCommand past body = (c : Command) → IsCommand c → refuses past c ≡ None → command_bytes c ≢ body
+
+-- one of the bodies can't come after those before it, which are the forms of legal commands; the offset and the byte are those of its
+-- first byte in the file
+pub record IsRefusedAt (held : List (List ℕ)) (offset : ℕ) (byte : Option ℕ) : Type 0 where
+  pub past : List Command
+  pub body : List ℕ
+  pub after : List (List ℕ)
+  pub legal : LegalJobs past
+  pub splits : held ≡ bodies_of past ++ body ∷ after
+  pub cannot : IsNoCommand past body
+  pub offset_is : offset ≡ length (front_of (title_of jobs_title) (bodies_of past)) + 5
+  pub byte_is : byte ≡ slice_get body 0
+
+-- a journal's bodies were refused for what they are; a fault of the disk and want of memory say nothing of them
+abbrev pub RefusesBodies : LoadFault → List (List ℕ) → Type 0
+RefusesBodies load_fault.Disk held = Unit {0}
+RefusesBodies load_fault.Memory held = Unit {0}
+RefusesBodies (load_fault.NotABook offset byte) held = IsRefusedAt held offset byte
+
+-- the file is no board: it is no journal of that title, or one of its bodies can't come
+pub data IsNoBoard (file : Recovered) (offset : ℕ) (byte : Option ℕ) : Type 0 where
+  no_journal : file ≡ not_a_book offset byte → IsNoBoard file offset byte
+  bad_body : (held : List (List ℕ)) → file ≡ bodies held → IsRefusedAt held offset byte → IsNoBoard file offset byte
+
+-- a file was refused for what it is; a fault of the disk and want of memory say nothing of it
+abbrev pub RefusesBoard : LoadFault → Recovered → Type 0
+RefusesBoard load_fault.Disk file = Unit {0}
+RefusesBoard load_fault.Memory file = Unit {0}
+RefusesBoard (load_fault.NotABook offset byte) file = IsNoBoard file offset byte

@@ -1,0 +1,10 @@
+pub mod Commands
+pub mod Jobs
+pub mod Kept
+pub mod Board
+pub mod Reading
+pub mod Recording
+pub mod Loading
+pub mod Answers
+pub mod Opening
+pub mod Does

@@ -1,0 +1,39 @@
+ghost use Rattle.std.specs.Prelude.{◌≡◌, None};
+ghost use Rattle.tf_board.specs.Commands.{IsCommand};
+ghost use Rattle.tf_board.specs.Jobs.{refuses};
+ghost use Rattle.tf_board.specs.Kept.{IsChange};
+ghost use Rattle.tf_board.specs.Recording.{Records};
+
+use super::Board;
+use crate::commands::{Command, append_command};
+use crate::faults::BoardFault;
+use crate::kept::Change;
+use tf_desk::Desk;
+use tf_journal::AppendFault;
+
+impl<K: Desk> Board<K> {
+    /// Records a command that isn't refused: the room for it is made, it is appended, and then it is kept.
+    pub(super) fn record(&mut self, command: &Command, change: Change) -> Result<(), BoardFault>
+        requires allowed { refuses self.old.past command.now ≡ None }
+        requires change { IsChange self.old.past command.now change }
+        ensures { Records K.tells K.shown K.content K.left K.crashes K.disk_faults K.out_faults K.asks K.turns
+            self.old self.new command.now result }
+    {
+        let mut body = Vec::new(self.alloc);
+        let Ok(()) = append_command(command, &mut body) else {
+            return Err(BoardFault::Memory);
+        };
+        let Ok(()) = self.kept.reserve() else {
+            return Err(BoardFault::Memory);
+        };
+        match self.journal.append(&body) {
+            Ok(()) => {
+                self.kept.keep(command, change);
+                Ok(())
+            }
+            Err(AppendFault::Disk) => Err(BoardFault::Disk),
+            Err(AppendFault::Full { size, need }) => Err(BoardFault::Full { size, need }),
+            Err(AppendFault::Halted) => Err(BoardFault::Halted),
+        }
+    }
+}

@@ -1,0 +1,141 @@
+ghost use Rattle.std.specs.Prelude.{◌≡◌, ◌≢◌, ◌<◌, ◌+◌, ◌∷◌, [], List, length, None, OnOk, IfOk, IfSome, MatchOption, vec_len, vec_capacity};
+ghost use Rattle.tf_board.specs.Commands.{IsCommand};
+ghost use Rattle.tf_board.specs.Jobs.{same, posted as count_of, job_at, place_of as place_among, refuses};
+ghost use Rattle.tf_board.specs.Kept.{past_of, past_in, IsTrueTo, HasRoom, IsChange};
+ghost use Rattle.tf_board.specs.declared.commands.Command.{Command as ACommand};
+
+use crate::commands::Command;
+use crate::ids::job_id;
+use crate::jobs::{Job, Standing};
+use crate::rules::refusal_at;
+use std::alloc::{AllocError, Global};
+use std::snapshot::Snapshot;
+use tf_report::Priority;
+use tf_values::{Memory, Name};
+use uuid::Uuid;
+
+/// What a board keeps in memory: its commands as clauses see them, which take no bytes, and its jobs as they stand,
+/// in the order of their numbers.
+#[derive(Drop)]
+pub struct Kept {
+    pub commands: Vec<Snapshot<Command>>,
+    pub jobs: Vec<Job>,
+}
+
+/// What a command changes of the jobs: one is added, or the one at a place stands anew.
+#[derive(Clone, Copy)]
+pub enum Change {
+    Posted(Job),
+    Stands { place: usize, standing: Standing },
+}
+
+/// Notes a command, for which there is room.
+fn note(commands: &mut Vec<Snapshot<Command>>, command: &Command)
+    requires { vec_len commands.old < vec_capacity commands.old }
+    ensures { past_of commands.new.items ≡ command.now ∷ past_of commands.old.items }
+{
+    let _ = commands.push(Snapshot::of(command));
+}
+
+/// Whether the two ids are the same.
+fn is_id(a: &Uuid, b: &Uuid) -> bool
+    ensures { result ≡ same a.now b.now }
+{
+    a.as_bytes().as_slice() == b.as_bytes().as_slice()
+}
+
+impl Kept {
+    /// No command yet.
+    pub fn none(alloc: Global) -> Kept
+        ensures { IsTrueTo result [] }
+    {
+        Kept {
+            commands: Vec::new(alloc),
+            jobs: Vec::new(alloc),
+        }
+    }
+
+    /// The place of the first job that has the id.
+    pub fn place_of(&self, id: &Uuid) -> Option<usize>
+        ensures is { result ≡ place_among self.now.jobs.items id.now }
+        ensures within { IfSome result (λ place. place < length self.now.jobs.items) }
+    {
+        self.jobs.iter().position(|job| is_id(&job.id, id))
+    }
+
+    /// The job that is posted next, with this name and this priority.
+    pub fn next(&self, alloc: Global, name: &Name, priority: Priority) -> Result<Job, Memory>
+        requires true_to { IsTrueTo self.now (past_in self.now) }
+        ensures { IfOk result (λ job. job ≡ job_at (past_in self.now) (count_of (past_in self.now) + 1) name.now priority) }
+    {
+        let number = self.jobs.as_slice().len() as u64 + 1;
+        let id = job_id(alloc, number, name)?;
+        Ok(Job {
+            number,
+            id,
+            name: *name,
+            priority,
+            standing: Standing::Free,
+        })
+    }
+
+    /// What the command changes, or none where it is refused.
+    pub fn change_of(&self, alloc: Global, command: &Command) -> Result<Option<Change>, Memory>
+        requires true_to { IsTrueTo self.now (past_in self.now) }
+        ensures { IfOk result (λ change. MatchOption change (refuses (past_in self.now) command.now ≢ None)
+            (λ change. (refuses (past_in self.now) command.now ≡ None) × IsChange (past_in self.now) command.now change)) }
+    {
+        match command {
+            Command::Post { name, priority, .. } => {
+                let job = self.next(alloc, name, *priority)?;
+                Ok(Some(Change::Posted(job)))
+            }
+            Command::Apply { action, job, owner } => {
+                let Some(place) = job.checked_sub(1) else {
+                    return Ok(None);
+                };
+                let Some(job) = self.jobs.get(place as usize) else {
+                    return Ok(None);
+                };
+                match refusal_at(job.standing, *action, owner) {
+                    Some(_) => Ok(None),
+                    None => Ok(Some(Change::Stands {
+                        place: place as usize,
+                        standing: Standing::after(*action, owner),
+                    })),
+                }
+            }
+        }
+    }
+
+    /// Makes room for one command and one job more.
+    pub fn reserve(&mut self) -> Result<(), AllocError>
+        ensures commands { self.new.commands.items ≡ self.old.commands.items }
+        ensures jobs { self.new.jobs.items ≡ self.old.jobs.items }
+        ensures room { OnOk result (HasRoom self.new) }
+    {
+        self.commands.reserve(1)?;
+        self.jobs.reserve(1)
+    }
+
+    /// Keeps a command that isn't refused, for which there is room.
+    pub fn keep(&mut self, command: &Command, change: Change)
+        requires true_to { IsTrueTo self.old (past_in self.old) }
+        requires allowed { refuses (past_in self.old) command.now ≡ None }
+        requires form { IsCommand command.now }
+        requires change { IsChange (past_in self.old) command.now change }
+        requires room { HasRoom self.old }
+        ensures { IsTrueTo self.new (command.now ∷ past_in self.old) }
+    {
+        note(&mut self.commands, command);
+        match change {
+            Change::Posted(job) => {
+                let _ = self.jobs.push(job);
+            }
+            Change::Stands { place, standing } => {
+                let job = &mut self.jobs[place];
+                job.standing = standing;
+            }
+        }
+    }
+}

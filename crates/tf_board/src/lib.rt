@@ -1,0 +1,29 @@
+//! The job board: jobs are posted, and owners claim them, abandon them, consume them and trash them. A job has at
+//! most one owner, whatever a crash leaves.
+#![tactic(auto)]
+
+mod board;
+mod bodies;
+mod closing;
+mod commanding;
+mod commands;
+mod faults;
+mod ids;
+mod jobs;
+mod kept;
+mod laws;
+mod messages;
+mod opening;
+mod recovering;
+mod rules;
+mod statuses;
+
+pub use board::{Board, Owner};
+pub use commanding::board_command;
+pub use commands::{Command, JobAction};
+pub use faults::BoardFault;
+pub use ids::{id_text, job_id};
+pub use laws::{a_claim_is_of_a_free_job, an_id_names_its_first_job, command_has_one_form};
+
+#[cfg(test)]
+mod tests;

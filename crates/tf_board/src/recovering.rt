@@ -1,0 +1,156 @@
+//! How a board's commands are read back from its journal.
+ghost use Rattle.std.specs.Prelude.{◌≡◌, ◌≢◌, ◌<◌, ◌≤◌, ◌+◌, ◌++◌, ◌∷◌, [], ℕ, List, None, true, false, IsTrue, length, OnOk, IfOk, IfErr, IsErrOf, slice_get};
+ghost use Rattle.tf_desk.specs.Counts.{Rises};
+ghost use Rattle.tf_journal.specs.Format.{front_of, title_of};
+ghost use Rattle.tf_journal.specs.declared.title.Title.TheVariants.{Jobs as jobs_title};
+ghost use Rattle.tf_board.specs.Board.{IsNoCommand, RefusesBodies};
+ghost use Rattle.tf_board.specs.Kept.{past_in, IsTrueTo};
+ghost use Rattle.tf_board.specs.Reading.{IsNext, IsNoRefusal, HasReadCommand, HasBodies, OnlyReads, HasReadAll};
+
+use crate::bodies::decode_command;
+use crate::kept::Kept;
+use std::alloc::Global;
+use tf_desk::Desk;
+use tf_journal::{Journal, JournalFault, LoadFault};
+use tf_values::MakeFault;
+
+/// The greatest size of a journal.
+const SIZE_LIMIT: u64 = 67_108_864;
+
+/// The place of the first gate.
+const FIRST_PLACE: u64 = 17;
+
+/// Reads a command of these bytes, which isn't refused after those that are kept, and keeps it. `No` comes where no
+/// such command has them.
+fn read_command(alloc: Global, body: &[u8], kept: &mut Kept) -> Result<(), MakeFault>
+    requires true_to { IsTrueTo kept.old (past_in kept.old) }
+    ensures ok { OnOk result (HasReadCommand kept.old kept.new body.now) }
+    ensures refused { IsErrOf result MakeFault.No → IsNoCommand (past_in kept.old) body.now }
+{
+    let command = decode_command(alloc, body)?;
+    match kept.change_of(alloc, &command) {
+        Ok(Some(change)) => {
+            kept.reserve()?;
+            kept.keep(&command, change);
+            Ok(())
+        }
+        Ok(None) => Err(MakeFault::No),
+        Err(_) => Err(MakeFault::Memory),
+    }
+}
+
+/// Reads the body whose gate is at that place, and answers whether there is one. A place past the greatest size
+/// has none of a file that a journal was read from.
+fn next_body<K: Desk>(
+    journal: &mut Journal<K>,
+    place: u64,
+    body: &mut Vec<u8>,
+) -> Result<bool, LoadFault>
+    requires low { 17 ≤ place }
+    requires in_file { journal.old.volatile ≡ false }
+    ensures found { (before rest : List (List ℕ)) → IsTrue (K.tells journal.old.desk)
+        → HasBodies K.content journal.old (before ++ rest)
+        → place ≡ length (front_of (title_of journal.old.title) before)
+        → IfOk result (λ found. IsNext found rest body.new.items) }
+    ensures whole { (before rest : List (List ℕ)) → IsTrue (K.tells journal.old.desk)
+        → HasBodies K.content journal.old (before ++ rest)
+        → place ≡ length (front_of (title_of journal.old.title) before)
+        → IfErr result IsNoRefusal }
+    ensures within { OnOk result (place < 67108864) }
+    ensures cause { IsErrOf result LoadFault.Disk
+        → Rises (K.disk_faults journal.old.desk) (K.disk_faults journal.new.desk) }
+    ensures reads { OnlyReads K.tells K.shown K.content K.left K.crashes K.disk_faults K.out_faults K.asks K.turns
+        journal.old journal.new }
+{
+    if place >= SIZE_LIMIT {
+        return Err(LoadFault::NotABook {
+            offset: place,
+            byte: None,
+        });
+    }
+    match journal.body_at(place, body) {
+        Ok(Some(_)) => Ok(true),
+        Ok(None) => Ok(false),
+        Err(JournalFault::Disk) => Err(LoadFault::Disk),
+        Err(JournalFault::Memory) => Err(LoadFault::Memory),
+        Err(JournalFault::NotABook { offset, byte }) => Err(LoadFault::NotABook { offset, byte }),
+        Err(JournalFault::Unborn) => unreachable!(),
+    }
+}
+
+/// Why a body is refused whose gate is at that place.
+fn refusal(fault: MakeFault, place: u64, body: &[u8]) -> LoadFault
+    requires { place < 67108864 }
+    ensures no { fault ≡ MakeFault.No → result ≡ LoadFault.NotABook (place + 5) (slice_get body.now 0) }
+    ensures memory { fault ≡ MakeFault.Memory → result ≡ LoadFault.Memory }
+    ensures no_disk { result ≡ LoadFault.Disk → ⊥ }
+{
+    match fault {
+        MakeFault::No => LoadFault::NotABook {
+            offset: place + 5,
+            byte: body.first().copied(),
+        },
+        MakeFault::Memory => LoadFault::Memory,
+    }
+}
+
+/// Reads the commands of a journal.
+pub fn read_back<K: Desk>(alloc: Global, journal: &mut Journal<K>) -> Result<Kept, LoadFault>
+    requires in_file { journal.old.volatile ≡ false }
+    requires title { journal.old.title ≡ jobs_title }
+    ensures read { IfOk result (λ kept. HasReadAll K.tells K.shown K.content K.left K.crashes K.disk_faults
+        K.out_faults K.asks K.turns journal.old kept) }
+    ensures refused { IfErr result (λ fault. IsTrue (K.tells journal.old.desk) → (held : List (List ℕ))
+        → HasBodies K.content journal.old held → RefusesBodies fault held) }
+    ensures cause { IsErrOf result LoadFault.Disk
+        → Rises (K.disk_faults journal.old.desk) (K.disk_faults journal.new.desk) }
+    ensures reads { OnlyReads K.tells K.shown K.content K.left K.crashes K.disk_faults K.out_faults K.asks K.turns
+        journal.old journal.new }
+{
+    let mut kept = Kept::none(alloc);
+    match read_commands(alloc, journal, &mut kept) {
+        Ok(()) => Ok(kept),
+        Err(fault) => {
+            drop(kept);
+            Err(fault)
+        }
+    }
+}
+
+/// Reads the commands of a journal behind none that are kept.
+fn read_commands<K: Desk>(
+    alloc: Global,
+    journal: &mut Journal<K>,
+    kept: &mut Kept,
+) -> Result<(), LoadFault>
+    requires in_file { journal.old.volatile ≡ false }
+    requires title { journal.old.title ≡ jobs_title }
+    requires none { IsTrueTo kept.old [] }
+    ensures read { OnOk result (HasReadAll K.tells K.shown K.content K.left K.crashes K.disk_faults K.out_faults
+        K.asks K.turns journal.old kept.new) }
+    ensures refused { IfErr result (λ fault. IsTrue (K.tells journal.old.desk) → (held : List (List ℕ))
+        → HasBodies K.content journal.old held → RefusesBodies fault held) }
+    ensures cause { IsErrOf result LoadFault.Disk
+        → Rises (K.disk_faults journal.old.desk) (K.disk_faults journal.new.desk) }
+    ensures reads { OnlyReads K.tells K.shown K.content K.left K.crashes K.disk_faults K.out_faults K.asks K.turns
+        journal.old journal.new }
+{
+    let mut body = Vec::new(alloc);
+    let mut place = FIRST_PLACE;
+    'reading: loop {
+        if !next_body(journal, place, &mut body)? {
+            break 'reading;
+        }
+        match read_command(alloc, &body, kept) {
+            Ok(()) => place += 5 + body.len() as u64,
+            Err(fault) => return Err(refusal(fault, place, &body)),
+        }
+    }
+    if place + 1 != journal.size() {
+        return Err(LoadFault::NotABook {
+            offset: place,
+            byte: None,
+        });
+    }
+    Ok(())
+}

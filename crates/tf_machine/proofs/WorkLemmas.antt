@@ -1,0 +1,408 @@
+-- What is listed stays enough where the state of one atom changes and those that it reaches are listed anew.
+use Rattle.std.proofs.Common.{◌≡◌, ℕ, zero, suc, ◌+◌, ◌<◌, ◌≤◌, List, [], ◌∷◌, drop, get_or, length, Bool, true, false, not, ◌&&◌, ◌||◌, Option, Some, None, ◌⊎◌, inl, inr, refl, sym, ap, ◌∙◌, subst, arith, add-one, eqb-true, eq-eqb}
+use Rattle.std.specs.Prelude.{nat_eq, is_some, is_none}
+use Rattle.tf_numbers.specs.Numbers.{has_number, all_below, first_below, is_number}
+use Rattle.tf_numbers.proofs.BelowLemmas.{all_at, all_of, first_none, none_at}
+use Rattle.tf_numbers.proofs.ListLemmas.{drop_first, drop_whole}
+use Rattle.tf_numbers.proofs.NumberLemmas.{turn_eq}
+use Rattle.tf_numbers.proofs.TruthLemmas.{clash, never_true, true_both, and_first, and_second, true_first, true_second, or_either, first_false, second_false, neither, neither_first, neither_second, not_true}
+use Rattle.tf_links.specs.Bits.{has, room, words_for}
+use Rattle.tf_links.proofs.BitLemmas.{past_none}
+use Rattle.std.proofs.lemmas.Bool.{cases_lt}
+use Rattle.tf_states.specs.declared.state.AtomState.{AtomState}
+use Rattle.tf_model.specs.Plan.{Outline, count, is_before, is_retry, is_task, own_flow}
+use Rattle.tf_model.specs.Snapshot.{Snapshot, Resolve, is_at_work}
+use Rattle.tf_model.specs.States.{is_pending, is_running, is_success, is_failure, is_reverting, is_retrying, is_revert_failure, is_settled, is_done, is_executed}
+use Rattle.tf_model.specs.Readiness.{is_unmarked, can_run, can_revert, lets_run, lets_revert}
+use Rattle.tf_model.specs.Deciders.{refused}
+use Rattle.tf_model.specs.Forced.{is_unhurt, is_unhurt_at, is_marked_again, is_of_its_flow, is_settled_beside, is_to_begin_again, is_refused}
+use Rattle.tf_model.specs.Candidates.{is_interrupted, is_candidate}
+use Rattle.tf_model.specs.Steps.{is_not_with, is_idle}
+use Rattle.tf_order.specs.Graph.{predecessors_of, successors_of}
+use Rattle.tf_facts.proofs.LayoutLemmas.{IsLaidOut}
+use Rattle.tf_machine.specs.Answers.{is_with}
+use Rattle.tf_machine.specs.Cases.{applies, case_of, IsCaseAt}
+use Rattle.tf_machine.specs.declared.cases.Case.{Case}
+use Rattle.tf_machine.specs.declared.cases.Case.TheVariants as case
+use Rattle.tf_machine.specs.declared.worklists.Worklist.{Worklist}
+use Rattle.tf_machine.specs.declared.worklists.Extent.TheVariants as extent
+use Rattle.tf_machine.specs.declared.worklists.Reach.{Reach}
+use Rattle.tf_machine.specs.declared.worklists.Reach.TheVariants as reach
+use Rattle.tf_machine.specs.Worklists.{ListedAt, HasRoom, IsListed, SameAt, IsAsBefore, AreMoved, is_reached}
+use Rattle.tf_machine.proofs.CaseLemmas.{retry_before}
+use Rattle.tf_machine.proofs.CountLemmas.{successor_told, predecessor_told}
+
+-- ---- one atom's entry in a worklist
+
+-- what is listed alike is listed as well
+pub alike : (plan : Outline) (s : Snapshot) (old new : Worklist) (a : ℕ) → SameAt old new a → ListedAt plan s old a → ListedAt plan s new a
+alike plan s old new a same listed = record {
+  cases = λ out. listed.cases (sym same.forcing ∙ out);
+  never = λ out. listed.never (sym same.forcing ∙ out);
+  ready = λ out. listed.ready (sym same.ready ∙ out);
+  busy = λ out. listed.busy (sym same.busy ∙ out);
+}
+
+pub alike_on : (old new newer : Worklist) (a : ℕ) → SameAt old new a → SameAt new newer a → SameAt old newer a
+alike_on old new newer a first second = record { forcing = second.forcing ∙ first.forcing; ready = second.ready ∙ first.ready; busy = second.busy ∙ first.busy }
+
+pub alike_now : (list : Worklist) (a : ℕ) → SameAt list list a
+alike_now list a = record { forcing = refl; ready = refl; busy = refl }
+
+-- alike or listed, and so again
+pub moved_on : (plan : Outline) (s : Snapshot) (old new newer : Worklist) (a : ℕ) → SameAt old new a ⊎ ListedAt plan s new a → SameAt new newer a ⊎ ListedAt plan s newer a → SameAt old newer a ⊎ ListedAt plan s newer a
+moved_on plan s old new newer a (inl same) (inl again) = inl (alike_on old new newer a same again)
+moved_on plan s old new newer a (inr listed) (inl again) = inr (alike plan s new newer a again listed)
+moved_on plan s old new newer a first (inr listed) = inr listed
+
+-- listed, and then alike or listed
+pub listed_on : (plan : Outline) (s : Snapshot) (new newer : Worklist) (a : ℕ) → ListedAt plan s new a → SameAt new newer a ⊎ ListedAt plan s newer a → ListedAt plan s newer a
+listed_on plan s new newer a listed (inl again) = alike plan s new newer a again listed
+listed_on plan s new newer a listed (inr again) = again
+
+-- alike but at one atom, which is listed
+pub moved_but : (plan : Outline) (s : Snapshot) (old new : Worklist) (a b : ℕ) → ((c : ℕ) → nat_eq a c ≡ false → SameAt old new c) → ListedAt plan s new a → SameAt old new b ⊎ ListedAt plan s new b
+moved_but plan s old new a b others here = by (nat_eq a b) refl
+  where
+    by : (x : Bool) → nat_eq a b ≡ x → SameAt old new b ⊎ ListedAt plan s new b
+    by true same = inr (subst (ListedAt plan s new) (eqb-true a b same) here)
+    by false other = inl (others b other)
+
+pub moved_none : (plan : Outline) (s : Snapshot) (list : Worklist) (a : ℕ) → SameAt list list a ⊎ ListedAt plan s list a
+moved_none plan s list a = inl (alike_now list a)
+
+pub not_reached : (plan : Outline) (s : Snapshot) (how : Reach) (list : Worklist) (a : ℕ) → is_reached plan s how a ≡ false → is_reached plan s how a ≡ true → ListedAt plan s list a
+not_reached plan s how list a far near = absurd (clash (is_reached plan s how a) near far)
+
+-- no case applies where none was found
+pub no_case_told : (plan : Outline) (s : Snapshot) (a : ℕ) → IsCaseAt plan s a None → (k : Case) → applies plan s k a ≡ false
+no_case_told plan s a none case.Attempt = none 0 (omega arith)
+no_case_told plan s a none case.Again = none 1 (omega arith)
+no_case_told plan s a none case.Reverted = none 2 (omega arith)
+no_case_told plan s a none case.Resolution = none 3 (omega arith)
+no_case_told plan s a none case.Retrying = none 4 (omega arith)
+no_case_told plan s a none case.Revert = none 5 (omega arith)
+no_case_told plan s a none case.Ignore = none 6 (omega arith)
+no_case_told plan s a none case.Run = none 7 (omega arith)
+
+-- ---- what can't be reached stays
+
+-- a is before b and done with only where b may come to run
+runs_still : (plan : Outline) (s t : Snapshot) (a b : ℕ) → ((c : ℕ) → nat_eq a c ≡ false → IsAsBefore s t c) → nat_eq a b ≡ false → is_done (t.state a) && is_before plan a b ≡ false → can_run plan t b ≡ true → can_run plan s b ≡ true
+unfolding can_run
+runs_still plan s t a b moved other far is =
+    true_both (is_pending (s.state b) && is_unmarked s b) _
+    (sym (ap (λ (x : AtomState). is_pending x && is_unmarked t b) (moved b other).state ∙ ap (λ (m : Option Resolve). is_pending (s.state b) && is_none m) (moved b other).mark)
+    ∙ told)
+    (all_of (count plan) (lets_run plan s b) (λ c below. by c below (nat_eq a c) refl))
+  where
+    told : is_pending (t.state b) && is_unmarked t b ≡ true
+    told = and_first (is_pending (t.state b) && is_unmarked t b) _ is
+
+    let_all : (c : ℕ) → c < count plan → lets_run plan t b c ≡ true
+    let_all c below = all_at (count plan) (lets_run plan t b) c (and_second (is_pending (t.state b) && is_unmarked t b) _ is) below
+
+    there : (c : ℕ) → a ≡ c → c < count plan → (x : Bool) → is_before plan c b ≡ x → (not x || is_done (s.state c)) ≡ true
+    there c same below true before = absurd (clash (is_done (t.state a) && is_before plan a b)
+        (true_both (is_done (t.state a)) _ (ap (λ (d : ℕ). is_done (t.state d)) same ∙ (sym (ap (λ (x : Bool). not x || is_done (t.state c)) before) ∙ let_all c below)) (ap (λ (d : ℕ). is_before plan d b) same ∙ before)) far)
+    there c same below false before = refl
+
+    by : (c : ℕ) → c < count plan → (x : Bool) → nat_eq a c ≡ x → lets_run plan s b c ≡ true
+    by c below true same = there c (eqb-true a c same) below (is_before plan c b) refl
+    by c below false apart = ap (λ (x : AtomState). not (is_before plan c b) || is_done x) (sym (moved c apart).state) ∙ let_all c below
+
+reverts_still : (plan : Outline) (s t : Snapshot) (a b : ℕ) → ((c : ℕ) → nat_eq a c ≡ false → IsAsBefore s t c) → nat_eq a b ≡ false → is_settled (t.state a) && is_before plan b a ≡ false → can_revert plan t b ≡ true → can_revert plan s b ≡ true
+unfolding can_revert
+reverts_still plan s t a b moved other far is =
+    true_both (is_executed (s.state b) && not (is_unmarked s b)) _
+    (sym (ap (λ (x : AtomState). is_executed x && not (is_unmarked t b)) (moved b other).state ∙ ap (λ (m : Option Resolve). is_executed (s.state b) && not (is_none m)) (moved b other).mark)
+    ∙ told)
+    (all_of (count plan) (lets_revert plan s b) (λ c below. by c below (nat_eq a c) refl))
+  where
+    told : is_executed (t.state b) && not (is_unmarked t b) ≡ true
+    told = and_first (is_executed (t.state b) && not (is_unmarked t b)) _ is
+
+    let_all : (c : ℕ) → c < count plan → lets_revert plan t b c ≡ true
+    let_all c below = all_at (count plan) (lets_revert plan t b) c (and_second (is_executed (t.state b) && not (is_unmarked t b)) _ is) below
+
+    there : (c : ℕ) → a ≡ c → c < count plan → (x : Bool) → is_before plan b c ≡ x → (not x || is_settled (s.state c)) ≡ true
+    there c same below true before = absurd (clash (is_settled (t.state a) && is_before plan b a)
+        (true_both (is_settled (t.state a)) _ (ap (λ (d : ℕ). is_settled (t.state d)) same ∙ (sym (ap (λ (x : Bool). not x || is_settled (t.state c)) before) ∙ let_all c below)) (ap (λ (d : ℕ). is_before plan b d) same ∙ before)) far)
+    there c same below false before = refl
+
+    by : (c : ℕ) → c < count plan → (x : Bool) → nat_eq a c ≡ x → lets_revert plan s b c ≡ true
+    by c below true same = there c (eqb-true a c same) below (is_before plan b c) refl
+    by c below false apart = ap (λ (x : AtomState). not (is_before plan b c) || is_settled x) (sym (moved c apart).state) ∙ let_all c below
+
+begins_still : (plan : Outline) (s t : Snapshot) (a b : ℕ) → IsLaidOut plan → ((c : ℕ) → nat_eq a c ≡ false → IsAsBefore s t c) → nat_eq a b ≡ false → is_settled (t.state a) && is_before plan b a ≡ false → is_to_begin_again plan t b ≡ true → is_to_begin_again plan s b ≡ true
+begins_still plan s t a b layout moved other far is =
+    true_both (is_retry plan b && is_success (s.state b)) _
+    (sym (ap (λ (x : AtomState). is_retry plan b && is_success x) (moved b other).state) ∙ told)
+    (true_both (is_marked_again (own_flow plan b) (s.mark b)) _
+    (sym (ap (is_marked_again (own_flow plan b)) (moved b other).mark) ∙ and_first (is_marked_again (own_flow plan b) (t.mark b)) _ rest)
+    (all_of (count plan) (is_settled_beside plan s b) (λ c below. by c below (nat_eq a c) refl)))
+  where
+    told : is_retry plan b && is_success (t.state b) ≡ true
+    told = and_first (is_retry plan b && is_success (t.state b)) _ is
+
+    rest : is_marked_again (own_flow plan b) (t.mark b) && all_below (count plan) (is_settled_beside plan t b) ≡ true
+    rest = and_second (is_retry plan b && is_success (t.state b)) _ is
+
+    all_beside : (c : ℕ) → c < count plan → is_settled_beside plan t b c ≡ true
+    all_beside c below = all_at (count plan) (is_settled_beside plan t b) c (and_second (is_marked_again (own_flow plan b) (t.mark b)) _ rest) below
+
+    there : (c : ℕ) → a ≡ c → c < count plan → (x : Bool) → is_of_its_flow plan b c ≡ x → (not x || is_settled (s.state c)) ≡ true
+    there c same below true inside = absurd (clash (is_settled (t.state a) && is_before plan b a)
+        (true_both (is_settled (t.state a)) _ (ap (λ (d : ℕ). is_settled (t.state d)) same ∙ (sym (ap (λ (x : Bool). not x || is_settled (t.state c)) inside) ∙ all_beside c below))
+        (ap (is_before plan b) same ∙ retry_before plan b c layout (and_first (is_retry plan b) _ told) inside)) far)
+    there c same below false inside = refl
+
+    by : (c : ℕ) → c < count plan → (x : Bool) → nat_eq a c ≡ x → is_settled_beside plan s b c ≡ true
+    by c below true same = there c (eqb-true a c same) below (is_of_its_flow plan b c) refl
+    by c below false apart = ap (λ (x : AtomState). not (is_of_its_flow plan b c) || is_settled x) (sym (moved c apart).state) ∙ all_beside c below
+
+-- an atom whose state, mark and hand stay is listed still, where it can do no more than before
+stays_listed : (plan : Outline) (s t : Snapshot) (old new : Worklist) (b : ℕ) → IsAsBefore s t b
+    → (can_run plan t b ≡ true → can_run plan s b ≡ true) → (can_revert plan t b ≡ true → can_revert plan s b ≡ true) → (is_to_begin_again plan t b ≡ true → is_to_begin_again plan s b ≡ true)
+    → SameAt old new b → ListedAt plan s old b → ListedAt plan t new b
+stays_listed plan s t old new b before runs reverts begins same listed = record {
+  cases = λ out. by (sym same.forcing ∙ out);
+  never = λ out is. listed.never (sym same.forcing ∙ out) (runs is);
+  ready = λ out. never_true (is_candidate plan t b) (λ is. clash (is_candidate plan s b) (candidate is) (listed.ready (sym same.ready ∙ out)));
+  busy = λ out. before.hand ∙ listed.busy (sym same.busy ∙ out);
+}
+  where
+    -- a test of the state stays
+    state_stays : (test : AtomState → Bool) (x : Bool) → x && test (s.state b) ≡ false → x && test (t.state b) ≡ false
+    state_stays test x is = ap (λ (y : AtomState). x && test y) before.state ∙ is
+
+    by : has old.forcing b ≡ false → (k : Case) → applies plan t k b ≡ false
+    by out case.Attempt = state_stays is_running (is_retry plan b) (listed.cases out case.Attempt)
+    by out case.Again = state_stays is_retrying (is_retry plan b) (listed.cases out case.Again)
+    by out case.Reverted = state_stays is_reverting (is_retry plan b) (listed.cases out case.Reverted)
+    by out case.Resolution = ap (λ (y : AtomState). is_failure y && is_unmarked t b) before.state ∙ (ap (λ (m : Option Resolve). is_failure (s.state b) && is_none m) before.mark ∙ listed.cases out case.Resolution)
+    by out case.Retrying = never_true (is_to_begin_again plan t b) (λ is. clash (is_to_begin_again plan s b) (begins is) (listed.cases out case.Retrying))
+    by out case.Revert = never_true (is_retry plan b && can_revert plan t b) (λ is.
+        clash (is_retry plan b && can_revert plan s b) (true_both (is_retry plan b) _ (and_first (is_retry plan b) _ is) (reverts (and_second (is_retry plan b) _ is))) (listed.cases out case.Revert))
+    by out case.Ignore = never_true (is_refused plan t b) (λ is.
+        let none : refused plan t b ≡ None = listed.never out (runs (and_first (can_run plan t b) _ is)) t in
+        clash (is_some (refused plan t b)) (and_second (can_run plan t b) _ is) (ap is_some none))
+    by out case.Run = never_true (is_retry plan b && can_run plan t b) (λ is.
+        clash (is_retry plan b && can_run plan s b) (true_both (is_retry plan b) _ (and_first (is_retry plan b) _ is) (runs (and_second (is_retry plan b) _ is))) (listed.cases out case.Run))
+
+    interrupted : is_interrupted plan t b ≡ is_interrupted plan s b
+    interrupted = ap (λ (y : AtomState). is_task plan b && (is_at_work y && is_none (t.hand b))) before.state ∙ ap (λ (h : Option ℕ). is_task plan b && (is_at_work (s.state b) && is_none h)) before.hand
+
+    either : can_run plan t b || can_revert plan t b ≡ true → can_run plan s b || can_revert plan s b ≡ true
+    either is = elim (or_either (can_run plan t b) _ is) [
+      | inl run ↦ true_first (can_run plan s b) _ (runs run)
+      | inr revert ↦ true_second (can_run plan s b) _ (reverts revert)
+    ]
+
+    candidate : is_candidate plan t b ≡ true → is_candidate plan s b ≡ true
+    candidate is = elim (or_either (is_interrupted plan t b) _ is) [
+      | inl work ↦ true_first (is_interrupted plan s b) _ (sym interrupted ∙ work)
+      | inr able ↦ true_second (is_interrupted plan s b) _ (true_both (is_task plan b) _ (and_first (is_task plan b) _ able) (either (and_second (is_task plan b) _ able)))
+    ]
+
+-- ---- after the state or the hand of one atom changed
+
+-- b is listed, since it was and can do no more, or since it was listed anew
+around_at : (plan : Outline) (s t : Snapshot) (old new : Worklist) (a b : ℕ) → IsLaidOut plan → AreMoved s (extent.Around a) t → nat_eq a b ≡ false → ListedAt plan s old b
+    → SameAt old new b ⊎ ListedAt plan t new b
+    → (is_done (t.state a) ≡ true → has_number (successors_of plan a) b ≡ true → can_run plan t b ≡ true → ListedAt plan t new b)
+    → (is_settled (t.state a) ≡ true → has_number (predecessors_of plan a) b ≡ true → is_retry plan b || can_revert plan t b ≡ true → ListedAt plan t new b)
+    → ListedAt plan t new b
+around_at plan s t old new a b layout moved other was (inr listed) runs reverts = listed
+around_at plan s t old new a b layout moved other was (inl same) runs reverts = by_run (is_done (t.state a) && (is_before plan a b && can_run plan t b)) refl
+  where
+    by_revert : (can_run plan t b ≡ true → can_run plan s b ≡ true) → (x : Bool) → is_settled (t.state a) && (is_before plan b a && (is_retry plan b || can_revert plan t b)) ≡ x → ListedAt plan t new b
+    by_revert still true is =
+        let rest = and_second (is_settled (t.state a)) _ is in
+        reverts (and_first (is_settled (t.state a)) _ is) (predecessor_told plan b a ∙ and_first (is_before plan b a) _ rest) (and_second (is_before plan b a) _ rest)
+    by_revert still false is = stays_listed plan s t old new b (moved b other) still
+        (λ able. reverts_still plan s t a b moved other (far (true_second (is_retry plan b) _ able)) able)
+        (λ able. begins_still plan s t a b layout moved other (far (true_first (is_retry plan b) _ (and_first (is_retry plan b) _ (and_first (is_retry plan b && is_success (t.state b)) _ able)))) able)
+        same was
+      where
+        far : is_retry plan b || can_revert plan t b ≡ true → is_settled (t.state a) && is_before plan b a ≡ false
+        far able = never_true (is_settled (t.state a) && is_before plan b a) (λ near.
+            clash (is_settled (t.state a) && (is_before plan b a && (is_retry plan b || can_revert plan t b)))
+            (true_both (is_settled (t.state a)) _ (and_first (is_settled (t.state a)) _ near) (true_both (is_before plan b a) _ (and_second (is_settled (t.state a)) _ near) able)) is)
+
+    by_run : (x : Bool) → is_done (t.state a) && (is_before plan a b && can_run plan t b) ≡ x → ListedAt plan t new b
+    by_run true is =
+        let rest = and_second (is_done (t.state a)) _ is in
+        runs (and_first (is_done (t.state a)) _ is) (successor_told plan a b ∙ and_first (is_before plan a b) _ rest) (and_second (is_before plan a b) _ rest)
+    by_run false is = by_revert (λ able. runs_still plan s t a b moved other (far able) able) (is_settled (t.state a) && (is_before plan b a && (is_retry plan b || can_revert plan t b))) refl
+      where
+        far : can_run plan t b ≡ true → is_done (t.state a) && is_before plan a b ≡ false
+        far able = never_true (is_done (t.state a) && is_before plan a b) (λ near.
+            clash (is_done (t.state a) && (is_before plan a b && can_run plan t b))
+            (true_both (is_done (t.state a)) _ (and_first (is_done (t.state a)) _ near) (true_both (is_before plan a b) _ (and_second (is_done (t.state a)) _ near) able)) is)
+
+-- nobody is REVERT_FAILURE then, where nobody was and the atom isn't
+unhurt_still : (plan : Outline) (s t : Snapshot) (a : ℕ) (old new : Bool) → AreMoved s (extent.Around a) t → new ≡ old || is_revert_failure (t.state a) → (old ≡ false → is_unhurt plan s ≡ true) → new ≡ false → is_unhurt plan t ≡ true
+unhurt_still plan s t a old new moved is was not_hurt = all_of (count plan) (is_unhurt_at t) (λ b below. by b below (nat_eq a b) refl)
+  where
+    none : old || is_revert_failure (t.state a) ≡ false
+    none = sym is ∙ not_hurt
+
+    by : (b : ℕ) → b < count plan → (x : Bool) → nat_eq a b ≡ x → is_unhurt_at t b ≡ true
+    by b below true same = ap (λ (c : ℕ). not (is_revert_failure (t.state c))) (sym (eqb-true a b same)) ∙ ap not (neither_second old _ none)
+    by b below false other = ap (λ (x : AtomState). not (is_revert_failure x)) (moved b other).state ∙ all_at (count plan) (is_unhurt_at s) b (was (neither_first old _ none)) below
+
+-- the worklist after those that can run, those that can revert or run their flow again, and the atom itself were listed
+pub around_listed : (plan : Outline) (s t : Snapshot) (a : ℕ) (old first second third : Worklist) (hurt : Bool) → IsLaidOut plan → AreMoved s (extent.Around a) t → IsListed plan s old
+    → ((b : ℕ) → SameAt old first b ⊎ ListedAt plan t first b)
+    → ((b : ℕ) → is_done (t.state a) ≡ true → has_number (successors_of plan a) b ≡ true → can_run plan t b ≡ true → ListedAt plan t first b)
+    → ((b : ℕ) → SameAt first second b ⊎ ListedAt plan t second b)
+    → ((b : ℕ) → is_settled (t.state a) ≡ true → has_number (predecessors_of plan a) b ≡ true → is_retry plan b || can_revert plan t b ≡ true → ListedAt plan t second b)
+    → (a < count plan → ListedAt plan t third a) → ((b : ℕ) → nat_eq a b ≡ false → SameAt second third b)
+    → HasRoom plan third → third.hurt ≡ old.hurt → hurt ≡ third.hurt || is_revert_failure (t.state a)
+    → IsListed plan t (record { forcing = third.forcing; ready = third.ready; busy = third.busy; hurt = hurt })
+around_listed plan s t a old first second third hurt layout moved listed moved1 runs moved2 reverts here others room kept is = record {
+  room = record { forcing = room.forcing; ready = room.ready; busy = room.busy };
+  each = λ b below. at b below (nat_eq a b) refl;
+  unhurt = unhurt_still plan s t a old.hurt hurt moved (is ∙ ap (λ (x : Bool). x || is_revert_failure (t.state a)) kept) listed.unhurt;
+}
+  where
+    so : (b : ℕ) → ListedAt plan t third b → ListedAt plan t (record { forcing = third.forcing; ready = third.ready; busy = third.busy; hurt = hurt }) b
+    so b told = record { cases = told.cases; never = told.never; ready = told.ready; busy = told.busy }
+
+    at : (b : ℕ) → b < count plan → (x : Bool) → nat_eq a b ≡ x → ListedAt plan t (record { forcing = third.forcing; ready = third.ready; busy = third.busy; hurt = hurt }) b
+    at b below true same = so b (subst (ListedAt plan t third) (eqb-true a b same) (here (subst (λ (n : ℕ). n < count plan) (sym (eqb-true a b same)) below)))
+    at b below false other = so b (around_at plan s t old third a b layout moved other (listed.each b below)
+        (moved_on plan t old second third b (moved_on plan t old first second b (moved1 b) (moved2 b)) (inl (others b other)))
+        (λ done inside able. alike plan t second third b (others b other) (listed_on plan t first second b (runs b done inside able) (moved2 b)))
+        (λ settled inside able. alike plan t second third b (others b other) (reverts b settled inside able)))
+
+-- ---- some atoms, one after another
+
+-- so far: each is as it was or listed; and those reached among the first are listed
+pub record AreSoFar (plan : Outline) (s : Snapshot) (how : Reach) (atoms left : List ℕ) (old now : Worklist) : Type 0 where
+  pub room : HasRoom plan now
+  pub hurt : now.hurt ≡ old.hurt
+  pub moved : (a : ℕ) → SameAt old now a ⊎ ListedAt plan s now a
+  pub reached : (a : ℕ) → has_number atoms a ≡ true → is_reached plan s how a ≡ true → (has_number left a ≡ true) ⊎ ListedAt plan s now a
+
+pub none_so_far : (plan : Outline) (s : Snapshot) (how : Reach) (atoms : List ℕ) (old : Worklist) → HasRoom plan old → AreSoFar plan s how atoms atoms old old
+none_so_far plan s how atoms old room = record { room = room; hurt = refl; moved = λ a. inl (alike_now old a); reached = λ a inside able. inl inside }
+
+-- one more is as it was or listed, and listed where it is reached
+pub next_so_far : (plan : Outline) (s : Snapshot) (how : Reach) (atoms : List ℕ) (k d : ℕ) (old now new : Worklist) → k < length atoms → AreSoFar plan s how atoms (drop k atoms) old now
+    → HasRoom plan new → new.hurt ≡ now.hurt → ((b : ℕ) → SameAt now new b ⊎ ListedAt plan s new b) → (is_reached plan s how (get_or atoms k d) ≡ true → ListedAt plan s new (get_or atoms k d))
+    → AreSoFar plan s how atoms (drop (k + 1) atoms) old new
+next_so_far plan s how atoms k d old now new below far room kept moved here = record {
+  room = room;
+  hurt = kept ∙ far.hurt;
+  moved = λ a. moved_on plan s old now new a (far.moved a) (moved a);
+  reached = λ a inside able. elim (far.reached a inside able) [
+    | inl left ↦ next a able left (nat_eq a (get_or atoms k d)) refl
+    | inr listed ↦ inr (listed_on plan s now new a listed (moved a))
+  ];
+}
+  where
+    next : (a : ℕ) → is_reached plan s how a ≡ true → has_number (drop k atoms) a ≡ true → (x : Bool) → nat_eq a (get_or atoms k d) ≡ x → (has_number (drop (k + 1) atoms) a ≡ true) ⊎ ListedAt plan s new a
+    next a able left true same = inr (subst (ListedAt plan s new) (sym (eqb-true a (get_or atoms k d) same)) (here (subst (λ (b : ℕ). is_reached plan s how b ≡ true) (eqb-true a (get_or atoms k d) same) able)))
+    next a able left false other = inl (
+        ap (λ (n : ℕ). has_number (drop n atoms) a) (add-one k)
+        ∙ (sym (ap (λ (x : Bool). x || has_number (drop (suc k) atoms) a) other)
+        ∙ (sym (ap (λ (xs : List ℕ). has_number xs a) (drop_first atoms k d below)) ∙ left)))
+
+-- a list has what stands at one of its places
+pub has_at : (atoms : List ℕ) (k d : ℕ) → k < length atoms → has_number atoms (get_or atoms k d) ≡ true
+has_at [] k d below = absurd (omega (arith, below))
+has_at (x ∷ xs) zero d below = true_first (nat_eq x x) _ (eq-eqb x x refl)
+has_at (x ∷ xs) (suc k) d below = true_second (nat_eq (get_or xs k d) x) _ (has_at xs k d (omega (arith, below)))
+
+pub all_so_far : (plan : Outline) (s : Snapshot) (how : Reach) (atoms : List ℕ) (k : ℕ) (old now : Worklist) → length atoms ≤ k → AreSoFar plan s how atoms (drop k atoms) old now
+    → (a : ℕ) → has_number atoms a ≡ true → is_reached plan s how a ≡ true → ListedAt plan s now a
+all_so_far plan s how atoms k old now past far a inside able = elim (far.reached a inside able) [
+  | inl left ↦ let never : has_number [] a ≡ true = ap (λ (xs : List ℕ). has_number xs a) (sym (drop_whole atoms k past)) ∙ left in absurd (cc)
+  | inr listed ↦ listed
+]
+
+-- ---- all atoms, one after another
+
+pub record AllListed (plan : Outline) (s : Snapshot) (n : ℕ) (list : Worklist) : Type 0 where
+  pub room : HasRoom plan list
+  pub each : (a : ℕ) → a < n → ListedAt plan s list a
+
+pub none_listed : (plan : Outline) (s : Snapshot) (list : Worklist) → HasRoom plan list → AllListed plan s 0 list
+none_listed plan s list room = record { room = room; each = λ a below. absurd (omega (arith, below)) }
+
+pub one_listed : (plan : Outline) (s : Snapshot) (n : ℕ) (old new : Worklist) → AllListed plan s n old → HasRoom plan new → ListedAt plan s new n → ((b : ℕ) → nat_eq n b ≡ false → SameAt old new b) → AllListed plan s (n + 1) new
+one_listed plan s n old new all room here others = record { room = room; each = λ a below. by a below (nat_eq n a) refl }
+  where
+    by : (a : ℕ) → a < n + 1 → (x : Bool) → nat_eq n a ≡ x → ListedAt plan s new a
+    by a below true same = subst (ListedAt plan s new) (eqb-true n a same) here
+    by a below false other = alike plan s old new a (others a other) (all.each a (lower a below (λ same. clash (nat_eq n a) (eq-eqb n a (sym same)) other)))
+      where
+        lower : (a : ℕ) → a < n + 1 → (a ≡ n → ⊥) → a < n
+        lower a below apart = elim (cases_lt a n) [ inl less ↦ less | inr from ↦ absurd (apart (omega (arith, below, from))) ]
+
+-- every atom is listed, and whether one is REVERT_FAILURE is told
+pub whole_listed : (plan : Outline) (s : Snapshot) (n : ℕ) (list : Worklist) (calm : Bool) → count plan ≤ n → AllListed plan s n list → calm ≡ is_unhurt plan s
+    → IsListed plan s (record { forcing = list.forcing; ready = list.ready; busy = list.busy; hurt = not calm })
+whole_listed plan s n list calm most all is = record {
+  room = record { forcing = all.room.forcing; ready = all.room.ready; busy = all.room.busy };
+  each = λ a below.
+      let told = all.each a (omega (arith, most, below)) in
+      record { cases = told.cases; never = told.never; ready = told.ready; busy = told.busy };
+  unhurt = λ not_hurt. sym is ∙ by calm not_hurt;
+}
+  where
+    by : (b : Bool) → not b ≡ false → b ≡ true
+    by true never = refl
+    by false never = absurd (cc)
+
+-- ---- who has what in flight
+
+-- none of those that aren't listed is with the hand, or in flight
+pub none_with : (plan : Outline) (s : Snapshot) (list : Worklist) (n hand : ℕ) → IsListed plan s list → n ≤ count plan → ((a : ℕ) → a < n → has list.busy a ≡ false) → first_below n (is_with s hand) ≡ None
+none_with plan s list n hand listed within before =
+    first_none n (is_with s hand) (λ a below. ap (λ (h : Option ℕ). is_number h hand) ((listed.each a (omega (arith, within, below))).busy (before a below)))
+
+pub none_is_with : (plan : Outline) (s : Snapshot) (list : Worklist) (n hand : ℕ) → IsListed plan s list → n ≤ count plan → ((a : ℕ) → a < n → has list.busy a ≡ false) → all_below n (is_not_with s hand) ≡ true
+none_is_with plan s list n hand listed within before =
+    all_of n (is_not_with s hand) (λ a below. ap (λ (h : Option ℕ). not (is_number h hand)) ((listed.each a (omega (arith, within, below))).busy (before a below)))
+
+pub none_in_flight : (plan : Outline) (s : Snapshot) (list : Worklist) (n : ℕ) → IsListed plan s list → n ≤ count plan → ((a : ℕ) → a < n → has list.busy a ≡ false) → all_below n (is_idle s) ≡ true
+none_in_flight plan s list n listed within before =
+    all_of n (is_idle s) (λ a below. ap is_none ((listed.each a (omega (arith, within, below))).busy (before a below)))
+
+-- a set with no number has none, past its room too
+pub nothing_in : (set : List ℕ) (a : ℕ) → first_below (room set) (has set) ≡ None → has set a ≡ false
+nothing_in set a none = elim (cases_lt a (room set)) [
+  | inl below ↦ none_at (room set) (has set) a none below
+  | inr past ↦ past_none set a (omega (arith, past))
+]
+
+-- ---- before a run
+
+-- one number more
+pub put_below : (n : ℕ) (old new : List ℕ) → ((a : ℕ) → a < n → has old a ≡ true) → ((k : ℕ) → has new k ≡ (nat_eq n k || has old k)) → (a : ℕ) → a < n + 1 → has new a ≡ true
+put_below n old new before put a below = put a ∙ by (nat_eq n a) refl
+  where
+    by : (x : Bool) → nat_eq n a ≡ x → nat_eq n a || has old a ≡ true
+    by true same = true_first (nat_eq n a) _ same
+    by false other = true_second (nat_eq n a) _ (before a (let apart : n ≡ a → ⊥ = (λ same. clash (nat_eq n a) (eq-eqb n a same) other) in lower apart))
+      where
+        lower : (n ≡ a → ⊥) → a < n
+        lower apart = elim (cases_lt a n) [ inl less ↦ less | inr from ↦ absurd (apart (omega (arith, below, from))) ]
+
+-- where every atom is in each set, nothing is said of any
+pub all_put : (plan : Outline) (s : Snapshot) (n : ℕ) (forcing ready busy : List ℕ) → count plan ≤ n → length forcing ≡ words_for (count plan) → length ready ≡ words_for (count plan) → length busy ≡ words_for (count plan)
+    → ((a : ℕ) → a < n → has forcing a ≡ true) → ((a : ℕ) → a < n → has ready a ≡ true) → ((a : ℕ) → a < n → has busy a ≡ true)
+    → IsListed plan s (record { forcing = forcing; ready = ready; busy = busy; hurt = true })
+all_put plan s n forcing ready busy most room1 room2 room3 all1 all2 all3 = record {
+  room = record { forcing = room1; ready = room2; busy = room3 };
+  each = λ a below. record {
+    cases = λ out. absurd (clash (has forcing a) (all1 a (omega (arith, most, below))) out);
+    never = λ out. absurd (clash (has forcing a) (all1 a (omega (arith, most, below))) out);
+    ready = λ out. absurd (clash (has ready a) (all2 a (omega (arith, most, below))) out);
+    busy = λ out. absurd (clash (has busy a) (all3 a (omega (arith, most, below))) out);
+  };
+  unhurt = λ never. absurd (cc);
+}

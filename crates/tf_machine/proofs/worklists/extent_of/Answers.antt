@@ -1,0 +1,26 @@
+use Rattle.std.proofs.Common.{◌∙◌, sym, subst}
+use Rattle.tf_states.specs.declared.record.What.{What}
+use Rattle.tf_model.specs.Plan.{outline_of}
+use Rattle.tf_model.specs.Snapshot.{later}
+use Rattle.tf_machine.specs.declared.worklists.Extent.TheVariants as extent
+use Rattle.tf_machine.specs.Worklists.{AreMoved, event}
+use Rattle.tf_machine.proofs.ExtentLemmas.{entered_around, restarted_around}
+use Rattle.tf_machine.proofs.worklists.extent_of.Goals as goal
+
+pub returns-then-begins_attempt : goal.returns-then-begins_attempt
+returns-then-begins_attempt c = λ s hand. tt
+
+pub returns-else-begins_attempt : goal.returns-else-begins_attempt
+returns-else-begins_attempt c = λ s hand.
+    subst (λ (w : What). AreMoved s (extent.Around c.in-Atom.atom) (later (outline_of c.args.compiled.now) (event hand w) s)) (sym c.in-Atom.is)
+    (entered_around (outline_of c.args.compiled.now) s hand c.in-Atom.atom c.in-Atom.state c.in-Atom.payload (sym c.begins_attempt.ensures ∙ c.if-begins_attempt.false))
+
+pub returns-in-Flow : goal.returns-in-Flow
+returns-in-Flow c = λ s hand. tt
+
+pub returns-in-Resolve : goal.returns-in-Resolve
+returns-in-Resolve c = λ s hand. tt
+
+pub returns-in-Restart : goal.returns-in-Restart
+returns-in-Restart c = λ s hand.
+    subst (λ (w : What). AreMoved s (extent.Around c.in-Restart.atom) (later (outline_of c.args.compiled.now) (event hand w) s)) (sym c.in-Restart.is) (restarted_around (outline_of c.args.compiled.now) s hand c.in-Restart.atom)

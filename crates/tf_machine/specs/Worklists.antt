@@ -1,0 +1,65 @@
+-- Where the next entry is looked for: sets of atoms past which nothing is to be found.
+use Rattle.std.specs.Prelude.{◌≡◌, ℕ, ◌<◌, ◌||◌, Bool, true, false, length, nat_eq, None}
+use Rattle.tf_links.specs.Bits.{has, words_for}
+use Rattle.tf_states.specs.declared.record.Entry.{Entry}
+use Rattle.tf_states.specs.declared.record.What.{What}
+use Rattle.tf_model.specs.Plan.{Outline, count, is_retry}
+use Rattle.tf_model.specs.Snapshot.{Snapshot}
+use Rattle.tf_model.specs.Readiness.{can_run, can_revert}
+use Rattle.tf_model.specs.Deciders.{refused}
+use Rattle.tf_model.specs.Forced.{is_unhurt}
+use Rattle.tf_model.specs.Candidates.{is_candidate}
+use Rattle.tf_machine.specs.Cases.{applies}
+use Rattle.tf_machine.specs.declared.cases.Case.{Case}
+use Rattle.tf_machine.specs.declared.worklists.Worklist.{Worklist}
+use Rattle.tf_machine.specs.declared.worklists.Extent.{Extent}
+use Rattle.tf_machine.specs.declared.worklists.Extent.TheVariants as extent
+use Rattle.tf_machine.specs.declared.worklists.Reach.{Reach}
+use Rattle.tf_machine.specs.declared.worklists.Reach.TheVariants as reach
+
+-- where an atom isn't in the first set, no case applies to it, and while it can run nothing ever refuses it; where it isn't in the second, it is no
+-- candidate; where it isn't in the third, it isn't in flight
+pub record ListedAt (plan : Outline) (s : Snapshot) (list : Worklist) (a : ℕ) : Type 0 where
+  pub cases : has list.forcing a ≡ false → (k : Case) → applies plan s k a ≡ false
+  pub never : has list.forcing a ≡ false → can_run plan s a ≡ true → (t : Snapshot) → refused plan t a ≡ None
+  pub ready : has list.ready a ≡ false → is_candidate plan s a ≡ false
+  pub busy : has list.busy a ≡ false → s.hand a ≡ None
+
+-- the sets have room for every atom
+pub record HasRoom (plan : Outline) (list : Worklist) : Type 0 where
+  pub forcing : length list.forcing ≡ words_for (count plan)
+  pub ready : length list.ready ≡ words_for (count plan)
+  pub busy : length list.busy ≡ words_for (count plan)
+
+-- every atom is listed as it is at this moment, and no atom is REVERT_FAILURE unless one may be
+pub record IsListed (plan : Outline) (s : Snapshot) (list : Worklist) : Type 0 where
+  pub room : HasRoom plan list
+  pub each : (a : ℕ) → a < count plan → ListedAt plan s list a
+  pub unhurt : list.hurt ≡ false → is_unhurt plan s ≡ true
+
+-- two worklists have the atom alike
+pub record SameAt (old new : Worklist) (a : ℕ) : Type 0 where
+  pub forcing : has new.forcing a ≡ has old.forcing a
+  pub ready : has new.ready a ≡ has old.ready a
+  pub busy : has new.busy a ≡ has old.busy a
+
+-- two moments agree on an atom's state, mark and hand
+pub record IsAsBefore (s t : Snapshot) (a : ℕ) : Type 0 where
+  pub state : t.state a ≡ s.state a
+  pub mark : t.mark a ≡ s.mark a
+  pub hand : t.hand a ≡ s.hand a
+
+-- two moments agree on all atoms but the one around which something changed
+abbrev pub AreMoved : Snapshot → Extent → Snapshot → Type 0
+AreMoved s extent.All t = Unit {0}
+AreMoved s (extent.Around a) t = (b : ℕ) → nat_eq a b ≡ false → IsAsBefore s t b
+
+-- what may become of an atom after another one's state changed: it can run, since that one is done with; or it can revert or run its flow again,
+-- since that one is settled
+abbrev pub is_reached : Outline → Snapshot → Reach → ℕ → Bool
+is_reached plan s reach.Run a = can_run plan s a
+is_reached plan s reach.Revert a = is_retry plan a || can_revert plan s a
+
+-- a hand recorded it
+abbrev pub event : ℕ → What → Entry
+event hand what = record { hand = hand; what = what }

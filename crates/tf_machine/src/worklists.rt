@@ -1,0 +1,268 @@
+//! Where the next entry is looked for.
+ghost use Rattle.std.specs.Prelude.{◌≡◌, ◌<◌, ◌≤◌, ◌⊎◌, ◌&&◌, ℕ, true, false, IfOk, nat_eq, None};
+ghost use Rattle.tf_numbers.specs.Numbers.{has_number};
+ghost use Rattle.tf_links.specs.Bits.{has};
+ghost use Rattle.tf_model.specs.Plan.{outline_of, count, is_retry};
+ghost use Rattle.tf_model.specs.Readiness.{can_run};
+ghost use Rattle.tf_model.specs.Snapshot.{Snapshot, later};
+ghost use Rattle.tf_machine.specs.Counts.{IsCounted};
+ghost use Rattle.tf_machine.specs.Tables.{shown_by};
+ghost use Rattle.tf_model.specs.Deciders.{refused};
+ghost use Rattle.tf_model.specs.States.{is_running};
+ghost use Rattle.tf_machine.specs.Cases as specs;
+ghost use Rattle.tf_machine.specs.declared.cases.Case.{Case as AnyCase};
+ghost use Rattle.tf_machine.specs.declared.worklists.Extent.TheVariants.{Around as around};
+ghost use Rattle.tf_machine.specs.Worklists.{IsListed, ListedAt, SameAt, HasRoom, AreMoved, is_reached, event};
+
+use crate::candidates::is_candidate;
+use crate::cases::case_at;
+use crate::compiled::Compiled;
+use crate::forcing::are_unhurt;
+use crate::readiness::{can_run, is_held, is_waiting};
+use crate::states::{is_done, is_revert_failure, is_running, is_settled};
+use crate::tables::Tables;
+use std::alloc::Global;
+use tf_links::Bits;
+use tf_states::{AtomState, What};
+use tf_values::Memory;
+
+/// The atoms to which a case may apply, the tasks that may be taken up, and those that may be in flight: past these sets
+/// nothing is to be found. And whether an atom may be REVERT_FAILURE.
+#[derive(Drop)]
+pub struct Worklist {
+    pub forcing: Bits,
+    pub ready: Bits,
+    pub busy: Bits,
+    pub hurt: bool,
+}
+
+/// Of which atoms an entry may change what is to be done with them.
+#[derive(Clone, Copy, Debug)]
+pub enum Extent {
+    /// Of all.
+    All,
+    /// Of this atom, whose state and hand alone it changes, and of those before it and after it.
+    Around(u16),
+}
+
+/// Why an atom may have become able to do something.
+#[derive(Clone, Copy, Debug)]
+pub enum Reach {
+    /// One before it is done with, so that it may run.
+    Run,
+    /// One after it is settled, so that it may revert, or run its flow again.
+    Revert,
+}
+
+/// Of which atoms this entry may change what is to be done with them.
+pub fn extent_of(compiled: &Compiled, what: &What) -> Extent
+    ensures { (s : Snapshot) (hand : ℕ) → AreMoved s result (later (outline_of compiled.now) (event hand what.now) s) }
+{
+    match what {
+        What::Atom { atom, state, .. } => {
+            if begins_attempt(compiled, *atom, *state) {
+                Extent::All
+            } else {
+                Extent::Around(*atom)
+            }
+        }
+        What::Flow(_) => Extent::All,
+        What::Resolve { .. } => Extent::All,
+        What::Restart(atom) => Extent::Around(*atom),
+    }
+}
+
+/// Whether an atom that enters a state is a retry controller that begins to run, which changes marks.
+fn begins_attempt(compiled: &Compiled, atom: u16, state: AtomState) -> bool
+    ensures { result ≡ (is_running state && is_retry (outline_of compiled.now) atom) }
+{
+    is_running(state) && compiled.is_retry(atom)
+}
+
+impl Worklist {
+    /// The worklist of a plan before a run. Every atom may have to be looked at.
+    #[tactic(auto, using(crate::proofs::WorkLemmas::put_below, crate::proofs::WorkLemmas::all_put))]
+    pub fn make(alloc: Global, compiled: &Compiled) -> Result<Worklist, Memory>
+        ensures { IfOk result (λ list. (s : Snapshot) → IsListed (outline_of compiled.now) s list) }
+    {
+        let mut forcing = Bits::new(alloc, compiled.atoms() as usize)?;
+        let mut ready = Bits::new(alloc, compiled.atoms() as usize)?;
+        let mut busy = Bits::new(alloc, compiled.atoms() as usize)?;
+        for atom in 0..compiled.atoms() {
+            forcing.insert(atom as usize);
+            ready.insert(atom as usize);
+            busy.insert(atom as usize);
+        }
+        Ok(Worklist {
+            forcing,
+            ready,
+            busy,
+            hurt: true,
+        })
+    }
+
+    /// An entry of this extent was recorded, after which the tables show what they do: the atoms of which it may have
+    /// changed what is to be done with them are listed anew. It takes no memory.
+    pub fn follow(&mut self, compiled: &Compiled, tables: &Tables, extent: Extent)
+        requires counted { IsCounted (outline_of compiled.now) tables.now }
+        requires room { HasRoom (outline_of compiled.now) self.old }
+        ensures { (s : Snapshot) → IsListed (outline_of compiled.now) s self.old → AreMoved s extent (shown_by tables.now)
+            → IsListed (outline_of compiled.now) (shown_by tables.now) self.new }
+    {
+        match extent {
+            Extent::All => self.list_all(compiled, tables),
+            Extent::Around(atom) => self.list_around(compiled, tables, atom),
+        }
+    }
+
+    /// Lists every atom as it is now.
+    #[tactic(auto, using(crate::proofs::WorkLemmas::none_listed))]
+    fn list_all(&mut self, compiled: &Compiled, tables: &Tables)
+        requires counted { IsCounted (outline_of compiled.now) tables.now }
+        requires room { HasRoom (outline_of compiled.now) self.old }
+        ensures { IsListed (outline_of compiled.now) (shown_by tables.now) self.new }
+    {
+        for atom in 0..compiled.atoms() {
+            self.list(compiled, tables, atom);
+        }
+        self.hurt = !are_unhurt(compiled, tables);
+    }
+
+    /// Lists an atom whose state or hand changed, and those before it and after it.
+    fn list_around(&mut self, compiled: &Compiled, tables: &Tables, atom: u16)
+        requires counted { IsCounted (outline_of compiled.now) tables.now }
+        requires room { HasRoom (outline_of compiled.now) self.old }
+        ensures { (s : Snapshot) → IsListed (outline_of compiled.now) s self.old → AreMoved s (around atom) (shown_by tables.now)
+            → IsListed (outline_of compiled.now) (shown_by tables.now) self.new }
+    {
+        let state = tables.state(atom);
+        let after = compiled.successors(atom);
+        self.list_each(compiled, tables, Reach::Run, is_done(state), after);
+        let before = compiled.predecessors(atom);
+        self.list_each(compiled, tables, Reach::Revert, is_settled(state), before);
+        self.list_one(compiled, tables, atom);
+        self.hurt = self.hurt | is_revert_failure(state);
+    }
+
+    /// Where they may be reached, lists those of these atoms that are.
+    #[tactic(auto, using(crate::proofs::WorkLemmas::none_so_far, crate::proofs::WorkLemmas::all_so_far, crate::proofs::WorkLemmas::moved_none))]
+    fn list_each(
+        &mut self,
+        compiled: &Compiled,
+        tables: &Tables,
+        reach: Reach,
+        may: bool,
+        atoms: &[u16],
+    )
+        requires counted { IsCounted (outline_of compiled.now) tables.now }
+        requires room { HasRoom (outline_of compiled.now) self.old }
+        requires within { (a : ℕ) → has_number atoms.now a ≡ true → a < count (outline_of compiled.now) }
+        ensures room { HasRoom (outline_of compiled.now) self.new }
+        ensures hurt { self.new.hurt ≡ self.old.hurt }
+        ensures moved { (a : ℕ) → SameAt self.old self.new a ⊎ ListedAt (outline_of compiled.now) (shown_by tables.now) self.new a }
+        ensures reached { (a : ℕ) → may ≡ true → has_number atoms.now a ≡ true
+            → is_reached (outline_of compiled.now) (shown_by tables.now) reach a ≡ true
+            → ListedAt (outline_of compiled.now) (shown_by tables.now) self.new a }
+    {
+        if !may {
+            return;
+        }
+        for atom in atoms {
+            self.list_reached(compiled, tables, reach, *atom);
+        }
+    }
+
+    /// Lists an atom as it is now, if it may be reached so.
+    #[tactic(auto, using(crate::proofs::WorkLemmas::moved_but, crate::proofs::WorkLemmas::moved_none, crate::proofs::WorkLemmas::not_reached))]
+    fn list_reached(&mut self, compiled: &Compiled, tables: &Tables, reach: Reach, atom: u16)
+        requires counted { IsCounted (outline_of compiled.now) tables.now }
+        requires room { HasRoom (outline_of compiled.now) self.old }
+        requires atom { atom < count (outline_of compiled.now) }
+        ensures room { HasRoom (outline_of compiled.now) self.new }
+        ensures hurt { self.new.hurt ≡ self.old.hurt }
+        ensures moved { (a : ℕ) → SameAt self.old self.new a ⊎ ListedAt (outline_of compiled.now) (shown_by tables.now) self.new a }
+        ensures reached { is_reached (outline_of compiled.now) (shown_by tables.now) reach atom ≡ true
+            → ListedAt (outline_of compiled.now) (shown_by tables.now) self.new atom }
+    {
+        if may_be_reached(compiled, tables, reach, atom) {
+            self.list(compiled, tables, atom);
+        }
+    }
+
+    /// Lists an atom as it is now, if it is one of the plan.
+    fn list_one(&mut self, compiled: &Compiled, tables: &Tables, atom: u16)
+        requires counted { IsCounted (outline_of compiled.now) tables.now }
+        requires room { HasRoom (outline_of compiled.now) self.old }
+        ensures room { HasRoom (outline_of compiled.now) self.new }
+        ensures hurt { self.new.hurt ≡ self.old.hurt }
+        ensures here { atom < count (outline_of compiled.now) → ListedAt (outline_of compiled.now) (shown_by tables.now) self.new atom }
+        ensures others { (a : ℕ) → nat_eq atom a ≡ false → SameAt self.old self.new a }
+    {
+        if atom < compiled.atoms() {
+            self.list(compiled, tables, atom);
+        }
+    }
+
+    /// Lists an atom as it is now.
+    fn list(&mut self, compiled: &Compiled, tables: &Tables, atom: u16)
+        requires counted { IsCounted (outline_of compiled.now) tables.now }
+        requires room { HasRoom (outline_of compiled.now) self.old }
+        requires atom { atom < count (outline_of compiled.now) }
+        ensures room { HasRoom (outline_of compiled.now) self.new }
+        ensures hurt { self.new.hurt ≡ self.old.hurt }
+        ensures here { ListedAt (outline_of compiled.now) (shown_by tables.now) self.new atom }
+        ensures others { (a : ℕ) → nat_eq atom a ≡ false → SameAt self.old self.new a }
+    {
+        let is_forcing = may_be_forced(compiled, tables, atom);
+        let is_ready = is_candidate(compiled, tables, atom);
+        let is_busy = tables.hand(atom).is_some();
+        self.forcing.set(atom as usize, is_forcing);
+        self.ready.set(atom as usize, is_ready);
+        self.busy.set(atom as usize, is_busy);
+    }
+}
+
+/// Whether an atom may be reached so.
+fn may_be_reached(compiled: &Compiled, tables: &Tables, reach: Reach, atom: u16) -> bool
+    requires counted { IsCounted (outline_of compiled.now) tables.now }
+    requires atom { atom < count (outline_of compiled.now) }
+    ensures { result ≡ false → is_reached (outline_of compiled.now) (shown_by tables.now) reach atom ≡ false }
+{
+    match reach {
+        Reach::Run => !is_waiting(compiled, tables, atom),
+        Reach::Revert => !is_held(compiled, tables, atom) || compiled.is_retry(atom),
+    }
+}
+
+/// Whether a case applies to an atom, or may come to apply to it while it can run.
+#[tactic(auto, using(crate::proofs::WorkLemmas::no_case_told))]
+fn may_be_forced(compiled: &Compiled, tables: &Tables, atom: u16) -> bool
+    requires counted { IsCounted (outline_of compiled.now) tables.now }
+    requires atom { atom < count (outline_of compiled.now) }
+    ensures cases { result ≡ false → (k : AnyCase) → specs.applies (outline_of compiled.now) (shown_by tables.now) k atom ≡ false }
+    ensures never { result ≡ false → can_run (outline_of compiled.now) (shown_by tables.now) atom ≡ true
+        → (s : Snapshot) → refused (outline_of compiled.now) s atom ≡ None }
+{
+    if compiled.is_decided(atom) && can_run(compiled, tables, atom) {
+        return true;
+    }
+    case_at(compiled, tables, atom).is_some()
+}
+
+/// The least number of a set below a count; the count where it has none.
+#[tactic(auto, using(tf_numbers::proofs::BelowLemmas::first_before, crate::proofs::WorkLemmas::nothing_in))]
+pub fn first_of(set: &Bits, count: u16) -> u16
+    ensures within { result ≤ count }
+    ensures before { (a : ℕ) → a < result → has set.now a ≡ false }
+{
+    match set.first() {
+        Some(first) => {
+            if first < count as usize {
+                first as u16
+            } else {
+                count
+            }
+        }
+        None => count,
+    }
+}

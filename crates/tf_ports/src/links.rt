@@ -1,0 +1,50 @@
+ghost use Rattle.std.specs.Prelude.{◌≡◌, ℕ, ◌<◌, ◌≤◌, List, Option, length, OnOk, OnErr};
+ghost use Rattle.tf_desk.specs.Counts.{Rises};
+ghost use Rattle.tf_ports.specs.Links.{sent_with, SendsFront, Comes};
+
+/// What a link gave: so many bytes, at the front of the buffer; its end, after which nothing comes; or
+/// nothing, as it failed.
+#[derive(Clone, Copy, Debug, PartialEq, Eq)]
+pub enum Came {
+    Bytes(usize),
+    End,
+    Failed,
+}
+
+/// A link couldn't send.
+#[derive(Clone, Copy, Debug, PartialEq, Eq)]
+pub struct LinkFault;
+
+/// A stream of bytes to and from another process.
+pub trait Link: Drop {
+    /// The bytes that the link has left to give, where it tells them.
+    ghost left: { Self → Option (List ℕ) };
+
+    /// The bytes that the link was sent, where it tells them.
+    ghost sent: { Self → Option (List ℕ) };
+
+    /// How many faults there were. The count never falls, and stands still at the greatest u64.
+    ghost faults: { Self → ℕ };
+
+    /// How often the link said that it is at its end. The count never falls, and stands still at the
+    /// greatest u64.
+    ghost ends: { Self → ℕ };
+
+    /// Sends the bytes. Where it fails, a front of the bytes was sent, and the count of faults rose.
+    fn send(&mut self, bytes: &[u8]) -> Result<(), LinkFault>
+        ensures added { OnOk result (sent self.new ≡ sent_with (sent self.old) bytes.now) }
+        ensures cut { OnErr result (SendsFront (sent self.old) bytes.now (sent self.new)) }
+        ensures keeps { left self.new ≡ left self.old }
+        ensures cause { OnErr result (Rises (faults self.old) (faults self.new)) }
+        ensures no_fall { (faults self.old ≤ faults self.new) × (ends self.old ≤ ends self.new) };
+
+    /// Waits for bytes and puts what comes into the buffer, which isn't empty: at least one byte. `End` comes
+    /// only where the count of ends rose, and nothing is left; `Failed` only where the count of faults rose.
+    fn recv(&mut self, buf: &mut [u8]) -> Came
+        requires room { 0 < length buf.old }
+        ensures came { Comes (left self.old) (left self.new) buf.new result }
+        ensures keeps { sent self.new ≡ sent self.old }
+        ensures end { result ≡ Came.End → Rises (ends self.old) (ends self.new) }
+        ensures cause { result ≡ Came.Failed → Rises (faults self.old) (faults self.new) }
+        ensures no_fall { (faults self.old ≤ faults self.new) × (ends self.old ≤ ends self.new) };
+}

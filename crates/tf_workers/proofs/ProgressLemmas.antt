@@ -1,0 +1,400 @@
+-- A session goes on from turn to turn, and ends.
+use Rattle.std.proofs.Common.{◌≡◌, ◌≢◌, ℕ, ◌+◌, ◌<◌, ◌≤◌, List, [], ◌∷◌, ◌++◌, length, Option, Some, None, Result, Ok, Err, inl, inr, refl, sym, ap, ◌∙◌, subst, arith, append_assoc, append-nil, length-append}
+use Rattle.std.specs.List.{AllByRecursion}
+use Rattle.std.specs.Prelude.{MatchResult}
+use Rattle.std.proofs.lemmas.Grind.{flat_map-append}
+use Rattle.std.proofs.lemmas.List.{append_cancel_left}
+use Rattle.tf_desk.specs.Counts.{Rises}
+use Rattle.tf_ports.specs.Links.{sent_with, left_before, SendsFront}
+use Rattle.tf_ports.specs.declared.orders.Order.{Order}
+use Rattle.tf_ports.specs.declared.outcomes.Outcome.{Outcome}
+use Rattle.tf_wire.specs.Keeping.{Kept, counted, StandsFor, IsHere, IsAnswer}
+use Rattle.tf_wire.specs.Keeping.{GoesOn as FeedsOn}
+use Rattle.tf_wire.specs.declared.faults.WireFault.TheVariants as fault
+use Rattle.tf_wire.specs.Stream.{IsFrame, framed, joined, IsCut, BeginsWithFrame, BeginsWithBadLength}
+use Rattle.tf_wire.proofs.StreamLemmas.{bad_stays, cut_on, short_is_no_frame, short_is_no_bad_length}
+use Rattle.tf_workers.specs.Dialogue.{Exchange, running, reply, dialogue}
+use Rattle.tf_workers.specs.Session.{Seen, IsGiven, Session, Serves}
+use Rattle.tf_workers.specs.Progress.{IsKnown, Feeds, TakesIn, IsAtEnd, RunsOut, IsStopped, SoFar, GoesOn, TakesNothing, Answers, Reaches, StopsFor}
+use Rattle.tf_workers.specs.Progress.Reaches.{nothing, begun, performed}
+use Rattle.tf_workers.specs.declared.answering.Stop.TheVariants as stop
+use Rattle.tf_workers.specs.declared.incoming.Incoming.{Incoming}
+use Rattle.tf_workers.specs.declared.serving.ServeEnd.{ServeEnd}
+use Rattle.tf_workers.specs.declared.serving.ServeEnd.TheVariants as end
+use Rattle.tf_workers.proofs.ListLemmas.{all_front, all_behind, all_more, joined_more, framed_length, dialogue_more, read_more, did_more, sent_more, front_more, whole_front, came_more, came_none, did_none, sent_none}
+
+-- ---- counts
+
+rises_on : (a b c : ℕ) → a ≤ b → Rises b c → Rises a c
+rises_on a b c le rises = omega arith
+
+le_on : (a b c : ℕ) → a ≤ b → b ≤ c → a ≤ c
+le_on a b c first second = omega arith
+
+-- ---- what stands behind the frames that were taken
+
+-- the frames that wait, and what is kept behind them
+abbrev behind_of : (kept : Kept) (given : List ℕ) (taken : List (List ℕ)) → StandsFor kept given taken → List ℕ
+behind_of kept given taken keeps = joined kept.waiting ++ (kept.rest ++ keeps.dropped)
+
+cut_of : (kept : Kept) (given : List ℕ) (taken : List (List ℕ)) (keeps : StandsFor kept given taken) → IsCut given taken (behind_of kept given taken keeps)
+cut_of kept given taken keeps = record {
+  is = keeps.cut.is ∙ ap (λ (front : List ℕ). front ++ (kept.rest ++ keeps.dropped)) (flat_map-append framed taken kept.waiting) ∙ append_assoc (joined taken) (joined kept.waiting) (kept.rest ++ keeps.dropped);
+  are_frames = all_front IsFrame taken kept.waiting keeps.cut.are_frames;
+}
+
+-- where no frame waits, and nothing was dropped
+cut_rest : (kept : Kept) (given : List ℕ) (taken : List (List ℕ)) → kept.waiting ≡ [] → ¬ (BeginsWithBadLength kept.rest) → StandsFor kept given taken → IsCut given taken kept.rest
+cut_rest kept given taken none not_bad keeps =
+    let dropped : keeps.dropped ≡ [] = elim keeps.is_dropped [ inl is ↦ is | inr bad ↦ absurd (not_bad bad) ] in
+    subst (IsCut given taken) (
+    ap (λ (waiting : List (List ℕ)). joined waiting ++ (kept.rest ++ keeps.dropped)) none ∙ ap (λ (more : List ℕ). kept.rest ++ more) dropped ∙ append-nil kept.rest
+    ) (cut_of kept given taken keeps)
+
+-- where the stream is refused behind the frames that were taken
+cut_bad : (kept : Kept) (given : List ℕ) (taken : List (List ℕ)) → kept.waiting ≡ [] → (keeps : StandsFor kept given taken) → IsCut given taken (kept.rest ++ keeps.dropped)
+cut_bad kept given taken none keeps = subst (IsCut given taken) (ap (λ (waiting : List (List ℕ)). joined waiting ++ (kept.rest ++ keeps.dropped)) none) (cut_of kept given taken keeps)
+
+-- ---- sessions that end with what was answered
+
+so_far_on : (gives : Order → Outcome → Type 0) (before now after : Seen) (given : List ℕ) (frames : List (List ℕ)) (exchanges : List Exchange)
+    → TakesNothing now after → after.did ≡ now.did → after.sent ≡ now.sent → SoFar gives before now given frames exchanges → SoFar gives before after given frames exchanges
+so_far_on gives before now after given frames exchanges none did sent far = record {
+  came = far.came ∙ ap (left_before given) (sym none.left);
+  read = far.read;
+  gave = far.gave;
+  did = did ∙ far.did;
+  sent = sent ∙ far.sent;
+  faults = le_on before.faults now.faults after.faults far.faults none.faults;
+  ends = le_on before.ends now.ends after.ends far.ends none.ends;
+}
+
+abbrev session_of : (gives : Order → Outcome → Type 0) (before now : Seen) (given : List ℕ) (frames : List (List ℕ)) (exchanges : List Exchange) (behind : List ℕ)
+    → SoFar gives before now given frames exchanges → IsCut given frames behind → Session gives before now
+session_of gives before now given frames exchanges behind far cut = record {
+  given = given;
+  came = far.came;
+  frames = frames;
+  behind = behind;
+  cut = cut;
+  exchanges = exchanges;
+  read = far.read;
+  gave = far.gave;
+  did = far.did;
+  begun = None;
+  is_begun = tt;
+  sent = whole_front before.sent now.sent (dialogue exchanges ++ []) (far.sent ∙ ap (sent_with before.sent) (sym (append-nil (dialogue exchanges))));
+}
+
+-- ---- a frame is taken
+
+-- the same with this frame before those that wait
+abbrev pub with_frame : Kept → List ℕ → Kept
+with_frame kept frame = record { waiting = frame ∷ kept.waiting; rest = kept.rest; place = kept.place }
+
+known_taken : (kept : Kept) (frame : List ℕ) (refused : Option ℕ) → IsKnown (with_frame kept frame) refused → IsKnown kept refused
+known_taken kept frame None known = known
+known_taken kept frame (Some at) known = known
+
+place_more : (taken : List (List ℕ)) (frame : List ℕ) (place : ℕ) → place ≡ counted (length (joined taken)) → counted (counted (place + 4) + length frame) ≡ counted (length (joined (taken ++ frame ∷ [])))
+place_more taken frame place is =
+    let long : length (joined (taken ++ frame ∷ [])) ≡ length (joined taken) + (4 + length frame) = ap length (joined_more taken frame) ∙ length-append (joined taken) (framed frame) ∙ ap (λ (n : ℕ). length (joined taken) + n) (framed_length frame) in
+    omega (arith, long, is)
+
+-- what is known where a frame was taken of what was kept
+pub record Taking (old new : Kept) (frame : List ℕ) : Type 0 where
+  pub is : old ≡ with_frame new frame
+  pub keeps : (stream : List ℕ) (taken : List (List ℕ)) → StandsFor old stream taken → StandsFor new stream (taken ++ frame ∷ [])
+
+pub taking_of : (old new : Kept) (items frame : List ℕ) → frame ≡ items → old ≡ with_frame new items → ((stream : List ℕ) (taken : List (List ℕ)) → StandsFor old stream taken → StandsFor new stream (taken ++ items ∷ [])) → Taking old new frame
+taking_of old new items frame same is keeps = record {
+  is = is ∙ ap (with_frame new) (sym same);
+  keeps = λ stream taken stands. subst (λ (bytes : List ℕ). StandsFor new stream (taken ++ bytes ∷ [])) (sym same) (keeps stream taken stands);
+}
+
+-- one exchange more
+pub answered : (gives : Order → Outcome → Type 0) (before now after : Seen) (old new : Kept) (place later : ℕ) (refused : Option ℕ) (frame : List ℕ) → Taking old new frame → later ≡ counted (counted (place + 4) + length frame)
+    → Answers gives frame now after → GoesOn gives before now old place refused → GoesOn gives before after new later refused
+answered gives before now after old new place later refused frame taking later_is one on = record {
+  given = on.given;
+  taken = on.taken ++ frame ∷ [];
+  exchanges = on.exchanges ++ one.exchange ∷ [];
+  so_far = record {
+    came = on.so_far.came ∙ ap (left_before on.given) (sym one.takes_nothing.left);
+    read = read_more on.taken on.exchanges frame one.exchange on.so_far.read one.read;
+    gave = all_more (IsGiven gives) on.exchanges one.exchange on.so_far.gave one.gave;
+    did = did_more before.did now.did after.did on.exchanges one.exchange on.so_far.did one.did;
+    sent = sent_more before.sent now.sent after.sent (dialogue on.exchanges) (reply one.exchange) on.so_far.sent one.sent ∙ ap (sent_with before.sent) (sym (dialogue_more on.exchanges one.exchange));
+    faults = le_on before.faults now.faults after.faults on.so_far.faults one.takes_nothing.faults;
+    ends = le_on before.ends now.ends after.ends on.so_far.ends one.takes_nothing.ends;
+  };
+  keeps = taking.keeps on.given on.taken on.keeps;
+  is_known = known_taken new frame refused (subst (λ (kept : Kept). IsKnown kept refused) taking.is on.is_known);
+  is_place = later_is ∙ place_more on.taken frame place on.is_place;
+}
+
+-- the frame that was taken stands behind those before it
+record Next (given : List ℕ) (taken : List (List ℕ)) (frame : List ℕ) : Type 0 where
+  behind : List ℕ
+  is_frame : IsFrame frame
+  cut : IsCut given taken (framed frame ++ behind)
+
+next_of : (old new : Kept) (frame given : List ℕ) (taken : List (List ℕ)) → old ≡ with_frame new frame → StandsFor old given taken → Next given taken frame
+next_of old new frame given taken is keeps =
+    let had : StandsFor (with_frame new frame) given taken = subst (λ (kept : Kept). StandsFor kept given taken) is keeps in
+    let waits : AllByRecursion IsFrame (frame ∷ new.waiting) = all_behind IsFrame taken (frame ∷ new.waiting) had.cut.are_frames in record {
+      behind = joined new.waiting ++ (new.rest ++ had.dropped);
+      is_frame = waits.0;
+      cut = subst (IsCut given taken) (append_assoc (framed frame) (joined new.waiting) (new.rest ++ had.dropped)) (cut_of (with_frame new frame) given taken had);
+    }
+
+-- ---- a frame isn't answered
+
+reached : (gives : Order → Outcome → Type 0) (before now after : Seen) (new : Kept) (frame given : List ℕ) (taken : List (List ℕ)) (exchanges : List Exchange)
+    → SoFar gives before now given taken exchanges → Next given taken frame → StandsFor new given (taken ++ frame ∷ []) → TakesNothing now after → Reaches gives frame now after → Session gives before after
+reached gives before now after new frame given taken exchanges far next keeps none (nothing did sent) =
+    session_of gives before after given taken exchanges (framed frame ++ next.behind) (so_far_on gives before now after given taken exchanges none did sent far) next.cut
+reached gives before now after new frame given taken exchanges far next keeps none (begun request spells did sent) = record {
+  given = given;
+  came = far.came ∙ ap (left_before given) (sym none.left);
+  frames = taken;
+  behind = framed frame ++ next.behind;
+  cut = next.cut;
+  exchanges = exchanges;
+  read = far.read;
+  gave = far.gave;
+  did = did ∙ far.did;
+  begun = Some request;
+  is_begun = record { frame = frame; behind = next.behind; is_frame = next.is_frame; front = refl; spells = spells };
+  sent = front_more before.sent now.sent after.sent (dialogue exchanges) (running request) far.sent sent;
+}
+reached gives before now after new frame given taken exchanges far next keeps none (performed exchange spells gave did sent) = record {
+  given = given;
+  came = far.came ∙ ap (left_before given) (sym none.left);
+  frames = taken ++ frame ∷ [];
+  behind = behind_of new given (taken ++ frame ∷ []) keeps;
+  cut = cut_of new given (taken ++ frame ∷ []) keeps;
+  exchanges = exchanges ++ exchange ∷ [];
+  read = read_more taken exchanges frame exchange far.read spells;
+  gave = all_more (IsGiven gives) exchanges exchange far.gave gave;
+  did = did_more before.did now.did after.did exchanges exchange far.did did;
+  begun = None;
+  is_begun = tt;
+  sent = subst (λ (bytes : List ℕ). SendsFront before.sent bytes after.sent) (sym (append-nil (dialogue (exchanges ++ exchange ∷ [])) ∙ dialogue_more exchanges exchange))
+      (front_more before.sent now.sent after.sent (dialogue exchanges) (reply exchange) far.sent sent);
+}
+
+session_at : (gives : Order → Outcome → Type 0) (before now after : Seen) (old new : Kept) (place : ℕ) (refused : Option ℕ) (frame : List ℕ)
+    → Taking old new frame → GoesOn gives before now old place refused → TakesNothing now after → Reaches gives frame now after → Session gives before after
+session_at gives before now after old new place refused frame taking on none reaches =
+    reached gives before now after new frame on.given on.taken on.exchanges on.so_far (next_of old new frame on.given on.taken taking.is on.keeps) (taking.keeps on.given on.taken on.keeps) none reaches
+
+pub stopped_lost : (gives : Order → Outcome → Type 0) (before now after : Seen) (old new : Kept) (place : ℕ) (refused : Option ℕ) (frame : List ℕ)
+    → Taking old new frame → StopsFor gives frame now after stop.Lost → GoesOn gives before now old place refused → Serves gives before after end.Lost
+stopped_lost gives before now after old new place refused frame taking why on = record {
+  session = session_at gives before now after old new place refused frame taking on why.0 why.1;
+  ends_as = inl (rises_on before.faults now.faults after.faults on.so_far.faults why.2);
+  faults = le_on before.faults now.faults after.faults on.so_far.faults why.0.faults;
+  ends = le_on before.ends now.ends after.ends on.so_far.ends why.0.ends;
+}
+
+pub stopped_memory : (gives : Order → Outcome → Type 0) (before now after : Seen) (old new : Kept) (place : ℕ) (refused : Option ℕ) (frame : List ℕ)
+    → Taking old new frame → StopsFor gives frame now after stop.Memory → GoesOn gives before now old place refused → Serves gives before after end.Memory
+stopped_memory gives before now after old new place refused frame taking why on = record {
+  session = session_at gives before now after old new place refused frame taking on why.0 why.1;
+  ends_as = tt;
+  faults = le_on before.faults now.faults after.faults on.so_far.faults why.0.faults;
+  ends = le_on before.ends now.ends after.ends on.so_far.ends why.0.ends;
+}
+
+pub stopped_bad : (gives : Order → Outcome → Type 0) (before now after : Seen) (old new : Kept) (place : ℕ) (refused : Option ℕ) (frame : List ℕ)
+    → Taking old new frame → StopsFor gives frame now after stop.Bad → GoesOn gives before now old place refused → Serves gives before after (end.Bad place)
+stopped_bad gives before now after old new place refused frame taking why on =
+    let next = next_of old new frame on.given on.taken taking.is on.keeps in
+    let far = so_far_on gives before now after on.given on.taken on.exchanges why.0 why.1.did why.1.sent on.so_far in record {
+      session = session_of gives before after on.given on.taken on.exchanges (framed frame ++ next.behind) far next.cut;
+      ends_as = (
+        record { none_begun = refl; sent = far.sent },
+        on.is_place,
+        inl record { frame = frame; behind = next.behind; is_frame = next.is_frame; front = refl; spells_none = why.1.spells_none },
+      );
+      faults = far.faults;
+      ends = far.ends;
+    }
+
+-- ---- a piece comes
+
+so_far_received : (gives : Order → Outcome → Type 0) (before now after : Seen) (given piece : List ℕ) (frames : List (List ℕ)) (exchanges : List Exchange) → now.left ≡ left_before piece after.left
+    → after.did ≡ now.did → after.sent ≡ now.sent → now.faults ≤ after.faults → now.ends ≤ after.ends → SoFar gives before now given frames exchanges → SoFar gives before after (given ++ piece) frames exchanges
+so_far_received gives before now after given piece frames exchanges came did sent faults ends far = record {
+  came = came_more before.left now.left after.left given piece far.came came;
+  read = far.read;
+  gave = far.gave;
+  did = did ∙ far.did;
+  sent = sent ∙ far.sent;
+  faults = le_on before.faults now.faults after.faults far.faults faults;
+  ends = le_on before.ends now.ends after.ends far.ends ends;
+}
+
+pub received : (gives : Order → Outcome → Type 0) (before now after : Seen) (old new : Kept) (place : ℕ) (refused later : Option ℕ) → TakesIn old new later now.left after.left
+    → after.did ≡ now.did → after.sent ≡ now.sent → now.faults ≤ after.faults → now.ends ≤ after.ends → GoesOn gives before now old place refused → GoesOn gives before after new place later
+received gives before now after old new place refused later takes did sent faults ends on =
+    let fed = takes.feeds on.given on.taken on.keeps in record {
+      given = on.given ++ takes.piece;
+      taken = on.taken;
+      exchanges = on.exchanges;
+      so_far = so_far_received gives before now after on.given takes.piece on.taken on.exchanges takes.came did sent faults ends on.so_far;
+      keeps = fed.0;
+      is_known = fed.1;
+      is_place = on.is_place;
+    }
+
+-- ---- nothing comes
+
+-- the end of a session in which every frame was answered
+over_ended : (gives : Order → Outcome → Type 0) (before now after : Seen) (kept : Kept) (place : ℕ) → kept.waiting ≡ [] → kept.rest ≡ [] → TakesNothing now after → after.did ≡ now.did → after.sent ≡ now.sent
+    → IsAtEnd now.left after.left now.ends after.ends → GoesOn gives before now kept place None → Serves gives before after end.Ended
+over_ended gives before now after kept place empty nothing_behind none did sent at_end on =
+    let far = so_far_on gives before now after on.given on.taken on.exchanges none did sent on.so_far in record {
+      session = session_of gives before after on.given on.taken on.exchanges kept.rest far (cut_rest kept on.given on.taken empty on.is_known.1 on.keeps);
+      ends_as = (
+        record { none_begun = refl; sent = far.sent },
+        nothing_behind,
+        record { rose = rises_on before.ends now.ends after.ends on.so_far.ends at_end.rose; nothing_left = at_end.nothing_left },
+      );
+      faults = far.faults;
+      ends = far.ends;
+    }
+
+over_failed : (gives : Order → Outcome → Type 0) (before now after : Seen) (kept : Kept) (place : ℕ) (refused : Option ℕ) → TakesNothing now after → after.did ≡ now.did → after.sent ≡ now.sent
+    → Rises now.faults after.faults → GoesOn gives before now kept place refused → Serves gives before after end.Lost
+over_failed gives before now after kept place refused none did sent rose on =
+    let far = so_far_on gives before now after on.given on.taken on.exchanges none did sent on.so_far in record {
+      session = session_of gives before after on.given on.taken on.exchanges (behind_of kept on.given on.taken on.keeps) far (cut_of kept on.given on.taken on.keeps);
+      ends_as = inl (rises_on before.faults now.faults after.faults on.so_far.faults rose);
+      faults = far.faults;
+      ends = far.ends;
+    }
+
+over_short : (gives : Order → Outcome → Type 0) (before now after : Seen) (kept : Kept) (place : ℕ) → kept.waiting ≡ [] → kept.rest ≢ [] → TakesNothing now after → after.did ≡ now.did → after.sent ≡ now.sent
+    → IsAtEnd now.left after.left now.ends after.ends → GoesOn gives before now kept place None → Serves gives before after end.Lost
+over_short gives before now after kept place empty some_behind none did sent at_end on =
+    let far = so_far_on gives before now after on.given on.taken on.exchanges none did sent on.so_far in record {
+      session = session_of gives before after on.given on.taken on.exchanges kept.rest far (cut_rest kept on.given on.taken empty on.is_known.1 on.keeps);
+      ends_as = inr (
+        record { none_begun = refl; sent = far.sent },
+        record { some = some_behind; no_frame = on.is_known.0; not_bad = on.is_known.1 },
+        record { rose = rises_on before.ends now.ends after.ends on.so_far.ends at_end.rose; nothing_left = at_end.nothing_left },
+      );
+      faults = far.faults;
+      ends = far.ends;
+    }
+
+over_bad : (gives : Order → Outcome → Type 0) (before now after : Seen) (kept : Kept) (place at : ℕ) → kept.waiting ≡ [] → TakesNothing now after → after.did ≡ now.did → after.sent ≡ now.sent
+    → GoesOn gives before now kept place (Some at) → Serves gives before after (end.Bad at)
+over_bad gives before now after kept place at empty none did sent on =
+    let far = so_far_on gives before now after on.given on.taken on.exchanges none did sent on.so_far in record {
+      session = session_of gives before after on.given on.taken on.exchanges (kept.rest ++ on.keeps.dropped) far (cut_bad kept on.given on.taken empty on.keeps);
+      ends_as = (
+        record { none_begun = refl; sent = far.sent },
+        on.is_known.1 ∙ on.keeps.is_place ∙ ap (λ (waiting : List (List ℕ)). counted (length (joined (on.taken ++ waiting)))) empty ∙ ap (λ (frames : List (List ℕ)). counted (length (joined frames))) (append-nil on.taken),
+        inr (bad_stays kept.rest on.keeps.dropped on.is_known.0),
+      );
+      faults = far.faults;
+      ends = far.ends;
+    }
+
+over_full : (gives : Order → Outcome → Type 0) (before now after : Seen) (kept : Kept) (place : ℕ) (refused : Option ℕ) → RunsOut now.left after.left → after.did ≡ now.did → after.sent ≡ now.sent
+    → now.faults ≤ after.faults → now.ends ≤ after.ends → GoesOn gives before now kept place refused → Serves gives before after end.Memory
+over_full gives before now after kept place refused out did sent faults ends on =
+    let far = so_far_received gives before now after on.given out.piece on.taken on.exchanges out.came did sent faults ends on.so_far in record {
+      session = session_of gives before after (on.given ++ out.piece) on.taken on.exchanges (behind_of kept on.given on.taken on.keeps ++ out.piece) far
+          (cut_on on.given out.piece on.taken (behind_of kept on.given on.taken on.keeps) (cut_of kept on.given on.taken on.keeps));
+      ends_as = tt;
+      faults = far.faults;
+      ends = far.ends;
+    }
+
+pub over : (gives : Order → Outcome → Type 0) (before now after : Seen) (incoming : Incoming) (how : ServeEnd) → incoming.frames.waiting ≡ [] → after.did ≡ now.did → after.sent ≡ now.sent
+    → now.faults ≤ after.faults → now.ends ≤ after.ends → IsStopped incoming now.left after.left now.faults after.faults now.ends after.ends how
+    → GoesOn gives before now incoming.frames incoming.place incoming.refused → Serves gives before after how
+over gives before now after incoming end.Ended empty did sent faults ends why on =
+    let none : TakesNothing now after = record { left = why.0.stays; faults = faults; ends = ends } in
+    over_ended gives before now after incoming.frames incoming.place empty why.2 none did sent why.0 (subst (GoesOn gives before now incoming.frames incoming.place) why.1 on)
+over gives before now after incoming end.Lost empty did sent faults ends (inl failed) on =
+    over_failed gives before now after incoming.frames incoming.place incoming.refused record { left = failed.0; faults = faults; ends = ends } did sent failed.1 on
+over gives before now after incoming end.Lost empty did sent faults ends (inr ended) on =
+    let none : TakesNothing now after = record { left = ended.0.stays; faults = faults; ends = ends } in
+    over_short gives before now after incoming.frames incoming.place empty ended.2 none did sent ended.0 (subst (GoesOn gives before now incoming.frames incoming.place) ended.1 on)
+over gives before now after incoming (end.Bad at) empty did sent faults ends why on =
+    let none : TakesNothing now after = record { left = why.0; faults = faults; ends = ends } in
+    over_bad gives before now after incoming.frames incoming.place at empty none did sent (subst (GoesOn gives before now incoming.frames incoming.place) why.1 on)
+over gives before now after incoming end.Memory empty did sent faults ends why on =
+    over_full gives before now after incoming.frames incoming.place incoming.refused why did sent faults ends on
+
+-- what comes is taken in, or the session is over
+pub received_or_over : (r : Result (Unit {0}) ServeEnd) (gives : Order → Outcome → Type 0) (before now after : Seen) (kept : Kept) (mid new : Incoming) → mid.frames ≡ kept → kept.waiting ≡ []
+    → MatchResult r (λ _. TakesIn mid.frames new.frames new.refused now.left after.left) (IsStopped mid now.left after.left now.faults after.faults now.ends after.ends) → new.place ≡ mid.place
+    → after.did ≡ now.did → after.sent ≡ now.sent → now.faults ≤ after.faults → now.ends ≤ after.ends → GoesOn gives before now kept mid.place mid.refused
+    → MatchResult r (λ _. GoesOn gives before after new.frames new.place new.refused) (Serves gives before after)
+received_or_over (Ok u) gives before now after kept mid new same empty takes place did sent faults ends on =
+    subst (λ (at : ℕ). GoesOn gives before after new.frames at new.refused) (sym place)
+    (received gives before now after mid.frames new.frames mid.place mid.refused new.refused takes did sent faults ends (subst (λ (frames : Kept). GoesOn gives before now frames mid.place mid.refused) (sym same) on))
+received_or_over (Err how) gives before now after kept mid new same empty why place did sent faults ends on =
+    over gives before now after mid how (ap (λ (frames : Kept). frames.waiting) same ∙ empty) did sent faults ends why (subst (λ (frames : Kept). GoesOn gives before now frames mid.place mid.refused) (sym same) on)
+
+-- ---- a piece is fed
+
+-- a stream that goes on isn't refused behind its whole frames
+known_free : (kept : Kept) (stream : List ℕ) (taken : List (List ℕ)) → FeedsOn kept stream taken → IsKnown kept None
+known_free kept stream taken on =
+    let not_bad : ¬ (BeginsWithBadLength kept.rest) = λ bad. on.not_refused (length (joined (taken ++ kept.waiting))) record {
+      frames = taken ++ kept.waiting;
+      behind = kept.rest ++ on.stands.dropped;
+      cut = on.stands.cut;
+      bad = bad_stays kept.rest on.stands.dropped bad;
+      is_place = refl;
+    } in
+    let dropped : on.stands.dropped ≡ [] = elim on.stands.is_dropped [ inl is ↦ is | inr bad ↦ absurd (not_bad bad) ] in
+    let same : kept.rest ≡ on.frames.behind =
+    sym (append-nil kept.rest) ∙ ap (λ (more : List ℕ). kept.rest ++ more) (sym dropped)
+    ∙ append_cancel_left (joined (taken ++ kept.waiting)) (kept.rest ++ on.stands.dropped) on.frames.behind (sym on.stands.cut.is ∙ on.frames.cut.is) in
+    (subst (λ (behind : List ℕ). ¬ (BeginsWithFrame behind)) (sym same) on.frames.no_more, not_bad)
+
+pub feeds_on : (old new : Kept) (piece : List ℕ) (refused : Option ℕ) → refused ≡ None → ((stream : List ℕ) (taken : List (List ℕ)) → StandsFor old stream taken → FeedsOn new (stream ++ piece) taken) → Feeds old new piece refused
+feeds_on old new piece refused is on stream taken stands =
+    let fed = on stream taken stands in (fed.stands, subst (IsKnown new) (sym is) (known_free new (stream ++ piece) taken fed))
+
+pub feeds_bad : (old new : Kept) (piece : List ℕ) (at : ℕ) → IsHere new (fault.Bad at) → ((stream : List ℕ) (taken : List (List ℕ)) → StandsFor old stream taken → IsAnswer new stream piece taken (fault.Bad at)) → Feeds old new piece (Some at)
+feeds_bad old new piece at here stops stream taken stands = ((stops stream taken stands).stands, here)
+
+-- ---- nothing came yet
+
+pub starts : (gives : Order → Outcome → Type 0) (now : Seen) (kept : Kept) (place : ℕ) (refused : Option ℕ) → StandsFor kept [] [] → place ≡ 0 → refused ≡ None → GoesOn gives now now kept place refused
+starts gives now kept place refused keeps first free =
+    let short : length kept.rest < 4 = omega (arith, simp length-append at (ap length keeps.cut.is)) in record {
+      given = [];
+      taken = [];
+      exchanges = [];
+      so_far = record {
+        came = came_none now.left;
+        read = tt;
+        gave = tt;
+        did = did_none now.did;
+        sent = sent_none now.sent;
+        faults = omega arith;
+        ends = omega arith;
+      };
+      keeps = keeps;
+      is_known = subst (IsKnown kept) (sym free) (short_is_no_frame kept.rest short, short_is_no_bad_length kept.rest short);
+      is_place = first;
+    }
+
+-- the longest session ends for want of memory
+pub gives_up : (gives : Order → Outcome → Type 0) (before now : Seen) (kept : Kept) (place : ℕ) (refused : Option ℕ) → GoesOn gives before now kept place refused → Serves gives before now end.Memory
+gives_up gives before now kept place refused on = record {
+  session = session_of gives before now on.given on.taken on.exchanges (behind_of kept on.given on.taken on.keeps) on.so_far (cut_of kept on.given on.taken on.keeps);
+  ends_as = tt;
+  faults = on.so_far.faults;
+  ends = on.so_far.ends;
+}

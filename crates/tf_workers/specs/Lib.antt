@@ -1,0 +1,3 @@
+pub mod Dialogue
+pub mod Session
+pub mod Progress

@@ -1,0 +1,116 @@
+-- A session: what a link gave, what was read and answered of it, and how it ended.
+use Rattle.std.specs.Prelude.{◌≡◌, ◌≢◌, ℕ, ◌≤◌, List, [], ◌∷◌, ◌++◌, map, length, Option, Some, None, option_map, ◌⊎◌}
+use Rattle.std.specs.List.{AllByRecursion}
+use Rattle.tf_desk.specs.Counts.{Rises}
+use Rattle.tf_ports.specs.Links.{sent_with, left_before, SendsFront, IsNothingLeft}
+use Rattle.tf_ports.specs.declared.orders.Order.{Order}
+use Rattle.tf_ports.specs.declared.outcomes.Outcome.{Outcome}
+use Rattle.tf_wire.specs.Keeping.{counted}
+use Rattle.tf_wire.specs.Reading.{AreRequest}
+use Rattle.tf_wire.specs.Stream.{IsFrame, framed, joined, IsCut, BeginsWithFrame, BeginsWithBadLength}
+use Rattle.tf_wire.specs.declared.messages.Request.{Request}
+use Rattle.tf_workers.specs.Dialogue.{Exchange, order_asked, running, dialogue}
+use Rattle.tf_workers.specs.declared.serving.ServeEnd.{ServeEnd}
+use Rattle.tf_workers.specs.declared.serving.ServeEnd.TheVariants as end
+
+-- what is seen of a link and a hand: the bytes that the link has left and those that it was sent, its counts of
+-- faults and ends, and the hand's orders; None where one isn't told
+pub record Seen : Type 0 where
+  pub left : Option (List ℕ)
+  pub sent : Option (List ℕ)
+  pub faults : ℕ
+  pub ends : ℕ
+  pub did : Option (List Order)
+
+abbrev pub seen : {L P : Type 0} → (L → Option (List ℕ)) → (L → Option (List ℕ)) → (L → ℕ) → (L → ℕ) → (P → Option (List Order)) → L → P → Seen
+seen left sent faults ends did link hand = record { left = left link; sent = sent link; faults = faults link; ends = ends link; did = did hand }
+
+-- more orders at the end; None, which tells nothing, stays None
+abbrev pub did_with : Option (List Order) → List Order → Option (List Order)
+did_with did orders = option_map (λ before. before ++ orders) did
+
+-- each frame spells the request of its exchange
+abbrev pub AreRead : List (List ℕ) → List Exchange → Type 0
+AreRead [] [] = Unit {0}
+AreRead [] (exchange ∷ exchanges) = ⊥
+AreRead (frame ∷ frames) [] = ⊥
+AreRead (frame ∷ frames) (exchange ∷ exchanges) = AreRequest frame exchange.request × AreRead frames exchanges
+
+-- the hand may give the outcome for the order that the request names
+abbrev pub IsGiven : (Order → Outcome → Type 0) → Exchange → Type 0
+IsGiven gives exchange = gives (order_asked exchange) exchange.outcome
+
+-- a whole frame that spells this request stands at the front
+pub record BeginsWithRequest (bytes : List ℕ) (request : Request) : Type 0 where
+  pub frame : List ℕ
+  pub behind : List ℕ
+  pub is_frame : IsFrame frame
+  pub front : bytes ≡ framed frame ++ behind
+  pub spells : AreRequest frame request
+
+-- a whole frame that spells no request stands at the front
+pub record BeginsWithNoRequest (bytes : List ℕ) : Type 0 where
+  pub frame : List ℕ
+  pub behind : List ℕ
+  pub is_frame : IsFrame frame
+  pub front : bytes ≡ framed frame ++ behind
+  pub spells_none : (request : Request) → ¬ (AreRequest frame request)
+
+-- the request at the front was begun, or none was
+abbrev pub IsBegun : List ℕ → Option Request → Type 0
+IsBegun bytes None = Unit {0}
+IsBegun bytes (Some request) = BeginsWithRequest bytes request
+
+-- what is said to a request that was begun
+abbrev pub begun_reply : Option Request → List ℕ
+begun_reply None = []
+begun_reply (Some request) = running request
+
+-- The link gave some bytes. Of the frames at their front some were read as requests, and the hand was asked for
+-- the orders that these name, each once and in order. At most one request behind them was read besides, to
+-- which no outcome came. The link was sent a front of the dialogue.
+pub record Session (gives : Order → Outcome → Type 0) (before now : Seen) : Type 0 where
+  pub given : List ℕ
+  pub came : before.left ≡ left_before given now.left
+  pub frames : List (List ℕ)
+  pub behind : List ℕ
+  pub cut : IsCut given frames behind
+  pub exchanges : List Exchange
+  pub read : AreRead frames exchanges
+  pub gave : AllByRecursion (IsGiven gives) exchanges
+  pub did : now.did ≡ did_with before.did (map order_asked exchanges)
+  pub begun : Option Request
+  pub is_begun : IsBegun behind begun
+  pub sent : SendsFront before.sent (dialogue exchanges ++ begun_reply begun) now.sent
+
+-- no request was begun without an outcome, and the whole dialogue was sent
+pub record IsAnswered {gives : Order → Outcome → Type 0} {before now : Seen} (session : Session gives before now) : Type 0 where
+  pub none_begun : session.begun ≡ None
+  pub sent : now.sent ≡ sent_with before.sent (dialogue session.exchanges)
+
+-- the link ended inside a frame: some bytes stand behind the frames that are no whole frame, and might become one
+pub record IsCutShort (behind : List ℕ) : Type 0 where
+  pub some : behind ≢ []
+  pub no_frame : ¬ (BeginsWithFrame behind)
+  pub not_bad : ¬ (BeginsWithBadLength behind)
+
+-- the link ended
+pub record IsOver (before now : Seen) : Type 0 where
+  pub rose : Rises before.ends now.ends
+  pub nothing_left : IsNothingLeft now.left
+
+-- How a session ends. Ended: the link ended between two frames. Lost: the link failed, or it ended inside a
+-- frame. Bad: at this place stands a frame that spells no request, or a length that no frame has. Of Memory
+-- nothing is said.
+abbrev pub EndsAs : {gives : Order → Outcome → Type 0} {before now : Seen} → ServeEnd → Session gives before now → Type 0
+EndsAs {gives} {before} {now} end.Ended session = IsAnswered session × (session.behind ≡ []) × IsOver before now
+EndsAs {gives} {before} {now} end.Lost session = Rises before.faults now.faults ⊎ (IsAnswered session × IsCutShort session.behind × IsOver before now)
+EndsAs {gives} {before} {now} (end.Bad at) session = IsAnswered session × (at ≡ counted (length (joined session.frames))) × (BeginsWithNoRequest session.behind ⊎ BeginsWithBadLength session.behind)
+EndsAs {gives} {before} {now} end.Memory session = Unit {0}
+
+-- what serving a link promises; no count falls
+pub record Serves (gives : Order → Outcome → Type 0) (before now : Seen) (how : ServeEnd) : Type 0 where
+  pub session : Session gives before now
+  pub ends_as : EndsAs how session
+  pub faults : before.faults ≤ now.faults
+  pub ends : before.ends ≤ now.ends
