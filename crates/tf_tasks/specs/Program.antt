@@ -1,5 +1,6 @@
 -- Orders for which a program is run.
-use Rattle.std.specs.Prelude.{Bool, true, false}
+use Rattle.std.specs.Prelude.{Bool, true, false, ◌&&◌}
+use Rattle.std.specs.List.{list_all}
 use Rattle.tf_flow.specs.declared.atoms.TaskKind.{TaskKind}
 use Rattle.tf_flow.specs.declared.atoms.Undo.{Undo}
 use Rattle.tf_flow.specs.declared.atoms.Undo.TheVariants as undo
@@ -9,6 +10,7 @@ use Rattle.tf_ports.specs.declared.orders.Given.TheVariants as given
 use Rattle.tf_ports.specs.declared.orders.Order.{Order}
 use Rattle.tf_ports.specs.declared.outcomes.Action.{Action}
 use Rattle.tf_ports.specs.declared.outcomes.Action.TheVariants as action
+use Rattle.tf_tasks.specs.Run.{has_text}
 
 -- the undo is a program
 abbrev pub is_run : Undo → Bool
@@ -25,3 +27,12 @@ is_program_for how kind undo (given.Missing symbol) = false
 -- the order asks for a program to be run
 abbrev pub is_program : Order → Bool
 is_program order = is_program_for order.action order.kind order.undo order.given
+
+-- the arguments were found, and the plain bytes of each are a text
+abbrev pub are_texts : Given → Bool
+are_texts (given.Found pairs) = list_all has_text pairs
+are_texts (given.Missing symbol) = false
+
+-- a program is run for the order; for any other nothing is asked of the spawner
+abbrev pub runs_program : Order → Bool
+runs_program order = is_program order && are_texts order.given

@@ -1,11 +1,12 @@
 ghost use Rattle.std.specs.Prelude.{◌≡◌, true, false, None, IfOk, ◌≤◌, length};
+ghost use Rattle.std.specs.List.{list_all};
 ghost use Rattle.tf_desk.specs.Counts.{Rises};
 ghost use Rattle.tf_ports.specs.Gives.{Gives, GivesNothing};
 ghost use Rattle.tf_ports.specs.Whole.{IsWhole};
 ghost use Rattle.tf_flow.specs.declared.atoms.Undo.TheVariants as undo;
 ghost use Rattle.tf_tasks.specs.GivesLaws.{gives_looks_up, gives_reverts};
-ghost use Rattle.tf_tasks.specs.Program.{is_program};
-ghost use Rattle.tf_tasks.specs.Run.{Obeys, RunsTo, UndoesTo};
+ghost use Rattle.tf_tasks.specs.Program.{is_program, runs_program};
+ghost use Rattle.tf_tasks.specs.Run.{has_text, Obeys, RunsTo, UndoesTo};
 
 use crate::built_ins::value_of;
 use crate::runs::{drop_output, run};
@@ -38,11 +39,13 @@ impl<S> LocalHand<S> {
 }
 
 impl<S: Spawner> LocalHand<S> {
-    /// The outcome of an order: the only one where no program is run, and else what came of the program.
+    /// The outcome of an order: the only one where no program is run, and else what came of the program. The spawner is
+    /// asked for nothing but the program of an order whose arguments are all texts.
     pub fn obey(&mut self, alloc: Global, order: &Order) -> Result<Outcome, Memory>
         requires whole { IsWhole order.now }
         ensures gives { IfOk result (λ outcome. Gives order.now outcome) }
         ensures program { is_program order.now ≡ true → IfOk result (λ outcome. Obeys (S.answers self.old.spawner) (Rises (S.faults self.old.spawner) (S.faults self.new.spawner)) order.now outcome) }
+        ensures unrun { runs_program order.now ≡ false → self.new ≡ self.old }
     {
         if let Given::Found(args) = &order.given {
             if order.action == Action::Execute && order.kind == TaskKind::Command {
@@ -66,6 +69,7 @@ fn undo<S: Spawner>(
     requires { 1 ≤ length words.now }
     ensures runs { IfOk result (λ outcome. UndoesTo (S.answers spawner.old) (Rises (S.faults spawner.old) (S.faults spawner.new)) (undo.Run words.now) pairs.now outcome) }
     ensures gives { IfOk result (λ outcome. GivesNothing outcome) }
+    ensures unrun { list_all has_text pairs.now ≡ false → spawner.new ≡ spawner.old }
 {
     let full = run(alloc, spawner, words, pairs)?;
     Ok(drop_output(full))

@@ -1,4 +1,4 @@
-ghost use Rattle.std.specs.Prelude.{◌≡◌, ◌∷◌, [], ◌++◌, ◌≤◌, length, map, true, IfOk};
+ghost use Rattle.std.specs.Prelude.{◌≡◌, ◌∷◌, [], ◌++◌, ◌≤◌, length, map, true, false, IfOk};
 ghost use Rattle.std.specs.List.{list_all};
 ghost use Rattle.tf_desk.specs.Counts.{Rises};
 ghost use Rattle.tf_ports.specs.Built.{plain_pair};
@@ -14,7 +14,7 @@ use tf_values::{MakeFault, Memory, Text, Texts, Val};
 /// The most bytes of a text.
 const TEXT_LIMIT: usize = 65_536;
 
-/// Runs the program of these words with the arguments behind them.
+/// Runs the program of these words with the arguments behind them. Where one of these is no text it isn't run.
 pub fn run<S: Spawner>(
     alloc: Global,
     spawner: &mut S,
@@ -24,6 +24,7 @@ pub fn run<S: Spawner>(
     requires { 1 ≤ length words.now }
     ensures runs { IfOk result (λ outcome. RunsTo (S.answers spawner.old) (Rises (S.faults spawner.old) (S.faults spawner.new)) words.now pairs.now outcome) }
     ensures gives { IfOk result (λ outcome. GivesText outcome) }
+    ensures unrun { list_all has_text pairs.now ≡ false → spawner.new ≡ spawner.old }
 {
     let [program, others @ ..] = words else {
         unreachable!();
