@@ -334,3 +334,40 @@ common_here xs ys i v w before inside same v_is w_is some fits =
 pub none_of_word : (xs : List ℕ) (i v : ℕ) → i < length xs → v ≡ slice_index_or xs i v → v ≡ 0 → which_below (64 * i) (has xs) ≡ which_below (64 * (i + 1)) (has xs)
 none_of_word xs i v inside is none = sym (which_more (64 * i) (64 * (i + 1)) (has xs) (omega arith)
     (λ k above below. word_none xs i v k (index_zero xs i v inside is) none (omega (arith, above, below))))
+
+-- ---- runs of numbers
+
+-- the numbers from one on up to before the end are in the set as it is
+abbrev pub IsRun : List ℕ → ℕ → ℕ → Type 0
+IsRun words from end = (k : ℕ) → from ≤ k → k < end → has words k ≡ has words from
+
+pub run_start : (words : List ℕ) (from end : ℕ) → end ≡ from + 1 → IsRun words from end
+run_start words from end is k above below = let here : k ≡ from = omega (arith, is, above, below) in ap (has words) here
+
+pub run_more : (words : List ℕ) (from end : ℕ) (on there : Bool) → IsRun words from end → on ≡ has words from → there ≡ has words end → there ≡ on → IsRun words from (end + 1)
+run_more words from end on there before on_is there_is same k above below = elim (cases_lt k end) [
+  | inl earlier ↦ before k above earlier
+  | inr late ↦ let here : k ≡ end = omega (arith, late, below) in ap (has words) here ∙ (sym there_is ∙ (same ∙ on_is))
+]
+
+pub run_word : (words : List ℕ) (from end : ℕ) (on : Bool) → IsRun words from end → on ≡ has words from → ((k : ℕ) → end ≤ k → k < end + 64 → has words k ≡ on) → IsRun words from (end + 64)
+run_word words from end on before on_is each k above below = elim (cases_lt k end) [
+  | inl earlier ↦ before k above earlier
+  | inr late ↦ each k late below ∙ on_is
+]
+
+full_bit : (i : ℕ) → i < 64 → nat_eq (bit_at 18446744073709551615 i) 1 ≡ true
+full_bit i below = all_at 64 (λ (j : ℕ). nat_eq (bit_at 18446744073709551615 j) 1) i refl below
+
+-- a word that has all its numbers
+pub word_full : (words : List ℕ) (number v : ℕ) → number % 64 ≡ 0 → number / 64 < length words → v ≡ slice_index_or words (number / 64) v → v ≡ 18446744073709551615 → (k : ℕ) → number ≤ k → k < number + 64 → has words k ≡ true
+unfolding has
+word_full words number v begins within read full k above below =
+    let word : k / 64 ≡ number / 64 = omega (arith, begins, above, below) in
+    ap (λ (w : ℕ). nat_eq (bit_at w (k % 64)) 1) (ap (λ (i : ℕ). slice_index_or words i 0) word ∙ (sym (index_zero words (number / 64) v within read) ∙ full))
+    ∙ full_bit (k % 64) (bit_below k)
+
+-- a word that has none
+pub word_empty : (words : List ℕ) (number v : ℕ) → number % 64 ≡ 0 → number / 64 < length words → v ≡ slice_index_or words (number / 64) v → v ≡ 0 → (k : ℕ) → number ≤ k → k < number + 64 → has words k ≡ false
+word_empty words number v begins within read none k above below =
+    word_none words (number / 64) v k (index_zero words (number / 64) v within read) none (omega (arith, begins, above, below))

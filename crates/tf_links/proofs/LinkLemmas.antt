@@ -1,14 +1,14 @@
 -- Links as rows of bits.
 use Rattle.std.proofs.Common.{◌≡◌, ℕ, zero, suc, ◌+◌, ◌*◌, ◌<◌, ◌≤◌, List, [], ◌∷◌, ◌++◌, length, Bool, true, false, ◌&&◌, ◌||◌, refl, sym, ap, ◌∙◌, inl, inr, arith, eqb-true, eq-eqb, slice_set, slice_index_or}
-use Rattle.std.specs.Prelude.{nat_eq, if◌then◌else◌}
+use Rattle.std.specs.Prelude.{not, nat_eq, if◌then◌else◌}
 use Rattle.std.proofs.lemmas.Bool.{cases_lt}
 use Rattle.std.proofs.lemmas.List.{get_or-set_same, get_or-set_other, length-set}
 use Rattle.tf_numbers.specs.Numbers.{which_below, first_below}
-use Rattle.tf_links.specs.Bits.{has, words_for, room, has_both}
+use Rattle.tf_links.specs.Bits.{has, words_for, room, has_both, has_if, is_within}
 use Rattle.tf_links.specs.Links.{leads, IsSquare, LinksValue}
 use Rattle.tf_links.specs.Layers.{first_into, goes_into}
-use Rattle.tf_numbers.proofs.TruthLemmas.{never_true, clash, and_second}
-use Rattle.tf_numbers.proofs.BelowLemmas.{first_same, first_more}
+use Rattle.tf_numbers.proofs.TruthLemmas.{same_truth, never_true, clash, and_second}
+use Rattle.tf_numbers.proofs.BelowLemmas.{all_at, first_same, first_more}
 use Rattle.tf_links.proofs.BitLemmas.{past_none}
 use Rattle.tf_numbers.proofs.ListLemmas.{read_more, read_last, length_more}
 
@@ -140,3 +140,48 @@ first_read links rows set u row same square within below read =
     ∙ never_true (leads rows u k) (λ on. let less : k < links.count = within u k on in omega (arith, less, above))))
     ∙ first_same links.count (has_both row set) (goes_into links set u) (λ k inside.
     ap (λ (b : Bool). b && has set k) (row_read rows u k row (omega (arith, square.height, below)) read ∙ ap (λ (rs : List (List ℕ)). leads rs u k) same))
+
+-- ---- rows that have the same in them
+
+-- the rows below i have the same in them
+abbrev pub AreSameBelow : List (List ℕ) → List (List ℕ) → ℕ → Type 0
+AreSameBelow rows other i = (u v : ℕ) → u < i → leads rows u v ≡ leads other u v
+
+pub same_start : (rows other : List (List ℕ)) → AreSameBelow rows other 0
+same_start rows other u v below = absurd (omega (arith, below))
+
+has_same : (xs ys : List ℕ) → is_within xs ys ≡ true → is_within ys xs ≡ true → length xs ≡ length ys → (k : ℕ) → has xs k ≡ has ys k
+has_same xs ys there back wide k = elim (cases_lt k (room xs)) [
+  | inl within ↦ same_truth (has xs k) (has ys k)
+      (λ on. carried (has xs k) (has ys k) (all_at (room xs) (has_if xs ys) k there within) on)
+      (λ on. carried (has ys k) (has xs k) (all_at (room ys) (has_if ys xs) k back (omega (arith, within, wide))) on)
+  | inr past ↦ past_none xs k (omega (arith, past)) ∙ sym (past_none ys k (omega (arith, past, wide)))
+]
+  where
+    carried : (a b : Bool) → (not a || b) ≡ true → a ≡ true → b ≡ true
+    carried true b is on = is
+    carried false b is on = absurd (cc)
+
+pub same_width : (rows other : List (List ℕ)) (count u : ℕ) (row row_other : List ℕ) → IsSquare count rows → IsSquare count other → u < count → row ≡ slice_index_or rows u row → row_other ≡ slice_index_or other u row_other → length row ≡ length row_other
+same_width rows other count u row row_other is is_other below read read_other =
+    ap length (row_zero rows u row (omega (arith, is.height, below)) read) ∙ (is.width u below
+    ∙ sym (ap length (row_zero other u row_other (omega (arith, is_other.height, below)) read_other) ∙ is_other.width u below))
+
+pub same_more : (rows other : List (List ℕ)) (count i : ℕ) (row row_other : List ℕ) → AreSameBelow rows other i → IsSquare count rows → IsSquare count other → i < count → row ≡ slice_index_or rows i row → row_other ≡ slice_index_or other i row_other
+    → is_within row row_other ≡ true → is_within row_other row ≡ true → AreSameBelow rows other (i + 1)
+same_more rows other count i row row_other before is is_other below read read_other there back u v within = elim (cases_lt u i) [
+  | inl earlier ↦ before u v earlier
+  | inr late ↦
+      let here : u ≡ i = omega (arith, late, within) in
+      ap (λ (n : ℕ). leads rows n v) here
+      ∙ (ap (λ (r : List ℕ). has r v) (sym (row_zero rows i row (omega (arith, is.height, below)) read))
+      ∙ (has_same row row_other there back (same_width rows other count i row row_other is is_other below read read_other) v
+      ∙ (ap (λ (r : List ℕ). has r v) (row_zero other i row_other (omega (arith, is_other.height, below)) read_other)
+      ∙ ap (λ (n : ℕ). leads other n v) (sym here))))
+]
+
+pub same_all : (rows other : List (List ℕ)) (count i : ℕ) → AreSameBelow rows other i → IsSquare count rows → IsSquare count other → count ≤ i → (u v : ℕ) → leads rows u v ≡ leads other u v
+same_all rows other count i before is is_other whole u v = elim (cases_lt u i) [
+  | inl below ↦ before u v below
+  | inr past ↦ sym (past_row rows u v (omega (arith, past, whole, is.height))) ∙ past_row other u v (omega (arith, past, whole, is_other.height))
+]

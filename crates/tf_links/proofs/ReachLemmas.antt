@@ -1,15 +1,17 @@
 -- Which item reaches which, by way of one pivot after another.
-use Rattle.std.proofs.Common.{◌≡◌, ◌≢◌, ℕ, zero, suc, ◌+◌, ◌<◌, ◌≤◌, List, [], ◌∷◌, ◌++◌, length, take, reverse, Bool, true, false, ◌&&◌, ◌||◌, refl, sym, ap, subst, ◌∙◌, add-one, inl, inr, ◌⊎◌, arith, eqb-true, eq-eqb, slice_index_or, slice_set}
+use Rattle.std.proofs.Common.{◌≡◌, ◌≢◌, ℕ, zero, suc, ◌+◌, ◌<◌, ◌≤◌, List, [], ◌∷◌, ◌++◌, length, take, reverse, Bool, true, false, ◌&&◌, ◌||◌, None, refl, sym, ap, subst, ◌∙◌, add-one, inl, inr, ◌⊎◌, arith, eqb-true, eq-eqb, slice_index_or, slice_set}
 use Rattle.std.specs.Prelude.{nat_eq, nat_lt, if◌then◌else◌}
 use Rattle.std.proofs.lemmas.Bool.{cases_lt, ltb-true, lt-ltb}
 use Rattle.std.proofs.lemmas.List.{reverse-append}
-use Rattle.tf_numbers.specs.Numbers.{has_number}
+use Rattle.tf_numbers.specs.Numbers.{first_below, has_number}
 use Rattle.tf_numbers.specs.Pairs.{Pair, has_pair}
 use Rattle.tf_links.specs.Reach.{leads_by, reached_by, reached}
 use Rattle.tf_numbers.proofs.TruthLemmas.{and_first, and_second, or_either, true_first, true_second, true_both, same_truth, never_true, clash, and_false, or_chain, or_false, or_nothing, or_turn}
+use Rattle.tf_numbers.proofs.BelowLemmas.{none_at}
 use Rattle.tf_numbers.proofs.PairLemmas.{pair_passes}
+use Rattle.tf_links.proofs.BitLemmas.{past_none}
 use Rattle.tf_links.proofs.ReachedLemmas.{reached_chain, reached_keeps}
-use Rattle.tf_links.specs.Bits.{has, words_for}
+use Rattle.tf_links.specs.Bits.{has, room, words_for}
 use Rattle.tf_links.specs.Links.{leads, IsSquare, LinksValue, AreLinks, leads_by_way, AreReached, ArePivots}
 use Rattle.tf_numbers.proofs.EquationLemmas.{ap2}
 use Rattle.tf_links.proofs.LinkLemmas.{past_row, row_zero, row_read, set_row}
@@ -48,6 +50,16 @@ new_pivot pivots item = number_more pivots item item ∙ true_second (has_number
 pub record PassedBelow (count : ℕ) (old : List (List ℕ)) (pivot : ℕ) (through : List ℕ) (rows : List (List ℕ)) (i : ℕ) : Type 0 where
   pub square : IsSquare count rows
   pub told : (u v : ℕ) → leads rows u v ≡ (leads old u v || ((nat_lt u i && leads old u pivot) && has through v))
+
+-- a row with nothing in it passes nothing on
+pub passed_nothing : (old : List (List ℕ)) (pivot : ℕ) (through : List ℕ) → first_below (room through) (has through) ≡ None → (u v : ℕ) → leads old u v ≡ (leads old u v || (leads old u pivot && has through v))
+passed_nothing old pivot through none u v = or_nothing (leads old u v) _ (ap (λ (b : Bool). leads old u pivot && b) nothing ∙ and_false (leads old u pivot))
+  where
+    nothing : has through v ≡ false
+    nothing = elim (cases_lt v (room through)) [
+      | inl within ↦ none_at (room through) (has through) v none within
+      | inr past ↦ past_none through v (omega (arith, past))
+    ]
 
 pub passed_start : (old : List (List ℕ)) (pivot : ℕ) (through : List ℕ) (count : ℕ) → IsSquare count old → PassedBelow count old pivot through old 0
 passed_start old pivot through count square = record {

@@ -29,7 +29,7 @@ impl Bits {
         ensures room { IfOk result (λ bits. length bits ≡ words_for count) }
         ensures none { IfOk result (λ bits. (k : ℕ) → has bits k ≡ false) }
     {
-        let mut words = Vec::new(alloc);
+        let mut words = Vec::with_capacity(alloc, count / 64 + 1)?;
         for _ in 0..count / 64 + 1 {
             words.push(0)?;
         }
@@ -136,6 +136,46 @@ impl Bits {
         ensures { result ≡ first_below (room self.now) (has self.now) }
     {
         self.first_common(self)
+    }
+
+    /// Up to before which number, at most `past`, all from this one on are in the set, or all aren't. Whole
+    /// words are passed at once.
+    #[tactic(auto, using(crate::proofs::BitLemmas::run_start, crate::proofs::BitLemmas::run_more, crate::proofs::BitLemmas::run_word))]
+    pub fn run_end(&self, from: usize, past: usize) -> usize
+        requires { from < past }
+        ensures begins { from < result }
+        ensures ends { result ≤ past }
+        ensures alike { (k : ℕ) → from ≤ k → k < result → has self.now k ≡ has self.now from }
+    {
+        let on = self.has(from);
+        let mut end = from + 1;
+        while end < past {
+            if self.is_word_alike(end, past, on) {
+                end += 64;
+            } else if self.has(end) == on {
+                end += 1;
+            } else {
+                return end;
+            }
+        }
+        end
+    }
+
+    /// Whether a word begins with this number, ends before `past`, and has all its numbers, or none.
+    #[tactic(auto, using(crate::proofs::BitLemmas::word_full, crate::proofs::BitLemmas::word_empty))]
+    fn is_word_alike(&self, number: usize, past: usize, on: bool) -> bool
+        requires { number < past }
+        ensures room { result ≡ true → number + 64 ≤ past }
+        ensures alike { result ≡ true → (k : ℕ) → number ≤ k → k < number + 64 → has self.now k ≡ on }
+    {
+        if number % 64 != 0 || past - number < 64 || self.words.len() <= number / 64 {
+            return false;
+        }
+        if on {
+            self.words[number / 64] == u64::MAX
+        } else {
+            self.words[number / 64] == 0
+        }
     }
 
     /// The numbers of the set, ascending.

@@ -13,4 +13,4 @@ pub use bits::Bits;
 pub use laws::{
     reached_is_by_a_chain, shortest_cycle_is_the_first_of_the_shortest, standing_order_is_the_least,
 };
-pub use links::{Links, empty_rows, has_in};
+pub use links::{Links, are_same, copy_rows, empty_rows, has_in};

@@ -112,11 +112,37 @@ pub fn empty_rows(alloc: Global, count: usize) -> Result<Vec<Bits>, Memory>
     ensures square { IfOk result (λ rows. IsSquare count rows.items) }
     ensures none { IfOk result (λ rows. (u v : ℕ) → leads rows.items u v ≡ false) }
 {
-    let mut rows = Vec::new(alloc);
+    let mut rows = Vec::with_capacity(alloc, count)?;
     for _ in 0..count {
         rows.push(Bits::new(alloc, count)?)?;
     }
     Ok(rows)
+}
+
+/// The same rows.
+pub fn copy_rows(alloc: Global, rows: &[Bits]) -> Result<Vec<Bits>, Memory>
+    ensures { IfOk result (λ copy. copy.items ≡ rows.now) }
+{
+    let mut copy = Vec::with_capacity(alloc, rows.len())?;
+    for row in rows {
+        copy.push(row.copy(alloc)?)?;
+    }
+    Ok(copy)
+}
+
+/// Whether two lists of rows for so many numbers have the same in them.
+#[tactic(auto, using(crate::proofs::LinkLemmas::same_start, crate::proofs::LinkLemmas::same_more, crate::proofs::LinkLemmas::same_all, crate::proofs::LinkLemmas::same_width))]
+pub fn are_same(count: usize, rows: &[Bits], other: &[Bits]) -> bool
+    requires rows { IsSquare count rows.now }
+    requires other { IsSquare count other.now }
+    ensures { result ≡ true → (u v : ℕ) → leads rows.now u v ≡ leads other.now u v }
+{
+    for u in 0..count {
+        if !rows[u].is_within(&other[u]) || !other[u].is_within(&rows[u]) {
+            return false;
+        }
+    }
+    true
 }
 
 /// Whether the row of `u` has `v`.

@@ -6,7 +6,7 @@ ghost use Rattle.tf_links.specs.Bits.{has, words_for};
 ghost use Rattle.tf_links.specs.Links.{leads, IsSquare, AreLinks, leads_by_way, AreReached, ArePivots};
 
 use crate::bits::Bits;
-use crate::links::{Links, has_in};
+use crate::links::{Links, copy_rows, has_in};
 use std::alloc::Global;
 use tf_values::Memory;
 
@@ -66,25 +66,17 @@ fn add_pivot(
     Ok(())
 }
 
-/// The same rows.
-fn copy_rows(alloc: Global, rows: &[Bits]) -> Result<Vec<Bits>, Memory>
-    ensures { IfOk result (λ copy. copy.items ≡ rows.now) }
-{
-    let mut copy = Vec::new(alloc);
-    for row in rows {
-        copy.push(row.copy(alloc)?)?;
-    }
-    Ok(copy)
-}
-
-/// Adds to each row that has the pivot what the pivot's row has.
-#[tactic(auto, using(crate::proofs::ReachLemmas::passed_start, crate::proofs::ReachLemmas::passed_next, crate::proofs::ReachLemmas::passed_all))]
+/// Adds to each row that has the pivot what the pivot's row has, if it has any.
+#[tactic(auto, using(crate::proofs::ReachLemmas::passed_nothing, crate::proofs::ReachLemmas::passed_start, crate::proofs::ReachLemmas::passed_next, crate::proofs::ReachLemmas::passed_all))]
 fn pass(rows: &mut Vec<Bits>, pivot: usize, through: &Bits)
     requires square { IsSquare (length rows.old.items) rows.old.items }
     requires wide { length through.now ≡ words_for (length rows.old.items) }
     ensures square { IsSquare (length rows.old.items) rows.new.items }
     ensures more { (u v : ℕ) → leads rows.new.items u v ≡ (leads rows.old.items u v || (leads rows.old.items u pivot && has through.now v)) }
 {
+    if through.first().is_none() {
+        return;
+    }
     for u in 0..rows.len() {
         pass_row(rows, u, pivot, through);
     }

@@ -107,7 +107,7 @@ direct_tasks_told graph plan a is =
     ∙ row_at_told (direct_tasks_of (outline_of plan)) (count (outline_of plan)) a (λ past. none_which (count (outline_of plan)) (leads_to (outline_of plan) a) (λ b. no_place (outline_of plan) a b past))
 
 -- a number stands among those below n that pass where it passes, and all that pass are below n
-listed_number : (n : ℕ) (test : ℕ → Bool) (k : ℕ) → (n ≤ k → test k ≡ false) → has_number (which_below n test) k ≡ test k
+pub listed_number : (n : ℕ) (test : ℕ → Bool) (k : ℕ) → (n ≤ k → test k ≡ false) → has_number (which_below n test) k ≡ test k
 listed_number n test k past = same_truth (has_number (which_below n test) k) (test k)
     (λ is. let found = which_passes n test (nat_eq k) is in ap test (eqb-true k found.number found.passes) ∙ found.tested)
     (λ is. elim (cases_lt k n) [

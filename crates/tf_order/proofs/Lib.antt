@@ -10,4 +10,6 @@ pub mod StandingAtomLemmas
 pub mod DoubtLemmas
 pub mod LookLemmas
 pub mod CompilationLemmas
+pub mod StretchLemmas
 pub mod TableLemmas
+pub mod DirectLemmas

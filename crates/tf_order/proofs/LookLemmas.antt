@@ -113,6 +113,13 @@ graph_arranged sight flow graph same count links reach standing inner shows = re
   standing = standing inner (linked_pairs (atoms_seen sight) inner (place_seen sight)) shows (links inner shows);
 }
 
+-- what the written links reach is known of the same links
+pub reach_kept : (links : LinksValue) (written : List (List ℕ)) (reach rows : List (List ℕ)) → ((pairs : List Pair) → AreLinks (record { count = links.count; rows = written }) pairs → AreReached links.count (reached links.count pairs) reach)
+    → ((u v : ℕ) → leads written u v ≡ leads links.rows u v) → rows ≡ reach → (pairs : List Pair) → AreLinks links pairs → AreReached links.count (reached links.count pairs) rows
+reach_kept links written reach rows known same is pairs are =
+    subst (AreReached links.count (reached links.count pairs)) (sym is)
+    (known pairs (record { same = λ u v. same u v ∙ are.same u v; first = are.first; second = are.second }))
+
 -- ---- the refusal of a graph flow
 
 none_kept : (p : List ℕ → Bool) (xs : List (List ℕ)) → list_any p xs ≡ false → filter p xs ≡ []

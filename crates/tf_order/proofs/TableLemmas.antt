@@ -1,11 +1,11 @@
 -- Rows of the numbers of atoms, and what they tell of a plan.
 use Rattle.tf_flow.specs.Ways.{shown_part}
-use Rattle.std.proofs.Common.{◌≡◌, ◌≢◌, ℕ, zero, suc, ◌+◌, ◌<◌, ◌≤◌, List, [], ◌∷◌, ◌++◌, length, take, map, Bool, true, false, ◌&&◌, ◌||◌, Option, Some, None, refl, sym, ap, subst, ◌∙◌, add-one, inl, inr, arith, eqb-true, eq-eqb, slice_set, slice_get, slice_index_or}
-use Rattle.std.specs.Prelude.{nat_eq, nat_lt, if◌then◌else◌}
-use Rattle.std.proofs.lemmas.Bool.{cases_lt, lt-ltb, ltb-true}
+use Rattle.std.proofs.Common.{◌≡◌, ◌≢◌, ℕ, zero, suc, ◌+◌, ◌<◌, ◌≤◌, ◌-◌, ◌⊎◌, List, [], ◌∷◌, ◌++◌, length, take, drop, map, Bool, true, false, ◌&&◌, ◌||◌, Option, Some, None, refl, sym, ap, subst, ◌∙◌, add-one, inl, inr, arith, eqb-true, eq-eqb, slice_set, slice_get, slice_index_or}
+use Rattle.std.specs.Prelude.{nat_eq, nat_le, nat_lt, slice_range, if◌then◌else◌}
+use Rattle.std.proofs.lemmas.Bool.{cases_lt, lt-ltb, ltb-true, le-leb, leb-true}
 use Rattle.std.proofs.lemmas.List.{map-append, length-set, length-map}
 use Rattle.std.proofs.lemmas.Option.{slice_get_past}
-use Rattle.tf_model.specs.Before.{Flow, flow_at, way_before, way_at}
+use Rattle.tf_model.specs.Before.{Flow, flow_at, way_at}
 use Rattle.tf_model.specs.Linked.{standing_in}
 use Rattle.tf_numbers.specs.Numbers.{numbers_below, which_below, has_number}
 use Rattle.tf_flow.specs.Outline.{Atom, is_task_part}
@@ -16,15 +16,17 @@ use Rattle.tf_order.specs.declared.arranged.Arranged.{Arranged}
 use Rattle.tf_order.specs.declared.outline.AtomPlace.{AtomPlace}
 use Rattle.tf_order.specs.declared.outline.Outline.{Outline}
 use Rattle.tf_order.specs.Arranged.{IsShownAt, ShowsFlows}
-use Rattle.tf_links.specs.Bits.{has, words_for}
+use Rattle.tf_links.specs.Bits.{has, room, words_for}
 use Rattle.tf_order.specs.Graph.{GraphValue, leads_to, leads_in, standing_of_plan}
 use Rattle.tf_links.specs.Links.{leads}
 use Rattle.tf_order.specs.Places.{shown_atom, shown_atoms}
 use Rattle.tf_order.specs.Rows.{row_in, row_at, is_in_row}
+use Rattle.tf_order.specs.Stretches.{IsSame}
 use Rattle.tf_order.specs.Tables.{plan_seen, atoms_found, number_if, RowAdded, RowsAdded, AreRows, AreTables, AllBelow, leads_from, flow_in_flows}
 use Rattle.tf_order.specs.Ways.{flow_of_turn, item_of_turn}
-use Rattle.tf_links.proofs.BitLemmas.{which_next, which_pass}
+use Rattle.tf_numbers.proofs.BelowLemmas.{which_more}
 use Rattle.tf_numbers.proofs.EquationLemmas.{ap2}
+use Rattle.tf_numbers.proofs.PairLemmas.{which_passes}
 use Rattle.tf_order.proofs.GraphLemmas.{row_told, rows_length}
 use Rattle.tf_links.proofs.LinkLemmas.{past_row}
 use Rattle.tf_order.proofs.OutlineLemmas.{way_there, atom_there}
@@ -101,6 +103,18 @@ past_below count number old past k = sym (ap (λ (b : Bool). has old k || b) (ne
     let same : k ≡ number = eqb-true k number (and_second (nat_lt k count) (nat_eq k number) is) in
     absurd (omega (arith, below, same, past)))) ∙ or_false (has old k))
 
+-- the numbers of a set that are below a count
+pub set_told : (count : ℕ) (set numbers row : List ℕ) → numbers ≡ which_below (room set) (has set) → length set ≡ words_for count → ((k : ℕ) → has set k ≡ true → k < count) → row ≡ numbers → row ≡ which_below count (has set)
+set_told count set numbers row is wide below same =
+    same ∙ (is ∙ which_more count (room set) (has set) (omega (arith, wide)) (λ k from to. never_true (has set k) (λ on. let under : k < count = below k on in absurd (omega (arith, from, under)))))
+
+pub set_below : (count : ℕ) (set numbers : List ℕ) → numbers ≡ which_below (room set) (has set) → ((k : ℕ) → has set k ≡ true → k < count) → count ≤ 1000 → AllBelow 1000 numbers
+set_below count set numbers is below few k on =
+    let found = which_passes (room set) (has set) (nat_eq k) (ap (λ (xs : List ℕ). has_number xs k) (sym is) ∙ on) in
+    let same : k ≡ found.number = eqb-true k found.number found.passes in
+    let under : found.number < count = below found.number found.tested in
+    omega (arith, same, under, few)
+
 -- the rows before an index, as sets
 pub record SetsBefore (rows : List (List ℕ)) (i : ℕ) (sets : List (List ℕ)) : Type 0 where
   pub height : length sets ≡ i
@@ -150,19 +164,85 @@ rows_more f n rows new row is row_is pushed =
 pub rows_whole : (f : ℕ → List ℕ) (n m : ℕ) (rows : List (List ℕ)) → rows ≡ map f (numbers_below n) → n ≡ m → rows ≡ map f (numbers_below m)
 rows_whole f n m rows is same = is ∙ ap (λ (k : ℕ). map f (numbers_below k)) same
 
--- a number more, where it passes
-pub number_next : (test : ℕ → Bool) (n : ℕ) (row new : List ℕ) → row ≡ which_below n test → new ≡ row ++ number_if (test n) n → new ≡ which_below (n + 1) test
-number_next test n row new is more = more ∙ (ap (λ (xs : List ℕ). xs ++ number_if (test n) n) is ∙ ap (λ (k : ℕ). which_below k test) (sym (add-one n)))
+chain : (xs ys zs : List ℕ) → (xs ++ ys) ++ zs ≡ xs ++ (ys ++ zs)
+chain [] ys zs = refl
+chain (x ∷ xs) ys zs = ap (λ (ws : List ℕ). x ∷ ws) (chain xs ys zs)
 
-pub row_kept : (at : ℕ) (on : Bool) (number : ℕ) (rows : List (List ℕ)) → on ≡ false → RowAdded at (number_if on number) rows rows
-row_kept at on number rows off = record {
-  height = refl;
-  told = λ k. sym (ap (λ (b : Bool). if nat_eq at k then row_at rows k ++ number_if b number else row_at rows k) off ∙ either (nat_eq at k) (row_at rows k));
-}
-  where
-    either : (b : Bool) (row : List ℕ) → (if b then row ++ [] else row) ≡ row
-    either true row = nothing_after row
-    either false row = refl
+-- the numbers so far, and one more
+pub numbers_start : (numbers : List ℕ) → numbers ≡ [] → numbers ≡ numbers_below 0
+numbers_start numbers is = is
+
+pub numbers_whole : (n m : ℕ) (numbers : List ℕ) → numbers ≡ numbers_below n → n ≡ m → numbers ≡ numbers_below m
+numbers_whole n m numbers is same = is ∙ ap numbers_below same
+
+pub numbers_more : (n : ℕ) (numbers new : List ℕ) → numbers ≡ numbers_below n → new ≡ numbers ++ n ∷ [] → new ≡ numbers_below (n + 1)
+numbers_more n numbers new is more = more ∙ (ap (λ (xs : List ℕ). xs ++ n ∷ []) is ∙ ap numbers_below (sym (add-one n)))
+
+read_first : (xs : List ℕ) (x i : ℕ) → i < length xs → slice_index_or (xs ++ x ∷ []) i 0 ≡ slice_index_or xs i 0
+read_first [] x i below = absurd (omega arith)
+read_first (y ∷ xs) x zero below = refl
+read_first (y ∷ xs) x (suc i) below = read_first xs x i (omega arith)
+
+read_end : (xs : List ℕ) (x : ℕ) → slice_index_or (xs ++ x ∷ []) (length xs) 0 ≡ x
+read_end [] x = refl
+read_end (y ∷ xs) x = read_end xs x
+
+so_many : (n : ℕ) → length (numbers_below n) ≡ n
+so_many zero = refl
+so_many (suc n) = length_more (numbers_below n) n ∙ (ap (λ (k : ℕ). k + 1) (so_many n) ∙ add-one n)
+
+pub numbers_room : (numbers : List ℕ) (n end : ℕ) → numbers ≡ numbers_below n → end ≤ n → end ≤ length numbers
+numbers_room numbers n end is within = omega (arith, ap length is, so_many n, within)
+
+-- each number stands at its place
+number_there : (n k : ℕ) → k < n → slice_index_or (numbers_below n) k 0 ≡ k
+number_there zero k below = absurd (omega arith)
+number_there (suc n) k below = elim (cases_lt k n) [
+  | inl before ↦ read_first (numbers_below n) n k (omega (arith, before, so_many n)) ∙ number_there n k before
+  | inr last ↦
+      let same : k ≡ n = omega (arith, last, below) in
+      let here : k ≡ length (numbers_below n) = omega (arith, same, so_many n) in
+      ap (λ (i : ℕ). slice_index_or (numbers_below n ++ n ∷ []) i 0) here ∙ (read_end (numbers_below n) n ∙ sym same)
+]
+
+read_dropped : (xs : List ℕ) (b i : ℕ) → slice_index_or (drop b xs) i 0 ≡ slice_index_or xs (b + i) 0
+read_dropped xs zero i = let same : i ≡ zero + i = omega arith in ap (λ (k : ℕ). slice_index_or xs k 0) same
+read_dropped [] (suc b) i = refl
+read_dropped (x ∷ xs) (suc b) i = let same : suc (b + i) ≡ suc b + i = omega arith in read_dropped xs b i ∙ ap (λ (k : ℕ). slice_index_or (x ∷ xs) k 0) same
+
+left_over : (xs : List ℕ) (b : ℕ) → length (drop b xs) ≡ length xs - b
+left_over xs zero = omega arith
+left_over [] (suc b) = omega arith
+left_over (x ∷ xs) (suc b) = let same : length xs - b ≡ length (x ∷ xs) - suc b = omega arith in left_over xs b ∙ same
+
+-- where all numbers of a stretch pass, they follow those before it
+stretch_passes : (test : ℕ → Bool) (n b m : ℕ) → b + m ≤ n → ((k : ℕ) → b ≤ k → k < b + m → test k ≡ true) → which_below b test ++ take m (drop b (numbers_below n)) ≡ which_below (b + m) test
+stretch_passes test n b zero room each =
+    let same : b ≡ b + zero = omega arith in
+    ap (λ (xs : List ℕ). which_below b test ++ xs) (taking_none (drop b (numbers_below n))) ∙ (nothing_after (which_below b test) ∙ ap (λ (k : ℕ). which_below k test) same)
+stretch_passes test n b (suc m) room each =
+    let within : m < length (drop b (numbers_below n)) = omega (arith, left_over (numbers_below n) b, so_many n, room) in
+    let last : slice_index_or (drop b (numbers_below n)) m 0 ≡ b + m = read_dropped (numbers_below n) b m ∙ number_there n (b + m) (omega (arith, room)) in
+    let next : suc (b + m) ≡ b + suc m = omega arith in
+    ap (λ (xs : List ℕ). which_below b test ++ xs) (taking_next (drop b (numbers_below n)) m within ∙ ap (λ (k : ℕ). take m (drop b (numbers_below n)) ++ k ∷ []) last)
+    ∙ (sym (chain (which_below b test) (take m (drop b (numbers_below n))) ((b + m) ∷ []))
+    ∙ (ap (λ (xs : List ℕ). xs ++ (b + m) ∷ []) (stretch_passes test n b m (omega (arith, room)) (λ k from to. each k from (omega (arith, to))))
+    ∙ (ap (λ (c : Bool). which_below (b + m) test ++ (if c then (b + m) ∷ [] else [])) (sym (each (b + m) (omega arith) (omega arith)))
+    ∙ ap (λ (k : ℕ). which_below k test) next)))
+
+-- a stretch of numbers that all pass
+pub passing_stretch : (test : ℕ → Bool) (on : Bool) (n b end : ℕ) (numbers row new : List ℕ) → row ≡ which_below b test → IsSame test on b end → on ≡ true → b ≤ end → end ≤ n → numbers ≡ numbers_below n
+    → new ≡ row ++ slice_range numbers b end → new ≡ which_below end test
+passing_stretch test on n b end numbers row new is same passed order room numbers_are more =
+    let whole : b + (end - b) ≡ end = omega (arith, order) in
+    more
+    ∙ (ap2 (λ (xs ys : List ℕ). xs ++ slice_range ys b end) is numbers_are
+    ∙ (stretch_passes test n b (end - b) (omega (arith, whole, room)) (λ k from to. same k from (omega (arith, to, whole)) ∙ passed)
+    ∙ ap (λ (k : ℕ). which_below k test) whole))
+
+-- a stretch of numbers of which none passes
+pub failing_stretch : (test : ℕ → Bool) (on : Bool) (b end : ℕ) (row : List ℕ) → row ≡ which_below b test → IsSame test on b end → on ≡ false → b ≤ end → row ≡ which_below end test
+failing_stretch test on b end row is same failed order = is ∙ sym (which_more b end test order (λ k from to. same k from to ∙ failed))
 
 pub get_set_same : {X : Type 0} (xs : List X) (i : ℕ) (x : X) → i < length xs → slice_get (slice_set xs i x) i ≡ Some x
 get_set_same [] i x below = absurd (omega arith)
@@ -196,10 +276,6 @@ added_start test number rows = record { height = refl; told = λ k. sym (ap (λ 
     none : (k : ℕ) → nat_lt k 0 ≡ false
     none k = never_true (nat_lt k 0) (λ is. let below : k < 0 = ltb-true k 0 is in absurd (omega (arith, below)))
 
-chain : (xs ys zs : List ℕ) → (xs ++ ys) ++ zs ≡ xs ++ (ys ++ zs)
-chain [] ys zs = refl
-chain (x ∷ xs) ys zs = ap (λ (ws : List ℕ). x ∷ ws) (chain xs ys zs)
-
 pub added_next : (test : ℕ → Bool) (number i : ℕ) (old rows new : List (List ℕ)) → RowsAdded i test number old rows → RowAdded i (number_if (test i) number) rows new → RowsAdded (i + 1) test number old new
 added_next test number i old rows new before more = record {
   height = more.height ∙ before.height;
@@ -220,6 +296,63 @@ added_next test number i old rows new before more = record {
         ap (λ (r : List ℕ). r ++ number_if (test i) number) (before.told k ∙ (ap (λ (b : Bool). row_at old k ++ number_if (b && test k) number) (not_yet k e) ∙ nothing_after (row_at old k)))
         ∙ ap2 (λ (b : Bool) (n : ℕ). row_at old k ++ number_if (b && test n) number) (sym (lt-ltb k (i + 1) (omega (arith, e)))) e
     by_row k false other = before.told k ∙ ap (λ (b : Bool). row_at old k ++ number_if (b && test k) number) (as_before k other)
+
+-- the rows from one up to before the end, each with a number more
+pub spread_start : (from number : ℕ) (rows : List (List ℕ)) → RowsAdded from (nat_le from) number rows rows
+spread_start from number rows = record { height = refl; told = λ k. sym (ap (λ (b : Bool). row_at rows k ++ number_if b number) (none k) ∙ nothing_after (row_at rows k)) }
+  where
+    none : (k : ℕ) → nat_lt k from && nat_le from k ≡ false
+    none k = never_true (nat_lt k from && nat_le from k) (λ is.
+        let below : k < from = ltb-true k from (and_first (nat_lt k from) (nat_le from k) is) in
+        let above : from ≤ k = leb-true from k (and_second (nat_lt k from) (nat_le from k) is) in
+        absurd (omega (arith, below, above)))
+
+pub spread_next : (from i number : ℕ) (old rows : List (List ℕ)) (row new : List ℕ) → RowsAdded i (nat_le from) number old rows → from ≤ i → i < length rows → row ≡ slice_index_or rows i row → new ≡ row ++ number ∷ []
+    → RowsAdded (i + 1) (nat_le from) number old (slice_set rows i new)
+spread_next from i number old rows row new before above below read pushed =
+    added_next (nat_le from) number i old rows (slice_set rows i new) before (row_added i (nat_le from i) number rows row new (le-leb from i above) below read pushed)
+
+-- the rows of a stretch of numbers that pass, or don't
+pub rows_stretched : (test : ℕ → Bool) (on : Bool) (b end number : ℕ) (old rows new : List (List ℕ)) → RowsAdded b test number old rows → IsSame test on b end → on ≡ true → b ≤ end → RowsAdded end (nat_le b) number rows new → RowsAdded end test number old new
+rows_stretched test on b end number old rows new before same passed order more = record {
+  height = more.height ∙ before.height;
+  told = λ k. more.told k
+      ∙ (ap (λ (r : List ℕ). r ++ number_if (nat_lt k end && nat_le b k) number) (before.told k)
+      ∙ (chain (row_at old k) (number_if (nat_lt k b && test k) number) (number_if (nat_lt k end && nat_le b k) number)
+      ∙ ap (λ (xs : List ℕ). row_at old k ++ xs) (by_place k (cases_lt k b))));
+}
+  where
+    by_end : (k : ℕ) → b ≤ k → (c : Bool) → nat_lt k end ≡ c → number_if (c && true) number ≡ number_if (c && test k) number
+    by_end k above true is = ap (λ (c : Bool). number_if c number) (sym (same k above (ltb-true k end is) ∙ passed))
+    by_end k above false is = refl
+
+    by_place : (k : ℕ) → (k < b) ⊎ (b ≤ k) → number_if (nat_lt k b && test k) number ++ number_if (nat_lt k end && nat_le b k) number ≡ number_if (nat_lt k end && test k) number
+    by_place k (inl below) =
+        let unread : nat_le b k ≡ false = never_true (nat_le b k) (λ is. let above : b ≤ k = leb-true b k is in absurd (omega (arith, below, above))) in
+        ap2 (λ (c d : Bool). number_if (c && test k) number ++ number_if (nat_lt k end && d) number) (lt-ltb k b below) unread
+        ∙ (ap (λ (c : Bool). number_if (test k) number ++ number_if c number) (and_false (nat_lt k end))
+        ∙ (nothing_after (number_if (test k) number)
+        ∙ ap (λ (c : Bool). number_if (c && test k) number) (sym (lt-ltb k end (omega (arith, below, order))))))
+    by_place k (inr above) =
+        let past : nat_lt k b ≡ false = never_true (nat_lt k b) (λ is. let below : k < b = ltb-true k b is in absurd (omega (arith, below, above))) in
+        ap2 (λ (c d : Bool). number_if (c && test k) number ++ number_if (nat_lt k end && d) number) past (le-leb b k above)
+        ∙ by_end k above (nat_lt k end) refl
+
+pub rows_passed : (test : ℕ → Bool) (on : Bool) (b end number : ℕ) (old rows : List (List ℕ)) → RowsAdded b test number old rows → IsSame test on b end → on ≡ false → b ≤ end → RowsAdded end test number old rows
+rows_passed test on b end number old rows before same failed order = record {
+  height = before.height;
+  told = λ k. before.told k ∙ ap (λ (c : Bool). row_at old k ++ number_if c number) (by_place k (cases_lt k b));
+}
+  where
+    by_end : (k : ℕ) → b ≤ k → (c : Bool) → nat_lt k end ≡ c → c && test k ≡ false
+    by_end k above true is = same k above (ltb-true k end is) ∙ failed
+    by_end k above false is = refl
+
+    by_place : (k : ℕ) → (k < b) ⊎ (b ≤ k) → nat_lt k b && test k ≡ nat_lt k end && test k
+    by_place k (inl below) = ap (λ (c : Bool). c && test k) (lt-ltb k b below ∙ sym (lt-ltb k end (omega (arith, below, order))))
+    by_place k (inr above) =
+        let past : nat_lt k b ≡ false = never_true (nat_lt k b) (λ is. let below : k < b = ltb-true k b is in absurd (omega (arith, below, above))) in
+        ap (λ (c : Bool). c && test k) past ∙ sym (by_end k above (nat_lt k end) refl)
 
 -- the rows of those before, by each number that comes after
 pub earlier_start : (count : ℕ) (test : ℕ → ℕ → Bool) (rows : List (List ℕ)) → length rows ≡ count → ((k : ℕ) → row_at rows k ≡ []) → AreRows count (λ b. which_below 0 (λ a. test a b)) rows
@@ -248,10 +381,6 @@ rows_are count f rows is = same_rows rows (map f (numbers_below count)) (is.heig
 
 -- ---- what was found of a plan
 
-pub before_seen : (outline : Outline) (a b : ℕ) (v w : List Turn) (on : Bool) → v ≡ way_at (shown_atoms outline.atoms.items) a → w ≡ way_at (shown_atoms outline.atoms.items) b → on ≡ way_before (plan_seen outline).flows v w → on ≡ is_before (plan_seen outline) a b
-unfolding is_before plan_seen
-before_seen outline a b v w on v_is w_is is = is ∙ (ap (λ (x : List Turn). way_before (plan_seen outline).flows x w) v_is ∙ ap (way_before (plan_seen outline).flows (way_at (shown_atoms outline.atoms.items) a)) w_is)
-
 pub count_seen : (outline : Outline) → count (plan_seen outline) ≡ atoms_found outline
 unfolding plan_seen
 count_seen outline = length-map outline.atoms.items shown_atom
@@ -259,12 +388,6 @@ count_seen outline = length-map outline.atoms.items shown_atom
 -- numbers that are below others
 pub listed_below : (most : ℕ) (numbers : List ℕ) (i number : ℕ) → AllBelow most numbers → i < length numbers → number ≡ slice_index_or numbers i 0 → number < most
 listed_below most numbers i number each below is = let within : slice_index_or numbers i 0 < most = each (slice_index_or numbers i 0) (listed_within numbers i below) in omega (arith, within, is)
-
-pub row_next : (test : ℕ → Bool) (n : ℕ) (row new : List ℕ) (on : Bool) → row ≡ which_below n test → on ≡ true → on ≡ test n → new ≡ row ++ n ∷ [] → new ≡ which_below (n + 1) test
-row_next test n row new on is passed passes more = more ∙ (ap (λ (xs : List ℕ). xs ++ n ∷ []) is ∙ which_next n test (sym passes ∙ passed))
-
-pub row_pass : (test : ℕ → Bool) (n : ℕ) (row : List ℕ) (on : Bool) → row ≡ which_below n test → on ≡ false → on ≡ test n → row ≡ which_below (n + 1) test
-row_pass test n row on is failed passes = is ∙ which_pass n test (sym passes ∙ failed)
 
 -- ---- the tasks that an atom leads to
 

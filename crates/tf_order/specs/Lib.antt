@@ -9,4 +9,6 @@ pub mod Marks
 pub mod Sight
 pub mod Looked
 pub mod Doubts
+pub mod Stretches
 pub mod Tables
+pub mod Direct

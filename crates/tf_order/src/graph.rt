@@ -2,9 +2,8 @@ ghost use Rattle.std.specs.Prelude.{◌≡◌, ℕ, List, slice_get, IfOk};
 ghost use Rattle.tf_flow.specs.Plan.{PlanValue};
 ghost use Rattle.tf_model.specs.Plan.{outline_of, is_before};
 ghost use Rattle.tf_order.specs.Graph.{IsGraphOf, predecessors_of, successors_of, direct_tasks_of, standing_of_plan};
-ghost use Rattle.tf_order.specs.Rows.{row_at};
 
-use crate::rows::{Row, row_sets};
+use crate::rows::{Row, row_at, row_sets};
 use std::alloc::Global;
 use std::marker::Model;
 use tf_links::{Bits, has_in};
@@ -68,7 +67,7 @@ impl Graph {
     pub fn predecessors(&self, a: u16) -> &[u16]
         ensures { (plan : PlanValue) → IsGraphOf self.now plan → result.now ≡ predecessors_of (outline_of plan) a }
     {
-        row_at(&self.predecessors, a)
+        row_at(&self.predecessors, a as usize)
     }
 
     /// All atoms after `a`, ascending.
@@ -76,7 +75,7 @@ impl Graph {
     pub fn successors(&self, a: u16) -> &[u16]
         ensures { (plan : PlanValue) → IsGraphOf self.now plan → result.now ≡ successors_of (outline_of plan) a }
     {
-        row_at(&self.successors, a)
+        row_at(&self.successors, a as usize)
     }
 
     /// The tasks that a link or the next place leads to from `a`, ascending.
@@ -84,7 +83,7 @@ impl Graph {
     pub fn direct_tasks(&self, a: u16) -> &[u16]
         ensures { (plan : PlanValue) → IsGraphOf self.now plan → result.now ≡ direct_tasks_of (outline_of plan) a }
     {
-        row_at(&self.direct_tasks, a)
+        row_at(&self.direct_tasks, a as usize)
     }
 
     /// All atoms in standing order: tree order, in which the items of a graph flow come as their links
@@ -93,15 +92,5 @@ impl Graph {
         ensures { (plan : PlanValue) → IsGraphOf self.now plan → result.now ≡ standing_of_plan (outline_of plan) }
     {
         &self.standing
-    }
-}
-
-/// The row of a number, and none where there is no such row.
-fn row_at(rows: &[Row], number: u16) -> &[u16]
-    ensures { result.now ≡ row_at rows.now number }
-{
-    match rows.get(number as usize) {
-        Some(row) => row.items(),
-        None => &[],
     }
 }

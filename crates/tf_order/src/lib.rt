@@ -3,6 +3,7 @@
 
 mod arranged;
 mod compilation;
+mod direct;
 mod doubts;
 mod faults;
 mod graph;
@@ -13,6 +14,7 @@ mod outline;
 mod rows;
 mod sight;
 mod standing_atoms;
+mod stretches;
 mod tables;
 mod ways;
 

@@ -9,7 +9,7 @@ ghost use Rattle.tf_numbers.specs.Pairs.{Pair};
 ghost use Rattle.tf_numbers.specs.Numbers.{first_below};
 ghost use Rattle.tf_links.specs.Reach.{reached};
 ghost use Rattle.tf_links.specs.Bits.{has, room};
-ghost use Rattle.tf_links.specs.Links.{AreLinks, AreReached};
+ghost use Rattle.tf_links.specs.Links.{AreLinks, AreReached, IsSquare};
 ghost use Rattle.tf_order.specs.Sight.{HasProviders, HasReach, atoms_seen, place_seen, count_seen};
 
 use crate::arranged::Arranged;
@@ -20,7 +20,7 @@ use crate::sight::Sight;
 use crate::standing_atoms::standing_atoms;
 use std::alloc::Global;
 use tf_flow::FlowKind;
-use tf_links::{Bits, Links};
+use tf_links::{Bits, Links, are_same, copy_rows};
 use tf_values::Memory;
 
 /// A flow that was looked at: what its links mean, and why it is refused, if it is.
@@ -73,11 +73,12 @@ fn look_at_graph(alloc: Global, sight: &Sight<'_, '_>) -> Result<Looked, Memory>
 {
     let links = explicit(alloc, sight.level)?;
     let explicit_reach = links.reach(alloc)?;
+    let written = copy_rows(alloc, links.rows())?;
     let doubts = Bits::new(alloc, links.count())?;
     let mut found = Found { links, doubts };
     infer(alloc, sight, &explicit_reach, &mut found)?;
     let Found { links, doubts } = found;
-    let reach = links.reach(alloc)?;
+    let reach = reach_of(alloc, &links, &written, &explicit_reach)?;
     let refusal = refusal(alloc, sight, &explicit_reach, &doubts, &links, &reach)?;
     let standing = standing_atoms(alloc, sight, &links)?;
     let arranged = Arranged {
@@ -87,6 +88,26 @@ fn look_at_graph(alloc: Global, sight: &Sight<'_, '_>) -> Result<Looked, Memory>
         standing,
     };
     Ok(Looked { arranged, refusal })
+}
+
+/// Which item reaches which by links. Where these are still the written ones, it is known.
+#[tactic(auto, using(crate::proofs::LookLemmas::reach_kept))]
+fn reach_of(
+    alloc: Global,
+    links: &Links,
+    written: &[Bits],
+    explicit_reach: &[Bits],
+) -> Result<Vec<Bits>, Memory>
+    requires written { IsSquare links.now.count written.now }
+    requires reach { (pairs : List Pair) → AreLinks record { count = links.now.count; rows = written.now } pairs → AreReached links.now.count (reached links.now.count pairs) explicit_reach.now }
+    ensures { IfOk result (λ rows. (pairs : List Pair) → AreLinks links.now pairs → AreReached links.now.count (reached links.now.count pairs) rows.items) }
+{
+    if are_same(links.count(), written, links.rows()) {
+        let rows = copy_rows(alloc, explicit_reach)?;
+        return Ok(rows);
+    }
+    let rows = links.reach(alloc)?;
+    Ok(rows)
 }
 
 /// The refusal of a graph flow: that of the first item with an ambiguous symbol, or else that of its links.

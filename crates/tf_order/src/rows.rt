@@ -1,8 +1,9 @@
-ghost use Rattle.std.specs.Prelude.{◌≡◌, ℕ, List, [], ◌∷◌, ◌++◌, ◌&&◌, ◌||◌, nat_lt, nat_eq, length, IfOk, OnOk};
-ghost use Rattle.tf_numbers.specs.Numbers.{has_number};
+ghost use Rattle.std.specs.Prelude.{◌≡◌, ℕ, ◌<◌, ◌≤◌, List, [], ◌∷◌, true, ◌++◌, ◌&&◌, ◌||◌, nat_lt, nat_eq, length, IfOk, OnOk};
+ghost use Rattle.tf_numbers.specs.Numbers.{has_number, which_below};
 ghost use Rattle.tf_links.specs.Bits.{has, words_for};
 ghost use Rattle.tf_links.specs.Links.{leads};
 ghost use Rattle.tf_order.specs.Rows.{row_at, is_in_row};
+ghost use Rattle.tf_order.specs.Tables.{AllBelow};
 
 use std::alloc::Global;
 use std::marker::Model;
@@ -33,11 +34,26 @@ impl Row {
         }
     }
 
+    /// These numbers.
+    pub fn make(items: Vec<u16>) -> Row
+        ensures { result ≡ items.items }
+    {
+        Row { items }
+    }
+
     /// Adds a number at the end.
     pub fn push(&mut self, number: u16) -> Result<(), Memory>
         ensures { OnOk result (self.new ≡ self.old ++ number ∷ []) }
     {
         self.items.push(number)?;
+        Ok(())
+    }
+
+    /// Adds numbers at the end.
+    pub fn extend(&mut self, numbers: &[u16]) -> Result<(), Memory>
+        ensures { OnOk result (self.new ≡ self.old ++ numbers.now) }
+    {
+        self.items.extend_from_slice(numbers)?;
         Ok(())
     }
 
@@ -97,4 +113,40 @@ fn insert_below(count: usize, number: usize, set: &mut Bits)
     if number < count {
         set.insert(number);
     }
+}
+
+/// The row of a number, and none where there is no such row.
+pub fn row_at(rows: &[Row], number: usize) -> &[u16]
+    ensures { result.now ≡ row_at rows.now number }
+{
+    match rows.get(number) {
+        Some(row) => row.items(),
+        None => &[],
+    }
+}
+
+/// The numbers of a set, each of which is below the count.
+#[tactic(auto, using(crate::proofs::TableLemmas::set_told, crate::proofs::TableLemmas::set_below))]
+pub fn row_of(alloc: Global, count: usize, set: &Bits) -> Result<Row, Memory>
+    requires few { count ≤ 1000 }
+    requires below { (k : ℕ) → has set.now k ≡ true → k < count }
+    requires wide { length set.now ≡ words_for count }
+    ensures { IfOk result (λ row. row ≡ which_below count (has set.now)) }
+{
+    let numbers = set.numbers(alloc)?;
+    let items = short_numbers(alloc, &numbers)?;
+    Ok(Row::make(items))
+}
+
+/// The same numbers, each of which is below a thousand.
+#[tactic(auto, using(crate::proofs::TableLemmas::listed_below))]
+pub fn short_numbers(alloc: Global, numbers: &[usize]) -> Result<Vec<u16>, Memory>
+    requires { AllBelow 1000 numbers.now }
+    ensures { IfOk result (λ short. short.items ≡ numbers.now) }
+{
+    let mut short = Vec::with_capacity(alloc, numbers.len())?;
+    for number in numbers {
+        short.push(*number as u16)?;
+    }
+    Ok(short)
 }

@@ -23,7 +23,7 @@ returns-clause-refusal c = λ inner shows.
     (λ item first. c.in_ok-refusal.ensures.doubt item inner first shows)
     (λ nobody. c.in_ok-refusal.ensures.cycle (linked_pairs (atoms_seen c.args.sight.now) inner (place_seen c.args.sight.now)) nobody
     (graph_links c.args.sight.now inner c.in_ok-links.links c.infer.new.found.links c.in_ok-doubts.doubts c.infer.new.found.doubts (ap is_graph c.requires.kind) c.in_ok-links.ensures.count c.in_ok-infer.ensures.count c.in_ok-links.ensures.links (c.in_ok-infer.ensures.links inner shows))
-    (reach_as c.infer.new.found.links.count (count_seen c.args.sight.now) (linked_pairs (atoms_seen c.args.sight.now) inner (place_seen c.args.sight.now)) c.in_ok-reach.reach.items c.deref-3.result.now
+    (reach_as c.infer.new.found.links.count (count_seen c.args.sight.now) (linked_pairs (atoms_seen c.args.sight.now) inner (place_seen c.args.sight.now)) c.in_ok-reach.reach.items c.deref-5.result.now
     (c.in_ok-reach.ensures (linked_pairs (atoms_seen c.args.sight.now) inner (place_seen c.args.sight.now))
     (graph_links c.args.sight.now inner c.in_ok-links.links c.infer.new.found.links c.in_ok-doubts.doubts c.infer.new.found.doubts (ap is_graph c.requires.kind) c.in_ok-links.ensures.count c.in_ok-infer.ensures.count c.in_ok-links.ensures.links (c.in_ok-infer.ensures.links inner shows)))
-    c.in_ok-infer.ensures.count c.deref-3.ensures.value))
+    c.in_ok-infer.ensures.count c.deref-5.ensures.value))

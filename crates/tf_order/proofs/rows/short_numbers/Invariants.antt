@@ -1,5 +1,5 @@
 use Rattle.std.proofs.Common.{◌≡◌, take}
-use Rattle.tf_order.proofs.tables.short_numbers.Given as goal
+use Rattle.tf_order.proofs.rows.short_numbers.Given as goal
 
 abbrev pub invariant-loop-number : goal.invariant-loop-number
 invariant-loop-number l = l.short.items ≡ take l.number-index l.numbers

@@ -1,6 +1,6 @@
 use Rattle.std.proofs.Common.{◌<◌, refl, arith, slice_index_or}
 use Rattle.tf_order.proofs.TableLemmas.{listed_below}
-use Rattle.tf_order.proofs.tables.short_numbers.Goals as goal
+use Rattle.tf_order.proofs.rows.short_numbers.Goals as goal
 
 pub overflow_cast-number : goal.overflow_cast-number
 overflow_cast-number c =

@@ -1,0 +1,60 @@
+-- Atoms that stand side by side in tree order, and are all after another or all not.
+use Rattle.std.specs.Prelude.{◌≡◌, ℕ, zero, suc, ◌<◌, ◌≤◌, List, [], ◌∷◌, Bool, false, ◌&&◌, ◌⊎◌, Option, None, Some, nat_eq, nat_lt}
+use Rattle.tf_flow.specs.declared.ways.Turn.{Turn}
+use Rattle.tf_model.specs.Before.{Flow, way_before}
+use Rattle.tf_model.specs.Plan.{Outline, count, way}
+
+-- in a flow the first place stands earlier than the second: the retry controller's before the items'
+abbrev pub IsEarlierPlace : Option ℕ → Option ℕ → Type 0
+IsEarlierPlace None None = ⊥
+IsEarlierPlace None (Some v) = Unit {0}
+IsEarlierPlace (Some u) None = ⊥
+IsEarlierPlace (Some u) (Some v) = u < v
+
+-- the first way is the second, or they part in a flow where the first goes on to an earlier place
+abbrev pub IsWayUpTo : List Turn → List Turn → Type 0
+IsWayUpTo [] [] = Unit {0}
+IsWayUpTo [] (y ∷ ys) = ⊥
+IsWayUpTo (x ∷ xs) [] = ⊥
+IsWayUpTo (x ∷ xs) (y ∷ ys) = (x.flow ≡ y.flow) × (IsEarlierPlace x.item y.item ⊎ ((x.item ≡ y.item) × IsWayUpTo xs ys))
+
+-- the ways of the atoms come in this order
+abbrev pub IsAscending : Outline → Type 0
+IsAscending plan = (i j : ℕ) → i ≤ j → j < count plan → IsWayUpTo (way plan i) (way plan j)
+
+-- two ways have the same first so many turns
+abbrev pub Agree : ℕ → List Turn → List Turn → Type 0
+Agree zero xs ys = Unit {0}
+Agree (suc turns) [] ys = ⊥
+Agree (suc turns) (x ∷ xs) [] = ⊥
+Agree (suc turns) (x ∷ xs) (y ∷ ys) = (x.flow ≡ y.flow) × (x.item ≡ y.item) × Agree turns xs ys
+
+-- the place is the retry controller's, or an item up to this one
+abbrev pub IsUpToItem : ℕ → Option ℕ → Type 0
+IsUpToItem most None = Unit {0}
+IsUpToItem most (Some v) = v ≤ most
+
+-- two ways have the same first so many turns, and go on in one flow, the second to an item up to this one
+abbrev pub GoesAlong : ℕ → ℕ → List Turn → List Turn → Type 0
+GoesAlong turns most [] ys = ⊥
+GoesAlong turns most (x ∷ xs) [] = ⊥
+GoesAlong zero most (x ∷ xs) (y ∷ ys) = (x.flow ≡ y.flow) × IsUpToItem most y.item
+GoesAlong (suc turns) most (x ∷ xs) (y ∷ ys) = (x.flow ≡ y.flow) × (x.item ≡ y.item) × GoesAlong turns most xs ys
+
+-- item u isn't among those from v up to the last, and the test tells the same of all of these
+abbrev pub IsSteady : ℕ → (ℕ → Bool) → ℕ → ℕ → Type 0
+IsSteady u test v last = (w : ℕ) → v ≤ w → w ≤ last → (nat_eq u w ≡ false) × (test w ≡ test v)
+
+-- item w of a linear flow of so many items stands later than item u
+abbrev pub stands_later : ℕ → ℕ → ℕ → Bool
+stands_later items u w = nat_lt u w && nat_lt w items
+
+-- an atom with the first way is before all that stand from the second way on and go along with it up to this
+-- item, or before none of them
+abbrev pub IsAlike : List Flow → ℕ → List Turn → List Turn → ℕ → Type 0
+IsAlike flows turns first second most = (other : List Turn) → IsWayUpTo second other → GoesAlong turns most second other
+    → way_before flows first other ≡ way_before flows first second
+
+-- the test tells the same of all numbers from one on up to before the end
+abbrev pub IsSame : (ℕ → Bool) → Bool → ℕ → ℕ → Type 0
+IsSame test on from end = (k : ℕ) → from ≤ k → k < end → test k ≡ on

@@ -1,0 +1,163 @@
+ghost use Rattle.std.specs.Prelude.{◌≡◌, ℕ, ◌<◌, ◌≤◌, List, true, false, nat_eq, length, IfSome};
+ghost use Rattle.tf_model.specs.Before.{Flow, same_place, way_at};
+ghost use Rattle.tf_model.specs.Plan.{is_before};
+ghost use Rattle.tf_order.specs.Arranged.{ShowsFlows};
+ghost use Rattle.tf_order.specs.Places.{shown_atoms};
+ghost use Rattle.tf_order.specs.Stretches.{IsAscending, Agree, IsUpToItem, GoesAlong, IsAlike, IsSame};
+ghost use Rattle.tf_order.specs.Tables.{plan_seen, atoms_found};
+
+use crate::arranged::{Arranged, is_way_before, last_item_alike};
+use crate::outline::Outline;
+use tf_flow::Turn;
+
+/// Atoms that stand side by side, from one up to before the end, and whether another is before all of
+/// them, or before none.
+#[derive(Clone, Copy)]
+pub struct Stretch {
+    pub end: usize,
+    pub is_after: bool,
+}
+
+/// The atoms from `b` on that are after `a` if `b` is, and aren't if it isn't, as far as they are found
+/// without looking at each. The ways of atoms ascend, so the end is found by halving.
+#[tactic(auto, using(crate::proofs::StretchLemmas::stretch_alone, crate::proofs::StretchLemmas::stretch_along))]
+pub fn stretch_from(
+    outline: &Outline<'_>,
+    table: &[Option<Arranged>],
+    a: usize,
+    b: usize,
+) -> Stretch
+    requires shows { ShowsFlows table.now (plan_seen outline.now).flows }
+    requires ascending { IsAscending (plan_seen outline.now) }
+    requires few { atoms_found outline.now ≤ 1000 }
+    requires first { a < atoms_found outline.now }
+    requires second { b < atoms_found outline.now }
+    ensures begins { b < result.end }
+    ensures ends { result.end ≤ atoms_found outline.now }
+    ensures same { IsSame (is_before (plan_seen outline.now) a) result.is_after b result.end }
+{
+    let first = outline.atoms[a].way.turns();
+    let second = outline.atoms[b].way.turns();
+    let is_after = is_way_before(table, first, second);
+    let turns = turns_shared(first, second);
+    match last_alike(table, first, second, turns) {
+        None => Stretch {
+            end: b + 1,
+            is_after,
+        },
+        Some(most) => Stretch {
+            end: end_along(outline, b, turns, most),
+            is_after,
+        },
+    }
+}
+
+/// In how many first turns two ways agree.
+#[tactic(auto, using(crate::proofs::StretchLemmas::agree_next))]
+fn turns_shared(first: &[Turn], second: &[Turn]) -> usize
+    ensures { Agree result first.now second.now }
+{
+    let most = first.len().min(second.len());
+    for place in 0..most {
+        if !is_same_turn(&first[place], &second[place]) {
+            return place;
+        }
+    }
+    most
+}
+
+/// Whether two turns go to the same place of one flow.
+#[tactic(auto, using(crate::proofs::StretchLemmas::turns_same))]
+fn is_same_turn(x: &Turn, y: &Turn) -> bool
+    ensures { result ≡ true → (x.now.flow ≡ y.now.flow) × (x.now.item ≡ y.now.item) }
+{
+    x.flow == y.flow && is_same_place(x.item, y.item)
+}
+
+/// Whether two places are the same.
+fn is_same_place(u: Option<usize>, v: Option<usize>) -> bool
+    ensures { result ≡ same_place u v }
+{
+    match (u, v) {
+        (None, None) => true,
+        (Some(u), Some(v)) => u == v,
+        _ => false,
+    }
+}
+
+/// Up to which item those that go along with the second way, after the turns that it shares with the
+/// first, are alike, if any besides those with the second way itself.
+#[tactic(auto, using(crate::proofs::StretchLemmas::alike_retry, crate::proofs::StretchLemmas::alike_items))]
+fn last_alike(
+    table: &[Option<Arranged>],
+    first: &[Turn],
+    second: &[Turn],
+    turns: usize,
+) -> Option<usize>
+    requires { Agree turns first.now second.now }
+    ensures { IfSome result (λ most. (flows : List Flow) → ShowsFlows table.now flows → IsAlike flows turns first.now second.now most) }
+{
+    let (Some(x), Some(y)) = (first.get(turns), second.get(turns)) else {
+        return None;
+    };
+    if x.flow != y.flow {
+        return None;
+    }
+    match (x.item, y.item) {
+        (None, Some(_)) => Some(usize::MAX),
+        (Some(u), Some(v)) => last_item_alike(table, x.flow, u, v),
+        _ => None,
+    }
+}
+
+/// The end of the atoms from `b` on whose ways go along with that of `b`, after so many turns, up to an
+/// item.
+#[tactic(auto, using(crate::proofs::StretchLemmas::along_start, crate::proofs::StretchLemmas::along_more))]
+fn end_along(outline: &Outline<'_>, b: usize, turns: usize, most: usize) -> usize
+    requires ascending { IsAscending (plan_seen outline.now) }
+    requires few { atoms_found outline.now ≤ 1000 }
+    requires atom { b < atoms_found outline.now }
+    ensures begins { b < result }
+    ensures ends { result ≤ atoms_found outline.now }
+    ensures along { (k : ℕ) → b < k → k < result → GoesAlong turns most (way_at (shown_atoms outline.now.atoms.items) b) (way_at (shown_atoms outline.now.atoms.items) k) }
+{
+    let mut end = b + 1;
+    let mut past = outline.atoms.len();
+    while end < past {
+        let middle = end + (past - end) / 2;
+        if goes_along(outline, b, turns, most, middle) {
+            end = middle + 1;
+        } else {
+            past = middle;
+        }
+    }
+    end
+}
+
+/// Whether the way of an atom goes along with that of `b`.
+#[tactic(auto, using(crate::proofs::StretchLemmas::along_seen))]
+fn goes_along(outline: &Outline<'_>, b: usize, turns: usize, most: usize, atom: usize) -> bool
+    requires first { b < atoms_found outline.now }
+    requires second { atom < atoms_found outline.now }
+    ensures { result ≡ true → GoesAlong turns most (way_at (shown_atoms outline.now.atoms.items) b) (way_at (shown_atoms outline.now.atoms.items) atom) }
+{
+    let way = outline.atoms[b].way.turns();
+    let other = outline.atoms[atom].way.turns();
+    if turns_shared(way, other) < turns {
+        return false;
+    }
+    match (way.get(turns), other.get(turns)) {
+        (Some(x), Some(y)) => x.flow == y.flow && is_up_to(most, y.item),
+        _ => false,
+    }
+}
+
+/// Whether a place is the retry controller's, or an item up to this one.
+fn is_up_to(most: usize, place: Option<usize>) -> bool
+    ensures { result ≡ true → IsUpToItem most place }
+{
+    match place {
+        None => true,
+        Some(item) => item <= most,
+    }
+}
