@@ -24,13 +24,14 @@ due_more few more limit widens (e ∷ entries) due = (λ is. ⊎_elim (λ asked.
 suspended_more : (few more : Type 0) (limit : Option ℕ) → (few → more) → (entries : List Entry) → IsSuspended few limit entries → IsSuspended more limit entries
 suspended_more few more limit widens entries s = record {
   cause = ⊎_elim (λ asked. inl (widens asked)) (λ reached. inr reached) s.cause;
+  hand = s.hand;
   before = s.before;
   last = s.last;
 }
 
-pub session_more : (gives : Order → Outcome → Type 0) (few more : Type 0) (limit : Option ℕ) (plan : Outline) (before after : List Entry) (stop : Option FlowState) → (few → more)
-    → IsSession gives few limit plan before after stop → IsSession gives more limit plan before after stop
-session_more gives few more limit plan before after stop widens s = record {
+pub session_more : (gives : Order → Outcome → Type 0) (few more : Type 0) (number : ℕ) (limit : Option ℕ) (plan : Outline) (before after : List Entry) (stop : Option FlowState) → (few → more)
+    → IsSession gives few number limit plan before after stop → IsSession gives more number limit plan before after stop
+session_more gives few more number limit plan before after stop widens s = record {
   entries = s.entries;
   recorded = s.recorded;
   session = s.session;

@@ -1,5 +1,5 @@
 -- What the status of a command on a board tells, and that it is obeyed.
-use Rattle.std.proofs.Common.{◌≡◌, ◌≢◌, ℕ, ◌≤◌, List, inl, inr, Option, Some, None, Bool, true, refl, arith}
+use Rattle.std.proofs.Common.{◌≡◌, ◌≢◌, ℕ, ◌≤◌, List, inl, inr, Option, Some, None, Bool, true, refl, sym, subst, arith}
 use Rattle.std.specs.Prelude.{is_some}
 use Rattle.tf_desk.specs.Content.{Content}
 use Rattle.tf_desk.specs.Crash.{Images, Crashes}
@@ -13,8 +13,8 @@ use Rattle.tf_board.specs.Answers.{board_of, answer_of}
 use Rattle.tf_board.specs.Does.{Does, IsBoardStatus, is_done, is_failed, is_no_board, is_unsaid, is_out, is_full, is_refused}
 use Rattle.tf_board.specs.Does as board
 use Rattle.taskflow.specs.Causes.{HasCauses, HasCausesOr, counts}
-use Rattle.taskflow.specs.Asking.{asked_for}
-use Rattle.taskflow.specs.Course.{Obeys, IsBoardRefused}
+use Rattle.taskflow.specs.Asking.{asked_for, want_of}
+use Rattle.taskflow.specs.Course.{Obeys, HiresAsWanted, IsBoardRefused}
 
 -- no words, no file and no hand are why a command on a board fails
 pub board_apart : (status : ℕ) → IsBoardStatus status → (status ≢ 2) × (status ≢ 3) × (status ≢ 4) × (status ≢ 8)
@@ -48,6 +48,28 @@ board_among unlistened d0 d1 o0 o1 sources crew status causes = record {
   unsaid = causes.unsaid;
   unhired = λ is. absurd (omega (arith, causes.unhired is));
 }
+
+-- a command on a board wants nobody
+hires_none : (command : Asked) → is_some (board_of command) ≡ true → want_of command ≡ None
+hires_none (asked.Post board name priority details) is = refl
+hires_none (asked.Claim board id owner) is = refl
+hires_none (asked.Abandon board id owner) is = refl
+hires_none (asked.Consume board id owner) is = refl
+hires_none (asked.Trash board id owner) is = refl
+hires_none (asked.Owner board id) is = refl
+hires_none (asked.List board) is = refl
+hires_none (asked.Try file sets defer hands) is = absurd (cc)
+hires_none (asked.Run file book sets defer hands stop) is = absurd (cc)
+hires_none (asked.Resume book hands stop) is = absurd (cc)
+hires_none (asked.Show book) is = absurd (cc)
+hires_none (asked.Reset book) is = absurd (cc)
+hires_none (asked.Check file sets) is = absurd (cc)
+hires_none (asked.Demo seed size book hands) is = absurd (cc)
+hires_none (asked.Worker address sessions) is = absurd (cc)
+
+-- and nobody is hired for it
+pub hires_board : (command : Asked) (hired after_hiring : Option (List Want)) → is_some (board_of command) ≡ true → after_hiring ≡ hired → HiresAsWanted (want_of command) hired after_hiring
+hires_board command hired after_hiring is same = subst (λ (o : Option Want). HiresAsWanted o hired after_hiring) (sym (hires_none command is)) same
 
 -- the name of a command's board
 pub board_named : (o : Option (List ℕ)) → is_some o ≡ true → (name : List ℕ) × (o ≡ Some name)
@@ -96,9 +118,9 @@ module _ {K : Type 0} (tells : K → Bool) (shown : K → Option (List ℕ)) (co
   obeys_board gives stopped (asked.Trash board id owner) files hired after_hiring entry now status is does same = (does board refl, same)
   obeys_board gives stopped (asked.Owner board id) files hired after_hiring entry now status is does same = (does board refl, same)
   obeys_board gives stopped (asked.List board) files hired after_hiring entry now status is does same = (does board refl, same)
-  obeys_board gives stopped (asked.Try file sets defer wanted) files hired after_hiring entry now status is does same = absurd (cc)
-  obeys_board gives stopped (asked.Run file book sets defer wanted stop) files hired after_hiring entry now status is does same = absurd (cc)
-  obeys_board gives stopped (asked.Resume book wanted stop) files hired after_hiring entry now status is does same = absurd (cc)
+  obeys_board gives stopped (asked.Try file sets defer hands) files hired after_hiring entry now status is does same = absurd (cc)
+  obeys_board gives stopped (asked.Run file book sets defer hands stop) files hired after_hiring entry now status is does same = absurd (cc)
+  obeys_board gives stopped (asked.Resume book hands stop) files hired after_hiring entry now status is does same = absurd (cc)
   obeys_board gives stopped (asked.Show book) files hired after_hiring entry now status is does same = absurd (cc)
   obeys_board gives stopped (asked.Reset book) files hired after_hiring entry now status is does same = absurd (cc)
   obeys_board gives stopped (asked.Check file sets) files hired after_hiring entry now status is does same = absurd (cc)

@@ -16,7 +16,7 @@ use Rattle.tf_ports.specs.declared.outcomes.Outcome.{Outcome}
 use Rattle.tf_states.specs.declared.record.Entry.{Entry}
 use Rattle.tf_book.specs.Book.{BookValue}
 use Rattle.tf_book.specs.Loading.{CanRun}
-use Rattle.taskflow.specs.Books.{HiresOne, IsFile, RefusesOrStops, exhausted, Promised, Unhired, exhausted_hire, unhired, Runs, unopened, forbidden, unhired_run, ran, Resumes, unhired_again, resumed}
+use Rattle.taskflow.specs.Books.{Hires, IsFile, RefusesOrStops, exhausted, Promised, Unhired, exhausted_hire, unhired, Runs, unopened, forbidden, unhired_run, ran, Resumes, unhired_again, resumed}
 use Rattle.taskflow.specs.Durable.{file_of, book_in, HoldsNoFlow, Holds}
 use Rattle.taskflow.specs.Messages.{state_forbids, cannot_hire}
 use Rattle.taskflow.specs.declared.running.Request.{Request}
@@ -101,7 +101,7 @@ module _ {K : Type 0} (tells : K → Bool) (shown : K → Option (List ℕ)) (co
   pub begun_over : (gives : Order → Outcome → Type 0) (request : Request) (asked more : Type 0) (name : List ℕ) (hired after_hiring : Option (List Want)) (entry now : K) (status : ℕ) (plan : PlanValue)
       → IsFile tells shown content left crashes disk_faults name entry HoldsNoFlow
       → Unhired tells shown content left crashes disk_faults name entry now hired after_hiring status
-      ⊎ (HiresOne hired after_hiring × Promised tells shown content left crashes disk_faults gives request asked name plan [] entry now status)
+      ⊎ (Hires request.want hired after_hiring × Promised tells shown content left crashes disk_faults gives request asked name plan [] entry now status)
       → (asked → more)
       → Runs tells shown content left crashes disk_faults gives request more name hired after_hiring entry now (plan_tree plan) status
   begun_over gives request asked more name hired after_hiring entry now status plan is (inl none) widens = unhired_run is none

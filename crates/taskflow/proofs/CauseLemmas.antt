@@ -149,7 +149,7 @@ ran_suspended {gives} {request} plan before entries stop shown now closing statu
 
 -- ---- trials and checks
 
-tries_ended : {gives : Order → Outcome → Type 0} {asked : Type 0} (hired after_hiring : Option (List Want)) (before after : Option (List ℕ)) (tree : PlanTree) (status : ℕ) → Tries gives asked hired after_hiring before after tree status → Ended status
+tries_ended : {gives : Order → Outcome → Type 0} {hands : Want} {asked : Type 0} (hired after_hiring : Option (List Want)) (before after : Option (List ℕ)) (tree : PlanTree) (status : ℕ) → Tries gives hands asked hired after_hiring before after tree status → Ended status
 tries_ended hired after_hiring before after tree status (course.unfinished_hire is same) = out_ends status is
 tries_ended hired after_hiring before after tree status (course.unhired same closes) = ⊎_elim (λ is. is_unhired is) (λ is. is_unsaid is) (closes_status before after _ 8 status closes)
 tries_ended hired after_hiring before after tree status (course.tried hires t) = ran_ended t.plan [] t.entries t.stop before after t.closing status t.ran
@@ -183,8 +183,8 @@ module _ {K : Type 0} (tells : K → Bool) (shown : K → Option (List ℕ)) (co
   runs_ended name hired after_hiring entry now tree status (unhired_run none u) = unhired_ended name entry now hired after_hiring status u
   runs_ended name hired after_hiring entry now tree status (ran plan same none hires p) = promised_ended name plan [] entry now status p
 
-  demonstrates_ended : {gives : Order → Outcome → Type 0} {asked : Type 0} (name : List ℕ) (hired after_hiring : Option (List Want)) (entry now : K) (seed size status : ℕ)
-      → Demonstrates tells shown content left crashes disk_faults gives asked name hired after_hiring entry now seed size status → Ended status
+  demonstrates_ended : {gives : Order → Outcome → Type 0} {hands : Want} {asked : Type 0} (name : List ℕ) (hired after_hiring : Option (List Want)) (entry now : K) (seed size status : ℕ)
+      → Demonstrates tells shown content left crashes disk_faults gives hands asked name hired after_hiring entry now seed size status → Ended status
   demonstrates_ended name hired after_hiring entry now seed size status (ungenerated is same still) = out_ends status is
   demonstrates_ended name hired after_hiring entry now seed size status (demonstrated runs) = runs_ended name hired after_hiring entry now (demo_tree seed size) status runs
 
@@ -419,11 +419,11 @@ unhurt status before after causes none = record {
   hirable = λ is. none.crew (causes.unhired is);
 }
 
-tries_well : {gives : Order → Outcome → Type 0} {asked : Type 0} (hired after_hiring : Option (List Want)) (before after : Option (List ℕ)) (tree : PlanTree) (status : ℕ) → IsUnhurt status → ¬ asked
-    → Tries gives asked hired after_hiring before after tree status → IsRunComplete status
+tries_well : {gives : Order → Outcome → Type 0} {hands : Want} {asked : Type 0} (hired after_hiring : Option (List Want)) (before after : Option (List ℕ)) (tree : PlanTree) (status : ℕ) → IsUnhurt status → ¬ asked
+    → Tries gives hands asked hired after_hiring before after tree status → IsRunComplete status
 tries_well hired after_hiring before after tree status u unasked (course.unfinished_hire is same) = out_well status is
 tries_well hired after_hiring before after tree status u unasked (course.unhired same closes) = absurd (⊎_elim u.hirable u.sayable (closes_status before after _ 8 status closes))
-tries_well {gives} {asked} hired after_hiring before after tree status u unasked (course.tried hires t) =
+tries_well {gives} {hands} {asked} hired after_hiring before after tree status u unasked (course.tried hires t) =
     let apart = ran_apart t.plan [] t.entries t.stop before after t.closing status t.ran in
     ended_well_by None status (length t.entries) asked (ran_ended t.plan [] t.entries t.stop before after t.closing status t.ran) u.sound apart.0 u.sayable u.hirable apart.1 unasked
     (ran_suspended t.plan [] t.entries t.stop before after t.closing status t.ran)
@@ -462,16 +462,16 @@ reset_well plan past entries before after closing status u (stopped text) = inr 
 module _ {K : Type 0} (tells : K → Bool) (shown : K → Option (List ℕ)) (content : K → Content) (left : K → Images) (crashes : K → Crashes) (disk_faults : K → ℕ) where
   asked_status : (gives : Order → Outcome → Type 0) (asked_so : Type 0) (command : Asked) (files : Contents) (hired after_hiring : Option (List Want)) (entry now : K) (status : ℕ)
       → Obeys tells shown content left crashes disk_faults gives asked_so command files hired after_hiring entry now status → AskedStatus command files status
-  asked_status gives asked_so (asked.Try file sets defer wanted) files hired after_hiring entry now status obeys =
+  asked_status gives asked_so (asked.Try file sets defer hands) files hired after_hiring entry now status obeys =
       by_file (source_so file sets defer) refl (file_status files (source_so file sets defer) _ _ (shown entry) (shown now) status
       (λ plan did. tries_ended hired after_hiring (shown entry) (shown now) plan status did) obeys.0)
   asked_status gives asked_so (asked.Check file sets) files hired after_hiring entry now status obeys =
       by_file (source_so file sets false) refl (file_status files (source_so file sets false) _ _ (shown entry) (shown now) status
       (λ plan did. checks_ended (shown entry) (shown now) _ status did) obeys.0)
-  asked_status gives asked_so (asked.Run file book sets defer wanted stop) files hired after_hiring entry now status obeys =
+  asked_status gives asked_so (asked.Run file book sets defer hands stop) files hired after_hiring entry now status obeys =
       by_file (source_so file sets defer) refl (file_status files (source_so file sets defer) _ _ (shown entry) (shown now) status
       (λ plan did. runs_ended tells shown content left crashes disk_faults book hired after_hiring entry now plan status did) obeys)
-  asked_status gives asked_so (asked.Resume book wanted stop) files hired after_hiring entry now status obeys =
+  asked_status gives asked_so (asked.Resume book hands stop) files hired after_hiring entry now status obeys =
       by_book (resumes_ended tells shown content left crashes disk_faults book hired after_hiring entry now status obeys)
   asked_status gives asked_so (asked.Show book) files hired after_hiring entry now status obeys =
       by_book (shows_ended tells shown content left crashes disk_faults book entry now status obeys.0)
@@ -546,9 +546,9 @@ module _ {K : Type 0} (tells : K → Bool) (shown : K → Option (List ℕ)) (co
       board_refuses tells shown content left crashes words (asked.Owner board id) board entry now status asks refl obeys.0 is
   on_board gives asked_so words (asked.List board) files hired after_hiring entry now status asks about obeys is =
       board_refuses tells shown content left crashes words (asked.List board) board entry now status asks refl obeys.0 is
-  on_board gives asked_so words (asked.Try file sets defer wanted) files hired after_hiring entry now status asks about obeys is = absurd (cc)
-  on_board gives asked_so words (asked.Run file book sets defer wanted stop) files hired after_hiring entry now status asks about obeys is = absurd (cc)
-  on_board gives asked_so words (asked.Resume book wanted stop) files hired after_hiring entry now status asks about obeys is = absurd (cc)
+  on_board gives asked_so words (asked.Try file sets defer hands) files hired after_hiring entry now status asks about obeys is = absurd (cc)
+  on_board gives asked_so words (asked.Run file book sets defer hands stop) files hired after_hiring entry now status asks about obeys is = absurd (cc)
+  on_board gives asked_so words (asked.Resume book hands stop) files hired after_hiring entry now status asks about obeys is = absurd (cc)
   on_board gives asked_so words (asked.Show book) files hired after_hiring entry now status asks about obeys is = absurd (cc)
   on_board gives asked_so words (asked.Reset book) files hired after_hiring entry now status asks about obeys is = absurd (cc)
   on_board gives asked_so words (asked.Check file sets) files hired after_hiring entry now status asks about obeys is = absurd (cc)
@@ -592,8 +592,8 @@ module _ {K : Type 0} (tells : K → Bool) (shown : K → Option (List ℕ)) (co
   runs_well {gives} {request} name hired after_hiring entry now tree status u unasked told none (unhired_run so is) = out_well_by request.limit status (unhired_well name entry now hired after_hiring status u is)
   runs_well name hired after_hiring entry now tree status u unasked told none (ran plan same so hires p) = promised_well name plan [] entry now status u unasked p
 
-  demonstrates_well : {gives : Order → Outcome → Type 0} {asked : Type 0} (name : List ℕ) (hired after_hiring : Option (List Want)) (entry now : K) (seed size status : ℕ) → IsUnhurt status → ¬ asked → IsTrue (tells entry)
-      → HoldsNoFlow (book_in (file_of (content entry) name)) → Demonstrates tells shown content left crashes disk_faults gives asked name hired after_hiring entry now seed size status → IsRunComplete status
+  demonstrates_well : {gives : Order → Outcome → Type 0} {hands : Want} {asked : Type 0} (name : List ℕ) (hired after_hiring : Option (List Want)) (entry now : K) (seed size status : ℕ) → IsUnhurt status → ¬ asked → IsTrue (tells entry)
+      → HoldsNoFlow (book_in (file_of (content entry) name)) → Demonstrates tells shown content left crashes disk_faults gives hands asked name hired after_hiring entry now seed size status → IsRunComplete status
   demonstrates_well name hired after_hiring entry now seed size status u unasked told none (ungenerated is same still) = out_well status is
   demonstrates_well name hired after_hiring entry now seed size status u unasked told none (demonstrated runs) =
       runs_well name hired after_hiring entry now (demo_tree seed size) status u unasked told none runs
@@ -623,17 +623,17 @@ module _ {K : Type 0} (tells : K → Bool) (shown : K → Option (List ℕ)) (co
 
   asked_well : (gives : Order → Outcome → Type 0) (asked_so : Type 0) (command : Asked) (files : Contents) (hired after_hiring : Option (List Want)) (entry now : K) (status : ℕ) → IsUnhurt status → ¬ asked_so
       → IsReady tells content command files entry → Obeys tells shown content left crashes disk_faults gives asked_so command files hired after_hiring entry now status → IsComplete command status
-  asked_well gives asked_so (asked.Try file sets defer wanted) files hired after_hiring entry now status u unasked ready obeys =
-      well_or_out None status (Tries gives asked_so hired after_hiring (shown entry) (shown now)) (λ plan did. tries_well hired after_hiring (shown entry) (shown now) plan status u unasked did)
+  asked_well gives asked_so (asked.Try file sets defer hands) files hired after_hiring entry now status u unasked ready obeys =
+      well_or_out None status (Tries gives hands asked_so hired after_hiring (shown entry) (shown now)) (λ plan did. tries_well hired after_hiring (shown entry) (shown now) plan status u unasked did)
       (accepted_done files (source_so file sets defer) _ _ (shown entry) (shown now) status ready u.readable u.sayable obeys.0)
   asked_well gives asked_so (asked.Check file sets) files hired after_hiring entry now status u unasked ready obeys =
       done_or_out status (Checks (shown entry) (shown now)) (λ plan did. checks_well (shown entry) (shown now) _ status u did)
       (accepted_done files (source_so file sets false) _ _ (shown entry) (shown now) status ready u.readable u.sayable obeys.0)
-  asked_well gives asked_so (asked.Run file book sets defer wanted stop) files hired after_hiring entry now status u unasked ready obeys =
-      well_or_out stop status (Runs tells shown content left crashes disk_faults gives (spoken stop) asked_so book hired after_hiring entry now)
+  asked_well gives asked_so (asked.Run file book sets defer hands stop) files hired after_hiring entry now status u unasked ready obeys =
+      well_or_out stop status (Runs tells shown content left crashes disk_faults gives (spoken hands stop) asked_so book hired after_hiring entry now)
       (λ plan did. runs_well book hired after_hiring entry now plan status u unasked ready.1.0 ready.1.1 did)
       (accepted_done files (source_so file sets defer) _ _ (shown entry) (shown now) status ready.0 u.readable u.sayable obeys)
-  asked_well gives asked_so (asked.Resume book wanted stop) files hired after_hiring entry now status u unasked ready obeys =
+  asked_well gives asked_so (asked.Resume book hands stop) files hired after_hiring entry now status u unasked ready obeys =
       resumes_well book hired after_hiring entry now status u unasked ready.0 ready.1 obeys
   asked_well gives asked_so (asked.Show book) files hired after_hiring entry now status u unasked ready obeys = shows_well book entry now status u ready.0 ready.1 obeys.0
   asked_well gives asked_so (asked.Reset book) files hired after_hiring entry now status u unasked ready obeys = resets_well book entry now status u ready.0 ready.1 obeys.0
@@ -657,9 +657,9 @@ module _ {K : Type 0} (tells : K → Bool) (shown : K → Option (List ℕ)) (co
       complete_so tells shown content left crashes disk_faults disk_faults (asked.List board) board entry now status obeys.0 ready.0 ready.1 u.sound u.sayable
 
   out_complete : (command : Asked) (status : ℕ) → status ≡ 9 → IsComplete command status
-  out_complete (asked.Try file sets defer wanted) status is = out_well status is
-  out_complete (asked.Run file book sets defer wanted stop) status is = out_well_by stop status is
-  out_complete (asked.Resume book wanted stop) status is = out_well_by stop status is
+  out_complete (asked.Try file sets defer hands) status is = out_well status is
+  out_complete (asked.Run file book sets defer hands stop) status is = out_well_by stop status is
+  out_complete (asked.Resume book hands stop) status is = out_well_by stop status is
   out_complete (asked.Show book) status is = inr is
   out_complete (asked.Check file sets) status is = inr is
   out_complete (asked.Reset book) status is = inr (inl is)

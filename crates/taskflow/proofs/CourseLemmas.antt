@@ -1,6 +1,6 @@
 -- The way that a command went, put together from its parts.
 use Rattle.std.proofs.Common.{◌≡◌, ℕ, List, Option, Some, None, Bool, true, false, refl, sym, inl, inr, subst}
-use Rattle.std.specs.Prelude.{Result, Ok, Err, IfErr, if◌then◌else◌}
+use Rattle.std.specs.Prelude.{Result, Ok, Err, IfErr, option_and_then, if◌then◌else◌}
 use Rattle.tf_files.specs.Written.{PlanTree, plan_tree}
 use Rattle.tf_ports.specs.Contents.{Contents, GivesBytes}
 use Rattle.tf_desk.specs.Content.{Content}
@@ -12,9 +12,9 @@ use Rattle.tf_machine.specs.Machine.{MachineValue}
 use Rattle.tf_words.specs.Demos.{IsDemo}
 use Rattle.tf_words.specs.declared.asked.Asked.{Asked}
 use Rattle.tf_words.specs.declared.asked.Asked.TheVariants as asked
-use Rattle.taskflow.specs.Asking.{is_done_here, if_done_here, IsWithin}
+use Rattle.taskflow.specs.Asking.{is_done_here, if_done_here, IsWithin, want_of, wanted_by, asked_for}
 use Rattle.taskflow.specs.Accepted.{GivesNone, is_memory, IsReason}
-use Rattle.taskflow.specs.Course.{BytesRead, exhausted, refused, done, FileRead, unfinished, unread, too_long, read, Undone, Obeys}
+use Rattle.taskflow.specs.Course.{BytesRead, exhausted, refused, done, FileRead, unfinished, unread, too_long, read, Undone, Obeys, HiresAsWanted}
 use Rattle.taskflow.specs.Messages.{refusal, refusal_text}
 use Rattle.taskflow.specs.Opened.{Opened}
 use Rattle.taskflow.specs.Saying.{ClosesOrStops}
@@ -22,6 +22,7 @@ use Rattle.taskflow.specs.declared.accepting.Refusal.{Refusal}
 use Rattle.taskflow.specs.declared.accepting.Refusal.TheVariants as reason
 use Rattle.taskflow.specs.declared.reading.Source.{Source}
 use Rattle.taskflow.specs.declared.statuses.TheConstants.{REFUSED, OUT_OF_MEMORY}
+use Rattle.taskflow.proofs.HandLemmas.{HasHands}
 
 -- ---- a file that is refused
 
@@ -92,7 +93,26 @@ module _ {K : Type 0} (tells : K → Bool) (shown : K → Option (List ℕ)) (co
   obeys_so gives stopped command other files hired after_hiring entry now status is obeys =
       subst (λ (asks : Asked). Obeys tells shown content left crashes disk_faults gives stopped asks files hired after_hiring entry now status) (sym is) obeys
 
--- ---- the numbers of a generated flow
+-- nobody was hired
+pub hires_nobody : (hands : Option Want) (hired : Option (List Want)) → HiresAsWanted hands hired hired
+hires_nobody None hired = refl
+hires_nobody (Some hands) hired = inl refl
+
+-- the hands that the words want are those of the command that they are
+pub hires_asked : (words : List (List ℕ)) (command : Asked) (hired after_hiring : Option (List Want)) → asked_for words ≡ Some command → HiresAsWanted (want_of command) hired after_hiring
+    → HiresAsWanted (wanted_by words) hired after_hiring
+hires_asked words command hired after_hiring is hires =
+    subst (λ (o : Option Asked). HiresAsWanted (option_and_then want_of o) hired after_hiring) (sym is) hires
+
+-- the hands that are wanted are those of an equal command
+pub hires_so : (command other : Asked) (hired after_hiring : Option (List Want)) → command ≡ other → HiresAsWanted (want_of other) hired after_hiring → HiresAsWanted (want_of command) hired after_hiring
+hires_so command other hired after_hiring is hires = subst (λ (asks : Asked). HiresAsWanted (want_of asks) hired after_hiring) (sym is) hires
+
+-- a command whose hands are within their bounds
+pub few_so : (command other : Asked) → command ≡ other → IsWithin command → IsWithin other
+few_so command other is within = subst IsWithin is within
+
+-- ---- the hands and the numbers of a command
 
 -- a command that the program does is the one that the words are
 done_some : (found : Option Asked) (command : Asked) → if_done_here found ≡ Some command → found ≡ Some command
@@ -103,21 +123,23 @@ done_some (Some other) command is = by (is_done_here other) is
     by true same = same
     by false same = absurd (cc)
 
--- so its numbers are within their bounds
+-- so its hands and its numbers are within their bounds
 pub within_so : (found : Option Asked) (command : Asked) → ((seed size : ℕ) (book : List ℕ) (hands : ℕ) → found ≡ Some (asked.Demo seed size book hands) → IsDemo seed size)
-    → if_done_here found ≡ Some command → IsWithin command
-within_so found (asked.Demo seed size book hands) bounds is = bounds seed size book hands (done_some found (asked.Demo seed size book hands) is)
-within_so found (asked.Try file sets defer wanted) bounds is = tt
-within_so found (asked.Run file book sets defer wanted stop) bounds is = tt
-within_so found (asked.Resume book wanted stop) bounds is = tt
-within_so found (asked.Show book) bounds is = tt
-within_so found (asked.Reset book) bounds is = tt
-within_so found (asked.Check file sets) bounds is = tt
-within_so found (asked.Worker address sessions) bounds is = tt
-within_so found (asked.Post board name priority details) bounds is = tt
-within_so found (asked.Claim board id owner) bounds is = tt
-within_so found (asked.Abandon board id owner) bounds is = tt
-within_so found (asked.Consume board id owner) bounds is = tt
-within_so found (asked.Trash board id owner) bounds is = tt
-within_so found (asked.Owner board id) bounds is = tt
-within_so found (asked.List board) bounds is = tt
+    → ((c : Asked) → found ≡ Some c → HasHands c) → if_done_here found ≡ Some command → IsWithin command
+within_so found (asked.Demo seed size book hands) bounds few is =
+    let same = done_some found (asked.Demo seed size book hands) is in
+    (bounds seed size book hands same, few (asked.Demo seed size book hands) same)
+within_so found (asked.Try file sets defer hands) bounds few is = few (asked.Try file sets defer hands) (done_some found (asked.Try file sets defer hands) is)
+within_so found (asked.Run file book sets defer hands stop) bounds few is = few (asked.Run file book sets defer hands stop) (done_some found (asked.Run file book sets defer hands stop) is)
+within_so found (asked.Resume book hands stop) bounds few is = few (asked.Resume book hands stop) (done_some found (asked.Resume book hands stop) is)
+within_so found (asked.Show book) bounds few is = tt
+within_so found (asked.Reset book) bounds few is = tt
+within_so found (asked.Check file sets) bounds few is = tt
+within_so found (asked.Worker address sessions) bounds few is = tt
+within_so found (asked.Post board name priority details) bounds few is = tt
+within_so found (asked.Claim board id owner) bounds few is = tt
+within_so found (asked.Abandon board id owner) bounds few is = tt
+within_so found (asked.Consume board id owner) bounds few is = tt
+within_so found (asked.Trash board id owner) bounds few is = tt
+within_so found (asked.Owner board id) bounds few is = tt
+within_so found (asked.List board) bounds few is = tt

@@ -7,6 +7,7 @@ pub mod RunLemmas
 pub mod WayLemmas
 pub mod AskedLemmas
 pub mod HaltLemmas
+pub mod HandLemmas
 pub mod ResetLemmas
 pub mod CourseLemmas
 pub mod CauseLemmas

@@ -12,6 +12,7 @@ use Rattle.tf_flow.specs.Plan.{PlanValue}
 use Rattle.tf_states.specs.declared.record.Entry.{Entry}
 use Rattle.tf_states.specs.declared.state.FlowState.{FlowState}
 use Rattle.tf_states.specs.declared.state.FlowState.TheVariants as flow
+use Rattle.tf_ports.specs.Wanted.{wanted as number_of}
 use Rattle.tf_ports.specs.declared.orders.Order.{Order}
 use Rattle.tf_ports.specs.declared.outcomes.Outcome.{Outcome}
 use Rattle.tf_model.proofs.HistoryLemmas.{session_legal, session_state}
@@ -50,11 +51,11 @@ front_short [] past short = tt
 front_short (e ∷ newer) past short = (short.0, front_short newer past short.1)
 
 -- a session of these entries
-same_session : (gives : Order → Outcome → Type 0) (asked : Type 0) (limit : Option ℕ) (plan : Outline) (before after entries : List Entry) (stop : Option FlowState) → IsSession gives asked limit plan before after stop → after ≡ entries ++ before
-    → HasSteps asked limit plan before entries stop × AreGiven gives plan before entries
-same_session gives asked limit plan before after entries stop s recorded =
+same_session : (gives : Order → Outcome → Type 0) (asked : Type 0) (number : ℕ) (limit : Option ℕ) (plan : Outline) (before after entries : List Entry) (stop : Option FlowState) → IsSession gives asked number limit plan before after stop → after ≡ entries ++ before
+    → HasSteps asked number limit plan before entries stop × AreGiven gives plan before entries
+same_session gives asked number limit plan before after entries stop s recorded =
     let same : s.entries ≡ entries = append_cancel_right s.entries entries before (sym s.recorded ∙ recorded) in
-    subst (λ (l : List Entry). HasSteps asked limit plan before l stop × AreGiven gives plan before l) same
+    subst (λ (l : List Entry). HasSteps asked number limit plan before l stop × AreGiven gives plan before l) same
     (record { session = s.session; hands = s.hands; due = s.due; within = s.within; suspended = s.suspended }, s.given)
 
 -- where a session stopped
@@ -66,10 +67,10 @@ stop_reached plan before entries stop compiles session last is =
 
 -- a run of these entries, by what was shown
 pub ran_so : (gives : Order → Outcome → Type 0) (request : Request) (asked : Type 0) (plan : PlanValue) (before after entries : List Entry) (stop : Option FlowState) (shown now : Option (List ℕ)) (closing : List ℕ) (status : ℕ)
-    → IsSession gives asked request.limit (outline_of plan) before after stop → after ≡ entries ++ before → compile_refusal plan ≡ None → IsWithinLimits (outline_of plan) → AreShort before → AreShort after
+    → IsSession gives asked (number_of request.want) request.limit (outline_of plan) before after stop → after ≡ entries ++ before → compile_refusal plan ≡ None → IsWithinLimits (outline_of plan) → AreShort before → AreShort after
     → RunShows request plan before entries shown now stop closing status → Ran gives request asked plan before entries stop shown now closing status
 ran_so gives request asked plan before after entries stop shown now closing status session recorded compiles limits short_before short text =
-    let parts = same_session gives asked request.limit (outline_of plan) before after entries stop session recorded in
+    let parts = same_session gives asked (number_of request.want) request.limit (outline_of plan) before after entries stop session recorded in
     record {
       steps = parts.0;
       bound = session_at_most plan before entries stop compiles limits short_before (front_short entries before (subst AreShort recorded short)) parts.0.session;

@@ -5,6 +5,7 @@ use Rattle.tf_desk.specs.Crash.{Images, Crashes}
 use Rattle.tf_files.specs.Written.{plan_tree}
 use Rattle.tf_flow.specs.Plan.{PlanValue}
 use Rattle.tf_states.specs.declared.record.Entry.{Entry}
+use Rattle.tf_ports.specs.declared.crews.Want.{Want}
 use Rattle.tf_ports.specs.declared.orders.Order.{Order}
 use Rattle.tf_ports.specs.declared.outcomes.Outcome.{Outcome}
 use Rattle.tf_book.specs.Book.{BookValue}
@@ -22,40 +23,41 @@ use Rattle.taskflow.proofs.AskedLemmas.{ran_more}
 use Rattle.taskflow.proofs.RunLemmas.{unbegun}
 
 -- it couldn't begin
-pub tried_unbegun : (gives : Order → Outcome → Type 0) (asked : Type 0) (plan : PlanValue) (before after : Option (List ℕ)) (status : ℕ) → SaysUnbegun before after status
-    → Tried gives asked (plan_tree plan) before after status
-tried_unbegun gives asked plan before after status (inl closes) = record {
+pub tried_unbegun : (gives : Order → Outcome → Type 0) (hands : Want) (asked : Type 0) (plan : PlanValue) (before after : Option (List ℕ)) (status : ℕ) → SaysUnbegun before after status
+    → Tried gives hands asked (plan_tree plan) before after status
+tried_unbegun gives hands asked plan before after status (inl closes) = record {
   plan = plan;
   same = refl;
   entries = [];
   stop = None;
   closing = disk_fault;
-  ran = unbegun gives (spoken None) asked plan before after disk_fault status
+  ran = unbegun gives (spoken hands None) asked plan before after disk_fault status
       (closed disk_fault DISK_FAILED status (disk_failed None) (subst (λ (o : Option (List ℕ)). Closes o disk_fault DISK_FAILED after status) (sym (shown_none before)) closes));
 }
-tried_unbegun gives asked plan before after status (inr out) = record {
+tried_unbegun gives hands asked plan before after status (inr out) = record {
   plan = plan;
   same = refl;
   entries = [];
   stop = None;
   closing = [];
-  ran = unbegun gives (spoken None) asked plan before after [] status
-      (subst (λ (n : ℕ). RunShows (spoken None) plan [] [] before after None [] n) (sym out.0) (stopped (out.1 ∙ sym (shown_none before))));
+  ran = unbegun gives (spoken hands None) asked plan before after [] status
+      (subst (λ (n : ℕ). RunShows (spoken hands None) plan [] [] before after None [] n) (sym out.0) (stopped (out.1 ∙ sym (shown_none before))));
 }
 
 module _ {K : Type 0} (tells : K → Bool) (shown : K → Option (List ℕ)) (content : K → Content) (left : K → Images) (crashes : K → Crashes) (disk_faults out_faults : K → ℕ) where
   -- it ran
-  pub tried_run : (gives : Order → Outcome → Type 0) (asked more : Type 0) (plan : PlanValue) (entry : K) (book : BookValue K) (now : K) (status : ℕ) → book.plan ≡ plan → book.past ≡ [] → book.journal.desk ≡ entry
-      → RunsOn tells shown content left crashes disk_faults out_faults gives (spoken None) asked book now status → (asked → more) → Tried gives more (plan_tree plan) (shown entry) (shown now) status
-  tried_run gives asked more plan entry book now status plan_is past_is desk_is r widens = record {
+  pub tried_run : (gives : Order → Outcome → Type 0) (request : Request) (asked more : Type 0) (plan : PlanValue) (entry : K) (book : BookValue K) (now : K) (status : ℕ) → request ≡ spoken request.want None → book.plan ≡ plan → book.past ≡ [] → book.journal.desk ≡ entry
+      → RunsOn tells shown content left crashes disk_faults out_faults gives request asked book now status → (asked → more) → Tried gives request.want more (plan_tree plan) (shown entry) (shown now) status
+  tried_run gives request asked more plan entry book now status said plan_is past_is desk_is r widens = record {
     plan = book.plan;
     same = ap plan_tree plan_is;
     entries = r.entries;
     stop = r.stop;
     closing = r.closing;
-    ran = ran_more gives (spoken None) asked more book.plan [] r.entries r.stop (shown entry) (shown now) r.closing status widens
-        (subst (λ (d : K). Ran gives (spoken None) asked book.plan [] r.entries r.stop (shown d) (shown now) r.closing status) desk_is
-        (subst (λ (p : List Entry). Ran gives (spoken None) asked book.plan p r.entries r.stop (shown book.journal.desk) (shown now) r.closing status) past_is r.ran));
+    ran = subst (λ (q : Request). Ran gives q more book.plan [] r.entries r.stop (shown entry) (shown now) r.closing status) said
+        (ran_more gives request asked more book.plan [] r.entries r.stop (shown entry) (shown now) r.closing status widens
+        (subst (λ (d : K). Ran gives request asked book.plan [] r.entries r.stop (shown d) (shown now) r.closing status) desk_is
+        (subst (λ (p : List Entry). Ran gives request asked book.plan p r.entries r.stop (shown book.journal.desk) (shown now) r.closing status) past_is r.ran)));
   }
 
   -- what a status tells of faults
@@ -79,7 +81,7 @@ module _ {K : Type 0} (tells : K → Bool) (shown : K → Option (List ℕ)) (co
       subst (λ (d : K). OthersStay tells content d now) desk_is (λ told other apart. (r.goes told).others other apart)
 
   -- it couldn't begin on a desk that is the one at entry
-  pub tried_unbegun_on : (gives : Order → Outcome → Type 0) (asked : Type 0) (plan : PlanValue) (entry mid now : K) (status : ℕ) → mid ≡ entry → SaysUnbegun (shown mid) (shown now) status
-      → Tried gives asked (plan_tree plan) (shown entry) (shown now) status
-  tried_unbegun_on gives asked plan entry mid now status same says =
-      tried_unbegun gives asked plan (shown entry) (shown now) status (subst (λ (d : K). SaysUnbegun (shown d) (shown now) status) same says)
+  pub tried_unbegun_on : (gives : Order → Outcome → Type 0) (hands : Want) (asked : Type 0) (plan : PlanValue) (entry mid now : K) (status : ℕ) → mid ≡ entry → SaysUnbegun (shown mid) (shown now) status
+      → Tried gives hands asked (plan_tree plan) (shown entry) (shown now) status
+  tried_unbegun_on gives hands asked plan entry mid now status same says =
+      tried_unbegun gives hands asked plan (shown entry) (shown now) status (subst (λ (d : K). SaysUnbegun (shown d) (shown now) status) same says)

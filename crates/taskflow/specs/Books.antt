@@ -7,7 +7,6 @@ use Rattle.tf_states.specs.declared.record.Entry.{Entry}
 use Rattle.tf_states.specs.declared.state.FlowState.{FlowState}
 use Rattle.tf_ports.specs.Told.{told_with}
 use Rattle.tf_ports.specs.declared.crews.Want.{Want}
-use Rattle.tf_ports.specs.declared.crews.Want.TheVariants as want
 use Rattle.tf_ports.specs.declared.orders.Order.{Order}
 use Rattle.tf_ports.specs.declared.outcomes.Outcome.{Outcome}
 use Rattle.tf_files.specs.Written.{PlanTree, plan_tree}
@@ -27,9 +26,9 @@ use Rattle.taskflow.specs.declared.running.Request.{Request}
 use Rattle.taskflow.specs.Saying.{Closes}
 use Rattle.taskflow.specs.declared.statuses.TheConstants.{SUCCEEDED, UNHIRED, OUT_OF_MEMORY, DISK_FAILED, NO_BOOK, FORBIDDEN}
 
--- one hand of this process was hired
-abbrev pub HiresOne : Option (List Want) → Option (List Want) → Type 0
-HiresOne hired after_hiring = after_hiring ≡ told_with hired (want.Local 1)
+-- the hands that were wanted were hired, and nobody else
+abbrev pub Hires : Want → Option (List Want) → Option (List Want) → Type 0
+Hires hands hired after_hiring = after_hiring ≡ told_with hired hands
 
 module _ {K : Type 0} (tells : K → Bool) (shown : K → Option (List ℕ)) (content : K → Content) (left : K → Images) (crashes : K → Crashes) (disk_faults : K → ℕ) where
   -- what the file of that name is, where the desk tells its content
@@ -83,37 +82,37 @@ module _ {K : Type 0} (tells : K → Bool) (shown : K → Option (List ℕ)) (co
         → Lasts name plan false before entries (content entry) (content now) (left entry) (crashes now) (shown entry) closing
         (disk_faults entry) (disk_faults now)
 
-  -- no hand was hired, and nothing was recorded: memory ran out, or none could be hired
+  -- no hands were hired, and nothing was recorded: memory ran out, or they couldn't be hired
   pub data Unhired (name : List ℕ) (entry now : K) (hired after_hiring : Option (List Want)) (status : ℕ) : Type 0 where
     exhausted_hire : after_hiring ≡ hired → Stops name entry now status → Unhired name entry now hired after_hiring status
     unhired : after_hiring ≡ hired → Refuses name entry now cannot_hire UNHIRED status → Unhired name entry now hired after_hiring status
 
-  -- to run a plan over a book: it can't be opened; it holds a flow already, whose state is said; no hand is hired; or one is, and runs
-  -- this plan from the empty history on
+  -- to run a plan over a book: it can't be opened; it holds a flow already, whose state is said; no hands are hired; or those that the
+  -- request wants are, and run this plan from the empty history on
   pub data Runs (gives : Order → Outcome → Type 0) (request : Request) (asked : Type 0) (name : List ℕ) (hired after_hiring : Option (List Want)) (entry now : K) (tree : PlanTree) (status : ℕ) : Type 0 where
     unopened : after_hiring ≡ hired → Unopened name entry now status → Runs gives request asked name hired after_hiring entry now tree status
     forbidden : (plan : PlanValue) (past : List Entry) → after_hiring ≡ hired → IsFile name entry (Holds plan past)
         → Refuses name entry now (state_forbids (outline_of plan) (flow_of past)) FORBIDDEN status → Runs gives request asked name hired after_hiring entry now tree status
     unhired_run : IsFile name entry HoldsNoFlow → Unhired name entry now hired after_hiring status → Runs gives request asked name hired after_hiring entry now tree status
-    ran : (plan : PlanValue) → plan_tree plan ≡ tree → IsFile name entry HoldsNoFlow → HiresOne hired after_hiring
+    ran : (plan : PlanValue) → plan_tree plan ≡ tree → IsFile name entry HoldsNoFlow → Hires request.want hired after_hiring
         → Promised gives request asked name plan [] entry now status → Runs gives request asked name hired after_hiring entry now tree status
 
   -- to demonstrate is to run the generated flow, without a line of an entry; memory may run out before it was generated
-  pub data Demonstrates (gives : Order → Outcome → Type 0) (asked : Type 0) (name : List ℕ) (hired after_hiring : Option (List Want)) (entry now : K)
+  pub data Demonstrates (gives : Order → Outcome → Type 0) (hands : Want) (asked : Type 0) (name : List ℕ) (hired after_hiring : Option (List Want)) (entry now : K)
       (seed size status : ℕ) : Type 0 where
-    ungenerated : status ≡ OUT_OF_MEMORY → after_hiring ≡ hired → now ≡ entry → Demonstrates gives asked name hired after_hiring entry now seed size status
-    demonstrated : Runs gives unspoken asked name hired after_hiring entry now (demo_tree seed size) status
-        → Demonstrates gives asked name hired after_hiring entry now seed size status
+    ungenerated : status ≡ OUT_OF_MEMORY → after_hiring ≡ hired → now ≡ entry → Demonstrates gives hands asked name hired after_hiring entry now seed size status
+    demonstrated : Runs gives (unspoken hands) asked name hired after_hiring entry now (demo_tree seed size) status
+        → Demonstrates gives hands asked name hired after_hiring entry now seed size status
 
-  -- to resume a book: it can't be opened; it holds no flow; no hand is hired; or the plan that it holds runs on from the history that it
-  -- holds, with a hand that was hired, or without one where the flow had ended
+  -- to resume a book: it can't be opened; it holds no flow; no hands are hired; or the plan that it holds runs on from the history that it
+  -- holds, with the hands that the request wants, or without any where the flow had ended
   pub data Resumes (gives : Order → Outcome → Type 0) (request : Request) (asked : Type 0) (name : List ℕ) (hired after_hiring : Option (List Want)) (entry now : K) (status : ℕ) : Type 0 where
     unopened_again : after_hiring ≡ hired → Unopened name entry now status → Resumes gives request asked name hired after_hiring entry now status
     empty : after_hiring ≡ hired → IsFile name entry HoldsNoFlow → Refuses name entry now no_flow FORBIDDEN status → Resumes gives request asked name hired after_hiring entry now status
     unhired_again : (plan : PlanValue) (past : List Entry) → IsFile name entry (Holds plan past) → has_ended (flow_of past) ≡ false
         → Unhired name entry now hired after_hiring status → Resumes gives request asked name hired after_hiring entry now status
     resumed : (plan : PlanValue) (past : List Entry) → CanRun plan → IsFile name entry (Holds plan past)
-        → ((has_ended (flow_of past) ≡ true) × (after_hiring ≡ hired)) ⊎ ((has_ended (flow_of past) ≡ false) × HiresOne hired after_hiring)
+        → ((has_ended (flow_of past) ≡ true) × (after_hiring ≡ hired)) ⊎ ((has_ended (flow_of past) ≡ false) × Hires request.want hired after_hiring)
         → Promised gives request asked name plan past entry now status → Resumes gives request asked name hired after_hiring entry now status
 
   -- to show a book: it can't be opened; it holds no flow; or the lines of its whole history are said, and then the table

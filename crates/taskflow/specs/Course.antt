@@ -5,6 +5,7 @@ use Rattle.tf_desk.specs.Crash.{Images, Crashes}
 use Rattle.tf_flow.specs.declared.atoms.Bind.{Bind}
 use Rattle.tf_ports.specs.Contents.{Contents, GivesBytes, PassesLimit}
 use Rattle.tf_ports.specs.declared.crews.Want.{Want}
+use Rattle.tf_ports.specs.declared.crews.Want.TheVariants as want
 use Rattle.tf_ports.specs.declared.orders.Order.{Order}
 use Rattle.tf_ports.specs.declared.outcomes.Outcome.{Outcome}
 use Rattle.tf_ports.specs.declared.reading.TheConstants.{SOURCE_LIMIT}
@@ -27,8 +28,8 @@ use Rattle.tf_board.specs.declared.commands.Command.{Command}
 use Rattle.tf_board.specs.declared.statuses.TheConstants.{BOARD_REFUSED}
 use Rattle.tf_board.specs.Does.{Does, IsAllowed, IsBoardComplete}
 use Rattle.taskflow.specs.Accepted.{outline_in, GivesPlan, GivesNone}
-use Rattle.taskflow.specs.Asking.{source_of, asked_for}
-use Rattle.taskflow.specs.Books.{HiresOne, Runs, Demonstrates, Resumes, ShowsBook, ResetsBook}
+use Rattle.taskflow.specs.Asking.{source_of, asked_for, wanted_by}
+use Rattle.taskflow.specs.Books.{Hires, Runs, Demonstrates, Resumes, ShowsBook, ResetsBook}
 use Rattle.taskflow.specs.Durable.{file_of, book_in, HoldsNoFlow, Holds}
 use Rattle.taskflow.specs.Messages.{checked, usage, cannot_read, cannot_hire, refusal, refusal_text}
 use Rattle.taskflow.specs.Run.{spoken, Ran}
@@ -70,27 +71,36 @@ Undone plan status = ⊥
 
 -- ---- trials and checks
 
--- a run of a plan of which nothing is kept
-pub record Tried (gives : Order → Outcome → Type 0) (stopped : Type 0) (tree : PlanTree) (shown now : Option (List ℕ)) (status : ℕ) : Type 0 where
+-- a run of a plan with these hands, of which nothing is kept
+pub record Tried (gives : Order → Outcome → Type 0) (hands : Want) (stopped : Type 0) (tree : PlanTree) (shown now : Option (List ℕ)) (status : ℕ) : Type 0 where
   pub plan : PlanValue
   pub same : plan_tree plan ≡ tree
   pub entries : List Entry
   pub stop : Option FlowState
   pub closing : List ℕ
-  pub ran : Ran gives (spoken None) stopped plan [] entries stop shown now closing status
+  pub ran : Ran gives (spoken hands None) stopped plan [] entries stop shown now closing status
 
--- to try a plan is to hire one hand of this process and to run the plan with it
-pub data Tries (gives : Order → Outcome → Type 0) (stopped : Type 0) (hired after_hiring : Option (List Want)) (before after : Option (List ℕ)) (tree : PlanTree) (status : ℕ) : Type 0 where
-  -- memory ran out as the hand was hired, or before the run began, and nothing was said
-  unfinished_hire : status ≡ OUT_OF_MEMORY → after ≡ before → Tries gives stopped hired after_hiring before after tree status
-  -- no hand could be hired, and that is said
-  unhired : after_hiring ≡ hired → Closes before cannot_hire UNHIRED after status → Tries gives stopped hired after_hiring before after tree status
-  -- the hand was hired, and ran the plan
-  tried : HiresOne hired after_hiring → Tried gives stopped tree before after status → Tries gives stopped hired after_hiring before after tree status
+-- to try a plan is to hire the hands that are wanted and to run the plan with them
+pub data Tries (gives : Order → Outcome → Type 0) (hands : Want) (stopped : Type 0) (hired after_hiring : Option (List Want)) (before after : Option (List ℕ)) (tree : PlanTree) (status : ℕ) : Type 0 where
+  -- memory ran out as the hands were hired, or before the run began, and nothing was said
+  unfinished_hire : status ≡ OUT_OF_MEMORY → after ≡ before → Tries gives hands stopped hired after_hiring before after tree status
+  -- they couldn't be hired, and that is said
+  unhired : after_hiring ≡ hired → Closes before cannot_hire UNHIRED after status → Tries gives hands stopped hired after_hiring before after tree status
+  -- they were hired, and ran the plan
+  tried : Hires hands hired after_hiring → Tried gives hands stopped tree before after status → Tries gives hands stopped hired after_hiring before after tree status
 
--- nobody was hired, or one hand of this process
-abbrev pub HiresOneAtMost : Option (List Want) → Option (List Want) → Type 0
-HiresOneAtMost hired after_hiring = (after_hiring ≡ hired) ⊎ HiresOne hired after_hiring
+-- nobody was hired, or the hands that were wanted
+abbrev pub HiresAtMost : Want → Option (List Want) → Option (List Want) → Type 0
+HiresAtMost hands hired after_hiring = (after_hiring ≡ hired) ⊎ Hires hands hired after_hiring
+
+-- nobody was hired, or the hands that were wanted, if any were
+abbrev pub HiresAsWanted : Option Want → Option (List Want) → Option (List Want) → Type 0
+HiresAsWanted None hired after_hiring = after_hiring ≡ hired
+HiresAsWanted (Some hands) hired after_hiring = HiresAtMost hands hired after_hiring
+
+-- nobody was hired, or the hands that the words ask for
+abbrev pub HiresAsAsked : List (List ℕ) → Option (List Want) → Option (List Want) → Type 0
+HiresAsAsked words hired after_hiring = HiresAsWanted (wanted_by words) hired after_hiring
 
 -- to check a plan is to say what it has, unless memory runs out
 abbrev pub Checks : Option (List ℕ) → Option (List ℕ) → PlanTree → ℕ → Type 0
@@ -118,23 +128,23 @@ module _ {K : Type 0} (tells : K → Bool) (content : K → Content) where
 module _ {K : Type 0} (tells : K → Bool) (shown : K → Option (List ℕ)) (content : K → Content) (left : K → Images) (crashes : K → Crashes) (disk_faults : K → ℕ) where
   -- what becomes of what the words ask for, where a run may be suspended for a stop that was asked for; a trial changes no file but one that was picked before, and a check none
   abbrev pub Obeys : (Order → Outcome → Type 0) → Type 0 → Asked → Contents → Option (List Want) → Option (List Want) → K → K → ℕ → Type 0
-  Obeys gives stopped (asked.Try file sets defer wanted) files hired after_hiring entry now status =
+  Obeys gives stopped (asked.Try file sets defer hands) files hired after_hiring entry now status =
       FileRead files (source_so file sets defer) (IsUntouched tells content hired after_hiring entry now)
-      (Tries gives stopped hired after_hiring (shown entry) (shown now)) (shown entry) (shown now) status × OthersStay tells content entry now
+      (Tries gives hands stopped hired after_hiring (shown entry) (shown now)) (shown entry) (shown now) status × OthersStay tells content entry now
   Obeys gives stopped (asked.Check file sets) files hired after_hiring entry now status =
       FileRead files (source_so file sets false) (IsUntouched tells content hired after_hiring entry now)
       (Checks (shown entry) (shown now)) (shown entry) (shown now) status × IsUntouched tells content hired after_hiring entry now
-  Obeys gives stopped (asked.Run file book sets defer wanted stop) files hired after_hiring entry now status =
+  Obeys gives stopped (asked.Run file book sets defer hands stop) files hired after_hiring entry now status =
       FileRead files (source_so file sets defer) (IsUntouched tells content hired after_hiring entry now)
-      (Runs tells shown content left crashes disk_faults gives (spoken stop) stopped book hired after_hiring entry now) (shown entry) (shown now) status
-  Obeys gives stopped (asked.Resume book wanted stop) files hired after_hiring entry now status =
-      Resumes tells shown content left crashes disk_faults gives (spoken stop) stopped book hired after_hiring entry now status
+      (Runs tells shown content left crashes disk_faults gives (spoken hands stop) stopped book hired after_hiring entry now) (shown entry) (shown now) status
+  Obeys gives stopped (asked.Resume book hands stop) files hired after_hiring entry now status =
+      Resumes tells shown content left crashes disk_faults gives (spoken hands stop) stopped book hired after_hiring entry now status
   Obeys gives stopped (asked.Show book) files hired after_hiring entry now status =
       ShowsBook tells shown content left crashes disk_faults book entry now status × (after_hiring ≡ hired)
   Obeys gives stopped (asked.Reset book) files hired after_hiring entry now status =
       ResetsBook tells shown content left crashes disk_faults book entry now status × (after_hiring ≡ hired)
   Obeys gives stopped (asked.Demo seed size book hands) files hired after_hiring entry now status =
-      Demonstrates tells shown content left crashes disk_faults gives stopped book hired after_hiring entry now seed size status
+      Demonstrates tells shown content left crashes disk_faults gives (want.Local hands) stopped book hired after_hiring entry now seed size status
   Obeys gives stopped (asked.Worker address sessions) files hired after_hiring entry now status =
       Works hired after_hiring (shown entry) (shown now) sessions status × FilesStay tells content entry now
   Obeys gives stopped (asked.Post board name priority details) files hired after_hiring entry now status =
@@ -239,9 +249,9 @@ module _ {K : Type 0} (tells : K → Bool) (content : K → Content) where
 
   -- nothing stands against what the words ask for: the flow file gives a plan, and the book or the board is as the command wants it
   abbrev pub IsReady : Asked → Contents → K → Type 0
-  IsReady (asked.Try file sets defer wanted) files entry = IsAccepted (source_so file sets defer) files
-  IsReady (asked.Run file book sets defer wanted stop) files entry = IsAccepted (source_so file sets defer) files × HasFile book entry HoldsNoFlow
-  IsReady (asked.Resume book wanted stop) files entry = HasFile book entry HoldsFlow
+  IsReady (asked.Try file sets defer hands) files entry = IsAccepted (source_so file sets defer) files
+  IsReady (asked.Run file book sets defer hands stop) files entry = IsAccepted (source_so file sets defer) files × HasFile book entry HoldsNoFlow
+  IsReady (asked.Resume book hands stop) files entry = HasFile book entry HoldsFlow
   IsReady (asked.Show book) files entry = HasFile book entry HoldsFlow
   IsReady (asked.Reset book) files entry = HasFile book entry HoldsReverted
   IsReady (asked.Check file sets) files entry = IsAccepted (source_so file sets false) files
@@ -257,9 +267,9 @@ module _ {K : Type 0} (tells : K → Bool) (content : K → Content) where
 
 -- it ends so, where no count of faults rose
 abbrev pub IsComplete : Asked → ℕ → Type 0
-IsComplete (asked.Try file sets defer wanted) status = IsRunComplete status
-IsComplete (asked.Run file book sets defer wanted stop) status = IsRunCompleteBy stop status
-IsComplete (asked.Resume book wanted stop) status = IsRunCompleteBy stop status
+IsComplete (asked.Try file sets defer hands) status = IsRunComplete status
+IsComplete (asked.Run file book sets defer hands stop) status = IsRunCompleteBy stop status
+IsComplete (asked.Resume book hands stop) status = IsRunCompleteBy stop status
 IsComplete (asked.Show book) status = IsDoneComplete status
 IsComplete (asked.Reset book) status = IsResetComplete status
 IsComplete (asked.Check file sets) status = IsDoneComplete status

@@ -7,6 +7,8 @@ use Rattle.tf_states.specs.declared.record.Entry.{Entry}
 use Rattle.tf_states.specs.declared.record.What.TheVariants as what
 use Rattle.tf_states.specs.declared.state.FlowState.{FlowState}
 use Rattle.tf_states.specs.declared.state.FlowState.TheVariants as flow
+use Rattle.tf_ports.specs.Wanted.{wanted as number_of}
+use Rattle.tf_ports.specs.declared.crews.Want.{Want}
 use Rattle.tf_ports.specs.declared.orders.Order.{Order}
 use Rattle.tf_ports.specs.declared.outcomes.Outcome.{Outcome}
 use Rattle.tf_model.specs.Before.{Flow}
@@ -20,28 +22,28 @@ use Rattle.tf_facts.specs.Facts.{CompletedReversion}
 use Rattle.tf_hands.specs.Hands.{is_of_flow}
 use Rattle.tf_report.specs.Report.{report}
 use Rattle.tf_book.specs.Kept.{said, IsCut, IsFull}
-use Rattle.tf_engines.specs.Runs.{AreGiven, AreDue, AreWithin, IsSuspended, is_of_one}
+use Rattle.tf_engines.specs.Runs.{AreGiven, AreDue, AreWithin, IsSuspended, is_of}
 use Rattle.taskflow.specs.Messages.{disk_fault, book_full, summary}
 use Rattle.taskflow.specs.declared.running.Request.{Request}
 use Rattle.taskflow.specs.Saying.{Closes}
 use Rattle.taskflow.specs.declared.statuses.TheConstants.{SUCCEEDED, DISK_FAILED, UNSAID, OUT_OF_MEMORY, REVERTED, FAILED, SUSPENDED, FULL}
 
--- a run that says each line, and is suspended after so many entries, if after so many
-abbrev pub spoken : Option ℕ → Request
-spoken limit = record { quiet = false; limit = limit }
+-- a run with these hands that says each line, and is suspended after so many entries, if after so many
+abbrev pub spoken : Want → Option ℕ → Request
+spoken hands limit = record { want = hands; quiet = false; limit = limit }
 
--- a run that says no line of its entries
-abbrev pub unspoken : Request
-unspoken = record { quiet = true; limit = None }
+-- a run with these hands that says no line of its entries
+abbrev pub unspoken : Want → Request
+unspoken hands = record { want = hands; quiet = true; limit = None }
 
 -- ---- steps
 
--- what is recorded is a session of the plan: each entry is a step that a rule allows after those before it; hand 0, which was hired,
--- records it; it is suspended only where a stop was asked for or after so many entries; and past so many entries only the end of a task,
+-- what is recorded is a session of the plan: each entry is a step that a rule allows after those before it; a hand records it
+-- whose number is below that of the hands that were hired; it is suspended only where a stop was asked for or after so many entries; and past so many entries only the end of a task,
 -- SUSPENDING and a last state of the flow come
-pub record HasSteps (asked : Type 0) (limit : Option ℕ) (plan : Outline) (before entries : List Entry) (stop : Option FlowState) : Type 0 where
+pub record HasSteps (asked : Type 0) (number : ℕ) (limit : Option ℕ) (plan : Outline) (before entries : List Entry) (stop : Option FlowState) : Type 0 where
   pub session : Session plan before entries stop
-  pub hands : list_all is_of_one entries ≡ true
+  pub hands : list_all (is_of number) entries ≡ true
   pub due : AreDue asked limit entries
   pub within : AreWithin plan limit (length (entering (flow_of before))) entries
   pub suspended : stop ≡ Some flow.Suspended → IsSuspended asked limit entries
@@ -112,12 +114,12 @@ RunShows request plan before entries shown now stop =
 
 -- ---- all of it
 
--- a run of the plan by one hand, which keeps a relation of orders and outcomes, as it is requested: from the history before it to its
+-- a run of the plan by the hands that were hired, which keep a relation of orders and outcomes, as it is requested: from the history before it to its
 -- entries and the state in which it stopped, or None where it was halted before that; from the text shown before it to the one after
 -- it, its closing and its status
 pub record Ran (gives : Order → Outcome → Type 0) (request : Request) (asked : Type 0) (plan : PlanValue) (before entries : List Entry)
     (stop : Option FlowState) (shown now : Option (List ℕ)) (closing : List ℕ) (status : ℕ) : Type 0 where
-  pub steps : HasSteps asked request.limit (outline_of plan) before entries stop
+  pub steps : HasSteps asked (number_of request.want) request.limit (outline_of plan) before entries stop
   pub bound : length entries ≤ entry_bound plan
   pub outcomes : AreGiven gives (outline_of plan) before entries
   pub text : RunShows request plan before entries shown now stop closing status

@@ -20,8 +20,9 @@ use Rattle.tf_journal.specs.Format.{title_of}
 use Rattle.tf_journal.specs.Rest.{LeavesBodies, LeavesEither}
 use Rattle.tf_journal.specs.declared.title.Title.TheVariants.{Book as book_title}
 use Rattle.tf_model.specs.Sessions.{has_ended}
+use Rattle.tf_ports.specs.Wanted.{wanted as number_of}
 use Rattle.tf_ports.specs.declared.crews.Want.{Want}
-use Rattle.taskflow.specs.Books.{HiresOne, Unhired, Promised}
+use Rattle.taskflow.specs.Books.{Hires, Unhired, Promised}
 use Rattle.taskflow.specs.Durable.{file_of, book_in, Holds, IsPendingSo, MayLeave}
 use Rattle.taskflow.specs.Messages.{disk_fault, book_full}
 use Rattle.taskflow.specs.Resets.{PutBack}
@@ -69,7 +70,7 @@ module _ {K : Type 0} (tells : K → Bool) (shown : K → Option (List ℕ)) (co
   -- a run went from one book to another that stopped so
   pub record IsRunTo (gives : Order → Outcome → Type 0) (request : Request) (asked : Type 0) (start now : BookValue K) (stop : Option FlowState) : Type 0 where
     pub kept : Kept tells shown content left crashes disk_faults out_faults start now
-    pub session : IsSession gives asked request.limit (outline start) start.past now.past stop
+    pub session : IsSession gives asked (number_of request.want) request.limit (outline start) start.past now.past stop
     pub compiles : compile_refusal start.plan ≡ None
     pub limits : IsWithinLimits (outline start)
     pub short_before : AreShort start.past
@@ -124,11 +125,11 @@ module _ {K : Type 0} (tells : K → Bool) (shown : K → Option (List ℕ)) (co
     pub unsaid : status ≡ UNSAID → Rises (out_faults start.journal.desk) (out_faults now)
     pub failed : status ≡ DISK_FAILED → Rises (disk_faults start.journal.desk) (disk_faults now)
 
-  -- a book that was opened goes on: with a hand, or without one where its flow had ended; or no hand could be hired
+  -- a book that was opened goes on: with hands, or without any where its flow had ended; or they couldn't be hired
   pub data Continues (gives : Order → Outcome → Type 0) (request : Request) (asked : Type 0) (name : List ℕ) (entry : K) (book : BookValue K) (hired after_hiring : Option (List Want)) (now : K)
       (status : ℕ) : Type 0 where
     nobody : has_ended (state book) ≡ false → Unhired tells shown content left crashes disk_faults name entry now hired after_hiring status
         → Continues gives request asked name entry book hired after_hiring now status
-    went_on : ((has_ended (state book) ≡ true) × (after_hiring ≡ hired)) ⊎ ((has_ended (state book) ≡ false) × HiresOne hired after_hiring)
+    went_on : ((has_ended (state book) ≡ true) × (after_hiring ≡ hired)) ⊎ ((has_ended (state book) ≡ false) × Hires request.want hired after_hiring)
         → Promised tells shown content left crashes disk_faults gives request asked name book.plan book.past entry now status
         → Continues gives request asked name entry book hired after_hiring now status

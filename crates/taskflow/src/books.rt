@@ -11,7 +11,7 @@ ghost use Rattle.tf_machine.specs.Machine.{StandsFor};
 ghost use Rattle.tf_book.specs.Loaded.{desk_of, IsLoaded, IsMade};
 ghost use Rattle.tf_book.specs.Loading.{RefusesBook};
 ghost use Rattle.taskflow.specs.Begun.{desk_in, IsBlank, IsFoundBlank, IsExactSoFar, LeavesNoFlow, SaysUnbegun, Begins, Unbegun};
-ghost use Rattle.taskflow.specs.Books.{HiresOne, Promised, Refuses, RefusesOrStops, Unopened};
+ghost use Rattle.taskflow.specs.Books.{Promised, Refuses, RefusesOrStops, Unopened};
 ghost use Rattle.taskflow.specs.Causes.{HasSaid};
 ghost use Rattle.taskflow.specs.Course.{FilesStay};
 ghost use Rattle.taskflow.specs.Durable.{file_of, book_in};
@@ -29,7 +29,7 @@ use tf_book::{Book, BookFault, Loaded};
 use tf_desk::{Desk, DeskFault};
 use tf_journal::{Journal, JournalFault, LoadFault, Title};
 use tf_machine::Machine;
-use tf_ports::{Crew, Performer, PortFault, Want};
+use tf_ports::{Performer, PortFault};
 use tf_values::Text;
 
 /// Picks the file of that name, and reads it as a book.
@@ -114,21 +114,7 @@ pub fn say_empty<K: Desk>(desk: K) -> Over<K>
     say_over(NO_FLOW, FORBIDDEN, desk)
 }
 
-/// One hand of this process.
-pub fn hire_one<W: Crew>(alloc: Global, crew: &mut W) -> Result<W::Hand, PortFault>
-    ensures hired { OnOk result (HiresOne (W.hired crew.old) (W.hired crew.new)) }
-    ensures not_hired { OnErr result (W.hired crew.new ≡ W.hired crew.old) }
-    ensures cause { IsErrOf result PortFault.Failed → Rises (W.faults crew.old) (W.faults crew.new) }
-    ensures no_fall { W.faults crew.old ≤ W.faults crew.new }
-{
-    let mut hands = crew.hire(alloc, &Want::Local(1))?;
-    match hands.pop() {
-        Some(hand) => Ok(hand),
-        None => unreachable!(),
-    }
-}
-
-/// Says that no hand could be hired, unless memory ran out.
+/// Says that no hands could be hired, unless memory ran out.
 pub fn say_unhired<K: Desk>(desk: K, fault: PortFault) -> Over<K>
     ensures refuses { (name : List ℕ) (entry : K)
         → Untouched K.tells K.shown K.content K.left K.crashes K.disk_faults K.out_faults name entry desk

@@ -7,43 +7,51 @@ ghost use Rattle.tf_files.specs.Written.{plan_tree};
 ghost use Rattle.tf_machine.specs.Machine.{StandsFor};
 ghost use Rattle.tf_words.specs.Demos.{IsDemo};
 ghost use Rattle.taskflow.specs.Accepted.{demo_tree};
+ghost use Rattle.tf_ports.specs.declared.crews.Want.TheVariants as want;
+ghost use Rattle.taskflow.specs.Asking.{AreHands};
 ghost use Rattle.taskflow.specs.Books.{Demonstrates};
 ghost use Rattle.taskflow.specs.Causes.{HasCauses, counts};
-ghost use Rattle.taskflow.specs.Course.{HiresOneAtMost};
+ghost use Rattle.taskflow.specs.Course.{HiresAtMost};
 
 use crate::recording::run_plan;
 use crate::running::{Over, Request};
 use crate::statuses::OUT_OF_MEMORY;
 use std::alloc::Global;
+use std::sync::Wait;
+use std::thread::Threads;
 use tf_demo::demo_plan;
 use tf_desk::Desk;
 use tf_machine::{BuildFault, Machine};
-use tf_ports::Crew;
+use tf_ports::{Crew, Want};
 use tf_values::{Memory, Text};
 
-/// Generates a flow, opens the book, hires a hand and runs the flow with it.
-pub fn demo_book<K: Desk, W: Crew>(
+/// Generates a flow, opens the book, hires so many hands of this process and runs the flow with them.
+pub fn demo_book<K: Desk + Send, W: Crew, R: Threads + Wait + Sync>(
+    rt: &R,
     alloc: Global,
     seed: u32,
     size: u16,
     name: &Text,
+    hands: u8,
     desk: K,
     crew: &mut W,
 ) -> Over<K>
     requires numbers { IsDemo seed size }
-    ensures demonstrates { Demonstrates K.tells K.shown K.content K.left K.crashes K.disk_faults W.Hand.gives (Rises (K.asks desk) (K.asks result.desk)) name.now
+    requires few { AreHands (want.Local hands) }
+    ensures demonstrates { Demonstrates K.tells K.shown K.content K.left K.crashes K.disk_faults W.Hand.gives (want.Local hands) (Rises (K.asks desk) (K.asks result.desk)) name.now
         (W.hired crew.old) (W.hired crew.new) desk result.desk seed size result.status }
-    ensures hires { HiresOneAtMost (W.hired crew.old) (W.hired crew.new) }
+    ensures hires { HiresAtMost (want.Local hands) (W.hired crew.old) (W.hired crew.new) }
     ensures asks { K.asks desk ≤ K.asks result.desk }
     ensures causes { HasCauses result.status (counts (K.disk_faults desk) (K.out_faults desk) 0 (W.faults crew.old))
         (counts (K.disk_faults result.desk) (K.out_faults result.desk) 0 (W.faults crew.new)) }
 {
     let request = Request {
+        want: Want::Local(hands),
         quiet: true,
         limit: None,
     };
     match generate(alloc, seed, size) {
-        Ok(machine) => run_plan(alloc, machine, name, request, desk, crew),
+        Ok(machine) => run_plan(rt, alloc, machine, name, &request, desk, crew),
         Err(_) => Over {
             desk,
             status: OUT_OF_MEMORY,

@@ -49,7 +49,7 @@ fn main(rt: HostRuntime) -> ExitCode {
         crew: LocalCrew::make(rt),
         door: SocketDoor::make(rt),
     };
-    let ended = taskflow(alloc, &words, outside);
+    let ended = taskflow(&rt, alloc, &words, outside);
     ExitCode::from(ended.status)
 }
 
@@ -62,6 +62,8 @@ fn read_arguments(rt: &(impl Env + AllocGlobal)) -> io::Result<Vec<Word>> {
     Ok(words)
 }
 
+#[cfg(test)]
+mod hands_tests;
 #[cfg(test)]
 mod tests;
 #[cfg(test)]

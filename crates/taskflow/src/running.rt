@@ -1,11 +1,16 @@
-//! A run of a book with one hand, and what it says last.
+//! A run of a book with its hands, and what it says last.
 
-ghost use Rattle.std.specs.Prelude.{◌≡◌, ◌≢◌, ◌≤◌, ◌++◌, length, true, false, None, Some, Option, IfOk};
+ghost use Rattle.std.specs.Prelude.{◌≡◌, ◌≢◌, ◌≤◌, ◌++◌, ℕ, List, length, vec_len, true, false, None, Some, Option, IfOk};
 ghost use Rattle.tf_desk.specs.Counts.{Rises};
 ghost use Rattle.tf_states.specs.declared.state.FlowState.{FlowState as AFlowState};
 ghost use Rattle.tf_report.specs.Report.{report};
-ghost use Rattle.tf_book.specs.Book.{BookValue, outline, moment};
+ghost use Rattle.tf_states.specs.declared.record.Entry.{Entry as Record};
+ghost use Rattle.tf_ports.specs.Wanted.{wanted as number_of};
+ghost use Rattle.tf_book.specs.Book.{BookValue, outline, moment, state as state_of};
+ghost use Rattle.tf_book.specs.Kept.{Kept};
 ghost use Rattle.tf_book.specs.declared.faults.Halt.{Halt as Cause};
+ghost use Rattle.tf_engines.specs.Runs.{HasRun, StandsAs};
+ghost use Rattle.taskflow.specs.Asking.{AreHands};
 ghost use Rattle.taskflow.specs.Messages.{summary};
 ghost use Rattle.taskflow.specs.Run.{status_of};
 ghost use Rattle.taskflow.specs.Runs.{HasSaidHalt, IsRunTo, RunsOn};
@@ -18,10 +23,12 @@ use crate::statuses::{
     UNSAID,
 };
 use std::alloc::Global;
+use std::sync::Wait;
+use std::thread::Threads;
 use tf_book::{Book, BookFault, Halt};
 use tf_desk::Desk;
-use tf_engines::{How, RunEnd, serial};
-use tf_ports::Performer;
+use tf_engines::{How, RunEnd, parallel, serial};
+use tf_ports::{Performer, Want};
 use tf_states::FlowState;
 use tf_values::Memory;
 
@@ -32,30 +39,34 @@ pub struct Over<K> {
     pub status: u8,
 }
 
-/// How a run is to go: whether it says no lines of its entries, but how many they are before its report; and after how
-/// many entries it is suspended, if after so many.
-#[derive(Clone, Copy, Debug, PartialEq, Eq)]
+/// How a run is to go: with which hands; whether it says no lines of its entries, but how many they are before its
+/// report; and after how many entries it is suspended, if after so many.
+#[derive(Debug, Drop)]
 pub struct Request {
+    pub want: Want,
     pub quiet: bool,
     pub limit: Option<u32>,
 }
 
-/// Runs a book's flow on with a hand, as it is requested, and says how it stopped.
-pub fn run_book<K: Desk, P: Performer>(
+/// Runs a book's flow on with the hands that were hired for it, as it is requested, and says how it stopped.
+pub fn run_book<K: Desk + Send, P: Performer + Send, R: Threads + Wait + Sync>(
+    rt: &R,
     alloc: Global,
     book: Book<K>,
-    hand: &mut P,
-    request: Request,
+    hands: Vec<P>,
+    request: &Request,
 ) -> Over<K>
     requires sound { book.halt ≡ None }
-    requires speaks { book.quiet ≡ request.quiet }
-    ensures runs { RunsOn K.tells K.shown K.content K.left K.crashes K.disk_faults K.out_faults P.gives request
+    requires speaks { book.quiet ≡ request.now.quiet }
+    requires all { vec_len hands ≡ number_of request.now.want }
+    requires few { AreHands request.now.want }
+    ensures runs { RunsOn K.tells K.shown K.content K.left K.crashes K.disk_faults K.out_faults P.gives request.now
         (Rises (K.asks book.journal.desk) (K.asks result.desk)) book result.desk result.status }
     ensures apart { (result.status ≢ UNREAD) × (result.status ≢ UNHIRED) }
     ensures asks { K.asks book.journal.desk ≤ K.asks result.desk }
 {
     let _before = book.state();
-    let RunEnd { book, how } = serial(alloc, book, hand, request.limit);
+    let RunEnd { book, how } = go_through(rt, alloc, book, hands, request.limit);
     let _after = book.state();
     match how {
         How::Ended(last) => end_run::<K, P>(alloc, book, last, request),
@@ -64,18 +75,46 @@ pub fn run_book<K: Desk, P: Performer>(
     }
 }
 
+/// Goes through a session of a book: one hand alone, or several beside each other.
+fn go_through<K: Desk + Send, P: Performer + Send, R: Threads + Wait + Sync>(
+    rt: &R,
+    alloc: Global,
+    book: Book<K>,
+    mut hands: Vec<P>,
+    limit: Option<u32>,
+) -> RunEnd<K>
+    requires some { 1 ≤ vec_len hands }
+    requires few { vec_len hands ≤ 64 }
+    ensures keeps { (start : BookValue K)
+        → Kept K.tells K.shown K.content K.left K.crashes K.disk_faults K.out_faults start book
+        → Kept K.tells K.shown K.content K.left K.crashes K.disk_faults K.out_faults start result.book }
+    ensures stops { StandsAs result.book.halt (state_of result.book) result.how }
+    ensures plan { result.book.plan ≡ book.plan }
+    ensures ran { HasRun P.gives (Rises (K.asks book.journal.desk) (K.asks result.book.journal.desk)) (vec_len hands) limit
+        (outline book) book.past result.book.past result.how }
+    ensures asks { K.asks book.journal.desk ≤ K.asks result.book.journal.desk }
+{
+    if hands.len() > 1 {
+        return parallel(rt, alloc, book, &mut hands, limit);
+    }
+    match hands.pop() {
+        Some(mut hand) => serial(alloc, book, &mut hand, limit),
+        None => unreachable!(),
+    }
+}
+
 /// Says last what was requested of a book whose run stopped in that state.
 fn end_run<K: Desk, P: Performer>(
     alloc: Global,
     book: Book<K>,
     last: FlowState,
-    request: Request,
+    request: &Request,
 ) -> Over<K>
     requires sound { book.halt ≡ None }
     ensures runs { (start : BookValue K)
-        → IsRunTo K.tells K.shown K.content K.left K.crashes K.disk_faults K.out_faults P.gives request
+        → IsRunTo K.tells K.shown K.content K.left K.crashes K.disk_faults K.out_faults P.gives request.now
         (Rises (K.asks start.journal.desk) (K.asks result.desk)) start book (Some last)
-        → RunsOn K.tells K.shown K.content K.left K.crashes K.disk_faults K.out_faults P.gives request
+        → RunsOn K.tells K.shown K.content K.left K.crashes K.disk_faults K.out_faults P.gives request.now
         (Rises (K.asks start.journal.desk) (K.asks result.desk)) start result.desk result.status }
     ensures apart { (result.status ≢ UNREAD) × (result.status ≢ UNHIRED) }
     ensures asks { K.asks book.journal.desk ≤ K.asks result.desk }

@@ -1,6 +1,8 @@
 use crate::top::{Ended, Outside, taskflow};
 use std::alloc::Global;
+use std::sync::Wait;
 use std::test::Fail;
+use std::thread::Threads;
 use tf_desk::MemoryDesk;
 use tf_ports::{
     MemoryCrew, MemoryDoor, MemoryLink, MemorySource, MemorySources, MemorySpawner, Want,
@@ -179,7 +181,8 @@ const RUNS: [Case; 21] = [
 
 /// Runs the words over a desk, over sources and a crew of one hand in memory, of whose calls the stated ones fail: the
 /// desk, and the status.
-fn ran_over(
+fn ran_over<R: Threads + Wait + Sync>(
+    rt: &R,
     alloc: Global,
     desk: MemoryDesk,
     words: &[&str],
@@ -205,13 +208,14 @@ fn ran_over(
         crew: MemoryCrew::make(alloc, hands, Vec::from_slice(alloc, unhired)?),
         door: MemoryDoor::<MemoryLink>::make(Vec::new(alloc), Vec::new(alloc)),
     };
-    let Ended { outside, status } = taskflow(alloc, &made, outside);
+    let Ended { outside, status } = taskflow(rt, alloc, &made, outside);
     let Outside { desk, .. } = outside;
     Ok((desk, status))
 }
 
 /// The same over a fresh desk, of whose calls the stated ones fail: the text shown, and the status.
-fn ran(
+fn ran<R: Threads + Wait + Sync>(
+    rt: &R,
     alloc: Global,
     words: &[&str],
     file: &[u8],
@@ -221,7 +225,7 @@ fn ran(
 ) -> Result<(Vec<u8>, u8), Fail> {
     let failing = Vec::from_slice(alloc, unsaid)?;
     let desk = MemoryDesk::make(alloc, 65_536, 1_000, failing, Vec::new(alloc))?;
-    let (desk, status) = ran_over(alloc, desk, words, file, unread, unhired)?;
+    let (desk, status) = ran_over(rt, alloc, desk, words, file, unread, unhired)?;
     Ok((Vec::from_slice(alloc, desk.shown())?, status))
 }
 
@@ -234,7 +238,7 @@ fn runs_and_reverts(rt: HostRuntime) -> Result<(), Fail> {
     for case in &RUNS {
         let mut words = Vec::from_slice(rt.alloc(), &TRY)?;
         words.extend_from_slice(case.words)?;
-        let (text, status) = ran(rt.alloc(), &words, case.file.as_bytes(), &[], &[], &[])?;
+        let (text, status) = ran(&rt, rt.alloc(), &words, case.file.as_bytes(), &[], &[], &[])?;
         let shows = case.shows;
         assert_eq!(rt; status, case.status, "{shows}");
         assert!(rt; text.as_slice() == case.says.as_bytes(), "{shows}");
@@ -321,22 +325,22 @@ const REFUSALS: [(&str, &str); 23] = [
 fn refuses_with_the_reason(rt: HostRuntime) -> Result<(), Fail> {
     let alloc = rt.alloc();
     for (file, reason) in &REFUSALS {
-        let (text, status) = ran(alloc, &TRY, file.as_bytes(), &[], &[], &[])?;
+        let (text, status) = ran(&rt, alloc, &TRY, file.as_bytes(), &[], &[], &[])?;
         let want = format!(in alloc; "taskflow: flow file: {reason}\n")?;
         assert_eq!(rt; status, 4, "{file}");
         assert!(rt; text.as_slice() == want.as_bytes(), "{file}");
-        let (text, status) = ran(alloc, &CHECK, file.as_bytes(), &[], &[], &[])?;
+        let (text, status) = ran(&rt, alloc, &CHECK, file.as_bytes(), &[], &[], &[])?;
         assert_eq!(rt; status, 4, "{file}");
         assert!(rt; text.as_slice() == want.as_bytes(), "{file}");
     }
-    let (text, status) = ran(alloc, &TRY, b"name = \"\xff\"", &[], &[], &[])?;
+    let (text, status) = ran(&rt, alloc, &TRY, b"name = \"\xff\"", &[], &[], &[])?;
     assert_eq!(rt; status, 4);
     assert!(rt; text.as_slice() == b"taskflow: flow file: not toml\n".as_slice());
     let long = vec![in alloc; b'#'; 262_145]?;
-    let (text, status) = ran(alloc, &TRY, &long, &[], &[], &[])?;
+    let (text, status) = ran(&rt, alloc, &TRY, &long, &[], &[], &[])?;
     assert_eq!(rt; status, 4);
     assert!(rt; text.as_slice() == b"taskflow: flow file: too long\n".as_slice());
-    let (text, _) = ran(alloc, &TRY, &long[1..], &[], &[], &[])?;
+    let (text, _) = ran(&rt, alloc, &TRY, &long[1..], &[], &[], &[])?;
     assert!(rt; text.as_slice() == b"taskflow: flow file: missing key name\n".as_slice());
     Ok(())
 }
@@ -348,7 +352,7 @@ const WORDS: [(&[&str], bool); 13] = [
     (&[], false),
     (&["try"], false),
     (&["run", "flow.toml"], false),
-    (&["try", "flow.toml", "--hands", "2"], false),
+    (&["try", "flow.toml", "--hands", "65"], false),
     (&["try", "flow.toml", "--hands", "1"], true),
     (&["try", "flow.toml", "x"], false),
     (&["try", "--flow"], false),
@@ -361,7 +365,7 @@ const WORDS: [(&[&str], bool); 13] = [
 #[test]
 fn reads_words(rt: HostRuntime) -> Result<(), Fail> {
     for (words, is_command) in &WORDS {
-        let (text, status) = ran(rt.alloc(), words, TWO_ECHOES.as_bytes(), &[], &[], &[])?;
+        let (text, status) = ran(&rt, rt.alloc(), words, TWO_ECHOES.as_bytes(), &[], &[], &[])?;
         assert_eq!(rt; status, if *is_command { 0 } else { 2 }, "{words:?}");
         assert!(rt; *is_command || text.as_slice() == b"taskflow: usage\n".as_slice());
     }
@@ -372,31 +376,31 @@ fn reads_words(rt: HostRuntime) -> Result<(), Fail> {
 fn ends_by_its_faults(rt: HostRuntime) -> Result<(), Fail> {
     let alloc = rt.alloc();
     let file = TWO_ECHOES.as_bytes();
-    let (text, status) = ran(alloc, &TRY, file, &[], &[1], &[])?;
+    let (text, status) = ran(&rt, alloc, &TRY, file, &[], &[1], &[])?;
     assert_eq!(rt; status, 3);
     assert!(rt; text.as_slice() == b"taskflow: cannot read\n".as_slice());
-    let (_, status) = ran(alloc, &["try", "absent"], file, &[], &[], &[])?;
+    let (_, status) = ran(&rt, alloc, &["try", "absent"], file, &[], &[], &[])?;
     assert_eq!(rt; status, 3);
-    let (text, status) = ran(alloc, &TRY, file, &[4], &[], &[])?;
+    let (text, status) = ran(&rt, alloc, &TRY, file, &[4], &[], &[])?;
     assert_eq!(rt; status, 7);
     assert!(rt;
         text.as_slice() == b"1 0 flow main RUNNING\n2 0 task a RUNNING\n3 0 task a".as_slice()
     );
-    let (text, status) = ran(alloc, &TRY, file, &[10], &[], &[])?;
+    let (text, status) = ran(&rt, alloc, &TRY, file, &[10], &[], &[])?;
     assert_eq!(rt; status, 7);
     assert!(rt;
         text.as_slice()
             .ends_with(b"6 0 flow main SUCCESS\nend main".as_slice())
     );
-    let (text, status) = ran(alloc, &TRY, file, &[], &[], &[1])?;
+    let (text, status) = ran(&rt, alloc, &TRY, file, &[], &[], &[1])?;
     assert_eq!(rt; status, 8);
     assert!(rt; text.as_slice() == b"taskflow: cannot hire\n".as_slice());
-    let (_, status) = ran(alloc, &[], file, &[1], &[], &[])?;
+    let (_, status) = ran(&rt, alloc, &[], file, &[1], &[], &[])?;
     assert_eq!(rt; status, 7);
-    let (text, status) = ran(alloc, &CHECK, NESTED.as_bytes(), &[], &[], &[])?;
+    let (text, status) = ran(&rt, alloc, &CHECK, NESTED.as_bytes(), &[], &[], &[])?;
     assert_eq!(rt; status, 0);
     assert!(rt; text.as_slice() == b"ok main: 4 tasks, 0 retries, 2 flows\n".as_slice());
-    let (text, status) = ran(alloc, &CHECK, NESTED.as_bytes(), &[1], &[], &[])?;
+    let (text, status) = ran(&rt, alloc, &CHECK, NESTED.as_bytes(), &[1], &[], &[])?;
     assert_eq!(rt; status, 7);
     assert!(rt; text.as_slice() == b"ok main: 4 tasks, ".as_slice());
     Ok(())
@@ -546,7 +550,7 @@ fn stops_where_it_is_asked(rt: HostRuntime) -> Result<(), Fail> {
         asking.push(*turn)?;
         let desk = MemoryDesk::make(alloc, 65_536, 1_000, Vec::new(alloc), asking)?;
         let words = ["run", "flow.toml", "B"];
-        let (desk, status) = ran_over(alloc, desk, &words, THREE_ECHOES.as_bytes(), &[], &[])?;
+        let (desk, status) = ran_over(&rt, alloc, desk, &words, THREE_ECHOES.as_bytes(), &[], &[])?;
         assert_eq!(rt; status, *wanted, "turn {turn}");
         assert!(rt; desk.shown().ends_with(ends.as_bytes()), "turn {turn}");
     }
@@ -560,7 +564,15 @@ fn keeps_runs_in_a_book(rt: HostRuntime) -> Result<(), Fail> {
         let mut desk = MemoryDesk::make(alloc, 65_536, 1_000, Vec::new(alloc), Vec::new(alloc))?;
         let shows = session.shows;
         for (words, wanted) in session.commands {
-            let (after, status) = ran_over(alloc, desk, words, session.file.as_bytes(), &[], &[])?;
+            let (after, status) = ran_over(
+                &rt,
+                alloc,
+                desk,
+                words,
+                session.file.as_bytes(),
+                &[],
+                &[],
+            )?;
             assert_eq!(rt; status, *wanted, "{shows}: {words:?}");
             desk = after;
         }
@@ -585,12 +597,28 @@ fn goes_on_after_a_fault(rt: HostRuntime) -> Result<(), Fail> {
         let mut failing = Vec::new(alloc);
         failing.push(*call)?;
         let desk = MemoryDesk::make(alloc, 65_536, 1_000, failing, Vec::new(alloc))?;
-        let (desk, status) = ran_over(alloc, desk, &["run", "flow.toml", "B"], file, &[], &[])?;
+        let (desk, status) = ran_over(
+            &rt,
+            alloc,
+            desk,
+            &["run", "flow.toml", "B"],
+            file,
+            &[],
+            &[],
+        )?;
         assert_eq!(rt; status, *wanted, "call {call}");
         assert!(rt; desk.shown().starts_with(says.as_bytes()), "call {call}");
-        let (desk, status) = ran_over(alloc, desk, &["resume", "B"], file, &[], &[])?;
+        let (desk, status) = ran_over(&rt, alloc, desk, &["resume", "B"], file, &[], &[])?;
         if status == 14 {
-            let (desk, status) = ran_over(alloc, desk, &["run", "flow.toml", "B"], file, &[], &[])?;
+            let (desk, status) = ran_over(
+                &rt,
+                alloc,
+                desk,
+                &["run", "flow.toml", "B"],
+                file,
+                &[],
+                &[],
+            )?;
             assert_eq!(rt; status, 0, "call {call}");
             assert!(rt;
                 desk.shown().ends_with(b"end main SUCCESS\n".as_slice()),

@@ -1,9 +1,9 @@
 ghost use Rattle.std.specs.Prelude.{◌≡◌, ◌≤◌, true, false, is_some, None, Some, IfSome};
 ghost use Rattle.tf_board.specs.Answers.{board_of};
 ghost use Rattle.tf_desk.specs.Counts.{Rises};
-ghost use Rattle.taskflow.specs.Asking.{is_one_hand as wants_one, is_done_here as is_done, asked_for, if_done_here, IsWithin, IsWork, AsksForWork};
+ghost use Rattle.taskflow.specs.Asking.{is_local as wants_local, is_done_here as is_done, asked_for, if_done_here, IsWithin, want_of, IsWork, AsksForWork};
 ghost use Rattle.taskflow.specs.Causes.{HasCausesOr, HasNoFault, counts};
-ghost use Rattle.taskflow.specs.Course.{Course, HiresOneAtMost, Obeys, IsRefused, IsBoardRefused, IsReady, IsComplete};
+ghost use Rattle.taskflow.specs.Course.{Course, HiresAsAsked, HiresAsWanted, Obeys, IsRefused, IsBoardRefused, IsReady, IsComplete};
 ghost use Rattle.tf_board.specs.declared.statuses.TheConstants.{BOARD_REFUSED};
 ghost use Rattle.tf_words.specs.declared.asked.Asked.{Asked as AnAsked};
 
@@ -22,6 +22,8 @@ use crate::statuses::{DISK_FAILED, NO_COMMAND, OUT_OF_MEMORY, REFUSED, UNHIRED, 
 use crate::trying::try_file;
 use crate::working::work;
 use std::alloc::Global;
+use std::sync::Wait;
+use std::thread::Threads;
 use tf_desk::Desk;
 use tf_ports::{Crew, Door, Sources, Want};
 use tf_words::{Asked, Word, demo_numbers_are_within, read_words};
@@ -43,14 +45,16 @@ pub struct Ended<K, S, W, L> {
     pub status: u8,
 }
 
-/// Does what the words ask for, and answers the outside and the status.
-pub fn taskflow<K: Desk, S: Sources, W: Crew, L: Door>(
+/// Does what the words ask for, and answers the outside and the status. Where several hands run a flow, they are threads
+/// of the runtime.
+pub fn taskflow<K: Desk + Send, S: Sources, W: Crew, L: Door, R: Threads + Wait + Sync>(
+    rt: &R,
     alloc: Global,
     words: &[Word],
     outside: Outside<K, S, W, L>,
 ) -> Ended<K, S, W, L>
     // The way that the command went: which command the words are, which plan the sources' bytes give or
-    // why they give none, what the book held and holds, which hand was hired, what was recorded, what was
+    // why they give none, what the book held and holds, which hands were hired, what was recorded, what was
     // shown, what a crash may leave, and the status.
     ensures course { Course K.tells K.shown K.content K.left K.crashes K.disk_faults W.Hand.gives (Rises (K.asks outside.desk) (K.asks result.outside.desk))
         words.now (S.contents outside.sources)
@@ -77,10 +81,11 @@ pub fn taskflow<K: Desk, S: Sources, W: Crew, L: Door>(
         (W.faults result.outside.crew))
         → IsComplete command result.status }
 
-    // At most one hand of this process is hired, and one is where something was recorded, as the course says.
-    ensures hires { HiresOneAtMost (W.hired outside.crew) (W.hired result.outside.crew) }
+    // Nobody is hired, or exactly the hands that the words ask for, and these are where something was recorded, as the course
+    // says.
+    ensures hires { HiresAsAsked words.now (W.hired outside.crew) (W.hired result.outside.crew) }
 
-    // A file can't be read, the disk fails, a text can't be said, no hand is hired and a worker's door fails only where
+    // A file can't be read, the disk fails, a text can't be said, no hands are hired and a worker's door fails only where
     // the count of such faults rose; no count falls.
     ensures asks { K.asks outside.desk ≤ K.asks result.outside.desk }
     ensures door { L.faults outside.door ≤ L.faults result.outside.door }
@@ -95,7 +100,7 @@ pub fn taskflow<K: Desk, S: Sources, W: Crew, L: Door>(
         mut crew,
         mut door,
     } = outside;
-    let Over { desk, status } = answer(alloc, words, desk, &mut sources, &mut crew, &mut door);
+    let Over { desk, status } = answer(rt, alloc, words, desk, &mut sources, &mut crew, &mut door);
     Ended {
         outside: Outside {
             desk,
@@ -109,7 +114,8 @@ pub fn taskflow<K: Desk, S: Sources, W: Crew, L: Door>(
 
 /// Does what the words ask for, and answers the desk and the status.
 #[tactic(auto, using(crate::proofs::CauseLemmas::widened))]
-fn answer<K: Desk, S: Sources, W: Crew, L: Door>(
+fn answer<K: Desk + Send, S: Sources, W: Crew, L: Door, R: Threads + Wait + Sync>(
+    rt: &R,
     alloc: Global,
     words: &[Word],
     mut desk: K,
@@ -119,7 +125,7 @@ fn answer<K: Desk, S: Sources, W: Crew, L: Door>(
 ) -> Over<K>
     ensures course { Course K.tells K.shown K.content K.left K.crashes K.disk_faults W.Hand.gives (Rises (K.asks desk) (K.asks result.desk)) words.now (S.contents sources.old)
         (W.hired crew.old) (W.hired crew.new) desk result.desk result.status }
-    ensures hires { HiresOneAtMost (W.hired crew.old) (W.hired crew.new) }
+    ensures hires { HiresAsAsked words.now (W.hired crew.old) (W.hired crew.new) }
     ensures asks { K.asks desk ≤ K.asks result.desk }
     ensures door { L.faults door.old ≤ L.faults door.new }
     ensures causes { HasCausesOr (AsksForWork words.now × Rises (L.faults door.old) (L.faults door.new)) result.status (counts (K.disk_faults desk) (K.out_faults desk) (S.faults sources.old) (W.faults crew.old))
@@ -133,7 +139,7 @@ fn answer<K: Desk, S: Sources, W: Crew, L: Door>(
     };
     demo_numbers_are_within();
     match done_here(found) {
-        Some(asked) => obey(alloc, asked, desk, sources, crew, door),
+        Some(asked) => obey(rt, alloc, asked, desk, sources, crew, door),
         None => {
             let status = close(USAGE, NO_COMMAND, &mut desk);
             Over { desk, status }
@@ -163,12 +169,11 @@ fn is_done_here(asked: &Asked) -> bool
     ensures { result ≡ is_done asked.now }
 {
     match asked {
-        Asked::Try { want, .. } => is_one_hand(want),
-        Asked::Run { want, .. } => is_one_hand(want),
-        Asked::Resume { want, .. } => is_one_hand(want),
+        Asked::Try { want, .. } => is_local(want),
+        Asked::Run { want, .. } => is_local(want),
+        Asked::Resume { want, .. } => is_local(want),
         Asked::Show { .. } | Asked::Reset { .. } | Asked::Check { .. } => true,
-        Asked::Demo { hands, .. } => *hands == 1,
-        Asked::Worker { .. } => true,
+        Asked::Demo { .. } | Asked::Worker { .. } => true,
         Asked::Post { .. }
         | Asked::Claim { .. }
         | Asked::Abandon { .. }
@@ -179,18 +184,19 @@ fn is_done_here(asked: &Asked) -> bool
     }
 }
 
-/// Whether one hand of this process is wanted.
-fn is_one_hand(want: &Want) -> bool
-    ensures { result ≡ wants_one want.now }
+/// Whether hands of this process are wanted.
+fn is_local(want: &Want) -> bool
+    ensures { result ≡ wants_local want.now }
 {
     match want {
-        Want::Local(hands) => *hands == 1,
+        Want::Local(_) => true,
         Want::Remote(_) => false,
     }
 }
 
 /// Does what is asked for, and answers the desk and the status.
-fn obey<K: Desk, S: Sources, W: Crew, L: Door>(
+fn obey<K: Desk + Send, S: Sources, W: Crew, L: Door, R: Threads + Wait + Sync>(
+    rt: &R,
     alloc: Global,
     asked: Asked,
     desk: K,
@@ -202,7 +208,7 @@ fn obey<K: Desk, S: Sources, W: Crew, L: Door>(
     requires within { IsWithin asked }
     ensures obeys { Obeys K.tells K.shown K.content K.left K.crashes K.disk_faults W.Hand.gives (Rises (K.asks desk) (K.asks result.desk)) asked (S.contents sources.old)
         (W.hired crew.old) (W.hired crew.new) desk result.desk result.status }
-    ensures hires { HiresOneAtMost (W.hired crew.old) (W.hired crew.new) }
+    ensures hires { HiresAsWanted (want_of asked) (W.hired crew.old) (W.hired crew.new) }
     ensures asks { K.asks desk ≤ K.asks result.desk }
     ensures door { L.faults door.old ≤ L.faults door.new }
     ensures causes { HasCausesOr (IsWork asked × Rises (L.faults door.old) (L.faults door.new)) result.status (counts (K.disk_faults desk) (K.out_faults desk) (S.faults sources.old) (W.faults crew.old))
@@ -211,13 +217,14 @@ fn obey<K: Desk, S: Sources, W: Crew, L: Door>(
     if is_of_board(&asked) {
         on_board(alloc, asked, desk)
     } else {
-        obey_flow(alloc, asked, desk, sources, crew, door)
+        obey_flow(rt, alloc, asked, desk, sources, crew, door)
     }
 }
 
 /// Does what is asked for of a flow or of a worker, and answers the desk and the status.
 #[tactic(auto, using(crate::proofs::CauseLemmas::widened))]
-fn obey_flow<K: Desk, S: Sources, W: Crew, L: Door>(
+fn obey_flow<K: Desk + Send, S: Sources, W: Crew, L: Door, R: Threads + Wait + Sync>(
+    rt: &R,
     alloc: Global,
     asked: Asked,
     mut desk: K,
@@ -230,7 +237,7 @@ fn obey_flow<K: Desk, S: Sources, W: Crew, L: Door>(
     requires within { IsWithin asked }
     ensures obeys { Obeys K.tells K.shown K.content K.left K.crashes K.disk_faults W.Hand.gives (Rises (K.asks desk) (K.asks result.desk)) asked (S.contents sources.old)
         (W.hired crew.old) (W.hired crew.new) desk result.desk result.status }
-    ensures hires { HiresOneAtMost (W.hired crew.old) (W.hired crew.new) }
+    ensures hires { HiresAsWanted (want_of asked) (W.hired crew.old) (W.hired crew.new) }
     ensures asks { K.asks desk ≤ K.asks result.desk }
     ensures door { L.faults door.old ≤ L.faults door.new }
     ensures causes { HasCausesOr (IsWork asked × Rises (L.faults door.old) (L.faults door.new)) result.status (counts (K.disk_faults desk) (K.out_faults desk) (S.faults sources.old) (W.faults crew.old))
@@ -241,31 +248,44 @@ fn obey_flow<K: Desk, S: Sources, W: Crew, L: Door>(
             file,
             sets,
             defer,
-            ..
+            want,
         } => {
             let source = Source { file, sets, defer };
-            try_file(alloc, source, desk, sources, crew)
+            let request = Request {
+                want,
+                quiet: false,
+                limit: None,
+            };
+            try_file(rt, alloc, source, &request, desk, sources, crew)
         }
         Asked::Run {
             file,
             book,
             sets,
             defer,
+            want,
             stop_after,
-            ..
         } => {
             let source = Source { file, sets, defer };
             let request = Request {
+                want,
                 quiet: false,
                 limit: stop_after,
             };
-            run_file(alloc, source, &book, request, desk, sources, crew)
+            run_file(rt, alloc, source, &book, &request, desk, sources, crew)
         }
         Asked::Resume {
             book,
+            want,
             stop_after,
-            ..
-        } => resume_book(alloc, &book, stop_after, desk, crew),
+        } => {
+            let request = Request {
+                want,
+                quiet: false,
+                limit: stop_after,
+            };
+            resume_book(rt, alloc, &book, &request, desk, crew)
+        }
         Asked::Show { book } => show_book(alloc, &book, desk),
         Asked::Reset { book } => reset_book(alloc, &book, desk),
         Asked::Check { file, sets } => {
@@ -278,8 +298,8 @@ fn obey_flow<K: Desk, S: Sources, W: Crew, L: Door>(
             seed,
             size,
             book,
-            ..
-        } => demo_book(alloc, seed, size, &book, desk, crew),
+            hands,
+        } => demo_book(rt, alloc, seed, size, &book, hands, desk, crew),
         Asked::Worker { address, sessions } => {
             let status = work(alloc, &address, sessions, &mut desk, crew, door);
             Over { desk, status }

@@ -2,7 +2,9 @@ ghost use Rattle.std.specs.Prelude.{◌≡◌, ◌<◌, None, length};
 
 use crate::top::{Ended, Outside, taskflow};
 use std::alloc::Global;
+use std::sync::Wait;
 use std::test::Fail;
+use std::thread::Threads;
 use tf_desk::MemoryDesk;
 use tf_ports::{
     Came, Link, LinkFault, MemoryCrew, MemoryDoor, MemoryLink, MemorySources, MemorySpawner,
@@ -68,7 +70,8 @@ fn make_asking(alloc: Global, bytes: &[u8]) -> Result<Asking, Fail> {
 
 /// Whether a worker says this that serves so many sessions of links which give these bytes, the last first; and
 /// its status. The call of the door of that number fails.
-fn worker(
+fn worker<R: Threads + Wait + Sync>(
+    rt: &R,
     alloc: Global,
     links: &[&[u8]],
     sessions: &str,
@@ -98,27 +101,27 @@ fn worker(
     for word in ["worker", "unix:w", "--sessions", sessions] {
         words.push(Word::make(String::from_str(alloc, word)?))?;
     }
-    let Ended { outside, status } = taskflow(alloc, &words, outside);
+    let Ended { outside, status } = taskflow(rt, alloc, &words, outside);
     Ok((outside.desk.shown() == says, status))
 }
 
 #[test]
 fn a_worker_says_how_its_sessions_ended(rt: HostRuntime) -> Result<(), Fail> {
     let alloc = rt.alloc();
-    let ended = worker(alloc, &[REQUEST], "1", 0, b"session 1 ended\n")?;
+    let ended = worker(&rt, alloc, &[REQUEST], "1", 0, b"session 1 ended\n")?;
     assert_eq!(rt; ended, (true, 0));
     let says = b"session 1 ended\nsession 2 bad 0\nsession 3 lost\n";
     let links = [&REQUEST[..10], b"\x00\x00\x00\x00".as_slice(), REQUEST];
-    assert_eq!(rt; worker(alloc, &links, "3", 0, says)?, (true, 0));
+    assert_eq!(rt; worker(&rt, alloc, &links, "3", 0, says)?, (true, 0));
     Ok(())
 }
 
 #[test]
 fn a_worker_without_a_link_says_so(rt: HostRuntime) -> Result<(), Fail> {
     let alloc = rt.alloc();
-    let unopened = worker(alloc, &[REQUEST], "1", 1, b"taskflow: cannot listen\n")?;
+    let unopened = worker(&rt, alloc, &[REQUEST], "1", 1, b"taskflow: cannot listen\n")?;
     assert_eq!(rt; unopened, (true, 8));
     let says = b"session 1 ended\ntaskflow: cannot listen\n";
-    assert_eq!(rt; worker(alloc, &[REQUEST], "2", 0, says)?, (true, 8));
+    assert_eq!(rt; worker(&rt, alloc, &[REQUEST], "2", 0, says)?, (true, 8));
     Ok(())
 }

@@ -1,4 +1,13 @@
-pub mod RunLemmas
-pub mod TurnLemmas
-pub mod OrderLemmas
 pub mod StopLemmas
+pub mod RunLemmas
+pub mod StandLemmas
+pub mod TurnLemmas
+pub mod EnterLemmas
+pub mod OrderLemmas
+pub mod NextLemmas
+pub mod SeenLemmas
+pub mod OpenLemmas
+pub mod SharedLemmas
+pub mod HandLemmas
+pub mod CloseLemmas
+pub mod SendLemmas

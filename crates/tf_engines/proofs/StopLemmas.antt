@@ -1,6 +1,6 @@
 -- When a session's limit is reached, and what that allows.
-use Rattle.std.proofs.Common.{◌≡◌, ◌≤◌, inl, inr, ◌⊎◌, ⊎_elim, ℕ, ◌+◌, Bool, true, false, ◌&&◌, ◌||◌, List, [], ◌∷◌, ◌++◌, length, Option, Some, None, refl, ap, ◌∙◌, sym, subst, arith}
-use Rattle.std.specs.Prelude.{suc, not, nat_le, reverse, IfSome}
+use Rattle.std.proofs.Common.{◌≡◌, inl, inr, ◌⊎◌, ⊎_elim, ℕ, ◌+◌, Bool, true, false, ◌&&◌, List, [], ◌∷◌, Option, Some, None, refl, sym, subst, arith}
+use Rattle.std.specs.Prelude.{suc, not, nat_le, IfSome}
 use Rattle.std.proofs.lemmas.Bool.Decides.{nat_tests}
 use Rattle.std.specs.List.{list_all}
 use Rattle.tf_desk.specs.Counts.{Rises}
@@ -17,7 +17,7 @@ use Rattle.tf_states.specs.declared.state.FlowState.TheVariants as flow
 use Rattle.tf_book.specs.Stopping.{limit_from, is_reached, is_to_stop, IsAnswered}
 use Rattle.tf_engines.specs.declared.engine.How.{How}
 use Rattle.tf_engines.specs.declared.engine.How.TheVariants as how
-use Rattle.tf_engines.specs.Runs.{suspends, is_unsuspended, winds_up, AreDue, AreWithin, IsSuspended, IsSession, HasRun}
+use Rattle.tf_engines.specs.Runs.{suspends, is_unsuspended, winds_up, AreDue, IsSession, HasRun}
 
 -- ---- numbers
 
@@ -91,13 +91,13 @@ due_none asked limit (e ∷ entries) all = (
 
 -- ---- a stop that was asked for still was later
 
-due_later : (asked later : Type 0) (limit : Option ℕ) (entries : List Entry) → (asked → later) → AreDue asked limit entries → AreDue later limit entries
+pub due_later : (asked later : Type 0) (limit : Option ℕ) (entries : List Entry) → (asked → later) → AreDue asked limit entries → AreDue later limit entries
 due_later asked later limit [] so due = tt
 due_later asked later limit (e ∷ entries) so due = ((λ is. ⊎_elim (λ told. inl (so told)) (λ reached. inr reached) (due.0 is)), due_later asked later limit entries so due.1)
 
-session_later : (gives : Order → Outcome → Type 0) (asked later : Type 0) (limit : Option ℕ) (plan : Outline) (before after : List Entry) (stop : Option FlowState) → (asked → later)
-    → IsSession gives asked limit plan before after stop → IsSession gives later limit plan before after stop
-session_later gives asked later limit plan before after stop so s = record {
+pub session_later : (gives : Order → Outcome → Type 0) (asked later : Type 0) (number : ℕ) (limit : Option ℕ) (plan : Outline) (before after : List Entry) (stop : Option FlowState) → (asked → later)
+    → IsSession gives asked number limit plan before after stop → IsSession gives later number limit plan before after stop
+session_later gives asked later number limit plan before after stop so s = record {
   entries = s.entries;
   recorded = s.recorded;
   session = s.session;
@@ -105,17 +105,17 @@ session_later gives asked later limit plan before after stop so s = record {
   hands = s.hands;
   due = due_later asked later limit s.entries so s.due;
   within = s.within;
-  suspended = λ is. (let w = s.suspended is in record { cause = ⊎_elim (λ told. inl (so told)) (λ reached. inr reached) w.cause; before = w.before; last = w.last });
+  suspended = λ is. (let w = s.suspended is in record { cause = ⊎_elim (λ told. inl (so told)) (λ reached. inr reached) w.cause; hand = w.hand; before = w.before; last = w.last });
 }
 
-pub run_later : (gives : Order → Outcome → Type 0) (asked later : Type 0) (limit : Option ℕ) (plan : Outline) (before after : List Entry) (h : How) → (asked → later)
-    → HasRun gives asked limit plan before after h → HasRun gives later limit plan before after h
-run_later gives asked later limit plan before after (how.Ended state) so ran = session_later gives asked later limit plan before after (Some state) so ran
-run_later gives asked later limit plan before after how.Suspended so ran = session_later gives asked later limit plan before after (Some flow.Suspended) so ran
-run_later gives asked later limit plan before after (how.Halted cause) so ran = (ran.0, session_later gives asked later limit plan before after ran.0 so ran.1)
+pub run_later : (gives : Order → Outcome → Type 0) (asked later : Type 0) (number : ℕ) (limit : Option ℕ) (plan : Outline) (before after : List Entry) (h : How) → (asked → later)
+    → HasRun gives asked number limit plan before after h → HasRun gives later number limit plan before after h
+run_later gives asked later number limit plan before after (how.Ended state) so ran = session_later gives asked later number limit plan before after (Some state) so ran
+run_later gives asked later number limit plan before after how.Suspended so ran = session_later gives asked later number limit plan before after (Some flow.Suspended) so ran
+run_later gives asked later number limit plan before after (how.Halted cause) so ran = (ran.0, session_later gives asked later number limit plan before after ran.0 so ran.1)
 
 -- the same of an answer that may be missing
-pub some_later : (gives : Order → Outcome → Type 0) (asked later : Type 0) (limit : Option ℕ) (plan : Outline) (before after : List Entry) (h : Option How) → (asked → later)
-    → IfSome h (HasRun gives asked limit plan before after) → IfSome h (HasRun gives later limit plan before after)
-some_later gives asked later limit plan before after (Some h) so ran = run_later gives asked later limit plan before after h so ran
-some_later gives asked later limit plan before after None so ran = tt
+pub some_later : (gives : Order → Outcome → Type 0) (asked later : Type 0) (number : ℕ) (limit : Option ℕ) (plan : Outline) (before after : List Entry) (h : Option How) → (asked → later)
+    → IfSome h (HasRun gives asked number limit plan before after) → IfSome h (HasRun gives later number limit plan before after)
+some_later gives asked later number limit plan before after (Some h) so ran = run_later gives asked later number limit plan before after h so ran
+some_later gives asked later number limit plan before after None so ran = tt

@@ -1,7 +1,8 @@
--- What a turn of the one hand records, as part of a session.
-use Rattle.std.proofs.Common.{◌≡◌, ◌≢◌, ◌≤◌, inl, inr, ◌⊎◌, ⊎_elim, ℕ, Bool, true, false, ◌&&◌, ◌||◌, List, [], ◌∷◌, ◌++◌, length, Option, Some, None, refl, ap, ◌∙◌, sym, subst, arith, append_assoc, length-append}
-use Rattle.std.specs.Prelude.{Result, Ok, Err, OnErr, not, nat_eq, reverse}
+-- What a turn of a hand records, as part of a session.
+use Rattle.std.proofs.Common.{◌≡◌, ◌≢◌, inl, inr, ◌⊎◌, ⊎_elim, ℕ, Bool, true, false, List, [], ◌∷◌, ◌++◌, length, Option, Some, refl, ap, ◌∙◌, sym, subst, append_assoc}
+use Rattle.std.specs.Prelude.{not, nat_lt, reverse}
 use Rattle.std.specs.List.{list_all}
+use Rattle.tf_desk.specs.Counts.{Rises}
 use Rattle.tf_ports.specs.declared.orders.Order.{Order}
 use Rattle.tf_ports.specs.declared.outcomes.Outcome.{Outcome}
 use Rattle.tf_states.specs.declared.record.Entry.{Entry}
@@ -11,231 +12,53 @@ use Rattle.tf_states.specs.declared.state.FlowState.{FlowState}
 use Rattle.tf_states.specs.declared.state.FlowState.TheVariants as flow
 use Rattle.tf_machine.specs.Answers.{start_entry}
 use Rattle.tf_machine.specs.declared.candidates.Start.{Start}
-use Rattle.tf_hands.specs.Hands.{by_hand, is_of_flow, HasOrder, IsAlone}
+use Rattle.tf_numbers.proofs.OptionLemmas.{only_if}
+use Rattle.tf_numbers.proofs.TruthLemmas.{clash, not_true, true_both, true_second, and_first}
+use Rattle.tf_hands.specs.Hands.{by_hand, HasOrder, IsAlone}
 use Rattle.tf_hands.proofs.ForcedLemmas.{forced_no_end, forced_within, forced_inner}
 use Rattle.tf_hands.proofs.ChoiceLemmas.{start_no_end, start_within, start_inner, choice_order}
 use Rattle.tf_hands.proofs.FlightLemmas.{still_free}
 use Rattle.tf_hands.proofs.GivenLemmas.{no_end_given}
-use Rattle.tf_hands.proofs.RestLemmas.{alone_still, own_alone, still_alone, entered_still}
-use Rattle.tf_model.proofs.StepLemmas.{end_is}
-use Rattle.tf_model.specs.Candidates.{end_of}
-use Rattle.tf_model.specs.Forced.{forced}
-use Rattle.tf_model.specs.History.{flow_of, snapshot}
-use Rattle.tf_model.specs.Orders.{IsGiven}
-use Rattle.tf_model.specs.Plan.{Outline, outline_of}
-use Rattle.tf_model.specs.Sessions.{Session, already_ended, entered, halted, whole, entering, has_ended, is_inner_entry, is_inner, is_last}
-use Rattle.tf_model.specs.Steps.{LegalPast, is_still, is_free}
-use Rattle.std.proofs.lemmas.List.Folds.{list_all-append}
-use Rattle.std.proofs.lemmas.List.{reverse-append, length-reverse}
-use Rattle.tf_desk.specs.Counts.{Rises}
 use Rattle.tf_hands.proofs.OtherLemmas.{idle_free}
-use Rattle.tf_model.specs.States.{flow_suspends}
-use Rattle.tf_numbers.proofs.TruthLemmas.{clash, not_true, true_both, true_second, and_first, and_second}
-use Rattle.tf_book.specs.Stopping.{limit_from, is_reached, is_to_stop}
-use Rattle.tf_book.specs.Turns.{entering_by, AreForced, IsForcedOn, RanOn, TakesUp, IsStartedSo, IsStarted, IsEndOf, IsSuspensionOf, IsClosedOr, stays, ended, suspended, suspending_after, Rests, nothing_left, at_end, to_suspend, suspending, RestsAs, IsOver, IsHaltedTurn, forcing, starting, resting, IsTurnAsked, IsHaltedTurnAsked, IsEntering}
+use Rattle.tf_hands.proofs.RestLemmas.{alone_still, own_alone, still_alone}
+use Rattle.tf_model.proofs.StepLemmas.{end_is}
+use Rattle.tf_model.specs.Forced.{forced, forced_if_running, is_active, is_unhurt}
+use Rattle.tf_model.specs.History.{flow_of, snapshot}
+use Rattle.tf_model.specs.Plan.{Outline}
+use Rattle.tf_model.specs.Sessions.{whole, entering, has_ended, is_last}
+use Rattle.tf_model.specs.Snapshot.{Snapshot}
+use Rattle.tf_model.specs.States.{flow_runs, flow_suspends}
+use Rattle.tf_model.specs.Steps.{LegalPast, is_still, is_free}
+use Rattle.tf_book.specs.Stopping.{is_reached, is_to_stop}
+use Rattle.tf_book.specs.Turns.{AreForced, IsForcedOn, TakesUp, IsStarted, IsEndOf, IsSuspensionOf, IsClosedOr, stays, ended, suspended, suspending_after, Rests, nothing_left, at_end, to_suspend, suspending, RestsAs, IsOver, IsTurn, IsHaltedTurn, forcing, starting, resting, IsTurnAsked, IsHaltedTurnAsked}
+use Rattle.tf_book.specs.declared.turn.Turn.{Turn}
 use Rattle.tf_book.specs.declared.turn.Turn.TheVariants as turn
-use Rattle.tf_book.proofs.ForceLemmas.{free_forced}
+use Rattle.tf_book.proofs.ForceLemmas.{flow_stays, forced_stays, free_forced}
 use Rattle.tf_book.specs.declared.faults.Halt.{Halt}
 use Rattle.tf_engines.specs.declared.engine.How.{How}
-use Rattle.tf_engines.specs.declared.engine.How.TheVariants as how
-use Rattle.tf_engines.specs.Runs.{AreGiven, is_of_one, suspends, is_unsuspended, AreDue, AreWithin, IsSuspended, IsSession, HasRun, HaltsAs, GoesOn, IsGoing}
+use Rattle.tf_engines.specs.Runs.{is_of, suspends, IsSession, HasRun, HaltsAs, GoesOn, Winds, Stands, going_on, winding, stopped}
 use Rattle.tf_engines.proofs.StopLemmas.{reached_more, unreached, stopped_by, answered_asked, due_none}
-use Rattle.tf_engines.proofs.RunLemmas.{none_last, counted, goes_more, goes_session, halts_so}
+use Rattle.tf_engines.proofs.RunLemmas.{counted, goes_more, halts_so}
+use Rattle.tf_engines.proofs.StandLemmas.{stands_goes, stands_winds, stands_stopped, stands_session, running_winds}
 
--- ---- forced entries
+-- ---- the flow in a turn
 
-entry_of : (hand : ℕ) (e : Entry) → e.hand ≡ hand → by_hand hand e.what ≡ e
-entry_of hand e is = ap (λ (h : ℕ). by_hand h e.what) (sym is)
+runs_so : (f : FlowState) → flow_runs f ≡ true → f ≡ flow.Running
+runs_so flow.Running is = refl
+runs_so f is = absurd (cc)
 
-goes_forced : (gives : Order → Outcome → Type 0) (limit : Option ℕ) (plan : Outline) (before past entries : List Entry) (stop : Bool) (kept : Option ℕ) → AreForced plan 0 stop kept entries past
-    → GoesOn gives limit plan before past kept → GoesOn gives limit plan before (entries ++ past) kept
-goes_forced gives limit plan before past [] stop kept are on = on
-goes_forced gives limit plan before past (e ∷ entries) stop kept are on =
-    subst (λ (x : Entry). GoesOn gives limit plan before (x ∷ (entries ++ past)) kept) (entry_of 0 e are.0)
-    (goes_more gives limit plan before (entries ++ past) kept e.what (forced_within plan (snapshot plan (entries ++ past)) e.what are.1) (forced_inner plan (snapshot plan (entries ++ past)) e.what are.1)
-    (no_end_given gives plan (entries ++ past) e.what (forced_no_end plan (snapshot plan (entries ++ past)) e.what are.1))
-    (λ reached. absurd (unreached stop kept (length (entries ++ past)) are.2 reached))
-    (goes_forced gives limit plan before past entries stop kept are.3 on))
+-- an entry is forced in RUNNING alone
+forced_runs : (plan : Outline) (past : List Entry) (w : What) → forced plan (snapshot plan past) ≡ Some w → flow_of past ≡ flow.Running
+unfolding forced is_active snapshot
+forced_runs plan past w is =
+    let s : Snapshot = snapshot plan past in
+    runs_so (flow_of past) (and_first (flow_runs s.flow) (is_unhurt plan s) (only_if (is_active plan s) (forced_if_running plan s) w is).0)
 
-pub goes_on_forced : (gives : Order → Outcome → Type 0) (limit : Option ℕ) (plan : Outline) (before past after : List Entry) (stop : Bool) (kept : Option ℕ) → IsForcedOn plan 0 stop kept past after
-    → GoesOn gives limit plan before past kept → GoesOn gives limit plan before after kept
-goes_on_forced gives limit plan before past after stop kept is on = subst (λ (l : List Entry). GoesOn gives limit plan before l kept) (sym is.is) (goes_forced gives limit plan before past is.entries stop kept is.are on)
-
-alone_forced : (plan : Outline) (past entries : List Entry) (stop : Bool) (kept : Option ℕ) → AreForced plan 0 stop kept entries past → IsAlone plan past 0 → IsAlone plan (entries ++ past) 0
-alone_forced plan past [] stop kept are alone = alone
-alone_forced plan past (e ∷ entries) stop kept are alone = own_alone plan (entries ++ past) e 0 are.0 (alone_forced plan past entries stop kept are.3 alone)
-
-alone_on : (plan : Outline) (past between : List Entry) (stop : Bool) (kept : Option ℕ) → IsForcedOn plan 0 stop kept past between → IsAlone plan past 0 → IsAlone plan between 0
-alone_on plan past between stop kept is alone = subst (λ (l : List Entry). IsAlone plan l 0) (sym is.is) (alone_forced plan past is.entries stop kept is.are alone)
-
--- ---- a start
-
-goes_up : (gives : Order → Outcome → Type 0) (limit : Option ℕ) (plan : Outline) (before past after : List Entry) (stop : Bool) (kept : Option ℕ) (start : Start) (order : Order)
-    → is_to_stop stop kept (length past) ≡ false → TakesUp plan 0 past after start order → GoesOn gives limit plan before past kept → GoesOn gives limit plan before after kept
-goes_up gives limit plan before past after stop kept start order going takes on =
-    subst (λ (l : List Entry). GoesOn gives limit plan before l kept) (sym takes.is)
-    (goes_more gives limit plan before past kept (start_entry start) (start_within start) (start_inner start) (no_end_given gives plan past (start_entry start) (start_no_end plan start))
-    (λ reached. absurd (unreached stop kept (length past) going reached)) on)
-
-pub goes_started : (gives : Order → Outcome → Type 0) (limit : Option ℕ) (plan : Outline) (before past after : List Entry) (stop : Bool) (kept : Option ℕ) (order : Order) → IsStarted plan 0 stop kept past after order
-    → GoesOn gives limit plan before past kept → GoesOn gives limit plan before after kept
-goes_started gives limit plan before past after stop kept order is on =
-    goes_up gives limit plan before is.between after stop kept is.start order is.ran.unstopped is.takes (goes_on_forced gives limit plan before past is.between stop kept is.ran.on on)
-
-pub has_started : (plan : Outline) (past after : List Entry) (stop : Bool) (kept : Option ℕ) (order : Order) → IsStarted plan 0 stop kept past after order → HasOrder plan after 0 order
-has_started plan past after stop kept order is =
-    subst (λ (l : List Entry). HasOrder plan l 0 order) (sym is.takes.is) (choice_order plan is.between 0 is.start order is.takes.chosen is.takes.action is.takes.asked)
-
-pub alone_started : (plan : Outline) (past after : List Entry) (stop : Bool) (kept : Option ℕ) (order : Order) → is_still plan (snapshot plan past) ≡ true → IsStarted plan 0 stop kept past after order
-    → IsAlone plan after 0
-alone_started plan past after stop kept order still is =
-    subst (λ (l : List Entry). IsAlone plan l 0) (sym is.takes.is)
-    (own_alone plan is.between (by_hand 0 (start_entry is.start)) 0 refl (alone_on plan past is.between stop kept is.ran.on (still_alone plan past 0 still)))
-
-pub runs_started : (plan : Outline) (past after : List Entry) (stop : Bool) (kept : Option ℕ) (order : Order) → IsStarted plan 0 stop kept past after order → flow_of after ≡ flow.Running
-runs_started plan past after stop kept order is = ap flow_of is.takes.is ∙ start_flow is.start ∙ is.ran.running
-  where
-    start_flow : (start : Start) → flow_of (by_hand 0 (start_entry start) ∷ is.between) ≡ flow_of is.between
-    start_flow start = stays_so (start_entry start) (start_within start)
-      where
-        stays_so : (w : What) → is_of_flow w ≡ false → flow_of (by_hand 0 w ∷ is.between) ≡ flow_of is.between
-        stays_so (what.Flow state) within = absurd (cc)
-        stays_so (what.Atom a state held) within = refl
-        stays_so (what.Resolve named resolved) within = refl
-        stays_so (what.Restart again) within = refl
-
--- ---- the one hand never waits
-
-still_forced : (plan : Outline) (past between : List Entry) (stop : Bool) (kept : Option ℕ) → is_still plan (snapshot plan past) ≡ true → LegalPast plan between → IsForcedOn plan 0 stop kept past between
-    → IsAlone plan between 0 × (is_free plan (snapshot plan between) 0 ≡ true)
-still_forced plan past between stop kept still legal on =
-    (alone_on plan past between stop kept on (still_alone plan past 0 still), free_forced plan 0 0 stop kept past between legal on (still_free plan (snapshot plan past) 0 still))
-
-pub never_waits : (plan : Outline) (past after : List Entry) (stop : Bool) (kept : Option ℕ) → is_still plan (snapshot plan past) ≡ true → flow_of past ≡ flow.Running → LegalPast plan after
-    → RestsAs plan 0 stop kept past after turn.Idle → ⊥
-never_waits plan past after stop kept still running legal is = by is.rests
-  where
-    legal_between : LegalPast plan is.between
-    legal_between = subst (LegalPast plan) is.rested.1 legal
-
-    at_once : IsForcedOn plan 0 stop kept past is.between → ⊥
-    at_once on =
-        let here = still_forced plan past is.between stop kept still legal_between on in
-        clash (is_still plan (snapshot plan is.between)) (alone_still plan is.between 0 here.0 here.1) is.rested.0
-
-    by : Rests plan 0 stop kept past is.between → ⊥
-    by (nothing_left nothing) = at_once nothing.ran.on
-    by (at_end ran ends) = at_once ran.on
-    by (to_suspend s) =
-        let turned : Entry = by_hand 0 (what.Flow flow.Suspending) in
-        let legal : LegalPast plan (turned ∷ s.before) = subst (LegalPast plan) s.is legal_between in
-        let here = still_forced plan past s.before stop kept still legal.1 s.ran.on in
-        clash (is_still plan (snapshot plan (turned ∷ s.before)))
-        (alone_still plan (turned ∷ s.before) 0 (own_alone plan s.before turned 0 refl here.0) (idle_free plan s.before turned 0 refl here.1))
-        (subst (λ (l : List Entry). is_still plan (snapshot plan l) ≡ false) s.is is.rested.0)
-    by (suspending winds same) = let no : flow.Running ≡ flow.Suspending = sym running ∙ winds in absurd (cc)
-
--- ---- the end
-
-ended_last : (state : FlowState) → has_ended state ≡ true → (is_last state ≡ true) × (not (suspends (what.Flow state)) ≡ true) × (state ≢ flow.Suspended)
+pub ended_last : (state : FlowState) → has_ended state ≡ true → (is_last state ≡ true) × (not (suspends (what.Flow state)) ≡ true) × (state ≢ flow.Suspended)
 ended_last flow.Success is = (refl, refl, λ same. cc)
 ended_last flow.Failure is = (refl, refl, λ same. cc)
 ended_last flow.Reverted is = (refl, refl, λ same. cc)
 ended_last state is = absurd (cc)
-
--- all that a session recorded before its last entry, in which it may have begun to be suspended
-record Winds (gives : Order → Outcome → Type 0) (asked : Type 0) (limit : Option ℕ) (plan : Outline) (before between : List Entry) : Type 0 where
-  inner : List Entry
-  recorded : between ≡ inner ++ (reverse (entering (flow_of before)) ++ before)
-  inside : list_all is_inner_entry inner ≡ true
-  begun : has_ended (flow_of before) ≡ false
-  given : AreGiven gives plan before (inner ++ reverse (entering (flow_of before)))
-  hands : list_all is_of_one (inner ++ reverse (entering (flow_of before))) ≡ true
-  due : AreDue asked limit (inner ++ reverse (entering (flow_of before)))
-  within : AreWithin plan limit (length (entering (flow_of before))) (inner ++ reverse (entering (flow_of before)))
-  cause : flow_of between ≡ flow.Suspending → asked ⊎ (is_reached limit (length (inner ++ reverse (entering (flow_of before)))) ≡ true)
-
-running_apart : (past : List Entry) (P : Type 0) → flow_of past ≡ flow.Running → flow_of past ≡ flow.Suspending → P
-running_apart past P running winds = let no : flow.Running ≡ flow.Suspending = sym running ∙ winds in absurd (cc)
-
--- in RUNNING it didn't
-running_winds : (gives : Order → Outcome → Type 0) (asked : Type 0) (limit : Option ℕ) (plan : Outline) (before between : List Entry) (kept : Option ℕ) → flow_of between ≡ flow.Running
-    → GoesOn gives limit plan before between kept → Winds gives asked limit plan before between
-running_winds gives asked limit plan before between kept running on = record {
-  inner = on.inner;
-  recorded = on.recorded;
-  inside = on.inside;
-  begun = on.begun;
-  given = on.given;
-  hands = on.hands;
-  due = due_none asked limit (on.inner ++ reverse (entering (flow_of before))) on.unsuspended;
-  within = on.within;
-  cause = λ winds. running_apart between (asked ⊎ (is_reached limit (length (on.inner ++ reverse (entering (flow_of before)))) ≡ true)) running winds;
-}
-
--- after SUSPENDING it did
-suspending_winds : (gives : Order → Outcome → Type 0) (asked : Type 0) (limit : Option ℕ) (plan : Outline) (before past : List Entry) (stop : Bool) (kept : Option ℕ) → (stop ≡ true → asked)
-    → is_to_stop stop kept (length past) ≡ true → GoesOn gives limit plan before past kept → Winds gives asked limit plan before (suspending_after 0 past)
-suspending_winds gives asked limit plan before past stop kept was stops on =
-    let first : List Entry = reverse (entering (flow_of before)) in
-    let tail : List Entry = on.inner ++ first in
-    let why : asked ⊎ (is_reached limit (length tail) ≡ true) = stopped_by stop asked limit kept (length before) (length tail) (length past) was on.limited (counted before past on.inner first on.recorded) stops in
-    record {
-      inner = by_hand 0 (what.Flow flow.Suspending) ∷ on.inner;
-      recorded = ap (λ (l : List Entry). by_hand 0 (what.Flow flow.Suspending) ∷ l) on.recorded;
-      inside = on.inside;
-      begun = on.begun;
-      given = (tt, on.given);
-      hands = on.hands;
-      due = ((λ is. why), due_none asked limit tail on.unsuspended);
-      within = ((λ entered reached. refl), on.within);
-      cause = λ winds. ⊎_elim (λ told. inl told) (λ reached. inr (reached_more limit (length tail) reached)) why;
-    }
-
--- a session that stops with this last entry
-closes : (gives : Order → Outcome → Type 0) (asked : Type 0) (limit : Option ℕ) (plan : Outline) (before between after : List Entry) (state : FlowState) → is_last state ≡ true → not (suspends (what.Flow state)) ≡ true
-    → (state ≡ flow.Suspended → flow_of between ≡ flow.Suspending) → LegalPast plan after → after ≡ by_hand 0 (what.Flow state) ∷ between → Winds gives asked limit plan before between
-    → IsSession gives asked limit plan before after (Some state)
-closes gives asked limit plan before between after state last goes from legal is w =
-    let tail : List Entry = w.inner ++ reverse (entering (flow_of before)) in
-    let same : after ≡ by_hand 0 (what.Flow state) ∷ (w.inner ++ (reverse (entering (flow_of before)) ++ before)) = is ∙ ap (λ (l : List Entry). by_hand 0 (what.Flow state) ∷ l) w.recorded in
-    record {
-      entries = by_hand 0 (what.Flow state) ∷ tail;
-      recorded = same ∙ ap (λ (l : List Entry). by_hand 0 (what.Flow state) ∷ l) (sym (append_assoc w.inner (reverse (entering (flow_of before))) before));
-      session = whole 0 state w.inner last w.inside w.begun (subst (LegalPast plan) same legal);
-      given = (tt, w.given);
-      hands = w.hands;
-      due = ((λ is_so. absurd (clash (suspends (what.Flow state)) is_so (not_true (suspends (what.Flow state)) goes))), w.due);
-      within = ((λ entered reached. true_second (flow_suspends state) (is_last state) last), w.within);
-      suspended = λ stops.
-          (let here : state ≡ flow.Suspended = cc in
-          record {
-            cause = ⊎_elim (λ told. inl told) (λ reached. inr (reached_more limit (length tail) reached)) (w.cause (from here));
-            before = tail;
-            last = ap (λ (f : FlowState). by_hand 0 (what.Flow f) ∷ tail) here;
-          });
-    }
-
-ended_session : (gives : Order → Outcome → Type 0) (asked : Type 0) (limit : Option ℕ) (plan : Outline) (before between after : List Entry) (state : FlowState) → LegalPast plan after → IsEndOf plan 0 between after state
-    → Winds gives asked limit plan before between → IsSession gives asked limit plan before after (Some state)
-ended_session gives asked limit plan before between after state legal is w =
-    let last = ended_last state (end_is plan (snapshot plan between) state is.ends).1 in
-    closes gives asked limit plan before between after state last.0 last.1 (λ here. absurd (last.2 here)) legal is.is w
-
-suspended_session : (gives : Order → Outcome → Type 0) (asked : Type 0) (limit : Option ℕ) (plan : Outline) (before between after : List Entry) → LegalPast plan after → IsSuspensionOf plan 0 between after
-    → Winds gives asked limit plan before between → IsSession gives asked limit plan before after (Some flow.Suspended)
-suspended_session gives asked limit plan before between after legal is w = closes gives asked limit plan before between after flow.Suspended refl refl (λ here. is.suspending) legal is.is w
-
-rested_winds : (gives : Order → Outcome → Type 0) (asked : Type 0) (limit : Option ℕ) (plan : Outline) (before past between : List Entry) (stop : Bool) (kept : Option ℕ) → flow_of past ≡ flow.Running
-    → (stop ≡ true → asked) → Rests plan 0 stop kept past between → GoesOn gives limit plan before past kept → Winds gives asked limit plan before between
-rested_winds gives asked limit plan before past between stop kept running was (nothing_left nothing) on =
-    running_winds gives asked limit plan before between kept nothing.ran.running (goes_on_forced gives limit plan before past between stop kept nothing.ran.on on)
-rested_winds gives asked limit plan before past between stop kept running was (at_end ran ends) on =
-    running_winds gives asked limit plan before between kept ran.running (goes_on_forced gives limit plan before past between stop kept ran.on on)
-rested_winds gives asked limit plan before past between stop kept running was (to_suspend s) on =
-    subst (λ (l : List Entry). Winds gives asked limit plan before l) (sym s.is)
-    (suspending_winds gives asked limit plan before s.before stop kept was s.ran.stops (goes_on_forced gives limit plan before past s.before stop kept s.ran.on on))
-rested_winds gives asked limit plan before past between stop kept running was (suspending winds same) on = running_apart past (Winds gives asked limit plan before between) running winds
 
 not_over : (past after : List Entry) (state : FlowState) → flow_of past ≡ flow.Running → IsOver past after state → ⊥
 not_over past after state running over =
@@ -243,212 +66,272 @@ not_over past after state running over =
     let last : is_last flow.Running ≡ true = ap is_last same ∙ over.1 in
     absurd (cc)
 
-pub turn_ended : (gives : Order → Outcome → Type 0) (limit : Option ℕ) (plan : Outline) (before past after : List Entry) (kept : Option ℕ) (asks_then asks_now : ℕ) (state : FlowState) → flow_of past ≡ flow.Running
-    → LegalPast plan after → IsTurnAsked plan 0 kept asks_then asks_now past after (turn.Ended state) → GoesOn gives limit plan before past kept
-    → IsSession gives (Rises asks_then asks_now) limit plan before after (Some state)
-turn_ended gives limit plan before past after kept asks_then asks_now state running legal t on =
-    ⊎_elim
-    (λ is. ended_session gives (Rises asks_then asks_now) limit plan before is.between after state legal is.rested
-    (rested_winds gives (Rises asks_then asks_now) limit plan before past is.between t.stop kept running (answered_asked t.stop asks_then asks_now t.answered) is.rests on))
-    (λ over. absurd (not_over past after state running over)) t.is
+-- ---- turns of one hand
 
-pub turn_stops : (plan : Outline) (past after : List Entry) (kept : Option ℕ) (asks_then asks_now : ℕ) (state : FlowState) → flow_of past ≡ flow.Running
-    → IsTurnAsked plan 0 kept asks_then asks_now past after (turn.Ended state) → (flow_of after ≡ state) × (has_ended state ≡ true)
-turn_stops plan past after kept asks_then asks_now state running t =
-    ⊎_elim (λ is. (ap flow_of is.rested.is, (end_is plan (snapshot plan is.between) state is.rested.ends).1)) (λ over. absurd (not_over past after state running over)) t.is
+module _ (hand : ℕ) where
+  entry_of : (e : Entry) → e.hand ≡ hand → by_hand hand e.what ≡ e
+  entry_of e is = ap (λ (h : ℕ). by_hand h e.what) (sym is)
 
-pub turn_suspended : (gives : Order → Outcome → Type 0) (limit : Option ℕ) (plan : Outline) (before past after : List Entry) (kept : Option ℕ) (asks_then asks_now : ℕ) → flow_of past ≡ flow.Running
-    → LegalPast plan after → IsTurnAsked plan 0 kept asks_then asks_now past after turn.Suspended → GoesOn gives limit plan before past kept
-    → IsSession gives (Rises asks_then asks_now) limit plan before after (Some flow.Suspended)
-turn_suspended gives limit plan before past after kept asks_then asks_now running legal t on =
-    ⊎_elim
-    (λ is. suspended_session gives (Rises asks_then asks_now) limit plan before is.between after legal is.rested
-    (rested_winds gives (Rises asks_then asks_now) limit plan before past is.between t.stop kept running (answered_asked t.stop asks_then asks_now t.answered) is.rests on))
-    (λ over. absurd (not_over past after flow.Suspended running over)) t.is
+  forced_flow : (plan : Outline) (past entries : List Entry) (stop : Bool) (kept : Option ℕ) → AreForced plan hand stop kept entries past → flow_of (entries ++ past) ≡ flow_of past
+  forced_flow plan past [] stop kept are = refl
+  forced_flow plan past (e ∷ entries) stop kept are =
+      ap (λ (x : Entry). flow_of (x ∷ (entries ++ past))) (sym (entry_of e are.0)) ∙ forced_stays plan hand (entries ++ past) e.what are.1 ∙ forced_flow plan past entries stop kept are.3
 
-pub turn_is_suspended : (plan : Outline) (past after : List Entry) (kept : Option ℕ) (asks_then asks_now : ℕ) → flow_of past ≡ flow.Running
-    → IsTurnAsked plan 0 kept asks_then asks_now past after turn.Suspended → flow_of after ≡ flow.Suspended
-turn_is_suspended plan past after kept asks_then asks_now running t =
-    ⊎_elim (λ is. ap flow_of is.rested.is) (λ over. absurd (not_over past after flow.Suspended running over)) t.is
+  on_flow : (plan : Outline) (past after : List Entry) (stop : Bool) (kept : Option ℕ) → IsForcedOn plan hand stop kept past after → flow_of after ≡ flow_of past
+  on_flow plan past after stop kept is = ap flow_of is.is ∙ forced_flow plan past is.entries stop kept is.are
 
--- ---- a turn that was halted
+  alone_forced : (plan : Outline) (past entries : List Entry) (stop : Bool) (kept : Option ℕ) → AreForced plan hand stop kept entries past → IsAlone plan past hand → IsAlone plan (entries ++ past) hand
+  alone_forced plan past [] stop kept are alone = alone
+  alone_forced plan past (e ∷ entries) stop kept are alone = own_alone plan (entries ++ past) e hand are.0 (alone_forced plan past entries stop kept are.3 alone)
 
--- a session that was halted before its last entry
-winds_session : (gives : Order → Outcome → Type 0) (asked : Type 0) (limit : Option ℕ) (plan : Outline) (before between : List Entry) → LegalPast plan between → Winds gives asked limit plan before between
-    → IsSession gives asked limit plan before between None
-winds_session gives asked limit plan before between legal w = record {
-  entries = w.inner ++ reverse (entering (flow_of before));
-  recorded = w.recorded ∙ sym (append_assoc w.inner (reverse (entering (flow_of before))) before);
-  session = halted w.inner w.begun w.inside (subst (LegalPast plan) w.recorded legal);
-  given = w.given;
-  hands = w.hands;
-  due = w.due;
-  within = w.within;
-  suspended = λ is. none_last flow.Suspended (IsSuspended asked limit (w.inner ++ reverse (entering (flow_of before)))) is;
-}
+  alone_on : (plan : Outline) (past between : List Entry) (stop : Bool) (kept : Option ℕ) → IsForcedOn plan hand stop kept past between → IsAlone plan past hand → IsAlone plan between hand
+  alone_on plan past between stop kept is alone = subst (λ (l : List Entry). IsAlone plan l hand) (sym is.is) (alone_forced plan past is.entries stop kept is.are alone)
 
-closed_session : (gives : Order → Outcome → Type 0) (asked : Type 0) (limit : Option ℕ) (plan : Outline) (before between after : List Entry) → LegalPast plan after → IsClosedOr plan 0 between after
-    → Winds gives asked limit plan before between → (stop : Option FlowState) × IsSession gives asked limit plan before after stop
-closed_session gives asked limit plan before between after legal (stays same) w =
-    (None, winds_session gives asked limit plan before after legal (subst (λ (l : List Entry). Winds gives asked limit plan before l) (sym same) w))
-closed_session gives asked limit plan before between after legal (ended state is) w = (Some state, ended_session gives asked limit plan before between after state legal is w)
-closed_session gives asked limit plan before between after legal (suspended is) w = (Some flow.Suspended, suspended_session gives asked limit plan before between after legal is w)
+  -- ---- a start
 
-halted_session : (gives : Order → Outcome → Type 0) (asked : Type 0) (limit : Option ℕ) (plan : Outline) (before past after : List Entry) (stop : Bool) (kept : Option ℕ) → flow_of past ≡ flow.Running
-    → (stop ≡ true → asked) → LegalPast plan after → IsHaltedTurn plan 0 stop kept past after → GoesOn gives limit plan before past kept
-    → (last : Option FlowState) × IsSession gives asked limit plan before after last
-halted_session gives asked limit plan before past after stop kept running was legal (forcing is) on =
-    (None, goes_session gives asked limit plan before after kept legal (goes_on_forced gives limit plan before past after stop kept is on))
-halted_session gives asked limit plan before past after stop kept running was legal (starting between start ran is) on =
-    (None, goes_session gives asked limit plan before after kept legal (goes_up gives limit plan before between after stop kept start is.order ran.unstopped is.takes (goes_on_forced gives limit plan before past between stop kept ran.on on)))
-halted_session gives asked limit plan before past after stop kept running was legal (resting between rests closed) on =
-    closed_session gives asked limit plan before between after legal closed (rested_winds gives asked limit plan before past between stop kept running was rests on)
+  pub has_started : (plan : Outline) (past after : List Entry) (stop : Bool) (kept : Option ℕ) (order : Order) → IsStarted plan hand stop kept past after order → HasOrder plan after hand order
+  has_started plan past after stop kept order is =
+      subst (λ (l : List Entry). HasOrder plan l hand order) (sym is.takes.is) (choice_order plan is.between hand is.start order is.takes.chosen is.takes.action is.takes.asked)
 
-pub halted_run : (gives : Order → Outcome → Type 0) (limit : Option ℕ) (plan : Outline) (before past after : List Entry) (kept : Option ℕ) (asks_then asks_now : ℕ) (cause : Option Halt) (answer : How) → HaltsAs cause answer
-    → flow_of past ≡ flow.Running → LegalPast plan after → IsHaltedTurnAsked plan 0 kept asks_then asks_now past after → GoesOn gives limit plan before past kept
-    → HasRun gives (Rises asks_then asks_now) limit plan before after answer
-halted_run gives limit plan before past after kept asks_then asks_now cause answer halts running legal t on =
-    let session = halted_session gives (Rises asks_then asks_now) limit plan before past after t.stop kept running (answered_asked t.stop asks_then asks_now t.answered) legal t.is on in
-    halts_so gives (Rises asks_then asks_now) limit plan before after cause answer halts session.0 session.1
+  pub alone_started : (plan : Outline) (past after : List Entry) (stop : Bool) (kept : Option ℕ) (order : Order) → is_still plan (snapshot plan past) ≡ true → IsStarted plan hand stop kept past after order
+      → IsAlone plan after hand
+  alone_started plan past after stop kept order still is =
+      subst (λ (l : List Entry). IsAlone plan l hand) (sym is.takes.is)
+      (own_alone plan is.between (by_hand hand (start_entry is.start)) hand refl (alone_on plan past is.between stop kept is.ran.on (still_alone plan past hand still)))
 
--- ---- entering
+  up_flow : (plan : Outline) (past after : List Entry) (start : Start) (order : Order) → TakesUp plan hand past after start order → flow_of after ≡ flow_of past
+  up_flow plan past after start order takes = ap flow_of takes.is ∙ flow_stays hand (start_entry start) past (start_within start)
 
-same_entering : (f : FlowState) → entering_by 0 f ≡ entering f
-same_entering flow.Pending = refl
-same_entering flow.Suspended = refl
-same_entering flow.Running = refl
-same_entering flow.Suspending = refl
-same_entering flow.Resuming = refl
-same_entering flow.Success = refl
-same_entering flow.Failure = refl
-same_entering flow.Reverted = refl
+  pub runs_started : (plan : Outline) (past after : List Entry) (stop : Bool) (kept : Option ℕ) (order : Order) → IsStarted plan hand stop kept past after order → flow_of after ≡ flow.Running
+  runs_started plan past after stop kept order is = up_flow plan is.between after is.start order is.takes ∙ is.ran.running
 
-entering_goes : (gives : Order → Outcome → Type 0) (plan : Outline) (past : List Entry) (f : FlowState)
-    → AreGiven gives plan past (reverse (entering f)) × (list_all is_of_one (reverse (entering f)) ≡ true) × (list_all is_unsuspended (reverse (entering f)) ≡ true)
-entering_goes gives plan past flow.Pending = ((tt, tt), refl, refl)
-entering_goes gives plan past flow.Suspended = ((tt, tt), refl, refl)
-entering_goes gives plan past flow.Running = ((tt, (tt, (tt, tt))), refl, refl)
-entering_goes gives plan past flow.Suspending = ((tt, (tt, (tt, tt))), refl, refl)
-entering_goes gives plan past flow.Resuming = ((tt, (tt, tt)), refl, refl)
-entering_goes gives plan past flow.Success = (tt, refl, refl)
-entering_goes gives plan past flow.Failure = (tt, refl, refl)
-entering_goes gives plan past flow.Reverted = (tt, refl, refl)
+  -- ---- a hand that finds nothing to take up
 
--- all entries are among those with which the session was entered
-entered_within : (plan : Outline) (limit : Option ℕ) (first : ℕ) (entries : List Entry) → length entries ≤ first → AreWithin plan limit first entries
-entered_within plan limit first [] fits = tt
-entered_within plan limit first (e ∷ entries) fits = ((λ behind reached. absurd (omega (arith, fits, behind))), entered_within plan limit first entries (omega (arith, fits)))
+  rests_alone : (plan : Outline) (past between : List Entry) (stop : Bool) (kept : Option ℕ) → Rests plan hand stop kept past between → IsAlone plan past hand → IsAlone plan between hand
+  rests_alone plan past between stop kept (nothing_left nothing) alone = alone_on plan past between stop kept nothing.ran.on alone
+  rests_alone plan past between stop kept (at_end ran ends) alone = alone_on plan past between stop kept ran.on alone
+  rests_alone plan past between stop kept (to_suspend s) alone =
+      subst (λ (l : List Entry). IsAlone plan l hand) (sym s.is) (own_alone plan s.before (by_hand hand (what.Flow flow.Suspending)) hand refl (alone_on plan past s.before stop kept s.ran.on alone))
+  rests_alone plan past between stop kept (suspending winds same) alone = subst (λ (l : List Entry). IsAlone plan l hand) (sym same) alone
 
-pub entered_goes : (gives : Order → Outcome → Type 0) (limit : Option ℕ) (plan : Outline) (past after : List Entry) (kept : Option ℕ) → kept ≡ limit_from limit (length past) → has_ended (flow_of past) ≡ false
-    → after ≡ reverse (entering_by 0 (flow_of past)) ++ past → GoesOn gives limit plan past after kept
-entered_goes gives limit plan past after kept limited begun is =
-    let goes = entering_goes gives plan past (flow_of past) in
-    record {
-      inner = [];
-      recorded = is ∙ ap (λ (l : List Entry). reverse l ++ past) (same_entering (flow_of past));
-      inside = refl;
-      begun = begun;
-      given = goes.0;
-      hands = goes.1;
-      unsuspended = goes.2;
-      within = entered_within plan limit (length (entering (flow_of past))) (reverse (entering (flow_of past))) (omega (arith, length-reverse (entering (flow_of past))));
-      limited = limited;
-    }
+  rests_free : (plan : Outline) (past between : List Entry) (stop : Bool) (kept : Option ℕ) → LegalPast plan between → Rests plan hand stop kept past between
+      → is_free plan (snapshot plan past) hand ≡ true → is_free plan (snapshot plan between) hand ≡ true
+  rests_free plan past between stop kept legal (nothing_left nothing) free = free_forced plan hand hand stop kept past between legal nothing.ran.on free
+  rests_free plan past between stop kept legal (at_end ran ends) free = free_forced plan hand hand stop kept past between legal ran.on free
+  rests_free plan past between stop kept legal (to_suspend s) free =
+      let turned : Entry = by_hand hand (what.Flow flow.Suspending) in
+      let later : LegalPast plan (turned ∷ s.before) = subst (LegalPast plan) s.is legal in
+      subst (λ (l : List Entry). is_free plan (snapshot plan l) hand ≡ true) (sym s.is)
+      (idle_free plan s.before turned hand refl (free_forced plan hand hand stop kept past s.before later.1 s.ran.on free))
+  rests_free plan past between stop kept legal (suspending winds same) free = subst (λ (l : List Entry). is_free plan (snapshot plan l) hand ≡ true) (sym same) free
 
-entering_runs : (past : List Entry) (f : FlowState) → has_ended f ≡ false → flow_of (reverse (entering f) ++ past) ≡ flow.Running
-entering_runs past flow.Pending begun = refl
-entering_runs past flow.Suspended begun = refl
-entering_runs past flow.Running begun = refl
-entering_runs past flow.Suspending begun = refl
-entering_runs past flow.Resuming begun = refl
-entering_runs past f begun = absurd (cc)
+  -- a free hand that waits is still free, and something is in flight
+  pub idle_turn : (plan : Outline) (past after : List Entry) (stop : Bool) (kept : Option ℕ) → LegalPast plan after → is_free plan (snapshot plan past) hand ≡ true → RestsAs plan hand stop kept past after turn.Idle
+      → (is_still plan (snapshot plan after) ≡ false) × (is_free plan (snapshot plan after) hand ≡ true)
+  idle_turn plan past after stop kept legal free is =
+      let same : is.between ≡ after = sym is.rested.1 in (
+        subst (λ (l : List Entry). is_still plan (snapshot plan l) ≡ false) same is.rested.0,
+        subst (λ (l : List Entry). is_free plan (snapshot plan l) hand ≡ true) same (rests_free plan past is.between stop kept (subst (LegalPast plan) is.rested.1 legal) is.rests free),
+      )
 
-pub entered_going : (plan : Outline) (past after : List Entry) (halt : Option Halt) → halt ≡ None → LegalPast plan after → (has_ended (flow_of past) ≡ false) × (after ≡ reverse (entering_by 0 (flow_of past)) ++ past)
-    → IsGoing plan after halt
-entered_going plan past after halt sound legal is =
-    let same : after ≡ reverse (entering (flow_of past)) ++ past = is.1 ∙ ap (λ (l : List Entry). reverse l ++ past) (same_entering (flow_of past)) in
-    record {
-      sound = sound;
-      running = ap flow_of same ∙ entering_runs past (flow_of past) is.0;
-      still = subst (λ (l : List Entry). is_still plan (snapshot plan l) ≡ true) (sym same) (entered_still plan past is.0 (subst (LegalPast plan) same legal));
-    }
+  -- where nothing is in flight it doesn't wait
+  pub never_waits : (plan : Outline) (past after : List Entry) (stop : Bool) (kept : Option ℕ) → is_still plan (snapshot plan past) ≡ true → LegalPast plan after → RestsAs plan hand stop kept past after turn.Idle → ⊥
+  never_waits plan past after stop kept still legal is =
+      let waits = idle_turn plan past after stop kept legal (still_free plan (snapshot plan past) hand still) is in
+      let alone : IsAlone plan after hand = subst (λ (l : List Entry). IsAlone plan l hand) (sym is.rested.1) (rests_alone plan past is.between stop kept is.rests (still_alone plan past hand still)) in
+      clash (is_still plan (snapshot plan after)) (alone_still plan after hand alone waits.1) waits.0
 
--- the flow had ended
-pub ended_before : (gives : Order → Outcome → Type 0) (asked : Type 0) (limit : Option ℕ) (plan : Outline) (past after : List Entry) (state : FlowState) → LegalPast plan past
-    → (flow_of past ≡ state) × (has_ended state ≡ true) × (after ≡ past) → IsSession gives asked limit plan past after (Some state)
-ended_before gives asked limit plan past after state legal is = subst (λ (f : FlowState). IsSession gives asked limit plan past after (Some f)) is.0 (record {
-  entries = [];
-  recorded = is.2;
-  session = already_ended (ap has_ended is.0 ∙ is.1) legal;
-  given = tt;
-  hands = refl;
-  due = tt;
-  within = tt;
-  suspended = λ stops. (let here : flow_of past ≡ flow.Suspended = cc in let no : false ≡ true = ap has_ended (sym here) ∙ ap has_ended is.0 ∙ is.1 in absurd (cc));
-})
+  -- ---- the end
 
--- an entry by hand 0 of the flow that doesn't suspend it
-is_turning : Entry → Bool
-is_turning e = is_of_one e && (is_unsuspended e && is_of_flow e.what)
+  pub turn_stops : (plan : Outline) (past after : List Entry) (kept : Option ℕ) (asks_then asks_now : ℕ) (state : FlowState) → flow_of past ≡ flow.Running
+      → IsTurnAsked plan hand kept asks_then asks_now past after (turn.Ended state) → (flow_of after ≡ state) × (has_ended state ≡ true)
+  turn_stops plan past after kept asks_then asks_now state running t =
+      ⊎_elim (λ is. (ap flow_of is.rested.is, (end_is plan (snapshot plan is.between) state is.rested.ends).1)) (λ over. absurd (not_over past after state running over)) t.is
 
-entering_turns : (f : FlowState) → list_all is_turning (entering f) ≡ true
-unfolding is_turning
-entering_turns flow.Pending = refl
-entering_turns flow.Suspended = refl
-entering_turns flow.Running = refl
-entering_turns flow.Suspending = refl
-entering_turns flow.Resuming = refl
-entering_turns flow.Success = refl
-entering_turns flow.Failure = refl
-entering_turns flow.Reverted = refl
+  pub turn_is_suspended : (plan : Outline) (past after : List Entry) (kept : Option ℕ) (asks_then asks_now : ℕ) → IsTurnAsked plan hand kept asks_then asks_now past after turn.Suspended → flow_of after ≡ flow.Suspended
+  turn_is_suspended plan past after kept asks_then asks_now t = ⊎_elim (λ is. ap flow_of is.rested.is) (λ over. ap flow_of over.2 ∙ over.0) t.is
 
-all_front : (p : Entry → Bool) (some others : List Entry) → list_all p (some ++ others) ≡ true → list_all p some ≡ true
-all_front p some others all = and_first (list_all p some) (list_all p others) (sym (list_all-append p some others) ∙ all)
+-- ---- what a turn of a hand leaves of a session
 
-all_reverse : (p : Entry → Bool) (xs : List Entry) → list_all p xs ≡ true → list_all p (reverse xs) ≡ true
-all_reverse p [] all = refl
-all_reverse p (x ∷ xs) all =
-    ap (list_all p) (reverse-append (x ∷ []) xs) ∙ list_all-append p (reverse xs) (x ∷ [])
-    ∙ true_both (list_all p (reverse xs)) (p x && true) (all_reverse p xs (and_second (p x) (list_all p xs) all)) (true_both (p x) true (and_first (p x) (list_all p xs) all) refl)
+module _ (hand number : ℕ) (below : nat_lt hand number ≡ true) (gives : Order → Outcome → Type 0) (limit : Option ℕ) (plan : Outline) (before : List Entry) where
+  goes_forced : (past entries : List Entry) (stop : Bool) (kept : Option ℕ) → AreForced plan hand stop kept entries past → GoesOn gives number limit plan before past kept → GoesOn gives number limit plan before (entries ++ past) kept
+  goes_forced past [] stop kept are on = on
+  goes_forced past (e ∷ entries) stop kept are on =
+      subst (λ (x : Entry). GoesOn gives number limit plan before (x ∷ (entries ++ past)) kept) (entry_of hand e are.0)
+      (goes_more gives hand number limit plan before (entries ++ past) kept e.what below (forced_within plan (snapshot plan (entries ++ past)) e.what are.1) (forced_inner plan (snapshot plan (entries ++ past)) e.what are.1)
+      (no_end_given gives plan (entries ++ past) e.what (forced_no_end plan (snapshot plan (entries ++ past)) e.what are.1))
+      (λ reached. absurd (unreached stop kept (length (entries ++ past)) are.2 reached))
+      (goes_forced past entries stop kept are.3 on))
 
-flow_given : (gives : Order → Outcome → Type 0) (plan : Outline) (past : List Entry) (w : What) → is_of_flow w ≡ true → IsGiven gives plan past w
-flow_given gives plan past (what.Flow state) is = tt
-flow_given gives plan past (what.Atom a state held) is = absurd (cc)
-flow_given gives plan past (what.Resolve named resolved) is = absurd (cc)
-flow_given gives plan past (what.Restart again) is = absurd (cc)
+  goes_on_forced : (past after : List Entry) (stop : Bool) (kept : Option ℕ) → IsForcedOn plan hand stop kept past after → GoesOn gives number limit plan before past kept → GoesOn gives number limit plan before after kept
+  goes_on_forced past after stop kept is on = subst (λ (l : List Entry). GoesOn gives number limit plan before l kept) (sym is.is) (goes_forced past is.entries stop kept is.are on)
 
-turning_goes : (gives : Order → Outcome → Type 0) (plan : Outline) (past entries : List Entry) → list_all is_turning entries ≡ true
-    → AreGiven gives plan past entries × (list_all is_of_one entries ≡ true) × (list_all is_unsuspended entries ≡ true)
-unfolding is_turning
-turning_goes gives plan past [] all = (tt, refl, refl)
-turning_goes gives plan past (e ∷ entries) all =
-    let first = and_first (is_turning e) (list_all is_turning entries) all in
-    let goes = turning_goes gives plan past entries (and_second (is_turning e) (list_all is_turning entries) all) in
-    let rest = and_second (is_of_one e) (is_unsuspended e && is_of_flow e.what) first in (
-      (flow_given gives plan (entries ++ past) e.what (and_second (is_unsuspended e) (is_of_flow e.what) rest), goes.0),
-      true_both (is_of_one e) (list_all is_of_one entries) (and_first (is_of_one e) (is_unsuspended e && is_of_flow e.what) first) goes.1,
-      true_both (is_unsuspended e) (list_all is_unsuspended entries) (and_first (is_unsuspended e) (is_of_flow e.what) rest) goes.2,
-    )
+  goes_up : (past after : List Entry) (stop : Bool) (kept : Option ℕ) (start : Start) (order : Order) → is_to_stop stop kept (length past) ≡ false → TakesUp plan hand past after start order
+      → GoesOn gives number limit plan before past kept → GoesOn gives number limit plan before after kept
+  goes_up past after stop kept start order going takes on =
+      subst (λ (l : List Entry). GoesOn gives number limit plan before l kept) (sym takes.is)
+      (goes_more gives hand number limit plan before past kept (start_entry start) below (start_within start) (start_inner start) (no_end_given gives plan past (start_entry start) (start_no_end plan start))
+      (λ reached. absurd (unreached stop kept (length past) going reached)) on)
 
-given_front : (gives : Order → Outcome → Type 0) (plan : Outline) (past : List Entry) (f : FlowState) (some others : List Entry) → entering f ≡ some ++ others
-    → AreGiven gives plan past (reverse some) × (list_all is_of_one (reverse some) ≡ true) × (list_all is_unsuspended (reverse some) ≡ true)
-given_front gives plan past f some others front =
-    turning_goes gives plan past (reverse some) (all_reverse is_turning some (all_front is_turning some others (ap (list_all is_turning) (sym front) ∙ entering_turns f)))
+  pub goes_started : (past after : List Entry) (stop : Bool) (kept : Option ℕ) (order : Order) → IsStarted plan hand stop kept past after order
+      → GoesOn gives number limit plan before past kept → GoesOn gives number limit plan before after kept
+  goes_started past after stop kept order is on = goes_up is.between after stop kept is.start order is.ran.unstopped is.takes (goes_on_forced past is.between stop kept is.ran.on on)
 
--- it was halted while it entered
-pub cut_before : (gives : Order → Outcome → Type 0) (asked : Type 0) (limit : Option ℕ) (plan : Outline) (past after : List Entry) (cause : Option Halt) (answer : How) → HaltsAs cause answer → LegalPast plan after
-    → IsEntering 0 past after → HasRun gives asked limit plan past after answer
-cut_before gives asked limit plan past after cause answer halts legal is =
-    let front : entering (flow_of past) ≡ is.some ++ is.others = sym (same_entering (flow_of past)) ∙ is.front in
-    let goes = given_front gives plan past (flow_of past) is.some is.others front in
-    halts_so gives asked limit plan past after cause answer halts None (record {
-      entries = reverse is.some;
-      recorded = is.is;
-      session = entered is.some is.others front (subst (LegalPast plan) is.is legal);
-      given = goes.0;
-      hands = goes.1;
-      due = due_none asked limit (reverse is.some) goes.2;
-      within = entered_within plan limit (length (entering (flow_of past))) (reverse is.some)
-          (omega (arith, length-reverse is.some, ap (λ (l : List Entry). length l) front, length-append is.some is.others));
-      suspended = λ stops. none_last flow.Suspended (IsSuspended asked limit (reverse is.some)) stops;
-    })
+  module _ (asked : Type 0) where
+    -- a session that stops with this last entry
+    closes : (between after : List Entry) (state : FlowState) → is_last state ≡ true → not (suspends (what.Flow state)) ≡ true
+        → (state ≡ flow.Suspended → flow_of between ≡ flow.Suspending) → LegalPast plan after → after ≡ by_hand hand (what.Flow state) ∷ between → Winds gives asked number limit plan before between
+        → IsSession gives asked number limit plan before after (Some state)
+    closes between after state last goes from legal is w =
+        let tail : List Entry = w.inner ++ reverse (entering (flow_of before)) in
+        let same : after ≡ by_hand hand (what.Flow state) ∷ (w.inner ++ (reverse (entering (flow_of before)) ++ before)) = is ∙ ap (λ (l : List Entry). by_hand hand (what.Flow state) ∷ l) w.recorded in
+        record {
+          entries = by_hand hand (what.Flow state) ∷ tail;
+          recorded = same ∙ ap (λ (l : List Entry). by_hand hand (what.Flow state) ∷ l) (sym (append_assoc w.inner (reverse (entering (flow_of before))) before));
+          session = whole hand state w.inner last w.inside w.begun (subst (LegalPast plan) same legal);
+          given = (tt, w.given);
+          hands = true_both (nat_lt hand number) (list_all (is_of number) tail) below w.hands;
+          due = ((λ is_so. absurd (clash (suspends (what.Flow state)) is_so (not_true (suspends (what.Flow state)) goes))), w.due);
+          within = ((λ entered reached. true_second (flow_suspends state) (is_last state) last), w.within);
+          suspended = λ stops.
+              (let here : state ≡ flow.Suspended = cc in
+              record {
+                cause = ⊎_elim (λ told. inl told) (λ reached. inr (reached_more limit (length tail) reached)) (w.cause (from here));
+                hand = hand;
+                before = tail;
+                last = ap (λ (f : FlowState). by_hand hand (what.Flow f) ∷ tail) here;
+              });
+        }
+
+    -- it stands in that state then
+    stopped_so : (after : List Entry) (kept : Option ℕ) (state : FlowState) → is_last state ≡ true → flow_of after ≡ state → IsSession gives asked number limit plan before after (Some state)
+        → Stands gives asked number limit plan before after kept
+    stopped_so after kept state last at session = stopped (ap is_last at ∙ last) (subst (λ (f : FlowState). IsSession gives asked number limit plan before after (Some f)) (sym at) session)
+
+    ended_stands : (between after : List Entry) (kept : Option ℕ) (state : FlowState) → LegalPast plan after → IsEndOf plan hand between after state → Winds gives asked number limit plan before between
+        → Stands gives asked number limit plan before after kept
+    ended_stands between after kept state legal is w =
+        let last = ended_last state (end_is plan (snapshot plan between) state is.ends).1 in
+        stopped_so after kept state last.0 (ap flow_of is.is) (closes between after state last.0 last.1 (λ here. absurd (last.2 here)) legal is.is w)
+
+    suspended_stands : (between after : List Entry) (kept : Option ℕ) → LegalPast plan after → IsSuspensionOf plan hand between after → Winds gives asked number limit plan before between
+        → Stands gives asked number limit plan before after kept
+    suspended_stands between after kept legal is w =
+        stopped_so after kept flow.Suspended refl (ap flow_of is.is) (closes between after flow.Suspended refl refl (λ here. is.suspending) legal is.is w)
+
+    -- after SUSPENDING it is wound up
+    suspending_winds : (past : List Entry) (stop : Bool) (kept : Option ℕ) → (stop ≡ true → asked) → is_to_stop stop kept (length past) ≡ true
+        → GoesOn gives number limit plan before past kept → Winds gives asked number limit plan before (suspending_after hand past)
+    suspending_winds past stop kept was stops on =
+        let first : List Entry = reverse (entering (flow_of before)) in
+        let tail : List Entry = on.inner ++ first in
+        let why : asked ⊎ (is_reached limit (length tail) ≡ true) = stopped_by stop asked limit kept (length before) (length tail) (length past) was on.limited (counted before past on.inner first on.recorded) stops in
+        record {
+          inner = by_hand hand (what.Flow flow.Suspending) ∷ on.inner;
+          recorded = ap (λ (l : List Entry). by_hand hand (what.Flow flow.Suspending) ∷ l) on.recorded;
+          inside = on.inside;
+          begun = on.begun;
+          given = (tt, on.given);
+          hands = true_both (nat_lt hand number) (list_all (is_of number) tail) below on.hands;
+          due = ((λ is. why), due_none asked limit tail on.unsuspended);
+          within = ((λ entered reached. refl), on.within);
+          cause = λ winds. ⊎_elim (λ told. inl told) (λ reached. inr (reached_more limit (length tail) reached)) why;
+        }
+
+    -- how it stands where a hand finds nothing to take up
+    record Rested (between : List Entry) (kept : Option ℕ) : Type 0 where
+      stands : Stands gives asked number limit plan before between kept
+      winds : Winds gives asked number limit plan before between
+
+    rested_running : (past between : List Entry) (stop : Bool) (kept : Option ℕ) → IsForcedOn plan hand stop kept past between → flow_of between ≡ flow.Running
+        → Stands gives asked number limit plan before past kept → GoesOn gives number limit plan before between kept
+    rested_running past between stop kept on running s =
+        goes_on_forced past between stop kept on (stands_goes gives asked number limit plan before past kept (sym (on_flow hand plan past between stop kept on) ∙ running) s)
+
+    rested_so : (between : List Entry) (kept : Option ℕ) → flow_of between ≡ flow.Running → GoesOn gives number limit plan before between kept → Rested between kept
+    rested_so between kept running on = record { stands = going_on running on; winds = running_winds gives asked number limit plan before between kept running on }
+
+    rested : (past between : List Entry) (stop : Bool) (kept : Option ℕ) → (stop ≡ true → asked) → Rests plan hand stop kept past between → Stands gives asked number limit plan before past kept → Rested between kept
+    rested past between stop kept was (nothing_left nothing) s = rested_so between kept nothing.ran.running (rested_running past between stop kept nothing.ran.on nothing.ran.running s)
+    rested past between stop kept was (at_end ran ends) s = rested_so between kept ran.running (rested_running past between stop kept ran.on ran.running s)
+    rested past between stop kept was (to_suspend w) s =
+        let winds = suspending_winds w.before stop kept was w.ran.stops (rested_running past w.before stop kept w.ran.on w.ran.running s) in
+        subst (λ (l : List Entry). Rested l kept) (sym w.is) (record { stands = winding refl winds; winds = winds })
+    rested past between stop kept was (suspending winds same) s =
+        subst (λ (l : List Entry). Rested l kept) (sym same) (record { stands = s; winds = stands_winds gives asked number limit plan before past kept winds s })
+
+    turn_by : (past after : List Entry) (stop : Bool) (kept : Option ℕ) (answer : Turn) → (stop ≡ true → asked) → LegalPast plan after → IsTurn plan hand stop kept past after answer
+        → Stands gives asked number limit plan before past kept → Stands gives asked number limit plan before after kept
+    turn_by past after stop kept (turn.Start order) was legal is s =
+        let from : flow_of past ≡ flow.Running = sym (on_flow hand plan past is.0.between stop kept is.0.ran.on) ∙ is.0.ran.running in
+        going_on (runs_started hand plan past after stop kept order is.0) (goes_started past after stop kept order is.0 (stands_goes gives asked number limit plan before past kept from s))
+    turn_by past after stop kept turn.Idle was legal is s =
+        subst (λ (l : List Entry). Stands gives asked number limit plan before l kept) (sym is.rested.1) (rested past is.between stop kept was is.rests s).stands
+    turn_by past after stop kept (turn.Ended state) was legal is s =
+        ⊎_elim (λ r. ended_stands r.between after kept state legal r.rested (rested past r.between stop kept was r.rests s).winds)
+        (λ over. subst (λ (l : List Entry). Stands gives asked number limit plan before l kept) (sym over.2) s) is
+    turn_by past after stop kept turn.Suspended was legal is s =
+        ⊎_elim (λ r. suspended_stands r.between after kept legal r.rested (rested past r.between stop kept was r.rests s).winds)
+        (λ over. subst (λ (l : List Entry). Stands gives asked number limit plan before l kept) (sym over.2) s) is
+
+    -- what is forced: something in RUNNING, or nothing
+    forcing_stands : (past entries : List Entry) (stop : Bool) (kept : Option ℕ) → AreForced plan hand stop kept entries past → Stands gives asked number limit plan before past kept
+        → Stands gives asked number limit plan before (entries ++ past) kept
+    forcing_stands past [] stop kept are s = s
+    forcing_stands past (e ∷ entries) stop kept are s =
+        let middle : flow_of (entries ++ past) ≡ flow.Running = forced_runs plan (entries ++ past) e.what are.1 in
+        let from : flow_of past ≡ flow.Running = sym (forced_flow hand plan past entries stop kept are.3) ∙ middle in
+        going_on (forced_flow hand plan past (e ∷ entries) stop kept are ∙ from) (goes_forced past (e ∷ entries) stop kept are (stands_goes gives asked number limit plan before past kept from s))
+
+    closed_stands : (between after : List Entry) (kept : Option ℕ) → LegalPast plan after → IsClosedOr plan hand between after → Rested between kept → Stands gives asked number limit plan before after kept
+    closed_stands between after kept legal (stays same) r = subst (λ (l : List Entry). Stands gives asked number limit plan before l kept) (sym same) r.stands
+    closed_stands between after kept legal (ended state is) r = ended_stands between after kept state legal is r.winds
+    closed_stands between after kept legal (suspended is) r = suspended_stands between after kept legal is r.winds
+
+    halted_by : (past after : List Entry) (stop : Bool) (kept : Option ℕ) → (stop ≡ true → asked) → LegalPast plan after → IsHaltedTurn plan hand stop kept past after
+        → Stands gives asked number limit plan before past kept → Stands gives asked number limit plan before after kept
+    halted_by past after stop kept was legal (forcing is) s = subst (λ (l : List Entry). Stands gives asked number limit plan before l kept) (sym is.is) (forcing_stands past is.entries stop kept is.are s)
+    halted_by past after stop kept was legal (starting between start ran is) s =
+        going_on (up_flow hand plan between after start is.order is.takes ∙ ran.running)
+        (goes_up between after stop kept start is.order ran.unstopped is.takes (rested_running past between stop kept ran.on ran.running s))
+    halted_by past after stop kept was legal (resting between rests closed) s = closed_stands between after kept legal closed (rested past between stop kept was rests s)
+
+    -- ---- the same, where the count of stops tells whether one was asked for
+
+    pub turn_stands : (past after : List Entry) (kept : Option ℕ) (asks_then asks_now : ℕ) (answer : Turn) → (Rises asks_then asks_now → asked) → LegalPast plan after
+        → IsTurnAsked plan hand kept asks_then asks_now past after answer → Stands gives asked number limit plan before past kept → Stands gives asked number limit plan before after kept
+    turn_stands past after kept asks_then asks_now answer so legal t s =
+        turn_by past after t.stop kept answer (λ told. so (answered_asked t.stop asks_then asks_now t.answered told)) legal t.is s
+
+    pub halted_stands : (past after : List Entry) (kept : Option ℕ) (asks_then asks_now : ℕ) → (Rises asks_then asks_now → asked) → LegalPast plan after
+        → IsHaltedTurnAsked plan hand kept asks_then asks_now past after → Stands gives asked number limit plan before past kept → Stands gives asked number limit plan before after kept
+    halted_stands past after kept asks_then asks_now so legal t s =
+        halted_by past after t.stop kept (λ told. so (answered_asked t.stop asks_then asks_now t.answered told)) legal t.is s
+
+  -- ---- turns in RUNNING
+
+  pub turn_ended : (past after : List Entry) (kept : Option ℕ) (asks_then asks_now : ℕ) (state : FlowState) → flow_of past ≡ flow.Running → LegalPast plan after
+      → IsTurnAsked plan hand kept asks_then asks_now past after (turn.Ended state) → GoesOn gives number limit plan before past kept
+      → IsSession gives (Rises asks_then asks_now) number limit plan before after (Some state)
+  turn_ended past after kept asks_then asks_now state running legal t on =
+      let stops = turn_stops hand plan past after kept asks_then asks_now state running t in
+      let last : is_last (flow_of after) ≡ true = ap is_last stops.0 ∙ (ended_last state stops.1).0 in
+      subst (λ (f : FlowState). IsSession gives (Rises asks_then asks_now) number limit plan before after (Some f)) stops.0
+      (stands_stopped gives (Rises asks_then asks_now) number limit plan before after kept last
+      (turn_stands (Rises asks_then asks_now) past after kept asks_then asks_now (turn.Ended state) (λ so. so) legal t (going_on running on)))
+
+  pub turn_suspended : (past after : List Entry) (kept : Option ℕ) (asks_then asks_now : ℕ) → flow_of past ≡ flow.Running → LegalPast plan after
+      → IsTurnAsked plan hand kept asks_then asks_now past after turn.Suspended → GoesOn gives number limit plan before past kept
+      → IsSession gives (Rises asks_then asks_now) number limit plan before after (Some flow.Suspended)
+  turn_suspended past after kept asks_then asks_now running legal t on =
+      let stops = turn_is_suspended hand plan past after kept asks_then asks_now t in
+      subst (λ (f : FlowState). IsSession gives (Rises asks_then asks_now) number limit plan before after (Some f)) stops
+      (stands_stopped gives (Rises asks_then asks_now) number limit plan before after kept (ap is_last stops)
+      (turn_stands (Rises asks_then asks_now) past after kept asks_then asks_now turn.Suspended (λ so. so) legal t (going_on running on)))
+
+  pub halted_run : (past after : List Entry) (kept : Option ℕ) (asks_then asks_now : ℕ) (cause : Option Halt) (answer : How) → HaltsAs cause answer → flow_of past ≡ flow.Running → LegalPast plan after
+      → IsHaltedTurnAsked plan hand kept asks_then asks_now past after → GoesOn gives number limit plan before past kept → HasRun gives (Rises asks_then asks_now) number limit plan before after answer
+  halted_run past after kept asks_then asks_now cause answer halts running legal t on =
+      let session = stands_session gives (Rises asks_then asks_now) number limit plan before after kept legal
+      (halted_stands (Rises asks_then asks_now) past after kept asks_then asks_now (λ so. so) legal t (going_on running on)) in
+      halts_so gives (Rises asks_then asks_now) number limit plan before after cause answer halts session.0 session.1

@@ -1,2 +1,4 @@
 pub mod Runs
 pub mod Asked
+pub mod Shared
+pub mod Working

@@ -1,7 +1,6 @@
--- What a run by one hand records, from the history that it began with to the one that it leaves. Histories have the newest entry first.
-use Rattle.std.specs.Prelude.{◌≡◌, ◌⊎◌, ℕ, ◌≤◌, Bool, true, false, ◌&&◌, ◌||◌, List, [], ◌∷◌, ◌++◌, length, nat_eq, not, Option, Some, None, reverse}
+-- What a run by a number of hands records, from the history that it began with to the one that it leaves. Histories have the newest entry first.
+use Rattle.std.specs.Prelude.{◌≡◌, ◌⊎◌, ℕ, ◌≤◌, Bool, true, false, ◌&&◌, ◌||◌, List, [], ◌∷◌, ◌++◌, length, nat_lt, not, Option, Some, None, reverse}
 use Rattle.std.specs.List.{list_all}
-use Rattle.tf_flow.specs.Plan.{PlanValue}
 use Rattle.tf_ports.specs.declared.orders.Order.{Order}
 use Rattle.tf_ports.specs.declared.outcomes.Outcome.{Outcome}
 use Rattle.tf_states.specs.declared.record.Entry.{Entry}
@@ -9,13 +8,12 @@ use Rattle.tf_states.specs.declared.record.What.{What}
 use Rattle.tf_states.specs.declared.record.What.TheVariants as what
 use Rattle.tf_states.specs.declared.state.FlowState.{FlowState}
 use Rattle.tf_states.specs.declared.state.FlowState.TheVariants as flow
-use Rattle.tf_model.specs.Bound.{entry_bound}
 use Rattle.tf_model.specs.History.{flow_of, snapshot}
 use Rattle.tf_model.specs.Steps.{is_still}
 use Rattle.tf_model.specs.Orders.{IsGiven}
-use Rattle.tf_hands.specs.Hands.{is_over}
-use Rattle.tf_model.specs.Plan.{Outline, outline_of, is_task}
-use Rattle.tf_model.specs.Sessions.{Session, entering, flow_entry, has_ended, is_inner_entry, is_last}
+use Rattle.tf_hands.specs.Hands.{by_hand, is_over}
+use Rattle.tf_model.specs.Plan.{Outline, is_task}
+use Rattle.tf_model.specs.Sessions.{Session, entering, has_ended, is_inner_entry, is_last}
 use Rattle.tf_model.specs.States.{flow_suspends}
 use Rattle.tf_book.specs.Stopping.{limit_from, is_reached}
 use Rattle.tf_book.specs.declared.faults.Halt.{Halt}
@@ -27,9 +25,9 @@ abbrev pub AreGiven : (Order → Outcome → Type 0) → Outline → List Entry 
 AreGiven gives plan before [] = Unit {0}
 AreGiven gives plan before (e ∷ entries) = IsGiven gives plan (entries ++ before) e.what × AreGiven gives plan before entries
 
--- hand 0 recorded it
-abbrev pub is_of_one : Entry → Bool
-is_of_one e = nat_eq e.hand 0
+-- one of so many hands recorded it: hands are numbered from 0
+abbrev pub is_of : ℕ → Entry → Bool
+is_of number e = nat_lt e.hand number
 
 -- what is recorded begins to suspend the flow
 abbrev pub suspends : What → Bool
@@ -60,29 +58,30 @@ AreWithin plan limit entered [] = Unit {0}
 AreWithin plan limit entered (e ∷ entries) =
     (entered ≤ length entries → is_reached limit (length entries) ≡ true → winds_up plan e.what ≡ true) × AreWithin plan limit entered entries
 
--- the session ends with the flow's suspension, since a stop was asked for or the limit is reached
+-- the session ends with the flow's suspension, which some hand recorded, since a stop was asked for or the limit is reached
 pub record IsSuspended (asked : Type 0) (limit : Option ℕ) (entries : List Entry) : Type 0 where
   pub cause : asked ⊎ (is_reached limit (length entries) ≡ true)
+  pub hand : ℕ
   pub before : List Entry
-  pub last : entries ≡ flow_entry flow.Suspended ∷ before
+  pub last : entries ≡ by_hand hand (what.Flow flow.Suspended) ∷ before
 
--- a session was recorded by hand 0, with outcomes that the hand gave, and was suspended only where a stop was asked for or its limit is
--- reached; it stopped in this state, or was halted before
-pub record IsSession (gives : Order → Outcome → Type 0) (asked : Type 0) (limit : Option ℕ) (plan : Outline) (before after : List Entry) (stop : Option FlowState) : Type 0 where
+-- a session was recorded by so many hands, with outcomes that they gave, and was suspended only where a stop was asked for or its limit
+-- is reached; it stopped in this state, or was halted before
+pub record IsSession (gives : Order → Outcome → Type 0) (asked : Type 0) (number : ℕ) (limit : Option ℕ) (plan : Outline) (before after : List Entry) (stop : Option FlowState) : Type 0 where
   pub entries : List Entry
   pub recorded : after ≡ entries ++ before
   pub session : Session plan before entries stop
   pub given : AreGiven gives plan before entries
-  pub hands : list_all is_of_one entries ≡ true
+  pub hands : list_all (is_of number) entries ≡ true
   pub due : AreDue asked limit entries
   pub within : AreWithin plan limit (length (entering (flow_of before))) entries
   pub suspended : stop ≡ Some flow.Suspended → IsSuspended asked limit entries
 
 -- the same where the state in which it stopped is told by the answer; one that was halted may have stopped too, in its last line
-abbrev pub HasRun : (Order → Outcome → Type 0) → Type 0 → Option ℕ → Outline → List Entry → List Entry → How → Type 0
-HasRun gives asked limit plan before after (how.Ended state) = IsSession gives asked limit plan before after (Some state)
-HasRun gives asked limit plan before after how.Suspended = IsSession gives asked limit plan before after (Some flow.Suspended)
-HasRun gives asked limit plan before after (how.Halted cause) = (stop : Option FlowState) × IsSession gives asked limit plan before after stop
+abbrev pub HasRun : (Order → Outcome → Type 0) → Type 0 → ℕ → Option ℕ → Outline → List Entry → List Entry → How → Type 0
+HasRun gives asked number limit plan before after (how.Ended state) = IsSession gives asked number limit plan before after (Some state)
+HasRun gives asked number limit plan before after how.Suspended = IsSession gives asked number limit plan before after (Some flow.Suspended)
+HasRun gives asked number limit plan before after (how.Halted cause) = (stop : Option FlowState) × IsSession gives asked number limit plan before after stop
 
 -- the answer is how the book stands: halted for that cause; or not halted, with the flow in that last state
 abbrev pub StandsAs : Option Halt → FlowState → How → Type 0
@@ -98,18 +97,36 @@ pub record HaltsAs (halted : Option Halt) (answer : How) : Type 0 where
 
 -- a run goes on after it was entered: all that it recorded since is within the session, and nobody suspended it; the book has the
 -- session's limit
-pub record GoesOn (gives : Order → Outcome → Type 0) (limit : Option ℕ) (plan : Outline) (before past : List Entry) (kept : Option ℕ) : Type 0 where
+pub record GoesOn (gives : Order → Outcome → Type 0) (number : ℕ) (limit : Option ℕ) (plan : Outline) (before past : List Entry) (kept : Option ℕ) : Type 0 where
   pub inner : List Entry
   pub recorded : past ≡ inner ++ (reverse (entering (flow_of before)) ++ before)
   pub inside : list_all is_inner_entry inner ≡ true
   pub begun : has_ended (flow_of before) ≡ false
   pub given : AreGiven gives plan before (inner ++ reverse (entering (flow_of before)))
-  pub hands : list_all is_of_one (inner ++ reverse (entering (flow_of before))) ≡ true
+  pub hands : list_all (is_of number) (inner ++ reverse (entering (flow_of before))) ≡ true
   pub unsuspended : list_all is_unsuspended (inner ++ reverse (entering (flow_of before))) ≡ true
   pub within : AreWithin plan limit (length (entering (flow_of before))) (inner ++ reverse (entering (flow_of before)))
   pub limited : kept ≡ limit_from limit (length before)
 
--- between two turns: the book isn't halted, the flow is RUNNING, and nothing is in flight
+-- the same of all that a session recorded before its last entry, in which it may have begun to be suspended
+pub record Winds (gives : Order → Outcome → Type 0) (asked : Type 0) (number : ℕ) (limit : Option ℕ) (plan : Outline) (before past : List Entry) : Type 0 where
+  pub inner : List Entry
+  pub recorded : past ≡ inner ++ (reverse (entering (flow_of before)) ++ before)
+  pub inside : list_all is_inner_entry inner ≡ true
+  pub begun : has_ended (flow_of before) ≡ false
+  pub given : AreGiven gives plan before (inner ++ reverse (entering (flow_of before)))
+  pub hands : list_all (is_of number) (inner ++ reverse (entering (flow_of before))) ≡ true
+  pub due : AreDue asked limit (inner ++ reverse (entering (flow_of before)))
+  pub within : AreWithin plan limit (length (entering (flow_of before))) (inner ++ reverse (entering (flow_of before)))
+  pub cause : flow_of past ≡ flow.Suspending → asked ⊎ (is_reached limit (length (inner ++ reverse (entering (flow_of before)))) ≡ true)
+
+-- how a session stands between two turns: it goes on in RUNNING, it is wound up in SUSPENDING, or it has stopped in a last state
+pub data Stands (gives : Order → Outcome → Type 0) (asked : Type 0) (number : ℕ) (limit : Option ℕ) (plan : Outline) (before past : List Entry) (kept : Option ℕ) : Type 0 where
+  going_on : flow_of past ≡ flow.Running → GoesOn gives number limit plan before past kept → Stands gives asked number limit plan before past kept
+  winding : flow_of past ≡ flow.Suspending → Winds gives asked number limit plan before past → Stands gives asked number limit plan before past kept
+  stopped : is_last (flow_of past) ≡ true → IsSession gives asked number limit plan before past (Some (flow_of past)) → Stands gives asked number limit plan before past kept
+
+-- between two turns of the one hand: the book isn't halted, the flow is RUNNING, and nothing is in flight
 pub record IsGoing (plan : Outline) (past : List Entry) (halted : Option Halt) : Type 0 where
   pub sound : halted ≡ None
   pub running : flow_of past ≡ flow.Running

@@ -23,7 +23,7 @@ use tf_ports::{Order, Performer};
 const HAND: u8 = 0;
 
 /// How a book that is halted stopped.
-fn halted<K: Desk>(book: &Book<K>) -> How
+pub(crate) fn halted<K: Desk>(book: &Book<K>) -> How
     requires { IsSome book.now.halt }
     ensures stands { StandsAs book.now.halt (state_of book.now) result }
     ensures cause { HaltsAs book.now.halt result }
@@ -54,12 +54,12 @@ fn perform<K: Desk, P: Performer>(
     ensures stops { IfSome result (StandsAs book.new.halt (state_of book.new)) }
     ensures plan { book.new.plan ≡ book.old.plan }
     ensures ran { (limit : Option ℕ) (before : List Record)
-        → GoesOn P.gives limit (outline book.old) before book.old.past book.old.limit
-        → IfSome result (HasRun P.gives (Rises (K.asks book.old.journal.desk) (K.asks book.new.journal.desk)) limit
+        → GoesOn P.gives 1 limit (outline book.old) before book.old.past book.old.limit
+        → IfSome result (HasRun P.gives (Rises (K.asks book.old.journal.desk) (K.asks book.new.journal.desk)) 1 limit
         (outline book.old) before book.new.past) }
     ensures on { (limit : Option ℕ) (before : List Record)
-        → GoesOn P.gives limit (outline book.old) before book.old.past book.old.limit
-        → IfNone result (GoesOn P.gives limit (outline book.old) before book.new.past book.new.limit) }
+        → GoesOn P.gives 1 limit (outline book.old) before book.old.past book.old.limit
+        → IfNone result (GoesOn P.gives 1 limit (outline book.old) before book.new.past book.new.limit) }
     ensures asks { K.asks book.old.journal.desk ≤ K.asks book.new.journal.desk }
     ensures goes { IfNone result (IsGoing (outline book.new) book.new.past book.new.halt) }
     ensures no_more { 67108864 - book.new.journal.size ≤ 67108864 - book.old.journal.size }
@@ -91,12 +91,12 @@ fn take_turn<K: Desk, P: Performer>(alloc: Global, book: &mut Book<K>, hand: &mu
     ensures stops { IfSome result (StandsAs book.new.halt (state_of book.new)) }
     ensures plan { book.new.plan ≡ book.old.plan }
     ensures ran { (limit : Option ℕ) (before : List Record)
-        → GoesOn P.gives limit (outline book.old) before book.old.past book.old.limit
-        → IfSome result (HasRun P.gives (Rises (K.asks book.old.journal.desk) (K.asks book.new.journal.desk)) limit
+        → GoesOn P.gives 1 limit (outline book.old) before book.old.past book.old.limit
+        → IfSome result (HasRun P.gives (Rises (K.asks book.old.journal.desk) (K.asks book.new.journal.desk)) 1 limit
         (outline book.old) before book.new.past) }
     ensures on { (limit : Option ℕ) (before : List Record)
-        → GoesOn P.gives limit (outline book.old) before book.old.past book.old.limit
-        → IfNone result (GoesOn P.gives limit (outline book.old) before book.new.past book.new.limit) }
+        → GoesOn P.gives 1 limit (outline book.old) before book.old.past book.old.limit
+        → IfNone result (GoesOn P.gives 1 limit (outline book.old) before book.new.past book.new.limit) }
     ensures asks { K.asks book.old.journal.desk ≤ K.asks book.new.journal.desk }
     ensures goes { IfNone result (IsGoing (outline book.new) book.new.past book.new.halt) }
     ensures less { IfNone result (67108864 - book.new.journal.size < 67108864 - book.old.journal.size) }
@@ -135,8 +135,8 @@ fn run<K: Desk, P: Performer>(alloc: Global, book: &mut Book<K>, hand: &mut P) -
     ensures stops { StandsAs book.new.halt (state_of book.new) result }
     ensures plan { book.new.plan ≡ book.old.plan }
     ensures ran { (limit : Option ℕ) (before : List Record)
-        → GoesOn P.gives limit (outline book.old) before book.old.past book.old.limit
-        → HasRun P.gives (Rises (K.asks book.old.journal.desk) (K.asks book.new.journal.desk)) limit (outline book.old)
+        → GoesOn P.gives 1 limit (outline book.old) before book.old.past book.old.limit
+        → HasRun P.gives (Rises (K.asks book.old.journal.desk) (K.asks book.new.journal.desk)) 1 limit (outline book.old)
         before book.new.past result }
     ensures asks { K.asks book.old.journal.desk ≤ K.asks book.new.journal.desk }
     ensures stopped { (told : Option (List AnOrder)) (base : List AnOrder)
@@ -163,7 +163,7 @@ fn run_session<K: Desk, P: Performer>(
         → Kept K.tells K.shown K.content K.left K.crashes K.disk_faults K.out_faults start book.new }
     ensures stops { StandsAs book.new.halt (state_of book.new) result }
     ensures plan { book.new.plan ≡ book.old.plan }
-    ensures ran { HasRun P.gives (Rises (K.asks book.old.journal.desk) (K.asks book.new.journal.desk)) limit
+    ensures ran { HasRun P.gives (Rises (K.asks book.old.journal.desk) (K.asks book.new.journal.desk)) 1 limit
         (outline book.old) book.old.past book.new.past result }
     ensures asks { K.asks book.old.journal.desk ≤ K.asks book.new.journal.desk }
     ensures stopped { (told : Option (List AnOrder)) (base : List AnOrder)
@@ -197,7 +197,7 @@ pub fn serial<K: Desk, P: Performer>(
         → Kept K.tells K.shown K.content K.left K.crashes K.disk_faults K.out_faults start result.book }
     ensures stops { StandsAs result.book.halt (state_of result.book) result.how }
     ensures plan { result.book.plan ≡ book.plan }
-    ensures ran { HasRun P.gives (Rises (K.asks book.journal.desk) (K.asks result.book.journal.desk)) limit
+    ensures ran { HasRun P.gives (Rises (K.asks book.journal.desk) (K.asks result.book.journal.desk)) 1 limit
         (outline book) book.past result.book.past result.how }
     ensures asks { K.asks book.journal.desk ≤ K.asks result.book.journal.desk }
     ensures orders { HasDoneBy (P.did hand.old) (orders (outline book) 0 book.past) (P.did hand.new)

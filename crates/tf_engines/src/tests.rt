@@ -7,8 +7,8 @@ use tf_entries::decode_plan;
 use tf_journal::Journal;
 use tf_machine::Machine;
 use tf_ports::MemoryPerformer;
-use tf_states::{AtomState, Entry, FlowState, Payload, What};
-use tf_values::{Text, Val};
+use tf_states::FlowState;
+use tf_values::Text;
 
 /// The book of a finished run of a linear flow `main` with one task `a`, which gave 1. Its plan has the bytes 22 to 79.
 const FINISHED: &[u8; 125] =
@@ -141,69 +141,5 @@ fn a_run_is_suspended_at_its_limit_or_where_it_is_asked(rt: HostRuntime) -> Resu
     let (how, count, _) = ran(alloc, begun(alloc, &[], &[2])?, Some(3))?;
     assert!(rt; how == How::Ended(FlowState::Success));
     assert_eq!(rt; count, 4);
-    Ok(())
-}
-
-/// A machine of a linear flow `main` with two tasks `a` and `b`, as the one task of the plan above.
-fn of_two(alloc: Global) -> Result<Machine, Fail> {
-    let bytes: &[u8] = FINISHED;
-    let mut plan = Vec::from_slice(alloc, &bytes[22..29])?;
-    plan.extend_from_slice(b"\x00\x02")?;
-    plan.extend_from_slice(&bytes[31..74])?;
-    plan.extend_from_slice(b"\x00\x01b")?;
-    plan.extend_from_slice(&bytes[34..79])?;
-    let Ok(plan) = decode_plan(alloc, &plan) else {
-        return Err(Fail::from("the plan isn't read"));
-    };
-    match Machine::make(alloc, plan) {
-        Ok(machine) => Ok(machine),
-        Err(_) => Err(Fail::from("the plan isn't taken")),
-    }
-}
-
-/// What the entries of a run of two tasks record, the oldest first.
-fn recorded(number: u64) -> What {
-    let (atom, state, payload) = match number {
-        1 => return What::Flow(FlowState::Running),
-        2 => (0, AtomState::Running, Payload::Empty),
-        3 => (0, AtomState::Success, Payload::Value(Val::Int(1))),
-        4 => (1, AtomState::Running, Payload::Empty),
-        _ => (1, AtomState::Success, Payload::Value(Val::Int(1))),
-    };
-    What::Atom {
-        atom,
-        state,
-        payload,
-    }
-}
-
-/// How many atoms an atom waits for, and how many hold it.
-#[tactic(auto, using(tf_book::proofs::AmongLemmas::atoms_told))]
-fn counted(machine: &Machine, atom: u16) -> Option<(u16, u16)> {
-    if atom < machine.plan().atoms() {
-        return Some((machine.waiting(atom), machine.holding(atom)));
-    }
-    None
-}
-
-#[test]
-fn a_task_waits_for_the_one_before_it_and_holds_it(rt: HostRuntime) -> Result<(), Fail> {
-    let alloc = rt.alloc();
-    let mut machine = of_two(alloc)?;
-    for (number, first, second) in [
-        (1, (0, 0), (1, 0)),
-        (2, (0, 0), (1, 0)),
-        (3, (0, 0), (0, 0)),
-        (4, (0, 1), (0, 0)),
-        (5, (0, 1), (0, 0)),
-    ] {
-        let entry = Entry {
-            hand: 0,
-            what: recorded(number),
-        };
-        assert!(rt; machine.apply(alloc, entry).is_ok(), "entry {number}");
-        assert!(rt; counted(&machine, 0) == Some(first), "entry {number}");
-        assert!(rt; counted(&machine, 1) == Some(second), "entry {number}");
-    }
     Ok(())
 }

@@ -1,4 +1,4 @@
-ghost use Rattle.std.specs.Prelude.{◌≡◌, ◌≢◌, None, Some, true, false, ℕ, IsSome, IsTrue, IfOk, IfSome, option_map, is_some};
+ghost use Rattle.std.specs.Prelude.{◌≡◌, ◌≢◌, ◌<◌, ◌^◌, None, Some, true, false, ℕ, length, IsSome, IsTrue, IfOk, IfSome, option_map, is_some};
 ghost use Rattle.tf_states.specs.declared.state.FlowState.TheVariants as flow;
 ghost use Rattle.tf_machine.specs.Answers.{start_entry, action_in, task_of, end_by};
 ghost use Rattle.tf_model.specs.Candidates.{choice, end_of};
@@ -30,11 +30,13 @@ impl<K: Desk> Book<K> {
         self.machine.flow_state()
     }
 
-    /// The state of the flow. The history is legal, and its plan compiles. Unless the book was halted by the disk, a
+    /// The state of the flow. The history is legal and not too long to be counted, and its plan compiles. Unless the book was halted by the disk, a
     /// crash now leaves just its plan and its history, where the desk tells its content.
+    #[tactic(auto, using(crate::proofs::HistoryLemmas::past_long))]
     pub fn state(&self) -> FlowState
         ensures is { result ≡ state self.now }
         ensures legal { LegalPast (outline self.now) self.now.past }
+        ensures few { length self.now.past < 2 ^ 63 }
         ensures compiles { compile_refusal self.now.plan ≡ None }
         ensures limits { IsWithinLimits (outline self.now) }
         ensures short { AreShort self.now.past }

@@ -6,11 +6,12 @@ use Rattle.taskflow.proofs.recording.run_in.Goals as goal
 pub returns-in-Ok-clause-runs : goal.returns-in-Ok-clause-runs
 returns-in-Ok-clause-runs g c =
     let D = g.K.Desk in
+    let here = g.met.K.Desk g.world.𝓛 g.world.𝓜 g.world.𝓡 ((λ s x. x), (λ x. x), (λ x. x), λ x. x) in
     let now = c.run_book.result.desk in
     λ name entry opened found.
-    begun_promised D.tells D.shown D.content D.left D.crashes D.disk_faults D.out_faults g.P.Performer.gives c.args.request _ _ name c.args.machine.plan entry c.in-Ok.book now c.run_book.result.status
+    begun_promised D.tells D.shown D.content D.left D.crashes D.disk_faults D.out_faults g.P.Performer.gives c.args.request.now _ _ name c.args.machine.plan entry c.in-Ok.book now c.run_book.result.status
     (c.in-Ok.ensures.begins name entry opened found) c.run_book.ensures.runs
-    (λ told picked. g.met.K.Desk.picked_is_there now name told picked) (λ told bytes is. g.met.K.Desk.reads_left now name bytes told is)
+    (λ told picked. here.picked_is_there now name told picked) (λ told bytes is. here.reads_left now name bytes told is)
     c.in-Ok.ensures.ready.1 (λ rose. rises_since _ (D.asks c.in-Ok.book.journal.desk) _ c.in-Ok.ensures.asks rose)
 
 pub returns-in-Ok-clause-causes : goal.returns-in-Ok-clause-causes
@@ -21,4 +22,4 @@ returns-in-Ok-clause-causes g c =
     r.disk r.out (omega arith) r.unsaid r.failed c.run_book.ensures.apart
 
 pub returns-in-Err-clause-runs : goal.returns-in-Err-clause-runs
-returns-in-Err-clause-runs g c = λ name entry opened found. c.say_unbegun.ensures.promised c.args.request _ name entry c.args.machine.plan (c.in-Err.ensures.unbegun name entry opened found)
+returns-in-Err-clause-runs g c = λ name entry opened found. c.say_unbegun.ensures.promised c.args.request.now _ name entry c.args.machine.plan (c.in-Err.ensures.unbegun name entry opened found)

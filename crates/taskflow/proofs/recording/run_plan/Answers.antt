@@ -20,7 +20,7 @@ returns-in-Ok-Book-clause-runs g c =
     let book = c.in-Ok-Book.book in
     let opened = rw c.in-Ok-Book.field-0-is at c.in-Ok-Book.ensures.opened in
     let loads = rw c.in-Ok-Book.field-0-is at c.in-Ok-Book.ensures.loads in
-    forbidden_over D.tells D.shown D.content D.left D.crashes D.disk_faults D.out_faults _ c.args.request _ c.args.name.now _ _ c.args.desk c.forbid.result.desk _ c.forbid.result.status book.plan book.past refl
+    forbidden_over D.tells D.shown D.content D.left D.crashes D.disk_faults D.out_faults _ c.args.request.now _ c.args.name.now _ _ c.args.desk c.forbid.result.desk _ c.forbid.result.status book.plan book.past refl
     (λ told. (loads told).0) (c.forbid.ensures.refuses c.args.name.now c.args.desk opened.untouched)
 
 pub returns-in-Ok-Book-clause-causes : goal.returns-in-Ok-Book-clause-causes
@@ -39,7 +39,7 @@ returns-in-Ok-NoFlow-clause-runs g c =
     let D = g.K.Desk in
     let opened = rw c.in-Ok-NoFlow.field-0-is at c.in-Ok-NoFlow.ensures.opened in
     let loads = rw c.in-Ok-NoFlow.field-0-is at c.in-Ok-NoFlow.ensures.loads in
-    begun_over D.tells D.shown D.content D.left D.crashes D.disk_faults D.out_faults _ c.args.request _ _ c.args.name.now _ _ c.args.desk c.hire_and_run.result.desk c.hire_and_run.result.status c.args.machine.plan
+    begun_over D.tells D.shown D.content D.left D.crashes D.disk_faults D.out_faults _ c.args.request.now _ _ c.args.name.now _ _ c.args.desk c.hire_and_run.result.desk c.hire_and_run.result.status c.args.machine.plan
     (λ told. inr (loads told)) (c.hire_and_run.ensures.runs c.args.name.now c.args.desk opened loads)
     (λ rose. rises_since _ (D.asks (desk_in (blank.Titled c.in-Ok-NoFlow.journal))) _ (rw c.in-Ok-NoFlow.field-0-is at c.in-Ok-NoFlow.ensures.asks) rose)
 
@@ -49,7 +49,7 @@ returns-in-Ok-Unborn-clause-runs g c =
     let opened = rw c.in-Ok-Unborn.field-0-is at c.in-Ok-Unborn.ensures.opened in
     let loads = rw c.in-Ok-Unborn.field-0-is at c.in-Ok-Unborn.ensures.loads in
     let run = c.hire_and_run-in-Ok-Unborn in
-    begun_over D.tells D.shown D.content D.left D.crashes D.disk_faults D.out_faults _ c.args.request _ _ c.args.name.now _ _ c.args.desk run.result.desk run.result.status c.args.machine.plan
+    begun_over D.tells D.shown D.content D.left D.crashes D.disk_faults D.out_faults _ c.args.request.now _ _ c.args.name.now _ _ c.args.desk run.result.desk run.result.status c.args.machine.plan
     (λ told. inl (loads told)) (run.ensures.runs c.args.name.now c.args.desk opened loads)
     (λ rose. rises_since _ (D.asks c.in-Ok-Unborn.desk) _ (rw c.in-Ok-Unborn.field-0-is at c.in-Ok-Unborn.ensures.asks) rose)
 

@@ -1,5 +1,4 @@
 use Rattle.std.proofs.Common.{refl, inr, sym, arith}
-use Rattle.taskflow.specs.Run.{spoken}
 use Rattle.taskflow.specs.Runs.{nobody, went_on}
 use Rattle.taskflow.proofs.BookLemmas.{untouched_by, unhired_so}
 use Rattle.taskflow.proofs.CountLemmas.{ran_causes}
@@ -9,12 +8,13 @@ use Rattle.taskflow.proofs.resuming.hire_and_go_on.Goals as goal
 pub returns-in-Ok-clause-goes : goal.returns-in-Ok-clause-goes
 returns-in-Ok-clause-goes g c =
     let D = g.K.Desk in
+    let here = g.met.K.Desk g.world.𝓛 g.world.𝓜 g.world.𝓡 ((λ s x. x), (λ x. x), (λ x. x), λ x. x) in
     let now = c.run_book.result.desk in
     λ name entry opened holds.
     went_on (inr (c.requires.going, c.in-Ok.ensures.hired))
-    (resumed_promised D.tells D.shown D.content D.left D.crashes D.disk_faults D.out_faults _ (spoken c.args.limit) _ name entry c.args.book now c.run_book.result.status
+    (resumed_promised D.tells D.shown D.content D.left D.crashes D.disk_faults D.out_faults _ c.args.request.now _ name entry c.args.book now c.run_book.result.status
     opened c.requires.kept holds c.run_book.ensures.runs
-    (λ told picked. g.met.K.Desk.picked_is_there now name told picked) (λ told bytes is. g.met.K.Desk.reads_left now name bytes told is) c.requires.speaks)
+    (λ told picked. here.picked_is_there now name told picked) (λ told bytes is. here.reads_left now name bytes told is) c.requires.speaks)
 
 pub returns-in-Ok-clause-causes : goal.returns-in-Ok-clause-causes
 returns-in-Ok-clause-causes g c =

@@ -1,4 +1,4 @@
-use Rattle.std.proofs.Common.{◌≡◌, true, ap, subst, sym, None, ◌∙◌, ℕ, List, Option}
+use Rattle.std.proofs.Common.{◌≡◌, true, refl, ap, subst, sym, None, ◌∙◌, ℕ, List, Option}
 use Rattle.tf_flow.specs.Plan.{PlanValue}
 use Rattle.tf_model.specs.History.{snapshot}
 use Rattle.tf_model.specs.Plan.{outline_of}
@@ -14,39 +14,39 @@ use Rattle.tf_engines.proofs.one_hand.perform.Goals as goal
 pub returns-in_default-clause-ran : goal.returns-in_default-clause-ran
 returns-in_default-clause-ran g c = λ limit before on.
     let same = c.halt_for_memory.ensures.same in
-    halts_so _ _ _ _ before _ _ _ c.halted.ensures.cause None
-    (goes_session _ _ _ _ before _ c.args.book.now.limit (subst (λ (p : PlanValue). LegalPast (outline_of p) c.halt_for_memory.new.self.past) (ap (λ (b : BookValue _). b.plan) same) c.halted.ensures.legal)
-    (subst (λ (l : List Entry). GoesOn g.P.Performer.gives limit (outline_of c.args.book.now.plan) before l c.args.book.now.limit) (sym (ap (λ (b : BookValue _). b.past) same)) on))
+    halts_so _ _ 1 _ _ before _ _ _ c.halted.ensures.cause None
+    (goes_session _ _ 1 _ _ before _ c.args.book.now.limit (subst (λ (p : PlanValue). LegalPast (outline_of p) c.halt_for_memory.new.self.past) (ap (λ (b : BookValue _). b.plan) same) c.halted.ensures.legal)
+    (subst (λ (l : List Entry). GoesOn g.P.Performer.gives 1 limit (outline_of c.args.book.now.plan) before l c.args.book.now.limit) (sym (ap (λ (b : BookValue _). b.past) same)) on))
 
 pub finish-requires-clause-task : goal.finish-requires-clause-task
 finish-requires-clause-task g c = told_some _ _ (order_told _ _ 0 _ c.state-before.ensures.legal c.requires.has)
 
 pub returns-in-Ok-finish-clause-on : goal.returns-in-Ok-finish-clause-on
 returns-in-Ok-finish-clause-on g c = λ limit before on.
-    subst (λ (k : Option ℕ). GoesOn g.P.Performer.gives limit (outline_of c.args.book.now.plan) before c.finish.new.self.past k) (sym c.finish.ensures.limit)
-    (goes_finished _ _ _ before _ _ _ _ _ g.met.P.Performer.reverts_to_nothing c.state-before.ensures.legal c.requires.has c.in-Ok.ensures.given c.in-Ok-finish.ensures.finished on)
+    subst (λ (k : Option ℕ). GoesOn g.P.Performer.gives 1 limit (outline_of c.args.book.now.plan) before c.finish.new.self.past k) (sym c.finish.ensures.limit)
+    (goes_finished _ 0 1 _ _ before _ _ _ _ _ refl g.met.P.Performer.reverts_to_nothing c.state-before.ensures.legal c.requires.has c.in-Ok.ensures.given c.in-Ok-finish.ensures.finished on)
 
 pub returns-in-Ok-finish-clause-goes : goal.returns-in-Ok-finish-clause-goes
 returns-in-Ok-finish-clause-goes g c =
     let e = c.in-Ok-finish.ensures in
     record {
       sound = e.sound;
-      running = runs_after _ _ _ _ e.finished ∙ c.requires.running;
+      running = runs_after 0 _ _ _ _ e.finished ∙ c.requires.running;
       still = subst (λ (p : PlanValue). is_still (outline_of p) (snapshot (outline_of p) c.finish.new.self.past) ≡ true) (sym e.plan)
-          (still_after _ _ _ _ c.state-before.ensures.legal c.requires.alone e.finished);
+          (still_after 0 _ _ _ _ c.state-before.ensures.legal c.requires.alone e.finished);
     }
 
 pub returns-clause-ran : goal.returns-clause-ran
 returns-clause-ran g c = λ limit before on.
-    halts_so _ _ _ _ before _ _ _ c.halted-in-Err.ensures.cause None
-    (finished_or_not _ _ _ _ before _ _ _ _ _ g.met.P.Performer.reverts_to_nothing c.state-before.ensures.legal
+    halts_so _ _ 1 _ _ before _ _ _ c.halted-in-Err.ensures.cause None
+    (finished_or_not _ _ 0 1 _ _ before _ _ _ _ _ refl g.met.P.Performer.reverts_to_nothing c.state-before.ensures.legal
     (subst (λ (p : PlanValue). LegalPast (outline_of p) c.finish.new.self.past) c.in-Err.ensures.plan c.halted-in-Err.ensures.legal) c.requires.has c.in-Ok.ensures.given c.in-Err.ensures.cut on)
 
 pub returns-in-Ok-finish-clause-asked : goal.returns-in-Ok-finish-clause-asked
 returns-in-Ok-finish-clause-asked g c = λ told base to_do.
-    finished_done told base _ _ _ _ _ c.in-Ok-finish.ensures.finished (done_next told base _ _ _ _ to_do c.in-Ok.ensures.done)
+    finished_done 0 told base _ _ _ _ _ c.in-Ok-finish.ensures.finished (done_next told base _ _ _ _ to_do c.in-Ok.ensures.done)
 
 pub returns-clause-stopped : goal.returns-clause-stopped
 returns-clause-stopped g c = λ told base to_do.
     halted_asks told base _ _ _ _ c.halted-in-Err.ensures.cause
-    (done_whole told base _ _ (finished_or_done told base _ _ _ _ _ c.in-Err.ensures.cut (done_next told base _ _ _ _ to_do c.in-Ok.ensures.done)))
+    (done_whole told base _ _ (finished_or_done 0 told base _ _ _ _ _ c.in-Err.ensures.cut (done_next told base _ _ _ _ to_do c.in-Ok.ensures.done)))

@@ -12,6 +12,6 @@ returns-in-Some-clause-ran g c = λ limit before on.
     let had = c.turns.invariant in
     let mid : ℕ = g.K.Desk.asks c.turns.book.journal.desk in
     let last : ℕ = g.K.Desk.asks c.take_turn.new.book.journal.desk in
-    run_later g.P.Performer.gives (Rises mid last) _ limit _ before _ c.in-Some.how (rises_later _ mid last had.asks)
-    (subst (λ (p : PlanValue). HasRun g.P.Performer.gives (Rises mid last) limit (outline_of p) before c.take_turn.new.book.past c.in-Some.how) had.plan
-    (c.in-Some.ensures.ran limit before (subst (λ (p : PlanValue). GoesOn g.P.Performer.gives limit (outline_of p) before c.turns.book.past c.turns.book.limit) (sym had.plan) (had.on limit before on))))
+    run_later g.P.Performer.gives (Rises mid last) _ 1 limit _ before _ c.in-Some.how (rises_later _ mid last had.asks)
+    (subst (λ (p : PlanValue). HasRun g.P.Performer.gives (Rises mid last) 1 limit (outline_of p) before c.take_turn.new.book.past c.in-Some.how) had.plan
+    (c.in-Some.ensures.ran limit before (subst (λ (p : PlanValue). GoesOn g.P.Performer.gives 1 limit (outline_of p) before c.turns.book.past c.turns.book.limit) (sym had.plan) (had.on limit before on))))

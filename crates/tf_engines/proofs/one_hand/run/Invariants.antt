@@ -17,8 +17,8 @@ invariant-turns g l = record {
   going : IsGoing (outline l.book) l.book.past l.book.halt;
   asked : (told : Option (List Order)) (base : List Order) → HasDone told base (g.P.Performer.did l.fn.hand) (orders (outline l.fn.book) 0 l.fn.book.past)
       → HasDone told base (g.P.Performer.did l.hand) (orders (outline l.fn.book) 0 l.book.past);
-  on : (limit : Option ℕ) (before : List Entry) → GoesOn g.P.Performer.gives limit (outline l.fn.book) before l.fn.book.past l.fn.book.limit
-      → GoesOn g.P.Performer.gives limit (outline l.fn.book) before l.book.past l.book.limit;
+  on : (limit : Option ℕ) (before : List Entry) → GoesOn g.P.Performer.gives 1 limit (outline l.fn.book) before l.fn.book.past l.fn.book.limit
+      → GoesOn g.P.Performer.gives 1 limit (outline l.fn.book) before l.book.past l.book.limit;
 }
 
 abbrev pub decreases-turns : goal.decreases-turns

@@ -1,4 +1,4 @@
-use Rattle.std.proofs.Common.{◌≡◌, ap, subst, sym, ◌∙◌, ℕ, List, arith}
+use Rattle.std.proofs.Common.{refl, subst, sym, ℕ, arith}
 use Rattle.tf_desk.specs.Counts.{Rises}
 use Rattle.tf_book.proofs.KeptLemmas.{rises_later}
 use Rattle.tf_engines.specs.Runs.{HasRun, GoesOn}
@@ -8,7 +8,7 @@ use Rattle.tf_flow.specs.Plan.{PlanValue}
 use Rattle.tf_model.specs.Plan.{outline_of}
 use Rattle.tf_model.specs.Steps.{LegalPast}
 use Rattle.tf_engines.proofs.OrderLemmas.{cut_done, halted_asks}
-use Rattle.tf_engines.proofs.TurnLemmas.{entered_goes, entered_going, ended_before, cut_before}
+use Rattle.tf_engines.proofs.EnterLemmas.{entered_goes, entered_going, ended_before, cut_before}
 use Rattle.tf_engines.proofs.one_hand.run_session.Goals as goal
 
 pub run-requires : goal.run-requires
@@ -22,21 +22,21 @@ returns-in-Ok-Running-clause-ran g c =
     let e = c.enter.ensures in
     let mid : ℕ = g.K.Desk.asks c.enter.new.self.journal.desk in
     let last : ℕ = g.K.Desk.asks c.run.new.book.journal.desk in
-    let on = entered_goes g.P.Performer.gives c.args.limit _ _ _ c.enter.new.self.limit (e.limit (was_sound _ _ c.in-Ok-Running.ensures.sound e.halted)) t.0 t.1 in
-    run_later g.P.Performer.gives (Rises mid last) _ c.args.limit _ _ _ c.run.result (rises_later _ mid last (omega (arith, e.asks.0)))
-    (subst (λ (p : PlanValue). HasRun g.P.Performer.gives (Rises mid last) c.args.limit (outline_of p) c.args.book.now.past c.run.new.book.past c.run.result) e.plan
+    let on = entered_goes g.P.Performer.gives 1 c.args.limit _ _ _ c.enter.new.self.limit refl (e.limit (was_sound _ _ c.in-Ok-Running.ensures.sound e.halted)) t.0 t.1 in
+    run_later g.P.Performer.gives (Rises mid last) _ 1 c.args.limit _ _ _ c.run.result (rises_later _ mid last (omega (arith, e.asks.0)))
+    (subst (λ (p : PlanValue). HasRun g.P.Performer.gives (Rises mid last) 1 c.args.limit (outline_of p) c.args.book.now.past c.run.new.book.past c.run.result) e.plan
     (c.run.ensures.ran c.args.limit c.args.book.now.past
-    (subst (λ (p : PlanValue). GoesOn g.P.Performer.gives c.args.limit (outline_of p) c.args.book.now.past c.enter.new.self.past c.enter.new.self.limit) (sym e.plan) on)))
+    (subst (λ (p : PlanValue). GoesOn g.P.Performer.gives 1 c.args.limit (outline_of p) c.args.book.now.past c.enter.new.self.past c.enter.new.self.limit) (sym e.plan) on)))
 
 pub returns-in-Ok-Ended-clause-ran : goal.returns-in-Ok-Ended-clause-ran
 returns-in-Ok-Ended-clause-ran g c =
     let t = rw c.in-Ok-Ended.field-0-is at c.in-Ok-Ended.ensures.entered in
-    ended_before g.P.Performer.gives _ _ _ _ _ _ c.state-before.ensures.legal t
+    ended_before g.P.Performer.gives _ 1 _ _ _ _ _ c.state-before.ensures.legal t
 
 pub returns-in-Err-clause-ran : goal.returns-in-Err-clause-ran
 returns-in-Err-clause-ran g c =
-    cut_before g.P.Performer.gives _ _ _ _ _ _ _ c.halted.ensures.cause (subst (λ (p : PlanValue). LegalPast (outline_of p) c.enter.new.self.past) c.enter.ensures.plan c.halted.ensures.legal) c.in-Err.ensures.cut
+    cut_before g.P.Performer.gives _ 1 _ _ _ _ _ _ refl c.halted.ensures.cause (subst (λ (p : PlanValue). LegalPast (outline_of p) c.enter.new.self.past) c.enter.ensures.plan c.halted.ensures.legal) c.in-Err.ensures.cut
 
 pub returns-in-Err-clause-stopped : goal.returns-in-Err-clause-stopped
 returns-in-Err-clause-stopped g c = λ told base has.
-    halted_asks told base _ _ _ _ c.halted.ensures.cause (cut_done told base (g.P.Performer.did c.args.hand.now) _ _ _ c.in-Err.ensures.cut has)
+    halted_asks told base _ _ _ _ c.halted.ensures.cause (cut_done 0 told base (g.P.Performer.did c.args.hand.now) _ _ _ c.in-Err.ensures.cut has)

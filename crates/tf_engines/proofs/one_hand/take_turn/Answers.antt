@@ -1,4 +1,4 @@
-use Rattle.std.proofs.Common.{◌≡◌, true, ap, subst, sym, ◌∙◌, ℕ, List, Option, None, Some}
+use Rattle.std.proofs.Common.{refl, subst, sym, ℕ, List, Option}
 use Rattle.std.specs.Prelude.{IfSome, IfNone}
 use Rattle.tf_flow.specs.Plan.{PlanValue}
 use Rattle.tf_desk.specs.Counts.{Rises}
@@ -23,17 +23,17 @@ next-requires-clause-free g c = still_free _ _ 0 c.requires.going.still
 pub perform-requires-clause-has : goal.perform-requires-clause-has
 perform-requires-clause-has g c =
     let t = rw c.in-Ok-Start.field-0-is at c.in-Ok-Start.ensures.turn in
-    subst (λ (p : PlanValue). HasOrder (outline_of p) c.next.new.self.past 0 c.in-Ok-Start.order) (sym c.next.ensures.plan) (has_started _ _ _ t.stop _ _ t.is.0)
+    subst (λ (p : PlanValue). HasOrder (outline_of p) c.next.new.self.past 0 c.in-Ok-Start.order) (sym c.next.ensures.plan) (has_started 0 _ _ _ t.stop _ _ t.is.0)
 
 pub perform-requires-clause-alone : goal.perform-requires-clause-alone
 perform-requires-clause-alone g c =
     let t = rw c.in-Ok-Start.field-0-is at c.in-Ok-Start.ensures.turn in
-    subst (λ (p : PlanValue). IsAlone (outline_of p) c.next.new.self.past 0) (sym c.next.ensures.plan) (alone_started _ _ _ t.stop _ _ c.requires.going.still t.is.0)
+    subst (λ (p : PlanValue). IsAlone (outline_of p) c.next.new.self.past 0) (sym c.next.ensures.plan) (alone_started 0 _ _ _ t.stop _ _ c.requires.going.still t.is.0)
 
 pub perform-requires-clause-running : goal.perform-requires-clause-running
 perform-requires-clause-running g c =
     let t = rw c.in-Ok-Start.field-0-is at c.in-Ok-Start.ensures.turn in
-    runs_started _ _ _ t.stop _ _ t.is.0
+    runs_started 0 _ _ _ t.stop _ _ t.is.0
 
 pub perform-requires-clause-whole : goal.perform-requires-clause-whole
 perform-requires-clause-whole g c =
@@ -43,61 +43,61 @@ perform-requires-clause-whole g c =
 pub unreachable-requires : goal.unreachable-requires
 unreachable-requires g c =
     let t = rw c.in-Ok-Idle.field-0-is at c.in-Ok-Idle.ensures.turn in
-    never_waits _ _ _ t.stop _ c.requires.going.still c.requires.going.running
+    never_waits 0 _ _ _ t.stop _ c.requires.going.still
     (subst (λ (p : PlanValue). LegalPast (outline_of p) c.next.new.self.past) c.next.ensures.plan c.state-after.ensures.legal) t.is
 
 pub returns-in-Ok-Start-clause-ran : goal.returns-in-Ok-Start-clause-ran
 returns-in-Ok-Start-clause-ran g c = λ limit before on.
     let t = rw c.in-Ok-Start.field-0-is at c.in-Ok-Start.ensures.turn in
-    let started = goes_started g.P.Performer.gives limit _ before _ _ t.stop _ _ t.is.0 on in
+    let started = goes_started 0 1 refl g.P.Performer.gives limit _ before _ _ t.stop _ _ t.is.0 on in
     let mid : ℕ = g.K.Desk.asks c.next.new.self.journal.desk in
     let last : ℕ = g.K.Desk.asks c.perform.new.book.journal.desk in
-    some_later g.P.Performer.gives (Rises mid last) _ limit _ before _ c.perform.result (rises_later _ mid last c.next.ensures.no_fall.0)
-    (subst (λ (p : PlanValue). IfSome c.perform.result (λ (h : How). HasRun g.P.Performer.gives (Rises mid last) limit (outline_of p) before c.perform.new.book.past h)) c.next.ensures.plan
+    some_later g.P.Performer.gives (Rises mid last) _ 1 limit _ before _ c.perform.result (rises_later _ mid last c.next.ensures.no_fall.0)
+    (subst (λ (p : PlanValue). IfSome c.perform.result (λ (h : How). HasRun g.P.Performer.gives (Rises mid last) 1 limit (outline_of p) before c.perform.new.book.past h)) c.next.ensures.plan
     (c.perform.ensures.ran limit before
-    (subst (λ (p : PlanValue). GoesOn g.P.Performer.gives limit (outline_of p) before c.next.new.self.past c.next.new.self.limit) (sym c.next.ensures.plan)
-    (subst (λ (k : Option ℕ). GoesOn g.P.Performer.gives limit (outline_of c.args.book.now.plan) before c.next.new.self.past k) (sym c.next.ensures.limit) started))))
+    (subst (λ (p : PlanValue). GoesOn g.P.Performer.gives 1 limit (outline_of p) before c.next.new.self.past c.next.new.self.limit) (sym c.next.ensures.plan)
+    (subst (λ (k : Option ℕ). GoesOn g.P.Performer.gives 1 limit (outline_of c.args.book.now.plan) before c.next.new.self.past k) (sym c.next.ensures.limit) started))))
 
 pub returns-in-Ok-Start-clause-on : goal.returns-in-Ok-Start-clause-on
 returns-in-Ok-Start-clause-on g c = λ limit before on.
     let t = rw c.in-Ok-Start.field-0-is at c.in-Ok-Start.ensures.turn in
-    let started = goes_started g.P.Performer.gives limit _ before _ _ t.stop _ _ t.is.0 on in
-    subst (λ (p : PlanValue). IfNone c.perform.result (GoesOn g.P.Performer.gives limit (outline_of p) before c.perform.new.book.past c.perform.new.book.limit)) c.next.ensures.plan
+    let started = goes_started 0 1 refl g.P.Performer.gives limit _ before _ _ t.stop _ _ t.is.0 on in
+    subst (λ (p : PlanValue). IfNone c.perform.result (GoesOn g.P.Performer.gives 1 limit (outline_of p) before c.perform.new.book.past c.perform.new.book.limit)) c.next.ensures.plan
     (c.perform.ensures.on limit before
-    (subst (λ (p : PlanValue). GoesOn g.P.Performer.gives limit (outline_of p) before c.next.new.self.past c.next.new.self.limit) (sym c.next.ensures.plan)
-    (subst (λ (k : Option ℕ). GoesOn g.P.Performer.gives limit (outline_of c.args.book.now.plan) before c.next.new.self.past k) (sym c.next.ensures.limit) started)))
+    (subst (λ (p : PlanValue). GoesOn g.P.Performer.gives 1 limit (outline_of p) before c.next.new.self.past c.next.new.self.limit) (sym c.next.ensures.plan)
+    (subst (λ (k : Option ℕ). GoesOn g.P.Performer.gives 1 limit (outline_of c.args.book.now.plan) before c.next.new.self.past k) (sym c.next.ensures.limit) started)))
 
 pub returns-in-Ok-Ended-clause-stops : goal.returns-in-Ok-Ended-clause-stops
 returns-in-Ok-Ended-clause-stops g c =
     let t = rw c.in-Ok-Ended.field-0-is at c.in-Ok-Ended.ensures.turn in
-    let stops = turn_stops _ _ _ _ _ _ _ c.requires.going.running t in
+    let stops = turn_stops 0 _ _ _ _ _ _ _ c.requires.going.running t in
     (c.in-Ok-Ended.ensures.sound, stops.0, stops.1)
 
 pub returns-in-Ok-Ended-clause-ran : goal.returns-in-Ok-Ended-clause-ran
 returns-in-Ok-Ended-clause-ran g c = λ limit before on.
     let t = rw c.in-Ok-Ended.field-0-is at c.in-Ok-Ended.ensures.turn in
-    turn_ended g.P.Performer.gives limit _ before _ _ _ _ _ _ c.requires.going.running
+    turn_ended 0 1 refl g.P.Performer.gives limit _ before _ _ _ _ _ _ c.requires.going.running
     (subst (λ (p : PlanValue). LegalPast (outline_of p) c.next.new.self.past) c.next.ensures.plan c.state-after-in-Ok-Ended.ensures.legal) t on
 
 pub returns-in-Ok-Suspended-clause-stops : goal.returns-in-Ok-Suspended-clause-stops
 returns-in-Ok-Suspended-clause-stops g c =
     let t = rw c.in-Ok-Suspended.field-0-is at c.in-Ok-Suspended.ensures.turn in
-    (c.in-Ok-Suspended.ensures.sound, turn_is_suspended _ _ _ _ _ _ c.requires.going.running t)
+    (c.in-Ok-Suspended.ensures.sound, turn_is_suspended 0 _ _ _ _ _ _ t)
 
 pub returns-in-Ok-Suspended-clause-ran : goal.returns-in-Ok-Suspended-clause-ran
 returns-in-Ok-Suspended-clause-ran g c = λ limit before on.
     let t = rw c.in-Ok-Suspended.field-0-is at c.in-Ok-Suspended.ensures.turn in
-    turn_suspended g.P.Performer.gives limit _ before _ _ _ _ _ c.requires.going.running
+    turn_suspended 0 1 refl g.P.Performer.gives limit _ before _ _ _ _ _ c.requires.going.running
     (subst (λ (p : PlanValue). LegalPast (outline_of p) c.next.new.self.past) c.next.ensures.plan c.state-after-in-Ok-Suspended.ensures.legal) t on
 
 pub returns-in-Ok-Suspended-clause-stopped : goal.returns-in-Ok-Suspended-clause-stopped
 returns-in-Ok-Suspended-clause-stopped g c = λ told base has.
     let t = rw c.in-Ok-Suspended.field-0-is at c.in-Ok-Suspended.ensures.turn in
-    suspended_done told base (g.P.Performer.did c.args.hand.now) _ _ _ _ _ _ t has
+    suspended_done 0 told base (g.P.Performer.did c.args.hand.now) _ _ _ _ _ _ t has
 
 pub returns-in-Err-clause-ran : goal.returns-in-Err-clause-ran
 returns-in-Err-clause-ran g c = λ limit before on.
-    halted_run g.P.Performer.gives limit _ before _ _ _ _ _ _ _ c.halted.ensures.cause c.requires.going.running
+    halted_run 0 1 refl g.P.Performer.gives limit _ before _ _ _ _ _ _ _ c.halted.ensures.cause c.requires.going.running
     (subst (λ (p : PlanValue). LegalPast (outline_of p) c.next.new.self.past) c.next.ensures.plan c.halted.ensures.legal) c.in-Err.ensures.cut on
 
 pub returns-in-Ok-Start-clause-asked : goal.returns-in-Ok-Start-clause-asked
@@ -106,7 +106,7 @@ returns-in-Ok-Start-clause-asked g c = λ told base has.
     let did : Option (List Order) = g.P.Performer.did c.args.hand.now in
     subst (λ (p : PlanValue). IfNone c.perform.result (HasDone told base (g.P.Performer.did c.perform.new.hand) (orders (outline_of p) 0 c.perform.new.book.past))) c.next.ensures.plan
     (c.perform.ensures.asked told base
-    (subst (λ (p : PlanValue). HasToDo told base did (orders (outline_of p) 0 c.next.new.self.past) c.in-Ok-Start.order) (sym c.next.ensures.plan) (started_to_do told base did _ _ _ t.stop _ _ t.is.0 has)))
+    (subst (λ (p : PlanValue). HasToDo told base did (orders (outline_of p) 0 c.next.new.self.past) c.in-Ok-Start.order) (sym c.next.ensures.plan) (started_to_do 0 told base did _ _ _ t.stop _ _ t.is.0 has)))
 
 pub returns-in-Ok-Start-clause-stopped : goal.returns-in-Ok-Start-clause-stopped
 returns-in-Ok-Start-clause-stopped g c = λ told base has.
@@ -114,13 +114,13 @@ returns-in-Ok-Start-clause-stopped g c = λ told base has.
     let did : Option (List Order) = g.P.Performer.did c.args.hand.now in
     subst (λ (p : PlanValue). IfSome c.perform.result (λ (h : How). HasDoneBy told base (g.P.Performer.did c.perform.new.hand) (orders (outline_of p) 0 c.perform.new.book.past) h)) c.next.ensures.plan
     (c.perform.ensures.stopped told base
-    (subst (λ (p : PlanValue). HasToDo told base did (orders (outline_of p) 0 c.next.new.self.past) c.in-Ok-Start.order) (sym c.next.ensures.plan) (started_to_do told base did _ _ _ t.stop _ _ t.is.0 has)))
+    (subst (λ (p : PlanValue). HasToDo told base did (orders (outline_of p) 0 c.next.new.self.past) c.in-Ok-Start.order) (sym c.next.ensures.plan) (started_to_do 0 told base did _ _ _ t.stop _ _ t.is.0 has)))
 
 pub returns-in-Ok-Ended-clause-stopped : goal.returns-in-Ok-Ended-clause-stopped
 returns-in-Ok-Ended-clause-stopped g c = λ told base has.
     let t = rw c.in-Ok-Ended.field-0-is at c.in-Ok-Ended.ensures.turn in
-    ended_done told base (g.P.Performer.did c.args.hand.now) _ _ _ _ _ _ _ t has
+    ended_done 0 told base (g.P.Performer.did c.args.hand.now) _ _ _ _ _ _ _ t has
 
 pub returns-in-Err-clause-stopped : goal.returns-in-Err-clause-stopped
 returns-in-Err-clause-stopped g c = λ told base has.
-    halted_asks told base _ _ _ _ c.halted.ensures.cause (halted_done told base (g.P.Performer.did c.args.hand.now) _ _ _ _ _ _ c.in-Err.ensures.cut has)
+    halted_asks told base _ _ _ _ c.halted.ensures.cause (halted_done 0 told base (g.P.Performer.did c.args.hand.now) _ _ _ _ _ _ c.in-Err.ensures.cut has)

@@ -1,0 +1,12 @@
+use Rattle.tf_engines.proofs.OrderLemmas.{so_by}
+use Rattle.tf_engines.proofs.SharedLemmas.{concluded}
+use Rattle.tf_engines.proofs.many_hands.conclude.Goals as goal
+
+pub returns-clause-run : goal.returns-clause-run
+returns-clause-run g c =
+    concluded g.K.Desk.tells g.K.Desk.shown g.K.Desk.content g.K.Desk.left g.K.Desk.crashes g.K.Desk.disk_faults g.K.Desk.out_faults g.K.Desk.asks g.P.Performer.gives c.args.shared c.into_book-book.result c.halt_for.new.book c.stopped-how.result c.into_book-book.ensures.shared c.into_book-book.ensures.legal c.into_book-book.ensures.book
+    c.halt_for.ensures.keeps c.halt_for.ensures.same c.stopped-how.ensures
+
+pub returns-clause-orders : goal.returns-clause-orders
+returns-clause-orders g c = λ told base did asked has.
+    so_by c.args.failed c.halt_for.new.book.halt _ c.stopped-how.result told base did asked c.halt_for.ensures.halted c.stopped-how.ensures has
