@@ -5,8 +5,6 @@
 mod calls_tests;
 mod engine;
 mod hand_loop;
-#[cfg(test)]
-mod hands_tests;
 mod hiring;
 mod many_hands;
 mod one_hand;
