@@ -12,5 +12,3 @@ pub use files::FileDesk;
 pub use memory::MemoryDesk;
 pub use streams::{read_on, write_whole};
 
-#[cfg(test)]
-mod tests;

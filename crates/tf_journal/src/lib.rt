@@ -14,5 +14,3 @@ pub use faults::{AppendFault, JournalFault, LoadFault};
 pub use journal::Journal;
 pub use title::Title;
 
-#[cfg(test)]
-mod tests;

@@ -11,5 +11,3 @@ mod runs;
 pub use built_ins::value_of;
 pub use local::LocalHand;
 
-#[cfg(test)]
-mod tests;

@@ -12,5 +12,3 @@ pub use keeping::Kept;
 pub use passes::{Pass, Turnstile};
 pub use tally::Tally;
 
-#[cfg(test)]
-mod tests;

@@ -23,5 +23,3 @@ pub use text_form::quote;
 pub use utf8::{Text, Texts};
 pub use value::Val;
 
-#[cfg(test)]
-mod tests;

@@ -7,5 +7,3 @@ mod serving;
 
 pub use serving::{ServeEnd, serve};
 
-#[cfg(test)]
-mod tests;
