@@ -10,4 +10,3 @@ mod runs;
 
 pub use built_ins::value_of;
 pub use local::LocalHand;
-

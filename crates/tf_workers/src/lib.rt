@@ -6,4 +6,3 @@ mod incoming;
 mod serving;
 
 pub use serving::{ServeEnd, serve};
-
