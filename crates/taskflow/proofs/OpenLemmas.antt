@@ -56,8 +56,8 @@ module _ {K : Type 0} (tells : K → Bool) (shown : K → Option (List ℕ)) (co
   refuses_stays now next message wanted status refuses telling = fun_ext (λ other. by other)
     where
       by : (other : List ℕ) → (content next).files other ≡ (content now).files other
-      by [] = ((refuses (0 ∷ []) now (untouched_now (0 ∷ []) now)).alone telling).others [] (λ same. cc)
-      by (first ∷ rest) = ((refuses [] now (untouched_now [] now)).alone telling).others (first ∷ rest) (λ same. cc)
+      by [] = ((refuses (0 ∷ []) now (untouched_now tells shown content left crashes disk_faults out_faults (0 ∷ []) now)).alone telling).others [] (λ same. cc)
+      by (first ∷ rest) = ((refuses [] now (untouched_now tells shown content left crashes disk_faults out_faults [] now)).alone telling).others (first ∷ rest) (λ same. cc)
 
   -- ---- what a load answered
 
@@ -71,7 +71,7 @@ module _ {K : Type 0} (tells : K → Bool) (shown : K → Option (List ℕ)) (co
       → (IsTrue (tells mid) → IfErr found (λ back. back.1 ≢ load_fault.Disk) → HasSynced (content mid) (content (desk_loaded found)) (crashes (desk_loaded found)) (shown mid))
       → Untouched tells shown content left crashes disk_faults out_faults name entry (desk_loaded found)
       → IfOk found (λ loaded. Open tells shown content left crashes disk_faults out_faults name entry (desk_of loaded))
-  opened_so name entry mid (Ok loaded) picks told rests synced untouched = open_set name entry mid (desk_of loaded) picks told rests (λ telling. synced telling tt) untouched
+  opened_so name entry mid (Ok loaded) picks told rests synced untouched = open_set tells shown content left crashes disk_faults out_faults name entry mid (desk_of loaded) picks told rests (λ telling. synced telling tt) untouched
   opened_so name entry mid (Err back) picks told rests synced untouched = tt
 
   -- ---- how a command ends whose book couldn't be opened
