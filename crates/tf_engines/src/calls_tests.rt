@@ -1,93 +1,18 @@
-ghost use Rattle.std.specs.Prelude.{◌<◌};
+ghost use Rattle.std.specs.Prelude.{◌≡◌, ◌<◌};
+ghost use Rattle.tf_machine.specs.Machine.{outline};
+ghost use Rattle.tf_model.specs.Plan.{count};
 
+use crate::test_books::{begun, desk, retried, two_echoes};
 use std::alloc::Global;
 use std::test::Fail;
 use tf_book::{Book, Entered, Turn};
 use tf_desk::MemoryDesk;
-use tf_flow::{
-    Arg, ArgList, Bind, Binds, Flow, FlowKind, Item, Items, Links, Plan, Provides, Retry,
-    RetryKind, Task, TaskKind, Undo,
-};
+use tf_flow::FlowKind;
 use tf_hands::hands_are_free_or_have_a_task;
-use tf_journal::Journal;
 use tf_machine::Machine;
 use tf_ports::Outcome;
 use tf_states::{Failure, FlowState};
-use tf_values::{Name, Text, Texts, Val};
-
-fn name(text: &[u8]) -> Result<Name, Fail> {
-    Ok(Name::make(text).ok_or("no name")?)
-}
-
-fn arg(name: Name) -> Arg {
-    Arg { name, symbol: name }
-}
-
-/// A task that fails below 2.
-fn fail_below(alloc: Global, name: Name, number: Name, limit: Name) -> Result<Item, Fail> {
-    let mut args = Vec::new(alloc);
-    args.push(arg(number))?;
-    args.push(arg(limit))?;
-    let mut inject = Vec::new(alloc);
-    inject.push(Bind {
-        symbol: limit,
-        value: Val::Int(2),
-    })?;
-    Ok(Item::Task(Task {
-        name,
-        kind: TaskKind::FailBelow,
-        words: Texts::make(Vec::new(alloc)),
-        args: ArgList::make(args),
-        inject: Binds::make(inject),
-        provides: Provides::Nothing,
-        priority: 0,
-        undo: Undo::Pass,
-    }))
-}
-
-/// An unordered flow of two such tasks, with a retry controller that tells the number of the attempt, of two.
-fn retried(alloc: Global) -> Result<Plan, Fail> {
-    let number = name(b"n")?;
-    let limit = name(b"limit")?;
-    let mut items = Vec::new(alloc);
-    items.push(fail_below(alloc, name(b"t1")?, number, limit)?)?;
-    items.push(fail_below(alloc, name(b"t2")?, number, limit)?)?;
-    let root = Flow {
-        name: name(b"main")?,
-        kind: FlowKind::Unordered,
-        retry: Some(Retry {
-            name: name(b"r")?,
-            kind: RetryKind::Times {
-                attempts: 2,
-                all: false,
-            },
-            args: ArgList::make(Vec::new(alloc)),
-            inject: Binds::make(Vec::new(alloc)),
-            provides: Provides::Whole(number),
-        }),
-        items: Items::make(items),
-        links: Links::make(Vec::new(alloc)),
-    };
-    match Plan::make(alloc, root, Binds::make(Vec::new(alloc)), false) {
-        Ok(plan) => Ok(plan),
-        Err(_) => Err(Fail::from("there is no plan")),
-    }
-}
-
-/// A run of the flow of which nothing is kept.
-fn begun(alloc: Global) -> Result<Book<MemoryDesk>, Fail> {
-    let Ok(machine) = Machine::make(alloc, retried(alloc)?) else {
-        return Err(Fail::from("the plan isn't taken"));
-    };
-    let desk = MemoryDesk::make(alloc, 65_536, 1_000, Vec::new(alloc), Vec::new(alloc))?;
-    let Ok(journal) = Journal::volatile(alloc, desk) else {
-        return Err(Fail::from("there is no journal"));
-    };
-    match Book::start(alloc, journal, machine, false) {
-        Ok(book) => Ok(book),
-        Err(_) => Err(Fail::from("the book doesn't begin")),
-    }
-}
+use tf_values::{Text, Val};
 
 /// The next turn of a hand with nothing in flight.
 fn turn(book: &mut Book<MemoryDesk>, hand: u8) -> Result<Turn, Fail>
@@ -149,7 +74,7 @@ const LINES: &str =
 #[test]
 fn one_resolution_covers_the_failures_of_two_hands(rt: HostRuntime) -> Result<(), Fail> {
     let alloc = rt.alloc();
-    let mut book = begun(alloc)?;
+    let mut book = begun(alloc, retried(alloc)?, desk(alloc, &[], &[])?)?;
     assert!(rt; matches!(book.enter(0, None), Ok(Entered::Running)));
     assert!(rt; starts(&mut book, 0)?);
     assert!(rt; starts(&mut book, 1)?);
@@ -169,5 +94,47 @@ fn one_resolution_covers_the_failures_of_two_hands(rt: HostRuntime) -> Result<()
     assert_eq!(rt; book.count(), 22);
     let desk = book.close();
     assert!(rt; desk.shown() == LINES.as_bytes());
+    Ok(())
+}
+
+/// How many atoms the machine has.
+fn atoms(machine: &Machine) -> u16
+    ensures { result ≡ count (outline machine.now) }
+{
+    machine.plan().atoms()
+}
+
+/// How many atoms before an atom of the book are neither SUCCESS nor IGNORE.
+fn waiting(book: &Book<MemoryDesk>, atom: u16) -> Option<u16> {
+    let machine = book.machine();
+    if atom < atoms(machine) {
+        return Some(machine.waiting(atom));
+    }
+    None
+}
+
+/// How many atoms after an atom of the book aren't settled.
+fn holding(book: &Book<MemoryDesk>, atom: u16) -> Option<u16> {
+    let machine = book.machine();
+    if atom < atoms(machine) {
+        return Some(machine.holding(atom));
+    }
+    None
+}
+
+#[test]
+fn a_task_waits_for_the_one_before_and_holds_it_back(rt: HostRuntime) -> Result<(), Fail> {
+    let alloc = rt.alloc();
+    let plan = two_echoes(alloc, FlowKind::Linear)?;
+    let mut book = begun(alloc, plan, desk(alloc, &[], &[])?)?;
+    assert!(rt; matches!(book.enter(0, None), Ok(Entered::Running)));
+    assert!(rt; waiting(&book, 1) == Some(1));
+    assert!(rt; starts(&mut book, 0)?);
+    end(&mut book, 0, Outcome::Gave(Val::Nothing))?;
+    assert!(rt; waiting(&book, 1) == Some(0));
+    assert!(rt; starts(&mut book, 0)?);
+    end(&mut book, 0, Outcome::Gave(Val::Nothing))?;
+    assert_eq!(rt; book.count(), 5);
+    assert!(rt; holding(&book, 0) == Some(1));
     Ok(())
 }
