@@ -7,12 +7,21 @@ use std::alloc::Global;
 use std::test::Fail;
 use tf_book::{Book, Entered, Turn};
 use tf_desk::MemoryDesk;
-use tf_flow::FlowKind;
+use tf_flow::{FlowKind, Plan};
 use tf_hands::hands_are_free_or_have_a_task;
 use tf_machine::Machine;
 use tf_ports::Outcome;
 use tf_states::{Failure, FlowState};
 use tf_values::{Text, Val};
+
+/// A run of a plan whose session was entered by hand 0, and of which nothing is kept.
+fn entered(alloc: Global, plan: Plan) -> Result<Book<MemoryDesk>, Fail> {
+    let mut book = begun(alloc, plan, desk(alloc, &[], &[])?)?;
+    match book.enter(0, None) {
+        Ok(Entered::Running) => Ok(book),
+        _ => Err(Fail::from("the session isn't entered")),
+    }
+}
 
 /// The next turn of a hand with nothing in flight.
 fn turn(book: &mut Book<MemoryDesk>, hand: u8) -> Result<Turn, Fail>
@@ -46,26 +55,67 @@ fn end(book: &mut Book<MemoryDesk>, hand: u8, outcome: Outcome) -> Result<(), Fa
     }
 }
 
-fn starts(book: &mut Book<MemoryDesk>, hand: u8) -> Result<bool, Fail>
-    requires { hand < 64 }
-{
-    Ok(matches!(turn(book, hand)?, Turn::Start(_)))
+/// What the next turn of a hand is, or how it ends its task.
+#[derive(Clone, Copy)]
+enum Act {
+    Starts,
+    Waits,
+    Ends,
+    Fails,
+    Gives2,
+    GivesNothing,
 }
 
-fn waits(book: &mut Book<MemoryDesk>, hand: u8) -> Result<bool, Fail>
-    requires { hand < 64 }
-{
-    Ok(matches!(turn(book, hand)?, Turn::Idle))
+/// The failure of a task that was given 1.
+fn below(alloc: Global) -> Result<Outcome, Fail> {
+    match Text::make(alloc, b"1 below 2") {
+        Ok(text) => Ok(Outcome::Failed(Failure::Raised(text))),
+        Err(_) => Err(Fail::from("there is no text")),
+    }
 }
 
-fn fails(alloc: Global, book: &mut Book<MemoryDesk>, hand: u8) -> Result<(), Fail>
-    requires { hand < 64 }
-{
-    let Ok(text) = Text::make(alloc, b"1 below 2") else {
-        return Err(Fail::from("there is no text"));
-    };
-    end(book, hand, Outcome::Failed(Failure::Raised(text)))
+/// Whether the next turn of a hand is so, or whether the end of its task is recorded.
+fn does(alloc: Global, book: &mut Book<MemoryDesk>, hand: u8, act: Act) -> Result<bool, Fail> {
+    if hand >= 64 {
+        return Err(Fail::from("there is no such hand"));
+    }
+    match act {
+        Act::Starts => Ok(matches!(turn(book, hand)?, Turn::Start(_))),
+        Act::Waits => Ok(matches!(turn(book, hand)?, Turn::Idle)),
+        Act::Ends => Ok(matches!(turn(book, hand)?, Turn::Ended(FlowState::Success))),
+        Act::Fails => {
+            end(book, hand, below(alloc)?)?;
+            Ok(true)
+        }
+        Act::Gives2 => {
+            end(book, hand, Outcome::Gave(Val::Int(2)))?;
+            Ok(true)
+        }
+        Act::GivesNothing => {
+            end(book, hand, Outcome::Gave(Val::Nothing))?;
+            Ok(true)
+        }
+    }
 }
+
+/// Two hands fail in the first attempt, revert, and give 2 in the second.
+const ACTS: [(u8, Act); 15] = [
+    (0, Act::Starts),
+    (1, Act::Starts),
+    (0, Act::Fails),
+    (0, Act::Starts),
+    (1, Act::Fails),
+    (1, Act::Starts),
+    (0, Act::GivesNothing),
+    (0, Act::Waits),
+    (1, Act::GivesNothing),
+    (1, Act::Starts),
+    (0, Act::Starts),
+    (1, Act::Gives2),
+    (1, Act::Waits),
+    (0, Act::Gives2),
+    (0, Act::Ends),
+];
 
 /// What is recorded: one resolution covers both failures.
 const LINES: &str =
@@ -74,23 +124,10 @@ const LINES: &str =
 #[test]
 fn one_resolution_covers_the_failures_of_two_hands(rt: HostRuntime) -> Result<(), Fail> {
     let alloc = rt.alloc();
-    let mut book = begun(alloc, retried(alloc)?, desk(alloc, &[], &[])?)?;
-    assert!(rt; matches!(book.enter(0, None), Ok(Entered::Running)));
-    assert!(rt; starts(&mut book, 0)?);
-    assert!(rt; starts(&mut book, 1)?);
-    fails(alloc, &mut book, 0)?;
-    assert!(rt; starts(&mut book, 0)?);
-    fails(alloc, &mut book, 1)?;
-    assert!(rt; starts(&mut book, 1)?);
-    end(&mut book, 0, Outcome::Gave(Val::Nothing))?;
-    assert!(rt; waits(&mut book, 0)?);
-    end(&mut book, 1, Outcome::Gave(Val::Nothing))?;
-    assert!(rt; starts(&mut book, 1)?);
-    assert!(rt; starts(&mut book, 0)?);
-    end(&mut book, 1, Outcome::Gave(Val::Int(2)))?;
-    assert!(rt; waits(&mut book, 1)?);
-    end(&mut book, 0, Outcome::Gave(Val::Int(2)))?;
-    assert!(rt; matches!(turn(&mut book, 0)?, Turn::Ended(FlowState::Success)));
+    let mut book = entered(alloc, retried(alloc)?)?;
+    for (hand, act) in &ACTS {
+        assert!(rt; does(alloc, &mut book, *hand, *act)?);
+    }
     assert_eq!(rt; book.count(), 22);
     let desk = book.close();
     assert!(rt; desk.shown() == LINES.as_bytes());
@@ -122,18 +159,20 @@ fn holding(book: &Book<MemoryDesk>, atom: u16) -> Option<u16> {
     None
 }
 
+/// Whether hand 0 starts a task and ends it with nothing.
+fn takes_a_task(alloc: Global, book: &mut Book<MemoryDesk>) -> Result<bool, Fail> {
+    Ok(does(alloc, book, 0, Act::Starts)? && does(alloc, book, 0, Act::GivesNothing)?)
+}
+
 #[test]
 fn a_task_waits_for_the_one_before_and_holds_it_back(rt: HostRuntime) -> Result<(), Fail> {
     let alloc = rt.alloc();
-    let plan = two_echoes(alloc, FlowKind::Linear)?;
-    let mut book = begun(alloc, plan, desk(alloc, &[], &[])?)?;
-    assert!(rt; matches!(book.enter(0, None), Ok(Entered::Running)));
+    let mut book = entered(alloc, two_echoes(alloc, FlowKind::Linear)?)?;
     assert!(rt; waiting(&book, 1) == Some(1));
-    assert!(rt; starts(&mut book, 0)?);
-    end(&mut book, 0, Outcome::Gave(Val::Nothing))?;
+    assert!(rt; takes_a_task(alloc, &mut book)?);
+    assert_eq!(rt; book.count(), 3);
     assert!(rt; waiting(&book, 1) == Some(0));
-    assert!(rt; starts(&mut book, 0)?);
-    end(&mut book, 0, Outcome::Gave(Val::Nothing))?;
+    assert!(rt; takes_a_task(alloc, &mut book)?);
     assert_eq!(rt; book.count(), 5);
     assert!(rt; holding(&book, 0) == Some(1));
     Ok(())
