@@ -1,91 +1,25 @@
-ghost use Rattle.std.specs.Prelude.{◌<◌};
+ghost use Rattle.std.specs.Prelude.{◌≡◌, ◌<◌};
+ghost use Rattle.tf_machine.specs.Machine.{outline};
+ghost use Rattle.tf_model.specs.Plan.{count};
 
+use crate::test_books::{begun, desk, retried, two_echoes};
 use std::alloc::Global;
 use std::test::Fail;
 use tf_book::{Book, Entered, Turn};
 use tf_desk::MemoryDesk;
-use tf_flow::{
-    Arg, ArgList, Bind, Binds, Flow, FlowKind, Item, Items, Links, Plan, Provides, Retry,
-    RetryKind, Task, TaskKind, Undo,
-};
+use tf_flow::{FlowKind, Plan};
 use tf_hands::hands_are_free_or_have_a_task;
-use tf_journal::Journal;
 use tf_machine::Machine;
 use tf_ports::Outcome;
 use tf_states::{Failure, FlowState};
-use tf_values::{Name, Text, Texts, Val};
+use tf_values::{Text, Val};
 
-fn name(text: &[u8]) -> Result<Name, Fail> {
-    Ok(Name::make(text).ok_or("no name")?)
-}
-
-fn arg(name: Name) -> Arg {
-    Arg { name, symbol: name }
-}
-
-/// A task that fails below 2.
-fn fail_below(alloc: Global, name: Name, number: Name, limit: Name) -> Result<Item, Fail> {
-    let mut args = Vec::new(alloc);
-    args.push(arg(number))?;
-    args.push(arg(limit))?;
-    let mut inject = Vec::new(alloc);
-    inject.push(Bind {
-        symbol: limit,
-        value: Val::Int(2),
-    })?;
-    Ok(Item::Task(Task {
-        name,
-        kind: TaskKind::FailBelow,
-        words: Texts::make(Vec::new(alloc)),
-        args: ArgList::make(args),
-        inject: Binds::make(inject),
-        provides: Provides::Nothing,
-        priority: 0,
-        undo: Undo::Pass,
-    }))
-}
-
-/// An unordered flow of two such tasks, with a retry controller that tells the number of the attempt, of two.
-fn retried(alloc: Global) -> Result<Plan, Fail> {
-    let number = name(b"n")?;
-    let limit = name(b"limit")?;
-    let mut items = Vec::new(alloc);
-    items.push(fail_below(alloc, name(b"t1")?, number, limit)?)?;
-    items.push(fail_below(alloc, name(b"t2")?, number, limit)?)?;
-    let root = Flow {
-        name: name(b"main")?,
-        kind: FlowKind::Unordered,
-        retry: Some(Retry {
-            name: name(b"r")?,
-            kind: RetryKind::Times {
-                attempts: 2,
-                all: false,
-            },
-            args: ArgList::make(Vec::new(alloc)),
-            inject: Binds::make(Vec::new(alloc)),
-            provides: Provides::Whole(number),
-        }),
-        items: Items::make(items),
-        links: Links::make(Vec::new(alloc)),
-    };
-    match Plan::make(alloc, root, Binds::make(Vec::new(alloc)), false) {
-        Ok(plan) => Ok(plan),
-        Err(_) => Err(Fail::from("there is no plan")),
-    }
-}
-
-/// A run of the flow of which nothing is kept.
-fn begun(alloc: Global) -> Result<Book<MemoryDesk>, Fail> {
-    let Ok(machine) = Machine::make(alloc, retried(alloc)?) else {
-        return Err(Fail::from("the plan isn't taken"));
-    };
-    let desk = MemoryDesk::make(alloc, 65_536, 1_000, Vec::new(alloc), Vec::new(alloc))?;
-    let Ok(journal) = Journal::volatile(alloc, desk) else {
-        return Err(Fail::from("there is no journal"));
-    };
-    match Book::start(alloc, journal, machine, false) {
-        Ok(book) => Ok(book),
-        Err(_) => Err(Fail::from("the book doesn't begin")),
+/// A run of a plan whose session was entered by hand 0, and of which nothing is kept.
+fn entered(alloc: Global, plan: Plan) -> Result<Book<MemoryDesk>, Fail> {
+    let mut book = begun(alloc, plan, desk(alloc, &[], &[])?)?;
+    match book.enter(0, None) {
+        Ok(Entered::Running) => Ok(book),
+        _ => Err(Fail::from("the session isn't entered")),
     }
 }
 
@@ -121,26 +55,67 @@ fn end(book: &mut Book<MemoryDesk>, hand: u8, outcome: Outcome) -> Result<(), Fa
     }
 }
 
-fn starts(book: &mut Book<MemoryDesk>, hand: u8) -> Result<bool, Fail>
-    requires { hand < 64 }
-{
-    Ok(matches!(turn(book, hand)?, Turn::Start(_)))
+/// What the next turn of a hand is, or how it ends its task.
+#[derive(Clone, Copy)]
+enum Act {
+    Starts,
+    Waits,
+    Ends,
+    Fails,
+    Gives2,
+    GivesNothing,
 }
 
-fn waits(book: &mut Book<MemoryDesk>, hand: u8) -> Result<bool, Fail>
-    requires { hand < 64 }
-{
-    Ok(matches!(turn(book, hand)?, Turn::Idle))
+/// The failure of a task that was given 1.
+fn below(alloc: Global) -> Result<Outcome, Fail> {
+    match Text::make(alloc, b"1 below 2") {
+        Ok(text) => Ok(Outcome::Failed(Failure::Raised(text))),
+        Err(_) => Err(Fail::from("there is no text")),
+    }
 }
 
-fn fails(alloc: Global, book: &mut Book<MemoryDesk>, hand: u8) -> Result<(), Fail>
-    requires { hand < 64 }
-{
-    let Ok(text) = Text::make(alloc, b"1 below 2") else {
-        return Err(Fail::from("there is no text"));
-    };
-    end(book, hand, Outcome::Failed(Failure::Raised(text)))
+/// Whether the next turn of a hand is so, or whether the end of its task is recorded.
+fn does(alloc: Global, book: &mut Book<MemoryDesk>, hand: u8, act: Act) -> Result<bool, Fail> {
+    if hand >= 64 {
+        return Err(Fail::from("there is no such hand"));
+    }
+    match act {
+        Act::Starts => Ok(matches!(turn(book, hand)?, Turn::Start(_))),
+        Act::Waits => Ok(matches!(turn(book, hand)?, Turn::Idle)),
+        Act::Ends => Ok(matches!(turn(book, hand)?, Turn::Ended(FlowState::Success))),
+        Act::Fails => {
+            end(book, hand, below(alloc)?)?;
+            Ok(true)
+        }
+        Act::Gives2 => {
+            end(book, hand, Outcome::Gave(Val::Int(2)))?;
+            Ok(true)
+        }
+        Act::GivesNothing => {
+            end(book, hand, Outcome::Gave(Val::Nothing))?;
+            Ok(true)
+        }
+    }
 }
+
+/// Two hands fail in the first attempt, revert, and give 2 in the second.
+const ACTS: [(u8, Act); 15] = [
+    (0, Act::Starts),
+    (1, Act::Starts),
+    (0, Act::Fails),
+    (0, Act::Starts),
+    (1, Act::Fails),
+    (1, Act::Starts),
+    (0, Act::GivesNothing),
+    (0, Act::Waits),
+    (1, Act::GivesNothing),
+    (1, Act::Starts),
+    (0, Act::Starts),
+    (1, Act::Gives2),
+    (1, Act::Waits),
+    (0, Act::Gives2),
+    (0, Act::Ends),
+];
 
 /// What is recorded: one resolution covers both failures.
 const LINES: &str =
@@ -149,25 +124,56 @@ const LINES: &str =
 #[test]
 fn one_resolution_covers_the_failures_of_two_hands(rt: HostRuntime) -> Result<(), Fail> {
     let alloc = rt.alloc();
-    let mut book = begun(alloc)?;
-    assert!(rt; matches!(book.enter(0, None), Ok(Entered::Running)));
-    assert!(rt; starts(&mut book, 0)?);
-    assert!(rt; starts(&mut book, 1)?);
-    fails(alloc, &mut book, 0)?;
-    assert!(rt; starts(&mut book, 0)?);
-    fails(alloc, &mut book, 1)?;
-    assert!(rt; starts(&mut book, 1)?);
-    end(&mut book, 0, Outcome::Gave(Val::Nothing))?;
-    assert!(rt; waits(&mut book, 0)?);
-    end(&mut book, 1, Outcome::Gave(Val::Nothing))?;
-    assert!(rt; starts(&mut book, 1)?);
-    assert!(rt; starts(&mut book, 0)?);
-    end(&mut book, 1, Outcome::Gave(Val::Int(2)))?;
-    assert!(rt; waits(&mut book, 1)?);
-    end(&mut book, 0, Outcome::Gave(Val::Int(2)))?;
-    assert!(rt; matches!(turn(&mut book, 0)?, Turn::Ended(FlowState::Success)));
+    let mut book = entered(alloc, retried(alloc)?)?;
+    for (hand, act) in &ACTS {
+        assert!(rt; does(alloc, &mut book, *hand, *act)?);
+    }
     assert_eq!(rt; book.count(), 22);
     let desk = book.close();
     assert!(rt; desk.shown() == LINES.as_bytes());
+    Ok(())
+}
+
+/// How many atoms the machine has.
+fn atoms(machine: &Machine) -> u16
+    ensures { result ≡ count (outline machine.now) }
+{
+    machine.plan().atoms()
+}
+
+/// How many atoms before an atom of the book are neither SUCCESS nor IGNORE.
+fn waiting(book: &Book<MemoryDesk>, atom: u16) -> Option<u16> {
+    let machine = book.machine();
+    if atom < atoms(machine) {
+        return Some(machine.waiting(atom));
+    }
+    None
+}
+
+/// How many atoms after an atom of the book aren't settled.
+fn holding(book: &Book<MemoryDesk>, atom: u16) -> Option<u16> {
+    let machine = book.machine();
+    if atom < atoms(machine) {
+        return Some(machine.holding(atom));
+    }
+    None
+}
+
+/// Whether hand 0 starts a task and ends it with nothing.
+fn takes_a_task(alloc: Global, book: &mut Book<MemoryDesk>) -> Result<bool, Fail> {
+    Ok(does(alloc, book, 0, Act::Starts)? && does(alloc, book, 0, Act::GivesNothing)?)
+}
+
+#[test]
+fn a_task_waits_for_the_one_before_and_holds_it_back(rt: HostRuntime) -> Result<(), Fail> {
+    let alloc = rt.alloc();
+    let mut book = entered(alloc, two_echoes(alloc, FlowKind::Linear)?)?;
+    assert!(rt; waiting(&book, 1) == Some(1));
+    assert!(rt; takes_a_task(alloc, &mut book)?);
+    assert_eq!(rt; book.count(), 3);
+    assert!(rt; waiting(&book, 1) == Some(0));
+    assert!(rt; takes_a_task(alloc, &mut book)?);
+    assert_eq!(rt; book.count(), 5);
+    assert!(rt; holding(&book, 0) == Some(1));
     Ok(())
 }

@@ -5,10 +5,14 @@
 mod calls_tests;
 mod engine;
 mod hand_loop;
+#[cfg(test)]
+mod hands_tests;
 mod hiring;
 mod many_hands;
 mod one_hand;
 mod shared;
+#[cfg(test)]
+mod test_books;
 #[cfg(test)]
 mod tests;
 mod turns;
