@@ -25,7 +25,7 @@ use Rattle.tf_states.specs.declared.state.AtomState.TheVariants as atom
 use Rattle.tf_states.specs.declared.state.FlowState.{FlowState}
 use Rattle.tf_facts.proofs.CaseLemmas.{EachCase, forced_by}
 use Rattle.tf_model.specs.Plan.{Outline, outline_of, count, way, holds}
-use Rattle.tf_model.specs.Before.{way_in, passes_flow}
+use Rattle.tf_model.specs.Before.{passes_flow}
 use Rattle.tf_model.specs.Snapshot.{Snapshot}
 use Rattle.tf_model.specs.History.{snapshot}
 use Rattle.tf_model.specs.States.{flow_runs, flow_suspends}
@@ -33,6 +33,7 @@ use Rattle.tf_model.specs.Retries.{attempt, ends_with, resolution}
 use Rattle.tf_model.specs.Deciders.{refused}
 use Rattle.tf_model.specs.Forced.{forced, forced_if_running, is_active, is_to_put_back, put_back_or_run, is_to_ignore, ignore_by, ignore_or_self}
 use Rattle.tf_model.specs.Candidates.{choice, candidate_if_running, candidate_entry, taken_up, is_best, end_of}
+use Rattle.tf_model.proofs.Told.{way_in}
 use Rattle.tf_model.specs.Steps.{Step, LegalPast, Rule, by_force, by_choice, by_end_of_task, by_turn, by_end, by_suspension, by_reset, ends_task, ends_as, turns_flow, end_entry, reset, put_back_or_rest, is_put_back_at}
 use Rattle.tf_model.proofs.ResolutionLemmas.{resolution_holds}
 use Rattle.tf_model.proofs.WayLemmas.{IsWay, numbers_of, ways_of}

@@ -23,8 +23,8 @@ use Rattle.tf_flow.specs.Rules.{is_bad_retry_kind, is_bad_atom, bad_atom_at, bin
 use Rattle.tf_flow.specs.Tree.{Tree, Trees, task, flow, no_trees, tree, tree_of, trees_of, item_tree, nesting}
 use Rattle.tf_flow.proofs.TreeLemmas.{tree_of-flow}
 use Rattle.tf_flow.specs.Outline.{Atom, atoms_of, atoms_among, retry_atoms, enter, flow_count, injected_in}
-use Rattle.tf_model.specs.Plan.{outline_of, injects_in}
-use Rattle.tf_model.specs.Retries.{kind_in}
+use Rattle.tf_model.specs.Plan.{outline_of}
+use Rattle.tf_model.proofs.Told.{injects_in, kind_in}
 use Rattle.tf_numbers.proofs.TruthLemmas.{clash, neither_first}
 use Rattle.tf_bound.specs.Costs.{tries_of, HasAttempts}
 use Rattle.tf_bound.specs.Short.{AreShortBinds, IsShortControl, IsShortTree, AreShortTrees, IsWithinLimits}

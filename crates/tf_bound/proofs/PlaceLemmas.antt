@@ -6,9 +6,10 @@ use Rattle.tf_flow.specs.Plan.{PlanValue}
 use Rattle.tf_flow.specs.Tree.{Tree, Trees, task, flow, no_trees, tree, tree_of}
 use Rattle.tf_flow.specs.declared.ways.Turn.{Turn}
 use Rattle.tf_flow.specs.Outline.{Atom, FlowPlace, atoms_of, atoms_among, enter, retry_atoms, flows_of, flows_among, flow_count, atom_count, atoms_among_count, retry_count, retry_number}
-use Rattle.tf_model.specs.Before.{Flow, flow_at, has_flow_number, way_in}
+use Rattle.tf_model.specs.Before.{Flow, find_flow, has_flow_number}
 use Rattle.tf_model.specs.Linked.{arrange, arranged}
-use Rattle.tf_model.specs.Plan.{Outline, outline_of, is_retry, is_retry_in, is_before, retry_in, retry_of, own_flow, last_flow}
+use Rattle.tf_model.specs.Plan.{Outline, outline_of, is_retry, is_before, retry_of, own_flow, last_flow}
+use Rattle.tf_model.proofs.Told.{way_in, is_retry_in, retry_in}
 use Rattle.tf_model.proofs.BeforeLemmas.{never_before_itself, before_chain}
 use Rattle.tf_facts.proofs.LayoutLemmas.{IsLaidOut, own_holds}
 use Rattle.tf_numbers.proofs.TruthLemmas.{clash}
@@ -129,12 +130,12 @@ mutual
 
 -- ---- of a plan
 
-found_owns : (xs : List Atom) (a g : ℕ) (first : Flow) (others : List Flow) (b : Bool) → has_flow_number g first ≡ b → Owns xs a first.place → ((r : ℕ) → retry_in (flow_at others g) ≡ Some r → IsOwned xs a g r)
-    → (r : ℕ) → retry_in (cond b (Some first) (flow_at others g)) ≡ Some r → IsOwned xs a g r
+found_owns : (xs : List Atom) (a g : ℕ) (first : Flow) (others : List Flow) (b : Bool) → has_flow_number g first ≡ b → Owns xs a first.place → ((r : ℕ) → retry_in (find_flow others g) ≡ Some r → IsOwned xs a g r)
+    → (r : ℕ) → retry_in (cond b (Some first) (find_flow others g)) ≡ Some r → IsOwned xs a g r
 found_owns xs a g first others true number here there r is = subst (λ (n : ℕ). IsOwned xs a n r) (eqb-true first.place.number g number) (here r is)
 found_owns xs a g first others false number here there r is = there r is
 
-each_owns : (xs atoms : List Atom) (a g : ℕ) (places : List FlowPlace) → AllByRecursion (Owns xs a) places → (r : ℕ) → retry_in (flow_at (arranged atoms places) g) ≡ Some r → IsOwned xs a g r
+each_owns : (xs atoms : List Atom) (a g : ℕ) (places : List FlowPlace) → AllByRecursion (Owns xs a) places → (r : ℕ) → retry_in (find_flow (arranged atoms places) g) ≡ Some r → IsOwned xs a g r
 each_owns xs atoms a g [] all r is = absurd (cc)
 each_owns xs atoms a g (place ∷ places) all r is =
     found_owns xs a g (arrange atoms (arranged atoms places) place) (arranged atoms places) (has_flow_number g (arrange atoms (arranged atoms places) place)) refl all.0 (each_owns xs atoms a g places all.1) r is

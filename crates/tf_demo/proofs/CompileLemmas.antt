@@ -9,10 +9,11 @@ use Rattle.tf_flow.specs.Plan.{PlanValue}
 use Rattle.tf_flow.specs.Rules.{is_graph}
 use Rattle.tf_flow.specs.Tree.{Tree, trees_of, tree_of}
 use Rattle.tf_links.specs.Reach.{reached_by, leads_by}
-use Rattle.tf_model.specs.Before.{Flow, has_flow_number, passes_item, way_in}
+use Rattle.tf_model.specs.Before.{Flow, has_flow_number, passes_item}
 use Rattle.tf_model.specs.Compilation.{CompileRefusal, compile_refusal, tree_refusal, refusal_at, refusal_among, refusal_of, ambiguity, ambiguity_at, is_ambiguous, cycle_of, is_back, first_cycle, least, refuse_symbol}
-use Rattle.tf_model.specs.Linked.{arrange, arranged, linked_pairs, is_linked, is_explicit, is_inferred, is_inferred_by, givers, other_provides, item_provides, gives_inside, is_served, part_lists, listed_by, needs, joins, item_name}
+use Rattle.tf_model.specs.Linked.{arrange, arranged, linked_pairs, is_linked, is_explicit, is_inferred, is_inferred_by, givers, other_provides, item_provides, gives_inside, is_served, needs, joins, item_name}
 use Rattle.tf_model.specs.Plan.{outline_of_tree}
+use Rattle.tf_model.proofs.Told.{way_in, part_lists, listed_by}
 use Rattle.tf_numbers.specs.Numbers.{numbers_below, which_below}
 use Rattle.tf_numbers.specs.Pairs.{Pair, pairs_below}
 use Rattle.tf_numbers.proofs.BelowLemmas.{never_any, never_first}

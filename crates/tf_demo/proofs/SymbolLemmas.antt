@@ -17,9 +17,10 @@ use Rattle.tf_values.specs.declared.value.Val.{Val}
 use Rattle.tf_flow.specs.Outline.{Atom, FlowPlace, a_task, a_retry, atoms_of, atoms_among, atoms_among_count, enter, flows_among, flows_among_count, flow_place, flow_count, atom_count}
 use Rattle.tf_flow.specs.Plan.{PlanValue}
 use Rattle.tf_flow.specs.Tree.{Tree, Trees, Head, trees_of, tree_of}
-use Rattle.tf_model.specs.Before.{Flow, flow_at, way_in}
-use Rattle.tf_model.specs.Linked.{arrange, arranged, standing_in, linked_pairs, standing_of_item}
-use Rattle.tf_model.specs.Plan.{Outline, outline_of, outline_of_tree, count, way, arguments_in, injects, injects_in, is_before}
+use Rattle.tf_model.specs.Before.{Flow, find_flow}
+use Rattle.tf_model.specs.Linked.{arrange, arranged, linked_pairs, standing_of_item}
+use Rattle.tf_model.specs.Plan.{Outline, outline_of, outline_of_tree, count, way, injects, is_before}
+use Rattle.tf_model.proofs.Told.{way_in, standing_in, arguments_in, injects_in}
 use Rattle.tf_model.specs.Scope.{members, members_in, is_elsewhere, is_earlier, lists_symbol, has_source, missing_argument, missing_of, missing_symbol}
 use Rattle.tf_numbers.specs.Numbers.{numbers_below}
 use Rattle.tf_numbers.proofs.TruthLemmas.{true_first, true_second, second_false}
@@ -47,7 +48,7 @@ record IsInGroup (plan : Outline) (group item g k y r : ℕ) (t : Task) : Type 0
   task_there : slice_get plan.atoms y ≡ Some (record { way = way_to_task item g k; part = a_task t })
   retry_there : slice_get plan.atoms r ≡ Some (record { way = way_to_retry item g; part = a_retry (retry_of group) })
   rest : List ℕ
-  stands : standing_in (flow_at plan.flows g) ≡ r ∷ rest
+  stands : standing_in (find_flow plan.flows g) ≡ r ∷ rest
 
 same_number : (g : ℕ) → nat_eq g g ≡ true
 same_number g = eq-eqb g g refl
@@ -188,13 +189,13 @@ record StandsFirst (standing : List ℕ) (r : ℕ) : Type 0 where
   rest : List ℕ
   is : standing ≡ r ∷ rest
 
-stands_first : (atoms : List Atom) (inner : List Flow) (place : FlowPlace) (g r : ℕ) → place.number ≡ g → place.retry ≡ Some r → StandsFirst (standing_in (flow_at (arrange atoms inner place ∷ inner) g)) r
+stands_first : (atoms : List Atom) (inner : List Flow) (place : FlowPlace) (g r : ℕ) → place.number ≡ g → place.retry ≡ Some r → StandsFirst (standing_in (find_flow (arrange atoms inner place ∷ inner) g)) r
 stands_first atoms inner place g r numbered retry = record {
   rest = flat_map (standing_of_item inner place) (standing_items (length place.items) (linked_pairs atoms inner place));
   is = rw (eq-eqb place.number g numbered, retry) refl;
 }
 
-passed_over : (atoms : List Atom) (place : FlowPlace) (places : List FlowPlace) (g : ℕ) → nat_eq place.number g ≡ false → flow_at (arranged atoms (place ∷ places)) g ≡ flow_at (arranged atoms places) g
+passed_over : (atoms : List Atom) (place : FlowPlace) (places : List FlowPlace) (g : ℕ) → nat_eq place.number g ≡ false → find_flow (arranged atoms (place ∷ places)) g ≡ find_flow (arranged atoms places) g
 passed_over atoms place places g other = rw other refl
 
 -- ---- the groups
@@ -203,7 +204,7 @@ passed_over atoms place places g other = rw other refl
 record HasLeft (plan : Outline) (a n item : ℕ) (left : Trees) : Type 0 where
   below_root : 0 < n
   atoms_left : drop a plan.atoms ≡ atoms_among 0 item n left
-  flows_left : (g : ℕ) → n ≤ g → flow_at plan.flows g ≡ flow_at (arranged plan.atoms (flows_among n a left)) g
+  flows_left : (g : ℕ) → n ≤ g → find_flow plan.flows g ≡ find_flow (arranged plan.atoms (flows_among n a left)) g
 
 no_atom : (plan : Outline) (y : ℕ) → slice_get plan.atoms y ≡ None → missing_of plan y ≡ None
 no_atom plan y is = ap (first_some (missing_argument plan y)) (ap arguments_in is)
@@ -227,14 +228,14 @@ group_counted size group state =
 -- the flows behind a group are found behind it
 flows_behind : (plan : Outline) (size left group state a n item : ℕ) → HasLeft plan a n item (groups_of size (suc left) group state)
     → (g : ℕ) → n + flow_count (group_flow size group state) ≤ g
-    → flow_at plan.flows g ≡ flow_at (arranged plan.atoms (flows_among (n + flow_count (group_flow size group state)) (a + atom_count (group_flow size group state)) (groups_of size left (suc group) (after (1 + group_size size group) state)))) g
+    → find_flow plan.flows g ≡ find_flow (arranged plan.atoms (flows_among (n + flow_count (group_flow size group state)) (a + atom_count (group_flow size group state)) (groups_of size left (suc group) (after (1 + group_size size group) state)))) g
 flows_behind plan size left group state a n item has g from =
     let counted = (group_counted size group state).1 in
     let later = flows_among (n + flow_count (group_flow size group state)) (a + atom_count (group_flow size group state)) (groups_of size left (suc group) (after (1 + group_size size group) state)) in
     let tasks = flows_among (suc n) (a + 1) (tasks_of group (group_size size group) (10 * group) (drawn state)) in
     has.flows_left g (omega (arith, from))
     ∙ (passed_over plan.atoms (flow_place n a (group_head group state) (tasks_of group (group_size size group) (10 * group) (drawn state))) (tasks ++ later) g (ne_eqb n g (λ same. absurd (omega (arith, same, from, counted))))
-    ∙ ap (λ (places : List FlowPlace). flow_at (arranged plan.atoms (places ++ later)) g) (no_flows (suc n) (a + 1) group (group_size size group) (10 * group) (drawn state)))
+    ∙ ap (λ (places : List FlowPlace). find_flow (arranged plan.atoms (places ++ later)) g) (no_flows (suc n) (a + 1) group (group_size size group) (10 * group) (drawn state)))
 
 -- so are the atoms
 atoms_behind : (plan : Outline) (size left group state a n item : ℕ) → HasLeft plan a n item (groups_of size (suc left) group state)

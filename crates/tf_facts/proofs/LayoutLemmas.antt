@@ -4,12 +4,13 @@ use Rattle.tf_flow.specs.declared.deciders.Depth.{Depth}
 use Rattle.tf_flow.specs.Plan.{PlanValue}
 use Rattle.tf_flow.specs.Outline.{Part, a_task, a_retry, Atom}
 use Rattle.tf_flow.specs.declared.ways.Turn.{Turn}
-use Rattle.tf_model.specs.Before.{Flow, way_before, passes_flow, way_in}
-use Rattle.tf_model.specs.Plan.{Outline, outline_of, count, way, is_before, holds, is_retry, is_retry_in, is_task, is_task_in, own_flow}
+use Rattle.tf_model.specs.Before.{Flow, way_before, passes_flow}
+use Rattle.tf_model.specs.Plan.{Outline, outline_of, count, way, is_before, holds, is_retry, is_task, own_flow}
 use Rattle.tf_model.specs.Compilation.{compile_refusal}
 use Rattle.tf_model.specs.Snapshot.{Snapshot}
 use Rattle.tf_model.specs.Retries.{resolution}
 use Rattle.tf_model.specs.Deciders.{ignores}
+use Rattle.tf_model.proofs.Told.{way_in, is_retry_in, is_task_in}
 use Rattle.tf_model.specs.Laws.{AreOrdered}
 use Rattle.tf_model.proofs.WayLemmas.{alike_in}
 use Rattle.tf_model.proofs.RetryLemmas as retries

@@ -7,3 +7,4 @@ pub mod ConditionLemmas
 pub mod WayLemmas
 pub mod OutlineLemmas
 pub mod ReadLemmas
+pub mod ListingLemmas

@@ -11,3 +11,4 @@ pub mod Items
 pub mod Conditions
 pub mod Outline
 pub mod Ways
+pub mod Listing

@@ -12,8 +12,9 @@ use Rattle.tf_ports.specs.declared.outcomes.Action.{Action}
 use Rattle.tf_ports.specs.declared.outcomes.Action.TheVariants as action
 use Rattle.tf_ports.specs.declared.outcomes.Outcome.{Outcome}
 use Rattle.tf_numbers.proofs.TruthLemmas.{not_true}
-use Rattle.tf_model.specs.Orders.{task_part, task_in, order_with, order_of, Allows, IsUnasked, IsGiven}
-use Rattle.tf_model.specs.Plan.{Outline, is_task, is_task_in}
+use Rattle.tf_model.specs.Orders.{task_part, order_with, order_of, Allows, IsUnasked, IsGiven}
+use Rattle.tf_model.specs.Plan.{Outline, is_task}
+use Rattle.tf_model.proofs.Told.{task_in, is_task_in}
 use Rattle.tf_model.specs.Scope.{given_for}
 use Rattle.tf_model.specs.Snapshot.{Snapshot}
 use Rattle.tf_hands.specs.Hands.{is_no_end}

@@ -15,12 +15,13 @@ use Rattle.tf_flow.specs.declared.ways.Part.{Part as CodePart}
 use Rattle.tf_flow.specs.Ways.{shown_part}
 use Rattle.tf_flow.specs.Outline.{Part, a_task, a_retry, Atom, part_of, way_of, priority_of, name_of_atom, is_retry_atom, is_retry_part, is_task_part}
 use Rattle.tf_flow.specs.declared.ways.Turn.{Turn}
-use Rattle.tf_model.specs.Before.{way_in, passes_flow}
-use Rattle.tf_model.specs.Plan.{Outline, outline_of, count, way, holds, is_task, is_task_in, is_retry, is_retry_in, own_flow, last_flow}
+use Rattle.tf_model.specs.Before.{passes_flow}
+use Rattle.tf_model.specs.Plan.{Outline, outline_of, count, way, holds, is_task, is_retry, own_flow, last_flow}
 use Rattle.tf_flow.proofs.OutlineLemmas.{same_atoms, same_retries}
-use Rattle.tf_model.specs.Candidates.{priority, priority_in}
+use Rattle.tf_model.specs.Candidates.{priority}
 use Rattle.tf_machine.specs.Compiled.{priority_at, AreWithin}
-use Rattle.tf_model.specs.Orders.{task_part, task_in, task_at}
+use Rattle.tf_model.specs.Orders.{task_part, task_at}
+use Rattle.tf_model.proofs.Told.{way_in, is_task_in, is_retry_in, priority_in, task_in}
 use Rattle.tf_numbers.proofs.ListLemmas.{take_whole}
 use Rattle.tf_numbers.proofs.TruthLemmas.{clash, not_true}
 

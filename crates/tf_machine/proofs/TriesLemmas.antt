@@ -7,7 +7,8 @@ use Rattle.tf_flow.specs.Plan.{PlanValue}
 use Rattle.tf_flow.specs.Plan as numbering
 use Rattle.tf_flow.specs.Outline.{Atom, Part, part_of}
 use Rattle.tf_model.specs.Plan.{outline_of, count}
-use Rattle.tf_model.specs.Retries.{kind_of_part, kind_in}
+use Rattle.tf_model.specs.Retries.{kind_of_part}
+use Rattle.tf_model.proofs.Told.{kind_in}
 use Rattle.tf_bound.specs.Costs.{tries_of, tries_at}
 use Rattle.tf_machine.specs.TableFacts.{HasFewTries}
 use Rattle.tf_machine.proofs.PlanLemmas.{atoms_counted}

@@ -31,8 +31,9 @@ use Rattle.tf_ports.specs.declared.orders.Pair.{Pair}
 use Rattle.tf_ports.specs.declared.outcomes.Action.{Action}
 use Rattle.tf_ports.specs.declared.outcomes.Action.TheVariants as action
 use Rattle.tf_ports.specs.Whole.{HasFewWords, IsGivenEnough, IsWhole}
-use Rattle.tf_model.specs.Plan.{Outline, outline_of, arguments, arguments_in}
-use Rattle.tf_model.specs.Orders.{task_part, task_in, task_at, order_with, order_of}
+use Rattle.tf_model.specs.Plan.{Outline, outline_of, arguments}
+use Rattle.tf_model.specs.Orders.{task_part, task_at, order_with, order_of}
+use Rattle.tf_model.proofs.Told.{arguments_in, task_in}
 use Rattle.tf_model.specs.Scope.{symbol_value, or_missing, given_arguments, argument_to_revert, given_for}
 use Rattle.tf_model.specs.Snapshot.{Snapshot}
 use Rattle.tf_model.proofs.WayLemmas.{all_both}

@@ -9,13 +9,15 @@ use Rattle.tf_flow.specs.Tree.{Tree, Trees, task, flow, no_trees, tree, tree_of}
 use Rattle.tf_numbers.specs.Pairs.{Pair, has_pair}
 use Rattle.tf_flow.specs.Outline.{atoms_of, flows_of, flow_count}
 use Rattle.tf_flow.specs.declared.ways.Turn.{Turn}
-use Rattle.tf_model.specs.Before.{Flow, flow_at, order_in, item_before, turn_before, way_before}
-use Rattle.tf_model.specs.Plan.{outline_of, is_before, is_task, way, own_flow, last_flow, linked_in}
+use Rattle.std.specs.Option.{unwrap_or}
+use Rattle.tf_model.specs.Before.{Flow, find_flow, no_flow, item_before, turn_before, way_before}
+use Rattle.tf_model.specs.Plan.{outline_of, is_before, is_task, way, own_flow, last_flow}
 use Rattle.tf_model.specs.Compilation.{compile_refusal}
-use Rattle.tf_model.specs.Deciders.{home, flow_in, last_item, same_flow, is_sibling, linked_places, is_neighbor, ignores_other, ignores}
+use Rattle.tf_model.specs.Deciders.{home, last_item, same_flow, is_sibling, linked_places, is_neighbor, ignores_other, ignores}
 use Rattle.tf_flow.specs.Rules.{is_graph}
 use Rattle.tf_model.specs.Laws.{IsLinkedTask}
 use Rattle.tf_model.specs.Plan.{Outline}
+use Rattle.tf_model.proofs.Told.{order_in, linked_in, found_home, flow_in}
 use Rattle.tf_numbers.proofs.TruthLemmas.{and_first, and_second, or_either, true_both, second_false}
 use Rattle.tf_model.proofs.OrderLemmas.{IsArranged, each_arranged, plan_ordered}
 use Rattle.tf_model.proofs.WayLemmas.{turn_to, IsWay, IsWayAmong, AreTogether, together, way_of_each, ways_of}
@@ -121,10 +123,10 @@ neighbor_after : (plan : PlanValue) (v a : ℕ) → compile_refusal plan ≡ Non
 unfolding is_before
 neighbor_after plan v a compiles is =
     let one = in_one (own_flow (outline_of plan) a) (own_flow (outline_of plan) v) (and_second (is_task (outline_of plan) a) _ (and_first (is_sibling (outline_of plan) v a) _ is)) in
-    let link = joined (linked_in (home (outline_of plan) v)) (last_item (way (outline_of plan) v)) (last_item (way (outline_of plan) a)) (and_second (is_sibling (outline_of plan) v a) _ is) in
-    let found : has_pair (linked_in (flow_at (outline_of plan).flows one.flow)) link.source link.target ≡ true = ap (λ (o : Option ℕ). has_pair (linked_in (flow_in (outline_of plan) o)) link.source link.target) (sym one.second) ∙ link.on in
+    let link = joined (linked_in (found_home (outline_of plan) v)) (last_item (way (outline_of plan) v)) (last_item (way (outline_of plan) a)) (and_second (is_sibling (outline_of plan) v a) _ is) in
+    let found : has_pair (linked_in (find_flow (outline_of plan).flows one.flow)) link.source link.target ≡ true = ap (λ (o : Option ℕ). has_pair (linked_in (flow_in (outline_of plan) o)) link.source link.target) (sym one.second) ∙ link.on in
     let before : item_before (outline_of plan).flows one.flow link.source link.target ≡ true =
-    link_before (flow_at (outline_of plan).flows one.flow) (each_arranged (atoms_of 0 (tree_of plan.root)) (flows_of 0 0 (tree_of plan.root)) one.flow) link.source link.target found in
+    link_before (find_flow (outline_of plan).flows one.flow) (each_arranged (atoms_of 0 (tree_of plan.root)) (flows_of 0 0 (tree_of plan.root)) one.flow) link.source link.target found in
     let ordered = plan_ordered plan compiles in
     let differ : link.source ≢ link.target = λ same. let again : item_before (outline_of plan).flows one.flow link.source link.source ≡ true = ap (λ (k : ℕ). item_before (outline_of plan).flows one.flow link.source k) same ∙ before in
     let no : true ≡ false = sym again ∙ ordered.irreflexive one.flow link.source in cc in
@@ -155,7 +157,7 @@ neighbor_linked plan v a is = elim (or_either (nat_eq v a) _ is) [
   | inr other ↦
       let sibling = and_first (is_sibling plan v a) _ other in
       let one = in_one (own_flow plan a) (own_flow plan v) (and_second (is_task plan a) _ sibling) in
-      let link = joined (linked_in (home plan v)) (last_item (way plan v)) (last_item (way plan a)) (and_second (is_sibling plan v a) _ other) in
+      let link = joined (linked_in (found_home plan v)) (last_item (way plan v)) (last_item (way plan a)) (and_second (is_sibling plan v a) _ other) in
       inr (record {
         from = link.source;
         to = link.target;
@@ -172,18 +174,21 @@ unlinked_by pairs None to none = refl
 unlinked_by pairs (Some u) None none = refl
 unlinked_by pairs (Some u) (Some w) none = ap (λ (ps : List Pair). has_pair ps u w) none
 
-home_unlinked : (plan : PlanValue) (o : Option ℕ) (f : Flow) → flow_in (outline_of plan) o ≡ Some f → is_graph f.place.kind ≡ false → linked_in (flow_in (outline_of plan) o) ≡ []
-home_unlinked plan None f is other = refl
-home_unlinked plan (Some g) f is other =
-    ap linked_in is ∙ (each_arranged (atoms_of 0 (tree_of plan.root)) (flows_of 0 0 (tree_of plan.root)) g f is).unlinked other
+home_unlinked : (plan : PlanValue) (o : Option ℕ) → is_graph (unwrap_or (flow_in (outline_of plan) o) no_flow).place.kind ≡ false → linked_in (flow_in (outline_of plan) o) ≡ []
+home_unlinked plan None other = refl
+home_unlinked plan (Some g) other = by (find_flow (outline_of plan).flows g) refl other
+  where
+    by : (p : Option Flow) → find_flow (outline_of plan).flows g ≡ p → is_graph (unwrap_or p no_flow).place.kind ≡ false → linked_in p ≡ []
+    by None is other = refl
+    by (Some f) is other = (each_arranged (atoms_of 0 (tree_of plan.root)) (flows_of 0 0 (tree_of plan.root)) g f is).unlinked other
 
 only_self : (b c : Bool) → c ≡ false → b || c ≡ b
 only_self true c is = refl
 only_self false c is = is
 
-pub neighbors_in_graphs : (plan : PlanValue) (v a : ℕ) (f : Flow) → home (outline_of plan) v ≡ Some f → is_graph f.place.kind ≡ false → ignores (outline_of plan) v depth.Neighbors a ≡ nat_eq v a
+pub neighbors_in_graphs : (plan : PlanValue) (v a : ℕ) → is_graph (home (outline_of plan) v).place.kind ≡ false → ignores (outline_of plan) v depth.Neighbors a ≡ nat_eq v a
 unfolding ignores
-neighbors_in_graphs plan v a f is other =
+neighbors_in_graphs plan v a other =
     only_self (nat_eq v a) _ (second_false (is_sibling (outline_of plan) v a) _
-    (unlinked_by (linked_in (home (outline_of plan) v)) (last_item (way (outline_of plan) v)) (last_item (way (outline_of plan) a))
-    (home_unlinked plan (own_flow (outline_of plan) v) f is other)))
+    (unlinked_by (linked_in (found_home (outline_of plan) v)) (last_item (way (outline_of plan) v)) (last_item (way (outline_of plan) a))
+    (home_unlinked plan (own_flow (outline_of plan) v) other)))

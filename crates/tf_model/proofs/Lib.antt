@@ -1,3 +1,6 @@
+pub mod Told
+pub mod PlanLemmas
+pub mod CycleLemmas
 pub mod OutlineLemmas
 pub mod StepLemmas
 pub mod HistoryLemmas

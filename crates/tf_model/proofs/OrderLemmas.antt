@@ -14,9 +14,10 @@ use Rattle.tf_flow.specs.declared.atoms.Bind.{Bind}
 use Rattle.tf_numbers.specs.Numbers.{first_below, has_number}
 use Rattle.tf_numbers.specs.Pairs.{Pair, has_pair, pairs_below}
 use Rattle.tf_flow.specs.Outline.{Atom, FlowPlace, flows_of, flows_among, innermost_first, innermost_among, atoms_of, flow_count, atom_count, retry_count}
-use Rattle.tf_model.specs.Before.{Flow, has_flow_number, flow_at, order_in, item_before}
+use Rattle.tf_model.specs.Before.{Flow, has_flow_number, find_flow, item_before}
 use Rattle.tf_model.specs.Linked.{is_linked, item_order, arrange, arranged}
 use Rattle.tf_model.specs.Plan.{Outline, outline_of_tree, outline_of}
+use Rattle.tf_model.proofs.Told.{order_in}
 use Rattle.tf_model.specs.Compilation.{ambiguity, cycle_of, cycle_through, is_back, refusal_of, refusal_among, refusal_at, tree_refusal, compile_refusal}
 use Rattle.tf_model.specs.Laws.{AreOrdered}
 use Rattle.tf_numbers.proofs.TruthLemmas.{or_either, true_first, never_true}
@@ -29,9 +30,14 @@ use Rattle.tf_numbers.proofs.BelowLemmas.{none_at}
 
 pub record IsArranged (f : Flow) : Type 0 where
   pub order : f.order ≡ item_order f.place.kind (length f.place.items) f.linked
+  pub from : (u v : ℕ) → has_pair f.linked u v ≡ true → u < length f.place.items
   pub within : (u v : ℕ) → has_pair f.linked u v ≡ true → v < length f.place.items
   pub links : (u v : ℕ) → has_pair f.linked u v ≡ true → has_pair f.order u v ≡ true
   pub unlinked : is_graph f.place.kind ≡ false → f.linked ≡ []
+
+linked_from : (n : ℕ) (test : ℕ → ℕ → Bool) (b : Bool) (u v : ℕ) → has_pair (if b then pairs_below n test else []) u v ≡ true → u < n
+linked_from n test true u v is = (pair_passes n test u v is).first
+linked_from n test false u v is = absurd (cc)
 
 linked_within : (n : ℕ) (test : ℕ → ℕ → Bool) (b : Bool) (u v : ℕ) → has_pair (if b then pairs_below n test else []) u v ≡ true → v < n
 linked_within n test true u v is = (pair_passes n test u v is).second
@@ -49,14 +55,14 @@ unlinked_unless pairs true is = absurd (cc)
 unlinked_unless pairs false is = refl
 
 is_arranged : (atoms : List Atom) (inner : List Flow) (place : FlowPlace) → IsArranged (arrange atoms inner place)
-is_arranged atoms inner place = record { order = refl; within = linked_within (length place.items) (is_linked atoms inner place) (is_graph place.kind); links = linked_ordered place.kind (length place.items) (is_linked atoms inner place); unlinked = unlinked_unless (pairs_below (length place.items) (is_linked atoms inner place)) (is_graph place.kind) }
+is_arranged atoms inner place = record { order = refl; from = linked_from (length place.items) (is_linked atoms inner place) (is_graph place.kind); within = linked_within (length place.items) (is_linked atoms inner place) (is_graph place.kind); links = linked_ordered place.kind (length place.items) (is_linked atoms inner place); unlinked = unlinked_unless (pairs_below (length place.items) (is_linked atoms inner place)) (is_graph place.kind) }
 
-found_arranged : (g : ℕ) (first : Flow) (others : List Flow) (b : Bool) → IsArranged first → ((f : Flow) → flow_at others g ≡ Some f → IsArranged f)
-    → (f : Flow) → cond b (Some first) (flow_at others g) ≡ Some f → IsArranged f
+found_arranged : (g : ℕ) (first : Flow) (others : List Flow) (b : Bool) → IsArranged first → ((f : Flow) → find_flow others g ≡ Some f → IsArranged f)
+    → (f : Flow) → cond b (Some first) (find_flow others g) ≡ Some f → IsArranged f
 found_arranged g first others true here there f is = let same : first ≡ f = cc in subst IsArranged same here
 found_arranged g first others false here there f is = there f is
 
-pub each_arranged : (atoms : List Atom) (places : List FlowPlace) (g : ℕ) (f : Flow) → flow_at (arranged atoms places) g ≡ Some f → IsArranged f
+pub each_arranged : (atoms : List Atom) (places : List FlowPlace) (g : ℕ) (f : Flow) → find_flow (arranged atoms places) g ≡ Some f → IsArranged f
 each_arranged atoms [] g f is = absurd (cc)
 each_arranged atoms (place ∷ places) g f is =
     found_arranged g (arrange atoms (arranged atoms places) place) (arranged atoms places) (has_flow_number g (arrange atoms (arranged atoms places) place))
@@ -138,24 +144,24 @@ found_place : (g : ℕ) (f first : Flow) (others : Option Flow) (b rest : Bool) 
 found_place g f first others true rest there is = refl
 found_place g f first others false rest there is = there is
 
-place_among : (atoms : List Atom) (places : List FlowPlace) (g : ℕ) (f : Flow) → flow_at (arranged atoms places) g ≡ Some f → list_any (is_place_of g) places ≡ true
+place_among : (atoms : List Atom) (places : List FlowPlace) (g : ℕ) (f : Flow) → find_flow (arranged atoms places) g ≡ Some f → list_any (is_place_of g) places ≡ true
 place_among atoms [] g f is = absurd (cc)
 place_among atoms (place ∷ places) g f is =
-    found_place g f (arrange atoms (arranged atoms places) place) (flow_at (arranged atoms places) g) (nat_eq place.number g) (list_any (is_place_of g) places) (place_among atoms places g f) is
+    found_place g f (arrange atoms (arranged atoms places) place) (find_flow (arranged atoms places) g) (nat_eq place.number g) (list_any (is_place_of g) places) (place_among atoms places g f) is
 
-found_refused : (atoms : List Atom) (g : ℕ) (x f : Flow) (inner : List Flow) (b : Bool) → cond b (Some x) (flow_at inner g) ≡ Some f
+found_refused : (atoms : List Atom) (g : ℕ) (x f : Flow) (inner : List Flow) (b : Bool) → cond b (Some x) (find_flow inner g) ≡ Some f
     → (if b then refusal_of atoms inner x else refusal_among atoms g inner) ≡ None
-    → (flow_at inner g ≡ Some f → refusal_among atoms g inner ≡ None → is_graph f.place.kind ≡ true → cycle_of f ≡ None) → is_graph f.place.kind ≡ true → cycle_of f ≡ None
+    → (find_flow inner g ≡ Some f → refusal_among atoms g inner ≡ None → is_graph f.place.kind ≡ true → cycle_of f ≡ None) → is_graph f.place.kind ≡ true → cycle_of f ≡ None
 found_refused atoms g x f inner true found is later graph =
     let same : x ≡ f = cc in
     no_refusal atoms inner f (is_graph f.place.kind) refl (ap (refusal_of atoms inner) (sym same) ∙ is) graph
 found_refused atoms g x f inner false found is later graph = later found is graph
 
-refused_among : (atoms : List Atom) (g : ℕ) (flows : List Flow) (f : Flow) → flow_at flows g ≡ Some f → refusal_among atoms g flows ≡ None → is_graph f.place.kind ≡ true → cycle_of f ≡ None
+refused_among : (atoms : List Atom) (g : ℕ) (flows : List Flow) (f : Flow) → find_flow flows g ≡ Some f → refusal_among atoms g flows ≡ None → is_graph f.place.kind ≡ true → cycle_of f ≡ None
 refused_among atoms g [] f found is graph = absurd (cc)
 refused_among atoms g (x ∷ inner) f found is graph = found_refused atoms g x f inner (has_flow_number g x) found is (refused_among atoms g inner f) graph
 
-refused_not : (plan : Outline) (g : ℕ) (f : Flow) → flow_at plan.flows g ≡ Some f → refusal_at plan g ≡ None → is_graph f.place.kind ≡ true → cycle_of f ≡ None
+refused_not : (plan : Outline) (g : ℕ) (f : Flow) → find_flow plan.flows g ≡ Some f → refusal_at plan g ≡ None → is_graph f.place.kind ≡ true → cycle_of f ≡ None
 refused_not plan g f found is = refused_among plan.atoms g plan.flows f found is
 
 -- of the flow that is found, the order goes on and leads to no item itself
@@ -176,9 +182,9 @@ itself_found (Some f) each looked u on =
 -- where nothing is refused, the items of each flow are in an order
 pub compiled_ordered : (root : Tree) (store : List Bind) (defer : Bool) → tree_refusal root (outline_of_tree root store defer) ≡ None → AreOrdered (outline_of_tree root store defer).flows
 compiled_ordered root store defer is = record {
-  transitive = λ g. chain_found (flow_at (outline_of_tree root store defer).flows g) (each_arranged (atoms_of 0 root) (flows_of 0 0 root) g);
+  transitive = λ g. chain_found (find_flow (outline_of_tree root store defer).flows g) (each_arranged (atoms_of 0 root) (flows_of 0 0 root) g);
   irreflexive = λ g u. never_true (item_before (outline_of_tree root store defer).flows g u u)
-      (itself_found (flow_at (outline_of_tree root store defer).flows g) (each_arranged (atoms_of 0 root) (flows_of 0 0 root) g)
+      (itself_found (find_flow (outline_of_tree root store defer).flows g) (each_arranged (atoms_of 0 root) (flows_of 0 0 root) g)
       (λ f found. refused_not (outline_of_tree root store defer) g f found
       (looked_at (refusal_at (outline_of_tree root store defer)) (innermost_first 0 root) g is (in_tree root 0 0 g (place_among (atoms_of 0 root) (flows_of 0 0 root) g f found)))) u);
 }

@@ -9,10 +9,11 @@ use Rattle.tf_flow.specs.Tree.{Tree, Trees, flow, Head, tree_of, trees_of, item_
 use Rattle.tf_flow.proofs.TreeLemmas.{tree_of-flow}
 use Rattle.tf_flow.specs.Outline.{Atom, atoms_of}
 use Rattle.tf_flow.specs.declared.ways.Turn.{Turn}
-use Rattle.tf_model.specs.Before.{passes_flow, way_in}
+use Rattle.tf_model.specs.Before.{passes_flow}
 use Rattle.tf_model.specs.Plan.{Outline, outline_of, holds, way, count, retry_of}
 use Rattle.tf_model.specs.Snapshot.{Resolve, Snapshot}
 use Rattle.tf_model.specs.Retries.{Controlled, controlled, controlled_on, enclosing, resolved, resolution_by, resolution, answer, is_outermost, is_revert}
+use Rattle.tf_model.proofs.Told.{way_in}
 use Rattle.tf_numbers.proofs.TruthLemmas.{or_either, and_first, and_second, true_first, true_second, true_both}
 use Rattle.tf_numbers.proofs.PairLemmas.{any_in_both}
 use Rattle.tf_model.proofs.WayLemmas.{IsWay, begins, ways_of}

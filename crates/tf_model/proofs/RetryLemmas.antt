@@ -8,8 +8,9 @@ use Rattle.tf_flow.specs.Plan.{PlanValue}
 use Rattle.tf_flow.specs.Tree.{Tree, Trees, task, flow, no_trees, tree, tree_of}
 use Rattle.tf_flow.specs.Outline.{a_task, Atom, atoms_of, atoms_among, enter, retry_atoms, flow_count, is_retry_part}
 use Rattle.tf_flow.specs.declared.ways.Turn.{Turn}
-use Rattle.tf_model.specs.Before.{Flow, way_before, item_before, way_in, passes_flow}
-use Rattle.tf_model.specs.Plan.{outline_of, is_before, holds, way, is_retry, is_retry_in, own_flow, last_flow}
+use Rattle.tf_model.specs.Before.{Flow, way_before, item_before, passes_flow}
+use Rattle.tf_model.specs.Plan.{outline_of, is_before, holds, way, is_retry, own_flow, last_flow}
+use Rattle.tf_model.proofs.Told.{way_in, is_retry_in}
 use Rattle.tf_numbers.proofs.TruthLemmas.{true_first, true_second, true_both}
 use Rattle.tf_model.proofs.WayLemmas.{turn_to, IsWay, IsWayAmong, numbers_of, apart, goes_past, all_both, ways_of, ways_among, way_of_each}
 

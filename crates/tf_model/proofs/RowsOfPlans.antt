@@ -9,12 +9,12 @@ use Rattle.tf_flow.specs.declared.deciders.Depth.TheVariants as depth
 use Rattle.tf_flow.specs.declared.nested.FlowKind.TheVariants as kind
 use Rattle.tf_numbers.specs.Pairs.{pair, pairs_below}
 use Rattle.tf_numbers.specs.Numbers.{which_below}
-use Rattle.tf_model.specs.Before.{flow_at}
-use Rattle.tf_model.specs.Linked.{standing_in}
-use Rattle.tf_model.specs.Plan.{Outline, is_before, holds, way, linked_in}
+use Rattle.tf_model.specs.Before.{find_flow}
+use Rattle.tf_model.specs.Plan.{Outline, is_before, holds, way}
 use Rattle.tf_model.specs.Compilation.{ambiguous, cycle, tree_refusal}
 use Rattle.tf_model.specs.Scope.{members, missing_symbol}
 use Rattle.tf_model.specs.Deciders.{ignores}
+use Rattle.tf_model.proofs.Told.{standing_in, linked_in}
 use Rattle.tf_model.specs.Bound.{tree_bound}
 use Rattle.tf_model.proofs.RowWords.{number, same_arg, echo, echo_to, echo_of, work, fail_below, controller, flow_of_items, plan_of, linked_plan_of, link}
 use Rattle.tf_model.proofs.RowsOfDeciders.{depth_all_plan}
@@ -51,7 +51,7 @@ abbrev pub turned_plan : Outline
 turned_plan = linked_plan_of (flow_of_items kind.Graph (codes "g") None (echo (codes "c") (number 3) ∷ echo (codes "a") (number 1) ∷ echo (codes "b") (number 2) ∷ []))
     (link (codes "a") (codes "b") ∷ link (codes "b") (codes "c") ∷ [])
 
-pub turned_standing : standing_in (flow_at turned_plan.flows 0) ≡ 1 ∷ 2 ∷ 0 ∷ []
+pub turned_standing : standing_in (find_flow turned_plan.flows 0) ≡ 1 ∷ 2 ∷ 0 ∷ []
 turned_standing = refl
 
 pub turned_before : pairs_below 3 (is_before turned_plan) ≡ pair 1 0 ∷ pair 1 2 ∷ pair 2 0 ∷ []
@@ -62,7 +62,7 @@ turned_before = refl
 abbrev pub inferred_tree : Tree
 inferred_tree = flow_of_items kind.Graph (codes "g") None (echo_of (codes "b") (codes "x") ∷ echo_to (codes "a") (number 1) (codes "x") ∷ [])
 
-pub inferred_link : linked_in (flow_at (plan_of inferred_tree).flows 0) ≡ pair 1 0 ∷ []
+pub inferred_link : linked_in (find_flow (plan_of inferred_tree).flows 0) ≡ pair 1 0 ∷ []
 inferred_link = refl
 
 -- a task that takes one symbol and gives another

@@ -9,8 +9,9 @@ use Rattle.tf_flow.specs.Tree.{Tree, Trees, task, flow, no_trees, tree, Head, tr
 use Rattle.tf_flow.specs.Plan.{PlanValue}
 use Rattle.tf_flow.specs.Outline.{Atom, atoms_of, atoms_among, enter, retry_atoms, flow_count, flows_among_count}
 use Rattle.tf_flow.specs.declared.ways.Turn.{Turn}
-use Rattle.tf_model.specs.Before.{Flow, way_before, turn_before, way_in, passes_flow}
+use Rattle.tf_model.specs.Before.{Flow, way_before, turn_before, passes_flow}
 use Rattle.tf_model.specs.Plan.{outline_of, outline_of_tree, holds, is_before, way}
+use Rattle.tf_model.proofs.Told.{way_in}
 use Rattle.tf_numbers.proofs.TruthLemmas.{or_either, true_first, neither_second}
 use Rattle.tf_numbers.proofs.NumberLemmas.{same_or_other}
 

@@ -1,8 +1,10 @@
 -- Which atom is before which.
-use Rattle.std.specs.Prelude.{ℕ, List, [], ◌∷◌, Bool, true, false, ◌&&◌, Option, Some, None, find, slice_get, if◌then◌else◌, nat_eq}
+use Rattle.std.specs.Prelude.{ℕ, List, [], ◌∷◌, Bool, true, false, ◌&&◌, Option, Some, None, find, slice_get, if◌then◌else◌, nat_eq, option_map}
+use Rattle.std.specs.Option.{option_map_or, unwrap_or}
 use Rattle.std.specs.List.{list_any}
 use Rattle.tf_numbers.specs.Pairs.{Pair, has_pair}
-use Rattle.tf_flow.specs.Outline.{Atom, FlowPlace}
+use Rattle.tf_flow.specs.Outline.{Part, Atom, FlowPlace, part_of, way_of}
+use Rattle.tf_flow.specs.declared.nested.FlowKind.TheVariants as kind
 use Rattle.tf_flow.specs.declared.ways.Turn.{Turn}
 
 -- a flow with what its kind and its links mean: which item is linked to which; which item comes before
@@ -17,18 +19,26 @@ pub record Flow : Type 0 where
 abbrev pub has_flow_number : ℕ → Flow → Bool
 has_flow_number g f = nat_eq f.place.number g
 
--- the flow of a number
-abbrev pub flow_at : List Flow → ℕ → Option Flow
-flow_at flows g = find (has_flow_number g) flows
+-- the flow of a number, if there is one
+abbrev pub find_flow : List Flow → ℕ → Option Flow
+find_flow flows g = find (has_flow_number g) flows
 
--- which item comes before which in the flow, where there is one
-abbrev pub order_in : Option Flow → List Pair
-order_in None = []
-order_in (Some f) = f.order
+-- a flow with nothing in it
+abbrev pub no_flow : Flow
+no_flow = record {
+  place = record { number = 0; name = []; kind = kind.Unordered; retry = None; control = None; items = []; links = [] };
+  linked = [];
+  order = [];
+  standing = [];
+}
+
+-- the flow of a number; of a number that no flow has, one with nothing in it
+abbrev pub flow_at : List Flow → ℕ → Flow
+flow_at flows g = unwrap_or (find_flow flows g) no_flow
 
 -- item u of flow g comes before item v of it
 abbrev pub item_before : List Flow → ℕ → ℕ → ℕ → Bool
-item_before flows g u v = has_pair (order_in (flow_at flows g)) u v
+item_before flows g u v = has_pair (flow_at flows g).order u v
 
 -- two ways into one flow: its retry controller is before its items; of two items the order of the flow
 -- decides; and in one item it is decided below
@@ -44,14 +54,13 @@ way_before flows [] other = false
 way_before flows (x ∷ xs) [] = false
 way_before flows (x ∷ xs) (y ∷ ys) = nat_eq x.flow y.flow && turn_before flows x.flow x.item y.item (way_before flows xs ys)
 
--- the way of an atom, where there is one
-abbrev pub way_in : Option Atom → List Turn
-way_in None = []
-way_in (Some atom) = atom.way
+-- what stands at a number: a task, a retry controller, or nothing
+abbrev pub part_at : List Atom → ℕ → Option Part
+part_at atoms a = option_map part_of (slice_get atoms a)
 
 -- the way of the atom of a number; a number that no atom has, has none
 abbrev pub way_at : List Atom → ℕ → List Turn
-way_at atoms a = way_in (slice_get atoms a)
+way_at atoms a = option_map_or way_of (slice_get atoms a) []
 
 -- the way leads into flow g
 abbrev pub leads_into : ℕ → Turn → Bool

@@ -1,5 +1,6 @@
 -- Which task a hand takes up next, and how a run ends.
-use Rattle.std.specs.Prelude.{ℕ, ℤ, pos, Bool, not, ◌&&◌, ◌||◌, Option, Some, None, option_map, is_none, int_lt, slice_get, if◌then◌else◌}
+use Rattle.std.specs.Prelude.{ℕ, ℤ, pos, Bool, not, ◌&&◌, ◌||◌, Option, Some, None, option_map, is_none, int_lt, if◌then◌else◌}
+use Rattle.std.specs.Option.{option_map_or}
 use Rattle.tf_states.specs.declared.record.What.{What}
 use Rattle.tf_states.specs.declared.record.What.TheVariants as what
 use Rattle.tf_states.specs.declared.state.AtomState.{AtomState}
@@ -7,7 +8,8 @@ use Rattle.tf_states.specs.declared.state.AtomState.TheVariants as atom
 use Rattle.tf_states.specs.declared.state.FlowState.{FlowState}
 use Rattle.tf_states.specs.declared.state.FlowState.TheVariants as flow
 use Rattle.tf_numbers.specs.Numbers.{all_below, any_below, first_below}
-use Rattle.tf_flow.specs.Outline.{Atom, priority_of}
+use Rattle.tf_flow.specs.Outline.{priority_of}
+use Rattle.tf_model.specs.Before.{part_at}
 use Rattle.tf_model.specs.Plan.{Outline, count, is_task}
 use Rattle.tf_model.specs.Snapshot.{Snapshot, is_at_work}
 use Rattle.tf_model.specs.States.{is_success, is_failure, is_done, flow_runs, flow_suspends}
@@ -22,14 +24,9 @@ is_interrupted plan s a = is_task plan a && (is_at_work (s.state a) && is_none (
 abbrev pub is_candidate : Outline → Snapshot → ℕ → Bool
 is_candidate plan s a = is_interrupted plan s a || (is_task plan a && (can_run plan s a || can_revert plan s a))
 
--- the same of an atom, where there is one
-abbrev pub priority_in : Option Atom → ℤ
-priority_in None = pos 0
-priority_in (Some atom) = priority_of atom.part
-
 -- the priority of a
 abbrev pub priority : Outline → ℕ → ℤ
-priority plan a = priority_in (slice_get plan.atoms a)
+priority plan a = option_map_or priority_of (part_at plan.atoms a) (pos 0)
 
 -- b is a candidate of a greater priority than a
 abbrev pub outranks : Outline → Snapshot → ℕ → ℕ → Bool

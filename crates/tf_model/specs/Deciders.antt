@@ -1,6 +1,7 @@
 -- When a task is refused, and what is ignored then.
 use Rattle.std.specs.Prelude.{ℕ, ℤ, List, [], ◌∷◌, Bool, true, false, not, ◌&&◌, ◌||◌, ◌==◌, Option, Some, None, is_some, filter, filter_map, nat_eq, int_lt, if◌then◌else◌}
 use Rattle.std.specs.Cmp.Lexicographic.{pointwise}
+use Rattle.std.specs.Option.{option_and_then, unwrap_or}
 use Rattle.tf_values.specs.declared.value.Val.{Val}
 use Rattle.tf_values.specs.declared.value.Val.TheVariants as value
 use Rattle.tf_values.specs.Value.{byte_form}
@@ -13,8 +14,8 @@ use Rattle.tf_numbers.specs.Numbers.{first_below, is_number}
 use Rattle.tf_numbers.specs.Pairs.{Pair, has_pair}
 use Rattle.tf_flow.specs.Conditions.{Condition, is_same, is_below, is_above, negated, all_of, any_of, Conditions, no_conditions, condition, Decision, Connection}
 use Rattle.tf_flow.specs.declared.ways.Turn.{Turn}
-use Rattle.tf_model.specs.Before.{Flow, flow_at}
-use Rattle.tf_model.specs.Plan.{Outline, count, way, is_before, is_task, own_flow, atom_name, linked_in}
+use Rattle.tf_model.specs.Before.{Flow, find_flow, no_flow}
+use Rattle.tf_model.specs.Plan.{Outline, count, way, is_before, is_task, own_flow, atom_name}
 use Rattle.tf_model.specs.Snapshot.{Snapshot}
 use Rattle.tf_model.specs.States.{is_success, is_ignored}
 
@@ -66,18 +67,8 @@ abbrev mutual
   passes_one results (condition test others) = passes results test || passes_one results others
 
 -- the flow in which a stands itself
-abbrev pub flow_in : Outline → Option ℕ → Option Flow
-flow_in plan None = None
-flow_in plan (Some g) = flow_at plan.flows g
-
--- the flow in which a stands itself
-abbrev pub home : Outline → ℕ → Option Flow
-home plan a = flow_in plan (own_flow plan a)
-
--- the links that are written in a flow, where there is one
-abbrev pub connections_in : Option Flow → List Connection
-connections_in None = []
-connections_in (Some f) = f.place.links
+abbrev pub home : Outline → ℕ → Flow
+home plan a = unwrap_or (option_and_then (find_flow plan.flows) (own_flow plan a)) no_flow
 
 -- the link leads to the atom of this name and has a decider
 abbrev pub decides_on : List ℕ → Connection → Bool
@@ -85,7 +76,7 @@ decides_on name link = same_name link.to name && is_some link.decision
 
 -- v's links with deciders
 abbrev pub decider_links : Outline → ℕ → List Connection
-decider_links plan v = filter (decides_on (atom_name plan v)) (connections_in (home plan v))
+decider_links plan v = filter (decides_on (atom_name plan v)) (home plan v).place.links
 
 -- a has this name
 abbrev pub is_named : Outline → List ℕ → ℕ → Bool
@@ -175,7 +166,7 @@ linked_places linked (Some u) (Some w) = has_pair linked u w
 
 -- a link of v's own flow leads from v to a
 abbrev pub is_neighbor : Outline → ℕ → ℕ → Bool
-is_neighbor plan v a = is_sibling plan v a && linked_places (linked_in (home plan v)) (last_item (way plan v)) (last_item (way plan a))
+is_neighbor plan v a = is_sibling plan v a && linked_places (home plan v).linked (last_item (way plan v)) (last_item (way plan a))
 
 -- what a refused v ignores besides itself: all atoms after it; the tasks of its own flow that are after
 -- it; the tasks that a link leads to from it; or nothing

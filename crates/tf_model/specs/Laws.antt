@@ -1,5 +1,5 @@
 -- What the laws of legal histories speak of.
-use Rattle.std.specs.Prelude.{not, ◌≡◌, ◌⊎◌, ◌++◌, reverse, filter_map, Some, None, Option, ℕ, List, [], ◌∷◌, Bool, true, false, ◌&&◌, ◌||◌, if◌then◌else◌, nat_eq}
+use Rattle.std.specs.Prelude.{not, ◌≡◌, ◌⊎◌, ◌<◌, length, map, ◌++◌, reverse, filter_map, Some, None, Option, ℕ, List, [], ◌∷◌, Bool, true, false, ◌&&◌, ◌||◌, if◌then◌else◌, nat_eq}
 use Rattle.std.specs.List.{list_all}
 use Rattle.tf_numbers.specs.Numbers.{has_number}
 use Rattle.tf_states.specs.declared.record.Entry.{Entry}
@@ -13,9 +13,12 @@ use Rattle.tf_states.specs.declared.state.FlowState.{FlowState}
 use Rattle.tf_states.specs.declared.state.FlowState.TheVariants as flow
 use Rattle.tf_states.specs.Transitions.{task_may, retry_may, flow_may}
 use Rattle.tf_model.specs.Before.{Flow, item_before}
-use Rattle.tf_model.specs.Plan.{Outline, way, holds, is_retry, is_task, own_flow, linked_in}
+use Rattle.tf_model.specs.Plan.{Outline, way, holds, is_retry, is_task, own_flow}
 use Rattle.tf_model.specs.Deciders.{home, last_item}
 use Rattle.tf_numbers.specs.Pairs.{has_pair}
+use Rattle.tf_links.specs.Cycles.{shortest_cycle}
+use Rattle.tf_links.specs.Laws.{Chain}
+use Rattle.tf_model.specs.Linked.{item_name}
 use Rattle.tf_model.specs.States.{is_pending, is_success}
 use Rattle.tf_model.specs.Snapshot.{Resolve, Snapshot, is_retry_of}
 use Rattle.tf_model.specs.History.{snapshot, flow_of}
@@ -148,4 +151,12 @@ pub record IsLinkedTask (plan : Outline) (v a : ℕ) : Type 0 where
   pub same_flow : own_flow plan a ≡ own_flow plan v
   pub stands : last_item (way plan v) ≡ Some from
   pub led_to : last_item (way plan a) ≡ Some to
-  pub linked : has_pair (linked_in (home plan v)) from to ≡ true
+  pub linked : has_pair (home plan v).linked from to ≡ true
+
+-- the names are those of the shortest cycle through an item that lies on one, and no item before it lies on one
+pub record IsFirstCycle (f : Flow) (names : List (List ℕ)) : Type 0 where
+  pub item : ℕ
+  pub within : item < length f.place.items
+  pub on : Chain f.linked item item
+  pub first : (u : ℕ) → u < item → Chain f.linked u u → ⊥
+  pub named : names ≡ map (item_name f.place) (shortest_cycle (length f.place.items) f.linked item)

@@ -1,6 +1,7 @@
 -- Which items of a graph flow are linked, in which order the items of a flow come, and how they stand.
 use Rattle.std.specs.Prelude.{ℕ, List, [], ◌∷◌, ◌++◌, Bool, false, not, ◌&&◌, ◌||◌, Option, Some, None, length, nat_lt, nat_eq, map, flat_map, filter, slice_get, if◌then◌else◌}
 use Rattle.std.specs.List.{list_any}
+use Rattle.std.specs.Option.{option_map_or, option_to_list}
 use Rattle.tf_flow.specs.declared.atoms.Arg.{Arg}
 use Rattle.tf_flow.specs.declared.nested.FlowKind.{FlowKind}
 use Rattle.tf_flow.specs.declared.nested.FlowKind.TheVariants as kind
@@ -14,7 +15,7 @@ use Rattle.tf_links.specs.Reach.{reached}
 use Rattle.tf_links.specs.Standing.{standing_items}
 use Rattle.tf_flow.specs.Conditions.{Connection}
 use Rattle.tf_flow.specs.Outline.{Part, Atom, Standing, stands_task, stands_flow, Item, FlowPlace, arguments_of, injected_in, provided_by}
-use Rattle.tf_model.specs.Before.{Flow, flow_at, way_before, way_at, passes_item}
+use Rattle.tf_model.specs.Before.{Flow, flow_at, part_at, way_before, way_at, passes_item}
 
 -- the symbol of an argument
 abbrev pub arg_symbol : Arg → List ℕ
@@ -32,23 +33,13 @@ is_taken part arg = not (is_injected part arg)
 abbrev pub taken_symbols : Part → List (List ℕ)
 taken_symbols part = map arg_symbol (filter (is_taken part) (arguments_of part))
 
--- the atom lists the symbol among those that it provides
-abbrev pub part_lists : Part → List ℕ → Bool
-part_lists part symbol = is_among (provided (provided_by part)) symbol
-
--- the symbols that an atom takes from others, where there is one
-abbrev pub taken_by : Option Atom → List (List ℕ)
-taken_by None = []
-taken_by (Some atom) = taken_symbols atom.part
-
--- the atom, where there is one, provides the symbol
-abbrev pub listed_by : Option Atom → List ℕ → Bool
-listed_by None symbol = false
-listed_by (Some atom) symbol = part_lists atom.part symbol
+-- the symbols that an atom lists as those that it provides
+abbrev pub listed : Part → List (List ℕ)
+listed part = provided (provided_by part)
 
 -- the atom of a number provides the symbol
 abbrev pub provides_at : List Atom → List ℕ → ℕ → Bool
-provides_at atoms symbol a = listed_by (slice_get atoms a) symbol
+provides_at atoms symbol a = is_among (option_map_or listed (part_at atoms a) []) symbol
 
 -- the atom of a number stands in this item of flow g
 abbrev pub is_inside : List Atom → ℕ → ℕ → ℕ → Bool
@@ -65,7 +56,7 @@ is_unserved atoms inner g v a symbol = not (any_below (length atoms) (serves_ins
 
 -- what atom a takes and no atom before it in the item provides
 abbrev pub needs_of_atom : List Atom → List Flow → ℕ → ℕ → ℕ → List (List ℕ)
-needs_of_atom atoms inner g v a = filter (is_unserved atoms inner g v a) (taken_by (slice_get atoms a))
+needs_of_atom atoms inner g v a = filter (is_unserved atoms inner g v a) (option_map_or taken_symbols (part_at atoms a) [])
 
 -- the symbols that an item needs: those that its atoms take and that no atom before them in the item provides
 abbrev pub needs : List Atom → List Flow → ℕ → ℕ → List (List ℕ)
@@ -88,14 +79,13 @@ retry_provides (Some r) symbol = is_among (provided r.provides) symbol
 abbrev pub joins : List ℕ → List ℕ → Connection → Bool
 joins from to link = same_name link.from from && same_name link.to to
 
--- the name of an item, where there is one
-abbrev pub item_name_in : Option Item → List ℕ
-item_name_in None = []
-item_name_in (Some item) = item.name
+-- an item's name
+abbrev pub name_of_item : Item → List ℕ
+name_of_item item = item.name
 
 -- the name of item u
 abbrev pub item_name : FlowPlace → ℕ → List ℕ
-item_name place u = item_name_in (slice_get place.items u)
+item_name place u = option_map_or name_of_item (slice_get place.items u) []
 
 -- a link that is written joins u to v
 abbrev pub is_explicit : FlowPlace → ℕ → ℕ → Bool
@@ -153,34 +143,23 @@ item_order kind.Linear n linked = pairs_below n nat_lt
 item_order kind.Unordered n linked = []
 item_order kind.Graph n linked = reached n linked
 
--- a flow's atoms in standing order, where there is a flow
-abbrev pub standing_in : Option Flow → List ℕ
-standing_in None = []
-standing_in (Some f) = f.standing
-
 -- the atoms of an item in standing order: a task, or those of a nested flow
 abbrev pub standing_at : List Flow → Standing → List ℕ
 standing_at inner (stands_task a) = a ∷ []
-standing_at inner (stands_flow g) = standing_in (flow_at inner g)
+standing_at inner (stands_flow g) = (flow_at inner g).standing
 
--- the same, where there is such an item
-abbrev pub standing_of : List Flow → Option Item → List ℕ
-standing_of inner None = []
-standing_of inner (Some item) = standing_at inner item.standing
+-- the same of an item
+abbrev pub item_standing : List Flow → Item → List ℕ
+item_standing inner item = standing_at inner item.standing
 
 -- the atoms of item u in standing order
 abbrev pub standing_of_item : List Flow → FlowPlace → ℕ → List ℕ
-standing_of_item inner place u = standing_of inner (slice_get place.items u)
-
--- the number, where there is one
-abbrev pub numbers_in : Option ℕ → List ℕ
-numbers_in None = []
-numbers_in (Some a) = a ∷ []
+standing_of_item inner place u = option_map_or (item_standing inner) (slice_get place.items u) []
 
 -- a flow's atoms in standing order: tree order, in which its items are taken in their standing order
 abbrev pub standing_atoms : List Flow → FlowPlace → List Pair → List ℕ
 standing_atoms inner place linked =
-    numbers_in place.retry ++ flat_map (standing_of_item inner place) (standing_items (length place.items) linked)
+    option_to_list place.retry ++ flat_map (standing_of_item inner place) (standing_items (length place.items) linked)
 
 -- a flow with its linked pairs, and with what they mean
 abbrev pub arrange_with : List Flow → FlowPlace → List Pair → Flow

@@ -1,8 +1,9 @@
 -- What a performer is asked for, and that the outcomes in a history are its own.
-use Rattle.std.specs.Prelude.{ℕ, List, [], ◌∷◌, Bool, false, Option, Some, None, option_map, nat_eq, slice_get, if◌then◌else◌}
+use Rattle.std.specs.Prelude.{ℕ, List, [], ◌∷◌, Bool, false, Option, Some, None, option_map, nat_eq, if◌then◌else◌}
+use Rattle.std.specs.Option.{option_and_then}
 use Rattle.tf_values.specs.declared.value.Val.TheVariants as value
 use Rattle.tf_flow.specs.declared.atoms.Task.{Task}
-use Rattle.tf_flow.specs.Outline.{Part, a_task, a_retry, Atom}
+use Rattle.tf_flow.specs.Outline.{Part, a_task, a_retry}
 use Rattle.tf_ports.specs.declared.orders.Given.{Given}
 use Rattle.tf_ports.specs.declared.orders.Order.{Order}
 use Rattle.tf_ports.specs.declared.outcomes.Action.{Action}
@@ -15,6 +16,7 @@ use Rattle.tf_states.specs.declared.record.What.{What}
 use Rattle.tf_states.specs.declared.record.What.TheVariants as what
 use Rattle.tf_states.specs.declared.state.AtomState.TheVariants as atom
 use Rattle.tf_model.specs.History.{snapshot}
+use Rattle.tf_model.specs.Before.{part_at}
 use Rattle.tf_model.specs.Plan.{Outline}
 use Rattle.tf_model.specs.Scope.{given_for}
 use Rattle.tf_model.specs.Snapshot.{Snapshot, is_at_work}
@@ -24,14 +26,9 @@ abbrev pub task_part : Part → Option Task
 task_part (a_task t) = Some t
 task_part (a_retry r) = None
 
--- the task that an atom is, where there is one
-abbrev pub task_in : Option Atom → Option Task
-task_in None = None
-task_in (Some atom) = task_part atom.part
-
 -- the task of that number
 abbrev pub task_at : Outline → ℕ → Option Task
-task_at plan a = task_in (slice_get plan.atoms a)
+task_at plan a = option_and_then task_part (part_at plan.atoms a)
 
 -- the order to do so with task a, which is t, and these arguments
 abbrev pub order_with : ℕ → Action → Given → Task → Order

@@ -1,15 +1,15 @@
 -- What the rules of a run read of a plan.
-use Rattle.std.specs.Prelude.{ℕ, List, [], ◌∷◌, Bool, false, Option, Some, None, length, slice_get}
+use Rattle.std.specs.Prelude.{ℕ, List, [], ◌∷◌, Bool, false, Option, Some, None, length}
+use Rattle.std.specs.Option.{option_map_or}
 use Rattle.tf_flow.specs.declared.atoms.Arg.{Arg}
 use Rattle.tf_flow.specs.declared.atoms.Bind.{Bind}
 use Rattle.tf_flow.specs.declared.atoms.Provides.{Provides}
 use Rattle.tf_flow.specs.declared.atoms.Provides.TheVariants as provides
 use Rattle.tf_flow.specs.Plan.{PlanValue}
 use Rattle.tf_flow.specs.Tree.{Tree, tree_of}
-use Rattle.tf_numbers.specs.Pairs.{Pair}
 use Rattle.tf_flow.specs.Outline.{is_task_part, is_retry_part, Atom, FlowPlace, atoms_of, flows_of, name_of, arguments_of, injected_in, provided_by}
 use Rattle.tf_flow.specs.declared.ways.Turn.{Turn}
-use Rattle.tf_model.specs.Before.{Flow, flow_at, way_before, way_at, passes_flow}
+use Rattle.tf_model.specs.Before.{Flow, flow_at, part_at, way_before, way_at, passes_flow}
 use Rattle.tf_model.specs.Linked.{arranged}
 
 -- the atoms and the flows in tree order, the values of the store, and whether reverts are deferred
@@ -47,23 +47,13 @@ is_before plan a b = way_before plan.flows (way plan a) (way plan b)
 unfoldable pub holds : Outline → ℕ → ℕ → Bool
 holds plan g a = passes_flow g (way plan a)
 
--- the same of an atom, where there is one
-abbrev pub is_retry_in : Option Atom → Bool
-is_retry_in None = false
-is_retry_in (Some atom) = is_retry_part atom.part
-
 -- a is a retry controller
 abbrev pub is_retry : Outline → ℕ → Bool
-is_retry plan a = is_retry_in (slice_get plan.atoms a)
-
--- the same of an atom, where there is one
-abbrev pub is_task_in : Option Atom → Bool
-is_task_in None = false
-is_task_in (Some atom) = is_task_part atom.part
+is_retry plan a = option_map_or is_retry_part (part_at plan.atoms a) false
 
 -- a is a task
 abbrev pub is_task : Outline → ℕ → Bool
-is_task plan a = is_task_in (slice_get plan.atoms a)
+is_task plan a = option_map_or is_task_part (part_at plan.atoms a) false
 
 -- the flow into which the last turn of a way leads
 abbrev pub last_flow : List Turn → Option ℕ
@@ -75,52 +65,22 @@ last_flow (turn ∷ next ∷ turns) = last_flow (next ∷ turns)
 abbrev pub own_flow : Outline → ℕ → Option ℕ
 own_flow plan a = last_flow (way plan a)
 
--- the retry controller of a flow, where both are there
-abbrev pub retry_in : Option Flow → Option ℕ
-retry_in None = None
-retry_in (Some f) = f.place.retry
-
--- the retry controller of flow g
+-- the retry controller of flow g, where it has one
 abbrev pub retry_of : Outline → ℕ → Option ℕ
-retry_of plan g = retry_in (flow_at plan.flows g)
-
--- the linked pairs of a flow, where there is one
-abbrev pub linked_in : Option Flow → List Pair
-linked_in None = []
-linked_in (Some f) = f.linked
-
--- the arguments of an atom, where there is one
-abbrev pub arguments_in : Option Atom → List Arg
-arguments_in None = []
-arguments_in (Some atom) = arguments_of atom.part
+retry_of plan g = (flow_at plan.flows g).place.retry
 
 -- the arguments of a
 abbrev pub arguments : Outline → ℕ → List Arg
-arguments plan a = arguments_in (slice_get plan.atoms a)
-
--- the injected values of an atom, where there is one
-abbrev pub injects_in : Option Atom → List Bind
-injects_in None = []
-injects_in (Some atom) = injected_in atom.part
+arguments plan a = option_map_or arguments_of (part_at plan.atoms a) []
 
 -- the injected values of a
 abbrev pub injects : Outline → ℕ → List Bind
-injects plan a = injects_in (slice_get plan.atoms a)
-
--- what an atom provides, where there is one
-abbrev pub provides_in : Option Atom → Provides
-provides_in None = provides.Nothing
-provides_in (Some atom) = provided_by atom.part
+injects plan a = option_map_or injected_in (part_at plan.atoms a) []
 
 -- what a provides
 abbrev pub provides_of : Outline → ℕ → Provides
-provides_of plan a = provides_in (slice_get plan.atoms a)
-
--- the name of an atom, where there is one
-abbrev pub name_in : Option Atom → List ℕ
-name_in None = []
-name_in (Some atom) = name_of atom.part
+provides_of plan a = option_map_or provided_by (part_at plan.atoms a) provides.Nothing
 
 -- the name of a
 abbrev pub atom_name : Outline → ℕ → List ℕ
-atom_name plan a = name_in (slice_get plan.atoms a)
+atom_name plan a = option_map_or name_of (part_at plan.atoms a) []

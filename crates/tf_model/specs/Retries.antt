@@ -1,5 +1,6 @@
 -- What a retry controller gives an attempt, what it answers a failure with, and what a failure is resolved to.
-use Rattle.std.specs.Prelude.{ℕ, ◌+◌, pos, List, [], ◌∷◌, ◌++◌, codes, Bool, true, false, not, ◌&&◌, Option, Some, None, length, nat_lt, nat_eq, slice_get, if◌then◌else◌}
+use Rattle.std.specs.Prelude.{ℕ, ◌+◌, pos, List, [], ◌∷◌, ◌++◌, codes, Bool, true, false, not, ◌&&◌, Option, Some, None, length, nat_lt, nat_eq, if◌then◌else◌}
+use Rattle.std.specs.Option.{option_and_then}
 use Rattle.tf_values.specs.declared.value.Val.{Val}
 use Rattle.tf_values.specs.declared.value.Val.TheVariants as value
 use Rattle.tf_flow.specs.declared.atoms.RetryKind.{RetryKind}
@@ -17,8 +18,9 @@ use Rattle.tf_states.specs.declared.record.Payload.TheVariants as payload
 use Rattle.tf_states.specs.declared.record.What.{What}
 use Rattle.tf_states.specs.declared.record.What.TheVariants as what
 use Rattle.tf_states.specs.declared.state.AtomState.TheVariants as atom
-use Rattle.tf_flow.specs.Outline.{Part, a_task, a_retry, Atom}
+use Rattle.tf_flow.specs.Outline.{Part, a_task, a_retry}
 use Rattle.tf_flow.specs.declared.ways.Turn.{Turn}
+use Rattle.tf_model.specs.Before.{part_at}
 use Rattle.tf_model.specs.Plan.{Outline, way, retry_of}
 use Rattle.tf_model.specs.Snapshot.{Resolve, Snapshot}
 use Rattle.tf_model.specs.Scope.{item_value, given_for}
@@ -28,14 +30,9 @@ abbrev pub kind_of_part : Part → Option RetryKind
 kind_of_part (a_task t) = None
 kind_of_part (a_retry r) = Some r.kind
 
--- the same of an atom, where there is one
-abbrev pub kind_in : Option Atom → Option RetryKind
-kind_in None = None
-kind_in (Some atom) = kind_of_part atom.part
-
 -- the kind of retry controller r
 abbrev pub retry_kind : Outline → ℕ → Option RetryKind
-retry_kind plan r = kind_in (slice_get plan.atoms r)
+retry_kind plan r = option_and_then kind_of_part (part_at plan.atoms r)
 
 -- the argument of a name
 abbrev pub argument_named : List Pair → List ℕ → Option Val

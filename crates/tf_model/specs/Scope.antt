@@ -22,7 +22,7 @@ use Rattle.tf_states.specs.declared.record.Payload.TheVariants as payload
 use Rattle.tf_numbers.specs.Numbers.{numbers_below}
 use Rattle.tf_flow.specs.declared.ways.Turn.{Turn}
 use Rattle.tf_model.specs.Before.{flow_at, passes_item}
-use Rattle.tf_model.specs.Linked.{standing_in, provides_at}
+use Rattle.tf_model.specs.Linked.{provides_at}
 use Rattle.tf_model.specs.Plan.{Outline, count, way, is_before, arguments, injects, provides_of, atom_name}
 use Rattle.tf_model.specs.Snapshot.{Snapshot}
 use Rattle.tf_model.specs.States.{is_success}
@@ -39,7 +39,7 @@ is_earlier plan y a = is_before plan a y
 -- from the nearest on, as far as it is before y; the flow's retry controller stands first and so comes last
 abbrev pub members_in : Outline → ℕ → Turn → List ℕ
 members_in plan y turn =
-    filter (is_earlier plan y) (reverse (take_while (is_elsewhere plan turn) (standing_in (flow_at plan.flows turn.flow))))
+    filter (is_earlier plan y) (reverse (take_while (is_elsewhere plan turn) (flow_at plan.flows turn.flow).standing))
 
 -- the members of y's scope: those of its own flow, then those of the flow around that, up to the root
 unfoldable pub members : Outline → ℕ → List ℕ

@@ -1,6 +1,6 @@
 //! What the definitions promise of every plan and every history.
 
-ghost use Rattle.std.specs.Prelude.{◌≡◌, ◌≢◌, ◌⊎◌, ◌++◌, ◌∷◌, ◌<◌, ℕ, List, map, Option, None, Some, true, false, is_some, nat_eq, if◌then◌else◌};
+ghost use Rattle.std.specs.Prelude.{◌≡◌, ◌≢◌, ◌⊎◌, ◌++◌, ◌∷◌, ◌<◌, ℕ, List, length, map, Option, None, Some, true, false, is_some, nat_eq, if◌then◌else◌};
 ghost use Rattle.tf_states.specs.declared.record.Kind.TheVariants as kind;
 ghost use Rattle.std.specs.List.{list_all, list_any};
 ghost use Rattle.tf_states.specs.declared.record.Entry.{Entry};
@@ -11,10 +11,11 @@ ghost use Rattle.tf_flow.specs.declared.deciders.Depth.{Depth};
 ghost use Rattle.tf_flow.specs.declared.deciders.Depth.TheVariants as depth;
 ghost use Rattle.tf_flow.specs.Rules.{is_graph};
 ghost use Rattle.tf_states.specs.declared.record.What.TheVariants as what;
-ghost use Rattle.tf_model.specs.Before.{Flow};
+ghost use Rattle.tf_links.specs.Laws.{Chain};
+ghost use Rattle.tf_model.specs.Before.{Flow, find_flow};
 ghost use Rattle.tf_model.specs.Deciders.{ignores, home};
 ghost use Rattle.tf_model.specs.Plan.{Outline, outline_of, count, own_flow, is_before, holds, is_retry, retry_of};
-ghost use Rattle.tf_model.specs.Compilation.{compile_refusal};
+ghost use Rattle.tf_model.specs.Compilation.{compile_refusal, cycle_of, cycle};
 ghost use Rattle.tf_model.specs.Snapshot.{Resolve, Snapshot, later};
 ghost use Rattle.tf_model.specs.Retries.{resolution};
 ghost use Rattle.tf_model.specs.History.{snapshot, state_of, payload_of, flow_of, mark_of};
@@ -22,7 +23,7 @@ ghost use Rattle.tf_model.specs.States.{is_running, is_success};
 ghost use Rattle.tf_model.specs.Scope.{members, is_earlier};
 ghost use Rattle.tf_model.specs.Steps.{LegalPast};
 ghost use Rattle.tf_model.specs.Sessions.{Session};
-ghost use Rattle.tf_model.specs.Laws.{IsLinkedTask, resolves_atom, ends_mark_of, AreOrdered, Extreme, IsWhole, HasAllowed, enters_by, puts_back, last_success, name_of_flow};
+ghost use Rattle.tf_model.specs.Laws.{IsFirstCycle, IsLinkedTask, resolves_atom, ends_mark_of, AreOrdered, Extreme, IsWhole, HasAllowed, enters_by, puts_back, last_success, name_of_flow};
 ghost use Rattle.tf_flow.specs.Outline.{name_of_atom, is_retry_atom};
 
 /// The outline of a plan has the plan's atoms and flows, by their numbers.
@@ -109,6 +110,16 @@ pub fn members_are_before()
     ensures { (plan : Outline) (a : ℕ) → list_all (is_earlier plan a) (members plan a) ≡ true }
 {}
 
+/// The cycle for which a flow is refused is the shortest one through the first of its items that lies on a cycle of its
+/// links; where none is reported, no item lies on one.
+#[tactic(auto, using(crate::proofs::CycleLemmas::cycle_is_first))]
+pub fn reported_cycles_are_of_the_first_item()
+    ensures first { (plan : PlanValue) (g : ℕ) (f : Flow) (names : List (List ℕ)) → find_flow (outline_of plan).flows g ≡ Some f
+        → cycle_of f ≡ Some (cycle names) → IsFirstCycle f names }
+    ensures none { (plan : PlanValue) (g : ℕ) (f : Flow) → find_flow (outline_of plan).flows g ≡ Some f → cycle_of f ≡ None
+        → (u : ℕ) → u < length f.place.items → Chain f.linked u u → ⊥ }
+{}
+
 /// Where a plan compiles, what a refused task ignores is the task itself, or is after it.
 #[tactic(auto, using(crate::proofs::IgnoredLemmas::ignored_after))]
 pub fn ignored_atoms_are_after()
@@ -121,7 +132,7 @@ pub fn ignored_atoms_are_after()
 #[tactic(auto, using(crate::proofs::IgnoredLemmas::neighbor_linked, crate::proofs::IgnoredLemmas::neighbors_in_graphs))]
 pub fn neighbors_are_linked()
     ensures linked { (plan : Outline) (v a : ℕ) → ignores plan v depth.Neighbors a ≡ true → (v ≡ a) ⊎ IsLinkedTask plan v a }
-    ensures graphs { (plan : PlanValue) (v a : ℕ) (f : Flow) → home (outline_of plan) v ≡ Some f → is_graph f.place.kind ≡ false
+    ensures graphs { (plan : PlanValue) (v a : ℕ) → is_graph (home (outline_of plan) v).place.kind ≡ false
         → ignores (outline_of plan) v depth.Neighbors a ≡ nat_eq v a }
 {}
 

@@ -4,7 +4,8 @@ use Rattle.std.specs.Prelude.{nat_eq, nat_lt}
 use Rattle.std.proofs.lemmas.Bool.{cases_lt, lt-ltb, ltb-true}
 use Rattle.tf_numbers.proofs.TruthLemmas.{never_true, clash, and_first, true_both}
 use Rattle.tf_numbers.specs.Pairs.{has_pair}
-use Rattle.tf_model.specs.Before.{Flow, flow_at, order_in, item_before}
+use Rattle.tf_model.specs.Before.{Flow, find_flow, item_before}
+use Rattle.tf_model.proofs.Told.{order_in}
 use Rattle.tf_order.specs.declared.arranged.Arranged.{Arranged}
 use Rattle.tf_links.specs.Bits.{has}
 use Rattle.tf_links.specs.Links.{leads}
@@ -19,7 +20,7 @@ order_of (Some (Some other)) None flow u v is some = absurd is
 order_of (Some (Some other)) (Some f) flow u v is some = let same : other ≡ flow = cc in ap (λ (d : Arranged). comes_before d u v) (sym same) ∙ is.order u v
 
 pub order_found : (table : List (Option Arranged)) (flows : List Flow) (g u v : ℕ) (flow : Arranged) → ShowsFlows table flows → slice_get table g ≡ Some (Some flow) → comes_before flow u v ≡ item_before flows g u v
-order_found table flows g u v flow shows is = order_of (slice_get table g) (flow_at flows g) flow u v (shows g) is
+order_found table flows g u v flow shows is = order_of (slice_get table g) (find_flow flows g) flow u v (shows g) is
 
 no_order : (shown : Option (Option Arranged)) (o : Option Flow) (u v : ℕ) → IsShownAt shown o → ((flow : Arranged) → shown ≡ Some (Some flow) → ⊥) → false ≡ has_pair (order_in o) u v
 no_order None None u v is none = refl
@@ -29,7 +30,7 @@ no_order (Some None) (Some f) u v is none = absurd is
 no_order (Some (Some flow)) o u v is none = absurd (none flow refl)
 
 pub order_none : (table : List (Option Arranged)) (flows : List Flow) (g u v : ℕ) → ShowsFlows table flows → ((flow : Arranged) → slice_get table g ≡ Some (Some flow) → ⊥) → false ≡ item_before flows g u v
-order_none table flows g u v shows none = no_order (slice_get table g) (flow_at flows g) u v (shows g) none
+order_none table flows g u v shows none = no_order (slice_get table g) (find_flow flows g) u v (shows g) none
 
 -- ---- items that one comes before, or none of which
 

@@ -1,5 +1,6 @@
 -- Looking at the flows of a plan from the last one on, the first refusal, and the graph of a plan.
 use Rattle.std.proofs.Common.{◌≡◌, ◌≢◌, ℕ, zero, suc, ◌+◌, ◌<◌, ◌≤◌, List, [], ◌∷◌, ◌++◌, length, map, flat_map, take, drop, Bool, true, false, Option, Some, None, refl, sym, ap, subst, ◌∙◌, add-one, inl, inr, arith, eqb-true, eq-eqb, slice_set, slice_get, slice_index_or}
+use Rattle.std.specs.Option.{option_to_list}
 use Rattle.std.specs.Prelude.{nat_eq, if◌then◌else◌}
 use Rattle.std.specs.Option.{option_or}
 use Rattle.std.proofs.lemmas.Bool.{cases_lt}
@@ -9,30 +10,31 @@ use Rattle.tf_flow.specs.Names.{first_some}
 use Rattle.tf_flow.specs.Plan.{PlanValue}
 use Rattle.tf_flow.specs.Tree.{Tree, Trees, task, flow, no_trees, tree, tree_of}
 use Rattle.tf_flow.specs.declared.atoms.Retry.{Retry}
-use Rattle.tf_model.specs.Before.{Flow, flow_at, has_flow_number}
+use Rattle.tf_model.specs.Before.{Flow, find_flow, has_flow_number}
 use Rattle.tf_model.specs.Compilation.{CompileRefusal, ambiguous, cycle, refusal_of, refusal_among, refusal_at, compile_refusal}
-use Rattle.tf_model.specs.Linked.{arrange, arranged, standing_in, standing_at, standing_of, standing_of_item, numbers_in, linked_pairs}
+use Rattle.tf_model.specs.Linked.{arrange, arranged, standing_at, standing_of_item, linked_pairs}
 use Rattle.tf_links.specs.Standing.{standing_items}
 use Rattle.tf_numbers.specs.Numbers.{numbers_below}
 use Rattle.tf_flow.specs.Outline.{Atom, Item, Standing, stands_task, stands_flow, FlowPlace, atoms_of, flows_of, flows_among, flow_count, atom_count, atoms_among_count, retry_count, retry_number, item_of, items_of, innermost_first}
 use Rattle.tf_model.specs.Plan.{outline_with, outline_of, is_before, count}
+use Rattle.tf_model.proofs.Told.{standing_in, standing_of}
 use Rattle.tf_numbers.proofs.PairLemmas.{any_in_both}
 use Rattle.tf_order.specs.declared.arranged.Arranged.{Arranged}
 use Rattle.tf_order.specs.declared.faults.CompileFault.{CompileFault}
 use Rattle.tf_order.specs.declared.faults.CompileFault.TheVariants as fault
-use Rattle.tf_order.specs.declared.outline.AtomPlace.{AtomPlace}
-use Rattle.tf_order.specs.declared.outline.Level.{Level}
-use Rattle.tf_order.specs.declared.outline.Outline.{Outline}
+use Rattle.tf_flow.specs.declared.listing.AtomPlace.{AtomPlace}
+use Rattle.tf_flow.specs.declared.listing.Level.{Level}
+use Rattle.tf_flow.specs.declared.listing.Outline.{Outline}
 use Rattle.tf_order.specs.Arranged.{IsArranged, IsShownAt, ShowsFlows}
 use Rattle.tf_order.specs.Graph.{GraphValue, IsGraphOf, standing_of_plan}
 use Rattle.tf_order.specs.Looked.{told_by, told_in}
-use Rattle.tf_order.specs.Places.{shown_atom, shown_atoms, shown_level, shown_levels, level_number}
+use Rattle.tf_flow.specs.Listing.{shown_atom, shown_atoms, shown_level, shown_levels, level_number}
 use Rattle.tf_order.specs.Refusals.{IsRefusedBy}
 use Rattle.tf_order.specs.Tables.{plan_seen, atoms_found, AreTables, AreLooked, AreNone, AllBelow, fault_in, told_at}
 use Rattle.tf_numbers.proofs.EquationLemmas.{ap2}
 use Rattle.tf_order.proofs.GraphLemmas.{get_first, get_last}
 use Rattle.tf_numbers.proofs.TruthLemmas.{clash, only_first}
-use Rattle.tf_order.proofs.OutlineLemmas.{length_atoms, level_there, level_number_at}
+use Rattle.tf_flow.proofs.ListingLemmas.{length_atoms, level_there, level_number_at}
 use Rattle.tf_links.proofs.StandingLemmas.{taking_all}
 use Rattle.tf_order.proofs.TableLemmas.{get_set_same, get_set_other}
 use Rattle.tf_numbers.proofs.ListLemmas.{length_more}
@@ -72,7 +74,7 @@ looked_start : (atoms : List Atom) (places : List FlowPlace) (count : ℕ) (tabl
 looked_start atoms places count table faults whole table_none faults_none = record {
   height = table_none.height ∙ whole;
   fault_height = faults_none.height ∙ whole;
-  shows = λ g. subst (λ (ps : List FlowPlace). IsShownAt (slice_get table g) (flow_at (arranged atoms ps) g)) (sym nothing)
+  shows = λ g. subst (λ (ps : List FlowPlace). IsShownAt (slice_get table g) (find_flow (arranged atoms ps) g)) (sym nothing)
       (none_there count table g table_none (λ shown. IsShownAt shown None) tt tt);
   told = λ g. none_there count faults g faults_none (λ found. told_in (fault_in found) ≡ None) refl refl
       ∙ ap (λ (ps : List FlowPlace). refusal_among atoms g (arranged atoms ps)) (sym nothing);
@@ -96,7 +98,7 @@ looked_next : (atoms : List Atom) (places : List FlowPlace) (g : ℕ) (place : F
 looked_next atoms places g place done refusal table faults before there number within arranged_is told_is = record {
   height = length-set table g (Some done) ∙ before.height;
   fault_height = length-set faults g refusal ∙ before.fault_height;
-  shows = λ h. subst (λ (ps : List FlowPlace). IsShownAt (slice_get (slice_set table g (Some done)) h) (flow_at (arranged atoms ps) h)) (sym more) (shown h (nat_eq place.number h) refl);
+  shows = λ h. subst (λ (ps : List FlowPlace). IsShownAt (slice_get (slice_set table g (Some done)) h) (find_flow (arranged atoms ps) h)) (sym more) (shown h (nat_eq place.number h) refl);
   told = λ h. tells h (nat_eq place.number h) refl ∙ ap (λ (ps : List FlowPlace). refusal_among atoms h (arranged atoms ps)) (sym more);
 }
   where
@@ -112,13 +114,13 @@ looked_next atoms places g place done refusal table faults before there number w
     here : {X : Type 0} (xs : List X) (x : X) (h : ℕ) → nat_eq place.number h ≡ true → g < length xs → slice_get (slice_set xs g x) h ≡ Some x
     here xs x h same room = ap (slice_get (slice_set xs g x)) (sym (eqb-true place.number h same) ∙ number) ∙ get_set_same xs g x room
 
-    shown : (h : ℕ) (b : Bool) → nat_eq place.number h ≡ b → IsShownAt (slice_get (slice_set table g (Some done)) h) (flow_at (arranged atoms (place ∷ drop (suc g) places)) h)
+    shown : (h : ℕ) (b : Bool) → nat_eq place.number h ≡ b → IsShownAt (slice_get (slice_set table g (Some done)) h) (find_flow (arranged atoms (place ∷ drop (suc g) places)) h)
     shown h true same =
-        subst (λ (c : Bool). IsShownAt (slice_get (slice_set table g (Some done)) h) (if c then Some (arrange atoms inner place) else flow_at inner h)) (sym same)
+        subst (λ (c : Bool). IsShownAt (slice_get (slice_set table g (Some done)) h) (if c then Some (arrange atoms inner place) else find_flow inner h)) (sym same)
         (subst (λ (o : Option (Option Arranged)). IsShownAt o (Some (arrange atoms inner place))) (sym (here table (Some done) h same (omega (arith, within, before.height)))) arranged_is)
     shown h false other =
-        subst (λ (c : Bool). IsShownAt (slice_get (slice_set table g (Some done)) h) (if c then Some (arrange atoms inner place) else flow_at inner h)) (sym other)
-        (subst (λ (o : Option (Option Arranged)). IsShownAt o (flow_at inner h)) (sym (get_set_other table g h (Some done) (others h other))) (before.shows h))
+        subst (λ (c : Bool). IsShownAt (slice_get (slice_set table g (Some done)) h) (if c then Some (arrange atoms inner place) else find_flow inner h)) (sym other)
+        (subst (λ (o : Option (Option Arranged)). IsShownAt o (find_flow inner h)) (sym (get_set_other table g h (Some done) (others h other))) (before.shows h))
 
     tells : (h : ℕ) (b : Bool) → nat_eq place.number h ≡ b → told_at (slice_set faults g refusal) h ≡ refusal_among atoms h (arranged atoms (place ∷ drop (suc g) places))
     tells h true same =
@@ -252,7 +254,7 @@ ItemsBelow most (item ∷ items) = StandsBelow most item.standing × ItemsBelow 
 
 -- the numbers of a flow's own atoms are below another
 record PlaceBelow (most : ℕ) (place : FlowPlace) : Type 0 where
-  control : AllBelow most (numbers_in place.retry)
+  control : AllBelow most (option_to_list place.retry)
   items : ItemsBelow most place.items
 
 abbrev PlacesBelow : ℕ → List FlowPlace → Type 0
@@ -271,7 +273,7 @@ items_below : (most n a : ℕ) (ts : Trees) → a + atoms_among_count ts ≤ mos
 items_below most n a no_trees room = tt
 items_below most n a (tree first others) room = (item_below most n a first (omega (arith, room)), items_below most (n + flow_count first) (a + atom_count first) others (omega (arith, room)))
 
-retry_below : (most a : ℕ) (control : Option Retry) → a + retry_count control ≤ most → AllBelow most (numbers_in (retry_number a control))
+retry_below : (most a : ℕ) (control : Option Retry) → a + retry_count control ≤ most → AllBelow most (option_to_list (retry_number a control))
 retry_below most a None room = below_none most
 retry_below most a (Some r) room = below_one most a (omega (arith, room))
 
@@ -294,9 +296,9 @@ abbrev FlowsBelow : ℕ → List Flow → Type 0
 FlowsBelow most [] = Unit {0}
 FlowsBelow most (f ∷ flows) = AllBelow most f.standing × FlowsBelow most flows
 
-standing_found : (most : ℕ) (flows : List Flow) (g : ℕ) → FlowsBelow most flows → AllBelow most (standing_in (flow_at flows g))
+standing_found : (most : ℕ) (flows : List Flow) (g : ℕ) → FlowsBelow most flows → AllBelow most (standing_in (find_flow flows g))
 standing_found most [] g each = below_none most
-standing_found most (f ∷ flows) g each = either most f (flow_at flows g) each.0 (standing_found most flows g each.1) (has_flow_number g f)
+standing_found most (f ∷ flows) g each = either most f (find_flow flows g) each.0 (standing_found most flows g each.1) (has_flow_number g f)
   where
     either : (most : ℕ) (f : Flow) (o : Option Flow) → AllBelow most f.standing → AllBelow most (standing_in o) → (b : Bool) → AllBelow most (standing_in (if b then Some f else o))
     either most f o here there true = here
@@ -316,7 +318,7 @@ flows_below most atoms [] each = tt
 flows_below most atoms (place ∷ places) each =
     let inner = arranged atoms places in
     let rest = flows_below most atoms places each.1 in (
-      below_both most (numbers_in place.retry) (flat_map (standing_of_item inner place) (standing_items (length place.items) (linked_pairs atoms inner place)))
+      below_both most (option_to_list place.retry) (flat_map (standing_of_item inner place) (standing_items (length place.items) (linked_pairs atoms inner place)))
           each.0.control
           (below_flat most (standing_of_item inner place) (standing_items (length place.items) (linked_pairs atoms inner place)) (λ u. item_standing most inner place.items u rest each.0.items)),
       rest,

@@ -24,8 +24,8 @@ use Rattle.tf_numbers.proofs.ListLemmas.{nothing_after}
 use Rattle.tf_numbers.proofs.NumberLemmas.{turn_eq}
 use Rattle.tf_numbers.proofs.PairLemmas.{which_passes}
 use Rattle.tf_numbers.proofs.TruthLemmas.{never_true, clash, and_true, and_false, and_first, or_either, or_false, or_true, or_chain}
-use Rattle.tf_order.specs.declared.outline.AtomPlace.{AtomPlace}
-use Rattle.tf_order.specs.declared.outline.Outline.{Outline}
+use Rattle.tf_flow.specs.declared.listing.AtomPlace.{AtomPlace}
+use Rattle.tf_flow.specs.declared.listing.Outline.{Outline}
 use Rattle.tf_order.specs.Direct.{task_item, is_at_item, stands_at, AreTasksByItem, is_in_own, is_own, is_at_one}
 use Rattle.tf_order.specs.Graph.{leads_to, leads_in, leads_by_kind}
 use Rattle.tf_order.specs.Rows.{row_in, row_at}
@@ -97,9 +97,8 @@ linked_told rows u row items below read is v =
 pub linked_none : (rows : List (List ℕ)) (u : ℕ) (items : List ℕ) → items ≡ [] → length rows ≤ u → (v : ℕ) → has_number items v ≡ leads rows u v
 linked_none rows u items is past v = ap (λ (xs : List ℕ). has_number xs v) is ∙ past_row rows u v past
 
-leads_to_none : (o : Option Flow) (p : Option ℕ) → leads_in o p None ≡ false
-leads_to_none None p = refl
-leads_to_none (Some f) p = by f.place.kind p
+leads_to_none : (f : Flow) (p : Option ℕ) → leads_in f p None ≡ false
+leads_to_none f p = by f.place.kind p
   where
     by : (k : FlowKind) (p : Option ℕ) → leads_by_kind k f.linked p None ≡ false
     by kind.Linear None = refl
@@ -223,14 +222,14 @@ turned (Some h) g true = turn_eq h g ∙ sym (and_true (nat_eq g h))
 turned (Some h) g false = sym (and_false (nat_eq g h))
 
 -- by the place of the atom
-led_by : (is_task : Bool) (place h : Option ℕ) (g : ℕ) (o : Option Flow) (from : Option ℕ) (items : List ℕ) → ((v : ℕ) → (if is_task then place else None) ≡ Some v → has_number items v ≡ leads_in o from (Some v))
-    → list_any (λ (v : ℕ). is_number (if is_task then place else None) v && is_number h g) items ≡ (is_task && same_flow h (Some g)) && leads_in o from place
-led_by false place h g o from items led = any_never items
-led_by true None h g o from items led = any_never items ∙ sym (ap (λ (b : Bool). same_flow h (Some g) && b) (leads_to_none o from) ∙ and_false (same_flow h (Some g)))
-led_by true (Some v) h g o from items led =
+led_by : (is_task : Bool) (place h : Option ℕ) (g : ℕ) (f : Flow) (from : Option ℕ) (items : List ℕ) → ((v : ℕ) → (if is_task then place else None) ≡ Some v → has_number items v ≡ leads_in f from (Some v))
+    → list_any (λ (v : ℕ). is_number (if is_task then place else None) v && is_number h g) items ≡ (is_task && same_flow h (Some g)) && leads_in f from place
+led_by false place h g f from items led = any_never items
+led_by true None h g f from items led = any_never items ∙ sym (ap (λ (b : Bool). same_flow h (Some g) && b) (leads_to_none f from) ∙ and_false (same_flow h (Some g)))
+led_by true (Some v) h g f from items led =
     any_and (nat_eq v) (is_number h g) items
     ∙ (ap (λ (b : Bool). b && is_number h g) (led v refl)
-    ∙ turned h g (leads_in o from (Some v)))
+    ∙ turned h g (leads_in f from (Some v)))
 
 there_is : (atoms : List AtomPlace) (k : ℕ) → k < length atoms → (atom : AtomPlace) × (slice_get atoms k ≡ Some atom) × (atom ≡ slice_index_or atoms k atom)
 there_is [] k below = absurd (omega arith)

@@ -15,15 +15,16 @@ use Rattle.tf_links.specs.Reach.{reached}
 use Rattle.tf_flow.specs.Outline.{Part, injected_in, arguments_of}
 use Rattle.tf_flow.specs.declared.ways.Turn.{Turn}
 use Rattle.tf_model.specs.Before.{Flow, way_at, passes_item}
-use Rattle.tf_model.specs.Linked.{arg_symbol, is_unserved, is_inside, needs_of_atom, needs, givers, item_name, item_name_in}
+use Rattle.tf_model.specs.Linked.{arg_symbol, is_unserved, is_inside, needs_of_atom, needs, givers, item_name}
+use Rattle.tf_model.proofs.Told.{item_name_in}
 use Rattle.tf_model.specs.Compilation.{ambiguous, cycle, name_less, least, are_several, is_ambiguous, refuse_givers, refuse_symbol, ambiguity_at, is_back, cycle_through, first_cycle}
 use Rattle.tf_links.specs.Cycles.{shortest_cycle}
-use Rattle.tf_order.specs.declared.outline.AtomPlace.{AtomPlace}
-use Rattle.tf_order.specs.declared.outline.ItemPlace.{ItemPlace}
+use Rattle.tf_flow.specs.declared.listing.AtomPlace.{AtomPlace}
+use Rattle.tf_flow.specs.declared.listing.ItemPlace.{ItemPlace}
 use Rattle.tf_order.specs.declared.sight.Sight.{Sight}
 use Rattle.tf_order.specs.Arranged.{ShowsFlows}
 use Rattle.tf_order.specs.Doubts.{doubtful, doubts_by, doubts_inside, doubts_below}
-use Rattle.tf_order.specs.Places.{shown_item}
+use Rattle.tf_flow.specs.Listing.{shown_item}
 use Rattle.tf_order.specs.Sight.{atoms_seen, place_seen, count_seen, needed_by, needed_at, needed_below}
 use Rattle.tf_links.specs.Links.{leads, LinksValue, AreLinks, AreReached}
 use Rattle.tf_numbers.proofs.TruthLemmas.{never_true}

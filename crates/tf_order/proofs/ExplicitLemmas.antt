@@ -14,10 +14,10 @@ use Rattle.tf_model.specs.Linked.{joins, item_name, is_explicit, explicit}
 use Rattle.tf_numbers.proofs.TruthLemmas.{and_first, and_second, true_both, same_truth, and_false, or_chain, or_false, or_turn}
 use Rattle.tf_numbers.proofs.PairLemmas.{which_passes, passes_which, pair_passes, passes_pair}
 use Rattle.tf_order.specs.declared.index.NameIndex.{NameIndex}
-use Rattle.tf_order.specs.declared.outline.Level.{Level}
+use Rattle.tf_flow.specs.declared.listing.Level.{Level}
 use Rattle.tf_order.specs.Index.{told, is_named_at}
 use Rattle.tf_links.specs.Links.{leads, LinksValue, AreLinks}
-use Rattle.tf_order.specs.Places.{shown_item, shown_level}
+use Rattle.tf_flow.specs.Listing.{shown_item, shown_level}
 use Rattle.tf_numbers.proofs.EquationLemmas.{ap2}
 use Rattle.tf_links.proofs.StandingLemmas.{listed_within, number_more, taking_next, taking_none, taking_all}
 use Rattle.tf_numbers.proofs.NumberLemmas.{turn_eq}

@@ -6,9 +6,11 @@ use Rattle.tf_flow.specs.Plan.{PlanValue}
 use Rattle.tf_numbers.specs.Numbers.{which_below, numbers_below, has_number}
 use Rattle.tf_flow.specs.Outline.{Atom}
 use Rattle.tf_flow.specs.declared.ways.Turn.{Turn}
-use Rattle.tf_model.specs.Before.{Flow, way_in, way_before}
+use Rattle.std.specs.Option.{unwrap_or}
+use Rattle.tf_model.specs.Before.{Flow, no_flow, way_before}
 use Rattle.tf_model.specs.Plan.{Outline, outline_of, count, way, is_before, is_task, last_flow}
-use Rattle.tf_model.specs.Deciders.{flow_in, same_flow, last_item}
+use Rattle.tf_model.specs.Deciders.{same_flow, last_item}
+use Rattle.tf_model.proofs.Told.{way_in, flow_in}
 use Rattle.tf_model.specs.Scope.{is_earlier}
 use Rattle.tf_order.specs.Graph.{GraphValue, IsGraphOf, predecessors_of, successors_of, direct_tasks_of, leads_to, leads_in}
 use Rattle.tf_order.specs.Rows.{row_in, row_at, is_in_row}
@@ -81,7 +83,7 @@ no_later plan a b past = ap (λ (w : List Turn). way_before plan.flows w (way pl
 -- an atom that isn't there is no task
 no_place : (plan : Outline) (a b : ℕ) → count plan ≤ a → leads_to plan a b ≡ false
 no_place plan a b past =
-    ap (λ (w : List Turn). (is_task plan b && same_flow (last_flow (way plan b)) (last_flow w)) && leads_in (flow_in plan (last_flow w)) (last_item w) (last_item (way plan b))) (no_way plan a past)
+    ap (λ (w : List Turn). (is_task plan b && same_flow (last_flow (way plan b)) (last_flow w)) && leads_in (unwrap_or (flow_in plan (last_flow w)) no_flow) (last_item w) (last_item (way plan b))) (no_way plan a past)
     ∙ nothing (is_task plan b) (last_flow (way plan b))
   where
     nothing : (b : Bool) (g : Option ℕ) → (b && same_flow g None) && false ≡ false

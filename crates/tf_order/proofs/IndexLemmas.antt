@@ -9,10 +9,10 @@ use Rattle.tf_flow.proofs.NameLemmas.{any_push, any_more}
 use Rattle.tf_model.specs.Linked.{provides_at}
 use Rattle.tf_numbers.specs.Numbers.{is_number, which_below}
 use Rattle.tf_flow.specs.Outline.{provided_by}
-use Rattle.tf_order.specs.declared.outline.AtomPlace.{AtomPlace}
-use Rattle.tf_order.specs.declared.outline.ItemPlace.{ItemPlace}
+use Rattle.tf_flow.specs.declared.listing.AtomPlace.{AtomPlace}
+use Rattle.tf_flow.specs.declared.listing.ItemPlace.{ItemPlace}
 use Rattle.tf_order.specs.Index.{add_once, ends_with, is_named_at}
-use Rattle.tf_order.specs.Places.{shown_atoms, shown_item}
+use Rattle.tf_flow.specs.Listing.{shown_atoms, shown_item}
 use Rattle.tf_numbers.proofs.TruthLemmas.{never_true}
 use Rattle.tf_numbers.proofs.ListLemmas.{nothing_after}
 

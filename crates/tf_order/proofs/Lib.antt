@@ -1,5 +1,4 @@
 pub mod GraphLemmas
-pub mod OutlineLemmas
 pub mod IndexLemmas
 pub mod WayLemmas
 pub mod ArrangedLemmas

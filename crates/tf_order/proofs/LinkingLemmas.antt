@@ -11,16 +11,17 @@ use Rattle.tf_numbers.specs.Numbers.{which_below}
 use Rattle.tf_flow.specs.Outline.{Part, injected_in, arguments_of}
 use Rattle.tf_flow.specs.declared.ways.Turn.{Turn}
 use Rattle.tf_model.specs.Before.{Flow, takes_item, same_place, passes_item, way_at}
-use Rattle.tf_model.specs.Linked.{arg_symbol, is_taken, taken_symbols, taken_by, is_unserved, is_inside, needs_of_atom, needs, givers, is_served, other_provides, is_only, is_inferred_by}
+use Rattle.tf_model.specs.Linked.{arg_symbol, is_taken, taken_symbols, is_unserved, is_inside, needs_of_atom, needs, givers, is_served, other_provides, is_only, is_inferred_by}
+use Rattle.tf_model.proofs.Told.{taken_by}
 use Rattle.tf_model.specs.Compilation.{are_several, is_ambiguous}
 use Rattle.tf_numbers.proofs.TruthLemmas.{true_first, true_both, never_true, or_chain, or_false, second_false, or_nothing, or_spread}
 use Rattle.tf_numbers.proofs.PairLemmas.{which_passes}
-use Rattle.tf_order.specs.declared.outline.AtomPlace.{AtomPlace}
+use Rattle.tf_flow.specs.declared.listing.AtomPlace.{AtomPlace}
 use Rattle.tf_order.specs.declared.sight.Sight.{Sight}
 use Rattle.tf_order.specs.Arranged.{ShowsFlows}
 use Rattle.tf_links.specs.Bits.{has}
 use Rattle.tf_links.specs.Links.{leads, LinksValue}
-use Rattle.tf_order.specs.Places.{shown_atoms}
+use Rattle.tf_flow.specs.Listing.{shown_atoms}
 use Rattle.tf_order.specs.Sight.{atoms_seen, place_seen, count_seen, LinksBy, for_item, needed_by, needed_at, taken_at, passed_at, needed_below}
 use Rattle.tf_numbers.proofs.EquationLemmas.{ap2}
 use Rattle.tf_order.proofs.SightLemmas.{length_items, length_seen}

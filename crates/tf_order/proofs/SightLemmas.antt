@@ -15,13 +15,13 @@ use Rattle.tf_model.specs.Before.{Flow, takes_item, same_place, passes_item, way
 use Rattle.tf_model.specs.Linked.{provides_at, is_inside, serves_inside, is_unserved, gives_inside, item_provides, retry_provides, explicit, reaches_with, is_served, other_provides, givers}
 use Rattle.tf_numbers.proofs.TruthLemmas.{and_first, and_second, or_either, true_first, true_second, true_both, same_truth, never_true, or_chain, or_false, and_true, and_false, second_false, or_nothing, neither, neither_second, neither_first, or_spread, and_spread}
 use Rattle.tf_numbers.proofs.PairLemmas.{which_passes, passes_which}
-use Rattle.tf_order.specs.declared.outline.AtomPlace.{AtomPlace}
+use Rattle.tf_flow.specs.declared.listing.AtomPlace.{AtomPlace}
 use Rattle.tf_order.specs.declared.sight.Sight.{Sight}
 use Rattle.tf_order.specs.Arranged.{ShowsFlows}
 use Rattle.tf_links.specs.Bits.{has, room, words_for}
 use Rattle.tf_order.specs.Index.{told}
 use Rattle.tf_order.specs.Marks.{marks_turn, marks, serves_in, leads_to_item, is_other}
-use Rattle.tf_order.specs.Places.{shown_atoms, shown_item}
+use Rattle.tf_flow.specs.Listing.{shown_atoms, shown_item}
 use Rattle.tf_order.specs.Sight.{atoms_seen, place_seen, count_seen, HasProviders, HasReach}
 use Rattle.tf_numbers.proofs.BelowLemmas.{any_at, any_of, which_same, which_more}
 use Rattle.tf_numbers.proofs.EquationLemmas.{ap2}

@@ -1,20 +1,22 @@
 -- The atoms of a flow in standing order.
 use Rattle.std.proofs.Common.{◌≡◌, ℕ, ◌+◌, ◌<◌, ◌≤◌, List, [], ◌∷◌, ◌++◌, length, take, flat_map, Option, Some, None, refl, sym, ap, ◌∙◌, add-one, append_assoc, slice_index_or, slice_get}
+use Rattle.std.specs.Option.{option_to_list}
 use Rattle.std.specs.Option.{option_map}
 use Rattle.std.proofs.lemmas.List.{length-map}
 use Rattle.std.proofs.lemmas.Option.{slice_get-map}
 use Rattle.tf_numbers.specs.Pairs.{Pair}
-use Rattle.tf_model.specs.Before.{Flow, flow_at}
-use Rattle.tf_model.specs.Linked.{standing_in, standing_at, standing_of, standing_of_item, numbers_in, standing_atoms}
+use Rattle.tf_model.specs.Before.{Flow, find_flow}
+use Rattle.tf_model.specs.Linked.{standing_at, standing_of_item, standing_atoms}
+use Rattle.tf_model.proofs.Told.{standing_in, standing_of}
 use Rattle.tf_links.specs.Standing.{standing_items}
 use Rattle.tf_order.specs.declared.arranged.Arranged.{Arranged}
-use Rattle.tf_order.specs.declared.outline.ItemPlace.{ItemPlace}
-use Rattle.tf_order.specs.declared.outline.Standing.{Standing}
-use Rattle.tf_order.specs.declared.outline.Standing.TheVariants as place
+use Rattle.tf_flow.specs.declared.listing.ItemPlace.{ItemPlace}
+use Rattle.tf_flow.specs.declared.listing.Standing.{Standing}
+use Rattle.tf_flow.specs.declared.listing.Standing.TheVariants as place
 use Rattle.tf_order.specs.declared.sight.Sight.{Sight}
 use Rattle.tf_order.specs.Arranged.{IsShownAt, ShowsFlows}
 use Rattle.tf_links.specs.Links.{LinksValue, AreLinks}
-use Rattle.tf_order.specs.Places.{shown_item, shown_standing}
+use Rattle.tf_flow.specs.Listing.{shown_item, shown_standing}
 use Rattle.tf_order.specs.Sight.{place_seen, count_seen}
 use Rattle.tf_links.proofs.StandingLemmas.{taking_next, taking_none, taking_all}
 use Rattle.tf_numbers.proofs.ListLemmas.{nothing_after}
@@ -27,8 +29,8 @@ found_in (Some None) o flow is some = absurd (cc)
 found_in (Some (Some other)) None flow is some = absurd is
 found_in (Some (Some other)) (Some f) flow is some = let same : other ≡ flow = cc in ap (λ (d : Arranged). d.standing.items) (sym same) ∙ is.standing
 
-pub flow_found : (table : List (Option Arranged)) (inner : List Flow) (g : ℕ) (flow : Arranged) (atoms : List ℕ) → ShowsFlows table inner → slice_get table g ≡ Some (Some flow) → atoms ++ flow.standing.items ≡ atoms ++ standing_in (flow_at inner g)
-flow_found table inner g flow atoms shows is = ap (λ (xs : List ℕ). atoms ++ xs) (found_in (slice_get table g) (flow_at inner g) flow (shows g) is)
+pub flow_found : (table : List (Option Arranged)) (inner : List Flow) (g : ℕ) (flow : Arranged) (atoms : List ℕ) → ShowsFlows table inner → slice_get table g ≡ Some (Some flow) → atoms ++ flow.standing.items ≡ atoms ++ standing_in (find_flow inner g)
+flow_found table inner g flow atoms shows is = ap (λ (xs : List ℕ). atoms ++ xs) (found_in (slice_get table g) (find_flow inner g) flow (shows g) is)
 
 none_in : (shown : Option (Option Arranged)) (o : Option Flow) → IsShownAt shown o → ((flow : Arranged) → shown ≡ Some (Some flow) → ⊥) → [] ≡ standing_in o
 none_in None None is none = refl
@@ -37,8 +39,8 @@ none_in (Some None) None is none = refl
 none_in (Some None) (Some f) is none = absurd is
 none_in (Some (Some flow)) o is none = absurd (none flow refl)
 
-pub flow_none : (table : List (Option Arranged)) (inner : List Flow) (g : ℕ) (atoms : List ℕ) → ShowsFlows table inner → ((flow : Arranged) → slice_get table g ≡ Some (Some flow) → ⊥) → atoms ≡ atoms ++ standing_in (flow_at inner g)
-flow_none table inner g atoms shows none = sym (nothing_after atoms) ∙ ap (λ (xs : List ℕ). atoms ++ xs) (none_in (slice_get table g) (flow_at inner g) (shows g) none)
+pub flow_none : (table : List (Option Arranged)) (inner : List Flow) (g : ℕ) (atoms : List ℕ) → ShowsFlows table inner → ((flow : Arranged) → slice_get table g ≡ Some (Some flow) → ⊥) → atoms ≡ atoms ++ standing_in (find_flow inner g)
+flow_none table inner g atoms shows none = sym (nothing_after atoms) ∙ ap (λ (xs : List ℕ). atoms ++ xs) (none_in (slice_get table g) (find_flow inner g) (shows g) none)
 
 -- ---- an item
 
@@ -51,17 +53,17 @@ item_none sight inner item atoms is = sym (nothing_after atoms) ∙ ap (λ (xs :
 pub item_task : (sight : Sight) (inner : List Flow) (item atom : ℕ) (found : ItemPlace) (atoms : List ℕ) → slice_get sight.level.now.items.items item ≡ Some found → found.standing ≡ place.Task atom → atoms ++ atom ∷ [] ≡ atoms ++ standing_of_item inner (place_seen sight) item
 item_task sight inner item atom found atoms is task = ap (λ (xs : List ℕ). atoms ++ xs) (sym (item_seen sight inner item (Some found) is ∙ ap (λ (s : Standing). standing_at inner (shown_standing s)) task))
 
-pub item_flow : (sight : Sight) (inner : List Flow) (item g : ℕ) (found : ItemPlace) (atoms new : List ℕ) → slice_get sight.level.now.items.items item ≡ Some found → found.standing ≡ place.Flow g → new ≡ atoms ++ standing_in (flow_at inner g) → new ≡ atoms ++ standing_of_item inner (place_seen sight) item
+pub item_flow : (sight : Sight) (inner : List Flow) (item g : ℕ) (found : ItemPlace) (atoms new : List ℕ) → slice_get sight.level.now.items.items item ≡ Some found → found.standing ≡ place.Flow g → new ≡ atoms ++ standing_in (find_flow inner g) → new ≡ atoms ++ standing_of_item inner (place_seen sight) item
 item_flow sight inner item g found atoms new is flow more = more ∙ ap (λ (xs : List ℕ). atoms ++ xs) (sym (item_seen sight inner item (Some found) is ∙ ap (λ (s : Standing). standing_at inner (shown_standing s)) flow))
 
 -- ---- all items
 
 abbrev pub AtomsOf : Sight → List ℕ → List ℕ → Type 0
-AtomsOf sight atoms items = (inner : List Flow) → ShowsFlows sight.table.now inner → atoms ≡ numbers_in (place_seen sight).retry ++ flat_map (standing_of_item inner (place_seen sight)) items
+AtomsOf sight atoms items = (inner : List Flow) → ShowsFlows sight.table.now inner → atoms ≡ option_to_list (place_seen sight).retry ++ flat_map (standing_of_item inner (place_seen sight)) items
 
-pub atoms_start : (sight : Sight) (first atoms order : List ℕ) → first ≡ [] → atoms ≡ first ++ numbers_in (place_seen sight).retry → AtomsOf sight atoms (take 0 order)
-atoms_start sight first atoms order none is inner shows = is ∙ (ap (λ (xs : List ℕ). xs ++ numbers_in (place_seen sight).retry) none
-    ∙ (sym (nothing_after (numbers_in (place_seen sight).retry)) ∙ ap (λ (xs : List ℕ). numbers_in (place_seen sight).retry ++ flat_map (standing_of_item inner (place_seen sight)) xs) (sym (taking_none order))))
+pub atoms_start : (sight : Sight) (first atoms order : List ℕ) → first ≡ [] → atoms ≡ first ++ option_to_list (place_seen sight).retry → AtomsOf sight atoms (take 0 order)
+atoms_start sight first atoms order none is inner shows = is ∙ (ap (λ (xs : List ℕ). xs ++ option_to_list (place_seen sight).retry) none
+    ∙ (sym (nothing_after (option_to_list (place_seen sight).retry)) ∙ ap (λ (xs : List ℕ). option_to_list (place_seen sight).retry ++ flat_map (standing_of_item inner (place_seen sight)) xs) (sym (taking_none order))))
 
 flat_more : (f : ℕ → List ℕ) (xs : List ℕ) (x : ℕ) → flat_map f (xs ++ x ∷ []) ≡ flat_map f xs ++ f x
 flat_more f [] x = nothing_after (f x)
@@ -71,11 +73,11 @@ pub atoms_more : (sight : Sight) (atoms new order : List ℕ) (i : ℕ) → Atom
     → ((inner : List Flow) → ShowsFlows sight.table.now inner → new ≡ atoms ++ standing_of_item inner (place_seen sight) (slice_index_or order i 0)) → AtomsOf sight new (take (i + 1) order)
 atoms_more sight atoms new order i before within more inner shows = more inner shows
     ∙ (ap (λ (xs : List ℕ). xs ++ standing_of_item inner (place_seen sight) (slice_index_or order i 0)) (before inner shows)
-    ∙ (append_assoc (numbers_in (place_seen sight).retry) (flat_map (standing_of_item inner (place_seen sight)) (take i order)) (standing_of_item inner (place_seen sight) (slice_index_or order i 0))
-    ∙ ap (λ (xs : List ℕ). numbers_in (place_seen sight).retry ++ xs) (sym (ap (flat_map (standing_of_item inner (place_seen sight))) (ap (λ (n : ℕ). take n order) (add-one i) ∙ taking_next order i within) ∙ flat_more (standing_of_item inner (place_seen sight)) (take i order) (slice_index_or order i 0)))))
+    ∙ (append_assoc (option_to_list (place_seen sight).retry) (flat_map (standing_of_item inner (place_seen sight)) (take i order)) (standing_of_item inner (place_seen sight) (slice_index_or order i 0))
+    ∙ ap (λ (xs : List ℕ). option_to_list (place_seen sight).retry ++ xs) (sym (ap (flat_map (standing_of_item inner (place_seen sight))) (ap (λ (n : ℕ). take n order) (add-one i) ∙ taking_next order i within) ∙ flat_more (standing_of_item inner (place_seen sight)) (take i order) (slice_index_or order i 0)))))
 
 pub atoms_all : (sight : Sight) (links : LinksValue) (atoms order : List ℕ) (i : ℕ) → AtomsOf sight atoms (take i order) → length order ≤ i → links.count ≡ count_seen sight → ((pairs : List Pair) → AreLinks links pairs → order ≡ standing_items links.count pairs)
     → (inner : List Flow) (pairs : List Pair) → ShowsFlows sight.table.now inner → AreLinks links pairs → atoms ≡ standing_atoms inner (place_seen sight) pairs
 atoms_all sight links atoms order i is whole count standing inner pairs shows are = is inner shows
-    ∙ ap (λ (xs : List ℕ). numbers_in (place_seen sight).retry ++ flat_map (standing_of_item inner (place_seen sight)) xs)
+    ∙ ap (λ (xs : List ℕ). option_to_list (place_seen sight).retry ++ flat_map (standing_of_item inner (place_seen sight)) xs)
     (taking_all order i whole ∙ (standing pairs are ∙ ap (λ (n : ℕ). standing_items n pairs) (count ∙ sym (length-map sight.level.now.items.items shown_item))))

@@ -10,8 +10,8 @@ use Rattle.tf_flow.specs.Tree.{Tree, Trees, task, flow, no_trees, tree}
 use Rattle.tf_model.specs.Before.{Flow, item_before, turn_before, way_before, way_at, same_place}
 use Rattle.tf_model.specs.Plan.{is_before, way}
 use Rattle.tf_numbers.proofs.EquationLemmas.{ap2}
-use Rattle.tf_order.specs.declared.outline.Outline.{Outline}
-use Rattle.tf_order.specs.Places.{shown_atom, shown_atoms}
+use Rattle.tf_flow.specs.declared.listing.Outline.{Outline}
+use Rattle.tf_flow.specs.Listing.{shown_atom, shown_atoms}
 use Rattle.tf_order.specs.Stretches.{IsEarlierPlace, IsWayUpTo, IsAscending, Agree, IsUpToItem, GoesAlong, IsSteady, IsAlike, IsSame}
 use Rattle.tf_order.specs.Tables.{plan_seen, atoms_found}
 

@@ -5,21 +5,22 @@ use Rattle.std.specs.Prelude.{nat_eq, nat_le, nat_lt, slice_range, if◌then◌e
 use Rattle.std.proofs.lemmas.Bool.{cases_lt, lt-ltb, ltb-true, le-leb, leb-true}
 use Rattle.std.proofs.lemmas.List.{map-append, length-set, length-map}
 use Rattle.std.proofs.lemmas.Option.{slice_get_past}
-use Rattle.tf_model.specs.Before.{Flow, flow_at, way_at}
-use Rattle.tf_model.specs.Linked.{standing_in}
+use Rattle.std.specs.Option.{unwrap_or}
+use Rattle.tf_model.specs.Before.{Flow, find_flow, no_flow, way_at}
 use Rattle.tf_numbers.specs.Numbers.{numbers_below, which_below, has_number}
 use Rattle.tf_flow.specs.Outline.{Atom, is_task_part}
 use Rattle.tf_flow.specs.declared.ways.Turn.{Turn}
-use Rattle.tf_model.specs.Plan.{Outline as PlanOutline, is_before, is_task_in, last_flow, count}
-use Rattle.tf_model.specs.Deciders.{last_item, same_flow, flow_in}
+use Rattle.tf_model.specs.Plan.{Outline as PlanOutline, is_before, last_flow, count}
+use Rattle.tf_model.specs.Deciders.{last_item, same_flow}
+use Rattle.tf_model.proofs.Told.{standing_in, is_task_in, flow_in}
 use Rattle.tf_order.specs.declared.arranged.Arranged.{Arranged}
-use Rattle.tf_order.specs.declared.outline.AtomPlace.{AtomPlace}
-use Rattle.tf_order.specs.declared.outline.Outline.{Outline}
+use Rattle.tf_flow.specs.declared.listing.AtomPlace.{AtomPlace}
+use Rattle.tf_flow.specs.declared.listing.Outline.{Outline}
 use Rattle.tf_order.specs.Arranged.{IsShownAt, ShowsFlows}
 use Rattle.tf_links.specs.Bits.{has, room, words_for}
 use Rattle.tf_order.specs.Graph.{GraphValue, leads_to, leads_in, standing_of_plan}
 use Rattle.tf_links.specs.Links.{leads}
-use Rattle.tf_order.specs.Places.{shown_atom, shown_atoms}
+use Rattle.tf_flow.specs.Listing.{shown_atom, shown_atoms}
 use Rattle.tf_order.specs.Rows.{row_in, row_at, is_in_row}
 use Rattle.tf_order.specs.Stretches.{IsSame}
 use Rattle.tf_order.specs.Tables.{plan_seen, atoms_found, number_if, RowAdded, RowsAdded, AreRows, AreTables, AllBelow, leads_from, flow_in_flows}
@@ -29,7 +30,8 @@ use Rattle.tf_numbers.proofs.EquationLemmas.{ap2}
 use Rattle.tf_numbers.proofs.PairLemmas.{which_passes}
 use Rattle.tf_order.proofs.GraphLemmas.{row_told, rows_length}
 use Rattle.tf_links.proofs.LinkLemmas.{past_row}
-use Rattle.tf_order.proofs.OutlineLemmas.{way_there, atom_there}
+use Rattle.tf_flow.proofs.ListingLemmas.{atom_there}
+use Rattle.tf_order.proofs.WayLemmas.{way_there}
 use Rattle.tf_numbers.proofs.TruthLemmas.{same_truth, never_true, clash, and_false, or_false, and_second, and_first, or_true, and_spread}
 use Rattle.tf_links.proofs.StandingLemmas.{number_more, listed_within, taking_none, taking_next, taking_all}
 use Rattle.tf_numbers.proofs.ListLemmas.{nothing_after, read_more, read_last, length_more}
@@ -402,7 +404,7 @@ leads_seen outline a b from atom from_atom on a_below b_below from_read read flo
     ∙ (ap (λ (o : Option Atom). (is_task_in o && same_flow (last_flow (way_at (shown_atoms outline.atoms.items) b)) (last_flow (way_at (shown_atoms outline.atoms.items) a))) && leads_in (flow_in_flows (plan_seen outline).flows (last_flow (way_at (shown_atoms outline.atoms.items) a))) (last_item (way_at (shown_atoms outline.atoms.items) a)) (last_item (way_at (shown_atoms outline.atoms.items) b))) (sym (atom_there outline.atoms.items b atom b_below read))
     ∙ same_home (plan_seen outline) (last_flow (way_at (shown_atoms outline.atoms.items) a)) (is_task_in (slice_get (shown_atoms outline.atoms.items) b) && same_flow (last_flow (way_at (shown_atoms outline.atoms.items) b)) (last_flow (way_at (shown_atoms outline.atoms.items) a))) (last_item (way_at (shown_atoms outline.atoms.items) a)) (last_item (way_at (shown_atoms outline.atoms.items) b))))))
   where
-    same_home : (plan : PlanOutline) (g : Option ℕ) (first : Bool) (i j : Option ℕ) → (first && leads_in (flow_in_flows plan.flows g) i j) ≡ (first && leads_in (flow_in plan g) i j)
+    same_home : (plan : PlanOutline) (g : Option ℕ) (first : Bool) (i j : Option ℕ) → (first && leads_in (flow_in_flows plan.flows g) i j) ≡ (first && leads_in (unwrap_or (flow_in plan g) no_flow) i j)
     same_home plan None first i j = refl
     same_home plan (Some g) first i j = refl
 
@@ -412,9 +414,9 @@ standing_shown (Some None) o flow is some = absurd (cc)
 standing_shown (Some (Some other)) None flow is some = absurd is
 standing_shown (Some (Some other)) (Some f) flow is some = let same : other ≡ flow = cc in ap (λ (d : Arranged). d.standing.items) (sym same) ∙ is.standing
 
-pub standing_below : (table : List (Option Arranged)) (flows : List Flow) (flow : Arranged) (numbers : List ℕ) → ShowsFlows table flows → slice_get table 0 ≡ Some (Some flow) → numbers ≡ flow.standing.items → AllBelow 1000 (standing_in (flow_at flows 0)) → AllBelow 1000 numbers
+pub standing_below : (table : List (Option Arranged)) (flows : List Flow) (flow : Arranged) (numbers : List ℕ) → ShowsFlows table flows → slice_get table 0 ≡ Some (Some flow) → numbers ≡ flow.standing.items → AllBelow 1000 (standing_in (find_flow flows 0)) → AllBelow 1000 numbers
 standing_below table flows flow numbers shows read is each =
-    subst (AllBelow 1000) (sym (is ∙ standing_shown (slice_get table 0) (flow_at flows 0) flow (shows 0) read)) each
+    subst (AllBelow 1000) (sym (is ∙ standing_shown (slice_get table 0) (find_flow flows 0) flow (shows 0) read)) each
 
 -- ---- the graph
 

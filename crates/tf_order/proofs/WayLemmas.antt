@@ -1,8 +1,13 @@
 -- Where two ways from the root part.
 use Rattle.std.proofs.Common.{◌≡◌, ℕ, zero, suc, ◌-◌, ◌≤◌, List, [], ◌∷◌, drop, length, Bool, true, false, ◌&&◌, Option, Some, None, refl, sym, ap, ◌∙◌, inl, inr, min, arith, slice_get}
-use Rattle.std.specs.Prelude.{nat_eq, if◌then◌else◌}
+use Rattle.std.specs.Prelude.{nat_eq, if◌then◌else◌, ◌<◌}
+use Rattle.std.proofs.Common.{get_or}
 use Rattle.std.proofs.lemmas.Bool.{cases_lt}
-use Rattle.tf_model.specs.Before.{Flow, item_before, turn_before, way_before}
+use Rattle.tf_model.specs.Before.{Flow, item_before, turn_before, way_before, way_at}
+use Rattle.tf_model.proofs.Told.{way_in}
+use Rattle.tf_flow.specs.declared.listing.AtomPlace.{AtomPlace}
+use Rattle.tf_flow.specs.Listing.{shown_atoms}
+use Rattle.tf_flow.proofs.ListingLemmas.{atom_there}
 use Rattle.tf_model.specs.Deciders.{last_item}
 use Rattle.tf_flow.specs.declared.ways.Turn.{Turn}
 use Rattle.tf_model.specs.Plan.{last_flow}
@@ -79,3 +84,8 @@ meeting_over a b i over = elim (cases_lt i (length a)) [
   | inl below ↦ sym (ap (λ (ys : List Turn). meeting (drop i a) ys) (nothing_left b i (omega (arith, over, below))) ∙ no_second (drop i a))
   | inr past ↦ sym (ap (λ (xs : List Turn). meeting xs (drop i b)) (nothing_left a i past))
 ]
+
+-- ---- the way of the atom of a number
+
+pub way_there : (found : List AtomPlace) (k : ℕ) (atom : AtomPlace) → k < length found → atom ≡ get_or found k atom → atom.way ≡ way_at (shown_atoms found) k
+way_there found k atom below is = ap way_in (sym (atom_there found k atom below is))

@@ -3,7 +3,7 @@ use Rattle.std.specs.Prelude.{◌≡◌, ℕ, List, Bool, false, ◌&&◌, Optio
 use Rattle.tf_flow.specs.declared.nested.FlowKind.{FlowKind}
 use Rattle.tf_flow.specs.declared.nested.FlowKind.TheVariants as kind
 use Rattle.tf_numbers.specs.Pairs.{has_pair}
-use Rattle.tf_model.specs.Before.{Flow, flow_at}
+use Rattle.tf_model.specs.Before.{Flow, find_flow}
 use Rattle.tf_order.specs.declared.arranged.Arranged.{Arranged}
 use Rattle.tf_links.specs.Links.{leads}
 
@@ -35,4 +35,4 @@ IsShownAt (Some (Some flow)) None = ⊥
 
 -- the table has these flows, each at its number
 abbrev pub ShowsFlows : List (Option Arranged) → List Flow → Type 0
-ShowsFlows table flows = (g : ℕ) → IsShownAt (slice_get table g) (flow_at flows g)
+ShowsFlows table flows = (g : ℕ) → IsShownAt (slice_get table g) (find_flow flows g)

@@ -6,8 +6,8 @@ use Rattle.tf_flow.specs.Ways.{shown_part}
 use Rattle.tf_model.specs.Deciders.{last_item}
 use Rattle.tf_model.specs.Plan.{last_flow}
 use Rattle.tf_numbers.specs.Numbers.{which_below, is_number, has_number}
-use Rattle.tf_order.specs.declared.outline.AtomPlace.{AtomPlace}
-use Rattle.tf_order.specs.declared.outline.Outline.{Outline}
+use Rattle.tf_flow.specs.declared.listing.AtomPlace.{AtomPlace}
+use Rattle.tf_flow.specs.declared.listing.Outline.{Outline}
 use Rattle.tf_order.specs.Rows.{row_at}
 
 -- the item of its own flow at which an atom stands, where it is a task

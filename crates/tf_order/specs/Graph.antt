@@ -6,7 +6,6 @@ use Rattle.tf_flow.specs.declared.nested.FlowKind.TheVariants as kind
 use Rattle.tf_numbers.specs.Numbers.{which_below, numbers_below}
 use Rattle.tf_numbers.specs.Pairs.{Pair}
 use Rattle.tf_model.specs.Before.{Flow, flow_at}
-use Rattle.tf_model.specs.Linked.{standing_in}
 use Rattle.tf_model.specs.Plan.{Outline, outline_of, count, way, is_before}
 use Rattle.tf_model.specs.Scope.{is_earlier}
 use Rattle.tf_model.specs.Deciders.{is_sibling, last_item, home, linked_places}
@@ -33,10 +32,9 @@ leads_by_kind kind.Linear linked from to = is_next_place from to
 leads_by_kind kind.Unordered linked from to = false
 leads_by_kind kind.Graph linked from to = linked_places linked from to
 
--- the same, where there is a flow
-abbrev pub leads_in : Option Flow → Option ℕ → Option ℕ → Bool
-leads_in None from to = false
-leads_in (Some f) from to = leads_by_kind f.place.kind f.linked from to
+-- one place of this flow leads to another
+abbrev pub leads_in : Flow → Option ℕ → Option ℕ → Bool
+leads_in f from to = leads_by_kind f.place.kind f.linked from to
 
 -- b is a task of a's own flow, and a's place leads to its place
 abbrev pub leads_to : Outline → ℕ → ℕ → Bool
@@ -48,7 +46,7 @@ direct_tasks_of plan a = which_below (count plan) (leads_to plan a)
 
 -- all atoms in standing order
 abbrev pub standing_of_plan : Outline → List ℕ
-standing_of_plan plan = standing_in (flow_at plan.flows 0)
+standing_of_plan plan = (flow_at plan.flows 0).standing
 
 -- what a graph tells: for each atom those before it, those after it and the tasks that it leads to; and
 -- the standing order

@@ -1,8 +1,9 @@
 -- Numbers by name.
 use Rattle.std.specs.Prelude.{ℕ, List, [], ◌∷◌, ◌++◌, ◌-◌, Bool, Option, None, Some, length, slice_get, if◌then◌else◌}
+use Rattle.std.specs.Option.{option_map_or}
 use Rattle.indexmap.specs.IndexMap.{get}
 use Rattle.tf_flow.specs.Names.{same_name}
-use Rattle.tf_model.specs.Linked.{item_name_in}
+use Rattle.tf_model.specs.Linked.{name_of_item}
 use Rattle.tf_numbers.specs.Numbers.{is_number}
 use Rattle.tf_flow.specs.Outline.{Item}
 use Rattle.tf_order.specs.declared.index.NameIndex.{NameIndex}
@@ -26,4 +27,4 @@ add_once numbers n = if ends_with numbers n then numbers else numbers ++ n ∷ [
 
 -- the item at a place has this name
 abbrev pub is_named_at : List Item → List ℕ → ℕ → Bool
-is_named_at items name u = same_name (item_name_in (slice_get items u)) name
+is_named_at items name u = same_name (option_map_or name_of_item (slice_get items u) []) name

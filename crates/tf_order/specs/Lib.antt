@@ -1,7 +1,6 @@
 pub mod Graph
 pub mod Rows
 pub mod Refusals
-pub mod Places
 pub mod Index
 pub mod Ways
 pub mod Arranged

@@ -13,7 +13,7 @@ use Rattle.tf_order.specs.declared.sight.Sight.{Sight}
 use Rattle.tf_links.specs.Bits.{has}
 use Rattle.tf_order.specs.Index.{told}
 use Rattle.tf_links.specs.Links.{leads, LinksValue, AreReached}
-use Rattle.tf_order.specs.Places.{shown_atoms, shown_level}
+use Rattle.tf_flow.specs.Listing.{shown_atoms, shown_level}
 
 -- the atoms that are looked at
 abbrev pub atoms_seen : Sight → List Atom

@@ -5,7 +5,7 @@ use Rattle.tf_flow.specs.declared.nested.FlowKind.{FlowKind}
 use Rattle.tf_flow.specs.declared.nested.FlowKind.TheVariants as kind
 use Rattle.tf_numbers.specs.Numbers.{numbers_below, has_number, which_below}
 use Rattle.tf_flow.specs.Outline.{Atom, FlowPlace, is_task_part}
-use Rattle.tf_model.specs.Before.{Flow, flow_at}
+use Rattle.tf_model.specs.Before.{Flow, flow_at, no_flow}
 use Rattle.tf_model.specs.Deciders.{last_item, same_flow}
 use Rattle.tf_model.specs.Linked.{arranged, provides_at}
 use Rattle.tf_model.specs.Compilation.{CompileRefusal, refusal_among}
@@ -13,15 +13,15 @@ use Rattle.tf_model.specs.Plan.{Outline as PlanOutline, outline_with, count, las
 use Rattle.tf_order.specs.declared.arranged.Arranged.{Arranged}
 use Rattle.tf_order.specs.declared.faults.CompileFault.{CompileFault}
 use Rattle.tf_order.specs.declared.index.NameIndex.{NameIndex}
-use Rattle.tf_order.specs.declared.outline.AtomPlace.{AtomPlace}
-use Rattle.tf_order.specs.declared.outline.Outline.{Outline}
+use Rattle.tf_flow.specs.declared.listing.AtomPlace.{AtomPlace}
+use Rattle.tf_flow.specs.declared.listing.Outline.{Outline}
 use Rattle.tf_flow.specs.declared.ways.Turn.{Turn}
 use Rattle.tf_order.specs.Arranged.{ShowsFlows}
 use Rattle.tf_order.specs.Graph.{GraphValue, leads_in, predecessors_of, successors_of, direct_tasks_of, standing_of_plan}
 use Rattle.tf_order.specs.Index.{told}
 use Rattle.tf_links.specs.Links.{leads}
 use Rattle.tf_order.specs.Looked.{told_in}
-use Rattle.tf_order.specs.Places.{shown_atoms, shown_levels}
+use Rattle.tf_flow.specs.Listing.{shown_atoms, shown_levels}
 use Rattle.tf_order.specs.Rows.{row_at}
 use Rattle.tf_order.specs.Ways.{flow_of_turn, item_of_turn}
 
@@ -56,9 +56,9 @@ leads_by_rows kind.Graph rows u v = leads rows u v
 abbrev pub item_leads : Arranged → ℕ → ℕ → Bool
 item_leads flow u v = leads_by_rows flow.kind flow.links.rows u v
 
--- the flow of a number, where there is a number
-abbrev pub flow_in_flows : List Flow → Option ℕ → Option Flow
-flow_in_flows flows None = None
+-- the flow of a number; where there is no number, one with nothing in it
+abbrev pub flow_in_flows : List Flow → Option ℕ → Flow
+flow_in_flows flows None = no_flow
 flow_in_flows flows (Some g) = flow_at flows g
 
 -- the atom is a task of the flow into which the turn leads, and the turn's place leads to its place

@@ -3,7 +3,7 @@ ghost use Rattle.tf_flow.specs.Names.{first_some};
 ghost use Rattle.tf_model.specs.Compilation.{compile_refusal};
 ghost use Rattle.tf_numbers.specs.Numbers.{numbers_below};
 ghost use Rattle.tf_order.specs.Graph.{IsGraphOf};
-ghost use Rattle.tf_order.specs.Places.{level_number, shown_atoms, shown_levels};
+ghost use Rattle.tf_flow.specs.Listing.{level_number, shown_atoms, shown_levels};
 ghost use Rattle.tf_order.specs.Refusals.{IsRefusedBy};
 ghost use Rattle.tf_order.specs.Tables.{told_at, AreLooked, AreNone, AreProviders};
 
@@ -12,7 +12,7 @@ use crate::faults::CompileFault;
 use crate::graph::Graph;
 use crate::index::{NameIndex, providers};
 use crate::looking::look;
-use crate::outline::{Outline, outline_of};
+use tf_flow::{Outline, outline_of};
 use crate::sight::Sight;
 use crate::tables::tables;
 use std::alloc::Global;

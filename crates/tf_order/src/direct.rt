@@ -10,7 +10,7 @@ ghost use Rattle.tf_order.specs.Rows.{row_at};
 ghost use Rattle.tf_order.specs.Tables.{plan_seen, atoms_found, number_if, item_leads};
 
 use crate::arranged::Arranged;
-use crate::outline::{AtomPlace, Outline};
+use tf_flow::{AtomPlace, Outline};
 use crate::rows::{Row, row_at, row_of};
 use crate::ways::last_turn;
 use std::alloc::Global;

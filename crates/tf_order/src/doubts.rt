@@ -14,7 +14,7 @@ ghost use Rattle.tf_order.specs.Doubts.{doubts_by, doubts_inside};
 ghost use Rattle.tf_model.specs.Compilation.{first_cycle};
 ghost use Rattle.tf_links.specs.Links.{AreLinks, AreReached};
 ghost use Rattle.tf_order.specs.Looked.{told_in};
-ghost use Rattle.tf_order.specs.Places.{shown_level};
+ghost use Rattle.tf_flow.specs.Listing.{shown_level};
 ghost use Rattle.tf_order.specs.Sight.{HasProviders, HasReach, atoms_seen, place_seen, count_seen, needed_by, needed_at};
 
 use crate::faults::CompileFault;

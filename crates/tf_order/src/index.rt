@@ -4,9 +4,9 @@ ghost use Rattle.tf_flow.specs.Names.{same_name, is_among};
 ghost use Rattle.tf_model.specs.Linked.{provides_at};
 ghost use Rattle.tf_numbers.specs.Numbers.{which_below};
 ghost use Rattle.tf_order.specs.Index.{add_once, told, is_named_at};
-ghost use Rattle.tf_order.specs.Places.{shown_atoms, shown_item};
+ghost use Rattle.tf_flow.specs.Listing.{shown_atoms, shown_item};
 
-use crate::outline::{AtomPlace, ItemPlace};
+use tf_flow::{AtomPlace, ItemPlace};
 use indexmap::IndexMap;
 use std::alloc::Global;
 use std::marker::Model;

@@ -10,7 +10,6 @@ mod graph;
 mod index;
 mod linking;
 mod looking;
-mod outline;
 mod rows;
 mod sight;
 mod standing_atoms;

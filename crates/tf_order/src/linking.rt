@@ -8,11 +8,11 @@ ghost use Rattle.tf_flow.specs.Rules.{bind_symbols};
 ghost use Rattle.tf_order.specs.Arranged.{ShowsFlows};
 ghost use Rattle.tf_links.specs.Bits.{has, words_for};
 ghost use Rattle.tf_links.specs.Links.{leads, LinksValue, AreLinks};
-ghost use Rattle.tf_order.specs.Places.{shown_level};
+ghost use Rattle.tf_flow.specs.Listing.{shown_level};
 ghost use Rattle.tf_order.specs.Sight.{atoms_seen, place_seen, count_seen, HasProviders, HasReach, LinksBy, for_item, needed_by, needed_at, taken_at, passed_at};
 
 use crate::index::item_names;
-use crate::outline::Level;
+use tf_flow::Level;
 use crate::sight::{Sight, givers, is_unserved};
 use std::alloc::Global;
 use tf_flow::{Arg, Bind, Part, Turn};

@@ -13,7 +13,7 @@ ghost use Rattle.tf_order.specs.Sight.{atoms_seen, place_seen, count_seen, HasPr
 
 use crate::arranged::{Arranged, is_way_before};
 use crate::index::NameIndex;
-use crate::outline::{AtomPlace, Level};
+use tf_flow::{AtomPlace, Level};
 use crate::ways::passes_item;
 use std::alloc::Global;
 use tf_flow::{Provides, Retry, Turn};

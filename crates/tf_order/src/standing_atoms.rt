@@ -1,4 +1,5 @@
 ghost use Rattle.std.specs.Prelude.{◌≡◌, ◌++◌, List, IfOk, OnOk};
+ghost use Rattle.std.specs.Option.{option_to_list};
 ghost use Rattle.tf_model.specs.Before.{Flow, flow_at};
 ghost use Rattle.tf_model.specs.Linked as model;
 ghost use Rattle.tf_numbers.specs.Pairs.{Pair};
@@ -7,7 +8,7 @@ ghost use Rattle.tf_links.specs.Links.{AreLinks};
 ghost use Rattle.tf_order.specs.Sight.{place_seen, count_seen};
 
 use crate::arranged::Arranged;
-use crate::outline::Standing;
+use tf_flow::Standing;
 use crate::sight::Sight;
 use std::alloc::Global;
 use tf_links::Links;
@@ -35,7 +36,7 @@ pub fn standing_atoms(
 
 /// Adds the flow's retry controller, where it has one.
 fn add_retry(sight: &Sight<'_, '_>, atoms: &mut Vec<usize>) -> Result<(), Memory>
-    ensures { OnOk result (atoms.new.items ≡ atoms.old.items ++ model.numbers_in (place_seen sight.now).retry) }
+    ensures { OnOk result (atoms.new.items ≡ atoms.old.items ++ option_to_list (place_seen sight.now).retry) }
 {
     match sight.level.retry {
         None => Ok(()),
@@ -69,7 +70,7 @@ fn add_item(sight: &Sight<'_, '_>, item: usize, atoms: &mut Vec<usize>) -> Resul
 /// Adds the atoms of a flow in standing order.
 #[tactic(auto, using(crate::proofs::StandingAtomLemmas::flow_found, crate::proofs::StandingAtomLemmas::flow_none))]
 fn add_flow(table: &[Option<Arranged>], flow: usize, atoms: &mut Vec<usize>) -> Result<(), Memory>
-    ensures { OnOk result ((inner : List Flow) → ShowsFlows table.now inner → atoms.new.items ≡ atoms.old.items ++ model.standing_in (flow_at inner flow)) }
+    ensures { OnOk result ((inner : List Flow) → ShowsFlows table.now inner → atoms.new.items ≡ atoms.old.items ++ (flow_at inner flow).standing) }
 {
     match table.get(flow) {
         Some(Some(arranged)) => {

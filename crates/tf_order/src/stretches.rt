@@ -2,12 +2,12 @@ ghost use Rattle.std.specs.Prelude.{◌≡◌, ℕ, ◌<◌, ◌≤◌, List, tr
 ghost use Rattle.tf_model.specs.Before.{Flow, same_place, way_at};
 ghost use Rattle.tf_model.specs.Plan.{is_before};
 ghost use Rattle.tf_order.specs.Arranged.{ShowsFlows};
-ghost use Rattle.tf_order.specs.Places.{shown_atoms};
+ghost use Rattle.tf_flow.specs.Listing.{shown_atoms};
 ghost use Rattle.tf_order.specs.Stretches.{IsAscending, Agree, IsUpToItem, GoesAlong, IsAlike, IsSame};
 ghost use Rattle.tf_order.specs.Tables.{plan_seen, atoms_found};
 
 use crate::arranged::{Arranged, is_way_before, last_item_alike};
-use crate::outline::Outline;
+use tf_flow::Outline;
 use tf_flow::Turn;
 
 /// Atoms that stand side by side, from one up to before the end, and whether another is before all of

@@ -5,7 +5,7 @@ ghost use Rattle.tf_report.specs.Lines.{part_word as word_of_part, flow_name as 
 use tf_flow::Plan;
 
 /// The name of the atom of that number, and nothing where there is none.
-#[tactic(auto, using(crate::proofs::LineLemmas::atom_named, crate::proofs::LineLemmas::atom_past, crate::proofs::LineLemmas::atoms_counted))]
+#[tactic(auto, using(tf_model::proofs::PlanLemmas::name_told, crate::proofs::LineLemmas::atom_past, tf_model::proofs::PlanLemmas::atoms_counted))]
 pub fn atom_name(plan: &Plan, atom: u16) -> &[u8]
     ensures name { result.now ≡ name_of_atom (outline_of plan.now) atom }
     ensures short { length result.now ≤ 64 }
@@ -17,7 +17,7 @@ pub fn atom_name(plan: &Plan, atom: u16) -> &[u8]
 }
 
 /// The word for what the atom of that number is.
-#[tactic(auto, using(crate::proofs::LineLemmas::part_told, crate::proofs::LineLemmas::part_past, crate::proofs::LineLemmas::atoms_counted))]
+#[tactic(auto, using(tf_model::proofs::PlanLemmas::task_told, crate::proofs::LineLemmas::part_past, tf_model::proofs::PlanLemmas::atoms_counted))]
 pub fn part_word(plan: &Plan, atom: u16) -> &'static str
     ensures word { result.now ≡ word_of_part (is_task (outline_of plan.now) atom) }
     ensures short { length result.now ≤ 6 }

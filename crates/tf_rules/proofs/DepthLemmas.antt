@@ -6,8 +6,9 @@ use Rattle.tf_flow.specs.declared.deciders.Depth.{Depth}
 use Rattle.tf_flow.specs.declared.deciders.Depth.TheVariants as depth
 use Rattle.tf_flow.specs.declared.deciders.Link.{Link}
 use Rattle.tf_flow.specs.Conditions.{Connection, connection_of}
-use Rattle.tf_model.specs.Deciders.{wider, wider_of, widest, decides_on, connections_in, home, decider_links, refused, refused_depth, seen, seen_by_link}
+use Rattle.tf_model.specs.Deciders.{wider, wider_of, widest, decides_on, decider_links, refused, refused_depth, seen, seen_by_link}
 use Rattle.tf_model.specs.Plan.{Outline, atom_name}
+use Rattle.tf_model.proofs.Told.{connections_in, found_home}
 use Rattle.tf_model.specs.Snapshot.{Snapshot}
 use Rattle.tf_numbers.proofs.ListLemmas.{drop_first, drop_whole}
 use Rattle.tf_rules.specs.Deciders.{wider_if_any, has_any}
@@ -93,7 +94,7 @@ found_all give task links k found before whole =
     sym (any_none found) ∙ (ap (λ (ls : List Link). wider_if_any found (widest (given give task ls))) (sym (drop_whole links k whole)) ∙ before)
 
 -- the links around an atom are those of its own flow
-pub deciding_told : (plan : Outline) (v : ℕ) (task : List ℕ) (links : List Link) → map connection_of links ≡ connections_in (home plan v) → task ≡ atom_name plan v → deciding task links ≡ decider_links plan v
+pub deciding_told : (plan : Outline) (v : ℕ) (task : List ℕ) (links : List Link) → map connection_of links ≡ connections_in (found_home plan v) → task ≡ atom_name plan v → deciding task links ≡ decider_links plan v
 deciding_told plan v task links is named = ap (λ (name : List ℕ). filter (decides_on name) (map connection_of links)) named ∙ ap (filter (decides_on (atom_name plan v))) is
 
 pub refused_told : (plan : Outline) (s : Snapshot) (v : ℕ) (list : List Connection) → list ≡ decider_links plan v

@@ -13,12 +13,13 @@ use Rattle.tf_flow.specs.Plan as numbering
 use Rattle.tf_flow.specs.Tree.{Tree, Trees, task, flow, no_trees, tree, tree_of}
 use Rattle.tf_flow.proofs.TreeLemmas.{tree_of-flow}
 use Rattle.tf_flow.proofs.OutlineLemmas.{same_atoms, flows_told, place_name}
-use Rattle.tf_model.specs.Before.{Flow, flow_at}
+use Rattle.tf_model.specs.Before.{Flow, find_flow}
 use Rattle.tf_model.specs.Linked.{arranged, arrange}
-use Rattle.tf_model.specs.Plan.{outline_of, is_retry, is_retry_in, retry_of, retry_in}
+use Rattle.tf_model.specs.Plan.{outline_of, is_retry, retry_of}
+use Rattle.tf_model.proofs.Told.{is_retry_in, retry_in}
 use Rattle.tf_numbers.proofs.TruthLemmas.{never_true}
-use Rattle.tf_order.proofs.OutlineLemmas.{length_atoms, length_flows}
-use Rattle.tf_rules.proofs.PlanLemmas.{get_mapped_to}
+use Rattle.tf_flow.proofs.ListingLemmas.{length_atoms, length_flows}
+use Rattle.std.proofs.lemmas.Option.{slice_get-map}
 
 -- the retry controller of a flow
 abbrev pub control_of : Tree → Option Retry
@@ -129,11 +130,11 @@ parts_of plan = map part_of (atoms_of 0 (tree_of plan.root))
 -- among these flows there is one of this number, which is that of the tree
 pub record Found (flows : List Flow) (parts : List Part) (g : ℕ) (t : Tree) : Type 0 where
   pub flow : Flow
-  pub is : flow_at flows g ≡ Some flow
+  pub is : find_flow flows g ≡ Some flow
   pub fits : Fits parts g flow.place t
 
 found_past : (flows : List Flow) (parts : List Part) (first : Flow) (g : ℕ) (t : Tree) → nat_eq first.place.number g ≡ false → Found flows parts g t → Found (first ∷ flows) parts g t
-found_past flows parts first g t off found = record { flow = found.flow; is = ap (λ (b : Bool). cond b (Some first) (flow_at flows g)) off ∙ found.is; fits = found.fits }
+found_past flows parts first g t off found = record { flow = found.flow; is = ap (λ (b : Bool). cond b (Some first) (find_flow flows g)) off ∙ found.is; fits = found.fits }
 
 past : (number g k : ℕ) → number ≡ g → nat_eq number (g + suc k) ≡ false
 past number g k is = never_true (nat_eq number (g + suc k)) (λ on. let same : number ≡ g + suc k = eqb-true number (g + suc k) on in omega (arith, is, same))
@@ -147,7 +148,7 @@ found_at atoms parts g (place ∷ places) (u ∷ us) zero t all is =
     let here : g + 0 ≡ g = omega arith in
     record {
       flow = arrange atoms (arranged atoms places) place;
-      is = ap (λ (b : Bool). cond b (Some (arrange atoms (arranged atoms places) place)) (flow_at (arranged atoms places) (g + 0))) (eq-eqb place.number (g + 0) (all.0.number ∙ sym here));
+      is = ap (λ (b : Bool). cond b (Some (arrange atoms (arranged atoms places) place)) (find_flow (arranged atoms places) (g + 0))) (eq-eqb place.number (g + 0) (all.0.number ∙ sym here));
       fits = subst (λ (n : ℕ). Fits parts n place t) (sym here) (subst (Fits parts g place) same all.0);
     }
 found_at atoms parts g (place ∷ places) (u ∷ us) (suc k) t all is =
@@ -155,17 +156,17 @@ found_at atoms parts g (place ∷ places) (u ∷ us) (suc k) t all is =
     found_past (arranged atoms places) parts (arrange atoms (arranged atoms places) place) (g + suc k) t (past place.number g k all.0.number)
     (subst (λ (n : ℕ). Found (arranged atoms places) parts n t) later (found_at atoms parts (suc g) places us k t all.1 is))
 
-none_at : (atoms : List Atom) (parts : List Part) (g : ℕ) (places : List FlowPlace) (ts : List Tree) (k : ℕ) → AllFit parts g places ts → slice_get ts k ≡ None → flow_at (arranged atoms places) (g + k) ≡ None
+none_at : (atoms : List Atom) (parts : List Part) (g : ℕ) (places : List FlowPlace) (ts : List Tree) (k : ℕ) → AllFit parts g places ts → slice_get ts k ≡ None → find_flow (arranged atoms places) (g + k) ≡ None
 none_at atoms parts g [] ts k all is = refl
 none_at atoms parts g (place ∷ places) [] k all is = absurd all
 none_at atoms parts g (place ∷ places) (u ∷ us) zero all is = absurd (cc)
 none_at atoms parts g (place ∷ places) (u ∷ us) (suc k) all is =
     let later : suc g + k ≡ g + suc k = omega arith in
-    ap (λ (b : Bool). cond b (Some (arrange atoms (arranged atoms places) place)) (flow_at (arranged atoms places) (g + suc k))) (past place.number g k all.0.number)
-    ∙ (ap (flow_at (arranged atoms places)) (sym later) ∙ none_at atoms parts (suc g) places us k all.1 is)
+    ap (λ (b : Bool). cond b (Some (arrange atoms (arranged atoms places) place)) (find_flow (arranged atoms places) (g + suc k))) (past place.number g k all.0.number)
+    ∙ (ap (find_flow (arranged atoms places)) (sym later) ∙ none_at atoms parts (suc g) places us k all.1 is)
 
 plan_fits : (plan : PlanValue) → AllFit (parts_of plan) 0 (flows_of 0 0 (tree_of plan.root)) (flow_trees (tree_of plan.root))
-plan_fits plan = flows_fit (tree_of plan.root) (parts_of plan) 0 0 (λ k p is. let same : 0 + k ≡ k = omega arith in ap (slice_get (parts_of plan)) same ∙ (get_mapped_to part_of (atoms_of 0 (tree_of plan.root)) k ∙ is))
+plan_fits plan = flows_fit (tree_of plan.root) (parts_of plan) 0 0 (λ k p is. let same : 0 + k ≡ k = omega arith in ap (slice_get (parts_of plan)) same ∙ (slice_get-map part_of (atoms_of 0 (tree_of plan.root)) k ∙ is))
 
 -- the flow of a number in the outline is the plan's
 pub flow_there : (plan : PlanValue) (g : ℕ) (t : Tree) → numbering.flow plan g ≡ Some t → Found (outline_of plan).flows (parts_of plan) g t
@@ -174,10 +175,10 @@ flow_there plan g t is =
     subst (λ (n : ℕ). Found (outline_of plan).flows (parts_of plan) n t) same
     (found_at (atoms_of 0 (tree_of plan.root)) (parts_of plan) 0 (flows_of 0 0 (tree_of plan.root)) (flow_trees (tree_of plan.root)) g t (plan_fits plan) is)
 
-pub flow_nowhere : (plan : PlanValue) (g : ℕ) → numbering.flow plan g ≡ None → flow_at (outline_of plan).flows g ≡ None
+pub flow_nowhere : (plan : PlanValue) (g : ℕ) → numbering.flow plan g ≡ None → find_flow (outline_of plan).flows g ≡ None
 flow_nowhere plan g is =
     let same : 0 + g ≡ g = omega arith in
-    ap (flow_at (outline_of plan).flows) (sym same)
+    ap (find_flow (outline_of plan).flows) (sym same)
     ∙ none_at (atoms_of 0 (tree_of plan.root)) (parts_of plan) 0 (flows_of 0 0 (tree_of plan.root)) (flow_trees (tree_of plan.root)) g (plan_fits plan) is
 
 -- ---- a number that no flow has
@@ -249,7 +250,7 @@ retry_by None control is = absurd (cc)
 retry_by (Some atom) control is = let same : atom.part ≡ a_retry control = cc in ap (λ (p : Part). is_retry_in (Some (record { way = atom.way; part = p }))) same
 
 pub stands_retry : (plan : PlanValue) (r : ℕ) (control : Retry) → slice_get (parts_of plan) r ≡ Some (a_retry control) → is_retry (outline_of plan) r ≡ true
-stands_retry plan r control there = retry_by (slice_get (outline_of plan).atoms r) control (sym (get_mapped_to part_of (outline_of plan).atoms r) ∙ there)
+stands_retry plan r control there = retry_by (slice_get (outline_of plan).atoms r) control (sym (slice_get-map part_of (outline_of plan).atoms r) ∙ there)
 
 name_by : (o : Option Atom) (control : Retry) → option_map part_of o ≡ Some (a_retry control) → option_map name_of_atom o ≡ Some control.name
 name_by None control is = absurd (cc)
@@ -258,5 +259,5 @@ name_by (Some atom) control is = let same : atom.part ≡ a_retry control = cc i
 pub stands_named : (plan : PlanValue) (r : ℕ) (control : Retry) → slice_get (parts_of plan) r ≡ Some (a_retry control) → slice_get (numbering.atoms plan) r ≡ Some control.name
 stands_named plan r control there =
     ap (λ (names : List (List ℕ)). slice_get names r) (sym (same_atoms plan))
-    ∙ (get_mapped_to name_of_atom (outline_of plan).atoms r
-    ∙ name_by (slice_get (outline_of plan).atoms r) control (sym (get_mapped_to part_of (outline_of plan).atoms r) ∙ there))
+    ∙ (slice_get-map name_of_atom (outline_of plan).atoms r
+    ∙ name_by (slice_get (outline_of plan).atoms r) control (sym (slice_get-map part_of (outline_of plan).atoms r) ∙ there))

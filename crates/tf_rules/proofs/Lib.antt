@@ -1,4 +1,3 @@
-pub mod PlanLemmas
 pub mod NameLemmas
 pub mod FlowLemmas
 pub mod HomeLemmas

@@ -14,11 +14,12 @@ use Rattle.tf_flow.specs.Plan.{PlanValue}
 use Rattle.tf_flow.specs.Rules.{is_graph}
 use Rattle.tf_flow.specs.Tree.{tree_of}
 use Rattle.tf_model.specs.Before.{Flow}
-use Rattle.tf_model.specs.Deciders.{flow_in, home, is_sibling, is_neighbor, linked_places, last_item, ignores, ignores_other}
-use Rattle.tf_model.specs.Plan.{Outline, outline_of, count, own_flow, way, linked_in}
+use Rattle.tf_model.specs.Deciders.{home, is_sibling, is_neighbor, linked_places, last_item, ignores, ignores_other}
+use Rattle.tf_model.specs.Plan.{Outline, outline_of, count, own_flow, way}
+use Rattle.tf_model.proofs.Told.{flow_in, found_home, linked_in}
 use Rattle.tf_model.proofs.OrderLemmas.{each_arranged}
 use Rattle.tf_order.specs.Graph.{leads_in, leads_by_kind, leads_to, direct_tasks_of}
-use Rattle.tf_rules.specs.Depths.{is_graph_in}
+use Rattle.tf_rules.proofs.HomeLemmas.{is_graph_in}
 
 pub itself : (plan : Outline) (v : ℕ) (how : Depth) (a : ℕ) → v ≡ a → true ≡ ignores plan v how a
 unfolding ignores
@@ -52,15 +53,14 @@ unlinked plan (Some g) None is other = ap linked_in is
 unlinked plan (Some g) (Some f) is other = ap linked_in is ∙ (each_arranged (atoms_of 0 (tree_of plan.root)) (flows_of 0 0 (tree_of plan.root)) g f is).unlinked other
 
 -- no link leads from what stands in no graph flow
-pub no_neighbor : (plan : PlanValue) (v a : ℕ) → is_graph_in (home (outline_of plan) v) ≡ false → false ≡ is_neighbor (outline_of plan) v a
+pub no_neighbor : (plan : PlanValue) (v a : ℕ) → is_graph_in (found_home (outline_of plan) v) ≡ false → false ≡ is_neighbor (outline_of plan) v a
 no_neighbor plan v a other =
     sym (second_false (is_sibling (outline_of plan) v a) _
-    (unlinked_by (linked_in (home (outline_of plan) v)) (last_item (way (outline_of plan) v)) (last_item (way (outline_of plan) a))
-    (unlinked plan (own_flow (outline_of plan) v) (home (outline_of plan) v) refl other)))
+    (unlinked_by (linked_in (found_home (outline_of plan) v)) (last_item (way (outline_of plan) v)) (last_item (way (outline_of plan) a))
+    (unlinked plan (own_flow (outline_of plan) v) (found_home (outline_of plan) v) refl other)))
 
-leads_by_link : (o : Option Flow) (from to : Option ℕ) → is_graph_in o ≡ true → leads_in o from to ≡ linked_places (linked_in o) from to
-leads_by_link None from to is = absurd (cc)
-leads_by_link (Some f) from to is = by f.place.kind is
+leads_by_link : (f : Flow) (from to : Option ℕ) → is_graph f.place.kind ≡ true → leads_in f from to ≡ linked_places f.linked from to
+leads_by_link f from to is = by f.place.kind is
   where
     by : (how : FlowKind) → is_graph how ≡ true → leads_by_kind how f.linked from to ≡ linked_places f.linked from to
     by kind.Linear on = absurd (cc)
@@ -68,7 +68,7 @@ leads_by_link (Some f) from to is = by f.place.kind is
     by kind.Graph on = refl
 
 -- in a graph flow the place leads where a link leads
-leads_neighbor : (plan : Outline) (v a : ℕ) → is_graph_in (home plan v) ≡ true → leads_to plan v a ≡ is_neighbor plan v a
+leads_neighbor : (plan : Outline) (v a : ℕ) → is_graph_in (found_home plan v) ≡ true → leads_to plan v a ≡ is_neighbor plan v a
 leads_neighbor plan v a is = ap (λ (b : Bool). is_sibling plan v a && b) (leads_by_link (home plan v) (last_item (way plan v)) (last_item (way plan a)) is)
 
 listed : (n : ℕ) (test : ℕ → Bool) (a : ℕ) → a < n → list_any (λ y. nat_eq y a) (which_below n test) ≡ test a
@@ -76,7 +76,7 @@ listed n test a below = same_truth (list_any (λ y. nat_eq y a) (which_below n t
     (λ on. let passes = which_passes n test (λ y. nat_eq y a) on in ap test (sym (eqb-true passes.number a passes.passes)) ∙ passes.tested)
     (λ on. passes_which n test (λ y. nat_eq y a) a below on (eq-eqb a a refl))
 
-pub neighbor_listed : (plan : PlanValue) (v a : ℕ) (tasks : List ℕ) (on : Bool) → a < count (outline_of plan) → is_graph_in (home (outline_of plan) v) ≡ true → tasks ≡ direct_tasks_of (outline_of plan) v
+pub neighbor_listed : (plan : PlanValue) (v a : ℕ) (tasks : List ℕ) (on : Bool) → a < count (outline_of plan) → is_graph_in (found_home (outline_of plan) v) ≡ true → tasks ≡ direct_tasks_of (outline_of plan) v
     → on ≡ list_any (λ y. nat_eq y a) tasks → on ≡ is_neighbor (outline_of plan) v a
 neighbor_listed plan v a tasks on below is told has =
     has ∙ (ap (list_any (λ y. nat_eq y a)) told ∙ (listed (count (outline_of plan)) (leads_to (outline_of plan) v) a below ∙ leads_neighbor (outline_of plan) v a is))

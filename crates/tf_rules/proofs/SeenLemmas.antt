@@ -19,12 +19,13 @@ use Rattle.tf_flow.specs.Plan.{PlanValue}
 use Rattle.tf_flow.specs.Plan as numbering
 use Rattle.tf_flow.proofs.OutlineLemmas.{same_atoms}
 use Rattle.tf_model.specs.Deciders.{Named, result_of, named_result, seen_at, seen_by_link, atom_named, is_named}
-use Rattle.tf_model.specs.Plan.{Outline, outline_of, count, name_in}
+use Rattle.tf_model.specs.Plan.{Outline, outline_of, count}
+use Rattle.tf_model.proofs.Told.{name_in}
 use Rattle.tf_model.specs.Snapshot.{Snapshot}
 use Rattle.tf_model.specs.States.{is_success}
 use Rattle.tf_model.specs.Views as views
 use Rattle.tf_rules.specs.Seen.{begins_at}
-use Rattle.tf_rules.proofs.PlanLemmas.{get_mapped_to}
+use Rattle.std.proofs.lemmas.Option.{slice_get-map}
 
 -- ---- the atom of a name
 
@@ -58,7 +59,7 @@ found_named plan name =
     first_from (same_name name) (is_named (outline_of plan) name) (numbering.atoms plan) 0 (count (outline_of plan)) counted
     (λ k x there. let place : 0 + k ≡ k = omega arith in
     ap (is_named (outline_of plan) name) place
-    ∙ named_by (slice_get (outline_of plan).atoms k) name x (sym (get_mapped_to name_of_atom (outline_of plan).atoms k) ∙ (ap (λ (names : List (List ℕ)). slice_get names k) (same_atoms plan) ∙ there)))
+    ∙ named_by (slice_get (outline_of plan).atoms k) name x (sym (slice_get-map name_of_atom (outline_of plan).atoms k) ∙ (ap (λ (names : List (List ℕ)). slice_get names k) (same_atoms plan) ∙ there)))
     (λ j less. absurd (omega arith))
     ∙ sym (position_from-zero (same_name name) (numbering.atoms plan))
 

@@ -3,4 +3,3 @@ pub mod Flows
 pub mod Resolutions
 pub mod Seen
 pub mod Deciders
-pub mod Depths

@@ -15,7 +15,7 @@ use tf_values::{Memory, Name, Scalar, Val};
 const VALUES: &[u8; 6] = b"values";
 
 /// The retry controller of this number; none where a task has it.
-#[tactic(auto, using(crate::proofs::PlanLemmas::atoms_counted))]
+#[tactic(auto, using(tf_model::proofs::PlanLemmas::atoms_counted))]
 pub fn retry_at(plan: &Plan, atom: u16) -> Option<&Retry>
     requires { atom < count (outline_of plan.now) }
     ensures kind { option_map (λ retry. retry.now.kind) result ≡ retries.retry_kind (outline_of plan.now) atom }

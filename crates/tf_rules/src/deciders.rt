@@ -15,7 +15,7 @@ use tf_states::{AtomState, AtomView};
 use tf_values::Name;
 
 /// Whether a link with a decider leads to an atom. Where none does, nothing can refuse the atom.
-#[tactic(auto, using(crate::proofs::PlanLemmas::atoms_counted))]
+#[tactic(auto, using(tf_model::proofs::PlanLemmas::atoms_counted))]
 pub fn has_decider(plan: &Plan, atom: u16) -> bool
     requires { atom < count (outline_of plan.now) }
     ensures is { result ≡ has_any (deciders.decider_links (outline_of plan.now) atom) }
@@ -32,7 +32,7 @@ pub fn has_decider(plan: &Plan, atom: u16) -> bool
 
 /// The widest depth among the links that refuse an atom at a moment of a run, which the views show; none
 /// exactly where no asked link refuses it. A link whose source was ignored isn't asked. It takes no memory.
-#[tactic(auto, using(crate::proofs::PlanLemmas::atoms_counted))]
+#[tactic(auto, using(tf_model::proofs::PlanLemmas::atoms_counted))]
 pub fn widest(plan: &Plan, views: &[AtomView], atom: u16) -> Option<Depth>
     requires { atom < count (outline_of plan.now) }
     ensures { (s : Snapshot) → Shows views.now s → result ≡ deciders.refused (outline_of plan.now) s atom }

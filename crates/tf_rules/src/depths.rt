@@ -3,7 +3,6 @@ ghost use Rattle.tf_flow.specs.Rules.{is_graph};
 ghost use Rattle.tf_model.specs.Deciders as deciders;
 ghost use Rattle.tf_model.specs.Plan.{outline_of, count};
 ghost use Rattle.tf_order.specs.Graph.{IsGraphOf};
-ghost use Rattle.tf_rules.specs.Depths.{is_graph_in};
 
 use crate::flows::{home, own_flow};
 use tf_flow::{Depth, FlowKind, Plan};
@@ -28,7 +27,7 @@ pub fn affected(plan: &Plan, graph: &Graph, refused: u16, depth: Depth, atom: u1
 }
 
 /// Whether an atom is a task of the flow in which the refused one stands itself.
-#[tactic(auto, using(crate::proofs::PlanLemmas::atoms_counted))]
+#[tactic(auto, using(tf_model::proofs::PlanLemmas::atoms_counted))]
 fn is_sibling(plan: &Plan, refused: u16, atom: u16) -> bool
     requires refused { refused < count (outline_of plan.now) }
     requires atom { atom < count (outline_of plan.now) }
@@ -61,7 +60,7 @@ fn is_neighbor(plan: &Plan, graph: &Graph, refused: u16, atom: u16) -> bool
 /// Whether an atom stands in a graph flow itself.
 fn stands_in_graph(plan: &Plan, atom: u16) -> bool
     requires { atom < count (outline_of plan.now) }
-    ensures { result ≡ is_graph_in (deciders.home (outline_of plan.now) atom) }
+    ensures { result ≡ is_graph (deciders.home (outline_of plan.now) atom).place.kind }
 {
     match home(plan, atom) {
         None => false,

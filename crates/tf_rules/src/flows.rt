@@ -4,7 +4,7 @@ ghost use Rattle.std.specs.Prelude.{◌≡◌, ◌<◌, option_map, map, IfSome,
 ghost use Rattle.tf_flow.specs.Conditions.{connection_of};
 ghost use Rattle.tf_flow.specs.Plan as numbering;
 ghost use Rattle.tf_flow.specs.Tree.{tree_of};
-ghost use Rattle.tf_model.specs.Deciders.{connections_in, home};
+ghost use Rattle.tf_model.specs.Deciders.{home};
 ghost use Rattle.tf_model.specs.Plan.{outline_of, count, own_flow, is_retry, retry_of};
 ghost use Rattle.tf_rules.specs.Flows.{home_tree};
 
@@ -36,7 +36,7 @@ pub fn retry_of(plan: &Plan, flow: usize) -> Option<u16>
 }
 
 /// The number of the flow in which an atom stands itself.
-#[tactic(auto, using(crate::proofs::PlanLemmas::atoms_counted))]
+#[tactic(auto, using(tf_model::proofs::PlanLemmas::atoms_counted))]
 pub fn own_flow(plan: &Plan, atom: u16) -> Option<usize>
     requires { atom < count (outline_of plan.now) }
     ensures { result ≡ own_flow (outline_of plan.now) atom }
@@ -57,7 +57,7 @@ pub fn home(plan: &Plan, atom: u16) -> Option<&Flow>
 /// The links that are written in the flow in which an atom stands itself.
 pub fn links_around(plan: &Plan, atom: u16) -> &[Link]
     requires { atom < count (outline_of plan.now) }
-    ensures { map connection_of result.now ≡ connections_in (home (outline_of plan.now) atom) }
+    ensures { map connection_of result.now ≡ (home (outline_of plan.now) atom).place.links }
 {
     match home(plan, atom) {
         None => &[],

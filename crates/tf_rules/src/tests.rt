@@ -210,7 +210,7 @@ fn nested(alloc: Global, defer: bool) -> Result<Plan, Fail> {
     plan(alloc, controlled(alloc, "outer", "o", items)?, defer)
 }
 
-#[tactic(auto, using(crate::proofs::PlanLemmas::atoms_counted))]
+#[tactic(auto, using(tf_model::proofs::PlanLemmas::atoms_counted))]
 fn resolved(plan: &Plan, answers: &[Kind], atom: u16) -> Option<Resolution> {
     if atom >= plan.atoms() {
         return None;
@@ -278,7 +278,7 @@ fn failures_are_resolved_by_the_controllers_around(rt: HostRuntime) -> Result<()
     Ok(())
 }
 
-#[tactic(auto, using(crate::proofs::PlanLemmas::atoms_counted))]
+#[tactic(auto, using(tf_model::proofs::PlanLemmas::atoms_counted))]
 fn controller(plan: &Plan, atom: u16) -> Option<&Retry> {
     if atom >= plan.atoms() {
         return None;
@@ -310,7 +310,7 @@ fn spread(alloc: Global) -> Result<Plan, Fail> {
     plan(alloc, flow("g", FlowKind::Graph, items, links)?, false)
 }
 
-#[tactic(auto, using(crate::proofs::PlanLemmas::atoms_counted))]
+#[tactic(auto, using(tf_model::proofs::PlanLemmas::atoms_counted))]
 fn ignored(alloc: Global, plan: &Plan, depth: Depth) -> Result<Vec<u16>, Fail> {
     let graph = compile(alloc, plan).ok().ok_or("no graph")?;
     let mut atoms = Vec::new(alloc);
@@ -363,7 +363,7 @@ fn decided(alloc: Global) -> Result<Plan, Fail> {
     plan(alloc, flow("g", FlowKind::Graph, items, links)?, false)
 }
 
-#[tactic(auto, using(crate::proofs::PlanLemmas::atoms_counted))]
+#[tactic(auto, using(tf_model::proofs::PlanLemmas::atoms_counted))]
 fn refused(
     alloc: Global,
     plan: &Plan,

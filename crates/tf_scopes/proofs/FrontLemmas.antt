@@ -6,9 +6,9 @@ use Rattle.std.proofs.lemmas.Bool.{ne_eqb}
 use Rattle.std.proofs.lemmas.List.{reverse-append}
 use Rattle.std.proofs.lemmas.List.Sums.{take_while-cons}
 use Rattle.tf_flow.specs.declared.ways.Turn.{Turn}
-use Rattle.tf_model.specs.Before.{flow_at, passes_flow, passes_item, takes_item, same_place}
-use Rattle.tf_model.specs.Linked.{standing_in}
+use Rattle.tf_model.specs.Before.{find_flow, passes_flow, passes_item, takes_item, same_place}
 use Rattle.tf_model.specs.Plan.{Outline}
+use Rattle.tf_model.proofs.Told.{standing_in}
 use Rattle.tf_model.specs.Scope.{is_elsewhere, is_earlier, members_in}
 use Rattle.tf_model.proofs.WayLemmas.{turn_to}
 use Rattle.tf_numbers.specs.Numbers.{has_number}
@@ -24,7 +24,7 @@ use Rattle.tf_scopes.specs.Standing.{is_other}
 -- what stands in front of the items that a way takes, from the root on
 abbrev pub front : Outline → List Turn → List ℕ
 front plan [] = []
-front plan (turn ∷ turns) = take_while (is_elsewhere plan turn) (standing_in (flow_at plan.flows turn.flow)) ++ front plan turns
+front plan (turn ∷ turns) = take_while (is_elsewhere plan turn) (standing_in (find_flow plan.flows turn.flow)) ++ front plan turns
 
 flat_both : {X : Type 0} (f : X → List ℕ) (xs : List X) (x : X) → flat_map f (xs ++ x ∷ []) ≡ flat_map f xs ++ f x
 flat_both f [] x = nothing_after (f x)
@@ -34,7 +34,7 @@ flat_both f (y ∷ ys) x = ap (λ (zs : List ℕ). f y ++ zs) (flat_both f ys x)
 pub members_front : (plan : Outline) (y : ℕ) (turns : List Turn) → flat_map (members_in plan y) (reverse turns) ≡ filter (is_earlier plan y) (reverse (front plan turns))
 members_front plan y [] = refl
 members_front plan y (turn ∷ turns) =
-    let here = take_while (is_elsewhere plan turn) (standing_in (flow_at plan.flows turn.flow)) in
+    let here = take_while (is_elsewhere plan turn) (standing_in (find_flow plan.flows turn.flow)) in
     ap (flat_map (members_in plan y)) (reverse-append (turn ∷ []) turns)
     ∙ (flat_both (members_in plan y) (reverse turns) turn
     ∙ (ap (λ (xs : List ℕ). xs ++ members_in plan y turn) (members_front plan y turns)

@@ -1,5 +1,6 @@
 -- The members of each atom's scope, read off the standing order of all atoms.
 use Rattle.std.proofs.Common.{◌≡◌, ◌≢◌, ℕ, zero, suc, ◌+◌, ◌<◌, ◌≤◌, List, [], ◌∷◌, ◌++◌, length, map, Bool, true, false, Option, Some, None, refl, sym, ap, ◌∙◌, arith, eq-eqb, subst, slice_get}
+use Rattle.std.specs.Option.{option_to_list}
 use Rattle.std.specs.Prelude.{cond, filter, reverse, flat_map, take_while, if◌then◌else◌}
 use Rattle.std.proofs.lemmas.Bool.{ne_eqb}
 use Rattle.tf_flow.specs.Plan.{PlanValue}
@@ -8,11 +9,12 @@ use Rattle.tf_flow.specs.Rules.{is_graph}
 use Rattle.tf_flow.specs.Tree.{Tree, Trees, task, flow, no_trees, tree, trees_of, item_tree, Head}
 use Rattle.tf_flow.specs.Outline.{Atom, FlowPlace, Item, Standing, stands_task, stands_flow, atoms_of, flows_of, flows_among, flow_count, flows_among_count, atom_count, retry_count, item_of, items_of}
 use Rattle.tf_flow.proofs.TreeLemmas.{tree_of-flow}
-use Rattle.tf_model.specs.Before.{Flow, flow_at, item_before, order_in, way_in}
+use Rattle.tf_model.specs.Before.{Flow, find_flow, item_before}
 use Rattle.tf_model.specs.Compilation.{compile_refusal}
 use Rattle.tf_model.specs.Laws.{AreOrdered}
-use Rattle.tf_model.specs.Linked.{standing_in, standing_at, standing_of, standing_of_item, linked_pairs, is_linked, numbers_in, arrange, arranged}
+use Rattle.tf_model.specs.Linked.{standing_at, standing_of_item, linked_pairs, is_linked, arrange, arranged}
 use Rattle.tf_model.specs.Plan.{Outline, outline_of, outline_of_tree, count, way}
+use Rattle.tf_model.proofs.Told.{order_in, way_in, standing_in, standing_of}
 use Rattle.tf_model.specs.Scope.{members, is_earlier}
 use Rattle.tf_model.proofs.OrderLemmas.{IsArranged, each_arranged, plan_ordered}
 use Rattle.tf_links.specs.Standing.{standing_items}
@@ -87,12 +89,12 @@ mutual
 
 -- of the flows from a number on, the whole list tells what this one tells
 abbrev Agrees : List Flow → List Flow → ℕ → Type 0
-Agrees whole part n = (g : ℕ) → n ≤ g → flow_at whole g ≡ flow_at part g
+Agrees whole part n = (g : ℕ) → n ≤ g → find_flow whole g ≡ find_flow part g
 
 agrees_next : (whole part : List Flow) (f : Flow) (n : ℕ) → f.place.number ≡ n → Agrees whole (f ∷ part) n → Agrees whole part (suc n)
 agrees_next whole part f n is same g from =
     let e : f.place.number ≢ g = λ here. let one : n ≡ g = sym is ∙ here in omega (arith, one, from) in
-    same g (omega (arith, from)) ∙ ap (λ (b : Bool). cond b (Some f) (flow_at part g)) (ne_eqb f.place.number g e)
+    same g (omega (arith, from)) ∙ ap (λ (b : Bool). cond b (Some f) (find_flow part g)) (ne_eqb f.place.number g e)
 
 item_same : (whole part : List Flow) (n : ℕ) (items : List Item) (u : ℕ) → Agrees whole part n → ItemsFrom n items → standing_of part (slice_get items u) ≡ standing_of whole (slice_get items u)
 item_same whole part n [] u same from = refl
@@ -111,7 +113,7 @@ first_within : (n : ℕ) (test : ℕ → ℕ → Bool) (b : Bool) (u v : ℕ) �
 first_within n test true u v on = (pair_passes n test u v on).first
 first_within n test false u v on = absurd (cc)
 
-leads_on : (atoms : List Atom) (whole : List Flow) (f : Flow) (g : ℕ) → AreOrdered whole → flow_at whole g ≡ Some f → IsArranged f → ((u v : ℕ) → has_pair f.linked u v ≡ true → u < length f.place.items) → LeadsOn (length f.place.items) f.linked (item_before whole g)
+leads_on : (atoms : List Atom) (whole : List Flow) (f : Flow) (g : ℕ) → AreOrdered whole → find_flow whole g ≡ Some f → IsArranged f → ((u v : ℕ) → has_pair f.linked u v ≡ true → u < length f.place.items) → LeadsOn (length f.place.items) f.linked (item_before whole g)
 leads_on atoms whole f g ordered found is first = record {
   within = first;
   along = λ u v on. ap (λ (o : Option Flow). has_pair (order_in o) u v) found ∙ is.links u v on;
@@ -125,12 +127,12 @@ flow_stands atoms plan place places n ordered is items same =
     let inner = arranged atoms places in
     let f = arrange atoms inner place in
     let linked = linked_pairs atoms inner place in
-    let found : flow_at plan.flows n ≡ Some f = same n (omega arith) ∙ ap (λ (b : Bool). cond b (Some f) (flow_at inner n)) (eq-eqb place.number n is) in
-    let here : flow_at plan.flows place.number ≡ Some f = ap (flow_at plan.flows) is ∙ found in
-    let arranged_here : IsArranged f = each_arranged atoms (place ∷ places) n f (ap (λ (b : Bool). cond b (Some f) (flow_at inner n)) (eq-eqb place.number n is)) in
+    let found : find_flow plan.flows n ≡ Some f = same n (omega arith) ∙ ap (λ (b : Bool). cond b (Some f) (find_flow inner n)) (eq-eqb place.number n is) in
+    let here : find_flow plan.flows place.number ≡ Some f = ap (find_flow plan.flows) is ∙ found in
+    let arranged_here : IsArranged f = each_arranged atoms (place ∷ places) n f (ap (λ (b : Bool). cond b (Some f) (find_flow inner n)) (eq-eqb place.number n is)) in
     record {
       order = standing_items (length place.items) linked;
-      standing = ap standing_in here ∙ ap (λ (xs : List ℕ). numbers_in place.retry ++ xs)
+      standing = ap standing_in here ∙ ap (λ (xs : List ℕ). option_to_list place.retry ++ xs)
           (flat_same (standing_of_item inner place) (stands plan place.items) (standing_items (length place.items) linked)
           (λ u. item_same plan.flows inner (suc n) place.items u (agrees_next plan.flows inner f n is same) items));
       all = λ u below. each_stands (length place.items) linked (item_before plan.flows n) u
@@ -172,7 +174,7 @@ members_by head items store defer y ordered below =
     let zero_on : 0 + y ≡ y = omega arith in
     members_front plan y (way plan y)
     ∙ ap (λ (xs : List ℕ). filter (is_earlier plan y) (reverse xs))
-    (each_at plan (standing_in (flow_at plan.flows 0)) (atoms_of 0 root) 0 y fronted below ∙ ap (λ (z : ℕ). take_while (is_other z) (standing_in (flow_at plan.flows 0))) zero_on)
+    (each_at plan (standing_in (find_flow plan.flows 0)) (atoms_of 0 root) 0 y fronted below ∙ ap (λ (z : ℕ). take_while (is_other z) (standing_in (find_flow plan.flows 0))) zero_on)
 
 -- of a plan that compiles
 pub members_stand : (plan : PlanValue) (y : ℕ) → compile_refusal plan ≡ None → y < count (outline_of plan) → members (outline_of plan) y ≡ standing_scope (outline_of plan) y

@@ -6,7 +6,7 @@ use Rattle.tf_flow.specs.Plan.{PlanValue}
 use Rattle.tf_flow.specs.Plan as numbering
 use Rattle.tf_flow.specs.Outline.{Atom}
 use Rattle.tf_model.specs.Plan.{Outline, outline_of}
-use Rattle.tf_model.specs.Linked.{listed_by}
+use Rattle.tf_model.proofs.Told.{listed_by}
 use Rattle.tf_model.specs.Scope.{lists_symbol}
 use Rattle.tf_numbers.specs.Numbers.{is_number, which_below}
 use Rattle.tf_numbers.proofs.ListLemmas.{nothing_after}
@@ -15,7 +15,7 @@ use Rattle.tf_order.specs.Graph.{standing_of_plan}
 use Rattle.tf_order.specs.Index.{add_once, ends_with}
 use Rattle.tf_scopes.specs.Symbols.{lists_in, lists_at}
 use Rattle.tf_scopes.proofs.PlaceLemmas.{number_there}
-use Rattle.tf_scopes.proofs.PlanLemmas.{atoms_counted}
+use Rattle.tf_model.proofs.PlanLemmas.{atoms_counted}
 
 -- ---- numbers that pass, one more
 

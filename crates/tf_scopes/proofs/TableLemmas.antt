@@ -16,7 +16,7 @@ use Rattle.tf_scopes.specs.declared.sources.Source.{Source}
 use Rattle.tf_scopes.specs.Providers.{IsOf}
 use Rattle.tf_scopes.specs.Sources.{gives_nothing, source_of, source_of_argument, sources_of}
 use Rattle.tf_scopes.proofs.PlaceLemmas.{first_kept, first_here}
-use Rattle.tf_scopes.proofs.PlanLemmas.{arguments_are, name_is}
+use Rattle.tf_model.proofs.PlanLemmas.{arguments_are, name_is}
 use Rattle.tf_scopes.proofs.SourceLemmas.{is_missing, not_missing, none_so_far}
 
 -- ---- the arguments of an atom

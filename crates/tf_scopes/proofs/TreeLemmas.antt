@@ -1,5 +1,6 @@
 -- How the atoms of a tree stand, and what is in front of each.
 use Rattle.std.proofs.Common.{◌≡◌, ℕ, zero, suc, ◌+◌, ◌<◌, ◌≤◌, List, [], ◌∷◌, ◌++◌, length, map, Bool, true, false, not, ◌&&◌, Option, Some, None, refl, sym, ap, ◌∙◌, inl, inr, arith, eqb-true, eq-eqb, subst, slice_get}
+use Rattle.std.specs.Option.{option_to_list}
 use Rattle.std.specs.Prelude.{cond, nat_eq, flat_map, take_while}
 use Rattle.std.specs.List.{list_any}
 use Rattle.std.proofs.lemmas.List.Sums.{take_while-cons}
@@ -7,9 +8,10 @@ use Rattle.tf_flow.specs.declared.atoms.Retry.{Retry}
 use Rattle.tf_flow.specs.declared.ways.Turn.{Turn}
 use Rattle.tf_flow.specs.Tree.{Tree, Trees, task, flow, no_trees, tree, Head}
 use Rattle.tf_flow.specs.Outline.{Atom, FlowPlace, Item, atoms_of, atoms_among, retry_atoms, enter, flows_of, flows_among, flow_count, atom_count, retry_count, retry_number, item_of, items_of}
-use Rattle.tf_model.specs.Before.{flow_at, passes_flow, passes_item}
-use Rattle.tf_model.specs.Linked.{standing_in, standing_at, standing_of, numbers_in}
+use Rattle.tf_model.specs.Before.{find_flow, passes_flow, passes_item}
+use Rattle.tf_model.specs.Linked.{standing_at}
 use Rattle.tf_model.specs.Plan.{Outline, way}
+use Rattle.tf_model.proofs.Told.{standing_in, standing_of}
 use Rattle.tf_model.specs.Scope.{is_elsewhere}
 use Rattle.tf_model.proofs.WayLemmas.{turn_to}
 use Rattle.tf_numbers.specs.Numbers.{has_number}
@@ -17,7 +19,7 @@ use Rattle.tf_numbers.proofs.EquationLemmas.{ap2}
 use Rattle.tf_numbers.proofs.ListLemmas.{append_chain, nothing_after}
 use Rattle.tf_numbers.proofs.PairLemmas.{any_in_both, any_flat}
 use Rattle.tf_numbers.proofs.TruthLemmas.{or_either, never_true, only_first, true_first, true_second, true_both, second_false}
-use Rattle.tf_order.proofs.OutlineLemmas.{length_atoms}
+use Rattle.tf_flow.proofs.ListingLemmas.{length_atoms}
 use Rattle.tf_scopes.specs.Standing.{is_other}
 use Rattle.tf_scopes.proofs.FrontLemmas.{front, flow_front, flow_has, at_item}
 
@@ -32,7 +34,7 @@ stands_in_tree plan g a t = standing_at plan.flows (item_of g a t).standing
 -- a flow of the plan stands as its items do, in an order that has each of them
 pub record Stands (plan : Outline) (place : FlowPlace) : Type 0 where
   pub order : List ℕ
-  pub standing : standing_in (flow_at plan.flows place.number) ≡ numbers_in place.retry ++ flat_map (stands plan place.items) order
+  pub standing : standing_in (find_flow plan.flows place.number) ≡ option_to_list place.retry ++ flat_map (stands plan place.items) order
   pub all : (u : ℕ) → u < length place.items → has_number order u ≡ true
 
 abbrev pub AllStand : Outline → List FlowPlace → Type 0
@@ -132,7 +134,7 @@ pub record Through (plan : Outline) (w : List Turn) (g i n b : ℕ) : Type 0 whe
 through_first : (plan : Outline) (w : List Turn) (g i n b : ℕ) → Within plan (below w g i) n b → Through plan w g i n b
 through_first plan w g i n b inside = record { rest = inside.rest; is = inside.is ∙ append_chain w (turn_to g (Some i) ∷ []) inside.rest; from = inside.from }
 
-within_retry : (plan : Outline) (w : List Turn) (g a b : ℕ) (control : Option Retry) (rest : List Atom) → Each (Reached plan w) a (retry_atoms g control ++ rest) → has_number (numbers_in (retry_number a control)) b ≡ true → (way plan b ≡ w ++ turn_to g None ∷ [])
+within_retry : (plan : Outline) (w : List Turn) (g a b : ℕ) (control : Option Retry) (rest : List Atom) → Each (Reached plan w) a (retry_atoms g control ++ rest) → has_number (option_to_list (retry_number a control)) b ≡ true → (way plan b ≡ w ++ turn_to g None ∷ [])
 within_retry plan w g a b None rest each on = absurd (cc)
 within_retry plan w g a b (Some r) rest each on = ap (way plan) (eqb-true b a (only_first (nat_eq b a) on)) ∙ each.0
 
@@ -155,7 +157,7 @@ mutual
   pub tree_within : (t : Tree) (plan : Outline) (w : List Turn) (g a : ℕ) → Each (Reached plan w) a (atoms_of g t) → AllStand plan (flows_of g a t) → (b : ℕ) → has_number (stands_in_tree plan g a t) b ≡ true → Within plan w g b
   tree_within (task t) plan w g a each all b on = record { rest = []; is = ap (way plan) (eqb-true b a (only_first (nat_eq b a) on)) ∙ each.0; from = λ F no. absurd (cc) }
   tree_within (flow head items) plan w g a each all b on =
-      elim (any_in_both (nat_eq b) (numbers_in (retry_number a head.retry)) (flat_map (stands plan (items_of (suc g) (a + retry_count head.retry) items)) all.0.order) (ap (λ (xs : List ℕ). has_number xs b) (sym all.0.standing) ∙ on)) [
+      elim (any_in_both (nat_eq b) (option_to_list (retry_number a head.retry)) (flat_map (stands plan (items_of (suc g) (a + retry_count head.retry) items)) all.0.order) (ap (λ (xs : List ℕ). has_number xs b) (sym all.0.standing) ∙ on)) [
         | inl retry ↦ record { rest = turn_to g None ∷ []; is = within_retry plan w g a b head.retry (atoms_among g 0 (suc g) items) each retry; from = λ F passes. from_turn g F None [] (λ G no. absurd (cc)) passes }
         | inr item ↦
             let one = among (stands plan (items_of (suc g) (a + retry_count head.retry) items)) all.0.order b (sym (any_flat (nat_eq b) (stands plan (items_of (suc g) (a + retry_count head.retry) items)) all.0.order) ∙ item) in
@@ -216,18 +218,18 @@ one_there : (y : ℕ) → has_number (y ∷ []) y ≡ true
 one_there y = true_first (nat_eq y y) false (eq-eqb y y refl)
 
 -- a retry controller stands first in its flow
-retry_front : (plan : Outline) (w : List Turn) (g a : ℕ) (rest : List ℕ) → EndsBefore g w → way plan a ≡ w ++ turn_to g None ∷ [] → standing_in (flow_at plan.flows g) ≡ a ∷ rest
+retry_front : (plan : Outline) (w : List Turn) (g a : ℕ) (rest : List ℕ) → EndsBefore g w → way plan a ≡ w ++ turn_to g None ∷ [] → standing_in (find_flow plan.flows g) ≡ a ∷ rest
     → front plan (turn_to g None ∷ []) ≡ take_while (is_other a) (a ∷ rest)
 retry_front plan w g a rest ends is standing =
     let inside : passes_item g None (way plan a) ≡ true = ap (passes_item g None) is ∙ (at_item g None None w [] (not_yet g w ends) refl ∙ true_both (nat_eq g g) true (eq-eqb g g refl) refl) in
-    nothing_after (take_while (is_elsewhere plan (turn_to g None)) (standing_in (flow_at plan.flows g)))
+    nothing_after (take_while (is_elsewhere plan (turn_to g None)) (standing_in (find_flow plan.flows g)))
     ∙ (ap (take_while (is_elsewhere plan (turn_to g None))) standing
     ∙ (take_while-cons (is_elsewhere plan (turn_to g None)) a rest
     ∙ (ap (λ (b : Bool). cond (not b) (a ∷ take_while (is_elsewhere plan (turn_to g None)) rest) []) inside
     ∙ sym (take_while-cons (is_other a) a rest ∙ ap (λ (b : Bool). cond (not b) (a ∷ take_while (is_other a) rest) []) (eq-eqb a a refl)))))
 
 retry_each : (plan : Outline) (w : List Turn) (g a : ℕ) (control : Option Retry) (more : List Atom) (rest : List ℕ) → EndsBefore g w → Each (Reached plan w) a (retry_atoms g control ++ more)
-    → standing_in (flow_at plan.flows g) ≡ numbers_in (retry_number a control) ++ rest → Each (Fronted plan (standing_in (flow_at plan.flows g))) a (retry_atoms g control)
+    → standing_in (find_flow plan.flows g) ≡ option_to_list (retry_number a control) ++ rest → Each (Fronted plan (standing_in (find_flow plan.flows g))) a (retry_atoms g control)
 retry_each plan w g a None more rest ends each standing = tt
 retry_each plan w g a (Some r) more rest ends each standing = (
   record {
@@ -244,25 +246,25 @@ passes_own plan w g u v n b ends less through =
     ∙ (at_item g (Some u) (Some v) w through.rest (not_yet g w ends) (not_again g n through.rest less through.from)
     ∙ ap (λ (c : Bool). c && nat_eq u v) (eq-eqb g g refl)))
 
-retry_outside : (plan : Outline) (w : List Turn) (g a v b : ℕ) (control : Option Retry) (more : List Atom) → EndsBefore g w → Each (Reached plan w) a (retry_atoms g control ++ more) → has_number (numbers_in (retry_number a control)) b ≡ true
+retry_outside : (plan : Outline) (w : List Turn) (g a v b : ℕ) (control : Option Retry) (more : List Atom) → EndsBefore g w → Each (Reached plan w) a (retry_atoms g control ++ more) → has_number (option_to_list (retry_number a control)) b ≡ true
     → is_elsewhere plan (turn_to g (Some v)) b ≡ true
 retry_outside plan w g a v b control more ends each on =
     ap not (ap (passes_item g (Some v)) (within_retry plan w g a b control more each on)
     ∙ (at_item g None (Some v) w [] (not_yet g w ends) refl ∙ second_false (nat_eq g g) false refl))
 
 flow_each : (plan : Outline) (w : List Turn) (g a : ℕ) (head : Head) (items : Trees) → EndsBefore g w → Each (Reached plan w) a (atoms_of g (flow head items)) → AllStand plan (flows_of g a (flow head items))
-    → (y : ℕ) (x : Atom) → FrontedIn plan g 0 (items_of (suc g) (a + retry_count head.retry) items) y x → Fronted plan (standing_in (flow_at plan.flows g)) y x
+    → (y : ℕ) (x : Atom) → FrontedIn plan g 0 (items_of (suc g) (a + retry_count head.retry) items) y x → Fronted plan (standing_in (find_flow plan.flows g)) y x
 flow_each plan w g a head items ends each all y x is =
     let placed = items_of (suc g) (a + retry_count head.retry) items in
     let order = all.0.order in
     let listed = all.0.all is.number is.below in
     let zero_on : 0 + is.number ≡ is.number = omega arith in
     record {
-      here = ap (λ (xs : List ℕ). has_number xs y) all.0.standing ∙ flow_has y is.number (stands plan placed) order (numbers_in (retry_number a head.retry)) listed is.here;
+      here = ap (λ (xs : List ℕ). has_number xs y) all.0.standing ∙ flow_has y is.number (stands plan placed) order (option_to_list (retry_number a head.retry)) listed is.here;
       is = ap (front plan) is.way
           ∙ (ap (λ (k : ℕ). front plan (turn_to g (Some k) ∷ is.rest)) zero_on
           ∙ (ap2 (λ (xs ys : List ℕ). take_while (is_elsewhere plan (turn_to g (Some is.number))) xs ++ ys) all.0.standing is.is
-          ∙ (flow_front y is.number (is_elsewhere plan (turn_to g (Some is.number))) (stands plan placed) order (numbers_in (retry_number a head.retry)) listed is.here
+          ∙ (flow_front y is.number (is_elsewhere plan (turn_to g (Some is.number))) (stands plan placed) order (option_to_list (retry_number a head.retry)) listed is.here
           (λ u b on.
           let through = trees_within items plan w g 0 (suc g) (a + retry_count head.retry) (past_retry plan w g a head.retry (atoms_among g 0 (suc g) items) each) all.1 u b on in
           let first : 0 + u ≡ u = omega arith in
@@ -285,10 +287,10 @@ mutual
   pub tree_fronted : (t : Tree) (plan : Outline) (w : List Turn) (g a : ℕ) → EndsBefore g w → Each (Reached plan w) a (atoms_of g t) → AllStand plan (flows_of g a t) → Each (Fronted plan (stands_in_tree plan g a t)) a (atoms_of g t)
   tree_fronted (task t) plan w g a ends each all = (record { here = one_there a; is = one_front plan a }, tt)
   tree_fronted (flow head items) plan w g a ends each all =
-      each_both (Fronted plan (standing_in (flow_at plan.flows g))) a (retry_atoms g head.retry) (atoms_among g 0 (suc g) items)
+      each_both (Fronted plan (standing_in (find_flow plan.flows g))) a (retry_atoms g head.retry) (atoms_among g 0 (suc g) items)
       (retry_each plan w g a head.retry (atoms_among g 0 (suc g) items) (flat_map (stands plan (items_of (suc g) (a + retry_count head.retry) items)) all.0.order) ends each all.0.standing)
-      (moved (Fronted plan (standing_in (flow_at plan.flows g))) (a + retry_count head.retry) (a + length (retry_atoms g head.retry)) (atoms_among g 0 (suc g) items) (ap (λ (k : ℕ). a + k) (sym (length_control g head.retry)))
-      (each_weaker (FrontedIn plan g 0 (items_of (suc g) (a + retry_count head.retry) items)) (Fronted plan (standing_in (flow_at plan.flows g))) (a + retry_count head.retry) (atoms_among g 0 (suc g) items)
+      (moved (Fronted plan (standing_in (find_flow plan.flows g))) (a + retry_count head.retry) (a + length (retry_atoms g head.retry)) (atoms_among g 0 (suc g) items) (ap (λ (k : ℕ). a + k) (sym (length_control g head.retry)))
+      (each_weaker (FrontedIn plan g 0 (items_of (suc g) (a + retry_count head.retry) items)) (Fronted plan (standing_in (find_flow plan.flows g))) (a + retry_count head.retry) (atoms_among g 0 (suc g) items)
       (flow_each plan w g a head items ends each all)
       (trees_fronted items plan w g 0 (suc g) (a + retry_count head.retry) ends (omega arith) (past_retry plan w g a head.retry (atoms_among g 0 (suc g) items) each) all.1)))
 

@@ -14,8 +14,8 @@ use Rattle.tf_values.specs.declared.value.Val.{Val}
 use Rattle.tf_numbers.specs.Numbers.{has_number}
 use Rattle.tf_scopes.proofs.PlanLemmas.{before_is_atom}
 use Rattle.tf_model.proofs.BeforeLemmas.{members_before}
-use Rattle.tf_model.specs.Plan.{Outline, count, injects, provides_of, provides_in}
-use Rattle.tf_model.specs.Linked.{listed_by}
+use Rattle.tf_model.specs.Plan.{Outline, count, injects, provides_of}
+use Rattle.tf_model.proofs.Told.{provides_in, listed_by}
 use Rattle.tf_model.specs.Scope.{is_earlier, lists_symbol, bound, item_at, part_given, given_by_result, given_by_payload, given_by}
 use Rattle.tf_model.specs.Scope.{members, symbol_value}
 use Rattle.tf_model.specs.Snapshot.{Snapshot}

@@ -25,7 +25,7 @@ pub enum Found<'a> {
 
 /// The value of a symbol for an atom at a moment of a run, which the views show, by the source from which
 /// the atom takes it.
-#[tactic(auto, using(crate::proofs::PlanLemmas::atoms_counted))]
+#[tactic(auto, using(tf_model::proofs::PlanLemmas::atoms_counted))]
 pub fn found_in<'a>(
     plan: &'a Plan,
     views: &'a [AtomView],
@@ -55,7 +55,7 @@ fn bound_at(binds: &[Bind], place: usize) -> Option<Found<'_>>
 }
 
 /// The value that the first of these atoms gives a symbol that gives one.
-#[tactic(auto, using(crate::proofs::PlanLemmas::atoms_counted))]
+#[tactic(auto, using(tf_model::proofs::PlanLemmas::atoms_counted))]
 fn first_given<'a>(
     plan: &Plan,
     views: &'a [AtomView],
@@ -74,7 +74,7 @@ fn first_given<'a>(
 }
 
 /// The value that an atom gives a symbol, where it is SUCCESS.
-#[tactic(auto, using(crate::proofs::PlanLemmas::atoms_counted))]
+#[tactic(auto, using(tf_model::proofs::PlanLemmas::atoms_counted))]
 fn given_by<'a>(plan: &Plan, views: &'a [AtomView], symbol: &Name, atom: u16) -> Option<Found<'a>>
     requires { atom < count (outline_of plan.now) }
     ensures { (s : Snapshot) → Shows views.now s → shown_in result ≡ given_by (outline_of plan.now) s symbol.now atom }

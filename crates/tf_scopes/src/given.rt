@@ -19,7 +19,7 @@ impl Providers {
     /// What an atom is given for an action at a moment of a run, which the views show: its arguments with
     /// their values, in order. To execute, the first symbol that is missing takes their place; to revert, a
     /// missing value is Nothing. The values are copies; where memory runs out nothing is changed.
-    #[tactic(auto, using(crate::proofs::PlanLemmas::atoms_counted))]
+    #[tactic(auto, using(tf_model::proofs::PlanLemmas::atoms_counted))]
     pub fn arguments(
         &self,
         alloc: Global,

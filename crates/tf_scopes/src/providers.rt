@@ -44,7 +44,7 @@ impl Providers {
     /// inject, else the store's value, else what the nearest atom of its scope gives that is SUCCESS and
     /// gives the symbol. There is none where the symbol is missing. The value is lent, and no memory is
     /// taken.
-    #[tactic(auto, using(crate::proofs::PlanLemmas::atoms_counted))]
+    #[tactic(auto, using(tf_model::proofs::PlanLemmas::atoms_counted))]
     pub fn value<'a>(
         &self,
         plan: &'a Plan,
@@ -85,7 +85,7 @@ impl Providers {
 /// From where each atom of a plan takes the values of its arguments. It is refused where a symbol has no
 /// inject, no value in the store and no atom of the scope that lists it: atoms in tree order, arguments in
 /// order.
-#[tactic(auto, using(crate::proofs::PlanLemmas::atoms_counted))]
+#[tactic(auto, using(tf_model::proofs::PlanLemmas::atoms_counted))]
 pub fn find_providers(alloc: Global, plan: &Plan, graph: &Graph) -> Result<Providers, ScopeFault>
     requires { IsGraphOf graph.now plan.now }
     ensures found { IfOk result (λ providers. IsOf providers plan.now) }
@@ -102,7 +102,7 @@ pub fn find_providers(alloc: Global, plan: &Plan, graph: &Graph) -> Result<Provi
 }
 
 /// From where an atom takes the values of its arguments, or the first symbol that is missing.
-#[tactic(auto, using(crate::proofs::PlanLemmas::atoms_counted))]
+#[tactic(auto, using(tf_model::proofs::PlanLemmas::atoms_counted))]
 fn find_row(
     alloc: Global,
     plan: &Plan,
@@ -127,7 +127,7 @@ fn find_row(
 }
 
 /// From where the atom of a scope takes the values of its arguments, or the first symbol that is missing.
-#[tactic(auto, using(crate::proofs::PlanLemmas::atoms_counted))]
+#[tactic(auto, using(tf_model::proofs::PlanLemmas::atoms_counted))]
 fn find_sources(alloc: Global, plan: &Plan, scope: &Scope<'_>) -> Result<Sources, ScopeFault>
     requires { IsScopeIn scope.now plan.now }
     ensures found { IfOk result (λ sources. sources ≡ sources_of (outline_of plan.now) scope.now.atom) }
@@ -150,7 +150,7 @@ fn find_sources(alloc: Global, plan: &Plan, scope: &Scope<'_>) -> Result<Sources
 }
 
 /// From where the atom of a scope takes the value of a symbol.
-#[tactic(auto, using(crate::proofs::PlanLemmas::atoms_counted))]
+#[tactic(auto, using(tf_model::proofs::PlanLemmas::atoms_counted))]
 fn find_source(
     alloc: Global,
     plan: &Plan,

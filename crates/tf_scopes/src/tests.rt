@@ -118,7 +118,7 @@ fn binds(alloc: Global, symbol: &str, number: i64) -> Result<Binds, Fail> {
 
 /// What the second atom is given once the first one gave a list: the values of its arguments, or the symbol
 /// that is missing.
-#[tactic(auto, using(crate::proofs::PlanLemmas::atoms_counted))]
+#[tactic(auto, using(tf_model::proofs::PlanLemmas::atoms_counted))]
 fn given(alloc: Global, list: &[u8], action: Action) -> Result<Vec<u8>, Fail> {
     let plan = plan_of_sources(alloc)?;
     let graph = compile(alloc, &plan).ok().ok_or("no graph")?;

@@ -1,5 +1,5 @@
 use Rattle.std.proofs.Common.{◌+◌, ◌-◌, arith}
-use Rattle.tf_order.specs.Places.{shown_atoms, shown_levels}
+use Rattle.tf_flow.specs.Listing.{shown_atoms, shown_levels}
 use Rattle.tf_order.proofs.CompilationLemmas.{looked_begin, looked_from}
 use Rattle.tf_order.proofs.compilation.look_at_flows.Goals as goal
 

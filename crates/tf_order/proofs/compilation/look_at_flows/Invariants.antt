@@ -1,4 +1,4 @@
-use Rattle.tf_order.specs.Places.{shown_atoms, shown_levels}
+use Rattle.tf_flow.specs.Listing.{shown_atoms, shown_levels}
 use Rattle.tf_order.specs.Tables.{AreLooked}
 use Rattle.tf_order.proofs.compilation.look_at_flows.Given as goal
 

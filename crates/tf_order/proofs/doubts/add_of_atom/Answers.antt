@@ -1,6 +1,6 @@
 use Rattle.std.proofs.Common.{◌≡◌, ◌∙◌, sym, ap, slice_index_or}
 use Rattle.tf_model.specs.Before.{way_at}
-use Rattle.tf_order.specs.declared.outline.AtomPlace.{AtomPlace}
+use Rattle.tf_flow.specs.declared.listing.AtomPlace.{AtomPlace}
 use Rattle.tf_order.specs.Sight.{atoms_seen}
 use Rattle.tf_order.proofs.SightLemmas.{way_seen}
 use Rattle.tf_order.proofs.DoubtLemmas.{atom_outside, atom_inside}

@@ -2,7 +2,7 @@ use Rattle.std.proofs.Common.{◌≡◌, ℕ, List}
 use Rattle.tf_model.specs.Linked.{provides_at}
 use Rattle.tf_numbers.specs.Numbers.{which_below}
 use Rattle.tf_order.specs.Index.{told}
-use Rattle.tf_order.specs.Places.{shown_atoms}
+use Rattle.tf_flow.specs.Listing.{shown_atoms}
 use Rattle.tf_order.proofs.index.providers.Given as goal
 
 abbrev pub invariant-loop-number : goal.invariant-loop-number

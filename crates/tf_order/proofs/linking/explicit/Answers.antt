@@ -1,8 +1,8 @@
 use Rattle.std.proofs.Common.{◌∙◌, ap, List, length, map}
 use Rattle.tf_numbers.specs.Numbers.{which_below}
-use Rattle.tf_order.specs.declared.outline.ItemPlace.{ItemPlace}
+use Rattle.tf_flow.specs.declared.listing.ItemPlace.{ItemPlace}
 use Rattle.tf_order.specs.Index.{is_named_at}
-use Rattle.tf_order.specs.Places.{shown_item}
+use Rattle.tf_flow.specs.Listing.{shown_item}
 use Rattle.tf_order.proofs.ExplicitLemmas.{explicit_more, explicit_all, named_below, NamesItems}
 use Rattle.tf_order.proofs.linking.explicit.Goals as goal
 

@@ -1,5 +1,5 @@
 use Rattle.std.proofs.Common.{◌∙◌, sym, ap, None}
-use Rattle.tf_order.specs.declared.outline.AtomPlace.{AtomPlace}
+use Rattle.tf_flow.specs.declared.listing.AtomPlace.{AtomPlace}
 use Rattle.tf_order.specs.Sight.{atoms_seen}
 use Rattle.tf_model.specs.Before.{way_at}
 use Rattle.tf_order.proofs.SightLemmas.{way_seen}

@@ -1,7 +1,7 @@
 use Rattle.std.proofs.Common.{◌≡◌, ◌∙◌, sym, ap, slice_index_or, arith}
 use Rattle.std.proofs.lemmas.Grind.{common_steps}
 use Rattle.tf_order.specs.Sight.{count_seen}
-use Rattle.tf_order.specs.declared.outline.AtomPlace.{AtomPlace}
+use Rattle.tf_flow.specs.declared.listing.AtomPlace.{AtomPlace}
 use Rattle.tf_order.proofs.SightLemmas.{marked_next, marked_all, provider_within, way_seen}
 use Rattle.tf_order.proofs.sight.providing_items.Goals as goal
 

@@ -1,7 +1,7 @@
 use Rattle.std.proofs.Common.{◌≡◌, ◌∙◌, ◌≤◌, Some, arith, slice_get}
 use Rattle.std.proofs.lemmas.Grind.{common_steps}
 use Rattle.std.proofs.lemmas.Option.{gets}
-use Rattle.tf_order.proofs.OutlineLemmas.{way_there}
+use Rattle.tf_order.proofs.WayLemmas.{way_there}
 use Rattle.tf_order.proofs.StretchLemmas.{along_seen, along_there}
 use Rattle.tf_order.proofs.stretches.goes_along.Goals as goal
 

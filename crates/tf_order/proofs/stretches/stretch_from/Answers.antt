@@ -1,7 +1,7 @@
 use Rattle.std.proofs.Common.{◌+◌, ◌∙◌, refl}
 use Rattle.tf_model.specs.Plan.{is_before}
 use Rattle.tf_order.specs.Tables.{plan_seen}
-use Rattle.tf_order.proofs.OutlineLemmas.{way_there}
+use Rattle.tf_order.proofs.WayLemmas.{way_there}
 use Rattle.tf_order.proofs.StretchLemmas.{stretch_alone, stretch_along, before_seen}
 use Rattle.tf_order.proofs.stretches.stretch_from.Goals as goal
 

@@ -4,7 +4,7 @@ use Rattle.tf_values.proofs.GrowthLemmas.{keeps_shorter}
 use Rattle.tf_model.specs.Plan.{outline_of, count}
 use Rattle.tf_report.specs.Report.{state_shown, payload_shown}
 use Rattle.tf_report.specs.Table.{atom_line, atom_lines_below}
-use Rattle.tf_report.proofs.LineLemmas.{atoms_counted}
+use Rattle.tf_model.proofs.PlanLemmas.{atoms_counted}
 use Rattle.tf_report.proofs.ReportLemmas.{lines_next, on_err_always}
 use Rattle.tf_report.proofs.tables.append_atoms.Goals as goal
 

@@ -3,7 +3,7 @@ use Rattle.tf_model.specs.Plan.{outline_of}
 use Rattle.tf_rules.specs.Deciders.{has_any}
 use Rattle.tf_rules.specs.Seen.{deciding}
 use Rattle.tf_rules.proofs.DepthLemmas.{any_here, any_none_left, deciding_told, never_refused}
-use Rattle.tf_rules.proofs.PlanLemmas.{name_told}
+use Rattle.tf_model.proofs.PlanLemmas.{name_told}
 use Rattle.tf_rules.proofs.deciders.has_decider.Goals as goal
 
 pub returns-then-decides_on-clause-is : goal.returns-then-decides_on-clause-is

@@ -2,7 +2,7 @@ use Rattle.std.proofs.Common.{◌∙◌}
 use Rattle.tf_model.specs.Plan.{outline_of}
 use Rattle.tf_rules.specs.Seen.{deciding}
 use Rattle.tf_rules.proofs.DepthLemmas.{deciding_told, refused_told}
-use Rattle.tf_rules.proofs.PlanLemmas.{name_told}
+use Rattle.tf_model.proofs.PlanLemmas.{name_told}
 use Rattle.tf_rules.proofs.deciders.widest.Goals as goal
 
 pub returns : goal.returns

@@ -3,7 +3,7 @@ use Rattle.tf_flow.specs.declared.ways.Turn.{Turn}
 use Rattle.tf_model.specs.Plan.{outline_of}
 use Rattle.tf_model.specs.Retries.{resolved}
 use Rattle.tf_rules.specs.Resolutions.{shown_resolution, shown_controller}
-use Rattle.tf_rules.proofs.PlanLemmas.{atoms_counted, way_told}
+use Rattle.tf_model.proofs.PlanLemmas.{atoms_counted, way_told}
 use Rattle.tf_rules.proofs.ResolutionLemmas.{walked_past, walked_more, walked_all}
 use Rattle.tf_rules.proofs.resolutions.resolve.Goals as goal
 use Rattle.tf_rules.proofs.resolutions.resolve.Goals.{in-Some, in_default}

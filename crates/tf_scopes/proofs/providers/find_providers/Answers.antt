@@ -5,7 +5,7 @@ use Rattle.tf_numbers.specs.Numbers.{numbers_below}
 use Rattle.tf_model.specs.Plan.{outline_of, count}
 use Rattle.tf_model.specs.Scope.{missing_of}
 use Rattle.tf_scopes.specs.Sources.{sources_of}
-use Rattle.tf_scopes.proofs.PlanLemmas.{atoms_counted}
+use Rattle.tf_model.proofs.PlanLemmas.{atoms_counted}
 use Rattle.tf_scopes.proofs.SourceLemmas.{missing_first}
 use Rattle.tf_scopes.proofs.TableLemmas.{row_more, none_more}
 use Rattle.tf_scopes.proofs.providers.find_providers.Goals as goal

@@ -5,7 +5,7 @@ use Rattle.tf_model.specs.Plan.{outline_of, count, arguments}
 use Rattle.tf_model.specs.Scope.{symbol_value}
 use Rattle.tf_scopes.specs.Sources.{source_of}
 use Rattle.tf_scopes.specs.declared.sources.Source.{Source}
-use Rattle.tf_scopes.proofs.PlanLemmas.{arguments_are}
+use Rattle.tf_model.proofs.PlanLemmas.{arguments_are}
 use Rattle.tf_scopes.proofs.TableLemmas.{arg_read, rows_counted, row_is, row_counted, source_is}
 use Rattle.tf_scopes.proofs.providers.Providers.value.Goals as goal
 

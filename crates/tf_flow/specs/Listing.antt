@@ -3,12 +3,12 @@ use Rattle.std.specs.Prelude.{ℕ, zero, suc, List, [], ◌∷◌, ◌++◌, map
 use Rattle.tf_flow.specs.Conditions.{connection_of}
 use Rattle.tf_flow.specs.declared.ways.Turn.{Turn}
 use Rattle.tf_flow.specs.Outline as model
-use Rattle.tf_order.specs.declared.outline.AtomPlace.{AtomPlace}
-use Rattle.tf_order.specs.declared.outline.ItemPlace.{ItemPlace}
-use Rattle.tf_order.specs.declared.outline.Level.{Level}
+use Rattle.tf_flow.specs.declared.listing.AtomPlace.{AtomPlace}
+use Rattle.tf_flow.specs.declared.listing.ItemPlace.{ItemPlace}
+use Rattle.tf_flow.specs.declared.listing.Level.{Level}
 use Rattle.tf_flow.specs.Ways.{shown_part}
-use Rattle.tf_order.specs.declared.outline.Standing.{Standing}
-use Rattle.tf_order.specs.declared.outline.Standing.TheVariants as standing
+use Rattle.tf_flow.specs.declared.listing.Standing.{Standing}
+use Rattle.tf_flow.specs.declared.listing.Standing.TheVariants as standing
 
 -- an atom with its way
 abbrev pub shown_atom : AtomPlace → model.Atom

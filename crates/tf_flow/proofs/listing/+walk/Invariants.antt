@@ -1,5 +1,5 @@
-use Rattle.tf_order.proofs.OutlineLemmas.{WalkedFlow}
-use Rattle.tf_order.proofs.outline.+walk.Given as goal
+use Rattle.tf_flow.proofs.ListingLemmas.{WalkedFlow}
+use Rattle.tf_flow.proofs.listing.+walk.Given as goal
 
 abbrev pub invariant-add_flow-loop-place : goal.invariant-add_flow-loop-place
 invariant-add_flow-loop-place l =

@@ -9,17 +9,13 @@ use Rattle.tf_flow.specs.Tree.{Tree, Trees, task, flow, no_trees, tree, tree_of,
 use Rattle.tf_flow.specs.Outline.{Atom, Item as PlacedItem, FlowPlace, atoms_of, atoms_among, retry_atoms, enter, flows_of, flows_among, flow_place, flow_count, flows_among_count, atom_count, atoms_among_count, retry_count, retry_number, item_of, items_of, innermost_first, innermost_among, name_of_atom}
 use Rattle.tf_flow.specs.declared.ways.Turn.{Turn}
 use Rattle.tf_flow.specs.Plan.{PlanValue, atoms, flows}
-use Rattle.tf_model.specs.Before.{way_at, way_in}
-use Rattle.tf_model.specs.Linked.{arranged}
-use Rattle.tf_model.specs.Laws.{name_of_flow}
 use Rattle.tf_numbers.specs.Numbers.{numbers_below}
-use Rattle.tf_model.proofs.OutlineLemmas.{same_flows}
-use Rattle.tf_flow.proofs.OutlineLemmas.{same_atoms}
-use Rattle.tf_order.specs.declared.outline.AtomPlace.{AtomPlace}
-use Rattle.tf_order.specs.declared.outline.ItemPlace.{ItemPlace}
-use Rattle.tf_order.specs.declared.outline.Level.{Level}
+use Rattle.tf_flow.proofs.OutlineLemmas.{same_atoms, place_name, flows_told}
+use Rattle.tf_flow.specs.declared.listing.AtomPlace.{AtomPlace}
+use Rattle.tf_flow.specs.declared.listing.ItemPlace.{ItemPlace}
+use Rattle.tf_flow.specs.declared.listing.Level.{Level}
 use Rattle.tf_numbers.proofs.EquationLemmas.{ap2}
-use Rattle.tf_order.specs.Places.{shown_atom, shown_atoms, shown_level, shown_levels, shown_item, level_number, under, with_items, with_items_at}
+use Rattle.tf_flow.specs.Listing.{shown_atom, shown_atoms, shown_level, shown_levels, shown_item, level_number, under, with_items, with_items_at}
 use Rattle.tf_numbers.proofs.ListLemmas.{nothing_after, map_append, length_both, append_chain, drop_first, drop_whole}
 
 -- ---- as many as are counted
@@ -276,15 +272,9 @@ pub as_many_atoms : (plan : PlanValue) (found : List AtomPlace) → shown_atoms 
 as_many_atoms plan found is =
     sym (length-map found shown_atom) ∙ (ap length is ∙ (sym (length-map (atoms_of 0 (tree_of plan.root)) name_of_atom) ∙ ap length (same_atoms plan)))
 
-arranged_all : (xs : List Atom) (ps : List FlowPlace) → length (arranged xs ps) ≡ length ps
-arranged_all xs [] = refl
-arranged_all xs (p ∷ ps) = omega (arith, arranged_all xs ps)
-
 pub as_many_flows : (plan : PlanValue) (found : List Level) → shown_levels found ≡ flows_of 0 0 (tree_of plan.root) → length found ≡ length (flows plan)
 as_many_flows plan found is =
-    let places = flows_of 0 0 (tree_of plan.root) in
-    let arranged_flows = arranged (atoms_of 0 (tree_of plan.root)) places in
-    sym (length-map found shown_level) ∙ (ap length is ∙ (sym (arranged_all (atoms_of 0 (tree_of plan.root)) places) ∙ (sym (length-map arranged_flows name_of_flow) ∙ ap length (same_flows plan))))
+    sym (length-map found shown_level) ∙ (ap length is ∙ (sym (length-map (flows_of 0 0 (tree_of plan.root)) place_name) ∙ ap length (flows_told (tree_of plan.root) 0 0)))
 
 pub few : (xs ys most : ℕ) (count : ℕ) → xs ≡ ys → count ≡ ys → count ≤ most → xs ≤ most
 few xs ys most count same counted below = omega (arith, same, counted, below)
@@ -396,7 +386,3 @@ level_there levels k level below is = told_there shown_level levels k level belo
 
 pub item_there : (items : List ItemPlace) (k : ℕ) (item : ItemPlace) → k < length items → item ≡ get_or items k item → slice_get (map shown_item items) k ≡ Some (shown_item item)
 item_there items k item below is = told_there shown_item items k item below is
-
--- the way of the atom of a number
-pub way_there : (found : List AtomPlace) (k : ℕ) (atom : AtomPlace) → k < length found → atom ≡ get_or found k atom → atom.way ≡ way_at (shown_atoms found) k
-way_there found k atom below is = ap way_in (sym (atom_there found k atom below is))

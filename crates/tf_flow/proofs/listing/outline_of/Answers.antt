@@ -1,7 +1,7 @@
 use Rattle.std.proofs.Common.{length}
 use Rattle.tf_flow.specs.Tree.{tree_of}
-use Rattle.tf_order.proofs.OutlineLemmas.{whole_atoms, whole_levels, as_many_atoms, as_many_flows, levels_numbered, few}
-use Rattle.tf_order.proofs.outline.outline_of.Goals as goal
+use Rattle.tf_flow.proofs.ListingLemmas.{whole_atoms, whole_levels, as_many_atoms, as_many_flows, levels_numbered, few}
+use Rattle.tf_flow.proofs.listing.outline_of.Goals as goal
 
 pub returns-clause-atoms : goal.returns-clause-atoms
 returns-clause-atoms c =

@@ -1,6 +1,6 @@
 use Rattle.std.proofs.Common.{◌≡◌, ◌∙◌, length, arith}
-use Rattle.tf_order.proofs.OutlineLemmas.{walk_next, walk_levels, walk_inner, all_read}
-use Rattle.tf_order.proofs.outline.+walk.Goals as goal
+use Rattle.tf_flow.proofs.ListingLemmas.{walk_next, walk_levels, walk_inner, all_read}
+use Rattle.tf_flow.proofs.listing.+walk.Goals as goal
 
 pub add_flow-loop-place-preserved : goal.add_flow-loop-place-preserved
 add_flow-loop-place-preserved t c =

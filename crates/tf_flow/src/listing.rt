@@ -2,10 +2,13 @@ ghost use Rattle.std.specs.Prelude.{◌≡◌, ℕ, ◌+◌, ◌<◌, ◌≤◌,
 ghost use Rattle.tf_flow.specs.Tree.{Tree, tree_of, item_tree};
 ghost use Rattle.tf_numbers.specs.Numbers.{numbers_below};
 ghost use Rattle.tf_flow.specs.Outline as model;
-ghost use Rattle.tf_order.specs.Places.{shown_atoms, shown_level, shown_levels, shown_item, under, with_items_at, level_number};
+ghost use Rattle.tf_flow.specs.Listing.{shown_atoms, shown_level, shown_levels, shown_item, under, with_items_at, level_number};
 
+use crate::atoms::Retry;
+use crate::nested::{Flow, Item};
+use crate::plans::Plan;
+use crate::ways::{Part, Turn, Way};
 use std::alloc::Global;
-use tf_flow::{Flow, Item, Part, Plan, Retry, Turn, Way};
 use tf_values::{Memory, Name};
 
 /// An atom and its way from the root.
