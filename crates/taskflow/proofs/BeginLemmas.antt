@@ -17,23 +17,14 @@ use Rattle.tf_book.specs.declared.faults.Halt.{Halt}
 use Rattle.tf_book.specs.declared.faults.Halt.TheVariants as halt
 use Rattle.tf_journal.proofs.AppendLemmas.{rest_leaves}
 use Rattle.taskflow.specs.Begun.{desk_in, MayBegin, IsFoundAs, IsFoundBlank, Begins, Unbegun, LeavesNoFlow, IsExactSoFar}
-use Rattle.taskflow.specs.Durable.{file_of, book_in, HoldsNoFlow, Holds, Finds, IsFresh}
-use Rattle.taskflow.specs.Way.{Way, IsSet, IsAsBefore, IsSame, Open}
+use Rattle.tf_journal.specs.Start.{file_of}
+use Rattle.taskflow.specs.Durable.{book_in, HoldsNoFlow, Holds, Finds, IsFresh}
+use Rattle.tf_journal.specs.Way.{Way, IsSet, IsAsBefore, IsSame, Open}
 use Rattle.taskflow.specs.declared.books.Blank.{Blank}
 use Rattle.taskflow.specs.declared.books.Blank.TheVariants as blank
-use Rattle.taskflow.proofs.PromiseLemmas.{as_read}
-use Rattle.taskflow.proofs.WayLemmas.{set_on, set_start, way_on}
-
--- a wider property
-pub way_widens : (name : List ℕ) (entry : Content) (left : Images) (now : Content) (now_left : Images) (crashes : Crashes) (may wider : List ℕ → List ℕ → Type 0) (held holds : List ℕ → Type 0)
-    → Way name entry left now now_left crashes may held → ((image text : List ℕ) → may image text → wider image text) → ((image : List ℕ) → held image → holds image)
-    → Way name entry left now now_left crashes wider holds
-way_widens name entry left now now_left crashes may wider held holds way may_so held_so = record {
-  others = way.others;
-  within = way.within;
-  crash = λ moment start image text leaves. may_so image text (way.crash moment start image text leaves);
-  still = λ moment start image leaves. held_so image (way.still moment start image leaves);
-}
+use Rattle.tf_journal.proofs.WayLemmas.{as_read}
+use Rattle.tf_journal.proofs.WayLemmas.{set_on, set_start, way_on}
+use Rattle.tf_journal.proofs.WayLemmas.{way_widens, left_then}
 
 -- no flow is the empty history of every plan
 no_flow_finds : (plan : PlanValue) (found : Recovered) → HoldsNoFlow found → Finds plan [] found
@@ -44,20 +35,6 @@ birth_finds plan shown image text l = (no_flow_finds plan (book_in image) l.0, l
 
 plan_finds : (plan : PlanValue) (shown : Option (List ℕ)) (image text : List ℕ) → LeavesPlan plan shown image text → MayBegin plan shown image text
 plan_finds plan shown image text l = (⊎_elim (λ none. no_flow_finds plan (book_in image) (inr none)) (λ is. inl is) l.0, l.1)
-
--- what is left after a call was left before it, or in it
-pub left_then : (before now : Content) (left_before left_now : Images) (was is : Crashes) (shown_before shown_now : Option (List ℕ)) (during : List ℕ → List ℕ → Type 0)
-    → Passes before.clock now.clock was is during → is_some shown_now ≡ true
-    → ((start : ℕ) (image text : List ℕ) → start ≤ now.clock → IsLeftNow now left_now shown_now image text → is start image text)
-    → ((image text : List ℕ) → was before.clock image text → IsLeftNow before left_before shown_before image text)
-    → (image : List ℕ) → IsLeft now.picked left_now image → IsLeft before.picked left_before image ⊎ ((text : List ℕ) × during image text)
-left_then before now left_before left_now was is shown_before shown_now during passes told counts only image leaves = by shown_now refl told
-  where
-    by : (shown : Option (List ℕ)) → shown_now ≡ shown → is_some shown ≡ true → IsLeft before.picked left_before image ⊎ ((text : List ℕ) × during image text)
-    by None same shows = absurd (cc)
-    by (Some text) same shows =
-        ⊎_elim (λ earlier. inl (only image text earlier).0) (λ inside. inr (text, inside))
-        (passes.since before.clock image text (omega arith) (counts before.clock image text passes.later (leaves, same)))
 
 -- what holds of an answer that is Ok, and of one that is Err
 pub ok_on : {A B : Type 0} (r : Result A B) (has gives : A → Type 0) → IfOk r has → ((a : A) → has a → gives a) → IfOk r gives

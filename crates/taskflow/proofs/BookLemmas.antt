@@ -17,56 +17,21 @@ use Rattle.tf_states.specs.declared.record.Entry.{Entry}
 use Rattle.tf_book.specs.Book.{BookValue}
 use Rattle.tf_book.specs.Loading.{CanRun}
 use Rattle.taskflow.specs.Books.{Hires, IsFile, RefusesOrStops, exhausted, Promised, Unhired, exhausted_hire, unhired, Runs, unopened, forbidden, unhired_run, ran, Resumes, unhired_again, resumed}
-use Rattle.taskflow.specs.Durable.{file_of, book_in, HoldsNoFlow, Holds}
+use Rattle.tf_journal.specs.Start.{file_of}
+use Rattle.taskflow.specs.Durable.{book_in, HoldsNoFlow, Holds}
 use Rattle.taskflow.specs.Messages.{state_forbids, cannot_hire}
 use Rattle.taskflow.specs.declared.running.Request.{Request}
 use Rattle.taskflow.specs.Runs.{Continues, nobody, went_on}
-use Rattle.taskflow.specs.Way.{Untouched, Open}
+use Rattle.tf_journal.specs.Way.{Untouched, Open}
 use Rattle.taskflow.specs.declared.statuses.TheConstants.{FORBIDDEN, UNHIRED}
 use Rattle.taskflow.proofs.AskedLemmas.{promised_more}
+use Rattle.tf_journal.proofs.UnbornLemmas.{unborn_found}
 
 -- the bytes of a file that is picked
 picked_reads : (name : List ℕ) (content : Content) → content.picked ≡ Some name → bytes_of content ≡ file_of content name
 picked_reads name content picked = ap (λ (o : Option (List ℕ)). unwrap_or (option_and_then content.files o) []) picked
 
 -- ---- what recovery takes as unborn is unborn
-
-with_born : (first : List ℕ) (found : Recovered) → found ≢ unborn → with_body first found ≢ unborn
-with_born first unborn born = λ is. born refl
-with_born first (bodies others) born = λ is. let same : bodies (first ∷ others) ≡ unborn = is in cc
-with_born first (not_a_book offset byte) born = λ is. let same : not_a_book offset byte ≡ unborn = is in cc
-
-then_born : (found : Found) (next : ℕ → Recovered) → ((place : ℕ) → next place ≢ unborn) → then_from found next ≢ unborn
-then_born closed next born = λ is. let same : bodies [] ≡ unborn = is in cc
-then_born (body first place) next born = with_born first (next place) (born place)
-then_born (bad offset byte) next born = λ is. let same : not_a_book offset byte ≡ unborn = is in cc
-
-records_born : (most : ℕ) (bytes : List ℕ) (place : ℕ) → records_from most bytes place ≢ unborn
-records_born zero bytes place = λ is. let same : bodies [] ≡ unborn = is in cc
-records_born (suc most) bytes place = then_born (record_at bytes place) (records_from most bytes) (records_born most bytes)
-
-titled_born : (fault : Option (ℕ × Option ℕ)) (found : Recovered) → found ≢ unborn → titled fault found ≢ unborn
-titled_born None found born = born
-titled_born (Some fault) found born = λ is. let same : not_a_book fault.0 fault.1 ≡ unborn = is in cc
-
-either_born : (test : Bool) (first second : Recovered) → first ≢ unborn → second ≢ unborn → (if test then first else second) ≢ unborn
-either_born true first second one other = one
-either_born false first second one other = other
-
-bad_born : (offset : ℕ) (byte : Option ℕ) → not_a_book offset byte ≢ unborn
-bad_born offset byte is = cc
-
-unborn_if : (test : Bool) (found : Recovered) → found ≢ unborn → (if test then unborn else found) ≡ unborn → test ≡ true
-unborn_if true found born is = refl
-unborn_if false found born is = absurd (born is)
-
-pub unborn_found : (title bytes : List ℕ) → recovered title bytes ≡ unborn → is_unborn title bytes ≡ true
-unborn_found title [] is = refl
-unborn_found title (gate ∷ rest) is =
-    unborn_if (is_unborn title (gate ∷ rest)) (recovered_born title (gate ∷ rest))
-    (either_born (gate == OPEN) (titled (title_fault title rest 1) (records_from (length (gate ∷ rest)) (gate ∷ rest) 17)) (not_a_book 0 (Some gate))
-    (titled_born (title_fault title rest 1) (records_from (length (gate ∷ rest)) (gate ∷ rest) 17) (records_born (length (gate ∷ rest)) (gate ∷ rest) 17)) (bad_born 0 (Some gate)))
-    is
 
 module _ {K : Type 0} (tells : K → Bool) (shown : K → Option (List ℕ)) (content : K → Content) (left : K → Images) (crashes : K → Crashes) (disk_faults out_faults : K → ℕ) where
   -- an equal desk is untouched too

@@ -28,7 +28,8 @@ use Rattle.taskflow.specs.Books.{Unopened, exhausted, disk_failed, no_book, Refu
 use Rattle.taskflow.specs.Causes.{Counts, HasCauses, HasCausesOr, HasNoFault, counts}
 use Rattle.taskflow.specs.Course as course
 use Rattle.taskflow.specs.Course.{BytesRead, FileRead, Tried, Tries, Checks, Course, Obeys, source_so, IsRefused, IsBoardRefused, passes_limit, gives_none, IsAccepted, IsBook, HoldsFlow, HoldsReverted, IsRunComplete, IsRunCompleteBy, IsDoneComplete, IsResetComplete, IsReady, IsComplete}
-use Rattle.taskflow.specs.Durable.{book_in, file_of, HoldsNoFlow, Holds}
+use Rattle.tf_journal.specs.Start.{file_of}
+use Rattle.taskflow.specs.Durable.{book_in, HoldsNoFlow, Holds}
 use Rattle.taskflow.specs.Resets.{IsResetSaid, all_back, disk_failed_back, filled_back}
 use Rattle.taskflow.specs.declared.running.Request.{Request}
 use Rattle.taskflow.specs.Run.{spoken, unspoken, heading_of, status_of, Ran, Shows, closed, line_cut, stopped, IsLastSaid, reported, disk_failed as disk_said, filled}

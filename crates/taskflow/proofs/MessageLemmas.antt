@@ -9,18 +9,10 @@ use Rattle.tf_model.specs.Laws as laws
 use Rattle.tf_numbers.specs.Numbers.{which_below}
 use Rattle.tf_model.specs.Plan.{Outline, outline_of, count, is_task}
 use Rattle.tf_model.proofs.OutlineLemmas.{same_flows}
-use Rattle.tf_machine.proofs.PlanLemmas as plan_lemmas
+use Rattle.tf_model.proofs.PlanLemmas.{atoms_counted}
 use Rattle.tf_report.specs.Lines.{flow_name, flow_word}
 use Rattle.tf_states.specs.declared.state.FlowState.{FlowState}
 use Rattle.taskflow.specs.Messages.{tasks_below, checked, byte_or_end, not_a_book, book_full, state_forbids}
-
--- ---- atoms
-
-pub atoms_counted : (plan : PlanValue) → length (numbering.atoms plan) ≡ count (outline_of plan)
-atoms_counted plan = plan_lemmas.atoms_counted plan
-
-pub part_told : (plan : PlanValue) (a : ℕ) (b : Bool) → slice_get (numbering.retries plan) a ≡ Some b → is_task (outline_of plan) a ≡ not b
-part_told plan a b is = plan_lemmas.task_told plan a b is
 
 -- ---- flows
 

@@ -15,18 +15,20 @@ use Rattle.tf_book.specs.Book.{BookValue, bodies_of}
 use Rattle.tf_book.specs.Kept.{IsExact}
 use Rattle.taskflow.specs.Begun.{MayBegin, Begins, Unbegun}
 use Rattle.taskflow.specs.Books.{Promised}
-use Rattle.taskflow.specs.Durable.{file_of, book_in, HoldsNoFlow, Holds, Finds, IsFresh, IsStart, MayLeave, Lasts}
+use Rattle.tf_journal.specs.Start.{file_of, IsStart}
+use Rattle.taskflow.specs.Durable.{book_in, HoldsNoFlow, Holds, Finds, IsFresh, MayLeave, Lasts}
 use Rattle.taskflow.specs.Messages.{disk_fault}
 use Rattle.taskflow.specs.declared.running.Request.{Request}
 use Rattle.taskflow.specs.Run.{Ran, RunShows, closed, stopped, disk_failed}
 use Rattle.taskflow.specs.Runs.{RunLasts, RunsOn}
 use Rattle.taskflow.specs.Saying.{Closes}
-use Rattle.taskflow.specs.Way.{Way, IsSet, IsAsBefore, IsSame, Open}
+use Rattle.tf_journal.specs.Way.{Way, IsSet, IsAsBefore, IsSame, Open}
 use Rattle.taskflow.specs.declared.statuses.TheConstants.{DISK_FAILED, OUT_OF_MEMORY}
 use Rattle.taskflow.proofs.AskedLemmas.{ran_more}
 use Rattle.taskflow.proofs.CauseLemmas.{flow_held}
 use Rattle.taskflow.proofs.RunLemmas.{unbegun}
-use Rattle.taskflow.proofs.WayLemmas.{set_on, set_start, way_on, way_said}
+use Rattle.tf_journal.proofs.WayLemmas.{set_on, set_start, way_on, way_said}
+use Rattle.tf_journal.proofs.WayLemmas.{as_read}
 
 none_more : (o : Option (List ℕ)) → shown_with o [] ≡ o
 none_more None = refl
@@ -42,14 +44,6 @@ found_leaves plan quiet before entries pending shown closing image text finds is
   finds = finds;
   spoken = inl (record { count = 0; front = sym is ∙ sym (none_more shown) });
 }
-
--- the file as it reads is among what a crash now leaves
-pub as_read : (name : List ℕ) (now : Content) (left : Images) → now.picked ≡ Some name → (now.picked ≡ Some name → now.files name ≡ Some (bytes_of now))
-    → ((bytes : List ℕ) → now.files name ≡ Some bytes → left name bytes) → IsLeft now.picked left (file_of now name) × (file_of now name ≡ bytes_of now)
-as_read name now left picked there reads =
-    let has : now.files name ≡ Some (bytes_of now) = there picked in
-    let same : file_of now name ≡ bytes_of now = ap (λ (o : Option (List ℕ)). unwrap_or o []) has in
-    (subst (λ (o : Option (List ℕ)). IsLeft o left (file_of now name)) (sym picked) (reads (file_of now name) (has ∙ ap Some (sym same))), same)
 
 -- a fresh file holds no flow
 fresh_holds : (file : List ℕ) → IsFresh file → HoldsNoFlow (book_in file)

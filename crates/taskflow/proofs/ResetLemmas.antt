@@ -26,7 +26,7 @@ use Rattle.taskflow.specs.Resets.{PutBack, IsResetSaid, all_back, disk_failed_ba
 use Rattle.taskflow.specs.Run.{Shows, closed}
 use Rattle.taskflow.specs.Runs.{HoldsBook, HasSaidHalt, IsPutBackTo, GoesBack}
 use Rattle.taskflow.specs.Saying.{Closes, said as was_said}
-use Rattle.taskflow.specs.Way.{Open}
+use Rattle.tf_journal.specs.Way.{Open}
 use Rattle.taskflow.specs.declared.statuses.TheConstants.{SUCCEEDED, FORBIDDEN}
 use Rattle.taskflow.proofs.HaltLemmas.{goes_stands, halt_lasts, halt_unsaid, halt_failed, halt_shows, said_lasts, sound_text}
 use Rattle.taskflow.proofs.PromiseLemmas.{opened_lasts}

@@ -16,7 +16,7 @@ use Rattle.tf_book.specs.Book.{BookValue, outline, state}
 use Rattle.tf_book.proofs.KeptLemmas.{keeps_none}
 use Rattle.taskflow.specs.declared.running.Request.{Request}
 use Rattle.taskflow.specs.Runs.{HoldsBook, IsRunTo, RunsOn, Continues, went_on}
-use Rattle.taskflow.specs.Way.{Open}
+use Rattle.tf_journal.specs.Way.{Open}
 use Rattle.taskflow.proofs.PromiseLemmas.{resumed_promised}
 
 -- a flow that has ended, in one of the three ways

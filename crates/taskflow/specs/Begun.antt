@@ -8,10 +8,11 @@ use Rattle.tf_journal.specs.Format.{Recovered, unborn, bodies, journal_bytes, ti
 use Rattle.tf_journal.specs.Rest.{IsAtRest}
 use Rattle.tf_journal.specs.declared.title.Title.TheVariants.{Book as book_title}
 use Rattle.tf_book.specs.Book.{BookValue, bodies_of}
-use Rattle.taskflow.specs.Durable.{file_of, book_in, HoldsNoFlow, Holds, Finds, IsFresh}
+use Rattle.tf_journal.specs.Start.{file_of}
+use Rattle.taskflow.specs.Durable.{book_in, HoldsNoFlow, Holds, Finds, IsFresh}
 use Rattle.taskflow.specs.Messages.{disk_fault}
 use Rattle.taskflow.specs.Saying.{Closes}
-use Rattle.taskflow.specs.Way.{Way, IsSet}
+use Rattle.tf_journal.specs.Way.{Way, IsSet}
 use Rattle.taskflow.specs.declared.statuses.TheConstants.{DISK_FAILED, OUT_OF_MEMORY}
 use Rattle.taskflow.specs.declared.books.Blank.{Blank}
 use Rattle.taskflow.specs.declared.books.Blank.TheVariants as blank

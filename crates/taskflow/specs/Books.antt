@@ -18,7 +18,8 @@ use Rattle.tf_book.specs.Loading.{IsNoBook, CanRun}
 use Rattle.tf_book.specs.Resetting.{may_reset}
 use Rattle.tf_book.specs.Showing.{history_text}
 use Rattle.taskflow.specs.Accepted.{demo_tree}
-use Rattle.taskflow.specs.Durable.{file_of, book_in, HoldsNoFlow, Holds, StaysAlone, Lasts}
+use Rattle.tf_journal.specs.Start.{file_of}
+use Rattle.taskflow.specs.Durable.{book_in, HoldsNoFlow, Holds, StaysAlone, Lasts}
 use Rattle.taskflow.specs.Messages.{disk_fault, not_a_book, no_flow, state_forbids, cannot_hire}
 use Rattle.taskflow.specs.Resets.{PutBack}
 use Rattle.taskflow.specs.Run.{unspoken, Ran}

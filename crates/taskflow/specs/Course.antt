@@ -30,7 +30,8 @@ use Rattle.tf_board.specs.Does.{Does, IsAllowed, IsBoardComplete}
 use Rattle.taskflow.specs.Accepted.{outline_in, GivesPlan, GivesNone}
 use Rattle.taskflow.specs.Asking.{source_of, asked_for, wanted_by}
 use Rattle.taskflow.specs.Books.{Hires, Runs, Demonstrates, Resumes, ShowsBook, ResetsBook}
-use Rattle.taskflow.specs.Durable.{file_of, book_in, HoldsNoFlow, Holds}
+use Rattle.tf_journal.specs.Start.{file_of}
+use Rattle.taskflow.specs.Durable.{book_in, HoldsNoFlow, Holds}
 use Rattle.taskflow.specs.Messages.{checked, usage, cannot_read, cannot_hire, refusal, refusal_text}
 use Rattle.taskflow.specs.Run.{spoken, Ran}
 use Rattle.taskflow.specs.Saying.{Closes, ClosesOrStops}

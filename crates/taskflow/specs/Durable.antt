@@ -1,20 +1,17 @@
 -- What is promised of a book's file, and of what a crash leaves of it. Histories have the newest entry first.
 use Rattle.std.specs.Prelude.{◌≡◌, ◌≢◌, ◌⊎◌, ℕ, ◌≤◌, Bool, List, [], ◌∷◌, ◌++◌, length, Option, Some, None, unwrap_or}
-use Rattle.tf_desk.specs.Content.{Mark, at_pick, at_sync, Content}
+use Rattle.tf_desk.specs.Content.{Content}
 use Rattle.tf_desk.specs.Counts.{Rises}
 use Rattle.tf_desk.specs.Crash.{Images, Crashes}
 use Rattle.tf_desk.specs.Shown.{shown_with, ShowsFront}
 use Rattle.tf_flow.specs.Plan.{PlanValue}
 use Rattle.tf_states.specs.declared.record.Entry.{Entry}
+use Rattle.tf_journal.specs.Start.{file_of, IsStart}
 use Rattle.tf_journal.specs.Format.{Recovered, unborn, bodies, recovered, journal_bytes, title_of}
 use Rattle.tf_journal.specs.declared.title.Title.TheVariants.{Book as book_title}
 use Rattle.tf_model.specs.Plan.{outline_of}
 use Rattle.tf_book.specs.Book.{bodies_of}
 use Rattle.tf_book.specs.Kept.{said}
-
--- the bytes of the file of a name; a name without a file counts as an empty file
-abbrev pub file_of : Content → List ℕ → List ℕ
-file_of content name = unwrap_or (content.files name) []
 
 -- what recovery makes of the bytes of a book's file
 abbrev pub book_in : List ℕ → Recovered
@@ -27,30 +24,6 @@ HoldsNoFlow found = (found ≡ unborn) ⊎ (found ≡ bodies [])
 -- it holds the plan and the history
 abbrev pub Holds : PlanValue → List Entry → Recovered → Type 0
 Holds plan past found = found ≡ bodies (bodies_of plan past)
-
--- ---- since when a crash counts
-
--- the moments of the first pick and of the first sync that answered Ok
-abbrev pub first_pick : List Mark → Option ℕ
-first_pick [] = None
-first_pick (at_pick name moment ∷ marks) = Some moment
-first_pick (at_sync moment ∷ marks) = first_pick marks
-
-abbrev pub first_sync : List Mark → Option ℕ
-first_sync [] = None
-first_sync (at_pick name moment ∷ marks) = first_sync marks
-first_sync (at_sync moment ∷ marks) = Some moment
-
--- a crash could leave nothing of the file but what it reads as
-abbrev pub IsFirm : Content → Images → List ℕ → Type 0
-IsFirm content left name = (image : List ℕ) → left name image → image ≡ file_of content name
-
--- the call's start: the moment of its first pick, where a crash could leave nothing of the file but what it reads as; else that of its
--- first sync
-pub record IsStart (entry : Content) (left : Images) (name : List ℕ) (now : Content) (moment : ℕ) : Type 0 where
-  pub more : List Mark
-  pub added : now.marks ≡ entry.marks ++ more
-  pub first : ((first_pick more ≡ Some moment) × IsFirm entry left name) ⊎ (first_sync more ≡ Some moment)
 
 -- ---- nothing was recorded
 

@@ -9,7 +9,6 @@ pub mod Durable
 pub mod Books
 pub mod Course
 pub mod Opened
-pub mod Way
 pub mod Runs
 pub mod Begun
 pub mod Working

@@ -23,7 +23,8 @@ use Rattle.tf_model.specs.Sessions.{has_ended}
 use Rattle.tf_ports.specs.Wanted.{wanted as number_of}
 use Rattle.tf_ports.specs.declared.crews.Want.{Want}
 use Rattle.taskflow.specs.Books.{Hires, Unhired, Promised}
-use Rattle.taskflow.specs.Durable.{file_of, book_in, Holds, IsPendingSo, MayLeave}
+use Rattle.tf_journal.specs.Start.{file_of}
+use Rattle.taskflow.specs.Durable.{book_in, Holds, IsPendingSo, MayLeave}
 use Rattle.taskflow.specs.Messages.{disk_fault, book_full}
 use Rattle.taskflow.specs.Resets.{PutBack}
 use Rattle.taskflow.specs.Run.{Ran}

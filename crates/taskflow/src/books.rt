@@ -14,11 +14,12 @@ ghost use Rattle.taskflow.specs.Begun.{desk_in, IsBlank, IsFoundBlank, IsExactSo
 ghost use Rattle.taskflow.specs.Books.{Promised, Refuses, RefusesOrStops, Unopened};
 ghost use Rattle.taskflow.specs.Causes.{HasSaid};
 ghost use Rattle.taskflow.specs.Course.{FilesStay};
-ghost use Rattle.taskflow.specs.Durable.{file_of, book_in};
+ghost use Rattle.tf_journal.specs.Start.{file_of};
+ghost use Rattle.taskflow.specs.Durable.{book_in};
 ghost use Rattle.taskflow.specs.Messages.{not_a_book, no_flow, cannot_hire};
 ghost use Rattle.taskflow.specs.declared.running.Request.{Request};
 ghost use Rattle.taskflow.specs.Saying.{ClosesOrStops};
-ghost use Rattle.taskflow.specs.Way.{Untouched, Open};
+ghost use Rattle.tf_journal.specs.Way.{Untouched, Open};
 
 use crate::closing::close;
 use crate::messages::{CANNOT_HIRE, DISK_FAULT, NO_FLOW, append_not_a_book};

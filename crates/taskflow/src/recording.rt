@@ -12,7 +12,7 @@ ghost use Rattle.taskflow.specs.Books.{Hires, RefusesOrStops, Unhired, Promised,
 ghost use Rattle.taskflow.specs.Causes.{HasCauses, HasSaid, counts};
 ghost use Rattle.taskflow.specs.Course.{FileRead, IsUntouched, HiresAtMost};
 ghost use Rattle.taskflow.specs.Messages.{state_forbids};
-ghost use Rattle.taskflow.specs.Way.{Untouched, Open};
+ghost use Rattle.tf_journal.specs.Way.{Untouched, Open};
 
 use crate::books::{Blank, begin, open, refuse_book, say_over, say_unbegun, say_unhired};
 use crate::messages::append_state_forbids;

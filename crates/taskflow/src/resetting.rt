@@ -5,7 +5,7 @@ ghost use Rattle.tf_book.specs.Book.{BookValue};
 ghost use Rattle.taskflow.specs.Books.{ResetsBook};
 ghost use Rattle.taskflow.specs.Causes.{HasCauses, counts};
 ghost use Rattle.taskflow.specs.Runs.{HoldsBook, IsPutBackTo, GoesBack};
-ghost use Rattle.taskflow.specs.Way.{Open};
+ghost use Rattle.tf_journal.specs.Way.{Open};
 
 use crate::books::{open, refuse_book, say_empty};
 use crate::recording::forbid;

@@ -9,7 +9,7 @@ ghost use Rattle.taskflow.specs.Books.{Resumes};
 ghost use Rattle.taskflow.specs.Causes.{HasCauses, counts};
 ghost use Rattle.taskflow.specs.Course.{HiresAtMost};
 ghost use Rattle.taskflow.specs.Runs.{HoldsBook, Continues};
-ghost use Rattle.taskflow.specs.Way.{Open};
+ghost use Rattle.tf_journal.specs.Way.{Open};
 
 use crate::books::{open, refuse_book, say_empty, say_unhired};
 use crate::running::{Over, Request, report_end, run_book};

@@ -5,7 +5,7 @@ ghost use Rattle.tf_book.specs.Book.{outline};
 ghost use Rattle.tf_book.specs.Showing.{history_text};
 ghost use Rattle.taskflow.specs.Books.{RefusesOrStops, ShowsBook};
 ghost use Rattle.taskflow.specs.Causes.{HasCauses, HasSaid, counts};
-ghost use Rattle.taskflow.specs.Way.{Untouched};
+ghost use Rattle.tf_journal.specs.Way.{Untouched};
 
 use crate::books::{open, refuse_book, say_empty, say_over};
 use crate::running::Over;

@@ -1,5 +1,6 @@
 use Rattle.tf_book.specs.Loaded.{desk_loaded}
-use Rattle.taskflow.proofs.OpenLemmas.{unpicked, opened, opened_so, unopened_so}
+use Rattle.taskflow.proofs.OpenLemmas.{opened_so, unopened_so}
+use Rattle.tf_journal.proofs.OpenLemmas.{unpicked, opened}
 use Rattle.taskflow.proofs.books.open.Goals as goal
 
 pub returns-in-Ok-clause-opened : goal.returns-in-Ok-clause-opened

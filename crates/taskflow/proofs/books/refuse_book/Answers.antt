@@ -2,7 +2,8 @@ use Rattle.std.proofs.Common.{refl, subst, ⊎_elim}
 use Rattle.tf_journal.specs.declared.faults.LoadFault.{LoadFault}
 use Rattle.tf_book.specs.Loading.{RefusesBook}
 use Rattle.taskflow.specs.Books.{exhausted, disk_failed, no_book}
-use Rattle.taskflow.specs.Durable.{file_of, book_in}
+use Rattle.tf_journal.specs.Start.{file_of}
+use Rattle.taskflow.specs.Durable.{book_in}
 use Rattle.taskflow.proofs.WayLemmas.{stops_untouched, refuses_untouched}
 use Rattle.taskflow.proofs.books.refuse_book.Goals.{in-Disk, in-Memory}
 use Rattle.taskflow.proofs.books.refuse_book.Goals as goal

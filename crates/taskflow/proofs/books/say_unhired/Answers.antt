@@ -1,5 +1,6 @@
 use Rattle.std.proofs.Common.{inr, []}
-use Rattle.taskflow.proofs.OpenLemmas.{untouched_now, refuses_stays}
+use Rattle.taskflow.proofs.OpenLemmas.{refuses_stays}
+use Rattle.tf_journal.proofs.OpenLemmas.{untouched_now}
 use Rattle.taskflow.proofs.books.say_unhired.Goals as goal
 
 pub returns-in-Failed-clause-refuses : goal.returns-in-Failed-clause-refuses

@@ -1,5 +1,5 @@
 use Rattle.std.proofs.Common.{refl, inl, sym, subst}
-use Rattle.taskflow.specs.Way.{Untouched}
+use Rattle.tf_journal.specs.Way.{Untouched}
 use Rattle.taskflow.proofs.WayLemmas.{stops_untouched}
 use Rattle.taskflow.proofs.recording.forbid.Goals as goal
 

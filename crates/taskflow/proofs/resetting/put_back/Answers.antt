@@ -3,7 +3,7 @@ use Rattle.tf_book.specs.Book.{BookValue, outline, moment}
 use Rattle.tf_book.specs.Resetting.{may_reset}
 use Rattle.tf_book.specs.declared.faults.Halt.TheVariants as halt
 use Rattle.tf_book.proofs.KeptLemmas.{keeps_none}
-use Rattle.taskflow.specs.Way.{Untouched}
+use Rattle.tf_journal.specs.Way.{Untouched}
 use Rattle.taskflow.specs.declared.statuses.TheConstants.{SUCCEEDED}
 use Rattle.taskflow.proofs.CountLemmas.{ran_causes, said_causes, forbids_hired}
 use Rattle.taskflow.proofs.ResetLemmas.{is_so, halts_so, all_goes_back, resets_over, forbidden_back}

@@ -3,8 +3,9 @@ use Rattle.std.specs.Prelude.{IsTrue}
 use Rattle.tf_book.specs.Loaded.{desk_of, IsLoaded}
 use Rattle.tf_book.specs.declared.book.loading.Loaded.{Loaded}
 use Rattle.taskflow.specs.Books.{unopened_show}
-use Rattle.taskflow.specs.Durable.{file_of, book_in}
-use Rattle.taskflow.specs.Way.{Open}
+use Rattle.tf_journal.specs.Start.{file_of}
+use Rattle.taskflow.specs.Durable.{book_in}
+use Rattle.tf_journal.specs.Way.{Open}
 use Rattle.taskflow.proofs.OpenLemmas.{shown_causes, shows_whole, whole_apart, unopened_apart}
 use Rattle.taskflow.proofs.showing.show_book.Goals as goal
 
