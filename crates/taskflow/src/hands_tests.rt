@@ -121,8 +121,13 @@ fn fresh_desk(alloc: Global) -> Result<MemoryDesk, Fail> {
     Ok(desk)
 }
 
-const UNORDERED: &[u8] =
-    b"name = \"main\"\nkind = \"unordered\"\nitems = [{ task = \"a\", kind = \"echo\", inject = { value = 1 } }, { task = \"b\", kind = \"echo\", inject = { value = 2 } }]\n";
+const UNORDERED: &[u8] = br#"name = "main"
+kind = "unordered"
+items = [
+    { task = "a", kind = "echo", inject = { value = 1 } },
+    { task = "b", kind = "echo", inject = { value = 2 } },
+]
+"#;
 
 #[test]
 fn two_hands_are_at_work_at_once(rt: HostRuntime) -> Result<(), Fail> {
@@ -155,7 +160,14 @@ struct Session {
 
 const SESSIONS: [Session; 3] = [
     Session {
-        file: b"name = \"main\"\nkind = \"linear\"\nitems = [{ task = \"a\", kind = \"echo\", inject = { value = 1 } }, { task = \"b\", kind = \"echo\", inject = { value = 2 } }, { task = \"c\", kind = \"echo\", inject = { value = 3 } }]\n",
+        file: br#"name = "main"
+kind = "linear"
+items = [
+    { task = "a", kind = "echo", inject = { value = 1 } },
+    { task = "b", kind = "echo", inject = { value = 2 } },
+    { task = "c", kind = "echo", inject = { value = 3 } },
+]
+"#,
         commands: &[
             (
                 &["run", "flow.toml", "B", "--stop-after", "5", "--hands", "2"],
@@ -166,7 +178,30 @@ const SESSIONS: [Session; 3] = [
         ends: "end main SUCCESS\n",
     },
     Session {
-        file: b"name = \"deploy\"\nkind = \"linear\"\nstore = { release = \"1.4\" }\nitems = [{ task = \"bundle\", kind = \"concat\", requires = [\"release\"], inject = { tail = \"-web\" }, provides = \"package\" }, { flow = \"hosts\", kind = \"unordered\", items = [{ flow = \"web1\", kind = \"linear\", retry = { name = \"again1\", kind = \"times\", attempts = 2, provides = \"turn\" }, items = [{ task = \"copy1\", kind = \"command\", run = [\"echo\", \"copy\"], requires = [\"package\"], revert = [\"echo\", \"remove\"] }, { task = \"probe1\", kind = \"fail_below\", requires = [\"turn\"], inject = { least = 2 } }] }, { flow = \"web2\", kind = \"linear\", retry = { name = \"again2\", kind = \"for_each\", values = [\"fast\", \"safe\"], provides = \"mode\" }, items = [{ task = \"copy2\", kind = \"command\", run = [\"echo\", \"copy\"], requires = [\"package\", \"mode\"] }] }] }, { flow = \"finish\", kind = \"graph\", items = [{ task = \"size\", kind = \"length\", requires = [\"package\"], provides = \"bytes\" }, { task = \"warn\", kind = \"echo\", requires = [\"bytes\"] }, { task = \"report\", kind = \"concat\", inject = { text = \"done\" } }], links = [{ from = \"size\", to = \"warn\", decider = { result = \"size\", above = 100 }, depth = \"ATOM\" }, { from = \"warn\", to = \"report\" }] }]\n",
+        file: br#"name = "deploy"
+kind = "linear"
+store = { release = "1.4" }
+items = [
+    { task = "bundle", kind = "concat", requires = ["release"], inject = { tail = "-web" }, provides = "package" },
+    { flow = "hosts", kind = "unordered", items = [
+        { flow = "web1", kind = "linear", items = [
+            { task = "copy1", kind = "command", run = ["echo", "copy"], requires = ["package"], revert = ["echo", "remove"] },
+            { task = "probe1", kind = "fail_below", requires = ["turn"], inject = { least = 2 } },
+        ], retry = { name = "again1", kind = "times", attempts = 2, provides = "turn" } },
+        { flow = "web2", kind = "linear", items = [
+            { task = "copy2", kind = "command", run = ["echo", "copy"], requires = ["package", "mode"] },
+        ], retry = { name = "again2", kind = "for_each", values = ["fast", "safe"], provides = "mode" } },
+    ] },
+    { flow = "finish", kind = "graph", items = [
+        { task = "size", kind = "length", requires = ["package"], provides = "bytes" },
+        { task = "warn", kind = "echo", requires = ["bytes"] },
+        { task = "report", kind = "concat", inject = { text = "done" } },
+    ], links = [
+        { from = "size", to = "warn", decider = { result = "size", above = 100 }, depth = "ATOM" },
+        { from = "warn", to = "report" },
+    ] },
+]
+"#,
         commands: &[(&["run", "flow.toml", "B", "--hands", "2"], 0)],
         ends: "end deploy SUCCESS\n",
     },
@@ -176,7 +211,9 @@ const SESSIONS: [Session; 3] = [
             (&["demo", "1", "2", "B", "--hands", "2"], 0),
             (&["run", "flow.toml", "B", "--hands", "2"], 14),
         ],
-        ends: "end demo SUCCESS\ntaskflow: state forbids: demo SUCCESS\n",
+        ends: "end demo SUCCESS
+taskflow: state forbids: demo SUCCESS
+",
     },
 ];
 

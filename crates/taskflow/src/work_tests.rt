@@ -105,23 +105,39 @@ fn worker<R: Threads + Wait + Sync>(
     Ok((outside.desk.shown() == says, status))
 }
 
+/// What is said of three sessions: one that is closed after its answer, one with an empty frame, and one whose link ends
+/// within a frame.
+const ENDED_BAD_LOST: &[u8] = b"session 1 ended
+session 2 bad 0
+session 3 lost
+";
+
 #[test]
 fn a_worker_says_how_its_sessions_ended(rt: HostRuntime) -> Result<(), Fail> {
     let alloc = rt.alloc();
     let ended = worker(&rt, alloc, &[REQUEST], "1", 0, b"session 1 ended\n")?;
     assert_eq!(rt; ended, (true, 0));
-    let says = b"session 1 ended\nsession 2 bad 0\nsession 3 lost\n";
     let links = [&REQUEST[..10], b"\x00\x00\x00\x00".as_slice(), REQUEST];
-    assert_eq!(rt; worker(&rt, alloc, &links, "3", 0, says)?, (true, 0));
+    assert_eq!(rt;
+        worker(&rt, alloc, &links, "3", 0, ENDED_BAD_LOST)?,
+        (true, 0)
+    );
     Ok(())
 }
+
+/// What is said of one session where no link comes after it.
+const ENDED_AND_NO_MORE: &[u8] = b"session 1 ended
+taskflow: cannot listen
+";
 
 #[test]
 fn a_worker_without_a_link_says_so(rt: HostRuntime) -> Result<(), Fail> {
     let alloc = rt.alloc();
     let unopened = worker(&rt, alloc, &[REQUEST], "1", 1, b"taskflow: cannot listen\n")?;
     assert_eq!(rt; unopened, (true, 8));
-    let says = b"session 1 ended\ntaskflow: cannot listen\n";
-    assert_eq!(rt; worker(&rt, alloc, &[REQUEST], "2", 0, says)?, (true, 8));
+    assert_eq!(rt;
+        worker(&rt, alloc, &[REQUEST], "2", 0, ENDED_AND_NO_MORE)?,
+        (true, 8)
+    );
     Ok(())
 }

@@ -31,7 +31,9 @@ const SESSION: [Step; 14] = [
     },
     Step {
         words: &["board", "list", "B"],
-        says: "HIGH 2 baf06c29-01b3-5083-a254-f0297b72a100 test UNCLAIMED -\nNORMAL 1 584cd1e7-aed6-500d-8055-e04f2efc0be6 build UNCLAIMED -\n",
+        says: "HIGH 2 baf06c29-01b3-5083-a254-f0297b72a100 test UNCLAIMED -
+NORMAL 1 584cd1e7-aed6-500d-8055-e04f2efc0be6 build UNCLAIMED -
+",
         status: 0,
     },
     Step {

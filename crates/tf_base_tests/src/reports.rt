@@ -179,19 +179,26 @@ fn reported(alloc: Global, state: FlowState) -> Result<Vec<u8>, Fail> {
     Ok(out)
 }
 
+/// The report of a flow `main` that failed, of whose atoms the reversion of `a` alone did.
+const UNREVERTED: &[u8] = br#"end main FAILURE
+unreverted a raised "revert"
+"#;
+
 #[test]
 fn a_failure_names_the_reversions_that_failed(rt: HostRuntime) -> Result<(), Fail> {
     let alloc = rt.alloc();
     let failure = reported(alloc, FlowState::Failure)?;
-    assert!(rt;
-        failure.as_slice() == b"end main FAILURE\nunreverted a raised \"revert\"\n".as_slice()
-    );
+    assert!(rt; failure.as_slice() == UNREVERTED);
     let success = reported(alloc, FlowState::Success)?;
     assert!(rt; success.as_slice() == b"end main SUCCESS\n".as_slice());
     Ok(())
 }
 
 /// The table of a linear flow `main` of a task `a` that gave 1.
+const TABLE: &[u8] = b"state main SUCCESS
+atom a SUCCESS 1
+";
+
 #[test]
 fn a_table_has_the_flow_and_its_atom(rt: HostRuntime) -> Result<(), Fail> {
     let alloc = rt.alloc();
@@ -212,7 +219,7 @@ fn a_table_has_the_flow_and_its_atom(rt: HostRuntime) -> Result<(), Fail> {
         &views,
         &mut out,
     )?;
-    assert!(rt; out.as_slice() == b"state main SUCCESS\natom a SUCCESS 1\n".as_slice());
+    assert!(rt; out.as_slice() == TABLE);
     Ok(())
 }
 
@@ -234,6 +241,10 @@ fn job(
 }
 
 /// Two jobs of which nobody has the first, and `ann` the second.
+const TWO_JOBS: &[u8] = b"HIGH 2 baf06c29-01b3-5083-a254-f0297b72a100 test UNCLAIMED -
+NORMAL 1 584cd1e7-aed6-500d-8055-e04f2efc0be6 build CLAIMED ann
+";
+
 #[test]
 fn each_job_has_its_line(rt: HostRuntime) -> Result<(), Fail> {
     let alloc = rt.alloc();
@@ -256,9 +267,6 @@ fn each_job_has_its_line(rt: HostRuntime) -> Result<(), Fail> {
     let list = vec![in alloc; first, second]?;
     let mut out = Vec::new(alloc);
     jobs(&list, &mut out)?;
-    assert!(rt;
-        out.as_slice()
-            == b"HIGH 2 baf06c29-01b3-5083-a254-f0297b72a100 test UNCLAIMED -\nNORMAL 1 584cd1e7-aed6-500d-8055-e04f2efc0be6 build CLAIMED ann\n".as_slice()
-    );
+    assert!(rt; out.as_slice() == TWO_JOBS);
     Ok(())
 }
