@@ -19,4 +19,5 @@ pub mod MachineLemmas
 pub mod LeftLemmas
 pub mod Rows
 mod WorkLemmas
+mod StretchLemmas
 mod ExtentLemmas
