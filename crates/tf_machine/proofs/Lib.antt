@@ -20,4 +20,5 @@ pub mod LeftLemmas
 pub mod Rows
 mod WorkLemmas
 mod StretchLemmas
+mod SpanLemmas
 mod ExtentLemmas

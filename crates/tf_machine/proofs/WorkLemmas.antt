@@ -10,12 +10,12 @@ use Rattle.tf_links.specs.Bits.{has, room, words_for}
 use Rattle.tf_links.proofs.BitLemmas.{past_none}
 use Rattle.std.proofs.lemmas.Bool.{cases_lt}
 use Rattle.tf_states.specs.declared.state.AtomState.{AtomState}
-use Rattle.tf_model.specs.Plan.{Outline, count, is_before, is_retry, is_task, own_flow}
+use Rattle.tf_model.specs.Plan.{Outline, count, holds, is_before, is_retry, is_task, own_flow}
 use Rattle.tf_model.specs.Snapshot.{Snapshot, Resolve, is_at_work}
 use Rattle.tf_model.specs.States.{is_pending, is_running, is_success, is_failure, is_reverting, is_retrying, is_revert_failure, is_settled, is_done, is_executed}
 use Rattle.tf_model.specs.Readiness.{is_unmarked, can_run, can_revert, lets_run, lets_revert}
 use Rattle.tf_model.specs.Deciders.{refused}
-use Rattle.tf_model.specs.Forced.{is_unhurt, is_unhurt_at, is_marked_again, is_of_its_flow, is_settled_beside, is_to_begin_again, is_refused}
+use Rattle.tf_model.specs.Forced.{is_unhurt, is_unhurt_at, is_marked_again, is_to_begin_again, is_refused, holds_with}
 use Rattle.tf_model.specs.Candidates.{is_interrupted, is_candidate}
 use Rattle.tf_model.specs.Steps.{is_not_with, is_idle}
 use Rattle.tf_order.specs.Graph.{predecessors_of, successors_of}
@@ -24,10 +24,12 @@ use Rattle.tf_machine.specs.Cases.{applies, case_of, IsCaseAt, is_asked_again}
 use Rattle.tf_machine.specs.declared.cases.Case.{Case}
 use Rattle.tf_machine.specs.declared.cases.Case.TheVariants as case
 use Rattle.tf_machine.specs.declared.worklists.Worklist.{Worklist}
-use Rattle.tf_machine.specs.declared.worklists.Extent.TheVariants as extent
+use Rattle.tf_machine.specs.declared.compiled.Span.{Span}
+use Rattle.tf_machine.specs.Compiled.{IsSpanAround}
+use Rattle.tf_facts.proofs.LayoutLemmas.{before_below, before_below_first}
 use Rattle.tf_machine.specs.declared.worklists.Reach.{Reach}
 use Rattle.tf_machine.specs.declared.worklists.Reach.TheVariants as reach
-use Rattle.tf_machine.specs.Worklists.{ListedAt, HasRoom, IsListed, SameAt, IsAsBefore, AreMoved, AreReached, is_reached, counts_in}
+use Rattle.tf_machine.specs.Worklists.{ListedAt, HasRoom, IsListed, SameAt, IsAsBefore, IsMovedAt, IsListedWithin, AreReached, is_reached, counts_in}
 use Rattle.tf_machine.specs.declared.counters.Counters.{Counters}
 use Rattle.tf_machine.specs.Counts.{waiting_of, holding_of, AreCounted}
 use Rattle.tf_machine.specs.Stretches.{IsZeroless}
@@ -90,11 +92,11 @@ no_case_told plan s a none case.Run = none 7 (omega arith)
 -- ---- what can't be reached stays
 
 -- a is before b and done with only where b may come to run
-runs_still : (plan : Outline) (s t : Snapshot) (a b : ℕ) → ((c : ℕ) → nat_eq a c ≡ false → IsAsBefore s t c) → nat_eq a b ≡ false → is_done (t.state a) && is_before plan a b ≡ false → can_run plan t b ≡ true → can_run plan s b ≡ true
+runs_still : (plan : Outline) (s t : Snapshot) (a b : ℕ) → ((c : ℕ) → nat_eq a c ≡ false → t.state c ≡ s.state c) → IsAsBefore s t b → is_done (t.state a) && is_before plan a b ≡ false → can_run plan t b ≡ true → can_run plan s b ≡ true
 unfolding can_run
-runs_still plan s t a b moved other far is =
+runs_still plan s t a b states before far is =
     true_both (is_pending (s.state b) && is_unmarked s b) _
-    (sym (ap (λ (x : AtomState). is_pending x && is_unmarked t b) (moved b other).state ∙ ap (λ (m : Option Resolve). is_pending (s.state b) && is_none m) (moved b other).mark)
+    (sym (ap (λ (x : AtomState). is_pending x && is_unmarked t b) before.state ∙ ap (λ (m : Option Resolve). is_pending (s.state b) && is_none m) before.mark)
     ∙ told)
     (all_of (count plan) (lets_run plan s b) (λ c below. by c below (nat_eq a c) refl))
   where
@@ -111,13 +113,13 @@ runs_still plan s t a b moved other far is =
 
     by : (c : ℕ) → c < count plan → (x : Bool) → nat_eq a c ≡ x → lets_run plan s b c ≡ true
     by c below true same = there c (eqb-true a c same) below (is_before plan c b) refl
-    by c below false apart = ap (λ (x : AtomState). not (is_before plan c b) || is_done x) (sym (moved c apart).state) ∙ let_all c below
+    by c below false apart = ap (λ (x : AtomState). not (is_before plan c b) || is_done x) (sym (states c apart)) ∙ let_all c below
 
-reverts_still : (plan : Outline) (s t : Snapshot) (a b : ℕ) → ((c : ℕ) → nat_eq a c ≡ false → IsAsBefore s t c) → nat_eq a b ≡ false → is_settled (t.state a) && is_before plan b a ≡ false → can_revert plan t b ≡ true → can_revert plan s b ≡ true
+reverts_still : (plan : Outline) (s t : Snapshot) (a b : ℕ) → ((c : ℕ) → nat_eq a c ≡ false → t.state c ≡ s.state c) → IsAsBefore s t b → is_settled (t.state a) && is_before plan b a ≡ false → can_revert plan t b ≡ true → can_revert plan s b ≡ true
 unfolding can_revert
-reverts_still plan s t a b moved other far is =
+reverts_still plan s t a b states before far is =
     true_both (is_executed (s.state b) && not (is_unmarked s b)) _
-    (sym (ap (λ (x : AtomState). is_executed x && not (is_unmarked t b)) (moved b other).state ∙ ap (λ (m : Option Resolve). is_executed (s.state b) && not (is_none m)) (moved b other).mark)
+    (sym (ap (λ (x : AtomState). is_executed x && not (is_unmarked t b)) before.state ∙ ap (λ (m : Option Resolve). is_executed (s.state b) && not (is_none m)) before.mark)
     ∙ told)
     (all_of (count plan) (lets_revert plan s b) (λ c below. by c below (nat_eq a c) refl))
   where
@@ -134,7 +136,7 @@ reverts_still plan s t a b moved other far is =
 
     by : (c : ℕ) → c < count plan → (x : Bool) → nat_eq a c ≡ x → lets_revert plan s b c ≡ true
     by c below true same = there c (eqb-true a c same) below (is_before plan b c) refl
-    by c below false apart = ap (λ (x : AtomState). not (is_before plan b c) || is_settled x) (sym (moved c apart).state) ∙ let_all c below
+    by c below false apart = ap (λ (x : AtomState). not (is_before plan b c) || is_settled x) (sym (states c apart)) ∙ let_all c below
 
 -- an atom whose state, mark and hand stay is listed still, where it can do no more than before
 stays_listed : (plan : Outline) (s t : Snapshot) (old new : Worklist) (b : ℕ) → IsAsBefore s t b
@@ -191,19 +193,19 @@ stays_listed plan s t old new b before runs reverts same listed = record {
 -- ---- after the state or the hand of one atom changed
 
 -- b is listed, since it was and can do no more, or since it was listed anew
-around_at : (plan : Outline) (s t : Snapshot) (old new : Worklist) (a b : ℕ) → AreMoved s (extent.Around a) t → nat_eq a b ≡ false → ListedAt plan s old b
+around_at : (plan : Outline) (s t : Snapshot) (old new : Worklist) (a b : ℕ) → ((c : ℕ) → nat_eq a c ≡ false → t.state c ≡ s.state c) → IsAsBefore s t b → ListedAt plan s old b
     → SameAt old new b ⊎ ListedAt plan t new b
     → (is_done (t.state a) ≡ true → has_number (successors_of plan a) b ≡ true → can_run plan t b ≡ true → ListedAt plan t new b)
     → (is_settled (t.state a) ≡ true → has_number (predecessors_of plan a) b ≡ true → can_revert plan t b ≡ true → ListedAt plan t new b)
     → ListedAt plan t new b
-around_at plan s t old new a b moved other was (inr listed) runs reverts = listed
-around_at plan s t old new a b moved other was (inl same) runs reverts = by_run (is_done (t.state a) && (is_before plan a b && can_run plan t b)) refl
+around_at plan s t old new a b states before was (inr listed) runs reverts = listed
+around_at plan s t old new a b states before was (inl same) runs reverts = by_run (is_done (t.state a) && (is_before plan a b && can_run plan t b)) refl
   where
     by_revert : (can_run plan t b ≡ true → can_run plan s b ≡ true) → (x : Bool) → is_settled (t.state a) && (is_before plan b a && can_revert plan t b) ≡ x → ListedAt plan t new b
     by_revert still true is =
         let rest = and_second (is_settled (t.state a)) _ is in
         reverts (and_first (is_settled (t.state a)) _ is) (predecessor_told plan b a ∙ and_first (is_before plan b a) _ rest) (and_second (is_before plan b a) _ rest)
-    by_revert still false is = stays_listed plan s t old new b (moved b other) still (λ able. reverts_still plan s t a b moved other (far able) able) same was
+    by_revert still false is = stays_listed plan s t old new b before still (λ able. reverts_still plan s t a b states before (far able) able) same was
       where
         far : can_revert plan t b ≡ true → is_settled (t.state a) && is_before plan b a ≡ false
         far able = never_true (is_settled (t.state a) && is_before plan b a) (λ near.
@@ -214,7 +216,7 @@ around_at plan s t old new a b moved other was (inl same) runs reverts = by_run 
     by_run true is =
         let rest = and_second (is_done (t.state a)) _ is in
         runs (and_first (is_done (t.state a)) _ is) (successor_told plan a b ∙ and_first (is_before plan a b) _ rest) (and_second (is_before plan a b) _ rest)
-    by_run false is = by_revert (λ able. runs_still plan s t a b moved other (far able) able) (is_settled (t.state a) && (is_before plan b a && can_revert plan t b)) refl
+    by_run false is = by_revert (λ able. runs_still plan s t a b states before (far able) able) (is_settled (t.state a) && (is_before plan b a && can_revert plan t b)) refl
       where
         far : can_run plan t b ≡ true → is_done (t.state a) && is_before plan a b ≡ false
         far able = never_true (is_done (t.state a) && is_before plan a b) (λ near.
@@ -222,29 +224,29 @@ around_at plan s t old new a b moved other was (inl same) runs reverts = by_run 
             (true_both (is_done (t.state a)) _ (and_first (is_done (t.state a)) _ near) (true_both (is_before plan a b) _ (and_second (is_done (t.state a)) _ near) able)) is)
 
 -- nobody is REVERT_FAILURE then, where nobody was and the atom isn't
-unhurt_still : (plan : Outline) (s t : Snapshot) (a : ℕ) (old new : Bool) → AreMoved s (extent.Around a) t → new ≡ old || is_revert_failure (t.state a) → (old ≡ false → is_unhurt plan s ≡ true) → new ≡ false → is_unhurt plan t ≡ true
-unhurt_still plan s t a old new moved is was not_hurt = all_of (count plan) (is_unhurt_at t) (λ b below. by b below (nat_eq a b) refl)
+unhurt_still : (plan : Outline) (s t : Snapshot) (a : ℕ) (old new : Bool) → ((c : ℕ) → nat_eq a c ≡ false → t.state c ≡ s.state c) → new ≡ old || is_revert_failure (t.state a) → (old ≡ false → is_unhurt plan s ≡ true) → new ≡ false → is_unhurt plan t ≡ true
+unhurt_still plan s t a old new states is was not_hurt = all_of (count plan) (is_unhurt_at t) (λ b below. by b below (nat_eq a b) refl)
   where
     none : old || is_revert_failure (t.state a) ≡ false
     none = sym is ∙ not_hurt
 
     by : (b : ℕ) → b < count plan → (x : Bool) → nat_eq a b ≡ x → is_unhurt_at t b ≡ true
     by b below true same = ap (λ (c : ℕ). not (is_revert_failure (t.state c))) (sym (eqb-true a b same)) ∙ ap not (neither_second old _ none)
-    by b below false other = ap (λ (x : AtomState). not (is_revert_failure x)) (moved b other).state ∙ all_at (count plan) (is_unhurt_at s) b (was (neither_first old _ none)) below
+    by b below false other = ap (λ (x : AtomState). not (is_revert_failure x)) (states b other) ∙ all_at (count plan) (is_unhurt_at s) b (was (neither_first old _ none)) below
 
 -- the worklist after those that can run, those that can revert or run their flow again, and the atom itself were listed
-pub around_listed : (plan : Outline) (s t : Snapshot) (a : ℕ) (old first second third : Worklist) (hurt : Bool) → AreMoved s (extent.Around a) t → IsListed plan s old
-    → ((b : ℕ) → SameAt old first b ⊎ ListedAt plan t first b)
+pub around_listed : (plan : Outline) (s t : Snapshot) (a : ℕ) (flow : Option ℕ) (old start first second third : Worklist) (hurt : Bool) → IsMovedAt plan a flow s t → IsListed plan s old → IsListedWithin plan t flow old start
+    → ((b : ℕ) → SameAt start first b ⊎ ListedAt plan t first b)
     → ((b : ℕ) → is_done (t.state a) ≡ true → has_number (successors_of plan a) b ≡ true → can_run plan t b ≡ true → ListedAt plan t first b)
     → ((b : ℕ) → SameAt first second b ⊎ ListedAt plan t second b)
     → ((b : ℕ) → is_settled (t.state a) ≡ true → has_number (predecessors_of plan a) b ≡ true → can_revert plan t b ≡ true → ListedAt plan t second b)
     → (a < count plan → ListedAt plan t third a) → ((b : ℕ) → nat_eq a b ≡ false → SameAt second third b)
-    → HasRoom plan third → third.hurt ≡ old.hurt → hurt ≡ third.hurt || is_revert_failure (t.state a)
+    → HasRoom plan third → third.hurt ≡ start.hurt → hurt ≡ third.hurt || is_revert_failure (t.state a)
     → IsListed plan t (record { forcing = third.forcing; ready = third.ready; busy = third.busy; hurt = hurt })
-around_listed plan s t a old first second third hurt moved listed moved1 runs moved2 reverts here others room kept is = record {
+around_listed plan s t a flow old start first second third hurt moved listed spanned moved1 runs moved2 reverts here others room kept is = record {
   room = record { forcing = room.forcing; ready = room.ready; busy = room.busy };
   each = λ b below. at b below (nat_eq a b) refl;
-  unhurt = unhurt_still plan s t a old.hurt hurt moved (is ∙ ap (λ (x : Bool). x || is_revert_failure (t.state a)) kept) listed.unhurt;
+  unhurt = unhurt_still plan s t a old.hurt hurt moved.states (is ∙ ap (λ (x : Bool). x || is_revert_failure (t.state a)) (kept ∙ spanned.hurt)) listed.unhurt;
 }
   where
     so : (b : ℕ) → ListedAt plan t third b → ListedAt plan t (record { forcing = third.forcing; ready = third.ready; busy = third.busy; hurt = hurt }) b
@@ -252,10 +254,46 @@ around_listed plan s t a old first second third hurt moved listed moved1 runs mo
 
     at : (b : ℕ) → b < count plan → (x : Bool) → nat_eq a b ≡ x → ListedAt plan t (record { forcing = third.forcing; ready = third.ready; busy = third.busy; hurt = hurt }) b
     at b below true same = so b (subst (ListedAt plan t third) (eqb-true a b same) (here (subst (λ (n : ℕ). n < count plan) (sym (eqb-true a b same)) below)))
-    at b below false other = so b (around_at plan s t old third a b moved other (listed.each b below)
-        (moved_on plan t old second third b (moved_on plan t old first second b (moved1 b) (moved2 b)) (inl (others b other)))
-        (λ done inside able. alike plan t second third b (others b other) (listed_on plan t first second b (runs b done inside able) (moved2 b)))
-        (λ settled inside able. alike plan t second third b (others b other) (reverts b settled inside able)))
+    at b below false other = so b (by (holds_with plan flow b) refl)
+      where
+        -- it stays as it is, or is listed, from the start on
+        after : SameAt start third b ⊎ ListedAt plan t third b
+        after = moved_on plan t start second third b (moved_on plan t start first second b (moved1 b) (moved2 b)) (inl (others b other))
+
+        by : (x : Bool) → holds_with plan flow b ≡ x → ListedAt plan t third b
+        by true held = listed_on plan t start third b (spanned.listed b held) after
+        by false free = around_at plan s t old third a b moved.states (moved.others b other free) (listed.each b below)
+            (moved_on plan t old start third b (spanned.moved b) after)
+            (λ done inside able. alike plan t second third b (others b other) (listed_on plan t first second b (runs b done inside able) (moved2 b)))
+            (λ settled inside able. alike plan t second third b (others b other) (reverts b settled inside able))
+
+-- nothing is listed anew where no flow is named
+pub within_none : (plan : Outline) (s : Snapshot) (list : Worklist) → HasRoom plan list → IsListedWithin plan s None list list
+within_none plan s list room = record { room = room; hurt = refl; moved = λ a. inl (alike_now list a); listed = λ a never. absurd (cc) }
+
+-- the worklist after the atoms of a flow were listed, whose marks alone changed
+pub flow_listed : (plan : Outline) (s t : Snapshot) (g : ℕ) (old new : Worklist) → IsMovedAt plan (count plan) (Some g) s t → IsListed plan s old → IsListedWithin plan t (Some g) old new → IsListed plan t new
+flow_listed plan s t g old new moved listed spanned = record {
+  room = spanned.room;
+  each = λ b below. by b below (holds plan g b) refl;
+  unhurt = λ calm. all_of (count plan) (is_unhurt_at t) (λ b below.
+      ap (λ (x : AtomState). not (is_revert_failure x)) (moved.states b (apart b below)) ∙ all_at (count plan) (is_unhurt_at s) b (listed.unhurt (sym spanned.hurt ∙ calm)) below);
+}
+  where
+    apart : (b : ℕ) → b < count plan → nat_eq (count plan) b ≡ false
+    apart b below = never_true (nat_eq (count plan) b) (λ is. let same = eqb-true (count plan) b is in absurd (omega (arith, same, below)))
+
+    by : (b : ℕ) → b < count plan → (x : Bool) → holds plan g b ≡ x → ListedAt plan t new b
+    by b below true held = spanned.listed b held
+    by b below false free = around_at plan s t old new (count plan) b moved.states (moved.others b (apart b below) free) (listed.each b below) (spanned.moved b)
+        (λ done inside able. absurd (never_after inside))
+        (λ settled inside able. absurd (never_before inside))
+      where
+        never_after : has_number (successors_of plan (count plan)) b ≡ true → ⊥
+        never_after inside = let out : count plan < count plan = before_below_first plan (count plan) b (sym (successor_told plan (count plan) b) ∙ inside) in omega (arith, out)
+
+        never_before : has_number (predecessors_of plan (count plan)) b ≡ true → ⊥
+        never_before inside = let out : count plan < count plan = before_below plan b (count plan) (sym (predecessor_told plan b (count plan)) ∙ inside) in omega (arith, out)
 
 -- ---- some atoms, one after another
 
@@ -352,6 +390,42 @@ one_listed plan s n old new all room here others = record { room = room; each = 
       where
         lower : (a : ℕ) → a < n + 1 → (a ≡ n → ⊥) → a < n
         lower a below apart = elim (cases_lt a n) [ inl less ↦ less | inr from ↦ absurd (apart (omega (arith, below, from))) ]
+
+-- ---- the atoms of a span, one after another
+
+-- so far: each is as it was or listed, and those of the span before n are listed
+pub record IsListedBelow (plan : Outline) (s : Snapshot) (first n : ℕ) (old new : Worklist) : Type 0 where
+  pub room : HasRoom plan new
+  pub hurt : new.hurt ≡ old.hurt
+  pub moved : (a : ℕ) → SameAt old new a ⊎ ListedAt plan s new a
+  pub listed : (a : ℕ) → first ≤ a → a < n → ListedAt plan s new a
+
+pub none_of_span : (plan : Outline) (s : Snapshot) (first : ℕ) (list : Worklist) → HasRoom plan list → IsListedBelow plan s first first list list
+none_of_span plan s first list room = record { room = room; hurt = refl; moved = λ a. inl (alike_now list a); listed = λ a low high. absurd (omega (arith, low, high)) }
+
+pub one_of_span : (plan : Outline) (s : Snapshot) (first n : ℕ) (old now new : Worklist) → IsListedBelow plan s first n old now → HasRoom plan new → new.hurt ≡ now.hurt → ListedAt plan s new n → ((b : ℕ) → nat_eq n b ≡ false → SameAt now new b)
+    → IsListedBelow plan s first (n + 1) old new
+one_of_span plan s first n old now new far room kept here others = record {
+  room = room;
+  hurt = kept ∙ far.hurt;
+  moved = λ a. moved_on plan s old now new a (far.moved a) (moved_but plan s now new n a others here);
+  listed = λ a low high. by a low high (nat_eq n a) refl;
+}
+  where
+    by : (a : ℕ) → first ≤ a → a < n + 1 → (x : Bool) → nat_eq n a ≡ x → ListedAt plan s new a
+    by a low high true same = subst (ListedAt plan s new) (eqb-true n a same) here
+    by a low high false other =
+        let differ : n ≡ a → ⊥ = λ is. clash (nat_eq n a) (eq-eqb n a is) other in
+        alike plan s now new a (others a other) (far.listed a low (omega (arith, high, differ)))
+
+-- those of a flow are listed where those of its span are
+pub all_of_span : (plan : Outline) (s : Snapshot) (flow : Option ℕ) (span : Span) (n : ℕ) (old new : Worklist) → span.end ≤ n → IsSpanAround plan flow span → IsListedBelow plan s span.first n old new → IsListedWithin plan s flow old new
+all_of_span plan s flow span n old new end around far = record {
+  room = far.room;
+  hurt = far.hurt;
+  moved = far.moved;
+  listed = λ a held. let inside = around.each a held in far.listed a inside.0 (let high = inside.1 in omega (arith, high, end));
+}
 
 -- every atom is listed, and whether one is REVERT_FAILURE is told
 pub whole_listed : (plan : Outline) (s : Snapshot) (n : ℕ) (list : Worklist) (calm : Bool) → count plan ≤ n → AllListed plan s n list → calm ≡ is_unhurt plan s

@@ -1,13 +1,13 @@
 -- Where the next entry is looked for: sets of atoms past which nothing is to be found.
-use Rattle.std.specs.Prelude.{◌≡◌, ℕ, ◌<◌, ◌≤◌, ◌⊎◌, List, Bool, true, false, length, nat_eq, None}
+use Rattle.std.specs.Prelude.{◌≡◌, ℕ, ◌<◌, ◌≤◌, ◌⊎◌, List, Bool, true, false, length, nat_eq, Option, Some, None}
 use Rattle.tf_links.specs.Bits.{has, words_for}
 use Rattle.tf_states.specs.declared.record.Entry.{Entry}
 use Rattle.tf_states.specs.declared.record.What.{What}
-use Rattle.tf_model.specs.Plan.{Outline, count}
-use Rattle.tf_model.specs.Snapshot.{Snapshot}
+use Rattle.tf_model.specs.Plan.{Outline, count, holds, own_flow}
+use Rattle.tf_model.specs.Snapshot.{Resolve, Snapshot}
 use Rattle.tf_model.specs.Readiness.{can_run, can_revert}
 use Rattle.tf_model.specs.Deciders.{refused}
-use Rattle.tf_model.specs.Forced.{is_unhurt}
+use Rattle.tf_model.specs.Forced.{is_unhurt, holds_with}
 use Rattle.tf_model.specs.Candidates.{is_candidate}
 use Rattle.tf_machine.specs.Cases.{applies, is_asked_again}
 use Rattle.tf_machine.specs.declared.cases.Case.{Case}
@@ -51,10 +51,28 @@ pub record IsAsBefore (s t : Snapshot) (a : ℕ) : Type 0 where
   pub mark : t.mark a ≡ s.mark a
   pub hand : t.hand a ≡ s.hand a
 
--- two moments agree on all atoms but the one around which something changed
-abbrev pub AreMoved : Snapshot → Extent → Snapshot → Type 0
-AreMoved s extent.All t = Unit {0}
-AreMoved s (extent.Around a) t = (b : ℕ) → nat_eq a b ≡ false → IsAsBefore s t b
+-- two moments agree on the states of all atoms but one, and on the marks and the hands of those of them that a flow, if one is named, doesn't hold
+pub record IsMovedAt (plan : Outline) (a : ℕ) (flow : Option ℕ) (s t : Snapshot) : Type 0 where
+  pub states : (b : ℕ) → nat_eq a b ≡ false → t.state b ≡ s.state b
+  pub others : (b : ℕ) → nat_eq a b ≡ false → holds_with plan flow b ≡ false → IsAsBefore s t b
+
+-- two moments agree on all that an entry of this extent doesn't change
+abbrev pub AreMoved : Outline → Snapshot → Extent → Snapshot → Type 0
+AreMoved plan s extent.All t = Unit {0}
+AreMoved plan s (extent.Around a) t = IsMovedAt plan a None s t
+AreMoved plan s (extent.Flow g) t = IsMovedAt plan (count plan) (Some g) s t
+AreMoved plan s (extent.Begin a) t = IsMovedAt plan a (own_flow plan a) s t
+
+-- each mark is one of a flow that holds the atom
+abbrev pub AreMarksHeld : Outline → Snapshot → Type 0
+AreMarksHeld plan s = (a : ℕ) (m : Resolve) → s.mark a ≡ Some m → holds plan m.flow a ≡ true
+
+-- from one worklist to another each atom stays as it is or is listed as it is at this moment, and each that a flow holds, if one is named, is so
+pub record IsListedWithin (plan : Outline) (s : Snapshot) (flow : Option ℕ) (old new : Worklist) : Type 0 where
+  pub room : HasRoom plan new
+  pub hurt : new.hurt ≡ old.hurt
+  pub moved : (a : ℕ) → SameAt old new a ⊎ ListedAt plan s new a
+  pub listed : (a : ℕ) → holds_with plan flow a ≡ true → ListedAt plan s new a
 
 -- what may become of an atom after another one's state changed: it can run, since that one is done with; or it can revert, since that one is settled
 abbrev pub is_reached : Outline → Snapshot → Reach → ℕ → Bool

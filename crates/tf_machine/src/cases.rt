@@ -174,20 +174,14 @@ pub fn is_asked_again(compiled: &Compiled, tables: &Tables, atom: u16) -> bool
         && is_marked_again(compiled.own_flow(atom), tables.mark(atom))
 }
 
-/// Whether every other atom of a retry controller's flow is settled. Each of these is after it.
+/// Whether every other atom of a retry controller's flow is settled.
+#[tactic(auto, using(crate::proofs::SpanLemmas::settled_outside, crate::proofs::SpanLemmas::all_beside, tf_numbers::proofs::BelowLemmas::not_each))]
 fn are_settled_beside(compiled: &Compiled, tables: &Tables, retry: u16) -> bool
-    requires { is_retry (outline_of compiled.now) retry ≡ true }
     ensures { result ≡ all_below (count (outline_of compiled.now)) (rule.is_settled_beside (outline_of compiled.now) (shown_by tables.now) retry) }
 {
-    are_settled_among(compiled, tables, retry, compiled.successors(retry))
-}
-
-/// Whether each of these atoms that is another one of a retry controller's flow is settled.
-fn are_settled_among(compiled: &Compiled, tables: &Tables, retry: u16, atoms: &[u16]) -> bool
-    ensures { result ≡ list_all (rule.is_settled_beside (outline_of compiled.now) (shown_by tables.now) retry) atoms.now }
-{
-    for atom in atoms {
-        if compiled.is_of_its_flow(retry, *atom) && !is_settled(tables.state(*atom)) {
+    let span = compiled.span_around(retry);
+    for atom in span.first..span.end {
+        if compiled.is_of_its_flow(retry, atom) && !is_settled(tables.state(atom)) {
             return false;
         }
     }

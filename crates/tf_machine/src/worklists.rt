@@ -1,5 +1,5 @@
 //! Where the next entry is looked for.
-ghost use Rattle.std.specs.Prelude.{◌≡◌, ◌<◌, ◌≤◌, ◌⊎◌, ◌&&◌, ℕ, true, false, IfOk, nat_eq, None};
+ghost use Rattle.std.specs.Prelude.{◌≡◌, ◌<◌, ◌≤◌, ◌⊎◌, ◌&&◌, ℕ, true, false, IfOk, nat_eq, Option, None};
 ghost use Rattle.tf_numbers.specs.Numbers.{has_number};
 ghost use Rattle.tf_links.specs.Bits.{has};
 ghost use Rattle.tf_model.specs.Plan.{outline_of, count, is_retry};
@@ -12,13 +12,13 @@ ghost use Rattle.tf_model.specs.States.{is_running};
 ghost use Rattle.tf_machine.specs.Cases as specs;
 ghost use Rattle.tf_machine.specs.Cases.{is_asked_again};
 ghost use Rattle.tf_machine.specs.declared.cases.Case.{Case as AnyCase};
-ghost use Rattle.tf_machine.specs.declared.worklists.Extent.TheVariants.{Around as around};
+ghost use Rattle.tf_machine.specs.Compiled.{IsSpanAround};
 ghost use Rattle.tf_machine.specs.Stretches.{AreApart};
-ghost use Rattle.tf_machine.specs.Worklists.{IsListed, ListedAt, SameAt, HasRoom, AreMoved, AreReached, is_reached, counts_in, event};
+ghost use Rattle.tf_machine.specs.Worklists.{IsListed, ListedAt, SameAt, HasRoom, AreMoved, AreMarksHeld, IsMovedAt, IsListedWithin, AreReached, is_reached, counts_in, event};
 
 use crate::candidates::is_candidate;
 use crate::cases::{case_at, is_asked_again};
-use crate::compiled::Compiled;
+use crate::compiled::{Compiled, Span};
 use crate::forcing::are_unhurt;
 use crate::readiness::can_run;
 use crate::states::{is_done, is_revert_failure, is_running, is_settled};
@@ -46,6 +46,10 @@ pub enum Extent {
     All,
     /// Of this atom, whose state and hand alone it changes, and of those before it and after it.
     Around(u16),
+    /// Of those that this flow holds, whose marks alone it changes.
+    Flow(u16),
+    /// Of this retry controller, whose state it changes, of those of its own flow, whose marks it changes, and of those before it and after it.
+    Begin(u16),
 }
 
 /// Why an atom may have become able to do something.
@@ -59,18 +63,19 @@ pub enum Reach {
 
 /// Of which atoms this entry may change what is to be done with them.
 pub fn extent_of(compiled: &Compiled, what: &What) -> Extent
-    ensures { (s : Snapshot) (hand : ℕ) → AreMoved s result (later (outline_of compiled.now) (event hand what.now) s) }
+    ensures { (s : Snapshot) (hand : ℕ) → AreMarksHeld (outline_of compiled.now) s
+        → AreMoved (outline_of compiled.now) s result (later (outline_of compiled.now) (event hand what.now) s) }
 {
     match what {
         What::Atom { atom, state, .. } => {
             if begins_attempt(compiled, *atom, *state) {
-                Extent::All
+                Extent::Begin(*atom)
             } else {
                 Extent::Around(*atom)
             }
         }
         What::Flow(_) => Extent::All,
-        What::Resolve { .. } => Extent::All,
+        What::Resolve { flow, .. } => Extent::Flow(*flow),
         What::Restart(atom) => Extent::Around(*atom),
     }
 }
@@ -109,12 +114,31 @@ impl Worklist {
     pub fn follow(&mut self, compiled: &Compiled, tables: &Tables, extent: Extent)
         requires counted { IsCounted (outline_of compiled.now) tables.now }
         requires room { HasRoom (outline_of compiled.now) self.old }
-        ensures { (s : Snapshot) → IsListed (outline_of compiled.now) s self.old → AreMoved s extent (shown_by tables.now)
+        ensures { (s : Snapshot) → IsListed (outline_of compiled.now) s self.old → AreMoved (outline_of compiled.now) s extent (shown_by tables.now)
             → IsListed (outline_of compiled.now) (shown_by tables.now) self.new }
     {
         match extent {
             Extent::All => self.list_all(compiled, tables),
             Extent::Around(atom) => self.list_around(compiled, tables, atom),
+            Extent::Flow(flow) => self.list_span(compiled, tables, compiled.span(flow as usize)),
+            Extent::Begin(atom) => {
+                self.list_span(compiled, tables, compiled.span_around(atom));
+                self.list_around(compiled, tables, atom);
+            }
+        }
+    }
+
+    /// Lists the atoms of a span as they are now.
+    #[tactic(auto, using(crate::proofs::WorkLemmas::none_of_span, crate::proofs::WorkLemmas::one_of_span, crate::proofs::WorkLemmas::all_of_span))]
+    fn list_span(&mut self, compiled: &Compiled, tables: &Tables, span: Span)
+        requires counted { IsCounted (outline_of compiled.now) tables.now }
+        requires room { HasRoom (outline_of compiled.now) self.old }
+        requires within { span.end ≤ count (outline_of compiled.now) }
+        ensures { (flow : Option ℕ) → IsSpanAround (outline_of compiled.now) flow span
+            → IsListedWithin (outline_of compiled.now) (shown_by tables.now) flow self.old self.new }
+    {
+        for atom in span.first..span.end {
+            self.list(compiled, tables, atom);
         }
     }
 
@@ -131,11 +155,13 @@ impl Worklist {
         self.hurt = !are_unhurt(compiled, tables);
     }
 
-    /// Lists an atom whose state or hand changed, and those before it and after it.
+    /// Lists an atom whose state or hand changed, and those before it and after it. The atoms of a flow whose marks changed, too, are listed already.
     fn list_around(&mut self, compiled: &Compiled, tables: &Tables, atom: u16)
         requires counted { IsCounted (outline_of compiled.now) tables.now }
         requires room { HasRoom (outline_of compiled.now) self.old }
-        ensures { (s : Snapshot) → IsListed (outline_of compiled.now) s self.old → AreMoved s (around atom) (shown_by tables.now)
+        ensures { (s : Snapshot) (flow : Option ℕ) (old : Worklist) → IsListed (outline_of compiled.now) s old
+            → IsListedWithin (outline_of compiled.now) (shown_by tables.now) flow old self.old
+            → IsMovedAt (outline_of compiled.now) atom flow s (shown_by tables.now)
             → IsListed (outline_of compiled.now) (shown_by tables.now) self.new }
     {
         let state = tables.state(atom);

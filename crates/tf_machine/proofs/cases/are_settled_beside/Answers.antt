@@ -1,14 +1,11 @@
-use Rattle.std.proofs.Common.{ℕ, List, sym, ap, ◌∙◌}
-use Rattle.std.specs.List.{list_all}
+use Rattle.std.proofs.Common.{inl, sym, arith}
 use Rattle.tf_model.specs.Plan.{outline_of}
-use Rattle.tf_model.specs.Forced.{is_settled_beside}
-use Rattle.tf_facts.proofs.LayoutLemmas.{laid_out}
 use Rattle.tf_machine.specs.Tables.{shown_by}
-use Rattle.tf_machine.proofs.CaseLemmas.{settled_by_successors}
+use Rattle.tf_machine.proofs.SpanLemmas.{all_beside, settled_outside}
 use Rattle.tf_machine.proofs.cases.are_settled_beside.Goals as goal
 
+pub loop-atom-init : goal.loop-atom-init
+loop-atom-init c = λ a below. settled_outside (outline_of c.args.compiled.now) (shown_by c.args.tables.now) c.args.retry a c.span_around-span.result c.span_around-span.ensures (inl below)
+
 pub returns : goal.returns
-returns c =
-    c.are_settled_among.ensures
-    ∙ (ap (λ (atoms : List ℕ). list_all (is_settled_beside (outline_of c.args.compiled.now) (shown_by c.args.tables.now) c.args.retry) atoms) c.successors.ensures.atoms
-    ∙ sym (settled_by_successors (outline_of c.args.compiled.now) (shown_by c.args.tables.now) c.args.retry (laid_out c.args.compiled.now c.successors.ensures.accepted) c.requires))
+returns c = sym (all_beside (outline_of c.args.compiled.now) (shown_by c.args.tables.now) c.args.retry c.loop-atom.atom c.span_around-span.result c.span_around-span.ensures (omega (arith, c.loop-atom.auto.atom-end, c.loop-atom-test.false)) c.loop-atom.invariant)

@@ -31,9 +31,9 @@ list_each-requires-2-clause-within c = λ a is.
     predecessors_below (outline_of c.args.compiled.now) c.args.atom a (ap (λ (atoms : List ℕ). has_number atoms a) (sym c.predecessors-before.ensures) ∙ is)
 
 pub returns : goal.returns
-returns c = λ s listed moved.
-    around_listed (outline_of c.args.compiled.now) s (shown_by c.args.tables.now) c.args.atom c.args.self.now c.list_each.new.self c.list_each-2.new.self c.list_one.new.self _
-    moved listed
+returns c = λ s flow old listed spanned moved.
+    around_listed (outline_of c.args.compiled.now) s (shown_by c.args.tables.now) c.args.atom flow old c.args.self.now c.list_each.new.self c.list_each-2.new.self c.list_one.new.self _
+    moved listed spanned
     c.list_each.ensures.moved
     (λ b done inside able. c.list_each.ensures.reached b (c.is_done.ensures ∙ (ap is_done c.state-state.ensures ∙ done)) (ap (λ (atoms : List ℕ). has_number atoms b) c.successors-after.ensures.atoms ∙ inside) able)
     c.list_each-2.ensures.moved
