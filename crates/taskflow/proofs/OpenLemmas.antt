@@ -22,6 +22,7 @@ use Rattle.tf_journal.specs.Start.{file_of, first_pick, first_sync, IsFirm, IsSt
 use Rattle.taskflow.specs.Durable.{book_in, Holds}
 use Rattle.tf_journal.specs.Way.{Way, IsAsBefore, IsSame, Untouched, Open}
 use Rattle.tf_journal.proofs.OpenLemmas.{opened, open_set, untouched_now}
+
 -- ---- how a command ends
 
 closes_apart : (before after : Option (List ℕ)) (message : List ℕ) (wanted status : ℕ) → wanted ≢ UNHIRED → Closes before message wanted after status → status ≢ UNHIRED

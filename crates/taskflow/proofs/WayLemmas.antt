@@ -13,6 +13,7 @@ use Rattle.taskflow.specs.Saying.{Closes}
 use Rattle.tf_journal.specs.Way.{Way, IsSet, IsAsBefore, IsSame, Untouched}
 use Rattle.taskflow.specs.declared.statuses.TheConstants.{OUT_OF_MEMORY}
 use Rattle.tf_journal.proofs.WayLemmas.{way_said}
+
 -- ---- nothing was done
 
 module _ {K : Type 0} (tells : K → Bool) (shown : K → Option (List ℕ)) (content : K → Content) (left : K → Images) (crashes : K → Crashes) (disk_faults out_faults : K → ℕ) where

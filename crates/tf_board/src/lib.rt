@@ -24,6 +24,3 @@ pub use commands::{Command, JobAction};
 pub use faults::BoardFault;
 pub use ids::{id_text, job_id};
 pub use laws::{a_claim_is_of_a_free_job, an_id_names_its_first_job, command_has_one_form};
-
-#[cfg(test)]
-mod tests;

@@ -7,8 +7,6 @@ mod laws;
 mod names;
 mod plan;
 mod tasks;
-#[cfg(test)]
-mod tests;
 
 pub use laws::{demo_compiles, demo_is_read_by_numbers, demo_misses_no_symbol};
 pub use plan::demo_plan;

@@ -11,6 +11,3 @@ pub use device::{Desk, DeskFault};
 pub use files::FileDesk;
 pub use memory::MemoryDesk;
 pub use streams::{read_on, write_whole};
-
-#[cfg(test)]
-mod tests;

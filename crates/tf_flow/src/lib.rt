@@ -15,8 +15,6 @@ mod outline;
 mod plans;
 mod refusals;
 mod repeats;
-#[cfg(test)]
-mod tests;
 mod ways;
 
 pub use atoms::{Arg, ArgList, Bind, Binds, Provides, Retry, RetryKind, Task, TaskKind, Undo};

@@ -13,6 +13,3 @@ mod title;
 pub use faults::{AppendFault, JournalFault, LoadFault};
 pub use journal::Journal;
 pub use title::Title;
-
-#[cfg(test)]
-mod tests;

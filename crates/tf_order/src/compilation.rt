@@ -12,11 +12,10 @@ use crate::faults::CompileFault;
 use crate::graph::Graph;
 use crate::index::{NameIndex, providers};
 use crate::looking::look;
-use tf_flow::{Outline, outline_of};
 use crate::sight::Sight;
 use crate::tables::tables;
 use std::alloc::Global;
-use tf_flow::Plan;
+use tf_flow::{Outline, Plan, outline_of};
 use tf_values::Memory;
 
 /// The flows as they are arranged and their faults, each at the number of its flow.

@@ -10,11 +10,10 @@ ghost use Rattle.tf_order.specs.Rows.{row_at};
 ghost use Rattle.tf_order.specs.Tables.{plan_seen, atoms_found, number_if, item_leads};
 
 use crate::arranged::Arranged;
-use tf_flow::{AtomPlace, Outline};
 use crate::rows::{Row, row_at, row_of};
 use crate::ways::last_turn;
 use std::alloc::Global;
-use tf_flow::{FlowKind, Turn};
+use tf_flow::{AtomPlace, FlowKind, Outline, Turn};
 use tf_links::Bits;
 use tf_values::Memory;
 

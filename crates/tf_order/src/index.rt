@@ -6,11 +6,10 @@ ghost use Rattle.tf_numbers.specs.Numbers.{which_below};
 ghost use Rattle.tf_order.specs.Index.{add_once, told, is_named_at};
 ghost use Rattle.tf_flow.specs.Listing.{shown_atoms, shown_item};
 
-use tf_flow::{AtomPlace, ItemPlace};
 use indexmap::IndexMap;
 use std::alloc::Global;
 use std::marker::Model;
-use tf_flow::Provides;
+use tf_flow::{AtomPlace, ItemPlace, Provides};
 use tf_values::{Memory, Name};
 
 /// Numbers in order. Contracts see the list.

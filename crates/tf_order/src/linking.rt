@@ -12,10 +12,9 @@ ghost use Rattle.tf_flow.specs.Listing.{shown_level};
 ghost use Rattle.tf_order.specs.Sight.{atoms_seen, place_seen, count_seen, HasProviders, HasReach, LinksBy, for_item, needed_by, needed_at, taken_at, passed_at};
 
 use crate::index::item_names;
-use tf_flow::Level;
 use crate::sight::{Sight, givers, is_unserved};
 use std::alloc::Global;
-use tf_flow::{Arg, Bind, Part, Turn};
+use tf_flow::{Arg, Bind, Level, Part, Turn};
 use tf_links::{Bits, Links};
 use tf_values::{Memory, Name};
 

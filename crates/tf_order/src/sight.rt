@@ -13,10 +13,9 @@ ghost use Rattle.tf_order.specs.Sight.{atoms_seen, place_seen, count_seen, HasPr
 
 use crate::arranged::{Arranged, is_way_before};
 use crate::index::NameIndex;
-use tf_flow::{AtomPlace, Level};
 use crate::ways::passes_item;
 use std::alloc::Global;
-use tf_flow::{Provides, Retry, Turn};
+use tf_flow::{AtomPlace, Level, Provides, Retry, Turn};
 use tf_links::{Bits, has_in};
 use tf_values::{Memory, Name};
 

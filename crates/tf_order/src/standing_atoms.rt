@@ -8,9 +8,9 @@ ghost use Rattle.tf_links.specs.Links.{AreLinks};
 ghost use Rattle.tf_order.specs.Sight.{place_seen, count_seen};
 
 use crate::arranged::Arranged;
-use tf_flow::Standing;
 use crate::sight::Sight;
 use std::alloc::Global;
+use tf_flow::Standing;
 use tf_links::Links;
 use tf_values::Memory;
 

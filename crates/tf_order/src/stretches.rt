@@ -7,8 +7,7 @@ ghost use Rattle.tf_order.specs.Stretches.{IsAscending, Agree, IsUpToItem, GoesA
 ghost use Rattle.tf_order.specs.Tables.{plan_seen, atoms_found};
 
 use crate::arranged::{Arranged, is_way_before, last_item_alike};
-use tf_flow::Outline;
-use tf_flow::Turn;
+use tf_flow::{Outline, Turn};
 
 /// Atoms that stand side by side, from one up to before the end, and whether another is before all of
 /// them, or before none.

@@ -9,10 +9,10 @@ ghost use Rattle.tf_order.specs.Tables.{plan_seen, atoms_found, RowsAdded, AreRo
 use crate::arranged::Arranged;
 use crate::direct::direct_rows;
 use crate::graph::Graph;
-use tf_flow::Outline;
 use crate::rows::{Row, empty_rows, short_numbers};
 use crate::stretches::stretch_from;
 use std::alloc::Global;
+use tf_flow::Outline;
 use tf_values::Memory;
 
 /// For each atom those before it and those after it.

@@ -36,8 +36,3 @@ pub use performers::Performer;
 pub use programs::{Done, Output, SpawnFault, Spawner};
 pub use reading::{SourceFault, Sources};
 pub use sockets::{SocketDoor, SocketLink};
-
-#[cfg(test)]
-mod link_tests;
-#[cfg(test)]
-mod tests;

@@ -10,8 +10,6 @@ mod names;
 mod reports;
 mod state_words;
 mod tables;
-#[cfg(test)]
-mod tests;
 
 pub use appending::{append, append_counted, append_named, append_number, append_pair};
 pub use job_lines::{JobLine, Priority, jobs, priority_word};

@@ -7,8 +7,6 @@ mod deciders;
 mod depths;
 mod flows;
 mod resolutions;
-#[cfg(test)]
-mod tests;
 
 pub use attempts::{attempt_value, retry_at, strategy};
 pub use deciders::{has_decider, widest};

@@ -8,8 +8,6 @@ mod providers;
 mod scope;
 mod sources;
 mod symbols;
-#[cfg(test)]
-mod tests;
 
 pub use faults::ScopeFault;
 pub use found::Found;

@@ -10,6 +10,3 @@ mod runs;
 
 pub use built_ins::value_of;
 pub use local::LocalHand;
-
-#[cfg(test)]
-mod tests;

@@ -11,6 +11,3 @@ mod turns;
 pub use keeping::Kept;
 pub use passes::{Pass, Turnstile};
 pub use tally::Tally;
-
-#[cfg(test)]
-mod tests;

@@ -22,6 +22,3 @@ pub use laws::{one_byte_reading, one_text_reading};
 pub use text_form::quote;
 pub use utf8::{Text, Texts};
 pub use value::Val;
-
-#[cfg(test)]
-mod tests;

@@ -11,8 +11,6 @@ mod orders;
 mod printing;
 mod reading;
 mod requests;
-#[cfg(test)]
-mod tests;
 mod values;
 mod waiting;
 

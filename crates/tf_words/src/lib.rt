@@ -12,8 +12,6 @@ mod pairs;
 mod parsing;
 mod quotes;
 mod spelled;
-#[cfg(test)]
-mod tests;
 mod verbs;
 mod word;
 

@@ -6,6 +6,3 @@ mod incoming;
 mod serving;
 
 pub use serving::{ServeEnd, serve};
-
-#[cfg(test)]
-mod tests;

@@ -1,9 +1,9 @@
-use crate::{
+use std::alloc::Global;
+use std::test::Fail;
+use tf_flow::{
     Arg, ArgList, Bind, Binds, Decider, Depth, Flow, FlowKind, Item, Items, Limit, Link, Links,
     Plan, PlanFault, Provides, Retry, RetryKind, Task, TaskKind, Test, Tests, Undo,
 };
-use std::alloc::Global;
-use std::test::Fail;
 use tf_values::{Name, Names, Text, Texts, Val};
 
 fn name(text: &[u8]) -> Result<Name, Fail> {

@@ -1,13 +1,13 @@
 ghost use Rattle.std.specs.Prelude.{◌≡◌, ◌<◌, ◌≤◌, vec_len};
 ghost use Rattle.tf_turnstile.specs.Passes.{AreAll, IsIdle};
 
-use super::*;
 use std::alloc::Global;
 use std::process::Abort;
 use std::sync::Wait;
 use std::test::Fail;
 use std::thread;
 use std::thread::Threads;
+use tf_turnstile::*;
 
 // Each pass waits, in threads of their own.
 fn each_waits<B: Kept + Send, R: Threads + Wait + Sync>(
@@ -74,7 +74,7 @@ fn made(
 }
 
 #[test]
-#[tactic(auto, using(crate::proofs::PassesLemmas::are_all_after))]
+#[tactic(auto, using(tf_turnstile::proofs::PassesLemmas::are_all_after))]
 fn passes_take_turns(rt: HostRuntime) -> Result<(), Fail> {
     let (turnstile, mut passes) = made(&rt, rt.alloc(), Tally::new(rt.alloc(), 3), 2);
     assert!(rt; Tally::add_by(&rt, &turnstile, &mut passes[0], 0, 5));

@@ -2,12 +2,12 @@ ghost use Rattle.std.specs.Prelude.{◌≡◌, [], IfOk, length};
 ghost use Rattle.tf_desk.specs.Acts.{content_after};
 ghost use Rattle.tf_desk.specs.Content.{bytes_of};
 
-use crate::{AppendFault, Journal, JournalFault, Title};
 use std::alloc::Global;
 use std::fs;
 use std::process::Abort;
 use std::test::Fail;
 use tf_desk::{Desk, FileDesk, MemoryDesk};
+use tf_journal::{AppendFault, Journal, JournalFault, Title};
 use tf_values::Text;
 
 /// An empty journal of a book: an open gate, the title and a closed gate.

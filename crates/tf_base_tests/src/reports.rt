@@ -1,13 +1,10 @@
-use crate::job_lines::{JobLine, Priority, jobs};
-use crate::lines::line;
-use crate::reports::report;
-use crate::tables::table;
 use std::alloc::Global;
 use std::test::Fail;
 use tf_flow::{
     ArgList, Binds, Flow, FlowKind, Item, Items, Links, Plan, Provides, Retry, RetryKind, Task,
     TaskKind, Undo,
 };
+use tf_report::{JobLine, Priority, jobs, line, report, table};
 use tf_states::{AtomState, AtomView, Entry, Failure, FlowState, JobState, Kind, Payload, What};
 use tf_values::{Name, Text, Texts, Val};
 

@@ -1,15 +1,15 @@
 ghost use Rattle.std.specs.Prelude.{◌≤◌, length, IfOk};
 
-use crate::{
-    Frames, Request, Response, WireFault, print_request, print_response, read_request,
-    read_response,
-};
 use std::alloc::Global;
 use std::test::Fail;
 use tf_flow::TaskKind;
 use tf_ports::{Action, Args, Pair};
 use tf_states::Failure;
 use tf_values::{Name, Text, Texts, Val};
+use tf_wire::{
+    Frames, Request, Response, WireFault, print_request, print_response, read_request,
+    read_response,
+};
 
 /// The request of an echo of 1.
 fn echo_of_one(alloc: Global) -> Result<Request, Fail>

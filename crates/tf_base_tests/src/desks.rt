@@ -1,8 +1,8 @@
-use crate::{Desk, DeskFault, FileDesk, MemoryDesk};
 use std::alloc::Global;
 use std::fs;
 use std::process::Abort;
 use std::test::Fail;
+use tf_desk::{Desk, DeskFault, FileDesk, MemoryDesk};
 use tf_values::Text;
 
 /// A desk of which the stated calls fail and the stated turns ask for a stop.

@@ -1,11 +1,10 @@
-use crate::asked::{Asked, read_words};
-use crate::word::Word;
 use std::alloc::Global;
 use std::test::Fail;
 use tf_flow::Binds;
 use tf_ports::{Address, Want};
 use tf_report::priority_word;
 use tf_values::{Name, Text};
+use tf_words::{Asked, Word, read_words};
 use uuid::Uuid;
 
 /// What words are: the command and its words with all its options; empty where they are no command.

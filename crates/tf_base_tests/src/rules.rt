@@ -1,6 +1,3 @@
-use crate::{
-    Resolution, affected, attempt_value, has_decider, resolve, retry_at, strategy, widest,
-};
 use std::alloc::Global;
 use std::test::Fail;
 use tf_flow::{
@@ -9,6 +6,9 @@ use tf_flow::{
 };
 use tf_order::compile;
 use tf_ports::{Args, Given, Pair};
+use tf_rules::{
+    Resolution, affected, attempt_value, has_decider, resolve, retry_at, strategy, widest,
+};
 use tf_states::{AtomState, AtomView, Failure, Kind, Payload};
 use tf_values::{Name, Scalar, Scalars, Texts, Val};
 

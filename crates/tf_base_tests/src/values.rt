@@ -1,6 +1,6 @@
-use super::*;
 use std::alloc::Global;
 use std::test::Fail;
+use tf_values::*;
 
 /// Texts and the byte forms of the same values.
 const FORMS: [(&[u8], &[u8]); 12] = [

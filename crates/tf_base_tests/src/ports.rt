@@ -1,10 +1,10 @@
 ghost use Rattle.std.specs.Prelude.{IfOk};
 ghost use Rattle.tf_ports.specs.Whole.{IsWhole};
 
-use super::*;
 use std::alloc::Global;
 use std::test::Fail;
 use tf_flow::{TaskKind, Undo};
+use tf_ports::*;
 use tf_states::Failure;
 use tf_values::{Memory, Name, Text, Texts, Val};
 

@@ -1,9 +1,9 @@
-use super::*;
 use std::alloc::Global;
 use std::fs;
 use std::io::{Read, Write};
 use std::os::unix::net::UnixStream;
 use std::test::Fail;
+use tf_ports::*;
 use tf_values::Text;
 
 /// A link in memory that gives `frame` in pieces of at most three bytes, and whose third call fails.

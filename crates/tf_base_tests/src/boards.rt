@@ -1,12 +1,9 @@
 ghost use Rattle.std.specs.Prelude.{◌≡◌, is_some};
 ghost use Rattle.tf_board.specs.Answers.{board_of};
 
-use crate::board::{Board, Owner};
-use crate::commanding::board_command;
-use crate::faults::BoardFault;
-use crate::ids::job_id;
 use std::alloc::Global;
 use std::test::Fail;
+use tf_board::{Board, BoardFault, Owner, board_command, job_id};
 use tf_desk::{Desk, MemoryDesk};
 use tf_report::Priority;
 use tf_values::{Name, Text, Val};

@@ -3,12 +3,12 @@ ghost use Rattle.tf_flow.specs.Rules.{least_arguments};
 ghost use Rattle.tf_ports.specs.Whole.{IsWhole};
 ghost use Rattle.tf_tasks.specs.Program.{is_program};
 
-use super::*;
 use std::alloc::Global;
 use std::test::Fail;
 use tf_flow::{TaskKind, Undo};
 use tf_ports::{Action, Args, Given, Order, Outcome, Pair};
 use tf_states::Failure;
+use tf_tasks::*;
 use tf_values::{Name, Texts, Val};
 
 type Row = (

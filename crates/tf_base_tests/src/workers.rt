@@ -1,10 +1,10 @@
 ghost use Rattle.std.specs.Prelude.{◌<◌};
 
-use super::*;
 use std::alloc::Global;
 use std::test::Fail;
 use tf_ports::{MemoryLink, MemorySpawner};
 use tf_tasks::LocalHand;
+use tf_workers::*;
 
 /// The frame of the request of an echo of 1, and those of the whole reply.
 const REQUEST: &[u8] =

@@ -1,5 +1,5 @@
-use crate::demo_plan;
 use std::test::Fail;
+use tf_demo::demo_plan;
 use tf_flow::{Flow, FlowKind, Item, Retry, RetryKind, Task, TaskKind};
 use tf_values::Val;
 

@@ -1,4 +1,3 @@
-use crate::{Providers, ScopeFault, find_providers};
 use std::alloc::Global;
 use std::test::Fail;
 use tf_flow::{
@@ -7,6 +6,7 @@ use tf_flow::{
 };
 use tf_order::compile;
 use tf_ports::{Action, Given};
+use tf_scopes::{Providers, ScopeFault, find_providers};
 use tf_states::{AtomState, AtomView, Payload};
 use tf_values::{Name, Names, Texts, Val};
 
