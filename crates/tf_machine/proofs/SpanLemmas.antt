@@ -83,6 +83,13 @@ one_span plan spans span n many are here = λ flow other is. elim (more_told spa
 
 -- ---- what a retry controller looks for in its flow
 
+-- a test that says the same of each below n, and of n
+pub one_more_so : (test : ℕ → Bool) (b : Bool) (n : ℕ) → ((a : ℕ) → a < n → test a ≡ b) → test n ≡ b → (a : ℕ) → a < n + 1 → test a ≡ b
+one_more_so test b n before here a below = elim (cases_lt a n) [
+  | inl earlier ↦ before a earlier
+  | inr from ↦ let same : a ≡ n = omega (arith, below, from) in ap test same ∙ here
+]
+
 outside_flow : (plan : Outline) (r a : ℕ) (span : Span) → IsSpanAround plan (own_flow plan r) span → (IsInSpan span a → ⊥) → is_of_its_flow plan r a ≡ false
 outside_flow plan r a span around out = first_false (holds_with plan (own_flow plan r) a) _ (never_true (holds_with plan (own_flow plan r) a) (λ held. out (around.each a held)))
 

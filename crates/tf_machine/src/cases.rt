@@ -175,17 +175,23 @@ pub fn is_asked_again(compiled: &Compiled, tables: &Tables, atom: u16) -> bool
 }
 
 /// Whether every other atom of a retry controller's flow is settled.
-#[tactic(auto, using(crate::proofs::SpanLemmas::settled_outside, crate::proofs::SpanLemmas::all_beside, tf_numbers::proofs::BelowLemmas::not_each))]
 fn are_settled_beside(compiled: &Compiled, tables: &Tables, retry: u16) -> bool
     ensures { result ≡ all_below (count (outline_of compiled.now)) (rule.is_settled_beside (outline_of compiled.now) (shown_by tables.now) retry) }
 {
     let span = compiled.span_around(retry);
     for atom in span.first..span.end {
-        if compiled.is_of_its_flow(retry, atom) && !is_settled(tables.state(atom)) {
+        if !is_settled_beside(compiled, tables, retry, atom) {
             return false;
         }
     }
     true
+}
+
+/// Whether an atom is settled, if it is another one of a retry controller's flow.
+fn is_settled_beside(compiled: &Compiled, tables: &Tables, retry: u16, atom: u16) -> bool
+    ensures { result ≡ rule.is_settled_beside (outline_of compiled.now) (shown_by tables.now) retry atom }
+{
+    !compiled.is_of_its_flow(retry, atom) || is_settled(tables.state(atom))
 }
 
 /// Whether an atom can run and is refused.

@@ -222,7 +222,6 @@ impl Compiled {
     }
 
     /// Atoms side by side among which are all that a flow holds.
-    #[tactic(auto, using(crate::proofs::SpanLemmas::whole_span))]
     pub fn span(&self, flow: usize) -> Span
         ensures { IsSpanOf (outline_of self.now) flow result }
     {
@@ -230,7 +229,7 @@ impl Compiled {
             Some(span) => *span,
             None => Span {
                 first: 0,
-                end: self.atoms(),
+                end: self.plan.atoms(),
             },
         }
     }

@@ -181,7 +181,6 @@ fn again_entry(compiled: &Compiled, tables: &Tables, retry: u16) -> What
 }
 
 /// The first atom of a retry controller's flow that is to be put back.
-#[tactic(auto, using(crate::proofs::SpanLemmas::put_outside, crate::proofs::SpanLemmas::none_to_put))]
 fn first_to_put_back(compiled: &Compiled, tables: &Tables, retry: u16) -> Option<u16>
     ensures { result ≡ first_below (count (outline_of compiled.now)) (rule.is_to_put_back (outline_of compiled.now) (shown_by tables.now) retry) }
 {

@@ -335,7 +335,7 @@ fn change_each(compiled: &Compiled, places: &mut [Place], change: Change)
 }
 
 /// The atoms whose places a change may change.
-#[tactic(auto, using(crate::proofs::ChangeLemmas::stays_whole, crate::proofs::ChangeLemmas::stays_begun, crate::proofs::ChangeLemmas::stays_resolved))]
+#[tactic(auto, using(crate::proofs::ChangeLemmas::stays_whole))]
 fn reach_of(compiled: &Compiled, change: Change) -> Span
     ensures within { result.end ≤ count (outline_of compiled.now) }
     ensures others { Stays (outline_of compiled.now) change result }

@@ -129,7 +129,6 @@ impl Worklist {
     }
 
     /// Lists the atoms of a span as they are now.
-    #[tactic(auto, using(crate::proofs::WorkLemmas::none_of_span, crate::proofs::WorkLemmas::one_of_span, crate::proofs::WorkLemmas::all_of_span))]
     fn list_span(&mut self, compiled: &Compiled, tables: &Tables, span: Span)
         requires counted { IsCounted (outline_of compiled.now) tables.now }
         requires room { HasRoom (outline_of compiled.now) self.old }

@@ -7,6 +7,11 @@ use Rattle.tf_machine.proofs.SpanLemmas.{named_span}
 use Rattle.tf_machine.proofs.WorkLemmas.{within_none, flow_listed}
 use Rattle.tf_machine.proofs.worklists.Worklist.follow.Goals as goal
 
+pub list_around-requires-in-Begin-clause-room : goal.list_around-requires-in-Begin-clause-room
+list_around-requires-in-Begin-clause-room c =
+    let listed = c.list_span-in-Begin.ensures (own_flow (outline_of c.args.compiled.now) c.in-Begin.atom) c.span_around.ensures in
+    listed.room
+
 pub returns-in-Around : goal.returns-in-Around
 returns-in-Around c = λ s listed moved.
     c.list_around.ensures s None c.args.self.now listed (within_none (outline_of c.args.compiled.now) (shown_by c.args.tables.now) c.args.self.now c.requires.room)

@@ -4,4 +4,4 @@ use Rattle.tf_machine.proofs.WorkLemmas.{IsListedBelow}
 use Rattle.tf_machine.proofs.worklists.Worklist.list_span.Given as goal
 
 abbrev pub invariant-loop-atom : goal.invariant-loop-atom
-invariant-loop-atom l = IsListedBelow (outline_of l.compiled) (shown_by l.tables) l.span.first l.atom l.initial.self l.self
+invariant-loop-atom l = IsListedBelow (outline_of l.compiled) (shown_by l.tables) l.fn.span.first l.atom l.initial.self l.self
