@@ -254,7 +254,7 @@ passed row k e distinct begins ends beside = record {
         let same : get_or (drop k row) (a - x) a ≡ a = at (a - x) a (omega (arith, low, high)) ∙ omega (arith, low) in (
           ap (has_number (drop k row)) (sym same) ∙ has_there (drop k row) (a - x) a (omega (arith, low, high, long, ends)),
           ap (has_number (drop e row)) (sym same) ∙ (ap (λ (xs : List ℕ). has_number xs (get_or (drop k row) (a - x) a)) (sym rest)
-          ∙ first_gone (drop k row) (e - k) (a - x) a (distinct_left row k distinct) (omega (arith, low, high)) (omega (arith, low, high, long, ends))),
+              ∙ first_gone (drop k row) (e - k) (a - x) a (distinct_left row k distinct) (omega (arith, low, high)) (omega (arith, low, high, long, ends))),
         )
 
     apart : (a : ℕ) → (a < x) ⊎ (x + (e - k) ≤ a) → (n : ℕ) → n < e - k → nat_eq a (get_or (drop k row) n a) ≡ false
