@@ -1,5 +1,5 @@
 -- How the tables change at one place or at each.
-use Rattle.std.proofs.Common.{◌≡◌, ℕ, zero, suc, ◌+◌, ◌<◌, ◌≤◌, List, [], ◌∷◌, length, get_or, Bool, true, false, ◌&&◌, Option, Some, None, refl, sym, ap, ◌∙◌, inl, inr, arith, slice_get, length-set, eqb-true, eq-eqb, ◌≢◌}
+use Rattle.std.proofs.Common.{◌≡◌, ℕ, zero, suc, ◌+◌, ◌<◌, ◌≤◌, ◌⊎◌, List, [], ◌∷◌, length, get_or, Bool, true, false, ◌&&◌, Option, Some, None, refl, sym, ap, ◌∙◌, inl, inr, arith, slice_get, length-set, eqb-true, eq-eqb, ◌≢◌}
 use Rattle.std.specs.Prelude.{if◌then◌else◌, nat_eq, option_map}
 use Rattle.std.proofs.lemmas.Bool.{cases_lt}
 use Rattle.std.proofs.Math.ListN.{set}
@@ -9,12 +9,21 @@ use Rattle.tf_states.specs.declared.record.Payload.{Payload}
 use Rattle.tf_states.specs.declared.state.AtomState.{AtomState}
 use Rattle.tf_states.specs.declared.state.FlowState.{FlowState}
 use Rattle.tf_machine.specs.declared.tables.Place.{Place}
-use Rattle.tf_model.specs.Plan.{Outline, is_retry, own_flow}
+use Rattle.tf_model.specs.Plan.{Outline, count, holds, is_retry, own_flow}
+use Rattle.tf_model.specs.Forced.{holds_with, is_marked_again}
 use Rattle.tf_model.specs.Snapshot.{held_after, attempts_in}
 use Rattle.tf_model.specs.States.{is_running}
 use Rattle.tf_model.specs.Views.{state_in, payload_in}
-use Rattle.tf_machine.specs.Tables.{hand_in, mark_in, attempts_told, resolve_of}
-use Rattle.tf_machine.specs.Changes.{AreChanged, entered_view, flow_resumes, flow_rests, turned, marked, released, begun, cleared}
+use Rattle.tf_machine.specs.Tables.{hand_in, mark_in, attempts_told, resolve_of, shown_of}
+use Rattle.tf_machine.specs.declared.compiled.Span.{Span}
+use Rattle.tf_machine.specs.declared.tables.Change.{Change}
+use Rattle.tf_machine.specs.declared.tables.Change.TheVariants as change
+use Rattle.tf_machine.specs.declared.tables.Mark.{Mark}
+use Rattle.tf_machine.specs.Compiled.{IsInSpan, IsSpanOf, IsSpanAround}
+use Rattle.tf_machine.specs.Worklists.{AreMarksHeld}
+use Rattle.tf_machine.proofs.ExtentLemmas.{kept_outside}
+use Rattle.tf_numbers.proofs.TruthLemmas.{never_true}
+use Rattle.tf_machine.specs.Changes.{IsMarkHeld, ArePlacesHeld, Stays, changed, AreChanged, entered_view, flow_resumes, flow_rests, turned, marked, released, begun, cleared}
 
 -- ---- one element
 
@@ -124,17 +133,30 @@ one_changed change k old new d p within is below = record {
     past a true same from = let equal : k ≡ a = eqb-true k a same in absurd (omega (arith, from, equal))
     past a false same from = refl
 
-pub all_changed : (change : ℕ → Place → Place) (k : ℕ) (old new : List Place) → length old ≤ k → AreChangedBelow change k old new → AreChanged change old new
-all_changed change k old new all below = record {
+stays_at : (plan : Outline) (change : Change) (span : Span) (places : List Place) (a : ℕ) → length places ≡ count plan → ArePlacesHeld plan places → Stays plan change span → (IsInSpan span a → ⊥)
+    → slice_get places a ≡ option_map (changed plan change a) (slice_get places a)
+stays_at plan change span places a all held stays out = by (slice_get places a) refl (cases_lt a (length places))
+  where
+    by : (o : Option Place) → slice_get places a ≡ o → (a < length places) ⊎ (length places ≤ a) → o ≡ option_map (changed plan change a) o
+    by None is where_ = refl
+    by (Some p) is (inl below) = ap (λ (q : Place). Some q) (sym (stays a p (omega (arith, below, all)) (held a p is) out))
+    by (Some p) is (inr past) = let none = sym is ∙ slice_get_past places a past in absurd (cc)
+
+pub none_changed_before : (plan : Outline) (change : Change) (span : Span) (places : List Place) → length places ≡ count plan → ArePlacesHeld plan places → Stays plan change span → AreChangedBelow (changed plan change) span.first places places
+none_changed_before plan change span places all held stays = record {
+  as_many = refl;
+  changed = λ a below. stays_at plan change span places a all held stays (λ inside. let low = inside.0 in omega (arith, below, low));
+  same = λ a from. refl;
+}
+
+pub all_changed_within : (plan : Outline) (change : Change) (span : Span) (n : ℕ) (old new : List Place) → length old ≡ count plan → ArePlacesHeld plan old → Stays plan change span → span.end ≤ n → AreChangedBelow (changed plan change) n old new → AreChanged (changed plan change) old new
+all_changed_within plan change span n old new all held stays end below = record {
   as_many = below.as_many;
-  each = λ a. elim (cases_lt a k) [
+  each = λ a. elim (cases_lt a n) [
     | inl before ↦ below.changed a before
-    | inr from ↦ below.same a from ∙ (past a from ∙ ap (option_map (change a)) (sym (past a from)))
+    | inr from ↦ below.same a from ∙ stays_at plan change span old a all held stays (λ inside. let high = inside.1 in omega (arith, from, high, end))
   ];
 }
-  where
-    past : (a : ℕ) → k ≤ a → slice_get old a ≡ None
-    past a from = slice_get_past old a (omega (arith, all, from))
 
 -- another change that makes the same of each place
 pub same_changes : (f g : ℕ → Place → Place) (old new : List Place) → ((a : ℕ) (p : Place) → f a p ≡ g a p) → AreChanged f old new → AreChanged g old new
@@ -151,6 +173,29 @@ not_changed f places same = record { as_many = refl; each = λ a. by a (slice_ge
     by : (a : ℕ) (o : Option Place) → o ≡ option_map (f a) o
     by a None = refl
     by a (Some p) = ap (λ (q : Place). Some q) (same a p)
+
+-- ---- the places that a change may change
+
+pub stays_whole : (plan : Outline) (change : Change) (span : Span) → span.first ≡ 0 → span.end ≡ count plan → Stays plan change span
+stays_whole plan change span first end = λ a place below held out. absurd (out (omega (arith, first), omega (arith, below, end)))
+
+not_held : (plan : Outline) (own : Option ℕ) (span : Span) (a : ℕ) → IsSpanAround plan own span → (IsInSpan span a → ⊥) → holds_with plan own a ≡ false
+not_held plan own span a around out = never_true (holds_with plan own a) (λ held. out (around.each a held))
+
+pub stays_begun : (plan : Outline) (own : Option ℕ) (span : Span) → IsSpanAround plan own span → Stays plan (change.Begin own) span
+stays_begun plan own span around = λ a place below held out. ap (λ (x : Bool). if x then marked None place else place) (by a place.mark held (not_held plan own span a around out))
+  where
+    by : (a : ℕ) (mark : Option Mark) → ((m : Mark) → mark ≡ Some m → holds plan m.flow a ≡ true) → holds_with plan own a ≡ false → is_marked_again own (option_map resolve_of mark) ≡ false
+    by a None held free = refl
+    by a (Some m) held free = kept_outside plan own a (resolve_of m) (held m refl) free
+
+pub stays_resolved : (plan : Outline) (mark : Mark) (span : Span) → IsSpanOf plan mark.flow span → Stays plan (change.Resolve mark) span
+stays_resolved plan mark span around = λ a place below held out.
+    ap (λ (x : Bool). if x then marked (Some mark) place else place) (never_true (holds plan mark.flow a) (λ is. out (around.each a is)))
+
+-- marks that stand in places are those that are shown
+pub places_held : (plan : Outline) (views : List AtomView) (places : List Place) (state : FlowState) → AreMarksHeld plan (shown_of views places state) → ArePlacesHeld plan places
+places_held plan views places state marks = λ a p is m marked_so. marks a (resolve_of m) (ap mark_in is ∙ ap (option_map resolve_of) marked_so)
 
 -- ---- the flow enters a state
 

@@ -1,5 +1,5 @@
 -- How many of some atoms pass a test, and how this changes with one of them.
-use Rattle.std.proofs.Common.{◌≡◌, ◌≢◌, ℕ, zero, suc, ◌+◌, ◌<◌, ◌≤◌, List, [], ◌∷◌, ◌++◌, length, map, drop, get_or, Bool, true, false, not, ◌&&◌, ◌||◌, Option, Some, None, refl, sym, ap, ◌∙◌, subst, inl, inr, arith, slice_get, add-one, length-set, eqb-true, eq-eqb}
+use Rattle.std.proofs.Common.{◌≡◌, ◌≢◌, ℕ, zero, suc, ◌+◌, ◌-◌, ◌<◌, ◌≤◌, List, [], ◌∷◌, ◌++◌, length, map, drop, get_or, Bool, true, false, not, ◌&&◌, ◌||◌, Option, Some, None, refl, sym, ap, ◌∙◌, subst, inl, inr, arith, slice_get, add-one, length-set, eqb-true, eq-eqb}
 use Rattle.std.specs.Prelude.{if◌then◌else◌, nat_eq, option_map}
 use Rattle.std.specs.List.{list_all}
 use Rattle.std.proofs.Math.ListN.{set}
@@ -24,7 +24,8 @@ use Rattle.tf_order.specs.Graph.{predecessors_of, successors_of}
 use Rattle.tf_order.proofs.GraphLemmas.{rows_length, row_told}
 use Rattle.tf_machine.specs.declared.counters.Counters.{Counters}
 use Rattle.tf_machine.specs.Counts.{how_many, is_undone, is_unsettled, waiting_of, holding_of, AreNumbers, AreCounted, stepped, after_steps, after_turn, AreDistinct}
-use Rattle.tf_machine.proofs.ChangeLemmas.{set_told}
+use Rattle.tf_machine.specs.Stretches.{AreSteppedFrom}
+use Rattle.tf_machine.proofs.StretchLemmas.{IsPassed, left_before, stretch_steps}
 
 -- ---- how many pass
 
@@ -218,47 +219,19 @@ all_counted plan n counters s all first rests = record {
 -- of the atoms some are left: their steps in the list as it stands now are those of all in the list as it was
 pub record AreStepped (more : Bool) (atoms left old now : List ℕ) : Type 0 where
   pub as_many : length now ≡ length old
-  pub distinct : AreDistinct left
   pub within : (a : ℕ) → has_number left a ≡ true → a < length now
   pub each : (a : ℕ) → after_steps more left now a ≡ after_steps more atoms old a
 
-pub none_stepped : (more : Bool) (atoms counts : List ℕ) → AreDistinct atoms → ((a : ℕ) → has_number atoms a ≡ true → a < length counts) → AreStepped more atoms atoms counts counts
-none_stepped more atoms counts distinct within = record { as_many = refl; distinct = distinct; within = within; each = λ a. refl }
+pub none_stepped : (more : Bool) (atoms counts : List ℕ) → ((a : ℕ) → has_number atoms a ≡ true → a < length counts) → AreStepped more atoms atoms counts counts
+none_stepped more atoms counts within = record { as_many = refl; within = within; each = λ a. refl }
 
-pub first_within : (more : Bool) (atoms : List ℕ) (k d : ℕ) (old now : List ℕ) → k < length atoms → AreStepped more atoms (drop k atoms) old now → get_or atoms k d < length now
-first_within more atoms k d old now below are =
-    are.within (get_or atoms k d) (ap (λ (xs : List ℕ). has_number xs (get_or atoms k d)) (drop_first atoms k d below) ∙ true_first (nat_eq (get_or atoms k d) (get_or atoms k d)) _ (eq-eqb (get_or atoms k d) (get_or atoms k d) refl))
-
-step_first : (more : Bool) (atoms : List ℕ) (x : ℕ) (rest old now : List ℕ) (c d : ℕ) → c ≡ stepped more (get_or now x d) → AreStepped more atoms (x ∷ rest) old now → AreStepped more atoms rest old (set now x c)
-step_first more atoms x rest old now c d is are = record {
-  as_many = length-set now x c ∙ are.as_many;
-  distinct = are.distinct.1;
-  within = λ a inside. subst (λ (n : ℕ). a < n) (sym (length-set now x c)) (are.within a (true_second (nat_eq a x) _ inside));
-  each = λ a. by a (nat_eq x a) refl ∙ are.each a;
+pub stretch_stepped : (more : Bool) (atoms : List ℕ) (k e x : ℕ) (old mid new : List ℕ) → IsPassed atoms k e x → AreSteppedFrom more x (x + (e - k)) mid new
+    → AreStepped more atoms (drop k atoms) old mid → AreStepped more atoms (drop e atoms) old new
+stretch_stepped more atoms k e x old mid new passed steps are = record {
+  as_many = steps.as_many ∙ are.as_many;
+  within = λ a inside. subst (λ (n : ℕ). a < n) (sym steps.as_many) (are.within a (left_before atoms k e x a passed inside));
+  each = λ a. stretch_steps more atoms k e x mid new passed steps a ∙ are.each a;
 }
-  where
-    here : x < length now
-    here = are.within x (true_first (nat_eq x x) _ (eq-eqb x x refl))
-
-    by : (a : ℕ) (b : Bool) → nat_eq x a ≡ b → after_steps more rest (set now x c) a ≡ after_steps more (x ∷ rest) now a
-    by a true same =
-        let equal : x ≡ a = eqb-true x a same in
-        let outside : has_number rest a ≡ false = ap (has_number rest) (sym equal) ∙ are.distinct.0 in
-        let inside : has_number (x ∷ rest) a ≡ true = true_first (nat_eq a x) _ (turn_eq a x ∙ same) in
-        ap (λ (b : Bool). if b then option_map (stepped more) (slice_get (set now x c) a) else slice_get (set now x c) a) outside
-        ∙ (set_told now x a c here ∙ (ap (λ (b : Bool). if b then Some c else slice_get now a) same
-        ∙ (ap (λ (n : ℕ). Some n) is ∙ (ap (option_map (stepped more)) (sym (slice_get-get_or now x d here) ∙ ap (slice_get now) equal)
-        ∙ ap (λ (b : Bool). if b then option_map (stepped more) (slice_get now a) else slice_get now a) (sym inside)))))
-    by a false other =
-        let kept : slice_get (set now x c) a ≡ slice_get now a = set_told now x a c here ∙ ap (λ (b : Bool). if b then Some c else slice_get now a) other in
-        ap (λ (o : Option ℕ). if has_number rest a then option_map (stepped more) o else o) kept
-        ∙ ap (λ (b : Bool). if b || has_number rest a then option_map (stepped more) (slice_get now a) else slice_get now a) (sym (turn_eq a x ∙ other))
-
-pub one_stepped : (more : Bool) (atoms : List ℕ) (k d : ℕ) (old now : List ℕ) (c e : ℕ) → k < length atoms → c ≡ stepped more (get_or now (get_or atoms k d) e) → AreStepped more atoms (drop k atoms) old now
-    → AreStepped more atoms (drop (k + 1) atoms) old (set now (get_or atoms k d) c)
-one_stepped more atoms k d old now c e below is are =
-    subst (λ (n : ℕ). AreStepped more atoms (drop n atoms) old (set now (get_or atoms k d) c)) (sym (add-one k))
-    (step_first more atoms (get_or atoms k d) (drop (suc k) atoms) old now c e is (subst (λ (left : List ℕ). AreStepped more atoms left old now) (drop_first atoms k d below) are))
 
 pub all_stepped : (more : Bool) (atoms : List ℕ) (k : ℕ) (old now : List ℕ) → length atoms ≤ k → AreStepped more atoms (drop k atoms) old now → (a : ℕ) → slice_get now a ≡ after_steps more atoms old a
 all_stepped more atoms k old now past are a =

@@ -91,6 +91,21 @@ next_first plan s n found next first is = subst (λ (m : ℕ). IsFirstBelow plan
     )
     by (Some f) (Some k) old new = sooner_by plan s n k f (nat_lt k f.place) refl old new
 
+-- those that aren't listed are passed by
+pub skipped_first : (plan : Outline) (s : Snapshot) (list : Worklist) (n m : ℕ) (found : Option Placed) → IsListed plan s list → n ≤ m → m ≤ count plan → ((a : ℕ) → n ≤ a → a < m → has list.forcing a ≡ false)
+    → IsFirstBelow plan s n found → IsFirstBelow plan s m found
+skipped_first plan s list n m found listed from within none first = by found first
+  where
+    further : (j a : ℕ) → a < m → (a < n → applies plan s (case_of j) a ≡ false) → applies plan s (case_of j) a ≡ false
+    further j a below before = elim (cases_lt a n) [
+      | inl less ↦ before less
+      | inr past ↦ (listed.each a (omega (arith, below, within))).cases (none a past below) (case_of j)
+    ]
+
+    by : (o : Option Placed) → IsFirstBelow plan s n o → IsFirstBelow plan s m o
+    by None each = λ j a place below. further j a below (each j a place)
+    by (Some f) (before, placed, passes, none_before, no_sooner) = (omega (arith, before, from), placed, passes, none_before, λ j a earlier below. further j a below (no_sooner j a earlier))
+
 -- ---- it is what is forced
 
 -- where the cases before a place apply to no atom

@@ -19,4 +19,6 @@ pub mod MachineLemmas
 pub mod LeftLemmas
 pub mod Rows
 mod WorkLemmas
+mod StretchLemmas
+mod SpanLemmas
 mod ExtentLemmas

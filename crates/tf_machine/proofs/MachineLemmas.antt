@@ -34,6 +34,7 @@ use Rattle.tf_machine.specs.Answers.{view_at, views_of, is_with, task_of, end_by
 use Rattle.tf_machine.specs.TableFacts.{TableFacts, HasTries, HasFewTries}
 use Rattle.tf_machine.specs.Machine.{MachineValue, outline, shown, StandsFor, IsSound}
 use Rattle.tf_model.specs.Views.{state_in, payload_in}
+use Rattle.tf_machine.specs.Worklists.{AreMarksHeld}
 use Rattle.tf_machine.specs.Tables.{hand_in, mark_in, attempts_told}
 use Rattle.tf_machine.specs.Changes.{first_view, first_place, first_views, first_places}
 use Rattle.tf_machine.proofs.FactLemmas.{past_facts, step_tries, first_tries}
@@ -43,6 +44,12 @@ use Rattle.tf_machine.proofs.LaterLemmas.{same_snapshot}
 -- the facts of legal histories hold of what a machine shows
 pub sound_facts : (m : MachineValue) → IsSound m → TableFacts (outline m) (shown m)
 sound_facts m sound = subst (TableFacts (outline m)) (sym sound.some.1.shows) (past_facts (outline m) sound.some.0 sound.some.1.legal)
+
+-- each mark is one of a flow that holds the atom
+pub sound_marked : (m : MachineValue) → IsSound m → AreMarksHeld (outline m) (shown m)
+sound_marked m sound =
+    let facts : Facts (outline m) (shown m) = subst (Facts (outline m)) (sym sound.some.1.shows) (facts_hold m.plan sound.some.0 sound.compiles sound.some.1.legal) in
+    λ a mark is. (facts.whole_marks a mark is).0
 
 -- what makes less owed holds of what a machine shows
 pub sound_kept : (m : MachineValue) → IsSound m → IsKept (outline m) (shown m)

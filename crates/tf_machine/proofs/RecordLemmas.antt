@@ -18,10 +18,10 @@ use Rattle.tf_machine.specs.Tables.{shown_of}
 use Rattle.tf_machine.specs.Changes.{AreChanged, changed, cleared, turned}
 use Rattle.tf_machine.proofs.LaterLemmas.{entered_later, taken_later, turned_later, resolved_later}
 
--- the places that are written back into a table of as many
-pub written_back : (n : ℕ) (old new : List Place) → length old ≡ n → length new ≡ length old → take n (new ++ drop (length new) old) ≡ new
-written_back n old new whole as_many =
-    ap (λ (rest : List Place). take n (new ++ rest)) (drop_whole old (length new) (omega (arith, as_many)))
+-- what is written back into a table of as many
+pub written_back : {X : Type 0} (n : ℕ) (old new : List X) → length old ≡ n → length new ≡ length old → take n (new ++ drop (length new) old) ≡ new
+written_back {X} n old new whole as_many =
+    ap (λ (rest : List X). take n (new ++ rest)) (drop_whole old (length new) (omega (arith, as_many)))
     ∙ (ap (take n) (nothing_after new) ∙ take_whole new n (omega (arith, whole, as_many)))
 
 -- an entry by what it records

@@ -1,5 +1,5 @@
 -- What is listed stays enough where the state of one atom changes and those that it reaches are listed anew.
-use Rattle.std.proofs.Common.{◌≡◌, ℕ, zero, suc, ◌+◌, ◌<◌, ◌≤◌, List, [], ◌∷◌, drop, get_or, length, Bool, true, false, not, ◌&&◌, ◌||◌, Option, Some, None, ◌⊎◌, inl, inr, refl, sym, ap, ◌∙◌, subst, arith, add-one, eqb-true, eq-eqb}
+use Rattle.std.proofs.Common.{◌≡◌, ℕ, zero, suc, ◌+◌, ◌-◌, ◌<◌, ◌≤◌, List, [], ◌∷◌, drop, get_or, length, Bool, true, false, not, ◌&&◌, ◌||◌, ◌≢◌, Option, Some, None, ◌⊎◌, inl, inr, refl, sym, ap, ◌∙◌, subst, arith, add-one, eqb-true, eq-eqb}
 use Rattle.std.specs.Prelude.{nat_eq, is_some, is_none}
 use Rattle.tf_numbers.specs.Numbers.{has_number, all_below, first_below, is_number}
 use Rattle.tf_numbers.proofs.BelowLemmas.{all_at, all_of, first_none, none_at}
@@ -10,27 +10,33 @@ use Rattle.tf_links.specs.Bits.{has, room, words_for}
 use Rattle.tf_links.proofs.BitLemmas.{past_none}
 use Rattle.std.proofs.lemmas.Bool.{cases_lt}
 use Rattle.tf_states.specs.declared.state.AtomState.{AtomState}
-use Rattle.tf_model.specs.Plan.{Outline, count, is_before, is_retry, is_task, own_flow}
+use Rattle.tf_model.specs.Plan.{Outline, count, holds, is_before, is_retry, is_task, own_flow}
 use Rattle.tf_model.specs.Snapshot.{Snapshot, Resolve, is_at_work}
 use Rattle.tf_model.specs.States.{is_pending, is_running, is_success, is_failure, is_reverting, is_retrying, is_revert_failure, is_settled, is_done, is_executed}
 use Rattle.tf_model.specs.Readiness.{is_unmarked, can_run, can_revert, lets_run, lets_revert}
 use Rattle.tf_model.specs.Deciders.{refused}
-use Rattle.tf_model.specs.Forced.{is_unhurt, is_unhurt_at, is_marked_again, is_of_its_flow, is_settled_beside, is_to_begin_again, is_refused}
+use Rattle.tf_model.specs.Forced.{is_unhurt, is_unhurt_at, is_marked_again, is_to_begin_again, is_refused, holds_with}
 use Rattle.tf_model.specs.Candidates.{is_interrupted, is_candidate}
 use Rattle.tf_model.specs.Steps.{is_not_with, is_idle}
 use Rattle.tf_order.specs.Graph.{predecessors_of, successors_of}
-use Rattle.tf_facts.proofs.LayoutLemmas.{IsLaidOut}
 use Rattle.tf_machine.specs.Answers.{is_with}
-use Rattle.tf_machine.specs.Cases.{applies, case_of, IsCaseAt}
+use Rattle.tf_machine.specs.Cases.{applies, case_of, IsCaseAt, is_asked_again}
 use Rattle.tf_machine.specs.declared.cases.Case.{Case}
 use Rattle.tf_machine.specs.declared.cases.Case.TheVariants as case
 use Rattle.tf_machine.specs.declared.worklists.Worklist.{Worklist}
-use Rattle.tf_machine.specs.declared.worklists.Extent.TheVariants as extent
+use Rattle.tf_machine.specs.declared.compiled.Span.{Span}
+use Rattle.tf_machine.specs.Compiled.{IsSpanAround}
+use Rattle.tf_facts.proofs.LayoutLemmas.{before_below, before_below_first}
 use Rattle.tf_machine.specs.declared.worklists.Reach.{Reach}
 use Rattle.tf_machine.specs.declared.worklists.Reach.TheVariants as reach
-use Rattle.tf_machine.specs.Worklists.{ListedAt, HasRoom, IsListed, SameAt, IsAsBefore, AreMoved, is_reached}
-use Rattle.tf_machine.proofs.CaseLemmas.{retry_before}
-use Rattle.tf_machine.proofs.CountLemmas.{successor_told, predecessor_told}
+use Rattle.tf_machine.specs.Worklists.{ListedAt, HasRoom, IsListed, SameAt, IsAsBefore, IsMovedAt, IsListedWithin, AreReached, is_reached, counts_in}
+use Rattle.tf_machine.specs.declared.counters.Counters.{Counters}
+use Rattle.tf_machine.specs.Counts.{waiting_of, holding_of, AreCounted}
+use Rattle.tf_machine.specs.Stretches.{IsZeroless}
+use Rattle.tf_machine.proofs.CountLemmas.{successor_told, predecessor_told, none_waiting, none_holding}
+use Rattle.tf_machine.proofs.ReadinessLemmas.{never_runs, never_reverts}
+use Rattle.tf_machine.proofs.StretchLemmas.{IsPassed, left_or_there}
+use Rattle.std.proofs.lemmas.Option.{get_or_from_slice_get}
 
 -- ---- one atom's entry in a worklist
 
@@ -39,6 +45,7 @@ pub alike : (plan : Outline) (s : Snapshot) (old new : Worklist) (a : ℕ) → S
 alike plan s old new a same listed = record {
   cases = λ out. listed.cases (sym same.forcing ∙ out);
   never = λ out. listed.never (sym same.forcing ∙ out);
+  again = λ out. listed.again (sym same.forcing ∙ out);
   ready = λ out. listed.ready (sym same.ready ∙ out);
   busy = λ out. listed.busy (sym same.busy ∙ out);
 }
@@ -71,9 +78,6 @@ moved_but plan s old new a b others here = by (nat_eq a b) refl
 pub moved_none : (plan : Outline) (s : Snapshot) (list : Worklist) (a : ℕ) → SameAt list list a ⊎ ListedAt plan s list a
 moved_none plan s list a = inl (alike_now list a)
 
-pub not_reached : (plan : Outline) (s : Snapshot) (how : Reach) (list : Worklist) (a : ℕ) → is_reached plan s how a ≡ false → is_reached plan s how a ≡ true → ListedAt plan s list a
-not_reached plan s how list a far near = absurd (clash (is_reached plan s how a) near far)
-
 -- no case applies where none was found
 pub no_case_told : (plan : Outline) (s : Snapshot) (a : ℕ) → IsCaseAt plan s a None → (k : Case) → applies plan s k a ≡ false
 no_case_told plan s a none case.Attempt = none 0 (omega arith)
@@ -88,11 +92,11 @@ no_case_told plan s a none case.Run = none 7 (omega arith)
 -- ---- what can't be reached stays
 
 -- a is before b and done with only where b may come to run
-runs_still : (plan : Outline) (s t : Snapshot) (a b : ℕ) → ((c : ℕ) → nat_eq a c ≡ false → IsAsBefore s t c) → nat_eq a b ≡ false → is_done (t.state a) && is_before plan a b ≡ false → can_run plan t b ≡ true → can_run plan s b ≡ true
+runs_still : (plan : Outline) (s t : Snapshot) (a b : ℕ) → ((c : ℕ) → nat_eq a c ≡ false → t.state c ≡ s.state c) → IsAsBefore s t b → is_done (t.state a) && is_before plan a b ≡ false → can_run plan t b ≡ true → can_run plan s b ≡ true
 unfolding can_run
-runs_still plan s t a b moved other far is =
+runs_still plan s t a b states before far is =
     true_both (is_pending (s.state b) && is_unmarked s b) _
-    (sym (ap (λ (x : AtomState). is_pending x && is_unmarked t b) (moved b other).state ∙ ap (λ (m : Option Resolve). is_pending (s.state b) && is_none m) (moved b other).mark)
+    (sym (ap (λ (x : AtomState). is_pending x && is_unmarked t b) before.state ∙ ap (λ (m : Option Resolve). is_pending (s.state b) && is_none m) before.mark)
     ∙ told)
     (all_of (count plan) (lets_run plan s b) (λ c below. by c below (nat_eq a c) refl))
   where
@@ -109,13 +113,13 @@ runs_still plan s t a b moved other far is =
 
     by : (c : ℕ) → c < count plan → (x : Bool) → nat_eq a c ≡ x → lets_run plan s b c ≡ true
     by c below true same = there c (eqb-true a c same) below (is_before plan c b) refl
-    by c below false apart = ap (λ (x : AtomState). not (is_before plan c b) || is_done x) (sym (moved c apart).state) ∙ let_all c below
+    by c below false apart = ap (λ (x : AtomState). not (is_before plan c b) || is_done x) (sym (states c apart)) ∙ let_all c below
 
-reverts_still : (plan : Outline) (s t : Snapshot) (a b : ℕ) → ((c : ℕ) → nat_eq a c ≡ false → IsAsBefore s t c) → nat_eq a b ≡ false → is_settled (t.state a) && is_before plan b a ≡ false → can_revert plan t b ≡ true → can_revert plan s b ≡ true
+reverts_still : (plan : Outline) (s t : Snapshot) (a b : ℕ) → ((c : ℕ) → nat_eq a c ≡ false → t.state c ≡ s.state c) → IsAsBefore s t b → is_settled (t.state a) && is_before plan b a ≡ false → can_revert plan t b ≡ true → can_revert plan s b ≡ true
 unfolding can_revert
-reverts_still plan s t a b moved other far is =
+reverts_still plan s t a b states before far is =
     true_both (is_executed (s.state b) && not (is_unmarked s b)) _
-    (sym (ap (λ (x : AtomState). is_executed x && not (is_unmarked t b)) (moved b other).state ∙ ap (λ (m : Option Resolve). is_executed (s.state b) && not (is_none m)) (moved b other).mark)
+    (sym (ap (λ (x : AtomState). is_executed x && not (is_unmarked t b)) before.state ∙ ap (λ (m : Option Resolve). is_executed (s.state b) && not (is_none m)) before.mark)
     ∙ told)
     (all_of (count plan) (lets_revert plan s b) (λ c below. by c below (nat_eq a c) refl))
   where
@@ -132,42 +136,16 @@ reverts_still plan s t a b moved other far is =
 
     by : (c : ℕ) → c < count plan → (x : Bool) → nat_eq a c ≡ x → lets_revert plan s b c ≡ true
     by c below true same = there c (eqb-true a c same) below (is_before plan b c) refl
-    by c below false apart = ap (λ (x : AtomState). not (is_before plan b c) || is_settled x) (sym (moved c apart).state) ∙ let_all c below
-
-begins_still : (plan : Outline) (s t : Snapshot) (a b : ℕ) → IsLaidOut plan → ((c : ℕ) → nat_eq a c ≡ false → IsAsBefore s t c) → nat_eq a b ≡ false → is_settled (t.state a) && is_before plan b a ≡ false → is_to_begin_again plan t b ≡ true → is_to_begin_again plan s b ≡ true
-begins_still plan s t a b layout moved other far is =
-    true_both (is_retry plan b && is_success (s.state b)) _
-    (sym (ap (λ (x : AtomState). is_retry plan b && is_success x) (moved b other).state) ∙ told)
-    (true_both (is_marked_again (own_flow plan b) (s.mark b)) _
-    (sym (ap (is_marked_again (own_flow plan b)) (moved b other).mark) ∙ and_first (is_marked_again (own_flow plan b) (t.mark b)) _ rest)
-    (all_of (count plan) (is_settled_beside plan s b) (λ c below. by c below (nat_eq a c) refl)))
-  where
-    told : is_retry plan b && is_success (t.state b) ≡ true
-    told = and_first (is_retry plan b && is_success (t.state b)) _ is
-
-    rest : is_marked_again (own_flow plan b) (t.mark b) && all_below (count plan) (is_settled_beside plan t b) ≡ true
-    rest = and_second (is_retry plan b && is_success (t.state b)) _ is
-
-    all_beside : (c : ℕ) → c < count plan → is_settled_beside plan t b c ≡ true
-    all_beside c below = all_at (count plan) (is_settled_beside plan t b) c (and_second (is_marked_again (own_flow plan b) (t.mark b)) _ rest) below
-
-    there : (c : ℕ) → a ≡ c → c < count plan → (x : Bool) → is_of_its_flow plan b c ≡ x → (not x || is_settled (s.state c)) ≡ true
-    there c same below true inside = absurd (clash (is_settled (t.state a) && is_before plan b a)
-        (true_both (is_settled (t.state a)) _ (ap (λ (d : ℕ). is_settled (t.state d)) same ∙ (sym (ap (λ (x : Bool). not x || is_settled (t.state c)) inside) ∙ all_beside c below))
-        (ap (is_before plan b) same ∙ retry_before plan b c layout (and_first (is_retry plan b) _ told) inside)) far)
-    there c same below false inside = refl
-
-    by : (c : ℕ) → c < count plan → (x : Bool) → nat_eq a c ≡ x → is_settled_beside plan s b c ≡ true
-    by c below true same = there c (eqb-true a c same) below (is_of_its_flow plan b c) refl
-    by c below false apart = ap (λ (x : AtomState). not (is_of_its_flow plan b c) || is_settled x) (sym (moved c apart).state) ∙ all_beside c below
+    by c below false apart = ap (λ (x : AtomState). not (is_before plan b c) || is_settled x) (sym (states c apart)) ∙ let_all c below
 
 -- an atom whose state, mark and hand stay is listed still, where it can do no more than before
 stays_listed : (plan : Outline) (s t : Snapshot) (old new : Worklist) (b : ℕ) → IsAsBefore s t b
-    → (can_run plan t b ≡ true → can_run plan s b ≡ true) → (can_revert plan t b ≡ true → can_revert plan s b ≡ true) → (is_to_begin_again plan t b ≡ true → is_to_begin_again plan s b ≡ true)
+    → (can_run plan t b ≡ true → can_run plan s b ≡ true) → (can_revert plan t b ≡ true → can_revert plan s b ≡ true)
     → SameAt old new b → ListedAt plan s old b → ListedAt plan t new b
-stays_listed plan s t old new b before runs reverts begins same listed = record {
+stays_listed plan s t old new b before runs reverts same listed = record {
   cases = λ out. by (sym same.forcing ∙ out);
   never = λ out is. listed.never (sym same.forcing ∙ out) (runs is);
+  again = λ out. again ∙ listed.again (sym same.forcing ∙ out);
   ready = λ out. never_true (is_candidate plan t b) (λ is. clash (is_candidate plan s b) (candidate is) (listed.ready (sym same.ready ∙ out)));
   busy = λ out. before.hand ∙ listed.busy (sym same.busy ∙ out);
 }
@@ -176,12 +154,19 @@ stays_listed plan s t old new b before runs reverts begins same listed = record 
     state_stays : (test : AtomState → Bool) (x : Bool) → x && test (s.state b) ≡ false → x && test (t.state b) ≡ false
     state_stays test x is = ap (λ (y : AtomState). x && test y) before.state ∙ is
 
+    again : is_asked_again plan t b ≡ is_asked_again plan s b
+    again = ap (λ (y : AtomState). (is_retry plan b && is_success y) && is_marked_again (own_flow plan b) (t.mark b)) before.state
+        ∙ ap (λ (m : Option Resolve). (is_retry plan b && is_success (s.state b)) && is_marked_again (own_flow plan b) m) before.mark
+
     by : has old.forcing b ≡ false → (k : Case) → applies plan t k b ≡ false
     by out case.Attempt = state_stays is_running (is_retry plan b) (listed.cases out case.Attempt)
     by out case.Again = state_stays is_retrying (is_retry plan b) (listed.cases out case.Again)
     by out case.Reverted = state_stays is_reverting (is_retry plan b) (listed.cases out case.Reverted)
     by out case.Resolution = ap (λ (y : AtomState). is_failure y && is_unmarked t b) before.state ∙ (ap (λ (m : Option Resolve). is_failure (s.state b) && is_none m) before.mark ∙ listed.cases out case.Resolution)
-    by out case.Retrying = never_true (is_to_begin_again plan t b) (λ is. clash (is_to_begin_again plan s b) (begins is) (listed.cases out case.Retrying))
+    by out case.Retrying = never_true (is_to_begin_again plan t b) (λ is.
+        clash (is_asked_again plan t b)
+        (true_both (is_retry plan b && is_success (t.state b)) _ (and_first (is_retry plan b && is_success (t.state b)) _ is) (and_first (is_marked_again (own_flow plan b) (t.mark b)) _ (and_second (is_retry plan b && is_success (t.state b)) _ is)))
+        (again ∙ listed.again out))
     by out case.Revert = never_true (is_retry plan b && can_revert plan t b) (λ is.
         clash (is_retry plan b && can_revert plan s b) (true_both (is_retry plan b) _ (and_first (is_retry plan b) _ is) (reverts (and_second (is_retry plan b) _ is))) (listed.cases out case.Revert))
     by out case.Ignore = never_true (is_refused plan t b) (λ is.
@@ -208,33 +193,30 @@ stays_listed plan s t old new b before runs reverts begins same listed = record 
 -- ---- after the state or the hand of one atom changed
 
 -- b is listed, since it was and can do no more, or since it was listed anew
-around_at : (plan : Outline) (s t : Snapshot) (old new : Worklist) (a b : ℕ) → IsLaidOut plan → AreMoved s (extent.Around a) t → nat_eq a b ≡ false → ListedAt plan s old b
+around_at : (plan : Outline) (s t : Snapshot) (old new : Worklist) (a b : ℕ) → ((c : ℕ) → nat_eq a c ≡ false → t.state c ≡ s.state c) → IsAsBefore s t b → ListedAt plan s old b
     → SameAt old new b ⊎ ListedAt plan t new b
     → (is_done (t.state a) ≡ true → has_number (successors_of plan a) b ≡ true → can_run plan t b ≡ true → ListedAt plan t new b)
-    → (is_settled (t.state a) ≡ true → has_number (predecessors_of plan a) b ≡ true → is_retry plan b || can_revert plan t b ≡ true → ListedAt plan t new b)
+    → (is_settled (t.state a) ≡ true → has_number (predecessors_of plan a) b ≡ true → can_revert plan t b ≡ true → ListedAt plan t new b)
     → ListedAt plan t new b
-around_at plan s t old new a b layout moved other was (inr listed) runs reverts = listed
-around_at plan s t old new a b layout moved other was (inl same) runs reverts = by_run (is_done (t.state a) && (is_before plan a b && can_run plan t b)) refl
+around_at plan s t old new a b states before was (inr listed) runs reverts = listed
+around_at plan s t old new a b states before was (inl same) runs reverts = by_run (is_done (t.state a) && (is_before plan a b && can_run plan t b)) refl
   where
-    by_revert : (can_run plan t b ≡ true → can_run plan s b ≡ true) → (x : Bool) → is_settled (t.state a) && (is_before plan b a && (is_retry plan b || can_revert plan t b)) ≡ x → ListedAt plan t new b
+    by_revert : (can_run plan t b ≡ true → can_run plan s b ≡ true) → (x : Bool) → is_settled (t.state a) && (is_before plan b a && can_revert plan t b) ≡ x → ListedAt plan t new b
     by_revert still true is =
         let rest = and_second (is_settled (t.state a)) _ is in
         reverts (and_first (is_settled (t.state a)) _ is) (predecessor_told plan b a ∙ and_first (is_before plan b a) _ rest) (and_second (is_before plan b a) _ rest)
-    by_revert still false is = stays_listed plan s t old new b (moved b other) still
-        (λ able. reverts_still plan s t a b moved other (far (true_second (is_retry plan b) _ able)) able)
-        (λ able. begins_still plan s t a b layout moved other (far (true_first (is_retry plan b) _ (and_first (is_retry plan b) _ (and_first (is_retry plan b && is_success (t.state b)) _ able)))) able)
-        same was
+    by_revert still false is = stays_listed plan s t old new b before still (λ able. reverts_still plan s t a b states before (far able) able) same was
       where
-        far : is_retry plan b || can_revert plan t b ≡ true → is_settled (t.state a) && is_before plan b a ≡ false
+        far : can_revert plan t b ≡ true → is_settled (t.state a) && is_before plan b a ≡ false
         far able = never_true (is_settled (t.state a) && is_before plan b a) (λ near.
-            clash (is_settled (t.state a) && (is_before plan b a && (is_retry plan b || can_revert plan t b)))
+            clash (is_settled (t.state a) && (is_before plan b a && can_revert plan t b))
             (true_both (is_settled (t.state a)) _ (and_first (is_settled (t.state a)) _ near) (true_both (is_before plan b a) _ (and_second (is_settled (t.state a)) _ near) able)) is)
 
     by_run : (x : Bool) → is_done (t.state a) && (is_before plan a b && can_run plan t b) ≡ x → ListedAt plan t new b
     by_run true is =
         let rest = and_second (is_done (t.state a)) _ is in
         runs (and_first (is_done (t.state a)) _ is) (successor_told plan a b ∙ and_first (is_before plan a b) _ rest) (and_second (is_before plan a b) _ rest)
-    by_run false is = by_revert (λ able. runs_still plan s t a b moved other (far able) able) (is_settled (t.state a) && (is_before plan b a && (is_retry plan b || can_revert plan t b))) refl
+    by_run false is = by_revert (λ able. runs_still plan s t a b states before (far able) able) (is_settled (t.state a) && (is_before plan b a && can_revert plan t b)) refl
       where
         far : can_run plan t b ≡ true → is_done (t.state a) && is_before plan a b ≡ false
         far able = never_true (is_done (t.state a) && is_before plan a b) (λ near.
@@ -242,40 +224,76 @@ around_at plan s t old new a b layout moved other was (inl same) runs reverts = 
             (true_both (is_done (t.state a)) _ (and_first (is_done (t.state a)) _ near) (true_both (is_before plan a b) _ (and_second (is_done (t.state a)) _ near) able)) is)
 
 -- nobody is REVERT_FAILURE then, where nobody was and the atom isn't
-unhurt_still : (plan : Outline) (s t : Snapshot) (a : ℕ) (old new : Bool) → AreMoved s (extent.Around a) t → new ≡ old || is_revert_failure (t.state a) → (old ≡ false → is_unhurt plan s ≡ true) → new ≡ false → is_unhurt plan t ≡ true
-unhurt_still plan s t a old new moved is was not_hurt = all_of (count plan) (is_unhurt_at t) (λ b below. by b below (nat_eq a b) refl)
+unhurt_still : (plan : Outline) (s t : Snapshot) (a : ℕ) (old new : Bool) → ((c : ℕ) → nat_eq a c ≡ false → t.state c ≡ s.state c) → new ≡ old || is_revert_failure (t.state a) → (old ≡ false → is_unhurt plan s ≡ true) → new ≡ false → is_unhurt plan t ≡ true
+unhurt_still plan s t a old new states is was not_hurt = all_of (count plan) (is_unhurt_at t) (λ b below. by b below (nat_eq a b) refl)
   where
     none : old || is_revert_failure (t.state a) ≡ false
     none = sym is ∙ not_hurt
 
     by : (b : ℕ) → b < count plan → (x : Bool) → nat_eq a b ≡ x → is_unhurt_at t b ≡ true
     by b below true same = ap (λ (c : ℕ). not (is_revert_failure (t.state c))) (sym (eqb-true a b same)) ∙ ap not (neither_second old _ none)
-    by b below false other = ap (λ (x : AtomState). not (is_revert_failure x)) (moved b other).state ∙ all_at (count plan) (is_unhurt_at s) b (was (neither_first old _ none)) below
+    by b below false other = ap (λ (x : AtomState). not (is_revert_failure x)) (states b other) ∙ all_at (count plan) (is_unhurt_at s) b (was (neither_first old _ none)) below
 
 -- the worklist after those that can run, those that can revert or run their flow again, and the atom itself were listed
-pub around_listed : (plan : Outline) (s t : Snapshot) (a : ℕ) (old first second third : Worklist) (hurt : Bool) → IsLaidOut plan → AreMoved s (extent.Around a) t → IsListed plan s old
-    → ((b : ℕ) → SameAt old first b ⊎ ListedAt plan t first b)
+pub around_listed : (plan : Outline) (s t : Snapshot) (a : ℕ) (flow : Option ℕ) (old start first second third : Worklist) (hurt : Bool) → IsMovedAt plan a flow s t → IsListed plan s old → IsListedWithin plan t flow old start
+    → ((b : ℕ) → SameAt start first b ⊎ ListedAt plan t first b)
     → ((b : ℕ) → is_done (t.state a) ≡ true → has_number (successors_of plan a) b ≡ true → can_run plan t b ≡ true → ListedAt plan t first b)
     → ((b : ℕ) → SameAt first second b ⊎ ListedAt plan t second b)
-    → ((b : ℕ) → is_settled (t.state a) ≡ true → has_number (predecessors_of plan a) b ≡ true → is_retry plan b || can_revert plan t b ≡ true → ListedAt plan t second b)
+    → ((b : ℕ) → is_settled (t.state a) ≡ true → has_number (predecessors_of plan a) b ≡ true → can_revert plan t b ≡ true → ListedAt plan t second b)
     → (a < count plan → ListedAt plan t third a) → ((b : ℕ) → nat_eq a b ≡ false → SameAt second third b)
-    → HasRoom plan third → third.hurt ≡ old.hurt → hurt ≡ third.hurt || is_revert_failure (t.state a)
+    → HasRoom plan third → third.hurt ≡ start.hurt → hurt ≡ third.hurt || is_revert_failure (t.state a)
     → IsListed plan t (record { forcing = third.forcing; ready = third.ready; busy = third.busy; hurt = hurt })
-around_listed plan s t a old first second third hurt layout moved listed moved1 runs moved2 reverts here others room kept is = record {
+around_listed plan s t a flow old start first second third hurt moved listed spanned moved1 runs moved2 reverts here others room kept is = record {
   room = record { forcing = room.forcing; ready = room.ready; busy = room.busy };
   each = λ b below. at b below (nat_eq a b) refl;
-  unhurt = unhurt_still plan s t a old.hurt hurt moved (is ∙ ap (λ (x : Bool). x || is_revert_failure (t.state a)) kept) listed.unhurt;
+  unhurt = unhurt_still plan s t a old.hurt hurt moved.states (is ∙ ap (λ (x : Bool). x || is_revert_failure (t.state a)) (kept ∙ spanned.hurt)) listed.unhurt;
 }
   where
     so : (b : ℕ) → ListedAt plan t third b → ListedAt plan t (record { forcing = third.forcing; ready = third.ready; busy = third.busy; hurt = hurt }) b
-    so b told = record { cases = told.cases; never = told.never; ready = told.ready; busy = told.busy }
+    so b told = record { cases = told.cases; never = told.never; again = told.again; ready = told.ready; busy = told.busy }
 
     at : (b : ℕ) → b < count plan → (x : Bool) → nat_eq a b ≡ x → ListedAt plan t (record { forcing = third.forcing; ready = third.ready; busy = third.busy; hurt = hurt }) b
     at b below true same = so b (subst (ListedAt plan t third) (eqb-true a b same) (here (subst (λ (n : ℕ). n < count plan) (sym (eqb-true a b same)) below)))
-    at b below false other = so b (around_at plan s t old third a b layout moved other (listed.each b below)
-        (moved_on plan t old second third b (moved_on plan t old first second b (moved1 b) (moved2 b)) (inl (others b other)))
-        (λ done inside able. alike plan t second third b (others b other) (listed_on plan t first second b (runs b done inside able) (moved2 b)))
-        (λ settled inside able. alike plan t second third b (others b other) (reverts b settled inside able)))
+    at b below false other = so b (by (holds_with plan flow b) refl)
+      where
+        -- it stays as it is, or is listed, from the start on
+        after : SameAt start third b ⊎ ListedAt plan t third b
+        after = moved_on plan t start second third b (moved_on plan t start first second b (moved1 b) (moved2 b)) (inl (others b other))
+
+        by : (x : Bool) → holds_with plan flow b ≡ x → ListedAt plan t third b
+        by true held = listed_on plan t start third b (spanned.listed b held) after
+        by false free = around_at plan s t old third a b moved.states (moved.others b other free) (listed.each b below)
+            (moved_on plan t old start third b (spanned.moved b) after)
+            (λ done inside able. alike plan t second third b (others b other) (listed_on plan t first second b (runs b done inside able) (moved2 b)))
+            (λ settled inside able. alike plan t second third b (others b other) (reverts b settled inside able))
+
+-- nothing is listed anew where no flow is named
+pub within_none : (plan : Outline) (s : Snapshot) (list : Worklist) → HasRoom plan list → IsListedWithin plan s None list list
+within_none plan s list room = record { room = room; hurt = refl; moved = λ a. inl (alike_now list a); listed = λ a never. absurd (cc) }
+
+-- the worklist after the atoms of a flow were listed, whose marks alone changed
+pub flow_listed : (plan : Outline) (s t : Snapshot) (g : ℕ) (old new : Worklist) → IsMovedAt plan (count plan) (Some g) s t → IsListed plan s old → IsListedWithin plan t (Some g) old new → IsListed plan t new
+flow_listed plan s t g old new moved listed spanned = record {
+  room = spanned.room;
+  each = λ b below. by b below (holds plan g b) refl;
+  unhurt = λ calm. all_of (count plan) (is_unhurt_at t) (λ b below.
+      ap (λ (x : AtomState). not (is_revert_failure x)) (moved.states b (apart b below)) ∙ all_at (count plan) (is_unhurt_at s) b (listed.unhurt (sym spanned.hurt ∙ calm)) below);
+}
+  where
+    apart : (b : ℕ) → b < count plan → nat_eq (count plan) b ≡ false
+    apart b below = never_true (nat_eq (count plan) b) (λ is. let same = eqb-true (count plan) b is in absurd (omega (arith, same, below)))
+
+    by : (b : ℕ) → b < count plan → (x : Bool) → holds plan g b ≡ x → ListedAt plan t new b
+    by b below true held = spanned.listed b held
+    by b below false free = around_at plan s t old new (count plan) b moved.states (moved.others b (apart b below) free) (listed.each b below) (spanned.moved b)
+        (λ done inside able. absurd (never_after inside))
+        (λ settled inside able. absurd (never_before inside))
+      where
+        never_after : has_number (successors_of plan (count plan)) b ≡ true → ⊥
+        never_after inside = let out : count plan < count plan = before_below_first plan (count plan) b (sym (successor_told plan (count plan) b) ∙ inside) in omega (arith, out)
+
+        never_before : has_number (predecessors_of plan (count plan)) b ≡ true → ⊥
+        never_before inside = let out : count plan < count plan = before_below plan b (count plan) (sym (predecessor_told plan b (count plan)) ∙ inside) in omega (arith, out)
 
 -- ---- some atoms, one after another
 
@@ -289,32 +307,21 @@ pub record AreSoFar (plan : Outline) (s : Snapshot) (how : Reach) (atoms left : 
 pub none_so_far : (plan : Outline) (s : Snapshot) (how : Reach) (atoms : List ℕ) (old : Worklist) → HasRoom plan old → AreSoFar plan s how atoms atoms old old
 none_so_far plan s how atoms old room = record { room = room; hurt = refl; moved = λ a. inl (alike_now old a); reached = λ a inside able. inl inside }
 
--- one more is as it was or listed, and listed where it is reached
-pub next_so_far : (plan : Outline) (s : Snapshot) (how : Reach) (atoms : List ℕ) (k d : ℕ) (old now new : Worklist) → k < length atoms → AreSoFar plan s how atoms (drop k atoms) old now
-    → HasRoom plan new → new.hurt ≡ now.hurt → ((b : ℕ) → SameAt now new b ⊎ ListedAt plan s new b) → (is_reached plan s how (get_or atoms k d) ≡ true → ListedAt plan s new (get_or atoms k d))
-    → AreSoFar plan s how atoms (drop (k + 1) atoms) old new
-next_so_far plan s how atoms k d old now new below far room kept moved here = record {
-  room = room;
-  hurt = kept ∙ far.hurt;
-  moved = λ a. moved_on plan s old now new a (far.moved a) (moved a);
+-- a stretch more is as it was or listed, and listed where it is reached
+pub stretch_so_far : (plan : Outline) (s : Snapshot) (how : Reach) (atoms : List ℕ) (k e x : ℕ) (old now new : Worklist) → IsPassed atoms k e x
+    → AreSoFar plan s how atoms (drop k atoms) old now → AreReached plan s how x (x + (e - k)) now new → AreSoFar plan s how atoms (drop e atoms) old new
+stretch_so_far plan s how atoms k e x old now new passed far are = record {
+  room = are.room;
+  hurt = are.hurt ∙ far.hurt;
+  moved = λ a. moved_on plan s old now new a (far.moved a) (are.moved a);
   reached = λ a inside able. elim (far.reached a inside able) [
-    | inl left ↦ next a able left (nat_eq a (get_or atoms k d)) refl
-    | inr listed ↦ inr (listed_on plan s now new a listed (moved a))
+    | inl left ↦ elim (left_or_there atoms k e x a passed left) [
+      | inl here ↦ inr (are.reached a here.0 here.1 able)
+      | inr behind ↦ inl behind
+    ]
+    | inr listed ↦ inr (listed_on plan s now new a listed (are.moved a))
   ];
 }
-  where
-    next : (a : ℕ) → is_reached plan s how a ≡ true → has_number (drop k atoms) a ≡ true → (x : Bool) → nat_eq a (get_or atoms k d) ≡ x → (has_number (drop (k + 1) atoms) a ≡ true) ⊎ ListedAt plan s new a
-    next a able left true same = inr (subst (ListedAt plan s new) (sym (eqb-true a (get_or atoms k d) same)) (here (subst (λ (b : ℕ). is_reached plan s how b ≡ true) (eqb-true a (get_or atoms k d) same) able)))
-    next a able left false other = inl (
-        ap (λ (n : ℕ). has_number (drop n atoms) a) (add-one k)
-        ∙ (sym (ap (λ (x : Bool). x || has_number (drop (suc k) atoms) a) other)
-        ∙ (sym (ap (λ (xs : List ℕ). has_number xs a) (drop_first atoms k d below)) ∙ left)))
-
--- a list has what stands at one of its places
-pub has_at : (atoms : List ℕ) (k d : ℕ) → k < length atoms → has_number atoms (get_or atoms k d) ≡ true
-has_at [] k d below = absurd (omega (arith, below))
-has_at (x ∷ xs) zero d below = true_first (nat_eq x x) _ (eq-eqb x x refl)
-has_at (x ∷ xs) (suc k) d below = true_second (nat_eq (get_or xs k d) x) _ (has_at xs k d (omega (arith, below)))
 
 pub all_so_far : (plan : Outline) (s : Snapshot) (how : Reach) (atoms : List ℕ) (k : ℕ) (old now : Worklist) → length atoms ≤ k → AreSoFar plan s how atoms (drop k atoms) old now
     → (a : ℕ) → has_number atoms a ≡ true → is_reached plan s how a ≡ true → ListedAt plan s now a
@@ -322,6 +329,48 @@ all_so_far plan s how atoms k old now past far a inside able = elim (far.reached
   | inl left ↦ let never : has_number [] a ≡ true = ap (λ (xs : List ℕ). has_number xs a) (sym (drop_whole atoms k past)) ∙ left in absurd (cc)
   | inr listed ↦ listed
 ]
+
+-- ---- atoms side by side, of which those are passed by that wait or are held
+
+-- where its counter isn't zero, an atom isn't reached
+unreached : (plan : Outline) (s : Snapshot) (how : Reach) (counters : Counters) (a : ℕ) → AreCounted plan s counters → a < count plan → get_or (counts_in how counters) a 0 ≢ 0 → is_reached plan s how a ≡ false
+unreached plan s reach.Run counters a are below other =
+    never_runs plan s a (nat_eq (waiting_of plan s a) 0) (none_waiting plan s a (waiting_of plan s a) refl)
+    (ap not (never_true (nat_eq (waiting_of plan s a) 0) (λ is. other (get_or_from_slice_get counters.waiting.items a (waiting_of plan s a) 0 (are.waiting.each a below) ∙ eqb-true (waiting_of plan s a) 0 is))))
+unreached plan s reach.Revert counters a are below other =
+    never_reverts plan s a (nat_eq (holding_of plan s a) 0) (none_holding plan s a (holding_of plan s a) refl)
+    (ap not (never_true (nat_eq (holding_of plan s a) 0) (λ is. other (get_or_from_slice_get counters.holding.items a (holding_of plan s a) 0 (are.holding.each a below) ∙ eqb-true (holding_of plan s a) 0 is))))
+
+pub as_many_counts : (plan : Outline) (s : Snapshot) (how : Reach) (counters : Counters) → AreCounted plan s counters → length (counts_in how counters) ≡ count plan
+as_many_counts plan s reach.Run counters are = are.waiting.as_many
+as_many_counts plan s reach.Revert counters are = are.holding.as_many
+
+pub none_reached : (plan : Outline) (s : Snapshot) (how : Reach) (counters : Counters) (counts : List ℕ) (first at : ℕ) (list : Worklist) → AreCounted plan s counters → counts ≡ counts_in how counters → HasRoom plan list → at ≤ count plan
+    → IsZeroless counts first at
+    → AreReached plan s how first at list list
+none_reached plan s how counters counts first at list are same room within none = record {
+  room = room;
+  hurt = refl;
+  moved = λ a. inl (alike_now list a);
+  reached = λ a low high able. absurd (clash (is_reached plan s how a) able (unreached plan s how counters a are (omega (arith, high, within)) (subst (λ (xs : List ℕ). get_or xs a 0 ≢ 0) same (none a 0 low high))));
+}
+
+-- one more is listed, and those behind it that aren't reached are passed by
+pub next_reached : (plan : Outline) (s : Snapshot) (how : Reach) (counters : Counters) (counts : List ℕ) (first at next : ℕ) (old now new : Worklist) → AreCounted plan s counters → counts ≡ counts_in how counters → next ≤ count plan → AreReached plan s how first at old now
+    → HasRoom plan new → new.hurt ≡ now.hurt → ListedAt plan s new at → ((b : ℕ) → nat_eq at b ≡ false → SameAt now new b) → IsZeroless counts (at + 1) next → AreReached plan s how first next old new
+next_reached plan s how counters counts first at next old now new are same within before room kept here others none = record {
+  room = room;
+  hurt = kept ∙ before.hurt;
+  moved = λ a. moved_on plan s old now new a (before.moved a) (moved_but plan s now new at a others here);
+  reached = λ a low high able. by a low high able (cases_lt a at) (nat_eq at a) refl;
+}
+  where
+    by : (a : ℕ) → first ≤ a → a < next → is_reached plan s how a ≡ true → (a < at) ⊎ (at ≤ a) → (x : Bool) → nat_eq at a ≡ x → ListedAt plan s new a
+    by a low high able (inl less) x other = listed_on plan s now new a (before.reached a low less able) (moved_but plan s now new at a others here)
+    by a low high able (inr from) true equal = subst (ListedAt plan s new) (eqb-true at a equal) here
+    by a low high able (inr from) false other =
+        let differ : at ≡ a → ⊥ = λ is. clash (nat_eq at a) (eq-eqb at a is) other in
+        absurd (clash (is_reached plan s how a) able (unreached plan s how counters a are (omega (arith, high, within)) (subst (λ (xs : List ℕ). get_or xs a 0 ≢ 0) same (none a 0 (omega (arith, from, differ)) high))))
 
 -- ---- all atoms, one after another
 
@@ -342,6 +391,42 @@ one_listed plan s n old new all room here others = record { room = room; each = 
         lower : (a : ℕ) → a < n + 1 → (a ≡ n → ⊥) → a < n
         lower a below apart = elim (cases_lt a n) [ inl less ↦ less | inr from ↦ absurd (apart (omega (arith, below, from))) ]
 
+-- ---- the atoms of a span, one after another
+
+-- so far: each is as it was or listed, and those of the span before n are listed
+pub record IsListedBelow (plan : Outline) (s : Snapshot) (first n : ℕ) (old new : Worklist) : Type 0 where
+  pub room : HasRoom plan new
+  pub hurt : new.hurt ≡ old.hurt
+  pub moved : (a : ℕ) → SameAt old new a ⊎ ListedAt plan s new a
+  pub listed : (a : ℕ) → first ≤ a → a < n → ListedAt plan s new a
+
+pub none_of_span : (plan : Outline) (s : Snapshot) (first : ℕ) (list : Worklist) → HasRoom plan list → IsListedBelow plan s first first list list
+none_of_span plan s first list room = record { room = room; hurt = refl; moved = λ a. inl (alike_now list a); listed = λ a low high. absurd (omega (arith, low, high)) }
+
+pub one_of_span : (plan : Outline) (s : Snapshot) (first n : ℕ) (old now new : Worklist) → IsListedBelow plan s first n old now → HasRoom plan new → new.hurt ≡ now.hurt → ListedAt plan s new n → ((b : ℕ) → nat_eq n b ≡ false → SameAt now new b)
+    → IsListedBelow plan s first (n + 1) old new
+one_of_span plan s first n old now new far room kept here others = record {
+  room = room;
+  hurt = kept ∙ far.hurt;
+  moved = λ a. moved_on plan s old now new a (far.moved a) (moved_but plan s now new n a others here);
+  listed = λ a low high. by a low high (nat_eq n a) refl;
+}
+  where
+    by : (a : ℕ) → first ≤ a → a < n + 1 → (x : Bool) → nat_eq n a ≡ x → ListedAt plan s new a
+    by a low high true same = subst (ListedAt plan s new) (eqb-true n a same) here
+    by a low high false other =
+        let differ : n ≡ a → ⊥ = λ is. clash (nat_eq n a) (eq-eqb n a is) other in
+        alike plan s now new a (others a other) (far.listed a low (omega (arith, high, differ)))
+
+-- those of a flow are listed where those of its span are
+pub all_of_span : (plan : Outline) (s : Snapshot) (flow : Option ℕ) (span : Span) (n : ℕ) (old new : Worklist) → span.end ≤ n → IsSpanAround plan flow span → IsListedBelow plan s span.first n old new → IsListedWithin plan s flow old new
+all_of_span plan s flow span n old new end around far = record {
+  room = far.room;
+  hurt = far.hurt;
+  moved = far.moved;
+  listed = λ a held. let inside = around.each a held in far.listed a inside.0 (let high = inside.1 in omega (arith, high, end));
+}
+
 -- every atom is listed, and whether one is REVERT_FAILURE is told
 pub whole_listed : (plan : Outline) (s : Snapshot) (n : ℕ) (list : Worklist) (calm : Bool) → count plan ≤ n → AllListed plan s n list → calm ≡ is_unhurt plan s
     → IsListed plan s (record { forcing = list.forcing; ready = list.ready; busy = list.busy; hurt = not calm })
@@ -349,7 +434,7 @@ whole_listed plan s n list calm most all is = record {
   room = record { forcing = all.room.forcing; ready = all.room.ready; busy = all.room.busy };
   each = λ a below.
       let told = all.each a (omega (arith, most, below)) in
-      record { cases = told.cases; never = told.never; ready = told.ready; busy = told.busy };
+      record { cases = told.cases; never = told.never; again = told.again; ready = told.ready; busy = told.busy };
   unhurt = λ not_hurt. sym is ∙ by calm not_hurt;
 }
   where
@@ -401,6 +486,7 @@ all_put plan s n forcing ready busy most room1 room2 room3 all1 all2 all3 = reco
   each = λ a below. record {
     cases = λ out. absurd (clash (has forcing a) (all1 a (omega (arith, most, below))) out);
     never = λ out. absurd (clash (has forcing a) (all1 a (omega (arith, most, below))) out);
+    again = λ out. absurd (clash (has forcing a) (all1 a (omega (arith, most, below))) out);
     ready = λ out. absurd (clash (has ready a) (all2 a (omega (arith, most, below))) out);
     busy = λ out. absurd (clash (has busy a) (all3 a (omega (arith, most, below))) out);
   };

@@ -1,12 +1,13 @@
 -- The eight cases in which an entry is forced.
-use Rattle.std.specs.Prelude.{◌≡◌, ℕ, ◌<◌, List, [], ◌∷◌, Bool, true, false, Option, Some, None, get_or, nat_lt, if◌then◌else◌}
+use Rattle.std.specs.Prelude.{◌≡◌, ℕ, ◌<◌, List, [], ◌∷◌, Bool, true, false, Option, Some, None, get_or, nat_lt, ◌&&◌, if◌then◌else◌}
 use Rattle.std.specs.Option.{option_or}
 use Rattle.tf_states.specs.declared.record.What.{What}
 use Rattle.tf_machine.specs.declared.cases.Case.{Case}
 use Rattle.tf_machine.specs.declared.cases.Case.TheVariants as case
 use Rattle.tf_machine.specs.declared.cases.Forcing.{Forcing}
 use Rattle.tf_machine.specs.declared.cases.Placed.{Placed}
-use Rattle.tf_model.specs.Plan.{Outline}
+use Rattle.tf_model.specs.Plan.{Outline, is_retry, own_flow}
+use Rattle.tf_model.specs.States.{is_success}
 use Rattle.tf_model.specs.Snapshot.{Snapshot}
 use Rattle.tf_model.specs.Forced as rule
 
@@ -20,6 +21,10 @@ applies plan s case.Retrying a = rule.is_to_begin_again plan s a
 applies plan s case.Revert a = rule.is_retry_to_revert plan s a
 applies plan s case.Ignore a = rule.is_refused plan s a
 applies plan s case.Run a = rule.is_retry_to_run plan s a
+
+-- a is a retry controller in SUCCESS, and a resolve of its own flow is to run it again
+abbrev pub is_asked_again : Outline → Snapshot → ℕ → Bool
+is_asked_again plan s a = (is_retry plan a && is_success (s.state a)) && rule.is_marked_again (own_flow plan a) (s.mark a)
 
 -- the entry of the case for atom a
 abbrev pub entry_in : Outline → Snapshot → Case → ℕ → What

@@ -1,5 +1,5 @@
 -- The tables before a run, and how they change.
-use Rattle.std.specs.Prelude.{◌≡◌, ℕ, zero, suc, List, [], ◌∷◌, ◌++◌, length, Bool, true, false, ◌&&◌, Option, Some, None, option_map, slice_get, if◌then◌else◌}
+use Rattle.std.specs.Prelude.{◌≡◌, ℕ, ◌<◌, zero, suc, List, [], ◌∷◌, ◌++◌, length, Bool, true, false, ◌&&◌, Option, Some, None, option_map, slice_get, if◌then◌else◌}
 use Rattle.tf_states.specs.declared.record.AtomView.{AtomView}
 use Rattle.tf_states.specs.declared.record.Payload.{Payload}
 use Rattle.tf_states.specs.declared.record.Payload.TheVariants as payload
@@ -12,9 +12,11 @@ use Rattle.tf_machine.specs.declared.tables.Change.TheVariants as change
 use Rattle.tf_machine.specs.declared.tables.Mark.{Mark}
 use Rattle.tf_machine.specs.declared.tables.Place.{Place}
 use Rattle.tf_model.specs.Forced.{is_marked_again}
-use Rattle.tf_model.specs.Plan.{Outline, holds, is_retry, own_flow}
+use Rattle.tf_model.specs.Plan.{Outline, count, holds, is_retry, own_flow}
 use Rattle.tf_model.specs.Snapshot.{held_after, attempts_in}
 use Rattle.tf_model.specs.States.{is_running}
+use Rattle.tf_machine.specs.declared.compiled.Span.{Span}
+use Rattle.tf_machine.specs.Compiled.{IsInSpan}
 use Rattle.tf_machine.specs.Tables.{resolve_of}
 
 -- the view of an atom before a run
@@ -70,6 +72,18 @@ changed plan change.Release a place = released place
 changed plan change.Unmark a place = marked None place
 changed plan (change.Begin own) a place = begun own place
 changed plan (change.Resolve mark) a place = if holds plan mark.flow a then marked (Some mark) place else place
+
+-- the mark of an atom's place is one of a flow that holds the atom
+abbrev pub IsMarkHeld : Outline → ℕ → Place → Type 0
+IsMarkHeld plan a place = (m : Mark) → place.mark ≡ Some m → holds plan m.flow a ≡ true
+
+-- so it is of each atom
+abbrev pub ArePlacesHeld : Outline → List Place → Type 0
+ArePlacesHeld plan places = (a : ℕ) (place : Place) → slice_get places a ≡ Some place → IsMarkHeld plan a place
+
+-- a change makes nothing of the place of an atom outside a span
+abbrev pub Stays : Outline → Change → Span → Type 0
+Stays plan change span = (a : ℕ) (place : Place) → a < count plan → IsMarkHeld plan a place → (IsInSpan span a → ⊥) → changed plan change a place ≡ place
 
 -- the place of each atom became what a change makes of it
 pub record AreChanged (change : ℕ → Place → Place) (old new : List Place) : Type 0 where

@@ -10,3 +10,4 @@ pub mod Changes
 pub mod TableFacts
 pub mod Counts
 pub mod Worklists
+pub mod Stretches

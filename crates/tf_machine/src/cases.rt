@@ -12,6 +12,7 @@ ghost use Rattle.tf_machine.specs.Worklists.{IsListed};
 use crate::compiled::Compiled;
 use crate::readiness::{can_revert, can_run};
 use crate::states::{is_failure, is_retrying, is_reverting, is_running, is_settled, is_success};
+use crate::stretches::next_in;
 use crate::tables::{Tables, is_marked_again};
 use crate::worklists::{Worklist, first_of};
 
@@ -63,7 +64,7 @@ const CASES: [Case; 8] = [
 ];
 
 /// The first case that applies, with the first atom to which it does. It is found in one pass over the atoms that are listed.
-#[tactic(auto, using(crate::proofs::FirstLemmas::none_yet, crate::proofs::FirstLemmas::next_first, crate::proofs::FirstLemmas::first_forced, crate::proofs::FirstLemmas::first_within, crate::proofs::FirstLemmas::none_forced))]
+#[tactic(auto, using(crate::proofs::FirstLemmas::none_yet, crate::proofs::FirstLemmas::next_first, crate::proofs::FirstLemmas::skipped_first, crate::proofs::FirstLemmas::first_forced, crate::proofs::FirstLemmas::first_within, crate::proofs::FirstLemmas::none_forced))]
 pub fn first_case(compiled: &Compiled, tables: &Tables, list: &Worklist) -> Option<Forcing>
     requires counted { IsCounted (outline_of compiled.now) tables.now }
     requires listed { IsListed (outline_of compiled.now) (shown_by tables.now) list.now }
@@ -72,9 +73,11 @@ pub fn first_case(compiled: &Compiled, tables: &Tables, list: &Worklist) -> Opti
     ensures atom { IfSome result (λ found. found.atom < count (outline_of compiled.now)) }
 {
     let mut first = None;
-    let start = first_of(&list.forcing, compiled.atoms());
-    for atom in start..compiled.atoms() {
-        first = sooner(first, listed_case(compiled, tables, list, atom), atom);
+    let count = compiled.atoms();
+    let mut atom = first_of(&list.forcing, count);
+    while atom < count {
+        first = sooner(first, case_at(compiled, tables, atom), atom);
+        atom = next_in(&list.forcing, atom + 1, count);
     }
     match first {
         None => None,
@@ -100,19 +103,6 @@ fn sooner(first: Option<Placed>, next: Option<usize>, atom: u16) -> Option<Place
             }
         }
     }
-}
-
-/// The place of the first case that applies to an atom, which is none where it isn't listed.
-fn listed_case(compiled: &Compiled, tables: &Tables, list: &Worklist, atom: u16) -> Option<usize>
-    requires counted { IsCounted (outline_of compiled.now) tables.now }
-    requires listed { IsListed (outline_of compiled.now) (shown_by tables.now) list.now }
-    requires atom { atom < count (outline_of compiled.now) }
-    ensures { specs.IsCaseAt (outline_of compiled.now) (shown_by tables.now) atom result }
-{
-    if !list.forcing.has(atom as usize) {
-        return None;
-    }
-    case_at(compiled, tables, atom)
 }
 
 /// The place of the first case that applies to an atom.
@@ -169,33 +159,39 @@ fn applies(compiled: &Compiled, tables: &Tables, case: Case, atom: u16) -> bool
 fn is_to_begin_again(compiled: &Compiled, tables: &Tables, atom: u16) -> bool
     ensures { result ≡ rule.is_to_begin_again (outline_of compiled.now) (shown_by tables.now) atom }
 {
-    if !compiled.is_retry(atom) || !is_success(tables.state(atom)) {
-        return false;
-    }
-    if !is_marked_again(compiled.own_flow(atom), tables.mark(atom)) {
+    if !is_asked_again(compiled, tables, atom) {
         return false;
     }
     are_settled_beside(compiled, tables, atom)
 }
 
-/// Whether every other atom of a retry controller's flow is settled. Each of these is after it.
-fn are_settled_beside(compiled: &Compiled, tables: &Tables, retry: u16) -> bool
-    requires { is_retry (outline_of compiled.now) retry ≡ true }
-    ensures { result ≡ all_below (count (outline_of compiled.now)) (rule.is_settled_beside (outline_of compiled.now) (shown_by tables.now) retry) }
+/// Whether a retry controller is SUCCESS and a resolve of its own flow is to run it again.
+pub fn is_asked_again(compiled: &Compiled, tables: &Tables, atom: u16) -> bool
+    ensures { result ≡ specs.is_asked_again (outline_of compiled.now) (shown_by tables.now) atom }
 {
-    are_settled_among(compiled, tables, retry, compiled.successors(retry))
+    compiled.is_retry(atom)
+        && is_success(tables.state(atom))
+        && is_marked_again(compiled.own_flow(atom), tables.mark(atom))
 }
 
-/// Whether each of these atoms that is another one of a retry controller's flow is settled.
-fn are_settled_among(compiled: &Compiled, tables: &Tables, retry: u16, atoms: &[u16]) -> bool
-    ensures { result ≡ list_all (rule.is_settled_beside (outline_of compiled.now) (shown_by tables.now) retry) atoms.now }
+/// Whether every other atom of a retry controller's flow is settled.
+fn are_settled_beside(compiled: &Compiled, tables: &Tables, retry: u16) -> bool
+    ensures { result ≡ all_below (count (outline_of compiled.now)) (rule.is_settled_beside (outline_of compiled.now) (shown_by tables.now) retry) }
 {
-    for atom in atoms {
-        if compiled.is_of_its_flow(retry, *atom) && !is_settled(tables.state(*atom)) {
+    let span = compiled.span_around(retry);
+    for atom in span.first..span.end {
+        if !is_settled_beside(compiled, tables, retry, atom) {
             return false;
         }
     }
     true
+}
+
+/// Whether an atom is settled, if it is another one of a retry controller's flow.
+fn is_settled_beside(compiled: &Compiled, tables: &Tables, retry: u16, atom: u16) -> bool
+    ensures { result ≡ rule.is_settled_beside (outline_of compiled.now) (shown_by tables.now) retry atom }
+{
+    !compiled.is_of_its_flow(retry, atom) || is_settled(tables.state(atom))
 }
 
 /// Whether an atom can run and is refused.

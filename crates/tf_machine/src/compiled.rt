@@ -13,7 +13,7 @@ ghost use Rattle.tf_model.specs.Before.{passes_flow};
 ghost use Rattle.tf_model.specs.Plan.{outline_of, count, is_task, is_retry, holds, own_flow, last_flow};
 ghost use Rattle.tf_model.specs.Candidates.{priority};
 ghost use Rattle.tf_machine.specs.Answers.{IsBuildRefusal};
-ghost use Rattle.tf_machine.specs.Compiled.{priority_at, AreDecided, AreWithin};
+ghost use Rattle.tf_machine.specs.Compiled.{priority_at, AreDecided, AreWithin, AreSpans, IsSpanAround, IsSpanOf};
 
 use crate::faults::BuildFault;
 use std::alloc::Global;
@@ -36,6 +36,14 @@ pub struct Compiled {
     priorities: Vec<i32>,
     greatest: i32,
     decided: Vec<bool>,
+    spans: Vec<Span>,
+}
+
+/// Atoms side by side: from the first on and before the end.
+#[derive(Clone, Copy, Debug)]
+pub struct Span {
+    pub first: u16,
+    pub end: u16,
 }
 
 impl Model for Compiled {
@@ -50,7 +58,7 @@ impl Model for Compiled {
 
     ghost view = { λ compiled. compiled.plan };
 
-    ghost invariant = { λ compiled. IsCompiled compiled.plan compiled.graph compiled.providers compiled.priorities.items compiled.greatest compiled.decided.items };
+    ghost invariant = { λ compiled. IsCompiled compiled.plan compiled.graph compiled.providers compiled.priorities.items compiled.greatest compiled.decided.items compiled.spans.items };
 }
 
 impl Compiled {
@@ -67,6 +75,7 @@ impl Compiled {
         let priorities = priorities(alloc, &plan)?;
         let greatest = greatest(&priorities);
         let decided = decided(alloc, &plan)?;
+        let spans = spans(alloc, &plan)?;
         Ok(Compiled {
             plan,
             graph,
@@ -74,6 +83,7 @@ impl Compiled {
             priorities,
             greatest,
             decided,
+            spans,
         })
     }
 
@@ -198,10 +208,7 @@ impl Compiled {
     pub fn holds(&self, flow: usize, atom: u16) -> bool
         ensures { result ≡ holds (outline_of self.now) flow atom }
     {
-        if atom >= self.plan.atoms() {
-            return false;
-        }
-        passes_flow(self.plan.way(atom), flow)
+        holds(&self.plan, flow, atom)
     }
 
     /// The flow in which an atom stands itself, as its retry controller or as an item.
@@ -212,6 +219,37 @@ impl Compiled {
             return None;
         }
         last_flow(self.plan.way(atom))
+    }
+
+    /// Atoms side by side among which are all that a flow holds.
+    pub fn span(&self, flow: usize) -> Span
+        ensures { IsSpanOf (outline_of self.now) flow result }
+    {
+        match self.spans.get(flow) {
+            Some(span) => *span,
+            None => Span {
+                first: 0,
+                end: self.plan.atoms(),
+            },
+        }
+    }
+
+    /// Atoms side by side among which are all of the flow in which an atom stands itself.
+    pub fn span_around(&self, atom: u16) -> Span
+        ensures { IsSpanAround (outline_of self.now) (own_flow (outline_of self.now) atom) result }
+    {
+        self.span_of(self.own_flow(atom))
+    }
+
+    /// The same of a flow, if one is named.
+    #[tactic(auto, using(crate::proofs::SpanLemmas::named_span, crate::proofs::SpanLemmas::unnamed_span))]
+    pub fn span_of(&self, flow: Option<usize>) -> Span
+        ensures { IsSpanAround (outline_of self.now) flow result }
+    {
+        match flow {
+            Some(flow) => self.span(flow),
+            None => Span { first: 0, end: 0 },
+        }
     }
 
     /// All atoms before this one, ascending.
@@ -246,6 +284,17 @@ impl Compiled {
     {
         !is_less(self.priority(atom), self.greatest)
     }
+}
+
+/// Whether a flow of a plan holds an atom, at any depth.
+#[tactic(auto, using(crate::proofs::PlanLemmas::atoms_counted))]
+fn holds(plan: &Plan, flow: usize, atom: u16) -> bool
+    ensures { result ≡ holds (outline_of plan.now) flow atom }
+{
+    if atom >= plan.atoms() {
+        return false;
+    }
+    passes_flow(plan.way(atom), flow)
 }
 
 /// Whether a way leads into a flow.
@@ -313,4 +362,44 @@ fn decided(alloc: Global, plan: &Plan) -> Result<Vec<bool>, Memory>
         decided.push(has_decider(plan, atom))?;
     }
     Ok(decided)
+}
+
+/// For each flow of a plan, by number, atoms side by side among which are all that it holds.
+#[tactic(auto, using(crate::proofs::SpanLemmas::no_span, crate::proofs::SpanLemmas::one_span))]
+fn spans(alloc: Global, plan: &Plan) -> Result<Vec<Span>, Memory>
+    ensures { IfOk result (λ spans. AreSpans (outline_of plan.now) spans.items) }
+{
+    let mut spans = Vec::new(alloc);
+    for flow in 0..plan.flows() {
+        spans.push(span_in(plan, flow as usize))?;
+    }
+    Ok(spans)
+}
+
+/// Atoms of a plan side by side among which are all that a flow holds.
+#[tactic(auto, using(crate::proofs::PlanLemmas::atoms_counted, crate::proofs::SpanLemmas::no_atom, crate::proofs::SpanLemmas::atom_out, crate::proofs::SpanLemmas::atom_in, crate::proofs::SpanLemmas::all_atoms))]
+fn span_in(plan: &Plan, flow: usize) -> Span
+    ensures { IsSpanOf (outline_of plan.now) flow result }
+{
+    let mut span = Span {
+        first: plan.atoms(),
+        end: 0,
+    };
+    for atom in 0..plan.atoms() {
+        if holds(plan, flow, atom) {
+            span = Span {
+                first: least(span.first, atom),
+                end: atom + 1,
+            };
+        }
+    }
+    span
+}
+
+/// The lesser of two numbers.
+fn least(first: u16, second: u16) -> u16
+    ensures first { result ≤ first }
+    ensures second { result ≤ second }
+{
+    if first < second { first } else { second }
 }

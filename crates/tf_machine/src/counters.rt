@@ -1,12 +1,14 @@
-ghost use Rattle.std.specs.Prelude.{◌≡◌, ◌<◌, ℕ, true, IfOk, length, nat_eq, slice_get, if◌then◌else◌};
+ghost use Rattle.std.specs.Prelude.{◌≡◌, ◌<◌, ◌≤◌, ℕ, true, IfOk, length, nat_eq, slice_get, if◌then◌else◌};
 ghost use Rattle.tf_numbers.specs.Numbers.{has_number};
 ghost use Rattle.tf_states.specs.declared.state.AtomState.TheVariants.{Pending as pending};
 ghost use Rattle.tf_model.specs.Plan.{Outline, outline_of, count};
 ghost use Rattle.tf_model.specs.Snapshot.{Snapshot};
+ghost use Rattle.tf_machine.specs.Stretches.{AreApart, AreSteppedFrom};
 ghost use Rattle.tf_machine.specs.Counts.{AreCounted, AreDistinct, after_steps, after_turn, stepped, waiting_of, holding_of};
 
 use crate::compiled::Compiled;
 use crate::states::{is_done, is_settled};
+use crate::stretches::stretch_end;
 use std::alloc::Global;
 use tf_states::AtomState;
 use tf_values::Memory;
@@ -79,11 +81,12 @@ impl Counters {
 }
 
 /// Where a truth turned, the number of each of these atoms becomes one more, or one less where it is so now.
-fn turn_each(was: bool, is: bool, atoms: &[u16], counts: &mut Vec<u16>)
+fn turn_each(was: bool, is: bool, atoms: &[u16], counts: &mut [u16])
     requires distinct { AreDistinct atoms.now }
-    requires within { (a : ℕ) → has_number atoms.now a ≡ true → a < length counts.old.items }
-    ensures as_many { length counts.new.items ≡ length counts.old.items }
-    ensures each { (a : ℕ) → slice_get counts.new.items a ≡ after_turn was is atoms.now counts.old.items a }
+    requires apart { AreApart atoms.now }
+    requires within { (a : ℕ) → has_number atoms.now a ≡ true → a < length counts.old }
+    ensures as_many { length counts.new ≡ length counts.old }
+    ensures each { (a : ℕ) → slice_get counts.new a ≡ after_turn was is atoms.now counts.old a }
 {
     if was == is {
         return;
@@ -91,16 +94,32 @@ fn turn_each(was: bool, is: bool, atoms: &[u16], counts: &mut Vec<u16>)
     step_each(was, atoms, counts);
 }
 
-/// The number of each of these atoms becomes one more, or one less.
-fn step_each(more: bool, atoms: &[u16], counts: &mut Vec<u16>)
+/// The number of each of these atoms becomes one more, or one less. Those side by side are passed in one stretch.
+fn step_each(more: bool, atoms: &[u16], counts: &mut [u16])
     requires distinct { AreDistinct atoms.now }
-    requires within { (a : ℕ) → has_number atoms.now a ≡ true → a < length counts.old.items }
-    ensures as_many { length counts.new.items ≡ length counts.old.items }
-    ensures each { (a : ℕ) → slice_get counts.new.items a ≡ after_steps more atoms.now counts.old.items a }
+    requires apart { AreApart atoms.now }
+    requires within { (a : ℕ) → has_number atoms.now a ≡ true → a < length counts.old }
+    ensures as_many { length counts.new ≡ length counts.old }
+    ensures each { (a : ℕ) → slice_get counts.new a ≡ after_steps more atoms.now counts.old a }
 {
-    for atom in atoms {
-        let count = counts[*atom as usize];
-        counts[*atom as usize] = stepped(more, count);
+    let mut start = 0;
+    while start < atoms.len() {
+        let end = stretch_end(atoms, start);
+        let first = atoms[start] as usize;
+        step_stretch(more, first, first + (end - start), counts);
+        start = end;
+    }
+}
+
+/// The numbers from a place on and before another become one more, or one less.
+#[tactic(auto, using(crate::proofs::StretchLemmas::none_from, crate::proofs::StretchLemmas::one_from))]
+fn step_stretch(more: bool, first: usize, past: usize, counts: &mut [u16])
+    requires order { first ≤ past }
+    requires within { past ≤ length counts.old }
+    ensures { AreSteppedFrom more first past counts.old counts.new }
+{
+    for place in first..past {
+        counts[place] = stepped(more, counts[place]);
     }
 }
 

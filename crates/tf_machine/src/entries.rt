@@ -181,11 +181,11 @@ fn again_entry(compiled: &Compiled, tables: &Tables, retry: u16) -> What
 }
 
 /// The first atom of a retry controller's flow that is to be put back.
-#[tactic(auto, using(tf_numbers::proofs::BelowLemmas::still_none))]
 fn first_to_put_back(compiled: &Compiled, tables: &Tables, retry: u16) -> Option<u16>
     ensures { result ≡ first_below (count (outline_of compiled.now)) (rule.is_to_put_back (outline_of compiled.now) (shown_by tables.now) retry) }
 {
-    for atom in 0..compiled.atoms() {
+    let span = compiled.span_around(retry);
+    for atom in span.first..span.end {
         if is_to_put_back(compiled, tables, retry, atom) {
             return Some(atom);
         }

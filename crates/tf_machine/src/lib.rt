@@ -16,6 +16,7 @@ mod orders;
 mod readiness;
 mod states;
 mod steps;
+mod stretches;
 mod tables;
 mod tries;
 mod worklists;

@@ -54,23 +54,3 @@ fn are_settled_after(compiled: &Compiled, tables: &Tables, atom: u16) -> bool
 {
     tables.counters.holding(atom) == 0
 }
-
-/// Whether an atom waits for another, so that it can't run.
-#[tactic(auto, using(crate::proofs::ReadinessLemmas::never_runs))]
-pub fn is_waiting(compiled: &Compiled, tables: &Tables, atom: u16) -> bool
-    requires counted { IsCounted (outline_of compiled.now) tables.now }
-    requires atom { atom < count (outline_of compiled.now) }
-    ensures { result ≡ true → can_run (outline_of compiled.now) (shown_by tables.now) atom ≡ false }
-{
-    !are_done_before(compiled, tables, atom)
-}
-
-/// Whether an atom is held by another, so that it can't revert.
-#[tactic(auto, using(crate::proofs::ReadinessLemmas::never_reverts))]
-pub fn is_held(compiled: &Compiled, tables: &Tables, atom: u16) -> bool
-    requires counted { IsCounted (outline_of compiled.now) tables.now }
-    requires atom { atom < count (outline_of compiled.now) }
-    ensures { result ≡ true → can_revert (outline_of compiled.now) (shown_by tables.now) atom ≡ false }
-{
-    !are_settled_after(compiled, tables, atom)
-}

@@ -1,4 +1,4 @@
-ghost use Rattle.std.specs.Prelude.{◌≡◌, ◌<◌, ◌&&◌, ℕ, Some, None, IfOk, length, option_map, nat_eq, if◌then◌else◌};
+ghost use Rattle.std.specs.Prelude.{◌≡◌, ◌<◌, ◌≤◌, ◌&&◌, ℕ, Some, None, IfOk, length, option_map, nat_eq, if◌then◌else◌};
 ghost use Rattle.tf_states.specs.declared.record.Payload.{Payload as PayloadValue};
 ghost use Rattle.tf_states.specs.declared.record.What.TheVariants.{Atom as atom_enters};
 ghost use Rattle.tf_states.specs.declared.state.FlowState.TheVariants.{Pending as pending_flow};
@@ -11,9 +11,10 @@ ghost use Rattle.tf_machine.specs.Answers.{is_with};
 ghost use Rattle.tf_model.specs.Forced.{is_marked_again};
 ghost use Rattle.tf_machine.specs.Tables.{shown_by, resolve_of};
 ghost use Rattle.tf_machine.specs.Counts.{IsCounted};
-ghost use Rattle.tf_machine.specs.Changes.{first_views, first_places, entered_view, entered_place, AreChanged, changed, turned, cleared, marked, begun};
+ghost use Rattle.tf_machine.specs.Worklists.{AreMarksHeld};
+ghost use Rattle.tf_machine.specs.Changes.{first_views, first_places, entered_view, entered_place, ArePlacesHeld, AreChanged, Stays, changed, turned, cleared, marked, begun};
 
-use crate::compiled::Compiled;
+use crate::compiled::{Compiled, Span};
 use crate::counters::Counters;
 use crate::states::{flow_rests, flow_resumes, is_at_work, is_running};
 use std::alloc::Global;
@@ -168,6 +169,7 @@ impl Tables {
         requires views { length self.old.views.items ≡ count (outline_of compiled.now) }
         requires places { length self.old.places.items ≡ count (outline_of compiled.now) }
         requires counted { IsCounted (outline_of compiled.now) self.old }
+        requires marked { AreMarksHeld (outline_of compiled.now) (shown_by self.old) }
         requires step { Step (outline_of compiled.now) (shown_by self.old) entry }
         ensures moved { shown_by self.new ≡ later (outline_of compiled.now) entry (shown_by self.old) }
         ensures views { length self.new.views.items ≡ length self.old.views.items }
@@ -293,7 +295,8 @@ fn attempts_in(state: AtomState, before: u32) -> u32
 /// An atom enters a state: where it is a retry controller that begins to run, the marks of its own flow's
 /// resolve to run again are gone.
 fn clear_each(compiled: &Compiled, places: &mut [Place], atom: u16, state: AtomState)
-    requires { length places.old ≡ count (outline_of compiled.now) }
+    requires count { length places.old ≡ count (outline_of compiled.now) }
+    requires marked { ArePlacesHeld (outline_of compiled.now) places.old }
     ensures { AreChanged (λ a. cleared (outline_of compiled.now) atom state) places.old places.new }
 {
     if !is_running(state) || !compiled.is_retry(atom) {
@@ -305,7 +308,8 @@ fn clear_each(compiled: &Compiled, places: &mut [Place], atom: u16, state: AtomS
 /// The flow enters a state: as it becomes RESUMING nothing is in flight any more, and as it becomes
 /// PENDING no mark is left.
 fn turn_each(compiled: &Compiled, places: &mut [Place], state: FlowState)
-    requires { length places.old ≡ count (outline_of compiled.now) }
+    requires count { length places.old ≡ count (outline_of compiled.now) }
+    requires marked { ArePlacesHeld (outline_of compiled.now) places.old }
     ensures { AreChanged (λ a. turned state) places.old places.new }
 {
     if flow_resumes(state) {
@@ -317,14 +321,32 @@ fn turn_each(compiled: &Compiled, places: &mut [Place], state: FlowState)
     }
 }
 
-/// Changes the place of each atom.
+/// Changes the place of each atom. Those outside a span stay as they are, and aren't looked at.
 fn change_each(compiled: &Compiled, places: &mut [Place], change: Change)
-    requires { length places.old ≡ count (outline_of compiled.now) }
+    requires count { length places.old ≡ count (outline_of compiled.now) }
+    requires marked { ArePlacesHeld (outline_of compiled.now) places.old }
     ensures { AreChanged (changed (outline_of compiled.now) change) places.old places.new }
 {
-    for atom in 0..compiled.atoms() {
+    let span = reach_of(compiled, change);
+    for atom in span.first..span.end {
         let place = places[atom as usize];
         places[atom as usize] = changed(compiled, change, atom, place);
+    }
+}
+
+/// The atoms whose places a change may change.
+#[tactic(auto, using(crate::proofs::ChangeLemmas::stays_whole))]
+fn reach_of(compiled: &Compiled, change: Change) -> Span
+    ensures within { result.end ≤ count (outline_of compiled.now) }
+    ensures others { Stays (outline_of compiled.now) change result }
+{
+    match change {
+        Change::Release | Change::Unmark => Span {
+            first: 0,
+            end: compiled.atoms(),
+        },
+        Change::Begin(own) => compiled.span_of(own),
+        Change::Resolve(mark) => compiled.span(mark.flow as usize),
     }
 }
 

@@ -1,25 +1,28 @@
 //! Where the next entry is looked for.
-ghost use Rattle.std.specs.Prelude.{◌≡◌, ◌<◌, ◌≤◌, ◌⊎◌, ◌&&◌, ℕ, true, false, IfOk, nat_eq, None};
+ghost use Rattle.std.specs.Prelude.{◌≡◌, ◌<◌, ◌≤◌, ◌⊎◌, ◌&&◌, ℕ, true, false, IfOk, nat_eq, Option, None};
 ghost use Rattle.tf_numbers.specs.Numbers.{has_number};
 ghost use Rattle.tf_links.specs.Bits.{has};
 ghost use Rattle.tf_model.specs.Plan.{outline_of, count, is_retry};
 ghost use Rattle.tf_model.specs.Readiness.{can_run};
 ghost use Rattle.tf_model.specs.Snapshot.{Snapshot, later};
-ghost use Rattle.tf_machine.specs.Counts.{IsCounted};
+ghost use Rattle.tf_machine.specs.Counts.{IsCounted, AreDistinct};
 ghost use Rattle.tf_machine.specs.Tables.{shown_by};
 ghost use Rattle.tf_model.specs.Deciders.{refused};
 ghost use Rattle.tf_model.specs.States.{is_running};
 ghost use Rattle.tf_machine.specs.Cases as specs;
+ghost use Rattle.tf_machine.specs.Cases.{is_asked_again};
 ghost use Rattle.tf_machine.specs.declared.cases.Case.{Case as AnyCase};
-ghost use Rattle.tf_machine.specs.declared.worklists.Extent.TheVariants.{Around as around};
-ghost use Rattle.tf_machine.specs.Worklists.{IsListed, ListedAt, SameAt, HasRoom, AreMoved, is_reached, event};
+ghost use Rattle.tf_machine.specs.Compiled.{IsSpanAround};
+ghost use Rattle.tf_machine.specs.Stretches.{AreApart};
+ghost use Rattle.tf_machine.specs.Worklists.{IsListed, ListedAt, SameAt, HasRoom, AreMoved, AreMarksHeld, IsMovedAt, IsListedWithin, AreReached, is_reached, counts_in, event};
 
 use crate::candidates::is_candidate;
-use crate::cases::case_at;
-use crate::compiled::Compiled;
+use crate::cases::{case_at, is_asked_again};
+use crate::compiled::{Compiled, Span};
 use crate::forcing::are_unhurt;
-use crate::readiness::{can_run, is_held, is_waiting};
+use crate::readiness::can_run;
 use crate::states::{is_done, is_revert_failure, is_running, is_settled};
+use crate::stretches::{next_zero, stretch_end};
 use crate::tables::Tables;
 use std::alloc::Global;
 use tf_links::Bits;
@@ -43,6 +46,10 @@ pub enum Extent {
     All,
     /// Of this atom, whose state and hand alone it changes, and of those before it and after it.
     Around(u16),
+    /// Of those that this flow holds, whose marks alone it changes.
+    Flow(u16),
+    /// Of this retry controller, whose state it changes, of those of its own flow, whose marks it changes, and of those before it and after it.
+    Begin(u16),
 }
 
 /// Why an atom may have become able to do something.
@@ -56,18 +63,19 @@ pub enum Reach {
 
 /// Of which atoms this entry may change what is to be done with them.
 pub fn extent_of(compiled: &Compiled, what: &What) -> Extent
-    ensures { (s : Snapshot) (hand : ℕ) → AreMoved s result (later (outline_of compiled.now) (event hand what.now) s) }
+    ensures { (s : Snapshot) (hand : ℕ) → AreMarksHeld (outline_of compiled.now) s
+        → AreMoved (outline_of compiled.now) s result (later (outline_of compiled.now) (event hand what.now) s) }
 {
     match what {
         What::Atom { atom, state, .. } => {
             if begins_attempt(compiled, *atom, *state) {
-                Extent::All
+                Extent::Begin(*atom)
             } else {
                 Extent::Around(*atom)
             }
         }
         What::Flow(_) => Extent::All,
-        What::Resolve { .. } => Extent::All,
+        What::Resolve { flow, .. } => Extent::Flow(*flow),
         What::Restart(atom) => Extent::Around(*atom),
     }
 }
@@ -106,12 +114,30 @@ impl Worklist {
     pub fn follow(&mut self, compiled: &Compiled, tables: &Tables, extent: Extent)
         requires counted { IsCounted (outline_of compiled.now) tables.now }
         requires room { HasRoom (outline_of compiled.now) self.old }
-        ensures { (s : Snapshot) → IsListed (outline_of compiled.now) s self.old → AreMoved s extent (shown_by tables.now)
+        ensures { (s : Snapshot) → IsListed (outline_of compiled.now) s self.old → AreMoved (outline_of compiled.now) s extent (shown_by tables.now)
             → IsListed (outline_of compiled.now) (shown_by tables.now) self.new }
     {
         match extent {
             Extent::All => self.list_all(compiled, tables),
             Extent::Around(atom) => self.list_around(compiled, tables, atom),
+            Extent::Flow(flow) => self.list_span(compiled, tables, compiled.span(flow as usize)),
+            Extent::Begin(atom) => {
+                self.list_span(compiled, tables, compiled.span_around(atom));
+                self.list_around(compiled, tables, atom);
+            }
+        }
+    }
+
+    /// Lists the atoms of a span as they are now.
+    fn list_span(&mut self, compiled: &Compiled, tables: &Tables, span: Span)
+        requires counted { IsCounted (outline_of compiled.now) tables.now }
+        requires room { HasRoom (outline_of compiled.now) self.old }
+        requires within { span.end ≤ count (outline_of compiled.now) }
+        ensures { (flow : Option ℕ) → IsSpanAround (outline_of compiled.now) flow span
+            → IsListedWithin (outline_of compiled.now) (shown_by tables.now) flow self.old self.new }
+    {
+        for atom in span.first..span.end {
+            self.list(compiled, tables, atom);
         }
     }
 
@@ -128,11 +154,13 @@ impl Worklist {
         self.hurt = !are_unhurt(compiled, tables);
     }
 
-    /// Lists an atom whose state or hand changed, and those before it and after it.
+    /// Lists an atom whose state or hand changed, and those before it and after it. The atoms of a flow whose marks changed, too, are listed already.
     fn list_around(&mut self, compiled: &Compiled, tables: &Tables, atom: u16)
         requires counted { IsCounted (outline_of compiled.now) tables.now }
         requires room { HasRoom (outline_of compiled.now) self.old }
-        ensures { (s : Snapshot) → IsListed (outline_of compiled.now) s self.old → AreMoved s (around atom) (shown_by tables.now)
+        ensures { (s : Snapshot) (flow : Option ℕ) (old : Worklist) → IsListed (outline_of compiled.now) s old
+            → IsListedWithin (outline_of compiled.now) (shown_by tables.now) flow old self.old
+            → IsMovedAt (outline_of compiled.now) atom flow s (shown_by tables.now)
             → IsListed (outline_of compiled.now) (shown_by tables.now) self.new }
     {
         let state = tables.state(atom);
@@ -144,7 +172,7 @@ impl Worklist {
         self.hurt = self.hurt | is_revert_failure(state);
     }
 
-    /// Where they may be reached, lists those of these atoms that are.
+    /// Where they may be reached, lists those of these atoms that are. Those side by side are passed in one stretch.
     #[tactic(auto, using(crate::proofs::WorkLemmas::none_so_far, crate::proofs::WorkLemmas::all_so_far, crate::proofs::WorkLemmas::moved_none))]
     fn list_each(
         &mut self,
@@ -156,6 +184,8 @@ impl Worklist {
     )
         requires counted { IsCounted (outline_of compiled.now) tables.now }
         requires room { HasRoom (outline_of compiled.now) self.old }
+        requires distinct { AreDistinct atoms.now }
+        requires apart { AreApart atoms.now }
         requires within { (a : ℕ) → has_number atoms.now a ≡ true → a < count (outline_of compiled.now) }
         ensures room { HasRoom (outline_of compiled.now) self.new }
         ensures hurt { self.new.hurt ≡ self.old.hurt }
@@ -167,25 +197,36 @@ impl Worklist {
         if !may {
             return;
         }
-        for atom in atoms {
-            self.list_reached(compiled, tables, reach, *atom);
+        let mut start = 0;
+        while start < atoms.len() {
+            let end = stretch_end(atoms, start);
+            let first = atoms[start] as usize;
+            self.list_stretch(compiled, tables, reach, first, first + (end - start));
+            start = end;
         }
     }
 
-    /// Lists an atom as it is now, if it may be reached so.
-    #[tactic(auto, using(crate::proofs::WorkLemmas::moved_but, crate::proofs::WorkLemmas::moved_none, crate::proofs::WorkLemmas::not_reached))]
-    fn list_reached(&mut self, compiled: &Compiled, tables: &Tables, reach: Reach, atom: u16)
+    /// Lists those that may be reached of the atoms from one on and before another.
+    fn list_stretch(
+        &mut self,
+        compiled: &Compiled,
+        tables: &Tables,
+        reach: Reach,
+        first: usize,
+        past: usize,
+    )
         requires counted { IsCounted (outline_of compiled.now) tables.now }
         requires room { HasRoom (outline_of compiled.now) self.old }
-        requires atom { atom < count (outline_of compiled.now) }
-        ensures room { HasRoom (outline_of compiled.now) self.new }
-        ensures hurt { self.new.hurt ≡ self.old.hurt }
-        ensures moved { (a : ℕ) → SameAt self.old self.new a ⊎ ListedAt (outline_of compiled.now) (shown_by tables.now) self.new a }
-        ensures reached { is_reached (outline_of compiled.now) (shown_by tables.now) reach atom ≡ true
-            → ListedAt (outline_of compiled.now) (shown_by tables.now) self.new atom }
+        requires order { first ≤ past }
+        requires within { past ≤ count (outline_of compiled.now) }
+        ensures { AreReached (outline_of compiled.now) (shown_by tables.now) reach first past self.old self.new }
     {
-        if may_be_reached(compiled, tables, reach, atom) {
-            self.list(compiled, tables, atom);
+        compiled.atoms();
+        let counts = counts_of(tables, reach);
+        let mut atom = next_zero(counts, first, past);
+        while atom < past {
+            self.list(compiled, tables, atom as u16);
+            atom = next_zero(counts, atom + 1, past);
         }
     }
 
@@ -222,15 +263,13 @@ impl Worklist {
     }
 }
 
-/// Whether an atom may be reached so.
-fn may_be_reached(compiled: &Compiled, tables: &Tables, reach: Reach, atom: u16) -> bool
-    requires counted { IsCounted (outline_of compiled.now) tables.now }
-    requires atom { atom < count (outline_of compiled.now) }
-    ensures { result ≡ false → is_reached (outline_of compiled.now) (shown_by tables.now) reach atom ≡ false }
+/// The counters by which it is told whether an atom may be reached so: none of the others is in the way where it is zero.
+fn counts_of(tables: &Tables, reach: Reach) -> &[u16]
+    ensures { result.now ≡ counts_in reach tables.now.counters }
 {
     match reach {
-        Reach::Run => !is_waiting(compiled, tables, atom),
-        Reach::Revert => !is_held(compiled, tables, atom) || compiled.is_retry(atom),
+        Reach::Run => &tables.counters.waiting,
+        Reach::Revert => &tables.counters.holding,
     }
 }
 
@@ -242,8 +281,12 @@ fn may_be_forced(compiled: &Compiled, tables: &Tables, atom: u16) -> bool
     ensures cases { result ≡ false → (k : AnyCase) → specs.applies (outline_of compiled.now) (shown_by tables.now) k atom ≡ false }
     ensures never { result ≡ false → can_run (outline_of compiled.now) (shown_by tables.now) atom ≡ true
         → (s : Snapshot) → refused (outline_of compiled.now) s atom ≡ None }
+    ensures again { result ≡ false → is_asked_again (outline_of compiled.now) (shown_by tables.now) atom ≡ false }
 {
     if compiled.is_decided(atom) && can_run(compiled, tables, atom) {
+        return true;
+    }
+    if is_asked_again(compiled, tables, atom) {
         return true;
     }
     case_at(compiled, tables, atom).is_some()

@@ -1,19 +1,16 @@
-use Rattle.std.proofs.Common.{◌∙◌, ap, arith}
-use Rattle.tf_machine.specs.Counts.{stepped}
-use Rattle.tf_machine.proofs.CountLemmas.{first_within, one_stepped}
+use Rattle.std.proofs.Common.{get_or, length}
+use Rattle.tf_machine.proofs.CountLemmas.{stretch_stepped}
+use Rattle.tf_machine.proofs.StretchLemmas.{passed, stretch_within}
 use Rattle.tf_machine.proofs.counters.step_each.Goals as goal
 
-pub index-count-requires : goal.index-count-requires
-index-count-requires c =
-    let below = first_within c.args.more c.args.atoms.now c.loop-atom.atom-index 0 c.args.counts.now.items c.loop-atom.counts.items c.loop-atom-test.true c.loop-atom.invariant in
-    omega (arith, below)
+pub step_stretch-requires-clause-within : goal.step_stretch-requires-clause-within
+step_stretch-requires-clause-within c =
+    stretch_within c.args.atoms.now c.loop-start.start c.stretch_end-end.result (get_or c.args.atoms.now c.loop-start.start 0) (length c.loop-start.counts)
+    (passed c.args.atoms.now c.loop-start.start c.stretch_end-end.result c.requires.distinct c.stretch_end-end.ensures.begins c.stretch_end-end.ensures.ends c.stretch_end-end.ensures.beside)
+    c.stretch_end-end.ensures.begins c.loop-start.invariant.within
 
-pub index_mut-requires : goal.index_mut-requires
-index_mut-requires c =
-    let below = first_within c.args.more c.args.atoms.now c.loop-atom.atom-index 0 c.args.counts.now.items c.loop-atom.counts.items c.loop-atom-test.true c.loop-atom.invariant in
-    omega (arith, below)
-
-pub loop-atom-preserved : goal.loop-atom-preserved
-loop-atom-preserved c =
-    one_stepped c.args.more c.args.atoms.now c.loop-atom.atom-index 0 c.args.counts.now.items c.loop-atom.counts.items c.stepped.result _ c.loop-atom-test.true
-    (c.stepped.ensures ∙ ap (stepped c.args.more) c.index-count.ensures) c.loop-atom.invariant
+pub loop-start-preserved : goal.loop-start-preserved
+loop-start-preserved c =
+    stretch_stepped c.args.more c.args.atoms.now c.loop-start.start c.stretch_end-end.result (get_or c.args.atoms.now c.loop-start.start 0) c.args.counts.now c.loop-start.counts c.step_stretch.new.counts
+    (passed c.args.atoms.now c.loop-start.start c.stretch_end-end.result c.requires.distinct c.stretch_end-end.ensures.begins c.stretch_end-end.ensures.ends c.stretch_end-end.ensures.beside)
+    c.step_stretch.ensures c.loop-start.invariant

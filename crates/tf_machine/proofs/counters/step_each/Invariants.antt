@@ -1,6 +1,9 @@
-use Rattle.std.proofs.Common.{drop}
+use Rattle.std.proofs.Common.{◌-◌, drop, length}
 use Rattle.tf_machine.proofs.CountLemmas.{AreStepped}
 use Rattle.tf_machine.proofs.counters.step_each.Given as goal
 
-abbrev pub invariant-loop-atom : goal.invariant-loop-atom
-invariant-loop-atom l = AreStepped l.more l.atoms (drop l.atom-index l.atoms) l.fn.counts.items l.counts.items
+abbrev pub invariant-loop-start : goal.invariant-loop-start
+invariant-loop-start l = AreStepped l.more l.atoms (drop l.start l.atoms) l.initial.counts l.counts
+
+abbrev pub decreases-loop-start : goal.decreases-loop-start
+decreases-loop-start l = length l.atoms - l.start

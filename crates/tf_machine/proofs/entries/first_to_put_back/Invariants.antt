@@ -1,9 +1,8 @@
-use Rattle.std.proofs.Common.{◌≡◌, None}
-use Rattle.tf_numbers.specs.Numbers.{first_below}
+use Rattle.std.proofs.Common.{◌≡◌, ℕ, ◌<◌, false}
 use Rattle.tf_model.specs.Plan.{outline_of}
 use Rattle.tf_model.specs.Forced.{is_to_put_back}
 use Rattle.tf_machine.specs.Tables.{shown_by}
 use Rattle.tf_machine.proofs.entries.first_to_put_back.Given as goal
 
 abbrev pub invariant-loop-atom : goal.invariant-loop-atom
-invariant-loop-atom l = first_below l.atom (is_to_put_back (outline_of l.compiled) (shown_by l.tables) l.retry) ≡ None
+invariant-loop-atom l = (a : ℕ) → a < l.atom → is_to_put_back (outline_of l.compiled) (shown_by l.tables) l.retry a ≡ false

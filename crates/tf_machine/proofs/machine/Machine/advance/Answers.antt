@@ -7,7 +7,7 @@ use Rattle.tf_machine.proofs.LeftLemmas.{moved_less}
 use Rattle.tf_model.specs.Steps.{Step}
 use Rattle.tf_machine.specs.Worklists.{AreMoved}
 use Rattle.tf_machine.specs.Machine.{MachineValue, outline, shown, StandsFor}
-use Rattle.tf_machine.proofs.MachineLemmas.{sound_facts, sound_few, stands_later, sound_later}
+use Rattle.tf_machine.proofs.MachineLemmas.{sound_facts, sound_few, sound_marked, stands_later, sound_later}
 use Rattle.tf_machine.proofs.machine.Machine.advance.Goals as goal
 
 pub record-requires-clause-facts : goal.record-requires-clause-facts
@@ -16,11 +16,14 @@ record-requires-clause-facts c = sound_facts _ c.self.invariant.sound
 pub record-requires-clause-few : goal.record-requires-clause-few
 record-requires-clause-few c = sound_few _ c.self.invariant.sound
 
+pub record-requires-clause-marked : goal.record-requires-clause-marked
+record-requires-clause-marked c = sound_marked _ c.self.invariant.sound
+
 pub invariant_of-self : goal.invariant_of-self
 invariant_of-self c = record {
   sound = sound_later _ _ c.args.entry c.self.invariant.sound c.event_is_short.ensures refl (subst (λ (m : MachineValue). Step (outline m) (shown m) c.args.entry) (sym c.self.view_is) c.requires) c.record.ensures.moved c.record.ensures.views c.record.ensures.places;
   counted = c.record.ensures.counted;
-  listed = c.follow.ensures _ c.self.invariant.listed (subst (AreMoved _ c.extent_of-extent.result) (sym c.record.ensures.moved) (c.extent_of-extent.ensures _ c.args.entry.hand));
+  listed = c.follow.ensures _ c.self.invariant.listed (subst (AreMoved _ _ c.extent_of-extent.result) (sym c.record.ensures.moved) (c.extent_of-extent.ensures _ c.args.entry.hand (sound_marked _ c.self.invariant.sound)));
 }
 
 pub returns-clause-stands : goal.returns-clause-stands

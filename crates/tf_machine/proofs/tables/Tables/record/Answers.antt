@@ -5,7 +5,8 @@ use Rattle.tf_machine.specs.declared.tables.Mark.{Mark}
 use Rattle.tf_machine.specs.declared.tables.Place.{Place}
 use Rattle.tf_model.specs.Plan.{outline_of, count}
 use Rattle.tf_model.specs.Views.{state_in, payload_in}
-use Rattle.tf_machine.specs.Changes.{AreChanged, changed, cleared, turned}
+use Rattle.tf_machine.specs.Changes.{ArePlacesHeld, AreChanged, changed, cleared, turned}
+use Rattle.tf_machine.proofs.ChangeLemmas.{places_held}
 use Rattle.tf_machine.specs.Counts.{AreCounted}
 use Rattle.tf_machine.specs.Tables.{shown_of, shown_by}
 use Rattle.std.specs.Prelude.{slice_get}
@@ -27,6 +28,21 @@ pub take-requires : goal.take-requires
 take-requires c =
     let below : c.in-Restart.atom < count (outline_of c.args.compiled.now) = restarted_below (outline_of c.args.compiled.now) (shown_by c.args.self.now) c.args.entry c.in-Restart.atom c.requires.facts c.requires.step c.in-Restart.is in
     record { place = omega (arith, c.requires.places) }
+
+pub clear_each-requires-clause-marked : goal.clear_each-requires-clause-marked
+clear_each-requires-clause-marked c =
+    subst (ArePlacesHeld (outline_of c.args.compiled.now)) (sym c.deref_mut.ensures.value)
+    (places_held (outline_of c.args.compiled.now) c.enter.new.self.views.items c.enter.new.self.places.items c.enter.new.self.flow (λ a m is. c.requires.marked a m (sym (c.enter.ensures.mark a) ∙ is)))
+
+pub turn_each-requires-clause-marked : goal.turn_each-requires-clause-marked
+turn_each-requires-clause-marked c =
+    subst (ArePlacesHeld (outline_of c.args.compiled.now)) (sym c.deref_mut-in-Flow.ensures.value)
+    (places_held (outline_of c.args.compiled.now) c.args.self.now.views.items c.args.self.now.places.items c.args.self.now.flow c.requires.marked)
+
+pub change_each-requires-clause-marked : goal.change_each-requires-clause-marked
+change_each-requires-clause-marked c =
+    subst (ArePlacesHeld (outline_of c.args.compiled.now)) (sym c.deref_mut-in-Resolve.ensures.value)
+    (places_held (outline_of c.args.compiled.now) c.args.self.now.views.items c.args.self.now.places.items c.args.self.now.flow c.requires.marked)
 
 pub returns-in-Atom : goal.returns-in-Atom
 returns-in-Atom c =

@@ -1,13 +1,19 @@
 use Rattle.std.proofs.Common.{get_or}
-use Rattle.tf_model.specs.Plan.{outline_of}
+use Rattle.tf_model.specs.Plan.{outline_of, count}
 use Rattle.tf_machine.specs.Tables.{shown_by}
-use Rattle.tf_machine.proofs.WorkLemmas.{next_so_far, has_at}
+use Rattle.tf_machine.proofs.StretchLemmas.{left_of, passed, stretch_within}
+use Rattle.tf_machine.proofs.WorkLemmas.{stretch_so_far}
 use Rattle.tf_machine.proofs.worklists.Worklist.list_each.Goals as goal
 
-pub list_reached-requires-clause-atom : goal.list_reached-requires-clause-atom
-list_reached-requires-clause-atom c = c.requires.within _ (has_at c.args.atoms.now c.loop-atom.atom-index 0 c.loop-atom-test.true)
+pub list_stretch-requires-clause-within : goal.list_stretch-requires-clause-within
+list_stretch-requires-clause-within c =
+    stretch_within c.args.atoms.now c.loop-start.start c.stretch_end-end.result (get_or c.args.atoms.now c.loop-start.start 0) (count (outline_of c.args.compiled.now))
+    (passed c.args.atoms.now c.loop-start.start c.stretch_end-end.result c.requires.distinct c.stretch_end-end.ensures.begins c.stretch_end-end.ensures.ends c.stretch_end-end.ensures.beside)
+    c.stretch_end-end.ensures.begins (λ a inside. c.requires.within a (left_of c.args.atoms.now c.loop-start.start a inside))
 
-pub loop-atom-preserved : goal.loop-atom-preserved
-loop-atom-preserved c =
-    next_so_far (outline_of c.args.compiled.now) (shown_by c.args.tables.now) c.args.reach c.args.atoms.now c.loop-atom.atom-index 0 _ c.loop-atom.self c.list_reached.new.self c.loop-atom-test.true c.loop-atom.invariant
-    c.list_reached.ensures.room c.list_reached.ensures.hurt c.list_reached.ensures.moved c.list_reached.ensures.reached
+pub loop-start-preserved : goal.loop-start-preserved
+loop-start-preserved c =
+    stretch_so_far (outline_of c.args.compiled.now) (shown_by c.args.tables.now) c.args.reach c.args.atoms.now c.loop-start.start c.stretch_end-end.result (get_or c.args.atoms.now c.loop-start.start 0)
+    c.args.self.now c.loop-start.self c.list_stretch.new.self
+    (passed c.args.atoms.now c.loop-start.start c.stretch_end-end.result c.requires.distinct c.stretch_end-end.ensures.begins c.stretch_end-end.ensures.ends c.stretch_end-end.ensures.beside)
+    c.loop-start.invariant c.list_stretch.ensures
