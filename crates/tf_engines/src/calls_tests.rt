@@ -1,4 +1,6 @@
-ghost use Rattle.std.specs.Prelude.{◌≡◌, ◌<◌};
+ghost use Rattle.std.specs.Prelude.{◌≡◌, ◌<◌, true, IsSome};
+ghost use Rattle.tf_book.specs.Book.{moment, outline as outline_of_book};
+ghost use Rattle.tf_machine.specs.Answers.{task_of};
 ghost use Rattle.tf_machine.specs.Machine.{outline};
 ghost use Rattle.tf_model.specs.Plan.{count};
 
@@ -41,11 +43,18 @@ fn turn(book: &mut Book<MemoryDesk>, hand: u8) -> Result<Turn, Fail>
     }
 }
 
+/// Whether a hand has a task in flight.
+fn has_task(book: &Book<MemoryDesk>, hand: u8) -> bool
+    ensures { result ≡ true → IsSome (task_of (outline_of_book book.now) (moment book.now) hand) }
+{
+    book.machine().in_flight(hand).is_some()
+}
+
 /// The end of the task that a hand has in flight.
 fn end(book: &mut Book<MemoryDesk>, hand: u8, outcome: Outcome) -> Result<(), Fail>
     requires { hand < 64 }
 {
-    if book.machine().in_flight(hand).is_none() {
+    if !has_task(book, hand) {
         drop(outcome);
         return Err(Fail::from("the hand has nothing in flight"));
     }
