@@ -21,41 +21,14 @@ use Rattle.tf_flow.proofs.OutlineLemmas.{same_atoms, same_retries}
 use Rattle.tf_model.specs.Candidates.{priority}
 use Rattle.tf_machine.specs.Compiled.{priority_at, AreWithin}
 use Rattle.tf_model.specs.Orders.{task_part, task_at}
+use Rattle.tf_model.proofs.PlanLemmas.{way_told, atoms_counted}
 use Rattle.tf_model.proofs.Told.{way_in, is_task_in, is_retry_in, priority_in, task_in}
 use Rattle.tf_numbers.proofs.ListLemmas.{take_whole}
 use Rattle.tf_numbers.proofs.TruthLemmas.{clash, not_true}
 
--- a plan has as many atoms as its outline
-pub atoms_counted : (plan : PlanValue) → length (numbering.atoms plan) ≡ count (outline_of plan)
-atoms_counted plan = ap length (sym (same_atoms plan)) ∙ length-map (outline_of plan).atoms name_of_atom
-
-task_by : (o : Option Atom) (b : Bool) → option_map is_retry_atom o ≡ Some b → is_task_in o ≡ not b
-task_by None b is = absurd (cc)
-task_by (Some atom) b is = by atom.part b (let same : is_retry_atom atom ≡ b = cc in same)
-  where
-    by : (part : Part) (b : Bool) → is_retry_part part ≡ b → is_task_part part ≡ not b
-    by (a_task t) true is = absurd (cc)
-    by (a_task t) false is = refl
-    by (a_retry r) true is = refl
-    by (a_retry r) false is = absurd (cc)
-
--- an atom is a task where it is no retry controller
-pub task_told : (plan : PlanValue) (a : ℕ) (b : Bool) → slice_get (numbering.retries plan) a ≡ Some b → is_task (outline_of plan) a ≡ not b
-task_told plan a b is = task_by (slice_get (outline_of plan).atoms a) b
-    (sym (slice_get-map is_retry_atom (outline_of plan).atoms a) ∙ (ap (λ (marks : List Bool). slice_get marks a) (same_retries plan) ∙ is))
-
 -- a number past the last atom's is no task's
 pub no_task : (plan : Outline) (a : ℕ) → count plan ≤ a → is_task plan a ≡ false
 no_task plan a past = ap is_task_in (slice_get_past plan.atoms a past)
-
--- an atom is a retry controller where it is marked so
-pub retry_told : (plan : PlanValue) (a : ℕ) (b : Bool) → slice_get (numbering.retries plan) a ≡ Some b → is_retry (outline_of plan) a ≡ b
-retry_told plan a b is = by (slice_get (outline_of plan).atoms a)
-    (sym (slice_get-map is_retry_atom (outline_of plan).atoms a) ∙ (ap (λ (marks : List Bool). slice_get marks a) (same_retries plan) ∙ is))
-  where
-    by : (o : Option Atom) → option_map is_retry_atom o ≡ Some b → is_retry_in o ≡ b
-    by None told = absurd (cc)
-    by (Some atom) told = let same : is_retry_atom atom ≡ b = cc in same
 
 pub no_retry : (plan : Outline) (a : ℕ) → count plan ≤ a → is_retry plan a ≡ false
 no_retry plan a past = ap is_retry_in (slice_get_past plan.atoms a past)
@@ -85,20 +58,13 @@ never_retry plan a r task is = by (slice_get (outline_of plan).atoms a) task is
 
 -- ---- ways
 
-way_by : (o : Option Atom) (w : List Turn) → option_map way_of o ≡ Some w → way_in o ≡ w
-way_by None w is = absurd (cc)
-way_by (Some atom) w is = let same : atom.way ≡ w = cc in same
-
-way_told : (plan : PlanValue) (a : ℕ) (w : List Turn) → slice_get (numbering.ways plan) a ≡ Some w → way (outline_of plan) a ≡ w
-way_told plan a w is = way_by (slice_get (outline_of plan).atoms a) w (sym (slice_get-map way_of (outline_of plan).atoms a) ∙ is)
-
 -- a flow holds an atom where the atom's way passes it
 pub holds_told : (plan : PlanValue) (g a : ℕ) (w : List Turn) → slice_get (numbering.ways plan) a ≡ Some w → passes_flow g w ≡ holds (outline_of plan) g a
 unfolding holds
-holds_told plan g a w is = ap (passes_flow g) (sym (way_told plan a w is))
+holds_told plan g a w is = ap (passes_flow g) (way_told plan a w is)
 
 pub own_flow_told : (plan : PlanValue) (a : ℕ) (w : List Turn) → slice_get (numbering.ways plan) a ≡ Some w → last_flow w ≡ own_flow (outline_of plan) a
-own_flow_told plan a w is = ap last_flow (sym (way_told plan a w is))
+own_flow_told plan a w is = ap last_flow (way_told plan a w is)
 
 -- a number past the last atom's stands in no flow
 pub never_held : (plan : Outline) (g a : ℕ) → count plan ≤ a → holds plan g a ≡ false

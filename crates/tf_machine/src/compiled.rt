@@ -97,7 +97,7 @@ impl Compiled {
     }
 
     /// How many atoms there are.
-    #[tactic(auto, using(crate::proofs::PlanLemmas::atoms_counted))]
+    #[tactic(auto, using(tf_model::proofs::PlanLemmas::atoms_counted))]
     pub fn atoms(&self) -> u16
         ensures count { result ≡ count (outline_of self.now) }
         ensures few { result ≤ 1000 }
@@ -108,7 +108,7 @@ impl Compiled {
     }
 
     /// Whether an atom is a task.
-    #[tactic(auto, using(crate::proofs::PlanLemmas::atoms_counted, crate::proofs::PlanLemmas::task_told, crate::proofs::PlanLemmas::no_task))]
+    #[tactic(auto, using(tf_model::proofs::PlanLemmas::atoms_counted, tf_model::proofs::PlanLemmas::task_told, crate::proofs::PlanLemmas::no_task))]
     pub fn is_task(&self, atom: u16) -> bool
         ensures { result ≡ is_task (outline_of self.now) atom }
     {
@@ -119,7 +119,7 @@ impl Compiled {
     }
 
     /// Whether an atom is a retry controller.
-    #[tactic(auto, using(crate::proofs::PlanLemmas::atoms_counted, crate::proofs::PlanLemmas::retry_told, crate::proofs::PlanLemmas::no_retry))]
+    #[tactic(auto, using(tf_model::proofs::PlanLemmas::atoms_counted, tf_model::proofs::PlanLemmas::retry_told, crate::proofs::PlanLemmas::no_retry))]
     pub fn is_retry(&self, atom: u16) -> bool
         ensures { result ≡ is_retry (outline_of self.now) atom }
     {
@@ -130,7 +130,7 @@ impl Compiled {
     }
 
     /// The task of that number.
-    #[tactic(auto, using(crate::proofs::PlanLemmas::atoms_counted, crate::proofs::PlanLemmas::task_below))]
+    #[tactic(auto, using(tf_model::proofs::PlanLemmas::atoms_counted, crate::proofs::PlanLemmas::task_below))]
     pub fn task(&self, atom: u16) -> &Task
         requires { is_task (outline_of self.now) atom ≡ true }
         ensures task { task_at (outline_of self.now) atom ≡ Some result.now }
@@ -287,7 +287,7 @@ impl Compiled {
 }
 
 /// Whether a flow of a plan holds an atom, at any depth.
-#[tactic(auto, using(crate::proofs::PlanLemmas::atoms_counted))]
+#[tactic(auto, using(tf_model::proofs::PlanLemmas::atoms_counted))]
 fn holds(plan: &Plan, flow: usize, atom: u16) -> bool
     ensures { result ≡ holds (outline_of plan.now) flow atom }
 {
@@ -353,7 +353,7 @@ fn greatest(numbers: &[i32]) -> i32
 }
 
 /// To which of a plan's atoms a link with a decider leads, by number.
-#[tactic(auto, using(crate::proofs::PlanLemmas::atoms_counted))]
+#[tactic(auto, using(tf_model::proofs::PlanLemmas::atoms_counted))]
 fn decided(alloc: Global, plan: &Plan) -> Result<Vec<bool>, Memory>
     ensures { IfOk result (λ decided. AreDecided (outline_of plan.now) decided.items) }
 {
@@ -377,7 +377,7 @@ fn spans(alloc: Global, plan: &Plan) -> Result<Vec<Span>, Memory>
 }
 
 /// Atoms of a plan side by side among which are all that a flow holds.
-#[tactic(auto, using(crate::proofs::PlanLemmas::atoms_counted, crate::proofs::SpanLemmas::no_atom, crate::proofs::SpanLemmas::atom_out, crate::proofs::SpanLemmas::atom_in, crate::proofs::SpanLemmas::all_atoms))]
+#[tactic(auto, using(tf_model::proofs::PlanLemmas::atoms_counted, crate::proofs::SpanLemmas::no_atom, crate::proofs::SpanLemmas::atom_out, crate::proofs::SpanLemmas::atom_in, crate::proofs::SpanLemmas::all_atoms))]
 fn span_in(plan: &Plan, flow: usize) -> Span
     ensures { IsSpanOf (outline_of plan.now) flow result }
 {

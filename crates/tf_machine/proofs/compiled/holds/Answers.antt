@@ -1,6 +1,7 @@
 use Rattle.std.proofs.Common.{◌≤◌, sym, ◌∙◌, arith}
 use Rattle.tf_model.specs.Plan.{outline_of, count}
-use Rattle.tf_machine.proofs.PlanLemmas.{never_held, holds_told, atoms_counted}
+use Rattle.tf_machine.proofs.PlanLemmas.{never_held, holds_told}
+use Rattle.tf_model.proofs.PlanLemmas.{atoms_counted}
 use Rattle.tf_machine.proofs.compiled.holds.Goals as goal
 
 pub returns-then-atom-atoms : goal.returns-then-atom-atoms

@@ -1,6 +1,6 @@
 use Rattle.std.proofs.Common.{arith}
 use Rattle.tf_model.specs.Plan.{outline_of}
-use Rattle.tf_machine.proofs.PlanLemmas.{atoms_counted}
+use Rattle.tf_model.proofs.PlanLemmas.{atoms_counted}
 use Rattle.tf_machine.proofs.SpanLemmas.{all_atoms}
 use Rattle.tf_machine.proofs.compiled.span_in.Goals as goal
 

@@ -3,7 +3,7 @@ use Rattle.tf_flow.specs.Plan.{PlanValue}
 use Rattle.tf_model.specs.Plan.{outline_of}
 use Rattle.tf_machine.specs.declared.compiled.Span.{Span}
 use Rattle.tf_machine.specs.Compiled.{IsSpanOf}
-use Rattle.tf_machine.proofs.PlanLemmas.{atoms_counted}
+use Rattle.tf_model.proofs.PlanLemmas.{atoms_counted}
 use Rattle.tf_machine.proofs.SpanLemmas.{whole_span}
 use Rattle.tf_machine.proofs.compiled.Compiled.span.Goals as goal
 
