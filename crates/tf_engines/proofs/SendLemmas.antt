@@ -22,7 +22,7 @@ use Rattle.tf_flow.specs.contracts.deciders.Links as links
 use Rattle.tf_flow.specs.contracts.nested.Flow as flow
 use Rattle.tf_flow.specs.contracts.plans.Plan as plan
 use Rattle.tf_machine.specs.contracts.compiled.Compiled as compiled
-use Rattle.tf_machine.specs.contracts.compiled.Span as span
+use Rattle.tf_machine.proofs.compiled.Span.TheSendSync as span
 use Rattle.tf_machine.specs.contracts.machine.Machine as machine
 use Rattle.tf_machine.proofs.tables.Tables.TheSendSync as tables
 use Rattle.tf_machine.proofs.worklists.Worklist.TheSendSync as worklist
@@ -64,11 +64,8 @@ flow_send = search (sendable, crosses, send-Flow, links_send, name.the_send, tas
 plan_send : IsSend plan.the_row
 plan_send = search (sendable, crosses, heap.the_send, flow_send, name.the_send, binds.the_send, way.the_send, index_set.the_send, hasher.the_send) depth 14
 
-span_send : IsSend (span.the_field).row
-span_send = search (sendable) depth 12
-
 compiled_send : IsSend compiled.the_row
-compiled_send = search (sendable, Vec-send, plan_send, graph.the_send, providers.the_send, span_send) depth 14
+compiled_send = search (sendable, Vec-send, plan_send, graph.the_send, providers.the_send, span.the_send) depth 22
 
 pub machine_send : IsSend machine.the_row
 machine_send = search (sendable, crosses, compiled_send, tables.the_send, tables.the_field_send, worklist.the_send, worklist.the_field_send) depth 14
