@@ -164,8 +164,8 @@ const ACTS: [(u8, Act); 15] = [
 ];
 
 /// What is recorded: one resolution covers both failures.
-const LINES: &str =
-    "1 0 flow main RUNNING\n2 0 retry r RUNNING\n3 0 retry r SUCCESS 1\n4 0 task t1 RUNNING\n5 1 task t2 RUNNING\n6 0 task t1 FAILURE raised \"1 below 2\"\n7 0 resolve main RETRY\n8 0 task t1 REVERTING\n9 1 task t2 FAILURE raised \"1 below 2\"\n10 1 task t2 REVERTING\n11 0 task t1 REVERTED\n12 1 task t2 REVERTED\n13 1 retry r RETRYING\n14 1 task t1 PENDING\n15 1 task t2 PENDING\n16 1 retry r RUNNING\n17 1 retry r SUCCESS 2\n18 1 task t1 RUNNING\n19 0 task t2 RUNNING\n20 1 task t1 SUCCESS 2\n21 0 task t2 SUCCESS 2\n22 0 flow main SUCCESS\n";
+const LINES: &[u8] =
+    b"1 0 flow main RUNNING\n2 0 retry r RUNNING\n3 0 retry r SUCCESS 1\n4 0 task t1 RUNNING\n5 1 task t2 RUNNING\n6 0 task t1 FAILURE raised \"1 below 2\"\n7 0 resolve main RETRY\n8 0 task t1 REVERTING\n9 1 task t2 FAILURE raised \"1 below 2\"\n10 1 task t2 REVERTING\n11 0 task t1 REVERTED\n12 1 task t2 REVERTED\n13 1 retry r RETRYING\n14 1 task t1 PENDING\n15 1 task t2 PENDING\n16 1 retry r RUNNING\n17 1 retry r SUCCESS 2\n18 1 task t1 RUNNING\n19 0 task t2 RUNNING\n20 1 task t1 SUCCESS 2\n21 0 task t2 SUCCESS 2\n22 0 flow main SUCCESS\n";
 
 #[test]
 fn one_resolution_covers_the_failures_of_two_hands(rt: HostRuntime) -> Result<(), Fail> {
@@ -176,7 +176,7 @@ fn one_resolution_covers_the_failures_of_two_hands(rt: HostRuntime) -> Result<()
     }
     assert_eq!(rt; book.count(), 22);
     let desk = book.close();
-    assert!(rt; desk.shown() == LINES.as_bytes());
+    assert!(rt; desk.shown() == LINES);
     Ok(())
 }
 
