@@ -64,15 +64,48 @@ fn end(book: &mut Book<MemoryDesk>, hand: u8, outcome: Outcome) -> Result<(), Fa
     }
 }
 
-/// What the next turn of a hand is, or how it ends its task.
-#[derive(Clone, Copy)]
-enum Act {
+/// What a hand is told at its turn.
+#[derive(Clone, Copy, PartialEq, Eq)]
+enum Told {
     Starts,
     Waits,
     Ends,
-    Fails,
-    Gives2,
-    GivesNothing,
+    Suspends,
+}
+
+/// What came of a hand's task.
+#[derive(Clone, Copy)]
+enum Came {
+    Two,
+    Nothing,
+    Failure,
+}
+
+/// What a hand does: it takes its turn and is told that, or it ends its task so.
+#[derive(Clone, Copy)]
+enum Act {
+    Turn(Told),
+    End(Came),
+}
+
+fn told_by(turn: Turn) -> Told {
+    match turn {
+        Turn::Start(order) => {
+            drop(order);
+            Told::Starts
+        }
+        Turn::Idle => Told::Waits,
+        Turn::Ended(_) => Told::Ends,
+        Turn::Suspended => Told::Suspends,
+    }
+}
+
+/// Whether a hand is told that at its next turn.
+fn is_told(book: &mut Book<MemoryDesk>, hand: u8, wanted: Told) -> Result<bool, Fail>
+    requires { hand < 64 }
+{
+    let turn = turn(book, hand)?;
+    Ok(told_by(turn) == wanted)
 }
 
 /// The failure of a task that was given 1.
@@ -83,52 +116,56 @@ fn below(alloc: Global) -> Result<Outcome, Fail> {
     }
 }
 
-/// Whether the next turn of a hand is so, or whether the end of its task is recorded.
+fn outcome(alloc: Global, came: Came) -> Result<Outcome, Fail> {
+    match came {
+        Came::Two => Ok(Outcome::Gave(Val::Int(2))),
+        Came::Nothing => Ok(Outcome::Gave(Val::Nothing)),
+        Came::Failure => below(alloc),
+    }
+}
+
+/// Ends the task of a hand.
+fn ends(alloc: Global, book: &mut Book<MemoryDesk>, hand: u8, came: Came) -> Result<bool, Fail>
+    requires { hand < 64 }
+{
+    let outcome = outcome(alloc, came)?;
+    end(book, hand, outcome)?;
+    Ok(true)
+}
+
+/// Whether a hand is told so at its next turn, or whether the end of its task is recorded.
 fn does(alloc: Global, book: &mut Book<MemoryDesk>, hand: u8, act: Act) -> Result<bool, Fail> {
     if hand >= 64 {
         return Err(Fail::from("there is no such hand"));
     }
     match act {
-        Act::Starts => Ok(matches!(turn(book, hand)?, Turn::Start(_))),
-        Act::Waits => Ok(matches!(turn(book, hand)?, Turn::Idle)),
-        Act::Ends => Ok(matches!(turn(book, hand)?, Turn::Ended(FlowState::Success))),
-        Act::Fails => {
-            end(book, hand, below(alloc)?)?;
-            Ok(true)
-        }
-        Act::Gives2 => {
-            end(book, hand, Outcome::Gave(Val::Int(2)))?;
-            Ok(true)
-        }
-        Act::GivesNothing => {
-            end(book, hand, Outcome::Gave(Val::Nothing))?;
-            Ok(true)
-        }
+        Act::Turn(wanted) => is_told(book, hand, wanted),
+        Act::End(came) => ends(alloc, book, hand, came),
     }
 }
 
 /// Two hands fail in the first attempt, revert, and give 2 in the second.
 const ACTS: [(u8, Act); 15] = [
-    (0, Act::Starts),
-    (1, Act::Starts),
-    (0, Act::Fails),
-    (0, Act::Starts),
-    (1, Act::Fails),
-    (1, Act::Starts),
-    (0, Act::GivesNothing),
-    (0, Act::Waits),
-    (1, Act::GivesNothing),
-    (1, Act::Starts),
-    (0, Act::Starts),
-    (1, Act::Gives2),
-    (1, Act::Waits),
-    (0, Act::Gives2),
-    (0, Act::Ends),
+    (0, Act::Turn(Told::Starts)),
+    (1, Act::Turn(Told::Starts)),
+    (0, Act::End(Came::Failure)),
+    (0, Act::Turn(Told::Starts)),
+    (1, Act::End(Came::Failure)),
+    (1, Act::Turn(Told::Starts)),
+    (0, Act::End(Came::Nothing)),
+    (0, Act::Turn(Told::Waits)),
+    (1, Act::End(Came::Nothing)),
+    (1, Act::Turn(Told::Starts)),
+    (0, Act::Turn(Told::Starts)),
+    (1, Act::End(Came::Two)),
+    (1, Act::Turn(Told::Waits)),
+    (0, Act::End(Came::Two)),
+    (0, Act::Turn(Told::Ends)),
 ];
 
 /// What is recorded: one resolution covers both failures.
-const LINES: &str =
-    "1 0 flow main RUNNING\n2 0 retry r RUNNING\n3 0 retry r SUCCESS 1\n4 0 task t1 RUNNING\n5 1 task t2 RUNNING\n6 0 task t1 FAILURE raised \"1 below 2\"\n7 0 resolve main RETRY\n8 0 task t1 REVERTING\n9 1 task t2 FAILURE raised \"1 below 2\"\n10 1 task t2 REVERTING\n11 0 task t1 REVERTED\n12 1 task t2 REVERTED\n13 1 retry r RETRYING\n14 1 task t1 PENDING\n15 1 task t2 PENDING\n16 1 retry r RUNNING\n17 1 retry r SUCCESS 2\n18 1 task t1 RUNNING\n19 0 task t2 RUNNING\n20 1 task t1 SUCCESS 2\n21 0 task t2 SUCCESS 2\n22 0 flow main SUCCESS\n";
+const LINES: &[u8] =
+    b"1 0 flow main RUNNING\n2 0 retry r RUNNING\n3 0 retry r SUCCESS 1\n4 0 task t1 RUNNING\n5 1 task t2 RUNNING\n6 0 task t1 FAILURE raised \"1 below 2\"\n7 0 resolve main RETRY\n8 0 task t1 REVERTING\n9 1 task t2 FAILURE raised \"1 below 2\"\n10 1 task t2 REVERTING\n11 0 task t1 REVERTED\n12 1 task t2 REVERTED\n13 1 retry r RETRYING\n14 1 task t1 PENDING\n15 1 task t2 PENDING\n16 1 retry r RUNNING\n17 1 retry r SUCCESS 2\n18 1 task t1 RUNNING\n19 0 task t2 RUNNING\n20 1 task t1 SUCCESS 2\n21 0 task t2 SUCCESS 2\n22 0 flow main SUCCESS\n";
 
 #[test]
 fn one_resolution_covers_the_failures_of_two_hands(rt: HostRuntime) -> Result<(), Fail> {
@@ -139,7 +176,7 @@ fn one_resolution_covers_the_failures_of_two_hands(rt: HostRuntime) -> Result<()
     }
     assert_eq!(rt; book.count(), 22);
     let desk = book.close();
-    assert!(rt; desk.shown() == LINES.as_bytes());
+    assert!(rt; desk.shown() == LINES);
     Ok(())
 }
 
@@ -170,7 +207,9 @@ fn holding(book: &Book<MemoryDesk>, atom: u16) -> Option<u16> {
 
 /// Whether hand 0 starts a task and ends it with nothing.
 fn takes_a_task(alloc: Global, book: &mut Book<MemoryDesk>) -> Result<bool, Fail> {
-    Ok(does(alloc, book, 0, Act::Starts)? && does(alloc, book, 0, Act::GivesNothing)?)
+    let starts = is_told(book, 0, Told::Starts)?;
+    ends(alloc, book, 0, Came::Nothing)?;
+    Ok(starts)
 }
 
 #[test]
