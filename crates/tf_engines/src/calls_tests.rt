@@ -144,6 +144,21 @@ fn does(alloc: Global, book: &mut Book<MemoryDesk>, hand: u8, act: Act) -> Resul
     }
 }
 
+/// The book after these acts, all of which went so.
+fn after(
+    alloc: Global,
+    book: Book<MemoryDesk>,
+    acts: &[(u8, Act)],
+) -> Result<Book<MemoryDesk>, Fail> {
+    let mut book = book;
+    for (hand, act) in acts {
+        if !does(alloc, &mut book, *hand, *act)? {
+            return Err(Fail::from("a hand is told otherwise"));
+        }
+    }
+    Ok(book)
+}
+
 /// Two hands fail in the first attempt, revert, and give 2 in the second.
 const ACTS: [(u8, Act); 15] = [
     (0, Act::Turn(Told::Starts)),
@@ -170,10 +185,8 @@ const LINES: &[u8] =
 #[test]
 fn one_resolution_covers_the_failures_of_two_hands(rt: HostRuntime) -> Result<(), Fail> {
     let alloc = rt.alloc();
-    let mut book = entered(alloc, retried(alloc)?)?;
-    for (hand, act) in &ACTS {
-        assert!(rt; does(alloc, &mut book, *hand, *act)?);
-    }
+    let book = entered(alloc, retried(alloc)?)?;
+    let book = after(alloc, book, &ACTS)?;
     assert_eq!(rt; book.count(), 22);
     let desk = book.close();
     assert!(rt; desk.shown() == LINES);
@@ -205,22 +218,18 @@ fn holding(book: &Book<MemoryDesk>, atom: u16) -> Option<u16> {
     None
 }
 
-/// Whether hand 0 starts a task and ends it with nothing.
-fn takes_a_task(alloc: Global, book: &mut Book<MemoryDesk>) -> Result<bool, Fail> {
-    let starts = is_told(book, 0, Told::Starts)?;
-    ends(alloc, book, 0, Came::Nothing)?;
-    Ok(starts)
-}
+/// Hand 0 starts a task and ends it.
+const TASK: [(u8, Act); 2] = [(0, Act::Turn(Told::Starts)), (0, Act::End(Came::Nothing))];
 
 #[test]
 fn a_task_waits_for_the_one_before_and_holds_it_back(rt: HostRuntime) -> Result<(), Fail> {
     let alloc = rt.alloc();
-    let mut book = entered(alloc, two_echoes(alloc, FlowKind::Linear)?)?;
+    let book = entered(alloc, two_echoes(alloc, FlowKind::Linear)?)?;
     assert!(rt; waiting(&book, 1) == Some(1));
-    assert!(rt; takes_a_task(alloc, &mut book)?);
+    let book = after(alloc, book, &TASK)?;
     assert_eq!(rt; book.count(), 3);
     assert!(rt; waiting(&book, 1) == Some(0));
-    assert!(rt; takes_a_task(alloc, &mut book)?);
+    let book = after(alloc, book, &TASK)?;
     assert_eq!(rt; book.count(), 5);
     assert!(rt; holding(&book, 0) == Some(1));
     Ok(())
