@@ -1,91 +1,27 @@
-ghost use Rattle.std.specs.Prelude.{◌<◌};
+ghost use Rattle.std.specs.Prelude.{◌≡◌, ◌<◌, true, IsSome};
+ghost use Rattle.tf_book.specs.Book.{moment, outline as outline_of_book};
+ghost use Rattle.tf_machine.specs.Answers.{task_of};
+ghost use Rattle.tf_machine.specs.Machine.{outline};
+ghost use Rattle.tf_model.specs.Plan.{count};
 
+use crate::test_books::{begun, desk, retried, two_echoes};
 use std::alloc::Global;
 use std::test::Fail;
 use tf_book::{Book, Entered, Turn};
 use tf_desk::MemoryDesk;
-use tf_flow::{
-    Arg, ArgList, Bind, Binds, Flow, FlowKind, Item, Items, Links, Plan, Provides, Retry,
-    RetryKind, Task, TaskKind, Undo,
-};
+use tf_flow::{FlowKind, Plan};
 use tf_hands::hands_are_free_or_have_a_task;
-use tf_journal::Journal;
 use tf_machine::Machine;
 use tf_ports::Outcome;
 use tf_states::{Failure, FlowState};
-use tf_values::{Name, Text, Texts, Val};
+use tf_values::{Text, Val};
 
-fn name(text: &[u8]) -> Result<Name, Fail> {
-    Ok(Name::make(text).ok_or("no name")?)
-}
-
-fn arg(name: Name) -> Arg {
-    Arg { name, symbol: name }
-}
-
-/// A task that fails below 2.
-fn fail_below(alloc: Global, name: Name, number: Name, limit: Name) -> Result<Item, Fail> {
-    let mut args = Vec::new(alloc);
-    args.push(arg(number))?;
-    args.push(arg(limit))?;
-    let mut inject = Vec::new(alloc);
-    inject.push(Bind {
-        symbol: limit,
-        value: Val::Int(2),
-    })?;
-    Ok(Item::Task(Task {
-        name,
-        kind: TaskKind::FailBelow,
-        words: Texts::make(Vec::new(alloc)),
-        args: ArgList::make(args),
-        inject: Binds::make(inject),
-        provides: Provides::Nothing,
-        priority: 0,
-        undo: Undo::Pass,
-    }))
-}
-
-/// An unordered flow of two such tasks, with a retry controller that tells the number of the attempt, of two.
-fn retried(alloc: Global) -> Result<Plan, Fail> {
-    let number = name(b"n")?;
-    let limit = name(b"limit")?;
-    let mut items = Vec::new(alloc);
-    items.push(fail_below(alloc, name(b"t1")?, number, limit)?)?;
-    items.push(fail_below(alloc, name(b"t2")?, number, limit)?)?;
-    let root = Flow {
-        name: name(b"main")?,
-        kind: FlowKind::Unordered,
-        retry: Some(Retry {
-            name: name(b"r")?,
-            kind: RetryKind::Times {
-                attempts: 2,
-                all: false,
-            },
-            args: ArgList::make(Vec::new(alloc)),
-            inject: Binds::make(Vec::new(alloc)),
-            provides: Provides::Whole(number),
-        }),
-        items: Items::make(items),
-        links: Links::make(Vec::new(alloc)),
-    };
-    match Plan::make(alloc, root, Binds::make(Vec::new(alloc)), false) {
-        Ok(plan) => Ok(plan),
-        Err(_) => Err(Fail::from("there is no plan")),
-    }
-}
-
-/// A run of the flow of which nothing is kept.
-fn begun(alloc: Global) -> Result<Book<MemoryDesk>, Fail> {
-    let Ok(machine) = Machine::make(alloc, retried(alloc)?) else {
-        return Err(Fail::from("the plan isn't taken"));
-    };
-    let desk = MemoryDesk::make(alloc, 65_536, 1_000, Vec::new(alloc), Vec::new(alloc))?;
-    let Ok(journal) = Journal::volatile(alloc, desk) else {
-        return Err(Fail::from("there is no journal"));
-    };
-    match Book::start(alloc, journal, machine, false) {
-        Ok(book) => Ok(book),
-        Err(_) => Err(Fail::from("the book doesn't begin")),
+/// A run of a plan whose session was entered by hand 0, and of which nothing is kept.
+fn entered(alloc: Global, plan: Plan) -> Result<Book<MemoryDesk>, Fail> {
+    let mut book = begun(alloc, plan, desk(alloc, &[], &[])?)?;
+    match book.enter(0, None) {
+        Ok(Entered::Running) => Ok(book),
+        _ => Err(Fail::from("the session isn't entered")),
     }
 }
 
@@ -107,11 +43,18 @@ fn turn(book: &mut Book<MemoryDesk>, hand: u8) -> Result<Turn, Fail>
     }
 }
 
+/// Whether a hand has a task in flight.
+fn has_task(book: &Book<MemoryDesk>, hand: u8) -> bool
+    ensures { result ≡ true → IsSome (task_of (outline_of_book book.now) (moment book.now) hand) }
+{
+    book.machine().in_flight(hand).is_some()
+}
+
 /// The end of the task that a hand has in flight.
 fn end(book: &mut Book<MemoryDesk>, hand: u8, outcome: Outcome) -> Result<(), Fail>
     requires { hand < 64 }
 {
-    if book.machine().in_flight(hand).is_none() {
+    if !has_task(book, hand) {
         drop(outcome);
         return Err(Fail::from("the hand has nothing in flight"));
     }
@@ -121,53 +64,173 @@ fn end(book: &mut Book<MemoryDesk>, hand: u8, outcome: Outcome) -> Result<(), Fa
     }
 }
 
-fn starts(book: &mut Book<MemoryDesk>, hand: u8) -> Result<bool, Fail>
-    requires { hand < 64 }
-{
-    Ok(matches!(turn(book, hand)?, Turn::Start(_)))
+/// What a hand is told at its turn.
+#[derive(Clone, Copy, PartialEq, Eq)]
+enum Told {
+    Starts,
+    Waits,
+    Ends,
+    Suspends,
 }
 
-fn waits(book: &mut Book<MemoryDesk>, hand: u8) -> Result<bool, Fail>
-    requires { hand < 64 }
-{
-    Ok(matches!(turn(book, hand)?, Turn::Idle))
+/// What came of a hand's task.
+#[derive(Clone, Copy)]
+enum Came {
+    Two,
+    Nothing,
+    Failure,
 }
 
-fn fails(alloc: Global, book: &mut Book<MemoryDesk>, hand: u8) -> Result<(), Fail>
+/// What a hand does: it takes its turn and is told that, or it ends its task so.
+#[derive(Clone, Copy)]
+enum Act {
+    Turn(Told),
+    End(Came),
+}
+
+fn told_by(turn: Turn) -> Told {
+    match turn {
+        Turn::Start(order) => {
+            drop(order);
+            Told::Starts
+        }
+        Turn::Idle => Told::Waits,
+        Turn::Ended(_) => Told::Ends,
+        Turn::Suspended => Told::Suspends,
+    }
+}
+
+/// Whether a hand is told that at its next turn.
+fn is_told(book: &mut Book<MemoryDesk>, hand: u8, wanted: Told) -> Result<bool, Fail>
     requires { hand < 64 }
 {
-    let Ok(text) = Text::make(alloc, b"1 below 2") else {
-        return Err(Fail::from("there is no text"));
-    };
-    end(book, hand, Outcome::Failed(Failure::Raised(text)))
+    let turn = turn(book, hand)?;
+    Ok(told_by(turn) == wanted)
 }
+
+/// The failure of a task that was given 1.
+fn below(alloc: Global) -> Result<Outcome, Fail> {
+    match Text::make(alloc, b"1 below 2") {
+        Ok(text) => Ok(Outcome::Failed(Failure::Raised(text))),
+        Err(_) => Err(Fail::from("there is no text")),
+    }
+}
+
+fn outcome(alloc: Global, came: Came) -> Result<Outcome, Fail> {
+    match came {
+        Came::Two => Ok(Outcome::Gave(Val::Int(2))),
+        Came::Nothing => Ok(Outcome::Gave(Val::Nothing)),
+        Came::Failure => below(alloc),
+    }
+}
+
+/// Ends the task of a hand.
+fn ends(alloc: Global, book: &mut Book<MemoryDesk>, hand: u8, came: Came) -> Result<bool, Fail>
+    requires { hand < 64 }
+{
+    let outcome = outcome(alloc, came)?;
+    end(book, hand, outcome)?;
+    Ok(true)
+}
+
+/// Whether a hand is told so at its next turn, or whether the end of its task is recorded.
+fn does(alloc: Global, book: &mut Book<MemoryDesk>, hand: u8, act: Act) -> Result<bool, Fail> {
+    if hand >= 64 {
+        return Err(Fail::from("there is no such hand"));
+    }
+    match act {
+        Act::Turn(wanted) => is_told(book, hand, wanted),
+        Act::End(came) => ends(alloc, book, hand, came),
+    }
+}
+
+/// The book after these acts, all of which went so.
+fn after(
+    alloc: Global,
+    book: Book<MemoryDesk>,
+    acts: &[(u8, Act)],
+) -> Result<Book<MemoryDesk>, Fail> {
+    let mut book = book;
+    for (hand, act) in acts {
+        if !does(alloc, &mut book, *hand, *act)? {
+            return Err(Fail::from("a hand is told otherwise"));
+        }
+    }
+    Ok(book)
+}
+
+/// Two hands fail in the first attempt, revert, and give 2 in the second.
+const ACTS: [(u8, Act); 15] = [
+    (0, Act::Turn(Told::Starts)),
+    (1, Act::Turn(Told::Starts)),
+    (0, Act::End(Came::Failure)),
+    (0, Act::Turn(Told::Starts)),
+    (1, Act::End(Came::Failure)),
+    (1, Act::Turn(Told::Starts)),
+    (0, Act::End(Came::Nothing)),
+    (0, Act::Turn(Told::Waits)),
+    (1, Act::End(Came::Nothing)),
+    (1, Act::Turn(Told::Starts)),
+    (0, Act::Turn(Told::Starts)),
+    (1, Act::End(Came::Two)),
+    (1, Act::Turn(Told::Waits)),
+    (0, Act::End(Came::Two)),
+    (0, Act::Turn(Told::Ends)),
+];
 
 /// What is recorded: one resolution covers both failures.
-const LINES: &str =
-    "1 0 flow main RUNNING\n2 0 retry r RUNNING\n3 0 retry r SUCCESS 1\n4 0 task t1 RUNNING\n5 1 task t2 RUNNING\n6 0 task t1 FAILURE raised \"1 below 2\"\n7 0 resolve main RETRY\n8 0 task t1 REVERTING\n9 1 task t2 FAILURE raised \"1 below 2\"\n10 1 task t2 REVERTING\n11 0 task t1 REVERTED\n12 1 task t2 REVERTED\n13 1 retry r RETRYING\n14 1 task t1 PENDING\n15 1 task t2 PENDING\n16 1 retry r RUNNING\n17 1 retry r SUCCESS 2\n18 1 task t1 RUNNING\n19 0 task t2 RUNNING\n20 1 task t1 SUCCESS 2\n21 0 task t2 SUCCESS 2\n22 0 flow main SUCCESS\n";
+const LINES: &[u8] =
+    b"1 0 flow main RUNNING\n2 0 retry r RUNNING\n3 0 retry r SUCCESS 1\n4 0 task t1 RUNNING\n5 1 task t2 RUNNING\n6 0 task t1 FAILURE raised \"1 below 2\"\n7 0 resolve main RETRY\n8 0 task t1 REVERTING\n9 1 task t2 FAILURE raised \"1 below 2\"\n10 1 task t2 REVERTING\n11 0 task t1 REVERTED\n12 1 task t2 REVERTED\n13 1 retry r RETRYING\n14 1 task t1 PENDING\n15 1 task t2 PENDING\n16 1 retry r RUNNING\n17 1 retry r SUCCESS 2\n18 1 task t1 RUNNING\n19 0 task t2 RUNNING\n20 1 task t1 SUCCESS 2\n21 0 task t2 SUCCESS 2\n22 0 flow main SUCCESS\n";
 
 #[test]
 fn one_resolution_covers_the_failures_of_two_hands(rt: HostRuntime) -> Result<(), Fail> {
     let alloc = rt.alloc();
-    let mut book = begun(alloc)?;
-    assert!(rt; matches!(book.enter(0, None), Ok(Entered::Running)));
-    assert!(rt; starts(&mut book, 0)?);
-    assert!(rt; starts(&mut book, 1)?);
-    fails(alloc, &mut book, 0)?;
-    assert!(rt; starts(&mut book, 0)?);
-    fails(alloc, &mut book, 1)?;
-    assert!(rt; starts(&mut book, 1)?);
-    end(&mut book, 0, Outcome::Gave(Val::Nothing))?;
-    assert!(rt; waits(&mut book, 0)?);
-    end(&mut book, 1, Outcome::Gave(Val::Nothing))?;
-    assert!(rt; starts(&mut book, 1)?);
-    assert!(rt; starts(&mut book, 0)?);
-    end(&mut book, 1, Outcome::Gave(Val::Int(2)))?;
-    assert!(rt; waits(&mut book, 1)?);
-    end(&mut book, 0, Outcome::Gave(Val::Int(2)))?;
-    assert!(rt; matches!(turn(&mut book, 0)?, Turn::Ended(FlowState::Success)));
+    let book = entered(alloc, retried(alloc)?)?;
+    let book = after(alloc, book, &ACTS)?;
     assert_eq!(rt; book.count(), 22);
     let desk = book.close();
-    assert!(rt; desk.shown() == LINES.as_bytes());
+    assert!(rt; desk.shown() == LINES);
+    Ok(())
+}
+
+/// How many atoms the machine has.
+fn atoms(machine: &Machine) -> u16
+    ensures { result ≡ count (outline machine.now) }
+{
+    machine.plan().atoms()
+}
+
+/// How many atoms before an atom of the book are neither SUCCESS nor IGNORE.
+fn waiting(book: &Book<MemoryDesk>, atom: u16) -> Option<u16> {
+    let machine = book.machine();
+    if atom < atoms(machine) {
+        return Some(machine.waiting(atom));
+    }
+    None
+}
+
+/// How many atoms after an atom of the book aren't settled.
+fn holding(book: &Book<MemoryDesk>, atom: u16) -> Option<u16> {
+    let machine = book.machine();
+    if atom < atoms(machine) {
+        return Some(machine.holding(atom));
+    }
+    None
+}
+
+/// Hand 0 starts a task and ends it.
+const TASK: [(u8, Act); 2] = [(0, Act::Turn(Told::Starts)), (0, Act::End(Came::Nothing))];
+
+#[test]
+fn a_task_waits_for_the_one_before_and_holds_it_back(rt: HostRuntime) -> Result<(), Fail> {
+    let alloc = rt.alloc();
+    let book = entered(alloc, two_echoes(alloc, FlowKind::Linear)?)?;
+    assert!(rt; waiting(&book, 1) == Some(1));
+    let book = after(alloc, book, &TASK)?;
+    assert_eq!(rt; book.count(), 3);
+    assert!(rt; waiting(&book, 1) == Some(0));
+    let book = after(alloc, book, &TASK)?;
+    assert_eq!(rt; book.count(), 5);
+    assert!(rt; holding(&book, 0) == Some(1));
     Ok(())
 }

@@ -1,63 +1,14 @@
+use crate::test_books::{FINISHED, begun, desk, one_task, opened};
 use crate::{How, RunEnd, serial};
 use std::alloc::Global;
 use std::test::Fail;
-use tf_book::{Book, Halt, Loaded};
+use tf_book::{Book, Halt};
 use tf_desk::{Desk, MemoryDesk};
-use tf_entries::decode_plan;
-use tf_journal::Journal;
-use tf_machine::Machine;
 use tf_ports::MemoryPerformer;
 use tf_states::FlowState;
-use tf_values::Text;
-
-/// The book of a finished run of a linear flow `main` with one task `a`, which gave 1. Its plan has the bytes 22 to 79.
-const FINISHED: &[u8; 125] =
-    b"\xa5TASKFLOW BOOK 1\x0a\xa5\x00\x00\x009\x04main\x00\x00\x00\x01\x00\x01a\x00\x00\x00\x00\x01\x05value\x05value\x00\x01\x05value\x03\x00\x00\x00\x00\x00\x00\x00\x01\x00\x00\x00\x00\x00\x00\x00\x00\x00\x00\x00\xa5\x00\x00\x00\x03\x00\x02\x01\xa5\x00\x00\x00\x05\x00\x01\x00\x00\x01\xa5\x00\x00\x00\x0e\x00\x01\x00\x00\x02\x03\x00\x00\x00\x00\x00\x00\x00\x01\xa5\x00\x00\x00\x03\x00\x02\x02\x00";
 
 /// The bytes of the same book up to the gate of its third entry, which ends the task.
 const UNENDED: usize = 97;
-
-/// A run of the same plan of which nothing is kept, over a desk of whose calls the stated ones fail, and which is asked
-/// for a stop at the stated turns.
-fn begun(alloc: Global, failing: &[u64], asking: &[u64]) -> Result<Book<MemoryDesk>, Fail> {
-    let bytes: &[u8] = FINISHED;
-    let Ok(plan) = decode_plan(alloc, &bytes[22..79]) else {
-        return Err(Fail::from("the plan isn't read"));
-    };
-    let Ok(machine) = Machine::make(alloc, plan) else {
-        return Err(Fail::from("the plan isn't taken"));
-    };
-    let failing = Vec::from_slice(alloc, failing)?;
-    let desk = MemoryDesk::make(
-        alloc,
-        65_536,
-        1_000,
-        failing,
-        Vec::from_slice(alloc, asking)?,
-    )?;
-    let Ok(journal) = Journal::volatile(alloc, desk) else {
-        return Err(Fail::from("there is no journal"));
-    };
-    match Book::start(alloc, journal, machine, false) {
-        Ok(book) => Ok(book),
-        Err(_) => Err(Fail::from("the book doesn't begin")),
-    }
-}
-
-/// A desk whose file has these bytes, opened as a book.
-fn opened(alloc: Global, bytes: &[u8]) -> Result<Book<MemoryDesk>, Fail> {
-    let mut desk = MemoryDesk::make(alloc, 65_536, 1_000, Vec::new(alloc), Vec::new(alloc))?;
-    let Ok(name) = Text::make(alloc, b"B") else {
-        return Err(Fail::from("there is no name"));
-    };
-    if desk.pick(alloc, &name).is_err() || desk.write_at(0, bytes).is_err() {
-        return Err(Fail::from("the file isn't written"));
-    }
-    match Book::load(alloc, desk) {
-        Ok(Loaded::Book(book)) => Ok(book),
-        _ => Err(Fail::from("the file is no book with a flow")),
-    }
-}
 
 /// How a run of a book stopped with a hand in memory, how many entries it has then, and the desk.
 fn ran(
@@ -71,10 +22,22 @@ fn ran(
     Ok((how, count, book.close()))
 }
 
+/// The same of a fresh run of one task, of which nothing is kept.
+fn ran_anew(
+    alloc: Global,
+    failing: &[u64],
+    asking: &[u64],
+    limit: Option<u32>,
+) -> Result<(How, u64, MemoryDesk), Fail> {
+    let book = begun(alloc, one_task(alloc)?, desk(alloc, failing, asking)?)?;
+    ran(alloc, book, limit)
+}
+
 #[test]
 fn a_finished_run_records_nothing_more(rt: HostRuntime) -> Result<(), Fail> {
     let alloc = rt.alloc();
-    let (how, count, mut desk) = ran(alloc, opened(alloc, FINISHED)?, None)?;
+    let book = opened(alloc, desk(alloc, &[], &[])?, FINISHED)?;
+    let (how, count, mut desk) = ran(alloc, book, None)?;
     assert!(rt; how == How::Ended(FlowState::Success));
     assert_eq!(rt; count, 4);
     assert!(rt; desk.shown().is_empty());
@@ -110,7 +73,8 @@ fn a_run_that_died_before_or_after_the_end_of_its_task_goes_on(
         let mut bytes = Vec::from_slice(alloc, &FINISHED[..117])?;
         bytes[UNENDED] = *gate;
         bytes[116] = 0;
-        let (how, _, desk) = ran(alloc, opened(alloc, &bytes)?, None)?;
+        let book = opened(alloc, desk(alloc, &[], &[])?, &bytes)?;
+        let (how, _, desk) = ran(alloc, book, None)?;
         assert!(rt; how == How::Ended(FlowState::Success), "gate {gate}");
         assert!(rt; desk.shown() == says.as_bytes(), "gate {gate}");
     }
@@ -120,7 +84,7 @@ fn a_run_that_died_before_or_after_the_end_of_its_task_goes_on(
 #[test]
 fn a_line_that_cannot_be_said_ends_the_run(rt: HostRuntime) -> Result<(), Fail> {
     let alloc = rt.alloc();
-    let (how, count, desk) = ran(alloc, begun(alloc, &[4], &[])?, None)?;
+    let (how, count, desk) = ran_anew(alloc, &[4], &[], None)?;
     assert!(rt; how == How::Halted(Halt::Out));
     assert_eq!(rt; count, 3);
     assert!(rt;
@@ -132,13 +96,13 @@ fn a_line_that_cannot_be_said_ends_the_run(rt: HostRuntime) -> Result<(), Fail> 
 #[test]
 fn a_run_is_suspended_at_its_limit_or_where_it_is_asked(rt: HostRuntime) -> Result<(), Fail> {
     let alloc = rt.alloc();
-    let (how, count, _) = ran(alloc, begun(alloc, &[], &[])?, Some(1))?;
+    let (how, count, _) = ran_anew(alloc, &[], &[], Some(1))?;
     assert!(rt; how == How::Suspended);
     assert_eq!(rt; count, 3);
-    let (how, count, _) = ran(alloc, begun(alloc, &[], &[1])?, None)?;
+    let (how, count, _) = ran_anew(alloc, &[], &[1], None)?;
     assert!(rt; how == How::Suspended);
     assert_eq!(rt; count, 3);
-    let (how, count, _) = ran(alloc, begun(alloc, &[], &[2])?, Some(3))?;
+    let (how, count, _) = ran_anew(alloc, &[], &[2], Some(3))?;
     assert!(rt; how == How::Ended(FlowState::Success));
     assert_eq!(rt; count, 4);
     Ok(())
