@@ -1,4 +1,4 @@
-//! Tests of the public calls of the crates below the machine. They stand apart from these crates, so that each of them
+//! Tests of the public calls of the crates that don't use the machine. They stand apart from these crates, so that each of them
 //! is proved once; each file tests the crate that it imports first.
 #![tactic(auto)]
 
