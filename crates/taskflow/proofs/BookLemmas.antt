@@ -26,10 +26,7 @@ use Rattle.tf_journal.specs.Way.{Untouched, Open}
 use Rattle.taskflow.specs.declared.statuses.TheConstants.{FORBIDDEN, UNHIRED}
 use Rattle.taskflow.proofs.AskedLemmas.{promised_more}
 use Rattle.tf_journal.proofs.UnbornLemmas.{unborn_found}
-
--- the bytes of a file that is picked
-picked_reads : (name : List ℕ) (content : Content) → content.picked ≡ Some name → bytes_of content ≡ file_of content name
-picked_reads name content picked = ap (λ (o : Option (List ℕ)). unwrap_or (option_and_then content.files o) []) picked
+use Rattle.tf_desk.specs.ActLaws.{bytes_of-picked}
 
 -- ---- what recovery takes as unborn is unborn
 
@@ -45,7 +42,7 @@ module _ {K : Type 0} (tells : K → Bool) (shown : K → Option (List ℕ)) (co
       → bytes_of (content now) ≡ file_of (content entry) name
   opened_bytes name entry now opened told =
       let told_entry : IsTrue (tells entry) = subst (λ (t : Bool). IsTrue t) opened.untouched.told told in
-      picked_reads name (content now) (opened.set told_entry).picked ∙ opened.untouched.file told_entry
+      bytes_of-picked (content now) name (opened.set told_entry).picked ∙ opened.untouched.file told_entry
 
   -- a file that was read as unborn may be made a book
   pub opened_unborn : (name : List ℕ) (entry now : K) → Open tells shown content left crashes disk_faults out_faults name entry now

@@ -7,10 +7,7 @@ use Rattle.taskflow.specs.Books.{Unopened, exhausted, disk_failed, no_book}
 use Rattle.taskflow.specs.Causes.{HasCauses, HasSaid, counts}
 use Rattle.taskflow.specs.Saying.{Closes, said, cut}
 use Rattle.taskflow.specs.declared.statuses.TheConstants.{UNREAD, DISK_FAILED, NO_BOOK, UNSAID, UNHIRED, OUT_OF_MEMORY, FORBIDDEN}
-
--- a count that rose after it stood elsewhere
-pub rises_since : (a b c : ℕ) → a ≤ b → Rises b c → Rises a c
-rises_since a b c le rose = omega (arith, le, rose)
+use Rattle.tf_desk.proofs.CountLemmas.{rises_later}
 
 -- a count that rose and didn't fall since
 pub rises_until : (a b c : ℕ) → Rises a b → b ≤ c → Rises a c
@@ -22,8 +19,8 @@ pub ran_causes : (status d0 d1 d2 o0 o1 o2 w0 w1 : ℕ) → d0 ≤ d1 → o1 ≡
 ran_causes status d0 d1 d2 o0 o1 o2 w0 w1 disk out disk_on out_on crew unsaid failed apart = record {
   none_falls = record { disk = omega (arith, disk, disk_on); out = omega (arith, out, out_on); sources = omega arith; crew = crew };
   unread = λ is. absurd (apart.0 is);
-  failed = λ is. rises_since d0 d1 d2 disk (failed is);
-  unsaid = λ is. rises_since o0 o1 o2 (omega (arith, out)) (unsaid is);
+  failed = λ is. rises_later d0 d1 d2 disk (failed is);
+  unsaid = λ is. rises_later o0 o1 o2 (omega (arith, out)) (unsaid is);
   unhired = λ is. absurd (apart.1 is);
 }
 
@@ -34,7 +31,7 @@ said_causes status d0 d1 d2 o0 o1 o2 w0 w1 disk out crew s failed hired = record
   none_falls = record { disk = omega (arith, disk, s.disk); out = omega (arith, out, s.out); sources = omega arith; crew = crew };
   unread = λ is. absurd (s.read is);
   failed = λ is. rises_until d0 d1 d2 (failed is) (omega (arith, s.disk));
-  unsaid = λ is. rises_since o0 o1 o2 (omega (arith, out)) (s.unsaid is);
+  unsaid = λ is. rises_later o0 o1 o2 (omega (arith, out)) (s.unsaid is);
   unhired = hired;
 }
 
@@ -56,8 +53,8 @@ pub opened_causes : (status d0 d1 d2 o0 o1 o2 w0 w1 : ℕ) → d0 ≤ d1 → o1 
 opened_causes status d0 d1 d2 o0 o1 o2 w0 w1 disk out h = record {
   none_falls = record { disk = omega (arith, disk, h.none_falls.disk); out = omega (arith, out, h.none_falls.out); sources = h.none_falls.sources; crew = h.none_falls.crew };
   unread = h.unread;
-  failed = λ is. rises_since d0 d1 d2 disk (h.failed is);
-  unsaid = λ is. rises_since o0 o1 o2 (omega (arith, out)) (h.unsaid is);
+  failed = λ is. rises_later d0 d1 d2 disk (h.failed is);
+  unsaid = λ is. rises_later o0 o1 o2 (omega (arith, out)) (h.unsaid is);
   unhired = h.unhired;
 }
 
@@ -66,8 +63,8 @@ pub read_causes : (status d0 d1 d2 o0 o1 o2 s0 s1 w0 w1 : ℕ) → d1 ≡ d0 →
 read_causes status d0 d1 d2 o0 o1 o2 s0 s1 w0 w1 disk out sources h = record {
   none_falls = record { disk = omega (arith, disk, h.none_falls.disk); out = omega (arith, out, h.none_falls.out); sources = sources; crew = h.none_falls.crew };
   unread = λ is. absurd (none_rose (h.unread is));
-  failed = λ is. rises_since d0 d1 d2 (omega (arith, disk)) (h.failed is);
-  unsaid = λ is. rises_since o0 o1 o2 out (h.unsaid is);
+  failed = λ is. rises_later d0 d1 d2 (omega (arith, disk)) (h.failed is);
+  unsaid = λ is. rises_later o0 o1 o2 out (h.unsaid is);
   unhired = h.unhired;
 }
 

@@ -20,6 +20,7 @@ use Rattle.tf_words.specs.declared.asked.Asked.TheVariants as asked
 use Rattle.tf_words.specs.declared.verbs.Verb.{Verb}
 use Rattle.tf_words.specs.declared.verbs.Verb.TheVariants as verb
 use Rattle.taskflow.specs.Asking.{AreHands}
+use Rattle.tf_words.proofs.DemoLemmas.{between}
 
 -- the hands that a command wants may run a flow
 abbrev pub HasHands : Asked → Type 0
@@ -44,22 +45,6 @@ all_where P true o all = all
 all_where P false o all = tt
 
 -- ---- a number of hands
-
-le_true : (a b : ℕ) → nat_le a b ≡ true → a ≤ b
-le_true a b is = grind (arith, nat_tests)
-
-if_some : (c : Bool) (x n : ℕ) → (if c then Some x else None) ≡ Some n → (c ≡ true) × (x ≡ n)
-if_some true x n is = (refl, cc)
-if_some false x n is = absurd (cc)
-
--- a number that was read is within its bounds
-between : (least most : ℕ) (word : List ℕ) (n : ℕ) → number_between least most word ≡ Some n → (least ≤ n) × (n ≤ most)
-between least most word n is =
-    let found = if_some (is_number word && (nat_le least (digits_value 10 word) && nat_le (digits_value 10 word) most)) (digits_value 10 word) n is in
-    let bounds = and_second (is_number word) (nat_le least (digits_value 10 word) && nat_le (digits_value 10 word) most) found.0 in
-    let low : nat_le least (digits_value 10 word) ≡ true = and_first (nat_le least (digits_value 10 word)) (nat_le (digits_value 10 word) most) bounds in
-    let high : nat_le (digits_value 10 word) most ≡ true = and_second (nat_le least (digits_value 10 word)) (nat_le (digits_value 10 word) most) bounds in
-    (omega (arith, le_true least (digits_value 10 word) low, found.1), omega (arith, le_true (digits_value 10 word) most high, found.1))
 
 hands_within : (said : Said) (n : ℕ) → hands_in said ≡ Some n → AreHands (want.Local n)
 hands_within said n is = by (said (codes "hands")) is

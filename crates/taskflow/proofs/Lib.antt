@@ -1,4 +1,3 @@
-pub mod TakenLemmas
 pub mod MessageLemmas
 pub mod AcceptLemmas
 pub mod RegionLemmas

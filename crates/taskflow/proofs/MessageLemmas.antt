@@ -13,11 +13,9 @@ use Rattle.tf_model.proofs.PlanLemmas.{atoms_counted}
 use Rattle.tf_report.specs.Lines.{flow_name, flow_word}
 use Rattle.tf_states.specs.declared.state.FlowState.{FlowState}
 use Rattle.taskflow.specs.Messages.{tasks_below, checked, byte_or_end, not_a_book, book_full, state_forbids}
+use Rattle.tf_report.proofs.LineLemmas.{flows_counted}
 
 -- ---- flows
-
-pub flows_counted : (plan : PlanValue) → length (numbering.flows plan) ≡ length (outline_of plan).flows
-flows_counted plan = ap length (sym (same_flows plan)) ∙ length-map (outline_of plan).flows laws.name_of_flow
 
 -- ---- how many atoms are tasks
 

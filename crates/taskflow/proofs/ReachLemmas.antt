@@ -11,7 +11,7 @@ use Rattle.tf_states.specs.declared.state.AtomState.TheVariants as atom
 use Rattle.tf_states.specs.declared.state.FlowState.{FlowState}
 use Rattle.tf_states.specs.declared.state.FlowState.TheVariants as flow
 use Rattle.tf_numbers.proofs.OptionLemmas.{only_if}
-use Rattle.tf_numbers.proofs.TruthLemmas.{true_both}
+use Rattle.tf_numbers.proofs.TruthLemmas.{true_both, clash}
 use Rattle.tf_numbers.specs.Numbers.{all_below, first_below}
 use Rattle.tf_model.specs.Candidates.{choice, end_of, taken_up}
 use Rattle.tf_model.specs.Compilation.{compile_refusal}
@@ -26,11 +26,7 @@ use Rattle.tf_hands.specs.Hands.{is_of_flow}
 use Rattle.tf_hands.proofs.ForcedLemmas.{forced_within}
 use Rattle.taskflow.specs.Run.{is_beside_flow, EndsBy, HasReached}
 use Rattle.taskflow.proofs.RegionLemmas.{all_settled}
-use Rattle.taskflow.proofs.TakenLemmas.{taken_of}
-
--- two truth values clash
-clash : (b : Bool) → b ≡ true → b ≡ false → ⊥
-clash b is isnt = cc
+use Rattle.tf_hands.proofs.TakenLemmas.{taken_of}
 
 -- what takes a task up isn't of the flow
 taken_beside : (state : AtomState) (a : ℕ) → is_of_flow (taken_up state a) ≡ false

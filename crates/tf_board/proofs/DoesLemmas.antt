@@ -31,6 +31,7 @@ use Rattle.tf_board.specs.declared.faults.BoardFault.TheVariants as fault
 use Rattle.tf_board.specs.declared.rules.Refusal.{Refusal}
 use Rattle.tf_board.specs.declared.rules.Refusal.TheVariants as refusal
 use Rattle.tf_board.specs.declared.statuses.TheConstants.{SUCCEEDED, DISK_FAILED, NO_BOARD, UNSAID, OUT_OF_MEMORY, FULL, BOARD_REFUSED}
+use Rattle.tf_desk.proofs.CountLemmas.{rises_later}
 
 -- nothing that is said is a front of any text
 nothing_front : (shown : Option (List ℕ)) (message text : List ℕ) → shown ≡ Some text → ShowsFront shown message (Some text)
@@ -46,10 +47,6 @@ pub no_board_stays : (before now : List ℕ) (offset : ℕ) (byte : Option ℕ) 
 no_board_stays before now offset byte is (inl same) = same
 no_board_stays before now offset byte (no_journal found) (inr made) = let no = sym found ∙ made.0 in absurd (cc)
 no_board_stays before now offset byte (bad_body held found refused) (inr made) = let no = sym found ∙ made.0 in absurd (cc)
-
--- a count that rose did so since before
-pub rises_since : (a b c : ℕ) → a ≤ b → Rises b c → Rises a c
-rises_since a b c le rises = omega (arith, le, rises)
 
 -- the status of what closes
 closes_status : (before after : Option (List ℕ)) (message : List ℕ) (wanted status : ℕ) → ClosesOrStops before message wanted after status → (status ≡ OUT_OF_MEMORY) ⊎ (status ≡ wanted) ⊎ (status ≡ UNSAID)
@@ -469,7 +466,7 @@ module _ {K : Type 0} (tells : K → Bool) (shown : K → Option (List ℕ)) (co
         record {
           disk = omega (arith, o.disk, counts.0, disk_back, disk);
           out = omega (arith, o.out, counts.1, out_back, out);
-          failed = λ is. rises_since (disk_faults entry) (disk_faults old.journal.desk) (disk_faults now) o.disk
+          failed = λ is. rises_later (disk_faults entry) (disk_faults old.journal.desk) (disk_faults now) o.disk
               (subst (λ (n : ℕ). Rises (disk_faults old.journal.desk) n) (sym (disk ∙ disk_back)) (act_rises old new refused action id owner got a (failed is)));
           unsaid = λ is. subst (λ (n : ℕ). Rises n (out_faults now)) (out_back ∙ counts.1 ∙ o.out) (unsaid is);
         }

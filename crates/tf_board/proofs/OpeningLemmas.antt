@@ -23,6 +23,7 @@ use Rattle.tf_board.specs.Jobs.{LegalJobs}
 use Rattle.tf_board.specs.Loading.{desk_loaded}
 use Rattle.tf_board.specs.Opening.{LeavesBoard, IsAsBeforeOrMade, Picked, IsOpened, IsUnopened}
 use Rattle.tf_board.specs.declared.commands.Command.{Command}
+use Rattle.tf_desk.specs.ActLaws.{bytes_of-picked}
 
 -- what recovery finds of a journal at rest
 pub rest_holds : {K : Type 0} (content : K → Content) (left : K → Images) (journal : Held K) (past : List Command) → journal.title ≡ jobs_title → IsAtRest content left journal (bodies_of past)
@@ -35,10 +36,6 @@ pub rest_left : {K : Type 0} (content : K → Content) (left : K → Images) (jo
     → (image : List ℕ) → IsLeft (content journal.desk).picked (left journal.desk) image → Holds past (board_in image)
 rest_left content left journal past titled rest image leaves =
     subst (λ (t : Title). recovered (title_of t) image ≡ bodies (bodies_of past)) titled (rest_leaves content left journal (bodies_of past) rest image leaves)
-
--- the bytes of a file that is picked
-picked_reads : (name : List ℕ) (content : Content) → content.picked ≡ Some name → bytes_of content ≡ file_of content name
-picked_reads name content picked = ap (λ (o : Option (List ℕ)). unwrap_or (option_and_then content.files o) []) picked
 
 birth_finds : (shown : Option (List ℕ)) (image text : List ℕ) → LeavesBirth (title_of jobs_title) shown image text → LeavesBoard [] shown image text
 birth_finds shown image text l = (⊎_elim (λ still. inr (refl, still)) (λ born. inl born) l.0, l.1)
@@ -133,7 +130,7 @@ module _ {K : Type 0} (tells : K → Bool) (shown : K → Option (List ℕ)) (co
         in_file = in_file;
         legal = subst (λ (l : List Command). LegalJobs l) (sym none) tt;
         found = λ t. inr (none, unborn_then t);
-        holds = λ t. subst (λ (b : List ℕ). Holds board.past (board_in b)) (picked_reads name (content now) (set_now t).picked) (no_past (bytes_of (content now)) (held t));
+        holds = λ t. subst (λ (b : List ℕ). Holds board.past (board_in b)) (bytes_of-picked (content now) name (set_now t).picked) (no_past (bytes_of (content now)) (held t));
         set = set_now;
         way = λ t. way_on name (content entry) (left entry) (content before) (content now) (left before) (left now) (crashes before) (crashes now) (IsAsBefore (content entry) name (shown entry))
             (LeavesBirth (title_of jobs_title) (shown before)) (LeavesBoard board.past (shown entry)) (IsSame (content entry) name) (λ image. Holds board.past (board_in image))

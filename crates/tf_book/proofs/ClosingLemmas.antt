@@ -29,7 +29,8 @@ use Rattle.tf_book.specs.Sound.{IsSound}
 use Rattle.tf_book.proofs.LogLemmas.{said_at_rest, goes_nowhere}
 use Rattle.tf_book.specs.declared.faults.Halt.{Halt}
 use Rattle.tf_book.specs.declared.faults.Halt.TheVariants as halt
-use Rattle.tf_book.proofs.KeptLemmas.{goes_twice, rises_later, none_pending, not_disk}
+use Rattle.tf_book.proofs.KeptLemmas.{goes_twice, none_pending, not_disk}
+use Rattle.tf_desk.proofs.CountLemmas.{rises_later}
 
 -- a machine's views show what it shows
 pub views_show : (m : MachineValue) (views : List AtomView) → views ≡ m.views → Shows views (machine_shows m)

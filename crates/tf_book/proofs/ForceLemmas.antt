@@ -8,7 +8,6 @@ use Rattle.tf_book.specs.Logging.{is_recorded}
 use Rattle.tf_book.specs.Recording.{past_after}
 use Rattle.tf_book.specs.declared.faults.Halt.{Halt}
 use Rattle.tf_model.specs.States.{flow_suspends}
-use Rattle.tf_book.proofs.TurnLemmas.{flow_shown}
 use Rattle.tf_flow.specs.Plan.{PlanValue}
 use Rattle.tf_states.specs.declared.record.Entry.{Entry}
 use Rattle.tf_states.specs.declared.record.What.{What}
@@ -28,6 +27,7 @@ use Rattle.tf_book.specs.declared.turn.Turn.{Turn}
 use Rattle.tf_book.specs.declared.turn.Turn.TheVariants as turn
 use Rattle.tf_ports.specs.declared.orders.Order.{Order}
 use Rattle.tf_book.specs.Turns.{AreForced, IsForcedBy, IsForcedOn, IsStartedSo, RanOn, RanUntilStop, IsEndOf, HasRested, IsClosedOr, stays, ended, suspended, end_now, suspending_after, HasStopped, IsStoppedOr, Rests, nothing_left, at_end, to_suspend, suspending, RestsAs, IsLessAfterStart, IsTurn, IsHaltedTurn, starting, forcing, resting}
+use Rattle.tf_bound.proofs.SessionLemmas.{flow_shown}
 
 -- what is forced may follow, by any hand
 pub forced_step : (plan : Outline) (s : Snapshot) (hand : ℕ) (w : What) → hand < 64 → forced plan s ≡ Some w → Step plan s (by_hand hand w)

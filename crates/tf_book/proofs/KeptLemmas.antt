@@ -28,6 +28,7 @@ use Rattle.tf_book.specs.Recording.{halt_after, past_after}
 use Rattle.tf_book.specs.Sound.{IsSound}
 use Rattle.tf_book.specs.declared.faults.Halt.{Halt}
 use Rattle.tf_book.specs.declared.faults.Halt.TheVariants as halt
+use Rattle.tf_desk.proofs.CountLemmas.{rises_later}
 
 -- ---- the shown text
 
@@ -139,10 +140,6 @@ goes_twice a b c first second = record {
   others = λ other apart. second.others other (λ same. apart (sym first.picked ∙ same)) ∙ first.others other apart;
   marks = (first.marks.0 ++ second.marks.0, second.marks.1 ∙ ap (λ (m : List Mark). m ++ second.marks.0) first.marks.1 ∙ append_assoc a.marks first.marks.0 second.marks.0);
 }
-
--- a count that rose later rose
-pub rises_later : (a b c : ℕ) → a ≤ b → Rises b c → Rises a c
-rises_later a b c le rose = omega (arith, le, rose)
 
 -- a book that isn't halted wasn't halted by the disk
 pub not_disk : (halted : Option Halt) → halted ≡ None → halted ≢ Some halt.Disk

@@ -84,8 +84,3 @@ suspends_from hand f is = absurd (cc)
 pub on_err : {A B : Type 0} (r : Result A B) (P : Type 0) → P → OnErr r P
 on_err (Ok u) P is = tt
 on_err (Err h) P is = is
-
--- the flow's state at a moment
-pub flow_shown : (plan : Outline) (past : List Entry) → (snapshot plan past).flow ≡ flow_of past
-unfolding snapshot
-flow_shown plan past = refl

@@ -30,16 +30,13 @@ use Rattle.tf_bound.specs.Costs.{tries_of, HasAttempts}
 use Rattle.tf_bound.specs.Short.{AreShortBinds, IsShortControl, IsShortTree, AreShortTrees, IsWithinLimits}
 use Rattle.tf_bound.proofs.CostLemmas.{IsTried}
 use Rattle.tf_model.proofs.WayLemmas.{all_both}
+use Rattle.tf_numbers.proofs.OptionLemmas.{neither_there, none_if, none_mapped}
 
 -- ---- no atom is bad
 
 both_none : (x y : Option PlanFault) → option_or x y ≡ None → y ≡ None
 both_none None y is = is
 both_none (Some v) y is = absurd (cc)
-
-none_mapped : (o : Option (List ℕ)) → option_map (λ name. fault.BadAtom name) o ≡ None → o ≡ None
-none_mapped None is = refl
-none_mapped (Some name) is = absurd (cc)
 
 then_none : (b : Bool) (x y : Option (List ℕ)) (name : List ℕ) → x ≡ Some name → (if b then x else y) ≡ None → y ≡ None
 then_none true x y name some is = absurd (cc)
@@ -49,19 +46,11 @@ then_none false x y name some is = is
 abbrev IsFine : Place → Type 0
 IsFine place = is_bad_atom place ≡ false
 
-one_fine : (b : Bool) (name : List ℕ) → (if b then Some name else None) ≡ None → b ≡ false
-one_fine true name is = absurd (cc)
-one_fine false name is = refl
-
-first_none : (x y : Option (List ℕ)) → option_or x y ≡ None → (x ≡ None) × (y ≡ None)
-first_none None y is = (refl, is)
-first_none (Some v) y is = absurd (cc)
-
 all_fine : (order : List Place) → first_some bad_atom_at order ≡ None → AllByRecursion IsFine order
 all_fine [] is = tt
 all_fine (place ∷ order) is =
-    let parts = first_none (bad_atom_at place) (first_some bad_atom_at order) is in
-    (one_fine (is_bad_atom place) (name_at place) parts.0, all_fine order parts.1)
+    let parts = neither_there (bad_atom_at place) (first_some bad_atom_at order) is in
+    (none_if (is_bad_atom place) (name_at place) parts.0, all_fine order parts.1)
 
 accepted_fine : (root : Flow) (store : List Bind) → first_refusal root store ≡ None → AllByRecursion IsFine (tree_order root)
 accepted_fine root store is =
@@ -71,7 +60,7 @@ accepted_fine root store is =
     let two = both_none (duplicate order) _ one in
     let three = both_none (unknown order) _ two in
     let four : bad_atom root.name store order ≡ None = both_none (bad_link order) (bad_atom root.name store order) three in
-    all_fine order (then_none (has_twice (bind_symbols store)) (Some root.name) (first_some bad_atom_at order) root.name refl (none_mapped _ four))
+    all_fine order (then_none (has_twice (bind_symbols store)) (Some root.name) (first_some bad_atom_at order) root.name refl (none_mapped (λ (name : List ℕ). fault.BadAtom name) _ four))
 
 -- ---- so each retry controller has an attempt
 

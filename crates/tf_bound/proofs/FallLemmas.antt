@@ -39,28 +39,13 @@ use Rattle.tf_bound.proofs.RoomLemmas.{IsWeighed}
 use Rattle.tf_bound.proofs.OwedLemmas.{free_in, free, owed_if_free, owed_at_most, descends, moves, KeepsMarks, stays_held, unsettled_free, none_held, is_held, others_stay, one_falls, descent_falls, put_back_falls}
 use Rattle.tf_bound.proofs.BeginLemmas.{begins_falls}
 use Rattle.tf_facts.proofs.CaseLemmas.{NoneIs, forced_by, none_begins}
+use Rattle.tf_facts.proofs.ForcedLemmas.{running_is, reverting_is, success_is, failure_is}
 
 -- what is recorded makes less owed, whoever records it
 abbrev pub Falls : Outline → (ℕ → ℕ) → Snapshot → What → Type 0
 Falls plan attempt s w = (hand : ℕ) → left_with plan attempt (after plan hand w s) < left_with plan attempt s
 
 -- ---- states by their tests
-
-running_is : (x : AtomState) → is_running x ≡ true → x ≡ atom.Running
-running_is atom.Running is = refl
-running_is x is = absurd (cc)
-
-reverting_is : (x : AtomState) → is_reverting x ≡ true → x ≡ atom.Reverting
-reverting_is atom.Reverting is = refl
-reverting_is x is = absurd (cc)
-
-success_is : (x : AtomState) → is_success x ≡ true → x ≡ atom.Success
-success_is atom.Success is = refl
-success_is x is = absurd (cc)
-
-pub failure_is : (x : AtomState) → is_failure x ≡ true → x ≡ atom.Failure
-failure_is atom.Failure is = refl
-failure_is x is = absurd (cc)
 
 executed_reverts : (x : AtomState) → is_executed x ≡ true → (descends x atom.Reverting ≡ true) × (is_settled x ≡ false)
 executed_reverts atom.Success is = (refl, refl)

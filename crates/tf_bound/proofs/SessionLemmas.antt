@@ -91,7 +91,7 @@ record Spent (plan : PlanValue) (base inner : List Entry) : Type 0 where
   going : is_going (flow_of (inner ++ base)) ≡ true
   less : length inner + left plan (snapshot (outline_of plan) (inner ++ base)) ≤ left plan (snapshot (outline_of plan) base)
 
-flow_shown : (plan : Outline) (past : List Entry) → (snapshot plan past).flow ≡ flow_of past
+pub flow_shown : (plan : Outline) (past : List Entry) → (snapshot plan past).flow ≡ flow_of past
 unfolding snapshot
 flow_shown plan past = refl
 

@@ -13,6 +13,7 @@ use Rattle.tf_flow.specs.Names.{same_name}
 use Rattle.tf_numbers.proofs.TruthLemmas.{never_true}
 use Rattle.tf_values.specs.Name.{is_name, begins_name, stands_in_name}
 use Rattle.tf_values.proofs.ListLemmas.{tails}
+use Rattle.tf_values.proofs.WordLemmas.{own_digits}
 
 digits_stand : (ds : List ℕ) → all_ascii_digits ds ≡ true → list_all stands_in_name ds ≡ true
 digits_stand [] is = refl
@@ -20,9 +21,6 @@ digits_stand (d ∷ ds) is =
     let rest : all_ascii_digits ds ≡ true = grind (arith, nat_tests) in
     let others : list_all stands_in_name ds ≡ true = digits_stand ds rest in
     grind (arith, nat_tests)
-
-own_digits : IsNumeralModel (λ ds. all_ascii_digits ds ≡ true) (digits_value 10)
-own_digits = numerals_by_value (λ ds. all_ascii_digits ds ≡ true) tells_all_ascii_digits
 
 name_of_both : (letter : ℕ) (ds : List ℕ) → begins_name letter ≡ true → length ds < 64 → list_all stands_in_name ds ≡ true → is_name (letter ∷ ds) ≡ true
 name_of_both letter ds begins short stand = grind (arith, common_steps)

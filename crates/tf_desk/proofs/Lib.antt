@@ -2,3 +2,4 @@ pub mod FileLemmas
 pub mod KeepsLemmas
 pub mod ActSteps
 pub mod StreamLemmas
+pub mod CountLemmas

@@ -32,6 +32,7 @@ use Rattle.tf_engines.specs.Asked.{told_all, HasDone, HasDoneAllButOne, HasToDo,
 use Rattle.tf_engines.specs.Working.{HasDoneSo}
 use Rattle.tf_engines.proofs.EnterLemmas.{same_entering}
 use Rattle.tf_engines.specs.declared.engine.How.TheVariants as how
+use Rattle.tf_hands.proofs.KeptLemmas.{flow_takes}
 
 -- ---- lists of orders
 
@@ -133,12 +134,6 @@ last_unless P false halt halts right none = right refl
 
 is_flow_entry : Entry → Bool
 is_flow_entry e = is_of_flow e.what
-
-flow_takes : (plan : Outline) (w : What) → is_of_flow w ≡ true → takes_task plan w ≡ None
-flow_takes plan (what.Flow state) is = refl
-flow_takes plan (what.Atom a state held) is = absurd (cc)
-flow_takes plan (what.Resolve named resolved) is = absurd (cc)
-flow_takes plan (what.Restart again) is = absurd (cc)
 
 entering_flows : (f : FlowState) → list_all is_flow_entry (entering_by 0 f) ≡ true
 unfolding is_flow_entry

@@ -26,7 +26,6 @@ use Rattle.tf_book.specs.Kept.{Kept}
 use Rattle.tf_book.specs.Turns.{is_entered, IsTurnAsked, IsHaltedTurnAsked, IsFinished}
 use Rattle.tf_book.specs.declared.faults.Halt.{Halt}
 use Rattle.tf_book.specs.declared.turn.Turn.{Turn}
-use Rattle.tf_book.proofs.KeptLemmas.{rises_later}
 use Rattle.tf_flow.specs.Plan.{PlanValue}
 use Rattle.tf_engines.specs.declared.engine.How.{How}
 use Rattle.tf_engines.specs.declared.engine.How.TheVariants as how
@@ -36,6 +35,7 @@ use Rattle.tf_engines.specs.Working.{is_by, IsAdded, HasOutcome, IsRun}
 use Rattle.tf_engines.proofs.EnterLemmas.{entering_runs}
 use Rattle.tf_engines.proofs.StandLemmas.{stands_stopped, stands_session, stands_later, finished_stands}
 use Rattle.tf_engines.proofs.TurnLemmas.{turn_stands, halted_stands}
+use Rattle.tf_desk.proofs.CountLemmas.{rises_later}
 
 -- ---- turns, with the counts of stops
 

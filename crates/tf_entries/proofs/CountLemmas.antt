@@ -23,7 +23,8 @@ use Rattle.tf_entries.specs.Atoms.{ProvidesWithin, UndoWithin, TaskWithin, Retry
 use Rattle.tf_entries.specs.Fields.{AnyCount}
 use Rattle.tf_entries.specs.Plans.{item_count, ControlWithin, TreeWithin, TreesWithin, IsControl, IsTree, AreTrees, IsPlan, KeepsLimits}
 use Rattle.tf_entries.specs.Written.{as_written, all_as_written}
-use Rattle.tf_entries.proofs.DepthLemmas.{neither_first, none_first, none_passing, none_passed}
+use Rattle.tf_entries.proofs.DepthLemmas.{none_first, none_passing, none_passed}
+use Rattle.tf_numbers.proofs.OptionLemmas.{neither_there}
 
 -- ---- what stands at several places
 
@@ -76,11 +77,11 @@ undo_few (undo.Run words) few good = (omega arith, good.1)
 
 task_few : (t : Task) → Small (at_task t ∷ []) → TaskWithin AnyCount t → IsTask t
 task_few t small good =
-    let args : length t.args ≤ 64 = none_passing 64 (length t.args) (neither_first (passing 64 (length t.args)) None small.arguments).0 in
-    let inject : length t.inject ≤ 64 = none_passing 64 (length t.inject) (neither_first (passing 64 (length t.inject)) None small.injects).0 in
-    let provides : length (provided t.provides) ≤ 64 = none_passing 64 (length (provided t.provides)) (neither_first (passing 64 (length (provided t.provides))) None small.provides).0 in
-    let words = neither_first (passing_at limit.Words (at_task t)) None small.words in
-    let both = neither_first (passing 64 (length t.words)) (passing 64 (length (undo_words t.undo))) words.0 in
+    let args : length t.args ≤ 64 = none_passing 64 (length t.args) (neither_there (passing 64 (length t.args)) None small.arguments).0 in
+    let inject : length t.inject ≤ 64 = none_passing 64 (length t.inject) (neither_there (passing 64 (length t.inject)) None small.injects).0 in
+    let provides : length (provided t.provides) ≤ 64 = none_passing 64 (length (provided t.provides)) (neither_there (passing 64 (length (provided t.provides))) None small.provides).0 in
+    let words = neither_there (passing_at limit.Words (at_task t)) None small.words in
+    let both = neither_there (passing 64 (length t.words)) (passing 64 (length (undo_words t.undo))) words.0 in
     let run : length t.words ≤ 64 = none_passing 64 (length t.words) both.0 in
     let undo : length (undo_words t.undo) ≤ 64 = none_passing 64 (length (undo_words t.undo)) both.1 in
     record {
@@ -95,9 +96,9 @@ task_few t small good =
 
 retry_few : (r : Retry) → Small (at_retry r ∷ []) → RetryWithin AnyCount r → IsRetry r
 retry_few r small good =
-    let args : length r.args ≤ 64 = none_passing 64 (length r.args) (neither_first (passing 64 (length r.args)) None small.arguments).0 in
-    let inject : length r.inject ≤ 64 = none_passing 64 (length r.inject) (neither_first (passing 64 (length r.inject)) None small.injects).0 in
-    let provides : length (provided r.provides) ≤ 64 = none_passing 64 (length (provided r.provides)) (neither_first (passing 64 (length (provided r.provides))) None small.provides).0 in
+    let args : length r.args ≤ 64 = none_passing 64 (length r.args) (neither_there (passing 64 (length r.args)) None small.arguments).0 in
+    let inject : length r.inject ≤ 64 = none_passing 64 (length r.inject) (neither_there (passing 64 (length r.inject)) None small.injects).0 in
+    let provides : length (provided r.provides) ≤ 64 = none_passing 64 (length (provided r.provides)) (neither_there (passing 64 (length (provided r.provides))) None small.provides).0 in
     record {
       name = good.name;
       kind = good.kind;

@@ -24,23 +24,16 @@ use Rattle.tf_entries.proofs.AlikeLemmas.{nesting_told}
 use Rattle.tf_entries.proofs.MeasureLemmas.{condition_measure, conditions_measure, told}
 use Rattle.tf_entries.proofs.PlanLemmas.{IsWithin, ShallowTree, ShallowTrees}
 use Rattle.tf_entries.proofs.TestLemmas.{test_depth, deepest_test, IsShallow}
+use Rattle.tf_numbers.proofs.OptionLemmas.{none_mapped, neither_there}
 
 -- ---- the first of a list that gives something
-
-pub neither_first : {X : Type 0} (x y : Option X) → option_or x y ≡ None → (x ≡ None) × (y ≡ None)
-neither_first None y none = (refl, none)
-neither_first (Some v) y none = absurd (cc)
 
 pub none_first : {X Y : Type 0} (f : X → Option Y) (xs ys : List X) → first_some f (xs ++ ys) ≡ None → (first_some f xs ≡ None) × (first_some f ys ≡ None)
 none_first f [] ys none = (refl, none)
 none_first f (x ∷ xs) ys none =
-    let first = neither_first (f x) (first_some f (xs ++ ys)) none in
+    let first = neither_there (f x) (first_some f (xs ++ ys)) none in
     let others = none_first f xs ys first.1 in
     (ap (λ o. option_or o (first_some f xs)) first.0 ∙ others.0, others.1)
-
-none_mapped : {X Y : Type 0} (f : X → Y) (o : Option X) → option_map f o ≡ None → o ≡ None
-none_mapped f None none = refl
-none_mapped f (Some x) none = absurd (cc)
 
 -- a count that doesn't pass its limit
 pub none_passing : (most count : ℕ) → passing most count ≡ None → count ≤ most
@@ -78,7 +71,7 @@ shallow_decider (Some decider) none =
 shallow_links : (links : List Link) → first_some passing_nesting links ≡ None → AllByRecursion (λ link. IsShallow link.decision) (map connection_of links)
 shallow_links [] none = tt
 shallow_links (link ∷ links) none =
-    let first = neither_first (passing_nesting link) (first_some passing_nesting links) none in
+    let first = neither_there (passing_nesting link) (first_some passing_nesting links) none in
     (shallow_decider link.decider first.0, shallow_links links first.1)
 
 -- ---- flows
@@ -87,7 +80,7 @@ mutual
   shallow_tree : (t : Tree) → first_some (passing_at limit.Test) (places t) ≡ None → ShallowTree (as_written t)
   shallow_tree (task t) none = tt
   shallow_tree (flow head items) none =
-      let first = neither_first (passing_at limit.Test (at_flow (level_of head items))) (first_some (passing_at limit.Test) (retry_places head.retry ++ places_among items)) none in
+      let first = neither_there (passing_at limit.Test (at_flow (level_of head items))) (first_some (passing_at limit.Test) (retry_places head.retry ++ places_among items)) none in
       let others = none_first (passing_at limit.Test) (retry_places head.retry) (places_among items) first.1 in
       (shallow_links head.links first.0, shallow_trees items others.1)
 
@@ -102,14 +95,14 @@ mutual
 module _ (root : Flow) (store : List Bind) (accepted : first_refusal root store ≡ None) where
   -- no limit is passed
   unpassed : first_some (limit_fault (capped (nesting (tree_of root))) (tree_order root) store) limits ≡ None
-  unpassed = (neither_first (too_large (capped (nesting (tree_of root))) (tree_order root) store) (broken_rule root.name store (tree_order root)) accepted).0
+  unpassed = (neither_there (too_large (capped (nesting (tree_of root))) (tree_order root) store) (broken_rule root.name store (tree_order root)) accepted).0
 
   pub none_passed : (before others : List Limit) (which : Limit) → before ++ which ∷ others ≡ limits → passed (capped (nesting (tree_of root))) (tree_order root) store which ≡ None
   none_passed before others which is =
       let all : first_some (limit_fault (capped (nesting (tree_of root))) (tree_order root) store) (before ++ which ∷ others) ≡ None = ap (first_some (limit_fault (capped (nesting (tree_of root))) (tree_order root) store)) is ∙ unpassed in
       let here = none_first (limit_fault (capped (nesting (tree_of root))) (tree_order root) store) before (which ∷ others) all in
       none_mapped (λ n. fault.TooLarge which n) (passed (capped (nesting (tree_of root))) (tree_order root) store which)
-      (neither_first (limit_fault (capped (nesting (tree_of root))) (tree_order root) store which) (first_some (limit_fault (capped (nesting (tree_of root))) (tree_order root) store) others) here.1).0
+      (neither_there (limit_fault (capped (nesting (tree_of root))) (tree_order root) store which) (first_some (limit_fault (capped (nesting (tree_of root))) (tree_order root) store) others) here.1).0
 
   low_nesting : nesting (tree_of root) ≤ 16
   low_nesting =

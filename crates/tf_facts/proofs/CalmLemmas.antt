@@ -18,6 +18,7 @@ use Rattle.tf_model.proofs.BeforeLemmas.{never_before_itself, before_chain}
 use Rattle.tf_facts.proofs.LayoutLemmas.{IsLaidOut, task_or_retry}
 use Rattle.tf_numbers.proofs.BelowLemmas.{all_of, any_at, none_at, Last, none_or_last}
 use Rattle.tf_facts.proofs.CoreLemmas.{Core, marked_where, after_region}
+use Rattle.tf_numbers.proofs.OptionLemmas.{none_mapped}
 
 -- ---- nothing is forced
 
@@ -88,17 +89,13 @@ best_passes plan s best = true_both (is_candidate plan s best.number) _ best.pas
       (best.last found.number found.below (and_first (is_candidate plan s found.number) _ found.passes)))
 ])
 
-none_mapped : (s : Snapshot) (o : Option ℕ) → option_map (candidate_entry s) o ≡ None → o ≡ None
-none_mapped s None is = refl
-none_mapped s (Some a) is = absurd (cc)
-
 pub no_candidate : (plan : Outline) (s : Snapshot) → candidate_if_running plan s ≡ None → (a : ℕ) → a < count plan → is_candidate plan s a ≡ false
 unfolding candidate_if_running
 no_candidate plan s is a below =
     elim (none_or_last (count plan) (is_outranked plan) (is_candidate plan s) (λ x y z. below_chain (priority plan x) (priority plan y) (priority plan z)) (λ x. never_below_itself (priority plan x))) [
       | inl none ↦ none a below
       | inr best ↦ absurd (clash (is_best plan s best.number) (best_passes plan s best)
-          (none_at (count plan) (is_best plan s) best.number (none_mapped s (first_below (count plan) (is_best plan s)) is) best.below))
+          (none_at (count plan) (is_best plan s) best.number (none_mapped (candidate_entry s) (first_below (count plan) (is_best plan s)) is) best.below))
     ]
 
 -- ---- nothing is at work, and what is marked is settled

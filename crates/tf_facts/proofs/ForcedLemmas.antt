@@ -33,19 +33,19 @@ use Rattle.tf_facts.proofs.CaseLemmas.{forced_by}
 
 -- ---- states by their tests
 
-running_is : (x : AtomState) → is_running x ≡ true → x ≡ atom.Running
+pub running_is : (x : AtomState) → is_running x ≡ true → x ≡ atom.Running
 running_is atom.Running is = refl
 running_is x is = absurd (cc)
 
-reverting_is : (x : AtomState) → is_reverting x ≡ true → x ≡ atom.Reverting
+pub reverting_is : (x : AtomState) → is_reverting x ≡ true → x ≡ atom.Reverting
 reverting_is atom.Reverting is = refl
 reverting_is x is = absurd (cc)
 
-success_is : (x : AtomState) → is_success x ≡ true → x ≡ atom.Success
+pub success_is : (x : AtomState) → is_success x ≡ true → x ≡ atom.Success
 success_is atom.Success is = refl
 success_is x is = absurd (cc)
 
-failure_is : (x : AtomState) → is_failure x ≡ true → x ≡ atom.Failure
+pub failure_is : (x : AtomState) → is_failure x ≡ true → x ≡ atom.Failure
 failure_is atom.Failure is = refl
 failure_is x is = absurd (cc)
 

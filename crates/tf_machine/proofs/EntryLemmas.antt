@@ -1,7 +1,11 @@
 -- The entries of the cases, by what the retry controllers read.
-use Rattle.std.proofs.Common.{◌≡◌, ℕ, List, map, Option, Some, None, sym, ap, ◌∙◌, subst, slice_get}
+use Rattle.std.proofs.Common.{◌≡◌, ℕ, ◌+◌, ◌<◌, ◌≤◌, ◌⊎◌, inl, inr, List, [], length, take, get_or, Bool, true, false, Option, Some, None, refl, sym, ap, ◌∙◌, subst, slice_get, arith, length-set, eqb-true, eq-eqb}
+use Rattle.std.specs.Prelude.{if◌then◌else◌, nat_eq}
+use Rattle.std.proofs.Math.ListN.{set}
+use Rattle.std.proofs.lemmas.List.Folds.{list_any_more}
 use Rattle.tf_flow.specs.declared.atoms.RetryKind.{RetryKind}
 use Rattle.tf_flow.specs.declared.deciders.Depth.{Depth}
+use Rattle.tf_flow.specs.declared.ways.Turn.{Turn}
 use Rattle.tf_ports.specs.declared.orders.Given.{Given}
 use Rattle.tf_ports.specs.declared.outcomes.Action.TheVariants as action
 use Rattle.tf_states.specs.declared.record.AtomView.{AtomView}
@@ -10,15 +14,16 @@ use Rattle.tf_states.specs.declared.record.Kind.TheVariants as kind
 use Rattle.tf_states.specs.declared.record.Payload.TheVariants as payload
 use Rattle.tf_states.specs.declared.record.What.TheVariants as what
 use Rattle.tf_flow.specs.Plan.{PlanValue}
-use Rattle.tf_numbers.specs.Numbers.{first_below, numbers_below}
-use Rattle.tf_model.specs.Plan.{Outline, outline_of, count}
+use Rattle.tf_numbers.specs.Numbers.{first_below}
+use Rattle.tf_numbers.proofs.ListLemmas.{take_whole}
+use Rattle.tf_numbers.proofs.TruthLemmas.{or_either, clash}
+use Rattle.tf_model.specs.Before.{leads_into, passes_flow}
+use Rattle.tf_model.specs.Plan.{Outline, outline_of, count, holds, retry_of, way}
 use Rattle.tf_model.specs.Snapshot.{Snapshot}
 use Rattle.tf_model.specs.Deciders.{refused}
 use Rattle.tf_model.specs.Retries.{retry_kind, attempt_by, attempt_of, attempt, answer_by, answer_of, answer, resolution}
 use Rattle.tf_model.specs.Scope.{given_for}
 use Rattle.tf_model.specs.Forced.{is_to_put_back, put_back_or_run, again_entry, is_to_ignore, ignore_or_self, ignore_by, ignore_entry, ignored_entry, resolve_entry, resolution_entry}
-use Rattle.tf_order.proofs.GraphLemmas.{row_told}
-use Rattle.tf_bound.proofs.CountLemmas.{retry_below}
 use Rattle.tf_rules.specs.declared.resolutions.Resolution.{Resolution}
 use Rattle.tf_rules.specs.Answers.{HasAnswers}
 use Rattle.tf_rules.specs.Resolutions.{shown_resolution}
@@ -26,6 +31,7 @@ use Rattle.tf_model.specs.Views.{Shows, state_in, payload_in}
 use Rattle.tf_machine.specs.declared.tables.Tables.{Tables}
 use Rattle.tf_machine.specs.Entries.{IsAsGiven}
 use Rattle.tf_machine.specs.Tables.{shown_by}
+use Rattle.tf_machine.proofs.ChangeLemmas.{set_told}
 
 -- the views are those that the tables show
 pub views_seen : (tables : Tables) (views : List AtomView) → views ≡ tables.views.items → Shows views (shown_by tables)
@@ -70,16 +76,66 @@ ignored_by plan s v how o is found = ap (ignore_or_self v) found ∙ ap (ignore_
 pub not_refused : (plan : Outline) (s : Snapshot) (v : ℕ) → None ≡ refused plan s v → ignored_entry v ≡ ignore_entry plan s v
 not_refused plan s v is = ap (ignore_by plan s v) is
 
--- ---- a failure is resolved by the answers of all
+-- ---- a failure is resolved by the answers of the retry controllers around it
 
-pub answers_told : (plan : Outline) (s : Snapshot) (answers : List Kind) → answers ≡ map (answer plan s) (numbers_below (count plan)) → HasAnswers answers plan s
-answers_told plan s answers is = record {
-  at = λ r retry. ap (λ (kinds : List Kind). slice_get kinds r) is ∙ row_told (answer plan s) (count plan) r (retry_below plan r retry);
+-- at the number of the retry controller of each flow into which one of these turns leads stands its answer
+pub record AreAsked (plan : Outline) (s : Snapshot) (turns : List Turn) (answers : List Kind) : Type 0 where
+  pub room : count plan ≤ length answers
+  pub at : (flow r : ℕ) → passes_flow flow turns ≡ true → retry_of plan flow ≡ Some r → slice_get answers r ≡ Some (answer plan s r)
+
+pub asked_none : (plan : Outline) (s : Snapshot) (answers : List Kind) → count plan ≤ length answers → AreAsked plan s [] answers
+asked_none plan s answers room = record { room = room; at = λ flow r passes is. absurd (cc) }
+
+-- a turn more leads into a flow only where it did before, or where the turn does
+passes_next : (flow : ℕ) (turns : List Turn) (k : ℕ) (d : Turn) → k < length turns → passes_flow flow (take (k + 1) turns) ≡ true
+    → (passes_flow flow (take k turns) ≡ true) ⊎ ((get_or turns k d).flow ≡ flow)
+passes_next flow turns k d within passes =
+    elim or_either (passes_flow flow (take k turns)) (leads_into flow (get_or turns k d)) (sym (list_any_more (leads_into flow) turns k d within) ∙ passes) [
+      | inl before ↦ inl before
+      | inr here ↦ inr (eqb-true (get_or turns k d).flow flow here)
+    ]
+
+-- in a flow without a retry controller nobody is asked
+pub asked_past : (plan : Outline) (s : Snapshot) (turns : List Turn) (k : ℕ) (d : Turn) (answers : List Kind) → AreAsked plan s (take k turns) answers → k < length turns
+    → None ≡ retry_of plan (get_or turns k d).flow → AreAsked plan s (take (k + 1) turns) answers
+asked_past plan s turns k d answers asked within none = record {
+  room = asked.room;
+  at = λ flow r passes is. by flow r is (passes_next flow turns k d within passes);
+}
+  where
+    by : (flow r : ℕ) → retry_of plan flow ≡ Some r → (passes_flow flow (take k turns) ≡ true) ⊎ ((get_or turns k d).flow ≡ flow) → slice_get answers r ≡ Some (answer plan s r)
+    by flow r is (inl before) = asked.at flow r before is
+    by flow r is (inr here) = let no : None ≡ Some r = none ∙ (ap (retry_of plan) here ∙ is) in absurd (cc)
+
+-- a retry controller is asked
+pub asked_more : (plan : Outline) (s : Snapshot) (turns : List Turn) (k : ℕ) (d : Turn) (answers : List Kind) (retry : ℕ) (given : Kind) → AreAsked plan s (take k turns) answers → k < length turns
+    → Some retry ≡ retry_of plan (get_or turns k d).flow → retry < count plan → given ≡ answer plan s retry → AreAsked plan s (take (k + 1) turns) (set answers retry given)
+asked_more plan s turns k d answers retry given asked within some below is_answer = record {
+  room = subst (λ (n : ℕ). count plan ≤ n) (sym (length-set answers retry given)) asked.room;
+  at = λ flow r passes is. set_told answers retry r given inside ∙ by flow r is (nat_eq retry r) refl (passes_next flow turns k d within passes);
+}
+  where
+    inside : retry < length answers
+    inside = let room = asked.room in omega (arith, room, below)
+
+    by : (flow r : ℕ) → retry_of plan flow ≡ Some r → (b : Bool) → nat_eq retry r ≡ b → (passes_flow flow (take k turns) ≡ true) ⊎ ((get_or turns k d).flow ≡ flow)
+        → (if b then Some given else slice_get answers r) ≡ Some (answer plan s r)
+    by flow r is true same passes = ap (λ (x : Kind). Some x) is_answer ∙ ap (λ (n : ℕ). Some (answer plan s n)) (eqb-true retry r same)
+    by flow r is false apart (inl before) = asked.at flow r before is
+    by flow r is false apart (inr here) =
+        let both : Some retry ≡ Some r = some ∙ (ap (retry_of plan) here ∙ is) in
+        let one : retry ≡ r = cc in
+        absurd (clash (nat_eq retry r) (eq-eqb retry r one) apart)
+
+pub asked_all : (plan : Outline) (s : Snapshot) (turns : List Turn) (k a : ℕ) (answers : List Kind) → AreAsked plan s (take k turns) answers → length turns ≤ k → turns ≡ way plan a → HasAnswers answers plan s a
+unfolding holds
+asked_all plan s turns k a answers asked whole is = record {
+  at = λ flow r held of. asked.at flow r (ap (passes_flow flow) (take_whole turns k whole ∙ is) ∙ held) of;
 }
 
-pub resolved_told : (plan p : PlanValue) (s : Snapshot) (a : ℕ) (answers items : List Kind) (found : Resolution) → p ≡ plan → answers ≡ items → items ≡ map (answer (outline_of plan) s) (numbers_below (count (outline_of plan)))
-    → ((t : Snapshot) → HasAnswers answers (outline_of p) t → shown_resolution found ≡ resolution (outline_of p) t a)
+pub resolved_told : (plan p : PlanValue) (s : Snapshot) (a : ℕ) (answers : List Kind) (found : Resolution) → p ≡ plan → HasAnswers answers (outline_of plan) s a
+    → ((t : Snapshot) → HasAnswers answers (outline_of p) t a → shown_resolution found ≡ resolution (outline_of p) t a)
     → what.Resolve found.flow found.kind ≡ resolution_entry (outline_of plan) s a
-resolved_told plan p s a answers items found same here is tells =
-    ap resolve_entry (tells s (subst (λ (q : PlanValue). HasAnswers answers (outline_of q) s) (sym same) (answers_told (outline_of plan) s answers (here ∙ is))))
+resolved_told plan p s a answers found same has tells =
+    ap resolve_entry (tells s (subst (λ (q : PlanValue). HasAnswers answers (outline_of q) s a) (sym same) has))
     ∙ ap (λ (q : PlanValue). resolution_entry (outline_of q) s a) same

@@ -38,24 +38,13 @@ use Rattle.tf_model.specs.Scope.{symbol_value, or_missing, given_arguments, argu
 use Rattle.tf_model.specs.Snapshot.{Snapshot}
 use Rattle.tf_model.proofs.WayLemmas.{all_both}
 use Rattle.tf_numbers.proofs.TruthLemmas.{clash, neither_first, neither_second}
+use Rattle.tf_numbers.proofs.OptionLemmas.{none_mapped, neither_there, none_if}
 
 -- ---- nothing is refused at a task
-
-first_none : {X : Type 0} (x y : Option X) → option_or x y ≡ None → (x ≡ None) × (y ≡ None)
-first_none None y is = (refl, is)
-first_none (Some v) y is = absurd (cc)
-
-none_mapped : {X Y : Type 0} (f : X → Y) (o : Option X) → option_map f o ≡ None → o ≡ None
-none_mapped f None is = refl
-none_mapped f (Some x) is = absurd (cc)
 
 then_none : (b : Bool) (x : List ℕ) (y : Option (List ℕ)) → (if b then Some x else y) ≡ None → y ≡ None
 then_none true x y is = absurd (cc)
 then_none false x y is = is
-
-one_fine : (b : Bool) (name : List ℕ) → (if b then Some name else None) ≡ None → b ≡ false
-one_fine true name is = absurd (cc)
-one_fine false name is = refl
 
 -- a place where no rule of atoms is broken, and no limit of arguments or words is passed
 abbrev IsFine : Place → Type 0
@@ -64,23 +53,23 @@ IsFine place = (is_bad_atom place ≡ false) × (passing_at limit.Arguments plac
 all_fine : (order : List Place) → first_some bad_atom_at order ≡ None → first_some (passing_at limit.Arguments) order ≡ None → first_some (passing_at limit.Words) order ≡ None → AllByRecursion IsFine order
 all_fine [] rules arguments words = tt
 all_fine (place ∷ order) rules arguments words =
-    let one = first_none (bad_atom_at place) (first_some bad_atom_at order) rules in
-    let two = first_none (passing_at limit.Arguments place) (first_some (passing_at limit.Arguments) order) arguments in
-    let three = first_none (passing_at limit.Words place) (first_some (passing_at limit.Words) order) words in
-    ((one_fine (is_bad_atom place) (name_at place) one.0, two.0, three.0), all_fine order one.1 two.1 three.1)
+    let one = neither_there (bad_atom_at place) (first_some bad_atom_at order) rules in
+    let two = neither_there (passing_at limit.Arguments place) (first_some (passing_at limit.Arguments) order) arguments in
+    let three = neither_there (passing_at limit.Words place) (first_some (passing_at limit.Words) order) words in
+    ((none_if (is_bad_atom place) (name_at place) one.0, two.0, three.0), all_fine order one.1 two.1 three.1)
 
 -- the limits of atoms, where no limit is passed
 limits_kept : (deep : ℕ) (order : List Place) (store : List Bind) → too_large deep order store ≡ None → (first_some (passing_at limit.Arguments) order ≡ None) × (first_some (passing_at limit.Words) order ≡ None)
 limits_kept deep order store is =
     let at : Limit → Option PlanFault = limit_fault deep order store in
-    let after_nesting = first_none (at limit.Nesting) _ is in
-    let after_atoms = first_none (at limit.Atoms) _ after_nesting.1 in
-    let after_flows = first_none (at limit.Flows) _ after_atoms.1 in
-    let after_links = first_none (at limit.Links) _ after_flows.1 in
-    let after_arguments = first_none (at limit.Arguments) _ after_links.1 in
-    let after_injects = first_none (at limit.Injects) _ after_arguments.1 in
-    let after_provided = first_none (at limit.Provided) _ after_injects.1 in
-    let after_words = first_none (at limit.Words) _ after_provided.1 in (
+    let after_nesting = neither_there (at limit.Nesting) _ is in
+    let after_atoms = neither_there (at limit.Atoms) _ after_nesting.1 in
+    let after_flows = neither_there (at limit.Flows) _ after_atoms.1 in
+    let after_links = neither_there (at limit.Links) _ after_flows.1 in
+    let after_arguments = neither_there (at limit.Arguments) _ after_links.1 in
+    let after_injects = neither_there (at limit.Injects) _ after_arguments.1 in
+    let after_provided = neither_there (at limit.Provided) _ after_injects.1 in
+    let after_words = neither_there (at limit.Words) _ after_provided.1 in (
       none_mapped (λ (n : ℕ). fault.TooLarge limit.Arguments n) (first_some (passing_at limit.Arguments) order) after_arguments.0,
       none_mapped (λ (n : ℕ). fault.TooLarge limit.Words n) (first_some (passing_at limit.Words) order) after_words.0,
     )
@@ -88,16 +77,16 @@ limits_kept deep order store is =
 rules_kept : (root : Flow) (store : List Bind) → broken_rule root.name store (tree_order root) ≡ None → first_some bad_atom_at (tree_order root) ≡ None
 rules_kept root store is =
     let order = tree_order root in
-    let one = first_none (empty order) _ is in
-    let two = first_none (duplicate order) _ one.1 in
-    let three = first_none (unknown order) _ two.1 in
-    let four = first_none (bad_link order) (bad_atom root.name store order) three.1 in
+    let one = neither_there (empty order) _ is in
+    let two = neither_there (duplicate order) _ one.1 in
+    let three = neither_there (unknown order) _ two.1 in
+    let four = neither_there (bad_link order) (bad_atom root.name store order) three.1 in
     then_none (has_twice (bind_symbols store)) root.name (first_some bad_atom_at order) (none_mapped (λ (name : List ℕ). fault.BadAtom name) _ four.1)
 
 accepted_fine : (root : Flow) (store : List Bind) → first_refusal root store ≡ None → AllByRecursion IsFine (tree_order root)
 accepted_fine root store is =
     let order = tree_order root in
-    let parts = first_none (too_large (capped (nesting (tree_of root))) order store) (broken_rule root.name store order) is in
+    let parts = neither_there (too_large (capped (nesting (tree_of root))) order store) (broken_rule root.name store order) is in
     let limit = limits_kept (capped (nesting (tree_of root))) order store parts.0 in
     all_fine order (rules_kept root store parts.1) limit.0 limit.1
 
@@ -212,7 +201,7 @@ arguments_by (Some x) t is = by x.part is
 pub order_whole : (plan : PlanValue) (s : Snapshot) (a : ℕ) (how : Action) (t : Task) → first_refusal plan.root plan.store ≡ None → task_at (outline_of plan) a ≡ Some t → IsWhole (order_with a how (given_for (outline_of plan) s a how) t)
 order_whole plan s a how t accepted is =
     let fine = task_fine plan a t accepted is in
-    let words = first_none (passing 64 (length t.words)) (passing 64 (length (undo_words t.undo))) fine.2 in
+    let words = neither_there (passing 64 (length t.words)) (passing 64 (length (undo_words t.undo))) fine.2 in
     let three = neither_first ((nat_lt (length t.args) (least_arguments t.kind) || has_wrong_words t.kind t.words) || runs_nothing t.undo) (repeats_itself t.args t.inject t.provides) fine.0 in
     let two = neither_first (nat_lt (length t.args) (least_arguments t.kind) || has_wrong_words t.kind t.words) (runs_nothing t.undo) three in
     record {

@@ -1,4 +1,4 @@
-ghost use Rattle.std.specs.Prelude.{◌≡◌, ◌<◌, ◌≤◌, ◌++◌, ℕ, int_lt, None, Some, true, false, IfOk, IfErr, OnOk, map, length, option_map};
+ghost use Rattle.std.specs.Prelude.{◌≡◌, ◌<◌, ◌≤◌, ◌++◌, ℕ, int_lt, None, Some, true, false, IfOk, IfErr, IfSome, OnOk, map, length, option_map};
 ghost use Rattle.tf_order.specs.Graph.{predecessors_of, successors_of};
 ghost use Rattle.tf_flow.specs.Refusal.{first_refusal};
 ghost use Rattle.tf_model.specs.Compilation.{compile_refusal};
@@ -10,7 +10,7 @@ ghost use Rattle.tf_model.specs.Retries.{retry_kind};
 ghost use Rattle.tf_model.specs.Snapshot.{Snapshot};
 ghost use Rattle.tf_model.specs.Views.{Shows};
 ghost use Rattle.tf_model.specs.Before.{passes_flow};
-ghost use Rattle.tf_model.specs.Plan.{outline_of, count, is_task, is_retry, holds, own_flow, last_flow};
+ghost use Rattle.tf_model.specs.Plan.{outline_of, count, is_task, is_retry, holds, own_flow, last_flow, retry_of, way};
 ghost use Rattle.tf_model.specs.Candidates.{priority};
 ghost use Rattle.tf_machine.specs.Answers.{IsBuildRefusal};
 ghost use Rattle.tf_machine.specs.Compiled.{priority_at, AreDecided, AreWithin, AreSpans, IsSpanAround, IsSpanOf};
@@ -21,7 +21,7 @@ use std::marker::Model;
 use tf_flow::{Depth, Part, Plan, Retry, Task, Turn};
 use tf_order::{Graph, compile};
 use tf_ports::{Action, Given};
-use tf_rules::{affected, has_decider, retry_at, widest};
+use tf_rules::{affected, has_decider, retry_at, retry_of, widest};
 use tf_scopes::{Providers, find_providers};
 use tf_states::AtomView;
 use tf_values::Memory;
@@ -165,6 +165,22 @@ impl Compiled {
         ensures { option_map (λ retry. retry.now.kind) result ≡ retry_kind (outline_of self.now) atom }
     {
         retry_at(&self.plan, atom)
+    }
+
+    /// The retry controller of a flow, if it has one.
+    pub fn retry_of(&self, flow: usize) -> Option<u16>
+        ensures number { result ≡ retry_of (outline_of self.now) flow }
+        ensures few { IfSome result (λ retry. retry < count (outline_of self.now)) }
+    {
+        retry_of(&self.plan, flow)
+    }
+
+    /// The way of an atom from the root: the flows around it, each with the place in it.
+    pub fn way(&self, atom: u16) -> &[Turn]
+        requires { atom < count (outline_of self.now) }
+        ensures { result.now ≡ way (outline_of self.now) atom }
+    {
+        self.plan.way(atom)
     }
 
     /// Whether a link with a decider leads to an atom. Where none does, nothing refuses it.

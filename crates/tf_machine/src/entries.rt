@@ -1,10 +1,11 @@
-ghost use Rattle.std.specs.Prelude.{◌≡◌, ◌<◌, IfOk, map};
-ghost use Rattle.tf_numbers.specs.Numbers.{first_below, numbers_below};
+ghost use Rattle.std.specs.Prelude.{◌≡◌, ◌<◌, ◌≤◌, IfOk, OnOk, length};
+ghost use Rattle.tf_numbers.specs.Numbers.{first_below};
 ghost use Rattle.tf_ports.specs.declared.outcomes.Action.TheVariants.{Execute as execute};
 ghost use Rattle.tf_model.specs.Plan.{outline_of, count};
 ghost use Rattle.tf_model.specs.Forced as rule;
 ghost use Rattle.tf_model.specs.Retries as retries;
 ghost use Rattle.tf_model.specs.Scope.{given_for};
+ghost use Rattle.tf_rules.specs.Answers.{HasAnswers};
 ghost use Rattle.tf_machine.specs.Cases as specs;
 ghost use Rattle.tf_machine.specs.Entries.{IsAsGiven};
 ghost use Rattle.tf_machine.specs.Tables.{shown_by};
@@ -19,6 +20,9 @@ use tf_ports::{Action, Args, Given};
 use tf_rules::{attempt_value, resolve, strategy};
 use tf_states::{AtomState, Kind, Payload, What};
 use tf_values::Memory;
+
+/// A plan has no more atoms.
+const ATOMS: usize = 1000;
 
 /// The entry of a case, for its atom.
 pub fn entry_of(
@@ -136,7 +140,8 @@ fn resolution_entry(
     requires { atom < count (outline_of compiled.now) }
     ensures { IfOk result (λ what. what ≡ rule.resolution_entry (outline_of compiled.now) (shown_by tables.now) atom) }
 {
-    let answers = answers(alloc, compiled, tables)?;
+    let mut answers = [Kind::Revert; ATOMS];
+    ask_around(alloc, compiled, tables, atom, &mut answers)?;
     let resolution = resolve(compiled.plan(), &answers, atom);
     Ok(What::Resolve {
         flow: resolution.flow,
@@ -144,16 +149,26 @@ fn resolution_entry(
     })
 }
 
-/// What each atom answers to a failure of its flow, by its number. A task's answer is never asked for.
-fn answers(alloc: Global, compiled: &Compiled, tables: &Tables) -> Result<Vec<Kind>, Memory>
-    ensures { IfOk result (λ answers. answers.items ≡ map (retries.answer (outline_of compiled.now) (shown_by tables.now)) (numbers_below (count (outline_of compiled.now)))) }
+/// What the retry controllers around an atom answer to its failure comes to stand at their numbers; at others stands
+/// what stood there.
+#[tactic(auto, using(crate::proofs::EntryLemmas::asked_none))]
+fn ask_around(
+    alloc: Global,
+    compiled: &Compiled,
+    tables: &Tables,
+    atom: u16,
+    answers: &mut [Kind],
+) -> Result<(), Memory>
+    requires atom { atom < count (outline_of compiled.now) }
+    requires room { count (outline_of compiled.now) ≤ length answers.old }
+    ensures { OnOk result (HasAnswers answers.new (outline_of compiled.now) (shown_by tables.now) atom) }
 {
-    let mut answers = Vec::with_capacity(alloc, compiled.atoms() as usize)?;
-    for atom in 0..compiled.atoms() {
-        let kind = answer(alloc, compiled, tables, atom)?;
-        answers.push(kind)?;
+    for turn in compiled.way(atom) {
+        if let Some(retry) = compiled.retry_of(turn.flow) {
+            answers[retry as usize] = answer(alloc, compiled, tables, retry)?;
+        }
     }
-    Ok(answers)
+    Ok(())
 }
 
 /// What an atom answers.

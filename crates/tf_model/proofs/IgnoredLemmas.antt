@@ -169,7 +169,7 @@ neighbor_linked plan v a is = elim (or_either (nat_eq v a) _ is) [
       })
 ]
 
-unlinked_by : (pairs : List Pair) (from to : Option ℕ) → pairs ≡ [] → linked_places pairs from to ≡ false
+pub unlinked_by : (pairs : List Pair) (from to : Option ℕ) → pairs ≡ [] → linked_places pairs from to ≡ false
 unlinked_by pairs None to none = refl
 unlinked_by pairs (Some u) None none = refl
 unlinked_by pairs (Some u) (Some w) none = ap (λ (ps : List Pair). has_pair ps u w) none

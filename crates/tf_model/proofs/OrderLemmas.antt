@@ -25,6 +25,7 @@ use Rattle.tf_numbers.proofs.PairLemmas.{passes_pair, any_left, any_right, any_i
 use Rattle.tf_links.specs.Reach.{reached}
 use Rattle.tf_links.proofs.ReachedLemmas.{reached_chain, reached_within, reached_keeps}
 use Rattle.tf_numbers.proofs.BelowLemmas.{none_at}
+use Rattle.tf_numbers.proofs.OptionLemmas.{none_mapped}
 
 -- ---- each flow of a plan has the order of its kind
 
@@ -80,10 +81,6 @@ chain_by kind.Unordered n linked within u v w first second = absurd (cc)
 chain_by kind.Graph n linked within u v w first second = reached_chain n linked within u v w first second
 
 -- ---- no item comes before itself
-
-none_mapped : {X Y : Type 0} (f : X → Y) (o : Option X) → option_map f o ≡ None → o ≡ None
-none_mapped f None is = refl
-none_mapped f (Some x) is = absurd (cc)
 
 none_second : {X : Type 0} (o p : Option X) → option_or o p ≡ None → p ≡ None
 none_second None p is = is

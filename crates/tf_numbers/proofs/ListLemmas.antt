@@ -51,6 +51,10 @@ drop_first (x ∷ xs) (suc k) d below = drop_first xs k d (omega arith)
 
 -- ---- one more at the end
 
+pub last_pushed : {X : Type 0} (xs : List X) (x : X) → slice_get (xs ++ x ∷ []) (length xs) ≡ Some x
+last_pushed [] x = refl
+last_pushed (y ∷ xs) x = last_pushed xs x
+
 pub length_more : {X : Type 0} (xs : List X) (x : X) → length (xs ++ x ∷ []) ≡ length xs + 1
 length_more [] x = refl
 length_more (y ∷ ys) x = omega (arith, length_more ys x)

@@ -14,7 +14,7 @@ use Rattle.tf_flow.specs.declared.listing.ItemPlace.{ItemPlace}
 use Rattle.tf_order.specs.Index.{add_once, ends_with, is_named_at}
 use Rattle.tf_flow.specs.Listing.{shown_atoms, shown_item}
 use Rattle.tf_numbers.proofs.TruthLemmas.{never_true}
-use Rattle.tf_numbers.proofs.ListLemmas.{nothing_after}
+use Rattle.tf_numbers.proofs.ListLemmas.{nothing_after, last_pushed, length_more}
 
 -- the last number is the one that is added
 pub once_same : (numbers : List ℕ) (n : ℕ) → slice_get numbers (length numbers - 1) ≡ Some n → numbers ≡ add_once numbers n
@@ -22,17 +22,9 @@ once_same numbers n is = sym (ap (λ (b : Bool). if b then numbers else numbers 
 
 -- ---- the last of some numbers
 
-last_pushed : (xs : List ℕ) (x : ℕ) → slice_get (xs ++ x ∷ []) (length xs) ≡ Some x
-last_pushed [] x = refl
-last_pushed (y ∷ xs) x = last_pushed xs x
-
-length_pushed : (xs : List ℕ) (x : ℕ) → length (xs ++ x ∷ []) ≡ suc (length xs)
-length_pushed [] x = refl
-length_pushed (y ∷ xs) x = omega (arith, length_pushed xs x)
-
-ends_pushed : (xs : List ℕ) (x n : ℕ) → ends_with (xs ++ x ∷ []) n ≡ nat_eq x n
+pub ends_pushed : (xs : List ℕ) (x n : ℕ) → ends_with (xs ++ x ∷ []) n ≡ nat_eq x n
 ends_pushed xs x n =
-    let at : length (xs ++ x ∷ []) - 1 ≡ length xs = omega (arith, length_pushed xs x) in
+    let at : length (xs ++ x ∷ []) - 1 ≡ length xs = omega (arith, length_more xs x) in
     ap (λ (k : ℕ). is_number (slice_get (xs ++ x ∷ []) k) n) at ∙ ap (λ (o : Option ℕ). is_number o n) (last_pushed xs x)
 
 -- what was added once isn't added again
@@ -48,7 +40,7 @@ last_or_not m n test true below others = ends_pushed (which_below m test) m n �
 last_or_not m n test false below others = ap (λ (xs : List ℕ). ends_with xs n) (nothing_after (which_below m test)) ∙ others
 
 -- numbers below another don't end with it
-not_last : (m n : ℕ) (test : ℕ → Bool) → m ≤ n → ends_with (which_below m test) n ≡ false
+pub not_last : (m n : ℕ) (test : ℕ → Bool) → m ≤ n → ends_with (which_below m test) n ≡ false
 not_last zero n test below = refl
 not_last (suc m) n test below = last_or_not m n test (test m) (omega (arith, below)) (not_last m n test (omega (arith, below)))
 

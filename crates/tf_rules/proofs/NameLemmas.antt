@@ -36,7 +36,7 @@ names_once plan accepted =
     let once = or_none_first (duplicate (tree_order plan.root)) _ after_empty in
     atoms_once (tree_order plan.root) (map_none (λ name. fault.Duplicate name) (first_again same_name (map name_at (tree_order plan.root))) once)
 
-itself : (name : List ℕ) → same_name name name ≡ true
+pub itself : (name : List ℕ) → same_name name name ≡ true
 itself name = (bytes_decides name name).1 refl
 
 none_first : {X : Type 0} (b : Bool) (x : X) (o : Option X) → cond b (Some x) o ≡ None → b ≡ false

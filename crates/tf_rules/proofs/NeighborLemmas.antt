@@ -20,6 +20,7 @@ use Rattle.tf_model.proofs.Told.{flow_in, found_home, linked_in}
 use Rattle.tf_model.proofs.OrderLemmas.{each_arranged}
 use Rattle.tf_order.specs.Graph.{leads_in, leads_by_kind, leads_to, direct_tasks_of}
 use Rattle.tf_rules.proofs.HomeLemmas.{is_graph_in}
+use Rattle.tf_model.proofs.IgnoredLemmas.{unlinked_by}
 
 pub itself : (plan : Outline) (v : ℕ) (how : Depth) (a : ℕ) → v ≡ a → true ≡ ignores plan v how a
 unfolding ignores
@@ -41,11 +42,6 @@ first_fails true d is = absurd (cc)
 first_fails false d is = refl
 
 -- ---- the neighbors
-
-unlinked_by : (pairs : List Pair) (from to : Option ℕ) → pairs ≡ [] → linked_places pairs from to ≡ false
-unlinked_by pairs None to none = refl
-unlinked_by pairs (Some u) None none = refl
-unlinked_by pairs (Some u) (Some w) none = ap (λ (ps : List Pair). has_pair ps u w) none
 
 unlinked : (plan : PlanValue) (o : Option ℕ) (p : Option Flow) → flow_in (outline_of plan) o ≡ p → is_graph_in p ≡ false → linked_in (flow_in (outline_of plan) o) ≡ []
 unlinked plan None p is other = refl

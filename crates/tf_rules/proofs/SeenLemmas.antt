@@ -26,6 +26,7 @@ use Rattle.tf_model.specs.States.{is_success}
 use Rattle.tf_model.specs.Views as views
 use Rattle.tf_rules.specs.Seen.{begins_at}
 use Rattle.std.proofs.lemmas.Option.{slice_get-map}
+use Rattle.tf_rules.proofs.NameLemmas.{itself}
 
 -- ---- the atom of a name
 
@@ -81,9 +82,6 @@ named_so s name (Some a) n is = by (is_success (s.state a)) (s.payload a) is
 
 one_named : (b : Bool) (n : Named) (others : List Named) (name : List ℕ) → same_name n.name name ≡ b → result_of (n ∷ others) name ≡ (if b then Some n.result else result_of others name)
 one_named b n others name is = ap (λ (c : Bool). if c then Some n.result else result_of others name) is
-
-itself : (name : List ℕ) → same_name name name ≡ true
-itself name = (bytes_decides name name).1 refl
 
 -- the link's source is the atom of that name, where the link begins at it
 same_source : (plan : Outline) (s : Snapshot) (link : Connection) (name : List ℕ) → same_name link.from name ≡ true → seen_by_link plan s link ≡ seen_at s name (atom_named plan name)

@@ -11,4 +11,5 @@ mod resolutions;
 pub use attempts::{attempt_value, retry_at, strategy};
 pub use deciders::{has_decider, widest};
 pub use depths::affected;
+pub use flows::retry_of;
 pub use resolutions::{Resolution, resolve};

@@ -1,5 +1,5 @@
-ghost use Rattle.std.specs.Prelude.{◌≡◌, ◌<◌, List, IfSome, Some, true, slice_get};
-ghost use Rattle.tf_model.specs.Plan.{outline_of, count, is_retry, retry_of};
+ghost use Rattle.std.specs.Prelude.{◌≡◌, ◌<◌, List, IfSome, Some, slice_get};
+ghost use Rattle.tf_model.specs.Plan.{outline_of, count, retry_of};
 ghost use Rattle.tf_model.specs.Retries as retries;
 ghost use Rattle.tf_model.specs.Retries.{Controlled, resolution};
 ghost use Rattle.tf_model.specs.Snapshot.{Snapshot};
@@ -26,12 +26,12 @@ struct Controller {
     retry: u16,
 }
 
-/// What a failure of an atom is resolved to, where the answer of each retry controller stands at its atom
-/// number; other places are not read. It takes no memory. The retry controllers around the atom are asked
+/// What a failure of an atom is resolved to, where the answer of each retry controller around it stands at its
+/// atom number; other places are not read. It takes no memory. The retry controllers around the atom are asked
 /// from the outermost one on, since the answer of one may leave the failure to those around it.
 pub fn resolve(plan: &Plan, answers: &[Kind], atom: u16) -> Resolution
     requires { atom < count (outline_of plan.now) }
-    ensures { (s : Snapshot) → HasAnswers answers.now (outline_of plan.now) s
+    ensures { (s : Snapshot) → HasAnswers answers.now (outline_of plan.now) s atom
         → shown_resolution result ≡ resolution (outline_of plan.now) s atom }
 {
     let mut found = REVERT_ALL;
@@ -55,7 +55,7 @@ const REVERT_ALL: Resolution = Resolution {
 /// A flow with its retry controller, where it has one other than this atom.
 fn controller_of(plan: &Plan, flow: usize, atom: u16) -> Option<Controller>
     ensures found { controllers_in result ≡ retries.controlled atom flow (retry_of (outline_of plan.now) flow) }
-    ensures retry { IfSome result (λ here. is_retry (outline_of plan.now) here.retry ≡ true) }
+    ensures retry { IfSome result (λ here. retry_of (outline_of plan.now) flow ≡ Some here.retry) }
 {
     let retry = retry_of(plan, flow)?;
     if retry == atom {

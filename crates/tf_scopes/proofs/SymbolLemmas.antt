@@ -16,30 +16,9 @@ use Rattle.tf_order.specs.Index.{add_once, ends_with}
 use Rattle.tf_scopes.specs.Symbols.{lists_in, lists_at}
 use Rattle.tf_scopes.proofs.PlaceLemmas.{number_there}
 use Rattle.tf_model.proofs.PlanLemmas.{atoms_counted}
+use Rattle.tf_order.proofs.IndexLemmas.{not_last}
 
 -- ---- numbers that pass, one more
-
-last_pushed : (xs : List ℕ) (x : ℕ) → slice_get (xs ++ x ∷ []) (length xs) ≡ Some x
-last_pushed [] x = refl
-last_pushed (y ∷ xs) x = last_pushed xs x
-
-length_pushed : (xs : List ℕ) (x : ℕ) → length (xs ++ x ∷ []) ≡ suc (length xs)
-length_pushed [] x = refl
-length_pushed (y ∷ xs) x = omega (arith, length_pushed xs x)
-
-ends_pushed : (xs : List ℕ) (x n : ℕ) → ends_with (xs ++ x ∷ []) n ≡ nat_eq x n
-ends_pushed xs x n =
-    let at : length (xs ++ x ∷ []) - 1 ≡ length xs = omega (arith, length_pushed xs x) in
-    ap (λ (k : ℕ). is_number (slice_get (xs ++ x ∷ []) k) n) at ∙ ap (λ (o : Option ℕ). is_number o n) (last_pushed xs x)
-
-ends_before : (xs : List ℕ) (m n : ℕ) (b : Bool) → m < n → ends_with xs n ≡ false → ends_with (xs ++ (if b then m ∷ [] else [])) n ≡ false
-ends_before xs m n true below others = ends_pushed xs m n ∙ never_true (nat_eq m n) (λ same. let e : m ≡ n = eqb-true m n same in omega (arith, e, below))
-ends_before xs m n false below others = ap (λ (ys : List ℕ). ends_with ys n) (nothing_after xs) ∙ others
-
--- numbers below another don't end with it
-not_last : (m n : ℕ) (test : ℕ → Bool) → m ≤ n → ends_with (which_below m test) n ≡ false
-not_last zero n test below = refl
-not_last (suc m) n test below = ends_before (which_below m test) m n (test m) (omega (arith, below)) (not_last m n test (omega (arith, below)))
 
 which_more : (n : ℕ) (test : ℕ → Bool) → (if test n then add_once (which_below n test) n else which_below n test) ≡ which_below (suc n) test
 which_more n test = by_test (test n)

@@ -8,7 +8,7 @@ use Rattle.tf_values.specs.TextForm.{hexadecimal, quoted_byte}
 use Rattle.tf_values.proofs.ListLemmas.{heads, tails}
 use Rattle.tf_values.proofs.Codes.{IsCode, one_reading}
 
-on_test : (P : Type 0) (test : Bool) → (test ≡ true → P) → (test ≡ false → P) → P
+pub on_test : (P : Type 0) (test : Bool) → (test ≡ true → P) → (test ≡ false → P) → P
 on_test P true holds fails = holds refl
 on_test P false holds fails = fails refl
 

@@ -45,7 +45,7 @@ pub record BeginsNumber (text : List ℕ) : Type 0 where
   pub low : 45 ≤ first
   pub high : first ≤ 57
 
-own_digits : IsNumeralModel (λ ds. all_ascii_digits ds ≡ true) (digits_value 10)
+pub own_digits : IsNumeralModel (λ ds. all_ascii_digits ds ≡ true) (digits_value 10)
 own_digits = numerals_by_value (λ ds. all_ascii_digits ds ≡ true) tells_all_ascii_digits
 
 digits_begin : (ds : List ℕ) → all_ascii_digits ds ≡ true → 0 < length ds → BeginsNumber ds

@@ -126,7 +126,7 @@ stands_taken old new frame stream taken is stands =
 
 -- ---- frames at the front of bytes
 
-framed_length : (frame : List ℕ) → length (framed frame) ≡ 4 + length frame
+pub framed_length : (frame : List ℕ) → length (framed frame) ≡ 4 + length frame
 framed_length frame = omega arith
 
 -- one frame more is kept

@@ -19,6 +19,8 @@ use Rattle.tf_words.specs.declared.asked.Asked.{Asked}
 use Rattle.tf_words.specs.declared.asked.Asked.TheVariants as asked
 use Rattle.tf_words.specs.declared.verbs.Verb.{Verb}
 use Rattle.tf_words.specs.declared.verbs.Verb.TheVariants as verb
+use Rattle.tf_numbers.proofs.OptionLemmas.{if_some}
+use Rattle.tf_numbers.proofs.NumberLemmas.{le_true}
 
 -- what gives something was given something
 then_some : {A B : Type 0} (f : A → Option B) (o : Option A) (b : B) → option_and_then f o ≡ Some b → (a : A) × (o ≡ Some a) × (f a ≡ Some b)
@@ -29,15 +31,8 @@ map_some : {A B : Type 0} (f : A → B) (o : Option A) (b : B) → option_map f 
 map_some f None b is = absurd (cc)
 map_some f (Some a) b is = (a, refl, cc)
 
-if_some : (c : Bool) (x n : ℕ) → (if c then Some x else None) ≡ Some n → (c ≡ true) × (x ≡ n)
-if_some true x n is = (refl, cc)
-if_some false x n is = absurd (cc)
-
-le_true : (a b : ℕ) → nat_le a b ≡ true → a ≤ b
-le_true a b is = grind (arith, nat_tests)
-
 -- a number that was read is within its bounds
-between : (least most : ℕ) (word : List ℕ) (n : ℕ) → number_between least most word ≡ Some n → (least ≤ n) × (n ≤ most)
+pub between : (least most : ℕ) (word : List ℕ) (n : ℕ) → number_between least most word ≡ Some n → (least ≤ n) × (n ≤ most)
 between least most word n is =
     let found = if_some (is_number word && (nat_le least (digits_value 10 word) && nat_le (digits_value 10 word) most)) (digits_value 10 word) n is in
     let bounds = and_second (is_number word) (nat_le least (digits_value 10 word) && nat_le (digits_value 10 word) most) found.0 in

@@ -21,7 +21,7 @@ use Rattle.tf_values.specs.Scalars.{are_scalars}
 use Rattle.tf_values.specs.TextForm.{hexadecimal, quoted_byte, scalar_text, further_text, scalars_text, text_form}
 use Rattle.tf_values.specs.Value.{IsValue, IsTextOf, value_of}
 use Rattle.tf_values.proofs.QuoteLemmas.{IsControl, IsPlain, quoted_cases, nibble-hexadecimal, digits_form}
-use Rattle.tf_values.proofs.WordLemmas.{BeginsNumber, number_begins}
+use Rattle.tf_values.proofs.WordLemmas.{BeginsNumber, number_begins, own_digits}
 use Rattle.tf_words.specs.declared.quotes.Inside.TheVariants as at
 use Rattle.tf_words.specs.declared.spelled.Quoting.TheVariants as quoting
 use Rattle.tf_words.specs.Quotes.{nibble, is_hexadecimal, are_digits, is_plain, emitted, text_from}
@@ -104,9 +104,6 @@ text_read (b ∷ text) =
     ∙ ap (option_map (λ (t : List ℕ). b ∷ t)) (text_read text)
 
 -- ---- integers
-
-pub own_digits : IsNumeralModel (λ ds. all_ascii_digits ds ≡ true) (digits_value 10)
-own_digits = numerals_by_value (λ ds. all_ascii_digits ds ≡ true) tells_all_ascii_digits
 
 are_all_digits : (ds : List ℕ) → all_ascii_digits ds ≡ true → list_all is_digit ds ≡ true
 are_all_digits [] is = refl

@@ -9,6 +9,7 @@ use Rattle.tf_values.specs.TextForm.{hexadecimal, quoted_byte}
 use Rattle.tf_words.specs.declared.quotes.Inside.{Inside}
 use Rattle.tf_words.specs.declared.quotes.Inside.TheVariants as at
 use Rattle.tf_words.specs.Quotes.{nibble, is_hexadecimal, are_digits, is_plain, is_short, step, emitted, text_from}
+use Rattle.tf_values.proofs.QuoteLemmas.{on_test}
 
 -- what of a byte's form stands before the reader
 abbrev pub begun : Inside → List ℕ
@@ -24,10 +25,6 @@ begun at.Closed = []
 abbrev pub Goes : Inside → List ℕ → List ℕ → Type 0
 Goes at.Closed bytes text = (bytes ≡ []) × (text ≡ [])
 Goes place bytes text = begun place ++ bytes ≡ flat_map quoted_byte text ++ 34 ∷ []
-
-pub on_test : (P : Type 0) (test : Bool) → (test ≡ true → P) → (test ≡ false → P) → P
-on_test P true holds fails = holds refl
-on_test P false holds fails = fails refl
 
 -- the byte that two digits are has these digits
 abbrev HasDigits : ℕ → ℕ → Type 0

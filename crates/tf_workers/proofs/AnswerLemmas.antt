@@ -20,9 +20,6 @@ stopped gives frame before now stop.Bad none reaches not_bad lost = absurd (not_
 stopped gives frame before now stop.Lost none reaches not_bad lost = (none, reaches, lost refl)
 stopped gives frame before now stop.Memory none reaches not_bad lost = (none, reaches)
 
-pub rises_later : (a b c : ℕ) → a ≤ b → Rises b c → Rises a c
-rises_later a b c le rises = omega arith
-
 -- nothing was taken from a link that was sent something twice
 pub takes_on : (before between now : Seen) → TakesNothing before between → TakesNothing between now → TakesNothing before now
 takes_on before between now first second = record { left = second.left ∙ first.left; faults = omega arith; ends = omega arith }

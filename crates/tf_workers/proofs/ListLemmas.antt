@@ -28,9 +28,6 @@ all_more P (y ∷ xs) x all one = (all.0, all_more P xs x all.1 one)
 pub joined_more : (frames : List (List ℕ)) (frame : List ℕ) → joined (frames ++ frame ∷ []) ≡ joined frames ++ framed frame
 joined_more frames frame = flat_map-append framed frames (frame ∷ []) ∙ ap (λ (last : List ℕ). joined frames ++ last) (append-nil (framed frame))
 
-pub framed_length : (frame : List ℕ) → length (framed frame) ≡ 4 + length frame
-framed_length frame = omega arith
-
 pub dialogue_more : (exchanges : List Exchange) (exchange : Exchange) → dialogue (exchanges ++ exchange ∷ []) ≡ dialogue exchanges ++ reply exchange
 dialogue_more exchanges exchange = flat_map-append reply exchanges (exchange ∷ []) ∙ ap (λ (last : List ℕ). dialogue exchanges ++ last) (append-nil (reply exchange))
 

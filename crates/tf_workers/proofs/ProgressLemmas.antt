@@ -21,7 +21,8 @@ use Rattle.tf_workers.specs.declared.answering.Stop.TheVariants as stop
 use Rattle.tf_workers.specs.declared.incoming.Incoming.{Incoming}
 use Rattle.tf_workers.specs.declared.serving.ServeEnd.{ServeEnd}
 use Rattle.tf_workers.specs.declared.serving.ServeEnd.TheVariants as end
-use Rattle.tf_workers.proofs.ListLemmas.{all_front, all_behind, all_more, joined_more, framed_length, dialogue_more, read_more, did_more, sent_more, front_more, whole_front, came_more, came_none, did_none, sent_none}
+use Rattle.tf_workers.proofs.ListLemmas.{all_front, all_behind, all_more, joined_more, dialogue_more, read_more, did_more, sent_more, front_more, whole_front, came_more, came_none, did_none, sent_none}
+use Rattle.tf_wire.proofs.KeepingLemmas.{framed_length}
 
 -- ---- counts
 

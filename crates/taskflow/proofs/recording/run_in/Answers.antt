@@ -1,7 +1,8 @@
 use Rattle.std.proofs.Common.{arith}
-use Rattle.taskflow.proofs.CountLemmas.{ran_causes, rises_since}
+use Rattle.taskflow.proofs.CountLemmas.{ran_causes}
 use Rattle.taskflow.proofs.PromiseLemmas.{begun_promised}
 use Rattle.taskflow.proofs.recording.run_in.Goals as goal
+use Rattle.tf_desk.proofs.CountLemmas.{rises_later}
 
 pub returns-in-Ok-clause-runs : goal.returns-in-Ok-clause-runs
 returns-in-Ok-clause-runs g c =
@@ -12,7 +13,7 @@ returns-in-Ok-clause-runs g c =
     begun_promised D.tells D.shown D.content D.left D.crashes D.disk_faults D.out_faults g.P.Performer.gives c.args.request.now _ _ name c.args.machine.plan entry c.in-Ok.book now c.run_book.result.status
     (c.in-Ok.ensures.begins name entry opened found) c.run_book.ensures.runs
     (λ told picked. here.picked_is_there now name told picked) (λ told bytes is. here.reads_left now name bytes told is)
-    c.in-Ok.ensures.ready.1 (λ rose. rises_since _ (D.asks c.in-Ok.book.journal.desk) _ c.in-Ok.ensures.asks rose)
+    c.in-Ok.ensures.ready.1 (λ rose. rises_later _ (D.asks c.in-Ok.book.journal.desk) _ c.in-Ok.ensures.asks rose)
 
 pub returns-in-Ok-clause-causes : goal.returns-in-Ok-clause-causes
 returns-in-Ok-clause-causes g c =

@@ -3,8 +3,9 @@ use Rattle.taskflow.specs.Begun.{desk_in}
 use Rattle.taskflow.specs.Books.{unopened}
 use Rattle.taskflow.specs.declared.books.Blank.TheVariants as blank
 use Rattle.taskflow.proofs.BookLemmas.{opened_unborn, forbidden_over, begun_over}
-use Rattle.taskflow.proofs.CountLemmas.{said_causes, forbids_hired, unopened_hired, rises_since}
+use Rattle.taskflow.proofs.CountLemmas.{said_causes, forbids_hired, unopened_hired}
 use Rattle.taskflow.proofs.recording.run_plan.Goals as goal
+use Rattle.tf_desk.proofs.CountLemmas.{rises_later}
 
 pub hire_and_run-requires-in-Ok-Unborn-clause-blank : goal.hire_and_run-requires-in-Ok-Unborn-clause-blank
 hire_and_run-requires-in-Ok-Unborn-clause-blank g c =
@@ -41,7 +42,7 @@ returns-in-Ok-NoFlow-clause-runs g c =
     let loads = rw c.in-Ok-NoFlow.field-0-is at c.in-Ok-NoFlow.ensures.loads in
     begun_over D.tells D.shown D.content D.left D.crashes D.disk_faults D.out_faults _ c.args.request.now _ _ c.args.name.now _ _ c.args.desk c.hire_and_run.result.desk c.hire_and_run.result.status c.args.machine.plan
     (λ told. inr (loads told)) (c.hire_and_run.ensures.runs c.args.name.now c.args.desk opened loads)
-    (λ rose. rises_since _ (D.asks (desk_in (blank.Titled c.in-Ok-NoFlow.journal))) _ (rw c.in-Ok-NoFlow.field-0-is at c.in-Ok-NoFlow.ensures.asks) rose)
+    (λ rose. rises_later _ (D.asks (desk_in (blank.Titled c.in-Ok-NoFlow.journal))) _ (rw c.in-Ok-NoFlow.field-0-is at c.in-Ok-NoFlow.ensures.asks) rose)
 
 pub returns-in-Ok-Unborn-clause-runs : goal.returns-in-Ok-Unborn-clause-runs
 returns-in-Ok-Unborn-clause-runs g c =
@@ -51,7 +52,7 @@ returns-in-Ok-Unborn-clause-runs g c =
     let run = c.hire_and_run-in-Ok-Unborn in
     begun_over D.tells D.shown D.content D.left D.crashes D.disk_faults D.out_faults _ c.args.request.now _ _ c.args.name.now _ _ c.args.desk run.result.desk run.result.status c.args.machine.plan
     (λ told. inl (loads told)) (run.ensures.runs c.args.name.now c.args.desk opened loads)
-    (λ rose. rises_since _ (D.asks c.in-Ok-Unborn.desk) _ (rw c.in-Ok-Unborn.field-0-is at c.in-Ok-Unborn.ensures.asks) rose)
+    (λ rose. rises_later _ (D.asks c.in-Ok-Unborn.desk) _ (rw c.in-Ok-Unborn.field-0-is at c.in-Ok-Unborn.ensures.asks) rose)
 
 pub returns-in-Err-clause-runs : goal.returns-in-Err-clause-runs
 returns-in-Err-clause-runs g c =

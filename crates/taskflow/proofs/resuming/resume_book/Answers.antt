@@ -3,8 +3,9 @@ use Rattle.tf_book.specs.Loading.{CanRun}
 use Rattle.taskflow.specs.Books.{unopened_again, empty}
 use Rattle.taskflow.proofs.BookLemmas.{resumed_over, untouched_by}
 use Rattle.taskflow.proofs.AskedLemmas.{resumes_more}
-use Rattle.taskflow.proofs.CountLemmas.{said_causes, unopened_hired, rises_since}
+use Rattle.taskflow.proofs.CountLemmas.{said_causes, unopened_hired}
 use Rattle.taskflow.proofs.resuming.resume_book.Goals as goal
+use Rattle.tf_desk.proofs.CountLemmas.{rises_later}
 
 pub returns-in-Ok-Book-clause-resumes : goal.returns-in-Ok-Book-clause-resumes
 returns-in-Ok-Book-clause-resumes g c =
@@ -13,7 +14,7 @@ returns-in-Ok-Book-clause-resumes g c =
     let opened = rw c.in-Ok-Book.field-0-is at c.in-Ok-Book.ensures.opened in
     let loads = rw c.in-Ok-Book.field-0-is at c.in-Ok-Book.ensures.loads in
     resumes_more D.tells D.shown D.content D.left D.crashes D.disk_faults _ c.args.request.now _ _ c.args.name.now _ _ c.args.desk c.go_on.result.desk c.go_on.result.status
-    (λ rose. rises_since (D.asks c.args.desk) (D.asks book.journal.desk) (D.asks c.go_on.result.desk) (rw c.in-Ok-Book.field-0-is at c.in-Ok-Book.ensures.asks) rose)
+    (λ rose. rises_later (D.asks c.args.desk) (D.asks book.journal.desk) (D.asks c.go_on.result.desk) (rw c.in-Ok-Book.field-0-is at c.in-Ok-Book.ensures.asks) rose)
     (resumed_over D.tells D.shown D.content D.left D.crashes D.disk_faults D.out_faults _ c.args.request.now _ c.args.name.now _ _ c.args.desk c.go_on.result.desk c.go_on.result.status book
     (subst CanRun c.machine.ensures.plan (c.plan-plan.ensures.compiles, c.plan-plan.ensures.complete))
     (λ told. (loads told).0) (c.go_on.ensures.goes c.args.name.now c.args.desk opened (λ told. (loads told).0)))

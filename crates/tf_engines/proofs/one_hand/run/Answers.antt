@@ -2,10 +2,10 @@ use Rattle.std.proofs.Common.{ℕ, sym, subst}
 use Rattle.tf_desk.specs.Counts.{Rises}
 use Rattle.tf_flow.specs.Plan.{PlanValue}
 use Rattle.tf_model.specs.Plan.{outline_of}
-use Rattle.tf_book.proofs.KeptLemmas.{rises_later}
 use Rattle.tf_engines.specs.Runs.{HasRun, GoesOn}
 use Rattle.tf_engines.proofs.StopLemmas.{run_later}
 use Rattle.tf_engines.proofs.one_hand.run.Goals as goal
+use Rattle.tf_desk.proofs.CountLemmas.{rises_later}
 
 pub returns-in-Some-clause-ran : goal.returns-in-Some-clause-ran
 returns-in-Some-clause-ran g c = λ limit before on.

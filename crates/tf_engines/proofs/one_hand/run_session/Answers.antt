@@ -1,6 +1,5 @@
 use Rattle.std.proofs.Common.{refl, subst, sym, ℕ, arith}
 use Rattle.tf_desk.specs.Counts.{Rises}
-use Rattle.tf_book.proofs.KeptLemmas.{rises_later}
 use Rattle.tf_engines.specs.Runs.{HasRun, GoesOn}
 use Rattle.tf_engines.proofs.RunLemmas.{was_sound}
 use Rattle.tf_engines.proofs.StopLemmas.{run_later}
@@ -10,6 +9,7 @@ use Rattle.tf_model.specs.Steps.{LegalPast}
 use Rattle.tf_engines.proofs.OrderLemmas.{cut_done, halted_asks}
 use Rattle.tf_engines.proofs.EnterLemmas.{entered_goes, entered_going, ended_before, cut_before}
 use Rattle.tf_engines.proofs.one_hand.run_session.Goals as goal
+use Rattle.tf_desk.proofs.CountLemmas.{rises_later}
 
 pub run-requires : goal.run-requires
 run-requires g c =

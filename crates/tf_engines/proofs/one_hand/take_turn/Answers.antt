@@ -2,7 +2,6 @@ use Rattle.std.proofs.Common.{refl, subst, sym, ℕ, List, Option}
 use Rattle.std.specs.Prelude.{IfSome, IfNone}
 use Rattle.tf_flow.specs.Plan.{PlanValue}
 use Rattle.tf_desk.specs.Counts.{Rises}
-use Rattle.tf_book.proofs.KeptLemmas.{rises_later}
 use Rattle.tf_hands.specs.Hands.{HasOrder, IsAlone}
 use Rattle.tf_hands.proofs.FlightLemmas.{still_free}
 use Rattle.tf_model.specs.Plan.{outline_of}
@@ -16,6 +15,7 @@ use Rattle.tf_engines.proofs.OrderLemmas.{started_to_do, ended_done, suspended_d
 use Rattle.tf_engines.proofs.StopLemmas.{some_later}
 use Rattle.tf_engines.proofs.TurnLemmas.{goes_started, has_started, alone_started, runs_started, never_waits, turn_ended, turn_stops, turn_suspended, turn_is_suspended, halted_run}
 use Rattle.tf_engines.proofs.one_hand.take_turn.Goals as goal
+use Rattle.tf_desk.proofs.CountLemmas.{rises_later}
 
 pub next-requires-clause-free : goal.next-requires-clause-free
 next-requires-clause-free g c = still_free _ _ 0 c.requires.going.still

@@ -17,7 +17,7 @@ loop-turn-preserved c =
     elim c.match-controller_of.branch [
       | in-Some w ↦ rw (w.found-is, w.is_outermost-is)
           (walked_more (outline_of c.args.plan.now) c.args.answers.now c.args.atom c.way-turn-items.result.now c.loop-turn.turn-index d c.loop-turn.found w.resolved-found.result c.loop-turn.is_outermost w.in-Some.here w.answer_of-answer.result
-          c.loop-turn.invariant c.loop-turn-test.true w.in-Some.ensures.found w.in-Some.ensures.retry w.answer_of-answer.ensures
+          c.loop-turn.invariant c.loop-turn-test.true (way_told c.args.plan.now c.args.atom c.way-turn-items.result.now c.way-turn-items.ensures) w.in-Some.ensures.found w.in-Some.ensures.retry w.answer_of-answer.ensures
           (λ others same. w.resolved-found.ensures others same
           ∙ ap (λ (b : Bool). resolved b (shown_controller w.in-Some.here) others (shown_resolution c.loop-turn.found) w.answer_of-answer.result) w.defer.ensures))
       | in_default w ↦ rw (w.found-is, w.is_outermost-is)

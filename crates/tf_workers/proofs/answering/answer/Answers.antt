@@ -5,9 +5,10 @@ use Rattle.tf_workers.specs.Dialogue.{Exchange, spoken, running}
 use Rattle.tf_workers.specs.Progress.{TakesNothing, Reaches}
 use Rattle.tf_workers.specs.Progress.Reaches.{begun}
 use Rattle.tf_workers.specs.Session.{Seen, seen}
-use Rattle.tf_workers.proofs.AnswerLemmas.{stopped, said_front, rises_later, takes_on, given_for, done_for}
+use Rattle.tf_workers.proofs.AnswerLemmas.{stopped, said_front, takes_on, given_for, done_for}
 use Rattle.tf_workers.proofs.ListLemmas.{sent_more, whole_front}
 use Rattle.tf_workers.proofs.answering.answer.Goals as goal
+use Rattle.tf_desk.proofs.CountLemmas.{rises_later}
 
 pub returns-in-Err-clause-stopped : goal.returns-in-Err-clause-stopped
 returns-in-Err-clause-stopped g c =
