@@ -5,7 +5,7 @@ use Rattle.tf_document.specs.Reading.{is_memory as is_memory_fault}
 use Rattle.tf_document.specs.declared.faults.FileFault.{FileFault}
 use Rattle.tf_files.proofs.OutlineLemmas.{atoms_alike, flows_alike, innermost_alike}
 use Rattle.tf_files.specs.FlowFile.{flow_of, IsBroken, IsFirstReason, unspelled, broken, no_memory}
-use Rattle.tf_files.specs.Written.{PlanTree, plan_tree, WrittenPlan, plan_as_written, as_written}
+use Rattle.tf_flow.specs.Written.{PlanTree, plan_tree, WrittenPlan, plan_as_written, as_written}
 use Rattle.tf_flow.specs.Outline.{Atom, FlowPlace, atoms_of, flows_of}
 use Rattle.tf_flow.specs.Plan.{PlanValue}
 use Rattle.tf_flow.specs.declared.atoms.Bind.{Bind}

@@ -3,7 +3,7 @@ use Rattle.std.proofs.Common.{◌≡◌, ◌⊎◌, ℕ, List, [], ◌∷◌, Op
 use Rattle.tf_desk.specs.Content.{Content}
 use Rattle.tf_desk.specs.Crash.{Images, Crashes}
 use Rattle.std.specs.Prelude.{Bool}
-use Rattle.tf_files.specs.Written.{PlanTree}
+use Rattle.tf_flow.specs.Written.{PlanTree}
 use Rattle.tf_flow.specs.Plan.{PlanValue}
 use Rattle.tf_ports.specs.declared.crews.Want.{Want}
 use Rattle.tf_ports.specs.declared.orders.Order.{Order}

@@ -5,7 +5,7 @@ use Rattle.std.specs.Option.{option_and_then}
 use Rattle.tf_desk.specs.Content.{Content, bytes_of}
 use Rattle.tf_desk.specs.Crash.{Images, Crashes}
 use Rattle.tf_flow.specs.Plan.{PlanValue}
-use Rattle.tf_files.specs.Written.{PlanTree, plan_tree}
+use Rattle.tf_flow.specs.Written.{PlanTree, plan_tree}
 use Rattle.tf_journal.specs.Format.{OPEN, Found, closed, body, bad, record_at, Recovered, unborn, bodies, not_a_book, with_body, then_from, records_from, title_fault, titled, recovered_born, recovered, title_of, is_unborn}
 use Rattle.tf_journal.specs.declared.title.Title.TheVariants.{Book as book_title}
 use Rattle.tf_model.specs.History.{flow_of}

@@ -5,7 +5,7 @@ use Rattle.tf_desk.specs.Counts.{Rises}
 use Rattle.tf_desk.specs.Content.{Content}
 use Rattle.tf_desk.specs.Crash.{Images, Crashes}
 use Rattle.tf_flow.specs.Plan.{PlanValue}
-use Rattle.tf_files.specs.Written.{PlanTree}
+use Rattle.tf_flow.specs.Written.{PlanTree}
 use Rattle.tf_journal.specs.Format.{Recovered, unborn, bodies, not_a_book}
 use Rattle.tf_ports.specs.Contents.{Contents, GivesBytes, PassesLimit}
 use Rattle.tf_ports.specs.declared.crews.Want.{Want}

@@ -1,7 +1,7 @@
 -- The way that a command went, put together from its parts.
 use Rattle.std.proofs.Common.{◌≡◌, ℕ, List, Option, Some, None, Bool, true, false, refl, sym, inl, inr, subst}
 use Rattle.std.specs.Prelude.{Result, Ok, Err, IfErr, option_and_then, if◌then◌else◌}
-use Rattle.tf_files.specs.Written.{PlanTree, plan_tree}
+use Rattle.tf_flow.specs.Written.{PlanTree, plan_tree}
 use Rattle.tf_ports.specs.Contents.{Contents, GivesBytes}
 use Rattle.tf_desk.specs.Content.{Content}
 use Rattle.tf_desk.specs.Crash.{Images, Crashes}

@@ -2,7 +2,7 @@
 use Rattle.std.proofs.Common.{◌≡◌, ◌≢◌, ℕ, List, [], Bool, Option, None, refl, sym, ap, ◌∙◌, subst, inl, inr, arith}
 use Rattle.tf_desk.specs.Content.{Content}
 use Rattle.tf_desk.specs.Crash.{Images, Crashes}
-use Rattle.tf_files.specs.Written.{plan_tree}
+use Rattle.tf_flow.specs.Written.{plan_tree}
 use Rattle.tf_flow.specs.Plan.{PlanValue}
 use Rattle.tf_states.specs.declared.record.Entry.{Entry}
 use Rattle.tf_ports.specs.declared.crews.Want.{Want}

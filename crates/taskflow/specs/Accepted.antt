@@ -4,7 +4,7 @@ use Rattle.tf_demo.specs.Demo.{demo_flow}
 use Rattle.tf_document.specs.Reading.{is_memory as is_memory_fault}
 use Rattle.tf_document.specs.declared.faults.FileFault.{FileFault}
 use Rattle.tf_files.specs.FlowFile.{flow_of, IsBroken, IsFirstReason}
-use Rattle.tf_files.specs.Written.{PlanTree, plan_as_written}
+use Rattle.tf_flow.specs.Written.{PlanTree, plan_as_written}
 use Rattle.tf_flow.specs.declared.atoms.Bind.{Bind}
 use Rattle.tf_flow.specs.declared.faults.PlanFault.{PlanFault}
 use Rattle.tf_model.specs.Compilation.{CompileRefusal, ambiguous, cycle, tree_refusal}

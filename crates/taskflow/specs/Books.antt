@@ -3,13 +3,13 @@ use Rattle.std.specs.Prelude.{◌≡◌, ◌⊎◌, ℕ, Bool, true, false, IsTr
 use Rattle.tf_desk.specs.Content.{Content}
 use Rattle.tf_desk.specs.Crash.{Images, Crashes}
 use Rattle.tf_flow.specs.Plan.{PlanValue}
+use Rattle.tf_flow.specs.Written.{PlanTree, plan_tree}
 use Rattle.tf_states.specs.declared.record.Entry.{Entry}
 use Rattle.tf_states.specs.declared.state.FlowState.{FlowState}
 use Rattle.tf_ports.specs.Told.{told_with}
 use Rattle.tf_ports.specs.declared.crews.Want.{Want}
 use Rattle.tf_ports.specs.declared.orders.Order.{Order}
 use Rattle.tf_ports.specs.declared.outcomes.Outcome.{Outcome}
-use Rattle.tf_files.specs.Written.{PlanTree, plan_tree}
 use Rattle.tf_journal.specs.Format.{Recovered}
 use Rattle.tf_model.specs.History.{flow_of, snapshot}
 use Rattle.tf_model.specs.Plan.{outline_of}

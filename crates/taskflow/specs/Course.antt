@@ -10,12 +10,12 @@ use Rattle.tf_ports.specs.declared.orders.Order.{Order}
 use Rattle.tf_ports.specs.declared.outcomes.Outcome.{Outcome}
 use Rattle.tf_ports.specs.declared.reading.TheConstants.{SOURCE_LIMIT}
 use Rattle.tf_flow.specs.Plan.{PlanValue}
+use Rattle.tf_flow.specs.Written.{PlanTree, plan_tree}
 use Rattle.tf_journal.specs.Format.{Recovered}
 use Rattle.tf_book.specs.Loading.{IsNoBook}
 use Rattle.tf_book.specs.Resetting.{may_reset}
 use Rattle.tf_model.specs.History.{snapshot}
 use Rattle.tf_model.specs.Plan.{outline_of}
-use Rattle.tf_files.specs.Written.{PlanTree, plan_tree}
 use Rattle.tf_states.specs.declared.record.Entry.{Entry}
 use Rattle.tf_states.specs.declared.state.FlowState.{FlowState}
 use Rattle.tf_words.specs.declared.asked.Asked.{Asked}

@@ -1,7 +1,7 @@
 -- What opening a file keeps.
 use Rattle.std.specs.Prelude.{ℕ, List}
 use Rattle.tf_ports.specs.Contents.{Contents, GivesBytes}
-use Rattle.tf_files.specs.Written.{plan_tree}
+use Rattle.tf_flow.specs.Written.{plan_tree}
 use Rattle.tf_machine.specs.Machine.{MachineValue}
 use Rattle.taskflow.specs.Accepted.{GivesPlan}
 use Rattle.taskflow.specs.declared.reading.Source.{Source}

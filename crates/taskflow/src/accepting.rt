@@ -1,5 +1,5 @@
 ghost use Rattle.std.specs.Prelude.{◌≡◌, [], ℕ, List, Bool, None, IfOk, IfErr};
-ghost use Rattle.tf_files.specs.Written.{plan_tree};
+ghost use Rattle.tf_flow.specs.Written.{plan_tree};
 ghost use Rattle.tf_flow.specs.declared.atoms.Bind.{Bind};
 ghost use Rattle.tf_model.specs.Compilation.{compile_refusal};
 ghost use Rattle.tf_model.specs.Plan.{outline_of};

@@ -3,7 +3,7 @@
 
 ghost use Rattle.std.specs.Prelude.{◌≡◌, ◌≤◌, [], IfOk};
 ghost use Rattle.tf_desk.specs.Counts.{Rises};
-ghost use Rattle.tf_files.specs.Written.{plan_tree};
+ghost use Rattle.tf_flow.specs.Written.{plan_tree};
 ghost use Rattle.tf_machine.specs.Machine.{StandsFor};
 ghost use Rattle.tf_words.specs.Demos.{IsDemo};
 ghost use Rattle.taskflow.specs.Accepted.{demo_tree};

@@ -2,7 +2,7 @@
 
 ghost use Rattle.std.specs.Prelude.{◌≡◌, ◌≢◌, ◌≤◌, [], true, false, Ok, Err, OnOk, IfOk, IfErr};
 ghost use Rattle.tf_desk.specs.Counts.{Rises};
-ghost use Rattle.tf_files.specs.Written.{plan_tree};
+ghost use Rattle.tf_flow.specs.Written.{plan_tree};
 ghost use Rattle.tf_machine.specs.Machine.{StandsFor};
 ghost use Rattle.taskflow.specs.Accepted.{GivesPlan, is_memory as is_want_of_memory};
 ghost use Rattle.taskflow.specs.Messages.{refusal, refusal_text};

@@ -2,7 +2,7 @@
 
 ghost use Rattle.std.specs.Prelude.{◌≡◌, ◌≤◌, ◌⊎◌, ℕ, List, [], vec_len};
 ghost use Rattle.tf_desk.specs.Counts.{Rises};
-ghost use Rattle.tf_files.specs.Written.{plan_tree};
+ghost use Rattle.tf_flow.specs.Written.{plan_tree};
 ghost use Rattle.tf_ports.specs.Wanted.{wanted as number_of};
 ghost use Rattle.tf_machine.specs.Machine.{StandsFor};
 ghost use Rattle.tf_book.specs.Book.{outline, state};

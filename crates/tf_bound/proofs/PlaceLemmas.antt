@@ -6,6 +6,7 @@ use Rattle.tf_flow.specs.Plan.{PlanValue}
 use Rattle.tf_flow.specs.Tree.{Tree, Trees, task, flow, no_trees, tree, tree_of}
 use Rattle.tf_flow.specs.declared.ways.Turn.{Turn}
 use Rattle.tf_flow.specs.Outline.{Atom, FlowPlace, atoms_of, atoms_among, enter, retry_atoms, flows_of, flows_among, flow_count, atom_count, atoms_among_count, retry_count, retry_number}
+use Rattle.tf_flow.proofs.ListingLemmas.{length_retry}
 use Rattle.tf_model.specs.Before.{Flow, find_flow, has_flow_number}
 use Rattle.tf_model.specs.Linked.{arrange, arranged}
 use Rattle.tf_model.specs.Plan.{Outline, outline_of, is_retry, is_before, retry_of, own_flow, last_flow}
@@ -48,10 +49,6 @@ length_both (x ∷ xs) ys = let rest : length (xs ++ ys) ≡ length xs + length 
 length_entered : (g i : ℕ) (xs : List Atom) → length (map (enter g i) xs) ≡ length xs
 length_entered g i [] = refl
 length_entered g i (x ∷ xs) = ap suc (length_entered g i xs)
-
-length_retry : (g : ℕ) (control : Option Retry) → length (retry_atoms g control) ≡ retry_count control
-length_retry g None = refl
-length_retry g (Some r) = refl
 
 mutual
   length_of : (t : Tree) (g : ℕ) → length (atoms_of g t) ≡ atom_count t

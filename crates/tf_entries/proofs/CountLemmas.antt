@@ -19,10 +19,10 @@ use Rattle.tf_flow.specs.declared.atoms.Undo.TheVariants as undo
 use Rattle.tf_flow.specs.declared.faults.Limit.TheVariants as limit
 use Rattle.tf_flow.specs.declared.nested.Flow.{Flow}
 use Rattle.tf_flow.specs.Plan.{PlanValue}
+use Rattle.tf_flow.specs.Written.{as_written, all_as_written}
 use Rattle.tf_entries.specs.Atoms.{ProvidesWithin, UndoWithin, TaskWithin, RetryWithin, IsProvides, IsUndo, IsTask, IsRetry}
 use Rattle.tf_entries.specs.Fields.{AnyCount}
 use Rattle.tf_entries.specs.Plans.{item_count, ControlWithin, TreeWithin, TreesWithin, IsControl, IsTree, AreTrees, IsPlan, KeepsLimits}
-use Rattle.tf_entries.specs.Written.{as_written, all_as_written}
 use Rattle.tf_entries.proofs.DepthLemmas.{none_first, none_passing, none_passed}
 use Rattle.tf_numbers.proofs.OptionLemmas.{neither_there}
 

@@ -8,17 +8,17 @@ use Rattle.tf_flow.specs.declared.atoms.Bind.{Bind}
 use Rattle.tf_flow.specs.declared.faults.PlanFault.{PlanFault}
 use Rattle.tf_flow.specs.declared.faults.PlanFault.TheVariants as plan_fault
 use Rattle.tf_flow.specs.declared.nested.Flow.{Flow}
+use Rattle.tf_flow.specs.Written.{as_written}
+use Rattle.tf_flow.proofs.AlikeLemmas.{refused_alike}
+use Rattle.tf_flow.proofs.WrittenLemmas.{flow_written}
 use Rattle.tf_values.specs.declared.faults.MakeFault.{MakeFault}
 use Rattle.tf_values.specs.declared.faults.MakeFault.TheVariants as fault
 use Rattle.tf_entries.specs.PlanReading.{WrittenPlan, written_of, read_plan, fault_of}
 use Rattle.tf_entries.specs.Plans.{plan_bytes, IsPlan, KeepsLimits}
 use Rattle.tf_entries.specs.Reading.{Refuses, whole}
-use Rattle.tf_entries.specs.Written.{as_written}
-use Rattle.tf_entries.proofs.AlikeLemmas.{refused_alike}
 use Rattle.tf_entries.proofs.CountLemmas.{counted_plan}
 use Rattle.tf_entries.proofs.DepthLemmas.{within_limits}
 use Rattle.tf_entries.proofs.PlanLemmas.{IsFlow, plan_found, plan_made}
-use Rattle.tf_entries.proofs.WrittenLemmas.{flow_written}
 
 -- what a plan is written as
 abbrev written_plan : PlanValue → WrittenPlan

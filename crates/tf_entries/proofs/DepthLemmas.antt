@@ -18,10 +18,10 @@ use Rattle.tf_flow.specs.declared.faults.Limit.{Limit}
 use Rattle.tf_flow.specs.declared.faults.Limit.TheVariants as limit
 use Rattle.tf_flow.specs.declared.faults.PlanFault.TheVariants as fault
 use Rattle.tf_flow.specs.declared.nested.Flow.{Flow}
+use Rattle.tf_flow.specs.Written.{as_written, all_as_written}
+use Rattle.tf_flow.proofs.AlikeLemmas.{nesting_told}
+use Rattle.tf_flow.proofs.MeasureLemmas.{condition_measure, conditions_measure, told}
 use Rattle.tf_entries.specs.Plans.{IsTree}
-use Rattle.tf_entries.specs.Written.{as_written, all_as_written}
-use Rattle.tf_entries.proofs.AlikeLemmas.{nesting_told}
-use Rattle.tf_entries.proofs.MeasureLemmas.{condition_measure, conditions_measure, told}
 use Rattle.tf_entries.proofs.PlanLemmas.{IsWithin, ShallowTree, ShallowTrees}
 use Rattle.tf_entries.proofs.TestLemmas.{test_depth, deepest_test, IsShallow}
 use Rattle.tf_numbers.proofs.OptionLemmas.{none_mapped, neither_there}

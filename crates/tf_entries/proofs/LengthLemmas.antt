@@ -21,15 +21,15 @@ use Rattle.tf_flow.specs.declared.atoms.Undo.{Undo}
 use Rattle.tf_flow.specs.declared.atoms.Undo.TheVariants as undo
 use Rattle.tf_flow.specs.declared.deciders.Decider.{Decider}
 use Rattle.tf_flow.specs.declared.deciders.Link.{Link}
+use Rattle.tf_flow.specs.Written.{as_written, all_as_written}
+use Rattle.tf_flow.proofs.MeasureLemmas.{condition_measure, conditions_measure, told}
 use Rattle.tf_values.specs.ByteForm.{text_bytes, list_bytes}
 use Rattle.tf_values.specs.Value.{byte_form}
 use Rattle.tf_entries.specs.Atoms.{arg_bytes, bind_bytes, provides_bytes, undo_bytes, task_kind_byte, task_bytes, retry_kind_bytes, retry_bytes}
 use Rattle.tf_entries.specs.Fields.{name_bytes, truth_byte, listed}
 use Rattle.tf_entries.specs.Plans.{item_count, flow_kind_byte, control_bytes, item_mark, tree_bytes, items_bytes, plan_bytes}
 use Rattle.tf_entries.specs.Tests.{condition_bytes, conditions_bytes, decision_bytes, connection_bytes}
-use Rattle.tf_entries.specs.Written.{as_written, all_as_written}
 use Rattle.tf_entries.proofs.DepthLemmas.{short_plan}
-use Rattle.tf_entries.proofs.MeasureLemmas.{condition_measure, conditions_measure, told}
 
 -- ---- parts
 

@@ -7,9 +7,6 @@ pub mod AppendLemmas
 pub mod SizeLemmas
 pub mod AtomLemmas
 pub mod TestLemmas
-pub mod MeasureLemmas
-pub mod WrittenLemmas
-pub mod AlikeLemmas
 pub mod PlanLemmas
 pub mod DepthLemmas
 pub mod CountLemmas

@@ -2,7 +2,6 @@ pub mod Fields
 pub mod Entries
 pub mod Reading
 pub mod EntryReading
-pub mod Written
 pub mod Atoms
 pub mod Tests
 pub mod Plans

@@ -12,11 +12,11 @@ use Rattle.tf_flow.specs.declared.faults.PlanFault.TheVariants as plan_fault
 use Rattle.tf_flow.specs.declared.nested.Flow.{Flow}
 use Rattle.tf_flow.specs.declared.nested.FlowKind.{FlowKind}
 use Rattle.tf_flow.specs.declared.nested.FlowKind.TheVariants as pattern
+use Rattle.tf_flow.specs.Written.{WrittenTree, written_task, written_flow, written_trees, as_written}
 use Rattle.tf_values.specs.declared.faults.MakeFault.{MakeFault}
 use Rattle.tf_values.specs.declared.faults.MakeFault.TheVariants as fault
 use Rattle.tf_entries.specs.AtomReading.{read_truth, read_binds, read_task, read_retry}
 use Rattle.tf_entries.specs.Reading.{chain, numbered, read_signed, read_name, read_value, read_list}
-use Rattle.tf_entries.specs.Written.{WrittenTree, written_task, written_flow, written_trees, as_written}
 
 -- ---- tests
 

@@ -6,10 +6,10 @@ use Rattle.tf_flow.specs.Tree.{tree_of}
 use Rattle.tf_flow.specs.declared.atoms.Retry.{Retry}
 use Rattle.tf_flow.specs.declared.nested.FlowKind.{FlowKind}
 use Rattle.tf_flow.specs.declared.nested.FlowKind.TheVariants as pattern
+use Rattle.tf_flow.specs.Written.{WrittenHead, WrittenTree, written_task, written_flow, WrittenTrees, nothing_written, written, as_written}
 use Rattle.tf_entries.specs.Atoms.{task_bytes, retry_bytes, bind_bytes, IsName, TaskWithin, RetryWithin, IsBind}
 use Rattle.tf_entries.specs.Fields.{name_bytes, truth_byte, listed, InTwoBytes, AnyCount, AreCounted, IsListed}
 use Rattle.tf_entries.specs.Tests.{connection_bytes, IsConnection}
-use Rattle.tf_entries.specs.Written.{WrittenHead, WrittenTree, written_task, written_flow, WrittenTrees, nothing_written, written, as_written}
 
 -- how many items a flow has
 abbrev pub item_count : WrittenTrees → ℕ

@@ -7,9 +7,9 @@ ghost use Rattle.tf_flow.specs.Places.{tree_order};
 ghost use Rattle.tf_flow.specs.Plan.{PlanValue};
 ghost use Rattle.tf_flow.specs.Refusal.{first_refusal};
 ghost use Rattle.tf_flow.specs.Tree.{tree_of};
+ghost use Rattle.tf_flow.specs.Written.{as_written};
 ghost use Rattle.tf_entries.specs.Entries.{IsEntry, HasItsPayload, entry_bytes};
 ghost use Rattle.tf_entries.specs.Plans.{plan_bytes, KeepsLimits};
-ghost use Rattle.tf_entries.specs.Written.{as_written};
 
 /// A form is that of one entry, and has 1 to 131,200 bytes.
 #[tactic(auto, using(crate::proofs::SizeLemmas::entry_long))]

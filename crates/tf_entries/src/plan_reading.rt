@@ -2,10 +2,10 @@ ghost use Rattle.std.specs.Prelude.{◌≡◌, ◌≢◌, ◌++◌, ◌∷◌, [
 ghost use Rattle.tf_flow.specs.Plan.{PlanValue};
 ghost use Rattle.tf_flow.specs.Refusal.{first_refusal};
 ghost use Rattle.tf_flow.specs.Tree.{tree_of};
+ghost use Rattle.tf_flow.specs.Written.{as_written, item_as_written};
 ghost use Rattle.tf_entries.specs.PlanReading as form;
 ghost use Rattle.tf_entries.specs.Plans.{plan_bytes, IsPlan, KeepsLimits};
 ghost use Rattle.tf_entries.specs.Reading.{Refuses, read_list, whole};
-ghost use Rattle.tf_entries.specs.Written.{as_written, item_as_written};
 
 use crate::reader::Reader;
 use std::alloc::Global;
@@ -86,7 +86,7 @@ impl Reader<'_> {
 
     /// A flow, where `left` may stand in one another within it.
     #[cycle(flows)]
-    #[tactic(auto, using(crate::proofs::WrittenLemmas::flow_written))]
+    #[tactic(auto, using(tf_flow::proofs::WrittenLemmas::flow_written))]
     fn flow_over(&mut self, alloc: Global, left: u8) -> Result<Flow, MakeFault>
         ensures ok { IfOk result (λ flow. form.read_flow (suc left) self.old
             ≡ Some (as_written (tree_of flow), self.new)) }
@@ -147,7 +147,7 @@ impl Reader<'_> {
 
     /// An item.
     #[cycle(flows)]
-    #[tactic(auto, using(crate::proofs::WrittenLemmas::items_as_written))]
+    #[tactic(auto, using(tf_flow::proofs::WrittenLemmas::items_as_written))]
     fn item(&mut self, alloc: Global, left: u8) -> Result<Item, MakeFault>
         ensures ok { IfOk result (λ item. form.read_item (form.read_flow left) self.old
             ≡ Some (item_as_written item, self.new)) }

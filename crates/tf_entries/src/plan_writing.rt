@@ -1,12 +1,12 @@
 ghost use Rattle.std.specs.Prelude.{◌≡◌, ◌≤◌, ◌++◌, ◌∷◌, [], length, OnOk, OnErr};
 ghost use Rattle.std.specs.List.{flat_map, AllByRecursion};
 ghost use Rattle.tf_flow.specs.Tree.{tree_of};
+ghost use Rattle.tf_flow.specs.Written.{as_written};
 ghost use Rattle.tf_values.specs.Growth.{KeepsFront};
 ghost use Rattle.tf_entries.specs.Atoms.{IsName};
 ghost use Rattle.tf_entries.specs.Fields.{name_bytes, listed, IsListed};
 ghost use Rattle.tf_entries.specs.Plans as form;
 ghost use Rattle.tf_entries.specs.Shown.{item_bytes, IsItem};
-ghost use Rattle.tf_entries.specs.Written.{as_written};
 
 use crate::appending::{append, append_name};
 use crate::atom_writing::{append_count, append_listed, append_retry, append_task, truth_byte};
@@ -85,7 +85,7 @@ fn each_item(items: &[Item], out: &mut Vec<u8>) -> Result<(), Memory>
 
 /// Appends an item behind its mark.
 #[cycle(writing)]
-#[tactic(auto, using(tf_values::proofs::GrowthLemmas::keeps_shorter, crate::proofs::WrittenLemmas::items_as_written))]
+#[tactic(auto, using(tf_values::proofs::GrowthLemmas::keeps_shorter, tf_flow::proofs::WrittenLemmas::items_as_written))]
 fn append_item(item: &Item, out: &mut Vec<u8>) -> Result<(), Memory>
     ensures ok { OnOk result (out.new.items ≡ out.old.items ++ item_bytes item.now) }
     ensures good { OnOk result (IsItem item.now) }

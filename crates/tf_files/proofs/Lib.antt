@@ -2,8 +2,5 @@ pub mod DocumentLemmas
 pub mod NestedLemmas
 pub mod RootLemmas
 pub mod StoreLemmas
-pub mod WrittenLemmas
 pub mod RefusalLemmas
-pub mod MeasureLemmas
-pub mod AlikeLemmas
 pub mod OutlineLemmas

@@ -1,16 +1,17 @@
 -- The first reason why a flow file gives no plan.
-use Rattle.std.proofs.Common.{List, Bool, Result, Ok, refl}
+use Rattle.std.proofs.Common.{◌≡◌, ◌∙◌, List, Bool, Some, None, Result, Ok, refl, sym}
 use Rattle.tf_document.specs.Reading.{Refuses}
 use Rattle.tf_document.specs.declared.faults.FileFault.{FileFault}
 use Rattle.tf_document.specs.declared.faults.FileFault.TheVariants as fault
+use Rattle.tf_flow.proofs.AlikeLemmas.{refused_alike}
 use Rattle.tf_flow.specs.Refusal.{first_refusal, IsAnswer}
 use Rattle.tf_flow.specs.Tree.{tree_of}
 use Rattle.tf_flow.specs.declared.atoms.Bind.{Bind}
 use Rattle.tf_flow.specs.declared.faults.PlanFault.{PlanFault}
 use Rattle.tf_flow.specs.declared.faults.PlanFault.TheVariants as plan_fault
 use Rattle.tf_flow.specs.declared.nested.Flow.{Flow}
-use Rattle.tf_files.specs.FlowFile.{plan_refusal, IsFirstReason, unspelled, broken, no_memory}
-use Rattle.tf_files.specs.Written.{as_written, WrittenPlan}
+use Rattle.tf_flow.specs.Written.{as_written, WrittenPlan}
+use Rattle.tf_files.specs.FlowFile.{plan_refusal, IsBroken, IsFirstReason, unspelled, broken, no_memory}
 
 -- the reason why nothing is spelled comes first
 pub reads_first : (spelled : Result WrittenPlan FileFault) (e : FileFault) → Refuses spelled e → IsFirstReason spelled e
@@ -38,3 +39,9 @@ breaks root store defer (plan_fault.Duplicate name) is = broken (plan_of root st
 breaks root store defer (plan_fault.Unknown name) is = broken (plan_of root store defer) (plan_fault.Unknown name) refl record { root = root; is_written = refl; refused = is }
 breaks root store defer (plan_fault.BadLink name) is = broken (plan_of root store defer) (plan_fault.BadLink name) refl record { root = root; is_written = refl; refused = is }
 breaks root store defer (plan_fault.BadAtom name) is = broken (plan_of root store defer) (plan_fault.BadAtom name) refl record { root = root; is_written = refl; refused = is }
+
+-- where a flow isn't refused, none is that is written alike
+pub unbroken : (root : Flow) (store : List Bind) (defer : Bool) → first_refusal root store ≡ None → (reason : PlanFault) → ¬ (IsBroken (plan_of root store defer) reason)
+unbroken root store defer accepted reason broken =
+    let both : None ≡ Some reason = sym accepted ∙ refused_alike root broken.root store (sym broken.is_written) ∙ broken.refused in
+    cc

@@ -1,4 +1,3 @@
 pub mod Store
 pub mod Pairs
-pub mod Written
 pub mod FlowFile

@@ -7,4 +7,6 @@ pub mod ConditionLemmas
 pub mod WayLemmas
 pub mod OutlineLemmas
 pub mod ReadLemmas
+pub mod WrittenLemmas
+pub mod AlikeLemmas
 pub mod ListingLemmas

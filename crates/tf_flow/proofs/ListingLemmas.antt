@@ -20,7 +20,7 @@ use Rattle.tf_numbers.proofs.ListLemmas.{nothing_after, map_append, length_both,
 
 -- ---- as many as are counted
 
-length_retry : (g : ℕ) (control : Option Retry) → length (retry_atoms g control) ≡ retry_count control
+pub length_retry : (g : ℕ) (control : Option Retry) → length (retry_atoms g control) ≡ retry_count control
 length_retry g None = refl
 length_retry g (Some r) = refl
 
@@ -337,30 +337,6 @@ number_from_at (suc count) n (suc k) d below = number_from_at count (suc n) k d 
 number_at : (count k d : ℕ) → k < count → get_or (numbers_below count) k d ≡ k
 number_at count k d below = ap (λ (xs : List ℕ). get_or xs k d) (sym (numbers_same count)) ∙ (number_from_at count 0 k d below ∙ omega arith)
 
-told_at : {X : Type 0} (tell : X → ℕ) (xs : List X) (k : ℕ) (x : X) → slice_get xs k ≡ Some x → get_or (map tell xs) k 0 ≡ tell x
-told_at tell [] k x is = absurd (cc)
-told_at tell (y ∷ xs) zero x is = let same : y ≡ x = cc in ap tell same
-told_at tell (y ∷ xs) (suc k) x is = told_at tell xs k x is
-
-within : {X : Type 0} (xs : List X) (k : ℕ) (x : X) → slice_get xs k ≡ Some x → k < length xs
-within [] k x is = absurd (cc)
-within (y ∷ xs) zero x is = omega arith
-within (y ∷ xs) (suc k) x is = omega (arith, within xs k x is)
-
--- the flow at place k has the number k
-pub places_numbered : (t : Tree) (k : ℕ) (place : FlowPlace) → slice_get (flows_of 0 0 t) k ≡ Some place → place.number ≡ k
-places_numbered t k place is =
-    sym (told_at place_number (flows_of 0 0 t) k place is)
-    ∙ (ap (λ (xs : List ℕ). get_or xs k 0) (places_counted t)
-    ∙ number_at (length (flows_of 0 0 t)) k 0 (within (flows_of 0 0 t) k place is))
-
--- the same of the levels that the code has
-pub level_numbered : (levels : List Level) (k : ℕ) (level : Level) → map level_number levels ≡ numbers_below (length levels) → slice_get levels k ≡ Some level → level.number ≡ k
-level_numbered levels k level numbers is =
-    sym (told_at level_number levels k level is)
-    ∙ (ap (λ (xs : List ℕ). get_or xs k 0) numbers
-    ∙ number_at (length levels) k 0 (within levels k level is))
-
 pub level_number_at : (levels : List Level) (k : ℕ) (other : Level) → map level_number levels ≡ numbers_below (length levels) → k < length levels → (slice_index_or levels k other).number ≡ k
 level_number_at levels k other numbers below =
     read levels k below ∙ (ap (λ (xs : List ℕ). get_or xs k 0) numbers ∙ number_at (length levels) k 0 below)
@@ -377,12 +353,9 @@ told_there tell [] k x below is = absurd (omega arith)
 told_there tell (y ∷ xs) zero x below is = ap (λ z. Some (tell z)) (sym is)
 told_there tell (y ∷ xs) (suc k) x below is = told_there tell xs k x (omega arith) is
 
--- the atom, the flow and the item of a number
+-- the atom and the flow of a number
 pub atom_there : (found : List AtomPlace) (k : ℕ) (atom : AtomPlace) → k < length found → atom ≡ get_or found k atom → slice_get (shown_atoms found) k ≡ Some (shown_atom atom)
 atom_there found k atom below is = told_there shown_atom found k atom below is
 
 pub level_there : (levels : List Level) (k : ℕ) (level : Level) → k < length levels → level ≡ get_or levels k level → slice_get (shown_levels levels) k ≡ Some (shown_level level)
 level_there levels k level below is = told_there shown_level levels k level below is
-
-pub item_there : (items : List ItemPlace) (k : ℕ) (item : ItemPlace) → k < length items → item ≡ get_or items k item → slice_get (map shown_item items) k ≡ Some (shown_item item)
-item_there items k item below is = told_there shown_item items k item below is

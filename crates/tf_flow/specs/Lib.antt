@@ -9,6 +9,7 @@ pub mod Shown
 pub mod Plan
 pub mod Items
 pub mod Conditions
+pub mod Written
 pub mod Outline
 pub mod Ways
 pub mod Listing

@@ -64,16 +64,3 @@ retry_before plan r a layout retry inside = by (own_flow plan r) refl
     by (Some g) home =
         let held : holds plan g a ≡ true = ap (λ (o : Option ℕ). holds_with plan o a) (sym home) ∙ and_first (holds_with plan (own_flow plan r) a) _ inside in
         layout.retry_first r g a retry home held (λ same. not_itself plan r a inside (sym same))
-
--- so whether these are settled is told by what is after it
-pub settled_by_successors : (plan : Outline) (s : Snapshot) (r : ℕ) → IsLaidOut plan → is_retry plan r ≡ true
-    → all_below (count plan) (is_settled_beside plan s r) ≡ list_all (is_settled_beside plan s r) (successors_of plan r)
-settled_by_successors plan s r layout retry =
-    sym (all_which (count plan) (is_before plan r) (is_settled_beside plan s r)
-    ∙ all_same (count plan) (λ b. not (is_before plan r b) || is_settled_beside plan s r b) (is_settled_beside plan s r) (λ b below. by b (is_before plan r b) refl))
-  where
-    by : (b : ℕ) (x : Bool) → is_before plan r b ≡ x → (not x || is_settled_beside plan s r b) ≡ is_settled_beside plan s r b
-    by b true is = refl
-    by b false is =
-        let outside : is_of_its_flow plan r b ≡ false = never_true (is_of_its_flow plan r b) (λ inside. clash (is_before plan r b) (retry_before plan r b layout retry inside) is) in
-        sym (ap (λ (x : Bool). not x || is_settled (s.state b)) outside)

@@ -48,14 +48,6 @@ task_read plan a t is = by (slice_get (outline_of plan).atoms a) is
     by None told = absurd (cc)
     by (Some x) told = let same : x.part ≡ a_task t = cc in ap task_part same
 
--- a task is no retry controller
-pub never_retry : (plan : PlanValue) (a : ℕ) (r : Retry) → is_task (outline_of plan) a ≡ true → numbering.part plan a ≡ Some (a_retry r) → ⊥
-never_retry plan a r task is = by (slice_get (outline_of plan).atoms a) task is
-  where
-    by : (o : Option Atom) → is_task_in o ≡ true → option_map part_of o ≡ Some (a_retry r) → ⊥
-    by None which told = cc
-    by (Some x) which told = let same : x.part ≡ a_retry r = cc in clash (is_task_part x.part) which (ap is_task_part same)
-
 -- ---- ways
 
 -- a flow holds an atom where the atom's way passes it

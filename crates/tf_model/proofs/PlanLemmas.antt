@@ -26,17 +26,11 @@ arguments_are plan a p is = ap (λ (o : Option Part). option_map_or arguments_of
 pub injects_are : (plan : PlanValue) (a : ℕ) (p : Part) → numbering.part plan a ≡ Some p → injects (outline_of plan) a ≡ injected_in p
 injects_are plan a p is = ap (λ (o : Option Part). option_map_or injected_in o []) is
 
-pub provides_are : (plan : PlanValue) (a : ℕ) (p : Part) → numbering.part plan a ≡ Some p → provides_of (outline_of plan) a ≡ provided_by p
-provides_are plan a p is = ap (λ (o : Option Part). option_map_or provided_by o provides.Nothing) is
-
 pub name_is : (plan : PlanValue) (a : ℕ) (p : Part) → numbering.part plan a ≡ Some p → atom_name (outline_of plan) a ≡ name_of p
 name_is plan a p is = ap (λ (o : Option Part). option_map_or name_of o []) is
 
 pub kind_told : (plan : PlanValue) (a : ℕ) (p : Part) → numbering.part plan a ≡ Some p → retry_kind (outline_of plan) a ≡ kind_of_part p
 kind_told plan a p is = ap (option_and_then kind_of_part) is
-
-pub is_task_told : (plan : PlanValue) (a : ℕ) (p : Part) → numbering.part plan a ≡ Some p → is_task (outline_of plan) a ≡ is_task_part p
-is_task_told plan a p is = ap (λ (o : Option Part). option_map_or is_task_part o false) is
 
 -- ---- by the list of marks of retry controllers
 

@@ -18,7 +18,7 @@ use Rattle.tf_model.specs.Linked.{arranged, arrange}
 use Rattle.tf_model.specs.Plan.{outline_of, is_retry, retry_of}
 use Rattle.tf_model.proofs.Told.{is_retry_in, retry_in}
 use Rattle.tf_numbers.proofs.TruthLemmas.{never_true}
-use Rattle.tf_flow.proofs.ListingLemmas.{length_atoms, length_flows}
+use Rattle.tf_flow.proofs.ListingLemmas.{length_retry, length_atoms, length_flows}
 use Rattle.std.proofs.lemmas.Option.{slice_get-map}
 
 -- the retry controller of a flow
@@ -94,10 +94,6 @@ get_entered g i (x ∷ xs) (suc k) = get_entered g i xs k
 sits_entered : (parts : List Part) (a g i : ℕ) (xs : List Atom) → SitsAt parts a (map (enter g i) xs) → SitsAt parts a xs
 sits_entered parts a g i xs sits = λ k p is. sits k p (get_entered g i xs k ∙ is)
 
-length_control : (g : ℕ) (control : Option Retry) → length (retry_atoms g control) ≡ retry_count control
-length_control g None = refl
-length_control g (Some r) = refl
-
 stands_at : (parts : List Part) (g a : ℕ) (control : Option Retry) → SitsAt parts a (retry_atoms g control) → StandsAt parts (retry_number a control) control
 stands_at parts g a None sits = tt
 stands_at parts g a (Some r) sits = let place : a + 0 ≡ a = omega arith in ap (slice_get parts) (sym place) ∙ sits 0 (a_retry r) refl
@@ -108,7 +104,7 @@ mutual
   flows_fit (flow head items) parts g a sits = (
     record { number = refl; kind = refl; links = refl; retry = stands_at parts g a head.retry (sits_first parts a (retry_atoms g head.retry) (atoms_among g 0 (suc g) items) sits) },
     among_fit items parts g 0 (suc g) (a + retry_count head.retry)
-        (sits_second parts a (a + retry_count head.retry) (retry_atoms g head.retry) (atoms_among g 0 (suc g) items) (ap (λ (n : ℕ). a + n) (length_control g head.retry)) sits),
+        (sits_second parts a (a + retry_count head.retry) (retry_atoms g head.retry) (atoms_among g 0 (suc g) items) (ap (λ (n : ℕ). a + n) (length_retry g head.retry)) sits),
   )
 
   among_fit : (ts : Trees) (parts : List Part) (g i n a : ℕ) → SitsAt parts a (atoms_among g i n ts) → AllFit parts n (flows_among n a ts) (flow_trees_among ts)

@@ -19,7 +19,7 @@ use Rattle.tf_numbers.proofs.EquationLemmas.{ap2}
 use Rattle.tf_numbers.proofs.ListLemmas.{append_chain, nothing_after}
 use Rattle.tf_numbers.proofs.PairLemmas.{any_in_both, any_flat}
 use Rattle.tf_numbers.proofs.TruthLemmas.{or_either, never_true, only_first, true_first, true_second, true_both, second_false}
-use Rattle.tf_flow.proofs.ListingLemmas.{length_atoms}
+use Rattle.tf_flow.proofs.ListingLemmas.{length_atoms, length_retry}
 use Rattle.tf_scopes.specs.Standing.{is_other}
 use Rattle.tf_scopes.proofs.FrontLemmas.{front, flow_front, flow_has, at_item}
 
@@ -108,13 +108,9 @@ past_item plan w g i n a first rest each =
     moved (Reached plan w) (a + length (map (enter g i) (atoms_of n first))) (a + atom_count first) rest (ap (λ (k : ℕ). a + k) (length_entered g i n first))
     (each_second (Reached plan w) a (map (enter g i) (atoms_of n first)) rest each)
 
-length_control : (g : ℕ) (control : Option Retry) → length (retry_atoms g control) ≡ retry_count control
-length_control g None = refl
-length_control g (Some r) = refl
-
 past_retry : (plan : Outline) (w : List Turn) (g a : ℕ) (control : Option Retry) (rest : List Atom) → Each (Reached plan w) a (retry_atoms g control ++ rest) → Each (Reached plan w) (a + retry_count control) rest
 past_retry plan w g a control rest each =
-    moved (Reached plan w) (a + length (retry_atoms g control)) (a + retry_count control) rest (ap (λ (k : ℕ). a + k) (length_control g control))
+    moved (Reached plan w) (a + length (retry_atoms g control)) (a + retry_count control) rest (ap (λ (k : ℕ). a + k) (length_retry g control))
     (each_second (Reached plan w) a (retry_atoms g control) rest each)
 
 -- ---- the ways of what stands in a tree
@@ -289,7 +285,7 @@ mutual
   tree_fronted (flow head items) plan w g a ends each all =
       each_both (Fronted plan (standing_in (find_flow plan.flows g))) a (retry_atoms g head.retry) (atoms_among g 0 (suc g) items)
       (retry_each plan w g a head.retry (atoms_among g 0 (suc g) items) (flat_map (stands plan (items_of (suc g) (a + retry_count head.retry) items)) all.0.order) ends each all.0.standing)
-      (moved (Fronted plan (standing_in (find_flow plan.flows g))) (a + retry_count head.retry) (a + length (retry_atoms g head.retry)) (atoms_among g 0 (suc g) items) (ap (λ (k : ℕ). a + k) (sym (length_control g head.retry)))
+      (moved (Fronted plan (standing_in (find_flow plan.flows g))) (a + retry_count head.retry) (a + length (retry_atoms g head.retry)) (atoms_among g 0 (suc g) items) (ap (λ (k : ℕ). a + k) (sym (length_retry g head.retry)))
       (each_weaker (FrontedIn plan g 0 (items_of (suc g) (a + retry_count head.retry) items)) (Fronted plan (standing_in (find_flow plan.flows g))) (a + retry_count head.retry) (atoms_among g 0 (suc g) items)
       (flow_each plan w g a head items ends each all)
       (trees_fronted items plan w g 0 (suc g) (a + retry_count head.retry) ends (omega arith) (past_retry plan w g a head.retry (atoms_among g 0 (suc g) items) each) all.1)))

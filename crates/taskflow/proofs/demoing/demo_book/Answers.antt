@@ -1,6 +1,6 @@
 use Rattle.std.proofs.Common.{subst}
 use Rattle.tf_desk.specs.Counts.{Rises}
-use Rattle.tf_files.specs.Written.{PlanTree}
+use Rattle.tf_flow.specs.Written.{PlanTree}
 use Rattle.tf_ports.specs.declared.crews.Want.TheVariants as want
 use Rattle.taskflow.specs.Books.{Runs, demonstrated}
 use Rattle.taskflow.specs.Run.{unspoken}

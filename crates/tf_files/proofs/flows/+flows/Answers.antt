@@ -6,7 +6,7 @@ use Rattle.tf_document.specs.Paths.{below}
 use Rattle.tf_document.specs.declared.fields.Field.{Field}
 use Rattle.toml.specs.Data.{get_member}
 use Rattle.tf_files.specs.FlowFile.{item_form}
-use Rattle.tf_files.specs.Written.{item_as_written}
+use Rattle.tf_flow.specs.Written.{item_as_written}
 use Rattle.toml.specs.View.{view, items_view, table_view}
 use Rattle.tf_files.proofs.flows.+flows.Goals as goal
 

@@ -1,5 +1,4 @@
-use Rattle.tf_files.proofs.AlikeLemmas.{unbroken}
-use Rattle.tf_files.proofs.RefusalLemmas.{breaks}
+use Rattle.tf_files.proofs.RefusalLemmas.{breaks, unbroken}
 use Rattle.tf_files.proofs.reading.make_plan.Goals as goal
 
 pub returns-in-Ok-clause-unbroken : goal.returns-in-Ok-clause-unbroken

@@ -21,15 +21,12 @@ use Rattle.tf_flow.specs.declared.deciders.Decider.{Decider}
 use Rattle.tf_flow.specs.declared.deciders.Link.{Link}
 use Rattle.tf_flow.specs.declared.faults.Limit.{Limit}
 use Rattle.tf_flow.specs.declared.faults.Limit.TheVariants as limit
-use Rattle.tf_flow.specs.declared.faults.PlanFault.{PlanFault}
 use Rattle.tf_flow.specs.declared.faults.PlanFault.TheVariants as fault
 use Rattle.tf_flow.specs.declared.nested.Flow.{Flow}
 use Rattle.tf_flow.specs.declared.nested.FlowKind.{FlowKind}
-use Rattle.tf_files.proofs.MeasureLemmas.{condition_measure, told}
-use Rattle.tf_files.proofs.RefusalLemmas.{plan_of}
-use Rattle.tf_files.proofs.WrittenLemmas.{flow_written}
-use Rattle.tf_files.specs.FlowFile.{IsBroken}
-use Rattle.tf_files.specs.Written.{WrittenHead, WrittenTree, written_task, written_flow, WrittenTrees, nothing_written, written, as_written, all_as_written, head_as_written}
+use Rattle.tf_flow.proofs.MeasureLemmas.{condition_measure, told}
+use Rattle.tf_flow.proofs.WrittenLemmas.{flow_written}
+use Rattle.tf_flow.specs.Written.{WrittenHead, WrittenTree, written_task, written_flow, WrittenTrees, nothing_written, written, as_written, all_as_written, head_as_written}
 
 -- ---- lists
 
@@ -266,16 +263,16 @@ abbrev mutual
   places_written (written first others) = written_places first ++ places_written others
 
 abbrev mutual
-  written_nesting : WrittenTree → ℕ
+  pub written_nesting : WrittenTree → ℕ
   written_nesting (written_task t) = 0
   written_nesting (written_flow head items) = 1 + deepest_written items
 
-  deepest_written : WrittenTrees → ℕ
+  pub deepest_written : WrittenTrees → ℕ
   deepest_written nothing_written = 0
   deepest_written (written first others) = max (written_nesting first) (deepest_written others)
 
 mutual
-  nesting_told : (t : Tree) → nesting t ≡ written_nesting (as_written t)
+  pub nesting_told : (t : Tree) → nesting t ≡ written_nesting (as_written t)
   nesting_told (task t) = refl
   nesting_told (flow head items) = ap (λ n. 1 + n) (deepest_told items)
 
@@ -326,9 +323,3 @@ refused_alike a b store same =
     ∙ ap (λ x. option_or x (broken_rule a.name store (places (tree_of a)))) (limits_alike (places (tree_of a)) (places (tree_of b)) order (capped (nesting (tree_of b))) store)
     ∙ ap (λ x. option_or (too_large (capped (nesting (tree_of b))) (places (tree_of b)) store) (broken_rule x store (places (tree_of a)))) name
     ∙ ap (option_or (too_large (capped (nesting (tree_of b))) (places (tree_of b)) store)) (rules_alike (places (tree_of a)) (places (tree_of b)) order b.name store)
-
--- where a flow isn't refused, none is that is written alike
-pub unbroken : (root : Flow) (store : List Bind) (defer : Bool) → first_refusal root store ≡ None → (reason : PlanFault) → ¬ (IsBroken (plan_of root store defer) reason)
-unbroken root store defer accepted reason broken =
-    let both : None ≡ Some reason = sym accepted ∙ refused_alike root broken.root store (sym broken.is_written) ∙ broken.refused in
-    cc
