@@ -53,14 +53,3 @@ case_next plan s k d below is none =
 
 pub no_case : (plan : Outline) (s : Snapshot) (k : ℕ) → length cases ≤ k → entry_among plan s (drop k cases) ≡ forced_if_running plan s → None ≡ forced_if_running plan s
 no_case plan s k past is = sym (ap (entry_among plan s) (drop_whole cases k past)) ∙ is
-
--- ---- a retry controller is before the other atoms of its flow
-
-pub retry_before : (plan : Outline) (r a : ℕ) → IsLaidOut plan → is_retry plan r ≡ true → is_of_its_flow plan r a ≡ true → is_before plan r a ≡ true
-retry_before plan r a layout retry inside = by (own_flow plan r) refl
-  where
-    by : (o : Option ℕ) → own_flow plan r ≡ o → is_before plan r a ≡ true
-    by None home = absurd (clash (holds_with plan (own_flow plan r) a) (and_first (holds_with plan (own_flow plan r) a) _ inside) (ap (λ (o : Option ℕ). holds_with plan o a) home))
-    by (Some g) home =
-        let held : holds plan g a ≡ true = ap (λ (o : Option ℕ). holds_with plan o a) (sym home) ∙ and_first (holds_with plan (own_flow plan r) a) _ inside in
-        layout.retry_first r g a retry home held (λ same. not_itself plan r a inside (sym same))
