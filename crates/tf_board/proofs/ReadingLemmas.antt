@@ -1,46 +1,26 @@
 -- How commands are read from a journal body by body.
-use Rattle.std.proofs.Common.{◌≡◌, ◌≢◌, ◌≤◌, ◌<◌, ℕ, ◌+◌, Bool, true, List, [], ◌∷◌, ◌++◌, length, Option, refl, sym, ◌∙◌, ap, subst, arith, append-nil, append_assoc, length-append}
-use Rattle.std.specs.Prelude.{IsTrue, Result, Ok, Err, IfErr, slice_get}
+use Rattle.std.proofs.Common.{◌≡◌, ◌≢◌, ◌<◌, ℕ, ◌+◌, Bool, true, List, [], ◌∷◌, ◌++◌, length, Option, refl, sym, ◌∙◌, ap, subst, arith, append-nil, append_assoc, length-append}
+use Rattle.std.specs.Prelude.{IsTrue, slice_get}
 use Rattle.std.specs.List.{flat_map}
-use Rattle.tf_desk.specs.Content.{Content, bytes_of}
+use Rattle.tf_desk.specs.Content.{Content}
 use Rattle.tf_desk.specs.Crash.{Images, Crashes}
-use Rattle.tf_journal.specs.Format.{SIZE_LIMIT, OPEN, Recovered, bodies, record_of, front_of, title_of, Found, closed, body, bad, record_at}
+use Rattle.tf_journal.specs.Format.{SIZE_LIMIT, OPEN, Recovered, bodies, record_of, front_of, title_of}
 use Rattle.tf_journal.specs.Held.{Held}
-use Rattle.tf_journal.specs.Rest.{LiesAs}
+use Rattle.tf_journal.specs.Reading.{IsNext, IsNoRefusal, HasBodies, OnlyReads}
 use Rattle.tf_journal.specs.declared.faults.LoadFault.{LoadFault}
 use Rattle.tf_journal.specs.declared.faults.LoadFault.TheVariants as load_fault
 use Rattle.tf_journal.specs.declared.title.Title.{Title}
 use Rattle.tf_journal.specs.declared.title.Title.TheVariants.{Jobs as jobs_title}
-use Rattle.tf_journal.proofs.CrashLemmas.{rests_none, rests_on, goes_bytes}
-use Rattle.tf_journal.proofs.PlaceLemmas.{first_place, found_next, found_end}
 use Rattle.tf_journal.proofs.ReachLemmas.{flat_map-push, length-record_of}
+use Rattle.tf_journal.proofs.ReadingLemmas.{bodies_stay}
 use Rattle.tf_values.specs.declared.faults.MakeFault.{MakeFault}
 use Rattle.tf_values.specs.declared.faults.MakeFault.TheVariants as make_fault
 use Rattle.tf_board.specs.Board.{bodies_of, size_of, IsNoCommand, IsRefusedAt, RefusesBodies, RefusesBoard, bad_body}
 use Rattle.tf_board.specs.Commands.{command_bytes}
 use Rattle.tf_board.specs.Kept.{past_in, IsTrueTo}
-use Rattle.tf_board.specs.Reading.{IsNext, IsNoRefusal, HasReadCommand, HasBodies, OnlyReads, HasRead, HasReadAll}
+use Rattle.tf_board.specs.Reading.{HasReadCommand, HasRead, HasReadAll}
 use Rattle.tf_board.specs.declared.commands.Command.{Command}
 use Rattle.tf_board.specs.declared.kept.Kept.{Kept}
-
--- ---- what is found
-
--- what is found behind bodies of a file in which others lie after them
-abbrev pub NextBy : Found → List (List ℕ) → Type 0
-NextBy closed rest = rest ≡ []
-NextBy (body found next) rest = (others : List (List ℕ)) × (rest ≡ found ∷ others)
-NextBy (bad offset byte) rest = ⊥
-
-pub next_by : (title : List ℕ) (before rest : List (List ℕ)) (size : ℕ) (bytes : List ℕ) (place : ℕ) (found : Found) → LiesAs title (before ++ rest) size bytes
-    → place ≡ length (front_of title before) → record_at bytes place ≡ found → NextBy found rest
-next_by title before [] size bytes place found lies at is =
-    let here : found ≡ closed = sym is ∙ ap (record_at bytes) at ∙ found_end title before size bytes (subst (λ (h : List (List ℕ)). LiesAs title h size bytes) (append-nil before) lies) in
-    subst (λ (f : Found). NextBy f []) (sym here) refl
-next_by title before (first ∷ others) size bytes place found lies at is =
-    let here : found ≡ body first (length (front_of title (before ++ first ∷ []))) = sym is ∙ ap (record_at bytes) at ∙ found_next title before others first size bytes lies in
-    subst (λ (f : Found). NextBy f (first ∷ others)) (sym here) (others, refl)
-
--- ---- places
 
 -- the next gate of a journal with these bodies stands before its size
 pub front_long : (past : List Command) → length (front_of (title_of jobs_title) (bodies_of past)) + 1 ≡ size_of past
@@ -79,48 +59,6 @@ module _ {K : Type 0} (tells : K → Bool) (shown : K → Option (List ℕ)) (co
   abbrev ReadAll : Held K → Kept → Type 0
   ReadAll j kept = HasReadAll tells shown content left crashes disk_faults out_faults asks turns j kept
 
-  pub reads_none : (j : Held K) → Reads j j
-  reads_none j = record {
-    journal = refl;
-    stays = λ told held rest. rest;
-    rests = λ told. rests_none (content j.desk) (left j.desk) (crashes j.desk);
-    no_fall = omega arith;
-    others = (refl, refl, refl);
-    quiet = (refl, refl);
-  }
-
-  pub reads_on : (a b c : Held K) → Reads a b → Reads b c → Reads a c
-  reads_on a b c one two =
-      let told_on : IsTrue (tells a.desk) → IsTrue (tells b.desk) = λ told. subst (λ (t : Bool). IsTrue t) (sym one.quiet.0) told in
-      record {
-        journal = two.journal ∙ ap (λ (h : Held K). record h { desk = c.desk }) one.journal;
-        stays = λ told held rest. two.stays (told_on told) held (one.stays told held rest);
-        rests = λ told. rests_on (content a.desk) (content b.desk) (content c.desk) (left a.desk) (left b.desk) (left c.desk) (crashes a.desk) (crashes b.desk) (crashes c.desk) (one.rests told) (two.rests (told_on told));
-        no_fall = omega (arith, one.no_fall, two.no_fall);
-        others = (two.others.0 ∙ one.others.0, two.others.1 ∙ one.others.1, two.others.2 ∙ one.others.2);
-        quiet = (two.quiet.0 ∙ one.quiet.0, two.quiet.1 ∙ one.quiet.1);
-      }
-
-  -- the bodies in the file stay
-  pub same_file : (a b : Held K) → Reads a b → IsTrue (tells a.desk) → bytes_of (content b.desk) ≡ bytes_of (content a.desk)
-  same_file a b reads told = goes_bytes (content a.desk) (content b.desk) (reads.rests told).content
-
-  pub bodies_stay : (a b : Held K) → Reads a b → IsTrue (tells a.desk) → (held : List (List ℕ)) → HasBodies content a held → HasBodies content b held
-  bodies_stay a b reads told held lies =
-      subst (λ (j : Held K). LiesAs (title_of j.title) held j.size (bytes_of (content b.desk))) (sym reads.journal)
-      (subst (λ (bytes : List ℕ). LiesAs (title_of a.title) held a.size bytes) (sym (same_file a b reads told)) lies)
-
-  pub bodies_were : (a b : Held K) → Reads a b → IsTrue (tells a.desk) → (held : List (List ℕ)) → HasBodies content b held → HasBodies content a held
-  bodies_were a b reads told held lies =
-      subst (λ (bytes : List ℕ). LiesAs (title_of a.title) held a.size bytes) (same_file a b reads told)
-      (subst (λ (j : Held K). LiesAs (title_of j.title) held j.size (bytes_of (content b.desk))) reads.journal lies)
-
-  told_was : (a b : Held K) → Reads a b → IsTrue (tells b.desk) → IsTrue (tells a.desk)
-  told_was a b reads told = subst (λ (t : Bool). IsTrue t) reads.quiet.0 told
-
-  told_is : (a b : Held K) → Reads a b → IsTrue (tells a.desk) → IsTrue (tells b.desk)
-  told_is a b reads told = subst (λ (t : Bool). IsTrue t) (sym reads.quiet.0) told
-
   -- no command was read yet
   pub read_none : (j : Held K) (kept : Kept) → IsTrueTo kept [] → Read j kept 17
   read_none j kept none = record {
@@ -143,7 +81,7 @@ module _ {K : Type 0} (tells : K → Bool) (shown : K → Option (List ℕ)) (co
         front.0,
         front.1,
         found (bodies_of past) front.0 (subst (λ (t : Bool). IsTrue t) (sym reads.quiet.0) told)
-            (subst (λ (h : List (List ℕ)). HasBodies content b h) front.1 (bodies_stay a b reads told held lies))
+            (subst (λ (h : List (List ℕ)). HasBodies content b h) front.1 (bodies_stay tells shown content left crashes disk_faults out_faults asks turns a b reads told held lies))
             (at ∙ ap (λ (t : Title). length (front_of (title_of t) (bodies_of past))) (sym title)),
       )
 

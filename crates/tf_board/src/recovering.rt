@@ -1,21 +1,18 @@
 //! How a board's commands are read back from its journal.
-ghost use Rattle.std.specs.Prelude.{◌≡◌, ◌≢◌, ◌<◌, ◌≤◌, ◌+◌, ◌++◌, ◌∷◌, [], ℕ, List, None, true, false, IsTrue, length, OnOk, IfOk, IfErr, IsErrOf, slice_get};
+ghost use Rattle.std.specs.Prelude.{◌≡◌, ◌<◌, ◌+◌, [], ℕ, List, None, false, IsTrue, OnOk, IfOk, IfErr, IsErrOf, slice_get};
 ghost use Rattle.tf_desk.specs.Counts.{Rises};
-ghost use Rattle.tf_journal.specs.Format.{front_of, title_of};
+ghost use Rattle.tf_journal.specs.Reading.{HasBodies, OnlyReads};
 ghost use Rattle.tf_journal.specs.declared.title.Title.TheVariants.{Jobs as jobs_title};
 ghost use Rattle.tf_board.specs.Board.{IsNoCommand, RefusesBodies};
 ghost use Rattle.tf_board.specs.Kept.{past_in, IsTrueTo};
-ghost use Rattle.tf_board.specs.Reading.{IsNext, IsNoRefusal, HasReadCommand, HasBodies, OnlyReads, HasReadAll};
+ghost use Rattle.tf_board.specs.Reading.{HasReadCommand, HasReadAll};
 
 use crate::bodies::decode_command;
 use crate::kept::Kept;
 use std::alloc::Global;
 use tf_desk::Desk;
-use tf_journal::{Journal, JournalFault, LoadFault};
+use tf_journal::{Journal, LoadFault, next_body};
 use tf_values::MakeFault;
-
-/// The greatest size of a journal.
-const SIZE_LIMIT: u64 = 67_108_864;
 
 /// The place of the first gate.
 const FIRST_PLACE: u64 = 17;
@@ -36,45 +33,6 @@ fn read_command(alloc: Global, body: &[u8], kept: &mut Kept) -> Result<(), MakeF
         }
         Ok(None) => Err(MakeFault::No),
         Err(_) => Err(MakeFault::Memory),
-    }
-}
-
-/// Reads the body whose gate is at that place, and answers whether there is one. A place past the greatest size
-/// has none of a file that a journal was read from.
-fn next_body<K: Desk>(
-    journal: &mut Journal<K>,
-    place: u64,
-    body: &mut Vec<u8>,
-) -> Result<bool, LoadFault>
-    requires low { 17 ≤ place }
-    requires in_file { journal.old.volatile ≡ false }
-    ensures found { (before rest : List (List ℕ)) → IsTrue (K.tells journal.old.desk)
-        → HasBodies K.content journal.old (before ++ rest)
-        → place ≡ length (front_of (title_of journal.old.title) before)
-        → IfOk result (λ found. IsNext found rest body.new.items) }
-    ensures whole { (before rest : List (List ℕ)) → IsTrue (K.tells journal.old.desk)
-        → HasBodies K.content journal.old (before ++ rest)
-        → place ≡ length (front_of (title_of journal.old.title) before)
-        → IfErr result IsNoRefusal }
-    ensures within { OnOk result (place < 67108864) }
-    ensures cause { IsErrOf result LoadFault.Disk
-        → Rises (K.disk_faults journal.old.desk) (K.disk_faults journal.new.desk) }
-    ensures reads { OnlyReads K.tells K.shown K.content K.left K.crashes K.disk_faults K.out_faults K.asks K.turns
-        journal.old journal.new }
-{
-    if place >= SIZE_LIMIT {
-        return Err(LoadFault::NotABook {
-            offset: place,
-            byte: None,
-        });
-    }
-    match journal.body_at(place, body) {
-        Ok(Some(_)) => Ok(true),
-        Ok(None) => Ok(false),
-        Err(JournalFault::Disk) => Err(LoadFault::Disk),
-        Err(JournalFault::Memory) => Err(LoadFault::Memory),
-        Err(JournalFault::NotABook { offset, byte }) => Err(LoadFault::NotABook { offset, byte }),
-        Err(JournalFault::Unborn) => unreachable!(),
     }
 }
 

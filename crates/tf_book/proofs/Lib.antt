@@ -6,7 +6,7 @@ pub mod TurnLemmas
 pub mod ForceLemmas
 pub mod StartLemmas
 pub mod ClosingLemmas
-pub mod NextLemmas
+pub mod PlanLemmas
 pub mod ReadingLemmas
 pub mod AmongLemmas
 pub mod ShowLemmas

@@ -2,7 +2,7 @@
 use Rattle.std.proofs.Common.{◌≡◌, ◌≢◌, ◌≤◌, ◌<◌, ℕ, ◌+◌, Bool, true, List, [], ◌∷◌, ◌++◌, length, Option, refl, sym, ◌∙◌, ap, subst, arith, append-nil, append_assoc, length-append}
 use Rattle.std.specs.Prelude.{IsTrue, Result, Ok, Err, IfErr, slice_get}
 use Rattle.std.specs.List.{flat_map}
-use Rattle.tf_desk.specs.Content.{Content, bytes_of}
+use Rattle.tf_desk.specs.Content.{Content}
 use Rattle.tf_desk.specs.Crash.{Images, Crashes}
 use Rattle.tf_flow.specs.Plan.{PlanValue}
 use Rattle.tf_states.specs.declared.record.Entry.{Entry}
@@ -10,14 +10,14 @@ use Rattle.tf_entries.specs.Entries.{entry_bytes}
 use Rattle.tf_entries.specs.Plans.{plan_bytes}
 use Rattle.tf_journal.specs.Format.{SIZE_LIMIT, OPEN, Recovered, bodies, record_of, front_of, title_of, length_bytes}
 use Rattle.tf_journal.specs.Held.{Held}
-use Rattle.tf_journal.specs.Rest.{LiesAs}
+use Rattle.tf_journal.specs.Reading.{IsNext, IsNoRefusal, HasBodies, OnlyReads}
 use Rattle.tf_journal.specs.declared.faults.LoadFault.{LoadFault}
 use Rattle.tf_journal.specs.declared.faults.LoadFault.TheVariants as load_fault
 use Rattle.tf_journal.specs.declared.title.Title.{Title}
 use Rattle.tf_journal.specs.declared.title.Title.TheVariants.{Book as book_title}
-use Rattle.tf_journal.proofs.CrashLemmas.{rests_none, rests_on, goes_bytes}
 use Rattle.tf_journal.proofs.PlaceLemmas.{first_place}
 use Rattle.tf_journal.proofs.ReachLemmas.{flat_map-push, length-record_of, records_long}
+use Rattle.tf_journal.proofs.ReadingLemmas.{bodies_stay, bodies_were, told_was, told_is}
 use Rattle.tf_values.specs.declared.faults.MakeFault.{MakeFault}
 use Rattle.tf_values.specs.declared.faults.MakeFault.TheVariants as make_fault
 use Rattle.tf_machine.specs.Machine.{MachineValue, StandsFor}
@@ -28,7 +28,7 @@ use Rattle.tf_book.specs.Book.{bodies_of, size_of}
 use Rattle.tf_book.specs.Forms.{AreForms}
 use Rattle.tf_book.specs.History.{past_of, framed}
 use Rattle.tf_book.specs.Loading.{CanRun, IsNoPlan, IsNoStep, first, later, IsRefusedAt, RefusesBodies, RefusesBook, bad_body}
-use Rattle.tf_book.specs.Reading.{IsNext, IsNoRefusal, HasReadEntry, IsReadBack, HasBodies, OnlyReads, HasRead, HasReadAll}
+use Rattle.tf_book.specs.Reading.{HasReadEntry, IsReadBack, HasRead, HasReadAll}
 use Rattle.tf_book.specs.declared.history.History.{History}
 
 -- the next gate of a journal with these bodies stands before its size
@@ -91,54 +91,12 @@ module _ {K : Type 0} (tells : K → Bool) (shown : K → Option (List ℕ)) (co
   abbrev ReadAll : Held K → MachineValue → History → Type 0
   ReadAll j machine history = HasReadAll tells shown content left crashes disk_faults out_faults asks turns j machine history
 
-  pub reads_none : (j : Held K) → Reads j j
-  reads_none j = record {
-    journal = refl;
-    stays = λ told held rest. rest;
-    rests = λ told. rests_none (content j.desk) (left j.desk) (crashes j.desk);
-    no_fall = omega arith;
-    others = (refl, refl, refl);
-    quiet = (refl, refl);
-  }
-
-  pub reads_on : (a b c : Held K) → Reads a b → Reads b c → Reads a c
-  reads_on a b c one two =
-      let told_on : IsTrue (tells a.desk) → IsTrue (tells b.desk) = λ told. subst (λ (t : Bool). IsTrue t) (sym one.quiet.0) told in
-      record {
-        journal = two.journal ∙ ap (λ (h : Held K). record h { desk = c.desk }) one.journal;
-        stays = λ told held rest. two.stays (told_on told) held (one.stays told held rest);
-        rests = λ told. rests_on (content a.desk) (content b.desk) (content c.desk) (left a.desk) (left b.desk) (left c.desk) (crashes a.desk) (crashes b.desk) (crashes c.desk) (one.rests told) (two.rests (told_on told));
-        no_fall = omega (arith, one.no_fall, two.no_fall);
-        others = (two.others.0 ∙ one.others.0, two.others.1 ∙ one.others.1, two.others.2 ∙ one.others.2);
-        quiet = (two.quiet.0 ∙ one.quiet.0, two.quiet.1 ∙ one.quiet.1);
-      }
-
-  -- the bodies in the file stay
-  pub same_file : (a b : Held K) → Reads a b → IsTrue (tells a.desk) → bytes_of (content b.desk) ≡ bytes_of (content a.desk)
-  same_file a b reads told = goes_bytes (content a.desk) (content b.desk) (reads.rests told).content
-
-  pub bodies_stay : (a b : Held K) → Reads a b → IsTrue (tells a.desk) → (held : List (List ℕ)) → HasBodies content a held → HasBodies content b held
-  bodies_stay a b reads told held lies =
-      subst (λ (j : Held K). LiesAs (title_of j.title) held j.size (bytes_of (content b.desk))) (sym reads.journal)
-      (subst (λ (bytes : List ℕ). LiesAs (title_of a.title) held a.size bytes) (sym (same_file a b reads told)) lies)
-
-  pub bodies_were : (a b : Held K) → Reads a b → IsTrue (tells a.desk) → (held : List (List ℕ)) → HasBodies content b held → HasBodies content a held
-  bodies_were a b reads told held lies =
-      subst (λ (bytes : List ℕ). LiesAs (title_of a.title) held a.size bytes) (same_file a b reads told)
-      (subst (λ (j : Held K). LiesAs (title_of j.title) held j.size (bytes_of (content b.desk))) reads.journal lies)
-
-  told_was : (a b : Held K) → Reads a b → IsTrue (tells b.desk) → IsTrue (tells a.desk)
-  told_was a b reads told = subst (λ (t : Bool). IsTrue t) reads.quiet.0 told
-
-  told_is : (a b : Held K) → Reads a b → IsTrue (tells a.desk) → IsTrue (tells b.desk)
-  told_is a b reads told = subst (λ (t : Bool). IsTrue t) (sym reads.quiet.0) told
-
   -- what was read stays read
   pub read_moved : (a b : Held K) (machine : MachineValue) (history : History) (place : ℕ) → Reads a b → Read a machine history place → Read b machine history place
   read_moved a b machine history place reads read = record {
     back = read.back;
     place_is = read.place_is;
-    front = λ told held lies. (let was = told_was a b reads told in read.front was held (bodies_were a b reads was held lies));
+    front = λ told held lies. (let was = told_was tells shown content left crashes disk_faults out_faults asks turns a b reads told in read.front was held (bodies_were tells shown content left crashes disk_faults out_faults asks turns a b reads was held lies));
   }
 
   pub all_moved : (a b : Held K) (machine : MachineValue) (history : History) → Reads a b → ReadAll b machine history → ReadAll a machine history
@@ -146,12 +104,12 @@ module _ {K : Type 0} (tells : K → Bool) (shown : K → Option (List ℕ)) (co
     back = read.back;
     size = sym (ap (λ (j : Held K). j.size) reads.journal) ∙ read.size;
     limit = subst (λ (n : ℕ). n ≤ SIZE_LIMIT) (ap (λ (j : Held K). j.size) reads.journal) read.limit;
-    whole = λ told held lies. read.whole (told_is a b reads told) held (bodies_stay a b reads told held lies);
+    whole = λ told held lies. read.whole (told_is tells shown content left crashes disk_faults out_faults asks turns a b reads told) held (bodies_stay tells shown content left crashes disk_faults out_faults asks turns a b reads told held lies);
   }
 
   pub refused_moved : (a b : Held K) (fault : LoadFault) → Reads a b → (IsTrue (tells b.desk) → (held : List (List ℕ)) → HasBodies content b held → RefusesBodies fault held)
       → IsTrue (tells a.desk) → (held : List (List ℕ)) → HasBodies content a held → RefusesBodies fault held
-  refused_moved a b fault reads refused told held lies = refused (told_is a b reads told) held (bodies_stay a b reads told held lies)
+  refused_moved a b fault reads refused told held lies = refused (told_is tells shown content left crashes disk_faults out_faults asks turns a b reads told) held (bodies_stay tells shown content left crashes disk_faults out_faults asks turns a b reads told held lies)
 
   -- what was found at the next gate comes behind the bodies so far
   pub found_next_body : (a b : Held K) (machine : MachineValue) (history : History) (place : ℕ) (Says : List (List ℕ) → Type 0) → Read a machine history place → Reads a b → a.title ≡ book_title
@@ -167,7 +125,7 @@ module _ {K : Type 0} (tells : K → Bool) (shown : K → Option (List ℕ)) (co
         front.0,
         front.1,
         found (bodies_of machine.plan past) front.0 (subst (λ (t : Bool). IsTrue t) (sym reads.quiet.0) told)
-            (subst (λ (h : List (List ℕ)). HasBodies content b h) front.1 (bodies_stay a b reads told held lies))
+            (subst (λ (h : List (List ℕ)). HasBodies content b h) front.1 (bodies_stay tells shown content left crashes disk_faults out_faults asks turns a b reads told held lies))
             (at ∙ ap (λ (t : Title). length (front_of (title_of t) (bodies_of machine.plan past))) (sym title)),
       )
 

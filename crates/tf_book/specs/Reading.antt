@@ -1,36 +1,19 @@
--- How bodies are read through a journal, one after another.
-use Rattle.std.specs.Prelude.{◌≡◌, ◌≤◌, ℕ, ◌+◌, Bool, true, false, IsTrue, List, [], ◌∷◌, ◌++◌, length, Option}
-use Rattle.tf_desk.specs.Content.{Content, bytes_of}
+-- How a plan and a history are read from a journal, body by body.
+use Rattle.std.specs.Prelude.{◌≡◌, ◌≤◌, ℕ, ◌+◌, Bool, IsTrue, List, ◌∷◌, ◌++◌, length, Option}
+use Rattle.tf_desk.specs.Content.{Content}
 use Rattle.tf_desk.specs.Crash.{Images, Crashes}
 use Rattle.tf_states.specs.declared.record.Entry.{Entry}
 use Rattle.tf_bound.specs.Short.{IsShortEntry, AreShort}
 use Rattle.tf_entries.specs.Entries.{entry_bytes}
-use Rattle.tf_journal.specs.Format.{SIZE_LIMIT, length_bytes, title_of}
+use Rattle.tf_journal.specs.Format.{SIZE_LIMIT, length_bytes}
 use Rattle.tf_journal.specs.Held.{Held}
-use Rattle.tf_journal.specs.Rest.{LiesAs, IsAtRest, Rests}
-use Rattle.tf_journal.specs.declared.faults.LoadFault.{LoadFault}
-use Rattle.tf_journal.specs.declared.faults.LoadFault.TheVariants as load_fault
+use Rattle.tf_journal.specs.Reading.{HasBodies}
 use Rattle.tf_machine.specs.Machine.{MachineValue, StandsFor}
 use Rattle.tf_book.specs.Book.{bodies_of, size_of}
 use Rattle.tf_book.specs.Forms.{AreForms}
 use Rattle.tf_book.specs.History.{past_of, framed}
 use Rattle.tf_book.specs.Loading.{CanRun, IsEntryOf}
 use Rattle.tf_book.specs.declared.history.History.{History}
-
--- what was found behind bodies: nothing is left, or the next body
-abbrev pub IsNext : Bool → List (List ℕ) → List ℕ → Type 0
-IsNext false rest found = rest ≡ []
-IsNext true rest found = (others : List (List ℕ)) × (rest ≡ found ∷ others)
-
--- these bodies lie in the journal's file
-abbrev pub HasBodies : {K : Type 0} → (K → Content) → Held K → List (List ℕ) → Type 0
-HasBodies content journal held = LiesAs (title_of journal.title) held journal.size (bytes_of (content journal.desk))
-
--- a fault that says nothing of the file
-abbrev pub IsNoRefusal : LoadFault → Type 0
-IsNoRefusal load_fault.Disk = Unit {0}
-IsNoRefusal load_fault.Memory = Unit {0}
-IsNoRefusal (load_fault.NotABook offset byte) = ⊥
 
 -- one entry more was read from these bytes: it follows the history for which the machine stood, and is kept behind it
 pub record HasReadEntry (before after : MachineValue) (old new : History) (bytes : List ℕ) : Type 0 where
@@ -53,16 +36,6 @@ pub record IsReadBack (machine : MachineValue) (history : History) : Type 0 wher
   pub forms : AreForms (past_of history.entries.items)
 
 module _ {K : Type 0} (tells : K → Bool) (shown : K → Option (List ℕ)) (content : K → Content) (left : K → Images) (crashes : K → Crashes) (disk_faults out_faults asks turns : K → ℕ) where
-  -- a journal through which bodies were read: no file changed, nothing was shown, and no count but that of disk faults rose
-  pub record OnlyReads (old new : Held K) : Type 0 where
-    pub journal : new ≡ record old { desk = new.desk }
-    pub stays : IsTrue (tells old.desk) → (held : List (List ℕ)) → IsAtRest content left old held → IsAtRest content left new held
-    pub rests : IsTrue (tells old.desk)
-        → Rests (content old.desk) (content new.desk) (left old.desk) (left new.desk) (crashes old.desk) (crashes new.desk)
-    pub no_fall : disk_faults old.desk ≤ disk_faults new.desk
-    pub others : (out_faults new.desk ≡ out_faults old.desk) × (asks new.desk ≡ asks old.desk) × (turns new.desk ≡ turns old.desk)
-    pub quiet : (tells new.desk ≡ tells old.desk) × (shown new.desk ≡ shown old.desk)
-
   -- so much was read of a journal: a plan and a history, whose bodies come first in it; the next gate stands at that place
   pub record HasRead (journal : Held K) (machine : MachineValue) (history : History) (place : ℕ) : Type 0 where
     pub back : IsReadBack machine history

@@ -1,29 +1,26 @@
 //! How a plan and a history are read back from a journal.
-ghost use Rattle.std.specs.Prelude.{◌≡◌, ◌≢◌, ◌<◌, ◌≤◌, ◌+◌, ◌++◌, ◌∷◌, [], ℕ, List, None, true, false, IsTrue, length, OnOk, IfOk, IfErr, IsErrOf, slice_get};
+ghost use Rattle.std.specs.Prelude.{◌≡◌, ◌≢◌, ◌<◌, ◌≤◌, ◌+◌, [], ℕ, List, None, true, false, IsTrue, OnOk, IfOk, IfErr, IsErrOf, slice_get};
 ghost use Rattle.tf_desk.specs.Counts.{Rises};
 ghost use Rattle.tf_states.specs.declared.record.Entry.{Entry as Record};
 ghost use Rattle.tf_entries.specs.Plans.{plan_bytes};
-ghost use Rattle.tf_journal.specs.Format.{front_of, title_of};
+ghost use Rattle.tf_journal.specs.Reading.{IsNext, HasBodies, OnlyReads};
 ghost use Rattle.tf_journal.specs.declared.title.Title.TheVariants.{Book as book_title};
 ghost use Rattle.tf_flow.specs.Plan.{PlanValue};
 ghost use Rattle.tf_machine.specs.Answers.{IsBuildRefusal, IsBack};
 ghost use Rattle.tf_machine.specs.Machine.{StandsFor};
 ghost use Rattle.tf_machine.specs.declared.faults.ApplyFault.TheVariants.{NotAStep as refuses};
 ghost use Rattle.tf_book.specs.History.{HasAllRoom};
-ghost use Rattle.tf_book.specs.Loading.{CanRun, IsAccepted, IsNoPlan, IsNoStep, RefusesBodies};
-ghost use Rattle.tf_book.specs.Reading.{IsNext, IsNoRefusal, HasReadEntry, HasBodies, OnlyReads, HasRead, HasReadAll};
+ghost use Rattle.tf_book.specs.Loading.{CanRun, IsNoPlan, IsNoStep, RefusesBodies};
+ghost use Rattle.tf_book.specs.Reading.{HasReadEntry, HasRead, HasReadAll};
 
 use crate::history::History;
 use std::alloc::Global;
 use tf_bound::event_is_short;
 use tf_desk::Desk;
 use tf_entries::{decode_entry, decode_plan, entry_has_one_form};
-use tf_journal::{Journal, JournalFault, LoadFault};
+use tf_journal::{Journal, LoadFault, next_body};
 use tf_machine::{ApplyFault, BuildFault, Machine};
 use tf_values::MakeFault;
-
-/// The greatest size of a journal.
-const SIZE_LIMIT: u64 = 67_108_864;
 
 /// The place of the first gate.
 const FIRST_PLACE: u64 = 17;
@@ -36,7 +33,7 @@ pub struct ReadBack {
 }
 
 /// Why a plan is refused of which no machine was made.
-#[tactic(auto, using(crate::proofs::NextLemmas::refused_plan))]
+#[tactic(auto, using(crate::proofs::PlanLemmas::refused_plan))]
 fn unfit(fault: &BuildFault) -> MakeFault
     ensures { result ≡ MakeFault.No → (plan : PlanValue) → IsBuildRefusal plan fault.now → ¬ (CanRun plan) }
 {
@@ -102,45 +99,6 @@ fn read_entry(
             drop(fault);
             Err(why)
         }
-    }
-}
-
-/// Reads the body whose gate is at that place, and answers whether there is one. A place past the greatest size
-/// has none of a file that a journal was read from.
-fn next_body<K: Desk>(
-    journal: &mut Journal<K>,
-    place: u64,
-    body: &mut Vec<u8>,
-) -> Result<bool, LoadFault>
-    requires low { 17 ≤ place }
-    requires kept { journal.old.volatile ≡ false }
-    ensures found { (before rest : List (List ℕ)) → IsTrue (K.tells journal.old.desk)
-        → HasBodies K.content journal.old (before ++ rest)
-        → place ≡ length (front_of (title_of journal.old.title) before)
-        → IfOk result (λ found. IsNext found rest body.new.items) }
-    ensures whole { (before rest : List (List ℕ)) → IsTrue (K.tells journal.old.desk)
-        → HasBodies K.content journal.old (before ++ rest)
-        → place ≡ length (front_of (title_of journal.old.title) before)
-        → IfErr result IsNoRefusal }
-    ensures within { OnOk result (place < 67108864) }
-    ensures cause { IsErrOf result LoadFault.Disk
-        → Rises (K.disk_faults journal.old.desk) (K.disk_faults journal.new.desk) }
-    ensures reads { OnlyReads K.tells K.shown K.content K.left K.crashes K.disk_faults K.out_faults K.asks K.turns
-        journal.old journal.new }
-{
-    if place >= SIZE_LIMIT {
-        return Err(LoadFault::NotABook {
-            offset: place,
-            byte: None,
-        });
-    }
-    match journal.body_at(place, body) {
-        Ok(Some(_)) => Ok(true),
-        Ok(None) => Ok(false),
-        Err(JournalFault::Disk) => Err(LoadFault::Disk),
-        Err(JournalFault::Memory) => Err(LoadFault::Memory),
-        Err(JournalFault::NotABook { offset, byte }) => Err(LoadFault::NotABook { offset, byte }),
-        Err(JournalFault::Unborn) => unreachable!(),
     }
 }
 
@@ -236,7 +194,7 @@ fn read_history<K: Desk>(
 }
 
 /// Reads the plan and the history of a journal that has records.
-#[tactic(auto, using(crate::proofs::ReadingLemmas::reads_on))]
+#[tactic(auto, using(tf_journal::proofs::ReadingLemmas::reads_on))]
 pub fn read_back<K: Desk>(alloc: Global, journal: &mut Journal<K>) -> Result<ReadBack, LoadFault>
     requires kept { journal.old.volatile ≡ false }
     requires title { journal.old.title ≡ book_title }

@@ -10,3 +10,4 @@ pub mod PlaceLemmas
 pub mod WayLemmas
 pub mod OpenLemmas
 pub mod UnbornLemmas
+pub mod ReadingLemmas

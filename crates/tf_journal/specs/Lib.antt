@@ -8,3 +8,4 @@ pub mod Header
 pub mod Birth
 pub mod Start
 pub mod Way
+pub mod Reading

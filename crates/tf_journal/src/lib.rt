@@ -2,6 +2,7 @@
 #![tactic(auto)]
 
 mod birth;
+mod bodies;
 mod faults;
 mod gates;
 mod header;
@@ -10,6 +11,7 @@ mod reading;
 mod scanning;
 mod title;
 
+pub use bodies::next_body;
 pub use faults::{AppendFault, JournalFault, LoadFault};
 pub use journal::Journal;
 pub use title::Title;

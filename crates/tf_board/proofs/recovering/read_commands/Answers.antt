@@ -2,10 +2,12 @@ use Rattle.std.proofs.Common.{rules, ◌≡◌, ◌∙◌, Bool, ℕ, List, ap, 
 use Rattle.std.specs.Prelude.{slice_get}
 use Rattle.std.proofs.lemmas.Result.{err_from_is_err_and}
 use Rattle.tf_journal.specs.Held.{Held}
+use Rattle.tf_journal.specs.Reading.{IsNext, IsNoRefusal}
+use Rattle.tf_journal.proofs.ReadingLemmas.{reads_none, reads_on}
 use Rattle.tf_board.specs.Board.{IsNoCommand}
 use Rattle.tf_board.specs.Kept.{past_in}
-use Rattle.tf_board.specs.Reading.{IsNext, IsNoRefusal, HasReadCommand}
-use Rattle.tf_board.proofs.ReadingLemmas.{found_next_body, refuses_nothing, refuses_so, reads_none, reads_on, read_none, read_on, read_refused, read_out, read_ends}
+use Rattle.tf_board.specs.Reading.{HasReadCommand}
+use Rattle.tf_board.proofs.ReadingLemmas.{found_next_body, refuses_nothing, refuses_so, read_none, read_on, read_refused, read_out, read_ends}
 use Rattle.tf_board.proofs.recovering.read_commands.Goals as goal
 
 pub reading-init : goal.reading-init

@@ -1,5 +1,6 @@
 use Rattle.std.proofs.Common.{◌≤◌, ◌-◌}
-use Rattle.tf_board.specs.Reading.{OnlyReads, HasRead}
+use Rattle.tf_journal.specs.Reading.{OnlyReads}
+use Rattle.tf_board.specs.Reading.{HasRead}
 use Rattle.tf_board.proofs.recovering.read_commands.Given as goal
 
 abbrev pub invariant-reading : goal.invariant-reading

@@ -1,5 +1,6 @@
 use Rattle.std.proofs.Common.{rules}
-use Rattle.tf_book.proofs.ReadingLemmas.{read_moved, read_plan_first, reads_on}
+use Rattle.tf_journal.proofs.ReadingLemmas.{reads_on}
+use Rattle.tf_book.proofs.ReadingLemmas.{read_moved, read_plan_first}
 use Rattle.tf_book.proofs.recovering.read_back.Goals as goal
 
 pub read_history-requires-clause-read : goal.read_history-requires-clause-read

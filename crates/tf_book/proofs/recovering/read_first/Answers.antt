@@ -1,8 +1,8 @@
 use Rattle.std.proofs.Common.{rules, ◌≡◌, Bool, true, ℕ, List, [], ap, subst, Err}
 use Rattle.std.specs.Prelude.{slice_get}
 use Rattle.std.proofs.lemmas.Result.{err_from_is_err_and}
+use Rattle.tf_journal.specs.Reading.{IsNext, IsNoRefusal}
 use Rattle.tf_book.specs.Loading.{IsNoPlan}
-use Rattle.tf_book.specs.Reading.{IsNext, IsNoRefusal}
 use Rattle.tf_book.proofs.ReadingLemmas.{found_first, found_some, refuses_nothing, refuses_so, refused_first}
 use Rattle.tf_book.proofs.recovering.read_first.Goals as goal
 

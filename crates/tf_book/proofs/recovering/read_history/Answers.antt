@@ -2,10 +2,12 @@ use Rattle.std.proofs.Common.{rules, ◌≡◌, ◌∙◌, Bool, ℕ, List, ap, 
 use Rattle.std.specs.Prelude.{slice_get}
 use Rattle.std.proofs.lemmas.Result.{err_from_is_err_and}
 use Rattle.tf_journal.specs.Held.{Held}
+use Rattle.tf_journal.specs.Reading.{IsNext, IsNoRefusal}
+use Rattle.tf_journal.proofs.ReadingLemmas.{reads_on}
 use Rattle.tf_book.specs.History.{past_of}
 use Rattle.tf_book.specs.Loading.{IsNoStep}
-use Rattle.tf_book.specs.Reading.{IsNext, IsNoRefusal, HasReadEntry}
-use Rattle.tf_book.proofs.ReadingLemmas.{found_next_body, refuses_nothing, refuses_so, reads_on, read_on, read_refused, read_out, read_ends}
+use Rattle.tf_book.specs.Reading.{HasReadEntry}
+use Rattle.tf_book.proofs.ReadingLemmas.{found_next_body, refuses_nothing, refuses_so, read_on, read_refused, read_out, read_ends}
 use Rattle.tf_book.proofs.recovering.read_history.Goals as goal
 
 pub returns-in_err-next_body-clause-refused : goal.returns-in_err-next_body-clause-refused

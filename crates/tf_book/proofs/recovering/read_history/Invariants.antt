@@ -1,6 +1,7 @@
 use Rattle.std.proofs.Common.{◌≤◌, ◌-◌}
+use Rattle.tf_journal.specs.Reading.{OnlyReads}
 use Rattle.tf_book.specs.History.{HasAllRoom}
-use Rattle.tf_book.specs.Reading.{OnlyReads, HasRead}
+use Rattle.tf_book.specs.Reading.{HasRead}
 use Rattle.tf_book.proofs.recovering.read_history.Given as goal
 
 abbrev pub invariant-reading : goal.invariant-reading

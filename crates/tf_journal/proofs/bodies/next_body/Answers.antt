@@ -1,5 +1,5 @@
-use Rattle.tf_board.proofs.ReadingLemmas.{next_by}
-use Rattle.tf_board.proofs.recovering.next_body.Goals as goal
+use Rattle.tf_journal.proofs.ReadingLemmas.{next_by}
+use Rattle.tf_journal.proofs.bodies.next_body.Goals as goal
 
 pub returns-in-Ok-Some-clause-found : goal.returns-in-Ok-Some-clause-found
 returns-in-Ok-Some-clause-found g c = λ before rest told lies at.
