@@ -42,6 +42,6 @@ breaks root store defer (plan_fault.BadAtom name) is = broken (plan_of root stor
 
 -- where a flow isn't refused, none is that is written alike
 pub unbroken : (root : Flow) (store : List Bind) (defer : Bool) → first_refusal root store ≡ None → (reason : PlanFault) → ¬ (IsBroken (plan_of root store defer) reason)
-unbroken root store defer accepted reason broken =
-    let both : None ≡ Some reason = sym accepted ∙ refused_alike root broken.root store (sym broken.is_written) ∙ broken.refused in
+unbroken root store defer accepted reason other =
+    let both : None ≡ Some reason = sym accepted ∙ refused_alike root other.root store (sym other.is_written) ∙ other.refused in
     cc
