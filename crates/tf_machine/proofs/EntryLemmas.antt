@@ -90,7 +90,7 @@ asked_none plan s answers room = record { room = room; at = λ flow r passes is.
 passes_next : (flow : ℕ) (turns : List Turn) (k : ℕ) (d : Turn) → k < length turns → passes_flow flow (take (k + 1) turns) ≡ true
     → (passes_flow flow (take k turns) ≡ true) ⊎ ((get_or turns k d).flow ≡ flow)
 passes_next flow turns k d within passes =
-    elim or_either (passes_flow flow (take k turns)) (leads_into flow (get_or turns k d)) (sym (list_any_more (leads_into flow) turns k d within) ∙ passes) [
+    elim (or_either (passes_flow flow (take k turns)) (leads_into flow (get_or turns k d)) (sym (list_any_more (leads_into flow) turns k d within) ∙ passes)) [
       | inl before ↦ inl before
       | inr here ↦ inr (eqb-true (get_or turns k d).flow flow here)
     ]

@@ -140,6 +140,7 @@ fn resolution_entry(
     requires { atom < count (outline_of compiled.now) }
     ensures { IfOk result (λ what. what ≡ rule.resolution_entry (outline_of compiled.now) (shown_by tables.now) atom) }
 {
+    compiled.atoms();
     let mut answers = [Kind::Revert; ATOMS];
     ask_around(alloc, compiled, tables, atom, &mut answers)?;
     let resolution = resolve(compiled.plan(), &answers, atom);
