@@ -82,7 +82,7 @@ pub fn append_state_forbids(plan: &Plan, state: FlowState, out: &mut Vec<u8>) ->
 }
 
 /// Appends what a check says of a plan.
-#[tactic(auto, unfolding(crate::specs::Messages::checked), using(tf_model::proofs::PlanLemmas::atoms_counted, crate::proofs::MessageLemmas::flows_counted))]
+#[tactic(auto, unfolding(crate::specs::Messages::checked), using(tf_model::proofs::PlanLemmas::atoms_counted, tf_report::proofs::LineLemmas::flows_counted))]
 pub fn append_checked(plan: &Plan, out: &mut Vec<u8>) -> Result<(), Memory>
     ensures { OnOk result (out.new.items ≡ out.old.items ++ checked (outline_of plan.now)) }
 {
