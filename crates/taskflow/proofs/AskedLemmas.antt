@@ -1,20 +1,16 @@
 -- A run that may be suspended for one reason may be so for a wider one.
-use Rattle.std.proofs.Common.{◌≡◌, ◌⊎◌, ℕ, List, [], ◌∷◌, Option, Some, true, inl, inr, ⊎_elim}
-use Rattle.tf_desk.specs.Content.{Content}
-use Rattle.tf_desk.specs.Crash.{Images, Crashes}
-use Rattle.std.specs.Prelude.{Bool}
-use Rattle.tf_flow.specs.Written.{PlanTree}
+use Rattle.std.proofs.Common.{◌⊎◌, ℕ, List, [], ◌∷◌, Option, inl, inr, ⊎_elim}
+use Rattle.tf_desk.specs.State.{DeskState}
 use Rattle.tf_flow.specs.Plan.{PlanValue}
 use Rattle.tf_ports.specs.declared.crews.Want.{Want}
-use Rattle.tf_ports.specs.declared.orders.Order.{Order}
-use Rattle.tf_ports.specs.declared.outcomes.Outcome.{Outcome}
+use Rattle.tf_actions.specs.declared.orders.Order.{Order}
+use Rattle.tf_actions.specs.declared.outcomes.Outcome.{Outcome}
 use Rattle.tf_states.specs.declared.record.Entry.{Entry}
 use Rattle.tf_states.specs.declared.state.FlowState.{FlowState}
-use Rattle.tf_book.specs.Stopping.{is_reached}
 use Rattle.tf_engines.specs.Runs.{AreDue, IsSuspended, IsSession}
-use Rattle.taskflow.specs.Books.{Promised, Runs, Resumes, unopened, forbidden, unhired_run, ran, unopened_again, empty, unhired_again, resumed}
+use Rattle.taskflow.specs.Books.{Promised, Resumes, unopened_again, empty, unhired_again, resumed}
 use Rattle.taskflow.specs.declared.running.Request.{Request}
-use Rattle.taskflow.specs.Run.{Ran, HasSteps}
+use Rattle.taskflow.specs.Run.{Ran}
 use Rattle.tf_model.specs.Plan.{Outline}
 
 due_more : (few more : Type 0) (limit : Option ℕ) → (few → more) → (entries : List Entry) → AreDue few limit entries → AreDue more limit entries
@@ -59,23 +55,22 @@ ran_more gives request few more plan before entries stop shown now closing statu
   end = r.end;
 }
 
-module _ {K : Type 0} (tells : K → Bool) (shown : K → Option (List ℕ)) (content : K → Content) (left : K → Images) (crashes : K → Crashes) (disk_faults : K → ℕ) where
-  pub promised_more : (gives : Order → Outcome → Type 0) (request : Request) (few more : Type 0) (name : List ℕ) (plan : PlanValue) (before : List Entry) (entry now : K) (status : ℕ) → (few → more)
-      → Promised tells shown content left crashes disk_faults gives request few name plan before entry now status
-      → Promised tells shown content left crashes disk_faults gives request more name plan before entry now status
-  promised_more gives request few more name plan before entry now status widens p = record {
-    entries = p.entries;
-    stop = p.stop;
-    closing = p.closing;
-    ran = ran_more gives request few more plan before p.entries p.stop (shown entry) (shown now) p.closing status widens p.ran;
-    lasts = p.lasts;
-  }
+pub promised_more : (gives : Order → Outcome → Type 0) (request : Request) (few more : Type 0) (name : List ℕ) (plan : PlanValue) (before : List Entry) (entry now : DeskState) (status : ℕ) → (few → more)
+    → Promised gives request few name plan before entry now status
+    → Promised gives request more name plan before entry now status
+promised_more gives request few more name plan before entry now status widens p = record {
+  entries = p.entries;
+  stop = p.stop;
+  closing = p.closing;
+  ran = ran_more gives request few more plan before p.entries p.stop entry.shown now.shown p.closing status widens p.ran;
+  lasts = p.lasts;
+}
 
-  pub resumes_more : (gives : Order → Outcome → Type 0) (request : Request) (few more : Type 0) (name : List ℕ) (hired after_hiring : Option (List Want)) (entry now : K) (status : ℕ) → (few → more)
-      → Resumes tells shown content left crashes disk_faults gives request few name hired after_hiring entry now status
-      → Resumes tells shown content left crashes disk_faults gives request more name hired after_hiring entry now status
-  resumes_more gives request few more name hired after_hiring entry now status widens (unopened_again same is) = unopened_again same is
-  resumes_more gives request few more name hired after_hiring entry now status widens (empty same none r) = empty same none r
-  resumes_more gives request few more name hired after_hiring entry now status widens (unhired_again plan past held going is) = unhired_again plan past held going is
-  resumes_more gives request few more name hired after_hiring entry now status widens (resumed plan past can held hires p) =
-      resumed plan past can held hires (promised_more gives request few more name plan past entry now status widens p)
+pub resumes_more : (gives : Order → Outcome → Type 0) (request : Request) (few more : Type 0) (name : List ℕ) (hired after_hiring : Option (List Want)) (entry now : DeskState) (status : ℕ) → (few → more)
+    → Resumes gives request few name hired after_hiring entry now status
+    → Resumes gives request more name hired after_hiring entry now status
+resumes_more gives request few more name hired after_hiring entry now status widens (unopened_again same is) = unopened_again same is
+resumes_more gives request few more name hired after_hiring entry now status widens (empty same none r) = empty same none r
+resumes_more gives request few more name hired after_hiring entry now status widens (unhired_again plan past held going is) = unhired_again plan past held going is
+resumes_more gives request few more name hired after_hiring entry now status widens (resumed plan past can held hires p) =
+    resumed plan past can held hires (promised_more gives request few more name plan past entry now status widens p)

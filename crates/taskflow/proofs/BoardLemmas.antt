@@ -1,18 +1,17 @@
 -- What the status of a command on a board tells, and that it is obeyed.
-use Rattle.std.proofs.Common.{◌≡◌, ◌≢◌, ℕ, ◌≤◌, List, inl, inr, Option, Some, None, Bool, true, refl, sym, subst, arith}
+use Rattle.std.proofs.Common.{◌≡◌, ◌≢◌, ℕ, List, inl, inr, Option, Some, None, true, refl, sym, subst, arith}
 use Rattle.std.specs.Prelude.{is_some}
-use Rattle.tf_desk.specs.Content.{Content}
-use Rattle.tf_desk.specs.Crash.{Images, Crashes}
+use Rattle.tf_desk.specs.State.{DeskState}
 use Rattle.tf_ports.specs.Contents.{Contents}
 use Rattle.tf_ports.specs.declared.crews.Want.{Want}
-use Rattle.tf_ports.specs.declared.orders.Order.{Order}
-use Rattle.tf_ports.specs.declared.outcomes.Outcome.{Outcome}
+use Rattle.tf_actions.specs.declared.orders.Order.{Order}
+use Rattle.tf_actions.specs.declared.outcomes.Outcome.{Outcome}
 use Rattle.tf_words.specs.declared.asked.Asked.{Asked}
 use Rattle.tf_words.specs.declared.asked.Asked.TheVariants as asked
 use Rattle.tf_board.specs.Answers.{board_of, answer_of}
 use Rattle.tf_board.specs.Does.{Does, IsBoardStatus, is_done, is_failed, is_no_board, is_unsaid, is_out, is_full, is_refused}
 use Rattle.tf_board.specs.Does as board
-use Rattle.taskflow.specs.Causes.{HasCauses, HasCausesOr, counts}
+use Rattle.taskflow.specs.Causes.{HasEachCause, HasCausesOr, counts_of}
 use Rattle.taskflow.specs.Asking.{asked_for, want_of}
 use Rattle.taskflow.specs.Course.{Obeys, HiresAsWanted, IsBoardRefused}
 
@@ -27,11 +26,11 @@ board_apart status (is_full a) = (λ is. omega (arith, a, is), λ is. omega (ari
 board_apart status (is_refused a) = (λ is. omega (arith, a, is), λ is. omega (arith, a, is), λ is. omega (arith, a, is), λ is. omega (arith, a, is))
 
 -- the causes of a command on a board
-pub board_causes : (d0 d1 o0 o1 status : ℕ) → board.HasCauses d0 d1 o0 o1 status → IsBoardStatus status → HasCauses status (counts d0 o0 0 0) (counts d1 o1 0 0)
-board_causes d0 d1 o0 o1 status causes ended =
+pub board_causes : {old now : DeskState} {status : ℕ} → board.HasCauses old now status → IsBoardStatus status → HasEachCause status (counts_of old 0 0) (counts_of now 0 0)
+board_causes {old} {now} {status} causes ended =
     let apart = board_apart status ended in
     record {
-      none_falls = record { disk = causes.disk; out = causes.out; sources = omega arith; crew = omega arith };
+      none_falls = record { disk = causes.extends.disk_faults; out = causes.extends.out_faults; sources = omega arith; crew = omega arith };
       unread = λ is. absurd (apart.1 is);
       failed = causes.failed;
       unsaid = causes.unsaid;
@@ -39,9 +38,9 @@ board_causes d0 d1 o0 o1 status causes ended =
     }
 
 -- the same among the causes of all commands, where neither the sources nor the crew were used
-pub board_among : (unlistened : Type 0) (d0 d1 o0 o1 sources crew status : ℕ) → HasCauses status (counts d0 o0 0 0) (counts d1 o1 0 0)
-    → HasCausesOr unlistened status (counts d0 o0 sources crew) (counts d1 o1 sources crew)
-board_among unlistened d0 d1 o0 o1 sources crew status causes = record {
+pub board_among : (unlistened : Type 0) (old now : DeskState) (sources crew status : ℕ) → HasEachCause status (counts_of old 0 0) (counts_of now 0 0)
+    → HasCausesOr unlistened status (counts_of old sources crew) (counts_of now sources crew)
+board_among unlistened old now sources crew status causes = record {
   none_falls = record { disk = causes.none_falls.disk; out = causes.none_falls.out; sources = omega arith; crew = omega arith };
   unread = λ is. absurd (omega (arith, causes.unread is));
   failed = causes.failed;
@@ -77,21 +76,20 @@ board_named None is = absurd (cc)
 board_named (Some name) is = (name, refl)
 
 -- what closes with 15 was to close with it
-board_closes : (before after : Option (List ℕ)) (message : List ℕ) (wanted status : ℕ) → board.ClosesOrStops before message wanted after status → status ≡ 15 → wanted ≡ 15
-board_closes before after message wanted status (inl stopped) is = absurd (omega (arith, stopped.0, is))
-board_closes before after message wanted _ (inr (board.said same)) is = is
-board_closes before after message wanted _ (inr (board.cut front)) is = absurd (omega (arith, is))
+board_closes : (old now : DeskState) (message : List ℕ) (wanted status : ℕ) → board.ClosesOrStops old message wanted now status → status ≡ 15 → wanted ≡ 15
+board_closes old now message wanted status (inl stopped) is = absurd (omega (arith, stopped.0, is))
+board_closes old now message wanted _ (inr (board.said same)) is = is
+board_closes old now message wanted _ (inr (board.cut prefix)) is = absurd (omega (arith, is))
 
 -- status 15 is a refusal
-pub board_refuses : {K : Type 0} (tells : K → Bool) (shown : K → Option (List ℕ)) (content : K → Content) (left : K → Images) (crashes : K → Crashes)
-    (words : List (List ℕ)) (command : Asked) (name : List ℕ) (entry now : K) (status : ℕ) → asked_for words ≡ Some command → board_of command ≡ Some name
-    → Does tells shown content left crashes command name entry now status → status ≡ 15 → IsBoardRefused tells content words entry
-board_refuses tells shown content left crashes words command name entry now status asks about does is = by does
+pub board_refuses : (words : List (List ℕ)) (command : Asked) (name : List ℕ) (entry now : DeskState) (status : ℕ) → asked_for words ≡ Some command → board_of command ≡ Some name
+    → Does command name entry now status → status ≡ 15 → IsBoardRefused words entry
+board_refuses words command name entry now status asks about does is = by does
   where
-    by : Does tells shown content left crashes command name entry now status → IsBoardRefused tells content words entry
+    by : Does command name entry now status → IsBoardRefused words entry
     by (board.unopened_memory nine e) = absurd (omega (arith, nine, is))
-    by (board.unopened_disk e) = absurd (omega (arith, board_closes (shown entry) (shown now) _ 5 status e.closes is))
-    by (board.no_board offset byte isnt same e) = absurd (omega (arith, board_closes (shown entry) (shown now) _ 6 status e.closes is))
+    by (board.unopened_disk e) = absurd (omega (arith, board_closes entry now _ 5 status e.closes is))
+    by (board.no_board offset byte isnt same e) = absurd (omega (arith, board_closes entry now _ 6 status e.closes is))
     by (board.answered past legal has e) = record {
       command = command;
       name = name;
@@ -100,17 +98,17 @@ board_refuses tells shown content left crashes words command name entry now stat
       about = about;
       legal = legal;
       found = has;
-      refuses = board_closes (shown entry) (shown now) (answer_of command past).text (answer_of command past).status status e.closes is;
+      refuses = board_closes entry now (answer_of command past).text (answer_of command past).status status e.closes is;
     }
     by (board.unrecorded past legal has nine e) = absurd (omega (arith, nine, is))
-    by (board.disk_failed past legal has e) = absurd (omega (arith, board_closes (shown entry) (shown now) _ 5 status e.closes is))
-    by (board.filled past size need legal has full e) = absurd (omega (arith, board_closes (shown entry) (shown now) _ 13 status e.closes is))
+    by (board.disk_failed past legal has e) = absurd (omega (arith, board_closes entry now _ 5 status e.closes is))
+    by (board.filled past size need legal has full e) = absurd (omega (arith, board_closes entry now _ 13 status e.closes is))
 
-module _ {K : Type 0} (tells : K → Bool) (shown : K → Option (List ℕ)) (content : K → Content) (left : K → Images) (crashes : K → Crashes) (disk_faults : K → ℕ) where
+module _ {K : Type 0} (state : K → DeskState) where
   -- what is done on a board is obeyed
   pub obeys_board : (gives : Order → Outcome → Type 0) (stopped : Type 0) (command : Asked) (files : Contents) (hired after_hiring : Option (List Want)) (entry now : K) (status : ℕ)
-      → is_some (board_of command) ≡ true → ((name : List ℕ) → board_of command ≡ Some name → Does tells shown content left crashes command name entry now status) → after_hiring ≡ hired
-      → Obeys tells shown content left crashes disk_faults gives stopped command files hired after_hiring entry now status
+      → is_some (board_of command) ≡ true → ((name : List ℕ) → board_of command ≡ Some name → Does command name (state entry) (state now) status) → after_hiring ≡ hired
+      → Obeys state gives stopped command files hired after_hiring entry now status
   obeys_board gives stopped (asked.Post board name priority details) files hired after_hiring entry now status is does same = (does board refl, same)
   obeys_board gives stopped (asked.Claim board id owner) files hired after_hiring entry now status is does same = (does board refl, same)
   obeys_board gives stopped (asked.Abandon board id owner) files hired after_hiring entry now status is does same = (does board refl, same)

@@ -3,21 +3,20 @@ use Rattle.std.proofs.Common.{◌≡◌, ℕ, List, Option, Some, None, Bool, tr
 use Rattle.std.specs.Prelude.{Result, Ok, Err, IfErr, option_and_then, if◌then◌else◌}
 use Rattle.tf_flow.specs.Written.{PlanTree, plan_tree}
 use Rattle.tf_ports.specs.Contents.{Contents, GivesBytes}
-use Rattle.tf_desk.specs.Content.{Content}
-use Rattle.tf_desk.specs.Crash.{Images, Crashes}
+use Rattle.tf_desk.specs.State.{DeskState}
 use Rattle.tf_ports.specs.declared.crews.Want.{Want}
-use Rattle.tf_ports.specs.declared.orders.Order.{Order}
-use Rattle.tf_ports.specs.declared.outcomes.Outcome.{Outcome}
+use Rattle.tf_actions.specs.declared.orders.Order.{Order}
+use Rattle.tf_actions.specs.declared.outcomes.Outcome.{Outcome}
 use Rattle.tf_machine.specs.Machine.{MachineValue}
 use Rattle.tf_words.specs.Demos.{IsDemo}
 use Rattle.tf_words.specs.declared.asked.Asked.{Asked}
 use Rattle.tf_words.specs.declared.asked.Asked.TheVariants as asked
 use Rattle.taskflow.specs.Asking.{is_done_here, if_done_here, IsWithin, want_of, wanted_by, asked_for}
-use Rattle.taskflow.specs.Accepted.{GivesNone, is_memory, IsReason}
+use Rattle.taskflow.specs.Accepted.{GivesNone, is_want_of_memory, IsReason}
 use Rattle.taskflow.specs.Course.{BytesRead, exhausted, refused, done, FileRead, unfinished, unread, too_long, read, Undone, Obeys, HiresAsWanted}
-use Rattle.taskflow.specs.Messages.{refusal, refusal_text}
+use Rattle.taskflow.specs.Messages.{refusal, reason_text}
 use Rattle.taskflow.specs.Opened.{Opened}
-use Rattle.taskflow.specs.Saying.{ClosesOrStops}
+use Rattle.taskflow.specs.Saying.{ClosesWithOrStops}
 use Rattle.taskflow.specs.declared.accepting.Refusal.{Refusal}
 use Rattle.taskflow.specs.declared.accepting.Refusal.TheVariants as reason
 use Rattle.taskflow.specs.declared.reading.Source.{Source}
@@ -27,13 +26,13 @@ use Rattle.taskflow.proofs.HandLemmas.{HasHands}
 -- ---- a file that is refused
 
 refused_by : (source : Source) (bytes : List ℕ) (untouched : Type 0) (why : Refusal) (before after : Option (List ℕ)) (status : ℕ) → untouched → GivesNone source.sets source.defer bytes why
-    → ClosesOrStops before (refusal (refusal_text why)) REFUSED after status → BytesRead source bytes untouched Undone before after status
+    → ClosesWithOrStops before (refusal (reason_text why)) REFUSED after status → BytesRead source bytes untouched Undone before after status
 refused_by source bytes untouched why before after status still none (inl out) = exhausted still out.0 out.1
 refused_by source bytes untouched why before after status still none (inr closes) = refused still why none closes
 
 -- bytes that give no plan, and what became of the message
 pub refused_bytes : (source : Source) (bytes : List ℕ) (untouched : Type 0) (why : Refusal) (before after : Option (List ℕ)) (status : ℕ) → untouched → IsReason source.sets source.defer bytes why
-    → (is_memory why ≡ true → (status ≡ OUT_OF_MEMORY) × (after ≡ before)) → (is_memory why ≡ false → ClosesOrStops before (refusal (refusal_text why)) REFUSED after status)
+    → (is_want_of_memory why ≡ true → (status ≡ OUT_OF_MEMORY) × (after ≡ before)) → (is_want_of_memory why ≡ false → ClosesWithOrStops before (refusal (reason_text why)) REFUSED after status)
     → BytesRead source bytes untouched Undone before after status
 refused_bytes source bytes untouched reason.Memory before after status still none out closes = exhausted still (out refl).0 (out refl).1
 refused_bytes source bytes untouched (reason.File fault) before after status still none out closes = refused_by source bytes untouched (reason.File fault) before after status still none (closes refl)
@@ -85,13 +84,13 @@ done_file files source quiet m does before after status opened did = read opened
 
 -- ---- what the words ask for
 
-module _ {K : Type 0} (tells : K → Bool) (shown : K → Option (List ℕ)) (content : K → Content) (left : K → Images) (crashes : K → Crashes) (disk_faults : K → ℕ) where
+module _ {K : Type 0} (state : K → DeskState) where
   -- what becomes of a command that is another's
   pub obeys_so : (gives : Order → Outcome → Type 0) (stopped : Type 0) (command other : Asked) (files : Contents) (hired after_hiring : Option (List Want)) (entry now : K) (status : ℕ) → command ≡ other
-      → Obeys tells shown content left crashes disk_faults gives stopped other files hired after_hiring entry now status
-      → Obeys tells shown content left crashes disk_faults gives stopped command files hired after_hiring entry now status
+      → Obeys state gives stopped other files hired after_hiring entry now status
+      → Obeys state gives stopped command files hired after_hiring entry now status
   obeys_so gives stopped command other files hired after_hiring entry now status is obeys =
-      subst (λ (asks : Asked). Obeys tells shown content left crashes disk_faults gives stopped asks files hired after_hiring entry now status) (sym is) obeys
+      subst (λ (asks : Asked). Obeys state gives stopped asks files hired after_hiring entry now status) (sym is) obeys
 
 -- nobody was hired
 pub hires_nobody : (hands : Option Want) (hired : Option (List Want)) → HiresAsWanted hands hired hired

@@ -12,7 +12,8 @@ use Rattle.tf_model.proofs.OutlineLemmas.{same_flows}
 use Rattle.tf_model.proofs.PlanLemmas.{atoms_counted}
 use Rattle.tf_report.specs.Lines.{flow_name, flow_word}
 use Rattle.tf_states.specs.declared.state.FlowState.{FlowState}
-use Rattle.taskflow.specs.Messages.{tasks_below, checked, byte_or_end, not_a_book, book_full, state_forbids}
+use Rattle.tf_board.specs.Answers.{byte_or_end}
+use Rattle.taskflow.specs.Messages.{tasks_below, checked, not_a_book, book_full, state_forbids}
 use Rattle.tf_report.proofs.LineLemmas.{flows_counted}
 
 -- ---- flows

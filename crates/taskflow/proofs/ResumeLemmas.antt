@@ -1,22 +1,21 @@
 -- A run that goes on from the history which a book holds.
-use Rattle.std.proofs.Common.{◌≡◌, ◌⊎◌, ℕ, List, [], Bool, true, false, Option, Some, None, refl, sym, ap, subst, inl, inr}
-use Rattle.std.specs.Prelude.{IsTrue}
-use Rattle.tf_desk.specs.Content.{Content, bytes_of}
-use Rattle.tf_desk.specs.Crash.{Images, Crashes}
+use Rattle.std.proofs.Common.{◌≡◌, ◌⊎◌, ℕ, List, [], true, false, Option, Some, None, refl, sym, ap, subst, inl, inr}
+use Rattle.tf_desk.specs.State.{DeskState}
 use Rattle.tf_ports.specs.declared.crews.Want.{Want}
-use Rattle.tf_ports.specs.declared.orders.Order.{Order}
-use Rattle.tf_ports.specs.declared.outcomes.Outcome.{Outcome}
+use Rattle.tf_actions.specs.declared.orders.Order.{Order}
+use Rattle.tf_actions.specs.declared.outcomes.Outcome.{Outcome}
 use Rattle.tf_states.specs.declared.state.FlowState.{FlowState}
 use Rattle.tf_states.specs.declared.state.FlowState.TheVariants as flow
 use Rattle.tf_model.specs.Compilation.{compile_refusal}
 use Rattle.tf_model.specs.Sessions.{already_ended, has_ended}
 use Rattle.tf_model.specs.Steps.{LegalPast}
 use Rattle.tf_bound.specs.Short.{AreShort, IsWithinLimits}
-use Rattle.tf_book.specs.Book.{BookValue, outline, state}
+use Rattle.tf_book.specs.Book.{BookValue, outline, flow_state}
 use Rattle.tf_book.proofs.KeptLemmas.{keeps_none}
 use Rattle.taskflow.specs.declared.running.Request.{Request}
-use Rattle.taskflow.specs.Runs.{HoldsBook, IsRunTo, RunsOn, Continues, went_on}
-use Rattle.tf_journal.specs.Way.{Open}
+use Rattle.taskflow.specs.Runs.{HoldsBook, book_desk, IsRunTo, RunsOn, GoesFurther, went_on}
+use Rattle.tf_journal.specs.Path.{Open}
+use Rattle.taskflow.proofs.PathLemmas.{ReadsPicked}
 use Rattle.taskflow.proofs.PromiseLemmas.{resumed_promised}
 
 -- a flow that has ended, in one of the three ways
@@ -36,14 +35,14 @@ ended_apart flow.Reverted ended is = cc
 ended_apart flow.Suspending ended is = cc
 ended_apart flow.Resuming ended is = cc
 
-module _ {K : Type 0} (tells : K → Bool) (shown : K → Option (List ℕ)) (content : K → Content) (left : K → Images) (crashes : K → Crashes) (disk_faults out_faults : K → ℕ) where
+module _ {K : Type 0} (state : K → DeskState) where
   -- the run of a book whose flow had ended: nothing was recorded
-  pub ended_run : (gives : Order → Outcome → Type 0) (request : Request) (asked : Type 0) (book : BookValue K) → book.halt ≡ None → book.quiet ≡ request.quiet → has_ended (state book) ≡ true → LegalPast (outline book) book.past
+  pub ended_run : (gives : Order → Outcome → Type 0) (request : Request) (asked : Type 0) (book : BookValue K) → book.halt ≡ None → book.quiet ≡ request.quiet → has_ended (flow_state book) ≡ true → LegalPast (outline book) book.past
       → compile_refusal book.plan ≡ None → IsWithinLimits (outline book) → AreShort book.past
-      → IsRunTo tells shown content left crashes disk_faults out_faults gives request asked book book (Some (state book))
+      → IsRunTo state gives request asked book book (Some (flow_state book))
   ended_run gives request asked book sound speaks ended legal compiles limits short = record {
-    kept = keeps_none tells shown content left crashes disk_faults out_faults book sound;
-    session = record { entries = []; recorded = refl; session = already_ended ended legal; given = tt; hands = refl; due = tt; within = tt; suspended = λ is. absurd (ended_apart (state book) ended is) };
+    kept = keeps_none state book sound;
+    session = record { entries = []; recorded = refl; session = already_ended ended legal; given = tt; hands = refl; due = tt; within = tt; suspended = λ is. absurd (ended_apart (flow_state book) ended is) };
     compiles = compiles;
     limits = limits;
     short_before = short;
@@ -52,25 +51,23 @@ module _ {K : Type 0} (tells : K → Bool) (shown : K → Option (List ℕ)) (co
   }
 
   -- such a run, said with its report
-  pub ended_on : (gives : Order → Outcome → Type 0) (request : Request) (asked : Type 0) (book : BookValue K) (now : K) (status : ℕ) (last : FlowState)
-      → book.halt ≡ None → book.quiet ≡ request.quiet → last ≡ state book → has_ended last ≡ true → LegalPast (outline book) book.past
+  pub ended_on : (gives : Order → Outcome → Type 0) (request : Request) (asked : Type 0) (book : BookValue K) (now : DeskState) (status : ℕ) (last : FlowState)
+      → book.halt ≡ None → book.quiet ≡ request.quiet → last ≡ flow_state book → has_ended last ≡ true → LegalPast (outline book) book.past
       → compile_refusal book.plan ≡ None → IsWithinLimits (outline book) → AreShort book.past
-      → (IsRunTo tells shown content left crashes disk_faults out_faults gives request asked book book (Some last)
-      → RunsOn tells shown content left crashes disk_faults out_faults gives request asked book now status)
-      → RunsOn tells shown content left crashes disk_faults out_faults gives request asked book now status
+      → (IsRunTo state gives request asked book book (Some last)
+      → RunsOn state gives request asked book now status)
+      → RunsOn state gives request asked book now status
   ended_on gives request asked book now status last sound speaks same ended legal compiles limits short runs =
-      runs (subst (λ (s : FlowState). IsRunTo tells shown content left crashes disk_faults out_faults gives request asked book book (Some s)) (sym same)
+      runs (subst (λ (s : FlowState). IsRunTo state gives request asked book book (Some s)) (sym same)
       (ended_run gives request asked book sound speaks (subst (λ (s : FlowState). has_ended s ≡ true) same ended) legal compiles limits short))
 
   -- a book whose flow had ended is reported, and no hand is hired
-  pub ended_goes : (gives : Order → Outcome → Type 0) (request : Request) (asked : Type 0) (name : List ℕ) (entry : K) (book : BookValue K) (now : K) (status : ℕ) (hired : Option (List Want)) (last : FlowState)
-      → Open tells shown content left crashes disk_faults out_faults name entry book.journal.desk → HoldsBook tells content name entry book
-      → book.journal.volatile ≡ false → last ≡ state book → has_ended last ≡ true
-      → RunsOn tells shown content left crashes disk_faults out_faults gives request asked book now status
-      → (IsTrue (tells now) → (content now).picked ≡ Some name → (content now).files name ≡ Some (bytes_of (content now)))
-      → (IsTrue (tells now) → (bytes : List ℕ) → (content now).files name ≡ Some bytes → left now name bytes)
+  pub ended_goes : (gives : Order → Outcome → Type 0) (request : Request) (asked : Type 0) (name : List ℕ) (entry : DeskState) (book : BookValue K) (now : DeskState) (status : ℕ) (hired : Option (List Want)) (last : FlowState)
+      → Open name entry (book_desk state book) → HoldsBook name entry book
+      → book.journal.volatile ≡ false → last ≡ flow_state book → has_ended last ≡ true
+      → RunsOn state gives request asked book now status → ReadsPicked name now
       → book.quiet ≡ request.quiet
-      → Continues tells shown content left crashes disk_faults out_faults gives request asked name entry book hired hired now status
-  ended_goes gives request asked name entry book now status hired last opened holds kept same ended runs there reads speaks =
+      → GoesFurther gives request asked name entry book hired hired now status
+  ended_goes gives request asked name entry book now status hired last opened holds kept same ended runs laws speaks =
       went_on (inl (subst (λ (s : FlowState). has_ended s ≡ true) same ended, refl))
-      (resumed_promised tells shown content left crashes disk_faults out_faults gives request asked name entry book now status opened kept holds runs there reads speaks)
+      (resumed_promised state gives request asked name entry book now status opened kept holds runs laws speaks)

@@ -1,17 +1,16 @@
 -- The lines of a worker's sessions.
 use Rattle.std.proofs.Common.{◌≡◌, ◌≢◌, ℕ, ◌+◌, ◌<◌, ◌≤◌, List, [], ◌∷◌, ◌++◌, length, take, Option, Some, None, inl, inr, refl, sym, ap, ◌∙◌, subst, arith, append_assoc, append-nil, length-append}
-use Rattle.std.specs.Prelude.{◌⊎◌, Bool, IsTrue}
+use Rattle.std.specs.Prelude.{◌⊎◌, IsTrue}
 use Rattle.std.specs.List.{AllByRecursion}
 use Rattle.std.proofs.Math.Seq.{take-append-add}
 use Rattle.tf_ports.specs.declared.crews.Want.{Want}
-use Rattle.tf_desk.specs.Content.{Content}
-use Rattle.tf_desk.specs.Counts.{Rises}
-use Rattle.tf_desk.specs.Shown.{shown_with, ShowsFront}
+use Rattle.tf_desk.specs.Shown.{shown_with, ShowsPrefix}
+use Rattle.tf_desk.specs.State.{DeskState, Says}
 use Rattle.tf_workers.specs.declared.serving.ServeEnd.{ServeEnd}
 use Rattle.tf_workers.specs.declared.serving.ServeEnd.TheVariants as end
 use Rattle.taskflow.specs.Messages.{cannot_hire, cannot_listen}
-use Rattle.taskflow.specs.Saying.{Closes, said, cut}
-use Rattle.taskflow.specs.Working.{session_line, session_lines, IsOver, SaysSessions, SaysNext, StopsNext, ServesAll, Works, OnlySays, HasStopCause, HasServeCause, exhausted_next, no_next_link, unsaid_next, all_served, exhausted, no_link, cut_short, unbegun, unhired, unopened, worked}
+use Rattle.taskflow.specs.Saying.{ClosesWith, said, cut, OnlySays}
+use Rattle.taskflow.specs.Working.{session_line, session_lines, IsOver, SaysSessions, SaysNext, StopsNext, ServesAll, Works, HasStopCause, HasServeCause, exhausted_next, no_next_link, unsaid_next, all_served, exhausted, no_link, cut_short, unbegun, unhired, unopened, worked}
 use Rattle.taskflow.specs.declared.statuses.TheConstants.{SUCCEEDED, UNHIRED, OUT_OF_MEMORY, UNSAID}
 
 -- ---- texts
@@ -23,10 +22,10 @@ shown_on (Some text) first second = ap Some (append_assoc text first second)
 shown_more : (before now after : Option (List ℕ)) (first second : List ℕ) → now ≡ shown_with before first → after ≡ shown_with now second → after ≡ shown_with before (first ++ second)
 shown_more before now after first second is more = more ∙ ap (λ (shown : Option (List ℕ)). shown_with shown second) is ∙ shown_on before first second
 
-front_more : (before now after : Option (List ℕ)) (first second : List ℕ) → now ≡ shown_with before first → ShowsFront now second after → ShowsFront before (first ++ second) after
-front_more before now after first second is more = record {
+prefix_more : (before now after : Option (List ℕ)) (first second : List ℕ) → now ≡ shown_with before first → ShowsPrefix now second after → ShowsPrefix before (first ++ second) after
+prefix_more before now after first second is more = record {
   count = length first + more.count;
-  front = shown_more before now after first (take more.count second) is more.front ∙ ap (shown_with before) (sym (take-append-add first second more.count));
+  prefix = shown_more before now after first (take more.count second) is more.prefix ∙ ap (shown_with before) (sym (take-append-add first second more.count));
 }
 
 shown_nothing : (shown : Option (List ℕ)) → shown ≡ shown_with shown []
@@ -71,37 +70,21 @@ pub serves_so_far : (before now after : Option (List ℕ)) (number sessions : �
 serves_so_far before now after number sessions ends status long few says (exhausted_next is same) =
     exhausted is ends (omega (arith, long)) (subst (λ (shown : Option (List ℕ)). SaysSessions before shown ends) (sym same) says)
 serves_so_far before now after number sessions ends status long few says (no_next_link closes) = no_link ends now (omega (arith, long)) says closes
-serves_so_far before now after number sessions ends status long few says (unsaid_next is how over front) =
+serves_so_far before now after number sessions ends status long few says (unsaid_next is how over prefix) =
     cut_short is (ends ++ how ∷ []) (omega (arith, long, length_more ends how)) (over_more ends how says.over over)
-    (subst (λ (lines : List ℕ). ShowsFront before lines after) (next_line before number ends how long) (front_more before now after (session_lines 1 ends) (session_line (number + 1) how) says.said front))
+    (subst (λ (lines : List ℕ). ShowsPrefix before lines after) (next_line before number ends how long) (prefix_more before now after (session_lines 1 ends) (session_line (number + 1) how) says.said prefix))
 
 -- ---- what a message leaves
 
-pub closes_one : (before after : Option (List ℕ)) (message : List ℕ) (wanted status : ℕ) → Closes before message wanted after status → (status ≡ wanted) ⊎ (status ≡ UNSAID)
+pub closes_one : (before after : Option (List ℕ)) (message : List ℕ) (wanted status : ℕ) → ClosesWith before message wanted after status → (status ≡ wanted) ⊎ (status ≡ UNSAID)
 closes_one before after message wanted status (said shown) = inl refl
-closes_one before after message wanted status (cut front) = inr refl
+closes_one before after message wanted status (cut prefix) = inr refl
 
--- a message of want of a hand or a link
-pub closed_cause : (before after : Option (List ℕ)) (message : List ℕ) (status out_then out_now door_then door_now : ℕ) → Closes before message UNHIRED after status → Rises door_then door_now
-    → (status ≡ UNSAID → UNHIRED ≢ UNSAID → Rises out_then out_now) → HasStopCause out_then out_now door_then door_now status
-closed_cause before after message status out_then out_now door_then door_now closes rose unsaid = record {
-  unlinked = λ is. rose;
-  unsaid = λ is. unsaid is (λ same. cc);
-  one = inr (closes_one before after message UNHIRED status closes);
-}
-
-pub stop_later : (out_then out_mid out_now door_then door_mid door_now status : ℕ) → out_then ≤ out_mid → door_then ≤ door_mid → HasStopCause out_mid out_now door_mid door_now status → HasServeCause out_then out_now door_then door_now status
-stop_later out_then out_mid out_now door_then door_mid door_now status out door cause = record {
+pub stop_later : {old mid now : DeskState} {door_then door_mid door_now status : ℕ} → OnlySays old mid → door_then ≤ door_mid → HasStopCause mid now door_mid door_now status → HasServeCause old now door_then door_now status
+stop_later says door cause = record {
   unlinked = λ is. let rose = cause.unlinked is in omega (arith, rose, door);
-  unsaid = λ is. let rose = cause.unsaid is in omega (arith, rose, out);
+  unsaid = λ is. let rose = cause.unsaid is in omega (arith, rose, says.out);
   one = inr cause.one;
-}
-
-pub serve_later : (out_then out_now door_then door_mid door_now status : ℕ) → door_then ≤ door_mid → HasServeCause out_then out_now door_mid door_now status → HasServeCause out_then out_now door_then door_now status
-serve_later out_then out_now door_then door_mid door_now status door cause = record {
-  unlinked = λ is. let rose = cause.unlinked is in omega (arith, rose, door);
-  unsaid = cause.unsaid;
-  one = cause.one;
 }
 
 pub over_where : (how : ServeEnd) → how ≢ end.Memory → IsOver how
@@ -112,7 +95,7 @@ over_where end.Memory other = absurd (other refl)
 
 -- the line of a session, as it was printed
 pub printed : (number from : ℕ) (how : ServeEnd) (bytes out empty : List ℕ) → bytes ≡ out → out ≡ empty ++ session_line (from + 1) how → empty ≡ [] → from ≡ number → bytes ≡ session_line (number + 1) how
-printed number from how bytes out empty same is none number_is = same ∙ is ∙ ap (λ (front : List ℕ). front ++ session_line (from + 1) how) none ∙ ap (λ (n : ℕ). session_line (n + 1) how) number_is
+printed number from how bytes out empty same is none number_is = same ∙ is ∙ ap (λ (before : List ℕ). before ++ session_line (from + 1) how) none ∙ ap (λ (n : ℕ). session_line (n + 1) how) number_is
 
 -- ---- how a worker ends
 
@@ -120,7 +103,7 @@ serves_one : (before now : Option (List ℕ)) (sessions status : ℕ) → Serves
 serves_one before now sessions status (all_served is ends long says) = inl is
 serves_one before now sessions status (exhausted is ends few says) = inr (inl is)
 serves_one before now sessions status (no_link ends between few says closes) = inr (inr (closes_one between now cannot_listen UNHIRED status closes))
-serves_one before now sessions status (cut_short is ends few over front) = inr (inr (inr is))
+serves_one before now sessions status (cut_short is ends few over prefix) = inr (inr (inr is))
 
 pub works_one : (hired after_hiring : Option (List Want)) (before now : Option (List ℕ)) (sessions status : ℕ) → Works hired after_hiring before now sessions status
     → (status ≡ SUCCEEDED) ⊎ (status ≡ OUT_OF_MEMORY) ⊎ (status ≡ UNHIRED) ⊎ (status ≡ UNSAID)
@@ -129,15 +112,26 @@ works_one hired after_hiring before now sessions status (unhired same closes) = 
 works_one hired after_hiring before now sessions status (unopened here closes) = inr (inr (closes_one before now cannot_listen UNHIRED status closes))
 works_one hired after_hiring before now sessions status (worked here serves) = serves_one before now sessions status serves
 
-module _ {K : Type 0} (tells : K → Bool) (content : K → Content) (disk_faults : K → ℕ) (out_faults : K → ℕ) (asks : K → ℕ) where
-  pub says_itself : (desk : K) → OnlySays tells content disk_faults out_faults asks desk desk
-  says_itself desk = record { tells_on = refl; files = λ told. refl; disk = refl; out = omega arith; asked = omega arith }
+-- ---- nothing but saying
 
-  pub says_on : (a b c : K) → OnlySays tells content disk_faults out_faults asks a b → OnlySays tells content disk_faults out_faults asks b c → OnlySays tells content disk_faults out_faults asks a c
-  says_on a b c first second = record {
-    tells_on = second.tells_on ∙ first.tells_on;
-    files = λ told. second.files (subst IsTrue (sym first.tells_on) told) ∙ first.files told;
-    disk = second.disk ∙ first.disk;
-    out = omega (arith, first.out, second.out);
-    asked = omega (arith, first.asked, second.asked);
-  }
+pub says_itself : {old : DeskState} → OnlySays old old
+says_itself = record { tells = refl; files = λ told. refl; disk = refl; out = omega arith; asks = omega arith }
+
+pub says_on : {old mid now : DeskState} → OnlySays old mid → OnlySays mid now → OnlySays old now
+says_on first second = record {
+  tells = second.tells ∙ first.tells;
+  files = λ told. second.files (subst IsTrue (sym first.tells) told) ∙ first.files told;
+  disk = second.disk ∙ first.disk;
+  out = omega (arith, first.out, second.out);
+  asks = omega (arith, first.asks, second.asks);
+}
+
+-- what is said is nothing but said
+pub says_only : {bytes : List ℕ} {old now : DeskState} → Says bytes old now → OnlySays old now
+says_only says = record {
+  tells = says.tells;
+  files = λ told. (says.files told).files;
+  disk = says.disk_faults;
+  out = says.out_faults;
+  asks = omega (arith, says.asks);
+}

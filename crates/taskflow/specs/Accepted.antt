@@ -22,9 +22,9 @@ abbrev pub outline_in : PlanTree → Outline
 outline_in plan = outline_of_tree plan.root plan.store plan.defer
 
 -- the fault that tells a refusal of compilation
-abbrev pub fault_of : CompileRefusal → CompileFault
-fault_of (ambiguous symbol first second) = compile_fault.Ambiguous symbol first second
-fault_of (cycle names) = compile_fault.Cycle names
+abbrev pub compile_fault_of : CompileRefusal → CompileFault
+compile_fault_of (ambiguous symbol first second) = compile_fault.Ambiguous symbol first second
+compile_fault_of (cycle names) = compile_fault.Cycle names
 
 -- the fault that tells a symbol that nobody gives an atom
 abbrev pub missing_fault : Missing → ScopeFault
@@ -48,15 +48,15 @@ pub data GivesNone (sets : List Bind) (defer : Bool) (bytes : List ℕ) : Refusa
   misspelled : (fault : FileFault) → is_memory_fault fault ≡ false → IsFirstReason (flow_of bytes sets defer) fault → GivesNone sets defer bytes (refusal.File fault)
   -- the plan that they spell doesn't compile
   uncompiled : (plan : PlanTree) (reason : CompileRefusal) → Spells sets defer bytes plan → tree_refusal plan.root (outline_in plan) ≡ Some reason
-      → GivesNone sets defer bytes (refusal.Compile (fault_of reason))
+      → GivesNone sets defer bytes (refusal.Compile (compile_fault_of reason))
   -- it compiles, and nobody gives one of its atoms a symbol
   unprovided : (plan : PlanTree) (missing : Missing) → Spells sets defer bytes plan → tree_refusal plan.root (outline_in plan) ≡ None
       → missing_symbol (outline_in plan) ≡ Some missing → GivesNone sets defer bytes (refusal.Scope (missing_fault missing))
 
 -- it is want of memory
-abbrev pub is_memory : Refusal → Bool
-is_memory refusal.Memory = true
-is_memory reason = false
+abbrev pub is_want_of_memory : Refusal → Bool
+is_want_of_memory refusal.Memory = true
+is_want_of_memory reason = false
 
 -- it is that reason, or want of memory
 abbrev pub IsReason : List Bind → Bool → List ℕ → Refusal → Type 0

@@ -77,8 +77,8 @@ abbrev pub AsksForWork : List (List ℕ) → Type 0
 AsksForWork words = (command : Asked) × (asked_for words ≡ Some command) × IsWork command
 
 -- the flow file that a command is about, with the values that its store gets besides; a check defers no reverts
-abbrev pub source_of : Asked → Option Source
-source_of (asked.Try file sets defer hands) = Some (record { file = file; sets = sets; defer = defer })
-source_of (asked.Run file book sets defer hands stop) = Some (record { file = file; sets = sets; defer = defer })
-source_of (asked.Check file sets) = Some (record { file = file; sets = sets; defer = false })
-source_of command = None
+abbrev pub file_asked_for : Asked → Option Source
+file_asked_for (asked.Try file sets defer hands) = Some (record { file = file; sets = sets; defer = defer })
+file_asked_for (asked.Run file book sets defer hands stop) = Some (record { file = file; sets = sets; defer = defer })
+file_asked_for (asked.Check file sets) = Some (record { file = file; sets = sets; defer = false })
+file_asked_for command = None

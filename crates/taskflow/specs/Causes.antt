@@ -1,6 +1,7 @@
 -- Why a status tells a fault of the outside: a count rose.
-use Rattle.std.specs.Prelude.{◌≡◌, ◌≢◌, ◌⊎◌, ℕ, ◌≤◌}
+use Rattle.std.specs.Prelude.{◌≡◌, ◌⊎◌, ℕ, ◌≤◌}
 use Rattle.tf_desk.specs.Counts.{Rises}
+use Rattle.tf_desk.specs.State.{DeskState}
 use Rattle.taskflow.specs.declared.statuses.TheConstants.{UNREAD, DISK_FAILED, UNSAID, UNHIRED}
 
 -- the counts of faults: of the disk, of the output, of the sources and of the crew
@@ -18,7 +19,7 @@ pub record NoneFalls (before after : Counts) : Type 0 where
   pub crew : before.crew ≤ after.crew
 
 -- a file can't be read, the disk fails, a text can't be said and no hand is hired only where the count of such faults rose
-pub record HasCauses (status : ℕ) (before after : Counts) : Type 0 where
+pub record HasEachCause (status : ℕ) (before after : Counts) : Type 0 where
   pub none_falls : NoneFalls before after
   pub unread : status ≡ UNREAD → Rises before.sources after.sources
   pub failed : status ≡ DISK_FAILED → Rises before.disk after.disk
@@ -34,15 +35,8 @@ pub record HasCausesOr (unlistened : Type 0) (status : ℕ) (before after : Coun
   pub unhired : status ≡ UNHIRED → Rises before.crew after.crew ⊎ unlistened
 
 -- the counts of a desk, of sources and of a crew
-abbrev pub counts : ℕ → ℕ → ℕ → ℕ → Counts
-counts disk out sources crew = record { disk = disk; out = out; sources = sources; crew = crew }
-
--- a command said its last: the disk's count stays, and only a text that couldn't be said tells of an output fault
-pub record HasSaid (disk_then disk_now out_then out_now status : ℕ) : Type 0 where
-  pub disk : disk_now ≡ disk_then
-  pub out : out_then ≤ out_now
-  pub unsaid : status ≡ UNSAID → Rises out_then out_now
-  pub read : status ≢ UNREAD
+abbrev pub counts_of : DeskState → ℕ → ℕ → Counts
+counts_of desk sources crew = record { disk = desk.disk_faults; out = desk.out_faults; sources = sources; crew = crew }
 
 -- no count rose
 pub record HasNoFault (before after : Counts) : Type 0 where
@@ -50,3 +44,7 @@ pub record HasNoFault (before after : Counts) : Type 0 where
   pub out : ¬ (Rises before.out after.out)
   pub sources : ¬ (Rises before.sources after.sources)
   pub crew : ¬ (Rises before.crew after.crew)
+
+-- a stop was asked for
+abbrev pub WasAsked : DeskState → DeskState → Type 0
+WasAsked old new = Rises old.asks new.asks

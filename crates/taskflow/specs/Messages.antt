@@ -18,6 +18,7 @@ use Rattle.tf_scopes.specs.declared.faults.ScopeFault.{ScopeFault}
 use Rattle.tf_scopes.specs.declared.faults.ScopeFault.TheVariants as scope_fault
 use Rattle.taskflow.specs.declared.accepting.Refusal.{Refusal}
 use Rattle.taskflow.specs.declared.accepting.Refusal.TheVariants as refused
+use Rattle.tf_board.specs.Answers.{byte_or_end}
 
 -- the word for a limit of a plan
 abbrev pub limit_word : Limit → List ℕ
@@ -73,11 +74,11 @@ scope_fault_text (scope_fault.Missing atom symbol) = codes "missing " ++ atom ++
 scope_fault_text scope_fault.Memory = []
 
 -- why a flow file is refused; want of memory says nothing
-abbrev pub refusal_text : Refusal → List ℕ
-refusal_text (refused.File fault) = file_fault_text fault
-refusal_text (refused.Compile fault) = compile_fault_text fault
-refusal_text (refused.Scope fault) = scope_fault_text fault
-refusal_text refused.Memory = []
+abbrev pub reason_text : Refusal → List ℕ
+reason_text (refused.File fault) = file_fault_text fault
+reason_text (refused.Compile fault) = compile_fault_text fault
+reason_text (refused.Scope fault) = scope_fault_text fault
+reason_text refused.Memory = []
 
 -- the message for a flow file that is refused
 unfoldable pub refusal : List ℕ → List ℕ
@@ -100,17 +101,12 @@ abbrev pub cannot_listen : List ℕ
 cannot_listen = codes "taskflow: cannot listen\n"
 
 -- the message for a fault of the disk
-abbrev pub disk_fault : List ℕ
-disk_fault = codes "taskflow: disk fault\n"
+abbrev pub disk_fault_text : List ℕ
+disk_fault_text = codes "taskflow: disk fault\n"
 
 -- the message for a book that holds no flow
-abbrev pub no_flow : List ℕ
-no_flow = codes "taskflow: no flow in the book\n"
-
--- the byte that shows that a file is no book, or the file's end
-abbrev pub byte_or_end : Option ℕ → List ℕ
-byte_or_end None = codes "end"
-byte_or_end (Some byte) = codes "byte " ++ decimal byte
+abbrev pub no_flow_text : List ℕ
+no_flow_text = codes "taskflow: no flow in the book\n"
 
 -- the message for a file that is no book: the offset and the byte that show it
 unfoldable pub not_a_book : ℕ → Option ℕ → List ℕ

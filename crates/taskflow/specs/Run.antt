@@ -9,8 +9,8 @@ use Rattle.tf_states.specs.declared.state.FlowState.{FlowState}
 use Rattle.tf_states.specs.declared.state.FlowState.TheVariants as flow
 use Rattle.tf_ports.specs.Wanted.{wanted as number_of}
 use Rattle.tf_ports.specs.declared.crews.Want.{Want}
-use Rattle.tf_ports.specs.declared.orders.Order.{Order}
-use Rattle.tf_ports.specs.declared.outcomes.Outcome.{Outcome}
+use Rattle.tf_actions.specs.declared.orders.Order.{Order}
+use Rattle.tf_actions.specs.declared.outcomes.Outcome.{Outcome}
 use Rattle.tf_model.specs.Before.{Flow}
 use Rattle.tf_model.specs.Bound.{entry_bound}
 use Rattle.tf_model.specs.Candidates.{end_of}
@@ -21,16 +21,16 @@ use Rattle.tf_model.specs.States.{is_settled}
 use Rattle.tf_facts.specs.Facts.{CompletedReversion}
 use Rattle.tf_hands.specs.Hands.{is_of_flow}
 use Rattle.tf_report.specs.Report.{report}
-use Rattle.tf_book.specs.Kept.{said, IsCut, IsFull}
+use Rattle.tf_book.specs.Kept.{said, IsCut, IsFullFor}
 use Rattle.tf_engines.specs.Runs.{AreGiven, AreDue, AreWithin, IsSuspended, is_of}
-use Rattle.taskflow.specs.Messages.{disk_fault, book_full, summary}
+use Rattle.taskflow.specs.Messages.{disk_fault_text, book_full, summary}
 use Rattle.taskflow.specs.declared.running.Request.{Request}
-use Rattle.taskflow.specs.Saying.{Closes}
+use Rattle.taskflow.specs.Saying.{ClosesWith}
 use Rattle.taskflow.specs.declared.statuses.TheConstants.{SUCCEEDED, DISK_FAILED, UNSAID, OUT_OF_MEMORY, REVERTED, FAILED, SUSPENDED, FULL}
 
 -- a run with these hands that says each line, and is suspended after so many entries, if after so many
-abbrev pub spoken : Want → Option ℕ → Request
-spoken hands limit = record { want = hands; quiet = false; limit = limit }
+abbrev pub spoken_run : Want → Option ℕ → Request
+spoken_run hands limit = record { want = hands; quiet = false; limit = limit }
 
 -- a run with these hands that says no line of its entries
 abbrev pub unspoken : Want → Request
@@ -81,11 +81,11 @@ pub record HasReached (plan : Outline) (past : List Entry) (last : FlowState) : 
 -- ---- the text
 
 -- the status of a run that stopped in a state
-abbrev pub status_of : FlowState → ℕ
-status_of flow.Success = SUCCEEDED
-status_of flow.Reverted = REVERTED
-status_of flow.Suspended = SUSPENDED
-status_of _ = FAILED
+abbrev pub stop_status : FlowState → ℕ
+stop_status flow.Success = SUCCEEDED
+stop_status flow.Reverted = REVERTED
+stop_status flow.Suspended = SUSPENDED
+stop_status _ = FAILED
 
 -- what is said before the report: of a run that said no lines, how many tasks the plan has and how many entries the history
 abbrev pub heading_of : Request → Outline → List Entry → List ℕ
@@ -93,24 +93,24 @@ heading_of request plan past = if request.quiet then summary plan (length past) 
 
 -- what a run says last, and its status: the report behind its heading, where it stopped in a state; or why it was halted
 pub data IsLastSaid (plan : PlanValue) (heading : List ℕ) (past : List Entry) : Option FlowState → List ℕ → ℕ → Type 0 where
-  reported : (last : FlowState) → IsLastSaid plan heading past (Some last) (heading ++ report (outline_of plan) (snapshot (outline_of plan) past)) (status_of last)
-  disk_failed : (stop : Option FlowState) → IsLastSaid plan heading past stop disk_fault DISK_FAILED
-  filled : (stop : Option FlowState) (size need : ℕ) → IsFull plan past size need → IsLastSaid plan heading past stop (book_full size need) FULL
+  reported : (last : FlowState) → IsLastSaid plan heading past (Some last) (heading ++ report (outline_of plan) (snapshot (outline_of plan) past)) (stop_status last)
+  disk_failed : (stop : Option FlowState) → IsLastSaid plan heading past stop disk_fault_text DISK_FAILED
+  filled : (stop : Option FlowState) (size need : ℕ) → IsFullFor plan past size need → IsLastSaid plan heading past stop (book_full size need) FULL
 
 -- the text after a command that records: the one before it, the lines of its entries, and what it says last, which is the closing; where
 -- the output failed it is cut within the line of the newest entry, and no entry was recorded after it, or within the closing
-pub data Shows (plan : PlanValue) (quiet : Bool) (before entries : List Entry) (shown now : Option (List ℕ)) (last : List ℕ → ℕ → Type 0) : List ℕ → ℕ → Type 0 where
+pub data ShowsLines (plan : PlanValue) (quiet : Bool) (before entries : List Entry) (shown now : Option (List ℕ)) (last : List ℕ → ℕ → Type 0) : List ℕ → ℕ → Type 0 where
   closed : (closing : List ℕ) (wanted status : ℕ) → last closing wanted
-      → Closes (shown_with shown (said quiet (outline_of plan) before entries)) closing wanted now status
-      → Shows plan quiet before entries shown now last closing status
-  line_cut : IsCut quiet (outline_of plan) before shown entries now → Shows plan quiet before entries shown now last [] UNSAID
+      → ClosesWith (shown_with shown (said quiet (outline_of plan) before entries)) closing wanted now status
+      → ShowsLines plan quiet before entries shown now last closing status
+  line_cut : IsCut quiet (outline_of plan) before shown entries now → ShowsLines plan quiet before entries shown now last [] UNSAID
   -- memory ran out after the lines of its entries were said
-  stopped : now ≡ shown_with shown (said quiet (outline_of plan) before entries) → Shows plan quiet before entries shown now last [] OUT_OF_MEMORY
+  stopped : now ≡ shown_with shown (said quiet (outline_of plan) before entries) → ShowsLines plan quiet before entries shown now last [] OUT_OF_MEMORY
 
 -- the text after a run that stopped so
 abbrev pub RunShows : Request → PlanValue → (before entries : List Entry) → (shown now : Option (List ℕ)) → Option FlowState → List ℕ → ℕ → Type 0
 RunShows request plan before entries shown now stop =
-    Shows plan request.quiet before entries shown now (IsLastSaid plan (heading_of request (outline_of plan) (entries ++ before)) (entries ++ before) stop)
+    ShowsLines plan request.quiet before entries shown now (IsLastSaid plan (heading_of request (outline_of plan) (entries ++ before)) (entries ++ before) stop)
 
 -- ---- all of it
 

@@ -1,17 +1,17 @@
 -- What a worker says of its sessions, and how it ends.
-use Rattle.std.specs.Prelude.{◌≡◌, ◌⊎◌, ℕ, ◌+◌, ◌<◌, ◌≤◌, List, [], ◌∷◌, ◌++◌, codes, length, Bool, IsTrue, Option}
+use Rattle.std.specs.Prelude.{◌≡◌, ◌⊎◌, ℕ, ◌+◌, ◌<◌, ◌≤◌, List, [], ◌∷◌, ◌++◌, codes, length, Option}
 use Rattle.std.specs.Fmt.{decimal}
 use Rattle.std.specs.List.{AllByRecursion}
-use Rattle.tf_desk.specs.Content.{Content}
 use Rattle.tf_desk.specs.Counts.{Rises}
-use Rattle.tf_desk.specs.Shown.{shown_with, ShowsFront}
-use Rattle.tf_ports.specs.Told.{told_with}
+use Rattle.tf_desk.specs.Shown.{shown_with, ShowsPrefix}
+use Rattle.tf_desk.specs.State.{DeskState}
+use Rattle.tf_actions.specs.Told.{told_with}
 use Rattle.tf_ports.specs.declared.crews.Want.{Want}
 use Rattle.tf_ports.specs.declared.crews.Want.TheVariants as want
 use Rattle.tf_workers.specs.declared.serving.ServeEnd.{ServeEnd}
 use Rattle.tf_workers.specs.declared.serving.ServeEnd.TheVariants as end
 use Rattle.taskflow.specs.Messages.{cannot_hire, cannot_listen}
-use Rattle.taskflow.specs.Saying.{Closes}
+use Rattle.taskflow.specs.Saying.{ClosesWith}
 use Rattle.taskflow.specs.declared.statuses.TheConstants.{SUCCEEDED, UNHIRED, OUT_OF_MEMORY, UNSAID}
 
 -- how a session ended; of one that memory ended nothing is said
@@ -51,19 +51,19 @@ pub record SaysNext (before now : Option (List ℕ)) (number : ℕ) : Type 0 whe
 -- why there is no next session: memory ran out, no link came, or its line couldn't be said
 pub data StopsNext (before now : Option (List ℕ)) (number : ℕ) (status : ℕ) : Type 0 where
   exhausted_next : status ≡ OUT_OF_MEMORY → now ≡ before → StopsNext before now number status
-  no_next_link : Closes before cannot_listen UNHIRED now status → StopsNext before now number status
-  unsaid_next : status ≡ UNSAID → (how : ServeEnd) → IsOver how → ShowsFront before (session_line number how) now → StopsNext before now number status
+  no_next_link : ClosesWith before cannot_listen UNHIRED now status → StopsNext before now number status
+  unsaid_next : status ≡ UNSAID → (how : ServeEnd) → IsOver how → ShowsPrefix before (session_line number how) now → StopsNext before now number status
 
 -- what a status tells that ends the serving: the door or the output had a fault, or memory ran out
-pub record HasStopCause (out_then out_now door_then door_now status : ℕ) : Type 0 where
+pub record HasStopCause (old new : DeskState) (door_then door_now status : ℕ) : Type 0 where
   pub unlinked : status ≡ UNHIRED → Rises door_then door_now
-  pub unsaid : status ≡ UNSAID → Rises out_then out_now
+  pub unsaid : status ≡ UNSAID → Rises old.out_faults new.out_faults
   pub one : (status ≡ OUT_OF_MEMORY) ⊎ (status ≡ UNHIRED) ⊎ (status ≡ UNSAID)
 
 -- the same, or all went well
-pub record HasServeCause (out_then out_now door_then door_now status : ℕ) : Type 0 where
+pub record HasServeCause (old new : DeskState) (door_then door_now status : ℕ) : Type 0 where
   pub unlinked : status ≡ UNHIRED → Rises door_then door_now
-  pub unsaid : status ≡ UNSAID → Rises out_then out_now
+  pub unsaid : status ≡ UNSAID → Rises old.out_faults new.out_faults
   pub one : (status ≡ SUCCEEDED) ⊎ (status ≡ OUT_OF_MEMORY) ⊎ (status ≡ UNHIRED) ⊎ (status ≡ UNSAID)
 
 -- so many sessions are served, one after the other
@@ -73,10 +73,10 @@ pub data ServesAll (before now : Option (List ℕ)) (sessions : ℕ) (status : �
   -- memory ran out in the next one, or before it
   exhausted : status ≡ OUT_OF_MEMORY → (ends : List ServeEnd) → length ends < sessions → SaysSessions before now ends → ServesAll before now sessions status
   -- no link came for the next one, and that is said
-  no_link : (ends : List ServeEnd) (between : Option (List ℕ)) → length ends < sessions → SaysSessions before between ends → Closes between cannot_listen UNHIRED now status
+  no_link : (ends : List ServeEnd) (between : Option (List ℕ)) → length ends < sessions → SaysSessions before between ends → ClosesWith between cannot_listen UNHIRED now status
       → ServesAll before now sessions status
-  -- a line couldn't be said, and a front of the lines was
-  cut_short : status ≡ UNSAID → (ends : List ServeEnd) → length ends ≤ sessions → AllByRecursion IsOver ends → ShowsFront before (session_lines 1 ends) now → ServesAll before now sessions status
+  -- a line couldn't be said, and a prefix of the lines was
+  cut_short : status ≡ UNSAID → (ends : List ServeEnd) → length ends ≤ sessions → AllByRecursion IsOver ends → ShowsPrefix before (session_lines 1 ends) now → ServesAll before now sessions status
 
 -- one hand of this process was hired
 abbrev pub HiresHere : Option (List Want) → Option (List Want) → Type 0
@@ -87,17 +87,8 @@ pub data Works (hired after_hiring : Option (List Want)) (before now : Option (L
   -- memory ran out before the first session, and nothing was said
   unbegun : status ≡ OUT_OF_MEMORY → now ≡ before → Works hired after_hiring before now sessions status
   -- no hand could be hired, and that is said
-  unhired : after_hiring ≡ hired → Closes before cannot_hire UNHIRED now status → Works hired after_hiring before now sessions status
+  unhired : after_hiring ≡ hired → ClosesWith before cannot_hire UNHIRED now status → Works hired after_hiring before now sessions status
   -- the door couldn't be opened, and that is said
-  unopened : HiresHere hired after_hiring → Closes before cannot_listen UNHIRED now status → Works hired after_hiring before now sessions status
+  unopened : HiresHere hired after_hiring → ClosesWith before cannot_listen UNHIRED now status → Works hired after_hiring before now sessions status
   -- the hand served
   worked : HiresHere hired after_hiring → ServesAll before now sessions status → Works hired after_hiring before now sessions status
-
-module _ {K : Type 0} (tells : K → Bool) (content : K → Content) (disk_faults : K → ℕ) (out_faults : K → ℕ) (asks : K → ℕ) where
-  -- nothing was done with the desk but saying: no file changed, the disk had no fault, and no count fell
-  pub record OnlySays (entry now : K) : Type 0 where
-    pub tells_on : tells now ≡ tells entry
-    pub files : IsTrue (tells entry) → (content now).files ≡ (content entry).files
-    pub disk : disk_faults now ≡ disk_faults entry
-    pub out : out_faults entry ≤ out_faults now
-    pub asked : asks entry ≤ asks now

@@ -30,7 +30,7 @@ pub enum Refusal {
 }
 
 impl Refusal {
-    ghost use Rattle.taskflow.specs.Accepted.{is_memory as is_want_of_memory};
+    ghost use Rattle.taskflow.specs.Accepted.{is_want_of_memory};
 
     /// Whether memory ran out.
     pub fn is_memory(&self) -> bool
@@ -74,7 +74,8 @@ fn compile(alloc: Global, plan: Plan) -> Result<Machine, Refusal>
     ensures empty { IfOk result (λ machine. StandsFor machine []) }
     ensures accepted { IfOk result (λ machine. compile_refusal plan ≡ None) }
     ensures provided { IfOk result (λ machine. missing_symbol (outline_of plan) ≡ None) }
-    ensures refused { (sets : List Bind) (defer : Bool) (bytes : List ℕ) → Spells sets defer bytes (plan_tree plan) → IfErr result (IsReason sets defer bytes) }
+    ensures refused { (sets : List Bind) (defer : Bool) (bytes : List ℕ) → Spells sets defer bytes (plan_tree plan)
+        → IfErr result (IsReason sets defer bytes) }
 {
     match Machine::make(alloc, plan) {
         Ok(machine) => Ok(machine),

@@ -3,7 +3,7 @@ ghost use Rattle.std.specs.Prelude.{◌≡◌, ◌≤◌, ℕ, List, true, is_so
 ghost use Rattle.tf_words.specs.declared.asked.Asked.{Asked};
 ghost use Rattle.tf_board.specs.Answers.{board_of};
 ghost use Rattle.tf_board.specs.Does.{Does};
-ghost use Rattle.taskflow.specs.Causes.{HasCauses, counts};
+ghost use Rattle.taskflow.specs.Causes.{HasEachCause, counts_of};
 
 use crate::running::Over;
 use std::alloc::Global;
@@ -31,10 +31,10 @@ pub fn is_of_board(asked: &Asked) -> bool
 pub fn on_board<K: Desk>(alloc: Global, asked: Asked, desk: K) -> Over<K>
     requires board { is_some (board_of asked) ≡ true }
     ensures does { (name : List ℕ) → board_of asked ≡ Some name
-        → Does K.tells K.shown K.content K.left K.crashes asked name desk result.desk result.status }
-    ensures causes { HasCauses result.status (counts (K.disk_faults desk) (K.out_faults desk) 0 0)
-        (counts (K.disk_faults result.desk) (K.out_faults result.desk) 0 0) }
-    ensures asks { K.asks desk ≤ K.asks result.desk }
+        → Does asked name (K.state desk) (K.state result.desk) result.status }
+    ensures causes { HasEachCause result.status (counts_of (K.state desk) 0 0)
+        (counts_of (K.state result.desk) 0 0) }
+    ensures asks { (K.state desk).asks ≤ (K.state result.desk).asks }
 {
     let (desk, status) = board_command(alloc, asked, desk);
     Over { desk, status }

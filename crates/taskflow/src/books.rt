@@ -1,48 +1,49 @@
 //! Books on the desk: how one is opened, why it isn't, and how a run begins in a file that holds no flow.
 
-ghost use Rattle.std.specs.Prelude.{◌≡◌, ◌≢◌, ◌≤◌, ◌⊎◌, ℕ, List, [], IsTrue, None, true, false, IfOk, IfErr, OnOk, OnErr, IsErrOf};
+ghost use Rattle.std.specs.Prelude.{◌≡◌, ◌≢◌, ◌≤◌, ◌⊎◌, ℕ, List, [], IsTrue, None, IfOk, IfErr};
 ghost use Rattle.tf_desk.specs.Counts.{Rises};
-ghost use Rattle.tf_desk.specs.Content.{bytes_of};
+ghost use Rattle.tf_desk.specs.State.{bytes_now, anything, GoesOn};
 ghost use Rattle.tf_flow.specs.Plan.{PlanValue};
-ghost use Rattle.tf_journal.specs.Format.{is_unborn, journal_bytes, title_of};
-ghost use Rattle.tf_journal.specs.Rest.{IsAtRest};
+ghost use Rattle.tf_journal.specs.Format.{journal_bytes, title_of};
+ghost use Rattle.tf_journal.specs.Path.{Untouched, Open};
+ghost use Rattle.tf_journal.specs.Rest.{desk_after};
 ghost use Rattle.tf_journal.specs.declared.title.Title.TheVariants.{Book as book_title};
 ghost use Rattle.tf_machine.specs.Machine.{StandsFor};
-ghost use Rattle.tf_book.specs.Loaded.{desk_of, IsLoaded, IsMade};
+ghost use Rattle.tf_book.specs.Loaded.{desk_of, desk_after_load, IsLoaded, IsMade};
 ghost use Rattle.tf_book.specs.Loading.{RefusesBook};
-ghost use Rattle.taskflow.specs.Begun.{desk_in, IsBlank, IsFoundBlank, IsExactSoFar, LeavesNoFlow, SaysUnbegun, Begins, Unbegun};
+ghost use Rattle.tf_book.specs.Starting.{desk_started};
+ghost use Rattle.taskflow.specs.Begun.{desk_in, MayBeBorn, IsRecordless, IsBlank, IsFoundBlank, IsExactSoFar, LeavesNoFlow, SaysUnbegun, FailsToBegin, Begins, Unbegun};
 ghost use Rattle.taskflow.specs.Books.{Promised, Refuses, RefusesOrStops, Unopened};
-ghost use Rattle.taskflow.specs.Causes.{HasSaid};
-ghost use Rattle.taskflow.specs.Course.{FilesStay};
-ghost use Rattle.tf_journal.specs.Start.{file_of};
-ghost use Rattle.taskflow.specs.Durable.{book_in};
-ghost use Rattle.taskflow.specs.Messages.{not_a_book, no_flow, cannot_hire};
+ghost use Rattle.taskflow.specs.Durable.{book_at};
+ghost use Rattle.taskflow.specs.Messages.{not_a_book, no_flow_text, cannot_hire};
 ghost use Rattle.taskflow.specs.declared.running.Request.{Request};
-ghost use Rattle.taskflow.specs.Saying.{ClosesOrStops};
-ghost use Rattle.tf_journal.specs.Way.{Untouched, Open};
+ghost use Rattle.taskflow.specs.Saying.{ClosesWithOrStops, HasSaid};
 
 use crate::closing::close;
 use crate::messages::{CANNOT_HIRE, DISK_FAULT, NO_FLOW, append_not_a_book};
 use crate::running::Over;
 use crate::statuses::{DISK_FAILED, FORBIDDEN, NO_BOOK, OUT_OF_MEMORY, UNHIRED, UNREAD, UNSAID};
 use std::alloc::Global;
+use tf_actions::Performer;
 use tf_book::{Book, BookFault, Loaded};
 use tf_desk::{Desk, DeskFault};
 use tf_journal::{Journal, JournalFault, LoadFault, Title};
 use tf_machine::Machine;
-use tf_ports::{Performer, PortFault};
+use tf_ports::PortFault;
 use tf_values::Text;
 
 /// Picks the file of that name, and reads it as a book.
 pub fn open<K: Desk>(alloc: Global, mut desk: K, name: &Text) -> Result<Loaded<K>, (K, LoadFault)>
-    ensures opened { IfOk result (λ loaded. Open K.tells K.shown K.content K.left K.crashes K.disk_faults K.out_faults name.now desk (desk_of loaded)) }
-    ensures loads { IfOk result (λ loaded. IsTrue (K.tells desk) → IsLoaded loaded (book_in (file_of (K.content desk) name.now))) }
-    ensures made { IfOk result (IsMade K.tells K.content K.left) }
-    ensures unopened { IfErr result (λ back. Untouched K.tells K.shown K.content K.left K.crashes K.disk_faults K.out_faults name.now desk back.0) }
-    ensures refused { IfErr result (λ back. IsTrue (K.tells desk) → RefusesBook back.1 (book_in (file_of (K.content desk) name.now))) }
-    ensures cause { IfErr result (λ back. back.1 ≡ LoadFault.Disk → Rises (K.disk_faults desk) (K.disk_faults back.0)) }
-    ensures asks { IfOk result (λ loaded. K.asks desk ≤ K.asks (desk_of loaded)) }
-    ensures back_asks { IfErr result (λ back. K.asks desk ≤ K.asks back.0) }
+    ensures opened { IfOk result (λ loaded. Open name.now (K.state desk) (K.state (desk_of loaded))) }
+    ensures loads { IfOk result (λ loaded. IsTrue (K.state desk).tells
+        → IsLoaded loaded (book_at (K.state desk) name.now)) }
+    ensures made { IfOk result (IsMade K.state) }
+    ensures unopened { IfErr result (λ back. Untouched name.now (K.state desk) (K.state back.0)) }
+    ensures refused { IfErr result (λ back. IsTrue (K.state desk).tells
+        → RefusesBook back.1 (book_at (K.state desk) name.now)) }
+    ensures cause { IfErr result (λ back. back.1 ≡ LoadFault.Disk
+        → Rises (K.state desk).disk_faults (K.state back.0).disk_faults) }
+    ensures asks { (K.state desk).asks ≤ (K.state (desk_after_load result)).asks }
 {
     match desk.pick(alloc, name) {
         Ok(()) => Book::load(alloc, desk),
@@ -55,11 +56,10 @@ pub fn open<K: Desk>(alloc: Global, mut desk: K, name: &Text) -> Result<Loaded<K
 /// Says why a book couldn't be opened, unless memory ran out.
 pub fn refuse_book<K: Desk>(alloc: Global, mut desk: K, fault: LoadFault) -> Over<K>
     ensures unopened { (name : List ℕ) (entry : K)
-        → Untouched K.tells K.shown K.content K.left K.crashes K.disk_faults K.out_faults name entry desk
-        → (IsTrue (K.tells entry) → RefusesBook fault (book_in (file_of (K.content entry) name)))
-        → Unopened K.tells K.shown K.content K.left K.crashes K.disk_faults name entry result.desk result.status }
-    ensures said { HasSaid (K.disk_faults desk) (K.disk_faults result.desk) (K.out_faults desk) (K.out_faults result.desk) result.status }
-    ensures asks { K.asks desk ≤ K.asks result.desk }
+        → Untouched name (K.state entry) (K.state desk)
+        → (IsTrue (K.state entry).tells → RefusesBook fault (book_at (K.state entry) name))
+        → Unopened name (K.state entry) (K.state result.desk) result.status }
+    ensures said { HasSaid (K.state desk) (K.state result.desk) result.status }
     ensures failed { result.status ≡ DISK_FAILED → fault ≡ LoadFault.Disk }
 {
     let status = match fault {
@@ -73,10 +73,9 @@ pub fn refuse_book<K: Desk>(alloc: Global, mut desk: K, fault: LoadFault) -> Ove
 /// Says that a file is no book.
 fn say_no_book<K: Desk>(alloc: Global, offset: u64, byte: Option<u8>, mut desk: K) -> Over<K>
     ensures refuses { (name : List ℕ) (entry : K)
-        → Untouched K.tells K.shown K.content K.left K.crashes K.disk_faults K.out_faults name entry desk
-        → RefusesOrStops K.tells K.shown K.content K.left K.crashes K.disk_faults name entry result.desk (not_a_book offset byte) NO_BOOK result.status }
-    ensures said { HasSaid (K.disk_faults desk) (K.disk_faults result.desk) (K.out_faults desk) (K.out_faults result.desk) result.status }
-    ensures asks { K.asks desk ≤ K.asks result.desk }
+        → Untouched name (K.state entry) (K.state desk)
+        → RefusesOrStops name (K.state entry) (K.state result.desk) (not_a_book offset byte) NO_BOOK result.status }
+    ensures said { HasSaid (K.state desk) (K.state result.desk) result.status }
     ensures sound { result.status ≢ DISK_FAILED }
 {
     let mut text = Vec::new(alloc);
@@ -93,10 +92,9 @@ fn say_no_book<K: Desk>(alloc: Global, offset: u64, byte: Option<u8>, mut desk: 
 pub fn say_over<K: Desk>(message: &[u8], status: u8, mut desk: K) -> Over<K>
     requires apart { (status ≢ UNREAD) × (status ≢ UNSAID) }
     ensures refuses { (name : List ℕ) (entry : K)
-        → Untouched K.tells K.shown K.content K.left K.crashes K.disk_faults K.out_faults name entry desk
-        → Refuses K.tells K.shown K.content K.left K.crashes K.disk_faults name entry result.desk message.now status result.status }
-    ensures said { HasSaid (K.disk_faults desk) (K.disk_faults result.desk) (K.out_faults desk) (K.out_faults result.desk) result.status }
-    ensures asks { K.asks desk ≤ K.asks result.desk }
+        → Untouched name (K.state entry) (K.state desk)
+        → Refuses name (K.state entry) (K.state result.desk) message.now status result.status }
+    ensures said { HasSaid (K.state desk) (K.state result.desk) result.status }
     ensures status { (result.status ≡ status) ⊎ (result.status ≡ UNSAID) }
 {
     let status = close(message, status, &mut desk);
@@ -106,10 +104,9 @@ pub fn say_over<K: Desk>(message: &[u8], status: u8, mut desk: K) -> Over<K>
 /// Says that a book holds no flow.
 pub fn say_empty<K: Desk>(desk: K) -> Over<K>
     ensures refuses { (name : List ℕ) (entry : K)
-        → Untouched K.tells K.shown K.content K.left K.crashes K.disk_faults K.out_faults name entry desk
-        → Refuses K.tells K.shown K.content K.left K.crashes K.disk_faults name entry result.desk no_flow FORBIDDEN result.status }
-    ensures said { HasSaid (K.disk_faults desk) (K.disk_faults result.desk) (K.out_faults desk) (K.out_faults result.desk) result.status }
-    ensures asks { K.asks desk ≤ K.asks result.desk }
+        → Untouched name (K.state entry) (K.state desk)
+        → Refuses name (K.state entry) (K.state result.desk) no_flow_text FORBIDDEN result.status }
+    ensures said { HasSaid (K.state desk) (K.state result.desk) result.status }
     ensures status { (result.status ≡ FORBIDDEN) ⊎ (result.status ≡ UNSAID) }
 {
     say_over(NO_FLOW, FORBIDDEN, desk)
@@ -118,12 +115,11 @@ pub fn say_empty<K: Desk>(desk: K) -> Over<K>
 /// Says that no hands could be hired, unless memory ran out.
 pub fn say_unhired<K: Desk>(desk: K, fault: PortFault) -> Over<K>
     ensures refuses { (name : List ℕ) (entry : K)
-        → Untouched K.tells K.shown K.content K.left K.crashes K.disk_faults K.out_faults name entry desk
-        → RefusesOrStops K.tells K.shown K.content K.left K.crashes K.disk_faults name entry result.desk cannot_hire UNHIRED result.status }
-    ensures said { HasSaid (K.disk_faults desk) (K.disk_faults result.desk) (K.out_faults desk) (K.out_faults result.desk) result.status }
-    ensures asks { K.asks desk ≤ K.asks result.desk }
-    ensures closes { ClosesOrStops (K.shown desk) cannot_hire UNHIRED (K.shown result.desk) result.status }
-    ensures stays { FilesStay K.tells K.content desk result.desk }
+        → Untouched name (K.state entry) (K.state desk)
+        → RefusesOrStops name (K.state entry) (K.state result.desk) cannot_hire UNHIRED result.status }
+    ensures said { HasSaid (K.state desk) (K.state result.desk) result.status }
+    ensures closes { ClosesWithOrStops (K.state desk).shown cannot_hire UNHIRED
+        (K.state result.desk).shown result.status }
     ensures unhired { result.status ≡ UNHIRED → fault ≡ PortFault.Failed }
     ensures sound { result.status ≢ DISK_FAILED }
 {
@@ -157,27 +153,19 @@ impl<K: Desk> Blank<K> {
 
 /// Makes a journal without a record in a file that may be made one.
 fn create<K: Desk>(alloc: Global, desk: K) -> Result<Journal<K>, (K, BookFault)>
-    requires unborn { IsTrue (K.tells desk) → is_unborn (title_of book_title) (bytes_of (K.content desk)) ≡ true }
-    ensures made { IfOk result (λ journal. (journal.title ≡ book_title) × (journal.size ≡ 18) × (journal.halted ≡ false)
-        × (journal.volatile ≡ false) × (IsTrue (K.tells journal.desk) → IsAtRest K.content K.left journal [])) }
-    ensures born { IfOk result (λ journal. IsTrue (K.tells desk)
-        → bytes_of (K.content journal.desk) ≡ journal_bytes (title_of book_title) []) }
-    ensures told { IfOk result (λ journal. K.tells journal.desk ≡ K.tells desk) }
+    requires unborn { MayBeBorn (K.state desk) }
+    ensures made { IfOk result (IsRecordless K.state) }
+    ensures born { IfOk result (λ journal. IsTrue (K.state desk).tells
+        → bytes_now (K.state journal.desk) ≡ journal_bytes (title_of book_title) []) }
     ensures begins { IfOk result (λ journal. (name : List ℕ) (entry : K) (plan : PlanValue)
-        → Unbegun K.tells K.shown K.content K.left K.crashes K.disk_faults K.out_faults name entry plan desk
-        → Unbegun K.tells K.shown K.content K.left K.crashes K.disk_faults K.out_faults name entry plan journal.desk) }
+        → Unbegun name (K.state entry) plan (K.state desk)
+        → Unbegun name (K.state entry) plan (K.state journal.desk)) }
     ensures unbegun { IfErr result (λ back. (name : List ℕ) (entry : K) (plan : PlanValue)
-        → Unbegun K.tells K.shown K.content K.left K.crashes K.disk_faults K.out_faults name entry plan desk
-        → LeavesNoFlow K.tells K.content K.left desk
-        → Unbegun K.tells K.shown K.content K.left K.crashes K.disk_faults K.out_faults name entry plan back.0) }
-    ensures faults { IfErr result (λ back. (back.1 ≡ BookFault.Disk) ⊎ (back.1 ≡ BookFault.Memory)) }
-    ensures cause { IfErr result (λ back. back.1 ≡ BookFault.Disk → Rises (K.disk_faults desk) (K.disk_faults back.0)) }
-    ensures disk { IfOk result (λ journal. K.disk_faults desk ≤ K.disk_faults journal.desk) }
-    ensures out { IfOk result (λ journal. K.out_faults journal.desk ≡ K.out_faults desk) }
-    ensures asks { IfOk result (λ journal. K.asks desk ≤ K.asks journal.desk) }
-    ensures back_disk { IfErr result (λ back. K.disk_faults desk ≤ K.disk_faults back.0) }
-    ensures back_out { IfErr result (λ back. K.out_faults back.0 ≡ K.out_faults desk) }
-    ensures back_asks { IfErr result (λ back. K.asks desk ≤ K.asks back.0) }
+        → Unbegun name (K.state entry) plan (K.state desk)
+        → LeavesNoFlow (K.state desk)
+        → Unbegun name (K.state entry) plan (K.state back.0)) }
+    ensures goes { GoesOn anything (K.state desk) (K.state (desk_after result)) }
+    ensures fails { IfErr result (λ back. FailsToBegin back.1 (K.state desk) (K.state back.0)) }
 {
     match Journal::create(alloc, desk, Title::Book) {
         Ok(journal) => Ok(journal),
@@ -194,27 +182,17 @@ fn start<K: Desk>(
     quiet: bool,
 ) -> Result<Book<K>, (K, BookFault)>
     requires fresh { StandsFor machine [] }
-    requires title { journal.title ≡ book_title }
-    requires size { journal.size ≡ 18 }
-    requires sound { journal.halted ≡ false }
-    requires kept { journal.volatile ≡ false }
-    requires ready { IsTrue (K.tells journal.desk) → IsAtRest K.content K.left journal [] }
+    requires made { IsRecordless K.state journal }
     ensures begins { IfOk result (λ book. (name : List ℕ) (entry : K)
-        → Unbegun K.tells K.shown K.content K.left K.crashes K.disk_faults K.out_faults name entry machine.plan journal.desk
-        → IsExactSoFar K.tells K.content name entry journal.desk
-        → Begins K.tells K.shown K.content K.left K.crashes K.disk_faults K.out_faults name entry machine.plan book) }
+        → Unbegun name (K.state entry) machine.plan (K.state journal.desk)
+        → IsExactSoFar name (K.state entry) (K.state journal.desk)
+        → Begins K.state name (K.state entry) machine.plan book) }
     ensures unbegun { IfErr result (λ back. (name : List ℕ) (entry : K)
-        → Unbegun K.tells K.shown K.content K.left K.crashes K.disk_faults K.out_faults name entry machine.plan journal.desk
-        → Unbegun K.tells K.shown K.content K.left K.crashes K.disk_faults K.out_faults name entry machine.plan back.0) }
+        → Unbegun name (K.state entry) machine.plan (K.state journal.desk)
+        → Unbegun name (K.state entry) machine.plan (K.state back.0)) }
     ensures ready { IfOk result (λ book. (book.halt ≡ None) × (book.quiet ≡ quiet)) }
-    ensures faults { IfErr result (λ back. (back.1 ≡ BookFault.Disk) ⊎ (back.1 ≡ BookFault.Memory)) }
-    ensures cause { IfErr result (λ back. back.1 ≡ BookFault.Disk → Rises (K.disk_faults journal.desk) (K.disk_faults back.0)) }
-    ensures disk { IfOk result (λ book. K.disk_faults journal.desk ≤ K.disk_faults book.journal.desk) }
-    ensures out { IfOk result (λ book. K.out_faults book.journal.desk ≡ K.out_faults journal.desk) }
-    ensures asks { IfOk result (λ book. K.asks journal.desk ≤ K.asks book.journal.desk) }
-    ensures back_disk { IfErr result (λ back. K.disk_faults journal.desk ≤ K.disk_faults back.0) }
-    ensures back_out { IfErr result (λ back. K.out_faults back.0 ≡ K.out_faults journal.desk) }
-    ensures back_asks { IfErr result (λ back. K.asks journal.desk ≤ K.asks back.0) }
+    ensures goes { GoesOn anything (K.state journal.desk) (K.state (desk_started result)) }
+    ensures fails { IfErr result (λ back. FailsToBegin back.1 (K.state journal.desk) (K.state back.0)) }
 {
     match Book::start(alloc, journal, machine, quiet) {
         Ok(book) => {
@@ -233,24 +211,18 @@ pub fn begin<K: Desk>(
     quiet: bool,
 ) -> Result<Book<K>, (K, BookFault)>
     requires fresh { StandsFor machine [] }
-    requires blank { IsBlank K.tells K.content K.left blank }
+    requires blank { IsBlank K.state blank }
     ensures begins { IfOk result (λ book. (name : List ℕ) (entry : K)
-        → Open K.tells K.shown K.content K.left K.crashes K.disk_faults K.out_faults name entry (desk_in blank)
-        → IsFoundBlank K.tells K.content name entry blank
-        → Begins K.tells K.shown K.content K.left K.crashes K.disk_faults K.out_faults name entry machine.plan book) }
+        → Open name (K.state entry) (K.state (desk_in blank))
+        → IsFoundBlank name (K.state entry) blank
+        → Begins K.state name (K.state entry) machine.plan book) }
     ensures unbegun { IfErr result (λ back. (name : List ℕ) (entry : K)
-        → Open K.tells K.shown K.content K.left K.crashes K.disk_faults K.out_faults name entry (desk_in blank)
-        → IsFoundBlank K.tells K.content name entry blank
-        → Unbegun K.tells K.shown K.content K.left K.crashes K.disk_faults K.out_faults name entry machine.plan back.0) }
+        → Open name (K.state entry) (K.state (desk_in blank))
+        → IsFoundBlank name (K.state entry) blank
+        → Unbegun name (K.state entry) machine.plan (K.state back.0)) }
     ensures ready { IfOk result (λ book. (book.halt ≡ None) × (book.quiet ≡ quiet)) }
-    ensures faults { IfErr result (λ back. (back.1 ≡ BookFault.Disk) ⊎ (back.1 ≡ BookFault.Memory)) }
-    ensures cause { IfErr result (λ back. back.1 ≡ BookFault.Disk → Rises (K.disk_faults (desk_in blank)) (K.disk_faults back.0)) }
-    ensures disk { IfOk result (λ book. K.disk_faults (desk_in blank) ≤ K.disk_faults book.journal.desk) }
-    ensures out { IfOk result (λ book. K.out_faults book.journal.desk ≡ K.out_faults (desk_in blank)) }
-    ensures asks { IfOk result (λ book. K.asks (desk_in blank) ≤ K.asks book.journal.desk) }
-    ensures back_disk { IfErr result (λ back. K.disk_faults (desk_in blank) ≤ K.disk_faults back.0) }
-    ensures back_out { IfErr result (λ back. K.out_faults back.0 ≡ K.out_faults (desk_in blank)) }
-    ensures back_asks { IfErr result (λ back. K.asks (desk_in blank) ≤ K.asks back.0) }
+    ensures goes { GoesOn anything (K.state (desk_in blank)) (K.state (desk_started result)) }
+    ensures fails { IfErr result (λ back. FailsToBegin back.1 (K.state (desk_in blank)) (K.state back.0)) }
 {
     match blank {
         Blank::Titled(journal) => start(alloc, journal, machine, quiet),
@@ -265,12 +237,11 @@ pub fn begin<K: Desk>(
 pub fn say_unbegun<K: Desk, P: Performer>(desk: K, fault: BookFault) -> Over<K>
     requires faults { (fault ≡ BookFault.Disk) ⊎ (fault ≡ BookFault.Memory) }
     ensures promised { (request : Request) (asks : ℕ) (name : List ℕ) (entry : K) (plan : PlanValue)
-        → Unbegun K.tells K.shown K.content K.left K.crashes K.disk_faults K.out_faults name entry plan desk
-        → Promised K.tells K.shown K.content K.left K.crashes K.disk_faults P.gives request (Rises asks (K.asks result.desk)) name plan [] entry result.desk result.status }
-    ensures closes { SaysUnbegun (K.shown desk) (K.shown result.desk) result.status }
-    ensures stays { FilesStay K.tells K.content desk result.desk }
-    ensures said { HasSaid (K.disk_faults desk) (K.disk_faults result.desk) (K.out_faults desk) (K.out_faults result.desk) result.status }
-    ensures asks { K.asks desk ≤ K.asks result.desk }
+        → Unbegun name (K.state entry) plan (K.state desk)
+        → Promised P.gives request (Rises asks (K.state result.desk).asks)
+        name plan [] (K.state entry) (K.state result.desk) result.status }
+    ensures closes { SaysUnbegun (K.state desk).shown (K.state result.desk).shown result.status }
+    ensures said { HasSaid (K.state desk) (K.state result.desk) result.status }
     ensures failed { result.status ≡ DISK_FAILED → fault ≡ BookFault.Disk }
     ensures apart { result.status ≢ UNHIRED }
 {

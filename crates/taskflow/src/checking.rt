@@ -3,9 +3,10 @@
 ghost use Rattle.std.specs.Prelude.{◌≡◌, ◌≢◌, ◌≤◌};
 ghost use Rattle.tf_desk.specs.Counts.{Rises};
 ghost use Rattle.tf_model.specs.Plan.{outline_of};
-ghost use Rattle.taskflow.specs.Course.{FileRead, FilesStay, Checks};
+ghost use Rattle.taskflow.specs.Course.{FileRead, Checks};
+ghost use Rattle.taskflow.specs.Durable.{NoFileChanges};
 ghost use Rattle.taskflow.specs.Messages.{checked};
-ghost use Rattle.taskflow.specs.Saying.{ClosesOrStops};
+ghost use Rattle.taskflow.specs.Saying.{ClosesWithOrStops, OnlySays, HasSaid};
 
 use crate::closing::close;
 use crate::messages::append_checked;
@@ -23,14 +24,13 @@ pub fn check_file<K: Desk, S: Sources>(
     desk: &mut K,
     sources: &mut S,
 ) -> u8
-    ensures checked { FileRead (S.contents sources.old) source (FilesStay K.tells K.content desk.old desk.new) (Checks (K.shown desk.old) (K.shown desk.new)) (K.shown desk.old) (K.shown desk.new) result }
-    ensures stays { FilesStay K.tells K.content desk.old desk.new }
+    ensures checked { FileRead (S.contents sources.old) source (NoFileChanges (K.state desk.old) (K.state desk.new))
+        (Checks (K.state desk.old).shown (K.state desk.new).shown)
+        (K.state desk.old).shown (K.state desk.new).shown result }
+    ensures says { OnlySays (K.state desk.old) (K.state desk.new) }
     ensures unread { result ≡ UNREAD → Rises (S.faults sources.old) (S.faults sources.new) }
-    ensures unsaid { result ≡ UNSAID → Rises (K.out_faults desk.old) (K.out_faults desk.new) }
+    ensures unsaid { result ≡ UNSAID → Rises (K.state desk.old).out_faults (K.state desk.new).out_faults }
     ensures apart { (result ≢ UNHIRED) × (result ≢ DISK_FAILED) }
-    ensures no_fall { K.out_faults desk.old ≤ K.out_faults desk.new }
-    ensures disk { K.disk_faults desk.new ≡ K.disk_faults desk.old }
-    ensures asks { K.asks desk.old ≤ K.asks desk.new }
     ensures no_source_fall { S.faults sources.old ≤ S.faults sources.new }
 {
     match open_file(alloc, source, desk, sources) {
@@ -41,13 +41,10 @@ pub fn check_file<K: Desk, S: Sources>(
 
 /// Says what a plan has.
 fn say_checked<K: Desk>(alloc: Global, plan: &Plan, desk: &mut K) -> u8
-    ensures closes { ClosesOrStops (K.shown desk.old) (checked (outline_of plan.now)) SUCCEEDED (K.shown desk.new) result }
-    ensures stays { FilesStay K.tells K.content desk.old desk.new }
-    ensures apart { (result ≢ UNREAD) × (result ≢ UNHIRED) × (result ≢ DISK_FAILED) }
-    ensures unsaid { result ≡ UNSAID → Rises (K.out_faults desk.old) (K.out_faults desk.new) }
-    ensures no_fall { K.out_faults desk.old ≤ K.out_faults desk.new }
-    ensures disk { K.disk_faults desk.new ≡ K.disk_faults desk.old }
-    ensures asks { K.asks desk.old ≤ K.asks desk.new }
+    ensures closes { ClosesWithOrStops (K.state desk.old).shown (checked (outline_of plan.now)) SUCCEEDED
+        (K.state desk.new).shown result }
+    ensures said { HasSaid (K.state desk.old) (K.state desk.new) result }
+    ensures apart { (result ≢ UNHIRED) × (result ≢ DISK_FAILED) }
 {
     let mut text = Vec::new(alloc);
     match append_checked(plan, &mut text) {

@@ -1,28 +1,20 @@
 //! How a command says what it says last.
 
-ghost use Rattle.std.specs.Prelude.{◌≡◌, ◌≢◌, ◌≤◌, IsTrue};
-ghost use Rattle.tf_desk.specs.Content.{Stands};
+ghost use Rattle.std.specs.Prelude.{◌≡◌, ◌≢◌};
 ghost use Rattle.tf_desk.specs.Counts.{Rises};
-ghost use Rattle.tf_desk.specs.Crash.{LeavesNoMore, SaysFront, Passes};
-ghost use Rattle.taskflow.specs.Saying.{Closes};
+ghost use Rattle.tf_desk.specs.State.{Says};
+ghost use Rattle.taskflow.specs.Saying.{ClosesWith};
 
 use crate::statuses::UNSAID;
 use tf_desk::Desk;
 
 /// Says a command's message, and answers the status: the one that belongs to it, or that of a failed output.
 pub fn close<K: Desk>(message: &[u8], status: u8, desk: &mut K) -> u8
-    ensures closes { Closes (K.shown desk.old) message.now status (K.shown desk.new) result }
-    ensures unsaid { result ≡ UNSAID → status ≢ UNSAID → Rises (K.out_faults desk.old) (K.out_faults desk.new) }
+    ensures closes { ClosesWith (K.state desk.old).shown message.now status (K.state desk.new).shown result }
+    ensures says { Says message.now (K.state desk.old) (K.state desk.new) }
+    ensures unsaid { result ≡ UNSAID → status ≢ UNSAID
+        → Rises (K.state desk.old).out_faults (K.state desk.new).out_faults }
     ensures status { result ≢ UNSAID → result ≡ status }
-    ensures no_fall { K.out_faults desk.old ≤ K.out_faults desk.new }
-    ensures disk { K.disk_faults desk.new ≡ K.disk_faults desk.old }
-    ensures asks { K.asks desk.old ≤ K.asks desk.new }
-    ensures tells { K.tells desk.new ≡ K.tells desk.old }
-    ensures stands { IsTrue (K.tells desk.old) → Stands (K.content desk.old) (K.content desk.new) }
-    ensures leaves { IsTrue (K.tells desk.old) → LeavesNoMore (K.left desk.old) (K.left desk.new) }
-    ensures crash { IsTrue (K.tells desk.old) → Passes (K.content desk.old).clock (K.content desk.new).clock
-        (K.crashes desk.old) (K.crashes desk.new)
-        (SaysFront (K.content desk.old) (K.left desk.old) (K.shown desk.old) message.now) }
 {
     match desk.say(message) {
         Ok(()) => status,

@@ -1,6 +1,7 @@
 ghost use Rattle.std.specs.Prelude.{◌≡◌, vec_len, IfOk, None};
 
 use std::alloc::Global;
+use std::io::Eprint;
 use std::process::Processes;
 use tf_ports::{Children, Crew, PortFault, Want};
 use tf_tasks::LocalHand;
@@ -21,7 +22,7 @@ impl<R> LocalCrew<R> {
     }
 }
 
-impl<R: Processes + Copy + Send + Drop> Crew for LocalCrew<R> {
+impl<R: Processes + Eprint + Copy + Send + Drop> Crew for LocalCrew<R> {
     type Hand = LocalHand<Children<R>>;
 
     ghost faults = { λ crew. crew.faults };
@@ -43,7 +44,7 @@ impl<R: Processes + Copy + Send + Drop> Crew for LocalCrew<R> {
 }
 
 /// So many hands of this process.
-fn local_hands<R: Processes + Copy + Drop>(
+fn local_hands<R: Processes + Eprint + Copy + Drop>(
     alloc: Global,
     runtime: R,
     count: u8,

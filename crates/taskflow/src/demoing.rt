@@ -2,7 +2,6 @@
 //! entry.
 
 ghost use Rattle.std.specs.Prelude.{◌≡◌, ◌≤◌, [], IfOk};
-ghost use Rattle.tf_desk.specs.Counts.{Rises};
 ghost use Rattle.tf_flow.specs.Written.{plan_tree};
 ghost use Rattle.tf_machine.specs.Machine.{StandsFor};
 ghost use Rattle.tf_words.specs.Demos.{IsDemo};
@@ -10,7 +9,7 @@ ghost use Rattle.taskflow.specs.Accepted.{demo_tree};
 ghost use Rattle.tf_ports.specs.declared.crews.Want.TheVariants as want;
 ghost use Rattle.taskflow.specs.Asking.{AreHands};
 ghost use Rattle.taskflow.specs.Books.{Demonstrates};
-ghost use Rattle.taskflow.specs.Causes.{HasCauses, counts};
+ghost use Rattle.taskflow.specs.Causes.{HasEachCause, WasAsked, counts_of};
 ghost use Rattle.taskflow.specs.Course.{HiresAtMost};
 
 use crate::recording::run_plan;
@@ -38,12 +37,13 @@ pub fn demo_book<K: Desk + Send, W: Crew, R: Threads + Wait + Sync>(
 ) -> Over<K>
     requires numbers { IsDemo seed size }
     requires few { AreHands (want.Local hands) }
-    ensures demonstrates { Demonstrates K.tells K.shown K.content K.left K.crashes K.disk_faults W.Hand.gives (want.Local hands) (Rises (K.asks desk) (K.asks result.desk)) name.now
+    ensures demonstrates { Demonstrates K.state W.Hand.gives (want.Local hands)
+        (WasAsked (K.state desk) (K.state result.desk)) name.now
         (W.hired crew.old) (W.hired crew.new) desk result.desk seed size result.status }
     ensures hires { HiresAtMost (want.Local hands) (W.hired crew.old) (W.hired crew.new) }
-    ensures asks { K.asks desk ≤ K.asks result.desk }
-    ensures causes { HasCauses result.status (counts (K.disk_faults desk) (K.out_faults desk) 0 (W.faults crew.old))
-        (counts (K.disk_faults result.desk) (K.out_faults result.desk) 0 (W.faults crew.new)) }
+    ensures asks { (K.state desk).asks ≤ (K.state result.desk).asks }
+    ensures causes { HasEachCause result.status (counts_of (K.state desk) 0 (W.faults crew.old))
+        (counts_of (K.state result.desk) 0 (W.faults crew.new)) }
 {
     let request = Request {
         want: Want::Local(hands),

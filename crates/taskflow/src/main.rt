@@ -63,14 +63,4 @@ fn read_arguments(rt: &(impl Env + AllocGlobal)) -> io::Result<Vec<Word>> {
 }
 
 #[cfg(test)]
-mod book_tests;
-#[cfg(test)]
-mod hands_tests;
-#[cfg(test)]
-mod refusal_tests;
-#[cfg(test)]
 mod tests;
-#[cfg(test)]
-mod trial_tests;
-#[cfg(test)]
-mod work_tests;

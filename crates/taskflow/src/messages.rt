@@ -2,7 +2,8 @@ ghost use Rattle.std.specs.Prelude.{◌≡◌, ◌≤◌, [], ◌∷◌, ◌++�
 ghost use Rattle.std.specs.List.{flat_map};
 ghost use Rattle.tf_numbers.specs.Numbers.{which_below};
 ghost use Rattle.tf_model.specs.Plan.{outline_of, count, is_task};
-ghost use Rattle.taskflow.specs.Messages.{limit_word as word_of_limit, checked, summary, tasks_below, spaced, plan_fault_text, file_fault_text, compile_fault_text, scope_fault_text, refusal_text, refusal, byte_or_end, not_a_book, book_full, state_forbids};
+ghost use Rattle.tf_board.specs.Answers.{byte_or_end};
+ghost use Rattle.taskflow.specs.Messages.{limit_word as word_of_limit, checked, summary, tasks_below, spaced, plan_fault_text, file_fault_text, compile_fault_text, scope_fault_text, reason_text, refusal, not_a_book, book_full, state_forbids};
 
 use crate::accepting::Refusal;
 use tf_document::{FileFault, Path};
@@ -121,7 +122,7 @@ fn count_tasks(plan: &Plan) -> u16
 /// Appends the message for a flow file that is refused for the reason.
 #[tactic(auto, unfolding(crate::specs::Messages::refusal))]
 pub fn append_refusal(reason: &Refusal, out: &mut Vec<u8>) -> Result<(), Memory>
-    ensures { OnOk result (out.new.items ≡ out.old.items ++ refusal (refusal_text reason.now)) }
+    ensures { OnOk result (out.new.items ≡ out.old.items ++ refusal (reason_text reason.now)) }
 {
     append(b"taskflow: flow file: ", out)?;
     append_reason(reason, out)?;
@@ -129,7 +130,7 @@ pub fn append_refusal(reason: &Refusal, out: &mut Vec<u8>) -> Result<(), Memory>
 }
 
 fn append_reason(reason: &Refusal, out: &mut Vec<u8>) -> Result<(), Memory>
-    ensures { OnOk result (out.new.items ≡ out.old.items ++ refusal_text reason.now) }
+    ensures { OnOk result (out.new.items ≡ out.old.items ++ reason_text reason.now) }
 {
     match reason {
         Refusal::File(fault) => append_file_fault(fault, out),

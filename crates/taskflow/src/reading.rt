@@ -4,11 +4,12 @@ ghost use Rattle.std.specs.Prelude.{◌≡◌, ◌≢◌, ◌≤◌, [], true, f
 ghost use Rattle.tf_desk.specs.Counts.{Rises};
 ghost use Rattle.tf_flow.specs.Written.{plan_tree};
 ghost use Rattle.tf_machine.specs.Machine.{StandsFor};
-ghost use Rattle.taskflow.specs.Accepted.{GivesPlan, is_memory as is_want_of_memory};
-ghost use Rattle.taskflow.specs.Messages.{refusal, refusal_text};
-ghost use Rattle.taskflow.specs.Course.{BytesRead, FileRead, FilesStay, Undone};
+ghost use Rattle.taskflow.specs.Accepted.{GivesPlan, is_want_of_memory};
+ghost use Rattle.taskflow.specs.Messages.{refusal, reason_text};
+ghost use Rattle.taskflow.specs.Course.{BytesRead, FileRead, Undone};
+ghost use Rattle.taskflow.specs.Durable.{NoFileChanges};
 ghost use Rattle.taskflow.specs.Opened.{Opened};
-ghost use Rattle.taskflow.specs.Saying.{ClosesOrStops};
+ghost use Rattle.taskflow.specs.Saying.{ClosesWithOrStops, OnlySays, HasSaid};
 
 use crate::accepting::{Refusal, accept};
 use crate::closing::close;
@@ -40,15 +41,13 @@ pub fn open_file<K: Desk, S: Sources>(
     ensures opened { IfOk result (Opened (S.contents sources.old) source) }
     ensures empty { IfOk result (λ machine. StandsFor machine []) }
     ensures same { OnOk result (desk.new ≡ desk.old) }
-    ensures closed { IfErr result (FileRead (S.contents sources.old) source (FilesStay K.tells K.content desk.old desk.new) Undone
-        (K.shown desk.old) (K.shown desk.new)) }
+    ensures closed { IfErr result (FileRead (S.contents sources.old) source
+        (NoFileChanges (K.state desk.old) (K.state desk.new)) Undone
+        (K.state desk.old).shown (K.state desk.new).shown) }
+    ensures says { OnlySays (K.state desk.old) (K.state desk.new) }
     ensures unread { result ≡ Err UNREAD → Rises (S.faults sources.old) (S.faults sources.new) }
-    ensures unsaid { result ≡ Err UNSAID → Rises (K.out_faults desk.old) (K.out_faults desk.new) }
+    ensures unsaid { result ≡ Err UNSAID → Rises (K.state desk.old).out_faults (K.state desk.new).out_faults }
     ensures apart { (result ≢ Err UNHIRED) × (result ≢ Err DISK_FAILED) }
-    ensures stays { FilesStay K.tells K.content desk.old desk.new }
-    ensures no_fall { K.out_faults desk.old ≤ K.out_faults desk.new }
-    ensures disk { K.disk_faults desk.new ≡ K.disk_faults desk.old }
-    ensures asks { K.asks desk.old ≤ K.asks desk.new }
     ensures no_source_fall { S.faults sources.old ≤ S.faults sources.new }
 {
     match sources.read_all(alloc, &source.file) {
@@ -66,17 +65,16 @@ fn open_bytes<K: Desk>(
     source: Source,
     desk: &mut K,
 ) -> Result<Machine, u8>
-    ensures opened { IfOk result (λ machine. GivesPlan source.sets source.defer bytes.now (plan_tree machine.plan)) }
+    ensures opened { IfOk result (λ machine. GivesPlan source.sets source.defer bytes.now
+        (plan_tree machine.plan)) }
     ensures empty { IfOk result (λ machine. StandsFor machine []) }
     ensures same { OnOk result (desk.new ≡ desk.old) }
-    ensures closed { IfErr result (BytesRead source bytes.now (FilesStay K.tells K.content desk.old desk.new) Undone
-        (K.shown desk.old) (K.shown desk.new)) }
+    ensures closed { IfErr result (BytesRead source bytes.now
+        (NoFileChanges (K.state desk.old) (K.state desk.new)) Undone
+        (K.state desk.old).shown (K.state desk.new).shown) }
+    ensures says { OnlySays (K.state desk.old) (K.state desk.new) }
+    ensures unsaid { result ≡ Err UNSAID → Rises (K.state desk.old).out_faults (K.state desk.new).out_faults }
     ensures apart { (result ≢ Err UNREAD) × (result ≢ Err UNHIRED) × (result ≢ Err DISK_FAILED) }
-    ensures stays { FilesStay K.tells K.content desk.old desk.new }
-    ensures unsaid { result ≡ Err UNSAID → Rises (K.out_faults desk.old) (K.out_faults desk.new) }
-    ensures no_fall { K.out_faults desk.old ≤ K.out_faults desk.new }
-    ensures disk { K.disk_faults desk.new ≡ K.disk_faults desk.old }
-    ensures asks { K.asks desk.old ≤ K.asks desk.new }
 {
     let Source { file, sets, defer } = source;
     drop(file);
@@ -88,14 +86,13 @@ fn open_bytes<K: Desk>(
 
 /// Says why a flow file is refused, unless memory ran out.
 fn refuse<K: Desk>(alloc: Global, reason: &Refusal, desk: &mut K) -> u8
-    ensures memory { is_want_of_memory reason.now ≡ true → (result ≡ OUT_OF_MEMORY) × (K.shown desk.new ≡ K.shown desk.old) }
-    ensures closes { is_want_of_memory reason.now ≡ false → ClosesOrStops (K.shown desk.old) (refusal (refusal_text reason.now)) REFUSED (K.shown desk.new) result }
-    ensures stays { FilesStay K.tells K.content desk.old desk.new }
-    ensures apart { (result ≢ UNREAD) × (result ≢ UNHIRED) × (result ≢ DISK_FAILED) }
-    ensures unsaid { result ≡ UNSAID → Rises (K.out_faults desk.old) (K.out_faults desk.new) }
-    ensures no_fall { K.out_faults desk.old ≤ K.out_faults desk.new }
-    ensures disk { K.disk_faults desk.new ≡ K.disk_faults desk.old }
-    ensures asks { K.asks desk.old ≤ K.asks desk.new }
+    ensures memory { is_want_of_memory reason.now ≡ true
+        → (result ≡ OUT_OF_MEMORY) × ((K.state desk.new).shown ≡ (K.state desk.old).shown) }
+    ensures closes { is_want_of_memory reason.now ≡ false
+        → ClosesWithOrStops (K.state desk.old).shown (refusal (reason_text reason.now)) REFUSED
+        (K.state desk.new).shown result }
+    ensures said { HasSaid (K.state desk.old) (K.state desk.new) result }
+    ensures apart { (result ≢ UNHIRED) × (result ≢ DISK_FAILED) }
 {
     if reason.is_memory() {
         return OUT_OF_MEMORY;

@@ -1,18 +1,18 @@
 //! A run that is recorded in a book: it begins in a file that holds no flow.
 
 ghost use Rattle.std.specs.Prelude.{◌≡◌, ◌≤◌, ◌⊎◌, ℕ, List, [], vec_len};
-ghost use Rattle.tf_desk.specs.Counts.{Rises};
 ghost use Rattle.tf_flow.specs.Written.{plan_tree};
 ghost use Rattle.tf_ports.specs.Wanted.{wanted as number_of};
 ghost use Rattle.tf_machine.specs.Machine.{StandsFor};
-ghost use Rattle.tf_book.specs.Book.{outline, state};
+ghost use Rattle.tf_book.specs.Book.{outline, flow_state};
 ghost use Rattle.taskflow.specs.Asking.{AreHands};
 ghost use Rattle.taskflow.specs.Begun.{desk_in, IsBlank, IsFoundBlank};
 ghost use Rattle.taskflow.specs.Books.{Hires, RefusesOrStops, Unhired, Promised, Runs};
-ghost use Rattle.taskflow.specs.Causes.{HasCauses, HasSaid, counts};
+ghost use Rattle.taskflow.specs.Causes.{HasEachCause, WasAsked, counts_of};
 ghost use Rattle.taskflow.specs.Course.{FileRead, IsUntouched, HiresAtMost};
 ghost use Rattle.taskflow.specs.Messages.{state_forbids};
-ghost use Rattle.tf_journal.specs.Way.{Untouched, Open};
+ghost use Rattle.taskflow.specs.Saying.{HasSaid};
+ghost use Rattle.tf_journal.specs.Path.{Untouched, Open};
 
 use crate::books::{Blank, begin, open, refuse_book, say_over, say_unbegun, say_unhired};
 use crate::messages::append_state_forbids;
@@ -22,10 +22,11 @@ use crate::statuses::{FORBIDDEN, OUT_OF_MEMORY, UNSAID};
 use std::alloc::Global;
 use std::sync::Wait;
 use std::thread::Threads;
+use tf_actions::Performer;
 use tf_book::{Book, Loaded};
 use tf_desk::Desk;
 use tf_machine::Machine;
-use tf_ports::{Crew, Performer, Sources};
+use tf_ports::{Crew, Sources};
 use tf_values::Text;
 
 /// Reads the file, opens the book, hires the hands that are wanted and runs the file's flow with them.
@@ -40,13 +41,15 @@ pub fn run_file<K: Desk + Send, S: Sources, W: Crew, R: Threads + Wait + Sync>(
     crew: &mut W,
 ) -> Over<K>
     requires few { AreHands request.now.want }
-    ensures runs { FileRead (S.contents sources.old) source (IsUntouched K.tells K.content (W.hired crew.old) (W.hired crew.new) desk result.desk)
-        (Runs K.tells K.shown K.content K.left K.crashes K.disk_faults W.Hand.gives request.now (Rises (K.asks desk) (K.asks result.desk)) name.now (W.hired crew.old) (W.hired crew.new) desk result.desk)
-        (K.shown desk) (K.shown result.desk) result.status }
+    ensures runs { FileRead (S.contents sources.old) source
+        (IsUntouched (W.hired crew.old) (W.hired crew.new) (K.state desk) (K.state result.desk))
+        (Runs W.Hand.gives request.now (WasAsked (K.state desk) (K.state result.desk)) name.now
+        (W.hired crew.old) (W.hired crew.new) (K.state desk) (K.state result.desk))
+        (K.state desk).shown (K.state result.desk).shown result.status }
     ensures hires { HiresAtMost request.now.want (W.hired crew.old) (W.hired crew.new) }
-    ensures asks { K.asks desk ≤ K.asks result.desk }
-    ensures causes { HasCauses result.status (counts (K.disk_faults desk) (K.out_faults desk) (S.faults sources.old) (W.faults crew.old))
-        (counts (K.disk_faults result.desk) (K.out_faults result.desk) (S.faults sources.new) (W.faults crew.new)) }
+    ensures asks { (K.state desk).asks ≤ (K.state result.desk).asks }
+    ensures causes { HasEachCause result.status (counts_of (K.state desk) (S.faults sources.old) (W.faults crew.old))
+        (counts_of (K.state result.desk) (S.faults sources.new) (W.faults crew.new)) }
 {
     match open_file(alloc, source, &mut desk, sources) {
         Ok(machine) => run_plan(rt, alloc, machine, name, request, desk, crew),
@@ -66,12 +69,13 @@ pub fn run_plan<K: Desk + Send, W: Crew, R: Threads + Wait + Sync>(
 ) -> Over<K>
     requires fresh { StandsFor machine [] }
     requires few { AreHands request.now.want }
-    ensures runs { Runs K.tells K.shown K.content K.left K.crashes K.disk_faults W.Hand.gives request.now (Rises (K.asks desk) (K.asks result.desk)) name.now (W.hired crew.old) (W.hired crew.new)
-        desk result.desk (plan_tree machine.plan) result.status }
+    ensures runs { Runs W.Hand.gives request.now (WasAsked (K.state desk) (K.state result.desk)) name.now
+        (W.hired crew.old) (W.hired crew.new) (K.state desk) (K.state result.desk)
+        (plan_tree machine.plan) result.status }
     ensures hires { HiresAtMost request.now.want (W.hired crew.old) (W.hired crew.new) }
-    ensures asks { K.asks desk ≤ K.asks result.desk }
-    ensures causes { HasCauses result.status (counts (K.disk_faults desk) (K.out_faults desk) 0 (W.faults crew.old))
-        (counts (K.disk_faults result.desk) (K.out_faults result.desk) 0 (W.faults crew.new)) }
+    ensures asks { (K.state desk).asks ≤ (K.state result.desk).asks }
+    ensures causes { HasEachCause result.status (counts_of (K.state desk) 0 (W.faults crew.old))
+        (counts_of (K.state result.desk) 0 (W.faults crew.new)) }
 {
     match open(alloc, desk, name) {
         Ok(Loaded::Book(book)) => forbid(alloc, book),
@@ -98,10 +102,10 @@ pub fn run_plan<K: Desk + Send, W: Crew, R: Threads + Wait + Sync>(
 /// Says that the flow which a book holds forbids what is asked for.
 pub fn forbid<K: Desk>(alloc: Global, book: Book<K>) -> Over<K>
     ensures refuses { (name : List ℕ) (entry : K)
-        → Untouched K.tells K.shown K.content K.left K.crashes K.disk_faults K.out_faults name entry book.journal.desk
-        → RefusesOrStops K.tells K.shown K.content K.left K.crashes K.disk_faults name entry result.desk (state_forbids (outline book) (state book)) FORBIDDEN result.status }
-    ensures said { HasSaid (K.disk_faults book.journal.desk) (K.disk_faults result.desk) (K.out_faults book.journal.desk) (K.out_faults result.desk) result.status }
-    ensures asks { K.asks book.journal.desk ≤ K.asks result.desk }
+        → Untouched name (K.state entry) (K.state book.journal.desk)
+        → RefusesOrStops name (K.state entry) (K.state result.desk)
+        (state_forbids (outline book) (flow_state book)) FORBIDDEN result.status }
+    ensures said { HasSaid (K.state book.journal.desk) (K.state result.desk) result.status }
     ensures status { (result.status ≡ FORBIDDEN) ⊎ (result.status ≡ UNSAID) ⊎ (result.status ≡ OUT_OF_MEMORY) }
 {
     let mut text = Vec::new(alloc);
@@ -127,19 +131,19 @@ fn hire_and_run<K: Desk + Send, W: Crew, R: Threads + Wait + Sync>(
     crew: &mut W,
 ) -> Over<K>
     requires fresh { StandsFor machine [] }
-    requires blank { IsBlank K.tells K.content K.left blank }
+    requires blank { IsBlank K.state blank }
     requires few { AreHands request.now.want }
     ensures runs { (name : List ℕ) (entry : K)
-        → Open K.tells K.shown K.content K.left K.crashes K.disk_faults K.out_faults name entry (desk_in blank)
-        → IsFoundBlank K.tells K.content name entry blank
-        → (Unhired K.tells K.shown K.content K.left K.crashes K.disk_faults name entry result.desk (W.hired crew.old) (W.hired crew.new) result.status
+        → Open name (K.state entry) (K.state (desk_in blank))
+        → IsFoundBlank name (K.state entry) blank
+        → (Unhired name (K.state entry) (K.state result.desk) (W.hired crew.old) (W.hired crew.new) result.status
         ⊎ (Hires request.now.want (W.hired crew.old) (W.hired crew.new)
-        × Promised K.tells K.shown K.content K.left K.crashes K.disk_faults W.Hand.gives request.now
-        (Rises (K.asks (desk_in blank)) (K.asks result.desk)) name machine.plan [] entry result.desk result.status)) }
+        × Promised W.Hand.gives request.now (WasAsked (K.state (desk_in blank)) (K.state result.desk))
+        name machine.plan [] (K.state entry) (K.state result.desk) result.status)) }
     ensures hires { HiresAtMost request.now.want (W.hired crew.old) (W.hired crew.new) }
-    ensures asks { K.asks (desk_in blank) ≤ K.asks result.desk }
-    ensures causes { HasCauses result.status (counts (K.disk_faults (desk_in blank)) (K.out_faults (desk_in blank)) 0 (W.faults crew.old))
-        (counts (K.disk_faults result.desk) (K.out_faults result.desk) 0 (W.faults crew.new)) }
+    ensures asks { (K.state (desk_in blank)).asks ≤ (K.state result.desk).asks }
+    ensures causes { HasEachCause result.status (counts_of (K.state (desk_in blank)) 0 (W.faults crew.old))
+        (counts_of (K.state result.desk) 0 (W.faults crew.new)) }
 {
     match crew.hire(alloc, &request.want) {
         Ok(hands) => run_in(rt, alloc, machine, blank, request, hands),
@@ -160,17 +164,17 @@ fn run_in<K: Desk + Send, P: Performer + Send, R: Threads + Wait + Sync>(
     hands: Vec<P>,
 ) -> Over<K>
     requires fresh { StandsFor machine [] }
-    requires blank { IsBlank K.tells K.content K.left blank }
+    requires blank { IsBlank K.state blank }
     requires all { vec_len hands ≡ number_of request.now.want }
     requires few { AreHands request.now.want }
     ensures runs { (name : List ℕ) (entry : K)
-        → Open K.tells K.shown K.content K.left K.crashes K.disk_faults K.out_faults name entry (desk_in blank)
-        → IsFoundBlank K.tells K.content name entry blank
-        → Promised K.tells K.shown K.content K.left K.crashes K.disk_faults P.gives request.now
-        (Rises (K.asks (desk_in blank)) (K.asks result.desk)) name machine.plan [] entry result.desk result.status }
-    ensures asks { K.asks (desk_in blank) ≤ K.asks result.desk }
-    ensures causes { HasCauses result.status (counts (K.disk_faults (desk_in blank)) (K.out_faults (desk_in blank)) 0 0)
-        (counts (K.disk_faults result.desk) (K.out_faults result.desk) 0 0) }
+        → Open name (K.state entry) (K.state (desk_in blank))
+        → IsFoundBlank name (K.state entry) blank
+        → Promised P.gives request.now (WasAsked (K.state (desk_in blank)) (K.state result.desk))
+        name machine.plan [] (K.state entry) (K.state result.desk) result.status }
+    ensures asks { (K.state (desk_in blank)).asks ≤ (K.state result.desk).asks }
+    ensures causes { HasEachCause result.status (counts_of (K.state (desk_in blank)) 0 0)
+        (counts_of (K.state result.desk) 0 0) }
 {
     match begin(alloc, blank, machine, request.quiet) {
         Ok(book) => run_book(rt, alloc, book, hands, request),

@@ -3,9 +3,9 @@
 ghost use Rattle.std.specs.Prelude.{◌≡◌, ◌≢◌, ◌≤◌, ℕ, List, None, Some, false, IsSome};
 ghost use Rattle.tf_book.specs.Book.{BookValue};
 ghost use Rattle.taskflow.specs.Books.{ResetsBook};
-ghost use Rattle.taskflow.specs.Causes.{HasCauses, counts};
+ghost use Rattle.taskflow.specs.Causes.{HasEachCause, counts_of};
 ghost use Rattle.taskflow.specs.Runs.{HoldsBook, IsPutBackTo, GoesBack};
-ghost use Rattle.tf_journal.specs.Way.{Open};
+ghost use Rattle.tf_journal.specs.Path.{Open};
 
 use crate::books::{open, refuse_book, say_empty};
 use crate::recording::forbid;
@@ -19,10 +19,10 @@ use tf_values::Text;
 /// Opens the book, and puts its flow back, which has to be REVERTED with every atom settled: each REVERTED or IGNORE atom
 /// becomes PENDING, in tree order, and then the flow does.
 pub fn reset_book<K: Desk>(alloc: Global, name: &Text, desk: K) -> Over<K>
-    ensures resets { ResetsBook K.tells K.shown K.content K.left K.crashes K.disk_faults name.now desk result.desk result.status }
-    ensures asks { K.asks desk ≤ K.asks result.desk }
-    ensures causes { HasCauses result.status (counts (K.disk_faults desk) (K.out_faults desk) 0 0)
-        (counts (K.disk_faults result.desk) (K.out_faults result.desk) 0 0) }
+    ensures resets { ResetsBook name.now (K.state desk) (K.state result.desk) result.status }
+    ensures asks { (K.state desk).asks ≤ (K.state result.desk).asks }
+    ensures causes { HasEachCause result.status (counts_of (K.state desk) 0 0)
+        (counts_of (K.state result.desk) 0 0) }
 {
     match open(alloc, desk, name) {
         Ok(Loaded::Book(book)) => put_back(alloc, book),
@@ -38,12 +38,12 @@ fn put_back<K: Desk>(alloc: Global, mut book: Book<K>) -> Over<K>
     requires speaks { book.quiet ≡ false }
     requires kept { book.journal.volatile ≡ false }
     ensures goes { (name : List ℕ) (entry : K)
-        → Open K.tells K.shown K.content K.left K.crashes K.disk_faults K.out_faults name entry book.journal.desk
-        → HoldsBook K.tells K.content name entry book
-        → ResetsBook K.tells K.shown K.content K.left K.crashes K.disk_faults name entry result.desk result.status }
-    ensures asks { K.asks book.journal.desk ≤ K.asks result.desk }
-    ensures causes { HasCauses result.status (counts (K.disk_faults book.journal.desk) (K.out_faults book.journal.desk) 0 0)
-        (counts (K.disk_faults result.desk) (K.out_faults result.desk) 0 0) }
+        → Open name (K.state entry) (K.state book.journal.desk)
+        → HoldsBook name (K.state entry) book
+        → ResetsBook name (K.state entry) (K.state result.desk) result.status }
+    ensures asks { (K.state book.journal.desk).asks ≤ (K.state result.desk).asks }
+    ensures causes { HasEachCause result.status (counts_of (K.state book.journal.desk) 0 0)
+        (counts_of (K.state result.desk) 0 0) }
 {
     match book.reset() {
         Ok(()) => {
@@ -62,10 +62,10 @@ fn put_back<K: Desk>(alloc: Global, mut book: Book<K>) -> Over<K>
 fn stop<K: Desk>(alloc: Global, book: Book<K>) -> Over<K>
     requires halted { IsSome book.halt }
     ensures goes { (start : BookValue K)
-        → IsPutBackTo K.tells K.shown K.content K.left K.crashes K.disk_faults K.out_faults start book
-        → GoesBack K.tells K.shown K.content K.left K.crashes K.disk_faults K.out_faults start result.desk result.status }
+        → IsPutBackTo K.state start book
+        → GoesBack K.state start (K.state result.desk) result.status }
     ensures apart { (result.status ≢ UNREAD) × (result.status ≢ UNHIRED) }
-    ensures asks { K.asks book.journal.desk ≤ K.asks result.desk }
+    ensures asks { (K.state book.journal.desk).asks ≤ (K.state result.desk).asks }
 {
     match book.halted() {
         Some(halt) => {

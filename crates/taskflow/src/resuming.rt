@@ -1,15 +1,14 @@
 //! A run that goes on from the history which a book holds.
 
 ghost use Rattle.std.specs.Prelude.{◌≡◌, ◌≤◌, ℕ, List, false, None};
-ghost use Rattle.tf_desk.specs.Counts.{Rises};
-ghost use Rattle.tf_book.specs.Book.{state as state_of};
+ghost use Rattle.tf_book.specs.Book.{flow_state};
 ghost use Rattle.tf_model.specs.Sessions.{has_ended};
 ghost use Rattle.taskflow.specs.Asking.{AreHands};
 ghost use Rattle.taskflow.specs.Books.{Resumes};
-ghost use Rattle.taskflow.specs.Causes.{HasCauses, counts};
+ghost use Rattle.taskflow.specs.Causes.{HasEachCause, WasAsked, counts_of};
 ghost use Rattle.taskflow.specs.Course.{HiresAtMost};
-ghost use Rattle.taskflow.specs.Runs.{HoldsBook, Continues};
-ghost use Rattle.tf_journal.specs.Way.{Open};
+ghost use Rattle.taskflow.specs.Runs.{HoldsBook, GoesFurther};
+ghost use Rattle.tf_journal.specs.Path.{Open};
 
 use crate::books::{open, refuse_book, say_empty, say_unhired};
 use crate::running::{Over, Request, report_end, run_book};
@@ -34,12 +33,12 @@ pub fn resume_book<K: Desk + Send, W: Crew, R: Threads + Wait + Sync>(
 ) -> Over<K>
     requires speaks { request.now.quiet ≡ false }
     requires few { AreHands request.now.want }
-    ensures resumes { Resumes K.tells K.shown K.content K.left K.crashes K.disk_faults W.Hand.gives request.now (Rises (K.asks desk) (K.asks result.desk))
-        name.now (W.hired crew.old) (W.hired crew.new) desk result.desk result.status }
+    ensures resumes { Resumes W.Hand.gives request.now (WasAsked (K.state desk) (K.state result.desk)) name.now
+        (W.hired crew.old) (W.hired crew.new) (K.state desk) (K.state result.desk) result.status }
     ensures hires { HiresAtMost request.now.want (W.hired crew.old) (W.hired crew.new) }
-    ensures asks { K.asks desk ≤ K.asks result.desk }
-    ensures causes { HasCauses result.status (counts (K.disk_faults desk) (K.out_faults desk) 0 (W.faults crew.old))
-        (counts (K.disk_faults result.desk) (K.out_faults result.desk) 0 (W.faults crew.new)) }
+    ensures asks { (K.state desk).asks ≤ (K.state result.desk).asks }
+    ensures causes { HasEachCause result.status (counts_of (K.state desk) 0 (W.faults crew.old))
+        (counts_of (K.state result.desk) 0 (W.faults crew.new)) }
 {
     match open(alloc, desk, name) {
         Ok(Loaded::Book(book)) => {
@@ -66,14 +65,14 @@ fn go_on<K: Desk + Send, W: Crew, R: Threads + Wait + Sync>(
     requires few { AreHands request.now.want }
     requires kept { book.journal.volatile ≡ false }
     ensures goes { (name : List ℕ) (entry : K)
-        → Open K.tells K.shown K.content K.left K.crashes K.disk_faults K.out_faults name entry book.journal.desk
-        → HoldsBook K.tells K.content name entry book
-        → Continues K.tells K.shown K.content K.left K.crashes K.disk_faults K.out_faults W.Hand.gives request.now
-        (Rises (K.asks book.journal.desk) (K.asks result.desk)) name entry book (W.hired crew.old) (W.hired crew.new) result.desk result.status }
+        → Open name (K.state entry) (K.state book.journal.desk)
+        → HoldsBook name (K.state entry) book
+        → GoesFurther W.Hand.gives request.now (WasAsked (K.state book.journal.desk) (K.state result.desk))
+        name (K.state entry) book (W.hired crew.old) (W.hired crew.new) (K.state result.desk) result.status }
     ensures hires { HiresAtMost request.now.want (W.hired crew.old) (W.hired crew.new) }
-    ensures asks { K.asks book.journal.desk ≤ K.asks result.desk }
-    ensures causes { HasCauses result.status (counts (K.disk_faults book.journal.desk) (K.out_faults book.journal.desk) 0 (W.faults crew.old))
-        (counts (K.disk_faults result.desk) (K.out_faults result.desk) 0 (W.faults crew.new)) }
+    ensures asks { (K.state book.journal.desk).asks ≤ (K.state result.desk).asks }
+    ensures causes { HasEachCause result.status (counts_of (K.state book.journal.desk) 0 (W.faults crew.old))
+        (counts_of (K.state result.desk) 0 (W.faults crew.new)) }
 {
     let state = book.state();
     match state {
@@ -97,16 +96,16 @@ fn hire_and_go_on<K: Desk + Send, W: Crew, R: Threads + Wait + Sync>(
     requires spoken { request.now.quiet ≡ false }
     requires few { AreHands request.now.want }
     requires kept { book.journal.volatile ≡ false }
-    requires going { has_ended (state_of book) ≡ false }
+    requires going { has_ended (flow_state book) ≡ false }
     ensures goes { (name : List ℕ) (entry : K)
-        → Open K.tells K.shown K.content K.left K.crashes K.disk_faults K.out_faults name entry book.journal.desk
-        → HoldsBook K.tells K.content name entry book
-        → Continues K.tells K.shown K.content K.left K.crashes K.disk_faults K.out_faults W.Hand.gives request.now
-        (Rises (K.asks book.journal.desk) (K.asks result.desk)) name entry book (W.hired crew.old) (W.hired crew.new) result.desk result.status }
+        → Open name (K.state entry) (K.state book.journal.desk)
+        → HoldsBook name (K.state entry) book
+        → GoesFurther W.Hand.gives request.now (WasAsked (K.state book.journal.desk) (K.state result.desk))
+        name (K.state entry) book (W.hired crew.old) (W.hired crew.new) (K.state result.desk) result.status }
     ensures hires { HiresAtMost request.now.want (W.hired crew.old) (W.hired crew.new) }
-    ensures asks { K.asks book.journal.desk ≤ K.asks result.desk }
-    ensures causes { HasCauses result.status (counts (K.disk_faults book.journal.desk) (K.out_faults book.journal.desk) 0 (W.faults crew.old))
-        (counts (K.disk_faults result.desk) (K.out_faults result.desk) 0 (W.faults crew.new)) }
+    ensures asks { (K.state book.journal.desk).asks ≤ (K.state result.desk).asks }
+    ensures causes { HasEachCause result.status (counts_of (K.state book.journal.desk) 0 (W.faults crew.old))
+        (counts_of (K.state result.desk) 0 (W.faults crew.new)) }
 {
     match crew.hire(alloc, &request.want) {
         Ok(hands) => run_book(rt, alloc, book, hands, request),

@@ -1,18 +1,18 @@
 //! A run of a book with its hands, and what it says last.
 
 ghost use Rattle.std.specs.Prelude.{◌≡◌, ◌≢◌, ◌≤◌, ◌++◌, ℕ, List, length, vec_len, true, false, None, Some, Option, IfOk};
-ghost use Rattle.tf_desk.specs.Counts.{Rises};
 ghost use Rattle.tf_states.specs.declared.state.FlowState.{FlowState as AFlowState};
 ghost use Rattle.tf_report.specs.Report.{report};
 ghost use Rattle.tf_states.specs.declared.record.Entry.{Entry as Record};
 ghost use Rattle.tf_ports.specs.Wanted.{wanted as number_of};
-ghost use Rattle.tf_book.specs.Book.{BookValue, outline, moment, state as state_of};
+ghost use Rattle.tf_book.specs.Book.{BookValue, outline, moment, flow_state};
 ghost use Rattle.tf_book.specs.Kept.{Kept};
 ghost use Rattle.tf_book.specs.declared.faults.Halt.{Halt as Cause};
 ghost use Rattle.tf_engines.specs.Runs.{HasRun, StandsAs};
 ghost use Rattle.taskflow.specs.Asking.{AreHands};
+ghost use Rattle.taskflow.specs.Causes.{WasAsked};
 ghost use Rattle.taskflow.specs.Messages.{summary};
-ghost use Rattle.taskflow.specs.Run.{status_of};
+ghost use Rattle.taskflow.specs.Run.{stop_status};
 ghost use Rattle.taskflow.specs.Runs.{HasSaidHalt, IsRunTo, RunsOn};
 ghost use Rattle.taskflow.specs.declared.running.Request.{Request as ARequest};
 
@@ -25,10 +25,11 @@ use crate::statuses::{
 use std::alloc::Global;
 use std::sync::Wait;
 use std::thread::Threads;
+use tf_actions::Performer;
 use tf_book::{Book, BookFault, Halt};
 use tf_desk::Desk;
 use tf_engines::{How, RunEnd, parallel, serial};
-use tf_ports::{Performer, Want};
+use tf_ports::Want;
 use tf_states::FlowState;
 use tf_values::Memory;
 
@@ -60,10 +61,9 @@ pub fn run_book<K: Desk + Send, P: Performer + Send, R: Threads + Wait + Sync>(
     requires speaks { book.quiet ≡ request.now.quiet }
     requires all { vec_len hands ≡ number_of request.now.want }
     requires few { AreHands request.now.want }
-    ensures runs { RunsOn K.tells K.shown K.content K.left K.crashes K.disk_faults K.out_faults P.gives request.now
-        (Rises (K.asks book.journal.desk) (K.asks result.desk)) book result.desk result.status }
+    ensures runs { RunsOn K.state P.gives request.now
+        (WasAsked (K.state book.journal.desk) (K.state result.desk)) book (K.state result.desk) result.status }
     ensures apart { (result.status ≢ UNREAD) × (result.status ≢ UNHIRED) }
-    ensures asks { K.asks book.journal.desk ≤ K.asks result.desk }
 {
     let _before = book.state();
     let RunEnd { book, how } = go_through(rt, alloc, book, hands, request.limit);
@@ -85,14 +85,12 @@ fn go_through<K: Desk + Send, P: Performer + Send, R: Threads + Wait + Sync>(
 ) -> RunEnd<K>
     requires some { 1 ≤ vec_len hands }
     requires few { vec_len hands ≤ 64 }
-    ensures keeps { (start : BookValue K)
-        → Kept K.tells K.shown K.content K.left K.crashes K.disk_faults K.out_faults start book
-        → Kept K.tells K.shown K.content K.left K.crashes K.disk_faults K.out_faults start result.book }
-    ensures stops { StandsAs result.book.halt (state_of result.book) result.how }
+    ensures keeps { (start : BookValue K) → Kept K.state start book → Kept K.state start result.book }
+    ensures stops { StandsAs result.book.halt (flow_state result.book) result.how }
     ensures plan { result.book.plan ≡ book.plan }
-    ensures ran { HasRun P.gives (Rises (K.asks book.journal.desk) (K.asks result.book.journal.desk)) (vec_len hands) limit
-        (outline book) book.past result.book.past result.how }
-    ensures asks { K.asks book.journal.desk ≤ K.asks result.book.journal.desk }
+    ensures ran { HasRun P.gives (WasAsked (K.state book.journal.desk) (K.state result.book.journal.desk))
+        (vec_len hands) limit (outline book) book.past result.book.past result.how }
+    ensures asks { (K.state book.journal.desk).asks ≤ (K.state result.book.journal.desk).asks }
 {
     if hands.len() > 1 {
         return parallel(rt, alloc, book, &mut hands, limit);
@@ -112,12 +110,12 @@ fn end_run<K: Desk, P: Performer>(
 ) -> Over<K>
     requires sound { book.halt ≡ None }
     ensures runs { (start : BookValue K)
-        → IsRunTo K.tells K.shown K.content K.left K.crashes K.disk_faults K.out_faults P.gives request.now
-        (Rises (K.asks start.journal.desk) (K.asks result.desk)) start book (Some last)
-        → RunsOn K.tells K.shown K.content K.left K.crashes K.disk_faults K.out_faults P.gives request.now
-        (Rises (K.asks start.journal.desk) (K.asks result.desk)) start result.desk result.status }
+        → IsRunTo K.state P.gives request.now (WasAsked (K.state start.journal.desk) (K.state result.desk))
+        start book (Some last)
+        → RunsOn K.state P.gives request.now (WasAsked (K.state start.journal.desk) (K.state result.desk))
+        start (K.state result.desk) result.status }
     ensures apart { (result.status ≢ UNREAD) × (result.status ≢ UNHIRED) }
-    ensures asks { K.asks book.journal.desk ≤ K.asks result.desk }
+    ensures asks { (K.state book.journal.desk).asks ≤ (K.state result.desk).asks }
 {
     if request.quiet {
         return sum_up::<K, P>(alloc, book, last);
@@ -129,12 +127,12 @@ fn end_run<K: Desk, P: Performer>(
 fn sum_up<K: Desk, P: Performer>(alloc: Global, book: Book<K>, last: FlowState) -> Over<K>
     requires sound { book.halt ≡ None }
     ensures runs { (request : ARequest) (start : BookValue K) → request.quiet ≡ true
-        → IsRunTo K.tells K.shown K.content K.left K.crashes K.disk_faults K.out_faults P.gives request
-        (Rises (K.asks start.journal.desk) (K.asks result.desk)) start book (Some last)
-        → RunsOn K.tells K.shown K.content K.left K.crashes K.disk_faults K.out_faults P.gives request
-        (Rises (K.asks start.journal.desk) (K.asks result.desk)) start result.desk result.status }
+        → IsRunTo K.state P.gives request (WasAsked (K.state start.journal.desk) (K.state result.desk))
+        start book (Some last)
+        → RunsOn K.state P.gives request (WasAsked (K.state start.journal.desk) (K.state result.desk))
+        start (K.state result.desk) result.status }
     ensures apart { (result.status ≢ UNREAD) × (result.status ≢ UNHIRED) }
-    ensures asks { K.asks book.journal.desk ≤ K.asks result.desk }
+    ensures asks { (K.state book.journal.desk).asks ≤ (K.state result.desk).asks }
 {
     let _standing = book.state();
     let made = summary_text(alloc, &book);
@@ -153,7 +151,8 @@ fn sum_up<K: Desk, P: Performer>(alloc: Global, book: Book<K>, last: FlowState) 
 
 /// How many tasks and entries a book has, and its report.
 fn summary_text<K: Desk>(alloc: Global, book: &Book<K>) -> Result<Vec<u8>, Memory>
-    ensures { IfOk result (λ text. text.items ≡ summary (outline book.now) (length book.now.past) ++ report (outline book.now) (moment book.now)) }
+    ensures { IfOk result (λ text. text.items
+        ≡ summary (outline book.now) (length book.now.past) ++ report (outline book.now) (moment book.now)) }
 {
     let mut text = Vec::new(alloc);
     append_summary(book.machine().plan(), book.count(), &mut text)?;
@@ -165,12 +164,12 @@ fn summary_text<K: Desk>(alloc: Global, book: &Book<K>) -> Result<Vec<u8>, Memor
 pub fn report_end<K: Desk, P: Performer>(mut book: Book<K>, last: FlowState) -> Over<K>
     requires sound { book.halt ≡ None }
     ensures runs { (request : ARequest) (start : BookValue K) → request.quiet ≡ false
-        → IsRunTo K.tells K.shown K.content K.left K.crashes K.disk_faults K.out_faults P.gives request
-        (Rises (K.asks start.journal.desk) (K.asks result.desk)) start book (Some last)
-        → RunsOn K.tells K.shown K.content K.left K.crashes K.disk_faults K.out_faults P.gives request
-        (Rises (K.asks start.journal.desk) (K.asks result.desk)) start result.desk result.status }
+        → IsRunTo K.state P.gives request (WasAsked (K.state start.journal.desk) (K.state result.desk))
+        start book (Some last)
+        → RunsOn K.state P.gives request (WasAsked (K.state start.journal.desk) (K.state result.desk))
+        start (K.state result.desk) result.status }
     ensures apart { (result.status ≢ UNREAD) × (result.status ≢ UNHIRED) }
-    ensures asks { K.asks book.journal.desk ≤ K.asks result.desk }
+    ensures asks { (K.state book.journal.desk).asks ≤ (K.state result.desk).asks }
 {
     match book.report() {
         Ok(()) => Over {
@@ -193,12 +192,12 @@ pub fn report_end<K: Desk, P: Performer>(mut book: Book<K>, last: FlowState) -> 
 fn say_halt<K: Desk, P: Performer>(alloc: Global, book: Book<K>, halt: Halt) -> Over<K>
     requires halted { book.halt ≡ Some halt }
     ensures runs { (request : ARequest) (start : BookValue K) (stop : Option AFlowState)
-        → IsRunTo K.tells K.shown K.content K.left K.crashes K.disk_faults K.out_faults P.gives request
-        (Rises (K.asks start.journal.desk) (K.asks result.desk)) start book stop
-        → RunsOn K.tells K.shown K.content K.left K.crashes K.disk_faults K.out_faults P.gives request
-        (Rises (K.asks start.journal.desk) (K.asks result.desk)) start result.desk result.status }
+        → IsRunTo K.state P.gives request (WasAsked (K.state start.journal.desk) (K.state result.desk))
+        start book stop
+        → RunsOn K.state P.gives request (WasAsked (K.state start.journal.desk) (K.state result.desk))
+        start (K.state result.desk) result.status }
     ensures apart { (result.status ≢ UNREAD) × (result.status ≢ UNHIRED) }
-    ensures asks { K.asks book.journal.desk ≤ K.asks result.desk }
+    ensures asks { (K.state book.journal.desk).asks ≤ (K.state result.desk).asks }
 {
     let _standing = book.state();
     let mut desk = book.close();
@@ -208,8 +207,7 @@ fn say_halt<K: Desk, P: Performer>(alloc: Global, book: Book<K>, halt: Halt) -> 
 
 /// Says for which cause a book was halted, unless its output failed or memory ran out.
 pub fn say_cause<K: Desk>(alloc: Global, halt: Halt, desk: &mut K) -> u8
-    ensures says { HasSaidHalt K.tells K.shown K.content K.left K.crashes K.disk_faults K.out_faults halt desk.old desk.new result }
-    ensures asks { K.asks desk.old ≤ K.asks desk.new }
+    ensures says { HasSaidHalt halt (K.state desk.old) (K.state desk.new) result }
 {
     match halt {
         Halt::Disk => close(DISK_FAULT, DISK_FAILED, desk),
@@ -221,8 +219,7 @@ pub fn say_cause<K: Desk>(alloc: Global, halt: Halt, desk: &mut K) -> u8
 
 /// Says that a book is full, unless memory runs out.
 fn say_full<K: Desk>(alloc: Global, size: u64, need: u64, desk: &mut K) -> u8
-    ensures says { HasSaidHalt K.tells K.shown K.content K.left K.crashes K.disk_faults K.out_faults (Cause.Full size need) desk.old desk.new result }
-    ensures asks { K.asks desk.old ≤ K.asks desk.new }
+    ensures says { HasSaidHalt (Cause.Full size need) (K.state desk.old) (K.state desk.new) result }
 {
     let mut text = Vec::new(alloc);
     match append_book_full(size, need, &mut text) {
@@ -233,7 +230,7 @@ fn say_full<K: Desk>(alloc: Global, size: u64, need: u64, desk: &mut K) -> u8
 
 /// The status of a run that stopped in the state.
 fn status_for(last: FlowState) -> u8
-    ensures status { result ≡ status_of last }
+    ensures status { result ≡ stop_status last }
     ensures end { (result ≢ UNREAD) × (result ≢ UNSAID) × (result ≢ UNHIRED) }
 {
     match last {

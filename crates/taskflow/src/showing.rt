@@ -4,8 +4,9 @@ ghost use Rattle.std.specs.Prelude.{◌≡◌, ◌≤◌, ◌⊎◌, ℕ, List};
 ghost use Rattle.tf_book.specs.Book.{outline};
 ghost use Rattle.tf_book.specs.Showing.{history_text};
 ghost use Rattle.taskflow.specs.Books.{RefusesOrStops, ShowsBook};
-ghost use Rattle.taskflow.specs.Causes.{HasCauses, HasSaid, counts};
-ghost use Rattle.tf_journal.specs.Way.{Untouched};
+ghost use Rattle.taskflow.specs.Causes.{HasEachCause, counts_of};
+ghost use Rattle.taskflow.specs.Saying.{HasSaid};
+ghost use Rattle.tf_journal.specs.Path.{Untouched};
 
 use crate::books::{open, refuse_book, say_empty, say_over};
 use crate::running::Over;
@@ -17,10 +18,10 @@ use tf_values::Text;
 
 /// Opens the book, and says the lines of its whole history and the table. Nothing is recorded.
 pub fn show_book<K: Desk>(alloc: Global, name: &Text, desk: K) -> Over<K>
-    ensures shows { ShowsBook K.tells K.shown K.content K.left K.crashes K.disk_faults name.now desk result.desk result.status }
-    ensures causes { HasCauses result.status (counts (K.disk_faults desk) (K.out_faults desk) 0 0)
-        (counts (K.disk_faults result.desk) (K.out_faults result.desk) 0 0) }
-    ensures asks { K.asks desk ≤ K.asks result.desk }
+    ensures shows { ShowsBook name.now (K.state desk) (K.state result.desk) result.status }
+    ensures causes { HasEachCause result.status (counts_of (K.state desk) 0 0)
+        (counts_of (K.state result.desk) 0 0) }
+    ensures asks { (K.state desk).asks ≤ (K.state result.desk).asks }
 {
     match open(alloc, desk, name) {
         Ok(Loaded::Book(book)) => say_whole(book),
@@ -33,10 +34,10 @@ pub fn show_book<K: Desk>(alloc: Global, name: &Text, desk: K) -> Over<K>
 /// Says the lines of a book's history and the table, unless memory runs out.
 fn say_whole<K: Desk>(book: Book<K>) -> Over<K>
     ensures shows { (name : List ℕ) (entry : K)
-        → Untouched K.tells K.shown K.content K.left K.crashes K.disk_faults K.out_faults name entry book.journal.desk
-        → RefusesOrStops K.tells K.shown K.content K.left K.crashes K.disk_faults name entry result.desk (history_text (outline book) book.past) SUCCEEDED result.status }
-    ensures said { HasSaid (K.disk_faults book.journal.desk) (K.disk_faults result.desk) (K.out_faults book.journal.desk) (K.out_faults result.desk) result.status }
-    ensures asks { K.asks book.journal.desk ≤ K.asks result.desk }
+        → Untouched name (K.state entry) (K.state book.journal.desk)
+        → RefusesOrStops name (K.state entry) (K.state result.desk)
+        (history_text (outline book) book.past) SUCCEEDED result.status }
+    ensures said { HasSaid (K.state book.journal.desk) (K.state result.desk) result.status }
     ensures status { (result.status ≡ SUCCEEDED) ⊎ (result.status ≡ UNSAID) ⊎ (result.status ≡ OUT_OF_MEMORY) }
 {
     let made = book.history_text();

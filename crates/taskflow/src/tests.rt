@@ -4,58 +4,41 @@ use std::sync::Wait;
 use std::test::Fail;
 use std::thread::Threads;
 use tf_desk::MemoryDesk;
-use tf_ports::{
-    MemoryCrew, MemoryDoor, MemoryLink, MemorySource, MemorySources, MemorySpawner, Want,
-};
+use tf_ports::{MemoryCrew, MemoryDoor, MemoryLink, MemorySource, MemorySources, MemorySpawner};
 use tf_tasks::LocalHand;
 use tf_values::Text;
 use tf_words::Word;
 
-pub const TWO_ECHOES: &str = r#"name = "main"
-kind = "linear"
-[[items]]
-task = "a"
-kind = "echo"
-inject = { value = 1 }
-[[items]]
-task = "b"
-kind = "echo"
-inject = { value = "two" }
-"#;
-
-pub const THREE_ECHOES: &str = r#"name = "main"
+const TWO_ECHOES: &[u8] = br#"name = "main"
 kind = "linear"
 items = [
     { task = "a", kind = "echo", inject = { value = 1 } },
-    { task = "b", kind = "echo", inject = { value = 2 } },
-    { task = "c", kind = "echo", inject = { value = 3 } },
+    { task = "b", kind = "echo", inject = { value = "two" } },
 ]
 "#;
 
-pub const NESTED: &str = r#"name = "main"
-kind = "linear"
-items = [
-    { task = "a", kind = "echo", inject = { value = 1 } },
-    { flow = "g", kind = "graph", items = [
-        { task = "x", kind = "echo", inject = { value = 2 } },
-        { task = "y", kind = "echo", inject = { value = 3 } },
-    ], links = [
-        { from = "y", to = "x" },
-    ] },
-    { task = "z", kind = "fail", inject = { text = "no" } },
-]
-"#;
+/// The calls of the sources, of the crew and of the door that fail.
+struct Faults {
+    sources: &'static [u64],
+    crew: &'static [u64],
+    door: &'static [u64],
+}
 
-/// Runs the words over a desk, over sources and a crew of one hand in memory, of whose calls the stated ones fail: the
-/// desk, and the status.
-pub fn ran_over<R: Threads + Wait + Sync>(
+const NO_FAULTS: Faults = Faults {
+    sources: &[],
+    crew: &[],
+    door: &[],
+};
+
+/// Runs the words over a desk, a source of two echoes, a crew of one hand, and a door that gives links of these bytes, the
+/// last first: the desk, and the status.
+fn ran_over<R: Threads + Wait + Sync>(
     rt: &R,
     alloc: Global,
     desk: MemoryDesk,
     words: &[&str],
-    file: &[u8],
-    unread: &[u64],
-    unhired: &[u64],
+    faults: &Faults,
+    links: &[&[u8]],
 ) -> Result<(MemoryDesk, u8), Fail> {
     let mut made = Vec::new(alloc);
     for word in words {
@@ -64,103 +47,192 @@ pub fn ran_over<R: Threads + Wait + Sync>(
     let mut sources = Vec::new(alloc);
     sources.push(MemorySource {
         name: Text::make(alloc, b"flow.toml")?,
-        bytes: Vec::from_slice(alloc, file)?,
+        bytes: Vec::from_slice(alloc, TWO_ECHOES)?,
     })?;
     let spawner = MemorySpawner::make(Vec::new(alloc), Vec::new(alloc));
     let mut hands = Vec::new(alloc);
     hands.push(LocalHand::make(spawner))?;
     let outside = Outside {
         desk,
-        sources: MemorySources::make(sources, Vec::from_slice(alloc, unread)?),
-        crew: MemoryCrew::make(alloc, hands, Vec::from_slice(alloc, unhired)?),
-        door: MemoryDoor::<MemoryLink>::make(Vec::new(alloc), Vec::new(alloc)),
+        sources: MemorySources::make(sources, Vec::from_slice(alloc, faults.sources)?),
+        crew: MemoryCrew::make(alloc, hands, Vec::from_slice(alloc, faults.crew)?),
+        door: MemoryDoor::make(
+            links_of(alloc, links)?,
+            Vec::from_slice(alloc, faults.door)?,
+        ),
     };
     let Ended { outside, status } = taskflow(rt, alloc, &made, outside);
     let Outside { desk, .. } = outside;
     Ok((desk, status))
 }
 
-/// The same over a fresh desk, of whose calls the stated ones fail: the text shown, and the status.
-pub fn ran<R: Threads + Wait + Sync>(
+fn links_of(alloc: Global, links: &[&[u8]]) -> Result<Vec<MemoryLink>, Fail> {
+    let mut made = Vec::new(alloc);
+    for bytes in links {
+        let bytes = Vec::from_slice(alloc, bytes)?;
+        made.push(MemoryLink::make(alloc, bytes, 100, Vec::new(alloc)))?;
+    }
+    Ok(made)
+}
+
+/// A desk of whose calls the stated ones fail.
+fn desk(alloc: Global, failing: &[u64]) -> Result<MemoryDesk, Fail> {
+    let failing = Vec::from_slice(alloc, failing)?;
+    let desk = MemoryDesk::make(alloc, 65_536, 1_000, failing, Vec::new(alloc))?;
+    Ok(desk)
+}
+
+/// Whether a trial says this and ends with this status, where the stated calls of the desk fail, and those of the rest.
+fn tries<R: Threads + Wait + Sync>(
     rt: &R,
     alloc: Global,
-    words: &[&str],
-    file: &[u8],
-    unsaid: &[u64],
-    unread: &[u64],
-    unhired: &[u64],
-) -> Result<(Vec<u8>, u8), Fail> {
-    let failing = Vec::from_slice(alloc, unsaid)?;
-    let desk = MemoryDesk::make(alloc, 65_536, 1_000, failing, Vec::new(alloc))?;
-    let (desk, status) = ran_over(rt, alloc, desk, words, file, unread, unhired)?;
-    Ok((Vec::from_slice(alloc, desk.shown())?, status))
+    failing: &[u64],
+    faults: &Faults,
+    says: &[u8],
+    wanted: u8,
+) -> Result<bool, Fail> {
+    let desk = desk(alloc, failing)?;
+    let (desk, status) = ran_over(rt, alloc, desk, &["try", "flow.toml"], faults, &[])?;
+    Ok(status == wanted && desk.shown() == says)
 }
 
-pub const TRY: [&str; 2] = ["try", "flow.toml"];
-
-pub const CHECK: [&str; 2] = ["check", "flow.toml"];
-
-/// Words, and whether they are a command.
-const WORDS: [(&[&str], bool); 13] = [
-    (&["check"], false),
-    (&["check", "--", "flow.toml"], true),
-    (&[], false),
-    (&["try"], false),
-    (&["run", "flow.toml"], false),
-    (&["try", "flow.toml", "--hands", "65"], false),
-    (&["try", "flow.toml", "--hands", "1"], true),
-    (&["try", "flow.toml", "x"], false),
-    (&["try", "--flow"], false),
-    (&["try", ""], false),
-    (&["try", "--"], false),
-    (&["try", "--", "flow.toml"], true),
-    (&["try", "flow.toml", "--"], true),
-];
-
-#[test]
-fn reads_words(rt: HostRuntime) -> Result<(), Fail> {
-    for (words, is_command) in &WORDS {
-        let (text, status) = ran(&rt, rt.alloc(), words, TWO_ECHOES.as_bytes(), &[], &[], &[])?;
-        assert_eq!(rt; status, if *is_command { 0 } else { 2 }, "{words:?}");
-        assert!(rt; *is_command || text.as_slice() == b"taskflow: usage\n".as_slice());
-    }
-    Ok(())
-}
-
-/// What is said of a run of two echoes whose output fails at its third line.
+/// What is said of a trial whose output fails at its third line.
 const CUT_IN_A_LINE: &[u8] = b"1 0 flow main RUNNING
 2 0 task a RUNNING
 3 0 task a";
 
-/// How that ends which is said of it where the output fails at the report.
-const CUT_IN_THE_REPORT: &[u8] = b"6 0 flow main SUCCESS
+/// The same where it fails at the report.
+const CUT_IN_THE_REPORT: &[u8] = b"1 0 flow main RUNNING
+2 0 task a RUNNING
+3 0 task a SUCCESS 1
+4 0 task b RUNNING
+5 0 task b SUCCESS \"two\"
+6 0 flow main SUCCESS
 end main";
 
 #[test]
-fn ends_by_its_faults(rt: HostRuntime) -> Result<(), Fail> {
+fn a_trial_ends_by_the_fault_of_its_output(rt: HostRuntime) -> Result<(), Fail> {
     let alloc = rt.alloc();
-    let file = TWO_ECHOES.as_bytes();
-    let (text, status) = ran(&rt, alloc, &TRY, file, &[], &[1], &[])?;
-    assert_eq!(rt; status, 3);
-    assert!(rt; text.as_slice() == b"taskflow: cannot read\n".as_slice());
-    let (_, status) = ran(&rt, alloc, &["try", "absent"], file, &[], &[], &[])?;
-    assert_eq!(rt; status, 3);
-    let (text, status) = ran(&rt, alloc, &TRY, file, &[4], &[], &[])?;
-    assert_eq!(rt; status, 7);
-    assert!(rt; text.as_slice() == CUT_IN_A_LINE);
-    let (text, status) = ran(&rt, alloc, &TRY, file, &[10], &[], &[])?;
-    assert_eq!(rt; status, 7);
-    assert!(rt; text.as_slice().ends_with(CUT_IN_THE_REPORT));
-    let (text, status) = ran(&rt, alloc, &TRY, file, &[], &[], &[1])?;
-    assert_eq!(rt; status, 8);
-    assert!(rt; text.as_slice() == b"taskflow: cannot hire\n".as_slice());
-    let (_, status) = ran(&rt, alloc, &[], file, &[1], &[], &[])?;
-    assert_eq!(rt; status, 7);
-    let (text, status) = ran(&rt, alloc, &CHECK, NESTED.as_bytes(), &[], &[], &[])?;
-    assert_eq!(rt; status, 0);
-    assert!(rt; text.as_slice() == b"ok main: 4 tasks, 0 retries, 2 flows\n".as_slice());
-    let (text, status) = ran(&rt, alloc, &CHECK, NESTED.as_bytes(), &[1], &[], &[])?;
-    assert_eq!(rt; status, 7);
-    assert!(rt; text.as_slice() == b"ok main: 4 tasks, ".as_slice());
+    assert!(rt; tries(&rt, alloc, &[4], &NO_FAULTS, CUT_IN_A_LINE, 7)?);
+    assert!(rt; tries(&rt, alloc, &[10], &NO_FAULTS, CUT_IN_THE_REPORT, 7)?);
+    Ok(())
+}
+
+const UNREAD: Faults = Faults {
+    sources: &[1],
+    crew: &[],
+    door: &[],
+};
+
+const UNHIRED: Faults = Faults {
+    sources: &[],
+    crew: &[1],
+    door: &[],
+};
+
+#[test]
+fn a_trial_ends_by_the_fault_of_its_source_or_its_crew(rt: HostRuntime) -> Result<(), Fail> {
+    let alloc = rt.alloc();
+    assert!(rt; tries(&rt, alloc, &[], &UNREAD, b"taskflow: cannot read\n", 3)?);
+    assert!(rt; tries(&rt, alloc, &[], &UNHIRED, b"taskflow: cannot hire\n", 8)?);
+    Ok(())
+}
+
+/// Whether a run of which this call of the desk fails ends with this status, and a resume goes on to its end.
+fn goes_on<R: Threads + Wait + Sync>(
+    rt: &R,
+    alloc: Global,
+    call: u64,
+    wanted: u8,
+) -> Result<bool, Fail> {
+    let desk = desk(alloc, &[call])?;
+    let words = ["run", "flow.toml", "B"];
+    let (desk, status) = ran_over(rt, alloc, desk, &words, &NO_FAULTS, &[])?;
+    if status != wanted {
+        return Ok(false);
+    }
+    let (desk, status) = ran_over(rt, alloc, desk, &["resume", "B"], &NO_FAULTS, &[])?;
+    Ok(status == 0 && desk.shown().ends_with(b"end main SUCCESS\n".as_slice()))
+}
+
+#[test]
+fn a_run_goes_on_after_a_fault_of_the_desk(rt: HostRuntime) -> Result<(), Fail> {
+    let alloc = rt.alloc();
+    assert!(rt; goes_on(&rt, alloc, 30, 5)?);
+    assert!(rt; goes_on(&rt, alloc, 28, 7)?);
+    Ok(())
+}
+
+/// The frame of the request of an echo of 1.
+const REQUEST: &[u8] =
+    b"\x00\x00\x00\x49{\"action\":\"execute\",\"args\":[[\"value\",1]],\"id\":1,\"kind\":\"echo\",\"words\":[]}";
+
+/// Whether a worker says this of so many sessions of these links, the last first, and ends with this status.
+fn serves<R: Threads + Wait + Sync>(
+    rt: &R,
+    alloc: Global,
+    links: &[&[u8]],
+    sessions: &str,
+    faults: &Faults,
+    says: &[u8],
+    wanted: u8,
+) -> Result<bool, Fail> {
+    let desk = desk(alloc, &[])?;
+    let words = ["worker", "unix:w", "--sessions", sessions];
+    let (desk, status) = ran_over(rt, alloc, desk, &words, faults, links)?;
+    Ok(status == wanted && desk.shown() == says)
+}
+
+/// What is said of three sessions: one that is closed after its answer, one with an empty frame, and one whose link ends
+/// within a frame.
+const ENDED_BAD_LOST: &[u8] = b"session 1 ended
+session 2 bad 0
+session 3 lost
+";
+
+/// What is said of one session where no link comes after it.
+const ENDED_AND_NO_MORE: &[u8] = b"session 1 ended
+taskflow: cannot listen
+";
+
+#[test]
+fn a_worker_says_how_its_sessions_ended(rt: HostRuntime) -> Result<(), Fail> {
+    let alloc = rt.alloc();
+    let links = [&REQUEST[..10], b"\x00\x00\x00\x00".as_slice(), REQUEST];
+    assert!(rt; serves(&rt, alloc, &links, "3", &NO_FAULTS, ENDED_BAD_LOST, 0)?);
+    assert!(rt;
+        serves(
+            &rt,
+            alloc,
+            &[REQUEST],
+            "2",
+            &NO_FAULTS,
+            ENDED_AND_NO_MORE,
+            8
+        )?
+    );
+    Ok(())
+}
+
+const CLOSED: Faults = Faults {
+    sources: &[],
+    crew: &[],
+    door: &[1],
+};
+
+#[test]
+fn a_worker_whose_door_fails_says_so(rt: HostRuntime) -> Result<(), Fail> {
+    let alloc = rt.alloc();
+    assert!(rt;
+        serves(
+            &rt,
+            alloc,
+            &[REQUEST],
+            "1",
+            &CLOSED,
+            b"taskflow: cannot listen\n",
+            8
+        )?
+    );
     Ok(())
 }

@@ -2,8 +2,8 @@ ghost use Rattle.std.specs.Prelude.{◌≡◌, ◌≤◌, true, false, is_some, 
 ghost use Rattle.tf_board.specs.Answers.{board_of};
 ghost use Rattle.tf_desk.specs.Counts.{Rises};
 ghost use Rattle.taskflow.specs.Asking.{is_local as wants_local, is_done_here as is_done, asked_for, if_done_here, IsWithin, want_of, IsWork, AsksForWork};
-ghost use Rattle.taskflow.specs.Causes.{HasCausesOr, HasNoFault, counts};
-ghost use Rattle.taskflow.specs.Course.{Course, HiresAsAsked, HiresAsWanted, Obeys, IsRefused, IsBoardRefused, IsReady, IsComplete};
+ghost use Rattle.taskflow.specs.Causes.{HasCausesOr, HasNoFault, WasAsked, counts_of};
+ghost use Rattle.taskflow.specs.Course.{Course, HiresAsAsked, HiresAsWanted, Obeys, IsRefused, IsBoardRefused, MayBeDone, IsComplete};
 ghost use Rattle.tf_board.specs.declared.statuses.TheConstants.{BOARD_REFUSED};
 ghost use Rattle.tf_words.specs.declared.asked.Asked.{Asked as AnAsked};
 
@@ -56,7 +56,7 @@ pub fn taskflow<K: Desk + Send, S: Sources, W: Crew, L: Door, R: Threads + Wait 
     // The way that the command went: which command the words are, which plan the sources' bytes give or
     // why they give none, what the book held and holds, which hands were hired, what was recorded, what was
     // shown, what a crash may leave, and the status.
-    ensures course { Course K.tells K.shown K.content K.left K.crashes K.disk_faults W.Hand.gives (Rises (K.asks outside.desk) (K.asks result.outside.desk))
+    ensures course { Course K.state W.Hand.gives (WasAsked (K.state outside.desk) (K.state result.outside.desk))
         words.now (S.contents outside.sources)
         (W.hired outside.crew) (W.hired result.outside.crew) outside.desk result.outside.desk result.status }
 
@@ -67,18 +67,18 @@ pub fn taskflow<K: Desk + Send, S: Sources, W: Crew, L: Door, R: Threads + Wait 
     ensures refused { result.status ≡ REFUSED → IsRefused words.now (S.contents outside.sources) }
 
     // Status 15 comes only where the words are a command on a board which refuses it, by the commands that its file has.
-    ensures board_refused { result.status ≡ BOARD_REFUSED → IsBoardRefused K.tells K.content words.now outside.desk }
+    ensures board_refused { result.status ≡ BOARD_REFUSED → IsBoardRefused words.now (K.state outside.desk) }
 
     // A file that gives a plan is run to its end, or said to be in order, a book that holds a flow is resumed to its
-    // end, or shown, or put back, and a command is done on a board that doesn't refuse it, unless a count of faults rose, a stop was asked for or memory ran out; 13 comes only as
-    // the course says, and 12 only where there is a limit of entries.
+    // end, or shown, or put back, and a command is done on a board that doesn't refuse it, unless a count of faults
+    // rose, a stop was asked for or memory ran out; 13 comes only as the course says, and 12 only where there is a
+    // limit of entries.
     ensures complete { (command : AnAsked) → asked_for words.now ≡ Some command
-        → IsReady K.tells K.content command (S.contents outside.sources) outside.desk
-        → ¬ (Rises (K.asks outside.desk) (K.asks result.outside.desk))
+        → MayBeDone command (S.contents outside.sources) (K.state outside.desk)
+        → ¬ (WasAsked (K.state outside.desk) (K.state result.outside.desk))
         → ¬ (Rises (L.faults outside.door) (L.faults result.outside.door))
-        → HasNoFault (counts (K.disk_faults outside.desk) (K.out_faults outside.desk) (S.faults outside.sources) (W.faults outside.crew))
-        (counts (K.disk_faults result.outside.desk) (K.out_faults result.outside.desk) (S.faults result.outside.sources)
-        (W.faults result.outside.crew))
+        → HasNoFault (counts_of (K.state outside.desk) (S.faults outside.sources) (W.faults outside.crew))
+        (counts_of (K.state result.outside.desk) (S.faults result.outside.sources) (W.faults result.outside.crew))
         → IsComplete command result.status }
 
     // Nobody is hired, or exactly the hands that the words ask for, and these are where something was recorded, as the course
@@ -87,12 +87,11 @@ pub fn taskflow<K: Desk + Send, S: Sources, W: Crew, L: Door, R: Threads + Wait 
 
     // A file can't be read, the disk fails, a text can't be said, no hands are hired and a worker's door fails only where
     // the count of such faults rose; no count falls.
-    ensures asks { K.asks outside.desk ≤ K.asks result.outside.desk }
+    ensures asks { (K.state outside.desk).asks ≤ (K.state result.outside.desk).asks }
     ensures door { L.faults outside.door ≤ L.faults result.outside.door }
-    ensures causes { HasCausesOr (AsksForWork words.now × Rises (L.faults outside.door) (L.faults result.outside.door)) result.status
-        (counts (K.disk_faults outside.desk) (K.out_faults outside.desk) (S.faults outside.sources) (W.faults outside.crew))
-        (counts (K.disk_faults result.outside.desk) (K.out_faults result.outside.desk) (S.faults result.outside.sources)
-        (W.faults result.outside.crew)) }
+    ensures causes { HasCausesOr (AsksForWork words.now × Rises (L.faults outside.door) (L.faults result.outside.door))
+        result.status (counts_of (K.state outside.desk) (S.faults outside.sources) (W.faults outside.crew))
+        (counts_of (K.state result.outside.desk) (S.faults result.outside.sources) (W.faults result.outside.crew)) }
 {
     let Outside {
         desk,
@@ -123,13 +122,14 @@ fn answer<K: Desk + Send, S: Sources, W: Crew, L: Door, R: Threads + Wait + Sync
     crew: &mut W,
     door: &mut L,
 ) -> Over<K>
-    ensures course { Course K.tells K.shown K.content K.left K.crashes K.disk_faults W.Hand.gives (Rises (K.asks desk) (K.asks result.desk)) words.now (S.contents sources.old)
-        (W.hired crew.old) (W.hired crew.new) desk result.desk result.status }
+    ensures course { Course K.state W.Hand.gives (WasAsked (K.state desk) (K.state result.desk)) words.now
+        (S.contents sources.old) (W.hired crew.old) (W.hired crew.new) desk result.desk result.status }
     ensures hires { HiresAsAsked words.now (W.hired crew.old) (W.hired crew.new) }
-    ensures asks { K.asks desk ≤ K.asks result.desk }
+    ensures asks { (K.state desk).asks ≤ (K.state result.desk).asks }
     ensures door { L.faults door.old ≤ L.faults door.new }
-    ensures causes { HasCausesOr (AsksForWork words.now × Rises (L.faults door.old) (L.faults door.new)) result.status (counts (K.disk_faults desk) (K.out_faults desk) (S.faults sources.old) (W.faults crew.old))
-        (counts (K.disk_faults result.desk) (K.out_faults result.desk) (S.faults sources.new) (W.faults crew.new)) }
+    ensures causes { HasCausesOr (AsksForWork words.now × Rises (L.faults door.old) (L.faults door.new)) result.status
+        (counts_of (K.state desk) (S.faults sources.old) (W.faults crew.old))
+        (counts_of (K.state result.desk) (S.faults sources.new) (W.faults crew.new)) }
 {
     let Ok(found) = read_words(alloc, words) else {
         return Over {
@@ -206,13 +206,14 @@ fn obey<K: Desk + Send, S: Sources, W: Crew, L: Door, R: Threads + Wait + Sync>(
 ) -> Over<K>
     requires done { is_done asked ≡ true }
     requires within { IsWithin asked }
-    ensures obeys { Obeys K.tells K.shown K.content K.left K.crashes K.disk_faults W.Hand.gives (Rises (K.asks desk) (K.asks result.desk)) asked (S.contents sources.old)
-        (W.hired crew.old) (W.hired crew.new) desk result.desk result.status }
+    ensures obeys { Obeys K.state W.Hand.gives (WasAsked (K.state desk) (K.state result.desk)) asked
+        (S.contents sources.old) (W.hired crew.old) (W.hired crew.new) desk result.desk result.status }
     ensures hires { HiresAsWanted (want_of asked) (W.hired crew.old) (W.hired crew.new) }
-    ensures asks { K.asks desk ≤ K.asks result.desk }
+    ensures asks { (K.state desk).asks ≤ (K.state result.desk).asks }
     ensures door { L.faults door.old ≤ L.faults door.new }
-    ensures causes { HasCausesOr (IsWork asked × Rises (L.faults door.old) (L.faults door.new)) result.status (counts (K.disk_faults desk) (K.out_faults desk) (S.faults sources.old) (W.faults crew.old))
-        (counts (K.disk_faults result.desk) (K.out_faults result.desk) (S.faults sources.new) (W.faults crew.new)) }
+    ensures causes { HasCausesOr (IsWork asked × Rises (L.faults door.old) (L.faults door.new)) result.status
+        (counts_of (K.state desk) (S.faults sources.old) (W.faults crew.old))
+        (counts_of (K.state result.desk) (S.faults sources.new) (W.faults crew.new)) }
 {
     if is_of_board(&asked) {
         on_board(alloc, asked, desk)
@@ -235,13 +236,14 @@ fn obey_flow<K: Desk + Send, S: Sources, W: Crew, L: Door, R: Threads + Wait + S
     requires done { is_done asked ≡ true }
     requires no_board { is_some (board_of asked) ≡ false }
     requires within { IsWithin asked }
-    ensures obeys { Obeys K.tells K.shown K.content K.left K.crashes K.disk_faults W.Hand.gives (Rises (K.asks desk) (K.asks result.desk)) asked (S.contents sources.old)
-        (W.hired crew.old) (W.hired crew.new) desk result.desk result.status }
+    ensures obeys { Obeys K.state W.Hand.gives (WasAsked (K.state desk) (K.state result.desk)) asked
+        (S.contents sources.old) (W.hired crew.old) (W.hired crew.new) desk result.desk result.status }
     ensures hires { HiresAsWanted (want_of asked) (W.hired crew.old) (W.hired crew.new) }
-    ensures asks { K.asks desk ≤ K.asks result.desk }
+    ensures asks { (K.state desk).asks ≤ (K.state result.desk).asks }
     ensures door { L.faults door.old ≤ L.faults door.new }
-    ensures causes { HasCausesOr (IsWork asked × Rises (L.faults door.old) (L.faults door.new)) result.status (counts (K.disk_faults desk) (K.out_faults desk) (S.faults sources.old) (W.faults crew.old))
-        (counts (K.disk_faults result.desk) (K.out_faults result.desk) (S.faults sources.new) (W.faults crew.new)) }
+    ensures causes { HasCausesOr (IsWork asked × Rises (L.faults door.old) (L.faults door.new)) result.status
+        (counts_of (K.state desk) (S.faults sources.old) (W.faults crew.old))
+        (counts_of (K.state result.desk) (S.faults sources.new) (W.faults crew.new)) }
 {
     match asked {
         Asked::Try {

@@ -1,14 +1,14 @@
 //! A trial: a run of a flow file's plan of which nothing is kept.
 
-ghost use Rattle.std.specs.Prelude.{◌≡◌, ◌≤◌, [], None, IsTrue, vec_len};
-ghost use Rattle.tf_desk.specs.Counts.{Rises};
+ghost use Rattle.std.specs.Prelude.{◌≡◌, ◌≤◌, [], None, vec_len};
 ghost use Rattle.tf_flow.specs.Written.{plan_tree};
 ghost use Rattle.tf_ports.specs.Wanted.{wanted as number_of};
 ghost use Rattle.tf_machine.specs.Machine.{StandsFor};
 ghost use Rattle.taskflow.specs.Asking.{AreHands};
-ghost use Rattle.taskflow.specs.Causes.{HasCauses, counts};
-ghost use Rattle.taskflow.specs.Course.{FileRead, OthersStay, IsUntouched, Tries, Tried, HiresAtMost};
-ghost use Rattle.taskflow.specs.Run.{spoken};
+ghost use Rattle.taskflow.specs.Causes.{HasEachCause, WasAsked, counts_of};
+ghost use Rattle.taskflow.specs.Course.{FileRead, IsUntouched, Tries, Tried, HiresAtMost};
+ghost use Rattle.taskflow.specs.Durable.{OnlyPickedChanges};
+ghost use Rattle.taskflow.specs.Run.{spoken_run};
 
 use crate::books::{say_unbegun, say_unhired};
 use crate::reading::{Source, open_file};
@@ -17,11 +17,12 @@ use crate::statuses::OUT_OF_MEMORY;
 use std::alloc::Global;
 use std::sync::Wait;
 use std::thread::Threads;
+use tf_actions::Performer;
 use tf_book::Book;
 use tf_desk::Desk;
 use tf_journal::Journal;
 use tf_machine::Machine;
-use tf_ports::{Crew, Performer, Sources};
+use tf_ports::{Crew, Sources};
 
 /// Reads the file, hires the hands that are wanted, runs the file's flow with them and reports its end. Nothing of it is
 /// kept.
@@ -34,15 +35,18 @@ pub fn try_file<K: Desk + Send, S: Sources, W: Crew, R: Threads + Wait + Sync>(
     sources: &mut S,
     crew: &mut W,
 ) -> Over<K>
-    requires said { request.now ≡ spoken request.now.want None }
+    requires said { request.now ≡ spoken_run request.now.want None }
     requires few { AreHands request.now.want }
-    ensures tried { FileRead (S.contents sources.old) source (IsUntouched K.tells K.content (W.hired crew.old) (W.hired crew.new) desk result.desk)
-        (Tries W.Hand.gives request.now.want (Rises (K.asks desk) (K.asks result.desk)) (W.hired crew.old) (W.hired crew.new) (K.shown desk) (K.shown result.desk)) (K.shown desk) (K.shown result.desk) result.status }
-    ensures stays { OthersStay K.tells K.content desk result.desk }
+    ensures tried { FileRead (S.contents sources.old) source
+        (IsUntouched (W.hired crew.old) (W.hired crew.new) (K.state desk) (K.state result.desk))
+        (Tries W.Hand.gives request.now.want (WasAsked (K.state desk) (K.state result.desk))
+        (W.hired crew.old) (W.hired crew.new) (K.state desk).shown (K.state result.desk).shown)
+        (K.state desk).shown (K.state result.desk).shown result.status }
+    ensures stays { OnlyPickedChanges (K.state desk) (K.state result.desk) }
     ensures hires { HiresAtMost request.now.want (W.hired crew.old) (W.hired crew.new) }
-    ensures asks { K.asks desk ≤ K.asks result.desk }
-    ensures causes { HasCauses result.status (counts (K.disk_faults desk) (K.out_faults desk) (S.faults sources.old) (W.faults crew.old))
-        (counts (K.disk_faults result.desk) (K.out_faults result.desk) (S.faults sources.new) (W.faults crew.new)) }
+    ensures asks { (K.state desk).asks ≤ (K.state result.desk).asks }
+    ensures causes { HasEachCause result.status (counts_of (K.state desk) (S.faults sources.old) (W.faults crew.old))
+        (counts_of (K.state result.desk) (S.faults sources.new) (W.faults crew.new)) }
 {
     match open_file(alloc, source, &mut desk, sources) {
         Ok(machine) => try_plan(rt, alloc, machine, request, desk, crew),
@@ -60,14 +64,16 @@ fn try_plan<K: Desk + Send, W: Crew, R: Threads + Wait + Sync>(
     crew: &mut W,
 ) -> Over<K>
     requires fresh { StandsFor machine [] }
-    requires said { request.now ≡ spoken request.now.want None }
+    requires said { request.now ≡ spoken_run request.now.want None }
     requires few { AreHands request.now.want }
-    ensures tried { Tries W.Hand.gives request.now.want (Rises (K.asks desk) (K.asks result.desk)) (W.hired crew.old) (W.hired crew.new) (K.shown desk) (K.shown result.desk) (plan_tree machine.plan) result.status }
-    ensures stays { OthersStay K.tells K.content desk result.desk }
+    ensures tried { Tries W.Hand.gives request.now.want (WasAsked (K.state desk) (K.state result.desk))
+        (W.hired crew.old) (W.hired crew.new) (K.state desk).shown (K.state result.desk).shown
+        (plan_tree machine.plan) result.status }
+    ensures stays { OnlyPickedChanges (K.state desk) (K.state result.desk) }
     ensures hires { HiresAtMost request.now.want (W.hired crew.old) (W.hired crew.new) }
-    ensures asks { K.asks desk ≤ K.asks result.desk }
-    ensures causes { HasCauses result.status (counts (K.disk_faults desk) (K.out_faults desk) 0 (W.faults crew.old))
-        (counts (K.disk_faults result.desk) (K.out_faults result.desk) 0 (W.faults crew.new)) }
+    ensures asks { (K.state desk).asks ≤ (K.state result.desk).asks }
+    ensures causes { HasEachCause result.status (counts_of (K.state desk) 0 (W.faults crew.old))
+        (counts_of (K.state result.desk) 0 (W.faults crew.new)) }
 {
     match crew.hire(alloc, &request.want) {
         Ok(hands) => try_with(rt, alloc, machine, request, desk, hands),
@@ -88,14 +94,15 @@ fn try_with<K: Desk + Send, P: Performer + Send, R: Threads + Wait + Sync>(
     hands: Vec<P>,
 ) -> Over<K>
     requires fresh { StandsFor machine [] }
-    requires said { request.now ≡ spoken request.now.want None }
+    requires said { request.now ≡ spoken_run request.now.want None }
     requires all { vec_len hands ≡ number_of request.now.want }
     requires few { AreHands request.now.want }
-    ensures tried { Tried P.gives request.now.want (Rises (K.asks desk) (K.asks result.desk)) (plan_tree machine.plan) (K.shown desk) (K.shown result.desk) result.status }
-    ensures stays { OthersStay K.tells K.content desk result.desk }
-    ensures asks { K.asks desk ≤ K.asks result.desk }
-    ensures causes { HasCauses result.status (counts (K.disk_faults desk) (K.out_faults desk) 0 0)
-        (counts (K.disk_faults result.desk) (K.out_faults result.desk) 0 0) }
+    ensures tried { Tried P.gives request.now.want (WasAsked (K.state desk) (K.state result.desk))
+        (plan_tree machine.plan) (K.state desk).shown (K.state result.desk).shown result.status }
+    ensures stays { OnlyPickedChanges (K.state desk) (K.state result.desk) }
+    ensures asks { (K.state desk).asks ≤ (K.state result.desk).asks }
+    ensures causes { HasEachCause result.status (counts_of (K.state desk) 0 0)
+        (counts_of (K.state result.desk) 0 0) }
 {
     match Journal::volatile(alloc, desk) {
         Ok(journal) => match Book::start(alloc, journal, machine, false) {

@@ -3,14 +3,16 @@
 ghost use Rattle.std.specs.Prelude.{◌≡◌, ◌≤◌, ◌+◌, ◌++◌, ◌⊎◌, ℕ, List, Option, OnOk, IfErr};
 ghost use Rattle.tf_desk.specs.Counts.{Rises};
 ghost use Rattle.tf_ports.specs.declared.crews.Want.{Want as AWant};
-ghost use Rattle.taskflow.specs.Working.{end_word, session_line, SaysNext, StopsNext, HasStopCause, HasServeCause, HiresHere, ServesAll, Works, OnlySays};
+ghost use Rattle.taskflow.specs.Working.{end_word, session_line, SaysNext, StopsNext, HasStopCause, HasServeCause, HiresHere, ServesAll, Works};
+ghost use Rattle.taskflow.specs.Saying.{OnlySays};
 
 use crate::closing::close;
 use crate::messages::{CANNOT_HIRE, CANNOT_LISTEN};
 use crate::statuses::{OUT_OF_MEMORY, SUCCEEDED, UNHIRED, UNSAID};
 use std::alloc::Global;
+use tf_actions::Performer;
 use tf_desk::Desk;
-use tf_ports::{Address, Crew, Door, Performer, PortFault, Want};
+use tf_ports::{Address, Crew, Door, PortFault, Want};
 use tf_report::{append, append_counted};
 use tf_values::Memory;
 use tf_workers::{ServeEnd, serve};
@@ -25,11 +27,13 @@ pub fn work<K: Desk, W: Crew, D: Door>(
     crew: &mut W,
     door: &mut D,
 ) -> u8
-    ensures works { Works (W.hired crew.old) (W.hired crew.new) (K.shown desk.old) (K.shown desk.new) sessions result }
-    ensures says { OnlySays K.tells K.content K.disk_faults K.out_faults K.asks desk.old desk.new }
+    ensures works { Works (W.hired crew.old) (W.hired crew.new) (K.state desk.old).shown (K.state desk.new).shown
+        sessions result }
+    ensures says { OnlySays (K.state desk.old) (K.state desk.new) }
     ensures hires { (W.hired crew.new ≡ W.hired crew.old) ⊎ HiresHere (W.hired crew.old) (W.hired crew.new) }
-    ensures unhired { result ≡ UNHIRED → Rises (W.faults crew.old) (W.faults crew.new) ⊎ Rises (D.faults door.old) (D.faults door.new) }
-    ensures unsaid { result ≡ UNSAID → Rises (K.out_faults desk.old) (K.out_faults desk.new) }
+    ensures unhired { result ≡ UNHIRED
+        → Rises (W.faults crew.old) (W.faults crew.new) ⊎ Rises (D.faults door.old) (D.faults door.new) }
+    ensures unsaid { result ≡ UNSAID → Rises (K.state desk.old).out_faults (K.state desk.new).out_faults }
     ensures status { (result ≡ SUCCEEDED) ⊎ (result ≡ OUT_OF_MEMORY) ⊎ (result ≡ UNHIRED) ⊎ (result ≡ UNSAID) }
     ensures crew_stands { W.faults crew.old ≤ W.faults crew.new }
     ensures door_stands { D.faults door.old ≤ D.faults door.new }
@@ -55,9 +59,11 @@ fn listen_and_serve<K: Desk, P: Performer, D: Door>(
     hand: &mut P,
     door: &mut D,
 ) -> u8
-    ensures works { (hired after_hiring : Option (List AWant)) → HiresHere hired after_hiring → Works hired after_hiring (K.shown desk.old) (K.shown desk.new) sessions result }
-    ensures says { OnlySays K.tells K.content K.disk_faults K.out_faults K.asks desk.old desk.new }
-    ensures causes { HasServeCause (K.out_faults desk.old) (K.out_faults desk.new) (D.faults door.old) (D.faults door.new) result }
+    ensures works { (hired after_hiring : Option (List AWant)) → HiresHere hired after_hiring
+        → Works hired after_hiring (K.state desk.old).shown (K.state desk.new).shown sessions result }
+    ensures says { OnlySays (K.state desk.old) (K.state desk.new) }
+    ensures causes { HasServeCause (K.state desk.old) (K.state desk.new)
+        (D.faults door.old) (D.faults door.new) result }
     ensures door { D.faults door.old ≤ D.faults door.new }
 {
     match door.listen(alloc, address) {
@@ -75,9 +81,10 @@ fn serve_all<K: Desk, P: Performer, D: Door>(
     hand: &mut P,
     door: &mut D,
 ) -> u8
-    ensures serves { ServesAll (K.shown desk.old) (K.shown desk.new) sessions result }
-    ensures says { OnlySays K.tells K.content K.disk_faults K.out_faults K.asks desk.old desk.new }
-    ensures causes { HasServeCause (K.out_faults desk.old) (K.out_faults desk.new) (D.faults door.old) (D.faults door.new) result }
+    ensures serves { ServesAll (K.state desk.old).shown (K.state desk.new).shown sessions result }
+    ensures says { OnlySays (K.state desk.old) (K.state desk.new) }
+    ensures causes { HasServeCause (K.state desk.old) (K.state desk.new)
+        (D.faults door.old) (D.faults door.new) result }
     ensures door { D.faults door.old ≤ D.faults door.new }
 {
     for number in 0..sessions {
@@ -96,10 +103,11 @@ fn serve_next<K: Desk, P: Performer, D: Door>(
     hand: &mut P,
     door: &mut D,
 ) -> Result<(), u8>
-    ensures next { OnOk result (SaysNext (K.shown desk.old) (K.shown desk.new) (number + 1)) }
-    ensures stopped { IfErr result (StopsNext (K.shown desk.old) (K.shown desk.new) (number + 1)) }
-    ensures causes { IfErr result (HasStopCause (K.out_faults desk.old) (K.out_faults desk.new) (D.faults door.old) (D.faults door.new)) }
-    ensures says { OnlySays K.tells K.content K.disk_faults K.out_faults K.asks desk.old desk.new }
+    ensures next { OnOk result (SaysNext (K.state desk.old).shown (K.state desk.new).shown (number + 1)) }
+    ensures stopped { IfErr result (StopsNext (K.state desk.old).shown (K.state desk.new).shown (number + 1)) }
+    ensures causes { IfErr result (HasStopCause (K.state desk.old) (K.state desk.new)
+        (D.faults door.old) (D.faults door.new)) }
+    ensures says { OnlySays (K.state desk.old) (K.state desk.new) }
     ensures door { D.faults door.old ≤ D.faults door.new }
 {
     match door.accept(alloc) {
@@ -114,10 +122,11 @@ fn serve_next<K: Desk, P: Performer, D: Door>(
 
 /// Says how the session of this number, from 0, ended; unless memory ended it, or runs out.
 fn say_end<K: Desk>(alloc: Global, number: u32, end: ServeEnd, desk: &mut K) -> Result<(), u8>
-    ensures next { OnOk result (SaysNext (K.shown desk.old) (K.shown desk.new) (number + 1)) }
-    ensures stopped { IfErr result (StopsNext (K.shown desk.old) (K.shown desk.new) (number + 1)) }
-    ensures causes { (door : ℕ) → IfErr result (HasStopCause (K.out_faults desk.old) (K.out_faults desk.new) door door) }
-    ensures says { OnlySays K.tells K.content K.disk_faults K.out_faults K.asks desk.old desk.new }
+    ensures next { OnOk result (SaysNext (K.state desk.old).shown (K.state desk.new).shown (number + 1)) }
+    ensures stopped { IfErr result (StopsNext (K.state desk.old).shown (K.state desk.new).shown (number + 1)) }
+    ensures causes { (door : ℕ)
+        → IfErr result (HasStopCause (K.state desk.old) (K.state desk.new) door door) }
+    ensures says { OnlySays (K.state desk.old) (K.state desk.new) }
 {
     if let ServeEnd::Memory = end {
         return Err(OUT_OF_MEMORY);

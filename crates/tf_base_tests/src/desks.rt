@@ -1,8 +1,7 @@
 use std::alloc::Global;
-use std::fs;
 use std::process::Abort;
 use std::test::Fail;
-use tf_desk::{Desk, DeskFault, FileDesk, MemoryDesk};
+use tf_desk::{Desk, DeskFault, MemoryDesk};
 use tf_values::Text;
 
 /// A desk of which the stated calls fail and the stated turns ask for a stop.
@@ -17,7 +16,7 @@ fn desk(alloc: Global, failing: &[u64], asking: &[u64]) -> Result<MemoryDesk, Fa
 }
 
 /// The picked file has these bytes, and no more.
-fn assert_bytes<K: Desk>(rt: &impl Abort, desk: &mut K, bytes: &[u8]) {
+fn assert_bytes(rt: &impl Abort, desk: &mut MemoryDesk, bytes: &[u8]) {
     let mut buf = [0; 32];
     let size = desk.size();
     assert!(rt; size == Ok(bytes.len() as u64));
@@ -25,27 +24,6 @@ fn assert_bytes<K: Desk>(rt: &impl Abort, desk: &mut K, bytes: &[u8]) {
     assert!(rt; count == Ok(bytes.len()));
     assert!(rt; bytes.len() <= 32);
     assert_eq!(rt; &buf[..bytes.len()], bytes);
-}
-
-#[test]
-fn each_file_keeps_its_bytes(rt: HostRuntime) -> Result<(), Fail> {
-    let alloc = rt.alloc();
-    let mut desk = desk(alloc, &[], &[])?;
-    desk.pick(alloc, &Text::make(alloc, b"one")?)?;
-    desk.write_at(0, b"first")?;
-    desk.pick(alloc, &Text::make(alloc, b"two")?)?;
-    assert_bytes(&rt, &mut desk, b"");
-    desk.write_at(0, b"second")?;
-    desk.sync()?;
-    desk.pick(alloc, &Text::make(alloc, b"one")?)?;
-    desk.write_at(0, b"fire it")?;
-    assert_bytes(&rt, &mut desk, b"fire it");
-    desk.write_at(0, b"h")?;
-    assert_bytes(&rt, &mut desk, b"hire it");
-    let mut buf = [0; 4];
-    assert_eq!(rt; desk.read(5, &mut buf)?, 2);
-    assert_eq!(rt; &buf[..2], b"it".as_slice());
-    Ok(())
 }
 
 #[test]
@@ -76,39 +54,5 @@ fn what_passes_the_capacity_is_not_taken(rt: HostRuntime) -> Result<(), Fail> {
     assert_eq!(rt; desk.say(b"abc"), Err(DeskFault::Out));
     assert_eq!(rt; desk.shown().len(), 30);
     desk.say(b"ab")?;
-    Ok(())
-}
-
-#[test]
-fn a_real_file_is_written_and_read_again(rt: HostRuntime) -> Result<(), Fail> {
-    let alloc = rt.alloc();
-    let name = Text::make(alloc, b"desk_test_book")?;
-    let _ = fs::remove_file(&rt, "desk_test_book");
-    let _ = fs::remove_file(&rt, "desk_test_book.stop");
-    let mut desk = FileDesk::make(rt.clone()?);
-    assert!(rt; !desk.stop_asked());
-    assert_eq!(rt; desk.size(), Err(DeskFault::Disk));
-    desk.pick(alloc, &name)?;
-    assert_bytes(&rt, &mut desk, b"");
-    desk.write_at(0, b"first and last")?;
-    desk.write_at(6, b"not")?;
-    desk.sync()?;
-    assert!(rt; !desk.stop_asked());
-    let mut again = FileDesk::make(rt.clone()?);
-    again.pick(alloc, &name)?;
-    assert_bytes(&rt, &mut again, b"first not last");
-    fs::write(&rt, "desk_test_book.stop", "")?;
-    assert!(rt; again.stop_asked());
-    fs::remove_file(&rt, "desk_test_book.stop")?;
-    fs::remove_file(&rt, "desk_test_book")?;
-    Ok(())
-}
-
-#[test]
-fn a_missing_folder_is_a_fault_of_the_disk(rt: HostRuntime) -> Result<(), Fail> {
-    let alloc = rt.alloc();
-    let mut desk = FileDesk::make(rt.clone()?);
-    let name = Text::make(alloc, b"no/such/folder/book")?;
-    assert_eq!(rt; desk.pick(alloc, &name), Err(DeskFault::Disk));
     Ok(())
 }

@@ -3,15 +3,11 @@ ghost use Rattle.tf_desk.specs.Acts.{content_after};
 ghost use Rattle.tf_desk.specs.Content.{bytes_of};
 
 use std::alloc::Global;
-use std::fs;
 use std::process::Abort;
 use std::test::Fail;
 use tf_desk::{Desk, FileDesk, MemoryDesk};
-use tf_journal::{AppendFault, Journal, JournalFault, Title};
+use tf_journal::{AppendFault, Journal, Title};
 use tf_values::Text;
-
-/// An empty journal of a book: an open gate, the title and a closed gate.
-const EMPTY: &[u8; 18] = b"\xa5TASKFLOW BOOK 1\n\0";
 
 /// A desk with an empty picked file, of which the stated calls fail. Its pick was the first call.
 fn desk(alloc: Global, failing: &[u64]) -> Result<MemoryDesk, Fail>
@@ -21,16 +17,6 @@ fn desk(alloc: Global, failing: &[u64]) -> Result<MemoryDesk, Fail>
     let mut desk = MemoryDesk::make(alloc, 4096, 64, failing, Vec::new(alloc))?;
     desk.pick(alloc, &Text::make(alloc, b"book")?)?;
     Ok(desk)
-}
-
-/// What a load of these bytes as a book finds wrong.
-fn refusal(alloc: Global, bytes: &[u8]) -> Result<JournalFault, Fail> {
-    let mut desk = desk(alloc, &[])?;
-    desk.write_at(0, bytes)?;
-    match Journal::load(alloc, desk, Title::Book) {
-        Ok(_) => Err(Fail::from("loaded")),
-        Err((_, fault)) => Ok(fault),
-    }
 }
 
 /// That many bytes.
@@ -51,39 +37,6 @@ fn assert_file(rt: &impl Abort, mut desk: MemoryDesk, bytes: &[u8]) {
     assert_eq!(rt; &buf[..bytes.len()], bytes);
 }
 
-/// The bodies stand at these places, each followed by the next.
-fn assert_read<K: Desk>(
-    rt: &impl Abort,
-    alloc: Global,
-    journal: &mut Journal<K>,
-    bodies: &[(u64, &[u8])],
-) {
-    let mut body = Vec::new(alloc);
-    for (place, expected) in bodies {
-        assert!(rt; *place >= 17 && *place < 100);
-        let next = journal.body_at(*place, &mut body);
-        assert!(rt; next == Ok(Some(*place + 5 + body.len() as u64)));
-        assert!(rt; body.as_slice() == *expected);
-    }
-}
-
-#[test]
-fn a_created_journal_takes_a_body(rt: HostRuntime) -> Result<(), Fail> {
-    let alloc = rt.alloc();
-    let Ok(mut journal) = Journal::create(alloc, desk(alloc, &[])?, Title::Book) else {
-        return Err(Fail::from("not created"));
-    };
-    assert_eq!(rt; journal.size(), 18);
-    assert_eq!(rt; journal.append(&[1, 2]), Ok(()));
-    assert_eq!(rt; journal.size(), 25);
-    assert_file(
-        &rt,
-        journal.into_desk(),
-        b"\xa5TASKFLOW BOOK 1\n\xa5\0\0\0\x02\x01\x02\0",
-    );
-    Ok(())
-}
-
 #[test]
 fn a_gate_that_cannot_be_opened_halts(rt: HostRuntime) -> Result<(), Fail> {
     let alloc = rt.alloc();
@@ -98,52 +51,6 @@ fn a_gate_that_cannot_be_opened_halts(rt: HostRuntime) -> Result<(), Fail> {
         &rt,
         journal.into_desk(),
         b"\xa5TASKFLOW BOOK 1\n\0\0\0\0\x02\x01\x02\0",
-    );
-    Ok(())
-}
-
-#[test]
-fn bodies_are_read_in_order_and_more_are_taken(rt: HostRuntime) -> Result<(), Fail> {
-    let alloc = rt.alloc();
-    // Behind the gate that isn't open stand the remains of an append that a crash cut short.
-    let bytes = b"\xa5TASKFLOW JOBS 1\n\xa5\0\0\0\x03abc\xa5\0\0\0\x01d\x07\0\0\0\x63zz";
-    fs::write(&rt, "journal_test_book", bytes.as_slice())?;
-    let mut desk = FileDesk::make(rt.clone()?);
-    desk.pick(alloc, &Text::make(alloc, b"journal_test_book")?)?;
-    let Ok(mut journal) = Journal::load(alloc, desk, Title::Jobs) else {
-        return Err(Fail::from("not loaded"));
-    };
-    assert_eq!(rt; journal.size(), 32);
-    assert_eq!(rt; journal.append(b"ef"), Ok(()));
-    assert_read(
-        &rt,
-        alloc,
-        &mut journal,
-        &[(17, b"abc"), (25, b"d"), (31, b"ef")],
-    );
-    assert_eq!(rt; journal.body_at(38, &mut Vec::new(alloc)), Ok(None));
-    fs::remove_file(&rt, "journal_test_book")?;
-    Ok(())
-}
-
-#[test]
-fn a_file_that_is_no_journal_is_refused(rt: HostRuntime) -> Result<(), Fail> {
-    let alloc = rt.alloc();
-    assert_eq!(rt; refusal(alloc, b"")?, JournalFault::Unborn);
-    assert_eq!(rt; refusal(alloc, b"\0TASK")?, JournalFault::Unborn);
-    assert_eq!(rt;
-        refusal(alloc, b"hello\n")?,
-        JournalFault::NotABook {
-            offset: 0,
-            byte: Some(104)
-        }
-    );
-    assert_eq!(rt;
-        refusal(alloc, &EMPTY[..17])?,
-        JournalFault::NotABook {
-            offset: 17,
-            byte: None
-        }
     );
     Ok(())
 }

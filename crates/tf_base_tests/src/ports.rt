@@ -1,5 +1,5 @@
 ghost use Rattle.std.specs.Prelude.{IfOk};
-ghost use Rattle.tf_ports.specs.Whole.{IsWhole};
+ghost use Rattle.tf_actions.specs.Whole.{IsWhole};
 
 use std::alloc::Global;
 use std::test::Fail;
@@ -53,29 +53,25 @@ fn a_crew_in_memory_hires_performers_that_keep_their_orders(rt: HostRuntime) -> 
 }
 
 #[test]
-fn programs_are_run(rt: HostRuntime) -> Result<(), Fail> {
+fn a_spawner_in_memory_runs_its_programs(rt: HostRuntime) -> Result<(), Fail> {
     let alloc = rt.alloc();
-    let program = Text::make(alloc, b"/bin/echo")?;
-    let mut words = Vec::new(alloc);
-    words.push(Text::make(alloc, b"hi")?)?;
-    let args = Texts::make(words);
-    let mut children = Children::make(rt.clone()?);
-    let Ok(done) = children.run(alloc, &program, &args) else {
-        panic!(rt; "not run");
-    };
-    assert_eq!(rt; done.status, 0);
-    assert_eq!(rt; done.out.items(), b"hi\n".as_slice());
-    let absent = Text::make(alloc, b"/no/such/program")?;
-    assert!(rt; matches!(children.run(alloc, &absent, &args), Err(SpawnFault::Failed)));
     let mut programs = Vec::new(alloc);
     programs.push(MemoryProgram {
-        name: program,
-        ends: done,
+        name: Text::make(alloc, b"echo")?,
+        ends: Done {
+            status: 0,
+            out: Output::make(Vec::from_slice(alloc, b"hi")?),
+        },
     })?;
+    let args = Texts::make(Vec::new(alloc));
     let mut spawner = MemorySpawner::make(programs, vec![in alloc; 2]?);
-    let program = Text::make(alloc, b"/bin/echo")?;
-    assert!(rt; spawner.run(alloc, &program, &args).is_ok());
-    assert!(rt; matches!(spawner.run(alloc, &program, &args), Err(SpawnFault::Failed)));
+    let known = Text::make(alloc, b"echo")?;
+    let Ok(done) = spawner.run(alloc, &known, &args) else {
+        panic!(rt; "not run");
+    };
+    assert_eq!(rt; done.out.items(), b"hi".as_slice());
+    assert!(rt; matches!(spawner.run(alloc, &known, &args), Err(SpawnFault::Failed)));
+    let absent = Text::make(alloc, b"cat")?;
     assert!(rt; matches!(spawner.run(alloc, &absent, &args), Err(SpawnFault::Failed)));
     Ok(())
 }

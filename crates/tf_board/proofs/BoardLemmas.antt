@@ -1,21 +1,19 @@
 -- What the calls of a board leave.
-use Rattle.std.proofs.Common.{◌≡◌, ◌≢◌, ◌⊎◌, ◌≤◌, ◌<◌, ℕ, zero, suc, ◌+◌, Bool, true, false, List, [], ◌∷◌, ◌++◌, length, get_or, Option, Some, None, Result, Ok, Err, refl, sym, ap, subst, ◌∙◌, inl, inr, arith, append-nil}
-use Rattle.std.specs.Prelude.{IsTrue, slice_get}
+use Rattle.std.proofs.Common.{◌≡◌, ◌⊎◌, ◌<◌, ℕ, suc, ◌+◌, List, length, get_or, Option, Some, None, Result, Err, refl, sym, ap, subst, ◌∙◌, inl, inr, arith}
+use Rattle.std.specs.Prelude.{slice_get}
 use Rattle.std.proofs.lemmas.Option.{slice_get-get_or}
-use Rattle.tf_desk.specs.Content.{Content, bytes_of}
-use Rattle.tf_desk.specs.Counts.{Rises}
-use Rattle.tf_desk.specs.Crash.{Images, Crashes, IsLeft, passes_none}
+use Rattle.tf_desk.specs.State.{DeskState, bytes_now, MayLeave, GoesOn}
+use Rattle.tf_desk.proofs.StateLemmas.{goes_none}
 use Rattle.tf_journal.specs.Held.{Held}
-use Rattle.tf_journal.specs.Rest.{IsAtRest, IsOpen, GoesOn}
+use Rattle.tf_journal.specs.Rest.{IsAtRest}
 use Rattle.tf_journal.specs.Format.{title_of, recovered, bodies}
 use Rattle.tf_journal.specs.declared.title.Title.{Title}
 use Rattle.tf_journal.specs.declared.title.Title.TheVariants.{Jobs as jobs_title}
-use Rattle.tf_journal.proofs.AppendLemmas.{rest_leaves}
-use Rattle.tf_board.specs.Board.{BoardValue, board_in, bodies_of, Holds, IsSound}
-use Rattle.tf_board.specs.Commands.{command_bytes}
+use Rattle.tf_journal.proofs.HeaderLemmas.{sixteen}
+use Rattle.tf_journal.proofs.LieLemmas.{recovered_lies}
+use Rattle.tf_board.specs.Board.{BoardValue, board_in, bodies_of, Holds, LeavesHeld, IsSound}
 use Rattle.tf_board.specs.Jobs.{refused_at, refused_of, refuses_id, jobs_of, numbered, place_of, named, owner_in, owner_of}
-use Rattle.tf_board.specs.Recording.{is_recorded, board_after, IsAnswer, LeavesRecorded, Records, fault_of, number_at, number_of, applied, Acts}
-use Rattle.tf_board.specs.declared.board.Owner.{Owner}
+use Rattle.tf_board.specs.Recording.{LeavesRecorded, FailsToRecord, Records, fault_of, number_at, applied, Acts}
 use Rattle.tf_board.specs.declared.board.Owner.TheVariants as owned
 use Rattle.tf_board.specs.declared.commands.Command.{Command}
 use Rattle.tf_board.specs.declared.commands.Command.TheVariants as command
@@ -27,7 +25,7 @@ use Rattle.tf_board.specs.declared.jobs.Standing.{Standing}
 use Rattle.tf_board.specs.declared.kept.Kept.{Kept}
 use Rattle.tf_board.specs.declared.rules.Refusal.{Refusal}
 use Rattle.tf_board.specs.declared.rules.Refusal.TheVariants as refusal
-use Rattle.tf_board.proofs.JobLemmas.{placed, named_by}
+use Rattle.tf_board.proofs.JobLemmas.{named_by}
 
 -- ---- who has a job
 
@@ -70,76 +68,51 @@ applied_there past items id place action owner same there =
     let next : place + 1 ≡ suc place = omega arith in
     ap (λ (n : ℕ). command.Apply action n owner) (next ∙ ap number_at (there ∙ ap (λ (l : List Job). place_of l id) same))
 
-module _ {K : Type 0} (tells : K → Bool) (shown : K → Option (List ℕ)) (content : K → Content) (left : K → Images) (crashes : K → Crashes) (disk_faults out_faults asks turns : K → ℕ) where
-  -- ---- what a board is
+-- ---- what a board is
 
-  -- its file holds its commands, and a crash now leaves them
-  pub sound_leaves : (kept : Kept) (b : BoardValue K) → IsSound tells content left kept b → IsOpen tells b.journal → (image : List ℕ) → IsLeft (content b.journal.desk).picked (left b.journal.desk) image
-      → Holds b.past (board_in image)
-  sound_leaves kept b sound ready image leaves =
-      subst (λ (t : Title). recovered (title_of t) image ≡ bodies (bodies_of b.past)) sound.title (rest_leaves content left b.journal (bodies_of b.past) (sound.ready ready) image leaves)
+-- what recovery finds of a journal at rest
+pub rest_holds : {K : Type 0} (state : K → DeskState) (journal : Held K) (past : List Command) → journal.title ≡ jobs_title → IsAtRest state journal (bodies_of past)
+    → Holds past (board_in (bytes_now (state journal.desk)))
+rest_holds state journal past titled rest =
+    subst (λ (t : Title). recovered (title_of t) (bytes_now (state journal.desk)) ≡ bodies (bodies_of past)) titled
+    (recovered_lies (title_of journal.title) (bodies_of past) journal.size (bytes_now (state journal.desk)) (sixteen journal.title) rest.lies)
 
+-- and of what a crash leaves of it
+pub rest_leaves_held : {K : Type 0} (state : K → DeskState) (journal : Held K) (past : List Command) → journal.title ≡ jobs_title → IsAtRest state journal (bodies_of past)
+    → LeavesHeld past (state journal.desk)
+rest_leaves_held state journal past titled rest image left =
+    subst (λ (b : List ℕ). Holds past (board_in b)) (sym (rest.durable image left)) (rest_holds state journal past titled rest)
+
+module _ {K : Type 0} (state : K → DeskState) where
   -- ---- nothing was recorded
 
-  records_nothing : {A : Type 0} (kept : Kept) (b : BoardValue K) (added : Command) → IsSound tells content left kept b
-      → Records {A = A} tells shown content left crashes disk_faults out_faults asks turns b b added (Err fault.Memory)
-  records_nothing kept b added sound = record {
-    now = refl;
-    answer = tt;
-    crash = λ opened. passes_none (content b.journal.desk).clock (crashes b.journal.desk) (LeavesRecorded b.past added (shown b.journal.desk));
-    lasts = λ never. absurd (cc);
-    leaves = λ opened image leaves. inl (sound_leaves kept b sound opened image leaves);
-    file = λ never. absurd (cc);
-    goes = λ told. record { picked = refl; others = λ other apart. refl; marks = ([], sym (append-nil (content b.journal.desk).marks)) };
-    no_fall = omega arith;
-    others = (refl, refl, refl);
-    quiet = (refl, refl);
+  -- a board that is as it was: its file holds its commands, or no append may write to it
+  pub records_same : {A : Type 0} (kept : Kept) (old new : BoardValue K) (added : Command) (why : BoardFault) → IsSound state kept old → new ≡ old
+      → FailsToRecord state added old new why → Records {A = A} state old new added (Err why)
+  records_same kept old new added why sound is fails = record {
+    recorded = tt;
+    fails = fails;
+    goes = subst (λ (b : BoardValue K). GoesOn (LeavesRecorded old.past added (state old.journal.desk)) (state old.journal.desk) (state b.journal.desk)) (sym is) goes_none;
+    leaves = λ told going image left.
+        inl
+        (rest_leaves_held state old.journal old.past sound.title (sound.ready (record { told = told; sound = going; kept = sound.in_file })) image
+        (subst (λ (b : BoardValue K). MayLeave (state b.journal.desk) image) is left));
   }
-
-  pub records_memory : {A : Type 0} (kept : Kept) (old new : BoardValue K) (added : Command) → IsSound tells content left kept old → new ≡ old
-      → Records {A = A} tells shown content left crashes disk_faults out_faults asks turns old new added (Err fault.Memory)
-  records_memory {A = A} kept old new added sound is =
-      subst (λ (b : BoardValue K). Records {A = A} tells shown content left crashes disk_faults out_faults asks turns old b added (Err fault.Memory)) (sym is) (records_nothing kept old added sound)
-
-  -- ---- the same with another answer
-
-  pub records_ok : {A B : Type 0} (old new : BoardValue K) (added : Command) (a : A) (b : B) → Records {A = A} tells shown content left crashes disk_faults out_faults asks turns old new added (Ok a)
-      → Records {A = B} tells shown content left crashes disk_faults out_faults asks turns old new added (Ok b)
-  records_ok old new added a b r = record {
-    now = r.now;
-    answer = r.answer;
-    crash = r.crash;
-    lasts = r.lasts;
-    leaves = r.leaves;
-    file = r.file;
-    goes = r.goes;
-    no_fall = r.no_fall;
-    others = r.others;
-    quiet = r.quiet;
-  }
-
-  pub records_err : {A B : Type 0} (old new : BoardValue K) (added : Command) (f : BoardFault) → Records {A = A} tells shown content left crashes disk_faults out_faults asks turns old new added (Err f)
-      → Records {A = B} tells shown content left crashes disk_faults out_faults asks turns old new added (Err f)
-  records_err old new added fault.Disk r = record { now = r.now; answer = r.answer; crash = r.crash; lasts = λ never. absurd (cc); leaves = r.leaves; file = λ never. absurd (cc); goes = r.goes; no_fall = r.no_fall; others = r.others; quiet = r.quiet }
-  records_err old new added (fault.Full size need) r = record { now = r.now; answer = r.answer; crash = r.crash; lasts = λ never. absurd (cc); leaves = r.leaves; file = λ never. absurd (cc); goes = r.goes; no_fall = r.no_fall; others = r.others; quiet = r.quiet }
-  records_err old new added fault.Halted r = record { now = r.now; answer = r.answer; crash = r.crash; lasts = λ never. absurd (cc); leaves = r.leaves; file = λ never. absurd (cc); goes = r.goes; no_fall = r.no_fall; others = r.others; quiet = r.quiet }
-  records_err old new added fault.Memory r = record { now = r.now; answer = r.answer; crash = r.crash; lasts = λ never. absurd (cc); leaves = r.leaves; file = λ never. absurd (cc); goes = r.goes; no_fall = r.no_fall; others = r.others; quiet = r.quiet }
-  records_err old new added (fault.NoJob id) r = absurd r.answer
-  records_err old new added (fault.Gone id) r = absurd r.answer
-  records_err old new added (fault.Claimed owner) r = absurd r.answer
-  records_err old new added (fault.NotOwner owner) r = absurd r.answer
 
   -- ---- what an owner does
 
   pub acts_refused : (refused : Option Refusal) (why : Refusal) (b : BoardValue K) (action : JobAction) (id owner : List ℕ) (f : BoardFault) → refused ≡ Some why → (f ≡ fault_of why id) ⊎ (f ≡ fault.Memory)
-      → Acts tells shown content left crashes disk_faults out_faults asks turns refused b b action id owner (Err f)
+      → Acts state refused b b action id owner (Err f)
   acts_refused refused why b action id owner f is answers =
-      subst (λ (o : Option Refusal). Acts tells shown content left crashes disk_faults out_faults asks turns o b b action id owner (Err f)) (sym is)
-      (refl, elim answers [ inl named_so ↦ inl (ap (λ (x : BoardFault). Err x) named_so) | inr memory ↦ inr (ap (λ (x : BoardFault). Err x) memory) ])
+      subst (λ (o : Option Refusal). Acts state o b b action id owner (Err f)) (sym is)
+      (record {
+        now = refl;
+        answer = elim answers [ inl named_so ↦ inl (ap (λ (x : BoardFault). Err x) named_so) | inr memory ↦ inr (ap (λ (x : BoardFault). Err x) memory) ];
+      })
 
   pub acts_allowed : (refused : Option Refusal) (old new : BoardValue K) (action : JobAction) (id owner : List ℕ) (c : Command) (result : Result (Unit {0}) BoardFault) → refused ≡ None → c ≡ applied old.past action id owner
-      → Records tells shown content left crashes disk_faults out_faults asks turns old new c result
-      → Acts tells shown content left crashes disk_faults out_faults asks turns refused old new action id owner result
+      → Records state old new c result
+      → Acts state refused old new action id owner result
   acts_allowed refused old new action id owner c result is same records =
-      subst (λ (o : Option Refusal). Acts tells shown content left crashes disk_faults out_faults asks turns o old new action id owner result) (sym is)
-      (subst (λ (x : Command). Records tells shown content left crashes disk_faults out_faults asks turns old new x result) same records)
+      subst (λ (o : Option Refusal). Acts state o old new action id owner result) (sym is)
+      (subst (λ (x : Command). Records state old new x result) same records)

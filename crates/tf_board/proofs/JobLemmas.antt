@@ -1,7 +1,7 @@
 -- The jobs of a board, and how a command changes them.
-use Rattle.std.proofs.Common.{◌≡◌, ◌≢◌, ℕ, zero, suc, ◌+◌, ◌≤◌, ◌<◌, Bool, true, false, List, [], ◌∷◌, ◌++◌, length, Option, Some, None, refl, sym, ap, subst, ◌∙◌, inl, inr, arith, length-append, set, cond, eq-eqb}
-use Rattle.std.specs.Prelude.{slice_get, nat_eq, nat_lt, if◌then◌else◌}
-use Rattle.std.specs.List.{find, position, position_or_len}
+use Rattle.std.proofs.Common.{◌≡◌, ◌≢◌, ℕ, zero, suc, ◌+◌, ◌<◌, Bool, true, false, List, [], ◌∷◌, ◌++◌, length, Option, Some, None, refl, sym, ap, subst, ◌∙◌, inl, inr, arith, length-append, set, cond, eq-eqb}
+use Rattle.std.specs.Prelude.{slice_get, nat_eq, if◌then◌else◌}
+use Rattle.std.specs.List.{position_or_len}
 use Rattle.std.specs.Cmp.Lexicographic.{bytes_decides}
 use Rattle.std.proofs.Math.Seq.{set-append_seam}
 use Rattle.std.proofs.lemmas.Bool.{cases_lt, lt-ltb, le-ltb, eqb-true}
@@ -9,9 +9,9 @@ use Rattle.std.proofs.lemmas.List.Quantifiers.{position-Some}
 use Rattle.std.proofs.lemmas.List.{set-append_left}
 use Rattle.std.proofs.lemmas.List.Folds.{find_at}
 use Rattle.std.proofs.lemmas.Option.{slice_get_past, slice_get_within, get_or_from_slice_get}
-use Rattle.tf_report.specs.declared.job_lines.Priority.{Priority}
+use Rattle.tf_states.specs.declared.priorities.Priority.{Priority}
 use Rattle.tf_values.specs.declared.value.Val.{Val}
-use Rattle.tf_board.specs.Jobs.{id_of, posted, standing_after, standing_of, job_at, jobs_in, jobs_of, numbered, refused_at, refused_of, refuses, LegalJobs, same, place_of, has_id, named}
+use Rattle.tf_board.specs.Jobs.{id_of, posted, standing_after, standing_of, job_at, jobs_in, jobs_of, numbered, refused_at, refused_of, LegalJobs, same, place_of, has_id, named}
 use Rattle.tf_board.specs.declared.commands.Command.{Command}
 use Rattle.tf_board.specs.declared.commands.Command.TheVariants as command
 use Rattle.tf_board.specs.declared.commands.JobAction.{JobAction}
@@ -22,7 +22,6 @@ use Rattle.tf_board.specs.declared.jobs.Standing.TheVariants as standing
 use Rattle.tf_board.specs.Kept.{IsChange}
 use Rattle.tf_board.specs.declared.kept.Change.{Change}
 use Rattle.tf_board.specs.declared.kept.Change.TheVariants as change
-use Rattle.tf_board.specs.declared.rules.Refusal.{Refusal}
 use Rattle.tf_board.specs.declared.rules.Refusal.TheVariants as refusal
 
 -- ---- numbers

@@ -1,3 +1,4 @@
+pub mod DeskLaws
 pub mod FormLemmas
 pub mod JobLemmas
 pub mod KeptLemmas
@@ -5,4 +6,6 @@ pub mod ReadingLemmas
 pub mod BoardLemmas
 pub mod LoadLemmas
 pub mod OpeningLemmas
+pub mod EndLemmas
+pub mod ActLemmas
 pub mod DoesLemmas

@@ -1,17 +1,84 @@
 -- How a board's file is read, or made.
-use Rattle.std.proofs.Common.{◌≡◌, ◌≢◌, ℕ, Bool, true, List, [], Option, Result, Ok, Err, refl, sym, ap, subst, ◌∙◌}
-use Rattle.std.specs.Prelude.{IsTrue, IfErr}
-use Rattle.tf_journal.specs.Format.{Recovered, bodies, unborn, title_of, is_unborn}
+use Rattle.std.proofs.Common.{◌≡◌, ℕ, List, [], Result, Ok, Err, sym, ap, subst, ◌∙◌, inl, inr}
+use Rattle.std.specs.Prelude.{IsTrue, IfOk, IfErr}
+use Rattle.tf_desk.specs.State.{DeskState, bytes_now, Rests, GoesOn}
+use Rattle.tf_desk.proofs.CountLemmas.{rises_later}
+use Rattle.tf_desk.proofs.StateLemmas.{on_disk_told, goes_within, rests_then_goes}
+use Rattle.tf_journal.specs.Format.{bodies, unborn, title_of}
+use Rattle.tf_journal.specs.Held.{Held}
+use Rattle.tf_journal.specs.Rest.{IsAtRest, LeavesBirth}
 use Rattle.tf_journal.specs.declared.faults.LoadFault.{LoadFault}
-use Rattle.tf_board.specs.Board.{RefusesBodies, RefusesBoard}
+use Rattle.tf_journal.specs.declared.faults.LoadFault.TheVariants as load_fault
+use Rattle.tf_journal.specs.declared.title.Title.TheVariants.{Jobs as jobs_title}
+use Rattle.tf_board.specs.Board.{BoardValue, board_in, bodies_of}
+use Rattle.tf_board.specs.Loading.{IsReadyBoard, IsLoadedBoard, FailsToReadBack, FailsToMake, FailsToLoad, LeavesLoad}
+use Rattle.tf_board.specs.declared.commands.Command.{Command}
+use Rattle.tf_board.proofs.BoardLemmas.{rest_holds, rest_leaves_held}
 use Rattle.tf_board.proofs.ReadingLemmas.{refuses_board}
 
--- a journal whose bodies are refused is refused as a board
-pub refused_so : {A K : Type 0} (r : Result A (K × LoadFault)) (here there : Bool) (file : Recovered) (HasThem : List (List ℕ) → Type 0) → here ≡ there
-    → (IsTrue here → (held : List (List ℕ)) × (file ≡ bodies held) × HasThem held)
-    → IfErr r (λ back. IsTrue there → (held : List (List ℕ)) → HasThem held → RefusesBodies back.1 held)
-    → IfErr r (λ back. IsTrue here → RefusesBoard back.1 file)
-refused_so (Ok a) here there file HasThem same lies refused = tt
-refused_so (Err back) here there file HasThem same lies refused = λ told.
-    let held = lies told in
-    refuses_board back.1 held.0 file held.1 (refused (subst (λ (t : Bool). IsTrue t) same told) held.0 held.2)
+module _ {K : Type 0} (state : K → DeskState) where
+  -- ---- a journal that was read
+
+  -- these bodies are in the file, and the journal is at rest
+  abbrev pub Recovers : K → Held K → Type 0
+  Recovers desk journal =
+      IsTrue (state desk).tells → (held : List (List ℕ)) × (board_in (bytes_now (state desk)) ≡ bodies held) × IsAtRest state journal held
+
+  -- its commands were read back
+  pub read_loaded : (desk : K) (journal : Held K) (r : Result (BoardValue K) (K × LoadFault)) → Rests (state desk) (state journal.desk) → Recovers desk journal
+      → IfOk r IsReadyBoard
+      → IfOk r (λ board. IsTrue (state journal.desk).tells → (held : List (List ℕ)) → IsAtRest state journal held → held ≡ bodies_of board.past)
+      → IfOk r (λ board. IsTrue (state journal.desk).tells → IsAtRest state board.journal (bodies_of board.past))
+      → IfOk r (λ board. IsLoadedBoard state (state desk) board)
+  read_loaded desk journal (Err back) rests lies fresh loads rest = tt
+  read_loaded desk journal (Ok board) rests lies fresh loads rest =
+      let told_then : IsTrue (state desk).tells → IsTrue (state journal.desk).tells = λ told. on_disk_told rests.on_disk told in
+      record {
+        fresh = fresh;
+        found = λ told. let held = lies told in inl (held.1 ∙ ap bodies (loads (told_then told) held.0 held.2));
+        holds = λ told. rest_holds state board.journal board.past fresh.titled (rest (told_then told));
+        leaves = λ told. rest_leaves_held state board.journal board.past fresh.titled (rest (told_then told));
+      }
+
+  -- they weren't
+  pub unread_unloaded : (desk : K) (journal : Held K) (r : Result (BoardValue K) (K × LoadFault)) → Rests (state desk) (state journal.desk) → Recovers desk journal
+      → IfErr r (λ back. FailsToReadBack state back.1 journal back.0) → IfErr r (λ back. FailsToLoad back.1 (state desk) (state back.0))
+  unread_unloaded desk journal (Ok board) rests lies fails = tt
+  unread_unloaded desk journal (Err back) rests lies fails = record {
+    refused = λ told. let held = lies told in
+        refuses_board back.1 held.0 (board_in (bytes_now (state desk))) held.1 (fails.refused (on_disk_told rests.on_disk told) held.0 held.2.lies);
+    cause = λ is. rises_later (state desk).disk_faults (state journal.desk).disk_faults (state back.0).disk_faults rests.on_disk.disk_faults (fails.cause is);
+  }
+
+  -- ---- an unborn file
+
+  module _ (desk before : K) (rests : Rests (state desk) (state before)) (unborn_then : IsTrue (state desk).tells → board_in (bytes_now (state desk)) ≡ unborn) where
+    -- a board was made of it
+    pub made_loaded : (r : Result (BoardValue K) (K × LoadFault)) → IfOk r IsReadyBoard → IfOk r (λ board. board.past ≡ [])
+        → IfOk r (λ board. IsTrue (state before).tells → IsAtRest state board.journal []) → IfOk r (λ board. IsLoadedBoard state (state desk) board)
+    made_loaded (Err back) fresh none rest = tt
+    made_loaded (Ok board) fresh none rest =
+        let at_rest : IsTrue (state desk).tells → IsAtRest state board.journal (bodies_of board.past) =
+        λ told. subst (λ (l : List Command). IsAtRest state board.journal (bodies_of l)) (sym none) (rest (on_disk_told rests.on_disk told)) in
+        record {
+          fresh = fresh;
+          found = λ told. inr (none, unborn_then told);
+          holds = λ told. rest_holds state board.journal board.past fresh.titled (at_rest told);
+          leaves = λ told. rest_leaves_held state board.journal board.past fresh.titled (at_rest told);
+        }
+
+    unmade_fault : (back : K) (fault : LoadFault) → FailsToMake fault (state before) (state back) → FailsToLoad fault (state desk) (state back)
+    unmade_fault back load_fault.Disk fails = record { refused = λ told. tt; cause = λ is. rises_later (state desk).disk_faults (state before).disk_faults (state back).disk_faults rests.on_disk.disk_faults fails }
+    unmade_fault back load_fault.Memory fails = record { refused = λ told. tt; cause = λ is. absurd (cc) }
+    unmade_fault back (load_fault.NotABook offset byte) fails = absurd fails
+
+    -- it couldn't be made
+    pub unmade_unloaded : (r : Result (BoardValue K) (K × LoadFault)) → IfErr r (λ back. FailsToMake back.1 (state before) (state back.0))
+        → IfErr r (λ back. FailsToLoad back.1 (state desk) (state back.0))
+    unmade_unloaded (Ok board) fails = tt
+    unmade_unloaded (Err back) fails = unmade_fault back.0 back.1 fails
+
+    -- in either case a crash leaves it unborn or a board without a command
+    pub made_goes : (now : K) → GoesOn (LeavesBirth (title_of jobs_title) (state before).shown) (state before) (state now) → GoesOn (LeavesLoad (state desk)) (state desk) (state now)
+    made_goes now goes =
+        goes_within (rests_then_goes rests goes) (λ told image text left. (unborn_then told, (left.0, sym rests.on_disk.shown ∙ left.1)))

@@ -1,10 +1,10 @@
 -- How commands are read from a journal body by body.
-use Rattle.std.proofs.Common.{◌≡◌, ◌≢◌, ◌<◌, ℕ, ◌+◌, Bool, true, List, [], ◌∷◌, ◌++◌, length, Option, refl, sym, ◌∙◌, ap, subst, arith, append-nil, append_assoc, length-append}
+use Rattle.std.proofs.Common.{◌≡◌, ◌≢◌, ◌<◌, ℕ, ◌+◌, true, List, [], ◌∷◌, ◌++◌, length, Option, refl, sym, ◌∙◌, ap, subst, arith, append-nil, append_assoc, length-append}
 use Rattle.std.specs.Prelude.{IsTrue, slice_get}
 use Rattle.std.specs.List.{flat_map}
-use Rattle.tf_desk.specs.Content.{Content}
-use Rattle.tf_desk.specs.Crash.{Images, Crashes}
-use Rattle.tf_journal.specs.Format.{SIZE_LIMIT, OPEN, Recovered, bodies, record_of, front_of, title_of}
+use Rattle.tf_desk.specs.State.{DeskState}
+use Rattle.tf_desk.proofs.StateLemmas.{on_disk_told}
+use Rattle.tf_journal.specs.Format.{SIZE_LIMIT, OPEN, Recovered, bodies, record_of, prefix_of, title_of}
 use Rattle.tf_journal.specs.Held.{Held}
 use Rattle.tf_journal.specs.Reading.{IsNext, IsNoRefusal, HasBodies, OnlyReads}
 use Rattle.tf_journal.specs.declared.faults.LoadFault.{LoadFault}
@@ -23,13 +23,13 @@ use Rattle.tf_board.specs.declared.commands.Command.{Command}
 use Rattle.tf_board.specs.declared.kept.Kept.{Kept}
 
 -- the next gate of a journal with these bodies stands before its size
-pub front_long : (past : List Command) → length (front_of (title_of jobs_title) (bodies_of past)) + 1 ≡ size_of past
-front_long past = omega (arith, front past, length-append (OPEN ∷ title_of jobs_title) (flat_map record_of (bodies_of past)))
+pub prefix_long : (past : List Command) → length (prefix_of (title_of jobs_title) (bodies_of past)) + 1 ≡ size_of past
+prefix_long past = omega (arith, long past, length-append (OPEN ∷ title_of jobs_title) (flat_map record_of (bodies_of past)))
   where
-    front : (past : List Command) → length (flat_map record_of (bodies_of past)) + 18 ≡ size_of past
-    front [] = refl
-    front (c ∷ past) =
-        omega (arith, front past, ap length (flat_map-push (bodies_of past) (command_bytes c)), length-append (flat_map record_of (bodies_of past)) (record_of (command_bytes c)), length-record_of (command_bytes c))
+    long : (past : List Command) → length (flat_map record_of (bodies_of past)) + 18 ≡ size_of past
+    long [] = refl
+    long (c ∷ past) =
+        omega (arith, long past, ap length (flat_map-push (bodies_of past) (command_bytes c)), length-append (flat_map record_of (bodies_of past)) (record_of (command_bytes c)), length-record_of (command_bytes c))
 
 -- a fault that says nothing of the file refuses nothing
 pub refuses_nothing : (fault : LoadFault) (held : List (List ℕ)) → IsNoRefusal fault → RefusesBodies fault held
@@ -49,52 +49,52 @@ pub refuses_so : (fault : MakeFault) (answer : LoadFault) (held : List (List ℕ
 refuses_so make_fault.No answer held offset byte refuses memory refused = subst (λ (f : LoadFault). RefusesBodies f held) (sym (refuses refl)) (refused refl)
 refuses_so make_fault.Memory answer held offset byte refuses memory refused = subst (λ (f : LoadFault). RefusesBodies f held) (sym (memory refl)) tt
 
-module _ {K : Type 0} (tells : K → Bool) (shown : K → Option (List ℕ)) (content : K → Content) (left : K → Images) (crashes : K → Crashes) (disk_faults out_faults asks turns : K → ℕ) where
+module _ {K : Type 0} (state : K → DeskState) where
   abbrev Reads : Held K → Held K → Type 0
-  Reads old new = OnlyReads tells shown content left crashes disk_faults out_faults asks turns old new
+  Reads old new = OnlyReads state old new
 
   abbrev Read : Held K → Kept → ℕ → Type 0
-  Read j kept place = HasRead tells shown content left crashes disk_faults out_faults asks turns j kept place
+  Read j kept place = HasRead state j kept place
 
   abbrev ReadAll : Held K → Kept → Type 0
-  ReadAll j kept = HasReadAll tells shown content left crashes disk_faults out_faults asks turns j kept
+  ReadAll j kept = HasReadAll state j kept
 
   -- no command was read yet
   pub read_none : (j : Held K) (kept : Kept) → IsTrueTo kept [] → Read j kept 17
   read_none j kept none = record {
     true_to = subst (λ (p : List Command). IsTrueTo kept p) (sym none.commands) none;
     place_is = ap size_of (sym none.commands);
-    front = λ told held lies. (held, ap (λ (p : List Command). bodies_of p ++ held) (sym none.commands));
+    begins = λ told held lies. (held, ap (λ (p : List Command). bodies_of p ++ held) (sym none.commands));
   }
 
   -- what was found at the next gate comes behind the bodies so far
   pub found_next_body : (a b : Held K) (kept : Kept) (place : ℕ) (Says : List (List ℕ) → Type 0) → Read a kept place → Reads a b → a.title ≡ jobs_title
-      → ((before rest : List (List ℕ)) → IsTrue (tells b.desk) → HasBodies content b (before ++ rest) → place ≡ length (front_of (title_of b.title) before) → Says rest)
-      → IsTrue (tells a.desk) → (held : List (List ℕ)) → HasBodies content a held
+      → ((before rest : List (List ℕ)) → IsTrue (state b.desk).tells → HasBodies state b (before ++ rest) → place ≡ length (prefix_of (title_of b.title) before) → Says rest)
+      → IsTrue (state a.desk).tells → (held : List (List ℕ)) → HasBodies state a held
       → (rest : List (List ℕ)) × (held ≡ bodies_of (past_in kept) ++ rest) × Says rest
   found_next_body a b kept place Says read reads titled found told held lies =
       let past = past_in kept in
-      let front = read.front told held lies in
+      let first = read.begins told held lies in
       let title : b.title ≡ jobs_title = ap (λ (h : Held K). h.title) reads.journal ∙ titled in
-      let long : length (front_of (title_of jobs_title) (bodies_of past)) + 1 ≡ size_of past = front_long past in
-      let at : place ≡ length (front_of (title_of jobs_title) (bodies_of past)) = omega (arith, read.place_is, long) in (
-        front.0,
-        front.1,
-        found (bodies_of past) front.0 (subst (λ (t : Bool). IsTrue t) (sym reads.quiet.0) told)
-            (subst (λ (h : List (List ℕ)). HasBodies content b h) front.1 (bodies_stay tells shown content left crashes disk_faults out_faults asks turns a b reads told held lies))
-            (at ∙ ap (λ (t : Title). length (front_of (title_of t) (bodies_of past))) (sym title)),
+      let long : length (prefix_of (title_of jobs_title) (bodies_of past)) + 1 ≡ size_of past = prefix_long past in
+      let at : place ≡ length (prefix_of (title_of jobs_title) (bodies_of past)) = omega (arith, read.place_is, long) in (
+        first.0,
+        first.1,
+        found (bodies_of past) first.0 (on_disk_told reads.rests.on_disk told)
+            (subst (λ (h : List (List ℕ)). HasBodies state b h) first.1 (bodies_stay state a b reads told held lies))
+            (at ∙ ap (λ (t : Title). length (prefix_of (title_of t) (bodies_of past))) (sym title)),
       )
 
   -- one command more was read
   pub read_on : (a b : Held K) (old new : Kept) (place next : ℕ) (bytes : List ℕ) → Read a old place → Reads a b → a.title ≡ jobs_title
-      → ((before rest : List (List ℕ)) → IsTrue (tells b.desk) → HasBodies content b (before ++ rest) → place ≡ length (front_of (title_of b.title) before) → IsNext true rest bytes)
+      → ((before rest : List (List ℕ)) → IsTrue (state b.desk).tells → HasBodies state b (before ++ rest) → place ≡ length (prefix_of (title_of b.title) before) → IsNext true rest bytes)
       → HasReadCommand old new bytes → next ≡ place + (5 + length bytes) → Read a new next
   read_on a b old new place next bytes read reads titled found one moved =
       let longer : past_in new ≡ one.command ∷ past_in old = one.true_to.commands in
       record {
         true_to = subst (λ (p : List Command). IsTrueTo new p) (sym longer) one.true_to;
         place_is = omega (arith, moved, read.place_is, ap length one.form) ∙ ap size_of (sym longer);
-        front = λ told held lies.
+        begins = λ told held lies.
             let n = found_next_body a b old place (λ rest. IsNext true rest bytes) read reads titled found told held lies in (
               n.2.0,
               n.1
@@ -107,9 +107,9 @@ module _ {K : Type 0} (tells : K → Bool) (shown : K → Option (List ℕ)) (co
 
   -- no command that may come was read
   pub read_refused : (a b : Held K) (kept : Kept) (place offset : ℕ) (bytes : List ℕ) (byte : Option ℕ) → Read a kept place → Reads a b → a.title ≡ jobs_title
-      → ((before rest : List (List ℕ)) → IsTrue (tells b.desk) → HasBodies content b (before ++ rest) → place ≡ length (front_of (title_of b.title) before) → IsNext true rest bytes)
+      → ((before rest : List (List ℕ)) → IsTrue (state b.desk).tells → HasBodies state b (before ++ rest) → place ≡ length (prefix_of (title_of b.title) before) → IsNext true rest bytes)
       → IsNoCommand (past_in kept) bytes → offset ≡ place + 5 → byte ≡ slice_get bytes 0
-      → IsTrue (tells a.desk) → (held : List (List ℕ)) → HasBodies content a held → IsRefusedAt held offset byte
+      → IsTrue (state a.desk).tells → (held : List (List ℕ)) → HasBodies state a held → IsRefusedAt held offset byte
   read_refused a b kept place offset bytes byte read reads titled found no_command at its told held lies =
       let past = past_in kept in
       let n = found_next_body a b kept place (λ rest. IsNext true rest bytes) read reads titled found told held lies in
@@ -120,13 +120,13 @@ module _ {K : Type 0} (tells : K → Bool) (shown : K → Option (List ℕ)) (co
         legal = read.true_to.legal;
         splits = n.1 ∙ ap (λ (r : List (List ℕ)). bodies_of past ++ r) n.2.1;
         cannot = no_command;
-        offset_is = omega (arith, at, read.place_is, front_long past);
+        offset_is = omega (arith, at, read.place_is, prefix_long past);
         byte_is = its;
       }
 
   -- nothing is left
   pub read_out : (a b : Held K) (kept : Kept) (place : ℕ) → Read a kept place → Reads a b → a.title ≡ jobs_title
-      → ((before rest : List (List ℕ)) → IsTrue (tells b.desk) → HasBodies content b (before ++ rest) → place ≡ length (front_of (title_of b.title) before) → rest ≡ [])
+      → ((before rest : List (List ℕ)) → IsTrue (state b.desk).tells → HasBodies state b (before ++ rest) → place ≡ length (prefix_of (title_of b.title) before) → rest ≡ [])
       → place + 1 ≡ a.size → place < SIZE_LIMIT → ReadAll a kept
   read_out a b kept place read reads titled found ends below = record {
     true_to = read.true_to;
@@ -139,13 +139,13 @@ module _ {K : Type 0} (tells : K → Bool) (shown : K → Option (List ℕ)) (co
 
   -- a file that is told ends where its size says
   pub read_ends : (a b : Held K) (kept : Kept) (place : ℕ) → Read a kept place → Reads a b → a.title ≡ jobs_title
-      → ((before rest : List (List ℕ)) → IsTrue (tells b.desk) → HasBodies content b (before ++ rest) → place ≡ length (front_of (title_of b.title) before) → rest ≡ [])
-      → place + 1 ≢ a.size → IsTrue (tells a.desk) → (held : List (List ℕ)) → HasBodies content a held → ⊥
+      → ((before rest : List (List ℕ)) → IsTrue (state b.desk).tells → HasBodies state b (before ++ rest) → place ≡ length (prefix_of (title_of b.title) before) → rest ≡ [])
+      → place + 1 ≢ a.size → IsTrue (state a.desk).tells → (held : List (List ℕ)) → HasBodies state a held → ⊥
   read_ends a b kept place read reads titled found apart told held lies =
       let past = past_in kept in
       let n = found_next_body a b kept place (λ rest. rest ≡ []) read reads titled found told held lies in
       let whole : held ≡ bodies_of past = n.1 ∙ ap (λ (r : List (List ℕ)). bodies_of past ++ r) n.2 ∙ append-nil (bodies_of past) in
-      let size : a.size ≡ length (front_of (title_of a.title) held) + 1 = lies.place in
-      let same : length (front_of (title_of a.title) held) ≡ length (front_of (title_of jobs_title) (bodies_of past)) =
-      ap (λ (t : Title). length (front_of (title_of t) held)) titled ∙ ap (λ (h : List (List ℕ)). length (front_of (title_of jobs_title) h)) whole in
-      apart (omega (arith, size, same, front_long past, read.place_is))
+      let size : a.size ≡ length (prefix_of (title_of a.title) held) + 1 = lies.place in
+      let same : length (prefix_of (title_of a.title) held) ≡ length (prefix_of (title_of jobs_title) (bodies_of past)) =
+      ap (λ (t : Title). length (prefix_of (title_of t) held)) titled ∙ ap (λ (h : List (List ℕ)). length (prefix_of (title_of jobs_title) h)) whole in
+      apart (omega (arith, size, same, prefix_long past, read.place_is))

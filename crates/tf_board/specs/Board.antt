@@ -1,8 +1,7 @@
 -- What a board is, and what its file holds. Lists of commands have the newest first.
-use Rattle.std.specs.Prelude.{◌≡◌, ◌≢◌, ◌⊎◌, ◌≤◌, ℕ, ◌+◌, Bool, false, List, [], ◌∷◌, ◌++◌, length, Option, None, slice_get}
-use Rattle.tf_desk.specs.Content.{Content}
-use Rattle.tf_desk.specs.Crash.{Images}
-use Rattle.tf_journal.specs.Format.{SIZE_LIMIT, Recovered, bodies, unborn, not_a_book, front_of, recovered, title_of}
+use Rattle.std.specs.Prelude.{◌≡◌, ◌≢◌, ◌⊎◌, ◌≤◌, ℕ, ◌+◌, false, List, [], ◌∷◌, ◌++◌, length, Option, None, slice_get}
+use Rattle.tf_desk.specs.State.{DeskState, MayLeave}
+use Rattle.tf_journal.specs.Format.{SIZE_LIMIT, Recovered, bodies, unborn, not_a_book, prefix_of, recovered, title_of}
 use Rattle.tf_journal.specs.Held.{Held}
 use Rattle.tf_journal.specs.Rest.{IsAtRest, IsOpen}
 use Rattle.tf_journal.specs.declared.faults.LoadFault.{LoadFault}
@@ -41,13 +40,17 @@ Holds past found = found ≡ bodies (bodies_of past)
 abbrev pub Finds : List Command → Recovered → Type 0
 Finds past found = Holds past found ⊎ ((past ≡ []) × (found ≡ unborn))
 
+-- in each image of its file that a crash now may leave are these commands
+abbrev pub LeavesHeld : List Command → DeskState → Type 0
+LeavesHeld past state = (image : List ℕ) → MayLeave state image → Holds past (board_in image)
+
 -- what a board keeps of its parts: the jobs are those of its legal commands, its journal is kept in a file and has just these commands,
 -- and unless an append found a disk fault the file is as the last call left it, where the desk tells its content
-pub record IsSound {K : Type 0} (tells : K → Bool) (content : K → Content) (left : K → Images) (kept : Kept) (b : BoardValue K) : Type 0 where
+pub record IsSound {K : Type 0} (state : K → DeskState) (kept : Kept) (b : BoardValue K) : Type 0 where
   pub true_to : IsTrueTo kept b.past
   pub title : b.journal.title ≡ jobs_title
   pub in_file : b.journal.volatile ≡ false
-  pub ready : IsOpen tells b.journal → IsAtRest content left b.journal (bodies_of b.past)
+  pub ready : IsOpen state b.journal → IsAtRest state b.journal (bodies_of b.past)
   pub size : b.journal.size ≡ size_of b.past
   pub limit : b.journal.size ≤ SIZE_LIMIT
 
@@ -64,7 +67,7 @@ pub record IsRefusedAt (held : List (List ℕ)) (offset : ℕ) (byte : Option �
   pub legal : LegalJobs past
   pub splits : held ≡ bodies_of past ++ body ∷ after
   pub cannot : IsNoCommand past body
-  pub offset_is : offset ≡ length (front_of (title_of jobs_title) (bodies_of past)) + 5
+  pub offset_is : offset ≡ length (prefix_of (title_of jobs_title) (bodies_of past)) + 5
   pub byte_is : byte ≡ slice_get body 0
 
 -- a journal's bodies were refused for what they are; a fault of the disk and want of memory say nothing of them

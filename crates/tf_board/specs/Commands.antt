@@ -1,11 +1,11 @@
 -- The byte form of what a board records. Numbers are big-endian.
-use Rattle.std.specs.Prelude.{◌≡◌, ◌<◌, ◌^◌, ℕ, List, [], ◌∷◌, ◌++◌, length, true}
+use Rattle.std.specs.Prelude.{◌≡◌, ◌<◌, ◌^◌, ℕ, List, ◌∷◌, ◌++◌, length, true}
 use Rattle.std.specs.Int.{to_be_bytes, w64}
 use Rattle.std.specs.List.{AllByRecursion}
 use Rattle.tf_values.specs.Name.{is_name}
 use Rattle.tf_values.specs.Value.{IsValue, byte_form}
-use Rattle.tf_report.specs.declared.job_lines.Priority.{Priority}
-use Rattle.tf_report.specs.declared.job_lines.Priority.TheVariants as priority
+use Rattle.tf_states.specs.declared.priorities.Priority.{Priority}
+use Rattle.tf_states.specs.declared.priorities.Priority.TheVariants as priority
 use Rattle.tf_board.specs.declared.commands.Command.{Command}
 use Rattle.tf_board.specs.declared.commands.Command.TheVariants as command
 use Rattle.tf_board.specs.declared.commands.JobAction.{JobAction}

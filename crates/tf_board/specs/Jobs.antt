@@ -1,5 +1,5 @@
 -- What the commands of a board mean: its jobs, who has them, and which commands are refused. Lists of commands have the newest first.
-use Rattle.std.specs.Prelude.{◌≡◌, ℕ, zero, suc, ◌+◌, List, [], ◌∷◌, ◌++◌, Bool, true, false, ◌&&◌, nat_eq, ◌==◌, if◌then◌else◌, Option, Some, None, option_and_then, map, take, slice_get}
+use Rattle.std.specs.Prelude.{◌≡◌, ℕ, zero, suc, ◌+◌, List, [], ◌∷◌, ◌++◌, Bool, true, false, ◌&&◌, nat_eq, ◌==◌, if◌then◌else◌, Option, Some, None, map, take, slice_get}
 use Rattle.std.specs.Cmp.Lexicographic.{pointwise}
 use Rattle.std.specs.Fmt.{decimal}
 use Rattle.std.specs.List.{find, filter, flat_map, position}
@@ -10,8 +10,8 @@ use Rattle.uuid.specs.Uuid.{namespace_dns}
 use Rattle.uuid.specs.declared.Variant.TheVariants.{RFC4122}
 use Rattle.uuid.specs.declared.Version.TheVariants.{Sha1}
 use Rattle.tf_report.specs.declared.job_lines.JobLine.{JobLine}
-use Rattle.tf_report.specs.declared.job_lines.Priority.{Priority}
-use Rattle.tf_report.specs.declared.job_lines.Priority.TheVariants as priority
+use Rattle.tf_states.specs.declared.priorities.Priority.{Priority}
+use Rattle.tf_states.specs.declared.priorities.Priority.TheVariants as priority
 use Rattle.tf_states.specs.declared.state.JobState.{JobState}
 use Rattle.tf_states.specs.declared.state.JobState.TheVariants as state
 use Rattle.tf_board.specs.declared.board.Owner.{Owner}

@@ -1,5 +1,5 @@
 -- How a board keeps its commands and its jobs in memory.
-use Rattle.std.specs.Prelude.{◌≡◌, ◌<◌, ◌+◌, ℕ, zero, suc, List, ◌∷◌, length, reverse, map, vec_len, vec_capacity}
+use Rattle.std.specs.Prelude.{◌≡◌, ◌<◌, ◌+◌, suc, List, length, reverse, map, vec_len, vec_capacity}
 use Rattle.std.specs.declared.snapshot.Snapshot.{Snapshot}
 use Rattle.tf_board.specs.Commands.{AreCommands}
 use Rattle.tf_board.specs.Jobs.{posted, job_at, jobs_of, standing_after, LegalJobs}
@@ -35,6 +35,8 @@ pub record HasRoom (kept : Kept) : Type 0 where
 
 -- what a command changes of the jobs after these commands: a job is added, or the job at a place stands anew
 abbrev pub IsChange : List Command → Command → Change → Type 0
-IsChange past (command.Post name priority details) (change.Posted job) = job ≡ job_at past (posted past + 1) name priority
-IsChange past (command.Apply action number owner) (change.Stands place standing) = (number ≡ suc place) × (place < length (jobs_of past)) × (standing ≡ standing_after action owner)
+IsChange past (command.Post name priority details) (change.Posted job) =
+    job ≡ job_at past (posted past + 1) name priority
+IsChange past (command.Apply action number owner) (change.Stands place standing) =
+    (number ≡ suc place) × (place < length (jobs_of past)) × (standing ≡ standing_after action owner)
 IsChange past command change = ⊥

@@ -1,7 +1,6 @@
 -- How commands are read from a journal, one after another.
-use Rattle.std.specs.Prelude.{◌≡◌, ◌≤◌, ℕ, ◌+◌, Bool, IsTrue, List, ◌∷◌, ◌++◌, Option}
-use Rattle.tf_desk.specs.Content.{Content}
-use Rattle.tf_desk.specs.Crash.{Images, Crashes}
+use Rattle.std.specs.Prelude.{◌≡◌, ◌≤◌, ℕ, ◌+◌, IsTrue, List, ◌∷◌, ◌++◌}
+use Rattle.tf_desk.specs.State.{DeskState}
 use Rattle.tf_journal.specs.Format.{SIZE_LIMIT}
 use Rattle.tf_journal.specs.Held.{Held}
 use Rattle.tf_journal.specs.Reading.{HasBodies}
@@ -17,12 +16,12 @@ pub record HasReadCommand (old new : Kept) (bytes : List ℕ) : Type 0 where
   pub form : command_bytes command ≡ bytes
   pub true_to : IsTrueTo new (command ∷ past_in old)
 
-module _ {K : Type 0} (tells : K → Bool) (shown : K → Option (List ℕ)) (content : K → Content) (left : K → Images) (crashes : K → Crashes) (disk_faults out_faults asks turns : K → ℕ) where
+module _ {K : Type 0} (state : K → DeskState) where
   -- so much was read of a journal: commands, whose bodies come first in it; the next gate stands at that place
   pub record HasRead (journal : Held K) (kept : Kept) (place : ℕ) : Type 0 where
     pub true_to : IsTrueTo kept (past_in kept)
     pub place_is : place + 1 ≡ size_of (past_in kept)
-    pub front : IsTrue (tells journal.desk) → (held : List (List ℕ)) → HasBodies content journal held
+    pub begins : IsTrue (state journal.desk).tells → (held : List (List ℕ)) → HasBodies state journal held
         → (rest : List (List ℕ)) × (held ≡ bodies_of (past_in kept) ++ rest)
 
   -- all was read of a journal: its bodies are those of the commands
@@ -30,4 +29,5 @@ module _ {K : Type 0} (tells : K → Bool) (shown : K → Option (List ℕ)) (co
     pub true_to : IsTrueTo kept (past_in kept)
     pub size : journal.size ≡ size_of (past_in kept)
     pub limit : journal.size ≤ SIZE_LIMIT
-    pub whole : IsTrue (tells journal.desk) → (held : List (List ℕ)) → HasBodies content journal held → held ≡ bodies_of (past_in kept)
+    pub whole : IsTrue (state journal.desk).tells → (held : List (List ℕ)) → HasBodies state journal held
+        → held ≡ bodies_of (past_in kept)

@@ -1,12 +1,10 @@
 -- What becomes of a board where a command is to be recorded. Lists of commands have the newest first.
-use Rattle.std.specs.Prelude.{◌≡◌, ◌⊎◌, ◌<◌, ◌≤◌, ℕ, zero, suc, ◌+◌, Bool, true, false, IsTrue, List, ◌∷◌, length, Option, Some, None, Result, Ok, Err}
-use Rattle.tf_desk.specs.Content.{Content, bytes_of}
+use Rattle.std.specs.Prelude.{◌≡◌, ◌⊎◌, ◌<◌, ◌≤◌, ℕ, suc, ◌+◌, true, false, IsTrue, List, ◌∷◌, length, Option, Some, None, Result, Err, OnOk, IfErr}
 use Rattle.tf_desk.specs.Counts.{Rises}
-use Rattle.tf_desk.specs.Crash.{Images, Crashes, IsLeft, Passes}
-use Rattle.tf_journal.specs.Format.{SIZE_LIMIT}
-use Rattle.tf_journal.specs.Held.{Held}
-use Rattle.tf_journal.specs.Rest.{IsOpen, GoesOn}
-use Rattle.tf_board.specs.Board.{BoardValue, board_in, Holds}
+use Rattle.tf_desk.specs.Crash.{Pairs}
+use Rattle.tf_desk.specs.State.{DeskState, bytes_now, MayLeave, GoesOn}
+use Rattle.tf_journal.specs.Format.{SIZE_LIMIT, Recovered}
+use Rattle.tf_board.specs.Board.{BoardValue, board_in, Holds, LeavesHeld}
 use Rattle.tf_board.specs.Commands.{command_bytes}
 use Rattle.tf_board.specs.Jobs.{id_text, jobs_of, place_of}
 use Rattle.tf_board.specs.declared.commands.Command.{Command}
@@ -17,59 +15,80 @@ use Rattle.tf_board.specs.declared.faults.BoardFault.TheVariants as fault
 use Rattle.tf_board.specs.declared.rules.Refusal.{Refusal}
 use Rattle.tf_board.specs.declared.rules.Refusal.TheVariants as refusal
 
--- the command was recorded
-abbrev pub is_recorded : {A : Type 0} → Result A BoardFault → Bool
-is_recorded (Ok a) = true
-is_recorded (Err f) = false
+-- ---- the board after a call
 
--- the board after a command was to be recorded, with the desk as it is then: an accepted command comes in front, a fault of the disk is
--- kept, and nothing else changes anything
-abbrev pub board_after : {A K : Type 0} → BoardValue K → K → Command → Result A BoardFault → BoardValue K
-board_after old desk new (Ok a) = record { past = new ∷ old.past; journal = record old.journal { desk = desk; size = old.journal.size + 5 + length (command_bytes new) } }
-board_after old desk new (Err fault.Disk) = record old { journal = record old.journal { desk = desk; halted = true } }
-board_after old desk new (Err other) = old
+-- with a command more, which comes in front
+abbrev pub with_command : {K : Type 0} → BoardValue K → K → Command → BoardValue K
+with_command old desk added = record {
+  past = added ∷ old.past;
+  journal = record old.journal { desk = desk; size = old.journal.size + 5 + length (command_bytes added) };
+}
+
+-- with a fault of the disk kept, since which nothing is recorded
+abbrev pub with_fault : {K : Type 0} → BoardValue K → K → BoardValue K
+with_fault old desk = record old { journal = record old.journal { desk = desk; halted = true } }
 
 -- the command has room in the journal
 abbrev pub HasPlace : {K : Type 0} → BoardValue K → Command → Type 0
-HasPlace old new = old.journal.size + 5 + length (command_bytes new) ≤ SIZE_LIMIT
+HasPlace old added = old.journal.size + 5 + length (command_bytes added) ≤ SIZE_LIMIT
 
--- why it was recorded or wasn't: the board is full exactly where the size and what is needed pass the limit, and halted exactly where an
--- earlier call found a disk fault; one of the disk comes only where its count rose
-abbrev pub IsAnswer : {A K : Type 0} → (disk_before disk_after : ℕ) → BoardValue K → Command → Result A BoardFault → Type 0
-IsAnswer disk_before disk_after old new (Ok a) = (old.journal.halted ≡ false) × HasPlace old new
-IsAnswer disk_before disk_after old new (Err fault.Disk) = (old.journal.halted ≡ false) × HasPlace old new × Rises disk_before disk_after
-IsAnswer disk_before disk_after old new (Err (fault.Full size need)) =
-    (old.journal.halted ≡ false) × (size ≡ old.journal.size) × (need ≡ 5 + length (command_bytes new)) × (SIZE_LIMIT < size + need)
-IsAnswer disk_before disk_after old new (Err fault.Halted) = old.journal.halted ≡ true
-IsAnswer disk_before disk_after old new (Err fault.Memory) = Unit {0}
-IsAnswer disk_before disk_after old new (Err (fault.NoJob id)) = ⊥
-IsAnswer disk_before disk_after old new (Err (fault.Gone id)) = ⊥
-IsAnswer disk_before disk_after old new (Err (fault.Claimed owner)) = ⊥
-IsAnswer disk_before disk_after old new (Err (fault.NotOwner owner)) = ⊥
+-- ---- what a call that is to record a command does
+
+-- the commands from before, or with this one more
+abbrev pub HoldsMaybe : List Command → Command → Recovered → Type 0
+HoldsMaybe past added found = Holds past found ⊎ Holds (added ∷ past) found
 
 -- a crash inside leaves the commands from before, with the new one or without; the shown text stays
-abbrev pub LeavesRecorded : List Command → Command → Option (List ℕ) → List ℕ → List ℕ → Type 0
-LeavesRecorded past new shown image text = (Holds past (board_in image) ⊎ Holds (new ∷ past) (board_in image)) × (shown ≡ Some text)
+abbrev pub LeavesRecorded : List Command → Command → DeskState → Pairs
+LeavesRecorded past added old image text = HoldsMaybe past added (board_in image) × (old.shown ≡ Some text)
 
-module _ {A K : Type 0} (tells : K → Bool) (shown : K → Option (List ℕ)) (content : K → Content) (left : K → Images) (crashes : K → Crashes) (disk_faults out_faults asks turns : K → ℕ) where
-  -- a command that isn't refused was to be recorded: what the board is then, why, and what a crash leaves inside the call, now that it
-  -- is recorded, and now in any case
-  pub record Records (old new : BoardValue K) (added : Command) (result : Result A BoardFault) : Type 0 where
-    pub now : new ≡ board_after old new.journal.desk added result
-    pub answer : IsAnswer (disk_faults old.journal.desk) (disk_faults new.journal.desk) old added result
-    pub crash : IsOpen tells old.journal
-        → Passes (content old.journal.desk).clock (content new.journal.desk).clock (crashes old.journal.desk) (crashes new.journal.desk)
-        (LeavesRecorded old.past added (shown old.journal.desk))
-    pub lasts : is_recorded result ≡ true → IsOpen tells old.journal → (image text : List ℕ)
-        → crashes new.journal.desk (content new.journal.desk).clock image text → Holds (added ∷ old.past) (board_in image)
-    pub leaves : IsOpen tells old.journal → (image : List ℕ) → IsLeft (content new.journal.desk).picked (left new.journal.desk) image
-        → Holds old.past (board_in image) ⊎ Holds (added ∷ old.past) (board_in image)
-    pub file : is_recorded result ≡ true → IsOpen tells old.journal → Holds (added ∷ old.past) (board_in (bytes_of (content new.journal.desk)))
-    pub goes : IsTrue (tells old.journal.desk) → GoesOn (content old.journal.desk) (content new.journal.desk)
-    pub no_fall : disk_faults old.journal.desk ≤ disk_faults new.journal.desk
-    pub others : (out_faults new.journal.desk ≡ out_faults old.journal.desk) × (asks new.journal.desk ≡ asks old.journal.desk)
-        × (turns new.journal.desk ≡ turns old.journal.desk)
-    pub quiet : (tells new.journal.desk ≡ tells old.journal.desk) × (shown new.journal.desk ≡ shown old.journal.desk)
+-- the command was recorded: there was room for it, the file has it now, and a crash from now on leaves it
+pub record IsRecorded {K : Type 0} (state : K → DeskState) (added : Command) (old new : BoardValue K) : Type 0 where
+  pub now : new ≡ with_command old new.journal.desk added
+  pub sound : old.journal.halted ≡ false
+  pub fits : HasPlace old added
+  pub file : IsTrue (state old.journal.desk).tells
+      → Holds (added ∷ old.past) (board_in (bytes_now (state new.journal.desk)))
+  pub lasts : IsTrue (state old.journal.desk).tells → LeavesHeld (added ∷ old.past) (state new.journal.desk)
+
+-- the disk failed, and the count of its faults rose: nothing is recorded from now on
+pub record IsHalted {K : Type 0} (state : K → DeskState) (added : Command) (old new : BoardValue K) : Type 0 where
+  pub now : new ≡ with_fault old new.journal.desk
+  pub sound : old.journal.halted ≡ false
+  pub fits : HasPlace old added
+  pub rose : Rises (state old.journal.desk).disk_faults (state new.journal.desk).disk_faults
+
+-- the command has no room, as the two numbers show; nothing changed
+pub record HasNoPlace {K : Type 0} (size need : ℕ) (added : Command) (old new : BoardValue K) : Type 0 where
+  pub now : new ≡ old
+  pub sound : old.journal.halted ≡ false
+  pub size_is : size ≡ old.journal.size
+  pub need_is : need ≡ 5 + length (command_bytes added)
+  pub over : SIZE_LIMIT < size + need
+
+-- why a command wasn't recorded, and what changed
+abbrev pub FailsToRecord : {K : Type 0} → (K → DeskState) → Command → BoardValue K → BoardValue K → BoardFault → Type 0
+FailsToRecord state added old new fault.Disk = IsHalted state added old new
+FailsToRecord state added old new (fault.Full size need) = HasNoPlace size need added old new
+FailsToRecord state added old new fault.Halted = (old.journal.halted ≡ true) × (new ≡ old)
+FailsToRecord state added old new fault.Memory = new ≡ old
+FailsToRecord state added old new (fault.NoJob id) = ⊥
+FailsToRecord state added old new (fault.Gone id) = ⊥
+FailsToRecord state added old new (fault.Claimed owner) = ⊥
+FailsToRecord state added old new (fault.NotOwner owner) = ⊥
+
+-- A command that isn't refused was to be recorded, and was or wasn't. In any case only the board's file is written, and a crash leaves the
+-- commands from before, with the new one or without.
+pub record Records {A K : Type 0} (state : K → DeskState) (old new : BoardValue K) (added : Command)
+    (result : Result A BoardFault) : Type 0 where
+  pub recorded : OnOk result (IsRecorded state added old new)
+  pub fails : IfErr result (λ why. FailsToRecord state added old new why)
+  pub goes : GoesOn (LeavesRecorded old.past added (state old.journal.desk))
+      (state old.journal.desk) (state new.journal.desk)
+  pub leaves : IsTrue (state old.journal.desk).tells → old.journal.halted ≡ false → (image : List ℕ)
+      → MayLeave (state new.journal.desk) image → HoldsMaybe old.past added (board_in image)
+
+-- ---- what an owner does
 
 -- the fault of a call that was refused for this reason, of the job of this id
 abbrev pub fault_of : Refusal → List ℕ → BoardFault
@@ -91,10 +110,15 @@ number_of past id = number_at (place_of (jobs_of past) id)
 abbrev pub applied : List Command → JobAction → List ℕ → List ℕ → Command
 applied past action id owner = command.Apply action (number_of past id) owner
 
-module _ {K : Type 0} (tells : K → Bool) (shown : K → Option (List ℕ)) (content : K → Content) (left : K → Images) (crashes : K → Crashes) (disk_faults out_faults asks turns : K → ℕ) where
-  -- an owner was to do something with the job of an id: where that is refused, this is answered, unless memory runs out, and nothing
-  -- changes; else it is recorded
-  abbrev pub Acts : Option Refusal → BoardValue K → BoardValue K → JobAction → List ℕ → List ℕ → Result (Unit {0}) BoardFault → Type 0
-  Acts (Some why) old new action id owner result = (new ≡ old) × ((result ≡ Err (fault_of why id)) ⊎ (result ≡ Err fault.Memory))
-  Acts None old new action id owner result =
-      Records tells shown content left crashes disk_faults out_faults asks turns old new (applied old.past action id owner) result
+-- a call was refused for this reason, of the job of this id: this is answered, unless memory runs out, and nothing changed
+pub record IsRefusedFor {A K : Type 0} (why : Refusal) (id : List ℕ) (old new : BoardValue K)
+    (result : Result A BoardFault) : Type 0 where
+  pub now : new ≡ old
+  pub answer : (result ≡ Err (fault_of why id)) ⊎ (result ≡ Err fault.Memory)
+
+module _ {K : Type 0} (state : K → DeskState) where
+  -- an owner was to do something with the job of an id: where that is refused, nothing changes; else it is recorded
+  abbrev pub Acts : Option Refusal → BoardValue K → BoardValue K → JobAction → List ℕ → List ℕ
+      → Result (Unit {0}) BoardFault → Type 0
+  Acts (Some why) old new action id owner result = IsRefusedFor why id old new result
+  Acts None old new action id owner result = Records state old new (applied old.past action id owner) result

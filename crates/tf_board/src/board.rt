@@ -40,7 +40,7 @@ impl<K: Desk> Model for Board<K> {
 
     ghost view = { λ b. record { past = past_in b.kept; journal = b.journal } };
 
-    ghost invariant = { λ b. IsSound K.tells K.content K.left b.kept (record { past = past_in b.kept; journal = b.journal }) };
+    ghost invariant = { λ b. IsSound K.state b.kept (record { past = past_in b.kept; journal = b.journal }) };
 }
 
 impl<K: Desk> Board<K> {

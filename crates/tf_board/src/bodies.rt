@@ -3,7 +3,7 @@ ghost use Rattle.std.specs.Prelude.{◌≡◌, ◌≢◌, ◌<◌, ◌^◌, ◌+
 ghost use Rattle.std.specs.Int.{to_be_bytes, w64};
 ghost use Rattle.tf_values.specs.Name.{is_name};
 ghost use Rattle.tf_values.specs.Value.{IsValue, byte_form};
-ghost use Rattle.tf_report.specs.declared.job_lines.Priority.{Priority as APriority};
+ghost use Rattle.tf_states.specs.declared.priorities.Priority.{Priority as APriority};
 ghost use Rattle.tf_values.specs.declared.value.Val.{Val as AValue};
 ghost use Rattle.tf_board.specs.declared.commands.Command.{Command as ACommand};
 ghost use Rattle.tf_board.specs.declared.commands.JobAction.{JobAction as AnAction};
@@ -11,7 +11,7 @@ ghost use Rattle.tf_board.specs.Commands as form;
 
 use crate::commands::{Command, JobAction};
 use std::alloc::Global;
-use tf_report::Priority;
+use tf_states::Priority;
 use tf_values::{MakeFault, Name, Val};
 
 /// The command of these bytes, of which none may be left over. `No` comes exactly where no command has them.
@@ -72,7 +72,8 @@ fn value_in(alloc: Global, bytes: &[u8]) -> Result<Val, MakeFault>
 /// What an owner did to the job by these bytes, which are the job's number and the owner's name.
 fn applied_in(action: JobAction, bytes: &[u8]) -> Option<Command>
     ensures { MatchOption result
-        ((job : ℕ) (owner : List ℕ) → job < 2 ^ 64 → is_name owner ≡ true → bytes.now ≢ to_be_bytes w64 job ++ form.name_bytes owner)
+        ((job : ℕ) (owner : List ℕ) → job < 2 ^ 64 → is_name owner ≡ true
+        → bytes.now ≢ to_be_bytes w64 job ++ form.name_bytes owner)
         (λ command. form.IsCommand command × (form.command_bytes command ≡ form.action_byte action ∷ bytes.now)) }
 {
     let Some((job, rest)) = number_at(bytes) else {

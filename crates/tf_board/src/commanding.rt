@@ -1,11 +1,12 @@
 //! A whole command on a board.
-ghost use Rattle.std.specs.Prelude.{◌≡◌, ◌≢◌, ◌≤◌, ◌⊎◌, ℕ, List, [], ◌∷◌, ◌++◌, true, is_some, IsTrue, IfOk, IsErr, Option, Some};
+ghost use Rattle.std.specs.Prelude.{◌≡◌, ◌≢◌, ◌⊎◌, ℕ, List, true, is_some, IsTrue, IfOk, IsErr, Some};
 ghost use Rattle.tf_desk.specs.Counts.{Rises};
 ghost use Rattle.tf_journal.specs.Start.{file_of};
+ghost use Rattle.tf_journal.specs.declared.faults.LoadFault.{LoadFault as ALoadFault};
 ghost use Rattle.tf_words.specs.declared.asked.Asked.{Asked};
 ghost use Rattle.tf_board.specs.Answers.{answer_of, acts, board_of, fault_text, fault_status};
-ghost use Rattle.tf_board.specs.Board.{board_in, RefusesBoard};
-ghost use Rattle.tf_board.specs.Does.{Reached, Ends, EndsUnmade, Does, HasCauses, IsAllowed, IsBoardComplete};
+ghost use Rattle.tf_board.specs.Board.{board_in};
+ghost use Rattle.tf_board.specs.Does.{Reached, Ends, EndsUnmade, Does, Concludes, HasCauses, IsAllowed, IsBoardComplete};
 ghost use Rattle.tf_board.specs.Jobs.{refuses_id};
 ghost use Rattle.tf_board.specs.Opening.{IsUnopened};
 ghost use Rattle.tf_board.specs.declared.commands.Command.{Command};
@@ -24,7 +25,7 @@ use crate::statuses::{DISK_FAILED, NO_BOARD, OUT_OF_MEMORY, SUCCEEDED, UNSAID};
 use std::alloc::Global;
 use tf_desk::Desk;
 use tf_journal::LoadFault;
-use tf_report::Priority;
+use tf_states::Priority;
 use tf_values::{Memory, Name, Text, Val};
 use tf_words::Asked;
 use uuid::Uuid;
@@ -33,16 +34,13 @@ use uuid::Uuid;
 fn say<K: Desk>(mut desk: K, message: &[u8], status: u8) -> (K, u8)
     requires apart { status ≢ UNSAID }
     ensures reached { (name : List ℕ) (past pending after : List Command) (entry : K)
-        → Reached K.tells K.shown K.content K.left K.crashes K.disk_faults K.out_faults name past pending after entry desk
-        → Ends K.tells K.shown K.content K.left K.crashes name past pending after entry result.0 message.now status result.1 }
-    ensures unopened { (name : List ℕ) (entry : K)
-        → IsUnopened K.tells K.shown K.content K.left K.crashes K.disk_faults K.out_faults name entry desk
-        → EndsUnmade K.tells K.shown K.content K.left K.crashes name entry result.0 message.now status result.1 }
-    ensures disk { K.disk_faults result.0 ≡ K.disk_faults desk }
-    ensures out { K.out_faults desk ≤ K.out_faults result.0 }
-    ensures unsaid { result.1 ≡ UNSAID → Rises (K.out_faults desk) (K.out_faults result.0) }
+        → Reached name past pending after (K.state entry) (K.state desk)
+        → Ends name past pending after (K.state entry) (K.state result.0) message.now status result.1 }
+    ensures unopened { (name : List ℕ) (fault : ALoadFault) (entry : K)
+        → IsUnopened name fault (K.state entry) (K.state desk)
+        → EndsUnmade name (K.state entry) (K.state result.0) message.now status result.1 }
+    ensures concludes { Concludes (K.state desk) (K.state result.0) result.1 }
     ensures status { result.1 ≢ UNSAID → result.1 ≡ status }
-    ensures others { (K.asks result.0 ≡ K.asks desk) × (K.turns result.0 ≡ K.turns desk) }
 {
     let status = close(message, status, &mut desk);
     (desk, status)
@@ -51,18 +49,17 @@ fn say<K: Desk>(mut desk: K, message: &[u8], status: u8) -> (K, u8)
 /// Says a text, with which the command is over, unless memory ran out for it.
 fn say_text<K: Desk>(desk: K, text: Result<Vec<u8>, Memory>, status: u8) -> (K, u8)
     requires apart { status ≢ UNSAID }
-    ensures reached { (message : List ℕ) → IfOk text (λ t. t.items ≡ message) → (name : List ℕ) (past pending after : List Command) (entry : K)
-        → Reached K.tells K.shown K.content K.left K.crashes K.disk_faults K.out_faults name past pending after entry desk
-        → Ends K.tells K.shown K.content K.left K.crashes name past pending after entry result.0 message status result.1 }
-    ensures unopened { (message : List ℕ) → IfOk text (λ t. t.items ≡ message) → (name : List ℕ) (entry : K)
-        → IsUnopened K.tells K.shown K.content K.left K.crashes K.disk_faults K.out_faults name entry desk
-        → EndsUnmade K.tells K.shown K.content K.left K.crashes name entry result.0 message status result.1 }
+    ensures reached { (message : List ℕ) → IfOk text (λ t. t.items ≡ message)
+        → (name : List ℕ) (past pending after : List Command) (entry : K)
+        → Reached name past pending after (K.state entry) (K.state desk)
+        → Ends name past pending after (K.state entry) (K.state result.0) message status result.1 }
+    ensures unopened { (message : List ℕ) → IfOk text (λ t. t.items ≡ message)
+        → (name : List ℕ) (fault : ALoadFault) (entry : K)
+        → IsUnopened name fault (K.state entry) (K.state desk)
+        → EndsUnmade name (K.state entry) (K.state result.0) message status result.1 }
     ensures stopped { IsErr text → result.1 ≡ OUT_OF_MEMORY }
-    ensures disk { K.disk_faults result.0 ≡ K.disk_faults desk }
-    ensures out { K.out_faults desk ≤ K.out_faults result.0 }
-    ensures unsaid { result.1 ≡ UNSAID → Rises (K.out_faults desk) (K.out_faults result.0) }
+    ensures concludes { Concludes (K.state desk) (K.state result.0) result.1 }
     ensures status { result.1 ≢ UNSAID → (result.1 ≡ status) ⊎ (result.1 ≡ OUT_OF_MEMORY) }
-    ensures others { (K.asks result.0 ≡ K.asks desk) × (K.turns result.0 ≡ K.turns desk) }
 {
     match text {
         Ok(text) => say(desk, &text, status),
@@ -73,14 +70,10 @@ fn say_text<K: Desk>(desk: K, text: Result<Vec<u8>, Memory>, status: u8) -> (K, 
 /// Says why a board couldn't be opened, unless memory ran out.
 fn refuse<K: Desk>(alloc: Global, desk: K, fault: LoadFault) -> (K, u8)
     ensures does { (asked : Asked) (name : List ℕ) (entry : K)
-        → IsUnopened K.tells K.shown K.content K.left K.crashes K.disk_faults K.out_faults name entry desk
-        → (IsTrue (K.tells entry) → RefusesBoard fault (board_in (file_of (K.content entry) name)))
-        → Does K.tells K.shown K.content K.left K.crashes asked name entry result.0 result.1 }
-    ensures disk { K.disk_faults result.0 ≡ K.disk_faults desk }
-    ensures out { K.out_faults desk ≤ K.out_faults result.0 }
-    ensures unsaid { result.1 ≡ UNSAID → Rises (K.out_faults desk) (K.out_faults result.0) }
+        → IsUnopened name fault (K.state entry) (K.state desk)
+        → Does asked name (K.state entry) (K.state result.0) result.1 }
+    ensures concludes { Concludes (K.state desk) (K.state result.0) result.1 }
     ensures failed { result.1 ≡ DISK_FAILED → fault ≡ LoadFault.Disk }
-    ensures others { (K.asks result.0 ≡ K.asks desk) × (K.turns result.0 ≡ K.turns desk) }
 {
     match fault {
         LoadFault::Disk => say(desk, DISK_FAULT, DISK_FAILED),
@@ -96,14 +89,12 @@ fn refuse<K: Desk>(alloc: Global, desk: K, fault: LoadFault) -> (K, u8)
 fn fail<K: Desk>(alloc: Global, desk: K, fault: BoardFault) -> (K, u8)
     requires sound { fault ≢ BoardFault.Halted }
     ensures ends { (name : List ℕ) (past pending after : List Command) (entry : K)
-        → Reached K.tells K.shown K.content K.left K.crashes K.disk_faults K.out_faults name past pending after entry desk
-        → Ends K.tells K.shown K.content K.left K.crashes name past pending after entry result.0 (fault_text fault) (fault_status fault) result.1 }
+        → Reached name past pending after (K.state entry) (K.state desk)
+        → Ends name past pending after (K.state entry) (K.state result.0)
+        (fault_text fault) (fault_status fault) result.1 }
     ensures stopped { fault ≡ BoardFault.Memory → result.1 ≡ OUT_OF_MEMORY }
-    ensures disk { K.disk_faults result.0 ≡ K.disk_faults desk }
-    ensures out { K.out_faults desk ≤ K.out_faults result.0 }
-    ensures unsaid { result.1 ≡ UNSAID → Rises (K.out_faults desk) (K.out_faults result.0) }
+    ensures concludes { Concludes (K.state desk) (K.state result.0) result.1 }
     ensures failed { result.1 ≡ DISK_FAILED → fault ≡ BoardFault.Disk }
-    ensures others { (K.asks result.0 ≡ K.asks desk) × (K.turns result.0 ≡ K.turns desk) }
 {
     let status = status_of(&fault);
     let text = fault_line(alloc, fault);
@@ -119,9 +110,9 @@ fn post<K: Desk>(
     priority: Priority,
     details: Val,
 ) -> (K, u8)
-    ensures does { (board : List ℕ) → Does K.tells K.shown K.content K.left K.crashes (Asked.Post board name priority details) file.now desk result.0 result.1 }
-    ensures causes { HasCauses (K.disk_faults desk) (K.disk_faults result.0) (K.out_faults desk) (K.out_faults result.0) result.1 }
-    ensures asks { K.asks desk ≤ K.asks result.0 }
+    ensures does { (board : List ℕ)
+        → Does (Asked.Post board name priority details) file.now (K.state desk) (K.state result.0) result.1 }
+    ensures causes { HasCauses (K.state desk) (K.state result.0) result.1 }
 {
     let mut board = match open(alloc, desk, file) {
         Ok(board) => board,
@@ -146,10 +137,10 @@ fn act<K: Desk>(
     owner: &Name,
 ) -> (K, u8)
     ensures does { (asked : Asked)
-        → ((past : List Command) → answer_of asked past ≡ acts (refuses_id past action id.now owner.now) past action id.now owner.now)
-        → Does K.tells K.shown K.content K.left K.crashes asked file.now desk result.0 result.1 }
-    ensures causes { HasCauses (K.disk_faults desk) (K.disk_faults result.0) (K.out_faults desk) (K.out_faults result.0) result.1 }
-    ensures asks { K.asks desk ≤ K.asks result.0 }
+        → ((past : List Command)
+        → answer_of asked past ≡ acts (refuses_id past action id.now owner.now) past action id.now owner.now)
+        → Does asked file.now (K.state desk) (K.state result.0) result.1 }
+    ensures causes { HasCauses (K.state desk) (K.state result.0) result.1 }
 {
     let mut board = match open(alloc, desk, file) {
         Ok(board) => board,
@@ -166,9 +157,9 @@ fn act<K: Desk>(
 
 /// Says who has a job.
 fn owner<K: Desk>(alloc: Global, desk: K, file: &Text, id: &Uuid) -> (K, u8)
-    ensures does { (board : List ℕ) → Does K.tells K.shown K.content K.left K.crashes (Asked.Owner board id.now) file.now desk result.0 result.1 }
-    ensures causes { HasCauses (K.disk_faults desk) (K.disk_faults result.0) (K.out_faults desk) (K.out_faults result.0) result.1 }
-    ensures asks { K.asks desk ≤ K.asks result.0 }
+    ensures does { (board : List ℕ)
+        → Does (Asked.Owner board id.now) file.now (K.state desk) (K.state result.0) result.1 }
+    ensures causes { HasCauses (K.state desk) (K.state result.0) result.1 }
 {
     let board = match open(alloc, desk, file) {
         Ok(board) => board,
@@ -190,9 +181,8 @@ fn owner<K: Desk>(alloc: Global, desk: K, file: &Text, id: &Uuid) -> (K, u8)
 
 /// Says which jobs there are.
 fn list<K: Desk>(alloc: Global, desk: K, file: &Text) -> (K, u8)
-    ensures does { (board : List ℕ) → Does K.tells K.shown K.content K.left K.crashes (Asked.List board) file.now desk result.0 result.1 }
-    ensures causes { HasCauses (K.disk_faults desk) (K.disk_faults result.0) (K.out_faults desk) (K.out_faults result.0) result.1 }
-    ensures asks { K.asks desk ≤ K.asks result.0 }
+    ensures does { (board : List ℕ) → Does (Asked.List board) file.now (K.state desk) (K.state result.0) result.1 }
+    ensures causes { HasCauses (K.state desk) (K.state result.0) result.1 }
 {
     let board = match open(alloc, desk, file) {
         Ok(board) => board,
@@ -208,13 +198,13 @@ fn list<K: Desk>(alloc: Global, desk: K, file: &Text) -> (K, u8)
 pub fn board_command<K: Desk>(alloc: Global, asked: Asked, desk: K) -> (K, u8)
     requires board { is_some (board_of asked) ≡ true }
     ensures does { (name : List ℕ) → board_of asked ≡ Some name
-        → Does K.tells K.shown K.content K.left K.crashes asked name desk result.0 result.1 }
-    ensures complete { (name : List ℕ) → board_of asked ≡ Some name → IsTrue (K.tells desk)
-        → IsAllowed asked (board_in (file_of (K.content desk) name))
-        → ¬ (Rises (K.disk_faults desk) (K.disk_faults result.0)) → ¬ (Rises (K.out_faults desk) (K.out_faults result.0))
+        → Does asked name (K.state desk) (K.state result.0) result.1 }
+    ensures complete { (name : List ℕ) → board_of asked ≡ Some name → IsTrue (K.state desk).tells
+        → IsAllowed asked (board_in (file_of (K.state desk) name))
+        → ¬ (Rises (K.state desk).disk_faults (K.state result.0).disk_faults)
+        → ¬ (Rises (K.state desk).out_faults (K.state result.0).out_faults)
         → IsBoardComplete result.1 }
-    ensures causes { HasCauses (K.disk_faults desk) (K.disk_faults result.0) (K.out_faults desk) (K.out_faults result.0) result.1 }
-    ensures asks { K.asks desk ≤ K.asks result.0 }
+    ensures causes { HasCauses (K.state desk) (K.state result.0) result.1 }
 {
     match asked {
         Asked::Post {

@@ -2,7 +2,8 @@ ghost use Rattle.std.specs.Prelude.{◌≡◌, ◌++◌, true, OnOk};
 ghost use Rattle.tf_values.specs.Name.{is_name};
 ghost use Rattle.tf_board.specs.Commands as form;
 
-use tf_report::{Priority, append};
+use tf_report::append;
+use tf_states::Priority;
 use tf_values::{Memory, Name, Val};
 
 /// What an owner does with a job.

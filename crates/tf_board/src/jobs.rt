@@ -4,8 +4,8 @@ ghost use Rattle.tf_board.specs.Jobs.{standing_after, is_there as there, state_o
 use crate::commands::JobAction;
 use crate::ids::id_text;
 use std::alloc::Global;
-use tf_report::{JobLine, Priority};
-use tf_states::JobState;
+use tf_report::JobLine;
+use tf_states::{JobState, Priority};
 use tf_values::{Memory, Name};
 use uuid::Uuid;
 

@@ -10,7 +10,7 @@ use crate::jobs::{Job, Standing};
 use crate::rules::refusal_at;
 use std::alloc::{AllocError, Global};
 use std::snapshot::Snapshot;
-use tf_report::Priority;
+use tf_states::Priority;
 use tf_values::{Memory, Name};
 use uuid::Uuid;
 
@@ -66,7 +66,8 @@ impl Kept {
     /// The job that is posted next, with this name and this priority.
     pub fn next(&self, alloc: Global, name: &Name, priority: Priority) -> Result<Job, Memory>
         requires true_to { IsTrueTo self.now (past_in self.now) }
-        ensures { IfOk result (λ job. job ≡ job_at (past_in self.now) (count_of (past_in self.now) + 1) name.now priority) }
+        ensures { IfOk result (λ job. job
+            ≡ job_at (past_in self.now) (count_of (past_in self.now) + 1) name.now priority) }
     {
         let number = self.jobs.as_slice().len() as u64 + 1;
         let id = job_id(alloc, number, name)?;
@@ -83,7 +84,8 @@ impl Kept {
     pub fn change_of(&self, alloc: Global, command: &Command) -> Result<Option<Change>, Memory>
         requires true_to { IsTrueTo self.now (past_in self.now) }
         ensures { IfOk result (λ change. MatchOption change (refuses (past_in self.now) command.now ≢ None)
-            (λ change. (refuses (past_in self.now) command.now ≡ None) × IsChange (past_in self.now) command.now change)) }
+            (λ change. (refuses (past_in self.now) command.now ≡ None)
+            × IsChange (past_in self.now) command.now change)) }
     {
         match command {
             Command::Post { name, priority, .. } => {

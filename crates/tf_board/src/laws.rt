@@ -16,7 +16,8 @@ pub fn command_has_one_form()
 
 /// A claim is among the commands only where nobody had the job before it, and after it the claimant has it.
 pub fn a_claim_is_of_a_free_job()
-    ensures free { (past : List Command) (job : ℕ) (owner : List ℕ) → LegalJobs (command.Apply action.Claim job owner ∷ past)
+    ensures free { (past : List Command) (job : ℕ) (owner : List ℕ)
+        → LegalJobs (command.Apply action.Claim job owner ∷ past)
         → standing_of past job ≡ standing.Free }
     ensures held { (past : List Command) (job : ℕ) (owner : List ℕ)
         → standing_of (command.Apply action.Claim job owner ∷ past) job ≡ standing.Held owner }
@@ -25,5 +26,6 @@ pub fn a_claim_is_of_a_free_job()
 /// An id names the job of least number that has it: it has the id, and each job before it has another.
 pub fn an_id_names_its_first_job()
     ensures { (past : List Command) (id : List ℕ) (job : Job) → named (jobs_of past) id ≡ Some job
-        → (job.id ≡ id) × ((other : Job) (place : ℕ) → slice_get (jobs_of past) place ≡ Some other → other.number < job.number → other.id ≢ id) }
+        → (job.id ≡ id) × ((other : Job) (place : ℕ) → slice_get (jobs_of past) place ≡ Some other
+        → other.number < job.number → other.id ≢ id) }
 {}

@@ -1,10 +1,10 @@
 //! How a board's commands are read back from its journal.
-ghost use Rattle.std.specs.Prelude.{◌≡◌, ◌<◌, ◌+◌, [], ℕ, List, None, false, IsTrue, OnOk, IfOk, IfErr, IsErrOf, slice_get};
-ghost use Rattle.tf_desk.specs.Counts.{Rises};
-ghost use Rattle.tf_journal.specs.Reading.{HasBodies, OnlyReads};
+ghost use Rattle.std.specs.Prelude.{◌≡◌, ◌<◌, ◌+◌, [], None, false, OnOk, IfOk, IfErr, IsErrOf, slice_get};
+ghost use Rattle.tf_journal.specs.Reading.{OnlyReads};
 ghost use Rattle.tf_journal.specs.declared.title.Title.TheVariants.{Jobs as jobs_title};
-ghost use Rattle.tf_board.specs.Board.{IsNoCommand, RefusesBodies};
+ghost use Rattle.tf_board.specs.Board.{IsNoCommand};
 ghost use Rattle.tf_board.specs.Kept.{past_in, IsTrueTo};
+ghost use Rattle.tf_board.specs.Loading.{FailsToReadBack};
 ghost use Rattle.tf_board.specs.Reading.{HasReadCommand, HasReadAll};
 
 use crate::bodies::decode_command;
@@ -56,14 +56,9 @@ fn refusal(fault: MakeFault, place: u64, body: &[u8]) -> LoadFault
 pub fn read_back<K: Desk>(alloc: Global, journal: &mut Journal<K>) -> Result<Kept, LoadFault>
     requires in_file { journal.old.volatile ≡ false }
     requires title { journal.old.title ≡ jobs_title }
-    ensures read { IfOk result (λ kept. HasReadAll K.tells K.shown K.content K.left K.crashes K.disk_faults
-        K.out_faults K.asks K.turns journal.old kept) }
-    ensures refused { IfErr result (λ fault. IsTrue (K.tells journal.old.desk) → (held : List (List ℕ))
-        → HasBodies K.content journal.old held → RefusesBodies fault held) }
-    ensures cause { IsErrOf result LoadFault.Disk
-        → Rises (K.disk_faults journal.old.desk) (K.disk_faults journal.new.desk) }
-    ensures reads { OnlyReads K.tells K.shown K.content K.left K.crashes K.disk_faults K.out_faults K.asks K.turns
-        journal.old journal.new }
+    ensures read { IfOk result (λ kept. HasReadAll K.state journal.old kept) }
+    ensures fails { IfErr result (λ fault. FailsToReadBack K.state fault journal.old journal.new.desk) }
+    ensures reads { OnlyReads K.state journal.old journal.new }
 {
     let mut kept = Kept::none(alloc);
     match read_commands(alloc, journal, &mut kept) {
@@ -84,14 +79,9 @@ fn read_commands<K: Desk>(
     requires in_file { journal.old.volatile ≡ false }
     requires title { journal.old.title ≡ jobs_title }
     requires none { IsTrueTo kept.old [] }
-    ensures read { OnOk result (HasReadAll K.tells K.shown K.content K.left K.crashes K.disk_faults K.out_faults
-        K.asks K.turns journal.old kept.new) }
-    ensures refused { IfErr result (λ fault. IsTrue (K.tells journal.old.desk) → (held : List (List ℕ))
-        → HasBodies K.content journal.old held → RefusesBodies fault held) }
-    ensures cause { IsErrOf result LoadFault.Disk
-        → Rises (K.disk_faults journal.old.desk) (K.disk_faults journal.new.desk) }
-    ensures reads { OnlyReads K.tells K.shown K.content K.left K.crashes K.disk_faults K.out_faults K.asks K.turns
-        journal.old journal.new }
+    ensures read { OnOk result (HasReadAll K.state journal.old kept.new) }
+    ensures fails { IfErr result (λ fault. FailsToReadBack K.state fault journal.old journal.new.desk) }
+    ensures reads { OnlyReads K.state journal.old journal.new }
 {
     let mut body = Vec::new(alloc);
     let mut place = FIRST_PLACE;

@@ -1,5 +1,5 @@
 -- Each entry that may follow names an atom or a flow of its plan.
-use Rattle.std.proofs.Common.{◌≡◌, ◌<◌, inl, inr, ℕ, zero, suc, ◌+◌, Bool, true, false, ◌&&◌, ◌||◌, List, [], ◌∷◌, length, Option, Some, None, refl, sym, ◌∙◌, ap, subst, arith, length-append}
+use Rattle.std.proofs.Common.{◌≡◌, ◌<◌, ℕ, zero, suc, ◌+◌, Bool, true, ◌&&◌, ◌||◌, List, [], ◌∷◌, length, Option, Some, None, refl, sym, ◌∙◌, subst, arith, length-append}
 use Rattle.std.specs.List.{AllByRecursion}
 use Rattle.std.specs.Option.{option_map}
 use Rattle.std.specs.Prelude.{is_none, slice_get, map}
@@ -23,9 +23,8 @@ use Rattle.tf_states.specs.declared.record.What.TheVariants as what
 use Rattle.tf_states.specs.declared.state.AtomState.{AtomState}
 use Rattle.tf_states.specs.declared.state.AtomState.TheVariants as atom
 use Rattle.tf_states.specs.declared.state.FlowState.{FlowState}
-use Rattle.tf_facts.proofs.CaseLemmas.{EachCase, forced_by}
-use Rattle.tf_model.specs.Plan.{Outline, outline_of, count, way, holds}
-use Rattle.tf_model.specs.Before.{passes_flow}
+use Rattle.tf_facts.proofs.CaseLemmas.{forced_by}
+use Rattle.tf_model.specs.Plan.{outline_of, count, way, holds}
 use Rattle.tf_model.specs.Snapshot.{Snapshot}
 use Rattle.tf_model.specs.History.{snapshot}
 use Rattle.tf_model.specs.States.{flow_runs, flow_suspends}
@@ -34,10 +33,10 @@ use Rattle.tf_model.specs.Deciders.{refused}
 use Rattle.tf_model.specs.Forced.{forced, forced_if_running, is_active, is_to_put_back, put_back_or_run, is_to_ignore, ignore_by, ignore_or_self}
 use Rattle.tf_model.specs.Candidates.{choice, candidate_if_running, candidate_entry, taken_up, is_best, end_of}
 use Rattle.tf_model.proofs.Told.{way_in}
-use Rattle.tf_model.specs.Steps.{Step, LegalPast, Rule, by_force, by_choice, by_end_of_task, by_turn, by_end, by_suspension, by_reset, ends_task, ends_as, turns_flow, end_entry, reset, put_back_or_rest, is_put_back_at}
+use Rattle.tf_model.specs.Steps.{Step, LegalPast, Rule, by_force, by_choice, by_end_of_task, by_turn, by_end, by_suspension, by_reset, ends_task, turns_flow, end_entry, reset, put_back_or_rest, is_put_back_at}
 use Rattle.tf_model.proofs.ResolutionLemmas.{resolution_holds}
 use Rattle.tf_model.proofs.WayLemmas.{IsWay, numbers_of, ways_of}
-use Rattle.tf_bound.specs.Kept.{IsWithin}
+use Rattle.tf_bound.specs.Kept.{IsMarkedWithin}
 use Rattle.tf_bound.specs.Short.{AreShort}
 use Rattle.tf_entries.specs.Entries.{IsAmong}
 use Rattle.tf_book.specs.Forms.{IsForm, AreForms}
@@ -140,7 +139,7 @@ module _ (plan : PlanValue) (s : Snapshot) where
       of None found gives = absurd (cc)
       of (Some a) found gives = let same : candidate_entry s a ≡ w = cc in subst Names same (taken_names (s.state a) a (found_below (count (outline_of plan)) (is_best (outline_of plan) s) a found))
 
-  ended_names : IsWithin (outline_of plan) s → (hand : ℕ) (w : What) → ends_task s hand w ≡ true → Names w
+  ended_names : IsMarkedWithin (outline_of plan) s → (hand : ℕ) (w : What) → ends_task s hand w ≡ true → Names w
   unfolding ends_task
   ended_names within hand (what.Atom a to held) is =
       within.flying a hand (is_this_number (s.hand a) hand (and_first (is_number (s.hand a) hand) _ (and_second (flow_runs s.flow || flow_suspends s.flow) _ is)))
@@ -169,7 +168,7 @@ module _ (plan : PlanValue) (s : Snapshot) where
       of None found = tt
       of (Some b) found = found_below (count (outline_of plan)) (is_put_back_at s) b found
 
-  rule_names : IsWithin (outline_of plan) s → (e : Entry) → Rule (outline_of plan) s e → Names e.what
+  rule_names : IsMarkedWithin (outline_of plan) s → (e : Entry) → Rule (outline_of plan) s e → Names e.what
   unfolding forced
   rule_names within e (by_force is) = forced_names e.what (only_if (is_active (outline_of plan) s) (forced_if_running (outline_of plan) s) e.what is).1
   rule_names within e (by_choice is free) = chosen_names e.what is
@@ -180,7 +179,7 @@ module _ (plan : PlanValue) (s : Snapshot) where
   rule_names within e (by_reset is) = reset_names e.what is
 
 -- an entry with a form that may follow is one of the plan
-step_entry : (plan : PlanValue) (s : Snapshot) (e : Entry) → IsWithin (outline_of plan) s → Step (outline_of plan) s e → IsForm e → IsEntryOf plan e
+step_entry : (plan : PlanValue) (s : Snapshot) (e : Entry) → IsMarkedWithin (outline_of plan) s → Step (outline_of plan) s e → IsForm e → IsEntryOf plan e
 step_entry plan s e within step form = record {
   hand = form.0;
   among = subst (λ (n : ℕ). IsAmong n (length (numbering.flows plan)) e.what) (atoms_told plan) (subst (λ (n : ℕ). IsAmong (count (outline_of plan)) n e.what) (flows_told plan) (rule_names plan s within e step.rule));
@@ -188,7 +187,7 @@ step_entry plan s e within step form = record {
 }
 
 -- all entries of a legal history with forms are
-pub past_entries : (plan : PlanValue) (past : List Entry) → ((before : List Entry) → AreShort before → LegalPast (outline_of plan) before → IsWithin (outline_of plan) (snapshot (outline_of plan) before))
+pub past_entries : (plan : PlanValue) (past : List Entry) → ((before : List Entry) → AreShort before → LegalPast (outline_of plan) before → IsMarkedWithin (outline_of plan) (snapshot (outline_of plan) before))
     → AreShort past → LegalPast (outline_of plan) past → AreForms past → AreEntriesOf plan past
 past_entries plan [] within short legal forms = tt
 past_entries plan (e ∷ past) within short legal forms =

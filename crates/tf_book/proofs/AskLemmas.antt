@@ -1,51 +1,55 @@
 -- What stays true of a book when its limit is kept, and when its desk is asked for a stop.
-use Rattle.std.proofs.Common.{◌≡◌, ◌≢◌, ◌≤◌, ℕ, Bool, true, false, List, ◌++◌, Option, Some, None, refl, sym, ◌∙◌, ap, subst, arith}
-use Rattle.std.specs.Prelude.{IsTrue, Result, Ok, Err, OnErr}
-use Rattle.tf_desk.specs.Content.{Content}
-use Rattle.tf_desk.specs.Crash.{Images, Crashes, passes_on}
+use Rattle.std.proofs.Common.{◌≡◌, ℕ, Bool, false, List, Option, Some, None, refl, sym, ◌∙◌, ap, subst, arith}
+use Rattle.tf_desk.specs.Counts.{Rises}
+use Rattle.tf_desk.specs.State.{DeskState, Asks}
+use Rattle.tf_desk.proofs.StateLemmas.{bytes_stay, left_stays, passes_then, extends_told, continues_on, asks_continues}
+use Rattle.tf_flow.specs.Plan.{PlanValue}
 use Rattle.tf_journal.specs.Held.{Held}
-use Rattle.tf_journal.specs.Rest.{Rests, nothing_left}
-use Rattle.tf_journal.proofs.CrashLemmas.{goes_bytes}
 use Rattle.tf_machine.specs.Machine.{MachineValue}
 use Rattle.tf_model.specs.Plan.{Outline, outline_of}
 use Rattle.tf_states.specs.declared.record.Entry.{Entry}
-use Rattle.tf_book.specs.Book.{BookValue, outline}
-use Rattle.tf_book.specs.Kept.{IsSpoken, IsLeft, HasCause, Kept}
-use Rattle.tf_book.specs.Sound.{IsSound}
+use Rattle.tf_states.specs.declared.state.FlowState.TheVariants as flow
+use Rattle.tf_book.specs.Book.{BookValue, flow_state, outline}
+use Rattle.tf_book.specs.Kept.{IsSpoken, HasCause, Kept, Proceeds, TakesTurn}
+use Rattle.tf_book.specs.Sound.{IsSoundBook}
 use Rattle.tf_book.specs.Stopping.{IsAnswered}
 use Rattle.tf_book.specs.Turns.{IsTurn, IsHaltedTurn, forcing, IsTurnAsked, IsHaltedTurnAsked}
+use Rattle.tf_book.specs.declared.faults.Halt.{Halt}
+use Rattle.tf_book.specs.declared.faults.Halt.TheVariants as halt
 use Rattle.tf_book.specs.declared.turn.Turn.{Turn}
 use Rattle.tf_book.proofs.ForceLemmas.{forced_none}
-use Rattle.tf_book.proofs.KeptLemmas.{goes_twice}
-use Rattle.tf_book.proofs.ClosingLemmas.{image_was, unchanged_goes, sound_on}
+use Rattle.tf_book.proofs.ClosingLemmas.{sound_on}
 
-module _ {K : Type 0} (tells : K → Bool) (shown : K → Option (List ℕ)) (content : K → Content) (left : K → Images) (crashes : K → Crashes) (disk_faults out_faults : K → ℕ) where
-  abbrev Keeps : BookValue K → BookValue K → Type 0
-  Keeps start now = Kept tells shown content left crashes disk_faults out_faults start now
+-- a cause stays one where no count of faults changed
+cause_stays : (start mid now : DeskState) (plan : PlanValue) (past : List Entry) (h : Option Halt) → now.disk_faults ≡ mid.disk_faults → now.out_faults ≡ mid.out_faults
+    → HasCause plan past start mid h → HasCause plan past start now h
+cause_stays start mid now plan past None disk out cause = tt
+cause_stays start mid now plan past (Some halt.Disk) disk out cause = subst (λ (n : ℕ). Rises start.disk_faults n) (sym disk) cause
+cause_stays start mid now plan past (Some halt.Out) disk out cause = subst (λ (n : ℕ). Rises start.out_faults n) (sym out) cause
+cause_stays start mid now plan past (Some (halt.Full size need)) disk out cause = cause
+cause_stays start mid now plan past (Some halt.Memory) disk out cause = tt
 
-  limit_keeps : (start b : BookValue K) (l : Option ℕ) → Keeps start b → Keeps start (record b { limit = l })
+module _ {K : Type 0} (state : K → DeskState) where
+  limit_keeps : (start b : BookValue K) (l : Option ℕ) → Kept state start b → Kept state start (record b { limit = l })
   limit_keeps start b l k = record {
     entries = k.entries;
     recorded = k.recorded;
     plan = k.plan;
     quiet = k.quiet;
     volatile = k.volatile;
-    told = k.told;
+    continues = k.continues;
     text = k.text;
     crash = k.crash;
     exact = k.exact;
-    goes = k.goes;
     cause = k.cause;
-    no_disk_fall = k.no_disk_fall;
-    no_out_fall = k.no_out_fall;
   }
 
   -- another limit changes nothing of what is kept
-  pub keeps_limit : (start old b : BookValue K) (l : Option ℕ) → b ≡ old → Keeps start old → Keeps start (record b { limit = l })
-  keeps_limit start old b l same k = limit_keeps start b l (subst (λ (x : BookValue K). Keeps start x) (sym same) k)
+  pub keeps_limit : (start old b : BookValue K) (l : Option ℕ) → b ≡ old → Kept state start old → Kept state start (record b { limit = l })
+  keeps_limit start old b l same k = limit_keeps start b l (subst (λ (x : BookValue K). Kept state start x) (sym same) k)
 
   -- nor of what the type keeps
-  pub sound_limit : (machine : MachineValue) (kept : List ℕ) (b : BookValue K) (l : Option ℕ) → IsSound tells content left machine kept b → IsSound tells content left machine kept (record b { limit = l })
+  pub sound_limit : (machine : MachineValue) (kept : List ℕ) (b : BookValue K) (l : Option ℕ) → IsSoundBook state machine kept b → IsSoundBook state machine kept (record b { limit = l })
   sound_limit machine kept b l is = record {
     stands = is.stands;
     plan = is.plan;
@@ -59,53 +63,69 @@ module _ {K : Type 0} (tells : K → Bool) (shown : K → Option (List ℕ)) (co
     limit = is.limit;
   }
 
-  asked_keeps : (start b : BookValue K) (j : Held K) → j ≡ record b.journal { desk = j.desk }
-      → (IsTrue (tells b.journal.desk) → Rests (content b.journal.desk) (content j.desk) (left b.journal.desk) (left j.desk) (crashes b.journal.desk) (crashes j.desk))
-      → disk_faults j.desk ≡ disk_faults b.journal.desk → out_faults j.desk ≡ out_faults b.journal.desk
-      → tells j.desk ≡ tells b.journal.desk → shown j.desk ≡ shown b.journal.desk → Keeps start b → Keeps start (record b { journal = j })
-  asked_keeps start b j same rests disk out told shows k = record {
+  -- what was kept is kept where a desk was asked
+  asked_keeps : (start b : BookValue K) (j : Held K) → j ≡ record b.journal { desk = j.desk } → Asks (state b.journal.desk) (state j.desk)
+      → Kept state start b → Kept state start (record b { journal = j })
+  asked_keeps start b j same asks k = record {
     entries = k.entries;
     recorded = k.recorded;
     plan = k.plan;
     quiet = k.quiet;
     volatile = ap (λ (h : Held K). h.volatile) same ∙ k.volatile;
-    told = told ∙ k.told;
-    text = subst (λ (s : Option (List ℕ)). IsSpoken start.quiet (outline_of start.plan) start.past (shown start.journal.desk) k.entries b.halt s) (sym shows) k.text;
-    crash = λ was kept. (let d = k.crash was kept in let r = rests (told_then was) in record {
+    continues = continues_on k.continues (asks_continues asks);
+    text = subst (λ (s : Option (List ℕ)). IsSpoken start.quiet (outline_of start.plan) start.past (state start.journal.desk).shown k.entries b.halt s) (sym asks.shown) k.text;
+    crash = λ was kept. (let d = k.crash was kept in let told = extends_told k.continues.extends was in record {
       pending = d.pending;
       few = d.few;
-      passes = passes_on (content start.journal.desk).clock (content b.journal.desk).clock (content j.desk).clock (crashes start.journal.desk) (crashes b.journal.desk) (crashes j.desk)
-          (IsLeft start.plan start.quiet start.past (d.pending ++ k.entries) (shown start.journal.desk)) nothing_left
-          (IsLeft start.plan start.quiet start.past (d.pending ++ k.entries) (shown start.journal.desk))
-          d.passes r.crash (λ image text is. is) (λ image text none. absurd none);
-      left = λ before image now. d.left before image (image_was (content b.journal.desk) (content j.desk) (left b.journal.desk) (left j.desk) image r.content r.leaves now);
+      passes = passes_then d.passes (asks.crash told);
+      left = λ before image now. d.left before image (left_stays (asks.files told) image now);
     });
-    exact = λ was kept unhalted just. goes_bytes (content b.journal.desk) (content j.desk) (rests (told_then was)).content ∙ k.exact was kept (sym (ap (λ (h : Held K). h.halted) same) ∙ unhalted) just;
-    goes = λ was. goes_twice (content start.journal.desk) (content b.journal.desk) (content j.desk) (k.goes was) (unchanged_goes (content b.journal.desk) (content j.desk) (rests (told_then was)).content);
-    cause = subst (λ (n : ℕ). HasCause start.plan b.past (disk_faults start.journal.desk) n (out_faults start.journal.desk) (out_faults j.desk) b.halt) (sym disk)
-        (subst (λ (n : ℕ). HasCause start.plan b.past (disk_faults start.journal.desk) (disk_faults b.journal.desk) (out_faults start.journal.desk) n b.halt) (sym out) k.cause);
-    no_disk_fall = omega (arith, k.no_disk_fall, disk);
-    no_out_fall = omega (arith, k.no_out_fall, out);
+    exact = λ was kept unhalted just. bytes_stay (asks.files (extends_told k.continues.extends was)) ∙ k.exact was kept (sym (ap (λ (h : Held K). h.halted) same) ∙ unhalted) just;
+    cause = cause_stays (state start.journal.desk) (state b.journal.desk) (state j.desk) start.plan b.past b.halt asks.disk_faults asks.out_faults k.cause;
   }
-    where
-      told_then : IsTrue (tells start.journal.desk) → IsTrue (tells b.journal.desk)
-      told_then was = subst (λ (t : Bool). IsTrue t) (sym k.told) was
-
-  -- what was kept is kept where a desk was asked
-  pub keeps_asked : (start old b : BookValue K) (j : Held K) → b ≡ old → j ≡ record b.journal { desk = j.desk }
-      → (IsTrue (tells b.journal.desk) → Rests (content b.journal.desk) (content j.desk) (left b.journal.desk) (left j.desk) (crashes b.journal.desk) (crashes j.desk))
-      → (disk_faults j.desk ≡ disk_faults b.journal.desk) × (out_faults j.desk ≡ out_faults b.journal.desk)
-      → (tells j.desk ≡ tells b.journal.desk) × (shown j.desk ≡ shown b.journal.desk) → Keeps start old → Keeps start (record b { journal = j })
-  keeps_asked start old b j is_old same rests counts quiet k =
-      asked_keeps start b j same rests counts.0 counts.1 quiet.0 quiet.1 (subst (λ (x : BookValue K). Keeps start x) (sym is_old) k)
 
   -- and a book stays sound
-  pub sound_asked : (machine : MachineValue) (kept : List ℕ) (b old : BookValue K) (j : Held K) → b ≡ old → old.halt ≡ None → IsSound tells content left machine kept b
-      → j ≡ record b.journal { desk = j.desk } → tells j.desk ≡ tells b.journal.desk
-      → (IsTrue (tells b.journal.desk) → Rests (content b.journal.desk) (content j.desk) (left b.journal.desk) (left j.desk) (crashes b.journal.desk) (crashes j.desk))
-      → IsSound tells content left machine kept (record b { journal = j })
-  sound_asked machine kept b old j is_old sound is same told rests =
-      sound_on tells shown content left crashes disk_faults out_faults machine kept b j b.halt is (ap (λ (x : BookValue K). x.halt) is_old ∙ sound) same told (λ was. (rests was).content) (λ was. (rests was).leaves)
+  pub sound_asked : (machine : MachineValue) (kept : List ℕ) (b old : BookValue K) (j : Held K) → b ≡ old → old.halt ≡ None → IsSoundBook state machine kept b
+      → j ≡ record b.journal { desk = j.desk } → Asks (state b.journal.desk) (state j.desk) → IsSoundBook state machine kept (record b { journal = j })
+  sound_asked machine kept b old j is_old sound is same asks =
+      sound_on state machine kept b j b.halt is (ap (λ (x : BookValue K). x.halt) is_old ∙ sound) same asks.tells asks.files
+
+  -- asking is a turn in RUNNING
+  pub asks_turn : (old b : BookValue K) (j : Held K) → b ≡ old → j ≡ record b.journal { desk = j.desk } → Asks (state b.journal.desk) (state j.desk)
+      → flow_state old ≡ flow.Running → TakesTurn state old (record b { journal = j })
+  asks_turn old b j is_old same asks running = subst (λ (x : BookValue K). TakesTurn state x (record b { journal = j })) is_old (record {
+    plan = refl;
+    limit = refl;
+    asks = asks.asks;
+    turns = asks.turns;
+    turned = λ sound was. asks.turned;
+    unasked = λ apart. absurd (apart (ap flow_state is_old ∙ running));
+    keeps = λ start k. asked_keeps start b j same asks k;
+  })
+
+  -- a turn in another state of the flow, or of a halted book, begins with no question
+  pub unasked_turn : (old : BookValue K) → (old.halt ≡ None → flow_state old ≡ flow.Running → ⊥) → TakesTurn state old old
+  unasked_turn old never = record {
+    plan = refl;
+    limit = refl;
+    asks = omega arith;
+    turns = omega arith;
+    turned = λ sound running. absurd (never sound running);
+    unasked = λ apart. record { asks = refl; turns = refl };
+    keeps = λ start k. k;
+  }
+
+  -- what is recorded after the question belongs to the turn
+  pub turn_on : {old mid new : BookValue K} → TakesTurn state old mid → Proceeds state mid new → TakesTurn state old new
+  turn_on {old} {mid} {new} a b = record {
+    plan = b.plan ∙ a.plan;
+    limit = b.limit ∙ a.limit;
+    asks = omega (arith, a.asks, b.unasked.asks);
+    turns = omega (arith, a.turns, b.unasked.turns);
+    turned = λ sound running. subst (λ (n : ℕ). Rises (state old.journal.desk).turns n) (sym b.unasked.turns) (a.turned sound running);
+    unasked = λ apart. record { asks = b.unasked.asks ∙ (a.unasked apart).asks; turns = b.unasked.turns ∙ (a.unasked apart).turns };
+    keeps = λ start k. b.keeps start (a.keeps start k);
+  }
 
 -- a turn after the desk was asked
 pub turn_asked : {K : Type 0} (old mid : BookValue K) (hand : ℕ) (stop : Bool) (asks_then asks_mid asks_now : ℕ) (after : List Entry) (answer : Turn)

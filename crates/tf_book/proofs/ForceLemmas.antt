@@ -2,13 +2,12 @@
 use Rattle.std.proofs.Common.{◌≡◌, ◌<◌, inl, inr, ◌⊎◌, ⊎_elim, ℕ, Bool, true, false, ◌&&◌, List, [], ◌∷◌, ◌++◌, length, Option, Some, None, refl, ap, ◌∙◌, sym, subst}
 use Rattle.std.proofs.lemmas.Bool.{lt-ltb}
 use Rattle.std.specs.Prelude.{option_map, is_none, Result, Ok, Err, OnErr, IfOk}
-use Rattle.tf_machine.specs.declared.candidates.Start.{Start}
+use Rattle.tf_hands.specs.declared.starts.Start.{Start}
 use Rattle.tf_hands.proofs.LeaveLemmas.{forced_free}
-use Rattle.tf_book.specs.Logging.{is_recorded}
+use Rattle.tf_book.specs.Logging.{is_logged}
 use Rattle.tf_book.specs.Recording.{past_after}
 use Rattle.tf_book.specs.declared.faults.Halt.{Halt}
 use Rattle.tf_model.specs.States.{flow_suspends}
-use Rattle.tf_flow.specs.Plan.{PlanValue}
 use Rattle.tf_states.specs.declared.record.Entry.{Entry}
 use Rattle.tf_states.specs.declared.record.What.{What}
 use Rattle.tf_states.specs.declared.record.What.TheVariants as what
@@ -18,15 +17,14 @@ use Rattle.tf_hands.specs.Hands.{by_hand, is_of_flow}
 use Rattle.tf_hands.proofs.ForcedLemmas.{forced_within}
 use Rattle.tf_model.specs.Forced.{forced}
 use Rattle.tf_model.specs.History.{flow_of, snapshot}
-use Rattle.tf_model.specs.Plan.{Outline, outline_of}
+use Rattle.tf_model.specs.Plan.{Outline}
 use Rattle.tf_model.specs.Snapshot.{Snapshot}
 use Rattle.tf_model.specs.Candidates.{choice, end_of}
 use Rattle.tf_model.specs.Steps.{Step, by_force, by_end, by_suspension, LegalPast, is_free, is_still, may_suspend}
 use Rattle.tf_book.specs.Stopping.{is_to_stop}
 use Rattle.tf_book.specs.declared.turn.Turn.{Turn}
 use Rattle.tf_book.specs.declared.turn.Turn.TheVariants as turn
-use Rattle.tf_ports.specs.declared.orders.Order.{Order}
-use Rattle.tf_book.specs.Turns.{AreForced, IsForcedBy, IsForcedOn, IsStartedSo, RanOn, RanUntilStop, IsEndOf, HasRested, IsClosedOr, stays, ended, suspended, end_now, suspending_after, HasStopped, IsStoppedOr, Rests, nothing_left, at_end, to_suspend, suspending, RestsAs, IsLessAfterStart, IsTurn, IsHaltedTurn, starting, forcing, resting}
+use Rattle.tf_book.specs.Turns.{AreForced, IsForcedBy, IsForcedOn, IsStartedSo, RanOn, RanUntilStop, HasRested, IsClosedOr, stays, ended, suspended, end_now, suspending_after, HasStopped, IsStoppedOr, HandRests, nothing_to_take, at_end, to_suspend, suspending, HandRestsAs, IsLessAfterStart, IsTurn, IsHaltedTurn, starting, forcing, resting}
 use Rattle.tf_bound.proofs.SessionLemmas.{flow_shown}
 
 -- what is forced may follow, by any hand
@@ -100,18 +98,18 @@ last_step plan past hand state below still (inr is) =
 -- the flow's end was to be recorded
 pub cut_end : (plan : Outline) (hand : ℕ) (past after : List Entry) (state : FlowState) (r : Result (Unit {0}) Halt) → is_still plan (snapshot plan past) ≡ true → end_of plan (snapshot plan past) ≡ Some state
     → after ≡ past_after (by_hand hand (what.Flow state)) past r → IsClosedOr plan hand past after
-cut_end plan hand past after state r still ends is = by (is_recorded r) refl
+cut_end plan hand past after state r still ends is = by (is_logged r) refl
   where
-    by : (b : Bool) → is_recorded r ≡ b → IsClosedOr plan hand past after
+    by : (b : Bool) → is_logged r ≡ b → IsClosedOr plan hand past after
     by true recorded = ended state (record { still = still; ends = ends; is = is ∙ (rw recorded refl) })
     by false unrecorded = stays (is ∙ (rw unrecorded refl))
 
 -- the suspension was to be recorded
 pub cut_suspension : (plan : Outline) (hand : ℕ) (past after : List Entry) (r : Result (Unit {0}) Halt) → is_still plan (snapshot plan past) ≡ true → end_of plan (snapshot plan past) ≡ None → flow_of past ≡ flow.Suspending
     → after ≡ past_after (by_hand hand (what.Flow flow.Suspended)) past r → IsClosedOr plan hand past after
-cut_suspension plan hand past after r still endless winds is = by (is_recorded r) refl
+cut_suspension plan hand past after r still endless winds is = by (is_logged r) refl
   where
-    by : (b : Bool) → is_recorded r ≡ b → IsClosedOr plan hand past after
+    by : (b : Bool) → is_logged r ≡ b → IsClosedOr plan hand past after
     by true recorded = suspended (record { suspending = winds; still = still; endless = endless; is = is ∙ (rw recorded refl) })
     by false unrecorded = stays (is ∙ (rw unrecorded refl))
 
@@ -146,7 +144,7 @@ halted_start plan p hand asked limit past between after start same ran (inr is) 
 pub halted_rest : (plan p : Outline) (hand : ℕ) (asked : Bool) (limit : Option ℕ) (past between after : List Entry) → p ≡ plan → RanOn plan hand asked limit past between
     → choice p (snapshot p between) ≡ None → IsClosedOr p hand between after → IsHaltedTurn plan hand asked limit past after
 halted_rest plan p hand asked limit past between after same ran unchosen closed =
-    resting between (nothing_left (record { ran = ran; unchosen = subst (λ (x : Outline). choice x (snapshot x between) ≡ None) same unchosen })) (subst (λ (x : Outline). IsClosedOr x hand between after) same closed)
+    resting between (nothing_to_take (record { ran = ran; unchosen = subst (λ (x : Outline). choice x (snapshot x between) ≡ None) same unchosen })) (subst (λ (x : Outline). IsClosedOr x hand between after) same closed)
 
 pub halted_wind : (plan : Outline) (hand : ℕ) (asked : Bool) (limit : Option ℕ) (past after : List Entry) → flow_of past ≡ flow.Suspending → IsClosedOr plan hand past after
     → IsHaltedTurn plan hand asked limit past after
@@ -166,9 +164,9 @@ ok_so (Err h) P Q follows is = tt
 -- SUSPENDING was to be recorded
 pub cut_suspending : (plan : Outline) (hand : ℕ) (past after : List Entry) (r : Result (Unit {0}) Halt) → after ≡ past_after (by_hand hand (what.Flow flow.Suspending)) past r
     → IsClosedOr plan hand (suspending_after hand past) after ⊎ (after ≡ past)
-cut_suspending plan hand past after r is = by (is_recorded r) refl
+cut_suspending plan hand past after r is = by (is_logged r) refl
   where
-    by : (b : Bool) → is_recorded r ≡ b → IsClosedOr plan hand (suspending_after hand past) after ⊎ (after ≡ past)
+    by : (b : Bool) → is_logged r ≡ b → IsClosedOr plan hand (suspending_after hand past) after ⊎ (after ≡ past)
     by true recorded = inl (stays (is ∙ (rw recorded refl)))
     by false unrecorded = inr (is ∙ (rw unrecorded refl))
 
@@ -195,10 +193,10 @@ stopped_turn plan p hand asked limit past between after answer same ran has =
     (λ is. at_rest (suspending_after hand between) (to_suspend (record { before = between; ran = ran; endless = is.0; is = refl })) is.1)
     (subst (λ (x : Outline). HasStopped x hand between after answer) same has))
   where
-    at_rest : (at : List Entry) → Rests plan hand asked limit past at → HasRested plan hand at after answer → RestsAs plan hand asked limit past after answer
+    at_rest : (at : List Entry) → HandRests plan hand asked limit past at → HasRested plan hand at after answer → HandRestsAs plan hand asked limit past after answer
     at_rest at rests rested = record { between = at; rests = rests; rested = rested }
 
-    rests_so : (t : Turn) → RestsAs plan hand asked limit past after t → IsTurn plan hand asked limit past after t
+    rests_so : (t : Turn) → HandRestsAs plan hand asked limit past after t → IsTurn plan hand asked limit past after t
     rests_so (turn.Start order) is = absurd is.rested
     rests_so turn.Idle is = is
     rests_so (turn.Ended state) is = inl is

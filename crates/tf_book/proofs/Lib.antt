@@ -1,5 +1,6 @@
 pub mod LogLemmas
 pub mod PayloadLemmas
+pub mod SpokenLemmas
 pub mod KeptLemmas
 pub mod HistoryLemmas
 pub mod TurnLemmas

@@ -1,70 +1,108 @@
 -- How an append and a line that is said after it go together.
-use Rattle.std.proofs.Common.{◌≡◌, inl, inr, ⊎_elim, ℕ, ◌≤◌, Bool, true, false, List, [], ◌∷◌, ◌++◌, take, Option, Some, None, refl, sym, ◌∙◌, ap, subst, append-nil, arith}
-use Rattle.tf_desk.specs.Content.{Content, Mark, bytes_of}
-use Rattle.tf_desk.specs.Crash.{Images, Crashes, LeavesNoMore, SaysFront, Passes, passes_none, passes_within, passes_on}
-use Rattle.tf_desk.specs.Shown.{shown_with, ShowsFront}
-use Rattle.tf_journal.specs.Format.{bodies, recovered}
+use Rattle.std.proofs.Common.{◌≡◌, inl, inr, ⊎_elim, ℕ, ◌+◌, ◌≤◌, Bool, List, [], length, Option, Some, None, refl, sym, ◌∙◌, ap, subst, append-nil, arith}
+use Rattle.std.specs.Prelude.{Result, Ok, Err, IfErr}
+use Rattle.tf_desk.specs.Counts.{Rises}
+use Rattle.tf_desk.specs.Shown.{shown_with, ShowsPrefix}
+use Rattle.tf_desk.specs.State.{DeskState, anything, FilesStay, GoesOn, Says, passes_none, passes_on}
+use Rattle.tf_desk.proofs.StateLemmas.{files_none, bytes_stay, left_stays, on_disk_told, continues_on, goes_continues, says_continues}
+use Rattle.tf_journal.specs.Adding.{Adds, AddsAtMost, Grows}
+use Rattle.tf_journal.specs.Format.{SIZE_LIMIT, recovered, title_of}
 use Rattle.tf_journal.specs.Held.{Held}
-use Rattle.tf_journal.specs.Rest.{GoesUnchanged, IsAtRest, LeavesBeforeOrAfter}
+use Rattle.tf_journal.specs.Rest.{IsAtRest, AtRest, LeavesBeforeOrAfter}
 use Rattle.tf_journal.proofs.CrashLemmas.{at_rest_on}
-use Rattle.tf_book.specs.Logging.{said_of, LeavesLogged}
+use Rattle.tf_book.specs.Logging.{said_of, journal_after, IsSaid, IsCaused, FailsToSay, LeavesLogged, Logged}
+use Rattle.tf_book.specs.declared.faults.Halt.{Halt}
+use Rattle.tf_book.specs.declared.faults.Halt.TheVariants as halt
 
 -- where nothing is said, nothing more is shown
 pub quiet_says : (shown : Option (List ℕ)) → shown ≡ shown_with shown []
 quiet_says None = refl
 quiet_says (Some text) = ap Some (sym (append-nil text))
 
--- where no call is made, no time passes
-pub quiet_passes : (clock : ℕ) (was : Crashes) (during : List ℕ → List ℕ → Type 0) → Passes clock clock was was during
-quiet_passes clock was during = passes_none clock was during
+-- and nothing else is done
+pub says_none : {old : DeskState} → Says [] old old
+says_none {old} = record {
+  tells = refl;
+  prefix = record { count = 0; prefix = quiet_says old.shown };
+  disk_faults = refl;
+  out_faults = omega arith;
+  asks = refl;
+  turns = refl;
+  marks = λ told. refl;
+  files = λ told. files_none;
+  crash = λ told. passes_none;
+}
 
--- and no file changes
-pub goes_nowhere : (now : Content) → GoesUnchanged now now
-goes_nowhere now = record { picked = refl; files = refl; marks = ([], sym (append-nil now.marks)) }
-
--- nothing more is a front of any bytes
-shows_none : (shown : Option (List ℕ)) (bytes text : List ℕ) → shown ≡ Some text → ShowsFront shown bytes (Some text)
-shows_none shown bytes text is = record { count = 0; front = sym is ∙ quiet_says shown }
+-- nothing more is a prefix of any bytes
+shows_none : (shown : Option (List ℕ)) (bytes text : List ℕ) → shown ≡ Some text → ShowsPrefix shown bytes (Some text)
+shows_none shown bytes text is = record { count = 0; prefix = sym is ∙ quiet_says shown }
 
 -- what an append may leave is what an append and its line may leave
-pub appended_logged : (title : List ℕ) (held : List (List ℕ)) (new line : List ℕ) (shown : Option (List ℕ)) (image text : List ℕ)
+appended_logged : (title : List ℕ) (held : List (List ℕ)) (new line : List ℕ) (shown : Option (List ℕ)) (image text : List ℕ)
     → LeavesBeforeOrAfter title held new shown image text → LeavesLogged title held new line shown image text
 appended_logged title held new line shown image text left =
     ⊎_elim (λ old. inl (old, left.1)) (λ both. inr (both, shows_none shown line text left.1)) left.0
 
--- the same of the time that passes in it
-pub append_passes : (before now : ℕ) (was is : Crashes) (title : List ℕ) (held : List (List ℕ)) (new line : List ℕ) (shown : Option (List ℕ))
-    → Passes before now was is (LeavesBeforeOrAfter title held new shown) → Passes before now was is (LeavesLogged title held new line shown)
-append_passes before now was is title held new line shown passes =
-    passes_within before now was is (LeavesBeforeOrAfter title held new shown) (LeavesLogged title held new line shown) passes (appended_logged title held new line shown)
+-- ---- what the answer tells
 
--- a journal at rest stays so while a line is said
-pub said_at_rest : {K : Type 0} (content : K → Content) (left : K → Images) (mid new : Held K) (held : List (List ℕ)) → new ≡ record mid { desk = new.desk }
-    → GoesUnchanged (content mid.desk) (content new.desk) → LeavesNoMore (left mid.desk) (left new.desk) → IsAtRest content left mid held → IsAtRest content left new held
-said_at_rest content left mid new held same goes no_more rest =
-    subst (λ (j : Held _). IsAtRest content left j held) (sym same) (at_rest_on content left mid new.desk held rest goes no_more)
+-- only the output failed after the append
+abbrev pub OutAlone : Result (Unit {0}) Halt → DeskState → DeskState → Type 0
+OutAlone r old new = IfErr r (λ why. FailsToSay why old new)
 
--- what a line may leave that is said after the append
-said_logged : {K : Type 0} (content : K → Content) (left : K → Images) (mid : Held K) (title : List ℕ) (held : List (List ℕ)) (new line : List ℕ) (shown shown_mid : Option (List ℕ))
-    → IsAtRest content left mid (held ++ new ∷ []) → recovered title (bytes_of (content mid.desk)) ≡ bodies (held ++ new ∷ []) → shown_mid ≡ shown
-    → (image text : List ℕ) → SaysFront (content mid.desk) (left mid.desk) shown_mid line image text → LeavesLogged title held new line shown image text
-said_logged content left mid title held new line shown shown_mid rest recovers same image text says =
-    inr (ap (recovered title) (rest.durable image says.0) ∙ recovers, subst (λ (s : Option (List ℕ)). ShowsFront s line (Some text)) same says.1)
+said_after : {K : Type 0} (old : Held K) (desk : K) (n : ℕ) (a b : DeskState) (r : Result (Unit {0}) Halt) → OutAlone r a b
+    → journal_after old desk n r ≡ record old { desk = desk; size = old.size + 5 + n }
+said_after old desk n a b (Ok u) fails = refl
+said_after old desk n a b (Err halt.Out) fails = refl
+said_after old desk n a b (Err halt.Disk) fails = absurd (cc)
+said_after old desk n a b (Err halt.Memory) fails = absurd (cc)
+said_after old desk n a b (Err (halt.Full size need)) fails = absurd (cc)
 
--- an append and the line after it, one after the other
-pub logged_passes : {K : Type 0} (content : K → Content) (left : K → Images) (mid : Held K) (before now : ℕ) (was then_is is : Crashes) (title : List ℕ) (held : List (List ℕ)) (new line : List ℕ) (shown shown_mid : Option (List ℕ))
-    → Passes before (content mid.desk).clock was then_is (LeavesBeforeOrAfter title held new shown)
-    → IsAtRest content left mid (held ++ new ∷ []) → recovered title (bytes_of (content mid.desk)) ≡ bodies (held ++ new ∷ []) → shown_mid ≡ shown
-    → Passes (content mid.desk).clock now then_is is (SaysFront (content mid.desk) (left mid.desk) shown_mid line)
-    → Passes before now was is (LeavesLogged title held new line shown)
-logged_passes content left mid before now was then_is is title held new line shown shown_mid first rest recovers same second =
-    passes_on before (content mid.desk).clock now was then_is is (LeavesBeforeOrAfter title held new shown) (SaysFront (content mid.desk) (left mid.desk) shown_mid line) (LeavesLogged title held new line shown)
-    first second (appended_logged title held new line shown) (said_logged content left mid title held new line shown shown_mid rest recovers same)
+said_caused : (old mid new : DeskState) (size n : ℕ) (r : Result (Unit {0}) Halt) → mid.out_faults ≡ old.out_faults → OutAlone r mid new → IsCaused old new size n r
+said_caused old mid new size n (Ok u) same fails = tt
+said_caused old mid new size n (Err halt.Out) same fails = subst (λ (k : ℕ). Rises k new.out_faults) same fails.1
+said_caused old mid new size n (Err halt.Disk) same fails = absurd (cc)
+said_caused old mid new size n (Err halt.Memory) same fails = absurd (cc)
+said_caused old mid new size n (Err (halt.Full at need)) same fails = absurd (cc)
 
--- the same body and line under other names
-pub logged_same : (before now : ℕ) (was is : Crashes) (title : List ℕ) (held : List (List ℕ)) (quiet : Bool) (shown : Option (List ℕ)) (body line new_body new_line : List ℕ)
-    → body ≡ new_body → line ≡ new_line
-    → Passes before now was is (LeavesLogged title held body (said_of quiet line) shown) → Passes before now was is (LeavesLogged title held new_body (said_of quiet new_line) shown)
-logged_same before now was is title held quiet shown body line new_body new_line same_body same_line passes =
-    subst (λ (b : List ℕ). Passes before now was is (LeavesLogged title held b (said_of quiet new_line) shown)) same_body
-    (subst (λ (l : List ℕ). Passes before now was is (LeavesLogged title held body (said_of quiet l) shown)) same_line passes)
+module _ {K : Type 0} (state : K → DeskState) where
+  -- a journal at rest stays so while a line is said
+  pub said_at_rest : {mid new : Held K} {held : List (List ℕ)} → new ≡ record mid { desk = new.desk } → FilesStay (state mid.desk) (state new.desk)
+      → IsAtRest state mid held → IsAtRest state new held
+  said_at_rest {mid} {new} {held} same stay rest = subst (λ (j : Held K). IsAtRest state j held) (sym same) (at_rest_on state mid new.desk held rest stay)
+
+  -- the body was added, and its line said after it, or cut
+  pub said_logged : {body line : List ℕ} {old mid new : Held K} (r : Result (Unit {0}) Halt) → Grows body old mid → AtRest state old (Adds state body old mid)
+      → AtRest state old (AddsAtMost state body old mid) → GoesOn anything (state old.desk) (state mid.desk)
+      → new ≡ record mid { desk = new.desk } → IsSaid (state mid.desk).shown line (state new.desk).shown r → Says line (state mid.desk) (state new.desk)
+      → OutAlone r (state mid.desk) (state new.desk) → Logged state body line old new r
+  said_logged {body} {line} {old} {mid} {new} r grows adds at_most goes same text says fails = record {
+    journal = grown ∙ sym (said_after old new.desk (length body) (state mid.desk) (state new.desk) r fails);
+    text = subst (λ (s : Option (List ℕ)). IsSaid s line (state new.desk).shown r) goes.on_disk.shown text;
+    cause = said_caused (state old.desk) (state mid.desk) (state new.desk) old.size (length body) r goes.on_disk.out_faults fails;
+    limit = λ on. subst (λ (n : ℕ). n ≤ SIZE_LIMIT) (sym (ap (λ (h : Held K). h.size) grown)) grows.fits;
+    continues = continues_on (goes_continues goes) (says_continues says);
+    unasked = record { asks = says.asks ∙ goes.on_disk.asks; turns = says.turns ∙ goes.on_disk.turns };
+    records = λ on opened held rest. (let added = adds opened held rest in let stay = says.files (on_disk_told goes.on_disk opened.told) in record {
+      rest = said_at_rest same stay added.rest;
+      exact = λ just. bytes_stay stay ∙ added.exact just;
+    });
+    at_most = λ opened held rest. (let added = adds opened held rest in let told = on_disk_told goes.on_disk opened.told in record {
+      crash = passes_on (at_most opened held rest).crash (says.crash told) (appended_logged (title_of old.title) held body line (state old.desk).shown)
+          (λ image text left. inr (
+            ap (recovered (title_of old.title)) (added.rest.durable image left.0) ∙ added.recovers,
+            subst (λ (s : Option (List ℕ)). ShowsPrefix s line (Some text)) goes.on_disk.shown left.1,
+          ));
+      leaves = λ image left. inr (ap (recovered (title_of old.title)) (added.rest.durable image (left_stays (says.files told) image left)) ∙ added.recovers);
+    });
+  }
+    where
+      grown : new ≡ record old { desk = new.desk; size = old.size + 5 + length body }
+      grown = same ∙ ap (λ (h : Held K). record h { desk = new.desk }) grows.same
+
+  -- the same body and line under other names, and the same answer
+  pub logged_same : (quiet : Bool) {body line new_body new_line : List ℕ} {old new : Held K} {r s : Result (Unit {0}) Halt} → body ≡ new_body → line ≡ new_line → r ≡ s
+      → Logged state body (said_of quiet line) old new r → Logged state new_body (said_of quiet new_line) old new s
+  logged_same quiet {body} {line} {new_body} {new_line} {old} {new} {r} {s} same_body same_line same logged =
+      subst (λ (x : Result (Unit {0}) Halt). Logged state new_body (said_of quiet new_line) old new x) same
+      (subst (λ (b : List ℕ). Logged state b (said_of quiet new_line) old new r) same_body
+      (subst (λ (l : List ℕ). Logged state body (said_of quiet l) old new r) same_line logged))

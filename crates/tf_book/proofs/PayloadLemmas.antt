@@ -8,11 +8,10 @@ use Rattle.tf_flow.specs.declared.atoms.RetryKind.TheVariants as retry
 use Rattle.tf_flow.specs.declared.deciders.Depth.{Depth}
 use Rattle.tf_flow.specs.Outline.{Part, a_task, a_retry, Atom, is_retry_part}
 use Rattle.tf_numbers.specs.Numbers.{first_below, is_number}
-use Rattle.tf_numbers.proofs.BelowLemmas.{found_below}
 use Rattle.tf_numbers.proofs.OptionLemmas.{only_if, if_some}
 use Rattle.tf_numbers.proofs.TruthLemmas.{and_first, and_second}
-use Rattle.tf_ports.specs.declared.orders.Given.{Given}
-use Rattle.tf_ports.specs.declared.orders.Given.TheVariants as given
+use Rattle.tf_actions.specs.declared.orders.Given.{Given}
+use Rattle.tf_actions.specs.declared.orders.Given.TheVariants as given
 use Rattle.tf_values.specs.declared.value.Val.{Val}
 use Rattle.tf_values.specs.declared.value.Val.TheVariants as value
 use Rattle.tf_states.specs.declared.record.Entry.{Entry}
@@ -23,7 +22,7 @@ use Rattle.tf_states.specs.declared.record.What.TheVariants as what
 use Rattle.tf_states.specs.declared.state.AtomState.{AtomState}
 use Rattle.tf_states.specs.declared.state.AtomState.TheVariants as atom
 use Rattle.tf_states.specs.declared.state.FlowState.{FlowState}
-use Rattle.tf_facts.proofs.CaseLemmas.{EachCase, forced_by}
+use Rattle.tf_facts.proofs.CaseLemmas.{forced_by}
 use Rattle.tf_model.specs.Plan.{Outline, count, is_retry}
 use Rattle.tf_model.specs.Snapshot.{Snapshot}
 use Rattle.tf_model.specs.States.{flow_runs, flow_suspends, is_running}

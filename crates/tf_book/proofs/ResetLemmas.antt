@@ -1,15 +1,11 @@
 -- How a reverted flow is put back, entry by entry.
-use Rattle.std.proofs.Common.{◌≡◌, ◌<◌, inl, inr, ◌⊎◌, ℕ, Bool, true, false, ◌&&◌, List, [], ◌∷◌, ◌++◌, Option, Some, None, refl, ap, ◌∙◌, sym, subst}
-use Rattle.std.proofs.lemmas.Bool.{lt-ltb}
+use Rattle.std.proofs.Common.{◌≡◌, inl, inr, ◌⊎◌, ℕ, Bool, true, false, List, [], ◌∷◌, Option, Some, None, refl, ap, ◌∙◌, sym, subst}
 use Rattle.std.specs.Prelude.{nat_eq, if◌then◌else◌}
 use Rattle.tf_states.specs.declared.record.Entry.{Entry}
-use Rattle.tf_states.specs.declared.record.Payload.TheVariants as payload
 use Rattle.tf_states.specs.declared.record.What.{What}
-use Rattle.tf_states.specs.declared.record.What.TheVariants as what
 use Rattle.tf_states.specs.declared.state.AtomState.{AtomState}
 use Rattle.tf_states.specs.declared.state.AtomState.TheVariants as atom
 use Rattle.tf_states.specs.declared.state.FlowState.TheVariants as flow
-use Rattle.tf_numbers.specs.Numbers.{all_below, first_below}
 use Rattle.tf_numbers.proofs.BelowLemmas.{all_at, all_of}
 use Rattle.tf_numbers.proofs.TruthLemmas.{true_both, and_first, and_second}
 use Rattle.tf_hands.specs.Hands.{by_hand, is_of_flow}
@@ -18,8 +14,8 @@ use Rattle.tf_model.specs.Plan.{Outline, count}
 use Rattle.tf_model.specs.Snapshot.{Snapshot}
 use Rattle.tf_model.specs.States.{flow_is_reverted, is_settled}
 use Rattle.tf_model.specs.Forced.{enters}
-use Rattle.tf_model.specs.Steps.{Step, by_reset, reset, put_back_or_rest, is_put_back_at, is_settled_at}
-use Rattle.tf_book.specs.Resetting.{may_reset, AreReset, IsPutBackOn, IsPutBack, IsPutBackBy}
+use Rattle.tf_model.specs.Steps.{Step, by_reset, reset, put_back_or_rest, is_settled_at}
+use Rattle.tf_book.specs.Resetting.{may_reset, IsPutBackOn, IsPutBackBy}
 
 -- what puts the flow back may follow, by hand 0
 pub reset_step : (plan : Outline) (s : Snapshot) (w : What) → reset plan s ≡ Some w → Step plan s (by_hand 0 w)

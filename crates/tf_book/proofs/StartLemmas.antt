@@ -1,17 +1,30 @@
--- What a crash in a book's start leaves.
-use Rattle.std.proofs.Common.{◌≡◌, ℕ, List, [], Option, subst}
-use Rattle.tf_desk.specs.Crash.{Crashes, Passes}
+-- What a crash in a book's start leaves, and why it fails.
+use Rattle.std.proofs.Common.{◌≡◌, ℕ, List, [], Option, ap, ◌∙◌, sym, subst}
+use Rattle.tf_desk.specs.Counts.{Rises}
+use Rattle.tf_desk.specs.State.{DeskState, Passes}
 use Rattle.tf_entries.specs.Plans.{plan_bytes}
 use Rattle.tf_flow.specs.Plan.{PlanValue}
 use Rattle.tf_journal.specs.Format.{title_of}
+use Rattle.tf_journal.specs.Held.{Held}
 use Rattle.tf_journal.specs.Rest.{LeavesBeforeOrAfter}
 use Rattle.tf_journal.specs.declared.title.Title.{Title}
 use Rattle.tf_journal.specs.declared.title.Title.TheVariants.{Book as book_title}
-use Rattle.tf_book.specs.Starting.{LeavesPlan}
+use Rattle.tf_book.specs.Starting.{LeavesPlan, FailsToAppendPlan, FailsToStart}
+use Rattle.tf_book.specs.declared.faults.BookFault.{BookFault}
+use Rattle.tf_book.specs.declared.faults.BookFault.TheVariants as fault
 
 -- the body that was appended is the plan's
-pub begun_crash : (before now : ℕ) (was is : Crashes) (shown : Option (List ℕ)) (t : Title) (body : List ℕ) (plan : PlanValue) → t ≡ book_title → body ≡ plan_bytes plan
-    → Passes before now was is (LeavesBeforeOrAfter (title_of t) [] body shown) → Passes before now was is (LeavesPlan plan shown)
-begun_crash before now was is shown t body plan titled same passes =
-    subst (λ (b : List ℕ). Passes before now was is (LeavesBeforeOrAfter (title_of book_title) [] b shown)) same
-    (subst (λ (x : Title). Passes before now was is (LeavesBeforeOrAfter (title_of x) [] body shown)) titled passes)
+pub begun_crash : {old new : DeskState} {shown : Option (List ℕ)} {t : Title} {body : List ℕ} (plan : PlanValue) → t ≡ book_title → body ≡ plan_bytes plan
+    → Passes (LeavesBeforeOrAfter (title_of t) [] body shown) old new → Passes (LeavesPlan plan shown) old new
+begun_crash {old} {new} {shown} {t} {body} plan titled same passes =
+    subst (λ (b : List ℕ). Passes (LeavesBeforeOrAfter (title_of book_title) [] b shown) old new) same
+    (subst (λ (x : Title). Passes (LeavesBeforeOrAfter (title_of x) [] body shown) old new) titled passes)
+
+-- the fault of the append is the start's, and the journal's desk comes back
+pub start_fails : {K : Type 0} (state : K → DeskState) (why : BookFault) (old new : Held K) (desk : K) → desk ≡ new.desk → FailsToAppendPlan state why old new
+    → FailsToStart state why old.desk desk
+start_fails {K} state fault.Disk old new desk back fails = subst (λ (d : K). Rises (state old.desk).disk_faults (state d).disk_faults) (sym back) fails
+start_fails {K} state fault.Memory old new desk back fails = back ∙ ap (λ (h : Held K). h.desk) fails
+start_fails state fault.Out old new desk back fails = absurd fails
+start_fails state (fault.Full size need) old new desk back fails = absurd fails
+start_fails state (fault.Halted cause) old new desk back fails = absurd fails

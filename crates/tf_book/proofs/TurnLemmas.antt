@@ -1,5 +1,5 @@
 -- Which entries of the flow may follow, and what a session enters with.
-use Rattle.std.proofs.Common.{◌≡◌, ◌<◌, ℕ, Bool, true, false, List, [], ◌∷◌, ◌++◌, refl, ap, ◌∙◌, sym, subst, append_assoc}
+use Rattle.std.proofs.Common.{◌≡◌, ◌<◌, ℕ, Bool, true, false, List, [], ◌∷◌, ◌++◌, refl, ap, ◌∙◌, sym, append_assoc}
 use Rattle.std.proofs.lemmas.Bool.{lt-ltb}
 use Rattle.std.specs.Prelude.{Result, Ok, Err, reverse, OnErr, OnOk}
 use Rattle.tf_states.specs.declared.record.Entry.{Entry}
@@ -10,7 +10,7 @@ use Rattle.tf_hands.specs.Hands.{by_hand}
 use Rattle.tf_model.specs.History.{flow_of, snapshot}
 use Rattle.tf_model.specs.Plan.{Outline}
 use Rattle.tf_model.specs.Steps.{Step, may_turn, by_turn}
-use Rattle.tf_book.specs.Logging.{is_recorded}
+use Rattle.tf_book.specs.Logging.{is_logged}
 use Rattle.tf_book.specs.Recording.{past_after}
 use Rattle.tf_book.specs.Turns.{entering_by, IsEntering, IsEntered}
 use Rattle.tf_book.specs.declared.faults.Halt.{Halt}
@@ -27,16 +27,16 @@ turn_step plan past hand state below may = record { hand = lt-ltb hand 64 below;
 pub cut_entering : (hand : ℕ) (past mid after : List Entry) (done others : List Entry) (e : Entry) (r : Result (Unit {0}) Halt)
     → entering_by hand (flow_of past) ≡ done ++ e ∷ others → mid ≡ reverse done ++ past → reverse (done ++ e ∷ []) ++ past ≡ e ∷ (reverse done ++ past)
     → after ≡ past_after e mid r → IsEntering hand past after
-cut_entering hand past mid after done others e r enters was turned is = by (is_recorded r) refl
+cut_entering hand past mid after done others e r enters was turned is = by (is_logged r) refl
   where
-    by : (b : Bool) → is_recorded r ≡ b → IsEntering hand past after
+    by : (b : Bool) → is_logged r ≡ b → IsEntering hand past after
     by true recorded = record {
       some = done ++ e ∷ [];
       others = others;
-      front = enters ∙ sym (append_assoc done (e ∷ []) others);
+      prefix = enters ∙ sym (append_assoc done (e ∷ []) others);
       is = is ∙ (rw recorded (ap (λ (l : List Entry). e ∷ l) was ∙ sym turned));
     }
-    by false unrecorded = record { some = done; others = e ∷ others; front = enters; is = is ∙ (rw unrecorded was) }
+    by false unrecorded = record { some = done; others = e ∷ others; prefix = enters; is = is ∙ (rw unrecorded was) }
 
 -- the last of them was to be recorded
 pub last_entered : (hand : ℕ) (past mid after : List Entry) (done : List Entry) (e : Entry) (r : Result (Unit {0}) Halt)

@@ -30,8 +30,8 @@ abbrev pub moment : {K : Type 0} → BookValue K → Snapshot
 moment b = snapshot (outline_of b.plan) b.past
 
 -- the state of its flow
-abbrev pub state : {K : Type 0} → BookValue K → FlowState
-state b = flow_of b.past
+abbrev pub flow_state : {K : Type 0} → BookValue K → FlowState
+flow_state b = flow_of b.past
 
 -- the bodies of a plan and a history: the plan's, and one for each entry
 abbrev pub bodies_of : PlanValue → List Entry → List (List ℕ)
@@ -39,6 +39,6 @@ bodies_of plan [] = plan_bytes plan ∷ []
 bodies_of plan (e ∷ past) = bodies_of plan past ++ entry_bytes e ∷ []
 
 -- the size of a journal of them: a gate and a length before each body, and the title and two gates besides
-abbrev pub size_of : PlanValue → List Entry → ℕ
-size_of plan [] = 18 + 5 + length (plan_bytes plan)
-size_of plan (e ∷ past) = size_of plan past + 5 + length (entry_bytes e)
+abbrev pub book_size : PlanValue → List Entry → ℕ
+book_size plan [] = 18 + 5 + length (plan_bytes plan)
+book_size plan (e ∷ past) = book_size plan past + 5 + length (entry_bytes e)

@@ -1,5 +1,5 @@
 -- How a book keeps its history in memory.
-use Rattle.std.specs.Prelude.{◌≡◌, ◌≤◌, ◌<◌, ◌+◌, ℕ, List, [], ◌∷◌, ◌++◌, length, reverse, map, vec_len, vec_capacity}
+use Rattle.std.specs.Prelude.{◌≤◌, ◌<◌, ◌+◌, ℕ, List, [], ◌∷◌, ◌++◌, length, reverse, map, vec_len, vec_capacity}
 use Rattle.std.specs.declared.snapshot.Snapshot.{Snapshot}
 use Rattle.tf_states.specs.declared.record.Entry.{Entry}
 use Rattle.tf_entries.specs.Entries.{entry_bytes}
@@ -8,20 +8,20 @@ use Rattle.tf_book.specs.declared.history.History.{History}
 use Rattle.tf_book.specs.declared.writing.Draft.{Draft}
 
 -- the entry that a snapshot shows
-abbrev pub entry_in : Snapshot Entry → Entry
-entry_in s = s.value
+abbrev pub entry_shown : Snapshot Entry → Entry
+entry_shown s = s.value
 
 -- the history that snapshots show, the newest entry first
-abbrev pub past_of : List (Snapshot Entry) → List Entry
-past_of snapshots = reverse (map entry_in snapshots)
+abbrev pub past_shown : List (Snapshot Entry) → List Entry
+past_shown snapshots = reverse (map entry_shown snapshots)
 
 -- the bodies of a history, each behind its length
-abbrev pub framed : List Entry → List ℕ
-framed [] = []
-framed (e ∷ past) = framed past ++ (length_bytes (length (entry_bytes e)) ++ entry_bytes e)
+abbrev pub framed_bodies : List Entry → List ℕ
+framed_bodies [] = []
+framed_bodies (e ∷ past) = framed_bodies past ++ (length_bytes (length (entry_bytes e)) ++ entry_bytes e)
 
 -- there is room for an entry with a body of that length
-pub record HasRoom (history : History) (len : ℕ) : Type 0 where
+pub record HasEntryRoom (history : History) (len : ℕ) : Type 0 where
   pub entry : vec_len history.entries < vec_capacity history.entries
   pub body : vec_len history.bodies + 4 + len ≤ vec_capacity history.bodies
 
@@ -34,3 +34,11 @@ pub record HasAllRoom (history : History) : Type 0 where
 pub record HasDraftRoom (draft : Draft) : Type 0 where
   pub body : 131200 ≤ vec_capacity draft.body
   pub line : 1048576 ≤ vec_capacity draft.line
+
+-- there is room for one more entry of a journal of that size, whatever it is: in the history, and for its body and its line
+pub record HasWriteRoom (size : ℕ) (history : History) (draft : Draft) : Type 0 where
+  pub few : length history.entries.items ≤ 67108864
+  pub fewer : length history.entries.items ≤ size
+  pub fits : length history.bodies.items ≤ size
+  pub all_room : HasAllRoom history
+  pub draft_room : HasDraftRoom draft

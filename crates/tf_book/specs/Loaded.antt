@@ -1,7 +1,6 @@
 -- What a load answers of a file.
-use Rattle.std.specs.Prelude.{◌≡◌, ℕ, Bool, false, IsTrue, List, [], None, Result, Ok, Err}
-use Rattle.tf_desk.specs.Content.{Content}
-use Rattle.tf_desk.specs.Crash.{Images}
+use Rattle.std.specs.Prelude.{◌≡◌, ℕ, false, IsTrue, List, [], None, Result, Ok, Err}
+use Rattle.tf_desk.specs.State.{DeskState}
 use Rattle.tf_journal.specs.Format.{Recovered, unborn, bodies}
 use Rattle.tf_journal.specs.Rest.{IsAtRest}
 use Rattle.tf_journal.specs.declared.title.Title.TheVariants.{Book as book_title}
@@ -16,9 +15,9 @@ desk_of (loaded.Book book) = book.journal.desk
 desk_of (loaded.NoFlow journal) = journal.desk
 desk_of (loaded.Unborn desk) = desk
 
-abbrev pub desk_loaded : {K F : Type 0} → Result (Loaded K) (K × F) → K
-desk_loaded (Ok found) = desk_of found
-desk_loaded (Err back) = back.0
+abbrev pub desk_after_load : {K F : Type 0} → Result (Loaded K) (K × F) → K
+desk_after_load (Ok found) = desk_of found
+desk_after_load (Err back) = back.0
 
 -- the file has exactly the bodies of the book's plan, which can run, and of its history; or none; or it is unborn
 abbrev pub IsLoaded : {K : Type 0} → Loaded K → Recovered → Type 0
@@ -32,11 +31,11 @@ IsLoadedFrom (loaded.Book book) held = (held ≡ bodies_of book.plan book.past) 
 IsLoadedFrom (loaded.NoFlow journal) held = held ≡ []
 IsLoadedFrom (loaded.Unborn desk) held = ⊥
 
--- a book that was loaded isn't halted, says its lines, is kept in the file and has no limit; a journal without a record is one in which a book may
--- start
-abbrev pub IsMade : {K : Type 0} → (K → Bool) → (K → Content) → (K → Images) → Loaded K → Type 0
-IsMade tells content left (loaded.Book book) = (book.halt ≡ None) × (book.quiet ≡ false) × (book.journal.volatile ≡ false) × (book.limit ≡ None)
-IsMade tells content left (loaded.NoFlow journal) =
+-- a book that was loaded isn't halted, says its lines, is kept in the file and has no limit; a journal without a record is one in which a
+-- book may start
+abbrev pub IsMade : {K : Type 0} → (K → DeskState) → Loaded K → Type 0
+IsMade state (loaded.Book book) = (book.halt ≡ None) × (book.quiet ≡ false) × (book.journal.volatile ≡ false) × (book.limit ≡ None)
+IsMade state (loaded.NoFlow journal) =
     (journal.title ≡ book_title) × (journal.size ≡ 18) × (journal.halted ≡ false) × (journal.volatile ≡ false)
-    × (IsTrue (tells journal.desk) → IsAtRest content left journal [])
-IsMade tells content left (loaded.Unborn desk) = Unit {0}
+    × (IsTrue (state journal.desk).tells → IsAtRest state journal [])
+IsMade state (loaded.Unborn desk) = Unit {0}

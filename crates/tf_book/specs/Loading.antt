@@ -7,7 +7,7 @@ use Rattle.tf_flow.specs.Refusal.{first_refusal}
 use Rattle.tf_states.specs.declared.record.Entry.{Entry}
 use Rattle.tf_entries.specs.Entries.{IsEntry, entry_bytes}
 use Rattle.tf_entries.specs.Plans.{KeepsLimits, plan_bytes}
-use Rattle.tf_journal.specs.Format.{front_of, Recovered, bodies, not_a_book, title_of}
+use Rattle.tf_journal.specs.Format.{prefix_of, Recovered, bodies, not_a_book, title_of}
 use Rattle.tf_journal.specs.declared.faults.LoadFault.{LoadFault}
 use Rattle.tf_journal.specs.declared.faults.LoadFault.TheVariants as load_fault
 use Rattle.tf_journal.specs.declared.title.Title.TheVariants.{Book as book_title}
@@ -19,8 +19,8 @@ use Rattle.tf_model.specs.Steps.{Step, LegalPast}
 use Rattle.tf_book.specs.Book.{bodies_of}
 
 -- a plan within every limit and rule
-abbrev pub IsAccepted : PlanValue → Type 0
-IsAccepted plan = first_refusal plan.root plan.store ≡ None
+abbrev pub IsAcceptedPlan : PlanValue → Type 0
+IsAcceptedPlan plan = first_refusal plan.root plan.store ≡ None
 
 -- a plan that can run: it compiles and lacks no symbol
 abbrev pub CanRun : PlanValue → Type 0
@@ -36,8 +36,8 @@ AreEntriesOf plan entries = AllByRecursion (IsEntryOf plan) entries
 
 -- the body is no plan's form, or that of a plan that can't run
 pub data IsNoPlan (body : List ℕ) : Type 0 where
-  no_form : ((plan : PlanValue) → IsAccepted plan → KeepsLimits plan → plan_bytes plan ≢ body) → IsNoPlan body
-  no_run : (plan : PlanValue) → IsAccepted plan → plan_bytes plan ≡ body → ¬ (CanRun plan) → IsNoPlan body
+  no_form : ((plan : PlanValue) → IsAcceptedPlan plan → KeepsLimits plan → plan_bytes plan ≢ body) → IsNoPlan body
+  no_run : (plan : PlanValue) → IsAcceptedPlan plan → plan_bytes plan ≡ body → ¬ (CanRun plan) → IsNoPlan body
 
 -- no entry of the plan that may follow the history has this form
 abbrev pub IsNoStep : PlanValue → List Entry → List ℕ → Type 0
@@ -50,25 +50,25 @@ pub data CannotFollow (before : List (List ℕ)) (body : List ℕ) : Type 0 wher
       → CannotFollow before body
 
 -- one of the bodies can't come after those before it; the offset and the byte are those of its first byte in the file
-pub record IsRefusedAt (held : List (List ℕ)) (offset : ℕ) (byte : Option ℕ) : Type 0 where
+pub record IsBookRefusedAt (held : List (List ℕ)) (offset : ℕ) (byte : Option ℕ) : Type 0 where
   pub before : List (List ℕ)
   pub body : List ℕ
   pub after : List (List ℕ)
   pub splits : held ≡ before ++ body ∷ after
   pub cannot : CannotFollow before body
-  pub offset_is : offset ≡ length (front_of (title_of book_title) before) + 5
+  pub offset_is : offset ≡ length (prefix_of (title_of book_title) before) + 5
   pub byte_is : byte ≡ slice_get body 0
 
 -- a journal's bodies were refused for what they are; a fault of the disk and want of memory say nothing of them
-abbrev pub RefusesBodies : LoadFault → List (List ℕ) → Type 0
-RefusesBodies load_fault.Disk held = Unit {0}
-RefusesBodies load_fault.Memory held = Unit {0}
-RefusesBodies (load_fault.NotABook offset byte) held = IsRefusedAt held offset byte
+abbrev pub RefusesBookBodies : LoadFault → List (List ℕ) → Type 0
+RefusesBookBodies load_fault.Disk held = Unit {0}
+RefusesBookBodies load_fault.Memory held = Unit {0}
+RefusesBookBodies (load_fault.NotABook offset byte) held = IsBookRefusedAt held offset byte
 
 -- the file is no book: it is no journal of that title, or one of its bodies can't come
 pub data IsNoBook (file : Recovered) (offset : ℕ) (byte : Option ℕ) : Type 0 where
   no_journal : file ≡ not_a_book offset byte → IsNoBook file offset byte
-  bad_body : (held : List (List ℕ)) → file ≡ bodies held → IsRefusedAt held offset byte → IsNoBook file offset byte
+  bad_body : (held : List (List ℕ)) → file ≡ bodies held → IsBookRefusedAt held offset byte → IsNoBook file offset byte
 
 -- a file was refused for what it is; a fault of the disk and want of memory say nothing of it
 abbrev pub RefusesBook : LoadFault → Recovered → Type 0

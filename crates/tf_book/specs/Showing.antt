@@ -7,15 +7,15 @@ use Rattle.tf_journal.specs.Rest.{IsBody}
 use Rattle.tf_model.specs.History.{snapshot}
 use Rattle.tf_model.specs.Plan.{Outline, outline_of}
 use Rattle.tf_report.specs.Table.{table}
-use Rattle.tf_book.specs.History.{framed}
+use Rattle.tf_book.specs.History.{framed_bodies}
 use Rattle.tf_book.specs.Kept.{said}
 
 -- the lines of a whole history, numbered from 1, and the table of this moment
 abbrev pub history_text : Outline → List Entry → List ℕ
 history_text plan past = said false plan [] past ++ table plan (snapshot plan past)
 
--- a body stands behind its length at the front of these bytes
-pub record BeginsWith (bytes body : List ℕ) : Type 0 where
+-- these bytes begin with a body behind its length
+pub record BeginsWithBody (bytes body : List ℕ) : Type 0 where
   pub rest : List ℕ
   pub is : bytes ≡ length_bytes (length body) ++ (body ++ rest)
   pub is_body : IsBody body
@@ -25,6 +25,6 @@ pub record HasLines (plan : PlanValue) (past : List Entry) (before made : List �
   pub newer : List Entry
   pub older : List Entry
   pub splits : past ≡ newer ++ older
-  pub place : at ≡ length (framed older)
+  pub place : at ≡ length (framed_bodies older)
   pub counted : number ≡ length older
   pub lines : made ≡ before ++ said false (outline_of plan) [] older

@@ -1,27 +1,26 @@
 -- What a book keeps of its parts.
-use Rattle.std.specs.Prelude.{◌≡◌, ◌≢◌, ◌≤◌, Bool, false, Some, ℕ, List}
-use Rattle.tf_desk.specs.Content.{Content}
-use Rattle.tf_desk.specs.Crash.{Images}
+use Rattle.std.specs.Prelude.{◌≡◌, ◌≢◌, ◌≤◌, false, Some, ℕ, List}
+use Rattle.tf_desk.specs.State.{DeskState}
 use Rattle.tf_bound.specs.Short.{AreShort}
 use Rattle.tf_journal.specs.Format.{SIZE_LIMIT}
 use Rattle.tf_journal.specs.Rest.{IsAtRest, IsOpen}
 use Rattle.tf_journal.specs.declared.title.Title.TheVariants.{Book as book_title}
 use Rattle.tf_machine.specs.Machine.{MachineValue, StandsFor}
-use Rattle.tf_book.specs.Book.{BookValue, bodies_of, size_of}
+use Rattle.tf_book.specs.Book.{BookValue, bodies_of, book_size}
 use Rattle.tf_book.specs.Forms.{AreForms}
-use Rattle.tf_book.specs.History.{framed}
+use Rattle.tf_book.specs.History.{framed_bodies}
 use Rattle.tf_book.specs.declared.faults.Halt.TheVariants as halt
 
 -- the machine stands for the history, whose bodies are in memory; unless the book was halted by the disk, no append found a
 -- disk fault, the journal has the plan and the history, and where the desk tells its content the file is as the last call left it
-pub record IsSound {K : Type 0} (tells : K → Bool) (content : K → Content) (left : K → Images) (machine : MachineValue) (kept : List ℕ) (b : BookValue K) : Type 0 where
+pub record IsSoundBook {K : Type 0} (state : K → DeskState) (machine : MachineValue) (kept : List ℕ) (b : BookValue K) : Type 0 where
   pub stands : StandsFor machine b.past
   pub plan : machine.plan ≡ b.plan
-  pub kept_is : kept ≡ framed b.past
+  pub kept_is : kept ≡ framed_bodies b.past
   pub short : AreShort b.past
   pub forms : AreForms b.past
   pub title : b.journal.title ≡ book_title
   pub sound : b.halt ≢ Some halt.Disk → b.journal.halted ≡ false
-  pub ready : IsOpen tells b.journal → IsAtRest content left b.journal (bodies_of b.plan b.past)
-  pub size : b.journal.halted ≡ false → b.journal.size ≡ size_of b.plan b.past
+  pub ready : IsOpen state b.journal → IsAtRest state b.journal (bodies_of b.plan b.past)
+  pub size : b.journal.halted ≡ false → b.journal.size ≡ book_size b.plan b.past
   pub limit : b.journal.size ≤ SIZE_LIMIT

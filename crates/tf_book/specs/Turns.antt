@@ -1,15 +1,15 @@
 -- What the calls of a book record, and what they answer. Histories have the newest entry first.
 use Rattle.std.specs.Prelude.{◌≡◌, ◌⊎◌, ◌<◌, ◌-◌, ℕ, Bool, true, false, List, [], ◌∷◌, ◌++◌, length, Option, Some, None, map, reverse, is_some, if◌then◌else◌}
-use Rattle.tf_ports.specs.Whole.{IsWhole}
-use Rattle.tf_ports.specs.declared.orders.Order.{Order}
-use Rattle.tf_ports.specs.declared.outcomes.Outcome.{Outcome}
+use Rattle.tf_actions.specs.Whole.{IsWhole}
+use Rattle.tf_actions.specs.declared.orders.Order.{Order}
+use Rattle.tf_actions.specs.declared.outcomes.Outcome.{Outcome}
 use Rattle.tf_states.specs.declared.record.Entry.{Entry}
 use Rattle.tf_states.specs.declared.record.What.{What}
 use Rattle.tf_states.specs.declared.record.What.TheVariants as what
 use Rattle.tf_states.specs.declared.state.FlowState.{FlowState}
 use Rattle.tf_states.specs.declared.state.FlowState.TheVariants as flow
-use Rattle.tf_machine.specs.Answers.{start_entry, action_in, task_of, end_by}
-use Rattle.tf_machine.specs.declared.candidates.Start.{Start}
+use Rattle.tf_hands.specs.Flight.{start_entry, action_in, task_of, end_by}
+use Rattle.tf_hands.specs.declared.starts.Start.{Start}
 use Rattle.tf_hands.specs.Hands.{by_hand}
 use Rattle.tf_model.specs.Candidates.{choice, end_of}
 use Rattle.tf_model.specs.Forced.{forced}
@@ -39,7 +39,7 @@ entering_by hand state = map (with_hand hand) (entering state)
 pub record IsEntering (hand : ℕ) (past after : List Entry) : Type 0 where
   pub some : List Entry
   pub others : List Entry
-  pub front : entering_by hand (flow_of past) ≡ some ++ others
+  pub prefix : entering_by hand (flow_of past) ≡ some ++ others
   pub is : after ≡ reverse some ++ past
 
 -- a session was entered: the flow hadn't ended, and all of it was recorded; or the flow had ended, and nothing was
@@ -159,28 +159,28 @@ pub record HasNothing (plan : Outline) (hand : ℕ) (asked : Bool) (limit : Opti
 
 -- so it rests: in RUNNING after that; or where the session is to stop, at an end that may be recorded, or else after SUSPENDING; in
 -- SUSPENDING at once
-pub data Rests (plan : Outline) (hand : ℕ) (asked : Bool) (limit : Option ℕ) (past between : List Entry) : Type 0 where
-  nothing_left : HasNothing plan hand asked limit past between → Rests plan hand asked limit past between
-  at_end : RanUntilStop plan hand asked limit past between → is_some (end_now plan (snapshot plan between)) ≡ true → Rests plan hand asked limit past between
-  to_suspend : IsToSuspend plan hand asked limit past between → Rests plan hand asked limit past between
-  suspending : flow_of past ≡ flow.Suspending → between ≡ past → Rests plan hand asked limit past between
+pub data HandRests (plan : Outline) (hand : ℕ) (asked : Bool) (limit : Option ℕ) (past between : List Entry) : Type 0 where
+  nothing_to_take : HasNothing plan hand asked limit past between → HandRests plan hand asked limit past between
+  at_end : RanUntilStop plan hand asked limit past between → is_some (end_now plan (snapshot plan between)) ≡ true → HandRests plan hand asked limit past between
+  to_suspend : IsToSuspend plan hand asked limit past between → HandRests plan hand asked limit past between
+  suspending : flow_of past ≡ flow.Suspending → between ≡ past → HandRests plan hand asked limit past between
 
 -- what it answers then
-pub record RestsAs (plan : Outline) (hand : ℕ) (asked : Bool) (limit : Option ℕ) (past after : List Entry) (answer : Turn) : Type 0 where
+pub record HandRestsAs (plan : Outline) (hand : ℕ) (asked : Bool) (limit : Option ℕ) (past after : List Entry) (answer : Turn) : Type 0 where
   pub between : List Entry
-  pub rests : Rests plan hand asked limit past between
+  pub rests : HandRests plan hand asked limit past between
   pub rested : HasRested plan hand between after answer
 
 -- the flow was in that last state already, and nothing was recorded
-abbrev pub IsOver : List Entry → List Entry → FlowState → Type 0
-IsOver past after state = (flow_of past ≡ state) × (is_last state ≡ true) × (after ≡ past)
+abbrev pub WasOver : List Entry → List Entry → FlowState → Type 0
+WasOver past after state = (flow_of past ≡ state) × (is_last state ≡ true) × (after ≡ past)
 
 -- what the next turn of a hand recorded and answered, where a stop was asked for or wasn't
 abbrev pub IsTurn : Outline → ℕ → Bool → Option ℕ → List Entry → List Entry → Turn → Type 0
 IsTurn plan hand asked limit past after (turn.Start order) = IsStarted plan hand asked limit past after order × IsWhole order
-IsTurn plan hand asked limit past after turn.Idle = RestsAs plan hand asked limit past after turn.Idle
-IsTurn plan hand asked limit past after (turn.Ended state) = RestsAs plan hand asked limit past after (turn.Ended state) ⊎ IsOver past after state
-IsTurn plan hand asked limit past after turn.Suspended = RestsAs plan hand asked limit past after turn.Suspended ⊎ IsOver past after flow.Suspended
+IsTurn plan hand asked limit past after turn.Idle = HandRestsAs plan hand asked limit past after turn.Idle
+IsTurn plan hand asked limit past after (turn.Ended state) = HandRestsAs plan hand asked limit past after (turn.Ended state) ⊎ WasOver past after state
+IsTurn plan hand asked limit past after turn.Suspended = HandRestsAs plan hand asked limit past after turn.Suspended ⊎ WasOver past after flow.Suspended
 
 -- what a turn recorded that was halted: forced entries; and then perhaps a start, whose order nobody gets, SUSPENDING, or a last
 -- entry of the flow
@@ -188,7 +188,7 @@ pub data IsHaltedTurn (plan : Outline) (hand : ℕ) (asked : Bool) (limit : Opti
   forcing : IsForcedOn plan hand asked limit past after → IsHaltedTurn plan hand asked limit past after
   starting : (between : List Entry) (start : Start) → RanOn plan hand asked limit past between → IsStartedSo plan hand between after start
       → IsHaltedTurn plan hand asked limit past after
-  resting : (between : List Entry) → Rests plan hand asked limit past between → IsClosedOr plan hand between after → IsHaltedTurn plan hand asked limit past after
+  resting : (between : List Entry) → HandRests plan hand asked limit past between → IsClosedOr plan hand between after → IsHaltedTurn plan hand asked limit past after
 
 -- a turn, where the count of stops tells whether one was asked for in it
 pub record IsTurnAsked (plan : Outline) (hand : ℕ) (limit : Option ℕ) (asks_then asks_now : ℕ) (past after : List Entry) (answer : Turn) : Type 0 where

@@ -1,7 +1,7 @@
 ghost use Rattle.std.specs.Prelude.{◌≡◌, ◌<◌, ◌≤◌, ◌-◌, ◌∷◌, List, None, Some, OnOk, IsErrOf};
 ghost use Rattle.tf_model.specs.Steps.{Step};
-ghost use Rattle.tf_book.specs.Book.{BookValue, outline, moment};
-ghost use Rattle.tf_book.specs.Kept.{Kept};
+ghost use Rattle.tf_book.specs.Book.{outline, moment};
+ghost use Rattle.tf_book.specs.Kept.{Proceeds};
 ghost use Rattle.tf_book.specs.Recording.{halt_after, past_after};
 
 mod closing;
@@ -44,35 +44,46 @@ impl<K: Desk> Model for Book<K> {
     ghost use Rattle.std.specs.Coded.{codes};
     ghost use Rattle.tf_flow.specs.contracts.nested.Flow as flow;
     ghost use Rattle.tf_book.specs.Book.{BookValue};
-    ghost use Rattle.tf_book.specs.History.{past_of, HasAllRoom, HasDraftRoom};
-    ghost use Rattle.tf_book.specs.Sound.{IsSound};
+    ghost use Rattle.tf_book.specs.History.{past_shown, HasAllRoom, HasDraftRoom};
+    ghost use Rattle.tf_book.specs.Sound.{IsSoundBook};
 
     ghost Value = { BookValue K };
 
     ghost coded = { Prim.hlevel (codes, flow.the_row.coded) };
 
-    ghost view = { λ b. record { plan = b.machine.plan; past = past_of b.history.entries.items; journal = b.journal; quiet = b.quiet; halt = b.halt; limit = b.limit } };
+    ghost view = { λ b. record {
+      plan = b.machine.plan;
+      past = past_shown b.history.entries.items;
+      journal = b.journal;
+      quiet = b.quiet;
+      halt = b.halt;
+      limit = b.limit;
+    } };
 
-    ghost invariant = { λ b. HasAllRoom b.history × HasDraftRoom b.draft × IsSound K.tells K.content K.left b.machine b.history.bodies.items (record { plan = b.machine.plan; past = past_of b.history.entries.items; journal = b.journal; quiet = b.quiet; halt = b.halt; limit = b.limit }) };
+    ghost invariant = { λ b. HasAllRoom b.history × HasDraftRoom b.draft
+        × IsSoundBook K.state b.machine b.history.bodies.items (record {
+          plan = b.machine.plan;
+          past = past_shown b.history.entries.items;
+          journal = b.journal;
+          quiet = b.quiet;
+          halt = b.halt;
+          limit = b.limit;
+        }) };
 }
 
 impl<K: Desk> Book<K> {
-    /// Records an entry that may follow, and says its line, unless the book is quiet. Where that fails the book
+    /// Logs an entry that may follow, and says its line, unless the book is quiet. Where that fails the book
     /// is halted.
     fn record(&mut self, entry: Entry) -> Result<(), Halt>
         requires sound { self.old.halt ≡ None }
         requires allowed { Step (outline self.old) (moment self.old) entry }
-        ensures keeps { (start : BookValue K)
-            → Kept K.tells K.shown K.content K.left K.crashes K.disk_faults K.out_faults start self.old
-            → Kept K.tells K.shown K.content K.left K.crashes K.disk_faults K.out_faults start self.new }
+        ensures proceeds { Proceeds K.state self.old self.new }
         ensures same { self.new ≡ record self.old {
           past = past_after entry self.old.past result;
           journal = self.new.journal;
           halt = halt_after result;
         } }
         ensures no_memory { IsErrOf result Halt.Memory → ⊥ }
-        ensures asks { (K.asks self.new.journal.desk ≡ K.asks self.old.journal.desk)
-            × (K.turns self.new.journal.desk ≡ K.turns self.old.journal.desk) }
         ensures less { OnOk result (67108864 - self.new.journal.size < 67108864 - self.old.journal.size) }
         ensures no_more { 67108864 - self.new.journal.size ≤ 67108864 - self.old.journal.size }
     {

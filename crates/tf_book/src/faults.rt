@@ -31,9 +31,9 @@ pub enum ResetFault {
 
 impl From<Halt> for BookFault {
     ghost use Rattle.std.specs.Prelude.{◌≡◌};
-    ghost use Rattle.tf_book.specs.Faults.{fault_of};
+    ghost use Rattle.tf_book.specs.Faults.{book_fault_of};
 
-    ghost from_gives = { λ halt fault. fault ≡ fault_of halt };
+    ghost from_gives = { λ halt fault. fault ≡ book_fault_of halt };
 
     fn from(halt: Halt) -> BookFault {
         match halt {

@@ -1,7 +1,7 @@
 ghost use Rattle.std.specs.Prelude.{◌≡◌, ◌≤◌, ◌<◌, ◌+◌, ◌++◌, ◌∷◌, [], List, ℕ, length, vec_len, vec_capacity, OnOk, IfOk};
 ghost use Rattle.tf_journal.specs.Format.{length_bytes};
 ghost use Rattle.tf_journal.specs.Rest.{IsBody};
-ghost use Rattle.tf_book.specs.History.{past_of, HasRoom, HasAllRoom};
+ghost use Rattle.tf_book.specs.History.{past_shown, HasEntryRoom, HasAllRoom};
 
 use std::alloc::{AllocError, Global};
 use std::snapshot::Snapshot;
@@ -22,7 +22,7 @@ impl History {
     /// No entry yet, with room for every history that a journal can hold, so that to keep an entry takes no memory.
     /// What is reserved isn't written: it costs addresses until it is used.
     pub fn with_room(alloc: Global) -> Result<History, AllocError>
-        ensures entries { IfOk result (λ history. past_of history.entries.items ≡ []) }
+        ensures entries { IfOk result (λ history. past_shown history.entries.items ≡ []) }
         ensures bodies { IfOk result (λ history. history.bodies.items ≡ []) }
         ensures room { IfOk result HasAllRoom }
     {
@@ -36,7 +36,7 @@ impl History {
         requires { len ≤ 1048576 }
         ensures entries { self.new.entries.items ≡ self.old.entries.items }
         ensures bodies { self.new.bodies.items ≡ self.old.bodies.items }
-        ensures room { OnOk result (HasRoom self.new len) }
+        ensures room { OnOk result (HasEntryRoom self.new len) }
         ensures all_room { HasAllRoom self.old → HasAllRoom self.new }
     {
         self.entries.reserve(1)?;
@@ -46,8 +46,8 @@ impl History {
     /// Keeps an entry and its body, for which there is room.
     pub fn keep(&mut self, entry: &Entry, body: &[u8])
         requires body { IsBody body.now }
-        requires room { HasRoom self.old (length body.now) }
-        ensures entries { past_of self.new.entries.items ≡ entry.now ∷ past_of self.old.entries.items }
+        requires room { HasEntryRoom self.old (length body.now) }
+        ensures entries { past_shown self.new.entries.items ≡ entry.now ∷ past_shown self.old.entries.items }
         ensures bodies { self.new.bodies.items ≡ self.old.bodies.items ++ (length_bytes (length body.now) ++ body.now) }
         ensures all_room { HasAllRoom self.old → HasAllRoom self.new }
     {

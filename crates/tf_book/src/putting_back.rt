@@ -92,7 +92,8 @@ pub fn may_reset(machine: &Machine) -> bool
 #[tactic(auto, unfolding(tf_model::specs::Steps::reset))]
 pub fn reset_event(machine: &Machine) -> What
     requires { may (outline machine.now) (shown machine.now) ≡ true }
-    ensures is { result ≡ put_back_or_rest (first_below (count (outline machine.now)) (is_put_back_at (shown machine.now))) }
+    ensures is { result
+        ≡ put_back_or_rest (first_below (count (outline machine.now)) (is_put_back_at (shown machine.now))) }
     ensures reset { reset (outline machine.now) (shown machine.now) ≡ Some result }
 {
     match first_put_back(machine) {

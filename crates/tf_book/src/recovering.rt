@@ -10,8 +10,8 @@ ghost use Rattle.tf_machine.specs.Answers.{IsBuildRefusal, IsBack};
 ghost use Rattle.tf_machine.specs.Machine.{StandsFor};
 ghost use Rattle.tf_machine.specs.declared.faults.ApplyFault.TheVariants.{NotAStep as refuses};
 ghost use Rattle.tf_book.specs.History.{HasAllRoom};
-ghost use Rattle.tf_book.specs.Loading.{CanRun, IsNoPlan, IsNoStep, RefusesBodies};
-ghost use Rattle.tf_book.specs.Reading.{HasReadEntry, HasRead, HasReadAll};
+ghost use Rattle.tf_book.specs.Loading.{CanRun, IsNoPlan, IsNoStep, RefusesBookBodies};
+ghost use Rattle.tf_book.specs.Reading.{HasReadEntry, HasReadBook, HasReadWholeBook};
 
 use crate::history::History;
 use std::alloc::Global;
@@ -130,14 +130,13 @@ fn read_first<K: Desk>(
     ensures form { IfOk result (λ machine. plan_bytes machine.plan ≡ body.new.items) }
     ensures fresh { IfOk result (λ machine. StandsFor machine []) }
     ensures runs { IfOk result (λ machine. CanRun machine.plan) }
-    ensures first { OnOk result (IsTrue (K.tells journal.old.desk) → (held : List (List ℕ))
-        → HasBodies K.content journal.old held → IsNext true held body.new.items) }
-    ensures refused { IfErr result (λ fault. IsTrue (K.tells journal.old.desk) → (held : List (List ℕ))
-        → HasBodies K.content journal.old held → RefusesBodies fault held) }
+    ensures first { OnOk result (IsTrue (K.state journal.old.desk).tells → (held : List (List ℕ))
+        → HasBodies K.state journal.old held → IsNext true held body.new.items) }
+    ensures refused { IfErr result (λ fault. IsTrue (K.state journal.old.desk).tells → (held : List (List ℕ))
+        → HasBodies K.state journal.old held → RefusesBookBodies fault held) }
     ensures cause { IsErrOf result LoadFault.Disk
-        → Rises (K.disk_faults journal.old.desk) (K.disk_faults journal.new.desk) }
-    ensures reads { OnlyReads K.tells K.shown K.content K.left K.crashes K.disk_faults K.out_faults K.asks K.turns
-        journal.old journal.new }
+        → Rises (K.state journal.old.desk).disk_faults (K.state journal.new.desk).disk_faults }
+    ensures reads { OnlyReads K.state journal.old journal.new }
 {
     if !next_body(journal, FIRST_PLACE, body)? {
         return Err(LoadFault::NotABook {
@@ -161,17 +160,14 @@ fn read_history<K: Desk>(
     requires kept { journal.old.volatile ≡ false }
     requires title { journal.old.title ≡ book_title }
     requires low { 17 ≤ start }
-    requires read { HasRead K.tells K.shown K.content K.left K.crashes K.disk_faults K.out_faults K.asks K.turns
-        journal.old back.old.machine back.old.history start }
-    ensures read { OnOk result (HasReadAll K.tells K.shown K.content K.left K.crashes K.disk_faults K.out_faults
-        K.asks K.turns journal.old back.new.machine back.new.history) }
+    requires read { HasReadBook K.state journal.old back.old.machine back.old.history start }
+    ensures read { OnOk result (HasReadWholeBook K.state journal.old back.new.machine back.new.history) }
     ensures room { HasAllRoom back.old.history → HasAllRoom back.new.history }
-    ensures refused { IfErr result (λ fault. IsTrue (K.tells journal.old.desk) → (held : List (List ℕ))
-        → HasBodies K.content journal.old held → RefusesBodies fault held) }
+    ensures refused { IfErr result (λ fault. IsTrue (K.state journal.old.desk).tells → (held : List (List ℕ))
+        → HasBodies K.state journal.old held → RefusesBookBodies fault held) }
     ensures cause { IsErrOf result LoadFault.Disk
-        → Rises (K.disk_faults journal.old.desk) (K.disk_faults journal.new.desk) }
-    ensures reads { OnlyReads K.tells K.shown K.content K.left K.crashes K.disk_faults K.out_faults K.asks K.turns
-        journal.old journal.new }
+        → Rises (K.state journal.old.desk).disk_faults (K.state journal.new.desk).disk_faults }
+    ensures reads { OnlyReads K.state journal.old journal.new }
 {
     let mut body = Vec::new(alloc);
     let mut place = start;
@@ -199,15 +195,13 @@ pub fn read_back<K: Desk>(alloc: Global, journal: &mut Journal<K>) -> Result<Rea
     requires kept { journal.old.volatile ≡ false }
     requires title { journal.old.title ≡ book_title }
     requires some { journal.old.size ≢ 18 }
-    ensures read { IfOk result (λ back. HasReadAll K.tells K.shown K.content K.left K.crashes K.disk_faults
-        K.out_faults K.asks K.turns journal.old back.machine back.history) }
+    ensures read { IfOk result (λ back. HasReadWholeBook K.state journal.old back.machine back.history) }
     ensures room { IfOk result (λ back. HasAllRoom back.history) }
-    ensures refused { IfErr result (λ fault. IsTrue (K.tells journal.old.desk) → (held : List (List ℕ))
-        → HasBodies K.content journal.old held → RefusesBodies fault held) }
+    ensures refused { IfErr result (λ fault. IsTrue (K.state journal.old.desk).tells → (held : List (List ℕ))
+        → HasBodies K.state journal.old held → RefusesBookBodies fault held) }
     ensures cause { IsErrOf result LoadFault.Disk
-        → Rises (K.disk_faults journal.old.desk) (K.disk_faults journal.new.desk) }
-    ensures reads { OnlyReads K.tells K.shown K.content K.left K.crashes K.disk_faults K.out_faults K.asks K.turns
-        journal.old journal.new }
+        → Rises (K.state journal.old.desk).disk_faults (K.state journal.new.desk).disk_faults }
+    ensures reads { OnlyReads K.state journal.old journal.new }
 {
     let mut body = Vec::new(alloc);
     let machine = read_first(alloc, journal, &mut body)?;

@@ -4,10 +4,10 @@ ghost use Rattle.tf_states.specs.declared.record.Entry.{Entry as Record};
 ghost use Rattle.tf_entries.specs.Entries.{entry_bytes};
 ghost use Rattle.tf_model.specs.Plan.{outline_of};
 ghost use Rattle.tf_report.specs.Lines.{line as line_of};
-ghost use Rattle.tf_book.specs.History.{past_of, framed};
+ghost use Rattle.tf_book.specs.History.{past_shown, framed_bodies};
 ghost use Rattle.tf_book.specs.Kept.{said};
 ghost use Rattle.tf_book.specs.Loading.{IsEntryOf, AreEntriesOf};
-ghost use Rattle.tf_book.specs.Showing.{BeginsWith};
+ghost use Rattle.tf_book.specs.Showing.{BeginsWithBody};
 
 use crate::history::History;
 use std::alloc::Global;
@@ -18,8 +18,8 @@ use tf_values::{MakeFault, Memory};
 
 /// The body that stands at that place, behind its length.
 fn body_at(bodies: &[u8], at: usize) -> &[u8]
-    requires { (body : List ℕ) × BeginsWith (drop at bodies.now) body }
-    ensures { (body : List ℕ) → BeginsWith (drop at bodies.now) body → result.now ≡ body }
+    requires { (body : List ℕ) × BeginsWithBody (drop at bodies.now) body }
+    ensures { (body : List ℕ) → BeginsWithBody (drop at bodies.now) body → result.now ≡ body }
 {
     let n = 256
         * (256 * (256 * bodies[at] as usize + bodies[at + 1] as usize) + bodies[at + 2] as usize)
@@ -58,10 +58,10 @@ pub fn append_lines(
     history: &History,
     out: &mut Vec<u8>,
 ) -> Result<(), Memory>
-    requires bodies { history.now.bodies.items ≡ framed (past_of history.now.entries.items) }
-    requires entries { AreEntriesOf plan.now (past_of history.now.entries.items) }
+    requires bodies { history.now.bodies.items ≡ framed_bodies (past_shown history.now.entries.items) }
+    requires entries { AreEntriesOf plan.now (past_shown history.now.entries.items) }
     ensures { OnOk result (out.new.items
-        ≡ out.old.items ++ said false (outline_of plan.now) [] (past_of history.now.entries.items)) }
+        ≡ out.old.items ++ said false (outline_of plan.now) [] (past_shown history.now.entries.items)) }
 {
     let mut at = 0;
     let mut number = 0;

@@ -1,4 +1,4 @@
-use tf_ports::Order;
+use tf_actions::Order;
 use tf_states::FlowState;
 
 /// How a session began: the flow runs, or it had ended already, in that state.

@@ -1,8 +1,6 @@
-ghost use Rattle.std.specs.Prelude.{◌≡◌, ◌≢◌, ◌<◌, ◌≤◌, ◌+◌, ◌++◌, ◌∷◌, [], ℕ, List, true, false, IsTrue, length, OnOk, OnErr, IfOk, IsErrOf};
-ghost use Rattle.tf_desk.specs.Content.{bytes_of};
-ghost use Rattle.tf_desk.specs.Crash.{Passes};
-ghost use Rattle.tf_journal.specs.Format.{title_of, journal_bytes, length_bytes};
-ghost use Rattle.tf_journal.specs.Rest.{IsBody, IsAtRest, IsOpen, IsReady, GoesOn, LeavesEither};
+ghost use Rattle.std.specs.Prelude.{◌≡◌, ◌<◌, ◌+◌, ◌++◌, ◌∷◌, List, true, false, length, IfOk};
+ghost use Rattle.tf_journal.specs.Format.{length_bytes};
+ghost use Rattle.tf_journal.specs.Rest.{IsBody, IsReady};
 ghost use Rattle.tf_states.specs.declared.record.Entry.{Entry as Record};
 ghost use Rattle.tf_bound.specs.Short.{IsShortEvent};
 ghost use Rattle.tf_entries.specs.Entries.{entry_bytes, has_its_payload, HasItsPayload};
@@ -10,9 +8,9 @@ ghost use Rattle.tf_machine.specs.Machine.{outline, shown, StandsFor};
 ghost use Rattle.tf_model.specs.Steps.{Step};
 ghost use Rattle.tf_report.specs.Lines.{line as line_of};
 ghost use Rattle.tf_model.specs.Plan.{outline_of};
-ghost use Rattle.tf_book.specs.Forms.{IsForm};
-ghost use Rattle.tf_book.specs.History.{past_of, framed, HasRoom, HasAllRoom, HasDraftRoom};
-ghost use Rattle.tf_book.specs.Logging.{said_of, is_recorded, journal_after, IsSaid, IsCaused, LeavesLogged};
+ghost use Rattle.tf_book.specs.History.{past_shown, HasEntryRoom, HasAllRoom, HasDraftRoom, HasWriteRoom};
+ghost use Rattle.tf_book.specs.Logging.{said_of, is_logged, Logged};
+ghost use Rattle.tf_book.specs.Recording.{KeepsEntry, KeepsNothing};
 
 use crate::faults::Halt;
 use crate::history::History;
@@ -77,18 +75,19 @@ fn keep(machine: &mut Machine, history: &mut History, entry: Entry, body: &[u8])
     requires allowed { Step (outline machine.old) (shown machine.old) entry }
     requires body { body.now ≡ entry_bytes entry }
     requires is_body { IsBody body.now }
-    requires room { HasRoom history.old (length body.now) }
+    requires room { HasEntryRoom history.old (length body.now) }
     ensures plan { machine.new.plan ≡ machine.old.plan }
     ensures stands { (past : List Record) → StandsFor machine.old past → StandsFor machine.new (entry ∷ past) }
-    ensures entries { past_of history.new.entries.items ≡ entry ∷ past_of history.old.entries.items }
-    ensures bodies { history.new.bodies.items ≡ history.old.bodies.items ++ (length_bytes (length (entry_bytes entry)) ++ entry_bytes entry) }
+    ensures entries { past_shown history.new.entries.items ≡ entry ∷ past_shown history.old.entries.items }
+    ensures bodies { history.new.bodies.items
+        ≡ history.old.bodies.items ++ (length_bytes (length (entry_bytes entry)) ++ entry_bytes entry) }
     ensures all_room { HasAllRoom history.old → HasAllRoom history.new }
 {
     history.keep(&entry, body);
     machine.advance(entry);
 }
 
-/// Records an entry that may follow: its body and its line are made; then the body is appended, the entry is kept,
+/// Logs an entry that may follow: its body and its line are made; then the body is appended, the entry is kept,
 /// and the line is said. It takes no memory: there is room for each.
 #[tactic(auto, using(crate::proofs::PayloadLemmas::step_has_payload, crate::proofs::PayloadLemmas::step_has_hand, crate::proofs::HistoryLemmas::room_for))]
 pub fn write<K: Desk>(
@@ -99,58 +98,21 @@ pub fn write<K: Desk>(
     quiet: bool,
     entry: Entry,
 ) -> Result<(), Halt>
-    requires ready { IsReady K.tells K.content K.left journal.old }
+    requires ready { IsReady K.state journal.old }
     requires sound { journal.old.halted ≡ false }
     requires allowed { Step (outline machine.old) (shown machine.old) entry }
-    requires few { length history.old.entries.items ≤ 67108864 }
-    requires fewer { length history.old.entries.items ≤ journal.old.size }
-    requires fits { length history.old.bodies.items ≤ journal.old.size }
-    requires room { HasAllRoom history.old }
-    requires draft_room { HasDraftRoom draft.old }
+    requires room { HasWriteRoom journal.old.size history.old draft.old }
     ensures room { HasAllRoom history.new }
     ensures draft_room { HasDraftRoom draft.new }
-    ensures no_memory { IsErrOf result Halt.Memory → ⊥ }
-    ensures journal { journal.new ≡ journal_after journal.old journal.new.desk (length (entry_bytes entry)) result }
-    ensures text { IsSaid (K.shown journal.old.desk)
+    ensures logged { Logged K.state (entry_bytes entry)
         (said_of quiet (line_of (outline machine.old) (length history.old.entries.items + 1) entry))
-        (K.shown journal.new.desk) result }
-    ensures cause { IsCaused (K.disk_faults journal.old.desk) (K.disk_faults journal.new.desk)
-        (K.out_faults journal.old.desk) (K.out_faults journal.new.desk) journal.old.size (length (entry_bytes entry)) result }
-    ensures limit { is_recorded result ≡ true → journal.new.size ≤ 67108864 }
-    ensures no_disk_fall { K.disk_faults journal.old.desk ≤ K.disk_faults journal.new.desk }
-    ensures no_out_fall { K.out_faults journal.old.desk ≤ K.out_faults journal.new.desk }
-    ensures others { (K.asks journal.new.desk ≡ K.asks journal.old.desk)
-        × (K.turns journal.new.desk ≡ K.turns journal.old.desk)
-        × (K.tells journal.new.desk ≡ K.tells journal.old.desk) }
-    ensures rests { IsOpen K.tells journal.old → (held : List (List ℕ))
-        → IsAtRest K.content K.left journal.old held → is_recorded result ≡ true
-        → IsAtRest K.content K.left journal.new (held ++ entry_bytes entry ∷ []) }
-    ensures exact { IsOpen K.tells journal.old → (held : List (List ℕ))
-        → IsAtRest K.content K.left journal.old held → is_recorded result ≡ true
-        → bytes_of (K.content journal.old.desk) ≡ journal_bytes (title_of journal.old.title) held
-        → bytes_of (K.content journal.new.desk) ≡ journal_bytes (title_of journal.old.title) (held ++ entry_bytes entry ∷ []) }
-    ensures leaves { IsOpen K.tells journal.old → (held : List (List ℕ))
-        → IsAtRest K.content K.left journal.old held
-        → LeavesEither (title_of journal.old.title) (K.content journal.new.desk) (K.left journal.new.desk) held
-        (held ++ entry_bytes entry ∷ []) }
-    ensures crash { IsOpen K.tells journal.old → (held : List (List ℕ))
-        → IsAtRest K.content K.left journal.old held
-        → Passes (K.content journal.old.desk).clock (K.content journal.new.desk).clock (K.crashes journal.old.desk)
-        (K.crashes journal.new.desk)
-        (LeavesLogged (title_of journal.old.title) held (entry_bytes entry)
-        (said_of quiet (line_of (outline machine.old) (length history.old.entries.items + 1) entry))
-        (K.shown journal.old.desk)) }
-    ensures goes { IsTrue (K.tells journal.old.desk)
-        → GoesOn (K.content journal.old.desk) (K.content journal.new.desk) }
+        journal.old journal.new result }
     ensures plan { machine.new.plan ≡ machine.old.plan }
-    ensures stands { is_recorded result ≡ true → (past : List Record) → StandsFor machine.old past → StandsFor machine.new (entry ∷ past) }
-    ensures entries { is_recorded result ≡ true → past_of history.new.entries.items ≡ entry ∷ past_of history.old.entries.items }
-    ensures bodies { is_recorded result ≡ true → history.new.bodies.items ≡ history.old.bodies.items ++ (length_bytes (length (entry_bytes entry)) ++ entry_bytes entry) }
-    ensures kept { is_recorded result ≡ false → (machine.new ≡ machine.old)
-        × (history.new.entries.items ≡ history.old.entries.items) × (history.new.bodies.items ≡ history.old.bodies.items) }
+    ensures recorded { is_logged result ≡ true
+        → KeepsEntry entry machine.old machine.new history.old history.new }
+    ensures unrecorded { is_logged result ≡ false
+        → KeepsNothing machine.old machine.new history.old history.new }
     ensures short { IsShortEvent entry.what }
-    ensures form { is_recorded result ≡ true → IsForm entry }
-    ensures long { is_recorded result ≡ true → 1 ≤ length (entry_bytes entry) }
 {
     event_is_short(&entry.what);
     let number = history.entries.len() as u64 + 1;

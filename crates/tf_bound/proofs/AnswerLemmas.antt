@@ -6,9 +6,9 @@ use Rattle.tf_values.specs.declared.value.Val.{Val}
 use Rattle.tf_values.specs.declared.value.Val.TheVariants as value
 use Rattle.tf_flow.specs.declared.atoms.RetryKind.{RetryKind}
 use Rattle.tf_flow.specs.declared.atoms.RetryKind.TheVariants as retry
-use Rattle.tf_ports.specs.declared.orders.Given.{Given}
-use Rattle.tf_ports.specs.declared.orders.Given.TheVariants as given
-use Rattle.tf_ports.specs.declared.outcomes.Action.TheVariants as action
+use Rattle.tf_actions.specs.declared.orders.Given.{Given}
+use Rattle.tf_actions.specs.declared.orders.Given.TheVariants as given
+use Rattle.tf_actions.specs.declared.outcomes.Action.TheVariants as action
 use Rattle.tf_states.specs.declared.record.Kind.{Kind}
 use Rattle.tf_states.specs.declared.record.Kind.TheVariants as kind
 use Rattle.tf_flow.specs.declared.ways.Turn.{Turn}

@@ -33,7 +33,7 @@ use Rattle.tf_numbers.proofs.OptionLemmas.{is_this_number, only_if, if_some}
 use Rattle.tf_facts.proofs.StepLemmas.{ready_part}
 use Rattle.tf_bound.specs.Costs.{tries_at, sum_below}
 use Rattle.tf_bound.specs.Owed.{held, owed_with, turn, left_with}
-use Rattle.tf_bound.specs.Kept.{IsGuarded, IsCounted, IsWithin, IsKept}
+use Rattle.tf_bound.specs.Kept.{IsGuarded, IsCounted, IsMarkedWithin, IsKept}
 use Rattle.tf_bound.proofs.SumLemmas.{sum_at_most}
 use Rattle.tf_bound.proofs.RoomLemmas.{IsWeighed}
 use Rattle.tf_bound.proofs.OwedLemmas.{free_in, free, owed_if_free, owed_at_most, descends, moves, KeepsMarks, stays_held, unsettled_free, none_held, is_held, others_stay, one_falls, descent_falls, put_back_falls}
@@ -93,7 +93,7 @@ begun_none own (Some m) now never = by (is_retry_of own m) refl now
     by false is gone = gone
 
 -- an atom that isn't another of its flow keeps its mark
-pub run_marks : (plan : Outline) (s : Snapshot) (hand a b : ℕ) (carried : Payload) → IsWithin plan s → b ≢ a → is_of_its_flow plan a b ≡ false → is_unmarked (after plan hand (what.Atom a atom.Running carried) s) b ≡ true
+pub run_marks : (plan : Outline) (s : Snapshot) (hand a b : ℕ) (carried : Payload) → IsMarkedWithin plan s → b ≢ a → is_of_its_flow plan a b ≡ false → is_unmarked (after plan hand (what.Atom a atom.Running carried) s) b ≡ true
     → is_unmarked s b ≡ true
 unfolding later mark_after
 run_marks plan s hand a b carried within other outside now = by (is_retry plan a) now
@@ -118,7 +118,7 @@ task_marks plan s hand a b carried isnt now = by (is_retry plan a) isnt now
     by false is gone = gone
     by true is gone = absurd (cc)
 
-running_falls : (plan : Outline) (attempt : ℕ → ℕ) (s : Snapshot) (a : ℕ) → IsGuarded plan s → IsWithin plan s → NoneIs plan (is_beginning_again plan s) → a < count plan → s.state a ≡ atom.Pending
+running_falls : (plan : Outline) (attempt : ℕ → ℕ) (s : Snapshot) (a : ℕ) → IsGuarded plan s → IsMarkedWithin plan s → NoneIs plan (is_beginning_again plan s) → a < count plan → s.state a ≡ atom.Pending
     → Falls plan attempt s (what.Atom a atom.Running payload.Empty)
 running_falls plan attempt s a guarded within none below was hand =
     descent_falls plan attempt s (after plan hand (what.Atom a atom.Running payload.Empty) s) a atom.Running below (moves plan s hand a atom.Running payload.Empty)
@@ -137,7 +137,7 @@ pending_marks : (plan : Outline) (s : Snapshot) (hand b : ℕ) → KeepsMarks s 
 unfolding later
 pending_marks plan s hand b c other failed now = ap is_none (sym (marks_stay plan b c atom.Pending payload.Empty (s.mark c) refl)) ∙ now
 
-again_falls : (plan : Outline) (attempt : ℕ → ℕ) (s : Snapshot) (r : ℕ) → IsWeighed plan attempt → IsGuarded plan s → IsCounted plan s → IsWithin plan s → r < count plan → is_retry plan r ≡ true → is_retrying (s.state r) ≡ true
+again_falls : (plan : Outline) (attempt : ℕ → ℕ) (s : Snapshot) (r : ℕ) → IsWeighed plan attempt → IsGuarded plan s → IsCounted plan s → IsMarkedWithin plan s → r < count plan → is_retry plan r ≡ true → is_retrying (s.state r) ≡ true
     → (o : Option ℕ) → first_below (count plan) (is_to_put_back plan s r) ≡ o → Falls plan attempt s (put_back_or_run r o)
 again_falls plan attempt s r weighed guarded counted within below retry retrying None found hand =
     begins_falls plan attempt s (after plan hand (what.Atom r atom.Running payload.Empty) s) r weighed guarded counted below retry (retrying_is (s.state r) retrying) (moves plan s hand r atom.Running payload.Empty)
@@ -277,7 +277,7 @@ ignore_falls plan attempt s v none below pending (Some how) = by (first_below (c
 abbrev pub ResolvesHolding : Outline → Type 0
 ResolvesHolding plan = (s : Snapshot) (a : ℕ) → a < count plan → holds plan (resolution plan s a).flow a ≡ true
 
-pub forced_falls : (plan : Outline) (attempt : ℕ → ℕ) (s : Snapshot) → IsWeighed plan attempt → ResolvesHolding plan → IsGuarded plan s → IsCounted plan s → IsWithin plan s → (w : What) → forced_if_running plan s ≡ Some w → Falls plan attempt s w
+pub forced_falls : (plan : Outline) (attempt : ℕ → ℕ) (s : Snapshot) → IsWeighed plan attempt → ResolvesHolding plan → IsGuarded plan s → IsCounted plan s → IsMarkedWithin plan s → (w : What) → forced_if_running plan s ≡ Some w → Falls plan attempt s w
 forced_falls plan cost s weighed resolves guarded counted within = forced_by plan s (Falls plan cost s) (record {
   attempt = λ r below test. attempt_falls plan cost s r (attempt plan s r) guarded below (running_is (s.state r) (and_second (is_retry plan r) _ test));
   again = λ r below test. again_falls plan cost s r weighed guarded counted within below (and_first (is_retry plan r) _ test) (and_second (is_retry plan r) _ test) (first_below (count plan) (is_to_put_back plan s r)) refl;
@@ -323,7 +323,7 @@ stopped_only plan s a is works = elim (or_either (is_interrupted plan s a) _ is)
     never_executed atom.Reverting works is = cc
     never_executed x works is = cc
 
-taken_falls : (plan : Outline) (cost : ℕ → ℕ) (s : Snapshot) (a : ℕ) (x : AtomState) → IsGuarded plan s → IsWithin plan s → NoneIs plan (is_beginning_again plan s) → a < count plan → s.state a ≡ x → is_candidate plan s a ≡ true
+taken_falls : (plan : Outline) (cost : ℕ → ℕ) (s : Snapshot) (a : ℕ) (x : AtomState) → IsGuarded plan s → IsMarkedWithin plan s → NoneIs plan (is_beginning_again plan s) → a < count plan → s.state a ≡ x → is_candidate plan s a ≡ true
     → Falls plan cost s (taken_up x a)
 taken_falls plan cost s a atom.Running guarded within none below was is = restart_falls plan cost s a guarded below (stopped_only plan s a is (ap is_at_work was))
 taken_falls plan cost s a atom.Reverting guarded within none below was is = restart_falls plan cost s a guarded below (stopped_only plan s a is (ap is_at_work was))
@@ -344,7 +344,7 @@ unforced : (active : Bool) (o : Option What) → active ≡ true → (if active 
 unforced true o is none = none
 unforced false o is none = absurd (cc)
 
-pub chosen_falls : (plan : Outline) (cost : ℕ → ℕ) (s : Snapshot) → IsGuarded plan s → IsWithin plan s → (w : What) → choice plan s ≡ Some w → Falls plan cost s w
+pub chosen_falls : (plan : Outline) (cost : ℕ → ℕ) (s : Snapshot) → IsGuarded plan s → IsMarkedWithin plan s → (w : What) → choice plan s ≡ Some w → Falls plan cost s w
 unfolding choice forced candidate_if_running
 chosen_falls plan cost s guarded within w is =
     let parts = only_if (is_active plan s && is_none (forced plan s)) (candidate_if_running plan s) w is in
@@ -370,7 +370,7 @@ ended_falls plan cost s a atom.Reverting to carried guarded below was is = absur
 ended_falls plan cost s a x to carried guarded below was is = absurd (cc)
 
 -- a hand ends a task that it has in flight
-pub ends_falls : (plan : Outline) (cost : ℕ → ℕ) (s : Snapshot) (hand : ℕ) (w : What) → IsGuarded plan s → IsWithin plan s → ends_task s hand w ≡ true → Falls plan cost s w
+pub ends_falls : (plan : Outline) (cost : ℕ → ℕ) (s : Snapshot) (hand : ℕ) (w : What) → IsGuarded plan s → IsMarkedWithin plan s → ends_task s hand w ≡ true → Falls plan cost s w
 unfolding ends_task
 ends_falls plan cost s hand (what.Atom a to carried) guarded within is =
     let parts = and_second (flow_runs s.flow || flow_suspends s.flow) _ is in

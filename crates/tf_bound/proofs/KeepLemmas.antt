@@ -21,7 +21,7 @@ use Rattle.tf_numbers.proofs.NumberLemmas.{same_or_other}
 use Rattle.tf_facts.proofs.MoveLemmas.{after}
 use Rattle.tf_numbers.proofs.OptionLemmas.{is_this_number}
 use Rattle.tf_bound.specs.Costs.{tries_at}
-use Rattle.tf_bound.specs.Kept.{HasTriesLeft, MayTryAgain, IsCounted, IsWithin}
+use Rattle.tf_bound.specs.Kept.{HasTriesLeft, MayTryAgain, IsCounted, IsMarkedWithin}
 use Rattle.tf_bound.proofs.OwedLemmas.{SameAt, Moves, moves}
 use Rattle.tf_bound.proofs.CountLemmas.{BeginsAgain, StateAsks, Asks}
 
@@ -95,7 +95,7 @@ restarted_below : (plan : Outline) (hand again a : ℕ) (same : Bool) (o : Optio
 restarted_below plan hand again a true o h number below before is = subst (λ (k : ℕ). k < count plan) (eqb-true again a number) below
 restarted_below plan hand again a false o h number below before is = before is
 
-pub within_kept : (plan : Outline) (s : Snapshot) (hand : ℕ) (w : What) → Asks plan s w → IsWithin plan s → IsWithin plan (after plan hand w s)
+pub within_kept : (plan : Outline) (s : Snapshot) (hand : ℕ) (w : What) → Asks plan s w → IsMarkedWithin plan s → IsMarkedWithin plan (after plan hand w s)
 unfolding later mark_after
 within_kept plan s hand (what.Atom a to carried) asks within = record {
   marked = λ b m is. within.marked b m (mark_was plan a b to carried (s.mark b) m is);

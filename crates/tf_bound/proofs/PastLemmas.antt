@@ -14,7 +14,7 @@ use Rattle.tf_model.proofs.HistoryLemmas.{one_more}
 use Rattle.tf_facts.specs.Facts.{IsInOrder}
 use Rattle.tf_facts.proofs.LayoutLemmas.{IsLaidOut, laid_out}
 use Rattle.tf_facts.proofs.PastLemmas.{past_core}
-use Rattle.tf_bound.specs.Kept.{IsGuarded, IsCounted, IsWithin, IsKept, IsBounded}
+use Rattle.tf_bound.specs.Kept.{IsGuarded, IsCounted, IsMarkedWithin, IsKept, IsBounded}
 use Rattle.tf_bound.specs.Short.{IsShortEvent, AreShort, ShowsShort, IsWithinLimits}
 use Rattle.tf_bound.proofs.BeginLemmas.{not_itself}
 use Rattle.tf_bound.proofs.PlaceLemmas.{controller_stands}
@@ -47,7 +47,7 @@ past_guarded plan past compiles legal =
 -- attempts are counted, and what is marked or in flight is within the plan
 record BothKept (plan : Outline) (s : Snapshot) : Type 0 where
   counted : IsCounted plan s
-  within : IsWithin plan s
+  within : IsMarkedWithin plan s
 
 start_kept : (plan : Outline) → BothKept plan (snapshot plan [])
 unfolding snapshot

@@ -14,10 +14,10 @@ use Rattle.tf_flow.specs.declared.atoms.Bind.{Bind}
 use Rattle.tf_flow.specs.declared.atoms.Provides.{Provides}
 use Rattle.tf_flow.specs.declared.atoms.Provides.TheVariants as provides
 use Rattle.tf_flow.specs.Names.{same_name, first_some}
-use Rattle.tf_ports.specs.declared.orders.Given.{Given}
-use Rattle.tf_ports.specs.declared.orders.Given.TheVariants as given
-use Rattle.tf_ports.specs.declared.orders.Pair.{Pair}
-use Rattle.tf_ports.specs.declared.outcomes.Action.TheVariants as action
+use Rattle.tf_actions.specs.declared.orders.Given.{Given}
+use Rattle.tf_actions.specs.declared.orders.Given.TheVariants as given
+use Rattle.tf_actions.specs.declared.orders.Pair.{Pair}
+use Rattle.tf_actions.specs.declared.outcomes.Action.TheVariants as action
 use Rattle.tf_states.specs.declared.record.Entry.{Entry}
 use Rattle.tf_states.specs.declared.record.Payload.{Payload}
 use Rattle.tf_states.specs.declared.record.Payload.TheVariants as payload

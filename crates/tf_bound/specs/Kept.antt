@@ -30,7 +30,7 @@ pub record IsCounted (plan : Outline) (s : Snapshot) : Type 0 where
   pub again : (r : ℕ) → is_retry plan r ≡ true → is_marked_again (own_flow plan r) (s.mark r) ≡ true → MayTryAgain plan s r
 
 -- a mark comes from a resolve of a flow that holds the atom, and what is in flight is an atom of the plan
-pub record IsWithin (plan : Outline) (s : Snapshot) : Type 0 where
+pub record IsMarkedWithin (plan : Outline) (s : Snapshot) : Type 0 where
   pub marked : (a : ℕ) (m : Resolve) → s.mark a ≡ Some m → holds plan m.flow a ≡ true
   pub flying : (a hand : ℕ) → s.hand a ≡ Some hand → a < count plan
 
@@ -38,7 +38,7 @@ pub record IsWithin (plan : Outline) (s : Snapshot) : Type 0 where
 pub record IsKept (plan : Outline) (s : Snapshot) : Type 0 where
   pub guarded : IsGuarded plan s
   pub counted : IsCounted plan s
-  pub within : IsWithin plan s
+  pub within : IsMarkedWithin plan s
 
 -- what a run keeps at each moment, entry by entry, so that less and less is left: the plan is within its limits, the
 -- payloads are short, the attempts are counted, and what is marked or in flight is within the plan
@@ -46,4 +46,4 @@ pub record IsBounded (plan : Outline) (s : Snapshot) : Type 0 where
   pub limits : IsWithinLimits plan
   pub short : ShowsShort s
   pub counted : IsCounted plan s
-  pub within : IsWithin plan s
+  pub within : IsMarkedWithin plan s

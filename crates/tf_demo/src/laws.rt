@@ -15,13 +15,15 @@ ghost use Rattle.tf_numbers.specs.Numbers.{numbers_below};
 /// A plan of a generated flow compiles.
 #[tactic(auto, using(crate::proofs::CompileLemmas::compiles))]
 pub fn demo_compiles()
-    ensures { (seed size : ℕ) (plan : PlanValue) → tree_of plan.root ≡ demo_flow seed size → compile_refusal plan ≡ None }
+    ensures { (seed size : ℕ) (plan : PlanValue) → tree_of plan.root ≡ demo_flow seed size
+        → compile_refusal plan ≡ None }
 {}
 
 /// Somebody gives each symbol that a generated flow takes.
 #[tactic(auto, using(crate::proofs::SymbolLemmas::complete))]
 pub fn demo_misses_no_symbol()
-    ensures { (seed size : ℕ) (plan : PlanValue) → tree_of plan.root ≡ demo_flow seed size → missing_symbol (outline_of plan) ≡ None }
+    ensures { (seed size : ℕ) (plan : PlanValue) → tree_of plan.root ≡ demo_flow seed size
+        → missing_symbol (outline_of plan) ≡ None }
 {}
 
 /// A generated flow has the tasks with the numbers below its size, each once and in order, and a group for
@@ -29,6 +31,9 @@ pub fn demo_misses_no_symbol()
 /// group is made by the draw of its own place.
 #[tactic(auto, using(crate::proofs::OrderLemmas::tasks_numbered, crate::proofs::OrderLemmas::kinds_numbered))]
 pub fn demo_is_read_by_numbers()
-    ensures tasks { (seed size : ℕ) → tasks_in (places (demo_flow seed size)) ≡ map (task_of_number seed) (numbers_below size) }
-    ensures groups { (seed size : ℕ) → kinds_in (places (demo_flow seed size)) ≡ as_they_stand ∷ map (kind_of_number seed) (numbers_below (group_count size)) }
+    ensures tasks { (seed size : ℕ)
+        → tasks_in (places (demo_flow seed size)) ≡ map (task_of_number seed) (numbers_below size) }
+    ensures groups { (seed size : ℕ)
+        → kinds_in (places (demo_flow seed size)) ≡ as_they_stand
+        ∷ map (kind_of_number seed) (numbers_below (group_count size)) }
 {}

@@ -121,8 +121,8 @@ newest log entry = reverse-append log (entry ∷ [])
 tail_of : (w bytes : List ℕ) → drop (length (w ++ bytes) - length bytes) (w ++ bytes) ≡ bytes
 tail_of w bytes = drop_at w bytes (length (w ++ bytes) - length bytes) (omega (arith, length-append w bytes))
 
-front_of : (w bytes : List ℕ) → take (length (w ++ bytes) - length bytes) (w ++ bytes) ≡ w
-front_of w bytes = take_at w bytes (length (w ++ bytes) - length bytes) (omega (arith, length-append w bytes))
+prefix_of : (w bytes : List ℕ) → take (length (w ++ bytes) - length bytes) (w ++ bytes) ≡ w
+prefix_of w bytes = take_at w bytes (length (w ++ bytes) - length bytes) (omega (arith, length-append w bytes))
 
 pub acts_picked : (log : List Noted) (w s name : List ℕ) → acts_of (reverse (log ++ Picked name ∷ [])) w s ≡ picked name ∷ acts_of (reverse log) w s
 acts_picked log w s name = ap (λ (l : List Noted). acts_of l w s) (newest log (Picked name))
@@ -131,7 +131,7 @@ pub acts_wrote : (log : List Noted) (w s bytes : List ℕ) (at : ℕ) → acts_o
 acts_wrote log w s bytes at =
     ap (λ (l : List Noted). acts_of l (w ++ bytes) s) (newest log (Wrote at (length bytes)))
     ∙ ap (λ (b : List ℕ). wrote at b ∷ acts_of (reverse log) (take (length (w ++ bytes) - length bytes) (w ++ bytes)) s) (tail_of w bytes)
-    ∙ ap (λ (f : List ℕ). wrote at bytes ∷ acts_of (reverse log) f s) (front_of w bytes)
+    ∙ ap (λ (f : List ℕ). wrote at bytes ∷ acts_of (reverse log) f s) (prefix_of w bytes)
 
 -- what the fields keep after a write that was noted, or wasn't
 pub keeps_put : (noted : Bool) (log new_log : List Noted) (w new_w shown : List ℕ) (files : List MemoryFile) (picked_place : Option ℕ) → Keeps (acts_of (reverse log) w shown) shown files picked_place

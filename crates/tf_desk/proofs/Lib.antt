@@ -3,3 +3,4 @@ pub mod KeepsLemmas
 pub mod ActSteps
 pub mod StreamLemmas
 pub mod CountLemmas
+pub mod StateLemmas

@@ -39,10 +39,10 @@ appended_more a b c bytes done n le first second =
     subst (Appends a c) whole (appends_on a b c (take done bytes) (take n (take (length bytes - done) (drop done bytes))) first second)
 
 -- what stands first in a buffer stays there when what is behind it is filled
-front_stays : (buf new : List ℕ) (done : ℕ) → done ≤ length buf → take done (put_mid done (length buf - done) buf new) ≡ take done buf
-front_stays buf new done le = take-put_mid_below done (length buf - done) buf new done (omega arith) le
+prefix_stays : (buf new : List ℕ) (done : ℕ) → done ≤ length buf → take done (put_mid done (length buf - done) buf new) ≡ take done buf
+prefix_stays buf new done le = take-put_mid_below done (length buf - done) buf new done (omega arith) le
 
--- a buffer keeps its length when what is behind its front is filled
+-- a buffer keeps its length when what is behind its prefix is filled
 pub room_stays : (buf new : List ℕ) (done : ℕ) → done ≤ length buf → length new ≡ length buf - done → length (put_mid done (length buf - done) buf new) ≡ length buf
 room_stays buf new done le room =
     search (rules, places)
@@ -51,14 +51,14 @@ room_stays buf new done le room =
 pub taken_more : (a b c : Option (List ℕ)) (buf new : List ℕ) (done n : ℕ) → done ≤ length buf → n ≤ length new
     → Consumes a b (take done buf) → Consumes b c (take n new) → Consumes a c (take (done + n) (put_mid done (length buf - done) buf new))
 taken_more a b c buf new done n le fits first second =
-    let front : take done (put_mid done (length buf - done) buf new) ≡ take done buf = front_stays buf new done le in
+    let prefix : take done (put_mid done (length buf - done) buf new) ≡ take done buf = prefix_stays buf new done le in
     let rest : drop done (put_mid done (length buf - done) buf new) ≡ new ++ post_of done (length buf - done) buf = drop_at (take done buf) (new ++ post_of done (length buf - done) buf) done (omega (arith, length-take done buf)) in
     let part : take n (drop done (put_mid done (length buf - done) buf new)) ≡ take n new = ap (take n) rest ∙ take-append-le n new (post_of done (length buf - done) buf) fits in
     let whole : take done buf ++ take n new ≡ take (done + n) (put_mid done (length buf - done) buf new) =
-    sym (take-add done n (put_mid done (length buf - done) buf new) ∙ ap (λ (l : List ℕ). l ++ take n (drop done (put_mid done (length buf - done) buf new))) front ∙ ap (λ (l : List ℕ). take done buf ++ l) part) in
+    sym (take-add done n (put_mid done (length buf - done) buf new) ∙ ap (λ (l : List ℕ). l ++ take n (drop done (put_mid done (length buf - done) buf new))) prefix ∙ ap (λ (l : List ℕ). take done buf ++ l) part) in
     subst (Consumes a c) whole (consumes_on a b c (take done buf) (take n new) first second)
 
 -- nothing was read
 pub taken_same : (a b c : Option (List ℕ)) (buf new : List ℕ) (done : ℕ) → done ≤ length buf
     → Consumes a b (take done buf) → Keeps b c → Consumes a c (take done (put_mid done (length buf - done) buf new))
-taken_same a b c buf new done le first kept = subst (Consumes a c) (sym (front_stays buf new done le)) (consumes_kept a b c (take done buf) first kept)
+taken_same a b c buf new done le first kept = subst (Consumes a c) (sym (prefix_stays buf new done le)) (consumes_kept a b c (take done buf) first kept)

@@ -3,7 +3,7 @@ use Rattle.std.specs.Prelude.{◌≡◌, ◌⊎◌, ℕ, ◌+◌, ◌≤◌, Boo
 use Rattle.std.specs.Cmp.Lexicographic.{pointwise}
 use Rattle.tf_desk.specs.Content.{Mark, at_pick, at_sync, Content, written, Torn}
 use Rattle.tf_desk.specs.Crash.{IsLeft, IsLeftNow}
-use Rattle.tf_desk.specs.Shown.{ShowsFront}
+use Rattle.tf_desk.specs.Shown.{ShowsPrefix}
 
 -- what changed the desk: a pick of a name, bytes written at an offset, a sync, bytes said
 pub data Act : Type 0 where
@@ -66,12 +66,12 @@ left_after (said bytes ∷ past) name image = left_after past name image
 abbrev pub leaves_now : List Act → List ℕ → List ℕ → Type 0
 leaves_now past = IsLeftNow (content_after past) (left_after past) (Some (shown_after past))
 
--- a crash inside an act may leave this pair, beside those before it and after it: while bytes are said, a front of them
+-- a crash inside an act may leave this pair, beside those before it and after it: while bytes are said, a prefix of them
 abbrev pub leaves_inside : Act → List Act → List ℕ → List ℕ → Type 0
 leaves_inside (picked name) past image text = ⊥
 leaves_inside (wrote at bytes) past image text = ⊥
 leaves_inside synced past image text = ⊥
-leaves_inside (said bytes) past image text = IsLeft (picked_after past) (left_after past) image × ShowsFront (Some (shown_after past)) bytes (Some text)
+leaves_inside (said bytes) past image text = IsLeft (picked_after past) (left_after past) image × ShowsPrefix (Some (shown_after past)) bytes (Some text)
 
 -- a crash at a moment since that one may leave this pair
 abbrev pub crashes_after : List Act → ℕ → List ℕ → List ℕ → Type 0

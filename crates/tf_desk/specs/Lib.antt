@@ -2,6 +2,7 @@ pub mod Counts
 pub mod Shown
 pub mod Content
 pub mod Crash
+pub mod State
 pub mod Acts
 pub mod ActLaws
 pub mod MemoryDesk

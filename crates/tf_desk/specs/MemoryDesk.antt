@@ -4,7 +4,8 @@ use Rattle.std.specs.Cmp.Lexicographic.{pointwise}
 use Rattle.tf_desk.specs.declared.past.MemoryFile.{MemoryFile}
 use Rattle.tf_desk.specs.declared.past.Noted.{Noted}
 use Rattle.tf_desk.specs.declared.past.Noted.TheVariants.{Picked, Wrote, Synced, Said}
-use Rattle.tf_desk.specs.Acts.{Act, picked, wrote, synced, said}
+use Rattle.tf_desk.specs.Acts.{Act, picked, wrote, synced, said, shown_after, content_after, left_after, crashes_after}
+use Rattle.tf_desk.specs.State.{DeskState}
 
 -- what it has done, newest first, and its four counts
 pub record Held : Type 0 where
@@ -13,6 +14,20 @@ pub record Held : Type 0 where
   pub out_faults : ℕ
   pub asks : ℕ
   pub turns : ℕ
+
+-- what it tells
+abbrev pub state_of : Held → DeskState
+state_of held = record {
+  tells = true;
+  shown = Some (shown_after held.past);
+  content = content_after held.past;
+  left = left_after held.past;
+  crashes = crashes_after held.past;
+  disk_faults = held.disk_faults;
+  out_faults = held.out_faults;
+  asks = held.asks;
+  turns = held.turns;
+}
 
 -- The acts of a log, newest first. A log keeps how many bytes were written or said; those of the newest stand last.
 abbrev pub acts_of : List Noted → List ℕ → List ℕ → List Act

@@ -5,7 +5,7 @@ use Rattle.std.specs.Prelude.{◌≡◌, ℕ, List, ◌++◌, take, Option, opti
 abbrev pub shown_with : Option (List ℕ) → List ℕ → Option (List ℕ)
 shown_with shown bytes = option_map (λ text. text ++ bytes) shown
 
--- some front of the bytes was shown: none of them, a part, or all
-pub record ShowsFront (before : Option (List ℕ)) (bytes : List ℕ) (after : Option (List ℕ)) : Type 0 where
+-- some prefix of the bytes was shown: none of them, a part, or all
+pub record ShowsPrefix (before : Option (List ℕ)) (bytes : List ℕ) (after : Option (List ℕ)) : Type 0 where
   pub count : ℕ
-  pub front : after ≡ shown_with before (take count bytes)
+  pub prefix : after ≡ shown_with before (take count bytes)

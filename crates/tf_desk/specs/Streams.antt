@@ -2,10 +2,10 @@
 use Rattle.std.specs.Prelude.{◌≡◌, ℕ, ◌<◌, List, length, take, Option, Some, IfSome}
 use Rattle.std.specs.Io.KnownBytes.{Appends, Consumes, IsAtEnd}
 
--- some front of the bytes was appended: none of them, a part, or all
-pub record AppendsFront (before : Option (List ℕ)) (bytes : List ℕ) (after : Option (List ℕ)) : Type 0 where
+-- some prefix of the bytes was appended: none of them, a part, or all
+pub record AppendsPrefix (before : Option (List ℕ)) (bytes : List ℕ) (after : Option (List ℕ)) : Type 0 where
   pub count : ℕ
-  pub front : Appends before after (take count bytes)
+  pub prefix : Appends before after (take count bytes)
 
 -- n bytes were taken from what was left and stand first in the buffer; fewer than it holds only where nothing is left
 pub record ReadsOn (before after : Option (List ℕ)) (buffer : List ℕ) (n : ℕ) : Type 0 where

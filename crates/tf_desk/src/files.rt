@@ -1,15 +1,17 @@
-ghost use Rattle.std.specs.Prelude.{◌≡◌, ◌≤◌, None, false, IsErrOf, IfErr};
+ghost use Rattle.std.specs.Prelude.{◌≡◌, ◌≤◌, IsErrOf, IfErr};
 ghost use Rattle.std.proofs.lemmas.Bool.{false≢true};
 ghost use Rattle.tf_desk.specs.Counts.{Rises};
-ghost use Rattle.tf_desk.specs.FileDesk.{untold};
+ghost use Rattle.tf_desk.specs.FileDesk.{counts_alone};
 
 use crate::device::{Desk, DeskFault};
+use crate::reasons::tell_reason;
 use crate::streams::{end_of, read_at, write_at, write_whole};
 use std::alloc::Global;
-use std::fs::{self, OpenFile, OpenOptions};
-use std::io::{self, ErrorKind};
+use std::fs::{self, File, OpenFile, OpenOptions};
+use std::io::{self, Eprint, Error, ErrorKind};
 use std::path::Path;
 use std::rt::Files;
+use std::time::SystemTime;
 use tf_values::Text;
 
 /// What is opened so that no book takes the place of a standard stream that was closed before.
@@ -24,12 +26,31 @@ struct Taken<F> {
     third: F,
 }
 
-/// The real desk, over files and standard output: a name is a path. It tells its counts alone.
+/// A file's size, and when it was last changed.
+#[derive(Clone, Copy, PartialEq, Eq)]
+struct Seen {
+    size: u64,
+    modified: SystemTime,
+}
+
+/// The picked file with its path, what was seen of it when it was picked, and whether it is locked for this desk's writes.
+#[derive(Drop)]
+struct Picked {
+    path: String,
+    file: File,
+    seen: Seen,
+    owned: bool,
+}
+
+/// The real desk, over files and standard output: a name is a path. It tells its counts alone. Its first
+/// write to a picked file takes the file's lock and keeps it until another file is picked; where another
+/// has the lock, or the file isn't as it was picked, the write is refused as `Disk` and changes nothing. Of each
+/// call that fails the system's reason is said on standard error.
 #[derive(Drop)]
 pub struct FileDesk<R: Files> {
     runtime: R,
     taken: Option<Taken<R::File>>,
-    file: Option<R::File>,
+    picked: Option<Picked>,
     stop: Option<String>,
     disk_faults: u64,
     out_faults: u64,
@@ -43,7 +64,7 @@ impl<R: Files> FileDesk<R> {
         FileDesk {
             runtime,
             taken: None,
-            file: None,
+            picked: None,
             stop: None,
             disk_faults: 0,
             out_faults: 0,
@@ -64,6 +85,37 @@ impl<R: Files> FileDesk<R> {
     }
 }
 
+impl<R: Files + Eprint> FileDesk<R> {
+    /// A fault of the picked file, told with its reason and counted.
+    fn file_fault<T>(&mut self, reason: &Error) -> Result<T, DeskFault>
+        ensures disk { IsErrOf result DeskFault.Disk }
+        ensures same { self.new ≡ record self.old { disk_faults = self.new.disk_faults } }
+        ensures rose { Rises self.old.disk_faults self.new.disk_faults }
+        ensures no_fall { self.old.disk_faults ≤ self.new.disk_faults }
+    {
+        if let Some(picked) = &self.picked {
+            tell_reason(&self.runtime, picked.path.as_str(), reason);
+        }
+        self.disk_fault()
+    }
+
+    /// A fault of the file of that path, which couldn't be picked, told with its reason and counted.
+    fn pick_fault<T>(&mut self, path: &str, reason: &Error) -> Result<T, DeskFault>
+        ensures disk { IsErrOf result DeskFault.Disk }
+        ensures same { self.new ≡ record self.old { disk_faults = self.new.disk_faults } }
+        ensures rose { Rises self.old.disk_faults self.new.disk_faults }
+        ensures no_fall { self.old.disk_faults ≤ self.new.disk_faults }
+    {
+        tell_reason(&self.runtime, path, reason);
+        self.disk_fault()
+    }
+}
+
+/// What is said where no file is picked.
+fn nothing_picked() -> Error {
+    Error::other("no file is picked")
+}
+
 /// Takes the numbers of the standard streams, where they are free.
 fn take_streams<R: Files>(runtime: &R) -> io::Result<Taken<R::File>> {
     Ok(Taken {
@@ -75,7 +127,7 @@ fn take_streams<R: Files>(runtime: &R) -> io::Result<Taken<R::File>> {
 
 /// The file of that path, to be read and written. A missing one is made, and its folder is synced, so that
 /// the file itself survives a crash.
-fn open_file<R: Files>(runtime: &R, path: &str) -> io::Result<R::File> {
+fn open_file<R: Files<File = File>>(runtime: &R, path: &str) -> io::Result<File> {
     let mut how = OpenOptions::new();
     how.read(true).write(true);
     match how.open(runtime, path) {
@@ -89,6 +141,50 @@ fn open_file<R: Files>(runtime: &R, path: &str) -> io::Result<R::File> {
     }
 }
 
+/// What is seen of a file now.
+fn look_at(file: &File) -> io::Result<Seen> {
+    let metadata = file.metadata()?;
+    Ok(Seen {
+        size: metadata.len(),
+        modified: metadata.modified()?,
+    })
+}
+
+/// The file of that path, as it was seen before anything was read of it.
+fn pick_file<R: Files<File = File>>(runtime: &R, path: String) -> io::Result<Picked> {
+    let file = open_file(runtime, path.as_str())?;
+    let seen = look_at(&file)?;
+    Ok(Picked {
+        path,
+        file,
+        seen,
+        owned: false,
+    })
+}
+
+/// Takes the file's lock before the first write. `Err`: another has it, or the file isn't as it was picked.
+fn own(picked: &mut Picked) -> io::Result<()> {
+    if picked.owned {
+        return Ok(());
+    }
+    if picked.file.try_lock().is_err() {
+        return Err(Error::other("another program writes it"));
+    }
+    let seen = look_at(&picked.file)?;
+    if seen != picked.seen {
+        let _ = picked.file.unlock();
+        return Err(Error::other("it was changed since it was read"));
+    }
+    picked.owned = true;
+    Ok(())
+}
+
+/// Writes to a file that this desk owns, or owns from now on.
+fn write_owned(picked: &mut Picked, at: u64, bytes: &[u8]) -> io::Result<()> {
+    own(picked)?;
+    write_at(&mut picked.file, at, bytes)
+}
+
 /// Syncs the folder that the path stands in.
 fn sync_folder<R: Files>(runtime: &R, path: &str) -> io::Result<()> {
     let folder = match Path::new(path).parent() {
@@ -96,6 +192,16 @@ fn sync_folder<R: Files>(runtime: &R, path: &str) -> io::Result<()> {
         _ => fs::open(runtime, ".")?,
     };
     folder.sync_all()
+}
+
+/// A path that is kept.
+fn path_of(alloc: Global, path: &str) -> Result<String, DeskFault>
+    ensures { IfErr result (λ fault. fault ≡ DeskFault.Memory) }
+{
+    match String::from_str(alloc, path) {
+        Ok(kept) => Ok(kept),
+        Err(_) => Err(DeskFault::Memory),
+    }
 }
 
 /// The path of the file that asks for a stop.
@@ -111,24 +217,8 @@ fn stop_path(alloc: Global, path: &str) -> Result<String, DeskFault>
     }
 }
 
-impl<R: Files + Print + Drop> Desk for FileDesk<R> {
-    ghost tells = { λ _. false };
-
-    ghost shown = { λ _. None };
-
-    ghost content = { λ _. untold };
-
-    ghost left = { λ _ _ _. ⊥ };
-
-    ghost crashes = { λ _ _ _ _. ⊥ };
-
-    ghost disk_faults = { λ desk. desk.disk_faults };
-
-    ghost out_faults = { λ desk. desk.out_faults };
-
-    ghost asks = { λ desk. desk.asks };
-
-    ghost turns = { λ desk. desk.turns };
+impl<R: Files<File = File> + Print + Eprint + Drop> Desk for FileDesk<R> {
+    ghost state = { λ desk. counts_alone desk.disk_faults desk.out_faults desk.asks desk.turns };
 
     ghost tells_shown = { λ desk told. told };
 
@@ -149,62 +239,79 @@ impl<R: Files + Print + Drop> Desk for FileDesk<R> {
             return self.disk_fault();
         };
         let stop = stop_path(alloc, path)?;
+        let kept = path_of(alloc, path)?;
         if self.taken.is_none() {
-            let Ok(taken) = take_streams(&self.runtime) else {
-                return self.disk_fault();
-            };
-            self.taken = Some(taken);
+            match take_streams(&self.runtime) {
+                Ok(taken) => self.taken = Some(taken),
+                Err(reason) => return self.pick_fault(NOTHING, &reason),
+            }
         }
-        let Ok(file) = open_file(&self.runtime, path) else {
-            return self.disk_fault();
-        };
-        self.file = Some(file);
-        self.stop = Some(stop);
-        Ok(())
+        match pick_file(&self.runtime, kept) {
+            Ok(picked) => {
+                self.picked = Some(picked);
+                self.stop = Some(stop);
+                Ok(())
+            }
+            Err(reason) => self.pick_fault(path, &reason),
+        }
     }
 
     fn size(&mut self) -> Result<u64, DeskFault> {
-        if let Some(file) = &mut self.file {
-            if let Some(size) = end_of(file) {
-                return Ok(size);
-            }
-        }
-        self.disk_fault()
+        let reason = match &mut self.picked {
+            Some(picked) => match end_of(&mut picked.file) {
+                Ok(size) => return Ok(size),
+                Err(reason) => reason,
+            },
+            None => nothing_picked(),
+        };
+        self.file_fault(&reason)
     }
 
     fn read(&mut self, at: u64, buf: &mut [u8]) -> Result<usize, DeskFault> {
-        if let Some(file) = &mut self.file {
-            if let Some(count) = read_at(file, at, buf) {
-                return Ok(count);
-            }
-        }
-        self.disk_fault()
+        let reason = match &mut self.picked {
+            Some(picked) => match read_at(&mut picked.file, at, buf) {
+                Ok(count) => return Ok(count),
+                Err(reason) => reason,
+            },
+            None => nothing_picked(),
+        };
+        self.file_fault(&reason)
     }
 
     fn write_at(&mut self, at: u64, bytes: &[u8]) -> Result<(), DeskFault> {
-        if let Some(file) = &mut self.file {
-            if write_at(file, at, bytes) {
-                return Ok(());
-            }
-        }
-        self.disk_fault()
+        let reason = match &mut self.picked {
+            Some(picked) => match write_owned(picked, at, bytes) {
+                Ok(()) => return Ok(()),
+                Err(reason) => reason,
+            },
+            None => nothing_picked(),
+        };
+        self.file_fault(&reason)
     }
 
     fn sync(&mut self) -> Result<(), DeskFault> {
-        if let Some(file) = &self.file {
-            if file.sync_data().is_ok() {
-                return Ok(());
-            }
-        }
-        self.disk_fault()
+        let reason = match &self.picked {
+            Some(picked) => match picked.file.sync_data() {
+                Ok(()) => return Ok(()),
+                Err(reason) => reason,
+            },
+            None => nothing_picked(),
+        };
+        self.file_fault(&reason)
     }
 
     fn say(&mut self, bytes: &[u8]) -> Result<(), DeskFault> {
-        if write_whole(&mut io::writer(&self.runtime), bytes) {
-            return Ok(());
+        match write_whole(&mut io::writer(&self.runtime), bytes) {
+            Ok(()) => Ok(()),
+            Err(reason) => {
+                // Who reads the output may have enough of it, as `head` has.
+                if reason.kind() != ErrorKind::BrokenPipe {
+                    tell_reason(&self.runtime, "standard output", &reason);
+                }
+                self.out_faults = self.out_faults.saturating_add(1);
+                Err(DeskFault::Out)
+            }
         }
-        self.out_faults = self.out_faults.saturating_add(1);
-        Err(DeskFault::Out)
     }
 
     fn stop_asked(&mut self) -> bool {

@@ -5,9 +5,11 @@ mod device;
 mod files;
 mod memory;
 mod past;
+mod reasons;
 mod streams;
 
 pub use device::{Desk, DeskFault};
 pub use files::FileDesk;
 pub use memory::MemoryDesk;
+pub use reasons::tell_reason;
 pub use streams::{read_on, write_whole};

@@ -1,8 +1,9 @@
-ghost use Rattle.std.specs.Prelude.{◌≡◌, ◌≤◌, ◌∷◌, [], Some, IfOk, true, false};
+ghost use Rattle.std.specs.Prelude.{◌≡◌, ◌≤◌, ◌∷◌, [], IfOk, true, false};
 ghost use Rattle.std.proofs.Common.{refl};
-ghost use Rattle.tf_desk.specs.Acts.{shown_after, content_after, left_after, crashes_after};
+ghost use Rattle.tf_desk.specs.Acts.{shown_after};
 ghost use Rattle.tf_desk.specs.ActLaws.{picked_there, left_reads, left_none, crashes_earlier, crashes_now, crashes_only};
 ghost use Rattle.tf_desk.specs.Counts.{Rises};
+ghost use Rattle.tf_desk.specs.MemoryDesk.{state_of};
 
 use crate::device::{Desk, DeskFault};
 use crate::past::Past;
@@ -101,23 +102,7 @@ impl MemoryDesk {
 }
 
 impl Desk for MemoryDesk {
-    ghost tells = { λ _. true };
-
-    ghost shown = { λ desk. Some (shown_after desk.past) };
-
-    ghost content = { λ desk. content_after desk.past };
-
-    ghost left = { λ desk. left_after desk.past };
-
-    ghost crashes = { λ desk. crashes_after desk.past };
-
-    ghost disk_faults = { λ desk. desk.disk_faults };
-
-    ghost out_faults = { λ desk. desk.out_faults };
-
-    ghost asks = { λ desk. desk.asks };
-
-    ghost turns = { λ desk. desk.turns };
+    ghost state = { state_of };
 
     ghost tells_shown = { λ desk told. refl };
 

@@ -3,7 +3,7 @@ use Rattle.std.proofs.Common.{◌≡◌, ℕ, ◌+◌, ◌<◌, List, [], ◌∷
 use Rattle.std.specs.Prelude.{IfErr}
 use Rattle.std.specs.Fmt.{decimal}
 use Rattle.tf_document.specs.Paths.{below}
-use Rattle.tf_document.specs.Reading.{Refuses, chain, has_key, unknown_key, unless_unknown, known_only, required_at, required, optional, of_kind, put_first, each}
+use Rattle.tf_document.specs.Reading.{RefusesWith, chain, has_key, unknown_key, unless_unknown, known_only, required_at, required, optional, of_kind, put_first, each}
 use Rattle.tf_document.specs.declared.faults.FileFault.{FileFault}
 use Rattle.tf_document.specs.declared.faults.FileFault.TheVariants as fault
 use Rattle.toml.proofs.Views.{items_view-drop}
@@ -13,7 +13,7 @@ use Rattle.toml.specs.declared.value.Value.{Value}
 
 -- what fails with a reason fails with it wherever it is read first
 pub refuses_as : {A B : Type 0} (part : Result A FileFault) (whole : Result B FileFault) (e : FileFault)
-    → ((reason : FileFault) → part ≡ Err reason → whole ≡ Err reason) → Refuses part e → Refuses whole e
+    → ((reason : FileFault) → part ≡ Err reason → whole ≡ Err reason) → RefusesWith part e → RefusesWith whole e
 refuses_as part whole fault.NotToml same refused = same fault.NotToml refused
 refuses_as part whole (fault.UnknownKey path) same refused = same (fault.UnknownKey path) refused
 refuses_as part whole (fault.MissingKey path) same refused = same (fault.MissingKey path) refused
@@ -28,7 +28,7 @@ refuses_as part whole fault.Memory same refused = refused
 -- ---- a fault of the part that is read first
 
 -- of what is read before the rest
-pub chain_stops : {A B : Type 0} (part : Result A FileFault) (next : A → Result B FileFault) (e : FileFault) → Refuses part e → Refuses (chain part next) e
+pub chain_stops : {A B : Type 0} (part : Result A FileFault) (next : A → Result B FileFault) (e : FileFault) → RefusesWith part e → RefusesWith (chain part next) e
 chain_stops part next e refused = refuses_as part (chain part next) e (λ reason is. rw is) refused
 
 unknown_stops : {A B : Type 0} (path : List ℕ) (found : Option (List ℕ)) (other : A) (read : Result B FileFault) (reason : FileFault)
@@ -38,7 +38,7 @@ unknown_stops path (Some key) other read reason is = cc
 
 -- of a table's keys
 pub known_stops : {A B : Type 0} (path : List ℕ) (known : List (List ℕ)) (table : Members) (other : A) (read : Result B FileFault) (e : FileFault)
-    → Refuses (known_only path known table (Ok other)) e → Refuses (known_only path known table read) e
+    → RefusesWith (known_only path known table (Ok other)) e → RefusesWith (known_only path known table read) e
 known_stops path known table other read e refused =
     refuses_as (known_only path known table (Ok other)) (known_only path known table read) e (λ reason is. unknown_stops path (unknown_key known table) other read reason is) refused
 
@@ -49,7 +49,7 @@ required_fails path reads (Some found) reason is = cc
 
 -- of a key that isn't there
 pub required_stops : {A : Type 0} (path : List ℕ) (reads : List ℕ → Data → Result A FileFault) (found : Option Data) (e : FileFault)
-    → Refuses (required_at path (λ place found. Ok found) found) e → Refuses (required_at path reads found) e
+    → RefusesWith (required_at path (λ place found. Ok found) found) e → RefusesWith (required_at path reads found) e
 required_stops path reads found e refused =
     refuses_as (required_at path (λ place found. Ok found) found) (required_at path reads found) e (λ reason is. required_fails path reads found reason is) refused
 
@@ -60,7 +60,7 @@ kind_fails path (Some found) next reason is = cc
 
 -- of a value of another kind
 pub kind_stops : {A B : Type 0} (path : List ℕ) (found : Option A) (next : A → Result B FileFault) (e : FileFault)
-    → Refuses (of_kind path found Ok) e → Refuses (of_kind path found next) e
+    → RefusesWith (of_kind path found Ok) e → RefusesWith (of_kind path found next) e
 kind_stops path found next e refused =
     refuses_as (of_kind path found Ok) (of_kind path found next) e (λ reason is. kind_fails path found next reason is) refused
 
@@ -89,7 +89,7 @@ optional_there path key table other reads place found at is = rw (← is, ← at
 
 -- what refuses the value at a key refuses what is read there
 pub optional_refuses : {A X : Type 0} (result : Result X FileFault) (path key : List ℕ) (table : Members) (other : A) (reads : List ℕ → Data → Result A FileFault) (place : List ℕ) (found : Data)
-    → place ≡ below path key → Some found ≡ get_member key table → IfErr result (Refuses (reads place found)) → IfErr result (Refuses (optional path key table other reads))
+    → place ≡ below path key → Some found ≡ get_member key table → IfErr result (RefusesWith (reads place found)) → IfErr result (RefusesWith (optional path key table other reads))
 optional_refuses result path key table other reads place found at is refused = rw (← is, ← at) refused
 
 -- past a key that isn't there
@@ -120,7 +120,7 @@ after_one made x first (Err reason) is = rw is
 
 -- the next one fails
 pub after_stops : {A : Type 0} (made : List A) (first : Result A FileFault) (rest whole : Result (List A) FileFault) (e : FileFault)
-    → after made (put_first first rest) ≡ whole → Refuses first e → Refuses whole e
+    → after made (put_first first rest) ≡ whole → RefusesWith first e → RefusesWith whole e
 after_stops made first rest whole e same refused = refuses_as first whole e (λ reason is. sym same ∙ rw is) refused
 
 -- all are made
@@ -151,8 +151,8 @@ each_turn reads path number array found place value made x whole within is at sa
 -- the item of that number fails
 pub each_stops : {A : Type 0} (reads : List ℕ → Data → Result A FileFault) (path : List ℕ) (number : ℕ) (array : List Value) (found : Value) (place : List ℕ) (value : Value) (made : List A) (whole : Result (List A) FileFault) (e : FileFault)
     → number < length array → found ≡ get_or array number found → place ≡ below path (decimal number) → value ≡ found
-    → after made (each_from reads path number array) ≡ whole → Refuses (reads place (view value)) e → Refuses whole e
+    → after made (each_from reads path number array) ≡ whole → RefusesWith (reads place (view value)) e → RefusesWith whole e
 each_stops reads path number array found place value made whole e within is at same before refused =
-    let first : Refuses (reads (below path (decimal number)) (view found)) e = rw (← at, ← same) refused in
+    let first : RefusesWith (reads (below path (decimal number)) (view found)) e = rw (← at, ← same) refused in
     after_stops made (reads (below path (decimal number)) (view found)) (each_from reads path (number + 1) array) whole e
     (ap (after made) (sym (each_next reads path number array found within is)) ∙ before) first

@@ -86,6 +86,6 @@ is_memory fault.Memory = true
 is_memory reason = false
 
 -- the fault is the reason why nothing is spelled, or want of memory
-abbrev pub Refuses : {A : Type 0} → Result A FileFault → FileFault → Type 0
-Refuses spelled fault.Memory = Unit {0}
-Refuses spelled reason = spelled ≡ Err reason
+abbrev pub RefusesWith : {A : Type 0} → Result A FileFault → FileFault → Type 0
+RefusesWith spelled fault.Memory = Unit {0}
+RefusesWith spelled reason = spelled ≡ Err reason

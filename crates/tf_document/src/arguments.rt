@@ -54,7 +54,8 @@ fn required_arguments(alloc: Global, required: &[Name], rebound: &[Arg]) -> Resu
 
 /// The symbols by name. They are put in from the last to the first, so that the first one of a name stays.
 fn symbols_of(alloc: Global, rebound: &[Arg]) -> Result<IndexMap<Name, Name>, Memory>
-    ensures { IfOk result (λ symbols. (name : List ℕ) → unwrap_or (found_in same_name symbols name) name ≡ symbol_of rebound.now name) }
+    ensures { IfOk result (λ symbols. (name : List ℕ)
+        → unwrap_or (found_in same_name symbols name) name ≡ symbol_of rebound.now name) }
 {
     let mut symbols = IndexMap::new(alloc);
     for i in (0..rebound.len()).rev() {
@@ -122,7 +123,8 @@ fn injected_outside(
     spoken: &IndexSet<Name>,
     inject: &[Bind],
 ) -> Result<Vec<Arg>, Memory>
-    ensures { IfOk result (λ made. made.items ≡ map injected_argument (filter (λ bind. not (has same_name spoken.now bind.symbol)) inject.now)) }
+    ensures { IfOk result (λ made. made.items ≡ map injected_argument
+        (filter (λ bind. not (has same_name spoken.now bind.symbol)) inject.now)) }
 {
     let mut made = Vec::new(alloc);
     for bind in inject {

@@ -2,7 +2,7 @@ ghost use Rattle.std.specs.Prelude.{◌≡◌, Some, Ok, IfOk, IfErr, IfSome, On
 ghost use Rattle.std.specs.Fmt.{decimal};
 ghost use Rattle.tf_flow.specs.Names.{is_among};
 ghost use Rattle.tf_document.specs.Paths.{below};
-ghost use Rattle.tf_document.specs.Reading.{Refuses, known_only as read_known, unknown_key as first_unknown, required_at, of_kind, has_key as key_is_there, has_text as text_is_there, same_text as is_that_text};
+ghost use Rattle.tf_document.specs.Reading.{RefusesWith, known_only as read_known, unknown_key as first_unknown, required_at, of_kind, has_key as key_is_there, has_text as text_is_there, same_text as is_that_text};
 ghost use Rattle.toml.specs.Data.{get_member, as_str, as_array, as_table};
 ghost use Rattle.toml.specs.View.{view, items_view, table_view};
 
@@ -24,7 +24,7 @@ impl<'a> Field<'a> {
     /// The string that the value is, or `WrongKind`.
     pub fn word(&self, alloc: Global) -> Result<&'a str, FileFault>
         ensures ok { IfOk result (λ word. as_str (view self.now.value.now) ≡ Some word.now) }
-        ensures refused { IfErr result (Refuses (of_kind self.now.path (as_str (view self.now.value.now)) Ok)) }
+        ensures refused { IfErr result (RefusesWith (of_kind self.now.path (as_str (view self.now.value.now)) Ok)) }
     {
         match self.value.as_str() {
             Some(word) => Ok(word),
@@ -35,7 +35,7 @@ impl<'a> Field<'a> {
     /// The items of the array that the value is, or `WrongKind`.
     pub fn items(&self, alloc: Global) -> Result<&'a [Value], FileFault>
         ensures ok { IfOk result (λ items. as_array (view self.now.value.now) ≡ Some (items_view items.now)) }
-        ensures refused { IfErr result (Refuses (of_kind self.now.path (as_array (view self.now.value.now)) Ok)) }
+        ensures refused { IfErr result (RefusesWith (of_kind self.now.path (as_array (view self.now.value.now)) Ok)) }
     {
         match self.value.as_array() {
             Some(items) => Ok(items),
@@ -46,7 +46,7 @@ impl<'a> Field<'a> {
     /// The table that the value is, or `WrongKind`.
     pub fn table(&self, alloc: Global) -> Result<&'a Table, FileFault>
         ensures ok { IfOk result (λ table. as_table (view self.now.value.now) ≡ Some (table_view table.now)) }
-        ensures refused { IfErr result (Refuses (of_kind self.now.path (as_table (view self.now.value.now)) Ok)) }
+        ensures refused { IfErr result (RefusesWith (of_kind self.now.path (as_table (view self.now.value.now)) Ok)) }
     {
         match self.value.as_table() {
             Some(table) => Ok(table),
@@ -104,7 +104,7 @@ fn value_at<'a>(table: &'a Table, key: &str) -> Option<&'a Value>
     table.get(key)
 }
 
-/// Refuses the table under the path for its first key, in byte order, that isn't one of those.
+/// RefusesWith the table under the path for its first key, in byte order, that isn't one of those.
 pub fn known_only(
     alloc: Global,
     path: &Path,
@@ -112,7 +112,8 @@ pub fn known_only(
     table: &Table,
 ) -> Result<(), FileFault>
     ensures ok { OnOk result (first_unknown (map (λ key. key.now) known.now) (table_view table.now) ≡ None) }
-    ensures refused { IfErr result (Refuses (read_known path.now (map (λ key. key.now) known.now) (table_view table.now) (Ok (table_view table.now)))) }
+    ensures refused { IfErr result (RefusesWith (read_known path.now (map (λ key. key.now) known.now)
+        (table_view table.now) (Ok (table_view table.now)))) }
 {
     match unknown_key(known, table) {
         None => Ok(()),
@@ -122,7 +123,8 @@ pub fn known_only(
 
 /// The first key that isn't one of those that are known.
 fn unknown_key<'a>(known: &[&str], table: &'a Table) -> Option<&'a str>
-    ensures { option_map (λ key. key.now) result ≡ first_unknown (map (λ key. key.now) known.now) (table_view table.now) }
+    ensures { option_map (λ key. key.now) result ≡ first_unknown (map (λ key. key.now) known.now)
+        (table_view table.now) }
 {
     for (key, _value) in table {
         if !is_known(known, key.as_str()) {
@@ -153,7 +155,8 @@ pub fn required<'a>(
 ) -> Result<Field<'a>, FileFault>
     ensures place { IfOk result (λ field. field.path ≡ below path.now key.now) }
     ensures found { IfOk result (λ field. get_member key.now (table_view table.now) ≡ Some (view field.value.now)) }
-    ensures refused { IfErr result (Refuses (required_at (below path.now key.now) (λ place found. Ok found) (get_member key.now (table_view table.now)))) }
+    ensures refused { IfErr result (RefusesWith (required_at (below path.now key.now) (λ place found. Ok found)
+        (get_member key.now (table_view table.now)))) }
 {
     let path = path.below(alloc, key.as_bytes())?;
     match value_at(table, key) {
@@ -170,7 +173,8 @@ pub fn optional<'a>(
     table: &'a Table,
 ) -> Result<Option<Field<'a>>, Memory>
     ensures place { IfOk result (λ found. IfSome found (λ field. field.path ≡ below path.now key.now)) }
-    ensures found { IfOk result (λ found. option_map (λ field. view field.value.now) found ≡ get_member key.now (table_view table.now)) }
+    ensures found { IfOk result (λ found. option_map (λ field. view field.value.now) found
+        ≡ get_member key.now (table_view table.now)) }
 {
     match value_at(table, key) {
         Some(value) => {

@@ -1,5 +1,5 @@
 ghost use Rattle.std.specs.Prelude.{◌≡◌, Ok, IfOk, IfErr};
-ghost use Rattle.tf_document.specs.Reading.{Refuses};
+ghost use Rattle.tf_document.specs.Reading.{RefusesWith};
 ghost use Rattle.tf_document.specs.Signatures.{rebind_form as rebind_spelled, rebounds_of as rebounds_spelled, rebound_form as rebound_spelled};
 ghost use Rattle.toml.specs.View.{view, table_view};
 
@@ -15,7 +15,7 @@ use toml::{Table, Value};
 /// string that is no name.
 pub fn rebind_form(alloc: Global, field: &Field<'_>) -> Result<Vec<Arg>, FileFault>
     ensures ok { IfOk result (λ args. rebind_spelled field.now.path (view field.now.value.now) ≡ Ok args.items) }
-    ensures refused { IfErr result (Refuses (rebind_spelled field.now.path (view field.now.value.now))) }
+    ensures refused { IfErr result (RefusesWith (rebind_spelled field.now.path (view field.now.value.now))) }
 {
     let table = field.table(alloc)?;
     rebounds_of(alloc, &field.path, table)
@@ -24,7 +24,7 @@ pub fn rebind_form(alloc: Global, field: &Field<'_>) -> Result<Vec<Arg>, FileFau
 /// The names of the table under the path, with their symbols.
 fn rebounds_of(alloc: Global, path: &Path, table: &Table) -> Result<Vec<Arg>, FileFault>
     ensures ok { IfOk result (λ args. rebounds_spelled path.now (table_view table.now) ≡ Ok args.items) }
-    ensures refused { IfErr result (Refuses (rebounds_spelled path.now (table_view table.now))) }
+    ensures refused { IfErr result (RefusesWith (rebounds_spelled path.now (table_view table.now))) }
 {
     let mut args = Vec::new(alloc);
     for (key, value) in table {
@@ -36,7 +36,7 @@ fn rebounds_of(alloc: Global, path: &Path, table: &Table) -> Result<Vec<Arg>, Fi
 /// A name of the table under the path, with its symbol.
 fn rebound_form(alloc: Global, path: &Path, key: &str, value: &Value) -> Result<Arg, FileFault>
     ensures ok { IfOk result (λ arg. rebound_spelled path.now key.now (view value.now) ≡ Ok arg) }
-    ensures refused { IfErr result (Refuses (rebound_spelled path.now key.now (view value.now))) }
+    ensures refused { IfErr result (RefusesWith (rebound_spelled path.now key.now (view value.now))) }
 {
     let name = key_form(alloc, path, key)?;
     let field = Field {

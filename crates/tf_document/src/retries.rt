@@ -1,5 +1,5 @@
 ghost use Rattle.std.specs.Prelude.{◌≡◌, false, codes, map, Ok, IfOk, IfErr};
-ghost use Rattle.tf_document.specs.Reading.{Refuses, required as required_there, optional as optional_there};
+ghost use Rattle.tf_document.specs.Reading.{RefusesWith, required as required_there, optional as optional_there};
 ghost use Rattle.tf_document.specs.Retries.{retry_form as retry_spelled, retry_table as retry_of, retry_keys as keys_of, has_kind as is_kind, retry_kind_form as kind_spelled, kind_named as kind_of, times_of as times_spelled, for_each_of as for_each_spelled, parameterized_of as parameterized_spelled, revert_all_of as revert_all_spelled, attempts_form as attempts_spelled, counted as counted_spelled, values_form as values_spelled, truth_form as truth_spelled};
 ghost use Rattle.tf_document.specs.Values.{name_form as name_spelled};
 ghost use Rattle.toml.specs.View.{view, table_view};
@@ -18,7 +18,7 @@ use toml::Table;
 /// spells none.
 pub fn retry_form(alloc: Global, field: &Field<'_>) -> Result<Retry, FileFault>
     ensures ok { IfOk result (λ retry. retry_spelled field.now.path (view field.now.value.now) ≡ Ok retry) }
-    ensures refused { IfErr result (Refuses (retry_spelled field.now.path (view field.now.value.now))) }
+    ensures refused { IfErr result (RefusesWith (retry_spelled field.now.path (view field.now.value.now))) }
 {
     let table = field.table(alloc)?;
     retry_table(alloc, &field.path, table)
@@ -27,7 +27,7 @@ pub fn retry_form(alloc: Global, field: &Field<'_>) -> Result<Retry, FileFault>
 /// The retry controller that the table under the path spells.
 fn retry_table(alloc: Global, path: &Path, table: &Table) -> Result<Retry, FileFault>
     ensures ok { IfOk result (λ retry. retry_of path.now (table_view table.now) ≡ Ok retry) }
-    ensures refused { IfErr result (Refuses (retry_of path.now (table_view table.now))) }
+    ensures refused { IfErr result (RefusesWith (retry_of path.now (table_view table.now))) }
 {
     known_only(alloc, path, known_keys(table), table)?;
     let name = name_at(alloc, path, table)?;
@@ -92,16 +92,20 @@ fn has_kind(table: &Table, word: &str) -> bool
 }
 
 fn name_at(alloc: Global, path: &Path, table: &Table) -> Result<Name, FileFault>
-    ensures ok { IfOk result (λ name. required_there path.now (codes "name") (table_view table.now) name_spelled ≡ Ok name) }
-    ensures refused { IfErr result (Refuses (required_there path.now (codes "name") (table_view table.now) name_spelled)) }
+    ensures ok { IfOk result (λ name. required_there path.now (codes "name") (table_view table.now) name_spelled
+        ≡ Ok name) }
+    ensures refused { IfErr result (RefusesWith (required_there path.now (codes "name")
+        (table_view table.now) name_spelled)) }
 {
     let field = required(alloc, path, "name", table)?;
     name_form(alloc, &field)
 }
 
 fn kind_at(alloc: Global, path: &Path, table: &Table) -> Result<RetryKind, FileFault>
-    ensures ok { IfOk result (λ kind. required_there path.now (codes "kind") (table_view table.now) (kind_spelled path.now (table_view table.now)) ≡ Ok kind) }
-    ensures refused { IfErr result (Refuses (required_there path.now (codes "kind") (table_view table.now) (kind_spelled path.now (table_view table.now)))) }
+    ensures ok { IfOk result (λ kind. required_there path.now (codes "kind") (table_view table.now)
+        (kind_spelled path.now (table_view table.now)) ≡ Ok kind) }
+    ensures refused { IfErr result (RefusesWith (required_there path.now (codes "kind") (table_view table.now)
+        (kind_spelled path.now (table_view table.now)))) }
 {
     let field = required(alloc, path, "kind", table)?;
     kind_form(alloc, path, table, &field)
@@ -115,8 +119,10 @@ fn kind_form(
     table: &Table,
     field: &Field<'_>,
 ) -> Result<RetryKind, FileFault>
-    ensures ok { IfOk result (λ kind. kind_spelled path.now (table_view table.now) field.now.path (view field.now.value.now) ≡ Ok kind) }
-    ensures refused { IfErr result (Refuses (kind_spelled path.now (table_view table.now) field.now.path (view field.now.value.now))) }
+    ensures ok { IfOk result (λ kind. kind_spelled path.now (table_view table.now) field.now.path
+        (view field.now.value.now) ≡ Ok kind) }
+    ensures refused { IfErr result (RefusesWith (kind_spelled path.now (table_view table.now) field.now.path
+        (view field.now.value.now))) }
 {
     let word = field.word(alloc)?;
     kind_named(alloc, path, table, &field.path, word)
@@ -130,7 +136,7 @@ fn kind_named(
     word: &str,
 ) -> Result<RetryKind, FileFault>
     ensures ok { IfOk result (λ kind. kind_of path.now (table_view table.now) place.now word.now ≡ Ok kind) }
-    ensures refused { IfErr result (Refuses (kind_of path.now (table_view table.now) place.now word.now)) }
+    ensures refused { IfErr result (RefusesWith (kind_of path.now (table_view table.now) place.now word.now)) }
 {
     match word {
         "always_revert" => Ok(RetryKind::AlwaysRevert),
@@ -145,7 +151,7 @@ fn kind_named(
 /// So many attempts.
 fn times(alloc: Global, path: &Path, table: &Table) -> Result<RetryKind, FileFault>
     ensures ok { IfOk result (λ kind. times_spelled path.now (table_view table.now) ≡ Ok kind) }
-    ensures refused { IfErr result (Refuses (times_spelled path.now (table_view table.now))) }
+    ensures refused { IfErr result (RefusesWith (times_spelled path.now (table_view table.now))) }
 {
     let attempts = attempts_at(alloc, path, table)?;
     let all = revert_all_at(alloc, path, table)?;
@@ -155,7 +161,7 @@ fn times(alloc: Global, path: &Path, table: &Table) -> Result<RetryKind, FileFau
 /// An attempt for each of the values.
 fn for_each(alloc: Global, path: &Path, table: &Table) -> Result<RetryKind, FileFault>
     ensures ok { IfOk result (λ kind. for_each_spelled path.now (table_view table.now) ≡ Ok kind) }
-    ensures refused { IfErr result (Refuses (for_each_spelled path.now (table_view table.now))) }
+    ensures refused { IfErr result (RefusesWith (for_each_spelled path.now (table_view table.now))) }
 {
     let values = values_at(alloc, path, table)?;
     let all = revert_all_at(alloc, path, table)?;
@@ -165,23 +171,27 @@ fn for_each(alloc: Global, path: &Path, table: &Table) -> Result<RetryKind, File
 /// An attempt for each item of the argument `values`.
 fn parameterized(alloc: Global, path: &Path, table: &Table) -> Result<RetryKind, FileFault>
     ensures ok { IfOk result (λ kind. parameterized_spelled path.now (table_view table.now) ≡ Ok kind) }
-    ensures refused { IfErr result (Refuses (parameterized_spelled path.now (table_view table.now))) }
+    ensures refused { IfErr result (RefusesWith (parameterized_spelled path.now (table_view table.now))) }
 {
     let all = revert_all_at(alloc, path, table)?;
     Ok(RetryKind::Parameterized { all })
 }
 
 fn attempts_at(alloc: Global, path: &Path, table: &Table) -> Result<u16, FileFault>
-    ensures ok { IfOk result (λ attempts. required_there path.now (codes "attempts") (table_view table.now) attempts_spelled ≡ Ok attempts) }
-    ensures refused { IfErr result (Refuses (required_there path.now (codes "attempts") (table_view table.now) attempts_spelled)) }
+    ensures ok { IfOk result (λ attempts. required_there path.now (codes "attempts")
+        (table_view table.now) attempts_spelled ≡ Ok attempts) }
+    ensures refused { IfErr result (RefusesWith (required_there path.now (codes "attempts")
+        (table_view table.now) attempts_spelled)) }
 {
     let field = required(alloc, path, "attempts", table)?;
     attempts_form(alloc, &field)
 }
 
 fn values_at(alloc: Global, path: &Path, table: &Table) -> Result<Scalars, FileFault>
-    ensures ok { IfOk result (λ values. required_there path.now (codes "values") (table_view table.now) values_spelled ≡ Ok values) }
-    ensures refused { IfErr result (Refuses (required_there path.now (codes "values") (table_view table.now) values_spelled)) }
+    ensures ok { IfOk result (λ values. required_there path.now (codes "values")
+        (table_view table.now) values_spelled ≡ Ok values) }
+    ensures refused { IfErr result (RefusesWith (required_there path.now (codes "values")
+        (table_view table.now) values_spelled)) }
 {
     let field = required(alloc, path, "values", table)?;
     values_form(alloc, &field)
@@ -189,7 +199,7 @@ fn values_at(alloc: Global, path: &Path, table: &Table) -> Result<Scalars, FileF
 
 fn revert_all_at(alloc: Global, path: &Path, table: &Table) -> Result<bool, FileFault>
     ensures ok { IfOk result (λ all. revert_all_spelled path.now (table_view table.now) ≡ Ok all) }
-    ensures refused { IfErr result (Refuses (revert_all_spelled path.now (table_view table.now))) }
+    ensures refused { IfErr result (RefusesWith (revert_all_spelled path.now (table_view table.now))) }
 {
     match optional(alloc, path, "revert_all", table)? {
         Some(field) => truth_form(alloc, &field),
@@ -201,7 +211,7 @@ fn revert_all_at(alloc: Global, path: &Path, table: &Table) -> Result<bool, File
 /// needs more than 16 bits.
 fn attempts_form(alloc: Global, field: &Field<'_>) -> Result<u16, FileFault>
     ensures ok { IfOk result (λ attempts. attempts_spelled field.now.path (view field.now.value.now) ≡ Ok attempts) }
-    ensures refused { IfErr result (Refuses (attempts_spelled field.now.path (view field.now.value.now))) }
+    ensures refused { IfErr result (RefusesWith (attempts_spelled field.now.path (view field.now.value.now))) }
 {
     match field.value.as_integer() {
         Some(number) => counted(alloc, &field.path, number),
@@ -211,7 +221,7 @@ fn attempts_form(alloc: Global, field: &Field<'_>) -> Result<u16, FileFault>
 
 fn counted(alloc: Global, path: &Path, number: i64) -> Result<u16, FileFault>
     ensures ok { IfOk result (λ attempts. counted_spelled path.now number ≡ Ok attempts) }
-    ensures refused { IfErr result (Refuses (counted_spelled path.now number)) }
+    ensures refused { IfErr result (RefusesWith (counted_spelled path.now number)) }
 {
     if number < 0 || 65_535 < number {
         return Err(FileFault::BadNumber(path.copy(alloc)?));
@@ -222,7 +232,7 @@ fn counted(alloc: Global, path: &Path, number: i64) -> Result<u16, FileFault>
 /// A list of values, or `BadValue`.
 fn values_form(alloc: Global, field: &Field<'_>) -> Result<Scalars, FileFault>
     ensures ok { IfOk result (λ values. values_spelled field.now.path (view field.now.value.now) ≡ Ok values) }
-    ensures refused { IfErr result (Refuses (values_spelled field.now.path (view field.now.value.now))) }
+    ensures refused { IfErr result (RefusesWith (values_spelled field.now.path (view field.now.value.now))) }
 {
     match value_of(alloc, field.value)? {
         Some(Val::List(values)) => Ok(values),
@@ -233,7 +243,7 @@ fn values_form(alloc: Global, field: &Field<'_>) -> Result<Scalars, FileFault>
 /// A truth value, or `WrongKind`.
 fn truth_form(alloc: Global, field: &Field<'_>) -> Result<bool, FileFault>
     ensures ok { IfOk result (λ truth. truth_spelled field.now.path (view field.now.value.now) ≡ Ok truth) }
-    ensures refused { IfErr result (Refuses (truth_spelled field.now.path (view field.now.value.now))) }
+    ensures refused { IfErr result (RefusesWith (truth_spelled field.now.path (view field.now.value.now))) }
 {
     match field.value.as_bool() {
         Some(truth) => Ok(truth),

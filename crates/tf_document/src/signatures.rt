@@ -1,5 +1,5 @@
 ghost use Rattle.std.specs.Prelude.{◌≡◌, Ok, IfOk, IfErr, [], codes};
-ghost use Rattle.tf_document.specs.Reading.{Refuses, optional as optional_there};
+ghost use Rattle.tf_document.specs.Reading.{RefusesWith, optional as optional_there};
 ghost use Rattle.tf_document.specs.Values.{names_form as names_spelled, binds_form as binds_spelled};
 ghost use Rattle.tf_document.specs.Signatures.{signature_form as signature_spelled, rebind_form as rebind_spelled, provides_form as provides_spelled};
 ghost use Rattle.tf_flow.specs.declared.atoms.Provides.TheVariants as provided;
@@ -28,7 +28,7 @@ pub struct Signature {
 /// The signature that the table under the path spells, or the first reason why it spells none.
 pub fn signature_form(alloc: Global, path: &Path, table: &Table) -> Result<Signature, FileFault>
     ensures ok { IfOk result (λ signature. signature_spelled path.now (table_view table.now) ≡ Ok signature) }
-    ensures refused { IfErr result (Refuses (signature_spelled path.now (table_view table.now))) }
+    ensures refused { IfErr result (RefusesWith (signature_spelled path.now (table_view table.now))) }
 {
     let required = requires_at(alloc, path, table)?;
     let rebound = rebind_at(alloc, path, table)?;
@@ -43,8 +43,10 @@ pub fn signature_form(alloc: Global, path: &Path, table: &Table) -> Result<Signa
 }
 
 fn requires_at(alloc: Global, path: &Path, table: &Table) -> Result<Vec<Name>, FileFault>
-    ensures ok { IfOk result (λ names. optional_there path.now (codes "requires") (table_view table.now) [] names_spelled ≡ Ok names.items) }
-    ensures refused { IfErr result (Refuses (optional_there path.now (codes "requires") (table_view table.now) [] names_spelled)) }
+    ensures ok { IfOk result (λ names. optional_there path.now (codes "requires")
+        (table_view table.now) [] names_spelled ≡ Ok names.items) }
+    ensures refused { IfErr result (RefusesWith (optional_there path.now (codes "requires")
+        (table_view table.now) [] names_spelled)) }
 {
     match optional(alloc, path, "requires", table)? {
         Some(field) => names_form(alloc, &field),
@@ -53,8 +55,10 @@ fn requires_at(alloc: Global, path: &Path, table: &Table) -> Result<Vec<Name>, F
 }
 
 fn rebind_at(alloc: Global, path: &Path, table: &Table) -> Result<Vec<Arg>, FileFault>
-    ensures ok { IfOk result (λ args. optional_there path.now (codes "rebind") (table_view table.now) [] rebind_spelled ≡ Ok args.items) }
-    ensures refused { IfErr result (Refuses (optional_there path.now (codes "rebind") (table_view table.now) [] rebind_spelled)) }
+    ensures ok { IfOk result (λ args. optional_there path.now (codes "rebind")
+        (table_view table.now) [] rebind_spelled ≡ Ok args.items) }
+    ensures refused { IfErr result (RefusesWith (optional_there path.now (codes "rebind")
+        (table_view table.now) [] rebind_spelled)) }
 {
     match optional(alloc, path, "rebind", table)? {
         Some(field) => rebind_form(alloc, &field),
@@ -63,8 +67,10 @@ fn rebind_at(alloc: Global, path: &Path, table: &Table) -> Result<Vec<Arg>, File
 }
 
 fn inject_at(alloc: Global, path: &Path, table: &Table) -> Result<Vec<Bind>, FileFault>
-    ensures ok { IfOk result (λ binds. optional_there path.now (codes "inject") (table_view table.now) [] binds_spelled ≡ Ok binds.items) }
-    ensures refused { IfErr result (Refuses (optional_there path.now (codes "inject") (table_view table.now) [] binds_spelled)) }
+    ensures ok { IfOk result (λ binds. optional_there path.now (codes "inject")
+        (table_view table.now) [] binds_spelled ≡ Ok binds.items) }
+    ensures refused { IfErr result (RefusesWith (optional_there path.now (codes "inject")
+        (table_view table.now) [] binds_spelled)) }
 {
     match optional(alloc, path, "inject", table)? {
         Some(field) => binds_form(alloc, &field),
@@ -73,8 +79,10 @@ fn inject_at(alloc: Global, path: &Path, table: &Table) -> Result<Vec<Bind>, Fil
 }
 
 fn provides_at(alloc: Global, path: &Path, table: &Table) -> Result<Provides, FileFault>
-    ensures ok { IfOk result (λ provides. optional_there path.now (codes "provides") (table_view table.now) provided.Nothing provides_spelled ≡ Ok provides) }
-    ensures refused { IfErr result (Refuses (optional_there path.now (codes "provides") (table_view table.now) provided.Nothing provides_spelled)) }
+    ensures ok { IfOk result (λ provides. optional_there path.now (codes "provides")
+        (table_view table.now) provided.Nothing provides_spelled ≡ Ok provides) }
+    ensures refused { IfErr result (RefusesWith (optional_there path.now (codes "provides")
+        (table_view table.now) provided.Nothing provides_spelled)) }
 {
     match optional(alloc, path, "provides", table)? {
         Some(field) => provides_form(alloc, &field),
@@ -86,7 +94,7 @@ fn provides_at(alloc: Global, path: &Path, table: &Table) -> Result<Provides, Fi
 /// where a string is no name.
 fn provides_form(alloc: Global, field: &Field<'_>) -> Result<Provides, FileFault>
     ensures ok { IfOk result (λ provides. provides_spelled field.now.path (view field.now.value.now) ≡ Ok provides) }
-    ensures refused { IfErr result (Refuses (provides_spelled field.now.path (view field.now.value.now))) }
+    ensures refused { IfErr result (RefusesWith (provides_spelled field.now.path (view field.now.value.now))) }
 {
     match field.value {
         Value::String(string) => {

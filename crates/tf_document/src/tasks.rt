@@ -1,5 +1,5 @@
 ghost use Rattle.std.specs.Prelude.{◌≡◌, [], Ok, IfOk, IfErr, codes, pos};
-ghost use Rattle.tf_document.specs.Reading.{Refuses, required as required_there, optional as optional_there};
+ghost use Rattle.tf_document.specs.Reading.{RefusesWith, required as required_there, optional as optional_there};
 ghost use Rattle.tf_document.specs.Values.{name_form as name_spelled, texts_form as texts_spelled};
 ghost use Rattle.tf_document.specs.Tasks.{task_form as task_spelled, task_kind_form as kind_spelled, kind_named as kind_of, priority_form as priority_spelled, ranked as ranked_spelled, undo_form as undo_spelled, undo_named as undo_of};
 ghost use Rattle.tf_flow.specs.declared.atoms.Undo.TheVariants as undone;
@@ -19,7 +19,7 @@ use toml::{Table, Value};
 /// The task that the table under the path spells, or the first reason why it spells none.
 pub fn task_form(alloc: Global, path: &Path, table: &Table) -> Result<Task, FileFault>
     ensures ok { IfOk result (λ task. task_spelled path.now (table_view table.now) ≡ Ok task) }
-    ensures refused { IfErr result (Refuses (task_spelled path.now (table_view table.now))) }
+    ensures refused { IfErr result (RefusesWith (task_spelled path.now (table_view table.now))) }
 {
     let keys = [
         "task", "kind", "requires", "rebind", "inject", "provides", "priority", "run", "revert",
@@ -44,24 +44,30 @@ pub fn task_form(alloc: Global, path: &Path, table: &Table) -> Result<Task, File
 }
 
 fn name_at(alloc: Global, path: &Path, table: &Table) -> Result<Name, FileFault>
-    ensures ok { IfOk result (λ name. required_there path.now (codes "task") (table_view table.now) name_spelled ≡ Ok name) }
-    ensures refused { IfErr result (Refuses (required_there path.now (codes "task") (table_view table.now) name_spelled)) }
+    ensures ok { IfOk result (λ name. required_there path.now (codes "task") (table_view table.now) name_spelled
+        ≡ Ok name) }
+    ensures refused { IfErr result (RefusesWith (required_there path.now (codes "task")
+        (table_view table.now) name_spelled)) }
 {
     let field = required(alloc, path, "task", table)?;
     name_form(alloc, &field)
 }
 
 fn kind_at(alloc: Global, path: &Path, table: &Table) -> Result<TaskKind, FileFault>
-    ensures ok { IfOk result (λ kind. required_there path.now (codes "kind") (table_view table.now) kind_spelled ≡ Ok kind) }
-    ensures refused { IfErr result (Refuses (required_there path.now (codes "kind") (table_view table.now) kind_spelled)) }
+    ensures ok { IfOk result (λ kind. required_there path.now (codes "kind") (table_view table.now) kind_spelled
+        ≡ Ok kind) }
+    ensures refused { IfErr result (RefusesWith (required_there path.now (codes "kind")
+        (table_view table.now) kind_spelled)) }
 {
     let field = required(alloc, path, "kind", table)?;
     kind_form(alloc, &field)
 }
 
 fn priority_at(alloc: Global, path: &Path, table: &Table) -> Result<i32, FileFault>
-    ensures ok { IfOk result (λ priority. optional_there path.now (codes "priority") (table_view table.now) (pos 0) priority_spelled ≡ Ok priority) }
-    ensures refused { IfErr result (Refuses (optional_there path.now (codes "priority") (table_view table.now) (pos 0) priority_spelled)) }
+    ensures ok { IfOk result (λ priority. optional_there path.now (codes "priority") (table_view table.now)
+        (pos 0) priority_spelled ≡ Ok priority) }
+    ensures refused { IfErr result (RefusesWith (optional_there path.now (codes "priority") (table_view table.now)
+        (pos 0) priority_spelled)) }
 {
     match optional(alloc, path, "priority", table)? {
         Some(field) => priority_form(alloc, &field),
@@ -70,8 +76,10 @@ fn priority_at(alloc: Global, path: &Path, table: &Table) -> Result<i32, FileFau
 }
 
 fn run_at(alloc: Global, path: &Path, table: &Table) -> Result<Vec<Text>, FileFault>
-    ensures ok { IfOk result (λ words. optional_there path.now (codes "run") (table_view table.now) [] texts_spelled ≡ Ok words.items) }
-    ensures refused { IfErr result (Refuses (optional_there path.now (codes "run") (table_view table.now) [] texts_spelled)) }
+    ensures ok { IfOk result (λ words. optional_there path.now (codes "run") (table_view table.now) [] texts_spelled
+        ≡ Ok words.items) }
+    ensures refused { IfErr result (RefusesWith (optional_there path.now (codes "run")
+        (table_view table.now) [] texts_spelled)) }
 {
     match optional(alloc, path, "run", table)? {
         Some(field) => texts_form(alloc, &field),
@@ -80,8 +88,10 @@ fn run_at(alloc: Global, path: &Path, table: &Table) -> Result<Vec<Text>, FileFa
 }
 
 fn revert_at(alloc: Global, path: &Path, table: &Table) -> Result<Undo, FileFault>
-    ensures ok { IfOk result (λ undo. optional_there path.now (codes "revert") (table_view table.now) undone.Pass undo_spelled ≡ Ok undo) }
-    ensures refused { IfErr result (Refuses (optional_there path.now (codes "revert") (table_view table.now) undone.Pass undo_spelled)) }
+    ensures ok { IfOk result (λ undo. optional_there path.now (codes "revert")
+        (table_view table.now) undone.Pass undo_spelled ≡ Ok undo) }
+    ensures refused { IfErr result (RefusesWith (optional_there path.now (codes "revert")
+        (table_view table.now) undone.Pass undo_spelled)) }
 {
     match optional(alloc, path, "revert", table)? {
         Some(field) => undo_form(alloc, &field),
@@ -92,7 +102,7 @@ fn revert_at(alloc: Global, path: &Path, table: &Table) -> Result<Undo, FileFaul
 /// A kind of task: `WrongKind` where the value is no string, `BadChoice` where it is no kind.
 fn kind_form(alloc: Global, field: &Field<'_>) -> Result<TaskKind, FileFault>
     ensures ok { IfOk result (λ kind. kind_spelled field.now.path (view field.now.value.now) ≡ Ok kind) }
-    ensures refused { IfErr result (Refuses (kind_spelled field.now.path (view field.now.value.now))) }
+    ensures refused { IfErr result (RefusesWith (kind_spelled field.now.path (view field.now.value.now))) }
 {
     let word = field.word(alloc)?;
     kind_named(alloc, &field.path, word)
@@ -100,7 +110,7 @@ fn kind_form(alloc: Global, field: &Field<'_>) -> Result<TaskKind, FileFault>
 
 fn kind_named(alloc: Global, path: &Path, word: &str) -> Result<TaskKind, FileFault>
     ensures ok { IfOk result (λ kind. kind_of path.now word.now ≡ Ok kind) }
-    ensures refused { IfErr result (Refuses (kind_of path.now word.now)) }
+    ensures refused { IfErr result (RefusesWith (kind_of path.now word.now)) }
 {
     match word {
         "echo" => Ok(TaskKind::Echo),
@@ -120,7 +130,7 @@ fn kind_named(alloc: Global, path: &Path, word: &str) -> Result<TaskKind, FileFa
 /// A priority: `WrongKind` where the value is no integer, `BadNumber` where it needs more than 32 bits.
 fn priority_form(alloc: Global, field: &Field<'_>) -> Result<i32, FileFault>
     ensures ok { IfOk result (λ priority. priority_spelled field.now.path (view field.now.value.now) ≡ Ok priority) }
-    ensures refused { IfErr result (Refuses (priority_spelled field.now.path (view field.now.value.now))) }
+    ensures refused { IfErr result (RefusesWith (priority_spelled field.now.path (view field.now.value.now))) }
 {
     match field.value.as_integer() {
         Some(number) => ranked(alloc, &field.path, number),
@@ -130,7 +140,7 @@ fn priority_form(alloc: Global, field: &Field<'_>) -> Result<i32, FileFault>
 
 fn ranked(alloc: Global, path: &Path, number: i64) -> Result<i32, FileFault>
     ensures ok { IfOk result (λ priority. ranked_spelled path.now number ≡ Ok priority) }
-    ensures refused { IfErr result (Refuses (ranked_spelled path.now number)) }
+    ensures refused { IfErr result (RefusesWith (ranked_spelled path.now number)) }
 {
     if number < -2_147_483_648 || 2_147_483_647 < number {
         return Err(FileFault::BadNumber(path.copy(alloc)?));
@@ -142,7 +152,7 @@ fn ranked(alloc: Global, path: &Path, number: i64) -> Result<i32, FileFault>
 /// it is another word, and for the words of a program what refuses the first that is no text.
 fn undo_form(alloc: Global, field: &Field<'_>) -> Result<Undo, FileFault>
     ensures ok { IfOk result (λ undo. undo_spelled field.now.path (view field.now.value.now) ≡ Ok undo) }
-    ensures refused { IfErr result (Refuses (undo_spelled field.now.path (view field.now.value.now))) }
+    ensures refused { IfErr result (RefusesWith (undo_spelled field.now.path (view field.now.value.now))) }
 {
     match field.value {
         Value::String(string) => undo_named(alloc, &field.path, string.as_str()),
@@ -156,7 +166,7 @@ fn undo_form(alloc: Global, field: &Field<'_>) -> Result<Undo, FileFault>
 
 fn undo_named(alloc: Global, path: &Path, word: &str) -> Result<Undo, FileFault>
     ensures ok { IfOk result (λ undo. undo_of path.now word.now ≡ Ok undo) }
-    ensures refused { IfErr result (Refuses (undo_of path.now word.now)) }
+    ensures refused { IfErr result (RefusesWith (undo_of path.now word.now)) }
 {
     match word {
         "ok" => Ok(Undo::Pass),

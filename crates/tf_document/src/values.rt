@@ -1,5 +1,5 @@
 ghost use Rattle.std.specs.Prelude.{◌≡◌, Ok, IfOk, IfErr, option_map};
-ghost use Rattle.tf_document.specs.Reading.{Refuses, each};
+ghost use Rattle.tf_document.specs.Reading.{RefusesWith, each};
 ghost use Rattle.tf_document.specs.Values.{named as name_of, name_form as name_spelled, names_form as names_spelled, key_form as key_spelled, scalar_of as scalar_spelled, scalars_of as scalars_spelled, list_of as list_spelled, value_at as value_spelled, value_form as value_read, bind_form as bind_spelled, binds_of as binds_read, binds_form as binds_spelled};
 ghost use Rattle.toml.specs.Data.{string as string_data, array as array_data};
 ghost use Rattle.toml.specs.View.{view, items_view, table_view};
@@ -15,7 +15,7 @@ use toml::{Table, Value};
 /// A name: `WrongKind` where the value is no string, `BadName` where it is no name.
 pub fn name_form(alloc: Global, field: &Field<'_>) -> Result<Name, FileFault>
     ensures ok { IfOk result (λ name. name_spelled field.now.path (view field.now.value.now) ≡ Ok name) }
-    ensures refused { IfErr result (Refuses (name_spelled field.now.path (view field.now.value.now))) }
+    ensures refused { IfErr result (RefusesWith (name_spelled field.now.path (view field.now.value.now))) }
 {
     let word = field.word(alloc)?;
     named(alloc, &field.path, word)
@@ -24,7 +24,7 @@ pub fn name_form(alloc: Global, field: &Field<'_>) -> Result<Name, FileFault>
 /// The name that a string under the path is, or `BadName`.
 pub fn named(alloc: Global, path: &Path, word: &str) -> Result<Name, FileFault>
     ensures ok { IfOk result (λ name. name_of path.now word.now ≡ Ok name) }
-    ensures refused { IfErr result (Refuses (name_of path.now word.now)) }
+    ensures refused { IfErr result (RefusesWith (name_of path.now word.now)) }
 {
     match Name::make(word.as_bytes()) {
         Some(name) => Ok(name),
@@ -35,7 +35,7 @@ pub fn named(alloc: Global, path: &Path, word: &str) -> Result<Name, FileFault>
 /// A list of names; each is refused under its own path.
 pub fn names_form(alloc: Global, field: &Field<'_>) -> Result<Vec<Name>, FileFault>
     ensures ok { IfOk result (λ names. names_spelled field.now.path (view field.now.value.now) ≡ Ok names.items) }
-    ensures refused { IfErr result (Refuses (names_spelled field.now.path (view field.now.value.now))) }
+    ensures refused { IfErr result (RefusesWith (names_spelled field.now.path (view field.now.value.now))) }
 {
     let items = field.items(alloc)?;
     each_name(alloc, &field.path, items)
@@ -44,7 +44,7 @@ pub fn names_form(alloc: Global, field: &Field<'_>) -> Result<Vec<Name>, FileFau
 /// The names that the items of an array under the path are.
 pub fn each_name(alloc: Global, path: &Path, items: &[Value]) -> Result<Vec<Name>, FileFault>
     ensures ok { IfOk result (λ names. each name_spelled path.now 0 (items_view items.now) ≡ Ok names.items) }
-    ensures refused { IfErr result (Refuses (each name_spelled path.now 0 (items_view items.now))) }
+    ensures refused { IfErr result (RefusesWith (each name_spelled path.now 0 (items_view items.now))) }
 {
     let mut names = Vec::new(alloc);
     for (number, value) in items.iter().enumerate() {
@@ -57,7 +57,7 @@ pub fn each_name(alloc: Global, path: &Path, items: &[Value]) -> Result<Vec<Name
 /// The name that a key of the table under the path is, or `BadName`.
 pub fn key_form(alloc: Global, path: &Path, key: &str) -> Result<Name, FileFault>
     ensures ok { IfOk result (λ name. key_spelled path.now key.now ≡ Ok name) }
-    ensures refused { IfErr result (Refuses (key_spelled path.now key.now)) }
+    ensures refused { IfErr result (RefusesWith (key_spelled path.now key.now)) }
 {
     match Name::make(key.as_bytes()) {
         Some(name) => Ok(name),
@@ -69,7 +69,7 @@ pub fn key_form(alloc: Global, path: &Path, key: &str) -> Result<Name, FileFault
 /// for what is no value.
 pub fn binds_form(alloc: Global, field: &Field<'_>) -> Result<Vec<Bind>, FileFault>
     ensures ok { IfOk result (λ binds. binds_spelled field.now.path (view field.now.value.now) ≡ Ok binds.items) }
-    ensures refused { IfErr result (Refuses (binds_spelled field.now.path (view field.now.value.now))) }
+    ensures refused { IfErr result (RefusesWith (binds_spelled field.now.path (view field.now.value.now))) }
 {
     let table = field.table(alloc)?;
     binds_of(alloc, &field.path, table)
@@ -78,7 +78,7 @@ pub fn binds_form(alloc: Global, field: &Field<'_>) -> Result<Vec<Bind>, FileFau
 /// The symbols of the table under the path, with their values.
 fn binds_of(alloc: Global, path: &Path, table: &Table) -> Result<Vec<Bind>, FileFault>
     ensures ok { IfOk result (λ binds. binds_read path.now (table_view table.now) ≡ Ok binds.items) }
-    ensures refused { IfErr result (Refuses (binds_read path.now (table_view table.now))) }
+    ensures refused { IfErr result (RefusesWith (binds_read path.now (table_view table.now))) }
 {
     let mut binds = Vec::new(alloc);
     for (key, value) in table {
@@ -90,7 +90,7 @@ fn binds_of(alloc: Global, path: &Path, table: &Table) -> Result<Vec<Bind>, File
 /// A symbol of the table under the path, with its value.
 fn bind_form(alloc: Global, path: &Path, key: &str, value: &Value) -> Result<Bind, FileFault>
     ensures ok { IfOk result (λ bind. bind_spelled path.now key.now (view value.now) ≡ Ok bind) }
-    ensures refused { IfErr result (Refuses (bind_spelled path.now key.now (view value.now))) }
+    ensures refused { IfErr result (RefusesWith (bind_spelled path.now key.now (view value.now))) }
 {
     let symbol = key_form(alloc, path, key)?;
     let place = path.below(alloc, symbol.bytes())?;
@@ -101,7 +101,7 @@ fn bind_form(alloc: Global, path: &Path, key: &str, value: &Value) -> Result<Bin
 /// The value under the path, or `BadValue`.
 pub fn value_form(alloc: Global, path: &Path, value: &Value) -> Result<Val, FileFault>
     ensures ok { IfOk result (λ made. value_read path.now (view value.now) ≡ Ok made) }
-    ensures refused { IfErr result (Refuses (value_read path.now (view value.now))) }
+    ensures refused { IfErr result (RefusesWith (value_read path.now (view value.now))) }
 {
     match value_of(alloc, value)? {
         Some(made) => Ok(made),
@@ -154,7 +154,8 @@ fn within_limits(scalars: Vec<Scalar>) -> Option<Val>
 
 /// The scalars that the items of an array are, or none where one is no scalar.
 fn scalars_of(alloc: Global, items: &[Value]) -> Result<Option<Vec<Scalar>>, Memory>
-    ensures { IfOk result (λ made. option_map (λ scalars. scalars.items) made ≡ scalars_spelled (items_view items.now)) }
+    ensures { IfOk result (λ made. option_map (λ scalars. scalars.items) made
+        ≡ scalars_spelled (items_view items.now)) }
 {
     let mut scalars = Vec::new(alloc);
     for item in items {

@@ -1,5 +1,5 @@
 ghost use Rattle.std.specs.Prelude.{◌≡◌, Ok, IfOk, IfErr};
-ghost use Rattle.tf_document.specs.Reading.{Refuses, each};
+ghost use Rattle.tf_document.specs.Reading.{RefusesWith, each};
 ghost use Rattle.tf_document.specs.Values.{a_text as text_of_string, text_form as text_spelled, texts_form as texts_spelled};
 ghost use Rattle.toml.specs.View.{view, items_view};
 
@@ -13,7 +13,7 @@ use toml::Value;
 /// A list of texts; each is refused under its own path.
 pub fn texts_form(alloc: Global, field: &Field<'_>) -> Result<Vec<Text>, FileFault>
     ensures ok { IfOk result (λ texts. texts_spelled field.now.path (view field.now.value.now) ≡ Ok texts.items) }
-    ensures refused { IfErr result (Refuses (texts_spelled field.now.path (view field.now.value.now))) }
+    ensures refused { IfErr result (RefusesWith (texts_spelled field.now.path (view field.now.value.now))) }
 {
     let items = field.items(alloc)?;
     each_text(alloc, &field.path, items)
@@ -22,7 +22,7 @@ pub fn texts_form(alloc: Global, field: &Field<'_>) -> Result<Vec<Text>, FileFau
 /// The texts that the items of an array under the path are.
 pub fn each_text(alloc: Global, path: &Path, items: &[Value]) -> Result<Vec<Text>, FileFault>
     ensures ok { IfOk result (λ texts. each text_spelled path.now 0 (items_view items.now) ≡ Ok texts.items) }
-    ensures refused { IfErr result (Refuses (each text_spelled path.now 0 (items_view items.now))) }
+    ensures refused { IfErr result (RefusesWith (each text_spelled path.now 0 (items_view items.now))) }
 {
     let mut texts = Vec::new(alloc);
     for (number, value) in items.iter().enumerate() {
@@ -35,7 +35,7 @@ pub fn each_text(alloc: Global, path: &Path, items: &[Value]) -> Result<Vec<Text
 /// A text: `WrongKind` where the value is no string, `BadValue` where it is longer than texts are.
 fn text_form(alloc: Global, field: &Field<'_>) -> Result<Text, FileFault>
     ensures ok { IfOk result (λ text. text_spelled field.now.path (view field.now.value.now) ≡ Ok text) }
-    ensures refused { IfErr result (Refuses (text_spelled field.now.path (view field.now.value.now))) }
+    ensures refused { IfErr result (RefusesWith (text_spelled field.now.path (view field.now.value.now))) }
 {
     let word = field.word(alloc)?;
     a_text(alloc, &field.path, word)
@@ -44,7 +44,7 @@ fn text_form(alloc: Global, field: &Field<'_>) -> Result<Text, FileFault>
 /// The text that a string under the path is, or `BadValue`.
 fn a_text(alloc: Global, path: &Path, word: &str) -> Result<Text, FileFault>
     ensures ok { IfOk result (λ text. text_of_string path.now word.now ≡ Ok text) }
-    ensures refused { IfErr result (Refuses (text_of_string path.now word.now)) }
+    ensures refused { IfErr result (RefusesWith (text_of_string path.now word.now)) }
 {
     match Text::make(alloc, word.as_bytes()) {
         Ok(text) => Ok(text),

@@ -3,10 +3,9 @@ use Rattle.std.proofs.Common.{◌≡◌, ◌<◌, ℕ, zero, suc, Bool, true, fa
 use Rattle.std.specs.List.{All}
 use Rattle.std.proofs.lemmas.List.{append-nil, get_or-map, length-map}
 use Rattle.std.proofs.lemmas.List.Elements.{All-append}
-use Rattle.tf_desk.specs.Content.{Content}
-use Rattle.tf_desk.specs.Crash.{Images, Crashes}
-use Rattle.tf_ports.specs.declared.orders.Order.{Order}
-use Rattle.tf_ports.specs.declared.outcomes.Outcome.{Outcome}
+use Rattle.tf_desk.specs.State.{DeskState}
+use Rattle.tf_actions.specs.declared.orders.Order.{Order}
+use Rattle.tf_actions.specs.declared.outcomes.Outcome.{Outcome}
 use Rattle.tf_states.specs.declared.record.Entry.{Entry}
 use Rattle.tf_hands.specs.Hands.{orders}
 use Rattle.tf_hands.proofs.OtherLemmas.{orders_through}
@@ -17,8 +16,8 @@ use Rattle.tf_model.specs.Sessions.{is_last}
 use Rattle.tf_book.specs.Book.{BookValue, outline}
 use Rattle.tf_turnstile.specs.Numbered.{IsLater}
 use Rattle.tf_turnstile.specs.Passes.{TurnstileValue, PassValue, IsIdle, AreAll, AreNew, HasGrown, new_pass}
-use Rattle.tf_engines.specs.Shared.{SharedValue, unnumbered, origin_of, entries_of, seen_past, entered_past, IsFresh, IsShared}
-use Rattle.tf_engines.specs.Working.{HasDoneSo, HasWorked, IsOpened, IsReady}
+use Rattle.tf_engines.specs.Shared.{SharedValue, unnumbered, origin_of, entries_of, seen_past, entered_past, IsJustEntered, IsShared}
+use Rattle.tf_engines.specs.Working.{HasDoneSo, HasWorked, IsOpenedFor, IsReadyToTurn}
 use Rattle.tf_engines.proofs.OrderLemmas.{done_none, done_whole, same_done, entered_asks, so_all}
 use Rattle.tf_engines.proofs.SeenLemmas.{IsLaterBy, taken_on, first_is, later_is, seen_splits}
 use Rattle.tf_engines.proofs.SharedLemmas.{stays_last}
@@ -51,7 +50,7 @@ all_right {W} failed_of xs x all right = All-append (λ (w : W). failed_of w ≡
 pub at_mapped : {W X : Type 0} (f : W → X) (xs : List W) (ys : List X) (i : ℕ) (w : W) (d : X) → map f xs ≡ ys → i < length xs → slice_index_or ys i d ≡ f (slice_index_or xs i w)
 at_mapped {W} {X} f xs ys i w d is below = ap (λ (l : List X). slice_index_or l i d) (sym is) ∙ get_or-map f xs i w d below
 
-module _ {K : Type 0} (tells : K → Bool) (shown : K → Option (List ℕ)) (content : K → Content) (left : K → Images) (crashes : K → Crashes) (disk_faults out_faults asks_of : K → ℕ) (gives : Order → Outcome → Type 0) (turnstile : TurnstileValue (SharedValue K)) (s : SharedValue K) (fresh : IsFresh turnstile.start) (same : origin_of s ≡ origin_of turnstile.start) (had : IsShared tells shown content left crashes disk_faults out_faults asks_of gives s) where
+module _ {K : Type 0} (state : K → DeskState) (gives : Order → Outcome → Type 0) (turnstile : TurnstileValue (SharedValue K)) (s : SharedValue K) (fresh : IsJustEntered turnstile.start) (same : origin_of s ≡ origin_of turnstile.start) (had : IsShared state gives s) where
   start_is : s.start ≡ turnstile.start.start
   start_is = ap (λ (o : BookValue K × Option ℕ × ℕ). o.0) same
 
@@ -74,7 +73,7 @@ module _ {K : Type 0} (tells : K → Bool) (shown : K → Option (List ℕ)) (co
 
 -- a hand's orders in the whole run
 pub worked_done : {K : Type 0} (turnstile : TurnstileValue (SharedValue K)) (hand : ℕ) (old new : PassValue (SharedValue K) Entry) (did_old did_new : Option (List Order)) (this failed : Bool) (asked : List Order)
-    → IsFresh turnstile.start → old ≡ new_pass turnstile hand → HasWorked turnstile hand old new did_old did_new this → (failed ≡ false → this ≡ false)
+    → IsJustEntered turnstile.start → old ≡ new_pass turnstile hand → HasWorked turnstile hand old new did_old did_new this → (failed ≡ false → this ≡ false)
     → asked ≡ orders (outline turnstile.start.start) hand (seen_past turnstile new)
     → HasDoneSo failed did_old (orders (outline turnstile.start.start) hand turnstile.start.start.past) did_new asked
 worked_done {K} turnstile hand old new did_old did_new this failed asked fresh made worked none same =
@@ -105,13 +104,13 @@ module _ {K W : Type 0} (turnstile : TurnstileValue (SharedValue K)) (pass_of : 
   new_idle : (i : ℕ) → IsIdle {B = SharedValue K} {E = Entry} turnstile i (new_pass turnstile i)
   new_idle i = record { mine = record { table = refl; start = refl }; number_is = refl; nothing = refl }
 
-  pub all_ready : (workers : List W) (passes : List (PassValue (SharedValue K) Entry)) → map pass_of workers ≡ passes → AreNew turnstile passes → IsFresh turnstile.start → length workers ≡ turnstile.start.number
-      → turnstile.start.number ≤ 64 → (i : ℕ) (d : W) → i < length workers → IsOpened turnstile i × IsReady turnstile i (pass_of (slice_index_or workers i d))
+  pub all_ready : (workers : List W) (passes : List (PassValue (SharedValue K) Entry)) → map pass_of workers ≡ passes → AreNew turnstile passes → IsJustEntered turnstile.start → length workers ≡ turnstile.start.number
+      → turnstile.start.number ≤ 64 → (i : ℕ) (d : W) → i < length workers → IsOpenedFor turnstile i × IsReadyToTurn turnstile i (pass_of (slice_index_or workers i d))
   all_ready workers passes is new fresh long few i d below =
       let plan : Outline = outline turnstile.start.start in
       let made = all_made workers passes is new i d below in (
         record { fresh = fresh; below = omega (arith, below, long); few = few },
-        subst (λ (p : PassValue (SharedValue K) Entry). IsReady turnstile i p) (sym made)
+        subst (λ (p : PassValue (SharedValue K) Entry). IsReadyToTurn turnstile i p) (sym made)
             (record { idle = new_idle i; free = still_free plan (snapshot plan turnstile.start.now.past) i fresh.still }),
       )
 
@@ -141,15 +140,15 @@ module _ {K W : Type 0} (turnstile : TurnstileValue (SharedValue K)) (pass_of : 
           = subst (λ (p : PassValue (SharedValue K) Entry). IsLater p.number p.seen grown.added) at (grown.seen i (pass_of w) (omega (arith, below, many))) in
           subst (λ (n : ℕ). IsLater n pass.seen grown.added) (worked i w below).idle.number_is later
 
-      module _ (tells : K → Bool) (shown : K → Option (List ℕ)) (content : K → Content) (left : K → Images) (crashes : K → Crashes) (disk_faults out_faults asks_of : K → ℕ) (gives : Order → Outcome → Type 0)
-          (fresh : IsFresh turnstile.start) (same : origin_of s ≡ origin_of turnstile.start) (had : IsShared tells shown content left crashes disk_faults out_faults asks_of gives s)
+      module _ (state : K → DeskState) (gives : Order → Outcome → Type 0)
+          (fresh : IsJustEntered turnstile.start) (same : origin_of s ≡ origin_of turnstile.start) (had : IsShared state gives s)
           (failed : Bool) (none : failed ≡ false → All (λ w. failed_of w ≡ false) new) where
         -- where no hand failed the flow has a last state
         pub all_last : 1 ≤ length old → failed ≡ false → is_last (flow_of s.now.past) ≡ true
         all_last some right =
             let w : W = there new 0 (omega (arith, some, long)) in
             let pass : PassValue (SharedValue K) Entry = pass_of (slice_index_or new 0 w) in
-            last_stays tells shown content left crashes disk_faults out_faults asks_of gives turnstile s fresh same had 0 pass grown.added grown.history (later_at 0 w (omega (arith, some)))
+            last_stays state gives turnstile s fresh same had 0 pass grown.added grown.history (later_at 0 w (omega (arith, some)))
             ((worked 0 w (omega (arith, some))).last (none right 0 w (omega (arith, some, long))))
 
         -- the orders that each hand was given in the whole run
@@ -164,6 +163,6 @@ module _ {K W : Type 0} (turnstile : TurnstileValue (SharedValue K)) (pass_of : 
             let done : HasDoneSo failed (did (hand_of (slice_index_or old i w))) (orders plan i turnstile.start.start.past) (did (hand_of (slice_index_or new i w))) (orders plan i s.now.past)
             = worked_done turnstile i (pass_of (slice_index_or old i w)) pass (did (hand_of (slice_index_or old i w))) (did (hand_of (slice_index_or new i w))) (failed_of (slice_index_or new i w)) failed (orders plan i s.now.past)
             fresh (made i w below) (worked i w below) (λ right. none right i w here)
-            (asks_stay tells shown content left crashes disk_faults out_faults asks_of gives turnstile s fresh same had i pass grown.added grown.history (later_at i w below) plan) in
+            (asks_stay state gives turnstile s fresh same had i pass grown.added grown.history (later_at i w below) plan) in
             subst (λ (h : H). HasDoneSo failed (did h) (orders plan i turnstile.start.start.past) (did (slice_index_or hands_new i d)) (orders plan i s.now.past)) (sym (at_mapped hand_of old hands_old i w d before below))
             (subst (λ (h : H). HasDoneSo failed (did (hand_of (slice_index_or old i w))) (orders plan i turnstile.start.start.past) (did h) (orders plan i s.now.past)) (sym (at_mapped hand_of new hands_new i w d (sym after) here)) done)

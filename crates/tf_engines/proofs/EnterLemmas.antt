@@ -5,8 +5,8 @@ use Rattle.std.specs.List.{list_all}
 use Rattle.std.proofs.lemmas.Bool.{eqb-true}
 use Rattle.std.proofs.lemmas.List.Folds.{list_all-append}
 use Rattle.std.proofs.lemmas.List.{reverse-append, length-reverse}
-use Rattle.tf_ports.specs.declared.orders.Order.{Order}
-use Rattle.tf_ports.specs.declared.outcomes.Outcome.{Outcome}
+use Rattle.tf_actions.specs.declared.orders.Order.{Order}
+use Rattle.tf_actions.specs.declared.outcomes.Outcome.{Outcome}
 use Rattle.tf_states.specs.declared.record.Entry.{Entry}
 use Rattle.tf_states.specs.declared.record.What.{What}
 use Rattle.tf_states.specs.declared.record.What.TheVariants as what
@@ -24,7 +24,7 @@ use Rattle.tf_book.specs.Stopping.{limit_from}
 use Rattle.tf_book.specs.Turns.{entering_by, IsEntering}
 use Rattle.tf_book.specs.declared.faults.Halt.{Halt}
 use Rattle.tf_engines.specs.declared.engine.How.{How}
-use Rattle.tf_engines.specs.Runs.{AreGiven, is_of, is_unsuspended, AreWithin, IsSuspended, IsSession, HasRun, HaltsAs, GoesOn, IsGoing}
+use Rattle.tf_engines.specs.Runs.{AreGiven, is_of, is_unsuspended, AreWithin, IsSuspended, IsSession, HasRun, HaltsAs, IsUnderWay, IsBetweenTurns}
 use Rattle.tf_engines.proofs.StopLemmas.{due_none}
 use Rattle.tf_engines.proofs.RunLemmas.{none_last, halts_so}
 
@@ -100,7 +100,7 @@ entered_within plan limit first [] fits = tt
 entered_within plan limit first (e ∷ entries) fits = ((λ behind reached. absurd (omega (arith, fits, behind))), entered_within plan limit first entries (omega (arith, fits)))
 
 pub entered_goes : (gives : Order → Outcome → Type 0) (number : ℕ) (limit : Option ℕ) (plan : Outline) (past after : List Entry) (kept : Option ℕ) → nat_lt 0 number ≡ true → kept ≡ limit_from limit (length past) → has_ended (flow_of past) ≡ false
-    → after ≡ reverse (entering_by 0 (flow_of past)) ++ past → GoesOn gives number limit plan past after kept
+    → after ≡ reverse (entering_by 0 (flow_of past)) ++ past → IsUnderWay gives number limit plan past after kept
 entered_goes gives number limit plan past after kept some limited begun is =
     let goes = entering_goes gives number plan past (flow_of past) some in
     record {
@@ -124,7 +124,7 @@ entering_runs past flow.Resuming begun = refl
 entering_runs past f begun = absurd (cc)
 
 pub entered_going : (plan : Outline) (past after : List Entry) (halt : Option Halt) → halt ≡ None → LegalPast plan after → (has_ended (flow_of past) ≡ false) × (after ≡ reverse (entering_by 0 (flow_of past)) ++ past)
-    → IsGoing plan after halt
+    → IsBetweenTurns plan after halt
 entered_going plan past after halt sound legal is =
     let same : after ≡ reverse (entering (flow_of past)) ++ past = is.1 ∙ ap (λ (l : List Entry). reverse l ++ past) (same_entering (flow_of past)) in
     record {
@@ -151,7 +151,7 @@ ended_before gives asked number limit plan past after state legal is = subst (λ
 pub cut_before : (gives : Order → Outcome → Type 0) (asked : Type 0) (number : ℕ) (limit : Option ℕ) (plan : Outline) (past after : List Entry) (cause : Option Halt) (answer : How) → nat_lt 0 number ≡ true → HaltsAs cause answer → LegalPast plan after
     → IsEntering 0 past after → HasRun gives asked number limit plan past after answer
 cut_before gives asked number limit plan past after cause answer any halts legal is =
-    let front : entering (flow_of past) ≡ is.some ++ is.others = sym (same_entering (flow_of past)) ∙ is.front in
+    let front : entering (flow_of past) ≡ is.some ++ is.others = sym (same_entering (flow_of past)) ∙ is.prefix in
     let goes = given_front gives number plan past (flow_of past) is.some is.others any front in
     halts_so gives asked number limit plan past after cause answer halts None (record {
       entries = reverse is.some;

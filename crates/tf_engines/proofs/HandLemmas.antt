@@ -1,7 +1,7 @@
 -- What a hand knows of the shared book that it takes and gives, by what its pass has seen.
 use Rattle.std.proofs.Common.{◌≡◌, ◌+◌, ◌-◌, ◌<◌, ◌^◌, ℕ, true, List, ◌++◌, length, Option, Some, ap, ◌∙◌, sym, subst, arith}
-use Rattle.tf_ports.specs.declared.orders.Order.{Order}
-use Rattle.tf_ports.specs.declared.outcomes.Outcome.{Outcome}
+use Rattle.tf_actions.specs.declared.orders.Order.{Order}
+use Rattle.tf_actions.specs.declared.outcomes.Outcome.{Outcome}
 use Rattle.tf_states.specs.declared.record.Entry.{Entry}
 use Rattle.tf_hands.specs.Hands.{HasOrder, orders}
 use Rattle.tf_hands.proofs.OtherLemmas.{free_through, order_through, orders_through}
@@ -10,16 +10,16 @@ use Rattle.tf_model.specs.Plan.{Outline}
 use Rattle.tf_model.specs.Steps.{LegalPast, is_free}
 use Rattle.tf_book.specs.Book.{BookValue, outline}
 use Rattle.tf_turnstile.specs.Numbered.{IsLater}
-use Rattle.tf_turnstile.specs.Passes.{TurnstileValue, PassValue, IsIdle, IsTurn}
+use Rattle.tf_turnstile.specs.Passes.{TurnstileValue, PassValue, IsIdle, MayGive}
 use Rattle.tf_engines.specs.Shared.{SharedValue, origin_of, entries_of, seen_past, IsInside}
-use Rattle.tf_engines.specs.Working.{IsAdded, HasOutcome, IsOpened}
+use Rattle.tf_engines.specs.Working.{IsAdded, HasOutcome, IsOpenedFor}
 use Rattle.tf_engines.proofs.SeenLemmas.{IsLaterBy, length-numbered, seen_is, taken_on, may_give}
 
 module _ {K : Type 0} where
   -- ---- what is taken
 
   -- it goes on from what the pass has seen
-  pub took : (turnstile : TurnstileValue (SharedValue K)) (hand : ℕ) (pass : PassValue (SharedValue K) Entry) (s : SharedValue K) (seen : List (ℕ × Entry)) → IsOpened turnstile hand → IsIdle turnstile hand pass
+  pub took : (turnstile : TurnstileValue (SharedValue K)) (hand : ℕ) (pass : PassValue (SharedValue K) Entry) (s : SharedValue K) (seen : List (ℕ × Entry)) → IsOpenedFor turnstile hand → IsIdle turnstile hand pass
       → origin_of s ≡ origin_of turnstile.start → entries_of s ≡ entries_of turnstile.start ++ seen → IsLater pass.number pass.seen seen → IsInside s.start.past s.now.past
       → IsLaterBy hand (seen_past turnstile pass) s.now.past
   took turnstile hand pass s seen opened idle same history later inside =
@@ -60,7 +60,7 @@ module _ {K : Type 0} where
   has_room s few = omega (arith, length-numbered s.now.past, few)
 
   pub gives_turn : (turnstile : TurnstileValue (SharedValue K)) (hand : ℕ) (old pass : PassValue (SharedValue K) Entry) (s kept : SharedValue K) → IsIdle turnstile hand old
-      → pass ≡ record old { seen = pass.seen; taken = Some s } → origin_of kept ≡ origin_of s → IsAdded hand s.now.past kept.now.past → IsTurn origin_of entries_of pass kept
+      → pass ≡ record old { seen = pass.seen; taken = Some s } → origin_of kept ≡ origin_of s → IsAdded hand s.now.past kept.now.past → MayGive origin_of entries_of pass kept
   gives_turn turnstile hand old pass s kept idle is same added =
       may_give pass s kept hand (ap (λ (p : PassValue (SharedValue K) Entry). p.taken) is) (ap (λ (p : PassValue (SharedValue K) Entry). p.number) is ∙ idle.number_is) same added
 

@@ -4,15 +4,15 @@ use Rattle.std.specs.Prelude.{nat_eq, is_none}
 use Rattle.std.specs.List.{list_all}
 use Rattle.tf_numbers.proofs.BelowLemmas.{not_all}
 use Rattle.tf_numbers.proofs.TruthLemmas.{true_both}
-use Rattle.tf_ports.specs.declared.orders.Order.{Order}
-use Rattle.tf_ports.specs.declared.outcomes.Outcome.{Outcome}
+use Rattle.tf_actions.specs.declared.orders.Order.{Order}
+use Rattle.tf_actions.specs.declared.outcomes.Outcome.{Outcome}
 use Rattle.tf_states.specs.declared.record.Entry.{Entry}
 use Rattle.tf_states.specs.declared.record.What.{What}
 use Rattle.tf_states.specs.declared.record.What.TheVariants as what
 use Rattle.tf_states.specs.declared.state.FlowState.{FlowState}
 use Rattle.tf_states.specs.declared.state.FlowState.TheVariants as flow
-use Rattle.tf_machine.specs.Answers.{start_entry, ended_from}
-use Rattle.tf_machine.specs.declared.candidates.Start.{Start}
+use Rattle.tf_hands.specs.Flight.{start_entry, ended_from}
+use Rattle.tf_hands.specs.declared.starts.Start.{Start}
 use Rattle.tf_hands.specs.Hands.{by_hand, is_resuming, orders}
 use Rattle.tf_hands.proofs.EntryLemmas.{within_resumes}
 use Rattle.tf_hands.proofs.ForcedLemmas.{forced_within}
@@ -24,7 +24,7 @@ use Rattle.tf_model.specs.History.{flow_of, snapshot}
 use Rattle.tf_model.specs.Plan.{Outline, count}
 use Rattle.tf_model.specs.Sessions.{has_ended, is_last}
 use Rattle.tf_model.specs.Steps.{LegalPast, is_idle, is_still, is_free}
-use Rattle.tf_book.specs.Turns.{AreForced, IsForcedOn, TakesUp, IsEndOf, IsSuspensionOf, IsClosedOr, stays, ended, suspended, Rests, nothing_left, at_end, to_suspend, suspending, IsTurn, IsHaltedTurn, forcing, starting, resting, IsTurnAsked, IsHaltedTurnAsked, IsFinished}
+use Rattle.tf_book.specs.Turns.{AreForced, IsForcedOn, TakesUp, IsEndOf, IsSuspensionOf, IsClosedOr, stays, ended, suspended, HandRests, nothing_to_take, at_end, to_suspend, suspending, IsTurn, IsHaltedTurn, forcing, starting, resting, IsTurnAsked, IsHaltedTurnAsked, IsFinished}
 use Rattle.tf_book.specs.declared.turn.Turn.{Turn}
 use Rattle.tf_book.specs.declared.turn.Turn.TheVariants as turn
 use Rattle.tf_engines.specs.Asked.{HasDone}
@@ -64,8 +64,8 @@ module _ (hand : ℕ) where
   add_up : (plan : Outline) (past mid after : List Entry) (start : Start) (order : Order) → TakesUp plan hand mid after start order → IsAdded hand past mid → IsAdded hand past after
   add_up plan past mid after start order takes added = add_one past mid after (start_entry start) (within_resumes (start_entry start) (start_within start)) takes.is added
 
-  add_rests : (plan : Outline) (past between : List Entry) (stop : Bool) (kept : Option ℕ) → Rests plan hand stop kept past between → IsAdded hand past between
-  add_rests plan past between stop kept (nothing_left nothing) = add_on plan past between stop kept nothing.ran.on
+  add_rests : (plan : Outline) (past between : List Entry) (stop : Bool) (kept : Option ℕ) → HandRests plan hand stop kept past between → IsAdded hand past between
+  add_rests plan past between stop kept (nothing_to_take nothing) = add_on plan past between stop kept nothing.ran.on
   add_rests plan past between stop kept (at_end ran ends) = add_on plan past between stop kept ran.on
   add_rests plan past between stop kept (to_suspend s) = add_one past s.before between (what.Flow flow.Suspending) refl s.is (add_on plan past s.before stop kept s.ran.on)
   add_rests plan past between stop kept (suspending winds same) = add_same past between same

@@ -2,11 +2,10 @@
 use Rattle.std.proofs.Common.{◌≡◌, ◌≤◌, ℕ, Bool, true, false, List, [], ◌++◌, length, Option, None, refl, ap, ◌∙◌, subst, arith}
 use Rattle.std.specs.Prelude.{reverse}
 use Rattle.std.proofs.lemmas.Bool.{lt-ltb}
-use Rattle.tf_desk.specs.Content.{Content}
+use Rattle.tf_desk.specs.State.{DeskState}
 use Rattle.tf_desk.specs.Counts.{Rises}
-use Rattle.tf_desk.specs.Crash.{Images, Crashes}
-use Rattle.tf_ports.specs.declared.orders.Order.{Order}
-use Rattle.tf_ports.specs.declared.outcomes.Outcome.{Outcome}
+use Rattle.tf_actions.specs.declared.orders.Order.{Order}
+use Rattle.tf_actions.specs.declared.outcomes.Outcome.{Outcome}
 use Rattle.tf_states.specs.declared.record.Entry.{Entry}
 use Rattle.tf_states.specs.declared.state.FlowState.{FlowState}
 use Rattle.tf_model.specs.History.{flow_of}
@@ -21,14 +20,14 @@ use Rattle.tf_book.specs.Stopping.{limit_from}
 use Rattle.tf_engines.specs.declared.engine.How.{How}
 use Rattle.tf_engines.specs.declared.engine.How.TheVariants as how
 use Rattle.tf_engines.specs.Runs.{HaltsAs, StandsAs, going_on}
-use Rattle.tf_engines.specs.Shared.{SharedValue, IsFresh, IsShared}
+use Rattle.tf_engines.specs.Shared.{SharedValue, IsJustEntered, IsShared}
 use Rattle.tf_engines.specs.Working.{IsRun}
 use Rattle.tf_engines.proofs.EnterLemmas.{same_entering, entered_goes, entered_going, ended_before, cut_before}
 
 module _ {K : Type 0} where
   -- the entries with which it is entered were recorded
   pub is_fresh : (s : SharedValue K) → s.now.plan ≡ s.start.plan → LegalPast (outline s.now) s.now.past
-      → (has_ended (flow_of s.start.past) ≡ false) × (s.now.past ≡ reverse (entering_by 0 (flow_of s.start.past)) ++ s.start.past) → IsFresh s
+      → (has_ended (flow_of s.start.past) ≡ false) × (s.now.past ≡ reverse (entering_by 0 (flow_of s.start.past)) ++ s.start.past) → IsJustEntered s
   is_fresh s plan legal is =
       let here : LegalPast (outline s.start) s.now.past = subst (λ (p : PlanValue). LegalPast (outline_of p) s.now.past) plan legal in
       record {
@@ -37,13 +36,13 @@ module _ {K : Type 0} where
         still = (entered_going (outline s.start) s.start.past s.now.past None refl here is).still;
       }
 
-module _ {K : Type 0} (tells : K → Bool) (shown : K → Option (List ℕ)) (content : K → Content) (left : K → Images) (crashes : K → Crashes) (disk_faults out_faults asks_of : K → ℕ) (gives : Order → Outcome → Type 0) where
+module _ {K : Type 0} (state : K → DeskState) (gives : Order → Outcome → Type 0) where
   -- a session that was entered
   pub entered_shared : (s : SharedValue K) → 1 ≤ s.number → s.number ≤ 64
-      → ((earlier : BookValue K) → Kept tells shown content left crashes disk_faults out_faults earlier s.start → Kept tells shown content left crashes disk_faults out_faults earlier s.now)
-      → s.now.plan ≡ s.start.plan → asks_of s.now.journal.desk ≡ asks_of s.start.journal.desk → s.now.limit ≡ limit_from s.limit (length s.start.past) → LegalPast (outline s.now) s.now.past
+      → ((earlier : BookValue K) → Kept state earlier s.start → Kept state earlier s.now)
+      → s.now.plan ≡ s.start.plan → (state s.now.journal.desk).asks ≡ (state s.start.journal.desk).asks → s.now.limit ≡ limit_from s.limit (length s.start.past) → LegalPast (outline s.now) s.now.past
       → (has_ended (flow_of s.start.past) ≡ false) × (s.now.past ≡ reverse (entering_by 0 (flow_of s.start.past)) ++ s.start.past)
-      → IsShared tells shown content left crashes disk_faults out_faults asks_of gives s
+      → IsShared state gives s
   entered_shared s some few keeps plan asks limit legal is =
       let here : LegalPast (outline s.start) s.now.past = subst (λ (p : PlanValue). LegalPast (outline_of p) s.now.past) plan legal in
       record {
@@ -57,28 +56,28 @@ module _ {K : Type 0} (tells : K → Bool) (shown : K → Option (List ℕ)) (co
       }
 
   -- a flow that had ended
-  pub ended_run : (number : ℕ) (limit : Option ℕ) (start now : BookValue K) (state : FlowState)
-      → ((earlier : BookValue K) → Kept tells shown content left crashes disk_faults out_faults earlier start → Kept tells shown content left crashes disk_faults out_faults earlier now)
-      → now.plan ≡ start.plan → asks_of now.journal.desk ≡ asks_of start.journal.desk → now.halt ≡ None → LegalPast (outline start) start.past
-      → (flow_of start.past ≡ state) × (has_ended state ≡ true) × (now.past ≡ start.past) → IsRun tells shown content left crashes disk_faults out_faults asks_of gives number limit start now (how.Ended state)
-  ended_run number limit start now state keeps plan asks sound legal is = record {
+  pub ended_run : (number : ℕ) (limit : Option ℕ) (start now : BookValue K) (last : FlowState)
+      → ((earlier : BookValue K) → Kept state earlier start → Kept state earlier now)
+      → now.plan ≡ start.plan → (state now.journal.desk).asks ≡ (state start.journal.desk).asks → now.halt ≡ None → LegalPast (outline start) start.past
+      → (flow_of start.past ≡ last) × (has_ended last ≡ true) × (now.past ≡ start.past) → IsRun state gives number limit start now (how.Ended last)
+  ended_run number limit start now last keeps plan asks sound legal is = record {
     keeps = keeps;
     stops = (sound, ap flow_of is.2 ∙ is.0, is.1);
     plan = plan;
-    ran = ended_before gives (Rises (asks_of start.journal.desk) (asks_of now.journal.desk)) number limit (outline start) start.past now.past state legal is;
+    ran = ended_before gives (Rises (state start.journal.desk).asks (state now.journal.desk).asks) number limit (outline start) start.past now.past last legal is;
     asks = omega (arith, asks);
   }
 
   -- a book that was halted before, or while it was entered
   pub cut_run : (number : ℕ) (limit : Option ℕ) (start now : BookValue K) (answer : How) → 1 ≤ number
-      → ((earlier : BookValue K) → Kept tells shown content left crashes disk_faults out_faults earlier start → Kept tells shown content left crashes disk_faults out_faults earlier now)
-      → now.plan ≡ start.plan → asks_of now.journal.desk ≡ asks_of start.journal.desk → HaltsAs now.halt answer → StandsAs now.halt (flow_of now.past) answer → LegalPast (outline now) now.past
-      → IsEntering 0 start.past now.past → IsRun tells shown content left crashes disk_faults out_faults asks_of gives number limit start now answer
+      → ((earlier : BookValue K) → Kept state earlier start → Kept state earlier now)
+      → now.plan ≡ start.plan → (state now.journal.desk).asks ≡ (state start.journal.desk).asks → HaltsAs now.halt answer → StandsAs now.halt (flow_of now.past) answer → LegalPast (outline now) now.past
+      → IsEntering 0 start.past now.past → IsRun state gives number limit start now answer
   cut_run number limit start now answer some keeps plan asks halts stands legal is = record {
     keeps = keeps;
     stops = stands;
     plan = plan;
-    ran = cut_before gives (Rises (asks_of start.journal.desk) (asks_of now.journal.desk)) number limit (outline start) start.past now.past now.halt answer (lt-ltb 0 number (omega (arith, some))) halts
+    ran = cut_before gives (Rises (state start.journal.desk).asks (state now.journal.desk).asks) number limit (outline start) start.past now.past now.halt answer (lt-ltb 0 number (omega (arith, some))) halts
         (subst (λ (p : PlanValue). LegalPast (outline_of p) now.past) plan legal) is;
     asks = omega (arith, asks);
   }

@@ -9,15 +9,15 @@ use Rattle.tf_book.specs.declared.faults.Halt.{Halt}
 use Rattle.tf_engines.specs.Runs.{HaltsAs, StandsAs}
 use Rattle.tf_engines.specs.Shared.{entered_past}
 use Rattle.tf_engines.specs.declared.engine.How.{How}
-use Rattle.tf_ports.specs.Told.{told_with}
-use Rattle.tf_ports.specs.declared.orders.Order.{Order}
-use Rattle.tf_ports.specs.declared.outcomes.Outcome.{Outcome}
+use Rattle.tf_actions.specs.Told.{told_with}
+use Rattle.tf_actions.specs.declared.orders.Order.{Order}
+use Rattle.tf_actions.specs.declared.outcomes.Outcome.{Outcome}
 use Rattle.tf_states.specs.declared.record.Entry.{Entry}
 use Rattle.tf_states.specs.declared.record.What.{What}
 use Rattle.tf_states.specs.declared.record.What.TheVariants as what
 use Rattle.tf_states.specs.declared.state.FlowState.{FlowState}
 use Rattle.tf_states.specs.declared.state.FlowState.TheVariants as flow
-use Rattle.tf_machine.specs.declared.candidates.Start.{Start}
+use Rattle.tf_hands.specs.declared.starts.Start.{Start}
 use Rattle.tf_hands.specs.Hands.{by_hand, is_of_flow, takes_task, orders}
 use Rattle.tf_hands.proofs.ForcedLemmas.{forced_takes_none}
 use Rattle.tf_hands.proofs.ChoiceLemmas.{choice_orders}
@@ -26,7 +26,7 @@ use Rattle.tf_hands.proofs.EntryLemmas.{no_orders}
 use Rattle.tf_model.specs.History.{flow_of, snapshot}
 use Rattle.tf_model.specs.Plan.{Outline}
 use Rattle.tf_model.specs.Sessions.{entering, has_ended}
-use Rattle.tf_book.specs.Turns.{AreForced, IsForcedOn, TakesUp, IsStarted, IsClosedOr, stays, ended, suspended, Rests, nothing_left, at_end, to_suspend, suspending, RestsAs, IsHaltedTurn, forcing, starting, resting, IsTurnAsked, IsHaltedTurnAsked, IsFinished, IsEntering, entering_by}
+use Rattle.tf_book.specs.Turns.{AreForced, IsForcedOn, TakesUp, IsStarted, IsClosedOr, stays, ended, suspended, HandRests, nothing_to_take, at_end, to_suspend, suspending, HandRestsAs, IsHaltedTurn, forcing, starting, resting, IsTurnAsked, IsHaltedTurnAsked, IsFinished, IsEntering, entering_by}
 use Rattle.tf_book.specs.declared.turn.Turn.TheVariants as turn
 use Rattle.tf_engines.specs.Asked.{told_all, HasDone, HasDoneAllButOne, HasToDo, HasDoneBy}
 use Rattle.tf_engines.specs.Working.{HasDoneSo}
@@ -173,8 +173,8 @@ module _ (hand : ℕ) where
   flow_asks : (plan : Outline) (past after : List Entry) (state : FlowState) → after ≡ by_hand hand (what.Flow state) ∷ past → orders plan hand after ≡ orders plan hand past
   flow_asks plan past after state is = ap (orders plan hand) is ∙ no_orders plan hand (by_hand hand (what.Flow state)) past refl
 
-  rests_asks : (plan : Outline) (past between : List Entry) (stop : Bool) (kept : Option ℕ) → Rests plan hand stop kept past between → orders plan hand between ≡ orders plan hand past
-  rests_asks plan past between stop kept (nothing_left nothing) = on_asks plan past between stop kept nothing.ran.on
+  rests_asks : (plan : Outline) (past between : List Entry) (stop : Bool) (kept : Option ℕ) → HandRests plan hand stop kept past between → orders plan hand between ≡ orders plan hand past
+  rests_asks plan past between stop kept (nothing_to_take nothing) = on_asks plan past between stop kept nothing.ran.on
   rests_asks plan past between stop kept (at_end ran ends) = on_asks plan past between stop kept ran.on
   rests_asks plan past between stop kept (to_suspend s) = flow_asks plan s.before between flow.Suspending s.is ∙ on_asks plan past s.before stop kept s.ran.on
   rests_asks plan past between stop kept (suspending winds same) = ap (orders plan hand) same
@@ -186,7 +186,7 @@ module _ (hand : ℕ) where
   started_to_do told base did plan past after stop kept order is = to_do told base did (orders plan hand past) (orders plan hand after) order (started_asks plan past after stop kept order is)
 
   pub rested_done : (told : Option (List Order)) (base : List Order) (did : Option (List Order)) (plan : Outline) (past after : List Entry) (stop : Bool) (kept : Option ℕ)
-      → RestsAs plan hand stop kept past after turn.Idle → HasDone told base did (orders plan hand past) → HasDone told base did (orders plan hand after)
+      → HandRestsAs plan hand stop kept past after turn.Idle → HasDone told base did (orders plan hand past) → HasDone told base did (orders plan hand after)
   rested_done told base did plan past after stop kept is =
       same_done told base did (orders plan hand past) (orders plan hand after) (ap (orders plan hand) is.rested.1 ∙ rests_asks plan past is.between stop kept is.rests)
 
@@ -253,7 +253,7 @@ module _ (hand : ℕ) where
   pub cut_asks : (plan : Outline) (past after : List Entry) → IsEntering 0 past after → orders plan hand after ≡ orders plan hand past
   cut_asks plan past after is =
       let flows : list_all is_flow_entry is.some ≡ true =
-      and_first (list_all is_flow_entry is.some) (list_all is_flow_entry is.others) (sym (list_all-append is_flow_entry is.some is.others) ∙ ap (list_all is_flow_entry) (sym is.front) ∙ entering_flows (flow_of past)) in
+      and_first (list_all is_flow_entry is.some) (list_all is_flow_entry is.others) (sym (list_all-append is_flow_entry is.some is.others) ∙ ap (list_all is_flow_entry) (sym is.prefix) ∙ entering_flows (flow_of past)) in
       ap (orders plan hand) is.is ∙ flows_ask plan past (reverse is.some) (all_turned is_flow_entry is.some flows)
 
   pub entered_done : (told : Option (List Order)) (base : List Order) (did : Option (List Order)) (plan : Outline) (past after : List Entry) → (has_ended (flow_of past) ≡ false) × (after ≡ reverse (entering_by 0 (flow_of past)) ++ past)

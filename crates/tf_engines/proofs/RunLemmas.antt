@@ -3,15 +3,15 @@ use Rattle.std.proofs.Common.{◌≡◌, ◌≤◌, inl, inr, ◌⊎◌, ℕ, �
 use Rattle.std.specs.Prelude.{IsSome, not, nat_lt, reverse}
 use Rattle.std.specs.List.{list_all}
 use Rattle.tf_flow.specs.Plan.{PlanValue}
-use Rattle.tf_ports.specs.Laws.{RevertsToNothing}
-use Rattle.tf_ports.specs.declared.orders.Order.{Order}
-use Rattle.tf_ports.specs.declared.outcomes.Outcome.{Outcome}
+use Rattle.tf_actions.specs.Laws.{RevertsToNothing}
+use Rattle.tf_actions.specs.declared.orders.Order.{Order}
+use Rattle.tf_actions.specs.declared.outcomes.Outcome.{Outcome}
 use Rattle.tf_states.specs.declared.record.Entry.{Entry}
 use Rattle.tf_states.specs.declared.record.What.{What}
 use Rattle.tf_states.specs.declared.record.What.TheVariants as what
 use Rattle.tf_states.specs.declared.state.FlowState.{FlowState}
 use Rattle.tf_states.specs.declared.state.FlowState.TheVariants as flow
-use Rattle.tf_machine.specs.Answers.{end_by, ended_from}
+use Rattle.tf_hands.specs.Flight.{end_by, ended_from}
 use Rattle.tf_hands.specs.Hands.{by_hand, is_of_flow, HasOrder, IsAlone}
 use Rattle.tf_hands.proofs.EndLemmas.{ended_within, ended_inner, end_ends, end_frees, end_given}
 use Rattle.tf_hands.proofs.RestLemmas.{alone_still, own_alone}
@@ -30,7 +30,7 @@ use Rattle.tf_book.proofs.ForceLemmas.{flow_stays}
 use Rattle.tf_book.specs.declared.faults.Halt.{Halt}
 use Rattle.tf_engines.specs.declared.engine.How.{How}
 use Rattle.tf_engines.specs.declared.engine.How.TheVariants as how
-use Rattle.tf_engines.specs.Runs.{is_of, suspends, is_unsuspended, winds_up, IsSuspended, IsSession, HasRun, HaltsAs, GoesOn}
+use Rattle.tf_engines.specs.Runs.{is_of, suspends, is_unsuspended, winds_up, IsSuspended, IsSession, HasRun, HaltsAs, IsUnderWay}
 use Rattle.tf_engines.proofs.StopLemmas.{reaches, due_none, end_winds}
 
 -- what never stopped didn't stop in a last state
@@ -50,7 +50,7 @@ counted before past inner first is = ap length (is ∙ sym (append_assoc inner f
 
 -- one more entry inside a session, which winds it up where it is to stop
 pub goes_more : (gives : Order → Outcome → Type 0) (hand number : ℕ) (limit : Option ℕ) (plan : Outline) (before past : List Entry) (kept : Option ℕ) (w : What) → nat_lt hand number ≡ true → is_of_flow w ≡ false → is_inner w ≡ true → IsGiven gives plan past w
-    → (is_reached kept (length past) ≡ true → winds_up plan w ≡ true) → GoesOn gives number limit plan before past kept → GoesOn gives number limit plan before (by_hand hand w ∷ past) kept
+    → (is_reached kept (length past) ≡ true → winds_up plan w ≡ true) → IsUnderWay gives number limit plan before past kept → IsUnderWay gives number limit plan before (by_hand hand w ∷ past) kept
 goes_more gives hand number limit plan before past kept w below within inner given winds on =
     let first : List Entry = reverse (entering (flow_of before)) in
     let entries : List Entry = on.inner ++ first in
@@ -69,7 +69,7 @@ goes_more gives hand number limit plan before past kept w below within inner giv
 
 -- a run that goes on is a session that was halted
 pub goes_session : (gives : Order → Outcome → Type 0) (asked : Type 0) (number : ℕ) (limit : Option ℕ) (plan : Outline) (before past : List Entry) (kept : Option ℕ) → LegalPast plan past
-    → GoesOn gives number limit plan before past kept → IsSession gives asked number limit plan before past None
+    → IsUnderWay gives number limit plan before past kept → IsSession gives asked number limit plan before past None
 goes_session gives asked number limit plan before past kept legal on = record {
   entries = on.inner ++ reverse (entering (flow_of before));
   recorded = on.recorded ∙ sym (append_assoc on.inner (reverse (entering (flow_of before))) before);
@@ -88,9 +88,9 @@ halts_so gives asked number limit plan before after cause answer is stop session
 
 -- the end of the task that the hand had an order for
 pub goes_finished : (gives : Order → Outcome → Type 0) (hand number : ℕ) (limit : Option ℕ) (plan : Outline) (before past after : List Entry) (kept : Option ℕ) (order : Order) (came : Outcome) → nat_lt hand number ≡ true → RevertsToNothing gives → LegalPast plan past
-    → HasOrder plan past hand order → gives order came → IsFinished plan hand came past after → GoesOn gives number limit plan before past kept → GoesOn gives number limit plan before after kept
+    → HasOrder plan past hand order → gives order came → IsFinished plan hand came past after → IsUnderWay gives number limit plan before past kept → IsUnderWay gives number limit plan before after kept
 goes_finished gives hand number limit plan before past after kept order came below law legal has gave is on =
-    subst (λ (l : List Entry). GoesOn gives number limit plan before l kept) (sym is.is)
+    subst (λ (l : List Entry). IsUnderWay gives number limit plan before l kept) (sym is.is)
     (goes_more gives hand number limit plan before past kept (ended_from is.task ((snapshot plan past).state is.task) came) below (ended_within is.task ((snapshot plan past).state is.task) came) (ended_inner is.task ((snapshot plan past).state is.task) came)
     (end_given gives plan past hand is.task order came law legal is.held has gave)
     (λ reached. end_winds plan (ended_from is.task ((snapshot plan past).state is.task) came) (end_ends plan past hand is.task came legal is.held)) on)
@@ -112,12 +112,12 @@ told_some None a is = absurd (cc)
 
 -- the end may have been recorded as the run was halted
 pub finished_or_not : (gives : Order → Outcome → Type 0) (asked : Type 0) (hand number : ℕ) (limit : Option ℕ) (plan : Outline) (before past after : List Entry) (kept : Option ℕ) (order : Order) (came : Outcome) → nat_lt hand number ≡ true → RevertsToNothing gives
-    → LegalPast plan past → LegalPast plan after → HasOrder plan past hand order → gives order came → IsFinished plan hand came past after ⊎ (after ≡ past) → GoesOn gives number limit plan before past kept
+    → LegalPast plan past → LegalPast plan after → HasOrder plan past hand order → gives order came → IsFinished plan hand came past after ⊎ (after ≡ past) → IsUnderWay gives number limit plan before past kept
     → IsSession gives asked number limit plan before after None
 finished_or_not gives asked hand number limit plan before past after kept order came below law legal later has gave (inl is) on =
     goes_session gives asked number limit plan before after kept later (goes_finished gives hand number limit plan before past after kept order came below law legal has gave is on)
 finished_or_not gives asked hand number limit plan before past after kept order came below law legal later has gave (inr is) on =
-    goes_session gives asked number limit plan before after kept later (subst (λ (l : List Entry). GoesOn gives number limit plan before l kept) (sym is) on)
+    goes_session gives asked number limit plan before after kept later (subst (λ (l : List Entry). IsUnderWay gives number limit plan before l kept) (sym is) on)
 
 -- a book that isn't halted after a call wasn't before
 pub was_sound : {K : Type 0} (old new : BookValue K) → new.halt ≡ None → ((cause : Halt) → old.halt ≡ Some cause → new ≡ old) → old.halt ≡ None

@@ -11,8 +11,8 @@ use Rattle.tf_states.specs.declared.record.Entry.{Entry}
 use Rattle.tf_hands.specs.Hands.{is_by_other, is_resuming}
 use Rattle.tf_book.specs.Book.{BookValue}
 use Rattle.tf_turnstile.specs.Numbered.{AllBy, NoneBy, IsLater}
-use Rattle.tf_turnstile.specs.Passes.{TurnstileValue, PassValue, IsTurn}
-use Rattle.tf_engines.specs.Shared.{SharedValue, numbered, unnumbered, origin_of, entries_of, seen_past, entered_past, is_unresumed, IsInside, IsFresh}
+use Rattle.tf_turnstile.specs.Passes.{TurnstileValue, PassValue, MayGive}
+use Rattle.tf_engines.specs.Shared.{SharedValue, numbered, unnumbered, origin_of, entries_of, seen_past, entered_past, is_unresumed, IsInside, IsJustEntered}
 use Rattle.tf_engines.specs.Working.{is_by, IsAdded}
 
 -- ---- entries with their hands
@@ -106,11 +106,11 @@ seen_splits pass_seen seen hand later = ap unnumbered later.begins ∙ unnumbere
 
 module _ {K : Type 0} where
   -- where the session was entered in the history with which the turnstile was made
-  pub first_is : (turnstile : TurnstileValue (SharedValue K)) (s : SharedValue K) → IsFresh turnstile.start → origin_of s ≡ origin_of turnstile.start → entered_past s.start.past ≡ turnstile.start.now.past
+  pub first_is : (turnstile : TurnstileValue (SharedValue K)) (s : SharedValue K) → IsJustEntered turnstile.start → origin_of s ≡ origin_of turnstile.start → entered_past s.start.past ≡ turnstile.start.now.past
   first_is turnstile s fresh same = ap (λ (o : BookValue K × Option ℕ × ℕ). entered_past o.0.past) same ∙ sym fresh.fresh
 
   -- what came since the session was entered is what was seen
-  pub later_is : (turnstile : TurnstileValue (SharedValue K)) (s : SharedValue K) (seen : List (ℕ × Entry)) (later : List Entry) → IsFresh turnstile.start → origin_of s ≡ origin_of turnstile.start
+  pub later_is : (turnstile : TurnstileValue (SharedValue K)) (s : SharedValue K) (seen : List (ℕ × Entry)) (later : List Entry) → IsJustEntered turnstile.start → origin_of s ≡ origin_of turnstile.start
       → entries_of s ≡ entries_of turnstile.start ++ seen → s.now.past ≡ later ++ entered_past s.start.past → later ≡ unnumbered seen
   later_is turnstile s seen later fresh same history recorded =
       let first : List Entry = turnstile.start.now.past in
@@ -118,7 +118,7 @@ module _ {K : Type 0} where
       (ap (λ (l : List Entry). later ++ l) (sym (first_is turnstile s fresh same)) ∙ sym recorded ∙ seen_is s.now.past first seen history)
 
   -- what is taken goes on from what the pass has seen
-  pub taken_on : (turnstile : TurnstileValue (SharedValue K)) (hand : ℕ) (pass : PassValue (SharedValue K) Entry) (s : SharedValue K) (seen : List (ℕ × Entry)) → IsFresh turnstile.start
+  pub taken_on : (turnstile : TurnstileValue (SharedValue K)) (hand : ℕ) (pass : PassValue (SharedValue K) Entry) (s : SharedValue K) (seen : List (ℕ × Entry)) → IsJustEntered turnstile.start
       → origin_of s ≡ origin_of turnstile.start → entries_of s ≡ entries_of turnstile.start ++ seen → IsLater hand pass.seen seen → IsInside s.start.past s.now.past
       → IsLaterBy hand (seen_past turnstile pass) s.now.past
   taken_on turnstile hand pass s seen fresh same history later inside =
@@ -139,7 +139,7 @@ module _ {K : Type 0} where
   -- ---- what a pass gives
 
   pub may_give : (pass : PassValue (SharedValue K) Entry) (s kept : SharedValue K) (hand : ℕ) → pass.taken ≡ Some s → pass.number ≡ hand → origin_of kept ≡ origin_of s → IsAdded hand s.now.past kept.now.past
-      → IsTurn origin_of entries_of pass kept
+      → MayGive origin_of entries_of pass kept
   may_give pass s kept hand has number same added = record {
     taken = s;
     has = has;

@@ -30,7 +30,7 @@ use Rattle.tf_order.proofs.graph.Graph.TheSendSync as graph
 use Rattle.tf_scopes.proofs.providers.Providers.TheSendSync as providers
 use Rattle.std.proofs.alloc.Global.TheSendSync as heap
 use Rattle.tf_desk.specs.declared.device.Desk.{Ghosts}
-use Rattle.tf_ports.specs.declared.performers.Performer as performers
+use Rattle.tf_actions.specs.declared.performers.Performer as performers
 use Rattle.tf_journal.proofs.journal.Journal.TheSendSync as journal
 use Rattle.tf_states.proofs.record.Entry.TheSendSync as entry
 use Rattle.tf_book.proofs.faults.Halt.TheSendSync as halt

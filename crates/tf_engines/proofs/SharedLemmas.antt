@@ -5,12 +5,11 @@ use Rattle.std.specs.List.{list_all}
 use Rattle.std.proofs.lemmas.Bool.{lt-ltb}
 use Rattle.std.proofs.lemmas.List.Folds.{list_all-append}
 use Rattle.tf_numbers.proofs.TruthLemmas.{clash, true_both, and_first, and_second}
-use Rattle.tf_desk.specs.Content.{Content}
+use Rattle.tf_desk.specs.State.{DeskState}
 use Rattle.tf_desk.specs.Counts.{Rises}
-use Rattle.tf_desk.specs.Crash.{Images, Crashes}
-use Rattle.tf_ports.specs.Laws.{RevertsToNothing}
-use Rattle.tf_ports.specs.declared.orders.Order.{Order}
-use Rattle.tf_ports.specs.declared.outcomes.Outcome.{Outcome}
+use Rattle.tf_actions.specs.Laws.{RevertsToNothing}
+use Rattle.tf_actions.specs.declared.orders.Order.{Order}
+use Rattle.tf_actions.specs.declared.outcomes.Outcome.{Outcome}
 use Rattle.tf_states.specs.declared.record.Entry.{Entry}
 use Rattle.tf_states.specs.declared.record.What.{What}
 use Rattle.tf_states.specs.declared.record.What.TheVariants as what
@@ -29,7 +28,7 @@ use Rattle.tf_book.specs.declared.turn.Turn.{Turn}
 use Rattle.tf_flow.specs.Plan.{PlanValue}
 use Rattle.tf_engines.specs.declared.engine.How.{How}
 use Rattle.tf_engines.specs.declared.engine.How.TheVariants as how
-use Rattle.tf_engines.specs.Runs.{IsSession, HasRun, StandsAs, Stands, going_on, winding, stopped}
+use Rattle.tf_engines.specs.Runs.{IsSession, HasRun, StandsAs, StandsBetween, going_on, winding, stopped}
 use Rattle.tf_engines.specs.Shared.{SharedValue, entered_past, is_unresumed, IsInside, IsShared}
 use Rattle.tf_engines.specs.Working.{is_by, IsAdded, HasOutcome, IsRun}
 use Rattle.tf_engines.proofs.EnterLemmas.{entering_runs}
@@ -44,33 +43,33 @@ rose_later : (a b c : ℕ) → b ≤ c → Rises a b → Rises a c
 rose_later a b c le rose = omega (arith, le, rose)
 
 module _ (hand number : ℕ) (below : hand < number) (gives : Order → Outcome → Type 0) (limit : Option ℕ) (plan : Outline) (before past after : List Entry) (kept later : Option ℕ) (asked asks_then asks_now : ℕ) (le : asked ≤ asks_then) (more : asks_then ≤ asks_now) (same : later ≡ kept) (legal : LegalPast plan after) where
-  so_limited : Stands gives (Rises asked asks_now) number limit plan before after kept → Stands gives (Rises asked asks_now) number limit plan before after later
-  so_limited s = subst (λ (k : Option ℕ). Stands gives (Rises asked asks_now) number limit plan before after k) (sym same) s
+  so_limited : StandsBetween gives (Rises asked asks_now) number limit plan before after kept → StandsBetween gives (Rises asked asks_now) number limit plan before after later
+  so_limited s = subst (λ (k : Option ℕ). StandsBetween gives (Rises asked asks_now) number limit plan before after k) (sym same) s
 
-  so_late : Stands gives (Rises asked asks_then) number limit plan before past kept → Stands gives (Rises asked asks_now) number limit plan before past kept
+  so_late : StandsBetween gives (Rises asked asks_then) number limit plan before past kept → StandsBetween gives (Rises asked asks_now) number limit plan before past kept
   so_late s = stands_later gives (Rises asked asks_then) (Rises asked asks_now) number limit plan before past kept (rose_later asked asks_then asks_now more) s
 
-  pub turn_leaves : (answer : Turn) → IsTurnAsked plan hand kept asks_then asks_now past after answer → Stands gives (Rises asked asks_then) number limit plan before past kept
-      → Stands gives (Rises asked asks_now) number limit plan before after later
+  pub turn_leaves : (answer : Turn) → IsTurnAsked plan hand kept asks_then asks_now past after answer → StandsBetween gives (Rises asked asks_then) number limit plan before past kept
+      → StandsBetween gives (Rises asked asks_now) number limit plan before after later
   turn_leaves answer t s =
       so_limited (turn_stands hand number (lt-ltb hand number below) gives limit plan before (Rises asked asks_now) past after kept asks_then asks_now answer (rises_later asked asks_then asks_now le) legal t (so_late s))
 
-  pub halted_leaves : IsHaltedTurnAsked plan hand kept asks_then asks_now past after → Stands gives (Rises asked asks_then) number limit plan before past kept
-      → Stands gives (Rises asked asks_now) number limit plan before after later
+  pub halted_leaves : IsHaltedTurnAsked plan hand kept asks_then asks_now past after → StandsBetween gives (Rises asked asks_then) number limit plan before past kept
+      → StandsBetween gives (Rises asked asks_now) number limit plan before after later
   halted_leaves t s =
       so_limited (halted_stands hand number (lt-ltb hand number below) gives limit plan before (Rises asked asks_now) past after kept asks_then asks_now (rises_later asked asks_then asks_now le) legal t (so_late s))
 
 -- the end of a task, after which the count of stops is the same
 module _ (hand number : ℕ) (below : hand < number) (gives : Order → Outcome → Type 0) (limit : Option ℕ) (plan : Outline) (before past after : List Entry) (kept later : Option ℕ) (asked asks_then asks_now : ℕ) (stay : asks_now ≡ asks_then) (same : later ≡ kept) (came : Outcome) (law : RevertsToNothing gives) (legal : LegalPast plan past) (has : HasOutcome gives plan past hand came) where
-  so_same : Stands gives (Rises asked asks_then) number limit plan before after kept → Stands gives (Rises asked asks_now) number limit plan before after later
-  so_same s = subst (λ (k : Option ℕ). Stands gives (Rises asked asks_now) number limit plan before after k) (sym same) (subst (λ (n : ℕ). Stands gives (Rises asked n) number limit plan before after kept) (sym stay) s)
+  so_same : StandsBetween gives (Rises asked asks_then) number limit plan before after kept → StandsBetween gives (Rises asked asks_now) number limit plan before after later
+  so_same s = subst (λ (k : Option ℕ). StandsBetween gives (Rises asked asks_now) number limit plan before after k) (sym same) (subst (λ (n : ℕ). StandsBetween gives (Rises asked n) number limit plan before after kept) (sym stay) s)
 
-  pub finish_leaves : IsFinished plan hand came past after → Stands gives (Rises asked asks_then) number limit plan before past kept → Stands gives (Rises asked asks_now) number limit plan before after later
+  pub finish_leaves : IsFinished plan hand came past after → StandsBetween gives (Rises asked asks_then) number limit plan before past kept → StandsBetween gives (Rises asked asks_now) number limit plan before after later
   finish_leaves is s = so_same (finished_stands gives (Rises asked asks_then) number limit plan before hand past after kept has.order came (lt-ltb hand number below) law legal has.has has.gave is s)
 
-  pub finish_or_leaves : IsFinished plan hand came past after ⊎ (after ≡ past) → Stands gives (Rises asked asks_then) number limit plan before past kept → Stands gives (Rises asked asks_now) number limit plan before after later
+  pub finish_or_leaves : IsFinished plan hand came past after ⊎ (after ≡ past) → StandsBetween gives (Rises asked asks_then) number limit plan before past kept → StandsBetween gives (Rises asked asks_now) number limit plan before after later
   finish_or_leaves (inl is) s = finish_leaves is s
-  finish_or_leaves (inr stays) s = so_same (subst (λ (l : List Entry). Stands gives (Rises asked asks_then) number limit plan before l kept) (sym stays) s)
+  finish_or_leaves (inr stays) s = so_same (subst (λ (l : List Entry). StandsBetween gives (Rises asked asks_then) number limit plan before l kept) (sym stays) s)
 
 -- ---- a session stands in a state in which turns are taken
 
@@ -80,7 +79,7 @@ last_entered flow.Resuming is = absurd (cc)
 last_entered f is = refl
 
 pub stands_entered : (gives : Order → Outcome → Type 0) (asked : Type 0) (number : ℕ) (limit : Option ℕ) (plan : Outline) (before past : List Entry) (kept : Option ℕ)
-    → Stands gives asked number limit plan before past kept → is_entered (flow_of past) ≡ true
+    → StandsBetween gives asked number limit plan before past kept → is_entered (flow_of past) ≡ true
 stands_entered gives asked number limit plan before past kept (going_on is on) = ap is_entered is
 stands_entered gives asked number limit plan before past kept (winding is w) = ap is_entered is
 stands_entered gives asked number limit plan before past kept (stopped last s) = last_entered (flow_of past) last
@@ -140,7 +139,7 @@ not_within before past newer seen inner begun all is last =
 
 pub stays_last : (gives : Order → Outcome → Type 0) (asked : Type 0) (number : ℕ) (limit : Option ℕ) (plan : Outline) (before past newer seen : List Entry) (kept : Option ℕ)
     → ((inner : List Entry) → past ≡ inner ++ entered_past before → inner ≡ newer ++ seen) → is_last (flow_of (seen ++ entered_past before)) ≡ true
-    → Stands gives asked number limit plan before past kept → is_last (flow_of past) ≡ true
+    → StandsBetween gives asked number limit plan before past kept → is_last (flow_of past) ≡ true
 stays_last gives asked number limit plan before past newer seen kept splits last (going_on is on) = absurd (not_within before past newer seen on.inner on.begun on.inside (splits on.inner on.recorded) last)
 stays_last gives asked number limit plan before past newer seen kept splits last (winding is w) = absurd (not_within before past newer seen w.inner w.begun w.inside (splits w.inner w.recorded) last)
 stays_last gives asked number limit plan before past newer seen kept splits last (stopped is s) = is
@@ -155,39 +154,39 @@ same_shared {K} s new now start now_is limit number =
     ap (λ (b : BookValue K). shared_of b now s.limit s.number) (sym start) ∙ ap (λ (b : BookValue K). shared_of new.start b s.limit s.number) (sym now_is)
     ∙ ap (λ (l : Option ℕ). shared_of new.start new.now l s.number) (sym limit) ∙ ap (λ (n : ℕ). shared_of new.start new.now new.limit n) (sym number)
 
-module _ {K : Type 0} (tells : K → Bool) (shown : K → Option (List ℕ)) (content : K → Content) (left : K → Images) (crashes : K → Crashes) (disk_faults out_faults asks_of : K → ℕ) (gives : Order → Outcome → Type 0) where
+module _ {K : Type 0} (state : K → DeskState) (gives : Order → Outcome → Type 0) where
   -- a turn of a hand keeps it
-  pub shared_after : (s new : SharedValue K) (hand : ℕ) → hand < s.number → IsShared tells shown content left crashes disk_faults out_faults asks_of gives s
+  pub shared_after : (s new : SharedValue K) (hand : ℕ) → hand < s.number → IsShared state gives s
       → new.start ≡ s.start → new.limit ≡ s.limit → new.number ≡ s.number
-      → ((earlier : BookValue K) → Kept tells shown content left crashes disk_faults out_faults earlier s.now → Kept tells shown content left crashes disk_faults out_faults earlier new.now)
-      → new.now.plan ≡ s.now.plan → asks_of s.now.journal.desk ≤ asks_of new.now.journal.desk
-      → ((number asked : ℕ) (limit : Option ℕ) (before : List Entry) → hand < number → asked ≤ asks_of s.now.journal.desk
-      → Stands gives (Rises asked (asks_of s.now.journal.desk)) number limit (outline s.now) before s.now.past s.now.limit
-      → Stands gives (Rises asked (asks_of new.now.journal.desk)) number limit (outline s.now) before new.now.past new.now.limit)
-      → IsAdded hand s.now.past new.now.past → IsShared tells shown content left crashes disk_faults out_faults asks_of gives new
+      → ((earlier : BookValue K) → Kept state earlier s.now → Kept state earlier new.now)
+      → new.now.plan ≡ s.now.plan → (state s.now.journal.desk).asks ≤ (state new.now.journal.desk).asks
+      → ((number asked : ℕ) (limit : Option ℕ) (before : List Entry) → hand < number → asked ≤ (state s.now.journal.desk).asks
+      → StandsBetween gives (Rises asked (state s.now.journal.desk).asks) number limit (outline s.now) before s.now.past s.now.limit
+      → StandsBetween gives (Rises asked (state new.now.journal.desk).asks) number limit (outline s.now) before new.now.past new.now.limit)
+      → IsAdded hand s.now.past new.now.past → IsShared state gives new
   shared_after s new hand below had start limit number keeps plan asks stands added =
       let again : shared_of s.start new.now s.limit s.number ≡ new = same_shared s new new.now start refl limit number in
-      let then_stands : Stands gives (Rises (asks_of s.start.journal.desk) (asks_of s.now.journal.desk)) s.number s.limit (outline s.now) s.start.past s.now.past s.now.limit =
-      subst (λ (p : PlanValue). Stands gives (Rises (asks_of s.start.journal.desk) (asks_of s.now.journal.desk)) s.number s.limit (outline_of p) s.start.past s.now.past s.now.limit) (sym had.plan) had.stands in
-      subst (λ (x : SharedValue K). IsShared tells shown content left crashes disk_faults out_faults asks_of gives x) again (record {
+      let then_stands : StandsBetween gives (Rises (state s.start.journal.desk).asks (state s.now.journal.desk).asks) s.number s.limit (outline s.now) s.start.past s.now.past s.now.limit =
+      subst (λ (p : PlanValue). StandsBetween gives (Rises (state s.start.journal.desk).asks (state s.now.journal.desk).asks) s.number s.limit (outline_of p) s.start.past s.now.past s.now.limit) (sym had.plan) had.stands in
+      subst (λ (x : SharedValue K). IsShared state gives x) again (record {
         keeps = λ earlier kept. keeps earlier (had.keeps earlier kept);
         plan = plan ∙ had.plan;
         asks = omega (arith, had.asks, asks);
-        stands = subst (λ (p : PlanValue). Stands gives (Rises (asks_of s.start.journal.desk) (asks_of new.now.journal.desk)) s.number s.limit (outline_of p) s.start.past new.now.past new.now.limit) had.plan
-            (stands s.number (asks_of s.start.journal.desk) s.limit s.start.past below had.asks then_stands);
+        stands = subst (λ (p : PlanValue). StandsBetween gives (Rises (state s.start.journal.desk).asks (state new.now.journal.desk).asks) s.number s.limit (outline_of p) s.start.past new.now.past new.now.limit) had.plan
+            (stands s.number (state s.start.journal.desk).asks s.limit s.start.past below had.asks then_stands);
         inside = inside_on hand s.start.past s.now.past new.now.past added had.inside;
         number = had.number;
       })
 
   -- so does a halt
-  pub shared_halted : (s new : SharedValue K) (halt : Option Halt) → IsShared tells shown content left crashes disk_faults out_faults asks_of gives s → new.start ≡ s.start → new.limit ≡ s.limit → new.number ≡ s.number
-      → ((earlier : BookValue K) → Kept tells shown content left crashes disk_faults out_faults earlier s.now → Kept tells shown content left crashes disk_faults out_faults earlier new.now)
-      → new.now ≡ record s.now { halt = halt } → IsShared tells shown content left crashes disk_faults out_faults asks_of gives new
+  pub shared_halted : (s new : SharedValue K) (halt : Option Halt) → IsShared state gives s → new.start ≡ s.start → new.limit ≡ s.limit → new.number ≡ s.number
+      → ((earlier : BookValue K) → Kept state earlier s.now → Kept state earlier new.now)
+      → new.now ≡ record s.now { halt = halt } → IsShared state gives new
   shared_halted s new halt had start limit number keeps same =
       let again : shared_of s.start (record s.now { halt = halt }) s.limit s.number ≡ new = same_shared s new (record s.now { halt = halt }) start same limit number in
-      let kept : (earlier : BookValue K) → Kept tells shown content left crashes disk_faults out_faults earlier s.now → Kept tells shown content left crashes disk_faults out_faults earlier (record s.now { halt = halt })
-      = subst (λ (b : BookValue K). (earlier : BookValue K) → Kept tells shown content left crashes disk_faults out_faults earlier s.now → Kept tells shown content left crashes disk_faults out_faults earlier b) same keeps in
-      subst (λ (x : SharedValue K). IsShared tells shown content left crashes disk_faults out_faults asks_of gives x) again (record {
+      let kept : (earlier : BookValue K) → Kept state earlier s.now → Kept state earlier (record s.now { halt = halt })
+      = subst (λ (b : BookValue K). (earlier : BookValue K) → Kept state earlier s.now → Kept state earlier b) same keeps in
+      subst (λ (x : SharedValue K). IsShared state gives x) again (record {
         keeps = λ earlier before. kept earlier (had.keeps earlier before);
         plan = had.plan;
         asks = had.asks;
@@ -200,7 +199,7 @@ module _ {K : Type 0} (tells : K → Bool) (shown : K → Option (List ℕ)) (co
 
   -- how a session stands is how its run has come out
   has_run : (asked : Type 0) (number : ℕ) (limit : Option ℕ) (plan : Outline) (before past : List Entry) (kept : Option ℕ) (halt : Option Halt) (answer : How) → LegalPast plan past
-      → StandsAs halt (flow_of past) answer → Stands gives asked number limit plan before past kept → HasRun gives asked number limit plan before past answer
+      → StandsAs halt (flow_of past) answer → StandsBetween gives asked number limit plan before past kept → HasRun gives asked number limit plan before past answer
   has_run asked number limit plan before past kept halt (how.Ended state) legal stands s =
       let last : is_last (flow_of past) ≡ true = ap is_last stands.1 ∙ ended_is_last state stands.2 in
       subst (λ (f : FlowState). IsSession gives asked number limit plan before past (Some f)) stands.1 (stands_stopped gives asked number limit plan before past kept last s)
@@ -208,23 +207,23 @@ module _ {K : Type 0} (tells : K → Bool) (shown : K → Option (List ℕ)) (co
       subst (λ (f : FlowState). IsSession gives asked number limit plan before past (Some f)) stands.1 (stands_stopped gives asked number limit plan before past kept (ap is_last stands.1) s)
   has_run asked number limit plan before past kept halt (how.Halted cause) legal stands s = stands_session gives asked number limit plan before past kept legal s
 
-  pub shared_run : (s : SharedValue K) (answer : How) → IsShared tells shown content left crashes disk_faults out_faults asks_of gives s → LegalPast (outline s.start) s.now.past
-      → StandsAs s.now.halt (flow_of s.now.past) answer → IsRun tells shown content left crashes disk_faults out_faults asks_of gives s.number s.limit s.start s.now answer
+  pub shared_run : (s : SharedValue K) (answer : How) → IsShared state gives s → LegalPast (outline s.start) s.now.past
+      → StandsAs s.now.halt (flow_of s.now.past) answer → IsRun state gives s.number s.limit s.start s.now answer
   shared_run s answer had legal stands = record {
     keeps = had.keeps;
     stops = stands;
     plan = had.plan;
-    ran = has_run (Rises (asks_of s.start.journal.desk) (asks_of s.now.journal.desk)) s.number s.limit (outline s.start) s.start.past s.now.past s.now.limit s.now.halt answer legal stands had.stands;
+    ran = has_run (Rises (state s.start.journal.desk).asks (state s.now.journal.desk).asks) s.number s.limit (outline s.start) s.start.past s.now.past s.now.limit s.now.halt answer legal stands had.stands;
     asks = had.asks;
   }
 
   -- a hand that failed may have halted the book before
-  pub concluded : (s : SharedValue K) (book now : BookValue K) (answer : How) → IsShared tells shown content left crashes disk_faults out_faults asks_of gives s → LegalPast (outline s.start) s.now.past → book ≡ s.now
-      → ((earlier : BookValue K) → Kept tells shown content left crashes disk_faults out_faults earlier book → Kept tells shown content left crashes disk_faults out_faults earlier now)
-      → now ≡ record book { halt = now.halt } → StandsAs now.halt (flow_of now.past) answer → IsRun tells shown content left crashes disk_faults out_faults asks_of gives s.number s.limit s.start now answer
+  pub concluded : (s : SharedValue K) (book now : BookValue K) (answer : How) → IsShared state gives s → LegalPast (outline s.start) s.now.past → book ≡ s.now
+      → ((earlier : BookValue K) → Kept state earlier book → Kept state earlier now)
+      → now ≡ record book { halt = now.halt } → StandsAs now.halt (flow_of now.past) answer → IsRun state gives s.number s.limit s.start now answer
   concluded s book now answer had legal is keeps same stands =
-      let kept : (earlier : BookValue K) → Kept tells shown content left crashes disk_faults out_faults earlier s.now → Kept tells shown content left crashes disk_faults out_faults earlier now
-      = subst (λ (b : BookValue K). (earlier : BookValue K) → Kept tells shown content left crashes disk_faults out_faults earlier b → Kept tells shown content left crashes disk_faults out_faults earlier now) is keeps in
+      let kept : (earlier : BookValue K) → Kept state earlier s.now → Kept state earlier now
+      = subst (λ (b : BookValue K). (earlier : BookValue K) → Kept state earlier b → Kept state earlier now) is keeps in
       let again : now ≡ record s.now { halt = now.halt } = subst (λ (b : BookValue K). now ≡ record b { halt = now.halt }) is same in
       shared_run (shared_of s.start now s.limit s.number) answer (shared_halted s (shared_of s.start now s.limit s.number) now.halt had refl refl refl kept again)
       (subst (λ (l : List Entry). LegalPast (outline s.start) l) (sym (ap (λ (b : BookValue K). b.past) again)) legal) stands

@@ -2,14 +2,14 @@
 use Rattle.std.proofs.Common.{◌≡◌, inl, inr, ◌⊎◌, ⊎_elim, ℕ, true, false, ◌||◌, List, ◌∷◌, ◌++◌, length, Option, Some, None, refl, ap, ◌∙◌, sym, subst, append_assoc}
 use Rattle.std.specs.Prelude.{nat_lt, reverse}
 use Rattle.std.specs.List.{list_all}
-use Rattle.tf_ports.specs.Laws.{RevertsToNothing}
-use Rattle.tf_ports.specs.declared.orders.Order.{Order}
-use Rattle.tf_ports.specs.declared.outcomes.Outcome.{Outcome}
+use Rattle.tf_actions.specs.Laws.{RevertsToNothing}
+use Rattle.tf_actions.specs.declared.orders.Order.{Order}
+use Rattle.tf_actions.specs.declared.outcomes.Outcome.{Outcome}
 use Rattle.tf_states.specs.declared.record.Entry.{Entry}
 use Rattle.tf_states.specs.declared.record.What.{What}
 use Rattle.tf_states.specs.declared.state.FlowState.{FlowState}
 use Rattle.tf_states.specs.declared.state.FlowState.TheVariants as flow
-use Rattle.tf_machine.specs.Answers.{ended_from}
+use Rattle.tf_hands.specs.Flight.{ended_from}
 use Rattle.tf_hands.specs.Hands.{by_hand, is_of_flow, HasOrder}
 use Rattle.tf_hands.proofs.EndLemmas.{ended_within, ended_inner, end_ends, end_given}
 use Rattle.tf_hands.proofs.FlightLemmas.{still_no_order}
@@ -24,7 +24,7 @@ use Rattle.tf_numbers.proofs.TruthLemmas.{clash, not_true, true_both}
 use Rattle.tf_book.specs.Stopping.{is_reached}
 use Rattle.tf_book.specs.Turns.{IsFinished}
 use Rattle.tf_book.proofs.ForceLemmas.{flow_stays}
-use Rattle.tf_engines.specs.Runs.{is_of, suspends, winds_up, IsSuspended, IsSession, GoesOn, Winds, Stands, going_on, winding, stopped}
+use Rattle.tf_engines.specs.Runs.{is_of, suspends, winds_up, IsSuspended, IsSession, IsUnderWay, Winds, StandsBetween, going_on, winding, stopped}
 use Rattle.tf_engines.proofs.StopLemmas.{reached_more, due_none, due_later, session_later, end_winds}
 use Rattle.tf_engines.proofs.RunLemmas.{none_last, within_goes, goes_session, goes_finished, runs_after}
 
@@ -39,19 +39,19 @@ suspending_last past P winds last = let no : false ≡ true = ap is_last (sym wi
 
 module _ (gives : Order → Outcome → Type 0) (asked : Type 0) (number : ℕ) (limit : Option ℕ) (plan : Outline) (before : List Entry) where
   -- in RUNNING it goes on
-  pub stands_goes : (past : List Entry) (kept : Option ℕ) → flow_of past ≡ flow.Running → Stands gives asked number limit plan before past kept → GoesOn gives number limit plan before past kept
+  pub stands_goes : (past : List Entry) (kept : Option ℕ) → flow_of past ≡ flow.Running → StandsBetween gives asked number limit plan before past kept → IsUnderWay gives number limit plan before past kept
   stands_goes past kept running (going_on is on) = on
-  stands_goes past kept running (winding is w) = running_apart past (GoesOn gives number limit plan before past kept) running is
-  stands_goes past kept running (stopped last s) = running_last past (GoesOn gives number limit plan before past kept) running last
+  stands_goes past kept running (winding is w) = running_apart past (IsUnderWay gives number limit plan before past kept) running is
+  stands_goes past kept running (stopped last s) = running_last past (IsUnderWay gives number limit plan before past kept) running last
 
   -- in SUSPENDING it is wound up
-  pub stands_winds : (past : List Entry) (kept : Option ℕ) → flow_of past ≡ flow.Suspending → Stands gives asked number limit plan before past kept → Winds gives asked number limit plan before past
+  pub stands_winds : (past : List Entry) (kept : Option ℕ) → flow_of past ≡ flow.Suspending → StandsBetween gives asked number limit plan before past kept → Winds gives asked number limit plan before past
   stands_winds past kept winds (going_on is on) = running_apart past (Winds gives asked number limit plan before past) is winds
   stands_winds past kept winds (winding is w) = w
   stands_winds past kept winds (stopped last s) = suspending_last past (Winds gives asked number limit plan before past) winds last
 
   -- in a last state it has stopped
-  pub stands_stopped : (past : List Entry) (kept : Option ℕ) → is_last (flow_of past) ≡ true → Stands gives asked number limit plan before past kept
+  pub stands_stopped : (past : List Entry) (kept : Option ℕ) → is_last (flow_of past) ≡ true → StandsBetween gives asked number limit plan before past kept
       → IsSession gives asked number limit plan before past (Some (flow_of past))
   stands_stopped past kept last (going_on is on) = running_last past (IsSession gives asked number limit plan before past (Some (flow_of past))) is last
   stands_stopped past kept last (winding is w) = suspending_last past (IsSession gives asked number limit plan before past (Some (flow_of past))) is last
@@ -71,14 +71,14 @@ module _ (gives : Order → Outcome → Type 0) (asked : Type 0) (number : ℕ) 
   }
 
   -- however it stands, what was recorded is a session
-  pub stands_session : (past : List Entry) (kept : Option ℕ) → LegalPast plan past → Stands gives asked number limit plan before past kept
+  pub stands_session : (past : List Entry) (kept : Option ℕ) → LegalPast plan past → StandsBetween gives asked number limit plan before past kept
       → (stop : Option FlowState) × IsSession gives asked number limit plan before past stop
   stands_session past kept legal (going_on is on) = (None, goes_session gives asked number limit plan before past kept legal on)
   stands_session past kept legal (winding is w) = (None, winds_session past legal w)
   stands_session past kept legal (stopped last s) = (Some (flow_of past), s)
 
   -- in RUNNING nothing has begun to be wound up
-  pub running_winds : (past : List Entry) (kept : Option ℕ) → flow_of past ≡ flow.Running → GoesOn gives number limit plan before past kept → Winds gives asked number limit plan before past
+  pub running_winds : (past : List Entry) (kept : Option ℕ) → flow_of past ≡ flow.Running → IsUnderWay gives number limit plan before past kept → Winds gives asked number limit plan before past
   running_winds past kept running on = record {
     inner = on.inner;
     recorded = on.recorded;
@@ -122,7 +122,7 @@ module _ (gives : Order → Outcome → Type 0) (asked : Type 0) (number : ℕ) 
 
   -- the end of the task that a hand had an order for
   pub finished_stands : (hand : ℕ) (past after : List Entry) (kept : Option ℕ) (order : Order) (came : Outcome) → nat_lt hand number ≡ true → RevertsToNothing gives → LegalPast plan past
-      → HasOrder plan past hand order → gives order came → IsFinished plan hand came past after → Stands gives asked number limit plan before past kept → Stands gives asked number limit plan before after kept
+      → HasOrder plan past hand order → gives order came → IsFinished plan hand came past after → StandsBetween gives asked number limit plan before past kept → StandsBetween gives asked number limit plan before after kept
   finished_stands hand past after kept order came below law legal has gave is (going_on runs on) =
       going_on (runs_after hand plan past after came is ∙ runs) (goes_finished gives hand number limit plan before past after kept order came below law legal has gave is on)
   finished_stands hand past after kept order came below law legal has gave is (winding suspends w) =
@@ -150,7 +150,7 @@ winds_later gives asked later number limit plan before past so w = record {
 }
 
 pub stands_later : (gives : Order → Outcome → Type 0) (asked later : Type 0) (number : ℕ) (limit : Option ℕ) (plan : Outline) (before past : List Entry) (kept : Option ℕ) → (asked → later)
-    → Stands gives asked number limit plan before past kept → Stands gives later number limit plan before past kept
+    → StandsBetween gives asked number limit plan before past kept → StandsBetween gives later number limit plan before past kept
 stands_later gives asked later number limit plan before past kept so (going_on is on) = going_on is on
 stands_later gives asked later number limit plan before past kept so (winding is w) = winding is (winds_later gives asked later number limit plan before past so w)
 stands_later gives asked later number limit plan before past kept so (stopped last s) = stopped last (session_later gives asked later number limit plan before past (Some (flow_of past)) so s)

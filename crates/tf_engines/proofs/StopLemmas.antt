@@ -7,8 +7,8 @@ use Rattle.tf_desk.specs.Counts.{Rises}
 use Rattle.tf_hands.specs.Hands.{is_over, is_no_end}
 use Rattle.tf_model.specs.Plan.{Outline, is_task}
 use Rattle.tf_numbers.proofs.TruthLemmas.{clash, not_true, and_first, and_second, neither_second, or_either}
-use Rattle.tf_ports.specs.declared.orders.Order.{Order}
-use Rattle.tf_ports.specs.declared.outcomes.Outcome.{Outcome}
+use Rattle.tf_actions.specs.declared.orders.Order.{Order}
+use Rattle.tf_actions.specs.declared.outcomes.Outcome.{Outcome}
 use Rattle.tf_states.specs.declared.record.Entry.{Entry}
 use Rattle.tf_states.specs.declared.record.What.{What}
 use Rattle.tf_states.specs.declared.record.What.TheVariants as what

@@ -1,6 +1,6 @@
 -- Which orders a hand was given in a run, beside the starts and restarts that it recorded.
 use Rattle.std.specs.Prelude.{◌≡◌, ◌≤◌, List, [], ◌∷◌, ◌++◌, length, Option, option_map}
-use Rattle.tf_ports.specs.declared.orders.Order.{Order}
+use Rattle.tf_actions.specs.declared.orders.Order.{Order}
 use Rattle.tf_engines.specs.declared.engine.How.{How}
 use Rattle.tf_engines.specs.declared.engine.How.TheVariants as how
 

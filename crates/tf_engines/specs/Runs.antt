@@ -1,8 +1,8 @@
 -- What a run by a number of hands records, from the history that it began with to the one that it leaves. Histories have the newest entry first.
 use Rattle.std.specs.Prelude.{◌≡◌, ◌⊎◌, ℕ, ◌≤◌, Bool, true, false, ◌&&◌, ◌||◌, List, [], ◌∷◌, ◌++◌, length, nat_lt, not, Option, Some, None, reverse}
 use Rattle.std.specs.List.{list_all}
-use Rattle.tf_ports.specs.declared.orders.Order.{Order}
-use Rattle.tf_ports.specs.declared.outcomes.Outcome.{Outcome}
+use Rattle.tf_actions.specs.declared.orders.Order.{Order}
+use Rattle.tf_actions.specs.declared.outcomes.Outcome.{Outcome}
 use Rattle.tf_states.specs.declared.record.Entry.{Entry}
 use Rattle.tf_states.specs.declared.record.What.{What}
 use Rattle.tf_states.specs.declared.record.What.TheVariants as what
@@ -97,7 +97,7 @@ pub record HaltsAs (halted : Option Halt) (answer : How) : Type 0 where
 
 -- a run goes on after it was entered: all that it recorded since is within the session, and nobody suspended it; the book has the
 -- session's limit
-pub record GoesOn (gives : Order → Outcome → Type 0) (number : ℕ) (limit : Option ℕ) (plan : Outline) (before past : List Entry) (kept : Option ℕ) : Type 0 where
+pub record IsUnderWay (gives : Order → Outcome → Type 0) (number : ℕ) (limit : Option ℕ) (plan : Outline) (before past : List Entry) (kept : Option ℕ) : Type 0 where
   pub inner : List Entry
   pub recorded : past ≡ inner ++ (reverse (entering (flow_of before)) ++ before)
   pub inside : list_all is_inner_entry inner ≡ true
@@ -121,13 +121,13 @@ pub record Winds (gives : Order → Outcome → Type 0) (asked : Type 0) (number
   pub cause : flow_of past ≡ flow.Suspending → asked ⊎ (is_reached limit (length (inner ++ reverse (entering (flow_of before)))) ≡ true)
 
 -- how a session stands between two turns: it goes on in RUNNING, it is wound up in SUSPENDING, or it has stopped in a last state
-pub data Stands (gives : Order → Outcome → Type 0) (asked : Type 0) (number : ℕ) (limit : Option ℕ) (plan : Outline) (before past : List Entry) (kept : Option ℕ) : Type 0 where
-  going_on : flow_of past ≡ flow.Running → GoesOn gives number limit plan before past kept → Stands gives asked number limit plan before past kept
-  winding : flow_of past ≡ flow.Suspending → Winds gives asked number limit plan before past → Stands gives asked number limit plan before past kept
-  stopped : is_last (flow_of past) ≡ true → IsSession gives asked number limit plan before past (Some (flow_of past)) → Stands gives asked number limit plan before past kept
+pub data StandsBetween (gives : Order → Outcome → Type 0) (asked : Type 0) (number : ℕ) (limit : Option ℕ) (plan : Outline) (before past : List Entry) (kept : Option ℕ) : Type 0 where
+  going_on : flow_of past ≡ flow.Running → IsUnderWay gives number limit plan before past kept → StandsBetween gives asked number limit plan before past kept
+  winding : flow_of past ≡ flow.Suspending → Winds gives asked number limit plan before past → StandsBetween gives asked number limit plan before past kept
+  stopped : is_last (flow_of past) ≡ true → IsSession gives asked number limit plan before past (Some (flow_of past)) → StandsBetween gives asked number limit plan before past kept
 
 -- between two turns of the one hand: the book isn't halted, the flow is RUNNING, and nothing is in flight
-pub record IsGoing (plan : Outline) (past : List Entry) (halted : Option Halt) : Type 0 where
+pub record IsBetweenTurns (plan : Outline) (past : List Entry) (halted : Option Halt) : Type 0 where
   pub sound : halted ≡ None
   pub running : flow_of past ≡ flow.Running
   pub still : is_still plan (snapshot plan past) ≡ true

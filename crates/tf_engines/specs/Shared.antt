@@ -1,11 +1,10 @@
 -- A book that several hands share, and what its type keeps since the session's start. Histories have the newest entry first.
 use Rattle.std.specs.Prelude.{◌≡◌, ℕ, ◌≤◌, Bool, true, false, List, [], ◌∷◌, ◌++◌, not, reverse, Option}
 use Rattle.std.specs.List.{list_all}
-use Rattle.tf_desk.specs.Content.{Content}
+use Rattle.tf_desk.specs.State.{DeskState}
 use Rattle.tf_desk.specs.Counts.{Rises}
-use Rattle.tf_desk.specs.Crash.{Images, Crashes}
-use Rattle.tf_ports.specs.declared.orders.Order.{Order}
-use Rattle.tf_ports.specs.declared.outcomes.Outcome.{Outcome}
+use Rattle.tf_actions.specs.declared.orders.Order.{Order}
+use Rattle.tf_actions.specs.declared.outcomes.Outcome.{Outcome}
 use Rattle.tf_states.specs.declared.record.Entry.{Entry}
 use Rattle.tf_hands.specs.Hands.{is_resuming}
 use Rattle.tf_model.specs.History.{flow_of, snapshot}
@@ -14,7 +13,7 @@ use Rattle.tf_model.specs.Steps.{is_still}
 use Rattle.tf_book.specs.Book.{BookValue, outline}
 use Rattle.tf_book.specs.Kept.{Kept}
 use Rattle.tf_turnstile.specs.Passes.{TurnstileValue, PassValue}
-use Rattle.tf_engines.specs.Runs.{Stands}
+use Rattle.tf_engines.specs.Runs.{StandsBetween}
 
 -- the book before it was entered, and the book now; the session's limit of entries, if it has one; and how many hands there are
 pub record SharedValue (K : Type 0) : Type 0 where
@@ -64,18 +63,18 @@ pub record IsInside (before past : List Entry) : Type 0 where
   pub unresumed : list_all is_unresumed later ≡ true
 
 -- the shared book as its session was entered: nothing is in flight
-pub record IsFresh {K : Type 0} (s : SharedValue K) : Type 0 where
+pub record IsJustEntered {K : Type 0} (s : SharedValue K) : Type 0 where
   pub begun : has_ended (flow_of s.start.past) ≡ false
   pub fresh : s.now.past ≡ entered_past s.start.past
   pub still : is_still (outline s.start) (snapshot (outline s.start) s.now.past) ≡ true
 
-module _ {K : Type 0} (tells : K → Bool) (shown : K → Option (List ℕ)) (content : K → Content) (left : K → Images) (crashes : K → Crashes) (disk_faults out_faults asks_of : K → ℕ) (gives : Order → Outcome → Type 0) where
+module _ {K : Type 0} (state : K → DeskState) (gives : Order → Outcome → Type 0) where
   -- since the session's start: to every earlier start to which the book had kept it still keeps; the plan stays; the count of stops didn't
   -- fall; the session stands as one of its hands with outcomes that they may give; and nobody resumes in it
   pub record IsShared (s : SharedValue K) : Type 0 where
-    pub keeps : (earlier : BookValue K) → Kept tells shown content left crashes disk_faults out_faults earlier s.start → Kept tells shown content left crashes disk_faults out_faults earlier s.now
+    pub keeps : (earlier : BookValue K) → Kept state earlier s.start → Kept state earlier s.now
     pub plan : s.now.plan ≡ s.start.plan
-    pub asks : asks_of s.start.journal.desk ≤ asks_of s.now.journal.desk
-    pub stands : Stands gives (Rises (asks_of s.start.journal.desk) (asks_of s.now.journal.desk)) s.number s.limit (outline s.start) s.start.past s.now.past s.now.limit
+    pub asks : (state s.start.journal.desk).asks ≤ (state s.now.journal.desk).asks
+    pub stands : StandsBetween gives (Rises (state s.start.journal.desk).asks (state s.now.journal.desk).asks) s.number s.limit (outline s.start) s.start.past s.now.past s.now.limit
     pub inside : IsInside s.start.past s.now.past
     pub number : s.number ≤ 64

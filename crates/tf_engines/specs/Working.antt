@@ -1,12 +1,11 @@
 -- What a hand does in a session of several hands, and what it knows. Histories have the newest entry first.
 use Rattle.std.specs.Prelude.{◌≡◌, ◌≢◌, ℕ, ◌<◌, ◌≤◌, ◌++◌, ◌&&◌, Bool, true, false, List, Option, Some, not, nat_eq}
 use Rattle.std.specs.List.{list_all}
-use Rattle.tf_desk.specs.Content.{Content}
+use Rattle.tf_desk.specs.State.{DeskState}
 use Rattle.tf_desk.specs.Counts.{Rises}
-use Rattle.tf_desk.specs.Crash.{Images, Crashes}
-use Rattle.tf_ports.specs.Whole.{IsWhole}
-use Rattle.tf_ports.specs.declared.orders.Order.{Order}
-use Rattle.tf_ports.specs.declared.outcomes.Outcome.{Outcome}
+use Rattle.tf_actions.specs.Whole.{IsWhole}
+use Rattle.tf_actions.specs.declared.orders.Order.{Order}
+use Rattle.tf_actions.specs.declared.outcomes.Outcome.{Outcome}
 use Rattle.tf_states.specs.declared.record.Entry.{Entry}
 use Rattle.tf_hands.specs.Hands.{HasOrder, is_resuming, orders}
 use Rattle.tf_model.specs.History.{flow_of, snapshot, hand_of}
@@ -23,7 +22,7 @@ use Rattle.tf_engines.specs.declared.turns.Next.{Next}
 use Rattle.tf_engines.specs.declared.turns.Next.TheVariants as next
 use Rattle.tf_engines.specs.Asked.{HasDone, HasDoneAllButOne, HasToDo}
 use Rattle.tf_engines.specs.Runs.{HasRun, StandsAs}
-use Rattle.tf_engines.specs.Shared.{SharedValue, IsFresh, seen_past}
+use Rattle.tf_engines.specs.Shared.{SharedValue, IsJustEntered, seen_past}
 
 -- ---- one turn
 
@@ -82,13 +81,13 @@ HasDoneSo false told base did asked = HasDone told base did asked
 
 module _ {K : Type 0} where
   -- the turnstile was made with the shared book as its session was entered, and has a pass of that number
-  pub record IsOpened (turnstile : TurnstileValue (SharedValue K)) (hand : ℕ) : Type 0 where
-    pub fresh : IsFresh turnstile.start
+  pub record IsOpenedFor (turnstile : TurnstileValue (SharedValue K)) (hand : ℕ) : Type 0 where
+    pub fresh : IsJustEntered turnstile.start
     pub below : hand < turnstile.start.number
     pub few : turnstile.start.number ≤ 64
 
   -- the hand has its pass, and nothing in flight in the history that this has seen
-  pub record IsReady (turnstile : TurnstileValue (SharedValue K)) (hand : ℕ) (pass : PassValue (SharedValue K) Entry) : Type 0 where
+  pub record IsReadyToTurn (turnstile : TurnstileValue (SharedValue K)) (hand : ℕ) (pass : PassValue (SharedValue K) Entry) : Type 0 where
     pub idle : IsIdle turnstile hand pass
     pub free : is_free (outline turnstile.start.start) (snapshot (outline turnstile.start.start) (seen_past turnstile pass)) hand ≡ true
 
@@ -102,11 +101,11 @@ module _ {K : Type 0} where
 
 -- ---- a whole run
 
-module _ {K : Type 0} (tells : K → Bool) (shown : K → Option (List ℕ)) (content : K → Content) (left : K → Images) (crashes : K → Crashes) (disk_faults out_faults asks_of : K → ℕ) (gives : Order → Outcome → Type 0) where
+module _ {K : Type 0} (state : K → DeskState) (gives : Order → Outcome → Type 0) where
   -- what is promised of a run's book, beside the orders
   pub record IsRun (number : ℕ) (limit : Option ℕ) (start now : BookValue K) (how : How) : Type 0 where
-    pub keeps : (earlier : BookValue K) → Kept tells shown content left crashes disk_faults out_faults earlier start → Kept tells shown content left crashes disk_faults out_faults earlier now
+    pub keeps : (earlier : BookValue K) → Kept state earlier start → Kept state earlier now
     pub stops : StandsAs now.halt (flow_of now.past) how
     pub plan : now.plan ≡ start.plan
-    pub ran : HasRun gives (Rises (asks_of start.journal.desk) (asks_of now.journal.desk)) number limit (outline start) start.past now.past how
-    pub asks : asks_of start.journal.desk ≤ asks_of now.journal.desk
+    pub ran : HasRun gives (Rises (state start.journal.desk).asks (state now.journal.desk).asks) number limit (outline start) start.past now.past how
+    pub asks : (state start.journal.desk).asks ≤ (state now.journal.desk).asks

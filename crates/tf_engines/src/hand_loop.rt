@@ -4,20 +4,20 @@ ghost use Rattle.tf_hands.specs.Hands.{HasOrder, orders};
 ghost use Rattle.tf_model.specs.History.{flow_of, snapshot};
 ghost use Rattle.tf_model.specs.Sessions.{is_last};
 ghost use Rattle.tf_model.specs.Steps.{is_free};
-ghost use Rattle.tf_ports.specs.Whole.{IsWhole};
-ghost use Rattle.tf_ports.specs.declared.orders.Order.{Order as AnOrder};
+ghost use Rattle.tf_actions.specs.Whole.{IsWhole};
+ghost use Rattle.tf_actions.specs.declared.orders.Order.{Order as AnOrder};
 ghost use Rattle.tf_book.specs.Book.{outline};
 ghost use Rattle.tf_turnstile.specs.Passes.{IsIdle};
 ghost use Rattle.tf_engines.specs.Asked.{HasDone, HasDoneAllButOne, HasToDo};
 ghost use Rattle.tf_engines.specs.Shared.{seen_past};
-ghost use Rattle.tf_engines.specs.Working.{HasDoneNext, HasDoneSo, HasNext, HasOutcome, HasWorked, IsOpened, IsReady};
+ghost use Rattle.tf_engines.specs.Working.{HasDoneNext, HasDoneSo, HasNext, HasOutcome, HasWorked, IsOpenedFor, IsReadyToTurn};
 
 use crate::shared::Shared;
 use crate::turns::Next;
 use std::alloc::Global;
 use std::sync::Wait;
+use tf_actions::{Order, Outcome, Performer};
 use tf_desk::Desk;
-use tf_ports::{Order, Outcome, Performer};
 use tf_turnstile::{Pass, Turnstile};
 
 /// A hand with its pass, and whether it stopped since it couldn't go on.
@@ -35,8 +35,8 @@ fn begin_turn<K: Desk, P: Performer, R: Wait>(
     pass: &mut Pass<Shared<K, P>>,
     hand: u8,
 ) -> Next
-    requires opened { IsOpened turnstile.now hand }
-    requires ready { IsReady turnstile.now hand pass.old }
+    requires opened { IsOpenedFor turnstile.now hand }
+    requires ready { IsReadyToTurn turnstile.now hand pass.old }
     ensures idle { IsIdle turnstile.now hand pass.new }
     ensures has { HasNext (outline turnstile.now.start.start) (seen_past turnstile.now pass.new) hand result }
     ensures orders { (told : Option (List AnOrder)) (base : List AnOrder) (did : Option (List AnOrder))
@@ -61,12 +61,12 @@ fn end_turn<K: Desk, P: Performer, R: Wait>(
     hand: u8,
     outcome: Outcome,
 ) -> bool
-    requires opened { IsOpened turnstile.now hand }
+    requires opened { IsOpenedFor turnstile.now hand }
     requires idle { IsIdle turnstile.now hand pass.old }
     requires has { HasOutcome P.gives (outline turnstile.now.start.start) (seen_past turnstile.now pass.old) hand
         outcome }
     ensures idle { IsIdle turnstile.now hand pass.new }
-    ensures ready { IsTrue result → IsReady turnstile.now hand pass.new }
+    ensures ready { IsTrue result → IsReadyToTurn turnstile.now hand pass.new }
     ensures orders { orders (outline turnstile.now.start.start) hand (seen_past turnstile.now pass.new)
         ≡ orders (outline turnstile.now.start.start) hand (seen_past turnstile.now pass.old) }
 {
@@ -85,7 +85,7 @@ fn halt_book<K: Desk, P: Performer, R: Wait>(
     pass: &mut Pass<Shared<K, P>>,
     hand: u8,
 )
-    requires opened { IsOpened turnstile.now hand }
+    requires opened { IsOpenedFor turnstile.now hand }
     requires idle { IsIdle turnstile.now hand pass.old }
     ensures idle { IsIdle turnstile.now hand pass.new }
     ensures orders { orders (outline turnstile.now.start.start) hand (seen_past turnstile.now pass.new)
@@ -107,12 +107,12 @@ fn perform<K: Desk, P: Performer, R: Wait>(
     hand: u8,
     order: Order,
 ) -> bool
-    requires opened { IsOpened turnstile.now hand }
+    requires opened { IsOpenedFor turnstile.now hand }
     requires idle { IsIdle turnstile.now hand worker.old.pass }
     requires has { HasOrder (outline turnstile.now.start.start) (seen_past turnstile.now worker.old.pass) hand order }
     requires whole { IsWhole order }
     ensures idle { IsIdle turnstile.now hand worker.new.pass }
-    ensures ready { IsTrue result → IsReady turnstile.now hand worker.new.pass }
+    ensures ready { IsTrue result → IsReadyToTurn turnstile.now hand worker.new.pass }
     ensures orders { (told : Option (List AnOrder)) (base : List AnOrder)
         → HasToDo told base (P.did worker.old.hand)
         (orders (outline turnstile.now.start.start) hand (seen_past turnstile.now worker.old.pass)) order
@@ -137,10 +137,10 @@ fn step<K: Desk, P: Performer, R: Wait>(
     worker: &mut Worker<K, P>,
     hand: u8,
 ) -> Option<bool>
-    requires opened { IsOpened turnstile.now hand }
-    requires ready { IsReady turnstile.now hand worker.old.pass }
+    requires opened { IsOpenedFor turnstile.now hand }
+    requires ready { IsReadyToTurn turnstile.now hand worker.old.pass }
     ensures idle { IsIdle turnstile.now hand worker.new.pass }
-    ensures ready { IfNone result (IsReady turnstile.now hand worker.new.pass) }
+    ensures ready { IfNone result (IsReadyToTurn turnstile.now hand worker.new.pass) }
     ensures goes { (told : Option (List AnOrder)) (base : List AnOrder)
         → HasDone told base (P.did worker.old.hand)
         (orders (outline turnstile.now.start.start) hand (seen_past turnstile.now worker.old.pass))
@@ -178,8 +178,8 @@ pub(crate) fn work<K: Desk, P: Performer, R: Wait>(
     worker: &mut Worker<K, P>,
     hand: u8,
 )
-    requires opened { IsOpened turnstile.now hand }
-    requires ready { IsReady turnstile.now hand worker.old.pass }
+    requires opened { IsOpenedFor turnstile.now hand }
+    requires ready { IsReadyToTurn turnstile.now hand worker.old.pass }
     ensures { HasWorked turnstile.now hand worker.old.pass worker.new.pass (P.did worker.old.hand)
         (P.did worker.new.hand) worker.new.failed }
 {

@@ -1,7 +1,7 @@
 // Several hands at work: each gets a pass, works in a thread of its own, and comes back.
 ghost use Rattle.std.specs.Prelude.{◌≡◌, ◌<◌, ◌≤◌, ◌++◌, ℕ, [], false, length, map, slice_index_or, vec_capacity, vec_len};
 ghost use Rattle.std.specs.List.{All};
-ghost use Rattle.tf_engines.specs.Working.{HasWorked, IsOpened, IsReady};
+ghost use Rattle.tf_engines.specs.Working.{HasWorked, IsOpenedFor, IsReadyToTurn};
 
 use crate::hand_loop::{Worker, work};
 use crate::shared::Shared;
@@ -9,8 +9,8 @@ use std::alloc::Global;
 use std::sync::Wait;
 use std::thread;
 use std::thread::Threads;
+use tf_actions::Performer;
 use tf_desk::Desk;
-use tf_ports::Performer;
 use tf_turnstile::{Pass, Turnstile};
 
 /// The most threads, one for each hand.
@@ -78,14 +78,14 @@ pub(crate) fn work_all<K: Desk + Send, P: Performer + Send, R: Threads + Wait + 
     workers: &mut [Worker<K, P>],
 )
     requires each { (i : ℕ) (d : _) → i < length workers.old
-        → IsOpened turnstile.now i × IsReady turnstile.now i (slice_index_or workers.old i d).pass }
+        → IsOpenedFor turnstile.now i × IsReadyToTurn turnstile.now i (slice_index_or workers.old i d).pass }
     ensures { (i : ℕ) (d : _) → i < length workers.old
         → HasWorked turnstile.now i (slice_index_or workers.old i d).pass (slice_index_or workers.new i d).pass
         (P.did (slice_index_or workers.old i d).hand) (P.did (slice_index_or workers.new i d).hand)
         (slice_index_or workers.new i d).failed }
 {
     let turns = |i: usize, worker: &mut Worker<K, P>|
-        requires { IsOpened turnstile.now i × IsReady turnstile.now i worker.now.pass }
+        requires { IsOpenedFor turnstile.now i × IsReadyToTurn turnstile.now i worker.now.pass }
         ensures { HasWorked turnstile.entry.now i worker.entry.now.pass worker.exit.now.pass
             (P.did worker.entry.now.hand) (P.did worker.exit.now.hand) worker.exit.now.failed }
     { work(rt, alloc, turnstile, worker, i as u8) };
@@ -100,7 +100,7 @@ pub(crate) fn work_through<K: Desk + Send, P: Performer + Send, R: Threads + Wai
     workers: Vec<Worker<K, P>>,
 ) -> Vec<Worker<K, P>>
     requires each { (i : ℕ) (d : _) → i < length workers.items
-        → IsOpened turnstile.now i × IsReady turnstile.now i (slice_index_or workers.items i d).pass }
+        → IsOpenedFor turnstile.now i × IsReadyToTurn turnstile.now i (slice_index_or workers.items i d).pass }
     ensures count { length result.items ≡ length workers.items }
     ensures worked { (i : ℕ) (d : _) → i < length workers.items
         → HasWorked turnstile.now i (slice_index_or workers.items i d).pass (slice_index_or result.items i d).pass

@@ -4,13 +4,13 @@ ghost use Rattle.tf_hands.specs.Hands.{orders};
 ghost use Rattle.tf_model.specs.Bound.{entry_bound};
 ghost use Rattle.tf_model.specs.History.{flow_of};
 ghost use Rattle.tf_model.specs.Sessions.{is_last};
-ghost use Rattle.tf_ports.specs.declared.orders.Order.{Order as AnOrder};
-ghost use Rattle.tf_book.specs.Book.{BookValue, outline, state as state_of};
+ghost use Rattle.tf_actions.specs.declared.orders.Order.{Order as AnOrder};
+ghost use Rattle.tf_book.specs.Book.{BookValue, outline, flow_state as state_of};
 ghost use Rattle.tf_book.specs.Kept.{Kept};
 ghost use Rattle.tf_turnstile.specs.Passes.{AreNew};
 ghost use Rattle.tf_engines.specs.Asked.{HasDoneBy};
 ghost use Rattle.tf_engines.specs.Runs.{HasRun, StandsAs};
-ghost use Rattle.tf_engines.specs.Shared.{IsFresh};
+ghost use Rattle.tf_engines.specs.Shared.{IsJustEntered};
 ghost use Rattle.tf_engines.specs.Working.{HasDoneSo, IsRun};
 
 use crate::engine::{How, RunEnd};
@@ -20,10 +20,10 @@ use crate::shared::Shared;
 use std::alloc::Global;
 use std::sync::Wait;
 use std::thread::Threads;
+use tf_actions::Performer;
 use tf_book::Book;
 use tf_bound::runs_are_bounded;
 use tf_desk::Desk;
-use tf_ports::Performer;
 use tf_states::FlowState;
 use tf_turnstile::{Pass, Turnstile};
 
@@ -48,8 +48,8 @@ fn stopped<K: Desk>(book: &Book<K>) -> How
 /// Halts a book for want of memory where a hand couldn't go on, if it isn't halted.
 fn halt_for<K: Desk>(book: &mut Book<K>, failed: bool)
     ensures keeps { (start : BookValue K)
-        → Kept K.tells K.shown K.content K.left K.crashes K.disk_faults K.out_faults start book.old
-        → Kept K.tells K.shown K.content K.left K.crashes K.disk_faults K.out_faults start book.new }
+        → Kept K.state start book.old
+        → Kept K.state start book.new }
     ensures same { book.new ≡ record book.old { halt = book.new.halt } }
     ensures halted { failed ≡ true → IsSome book.new.halt }
 {
@@ -62,7 +62,7 @@ fn halt_for<K: Desk>(book: &mut Book<K>, failed: bool)
 /// before, then for want of memory.
 fn conclude<K: Desk, P: Performer>(shared: Shared<K, P>, failed: bool) -> RunEnd<K>
     requires { failed ≡ false → is_last (flow_of shared.now.past) ≡ true }
-    ensures run { IsRun K.tells K.shown K.content K.left K.crashes K.disk_faults K.out_faults K.asks P.gives
+    ensures run { IsRun K.state P.gives
         shared.number shared.limit shared.start result.book result.how }
     ensures past { result.book.past ≡ shared.now.past }
     ensures orders { (told : Option (List AnOrder)) (base : List AnOrder) (did : Option (List AnOrder))
@@ -76,8 +76,8 @@ fn conclude<K: Desk, P: Performer>(shared: Shared<K, P>, failed: bool) -> RunEnd
 
 /// The end of a run for which memory doesn't suffice, and in which no hand has begun.
 fn give_up<K: Desk, P: Performer>(shared: Shared<K, P>) -> RunEnd<K>
-    requires fresh { IsFresh shared }
-    ensures run { IsRun K.tells K.shown K.content K.left K.crashes K.disk_faults K.out_faults K.asks P.gives
+    requires fresh { IsJustEntered shared }
+    ensures run { IsRun K.state P.gives
         shared.number shared.limit shared.start result.book result.how }
     ensures orders { (hand : ℕ) (did : Option (List AnOrder))
         → HasDoneBy did (orders (outline shared.start) hand shared.start.past) did
@@ -96,14 +96,14 @@ fn run_hands<K: Desk + Send, P: Performer + Send, R: Threads + Wait + Sync>(
     workers: Vec<Worker<K, P>>,
     back: Vec<Pass<Shared<K, P>>>,
 ) -> RunEnd<K>
-    requires fresh { IsFresh turnstile.start }
+    requires fresh { IsJustEntered turnstile.start }
     requires some { 1 ≤ vec_len hands.old }
     requires few { vec_len hands.old ≤ 64 }
     requires number { turnstile.start.number ≡ vec_len hands.old }
     requires passes { (turnstile.passes ≡ vec_len hands.old) × AreNew turnstile passes.items }
     requires workers { (workers.items ≡ []) × (vec_len hands.old ≤ vec_capacity workers) }
     requires back { (back.items ≡ []) × (vec_len hands.old ≤ vec_capacity back) }
-    ensures run { IsRun K.tells K.shown K.content K.left K.crashes K.disk_faults K.out_faults K.asks P.gives
+    ensures run { IsRun K.state P.gives
         (vec_len hands.old) turnstile.start.limit turnstile.start.start result.book result.how }
     ensures count { vec_len hands.new ≡ vec_len hands.old }
     ensures orders { (i : ℕ) (d : P) → i < vec_len hands.old
@@ -128,11 +128,11 @@ fn run_shared<K: Desk + Send, P: Performer + Send, R: Threads + Wait + Sync>(
     shared: Shared<K, P>,
     hands: &mut Vec<P>,
 ) -> RunEnd<K>
-    requires fresh { IsFresh shared }
+    requires fresh { IsJustEntered shared }
     requires some { 1 ≤ vec_len hands.old }
     requires few { vec_len hands.old ≤ 64 }
     requires number { shared.number ≡ vec_len hands.old }
-    ensures run { IsRun K.tells K.shown K.content K.left K.crashes K.disk_faults K.out_faults K.asks P.gives
+    ensures run { IsRun K.state P.gives
         (vec_len hands.old) shared.limit shared.start result.book result.how }
     ensures count { vec_len hands.new ≡ vec_len hands.old }
     ensures orders { (i : ℕ) (d : P) → i < vec_len hands.old
@@ -162,7 +162,7 @@ fn run_session<K: Desk + Send, P: Performer + Send, R: Threads + Wait + Sync>(
 ) -> RunEnd<K>
     requires some { 1 ≤ vec_len hands.old }
     requires few { vec_len hands.old ≤ 64 }
-    ensures run { IsRun K.tells K.shown K.content K.left K.crashes K.disk_faults K.out_faults K.asks P.gives
+    ensures run { IsRun K.state P.gives
         (vec_len hands.old) limit book result.book result.how }
     ensures count { vec_len hands.new ≡ vec_len hands.old }
     ensures orders { (i : ℕ) (d : P) → i < vec_len hands.old
@@ -189,13 +189,13 @@ pub fn parallel<K: Desk + Send, P: Performer + Send, R: Threads + Wait + Sync>(
     requires some { 1 ≤ vec_len hands.old }
     requires few { vec_len hands.old ≤ 64 }
     ensures keeps { (start : BookValue K)
-        → Kept K.tells K.shown K.content K.left K.crashes K.disk_faults K.out_faults start book
-        → Kept K.tells K.shown K.content K.left K.crashes K.disk_faults K.out_faults start result.book }
+        → Kept K.state start book
+        → Kept K.state start result.book }
     ensures stops { StandsAs result.book.halt (state_of result.book) result.how }
     ensures plan { result.book.plan ≡ book.plan }
-    ensures ran { HasRun P.gives (Rises (K.asks book.journal.desk) (K.asks result.book.journal.desk))
+    ensures ran { HasRun P.gives (Rises (K.state book.journal.desk).asks (K.state result.book.journal.desk).asks)
         (vec_len hands.old) limit (outline book) book.past result.book.past result.how }
-    ensures asks { K.asks book.journal.desk ≤ K.asks result.book.journal.desk }
+    ensures asks { (K.state book.journal.desk).asks ≤ (K.state result.book.journal.desk).asks }
     ensures count { vec_len hands.new ≡ vec_len hands.old }
     ensures orders { (i : ℕ) (d : P) → i < vec_len hands.old
         → HasDoneBy (P.did (slice_index_or hands.old.items i d)) (orders (outline book) i book.past)

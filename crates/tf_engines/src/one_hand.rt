@@ -5,19 +5,19 @@ ghost use Rattle.tf_states.specs.declared.state.FlowState.TheVariants as flow;
 ghost use Rattle.tf_hands.specs.Hands.{IsAlone, HasOrder, orders};
 ghost use Rattle.tf_model.specs.Bound.{entry_bound};
 ghost use Rattle.tf_model.specs.Steps.{LegalPast};
-ghost use Rattle.tf_ports.specs.Whole.{IsWhole};
-ghost use Rattle.tf_ports.specs.declared.orders.Order.{Order as AnOrder};
-ghost use Rattle.tf_book.specs.Book.{BookValue, outline, moment, state as state_of};
+ghost use Rattle.tf_actions.specs.Whole.{IsWhole};
+ghost use Rattle.tf_actions.specs.declared.orders.Order.{Order as AnOrder};
+ghost use Rattle.tf_book.specs.Book.{BookValue, outline, moment, flow_state as state_of};
 ghost use Rattle.tf_book.specs.Kept.{Kept};
 ghost use Rattle.tf_engines.specs.Asked.{HasDone, HasToDo, HasDoneBy};
-ghost use Rattle.tf_engines.specs.Runs.{GoesOn, HasRun, HaltsAs, StandsAs, IsGoing};
+ghost use Rattle.tf_engines.specs.Runs.{IsUnderWay, HasRun, HaltsAs, StandsAs, IsBetweenTurns};
 
 use crate::engine::{How, RunEnd};
 use std::alloc::Global;
+use tf_actions::{Order, Performer};
 use tf_book::{Book, Entered, Turn};
 use tf_bound::runs_are_bounded;
 use tf_desk::Desk;
-use tf_ports::{Order, Performer};
 
 /// The number of the one hand.
 const HAND: u8 = 0;
@@ -49,19 +49,20 @@ fn perform<K: Desk, P: Performer>(
     requires alone { IsAlone (outline book.old) book.old.past 0 }
     requires whole { IsWhole order }
     ensures keeps { (start : BookValue K)
-        → Kept K.tells K.shown K.content K.left K.crashes K.disk_faults K.out_faults start book.old
-        → Kept K.tells K.shown K.content K.left K.crashes K.disk_faults K.out_faults start book.new }
+        → Kept K.state start book.old
+        → Kept K.state start book.new }
     ensures stops { IfSome result (StandsAs book.new.halt (state_of book.new)) }
     ensures plan { book.new.plan ≡ book.old.plan }
     ensures ran { (limit : Option ℕ) (before : List Record)
-        → GoesOn P.gives 1 limit (outline book.old) before book.old.past book.old.limit
-        → IfSome result (HasRun P.gives (Rises (K.asks book.old.journal.desk) (K.asks book.new.journal.desk)) 1 limit
+        → IsUnderWay P.gives 1 limit (outline book.old) before book.old.past book.old.limit
+        → IfSome result (HasRun P.gives (Rises (K.state book.old.journal.desk).asks
+        (K.state book.new.journal.desk).asks) 1 limit
         (outline book.old) before book.new.past) }
     ensures on { (limit : Option ℕ) (before : List Record)
-        → GoesOn P.gives 1 limit (outline book.old) before book.old.past book.old.limit
-        → IfNone result (GoesOn P.gives 1 limit (outline book.old) before book.new.past book.new.limit) }
-    ensures asks { K.asks book.old.journal.desk ≤ K.asks book.new.journal.desk }
-    ensures goes { IfNone result (IsGoing (outline book.new) book.new.past book.new.halt) }
+        → IsUnderWay P.gives 1 limit (outline book.old) before book.old.past book.old.limit
+        → IfNone result (IsUnderWay P.gives 1 limit (outline book.old) before book.new.past book.new.limit) }
+    ensures asks { (K.state book.old.journal.desk).asks ≤ (K.state book.new.journal.desk).asks }
+    ensures goes { IfNone result (IsBetweenTurns (outline book.new) book.new.past book.new.halt) }
     ensures no_more { 67108864 - book.new.journal.size ≤ 67108864 - book.old.journal.size }
     ensures asked { (told : Option (List AnOrder)) (base : List AnOrder)
         → HasToDo told base (P.did hand.old) (orders (outline book.old) 0 book.old.past) order
@@ -84,21 +85,22 @@ fn perform<K: Desk, P: Performer>(
 /// One turn of the hand: what the book records for it, and the order that it performs. `None` where the run
 /// goes on.
 fn take_turn<K: Desk, P: Performer>(alloc: Global, book: &mut Book<K>, hand: &mut P) -> Option<How>
-    requires going { IsGoing (outline book.old) book.old.past book.old.halt }
+    requires going { IsBetweenTurns (outline book.old) book.old.past book.old.halt }
     ensures keeps { (start : BookValue K)
-        → Kept K.tells K.shown K.content K.left K.crashes K.disk_faults K.out_faults start book.old
-        → Kept K.tells K.shown K.content K.left K.crashes K.disk_faults K.out_faults start book.new }
+        → Kept K.state start book.old
+        → Kept K.state start book.new }
     ensures stops { IfSome result (StandsAs book.new.halt (state_of book.new)) }
     ensures plan { book.new.plan ≡ book.old.plan }
     ensures ran { (limit : Option ℕ) (before : List Record)
-        → GoesOn P.gives 1 limit (outline book.old) before book.old.past book.old.limit
-        → IfSome result (HasRun P.gives (Rises (K.asks book.old.journal.desk) (K.asks book.new.journal.desk)) 1 limit
+        → IsUnderWay P.gives 1 limit (outline book.old) before book.old.past book.old.limit
+        → IfSome result (HasRun P.gives (Rises (K.state book.old.journal.desk).asks
+        (K.state book.new.journal.desk).asks) 1 limit
         (outline book.old) before book.new.past) }
     ensures on { (limit : Option ℕ) (before : List Record)
-        → GoesOn P.gives 1 limit (outline book.old) before book.old.past book.old.limit
-        → IfNone result (GoesOn P.gives 1 limit (outline book.old) before book.new.past book.new.limit) }
-    ensures asks { K.asks book.old.journal.desk ≤ K.asks book.new.journal.desk }
-    ensures goes { IfNone result (IsGoing (outline book.new) book.new.past book.new.halt) }
+        → IsUnderWay P.gives 1 limit (outline book.old) before book.old.past book.old.limit
+        → IfNone result (IsUnderWay P.gives 1 limit (outline book.old) before book.new.past book.new.limit) }
+    ensures asks { (K.state book.old.journal.desk).asks ≤ (K.state book.new.journal.desk).asks }
+    ensures goes { IfNone result (IsBetweenTurns (outline book.new) book.new.past book.new.halt) }
     ensures less { IfNone result (67108864 - book.new.journal.size < 67108864 - book.old.journal.size) }
     ensures asked { (told : Option (List AnOrder)) (base : List AnOrder)
         → HasDone told base (P.did hand.old) (orders (outline book.old) 0 book.old.past)
@@ -128,17 +130,18 @@ fn take_turn<K: Desk, P: Performer>(alloc: Global, book: &mut Book<K>, hand: &mu
 
 /// Goes through a session that was entered, turn by turn.
 fn run<K: Desk, P: Performer>(alloc: Global, book: &mut Book<K>, hand: &mut P) -> How
-    requires going { IsGoing (outline book.old) book.old.past book.old.halt }
+    requires going { IsBetweenTurns (outline book.old) book.old.past book.old.halt }
     ensures keeps { (start : BookValue K)
-        → Kept K.tells K.shown K.content K.left K.crashes K.disk_faults K.out_faults start book.old
-        → Kept K.tells K.shown K.content K.left K.crashes K.disk_faults K.out_faults start book.new }
+        → Kept K.state start book.old
+        → Kept K.state start book.new }
     ensures stops { StandsAs book.new.halt (state_of book.new) result }
     ensures plan { book.new.plan ≡ book.old.plan }
     ensures ran { (limit : Option ℕ) (before : List Record)
-        → GoesOn P.gives 1 limit (outline book.old) before book.old.past book.old.limit
-        → HasRun P.gives (Rises (K.asks book.old.journal.desk) (K.asks book.new.journal.desk)) 1 limit (outline book.old)
+        → IsUnderWay P.gives 1 limit (outline book.old) before book.old.past book.old.limit
+        → HasRun P.gives (Rises (K.state book.old.journal.desk).asks (K.state book.new.journal.desk).asks) 1 limit
+        (outline book.old)
         before book.new.past result }
-    ensures asks { K.asks book.old.journal.desk ≤ K.asks book.new.journal.desk }
+    ensures asks { (K.state book.old.journal.desk).asks ≤ (K.state book.new.journal.desk).asks }
     ensures stopped { (told : Option (List AnOrder)) (base : List AnOrder)
         → HasDone told base (P.did hand.old) (orders (outline book.old) 0 book.old.past)
         → HasDoneBy told base (P.did hand.new) (orders (outline book.old) 0 book.new.past) result }
@@ -159,13 +162,14 @@ fn run_session<K: Desk, P: Performer>(
     limit: Option<u32>,
 ) -> How
     ensures keeps { (start : BookValue K)
-        → Kept K.tells K.shown K.content K.left K.crashes K.disk_faults K.out_faults start book.old
-        → Kept K.tells K.shown K.content K.left K.crashes K.disk_faults K.out_faults start book.new }
+        → Kept K.state start book.old
+        → Kept K.state start book.new }
     ensures stops { StandsAs book.new.halt (state_of book.new) result }
     ensures plan { book.new.plan ≡ book.old.plan }
-    ensures ran { HasRun P.gives (Rises (K.asks book.old.journal.desk) (K.asks book.new.journal.desk)) 1 limit
+    ensures ran { HasRun P.gives (Rises (K.state book.old.journal.desk).asks
+        (K.state book.new.journal.desk).asks) 1 limit
         (outline book.old) book.old.past book.new.past result }
-    ensures asks { K.asks book.old.journal.desk ≤ K.asks book.new.journal.desk }
+    ensures asks { (K.state book.old.journal.desk).asks ≤ (K.state book.new.journal.desk).asks }
     ensures stopped { (told : Option (List AnOrder)) (base : List AnOrder)
         → HasDone told base (P.did hand.old) (orders (outline book.old) 0 book.old.past)
         → HasDoneBy told base (P.did hand.new) (orders (outline book.old) 0 book.new.past) result }
@@ -193,13 +197,14 @@ pub fn serial<K: Desk, P: Performer>(
     limit: Option<u32>,
 ) -> RunEnd<K>
     ensures keeps { (start : BookValue K)
-        → Kept K.tells K.shown K.content K.left K.crashes K.disk_faults K.out_faults start book
-        → Kept K.tells K.shown K.content K.left K.crashes K.disk_faults K.out_faults start result.book }
+        → Kept K.state start book
+        → Kept K.state start result.book }
     ensures stops { StandsAs result.book.halt (state_of result.book) result.how }
     ensures plan { result.book.plan ≡ book.plan }
-    ensures ran { HasRun P.gives (Rises (K.asks book.journal.desk) (K.asks result.book.journal.desk)) 1 limit
+    ensures ran { HasRun P.gives (Rises (K.state book.journal.desk).asks
+        (K.state result.book.journal.desk).asks) 1 limit
         (outline book) book.past result.book.past result.how }
-    ensures asks { K.asks book.journal.desk ≤ K.asks result.book.journal.desk }
+    ensures asks { (K.state book.journal.desk).asks ≤ (K.state result.book.journal.desk).asks }
     ensures orders { HasDoneBy (P.did hand.old) (orders (outline book) 0 book.past) (P.did hand.new)
         (orders (outline book) 0 result.book.past) result.how }
     ensures bound { length result.book.past ≤ length book.past + entry_bound book.plan }

@@ -2,10 +2,10 @@ ghost use Rattle.std.specs.Prelude.{◌≡◌, ◌<◌, ◌≤◌, ◌^◌, ◌+
 ghost use Rattle.tf_hands.specs.Hands.{orders};
 ghost use Rattle.tf_model.specs.History.{snapshot};
 ghost use Rattle.tf_model.specs.Steps.{is_free, LegalPast};
-ghost use Rattle.tf_ports.specs.declared.orders.Order.{Order as AnOrder};
+ghost use Rattle.tf_actions.specs.declared.orders.Order.{Order as AnOrder};
 ghost use Rattle.tf_book.specs.Book.{outline};
 ghost use Rattle.tf_engines.specs.Asked.{HasDone};
-ghost use Rattle.tf_engines.specs.Shared.{entries_of, origin_of, IsFresh, IsShared};
+ghost use Rattle.tf_engines.specs.Shared.{entries_of, origin_of, IsJustEntered, IsShared};
 ghost use Rattle.tf_engines.specs.Working.{HasDoneNext, HasNext, HasOutcome, IsAdded, IsRun};
 
 use crate::engine::{How, RunEnd};
@@ -13,9 +13,9 @@ use crate::one_hand::halted;
 use crate::turns::{Next, begin, end};
 use std::marker::{Model, PhantomData};
 use std::snapshot::Snapshot;
+use tf_actions::{Outcome, Performer};
 use tf_book::{Book, Entered};
 use tf_desk::Desk;
-use tf_ports::{Outcome, Performer};
 use tf_states::Entry;
 use tf_turnstile::Kept;
 
@@ -44,7 +44,8 @@ impl<K: Desk, P: Performer> Model for Shared<K, P> {
 
     ghost view = { λ s. record { start = s.start.value; now = s.book; limit = s.limit; number = s.hands } };
 
-    ghost invariant = { λ s. IsShared K.tells K.shown K.content K.left K.crashes K.disk_faults K.out_faults K.asks P.gives (record { start = s.start.value; now = s.book; limit = s.limit; number = s.hands }) };
+    ghost invariant = { λ s. IsShared K.state P.gives
+        (record { start = s.start.value; now = s.book; limit = s.limit; number = s.hands }) };
 }
 
 impl<K: Desk, P: Performer> Shared<K, P> {
@@ -57,10 +58,9 @@ impl<K: Desk, P: Performer> Shared<K, P> {
     ) -> Result<Shared<K, P>, RunEnd<K>>
         requires some { 1 ≤ hands }
         requires few { hands ≤ 64 }
-        ensures fresh { IfOk result IsFresh }
+        ensures fresh { IfOk result IsJustEntered }
         ensures origin { IfOk result (λ shared. origin_of shared ≡ (book, limit, hands)) }
-        ensures run { IfErr result (λ end. IsRun K.tells K.shown K.content K.left K.crashes K.disk_faults K.out_faults
-            K.asks P.gives hands limit book end.book end.how) }
+        ensures run { IfErr result (λ end. IsRun K.state P.gives hands limit book end.book end.how) }
         ensures orders { IfErr result (λ end. (hand : ℕ)
             → orders (outline book) hand end.book.past ≡ orders (outline book) hand book.past) }
     {
@@ -92,7 +92,7 @@ impl<K: Desk, P: Performer> Shared<K, P> {
     /// What the type keeps since the session's start: the book keeps to what it had kept to, and stands in a session
     /// of its hands, of whose entries none was given by another outcome than a hand may give. Its history is legal.
     pub fn known(&self)
-        ensures shared { IsShared K.tells K.shown K.content K.left K.crashes K.disk_faults K.out_faults K.asks
+        ensures shared { IsShared K.state
             P.gives self.now }
         ensures legal { LegalPast (outline self.now.start) self.now.now.past }
         ensures few { length self.now.now.past < 2 ^ 63 }
@@ -141,7 +141,7 @@ impl<K: Desk, P: Performer> Shared<K, P> {
     /// The book back.
     pub(crate) fn into_book(self) -> Book<K>
         ensures book { result ≡ self.now }
-        ensures shared { IsShared K.tells K.shown K.content K.left K.crashes K.disk_faults K.out_faults K.asks
+        ensures shared { IsShared K.state
             P.gives self }
         ensures legal { LegalPast (outline self.start) self.now.past }
     {

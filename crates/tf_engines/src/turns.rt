@@ -4,17 +4,17 @@ ghost use Rattle.tf_desk.specs.Counts.{Rises};
 ghost use Rattle.tf_states.specs.declared.record.Entry.{Entry as Record};
 ghost use Rattle.tf_hands.specs.Hands.{orders};
 ghost use Rattle.tf_model.specs.Steps.{is_free};
-ghost use Rattle.tf_ports.specs.declared.orders.Order.{Order as AnOrder};
-ghost use Rattle.tf_book.specs.Book.{BookValue, outline, moment, state as state_of};
+ghost use Rattle.tf_actions.specs.declared.orders.Order.{Order as AnOrder};
+ghost use Rattle.tf_book.specs.Book.{BookValue, outline, moment, flow_state as state_of};
 ghost use Rattle.tf_book.specs.Kept.{Kept};
 ghost use Rattle.tf_book.specs.Turns.{is_entered};
 ghost use Rattle.tf_engines.specs.Asked.{HasDone};
-ghost use Rattle.tf_engines.specs.Runs.{Stands};
+ghost use Rattle.tf_engines.specs.Runs.{StandsBetween};
 ghost use Rattle.tf_engines.specs.Working.{HasDoneNext, HasNext, HasOutcome, IsAdded, next_by};
 
+use tf_actions::{Order, Outcome, Performer};
 use tf_book::{Book, Turn};
 use tf_desk::Desk;
-use tf_ports::{Order, Outcome, Performer};
 
 /// What a hand does next: it performs an order, waits for the others, or stops, since the flow has stopped or since it
 /// can't go on.
@@ -44,15 +44,17 @@ pub(crate) fn begin<K: Desk, P: Performer>(book: &mut Book<K>, hand: u8) -> Next
     requires free { is_free (outline book.old) (moment book.old) hand ≡ true }
     requires entered { is_entered (state_of book.old) ≡ true }
     ensures keeps { (start : BookValue K)
-        → Kept K.tells K.shown K.content K.left K.crashes K.disk_faults K.out_faults start book.old
-        → Kept K.tells K.shown K.content K.left K.crashes K.disk_faults K.out_faults start book.new }
+        → Kept K.state start book.old
+        → Kept K.state start book.new }
     ensures plan { book.new.plan ≡ book.old.plan }
-    ensures asks { K.asks book.old.journal.desk ≤ K.asks book.new.journal.desk }
+    ensures asks { (K.state book.old.journal.desk).asks ≤ (K.state book.new.journal.desk).asks }
     ensures stands { (number asked : ℕ) (limit : Option ℕ) (before : List Record) → hand < number
-        → asked ≤ K.asks book.old.journal.desk
-        → Stands P.gives (Rises asked (K.asks book.old.journal.desk)) number limit (outline book.old) before
+        → asked ≤ (K.state book.old.journal.desk).asks
+        → StandsBetween P.gives (Rises asked (K.state book.old.journal.desk).asks) number limit
+        (outline book.old) before
         book.old.past book.old.limit
-        → Stands P.gives (Rises asked (K.asks book.new.journal.desk)) number limit (outline book.old) before
+        → StandsBetween P.gives (Rises asked (K.state book.new.journal.desk).asks) number limit
+        (outline book.old) before
         book.new.past book.new.limit }
     ensures added { IsAdded hand book.old.past book.new.past }
     ensures has { HasNext (outline book.old) book.new.past hand result }
@@ -78,15 +80,17 @@ pub(crate) fn end<K: Desk, P: Performer>(book: &mut Book<K>, hand: u8, outcome: 
     requires hand { hand < 64 }
     requires has { HasOutcome P.gives (outline book.old) book.old.past hand outcome }
     ensures keeps { (start : BookValue K)
-        → Kept K.tells K.shown K.content K.left K.crashes K.disk_faults K.out_faults start book.old
-        → Kept K.tells K.shown K.content K.left K.crashes K.disk_faults K.out_faults start book.new }
+        → Kept K.state start book.old
+        → Kept K.state start book.new }
     ensures plan { book.new.plan ≡ book.old.plan }
-    ensures asks { K.asks book.old.journal.desk ≤ K.asks book.new.journal.desk }
+    ensures asks { (K.state book.old.journal.desk).asks ≤ (K.state book.new.journal.desk).asks }
     ensures stands { (number asked : ℕ) (limit : Option ℕ) (before : List Record) → hand < number
-        → asked ≤ K.asks book.old.journal.desk
-        → Stands P.gives (Rises asked (K.asks book.old.journal.desk)) number limit (outline book.old) before
+        → asked ≤ (K.state book.old.journal.desk).asks
+        → StandsBetween P.gives (Rises asked (K.state book.old.journal.desk).asks) number limit
+        (outline book.old) before
         book.old.past book.old.limit
-        → Stands P.gives (Rises asked (K.asks book.new.journal.desk)) number limit (outline book.old) before
+        → StandsBetween P.gives (Rises asked (K.state book.new.journal.desk).asks) number limit
+        (outline book.old) before
         book.new.past book.new.limit }
     ensures added { IsAdded hand book.old.past book.new.past }
     ensures free { IsTrue result → is_free (outline book.old) (moment book.new) hand ≡ true }

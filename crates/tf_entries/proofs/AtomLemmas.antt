@@ -20,7 +20,7 @@ use Rattle.tf_flow.specs.declared.atoms.Undo.{Undo}
 use Rattle.tf_flow.specs.declared.atoms.Undo.TheVariants as undo
 use Rattle.tf_entries.specs.Atoms.{arg_bytes, bind_bytes, provides_bytes, undo_bytes, task_kind_byte, task_bytes, retry_kind_bytes, retry_bytes, IsName, IsText, IsArg, IsBind, IsProvides, IsUndo, IsTask, IsRetryKind, IsRetry}
 use Rattle.tf_entries.specs.AtomReading.{read_truth, read_arg, read_bind, read_words, read_names, read_args, read_binds, read_provides_of, read_provides, read_undo_of, read_undo, task_kind_of, read_task_kind, read_task, read_times, scalars_in, read_values, read_for_each, read_retry_kind_of, read_retry_kind, read_retry}
-use Rattle.tf_entries.specs.Fields.{name_bytes, truth_byte, listed, IsListed}
+use Rattle.tf_entries.specs.Fields.{name_bytes, truth_byte, listed, AreFew}
 use Rattle.tf_entries.specs.Reading.{chain, read_signed, read_name, read_value}
 use Rattle.tf_entries.proofs.FieldLemmas.{number_read, found_at, truth_read, list_read}
 use Rattle.tf_entries.proofs.NumberLemmas.{number_16, signed_32, name_read, text_read}
@@ -55,19 +55,19 @@ bind_read = record {
       subst (λ x. IsBind x × (bytes ≡ bind_bytes x ++ rest)) same.0 ((s.good, v.good), s.front ∙ ap (λ more. name_bytes s.first ++ more) (v.front ∙ ap (λ more. byte_form v.first ++ more) same.1) ∙ sym (append_assoc (name_bytes s.first) (byte_form v.first) rest));
 }
 
-words_read : Reads (listed text_bytes) (IsListed IsText) read_words
+words_read : Reads (listed text_bytes) (AreFew IsText) read_words
 unfolding read_words
 words_read = list_read text_read
 
-names_read : Reads (listed name_bytes) (IsListed IsName) read_names
+names_read : Reads (listed name_bytes) (AreFew IsName) read_names
 unfolding read_names
 names_read = list_read name_read
 
-args_read : Reads (listed arg_bytes) (IsListed IsArg) read_args
+args_read : Reads (listed arg_bytes) (AreFew IsArg) read_args
 unfolding read_args
 args_read = list_read arg_read
 
-pub binds_read : Reads (listed bind_bytes) (IsListed IsBind) read_binds
+pub binds_read : Reads (listed bind_bytes) (AreFew IsBind) read_binds
 unfolding read_binds
 binds_read = list_read bind_read
 

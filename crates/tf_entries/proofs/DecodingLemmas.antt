@@ -13,15 +13,15 @@ use Rattle.tf_flow.proofs.AlikeLemmas.{refused_alike}
 use Rattle.tf_flow.proofs.WrittenLemmas.{flow_written}
 use Rattle.tf_values.specs.declared.faults.MakeFault.{MakeFault}
 use Rattle.tf_values.specs.declared.faults.MakeFault.TheVariants as fault
-use Rattle.tf_entries.specs.PlanReading.{WrittenPlan, written_of, read_plan, fault_of}
+use Rattle.tf_entries.specs.PlanReading.{PlanAsWritten, written_of, read_plan, fault_of}
 use Rattle.tf_entries.specs.Plans.{plan_bytes, IsPlan, KeepsLimits}
-use Rattle.tf_entries.specs.Reading.{Refuses, whole}
+use Rattle.tf_entries.specs.Reading.{RefusesForm, whole}
 use Rattle.tf_entries.proofs.CountLemmas.{counted_plan}
 use Rattle.tf_entries.proofs.DepthLemmas.{within_limits}
 use Rattle.tf_entries.proofs.PlanLemmas.{IsFlow, plan_found, plan_made}
 
 -- what a plan is written as
-abbrev written_plan : PlanValue → WrittenPlan
+abbrev written_plan : PlanValue → PlanAsWritten
 written_plan plan = written_of plan.root plan.store plan.defer
 
 is_flow : (root : Flow) → IsFlow (as_written (tree_of root))
@@ -39,7 +39,7 @@ no_form bytes none plan accepted good is =
     let no : Some (written_plan plan) ≡ None = sym (found plan accepted good) ∙ ap (λ xs. whole (read_plan xs)) is ∙ none in
     cc
 
-pub refused_form : (bytes : List ℕ) (e : MakeFault) → Refuses (whole (read_plan bytes)) e → IsErrOf {T = PlanValue} (Err e) fault.No
+pub refused_form : (bytes : List ℕ) (e : MakeFault) → RefusesForm (whole (read_plan bytes)) e → IsErrOf {T = PlanValue} (Err e) fault.No
     → (plan : PlanValue) → first_refusal plan.root plan.store ≡ None → KeepsLimits plan → plan_bytes plan ≡ bytes → ⊥
 refused_form bytes fault.No refused is = no_form bytes refused
 refused_form bytes fault.Memory refused is = absurd (cc)

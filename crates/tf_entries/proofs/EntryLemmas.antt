@@ -20,7 +20,7 @@ use Rattle.tf_entries.specs.Entries.{atom_state_byte, flow_state_byte, kind_byte
 use Rattle.tf_entries.specs.EntryReading.{atom_state_of, flow_state_of, kind_of, read_atom_state, read_flow_state, read_kind, read_failure_of, read_failure, read_result, read_fault, read_payload, read_below, read_atom, read_resolve, read_what_of, read_what, read_entry}
 use Rattle.tf_values.specs.declared.faults.MakeFault.{MakeFault}
 use Rattle.tf_values.specs.declared.faults.MakeFault.TheVariants as fault
-use Rattle.tf_entries.specs.Reading.{Refuses, chain, where_true, whole}
+use Rattle.tf_entries.specs.Reading.{RefusesForm, chain, where_true, whole}
 use Rattle.tf_entries.proofs.ReadingLemmas.{Reads, same_read, began, went_on, went_past, on_tag, no_tag, bare, with_part, kept, keeps, whole_is, whole_of}
 use Rattle.tf_entries.proofs.FieldLemmas.{number_read, found_at}
 use Rattle.tf_entries.proofs.NumberLemmas.{number_16, number_32, signed_32, name_read, text_read}
@@ -341,7 +341,7 @@ module _ (atoms flows : ℕ) where
   read_as_entry bytes (Ok e) is = entry_made bytes e is
   read_as_entry bytes (Err f) is = tt
 
-  pub no_entry : (bytes : List ℕ) (r : Result Entry MakeFault) → IfErr r (Refuses (whole (read_entry atoms flows bytes))) → IsErrOf r fault.No
+  pub no_entry : (bytes : List ℕ) (r : Result Entry MakeFault) → IfErr r (RefusesForm (whole (read_entry atoms flows bytes))) → IsErrOf r fault.No
       → (e : Entry) → IsEntry atoms flows e → entry_bytes e ≡ bytes → ⊥
   no_entry bytes (Ok x) refused is = absurd (cc)
   no_entry bytes (Err fault.No) refused is = entry_none bytes refused

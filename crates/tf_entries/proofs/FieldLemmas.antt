@@ -4,7 +4,7 @@ use Rattle.std.proofs.Common.{◌≡◌, ℕ, ◌<◌, ◌^◌, List, [], ◌∷
 use Rattle.std.specs.Int.{to_be_bytes}
 use Rattle.std.specs.List.{flat_map}
 use Rattle.tf_entries.specs.AtomReading.{truth_of, read_truth}
-use Rattle.tf_entries.specs.Fields.{truth_byte, listed, IsListed}
+use Rattle.tf_entries.specs.Fields.{truth_byte, listed, AreFew}
 use Rattle.tf_entries.specs.Reading.{numbered, read_many, read_list}
 use Rattle.tf_entries.proofs.NumberLemmas.{number_16}
 use Rattle.tf_entries.proofs.ReadingLemmas.{Reads, same_read, began, went_past, on_tag, no_tag, many_again, many_sound}
@@ -45,7 +45,7 @@ truth_read = number_read truth_byte truth_of truth_back truth_there read_truth r
 
 -- ---- lists
 
-pub list_read : {X : Type 0} {form : X → List ℕ} {Good : X → Type 0} {read : List ℕ → Option (X × List ℕ)} → Reads form Good read → Reads (listed form) (IsListed Good) (read_list read)
+pub list_read : {X : Type 0} {form : X → List ℕ} {Good : X → Type 0} {read : List ℕ → Option (X × List ℕ)} → Reads form Good read → Reads (listed form) (AreFew Good) (read_list read)
 list_read {X} {form} {Good} {read} code = record {
   again = λ xs rest good. went_past number_16 (λ count more. read_many read count more) (length xs) (flat_map form xs) rest good.0 ∙ many_again code xs rest good.1;
   sound = λ bytes xs rest is.

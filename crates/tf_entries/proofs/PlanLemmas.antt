@@ -11,8 +11,8 @@ use Rattle.tf_flow.specs.Written.{WrittenHead, WrittenTree, written_task, writte
 use Rattle.tf_flow.proofs.AlikeLemmas.{written_nesting, deepest_written}
 use Rattle.tf_entries.specs.AtomReading.{read_truth, read_binds}
 use Rattle.tf_entries.specs.Atoms.{bind_bytes, IsBind, IsTask}
-use Rattle.tf_entries.specs.Fields.{name_bytes, truth_byte, listed, IsListed}
-use Rattle.tf_entries.specs.PlanReading.{read_links, flow_kind_of, read_flow_kind, read_control_of, read_control, read_item_of, read_item, read_flow, WrittenPlan, read_plan}
+use Rattle.tf_entries.specs.Fields.{name_bytes, truth_byte, listed, AreFew}
+use Rattle.tf_entries.specs.PlanReading.{read_links, flow_kind_of, read_flow_kind, read_control_of, read_control, read_item_of, read_item, read_flow, PlanAsWritten, read_plan}
 use Rattle.tf_entries.specs.Plans.{item_count, flow_kind_byte, control_bytes, item_mark, tree_bytes, items_bytes, IsControl, IsTree, AreTrees}
 use Rattle.tf_entries.specs.Reading.{chain, read_list, whole}
 use Rattle.tf_entries.specs.Tests.{connection_bytes, IsConnection}
@@ -251,19 +251,19 @@ flow_read (suc left) = over_read left (flow_read left)
 -- ---- plans
 
 -- the bytes of what a plan is written as
-abbrev pub written_bytes : WrittenPlan → List ℕ
+abbrev pub written_bytes : PlanAsWritten → List ℕ
 written_bytes plan = tree_bytes plan.root ++ (listed bind_bytes plan.store ++ (truth_byte plan.defer ∷ []))
 
 -- what a plan may be written as, before its rules are looked at
-pub record IsWrittenPlan (plan : WrittenPlan) : Type 0 where
+pub record IsWrittenPlan (plan : PlanAsWritten) : Type 0 where
   pub flow : IsFlow plan.root
   pub root : IsWithin 16 plan.root
-  pub store : IsListed IsBind plan.store
+  pub store : AreFew IsBind plan.store
 
-abbrev behind_store : WrittenTree → List Bind → List ℕ → Option (WrittenPlan × List ℕ)
+abbrev behind_store : WrittenTree → List Bind → List ℕ → Option (PlanAsWritten × List ℕ)
 behind_store root store bytes = chain (read_truth bytes) (λ defer rest. Some (record { root = root; store = store; defer = defer }, rest))
 
-abbrev behind_root : WrittenTree → List ℕ → Option (WrittenPlan × List ℕ)
+abbrev behind_root : WrittenTree → List ℕ → Option (PlanAsWritten × List ℕ)
 behind_root root bytes = chain (read_binds bytes) (behind_store root)
 
 plan_read : Reads written_bytes IsWrittenPlan read_plan
@@ -276,7 +276,7 @@ plan_read = record {
       let r = began (flow_read 16) behind_root bytes plan rest is in
       let s = began binds_read (behind_store r.first) r.behind plan rest r.goes in
       let d = began truth_read (λ defer after. Some (record { root = r.first; store = s.first; defer = defer }, after)) s.behind plan rest s.goes in
-      let made : WrittenPlan = record { root = r.first; store = s.first; defer = d.first } in
+      let made : PlanAsWritten = record { root = r.first; store = s.first; defer = d.first } in
       let same = same_read made plan d.behind rest d.goes in
       subst (λ x. IsWrittenPlan x × (bytes ≡ written_bytes x ++ rest)) same.0 (
         record { flow = r.good.0; root = r.good.1; store = s.good },
@@ -287,11 +287,11 @@ plan_read = record {
 }
 
 -- what has this form is read
-pub plan_found : (plan : WrittenPlan) → IsWrittenPlan plan → whole (read_plan (written_bytes plan)) ≡ Some plan
+pub plan_found : (plan : PlanAsWritten) → IsWrittenPlan plan → whole (read_plan (written_bytes plan)) ≡ Some plan
 plan_found plan good = ap (λ bytes. whole (read_plan bytes)) (sym (append-nil (written_bytes plan))) ∙ whole_of (read_plan (written_bytes plan ++ [])) plan (plan_read.again plan [] good)
 
 -- what is read has this form
-pub plan_made : (bytes : List ℕ) (plan : WrittenPlan) → whole (read_plan bytes) ≡ Some plan → IsWrittenPlan plan × (written_bytes plan ≡ bytes)
+pub plan_made : (bytes : List ℕ) (plan : PlanAsWritten) → whole (read_plan bytes) ≡ Some plan → IsWrittenPlan plan × (written_bytes plan ≡ bytes)
 plan_made bytes plan is =
     let found = plan_read.sound bytes plan [] (whole_is (read_plan bytes) plan is) in
     (found.0, sym (found.1 ∙ append-nil (written_bytes plan)))

@@ -5,7 +5,7 @@ use Rattle.std.specs.Prelude.{if◌then◌else◌}
 use Rattle.std.specs.List.{flat_map, AllByRecursion}
 use Rattle.tf_values.specs.declared.faults.MakeFault.{MakeFault}
 use Rattle.tf_values.specs.declared.faults.MakeFault.TheVariants as fault
-use Rattle.tf_entries.specs.Reading.{Refuses, chain, where_true, read_first, read_many, whole, at_end}
+use Rattle.tf_entries.specs.Reading.{RefusesForm, chain, where_true, read_first, read_many, whole, at_end}
 
 -- what has the form is read from it with whatever follows, and what is read has it
 pub record Reads {X : Type 0} (form : X → List ℕ) (Good : X → Type 0) (read : List ℕ → Option (X × List ℕ)) : Type 0 where
@@ -147,7 +147,7 @@ whole_of o x is = ap whole is
 -- ---- faults
 
 -- a fault that refuses one thing refuses another that isn't spelled either
-pub refuses : {X Y : Type 0} (part : Option X) (other : Option Y) (e : MakeFault) → (part ≡ None → other ≡ None) → Refuses part e → Refuses other e
+pub refuses : {X Y : Type 0} (part : Option X) (other : Option Y) (e : MakeFault) → (part ≡ None → other ≡ None) → RefusesForm part e → RefusesForm other e
 refuses part other fault.No same refused = same refused
 refuses part other fault.Memory same refused = refused
 

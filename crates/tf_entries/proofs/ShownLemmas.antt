@@ -14,7 +14,7 @@ use Rattle.tf_flow.specs.Tree.{tree_of}
 use Rattle.tf_flow.specs.Written.{WrittenTree, written_trees, as_written, item_as_written}
 use Rattle.tf_flow.proofs.WrittenLemmas.{flow_written}
 use Rattle.tf_entries.specs.Atoms.{IsName}
-use Rattle.tf_entries.specs.Fields.{name_bytes, listed, IsListed}
+use Rattle.tf_entries.specs.Fields.{name_bytes, listed, AreFew}
 use Rattle.tf_entries.specs.Plans.{item_count, flow_kind_byte, control_bytes, tree_bytes, IsControl, IsTree, AreTrees}
 use Rattle.tf_entries.specs.Shown.{test_bytes, IsTest, link_bytes, IsLink, item_bytes, IsItem}
 use Rattle.tf_entries.specs.Tests.{condition_count, condition_bytes, connection_bytes, IsCondition, AreConditions, IsConnection}
@@ -36,7 +36,7 @@ module _ {X Y : Type 0} (shown : Y → X) where
   map_good Good [] good = tt
   map_good Good (y ∷ ys) good = (good.0, map_good Good ys good.1)
 
-  pub map_is_listed : (Good : X → Type 0) (ys : List Y) → IsListed (λ y. Good (shown y)) ys → IsListed Good (map shown ys)
+  pub map_is_listed : (Good : X → Type 0) (ys : List Y) → AreFew (λ y. Good (shown y)) ys → AreFew Good (map shown ys)
   map_is_listed Good ys good = (subst (λ (n : ℕ). n < 2 ^ 16) (sym (length-map ys shown)) good.0, map_good Good ys good.1)
 
 -- ---- tests
@@ -59,11 +59,11 @@ all_bytes tests = ap condition_bytes (condition_of-all tests) ∙ ap (λ more. 4
 pub any_bytes : (tests : Tests) → test_bytes (test.Any tests) ≡ 5 ∷ listed test_bytes tests.items.items
 any_bytes tests = ap condition_bytes (condition_of-any tests) ∙ ap (λ more. 5 ∷ more) (tests_form tests.items.items)
 
-pub all_is_test : (tests : Tests) → IsListed IsTest tests.items.items → IsTest (test.All tests)
+pub all_is_test : (tests : Tests) → AreFew IsTest tests.items.items → IsTest (test.All tests)
 all_is_test tests good =
     subst IsCondition (sym (condition_of-all tests)) (few_tests tests.items.items good.0, all_good (map condition_of tests.items.items) (map_good condition_of IsCondition tests.items.items good.1))
 
-pub any_is_test : (tests : Tests) → IsListed IsTest tests.items.items → IsTest (test.Any tests)
+pub any_is_test : (tests : Tests) → AreFew IsTest tests.items.items → IsTest (test.Any tests)
 any_is_test tests good =
     subst IsCondition (sym (condition_of-any tests)) (few_tests tests.items.items good.0, all_good (map condition_of tests.items.items) (map_good condition_of IsCondition tests.items.items good.1))
 
@@ -89,7 +89,7 @@ flow_bytes f =
     ∙ ap (λ links. name_bytes f.name ++ (flow_kind_byte f.kind ∷ (control_bytes f.retry ++ (listed item_bytes f.items.items.items ++ links)))) (map_listed connection_of connection_bytes f.links)
     ∙ sym (append_assoc (name_bytes f.name) (flow_kind_byte f.kind ∷ control_bytes f.retry) (listed item_bytes f.items.items.items ++ listed link_bytes f.links))
 
-pub flow_is_tree : (f : Flow) → IsName f.name → IsControl f.retry → IsListed IsItem f.items.items.items → IsListed IsLink f.links → IsTree (as_written (tree_of f))
+pub flow_is_tree : (f : Flow) → IsName f.name → IsControl f.retry → AreFew IsItem f.items.items.items → AreFew IsLink f.links → IsTree (as_written (tree_of f))
 flow_is_tree f name control items links =
     subst IsTree (sym (flow_written f)) (
       record { name = name; control = control; links = map_is_listed connection_of IsConnection f.links links },

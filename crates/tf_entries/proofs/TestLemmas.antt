@@ -7,7 +7,7 @@ use Rattle.tf_flow.specs.Conditions.{Condition, is_same, is_below, is_above, neg
 use Rattle.tf_flow.specs.declared.deciders.Depth.{Depth}
 use Rattle.tf_flow.specs.declared.deciders.Depth.TheVariants as depth
 use Rattle.tf_values.specs.Value.{byte_form}
-use Rattle.tf_entries.specs.Fields.{name_bytes, listed, IsListed}
+use Rattle.tf_entries.specs.Fields.{name_bytes, listed, AreFew}
 use Rattle.tf_entries.specs.PlanReading.{read_same, read_below, read_above, read_all, read_any, read_test_of, read_test, depth_of, read_depth, read_decided, read_decision_of, read_decision, read_link, read_links}
 use Rattle.tf_entries.specs.Reading.{chain, read_signed, read_name, read_value}
 use Rattle.tf_entries.specs.Tests.{condition_count, condition_bytes, conditions_bytes, depth_byte, decision_bytes, connection_bytes, IsCondition, AreConditions, IsDecision, IsConnection}
@@ -69,7 +69,7 @@ all_tests : (left : ℕ) (tests : Conditions) → AreConditions tests → deepes
 all_tests left no_conditions good low = tt
 all_tests left (condition first others) good low = ((good.0, omega arith), all_tests left others good.1 (omega arith))
 
-tests_again : (left : ℕ) (tests : Conditions) → condition_count tests < 2 ^ 16 → AreConditions tests → deepest_test tests ≤ left → IsListed (IsTest left) (condition_list tests)
+tests_again : (left : ℕ) (tests : Conditions) → condition_count tests < 2 ^ 16 → AreConditions tests → deepest_test tests ≤ left → AreFew (IsTest left) (condition_list tests)
 tests_again left tests few good low = (omega (arith, list_count tests), all_tests left tests good low)
 
 good_tests : (left : ℕ) (tests : List Condition) → AllByRecursion (IsTest left) tests → AreConditions (conditions_of tests)
@@ -87,7 +87,7 @@ record AreTests (left : ℕ) (tests : List Condition) : Type 0 where
   low : deepest_test (conditions_of tests) ≤ left
   form : counted_tests (conditions_of tests) ≡ listed condition_bytes tests
 
-tests_sound : (left : ℕ) (tests : List Condition) → IsListed (IsTest left) tests → AreTests left tests
+tests_sound : (left : ℕ) (tests : List Condition) → AreFew (IsTest left) tests → AreTests left tests
 tests_sound left tests good = record {
   few = subst (λ (n : ℕ). n < 2 ^ 16) (sym (list_count (conditions_of tests) ∙ ap length (list_back tests))) good.0;
   good = good_tests left tests good.1;
@@ -306,7 +306,7 @@ link_read = record {
       );
 }
 
-pub links_read : Reads (listed connection_bytes) (IsListed IsLink) read_links
+pub links_read : Reads (listed connection_bytes) (AreFew IsLink) read_links
 unfolding read_links
 links_read = list_read link_read
 

@@ -15,7 +15,7 @@ use Rattle.tf_values.specs.declared.faults.MakeFault.{MakeFault}
 use Rattle.tf_values.specs.declared.faults.MakeFault.TheVariants as fault
 use Rattle.tf_values.specs.declared.value.Val.{Val}
 use Rattle.tf_values.specs.declared.value.Val.TheVariants as value
-use Rattle.tf_entries.specs.Reading.{Refuses, chain, where_true, read_many, read_scalar_of, read_scalar, read_scalars, read_value_of, read_value}
+use Rattle.tf_entries.specs.Reading.{RefusesForm, chain, where_true, read_many, read_scalar_of, read_scalar, read_scalars, read_value_of, read_value}
 use Rattle.tf_entries.proofs.ReadingLemmas.{Reads, same_read, opened, began, went_on, went_past, on_tag, no_tag, bare, with_part, kept, keeps, many_again, many_sound}
 use Rattle.tf_entries.proofs.NumberLemmas.{number_16, signed_64, text_read}
 
@@ -135,6 +135,6 @@ begun bytes (Some p) is none =
 pub no_value_begins : (bytes : List ℕ) → ((v : Val) (len : ℕ) → ¬ (BeginsWith bytes v len)) → read_value bytes ≡ None
 no_value_begins bytes none = begun bytes (read_value bytes) refl none
 
-pub refused_value : (bytes : List ℕ) (e : MakeFault) → (IsErrOf {T = Val × ℕ} (Err e) fault.No → (v : Val) (len : ℕ) → ¬ (BeginsWith bytes v len)) → Refuses (read_value bytes) e
+pub refused_value : (bytes : List ℕ) (e : MakeFault) → (IsErrOf {T = Val × ℕ} (Err e) fault.No → (v : Val) (len : ℕ) → ¬ (BeginsWith bytes v len)) → RefusesForm (read_value bytes) e
 refused_value bytes fault.No refused = no_value_begins bytes (refused refl)
 refused_value bytes fault.Memory refused = tt

@@ -20,7 +20,7 @@ use Rattle.tf_flow.specs.declared.atoms.TaskKind.{TaskKind}
 use Rattle.tf_flow.specs.declared.atoms.TaskKind.TheVariants as kind
 use Rattle.tf_flow.specs.declared.atoms.Undo.{Undo}
 use Rattle.tf_flow.specs.declared.atoms.Undo.TheVariants as undo
-use Rattle.tf_entries.specs.Fields.{name_bytes, truth_byte, listed, InTwoBytes, AreCounted}
+use Rattle.tf_entries.specs.Fields.{name_bytes, truth_byte, listed, InTwoBytes, AreCountable}
 
 -- ---- bytes
 
@@ -95,19 +95,19 @@ IsBind bind = IsName bind.symbol × IsValue bind.value
 abbrev pub ProvidesWithin : (ℕ → Type 0) → Provides → Type 0
 ProvidesWithin Counts provides.Nothing = Unit {0}
 ProvidesWithin Counts (provides.Whole name) = IsName name
-ProvidesWithin Counts (provides.Parts names) = AreCounted Counts IsName names
+ProvidesWithin Counts (provides.Parts names) = AreCountable Counts IsName names
 
 abbrev pub UndoWithin : (ℕ → Type 0) → Undo → Type 0
 UndoWithin Counts undo.Pass = Unit {0}
 UndoWithin Counts undo.Fail = Unit {0}
-UndoWithin Counts (undo.Run words) = AreCounted Counts IsText words
+UndoWithin Counts (undo.Run words) = AreCountable Counts IsText words
 
 -- a task whose names, texts and values are within their limits
 pub record TaskWithin (Counts : ℕ → Type 0) (t : Task) : Type 0 where
   pub name : IsName t.name
-  pub words : AreCounted Counts IsText t.words
-  pub args : AreCounted Counts IsArg t.args
-  pub inject : AreCounted Counts IsBind t.inject
+  pub words : AreCountable Counts IsText t.words
+  pub args : AreCountable Counts IsArg t.args
+  pub inject : AreCountable Counts IsBind t.inject
   pub provides : ProvidesWithin Counts t.provides
   pub priority : FitsSigned w32 t.priority
   pub undo : UndoWithin Counts t.undo
@@ -123,8 +123,8 @@ IsRetryKind (retry.Parameterized all) = Unit {0}
 pub record RetryWithin (Counts : ℕ → Type 0) (r : Retry) : Type 0 where
   pub name : IsName r.name
   pub kind : IsRetryKind r.kind
-  pub args : AreCounted Counts IsArg r.args
-  pub inject : AreCounted Counts IsBind r.inject
+  pub args : AreCountable Counts IsArg r.args
+  pub inject : AreCountable Counts IsBind r.inject
   pub provides : ProvidesWithin Counts r.provides
 
 -- those whose lists two bytes can count

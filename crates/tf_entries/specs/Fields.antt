@@ -24,9 +24,9 @@ abbrev pub AnyCount : ℕ → Type 0
 AnyCount count = Unit {0}
 
 -- so many items as may be counted, each of which is good
-abbrev pub AreCounted : {X : Type 0} → (ℕ → Type 0) → (X → Type 0) → List X → Type 0
-AreCounted Counts Good xs = Counts (length xs) × AllByRecursion Good xs
+abbrev pub AreCountable : {X : Type 0} → (ℕ → Type 0) → (X → Type 0) → List X → Type 0
+AreCountable Counts Good xs = Counts (length xs) × AllByRecursion Good xs
 
 -- so many items as two bytes can count
-abbrev pub IsListed : {X : Type 0} → (X → Type 0) → List X → Type 0
-IsListed Good xs = AreCounted InTwoBytes Good xs
+abbrev pub AreFew : {X : Type 0} → (X → Type 0) → List X → Type 0
+AreFew Good xs = AreCountable InTwoBytes Good xs

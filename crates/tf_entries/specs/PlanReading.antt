@@ -155,17 +155,17 @@ read_flow (suc left) bytes = read_flow_by (read_flow left) bytes
 -- ---- plans
 
 -- what a plan is written as
-pub record WrittenPlan : Type 0 where
+pub record PlanAsWritten : Type 0 where
   pub root : WrittenTree
   pub store : List Bind
   pub defer : Bool
 
 -- what a flow, a store and the answer to whether reverts are deferred are written as
-abbrev pub written_of : Flow → List Bind → Bool → WrittenPlan
+abbrev pub written_of : Flow → List Bind → Bool → PlanAsWritten
 written_of root store defer = record { root = as_written (tree_of root); store = store; defer = defer }
 
 -- a plan
-abbrev pub read_plan : List ℕ → Option (WrittenPlan × List ℕ)
+abbrev pub read_plan : List ℕ → Option (PlanAsWritten × List ℕ)
 read_plan bytes =
     chain (read_flow 16 bytes) (λ root after_root.
     chain (read_binds after_root) (λ store after_store.

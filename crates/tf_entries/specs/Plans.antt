@@ -8,7 +8,7 @@ use Rattle.tf_flow.specs.declared.nested.FlowKind.{FlowKind}
 use Rattle.tf_flow.specs.declared.nested.FlowKind.TheVariants as pattern
 use Rattle.tf_flow.specs.Written.{WrittenHead, WrittenTree, written_task, written_flow, WrittenTrees, nothing_written, written, as_written}
 use Rattle.tf_entries.specs.Atoms.{task_bytes, retry_bytes, bind_bytes, IsName, TaskWithin, RetryWithin, IsBind}
-use Rattle.tf_entries.specs.Fields.{name_bytes, truth_byte, listed, InTwoBytes, AnyCount, AreCounted, IsListed}
+use Rattle.tf_entries.specs.Fields.{name_bytes, truth_byte, listed, InTwoBytes, AnyCount, AreCountable, AreFew}
 use Rattle.tf_entries.specs.Tests.{connection_bytes, IsConnection}
 
 -- how many items a flow has
@@ -62,7 +62,7 @@ ControlWithin Counts (Some r) = RetryWithin Counts r
 pub record HeadWithin (Counts : ℕ → Type 0) (head : WrittenHead) : Type 0 where
   pub name : IsName head.name
   pub control : ControlWithin Counts head.retry
-  pub links : AreCounted Counts IsConnection head.links
+  pub links : AreCountable Counts IsConnection head.links
 
 -- the same of all that stands in a flow
 abbrev mutual
@@ -87,10 +87,10 @@ AreTrees ts = TreesWithin InTwoBytes ts
 -- a plan whose names, texts and values are within their limits, and whose lists two bytes can count
 pub record IsPlan (plan : PlanValue) : Type 0 where
   pub root : IsTree (as_written (tree_of plan.root))
-  pub store : IsListed IsBind plan.store
+  pub store : AreFew IsBind plan.store
 
 -- a plan whose names, texts and values are within their limits, which their types keep, and in whose
 -- deciders two bytes can count the tests that stand beside one another
 pub record KeepsLimits (plan : PlanValue) : Type 0 where
   pub root : TreeWithin AnyCount (as_written (tree_of plan.root))
-  pub store : AreCounted AnyCount IsBind plan.store
+  pub store : AreCountable AnyCount IsBind plan.store

@@ -54,9 +54,9 @@ whole None = None
 whole (Some read) = at_end read.0 read.1
 
 -- a fault says that nothing is spelled, or that memory ran out
-abbrev pub Refuses : {X : Type 0} → Option X → MakeFault → Type 0
-Refuses spelled fault.No = spelled ≡ None
-Refuses spelled fault.Memory = Unit {0}
+abbrev pub RefusesForm : {X : Type 0} → Option X → MakeFault → Type 0
+RefusesForm spelled fault.No = spelled ≡ None
+RefusesForm spelled fault.Memory = Unit {0}
 
 -- ---- numbers, names and texts
 

@@ -1,6 +1,6 @@
 ghost use Rattle.std.specs.Prelude.{◌≡◌, ◌∷◌, ℕ, List, Option, Some, None, IfOk, IfErr};
 ghost use Rattle.tf_entries.specs.AtomReading as form;
-ghost use Rattle.tf_entries.specs.Reading.{Refuses, read_list, read_name, read_text};
+ghost use Rattle.tf_entries.specs.Reading.{RefusesForm, read_list, read_name, read_text};
 
 use crate::reader::Reader;
 use std::alloc::Global;
@@ -13,7 +13,7 @@ trait Item: Sized + Drop {
 
     fn take(reader: &mut Reader<'_>, alloc: Global) -> Result<Self, MakeFault>
         ensures ok { IfOk result (λ item. read reader.old ≡ Some (item, reader.new)) }
-        ensures refused { IfErr result (Refuses (read reader.old)) };
+        ensures refused { IfErr result (RefusesForm (read reader.old)) };
 }
 
 impl Item for Name {
@@ -58,7 +58,7 @@ impl Reader<'_> {
     /// Items behind their number.
     fn items<T: Item>(&mut self, alloc: Global) -> Result<Vec<T>, MakeFault>
         ensures ok { IfOk result (λ items. read_list T.read self.old ≡ Some (items.items, self.new)) }
-        ensures refused { IfErr result (Refuses (read_list T.read self.old)) }
+        ensures refused { IfErr result (RefusesForm (read_list T.read self.old)) }
     {
         let count = self.u16()?;
         let mut items = Vec::new(alloc);
@@ -73,7 +73,7 @@ impl Reader<'_> {
     /// A task.
     pub fn task(&mut self, alloc: Global) -> Result<Task, MakeFault>
         ensures ok { IfOk result (λ task. form.read_task self.old ≡ Some (task, self.new)) }
-        ensures refused { IfErr result (Refuses (form.read_task self.old)) }
+        ensures refused { IfErr result (RefusesForm (form.read_task self.old)) }
     {
         Ok(Task {
             name: self.name()?,
@@ -90,7 +90,7 @@ impl Reader<'_> {
     /// A retry controller.
     pub fn retry(&mut self, alloc: Global) -> Result<Retry, MakeFault>
         ensures ok { IfOk result (λ retry. form.read_retry self.old ≡ Some (retry, self.new)) }
-        ensures refused { IfErr result (Refuses (form.read_retry self.old)) }
+        ensures refused { IfErr result (RefusesForm (form.read_retry self.old)) }
     {
         Ok(Retry {
             name: self.name()?,
@@ -105,7 +105,7 @@ impl Reader<'_> {
     #[tactic(auto, unfolding(crate::specs::AtomReading::read_binds))]
     pub fn binds(&mut self, alloc: Global) -> Result<Binds, MakeFault>
         ensures ok { IfOk result (λ binds. form.read_binds self.old ≡ Some (binds, self.new)) }
-        ensures refused { IfErr result (Refuses (form.read_binds self.old)) }
+        ensures refused { IfErr result (RefusesForm (form.read_binds self.old)) }
     {
         Ok(Binds::make(self.items(alloc)?))
     }
@@ -113,7 +113,7 @@ impl Reader<'_> {
     /// A truth value.
     pub fn truth(&mut self) -> Result<bool, MakeFault>
         ensures ok { IfOk result (λ truth. form.read_truth self.old ≡ Some (truth, self.new)) }
-        ensures refused { IfErr result (Refuses (form.read_truth self.old)) }
+        ensures refused { IfErr result (RefusesForm (form.read_truth self.old)) }
     {
         match self.byte()? {
             0 => Ok(false),
@@ -125,7 +125,7 @@ impl Reader<'_> {
     #[tactic(auto, unfolding(crate::specs::AtomReading::read_words))]
     fn words(&mut self, alloc: Global) -> Result<Texts, MakeFault>
         ensures ok { IfOk result (λ words. form.read_words self.old ≡ Some (words, self.new)) }
-        ensures refused { IfErr result (Refuses (form.read_words self.old)) }
+        ensures refused { IfErr result (RefusesForm (form.read_words self.old)) }
     {
         Ok(Texts::make(self.items(alloc)?))
     }
@@ -133,7 +133,7 @@ impl Reader<'_> {
     #[tactic(auto, unfolding(crate::specs::AtomReading::read_names))]
     fn names(&mut self, alloc: Global) -> Result<Names, MakeFault>
         ensures ok { IfOk result (λ names. form.read_names self.old ≡ Some (names, self.new)) }
-        ensures refused { IfErr result (Refuses (form.read_names self.old)) }
+        ensures refused { IfErr result (RefusesForm (form.read_names self.old)) }
     {
         Ok(Names::make(self.items(alloc)?))
     }
@@ -141,7 +141,7 @@ impl Reader<'_> {
     #[tactic(auto, unfolding(crate::specs::AtomReading::read_args))]
     fn args(&mut self, alloc: Global) -> Result<ArgList, MakeFault>
         ensures ok { IfOk result (λ args. form.read_args self.old ≡ Some (args, self.new)) }
-        ensures refused { IfErr result (Refuses (form.read_args self.old)) }
+        ensures refused { IfErr result (RefusesForm (form.read_args self.old)) }
     {
         Ok(ArgList::make(self.items(alloc)?))
     }
@@ -149,7 +149,7 @@ impl Reader<'_> {
     /// What an atom provides.
     fn provides(&mut self, alloc: Global) -> Result<Provides, MakeFault>
         ensures ok { IfOk result (λ provides. form.read_provides self.old ≡ Some (provides, self.new)) }
-        ensures refused { IfErr result (Refuses (form.read_provides self.old)) }
+        ensures refused { IfErr result (RefusesForm (form.read_provides self.old)) }
     {
         match self.byte()? {
             0 => Ok(Provides::Nothing),
@@ -162,7 +162,7 @@ impl Reader<'_> {
     /// What reverts a task.
     fn undo(&mut self, alloc: Global) -> Result<Undo, MakeFault>
         ensures ok { IfOk result (λ undo. form.read_undo self.old ≡ Some (undo, self.new)) }
-        ensures refused { IfErr result (Refuses (form.read_undo self.old)) }
+        ensures refused { IfErr result (RefusesForm (form.read_undo self.old)) }
     {
         match self.byte()? {
             0 => Ok(Undo::Pass),
@@ -174,7 +174,7 @@ impl Reader<'_> {
 
     fn task_kind(&mut self) -> Result<TaskKind, MakeFault>
         ensures ok { IfOk result (λ kind. form.read_task_kind self.old ≡ Some (kind, self.new)) }
-        ensures refused { IfErr result (Refuses (form.read_task_kind self.old)) }
+        ensures refused { IfErr result (RefusesForm (form.read_task_kind self.old)) }
     {
         match self.byte()? {
             0 => Ok(TaskKind::Echo),
@@ -193,7 +193,7 @@ impl Reader<'_> {
 
     fn retry_kind(&mut self, alloc: Global) -> Result<RetryKind, MakeFault>
         ensures ok { IfOk result (λ kind. form.read_retry_kind self.old ≡ Some (kind, self.new)) }
-        ensures refused { IfErr result (Refuses (form.read_retry_kind self.old)) }
+        ensures refused { IfErr result (RefusesForm (form.read_retry_kind self.old)) }
     {
         match self.byte()? {
             0 => Ok(RetryKind::AlwaysRevert),
@@ -208,7 +208,7 @@ impl Reader<'_> {
     /// So many attempts.
     fn times(&mut self) -> Result<RetryKind, MakeFault>
         ensures ok { IfOk result (λ kind. form.read_times self.old ≡ Some (kind, self.new)) }
-        ensures refused { IfErr result (Refuses (form.read_times self.old)) }
+        ensures refused { IfErr result (RefusesForm (form.read_times self.old)) }
     {
         let attempts = self.u16()?;
         let all = self.truth()?;
@@ -218,7 +218,7 @@ impl Reader<'_> {
     /// An attempt for each of these values.
     fn for_each(&mut self, alloc: Global) -> Result<RetryKind, MakeFault>
         ensures ok { IfOk result (λ kind. form.read_for_each self.old ≡ Some (kind, self.new)) }
-        ensures refused { IfErr result (Refuses (form.read_for_each self.old)) }
+        ensures refused { IfErr result (RefusesForm (form.read_for_each self.old)) }
     {
         let values = self.values(alloc)?;
         let all = self.truth()?;
@@ -228,7 +228,7 @@ impl Reader<'_> {
     /// A list.
     fn values(&mut self, alloc: Global) -> Result<Scalars, MakeFault>
         ensures ok { IfOk result (λ values. form.read_values self.old ≡ Some (values, self.new)) }
-        ensures refused { IfErr result (Refuses (form.read_values self.old)) }
+        ensures refused { IfErr result (RefusesForm (form.read_values self.old)) }
     {
         match self.value(alloc)? {
             Val::List(values) => Ok(values),

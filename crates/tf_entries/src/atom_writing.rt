@@ -4,7 +4,7 @@ ghost use Rattle.std.specs.List.{flat_map, AllByRecursion};
 ghost use Rattle.tf_values.specs.Growth.{KeepsFront};
 ghost use Rattle.tf_values.specs.ByteForm.{text_bytes};
 ghost use Rattle.tf_entries.specs.Atoms as form;
-ghost use Rattle.tf_entries.specs.Fields.{name_bytes, truth_byte as byte_of_truth, listed, IsListed};
+ghost use Rattle.tf_entries.specs.Fields.{name_bytes, truth_byte as byte_of_truth, listed, AreFew};
 
 use crate::appending::{
     append, append_list, append_name, append_tagged_name, append_text, append_value,
@@ -82,7 +82,7 @@ pub fn append_count(count: usize, out: &mut Vec<u8>) -> Result<(), Memory>
 #[tactic(auto, using(tf_values::proofs::GrowthLemmas::keeps_shorter))]
 pub fn append_listed<T: Form>(items: &[T], out: &mut Vec<u8>) -> Result<(), Memory>
     ensures ok { OnOk result (out.new.items ≡ out.old.items ++ listed T.form items.now) }
-    ensures good { OnOk result (IsListed T.is_good items.now) }
+    ensures good { OnOk result (AreFew T.is_good items.now) }
     ensures err { OnErr result (KeepsFront out.old.items out.new.items) }
 {
     append_count(items.len(), out)?;
@@ -120,7 +120,7 @@ fn append_work(name: &Name, kind: TaskKind, words: &[Text], out: &mut Vec<u8>) -
     ensures ok { OnOk result (out.new.items ≡ out.old.items
         ++ (name_bytes name.now ++ (form.task_kind_byte kind ∷ listed text_bytes words.now))) }
     ensures name { OnOk result (form.IsName name.now) }
-    ensures words { OnOk result (IsListed form.IsText words.now) }
+    ensures words { OnOk result (AreFew form.IsText words.now) }
     ensures err { OnErr result (KeepsFront out.old.items out.new.items) }
 {
     append_name(name, out)?;
@@ -155,8 +155,8 @@ fn append_signature(
 ) -> Result<(), Memory>
     ensures ok { OnOk result (out.new.items ≡ out.old.items
         ++ (listed form.arg_bytes args.now ++ (listed form.bind_bytes inject.now ++ form.provides_bytes provides.now))) }
-    ensures args { OnOk result (IsListed form.IsArg args.now) }
-    ensures inject { OnOk result (IsListed form.IsBind inject.now) }
+    ensures args { OnOk result (AreFew form.IsArg args.now) }
+    ensures inject { OnOk result (AreFew form.IsBind inject.now) }
     ensures provides { OnOk result (form.IsProvides provides.now) }
     ensures err { OnErr result (KeepsFront out.old.items out.new.items) }
 {

@@ -3,7 +3,7 @@ ghost use Rattle.tf_flow.specs.Plan as numbering;
 ghost use Rattle.tf_states.specs.declared.record.Entry.{Entry};
 ghost use Rattle.tf_entries.specs.Entries.{IsEntry, entry_bytes};
 ghost use Rattle.tf_entries.specs.EntryReading as form;
-ghost use Rattle.tf_entries.specs.Reading.{Refuses, whole};
+ghost use Rattle.tf_entries.specs.Reading.{RefusesForm, whole};
 
 use crate::reader::Reader;
 use std::alloc::Global;
@@ -14,10 +14,12 @@ use tf_values::MakeFault;
 /// The entry of these bytes, of which none may be left over. `No` comes exactly where no entry of the
 /// plan has them.
 pub fn decode_entry(alloc: Global, plan: &Plan, bytes: &[u8]) -> Result<Entry, MakeFault>
-    ensures ok { IfOk result (λ entry. IsEntry (length (numbering.atoms plan.now)) (length (numbering.flows plan.now)) entry
+    ensures ok { IfOk result (λ entry. IsEntry (length (numbering.atoms plan.now))
+        (length (numbering.flows plan.now)) entry
         × (entry_bytes entry ≡ bytes.now)) }
     ensures refused { IsErrOf result MakeFault.No → (e : Entry)
-        → IsEntry (length (numbering.atoms plan.now)) (length (numbering.flows plan.now)) e → entry_bytes e ≢ bytes.now }
+        → IsEntry (length (numbering.atoms plan.now)) (length (numbering.flows plan.now)) e
+        → entry_bytes e ≢ bytes.now }
 {
     whole_entry(alloc, plan.atoms(), plan.flows(), bytes)
 }
@@ -25,7 +27,7 @@ pub fn decode_entry(alloc: Global, plan: &Plan, bytes: &[u8]) -> Result<Entry, M
 /// The entry of these bytes in a plan of so many atoms and flows.
 fn whole_entry(alloc: Global, atoms: u16, flows: u16, bytes: &[u8]) -> Result<Entry, MakeFault>
     ensures ok { IfOk result (λ entry. whole (form.read_entry atoms flows bytes.now) ≡ Some entry) }
-    ensures refused { IfErr result (Refuses (whole (form.read_entry atoms flows bytes.now))) }
+    ensures refused { IfErr result (RefusesForm (whole (form.read_entry atoms flows bytes.now))) }
 {
     let mut reader = Reader::make(bytes);
     let entry = reader.entry(alloc, atoms, flows)?;
@@ -39,7 +41,7 @@ impl Reader<'_> {
     /// An entry of a plan of so many atoms and flows.
     fn entry(&mut self, alloc: Global, atoms: u16, flows: u16) -> Result<Entry, MakeFault>
         ensures ok { IfOk result (λ entry. form.read_entry atoms flows self.old ≡ Some (entry, self.new)) }
-        ensures refused { IfErr result (Refuses (form.read_entry atoms flows self.old)) }
+        ensures refused { IfErr result (RefusesForm (form.read_entry atoms flows self.old)) }
     {
         let hand = self.byte()?;
         if hand >= 64 {
@@ -52,7 +54,7 @@ impl Reader<'_> {
     /// What was recorded.
     fn what(&mut self, alloc: Global, atoms: u16, flows: u16) -> Result<What, MakeFault>
         ensures ok { IfOk result (λ what. form.read_what atoms flows self.old ≡ Some (what, self.new)) }
-        ensures refused { IfErr result (Refuses (form.read_what atoms flows self.old)) }
+        ensures refused { IfErr result (RefusesForm (form.read_what atoms flows self.old)) }
     {
         match self.byte()? {
             1 => self.atom(alloc, atoms),
@@ -66,7 +68,7 @@ impl Reader<'_> {
     /// What an atom enters.
     fn atom(&mut self, alloc: Global, atoms: u16) -> Result<What, MakeFault>
         ensures ok { IfOk result (λ what. form.read_atom atoms self.old ≡ Some (what, self.new)) }
-        ensures refused { IfErr result (Refuses (form.read_atom atoms self.old)) }
+        ensures refused { IfErr result (RefusesForm (form.read_atom atoms self.old)) }
     {
         let atom = self.number_below(atoms)?;
         let state = self.atom_state()?;
@@ -81,7 +83,7 @@ impl Reader<'_> {
     /// A resolution at a flow.
     fn resolve(&mut self, flows: u16) -> Result<What, MakeFault>
         ensures ok { IfOk result (λ what. form.read_resolve flows self.old ≡ Some (what, self.new)) }
-        ensures refused { IfErr result (Refuses (form.read_resolve flows self.old)) }
+        ensures refused { IfErr result (RefusesForm (form.read_resolve flows self.old)) }
     {
         let flow = self.number_below(flows)?;
         let kind = self.kind()?;
@@ -91,7 +93,7 @@ impl Reader<'_> {
     /// A number below this one.
     fn number_below(&mut self, count: u16) -> Result<u16, MakeFault>
         ensures ok { IfOk result (λ number. form.read_below count self.old ≡ Some (number, self.new)) }
-        ensures refused { IfErr result (Refuses (form.read_below count self.old)) }
+        ensures refused { IfErr result (RefusesForm (form.read_below count self.old)) }
     {
         let number = self.u16()?;
         if number >= count {
@@ -103,7 +105,7 @@ impl Reader<'_> {
     /// The state of an atom.
     fn atom_state(&mut self) -> Result<AtomState, MakeFault>
         ensures ok { IfOk result (λ state. form.read_atom_state self.old ≡ Some (state, self.new)) }
-        ensures refused { IfErr result (Refuses (form.read_atom_state self.old)) }
+        ensures refused { IfErr result (RefusesForm (form.read_atom_state self.old)) }
     {
         match self.byte()? {
             0 => Ok(AtomState::Pending),
@@ -122,7 +124,7 @@ impl Reader<'_> {
     /// The state of the flow.
     fn flow_state(&mut self) -> Result<FlowState, MakeFault>
         ensures ok { IfOk result (λ state. form.read_flow_state self.old ≡ Some (state, self.new)) }
-        ensures refused { IfErr result (Refuses (form.read_flow_state self.old)) }
+        ensures refused { IfErr result (RefusesForm (form.read_flow_state self.old)) }
     {
         match self.byte()? {
             0 => Ok(FlowState::Pending),
@@ -140,7 +142,7 @@ impl Reader<'_> {
     /// What a failure is resolved to.
     fn kind(&mut self) -> Result<Kind, MakeFault>
         ensures ok { IfOk result (λ kind. form.read_kind self.old ≡ Some (kind, self.new)) }
-        ensures refused { IfErr result (Refuses (form.read_kind self.old)) }
+        ensures refused { IfErr result (RefusesForm (form.read_kind self.old)) }
     {
         match self.byte()? {
             0 => Ok(Kind::Retry),
@@ -153,7 +155,7 @@ impl Reader<'_> {
     /// The payload that the state names.
     fn payload(&mut self, alloc: Global, state: AtomState) -> Result<Payload, MakeFault>
         ensures ok { IfOk result (λ payload. form.read_payload state self.old ≡ Some (payload, self.new)) }
-        ensures refused { IfErr result (Refuses (form.read_payload state self.old)) }
+        ensures refused { IfErr result (RefusesForm (form.read_payload state self.old)) }
     {
         match state {
             AtomState::Success => Ok(Payload::Value(self.value(alloc)?)),
@@ -167,7 +169,7 @@ impl Reader<'_> {
     /// A failure.
     fn failure(&mut self, alloc: Global) -> Result<Failure, MakeFault>
         ensures ok { IfOk result (λ failure. form.read_failure self.old ≡ Some (failure, self.new)) }
-        ensures refused { IfErr result (Refuses (form.read_failure self.old)) }
+        ensures refused { IfErr result (RefusesForm (form.read_failure self.old)) }
     {
         match self.byte()? {
             0 => Ok(Failure::Raised(self.text(alloc)?)),

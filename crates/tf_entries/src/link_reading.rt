@@ -1,7 +1,7 @@
 ghost use Rattle.std.specs.Prelude.{◌≡◌, suc, map, Some, IfOk, IfErr};
 ghost use Rattle.tf_flow.specs.Conditions.{condition_of, decision_of, connection_of};
 ghost use Rattle.tf_entries.specs.PlanReading as form;
-ghost use Rattle.tf_entries.specs.Reading.{Refuses, read_list};
+ghost use Rattle.tf_entries.specs.Reading.{RefusesForm, read_list};
 
 use crate::reader::Reader;
 use std::alloc::Global;
@@ -13,7 +13,7 @@ impl Reader<'_> {
     #[tactic(auto, unfolding(crate::specs::PlanReading::read_links))]
     pub fn links(&mut self, alloc: Global) -> Result<Links, MakeFault>
         ensures ok { IfOk result (λ links. form.read_links self.old ≡ Some (map connection_of links, self.new)) }
-        ensures refused { IfErr result (Refuses (form.read_links self.old)) }
+        ensures refused { IfErr result (RefusesForm (form.read_links self.old)) }
     {
         let count = self.u16()?;
         let mut links = Vec::new(alloc);
@@ -26,7 +26,7 @@ impl Reader<'_> {
     /// A link.
     fn link(&mut self, alloc: Global) -> Result<Link, MakeFault>
         ensures ok { IfOk result (λ link. form.read_link self.old ≡ Some (connection_of link, self.new)) }
-        ensures refused { IfErr result (Refuses (form.read_link self.old)) }
+        ensures refused { IfErr result (RefusesForm (form.read_link self.old)) }
     {
         Ok(Link {
             from: self.name()?,
@@ -38,7 +38,7 @@ impl Reader<'_> {
     /// A decider, where there is one.
     fn decider(&mut self, alloc: Global) -> Result<Option<Decider>, MakeFault>
         ensures ok { IfOk result (λ decider. form.read_decision self.old ≡ Some (decision_of decider, self.new)) }
-        ensures refused { IfErr result (Refuses (form.read_decision self.old)) }
+        ensures refused { IfErr result (RefusesForm (form.read_decision self.old)) }
     {
         match self.byte()? {
             0 => Ok(None),
@@ -50,7 +50,7 @@ impl Reader<'_> {
     /// A decider.
     fn decided(&mut self, alloc: Global) -> Result<Option<Decider>, MakeFault>
         ensures ok { IfOk result (λ decider. form.read_decided self.old ≡ Some (decision_of decider, self.new)) }
-        ensures refused { IfErr result (Refuses (form.read_decided self.old)) }
+        ensures refused { IfErr result (RefusesForm (form.read_decided self.old)) }
     {
         let depth = self.depth()?;
         let test = self.test(alloc, 16)?;
@@ -59,7 +59,7 @@ impl Reader<'_> {
 
     fn depth(&mut self) -> Result<Depth, MakeFault>
         ensures ok { IfOk result (λ depth. form.read_depth self.old ≡ Some (depth, self.new)) }
-        ensures refused { IfErr result (Refuses (form.read_depth self.old)) }
+        ensures refused { IfErr result (RefusesForm (form.read_depth self.old)) }
     {
         match self.byte()? {
             0 => Ok(Depth::All),
@@ -75,7 +75,7 @@ impl Reader<'_> {
     #[tactic(auto, using(crate::proofs::TestLemmas::test_below))]
     fn test(&mut self, alloc: Global, left: u8) -> Result<Test, MakeFault>
         ensures ok { IfOk result (λ test. form.read_test left self.old ≡ Some (condition_of test, self.new)) }
-        ensures refused { IfErr result (Refuses (form.read_test left self.old)) }
+        ensures refused { IfErr result (RefusesForm (form.read_test left self.old)) }
     {
         if left == 0 {
             return Err(MakeFault::No);
@@ -88,7 +88,7 @@ impl Reader<'_> {
     #[tactic(auto, using(crate::proofs::TestLemmas::tests_as_trees))]
     fn test_over(&mut self, alloc: Global, left: u8) -> Result<Test, MakeFault>
         ensures ok { IfOk result (λ test. form.read_test (suc left) self.old ≡ Some (condition_of test, self.new)) }
-        ensures refused { IfErr result (Refuses (form.read_test (suc left) self.old)) }
+        ensures refused { IfErr result (RefusesForm (form.read_test (suc left) self.old)) }
     {
         match self.byte()? {
             0 => self.same(alloc),
@@ -107,7 +107,7 @@ impl Reader<'_> {
     fn negated(&mut self, alloc: Global, left: u8) -> Result<Test, MakeFault>
         ensures ok { IfOk result (λ test. form.read_not (form.read_test left) self.old
             ≡ Some (condition_of test, self.new)) }
-        ensures refused { IfErr result (Refuses (form.read_not (form.read_test left) self.old)) }
+        ensures refused { IfErr result (RefusesForm (form.read_not (form.read_test left) self.old)) }
     {
         let inside = self.test(alloc, left)?;
         Ok(Test::Not(Box::new(alloc, inside)?))
@@ -118,7 +118,7 @@ impl Reader<'_> {
     fn tests(&mut self, alloc: Global, left: u8) -> Result<Vec<Test>, MakeFault>
         ensures ok { IfOk result (λ tests. read_list (form.read_test left) self.old
             ≡ Some (map condition_of tests.items, self.new)) }
-        ensures refused { IfErr result (Refuses (read_list (form.read_test left) self.old)) }
+        ensures refused { IfErr result (RefusesForm (read_list (form.read_test left) self.old)) }
     {
         let count = self.u16()?;
         let mut tests = Vec::new(alloc);
@@ -132,7 +132,7 @@ impl Reader<'_> {
     #[tactic(auto, using(crate::proofs::TestLemmas::tests_as_trees))]
     fn same(&mut self, alloc: Global) -> Result<Test, MakeFault>
         ensures ok { IfOk result (λ test. form.read_same self.old ≡ Some (condition_of test, self.new)) }
-        ensures refused { IfErr result (Refuses (form.read_same self.old)) }
+        ensures refused { IfErr result (RefusesForm (form.read_same self.old)) }
     {
         let name = self.name()?;
         let wanted = self.value(alloc)?;
@@ -143,7 +143,7 @@ impl Reader<'_> {
     #[tactic(auto, using(crate::proofs::TestLemmas::tests_as_trees))]
     fn below(&mut self) -> Result<Test, MakeFault>
         ensures ok { IfOk result (λ test. form.read_below self.old ≡ Some (condition_of test, self.new)) }
-        ensures refused { IfErr result (Refuses (form.read_below self.old)) }
+        ensures refused { IfErr result (RefusesForm (form.read_below self.old)) }
     {
         let name = self.name()?;
         let limit = self.i64()?;
@@ -154,7 +154,7 @@ impl Reader<'_> {
     #[tactic(auto, using(crate::proofs::TestLemmas::tests_as_trees))]
     fn above(&mut self) -> Result<Test, MakeFault>
         ensures ok { IfOk result (λ test. form.read_above self.old ≡ Some (condition_of test, self.new)) }
-        ensures refused { IfErr result (Refuses (form.read_above self.old)) }
+        ensures refused { IfErr result (RefusesForm (form.read_above self.old)) }
     {
         let name = self.name()?;
         let limit = self.i64()?;

@@ -4,7 +4,7 @@ ghost use Rattle.std.specs.List.{flat_map, AllByRecursion};
 ghost use Rattle.tf_flow.specs.Conditions.{condition_of, decision_of, connection_of};
 ghost use Rattle.tf_values.specs.Growth.{KeepsFront};
 ghost use Rattle.tf_values.specs.Value.{byte_form, IsValue};
-ghost use Rattle.tf_entries.specs.Fields.{name_bytes, listed, IsListed};
+ghost use Rattle.tf_entries.specs.Fields.{name_bytes, listed, AreFew};
 ghost use Rattle.tf_entries.specs.Atoms.{IsName};
 ghost use Rattle.tf_entries.specs.Tests as form;
 ghost use Rattle.tf_entries.specs.Shown.{test_bytes, IsTest, link_bytes, IsLink};
@@ -79,7 +79,7 @@ fn append_test(test: &Test, out: &mut Vec<u8>) -> Result<(), Memory>
 #[tactic(auto, using(tf_values::proofs::GrowthLemmas::keeps_shorter))]
 fn append_tests(tag: u8, tests: &[Test], out: &mut Vec<u8>) -> Result<(), Memory>
     ensures ok { OnOk result (out.new.items ≡ out.old.items ++ tag ∷ listed test_bytes tests.now) }
-    ensures good { OnOk result (IsListed IsTest tests.now) }
+    ensures good { OnOk result (AreFew IsTest tests.now) }
     ensures err { OnErr result (KeepsFront out.old.items out.new.items) }
 {
     append(&[tag], out)?;

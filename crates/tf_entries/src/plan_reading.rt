@@ -5,7 +5,7 @@ ghost use Rattle.tf_flow.specs.Tree.{tree_of};
 ghost use Rattle.tf_flow.specs.Written.{as_written, item_as_written};
 ghost use Rattle.tf_entries.specs.PlanReading as form;
 ghost use Rattle.tf_entries.specs.Plans.{plan_bytes, IsPlan, KeepsLimits};
-ghost use Rattle.tf_entries.specs.Reading.{Refuses, read_list, whole};
+ghost use Rattle.tf_entries.specs.Reading.{RefusesForm, read_list, whole};
 
 use crate::reader::Reader;
 use std::alloc::Global;
@@ -48,7 +48,7 @@ struct Parts {
 fn parts_of(alloc: Global, bytes: &[u8]) -> Result<Parts, MakeFault>
     ensures ok { IfOk result (λ parts. whole (form.read_plan bytes.now)
         ≡ Some (form.written_of parts.root parts.store parts.defer)) }
-    ensures refused { IfErr result (Refuses (whole (form.read_plan bytes.now))) }
+    ensures refused { IfErr result (RefusesForm (whole (form.read_plan bytes.now))) }
 {
     let mut reader = Reader::make(bytes);
     let parts = reader.parts(alloc)?;
@@ -62,7 +62,7 @@ impl Reader<'_> {
     fn parts(&mut self, alloc: Global) -> Result<Parts, MakeFault>
         ensures ok { IfOk result (λ parts. form.read_plan self.old
             ≡ Some (form.written_of parts.root parts.store parts.defer, self.new)) }
-        ensures refused { IfErr result (Refuses (form.read_plan self.old)) }
+        ensures refused { IfErr result (RefusesForm (form.read_plan self.old)) }
     {
         Ok(Parts {
             root: self.flow(alloc, 16)?,
@@ -76,7 +76,7 @@ impl Reader<'_> {
     #[tactic(auto, using(crate::proofs::PlanLemmas::flow_below))]
     fn flow(&mut self, alloc: Global, left: u8) -> Result<Flow, MakeFault>
         ensures ok { IfOk result (λ flow. form.read_flow left self.old ≡ Some (as_written (tree_of flow), self.new)) }
-        ensures refused { IfErr result (Refuses (form.read_flow left self.old)) }
+        ensures refused { IfErr result (RefusesForm (form.read_flow left self.old)) }
     {
         if left == 0 {
             return Err(MakeFault::No);
@@ -90,7 +90,7 @@ impl Reader<'_> {
     fn flow_over(&mut self, alloc: Global, left: u8) -> Result<Flow, MakeFault>
         ensures ok { IfOk result (λ flow. form.read_flow (suc left) self.old
             ≡ Some (as_written (tree_of flow), self.new)) }
-        ensures refused { IfErr result (Refuses (form.read_flow (suc left) self.old)) }
+        ensures refused { IfErr result (RefusesForm (form.read_flow (suc left) self.old)) }
     {
         let name = self.name()?;
         let kind = self.flow_kind()?;
@@ -108,7 +108,7 @@ impl Reader<'_> {
 
     fn flow_kind(&mut self) -> Result<FlowKind, MakeFault>
         ensures ok { IfOk result (λ kind. form.read_flow_kind self.old ≡ Some (kind, self.new)) }
-        ensures refused { IfErr result (Refuses (form.read_flow_kind self.old)) }
+        ensures refused { IfErr result (RefusesForm (form.read_flow_kind self.old)) }
     {
         match self.byte()? {
             0 => Ok(FlowKind::Linear),
@@ -121,7 +121,7 @@ impl Reader<'_> {
     /// A flow's retry controller, where it has one.
     fn control(&mut self, alloc: Global) -> Result<Option<Retry>, MakeFault>
         ensures ok { IfOk result (λ retry. form.read_control self.old ≡ Some (retry, self.new)) }
-        ensures refused { IfErr result (Refuses (form.read_control self.old)) }
+        ensures refused { IfErr result (RefusesForm (form.read_control self.old)) }
     {
         match self.byte()? {
             0 => Ok(None),
@@ -135,7 +135,7 @@ impl Reader<'_> {
     fn nested(&mut self, alloc: Global, left: u8) -> Result<Vec<Item>, MakeFault>
         ensures ok { IfOk result (λ items. read_list (form.read_item (form.read_flow left)) self.old
             ≡ Some (map item_as_written items.items, self.new)) }
-        ensures refused { IfErr result (Refuses (read_list (form.read_item (form.read_flow left)) self.old)) }
+        ensures refused { IfErr result (RefusesForm (read_list (form.read_item (form.read_flow left)) self.old)) }
     {
         let count = self.u16()?;
         let mut items = Vec::new(alloc);
@@ -151,7 +151,7 @@ impl Reader<'_> {
     fn item(&mut self, alloc: Global, left: u8) -> Result<Item, MakeFault>
         ensures ok { IfOk result (λ item. form.read_item (form.read_flow left) self.old
             ≡ Some (item_as_written item, self.new)) }
-        ensures refused { IfErr result (Refuses (form.read_item (form.read_flow left) self.old)) }
+        ensures refused { IfErr result (RefusesForm (form.read_item (form.read_flow left) self.old)) }
     {
         match self.byte()? {
             0 => Ok(Item::Task(self.task(alloc)?)),

@@ -4,7 +4,7 @@ ghost use Rattle.tf_flow.specs.Tree.{tree_of};
 ghost use Rattle.tf_flow.specs.Written.{as_written};
 ghost use Rattle.tf_values.specs.Growth.{KeepsFront};
 ghost use Rattle.tf_entries.specs.Atoms.{IsName};
-ghost use Rattle.tf_entries.specs.Fields.{name_bytes, listed, IsListed};
+ghost use Rattle.tf_entries.specs.Fields.{name_bytes, listed, AreFew};
 ghost use Rattle.tf_entries.specs.Plans as form;
 ghost use Rattle.tf_entries.specs.Shown.{item_bytes, IsItem};
 
@@ -63,7 +63,7 @@ fn append_flow(flow: &Flow, out: &mut Vec<u8>) -> Result<(), Memory>
 #[tactic(auto, using(tf_values::proofs::GrowthLemmas::keeps_shorter))]
 fn append_items(items: &[Item], out: &mut Vec<u8>) -> Result<(), Memory>
     ensures ok { OnOk result (out.new.items ≡ out.old.items ++ listed item_bytes items.now) }
-    ensures good { OnOk result (IsListed IsItem items.now) }
+    ensures good { OnOk result (AreFew IsItem items.now) }
     ensures err { OnErr result (KeepsFront out.old.items out.new.items) }
 {
     append_count(items.len(), out)?;

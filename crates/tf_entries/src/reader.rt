@@ -1,6 +1,6 @@
 ghost use Rattle.std.specs.Prelude.{◌≡◌, [], ◌∷◌, Some, None, IfOk, IfErr, MatchOption};
 ghost use Rattle.std.specs.Int.{w16, w32, w64};
-ghost use Rattle.tf_entries.specs.Reading.{Refuses, is_nothing, read_number, read_signed, read_name, read_text, read_value};
+ghost use Rattle.tf_entries.specs.Reading.{RefusesForm, is_nothing, read_number, read_signed, read_name, read_text, read_value};
 
 use std::alloc::Global;
 use std::marker::Model;
@@ -55,7 +55,7 @@ impl Reader<'_> {
     /// The number of two bytes.
     pub fn u16(&mut self) -> Result<u16, MakeFault>
         ensures ok { IfOk result (λ number. read_number w16 self.old ≡ Some (number, self.new)) }
-        ensures refused { IfErr result (Refuses (read_number w16 self.old)) }
+        ensures refused { IfErr result (RefusesForm (read_number w16 self.old)) }
     {
         let Some((number, rest)) = u16_at(self.bytes) else {
             return Err(MakeFault::No);
@@ -67,7 +67,7 @@ impl Reader<'_> {
     /// The number of four bytes.
     pub fn u32(&mut self) -> Result<u32, MakeFault>
         ensures ok { IfOk result (λ number. read_number w32 self.old ≡ Some (number, self.new)) }
-        ensures refused { IfErr result (Refuses (read_number w32 self.old)) }
+        ensures refused { IfErr result (RefusesForm (read_number w32 self.old)) }
     {
         let Some((number, rest)) = u32_at(self.bytes) else {
             return Err(MakeFault::No);
@@ -79,7 +79,7 @@ impl Reader<'_> {
     /// The number of four bytes with a sign.
     pub fn i32(&mut self) -> Result<i32, MakeFault>
         ensures ok { IfOk result (λ number. read_signed w32 self.old ≡ Some (number, self.new)) }
-        ensures refused { IfErr result (Refuses (read_signed w32 self.old)) }
+        ensures refused { IfErr result (RefusesForm (read_signed w32 self.old)) }
     {
         let Some((number, rest)) = i32_at(self.bytes) else {
             return Err(MakeFault::No);
@@ -91,7 +91,7 @@ impl Reader<'_> {
     /// The number of eight bytes with a sign.
     pub fn i64(&mut self) -> Result<i64, MakeFault>
         ensures ok { IfOk result (λ number. read_signed w64 self.old ≡ Some (number, self.new)) }
-        ensures refused { IfErr result (Refuses (read_signed w64 self.old)) }
+        ensures refused { IfErr result (RefusesForm (read_signed w64 self.old)) }
     {
         let Some((number, rest)) = i64_at(self.bytes) else {
             return Err(MakeFault::No);
@@ -103,7 +103,7 @@ impl Reader<'_> {
     /// A name.
     pub fn name(&mut self) -> Result<Name, MakeFault>
         ensures ok { IfOk result (λ name. read_name self.old ≡ Some (name, self.new)) }
-        ensures refused { IfErr result (Refuses (read_name self.old)) }
+        ensures refused { IfErr result (RefusesForm (read_name self.old)) }
     {
         let len = self.byte()? as usize;
         if self.bytes.len() < len {
@@ -120,7 +120,7 @@ impl Reader<'_> {
     /// A text.
     pub fn text(&mut self, alloc: Global) -> Result<Text, MakeFault>
         ensures ok { IfOk result (λ text. read_text self.old ≡ Some (text, self.new)) }
-        ensures refused { IfErr result (Refuses (read_text self.old)) }
+        ensures refused { IfErr result (RefusesForm (read_text self.old)) }
     {
         let len = self.u32()? as usize;
         if self.bytes.len() < len {
@@ -134,7 +134,7 @@ impl Reader<'_> {
     /// A value.
     pub fn value(&mut self, alloc: Global) -> Result<Val, MakeFault>
         ensures ok { IfOk result (λ value. read_value self.old ≡ Some (value, self.new)) }
-        ensures refused { IfErr result (Refuses (read_value self.old)) }
+        ensures refused { IfErr result (RefusesForm (read_value self.old)) }
     {
         let (value, len) = Val::decode(alloc, self.bytes)?;
         self.bytes = &self.bytes[len..];

@@ -1,6 +1,6 @@
 -- The first reason why a flow file gives no plan.
 use Rattle.std.proofs.Common.{◌≡◌, ◌∙◌, List, Bool, Some, None, Result, Ok, refl, sym}
-use Rattle.tf_document.specs.Reading.{Refuses}
+use Rattle.tf_document.specs.Reading.{RefusesWith}
 use Rattle.tf_document.specs.declared.faults.FileFault.{FileFault}
 use Rattle.tf_document.specs.declared.faults.FileFault.TheVariants as fault
 use Rattle.tf_flow.proofs.AlikeLemmas.{refused_alike}
@@ -14,7 +14,7 @@ use Rattle.tf_flow.specs.Written.{as_written, WrittenPlan}
 use Rattle.tf_files.specs.FlowFile.{plan_refusal, IsBroken, IsFirstReason, unspelled, broken, no_memory}
 
 -- the reason why nothing is spelled comes first
-pub reads_first : (spelled : Result WrittenPlan FileFault) (e : FileFault) → Refuses spelled e → IsFirstReason spelled e
+pub reads_first : (spelled : Result WrittenPlan FileFault) (e : FileFault) → RefusesWith spelled e → IsFirstReason spelled e
 reads_first spelled fault.NotToml is = unspelled fault.NotToml is
 reads_first spelled (fault.UnknownKey path) is = unspelled (fault.UnknownKey path) is
 reads_first spelled (fault.MissingKey path) is = unspelled (fault.MissingKey path) is

@@ -1,7 +1,7 @@
 -- The root flow, once its name, its kind and its store are read.
 use Rattle.std.proofs.Common.{◌≡◌, ℕ, List, [], None, Ok, codes, subst, sym, ◌∙◌}
 use Rattle.tf_document.proofs.ReadingLemmas.{known_goes, chain_goes, chain_stops}
-use Rattle.tf_document.specs.Reading.{Refuses, chain, unknown_key, required, optional}
+use Rattle.tf_document.specs.Reading.{RefusesWith, chain, unknown_key, required, optional}
 use Rattle.tf_document.specs.Values.{name_form, binds_form}
 use Rattle.tf_document.specs.declared.faults.FileFault.{FileFault}
 use Rattle.tf_flow.specs.declared.atoms.Bind.{Bind}
@@ -38,8 +38,8 @@ root_read path document name kind store root begun inside =
     ∙ chain_goes (flow_inside 15 [] document name kind) _ root here
 
 pub root_stops : (path : List ℕ) (document : Members) (name : List ℕ) (kind : FlowKind) (store : List Bind) (e : FileFault) → Begun path document name kind store
-    → Refuses (flow_inside 15 path document name kind) e → Refuses (root_form document) e
+    → RefusesWith (flow_inside 15 path document name kind) e → RefusesWith (root_form document) e
 root_stops path document name kind store e begun inside =
-    let here : Refuses (flow_inside 15 [] document name kind) e = subst (λ p. Refuses (flow_inside 15 p document name kind) e) begun.root inside in
-    subst (λ read. Refuses read e) (sym (root_goes document name kind store (at_root path document name kind store begun)))
+    let here : RefusesWith (flow_inside 15 [] document name kind) e = subst (λ p. RefusesWith (flow_inside 15 p document name kind) e) begun.root inside in
+    subst (λ read. RefusesWith read e) (sym (root_goes document name kind store (at_root path document name kind store begun)))
     (chain_stops (flow_inside 15 [] document name kind) _ e here)

@@ -1,5 +1,5 @@
 ghost use Rattle.std.specs.Prelude.{◌≡◌, [], suc, map, codes, None, Ok, IfOk, IfErr};
-ghost use Rattle.tf_document.specs.Reading.{Refuses, each, required as spelled_at, optional as spelled_perhaps, array_of};
+ghost use Rattle.tf_document.specs.Reading.{RefusesWith, each, required as spelled_at, optional as spelled_perhaps, array_of};
 ghost use Rattle.tf_document.specs.Values.{binds_form as binds_spelled};
 ghost use Rattle.tf_flow.specs.Tree.{tree_of};
 ghost use Rattle.tf_flow.specs.Written.{as_written, item_as_written};
@@ -27,8 +27,9 @@ pub struct RootFlow {
 
 /// The root flow of a document, with the store.
 pub fn root_form(alloc: Global, document: &Table) -> Result<RootFlow, FileFault>
-    ensures ok { IfOk result (λ made. root_spelled (table_view document.now) ≡ Ok record { root = as_written (tree_of made.flow); store = made.store.items }) }
-    ensures refused { IfErr result (Refuses (root_spelled (table_view document.now))) }
+    ensures ok { IfOk result (λ made. root_spelled (table_view document.now)
+        ≡ Ok record { root = as_written (tree_of made.flow); store = made.store.items }) }
+    ensures refused { IfErr result (RefusesWith (root_spelled (table_view document.now))) }
 {
     let path = Path::root(alloc);
     known_only(
@@ -46,8 +47,10 @@ pub fn root_form(alloc: Global, document: &Table) -> Result<RootFlow, FileFault>
 
 /// The values at the key `store`; none where it isn't there.
 fn store_at(alloc: Global, path: &Path, table: &Table) -> Result<Vec<Bind>, FileFault>
-    ensures ok { IfOk result (λ store. spelled_perhaps path.now (codes "store") (table_view table.now) [] binds_spelled ≡ Ok store.items) }
-    ensures refused { IfErr result (Refuses (spelled_perhaps path.now (codes "store") (table_view table.now) [] binds_spelled)) }
+    ensures ok { IfOk result (λ store. spelled_perhaps path.now (codes "store")
+        (table_view table.now) [] binds_spelled ≡ Ok store.items) }
+    ensures refused { IfErr result (RefusesWith (spelled_perhaps path.now (codes "store")
+        (table_view table.now) [] binds_spelled)) }
 {
     match optional(alloc, path, "store", table)? {
         Some(field) => binds_form(alloc, &field),
@@ -58,8 +61,10 @@ fn store_at(alloc: Global, path: &Path, table: &Table) -> Result<Vec<Bind>, File
 /// The kind of flow at the key `kind`, which must be there.
 #[tactic(auto, using(tf_document::proofs::ReadingLemmas::required_stops, tf_document::proofs::ReadingLemmas::required_goes))]
 fn kind_at(alloc: Global, path: &Path, table: &Table) -> Result<FlowKind, FileFault>
-    ensures ok { IfOk result (λ kind. spelled_at path.now (codes "kind") (table_view table.now) pattern_spelled ≡ Ok kind) }
-    ensures refused { IfErr result (Refuses (spelled_at path.now (codes "kind") (table_view table.now) pattern_spelled)) }
+    ensures ok { IfOk result (λ kind. spelled_at path.now (codes "kind") (table_view table.now) pattern_spelled
+        ≡ Ok kind) }
+    ensures refused { IfErr result (RefusesWith (spelled_at path.now (codes "kind")
+        (table_view table.now) pattern_spelled)) }
 {
     let field = required(alloc, path, "kind", table)?;
     pattern_form(alloc, field)
@@ -68,7 +73,7 @@ fn kind_at(alloc: Global, path: &Path, table: &Table) -> Result<FlowKind, FileFa
 /// A kind of flow: `WrongKind` where the value is no string, `BadChoice` where it is another word.
 fn pattern_form(alloc: Global, field: Field<'_>) -> Result<FlowKind, FileFault>
     ensures ok { IfOk result (λ kind. pattern_spelled field.entry.path (view field.entry.value.now) ≡ Ok kind) }
-    ensures refused { IfErr result (Refuses (pattern_spelled field.entry.path (view field.entry.value.now))) }
+    ensures refused { IfErr result (RefusesWith (pattern_spelled field.entry.path (view field.entry.value.now))) }
 {
     let word = field.word(alloc)?;
     pattern_named(field.path, word)
@@ -77,7 +82,7 @@ fn pattern_form(alloc: Global, field: Field<'_>) -> Result<FlowKind, FileFault>
 /// The kind of flow that a word is.
 fn pattern_named(path: Path, word: &str) -> Result<FlowKind, FileFault>
     ensures ok { IfOk result (λ kind. pattern_of path word.now ≡ Ok kind) }
-    ensures refused { IfErr result (Refuses (pattern_of path word.now)) }
+    ensures refused { IfErr result (RefusesWith (pattern_of path word.now)) }
 {
     match word {
         "linear" => Ok(FlowKind::Linear),
@@ -99,8 +104,9 @@ fn flow_inside(
     name: Name,
     kind: FlowKind,
 ) -> Result<Flow, FileFault>
-    ensures ok { IfOk result (λ flow. inside_spelled left path.now (table_view table.now) name kind ≡ Ok (as_written (tree_of flow))) }
-    ensures refused { IfErr result (Refuses (inside_spelled left path.now (table_view table.now) name kind)) }
+    ensures ok { IfOk result (λ flow. inside_spelled left path.now (table_view table.now) name kind
+        ≡ Ok (as_written (tree_of flow))) }
+    ensures refused { IfErr result (RefusesWith (inside_spelled left path.now (table_view table.now) name kind)) }
 {
     let retry = retry_at(alloc, path, table)?;
     let items = items_at(alloc, left, path, table)?;
@@ -116,8 +122,10 @@ fn flow_inside(
 
 /// The retry controller at the key `retry`; none where it isn't there.
 fn retry_at(alloc: Global, path: &Path, table: &Table) -> Result<Option<Retry>, FileFault>
-    ensures ok { IfOk result (λ retry. spelled_perhaps path.now (codes "retry") (table_view table.now) None retry_of_flow ≡ Ok retry) }
-    ensures refused { IfErr result (Refuses (spelled_perhaps path.now (codes "retry") (table_view table.now) None retry_of_flow)) }
+    ensures ok { IfOk result (λ retry. spelled_perhaps path.now (codes "retry")
+        (table_view table.now) None retry_of_flow ≡ Ok retry) }
+    ensures refused { IfErr result (RefusesWith (spelled_perhaps path.now (codes "retry")
+        (table_view table.now) None retry_of_flow)) }
 {
     match optional(alloc, path, "retry", table)? {
         Some(field) => own_retry(alloc, &field),
@@ -128,7 +136,7 @@ fn retry_at(alloc: Global, path: &Path, table: &Table) -> Result<Option<Retry>, 
 /// A flow's own retry controller.
 fn own_retry(alloc: Global, field: &Field<'_>) -> Result<Option<Retry>, FileFault>
     ensures ok { IfOk result (λ retry. retry_of_flow field.now.path (view field.now.value.now) ≡ Ok retry) }
-    ensures refused { IfErr result (Refuses (retry_of_flow field.now.path (view field.now.value.now))) }
+    ensures refused { IfErr result (RefusesWith (retry_of_flow field.now.path (view field.now.value.now))) }
 {
     let retry = retry_form(alloc, field)?;
     Ok(Some(retry))
@@ -137,8 +145,10 @@ fn own_retry(alloc: Global, field: &Field<'_>) -> Result<Option<Retry>, FileFaul
 /// The items at the key `items`; none where it isn't there.
 #[cycle(flows)]
 fn items_at(alloc: Global, left: u8, path: &Path, table: &Table) -> Result<Vec<Item>, FileFault>
-    ensures ok { IfOk result (λ items. spelled_perhaps path.now (codes "items") (table_view table.now) [] (array_of (item_spelled left)) ≡ Ok (map item_as_written items.items)) }
-    ensures refused { IfErr result (Refuses (spelled_perhaps path.now (codes "items") (table_view table.now) [] (array_of (item_spelled left)))) }
+    ensures ok { IfOk result (λ items. spelled_perhaps path.now (codes "items") (table_view table.now) []
+        (array_of (item_spelled left)) ≡ Ok (map item_as_written items.items)) }
+    ensures refused { IfErr result (RefusesWith (spelled_perhaps path.now (codes "items") (table_view table.now) []
+        (array_of (item_spelled left)))) }
 {
     match optional(alloc, path, "items", table)? {
         Some(field) => items_form(alloc, left, &field),
@@ -149,8 +159,10 @@ fn items_at(alloc: Global, left: u8, path: &Path, table: &Table) -> Result<Vec<I
 /// The items of an array.
 #[cycle(flows)]
 fn items_form(alloc: Global, left: u8, field: &Field<'_>) -> Result<Vec<Item>, FileFault>
-    ensures ok { IfOk result (λ items. array_of (item_spelled left) field.now.path (view field.now.value.now) ≡ Ok (map item_as_written items.items)) }
-    ensures refused { IfErr result (Refuses (array_of (item_spelled left) field.now.path (view field.now.value.now))) }
+    ensures ok { IfOk result (λ items. array_of (item_spelled left) field.now.path (view field.now.value.now)
+        ≡ Ok (map item_as_written items.items)) }
+    ensures refused { IfErr result (RefusesWith (array_of (item_spelled left) field.now.path
+        (view field.now.value.now))) }
 {
     let array = field.items(alloc)?;
     each_item(alloc, left, &field.path, array)
@@ -159,8 +171,9 @@ fn items_form(alloc: Global, left: u8, field: &Field<'_>) -> Result<Vec<Item>, F
 /// Each item of an array.
 #[cycle(flows)]
 fn each_item(alloc: Global, left: u8, path: &Path, array: &[Value]) -> Result<Vec<Item>, FileFault>
-    ensures ok { IfOk result (λ items. each (item_spelled left) path.now 0 (items_view array.now) ≡ Ok (map item_as_written items.items)) }
-    ensures refused { IfErr result (Refuses (each (item_spelled left) path.now 0 (items_view array.now))) }
+    ensures ok { IfOk result (λ items. each (item_spelled left) path.now 0 (items_view array.now)
+        ≡ Ok (map item_as_written items.items)) }
+    ensures refused { IfErr result (RefusesWith (each (item_spelled left) path.now 0 (items_view array.now))) }
 {
     let mut items = Vec::new(alloc);
     for (number, value) in array.iter().enumerate() {
@@ -174,8 +187,9 @@ fn each_item(alloc: Global, left: u8, path: &Path, array: &[Value]) -> Result<Ve
 /// An item: `WrongKind` where the value is no table.
 #[cycle(flows)]
 fn item_form(alloc: Global, left: u8, field: &Field<'_>) -> Result<Item, FileFault>
-    ensures ok { IfOk result (λ item. item_spelled left field.now.path (view field.now.value.now) ≡ Ok (item_as_written item)) }
-    ensures refused { IfErr result (Refuses (item_spelled left field.now.path (view field.now.value.now))) }
+    ensures ok { IfOk result (λ item. item_spelled left field.now.path (view field.now.value.now)
+        ≡ Ok (item_as_written item)) }
+    ensures refused { IfErr result (RefusesWith (item_spelled left field.now.path (view field.now.value.now))) }
 {
     let table = field.table(alloc)?;
     item_table(alloc, left, &field.path, table)
@@ -185,7 +199,7 @@ fn item_form(alloc: Global, left: u8, field: &Field<'_>) -> Result<Item, FileFau
 #[cycle(flows)]
 fn item_table(alloc: Global, left: u8, path: &Path, table: &Table) -> Result<Item, FileFault>
     ensures ok { IfOk result (λ item. item_of left path.now (table_view table.now) ≡ Ok (item_as_written item)) }
-    ensures refused { IfErr result (Refuses (item_of left path.now (table_view table.now))) }
+    ensures refused { IfErr result (RefusesWith (item_of left path.now (table_view table.now))) }
 {
     if !is_flow_table(table) {
         return task_item(alloc, path, table);
@@ -204,7 +218,7 @@ fn is_flow_table(table: &Table) -> bool
 /// The task of an item's table.
 fn task_item(alloc: Global, path: &Path, table: &Table) -> Result<Item, FileFault>
     ensures ok { IfOk result (λ item. task_of path.now (table_view table.now) ≡ Ok (item_as_written item)) }
-    ensures refused { IfErr result (Refuses (task_of path.now (table_view table.now))) }
+    ensures refused { IfErr result (RefusesWith (task_of path.now (table_view table.now))) }
 {
     let task = task_form(alloc, path, table)?;
     Ok(Item::Task(task))
@@ -215,7 +229,7 @@ fn task_item(alloc: Global, path: &Path, table: &Table) -> Result<Item, FileFaul
 #[tactic(auto, using(crate::proofs::NestedLemmas::below))]
 fn nested_flow(alloc: Global, left: u8, path: &Path, table: &Table) -> Result<Flow, FileFault>
     ensures ok { IfOk result (λ flow. nested_of left path.now (table_view table.now) ≡ Ok (as_written (tree_of flow))) }
-    ensures refused { IfErr result (Refuses (nested_of left path.now (table_view table.now))) }
+    ensures refused { IfErr result (RefusesWith (nested_of left path.now (table_view table.now))) }
 {
     if left == 0 {
         return Err(FileFault::Plan(PlanFault::TooLarge {
@@ -229,8 +243,9 @@ fn nested_flow(alloc: Global, left: u8, path: &Path, table: &Table) -> Result<Fl
 /// The flow of a table. `left` is how many flows may still stand in one another within it.
 #[cycle(flows)]
 fn flow_table(alloc: Global, left: u8, path: &Path, table: &Table) -> Result<Flow, FileFault>
-    ensures ok { IfOk result (λ flow. nested_of (suc left) path.now (table_view table.now) ≡ Ok (as_written (tree_of flow))) }
-    ensures refused { IfErr result (Refuses (nested_of (suc left) path.now (table_view table.now))) }
+    ensures ok { IfOk result (λ flow. nested_of (suc left) path.now (table_view table.now)
+        ≡ Ok (as_written (tree_of flow))) }
+    ensures refused { IfErr result (RefusesWith (nested_of (suc left) path.now (table_view table.now))) }
 {
     known_only(
         alloc,

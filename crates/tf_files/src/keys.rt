@@ -1,5 +1,5 @@
 ghost use Rattle.std.specs.Prelude.{◌≡◌, Ok, IfOk, IfErr};
-ghost use Rattle.tf_document.specs.Reading.{Refuses, required as spelled_at};
+ghost use Rattle.tf_document.specs.Reading.{RefusesWith, required as spelled_at};
 ghost use Rattle.tf_document.specs.Values.{name_form as name_spelled};
 ghost use Rattle.toml.specs.View.{table_view};
 
@@ -12,7 +12,7 @@ use toml::Table;
 #[tactic(auto, using(tf_document::proofs::ReadingLemmas::required_stops, tf_document::proofs::ReadingLemmas::required_goes))]
 pub fn name_at(alloc: Global, path: &Path, key: &str, table: &Table) -> Result<Name, FileFault>
     ensures ok { IfOk result (λ name. spelled_at path.now key.now (table_view table.now) name_spelled ≡ Ok name) }
-    ensures refused { IfErr result (Refuses (spelled_at path.now key.now (table_view table.now) name_spelled)) }
+    ensures refused { IfErr result (RefusesWith (spelled_at path.now key.now (table_view table.now) name_spelled)) }
 {
     let field = required(alloc, path, key, table)?;
     name_form(alloc, &field)

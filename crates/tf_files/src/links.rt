@@ -1,6 +1,6 @@
 ghost use Rattle.std.specs.Prelude.{◌≡◌, [], map, codes, None, Ok, IfOk, OnOk, IfErr};
 ghost use Rattle.tf_flow.specs.Conditions.{connection_of};
-ghost use Rattle.tf_document.specs.Reading.{Refuses, each, known_only as read_known, unknown_key, optional as spelled_perhaps};
+ghost use Rattle.tf_document.specs.Reading.{RefusesWith, each, known_only as read_known, unknown_key, optional as spelled_perhaps};
 ghost use Rattle.tf_files.specs.FlowFile.{link_keys as keys_of, link_table as link_of, link_form as link_spelled, links_form as links_spelled};
 ghost use Rattle.toml.specs.View.{view, items_view, table_view};
 
@@ -13,8 +13,10 @@ use toml::{Table, Value};
 
 /// The links at the key `links`; none where it isn't there.
 pub fn links_at(alloc: Global, path: &Path, table: &Table) -> Result<Vec<Link>, FileFault>
-    ensures ok { IfOk result (λ links. spelled_perhaps path.now (codes "links") (table_view table.now) [] links_spelled ≡ Ok (map connection_of links.items)) }
-    ensures refused { IfErr result (Refuses (spelled_perhaps path.now (codes "links") (table_view table.now) [] links_spelled)) }
+    ensures ok { IfOk result (λ links. spelled_perhaps path.now (codes "links")
+        (table_view table.now) [] links_spelled ≡ Ok (map connection_of links.items)) }
+    ensures refused { IfErr result (RefusesWith (spelled_perhaps path.now (codes "links")
+        (table_view table.now) [] links_spelled)) }
 {
     match optional(alloc, path, "links", table)? {
         Some(field) => links_form(alloc, &field),
@@ -24,8 +26,9 @@ pub fn links_at(alloc: Global, path: &Path, table: &Table) -> Result<Vec<Link>, 
 
 /// The links of an array.
 fn links_form(alloc: Global, field: &Field<'_>) -> Result<Vec<Link>, FileFault>
-    ensures ok { IfOk result (λ links. links_spelled field.now.path (view field.now.value.now) ≡ Ok (map connection_of links.items)) }
-    ensures refused { IfErr result (Refuses (links_spelled field.now.path (view field.now.value.now))) }
+    ensures ok { IfOk result (λ links. links_spelled field.now.path (view field.now.value.now)
+        ≡ Ok (map connection_of links.items)) }
+    ensures refused { IfErr result (RefusesWith (links_spelled field.now.path (view field.now.value.now))) }
 {
     let array = field.items(alloc)?;
     each_link(alloc, &field.path, array)
@@ -33,8 +36,9 @@ fn links_form(alloc: Global, field: &Field<'_>) -> Result<Vec<Link>, FileFault>
 
 /// The links of an array's items.
 fn each_link(alloc: Global, path: &Path, array: &[Value]) -> Result<Vec<Link>, FileFault>
-    ensures ok { IfOk result (λ links. each link_spelled path.now 0 (items_view array.now) ≡ Ok (map connection_of links.items)) }
-    ensures refused { IfErr result (Refuses (each link_spelled path.now 0 (items_view array.now))) }
+    ensures ok { IfOk result (λ links. each link_spelled path.now 0 (items_view array.now)
+        ≡ Ok (map connection_of links.items)) }
+    ensures refused { IfErr result (RefusesWith (each link_spelled path.now 0 (items_view array.now))) }
 {
     let mut links = Vec::new(alloc);
     for (number, value) in array.iter().enumerate() {
@@ -47,8 +51,9 @@ fn each_link(alloc: Global, path: &Path, array: &[Value]) -> Result<Vec<Link>, F
 
 /// The link of an item.
 fn link_form(alloc: Global, field: &Field<'_>) -> Result<Link, FileFault>
-    ensures ok { IfOk result (λ link. link_spelled field.now.path (view field.now.value.now) ≡ Ok (connection_of link)) }
-    ensures refused { IfErr result (Refuses (link_spelled field.now.path (view field.now.value.now))) }
+    ensures ok { IfOk result (λ link. link_spelled field.now.path (view field.now.value.now)
+        ≡ Ok (connection_of link)) }
+    ensures refused { IfErr result (RefusesWith (link_spelled field.now.path (view field.now.value.now))) }
 {
     let table = field.table(alloc)?;
     link_table(alloc, &field.path, table)
@@ -57,7 +62,7 @@ fn link_form(alloc: Global, field: &Field<'_>) -> Result<Link, FileFault>
 /// The link of a table.
 fn link_table(alloc: Global, path: &Path, table: &Table) -> Result<Link, FileFault>
     ensures ok { IfOk result (λ link. link_of path.now (table_view table.now) ≡ Ok (connection_of link)) }
-    ensures refused { IfErr result (Refuses (link_of path.now (table_view table.now))) }
+    ensures refused { IfErr result (RefusesWith (link_of path.now (table_view table.now))) }
 {
     known_keys(alloc, path, table)?;
     let from = name_at(alloc, path, "from", table)?;
@@ -66,10 +71,11 @@ fn link_table(alloc: Global, path: &Path, table: &Table) -> Result<Link, FileFau
     Ok(Link { from, to, decider })
 }
 
-/// Refuses a link's table for an unknown key; the depth of a decider is one where there is no decider.
+/// RefusesWith a link's table for an unknown key; the depth of a decider is one where there is no decider.
 fn known_keys(alloc: Global, path: &Path, table: &Table) -> Result<(), FileFault>
     ensures ok { OnOk result (unknown_key (keys_of (table_view table.now)) (table_view table.now) ≡ None) }
-    ensures refused { IfErr result (Refuses (read_known path.now (keys_of (table_view table.now)) (table_view table.now) (Ok (table_view table.now)))) }
+    ensures refused { IfErr result (RefusesWith (read_known path.now (keys_of (table_view table.now))
+        (table_view table.now) (Ok (table_view table.now)))) }
 {
     if has_key(table, "decider") {
         return known_only(alloc, path, &["from", "to", "decider", "depth"], table);

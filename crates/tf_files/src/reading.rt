@@ -1,5 +1,5 @@
 ghost use Rattle.std.specs.Prelude.{◌≡◌, Bool, List, Some, Ok, IfOk, IfErr};
-ghost use Rattle.tf_document.specs.Reading.{Refuses, chain};
+ghost use Rattle.tf_document.specs.Reading.{RefusesWith, chain};
 ghost use Rattle.tf_files.specs.FlowFile.{flow_of, root_form as root_spelled, documented, document_of, planned, plan_refusal, IsBroken, IsFirstReason};
 ghost use Rattle.tf_flow.specs.Written.{as_written, plan_tree, plan_as_written};
 ghost use Rattle.tf_flow.specs.Tree.{tree_of};
@@ -20,7 +20,8 @@ use toml::Table;
 /// nothing of the file.
 pub fn read_flow(alloc: Global, bytes: &[u8], sets: Binds, defer: bool) -> Result<Plan, FileFault>
     ensures ok { IfOk result (λ plan. flow_of bytes.now sets defer ≡ Ok (plan_as_written (plan_tree plan))) }
-    ensures unbroken { IfOk result (λ plan. (reason : BrokenRule) → ¬ (IsBroken (plan_as_written (plan_tree plan)) reason)) }
+    ensures unbroken { IfOk result (λ plan. (reason : BrokenRule)
+        → ¬ (IsBroken (plan_as_written (plan_tree plan)) reason)) }
     ensures refused { IfErr result (IsFirstReason (flow_of bytes.now sets defer)) }
 {
     match read_document(alloc, bytes) {
@@ -33,7 +34,8 @@ pub fn read_flow(alloc: Global, bytes: &[u8], sets: Binds, defer: bool) -> Resul
 #[tactic(auto, using(crate::proofs::DocumentLemmas::utf8_document, crate::proofs::DocumentLemmas::other_document))]
 fn read_document(alloc: Global, bytes: &[u8]) -> Result<Table, FileFault>
     ensures ok { IfOk result (λ document. document_of bytes.now ≡ Some (table_view document)) }
-    ensures refused { IfErr result (λ fault. (sets : List BindValue) (defer : Bool) → Refuses (documented sets defer (document_of bytes.now)) fault) }
+    ensures refused { IfErr result (λ fault. (sets : List BindValue) (defer : Bool)
+        → RefusesWith (documented sets defer (document_of bytes.now)) fault) }
 {
     let Ok(text) = str::from_utf8(bytes) else {
         return Err(FileFault::NotToml);
@@ -52,9 +54,12 @@ fn read_document(alloc: Global, bytes: &[u8]) -> Result<Table, FileFault>
 
 /// The plan of a document.
 fn plan_of(alloc: Global, document: &Table, sets: &Binds, defer: bool) -> Result<Plan, FileFault>
-    ensures ok { IfOk result (λ plan. chain (root_spelled (table_view document.now)) (planned sets.now defer) ≡ Ok (plan_as_written (plan_tree plan))) }
-    ensures unbroken { IfOk result (λ plan. (reason : BrokenRule) → ¬ (IsBroken (plan_as_written (plan_tree plan)) reason)) }
-    ensures refused { IfErr result (IsFirstReason (chain (root_spelled (table_view document.now)) (planned sets.now defer))) }
+    ensures ok { IfOk result (λ plan. chain (root_spelled (table_view document.now)) (planned sets.now defer)
+        ≡ Ok (plan_as_written (plan_tree plan))) }
+    ensures unbroken { IfOk result (λ plan. (reason : BrokenRule)
+        → ¬ (IsBroken (plan_as_written (plan_tree plan)) reason)) }
+    ensures refused { IfErr result (IsFirstReason (chain (root_spelled (table_view document.now))
+        (planned sets.now defer))) }
 {
     let made = root_form(alloc, document)?;
     let store = store_with(alloc, &made.store, sets.items())?;
@@ -63,9 +68,12 @@ fn plan_of(alloc: Global, document: &Table, sets: &Binds, defer: bool) -> Result
 
 /// The plan of a flow with a store.
 fn make_plan(alloc: Global, flow: Flow, store: Binds, defer: bool) -> Result<Plan, FileFault>
-    ensures ok { IfOk result (λ plan. plan_as_written (plan_tree plan) ≡ record { root = as_written (tree_of flow); store = store; defer = defer }) }
-    ensures unbroken { IfOk result (λ plan. (reason : BrokenRule) → ¬ (IsBroken (plan_as_written (plan_tree plan)) reason)) }
-    ensures refused { IfErr result (λ fault. IsFirstReason (Ok (record { root = as_written (tree_of flow); store = store; defer = defer })) fault) }
+    ensures ok { IfOk result (λ plan. plan_as_written (plan_tree plan)
+        ≡ record { root = as_written (tree_of flow); store = store; defer = defer }) }
+    ensures unbroken { IfOk result (λ plan. (reason : BrokenRule)
+        → ¬ (IsBroken (plan_as_written (plan_tree plan)) reason)) }
+    ensures refused { IfErr result (λ fault. IsFirstReason
+        (Ok (record { root = as_written (tree_of flow); store = store; defer = defer })) fault) }
 {
     match Plan::make(alloc, flow, store, defer) {
         Ok(plan) => Ok(plan),

@@ -214,7 +214,8 @@ fn around(len: u64, inner: Measure) -> Measure
 
 fn beside(a: Measure, b: Measure) -> Measure
     ensures nesting { (x y : ℕ) → a.nesting ≡ capped x → b.nesting ≡ capped y → result.nesting ≡ capped (max x y) }
-    ensures comparisons { (x y : ℕ) → a.comparisons ≡ capped x → b.comparisons ≡ capped y → result.comparisons ≡ capped (x + y) }
+    ensures comparisons { (x y : ℕ) → a.comparisons ≡ capped x → b.comparisons ≡ capped y
+        → result.comparisons ≡ capped (x + y) }
     ensures len { (x y : ℕ) → a.len ≡ capped x → b.len ≡ capped y → result.len ≡ capped (x + y) }
 {
     Measure {

@@ -174,7 +174,8 @@ fn pairs(alloc: Global, links: &[Link]) -> Result<Vec<(Name, Name)>, Memory>
 
 /// Whether a link with a decider has a nested flow at one of its ends.
 fn decides_flow(alloc: Global, items: &[Item], links: &[Link]) -> Result<bool, Memory>
-    ensures { IfOk result (λ decides. decides ≡ list_any (rule.decides_flow (rule.nested_names (members items.now))) links.now) }
+    ensures { IfOk result (λ decides. decides ≡ list_any
+        (rule.decides_flow (rule.nested_names (members items.now))) links.now) }
 {
     let names = nested_names(alloc, items)?;
     let nested = set_of(alloc, &names)?;

@@ -78,9 +78,12 @@ fn add_flow<'a>(
     way: &[Turn],
     outline: &mut Outline<'a>,
 ) -> Result<(), Memory>
-    ensures atoms { OnOk result (shown_atoms outline.new.atoms.items ≡ shown_atoms outline.old.atoms.items ++ map (under way.now) (model.atoms_of (length outline.old.levels.items) (tree_of flow.now))) }
-    ensures levels { OnOk result (shown_levels outline.new.levels.items ≡ shown_levels outline.old.levels.items ++ model.flows_of (length outline.old.levels.items) (length outline.old.atoms.items) (tree_of flow.now)) }
-    ensures inner { OnOk result (outline.new.inner_first.items ≡ outline.old.inner_first.items ++ model.innermost_first (length outline.old.levels.items) (tree_of flow.now)) }
+    ensures atoms { OnOk result (shown_atoms outline.new.atoms.items ≡ shown_atoms outline.old.atoms.items
+        ++ map (under way.now) (model.atoms_of (length outline.old.levels.items) (tree_of flow.now))) }
+    ensures levels { OnOk result (shown_levels outline.new.levels.items ≡ shown_levels outline.old.levels.items
+        ++ model.flows_of (length outline.old.levels.items) (length outline.old.atoms.items) (tree_of flow.now)) }
+    ensures inner { OnOk result (outline.new.inner_first.items ≡ outline.old.inner_first.items
+        ++ model.innermost_first (length outline.old.levels.items) (tree_of flow.now)) }
 {
     let number = outline.levels.len();
     let retry = add_retry(alloc, &flow.retry, way, number, &mut outline.atoms)?;
@@ -113,10 +116,14 @@ fn add_item<'a>(
     way: &[Turn],
     outline: &mut Outline<'a>,
 ) -> Result<ItemPlace, Memory>
-    ensures item { IfOk result (λ place. shown_item place ≡ model.item_of (length outline.old.levels.items) (length outline.old.atoms.items) (item_tree item.now)) }
-    ensures atoms { OnOk result (shown_atoms outline.new.atoms.items ≡ shown_atoms outline.old.atoms.items ++ map (under way.now) (model.atoms_of (length outline.old.levels.items) (item_tree item.now))) }
-    ensures levels { OnOk result (shown_levels outline.new.levels.items ≡ shown_levels outline.old.levels.items ++ model.flows_of (length outline.old.levels.items) (length outline.old.atoms.items) (item_tree item.now)) }
-    ensures inner { OnOk result (outline.new.inner_first.items ≡ outline.old.inner_first.items ++ model.innermost_first (length outline.old.levels.items) (item_tree item.now)) }
+    ensures item { IfOk result (λ place. shown_item place
+        ≡ model.item_of (length outline.old.levels.items) (length outline.old.atoms.items) (item_tree item.now)) }
+    ensures atoms { OnOk result (shown_atoms outline.new.atoms.items ≡ shown_atoms outline.old.atoms.items
+        ++ map (under way.now) (model.atoms_of (length outline.old.levels.items) (item_tree item.now))) }
+    ensures levels { OnOk result (shown_levels outline.new.levels.items ≡ shown_levels outline.old.levels.items
+        ++ model.flows_of (length outline.old.levels.items) (length outline.old.atoms.items) (item_tree item.now)) }
+    ensures inner { OnOk result (outline.new.inner_first.items ≡ outline.old.inner_first.items
+        ++ model.innermost_first (length outline.old.levels.items) (item_tree item.now)) }
 {
     match item {
         Item::Task(task) => {
@@ -149,7 +156,8 @@ fn add_retry<'a>(
     atoms: &mut Vec<AtomPlace<'a>>,
 ) -> Result<Option<usize>, Memory>
     ensures number { IfOk result (λ number. number ≡ model.retry_number (length atoms.old.items) retry.now) }
-    ensures atoms { OnOk result (shown_atoms atoms.new.items ≡ shown_atoms atoms.old.items ++ map (under way.now) (model.retry_atoms flow retry.now)) }
+    ensures atoms { OnOk result (shown_atoms atoms.new.items ≡ shown_atoms atoms.old.items
+        ++ map (under way.now) (model.retry_atoms flow retry.now)) }
 {
     match retry {
         None => Ok(None),
@@ -176,7 +184,8 @@ fn longer(alloc: Global, way: &[Turn], turn: Turn) -> Result<Vec<Turn>, Memory>
 /// Puts the items of a flow into its level.
 fn put_items(levels: &mut Vec<Level<'_>>, number: usize, items: Vec<ItemPlace>)
     requires { number < length levels.old.items }
-    ensures { shown_levels levels.new.items ≡ with_items_at (map shown_item items.items) number (shown_levels levels.old.items) }
+    ensures { shown_levels levels.new.items ≡ with_items_at (map shown_item items.items) number
+        (shown_levels levels.old.items) }
 {
     levels[number].items = items;
 }

@@ -61,7 +61,8 @@ pub fn add_flow<'a>(flow: &'a Flow, order: &mut Vec<Place<'a>>) -> Result<u64, M
 /// Adds what stands in an item.
 #[cycle(outline)]
 fn add_item<'a>(item: &'a Item, order: &mut Vec<Place<'a>>) -> Result<u64, Memory>
-    ensures listed { OnOk result (shown_places order.new.items ≡ shown_places order.old.items ++ places (item_tree item.now)) }
+    ensures listed { OnOk result (shown_places order.new.items ≡ shown_places order.old.items
+        ++ places (item_tree item.now)) }
     ensures nested { IfOk result (λ n. n ≡ capped (nesting (item_tree item.now))) }
 {
     match item {

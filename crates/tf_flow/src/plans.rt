@@ -45,7 +45,8 @@ impl Model for Plan {
 
     ghost view = { λ plan. record { root = plan.root; store = plan.store; defer = plan.defer } };
 
-    ghost invariant = { λ plan. IsNumbered plan.root plan.store plan.atoms.keys plan.retries.items plan.flows.items plan.ways.items plan.ways_to_flows.items };
+    ghost invariant = { λ plan. IsNumbered plan.root plan.store plan.atoms.keys plan.retries.items plan.flows.items
+        plan.ways.items plan.ways_to_flows.items };
 }
 
 impl Plan {
@@ -203,7 +204,9 @@ struct Numbers {
 
 /// The numbers of a plan, or its first refusal.
 fn numbered(alloc: Global, root: &Flow, store: &Binds) -> Result<Numbers, PlanFault>
-    ensures numbers { IfOk result (λ found. numbering.IsNumbered root.now store.now found.atoms.keys found.retries.items found.flows.items found.ways.atoms.items found.ways.flows.items) }
+    ensures numbers { IfOk result
+        (λ found. numbering.IsNumbered root.now store.now found.atoms.keys found.retries.items found.flows.items
+        found.ways.atoms.items found.ways.flows.items) }
     ensures refused { IfErr result (IsAnswer (first_refusal root.now store.now)) }
 {
     let mut order = Vec::new(alloc);

@@ -24,7 +24,8 @@ pub fn first_refusal(
     order: &[Place<'_>],
     store: &[Bind],
 ) -> Result<Option<PlanFault>, Memory>
-    ensures { IfOk result (λ fault. fault ≡ option_or (too_large nesting (shown_places order.now) store.now) (refusal.broken_rule root store.now (shown_places order.now))) }
+    ensures { IfOk result (λ fault. fault ≡ option_or (too_large nesting (shown_places order.now) store.now)
+        (refusal.broken_rule root store.now (shown_places order.now))) }
 {
     if let Some(fault) = first_limit(nesting, order, store) {
         return Ok(Some(fault));

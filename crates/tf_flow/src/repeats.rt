@@ -14,7 +14,8 @@ pub fn indexed<T: Copy + Eq + Hash>(
     items: &[T],
 ) -> Result<Result<IndexSet<T>, T>, Memory>
     ensures whole { IfOk result (λ found. MatchResult found (λ index. index.keys ≡ items.now) (λ _. Unit {0})) }
-    ensures again { IfOk result (λ found. MatchResult found (λ _. first_again T.eq items.now ≡ None) (λ item. first_again T.eq items.now ≡ Some item)) }
+    ensures again { IfOk result (λ found. MatchResult found (λ _. first_again T.eq items.now ≡ None)
+        (λ item. first_again T.eq items.now ≡ Some item)) }
 {
     let mut index = IndexSet::new(alloc);
     for item in items {

@@ -141,8 +141,10 @@ pub fn ways_of(alloc: Global, root: &Flow) -> Result<Ways, Memory>
 /// Adds the ways to what stands in a flow to which this way leads.
 #[cycle(ways)]
 fn add_flow(alloc: Global, flow: &Flow, way: &[Turn], ways: &mut Ways) -> Result<(), Memory>
-    ensures atoms { OnOk result (ways.new.atoms.items ≡ ways.old.atoms.items ++ map (λ rest. way.now ++ rest) (map way_of (atoms_of (length ways.old.flows.items) (tree_of flow.now)))) }
-    ensures flows { OnOk result (ways.new.flows.items ≡ ways.old.flows.items ++ map (λ rest. way.now ++ rest) (flow_ways (length ways.old.flows.items) (tree_of flow.now))) }
+    ensures atoms { OnOk result (ways.new.atoms.items ≡ ways.old.atoms.items
+        ++ map (λ rest. way.now ++ rest) (map way_of (atoms_of (length ways.old.flows.items) (tree_of flow.now)))) }
+    ensures flows { OnOk result (ways.new.flows.items ≡ ways.old.flows.items
+        ++ map (λ rest. way.now ++ rest) (flow_ways (length ways.old.flows.items) (tree_of flow.now))) }
 {
     let number = ways.flows.len();
     ways.flows.push(Way::make(way.to_vec(alloc)?))?;
@@ -167,8 +169,10 @@ fn add_flow(alloc: Global, flow: &Flow, way: &[Turn], ways: &mut Ways) -> Result
 /// Adds the ways to what stands in an item to which this way leads.
 #[cycle(ways)]
 fn add_item(alloc: Global, item: &Item, way: Way, ways: &mut Ways) -> Result<(), Memory>
-    ensures atoms { OnOk result (ways.new.atoms.items ≡ ways.old.atoms.items ++ map (λ rest. way ++ rest) (map way_of (atoms_of (length ways.old.flows.items) (item_tree item.now)))) }
-    ensures flows { OnOk result (ways.new.flows.items ≡ ways.old.flows.items ++ map (λ rest. way ++ rest) (flow_ways (length ways.old.flows.items) (item_tree item.now))) }
+    ensures atoms { OnOk result (ways.new.atoms.items ≡ ways.old.atoms.items
+        ++ map (λ rest. way ++ rest) (map way_of (atoms_of (length ways.old.flows.items) (item_tree item.now)))) }
+    ensures flows { OnOk result (ways.new.flows.items ≡ ways.old.flows.items
+        ++ map (λ rest. way ++ rest) (flow_ways (length ways.old.flows.items) (item_tree item.now))) }
 {
     match item {
         Item::Task(_) => {

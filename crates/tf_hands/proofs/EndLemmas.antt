@@ -8,12 +8,12 @@ use Rattle.tf_states.specs.declared.record.Payload.TheVariants as payload
 use Rattle.tf_states.specs.declared.record.What.{What}
 use Rattle.tf_states.specs.declared.state.AtomState.{AtomState}
 use Rattle.tf_states.specs.declared.state.AtomState.TheVariants as atom
-use Rattle.tf_ports.specs.declared.orders.Order.{Order}
-use Rattle.tf_ports.specs.declared.outcomes.Action.{Action}
-use Rattle.tf_ports.specs.declared.outcomes.Action.TheVariants as action
-use Rattle.tf_ports.specs.declared.outcomes.Outcome.{Outcome}
-use Rattle.tf_ports.specs.declared.outcomes.Outcome.TheVariants as outcome
-use Rattle.tf_ports.specs.Laws.{RevertsToNothing}
+use Rattle.tf_actions.specs.declared.orders.Order.{Order}
+use Rattle.tf_actions.specs.declared.outcomes.Action.{Action}
+use Rattle.tf_actions.specs.declared.outcomes.Action.TheVariants as action
+use Rattle.tf_actions.specs.declared.outcomes.Outcome.{Outcome}
+use Rattle.tf_actions.specs.declared.outcomes.Outcome.TheVariants as outcome
+use Rattle.tf_actions.specs.Laws.{RevertsToNothing}
 use Rattle.tf_numbers.proofs.TruthLemmas.{and_false}
 use Rattle.tf_model.specs.Plan.{Outline, is_task}
 use Rattle.tf_model.specs.Snapshot.{hand_after, is_at_work}
@@ -21,7 +21,7 @@ use Rattle.tf_model.specs.History.{snapshot, state_of, hand_of}
 use Rattle.tf_model.specs.Orders.{order_at, Allows, IsGiven}
 use Rattle.tf_model.specs.Sessions.{is_inner}
 use Rattle.tf_model.specs.Steps.{LegalPast, is_free}
-use Rattle.tf_machine.specs.Answers.{begun, task_of, ended_from, end_by}
+use Rattle.tf_hands.specs.Flight.{begun, task_of, ended_from, end_by}
 use Rattle.tf_hands.specs.Hands.{is_no_end, is_of_flow, takes_task, orders, HasOrder}
 use Rattle.tf_hands.proofs.EntryLemmas.{set_here, hand_origin, no_orders}
 use Rattle.tf_hands.proofs.ForcedLemmas.{idle_taken, within_inner}

@@ -8,7 +8,7 @@ use Rattle.tf_states.specs.declared.record.What.{What}
 use Rattle.tf_states.specs.declared.record.What.TheVariants as what
 use Rattle.tf_states.specs.declared.state.AtomState.{AtomState}
 use Rattle.tf_states.specs.declared.state.FlowState.TheVariants as flow
-use Rattle.tf_ports.specs.declared.orders.Order.{Order}
+use Rattle.tf_actions.specs.declared.orders.Order.{Order}
 use Rattle.tf_model.specs.Plan.{Outline, is_task}
 use Rattle.tf_model.specs.Snapshot.{state_after, hand_after, is_at_work}
 use Rattle.tf_model.specs.History.{snapshot, state_of, hand_of}

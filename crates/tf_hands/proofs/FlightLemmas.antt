@@ -2,7 +2,7 @@
 use Rattle.std.proofs.Common.{◌≡◌, ℕ, ◌<◌, List, [], ◌∷◌, Bool, true, false, not, Option, Some, None, refl, sym, ap, ◌∙◌, inl, inr, eq-eqb}
 use Rattle.std.specs.Prelude.{is_none}
 use Rattle.tf_states.specs.declared.record.Entry.{Entry}
-use Rattle.tf_ports.specs.declared.orders.Order.{Order}
+use Rattle.tf_actions.specs.declared.orders.Order.{Order}
 use Rattle.tf_numbers.specs.Numbers.{is_number}
 use Rattle.tf_numbers.proofs.BelowLemmas.{all_at, all_of, not_each, found_passes, found_below, none_at}
 use Rattle.tf_numbers.proofs.OptionLemmas.{is_this_number}
@@ -11,10 +11,10 @@ use Rattle.tf_model.specs.Plan.{Outline, count}
 use Rattle.tf_model.specs.Snapshot.{Snapshot}
 use Rattle.tf_model.specs.History.{snapshot, hand_of}
 use Rattle.tf_model.specs.Steps.{Step, LegalPast, is_not_with, is_free, is_idle, is_still}
-use Rattle.tf_machine.specs.Answers.{is_with, task_of}
-use Rattle.tf_machine.specs.TableFacts.{Busy}
-use Rattle.tf_machine.proofs.PlanLemmas.{task_below}
-use Rattle.tf_machine.proofs.FactLemmas.{past_facts}
+use Rattle.tf_hands.specs.Flight.{is_with, task_of}
+use Rattle.tf_hands.specs.Flight.{Busy}
+use Rattle.tf_model.proofs.PlanLemmas.{task_below}
+use Rattle.tf_hands.proofs.FactLemmas.{past_facts}
 use Rattle.tf_hands.specs.Hands.{takes_task, HasOrder}
 use Rattle.tf_hands.proofs.EntryLemmas.{hand_origin}
 use Rattle.tf_hands.proofs.KeptLemmas.{rule_takes}

@@ -3,9 +3,9 @@ use Rattle.std.proofs.Common.{◌≡◌, ℕ, ◌<◌, List, ◌∷◌, true, fa
 use Rattle.std.specs.Prelude.{is_none}
 use Rattle.tf_states.specs.declared.record.Entry.{Entry}
 use Rattle.tf_states.specs.declared.record.What.{What}
-use Rattle.tf_ports.specs.declared.orders.Order.{Order}
-use Rattle.tf_ports.specs.declared.outcomes.Action.{Action}
-use Rattle.tf_ports.specs.declared.outcomes.Action.TheVariants as action
+use Rattle.tf_actions.specs.declared.orders.Order.{Order}
+use Rattle.tf_actions.specs.declared.outcomes.Action.{Action}
+use Rattle.tf_actions.specs.declared.outcomes.Action.TheVariants as action
 use Rattle.tf_numbers.specs.Numbers.{is_number}
 use Rattle.tf_numbers.proofs.BelowLemmas.{all_same}
 use Rattle.tf_model.specs.Plan.{Outline, count, is_task}
@@ -14,7 +14,7 @@ use Rattle.tf_model.specs.History.{snapshot, hand_of}
 use Rattle.tf_model.specs.Forced.{forced}
 use Rattle.tf_model.specs.Steps.{by_force, LegalPast, is_not_with, is_free, is_idle, is_still}
 use Rattle.tf_model.proofs.StepLemmas.{step_allowed}
-use Rattle.tf_machine.specs.Answers.{begun}
+use Rattle.tf_hands.specs.Flight.{begun}
 use Rattle.tf_hands.specs.Hands.{by_hand, orders, HasOrder}
 use Rattle.tf_hands.proofs.EntryLemmas.{touches, within_resumes, hand_stays, none_stays, no_orders, order_stays}
 use Rattle.tf_hands.proofs.ForcedLemmas.{forced_spares, forced_takes_none, forced_within}

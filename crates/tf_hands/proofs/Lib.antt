@@ -1,3 +1,5 @@
+pub mod FitLemmas
+pub mod FactLemmas
 pub mod EntryLemmas
 pub mod ForcedLemmas
 pub mod TakenLemmas

@@ -10,8 +10,8 @@ use Rattle.tf_states.specs.declared.state.AtomState.{AtomState}
 use Rattle.tf_states.specs.declared.state.AtomState.TheVariants as atom
 use Rattle.tf_states.specs.declared.state.FlowState.TheVariants as flow
 use Rattle.tf_flow.specs.Outline.{Atom, Part, a_task, a_retry, is_task_part}
-use Rattle.tf_ports.specs.declared.orders.Order.{Order}
-use Rattle.tf_ports.specs.declared.outcomes.Action.{Action}
+use Rattle.tf_actions.specs.declared.orders.Order.{Order}
+use Rattle.tf_actions.specs.declared.outcomes.Action.{Action}
 use Rattle.tf_numbers.proofs.TruthLemmas.{clash, never_true, not_true, true_both, and_first, and_second}
 use Rattle.tf_model.specs.Plan.{Outline, is_task, is_retry}
 use Rattle.tf_model.specs.Snapshot.{Snapshot, is_at_work}
@@ -23,7 +23,7 @@ use Rattle.tf_model.specs.Scope.{given_for}
 use Rattle.tf_model.specs.Steps.{LegalPast, is_free, ends_task}
 use Rattle.tf_model.specs.Laws.{atom_may, is_allowed}
 use Rattle.tf_model.proofs.StepLemmas.{step_allowed}
-use Rattle.tf_machine.proofs.FitLemmas.{candidate_task}
+use Rattle.tf_hands.proofs.FitLemmas.{candidate_task}
 use Rattle.tf_hands.specs.Hands.{is_no_end, is_of_flow, is_resuming, is_by_other, takes_task, action_of, order_for, asked_by, orders, HasOrder}
 use Rattle.tf_hands.proofs.EntryLemmas.{flow_touches, hand_origin, other_orders, order_stays}
 use Rattle.tf_hands.proofs.ForcedLemmas.{no_task}

@@ -20,9 +20,9 @@ use Rattle.tf_model.specs.Sessions.{flow_entry, entering, has_ended, is_inner}
 use Rattle.tf_model.specs.Steps.{Step, LegalPast, is_free, is_still}
 use Rattle.tf_model.proofs.StepLemmas.{step_allowed}
 use Rattle.tf_facts.proofs.PastLemmas.{never_stuck}
-use Rattle.tf_machine.specs.TableFacts.{TableFacts}
-use Rattle.tf_machine.proofs.FitLemmas.{Turning, goes_on, resumes, is_free_of_work, step_fits}
-use Rattle.tf_machine.proofs.FactLemmas.{past_facts}
+use Rattle.tf_hands.specs.Flight.{FlightFacts}
+use Rattle.tf_hands.proofs.FitLemmas.{Turning, goes_on, resumes, is_free_of_work, step_fits}
+use Rattle.tf_hands.proofs.FactLemmas.{past_facts}
 use Rattle.tf_hands.specs.Hands.{by_hand, is_of_flow, takes_task, IsAlone}
 use Rattle.tf_hands.proofs.EntryLemmas.{hand_origin}
 use Rattle.tf_hands.proofs.FlightLemmas.{free_at, still_at, still_of, busy_of}
@@ -37,7 +37,7 @@ away_still plan past legal away =
 -- ---- after an entry of the flow
 
 -- nobody has anything in flight, where the flow enters another state than SUSPENDING and RESUMING
-turned_none : (plan : Outline) (s : Snapshot) (state : FlowState) → TableFacts plan s → Turning s state → flow_may s.flow state ≡ true → flow_suspends state ≡ false → state ≢ flow.Resuming
+turned_none : (plan : Outline) (s : Snapshot) (state : FlowState) → FlightFacts plan s → Turning s state → flow_may s.flow state ≡ true → flow_suspends state ≡ false → state ≢ flow.Resuming
     → (a h : ℕ) → s.hand a ≡ Some h → ⊥
 turned_none plan s _ facts (goes_on state goes) may suspends other a h has = began state goes may suspends
   where

@@ -16,7 +16,7 @@ use Rattle.tf_model.specs.Readiness.{can_run, can_revert}
 use Rattle.tf_model.specs.Forced.{forced, is_active}
 use Rattle.tf_model.specs.Candidates.{is_candidate, is_interrupted, is_best, taken_up, candidate_entry, candidate_if_running, choice}
 use Rattle.tf_model.proofs.StepLemmas.{run_pending, revert_executed}
-use Rattle.tf_machine.proofs.FitLemmas.{candidate_task}
+use Rattle.tf_hands.proofs.FitLemmas.{candidate_task}
 use Rattle.tf_hands.specs.Hands.{takes_task}
 
 -- a candidate that is taken up

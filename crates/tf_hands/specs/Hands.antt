@@ -7,14 +7,14 @@ use Rattle.tf_states.specs.declared.record.What.TheVariants as what
 use Rattle.tf_states.specs.declared.state.AtomState.{AtomState}
 use Rattle.tf_states.specs.declared.state.AtomState.TheVariants as atom
 use Rattle.tf_states.specs.declared.state.FlowState.TheVariants as flow
-use Rattle.tf_ports.specs.declared.orders.Order.{Order}
-use Rattle.tf_ports.specs.declared.outcomes.Action.{Action}
-use Rattle.tf_ports.specs.declared.outcomes.Action.TheVariants as action
+use Rattle.tf_actions.specs.declared.orders.Order.{Order}
+use Rattle.tf_actions.specs.declared.outcomes.Action.{Action}
+use Rattle.tf_actions.specs.declared.outcomes.Action.TheVariants as action
 use Rattle.tf_model.specs.Plan.{Outline, count, is_task}
 use Rattle.tf_model.specs.Snapshot.{Snapshot, state_after, is_at_work}
 use Rattle.tf_model.specs.History.{snapshot, state_of, hand_of}
 use Rattle.tf_model.specs.Orders.{order_of, order_at}
-use Rattle.tf_machine.specs.Answers.{begun}
+use Rattle.tf_hands.specs.Flight.{begun}
 
 -- ---- what is recorded
 

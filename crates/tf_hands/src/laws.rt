@@ -9,8 +9,8 @@ ghost use Rattle.tf_states.specs.declared.record.What.TheVariants as what;
 ghost use Rattle.tf_states.specs.declared.state.AtomState.TheVariants as atom;
 ghost use Rattle.tf_states.specs.declared.state.FlowState.TheVariants as flow;
 ghost use Rattle.tf_flow.specs.Plan.{PlanValue};
-ghost use Rattle.tf_ports.specs.declared.orders.Order.{Order};
-ghost use Rattle.tf_ports.specs.declared.outcomes.Outcome.{Outcome};
+ghost use Rattle.tf_actions.specs.declared.orders.Order.{Order};
+ghost use Rattle.tf_actions.specs.declared.outcomes.Outcome.{Outcome};
 ghost use Rattle.tf_model.specs.Plan.{Outline, outline_of, is_task};
 ghost use Rattle.tf_model.specs.Compilation.{compile_refusal};
 ghost use Rattle.tf_model.specs.Snapshot.{Snapshot};
@@ -21,11 +21,11 @@ ghost use Rattle.tf_model.specs.Candidates.{is_interrupted, choice, end_of};
 ghost use Rattle.tf_model.specs.Orders.{order_of, IsGiven};
 ghost use Rattle.tf_model.specs.Steps.{LegalPast, is_free, is_still, ends_task};
 ghost use Rattle.tf_model.specs.Sessions.{is_inner, entering, has_ended};
-ghost use Rattle.tf_machine.specs.declared.candidates.Start.{Start};
-ghost use Rattle.tf_machine.specs.Answers.{task_of, start_entry, action_in, ended_from, end_by};
+ghost use Rattle.tf_hands.specs.declared.starts.Start.{Start};
+ghost use Rattle.tf_hands.specs.Flight.{task_of, start_entry, action_in, ended_from, end_by};
 ghost use Rattle.tf_hands.specs.Hands.{by_hand, is_no_end, is_of_flow, is_by_other, takes_task, asked_by, orders, HasOrder, IsAlone};
 
-use tf_ports::Performer;
+use tf_actions::Performer;
 
 /// What is forced is not of the flow, takes no task up and ends none.
 #[tactic(auto, using(crate::proofs::ForcedLemmas::forced_no_end, crate::proofs::ForcedLemmas::forced_takes_none, crate::proofs::ForcedLemmas::forced_within, crate::proofs::ForcedLemmas::forced_inner))]

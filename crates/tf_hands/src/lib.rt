@@ -3,6 +3,7 @@
 #![tactic(auto)]
 
 mod laws;
+mod starts;
 
 pub use laws::{
     ends_free_hands, forced_entries_are_of_no_task, forced_entries_leave_hands_alone,
@@ -11,3 +12,4 @@ pub use laws::{
     outcomes_are_of_orders, starts_give_orders, tasks_are_ended_by_their_hands,
     tasks_are_taken_up_by_free_hands,
 };
+pub use starts::Start;

@@ -3,9 +3,10 @@ use Rattle.std.proofs.Common.{◌≡◌, inl, ⊎_elim, ℕ, ◌+◌, ◌-◌, �
 use Rattle.std.specs.List.{flat_map}
 use Rattle.std.proofs.lemmas.List.{take_all, drop_all, take_at, drop_at}
 use Rattle.std.specs.Prelude.{IsTrue, is_some}
-use Rattle.tf_desk.specs.Content.{Content, bytes_of, written, Torn}
-use Rattle.tf_desk.specs.Crash.{Images, Crashes, IsLeftNow, Passes}
-use Rattle.tf_journal.specs.Format.{OPEN, SIZE_LIMIT, length_bytes, record_of, front_of, journal_bytes, bodies, recovered, title_of}
+use Rattle.tf_desk.specs.Content.{written, Torn}
+use Rattle.tf_desk.specs.State.{DeskState, bytes_now, LeftNow, IsDurable, Passes, passes_within}
+use Rattle.tf_journal.specs.Adding.{Adds, AddsAtMost}
+use Rattle.tf_journal.specs.Format.{OPEN, SIZE_LIMIT, length_bytes, record_of, prefix_of, journal_bytes, bodies, recovered, title_of}
 use Rattle.tf_journal.specs.Gates.{LeavesGated}
 use Rattle.tf_journal.specs.Held.{Held}
 use Rattle.tf_journal.specs.Rest.{IsBody, LiesAs, IsAtRest, LeavesBodies, LeavesEither, LeavesBeforeOrAfter}
@@ -39,21 +40,21 @@ module _ (title : List ℕ) (held : List (List ℕ)) (size : ℕ) (old body buff
   -- a file that has just these bodies has just the new one more
   pub appended_exact : (new : List ℕ) → old ≡ journal_bytes title held → new ≡ written (written old (size - 1 + 1) buffer) (size - 1) (OPEN ∷ []) → new ≡ journal_bytes title (held ++ body ∷ [])
   appended_exact new just wrote =
-      let front : List ℕ = front_of title held in
+      let prefix : List ℕ = prefix_of title held in
       let tail : List ℕ = tail_of body in
-      let long : length old ≡ size = ap length just ∙ length-append front (0 ∷ []) ∙ sym lies.place in
-      let place : size - 1 ≡ length front = omega (arith, lies.place) in
+      let long : length old ≡ size = ap length just ∙ length-append prefix (0 ∷ []) ∙ sym lies.place in
+      let place : size - 1 ≡ length prefix = omega (arith, lies.place) in
       let behind : written old (size - 1 + 1) buffer ≡ old ++ tail =
       ap (λ (l : List ℕ). l ++ (buffer ++ drop (size - 1 + 1 + length buffer) old)) (take_all (size - 1 + 1) old (omega (arith, long, at_gate)))
       ∙ ap (λ (l : List ℕ). old ++ (buffer ++ l)) (drop_all (size - 1 + 1 + length buffer) old (omega (arith, long, at_gate)))
       ∙ ap (λ (l : List ℕ). old ++ l) (append-nil buffer ∙ filled) in
-      let split : written old (size - 1 + 1) buffer ≡ front ++ (0 ∷ tail) = behind ∙ ap (λ (l : List ℕ). l ++ tail) just ∙ append_assoc front (0 ∷ []) tail in
-      let opened : new ≡ front ++ (OPEN ∷ tail) =
+      let split : written old (size - 1 + 1) buffer ≡ prefix ++ (0 ∷ tail) = behind ∙ ap (λ (l : List ℕ). l ++ tail) just ∙ append_assoc prefix (0 ∷ []) tail in
+      let opened : new ≡ prefix ++ (OPEN ∷ tail) =
       wrote ∙ ap (λ (l : List ℕ). written l (size - 1) (OPEN ∷ [])) split
-      ∙ ap (λ (l : List ℕ). l ++ (OPEN ∷ drop (size - 1 + 1) (front ++ (0 ∷ tail)))) (take_at front (0 ∷ tail) (size - 1) (sym place))
-      ∙ ap (λ (l : List ℕ). front ++ (OPEN ∷ l)) (ap (drop (size - 1 + 1)) (sym (append_assoc front (0 ∷ []) tail)) ∙ drop_at (front ++ 0 ∷ []) tail (size - 1 + 1) (omega (arith, place, length-append front (0 ∷ [])))) in
-      opened ∙ ap (λ (l : List ℕ). front ++ (OPEN ∷ l)) (sym (append_assoc (length_bytes (length body)) body (0 ∷ [])))
-      ∙ sym (append_assoc front (record_of body) (0 ∷ []))
+      ∙ ap (λ (l : List ℕ). l ++ (OPEN ∷ drop (size - 1 + 1) (prefix ++ (0 ∷ tail)))) (take_at prefix (0 ∷ tail) (size - 1) (sym place))
+      ∙ ap (λ (l : List ℕ). prefix ++ (OPEN ∷ l)) (ap (drop (size - 1 + 1)) (sym (append_assoc prefix (0 ∷ []) tail)) ∙ drop_at (prefix ++ 0 ∷ []) tail (size - 1 + 1) (omega (arith, place, length-append prefix (0 ∷ [])))) in
+      opened ∙ ap (λ (l : List ℕ). prefix ++ (OPEN ∷ l)) (sym (append_assoc (length_bytes (length body)) body (0 ∷ [])))
+      ∙ sym (append_assoc prefix (record_of body) (0 ∷ []))
       ∙ ap (λ (l : List ℕ). l ++ 0 ∷ []) (append_assoc (OPEN ∷ title) (flat_map record_of held) (record_of body) ∙ ap (λ (l : List ℕ). (OPEN ∷ title) ++ l) (sym (flat_map-push held body)))
 
 -- what a desk shows that tells it
@@ -62,15 +63,54 @@ some_text None told = absurd (cc)
 some_text (Some text) told = (text, refl)
 
 -- what a crash after an append leaves, whatever the append answered: each image is one of those that a crash inside may leave
-pub appended_leaves : (title : List ℕ) (held : List (List ℕ)) (body : List ℕ) (old new : Content) (left : Images) (shown shown_new : Option (List ℕ)) (was is : Crashes) → IsTrue (is_some shown_new)
-    → Passes old.clock new.clock was is (LeavesBeforeOrAfter title held body shown) → ((image text : List ℕ) → IsLeftNow new left shown_new image text → is old.clock image text)
-    → ((image text : List ℕ) → was old.clock image text → recovered title image ≡ bodies held) → LeavesEither title new left held (held ++ body ∷ [])
-appended_leaves title held body old new left shown shown_new was is told passes counts before image left_now =
-    let text = some_text shown_new told in
-    ⊎_elim (λ earlier. inl (before image text.0 earlier)) (λ now. now.0) (passes.since old.clock image text.0 (omega arith) (counts image text.0 (left_now, text.1)))
+appended_leaves : (title : List ℕ) (held : List (List ℕ)) (body : List ℕ) {old new : DeskState} → IsTrue (is_some new.shown)
+    → Passes (LeavesBeforeOrAfter title held body old.shown) old new → ((image text : List ℕ) → LeftNow new image text → new.crashes old.content.clock image text)
+    → ((image text : List ℕ) → old.crashes old.content.clock image text → recovered title image ≡ bodies held) → LeavesEither title new held (held ++ body ∷ [])
+appended_leaves title held body {old} {new} told passes counts before image left_now =
+    let text = some_text new.shown told in
+    ⊎_elim (λ earlier. inl (before image text.0 earlier)) (λ now. now.0) (passes.since old.content.clock image text.0 (omega arith) (counts image text.0 (left_now, text.1)))
 
 -- what a crash leaves of a journal at rest
-pub rest_leaves : {K : Type 0} (content : K → Content) (left : K → Images) (journal : Held K) (held : List (List ℕ)) → IsAtRest content left journal held
-    → LeavesBodies (title_of journal.title) (content journal.desk) (left journal.desk) held
-rest_leaves content left journal held rest image left_now =
-    ap (recovered (title_of journal.title)) (rest.durable image left_now) ∙ recovered_lies (title_of journal.title) held journal.size (bytes_of (content journal.desk)) (sixteen journal.title) rest.lies
+pub rest_leaves : {K : Type 0} (state : K → DeskState) (journal : Held K) (held : List (List ℕ)) → IsAtRest state journal held
+    → LeavesBodies (title_of journal.title) (state journal.desk) held
+rest_leaves state journal held rest image left_now =
+    ap (recovered (title_of journal.title)) (rest.durable image left_now) ∙ recovered_lies (title_of journal.title) held journal.size (bytes_now (state journal.desk)) (sixteen journal.title) rest.lies
+
+-- what an append leaves that wrote, whatever it answered
+pub appended_at_most : {K : Type 0} (state : K → DeskState) (journal next : Held K) (held : List (List ℕ)) (body buffer : List ℕ) → IsAtRest state journal held
+    → IsBody body → journal.size + (5 + length body) ≤ SIZE_LIMIT → buffer ≡ tail_of body
+    → Passes (LeavesGated (bytes_now (state journal.desk)) (journal.size - 1) buffer (state journal.desk).shown) (state journal.desk) (state next.desk)
+    → IsTrue (is_some (state next.desk).shown)
+    → ((start : ℕ) (image text : List ℕ) → start ≤ (state next.desk).content.clock → LeftNow (state next.desk) image text → (state next.desk).crashes start image text)
+    → ((image text : List ℕ) → (state journal.desk).crashes (state journal.desk).content.clock image text → LeftNow (state journal.desk) image text)
+    → AddsAtMost state body journal next held
+appended_at_most state journal next held body buffer rest is fits filled gated shows counts only =
+    let title = title_of journal.title in
+    let old = state journal.desk in
+    let passes : Passes (LeavesBeforeOrAfter title held body old.shown) old (state next.desk) =
+    passes_within gated (λ image text left. appended_crash title held journal.size (bytes_now old) body buffer (sixteen journal.title) rest.lies is fits filled old.shown image text left) in
+    record {
+      crash = passes;
+      leaves = appended_leaves title held body shows passes (λ image text now. counts old.content.clock image text passes.later now)
+          (λ image text was. rest_leaves state journal held rest image (only image text was).0);
+    }
+
+-- what an append does that answered Ok
+pub appended_adds : {K : Type 0} (state : K → DeskState) (journal : Held K) (next : K) (held : List (List ℕ)) (body buffer : List ℕ) → IsAtRest state journal held
+    → IsBody body → journal.size + (5 + length body) ≤ SIZE_LIMIT → buffer ≡ tail_of body
+    → bytes_now (state next) ≡ written (written (bytes_now (state journal.desk)) (journal.size - 1 + 1) buffer) (journal.size - 1) (OPEN ∷ []) → IsDurable (state next)
+    → ((image text : List ℕ) → (state next).crashes (state next).content.clock image text → LeftNow (state next) image text)
+    → Adds state body journal (record journal { desk = next; size = journal.size + (5 + length body) }) held
+appended_adds state journal next held body buffer rest is fits filled wrote durable only =
+    let title = title_of journal.title in
+    let old = bytes_now (state journal.desk) in
+    let new = bytes_now (state next) in
+    let size = journal.size + (5 + length body) in
+    let lies : LiesAs title (held ++ body ∷ []) size new = appended_lies title held journal.size old body buffer (sixteen journal.title) rest.lies is fits filled new wrote in
+    let found : recovered title new ≡ bodies (held ++ body ∷ []) = recovered_lies title (held ++ body ∷ []) size new (sixteen journal.title) lies in
+    record {
+      rest = record { lies = lies; durable = durable };
+      recovers = found;
+      exact = λ just. appended_exact title held journal.size old body buffer (sixteen journal.title) rest.lies is fits filled new just wrote;
+      lasts = λ image text left. ap (recovered title) (durable image (only image text left).0) ∙ found;
+    }

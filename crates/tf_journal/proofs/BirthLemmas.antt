@@ -10,19 +10,19 @@ use Rattle.tf_journal.specs.Rest.{LiesAs}
 use Rattle.tf_journal.specs.Birth.{IsTitled}
 use Rattle.tf_journal.proofs.HeaderLemmas.{unborn_short, unborn_zero, unborn_titled, eq_false, false_eq}
 use Rattle.tf_journal.proofs.LieLemmas.{recovered_lies}
-use Rattle.tf_journal.proofs.TornLemmas.{torn_front}
+use Rattle.tf_journal.proofs.TornLemmas.{torn_prefix}
 
 -- a journal without a record lies in these bytes
 pub born_lies : (title bytes : List ℕ) → length title ≡ 16 → bytes ≡ journal_bytes title [] → LiesAs title [] 18 bytes
 born_lies title bytes sixteen is =
-    let front : List ℕ = (OPEN ∷ title) ++ [] in
-    let bare : front ≡ OPEN ∷ title = append-nil (OPEN ∷ title) in
-    let long : length front ≡ 17 = omega (arith, ap length bare, sixteen) in
+    let prefix : List ℕ = (OPEN ∷ title) ++ [] in
+    let bare : prefix ≡ OPEN ∷ title = append-nil (OPEN ∷ title) in
+    let long : length prefix ≡ 17 = omega (arith, ap length bare, sixteen) in
     record {
-      front = ap (take (length front)) is ∙ take_at front (0 ∷ []) (length front) refl;
+      prefix = ap (take (length prefix)) is ∙ take_at prefix (0 ∷ []) (length prefix) refl;
       place = omega (arith, long);
-      whole = omega (arith, ap length is, length-append front (0 ∷ []), long);
-      gate = λ open_gate. shut (sym open_gate ∙ ap (λ (l : List ℕ). get_or l (length front) 0) is ∙ get_or_at front 0 [] 0 (length front) refl);
+      whole = omega (arith, ap length is, length-append prefix (0 ∷ []), long);
+      gate = λ open_gate. shut (sym open_gate ∙ ap (λ (l : List ℕ). get_or l (length prefix) 0) is ∙ get_or_at prefix 0 [] 0 (length prefix) refl);
       limit = omega arith;
       fit = tt;
     }
@@ -82,7 +82,7 @@ torn_title title old image sixteen long short there torn =
     bound = omega (arith, torn.no_longer, facts.0)
 
     first : get_or image 0 0 ≡ 0
-    first = sym (get_or-take 1 image 0 0 (omega arith)) ∙ ap (λ (l : List ℕ). get_or l 0 0) (torn_front 1 17 old image torn there) ∙ get_or-take 1 old 0 0 (omega arith) ∙ facts.1
+    first = sym (get_or-take 1 image 0 0 (omega arith)) ∙ ap (λ (l : List ℕ). get_or l 0 0) (torn_prefix 1 17 old image torn there) ∙ get_or-take 1 old 0 0 (omega arith) ∙ facts.1
 
 -- the title is written
 pub titled_now : (title old : List ℕ) → length title ≡ 16 → (2 ≤ length old → (length old ≤ 18) × (get_or old 0 0 ≡ 0)) → (length old ≤ 1 → old ≡ 0 ∷ []) → 1 ≤ length old → IsTitled title (written old 1 (title ++ 0 ∷ []))

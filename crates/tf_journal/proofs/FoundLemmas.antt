@@ -132,7 +132,7 @@ module _ (head bytes : List ℕ) (place : ℕ) (are : head ≡ take 5 (drop plac
         long,
         record {
           found = found;
-          front = ap (λ (k : ℕ). take k bytes) sum ∙ take-add place (5 + n) bytes ∙ ap (λ (l : List ℕ). take place bytes ++ l) record_is;
+          prefix = ap (λ (k : ℕ). take k bytes) sum ∙ take-add place (5 + n) bytes ∙ ap (λ (l : List ℕ). take place bytes ++ l) record_is;
           is_body = (omega (arith, long, some), omega (arith, long, short));
           within = omega (arith, long, there);
           limit = omega (arith, long, near);

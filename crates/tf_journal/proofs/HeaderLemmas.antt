@@ -120,7 +120,7 @@ title_whole (letter ∷ title) (byte ∷ rest) offset is = by (letter == byte) r
     by : (b : Bool) → letter == byte ≡ b → (if b then title_fault title rest (offset + 1) else Some (offset, Some byte)) ≡ None
         → (title_fault title rest (offset + 1) ≡ None → (take (length title) rest ≡ title) × (length title < length rest))
         → (byte ∷ take (length title) rest ≡ letter ∷ title) × (suc (length title) < suc (length rest))
-    by true same none further = let more = further none in let its : letter ≡ byte = grind (arith, nat_tests) in let front = more.0 in (cc, omega (arith, more.1))
+    by true same none further = let more = further none in let its : letter ≡ byte = grind (arith, nat_tests) in let prefix = more.0 in (cc, omega (arith, more.1))
     by false same none further = cc
 
 -- the title, and then another byte

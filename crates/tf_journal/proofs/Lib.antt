@@ -7,7 +7,7 @@ pub mod TornLemmas
 pub mod BirthLemmas
 pub mod AppendLemmas
 pub mod PlaceLemmas
-pub mod WayLemmas
+pub mod PathLemmas
 pub mod OpenLemmas
 pub mod UnbornLemmas
 pub mod ReadingLemmas

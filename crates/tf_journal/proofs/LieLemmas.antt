@@ -2,7 +2,7 @@
 use Rattle.std.proofs.Common.{◌≡◌, ◌≢◌, inr, ℕ, zero, suc, ◌+◌, ◌*◌, ◌/◌, ◌%◌, ◌≤◌, List, [], ◌∷◌, ◌++◌, length, get_or, take, drop, Option, None, refl, sym, ◌∙◌, ap, arith, append_assoc, length-append, take-append-drop}
 use Rattle.std.specs.List.{flat_map}
 use Rattle.std.proofs.lemmas.List.{drop_more, take_at, drop_at, get_or-append-add}
-use Rattle.tf_journal.specs.Format.{OPEN, BODY_LIMIT, SIZE_LIMIT, length_bytes, length_at, record_of, front_of, Found, body, record_at, record_within, bodies, with_body, then_from, records_from, title_fault, titled, recovered}
+use Rattle.tf_journal.specs.Format.{OPEN, BODY_LIMIT, SIZE_LIMIT, length_bytes, length_at, record_of, prefix_of, Found, body, record_at, record_within, bodies, with_body, then_from, records_from, title_fault, titled, recovered}
 use Rattle.tf_journal.specs.Rest.{IsBody, AreBodies, LiesAs}
 use Rattle.tf_journal.proofs.FoundLemmas.{found_closed, found_open, within_body, length_read}
 use Rattle.tf_journal.proofs.ReachLemmas.{length-record_of, records_long}
@@ -78,30 +78,30 @@ records_lie (first ∷ held) p gate rest (suc most) are few shut fits =
 
 -- bytes in which bodies lie, up to the gate and what is behind it
 pub lies_split : (title : List ℕ) (held : List (List ℕ)) (size : ℕ) (bytes : List ℕ) → LiesAs title held size bytes
-    → bytes ≡ front_of title held ++ (get_or bytes (length (front_of title held)) 0 ∷ drop (length (front_of title held) + 1) bytes)
+    → bytes ≡ prefix_of title held ++ (get_or bytes (length (prefix_of title held)) 0 ∷ drop (length (prefix_of title held) + 1) bytes)
 lies_split title held size bytes lies =
-    let n = length (front_of title held) in
-    sym (take-append-drop n bytes) ∙ ap (λ (l : List ℕ). l ++ drop n bytes) lies.front ∙ ap (λ (l : List ℕ). front_of title held ++ l) (drop_more bytes n 0 (omega (arith, lies.place, lies.whole)))
+    let n = length (prefix_of title held) in
+    sym (take-append-drop n bytes) ∙ ap (λ (l : List ℕ). l ++ drop n bytes) lies.prefix ∙ ap (λ (l : List ℕ). prefix_of title held ++ l) (drop_more bytes n 0 (omega (arith, lies.place, lies.whole)))
 
 -- recovery finds the bodies that lie in a file
 pub recovered_lies : (title : List ℕ) (held : List (List ℕ)) (size : ℕ) (bytes : List ℕ) → length title ≡ 16 → LiesAs title held size bytes → recovered title bytes ≡ bodies held
 recovered_lies title held size bytes sixteen lies =
-    let n = length (front_of title held) in
+    let n = length (prefix_of title held) in
     let gate = get_or bytes n 0 in
     let rest : List ℕ = drop (n + 1) bytes in
     let records : List ℕ = flat_map record_of held in
     let split : bytes ≡ (OPEN ∷ title) ++ (records ++ gate ∷ rest) = lies_split title held size bytes lies ∙ append_assoc (OPEN ∷ title) records (gate ∷ rest) in
-    let front_long : n ≡ 17 + length records = omega (arith, length-append (OPEN ∷ title) records, sixteen) in
+    let prefix_long : n ≡ 17 + length records = omega (arith, length-append (OPEN ∷ title) records, sixteen) in
     let open_gate : get_or bytes 0 0 ≡ OPEN = ap (λ (l : List ℕ). get_or l 0 0) split in
-    let not_unborn = born title bytes sixteen (omega (arith, lies.whole, lies.place, front_long)) (λ short is. absurd (omega (arith, open_gate, is))) (λ long shut. absurd (shut open_gate)) in
+    let not_unborn = born title bytes sixteen (omega (arith, lies.whole, lies.place, prefix_long)) (λ short is. absurd (omega (arith, open_gate, is))) (λ long shut. absurd (shut open_gate)) in
     let after : drop 1 bytes ≡ title ++ (records ++ gate ∷ rest) = ap (drop 1) split in
     let stands : title_fault title (drop 1 bytes) 1 ≡ None = ap (λ (l : List ℕ). title_fault title l 1) after ∙ behind title records gate rest in
     let start : length (OPEN ∷ title) ≡ 17 = omega (arith, sixteen) in
-    open_header title bytes (omega (arith, lies.whole, lies.place, front_long)) not_unborn open_gate
+    open_header title bytes (omega (arith, lies.whole, lies.place, prefix_long)) not_unborn open_gate
     ∙ ap (λ (f : Option (ℕ × Option ℕ)). titled f (records_from (length bytes) bytes 17)) stands
     ∙ ap (λ (b : List ℕ). records_from (length bytes) b 17) split
     ∙ ap (records_from (length bytes) ((OPEN ∷ title) ++ (records ++ gate ∷ rest))) (sym start)
-    ∙ records_lie held (OPEN ∷ title) gate rest (length bytes) lies.fit (omega (arith, records_long held, lies.whole, lies.place, front_long)) lies.gate (omega (arith, start, front_long, lies.place, lies.limit))
+    ∙ records_lie held (OPEN ∷ title) gate rest (length bytes) lies.fit (omega (arith, records_long held, lies.whole, lies.place, prefix_long)) lies.gate (omega (arith, start, prefix_long, lies.place, lies.limit))
   where
     behind : (title records : List ℕ) (gate : ℕ) (rest : List ℕ) → title_fault title (title ++ (records ++ gate ∷ rest)) 1 ≡ None
     behind title [] gate rest = title_stands title gate rest 1

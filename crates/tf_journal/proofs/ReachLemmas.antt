@@ -2,7 +2,7 @@
 use Rattle.std.proofs.Common.{◌≡◌, ◌≢◌, ℕ, zero, suc, ◌+◌, ◌-◌, ◌≤◌, ◌<◌, List, [], ◌∷◌, ◌++◌, length, get_or, take, Option, refl, sym, ◌∙◌, ap, subst, arith, append_assoc, length-append, length-take}
 use Rattle.std.proofs.lemmas.List.{append-nil}
 use Rattle.std.specs.List.{flat_map}
-use Rattle.tf_journal.specs.Format.{OPEN, length_bytes, record_of, front_of, Found, closed, bad, record_at, Recovered, bodies, not_a_book, with_body, then_from, records_from}
+use Rattle.tf_journal.specs.Format.{OPEN, length_bytes, record_of, prefix_of, Found, closed, bad, record_at, Recovered, bodies, not_a_book, with_body, then_from, records_from}
 use Rattle.tf_journal.specs.Rest.{IsBody, AreBodies, LiesAs}
 use Rattle.tf_journal.proofs.FoundLemmas.{found_some}
 use Rattle.tf_journal.specs.Reach.{HasRecord, with_bodies, Reaches}
@@ -38,7 +38,7 @@ bodies_push (first ∷ held) new are is = (are.0, bodies_push held new are.1 is)
 -- at the first place nothing is read yet
 pub reach_start : (bytes : List ℕ) → 18 ≤ length bytes → Reaches bytes [] 17
 reach_start bytes whole = record {
-  front = sym (append-nil (take 17 bytes));
+  prefix = sym (append-nil (take 17 bytes));
   start = omega arith;
   within = omega (arith, whole);
   limit = omega arith;
@@ -49,7 +49,7 @@ reach_start bytes whole = record {
 -- fewer bodies were read than the file has bytes
 fewer : (bytes : List ℕ) (held : List (List ℕ)) (place : ℕ) → Reaches bytes held place → length held < length bytes
 fewer bytes held place r =
-    omega (arith, ap length r.front, length-append (take 17 bytes) (flat_map record_of held), length-take place bytes, length-take 17 bytes, records_long held, r.start, r.within)
+    omega (arith, ap length r.prefix, length-append (take 17 bytes) (flat_map record_of held), length-take place bytes, length-take 17 bytes, records_long held, r.start, r.within)
 
 -- there is one more step to go, at least
 steps_on : (bytes : List ℕ) (place most : ℕ) → 0 < most → records_from most bytes place ≡ then_from (record_at bytes place) (records_from (most - 1) bytes)
@@ -62,7 +62,7 @@ reach_on bytes held place new r has =
     let most = r.left.0 in
     let some : 0 < most = omega (arith, few, r.left.1) in
     record {
-      front = has.front ∙ ap (λ (l : List ℕ). l ++ record_of new) r.front ∙ append_assoc (take 17 bytes) (flat_map record_of held) (record_of new) ∙ ap (λ (l : List ℕ). take 17 bytes ++ l) (sym (flat_map-push held new));
+      prefix = has.prefix ∙ ap (λ (l : List ℕ). l ++ record_of new) r.prefix ∙ append_assoc (take 17 bytes) (flat_map record_of held) (record_of new) ∙ ap (λ (l : List ℕ). take 17 bytes ++ l) (sym (flat_map-push held new));
       start = omega (arith, r.start);
       within = omega (arith, has.within);
       limit = omega (arith, has.limit);
@@ -94,10 +94,10 @@ shut_gate bytes place there is gate = found_some bytes place there gate is
 -- there, the bodies lie in the file
 pub reach_lies : (title bytes : List ℕ) (held : List (List ℕ)) (place : ℕ) → take 17 bytes ≡ OPEN ∷ title → length title ≡ 16 → Reaches bytes held place → record_at bytes place ≡ closed → LiesAs title held (place + 1) bytes
 reach_lies title bytes held place titled long r is =
-    let front : take place bytes ≡ front_of title held = r.front ∙ ap (λ (l : List ℕ). l ++ flat_map record_of held) titled in
-    let at : length (front_of title held) ≡ place = sym (ap length front) ∙ omega (arith, length-take place bytes, r.within) in
+    let prefix : take place bytes ≡ prefix_of title held = r.prefix ∙ ap (λ (l : List ℕ). l ++ flat_map record_of held) titled in
+    let at : length (prefix_of title held) ≡ place = sym (ap length prefix) ∙ omega (arith, length-take place bytes, r.within) in
     record {
-      front = ap (λ (k : ℕ). take k bytes) at ∙ front;
+      prefix = ap (λ (k : ℕ). take k bytes) at ∙ prefix;
       place = omega (arith, at);
       whole = omega (arith, r.within);
       gate = subst (λ (k : ℕ). get_or bytes k 0 ≢ OPEN) (sym at) (shut_gate bytes place r.within is);

@@ -1,13 +1,13 @@
 -- What is read behind bodies, and what reading leaves as it was.
-use Rattle.std.proofs.Common.{◌≡◌, ℕ, Bool, List, [], ◌∷◌, ◌++◌, length, Option, refl, sym, ◌∙◌, ap, subst, arith, append-nil}
+use Rattle.std.proofs.Common.{◌≡◌, ℕ, List, [], ◌∷◌, ◌++◌, length, refl, sym, ◌∙◌, ap, subst, append-nil}
 use Rattle.std.specs.Prelude.{IsTrue}
-use Rattle.tf_desk.specs.Content.{Content, bytes_of}
-use Rattle.tf_desk.specs.Crash.{Images, Crashes}
-use Rattle.tf_journal.specs.Format.{Found, closed, body, bad, front_of, title_of, record_at}
+use Rattle.tf_desk.specs.State.{DeskState, bytes_now, Rests}
+use Rattle.tf_desk.proofs.StateLemmas.{on_disk_told, rests_none, rests_on, bytes_stay}
+use Rattle.tf_journal.specs.Format.{Found, closed, body, bad, prefix_of, title_of, record_at}
 use Rattle.tf_journal.specs.Held.{Held}
 use Rattle.tf_journal.specs.Reading.{HasBodies, OnlyReads}
 use Rattle.tf_journal.specs.Rest.{LiesAs}
-use Rattle.tf_journal.proofs.CrashLemmas.{rests_none, rests_on, goes_bytes}
+use Rattle.tf_journal.proofs.CrashLemmas.{at_rest_on}
 use Rattle.tf_journal.proofs.PlaceLemmas.{found_next, found_end}
 
 -- what is found behind bodies of a file in which others lie after them
@@ -17,59 +17,52 @@ NextBy (body found next) rest = (others : List (List ℕ)) × (rest ≡ found �
 NextBy (bad offset byte) rest = ⊥
 
 pub next_by : (title : List ℕ) (before rest : List (List ℕ)) (size : ℕ) (bytes : List ℕ) (place : ℕ) (found : Found) → LiesAs title (before ++ rest) size bytes
-    → place ≡ length (front_of title before) → record_at bytes place ≡ found → NextBy found rest
+    → place ≡ length (prefix_of title before) → record_at bytes place ≡ found → NextBy found rest
 next_by title before [] size bytes place found lies at is =
     let here : found ≡ closed = sym is ∙ ap (record_at bytes) at ∙ found_end title before size bytes (subst (λ (h : List (List ℕ)). LiesAs title h size bytes) (append-nil before) lies) in
     subst (λ (f : Found). NextBy f []) (sym here) refl
 next_by title before (first ∷ others) size bytes place found lies at is =
-    let here : found ≡ body first (length (front_of title (before ++ first ∷ []))) = sym is ∙ ap (record_at bytes) at ∙ found_next title before others first size bytes lies in
+    let here : found ≡ body first (length (prefix_of title (before ++ first ∷ []))) = sym is ∙ ap (record_at bytes) at ∙ found_next title before others first size bytes lies in
     subst (λ (f : Found). NextBy f (first ∷ others)) (sym here) (others, refl)
 
-module _ {K : Type 0} (tells : K → Bool) (shown : K → Option (List ℕ)) (content : K → Content) (left : K → Images) (crashes : K → Crashes) (disk_faults out_faults asks turns : K → ℕ) where
-  abbrev Reads : Held K → Held K → Type 0
-  Reads old new = OnlyReads tells shown content left crashes disk_faults out_faults asks turns old new
-
+module _ {K : Type 0} (state : K → DeskState) where
   -- nothing was read
-  pub reads_none : (j : Held K) → Reads j j
-  reads_none j = record {
+  pub reads_none : (j : Held K) → OnlyReads state j j
+  reads_none j = record { journal = refl; stays = λ told held rest. rest; rests = rests_none }
+
+  -- the desk was read
+  pub read_only : (journal : Held K) (desk : K) → Rests (state journal.desk) (state desk) → OnlyReads state journal (record journal { desk = desk })
+  read_only journal desk rests = record {
     journal = refl;
-    stays = λ told held rest. rest;
-    rests = λ told. rests_none (content j.desk) (left j.desk) (crashes j.desk);
-    no_fall = omega arith;
-    others = (refl, refl, refl);
-    quiet = (refl, refl);
+    stays = λ told held rest. at_rest_on state journal desk held rest (rests.files told);
+    rests = rests;
   }
 
   -- one reading after another
-  pub reads_on : (a b c : Held K) → Reads a b → Reads b c → Reads a c
-  reads_on a b c one two =
-      let told_on : IsTrue (tells a.desk) → IsTrue (tells b.desk) = λ told. subst (λ (t : Bool). IsTrue t) (sym one.quiet.0) told in
-      record {
-        journal = two.journal ∙ ap (λ (h : Held K). record h { desk = c.desk }) one.journal;
-        stays = λ told held rest. two.stays (told_on told) held (one.stays told held rest);
-        rests = λ told. rests_on (content a.desk) (content b.desk) (content c.desk) (left a.desk) (left b.desk) (left c.desk) (crashes a.desk) (crashes b.desk) (crashes c.desk) (one.rests told) (two.rests (told_on told));
-        no_fall = omega (arith, one.no_fall, two.no_fall);
-        others = (two.others.0 ∙ one.others.0, two.others.1 ∙ one.others.1, two.others.2 ∙ one.others.2);
-        quiet = (two.quiet.0 ∙ one.quiet.0, two.quiet.1 ∙ one.quiet.1);
-      }
+  pub reads_on : (a b c : Held K) → OnlyReads state a b → OnlyReads state b c → OnlyReads state a c
+  reads_on a b c one two = record {
+    journal = two.journal ∙ ap (λ (h : Held K). record h { desk = c.desk }) one.journal;
+    stays = λ told held rest. two.stays (on_disk_told one.rests.on_disk told) held (one.stays told held rest);
+    rests = rests_on one.rests two.rests;
+  }
 
   -- the file stays, and the bodies in it
-  pub same_file : (a b : Held K) → Reads a b → IsTrue (tells a.desk) → bytes_of (content b.desk) ≡ bytes_of (content a.desk)
-  same_file a b reads told = goes_bytes (content a.desk) (content b.desk) (reads.rests told).content
+  pub same_file : (a b : Held K) → OnlyReads state a b → IsTrue (state a.desk).tells → bytes_now (state b.desk) ≡ bytes_now (state a.desk)
+  same_file a b reads told = bytes_stay (reads.rests.files told)
 
-  pub bodies_stay : (a b : Held K) → Reads a b → IsTrue (tells a.desk) → (held : List (List ℕ)) → HasBodies content a held → HasBodies content b held
+  pub bodies_stay : (a b : Held K) → OnlyReads state a b → IsTrue (state a.desk).tells → (held : List (List ℕ)) → HasBodies state a held → HasBodies state b held
   bodies_stay a b reads told held lies =
-      subst (λ (j : Held K). LiesAs (title_of j.title) held j.size (bytes_of (content b.desk))) (sym reads.journal)
+      subst (λ (j : Held K). LiesAs (title_of j.title) held j.size (bytes_now (state b.desk))) (sym reads.journal)
       (subst (λ (bytes : List ℕ). LiesAs (title_of a.title) held a.size bytes) (sym (same_file a b reads told)) lies)
 
-  pub bodies_were : (a b : Held K) → Reads a b → IsTrue (tells a.desk) → (held : List (List ℕ)) → HasBodies content b held → HasBodies content a held
+  pub bodies_were : (a b : Held K) → OnlyReads state a b → IsTrue (state a.desk).tells → (held : List (List ℕ)) → HasBodies state b held → HasBodies state a held
   bodies_were a b reads told held lies =
       subst (λ (bytes : List ℕ). LiesAs (title_of a.title) held a.size bytes) (same_file a b reads told)
-      (subst (λ (j : Held K). LiesAs (title_of j.title) held j.size (bytes_of (content b.desk))) reads.journal lies)
+      (subst (λ (j : Held K). LiesAs (title_of j.title) held j.size (bytes_now (state b.desk))) reads.journal lies)
 
   -- what was told stays told, and was told before
-  pub told_was : (a b : Held K) → Reads a b → IsTrue (tells b.desk) → IsTrue (tells a.desk)
-  told_was a b reads told = subst (λ (t : Bool). IsTrue t) reads.quiet.0 told
+  pub told_was : (a b : Held K) → OnlyReads state a b → IsTrue (state b.desk).tells → IsTrue (state a.desk).tells
+  told_was a b reads told = subst IsTrue reads.rests.on_disk.tells told
 
-  pub told_is : (a b : Held K) → Reads a b → IsTrue (tells a.desk) → IsTrue (tells b.desk)
-  told_is a b reads told = subst (λ (t : Bool). IsTrue t) (sym reads.quiet.0) told
+  pub told_is : (a b : Held K) → OnlyReads state a b → IsTrue (state a.desk).tells → IsTrue (state b.desk).tells
+  told_is a b reads told = on_disk_told reads.rests.on_disk told

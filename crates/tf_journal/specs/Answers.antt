@@ -1,5 +1,7 @@
 -- What the answers of a journal's calls say of its file.
-use Rattle.std.specs.Prelude.{◌≡◌, ℕ, List, Option, Some, None}
+use Rattle.std.specs.Prelude.{◌≡◌, ◌≢◌, ℕ, List, Option, Some, None}
+use Rattle.tf_desk.specs.Counts.{Rises}
+use Rattle.tf_desk.specs.State.{DeskState}
 use Rattle.tf_journal.specs.declared.faults.JournalFault.{JournalFault}
 use Rattle.tf_journal.specs.declared.faults.JournalFault.TheVariants.{Disk, NotABook, Unborn, Memory}
 use Rattle.tf_journal.specs.Format.{Found, closed, body, bad, Recovered, unborn, not_a_book}
@@ -29,3 +31,20 @@ IsNoRefusal Disk = Unit {0}
 IsNoRefusal Memory = Unit {0}
 IsNoRefusal Unborn = ⊥
 IsNoRefusal (NotABook offset byte) = ⊥
+
+-- why a file that was born wasn't read: a disk fault comes only where their count rose, and it isn't unborn
+pub record FailsToRead (fault : JournalFault) (old new : DeskState) : Type 0 where
+  pub cause : fault ≡ Disk → Rises old.disk_faults new.disk_faults
+  pub born : fault ≢ Unborn
+
+-- why a file wasn't scanned: a disk fault comes only where their count rose, and it takes no memory
+pub record FailsToScan (fault : JournalFault) (old new : DeskState) : Type 0 where
+  pub cause : fault ≡ Disk → Rises old.disk_faults new.disk_faults
+  pub no_memory : fault ≢ Memory
+
+-- why a journal wasn't made: a disk fault, where their count rose, or want of memory
+abbrev pub FailsToCreate : JournalFault → DeskState → DeskState → Type 0
+FailsToCreate Disk old new = Rises old.disk_faults new.disk_faults
+FailsToCreate Memory old new = Unit {0}
+FailsToCreate Unborn old new = ⊥
+FailsToCreate (NotABook offset byte) old new = ⊥

@@ -36,12 +36,12 @@ abbrev pub record_of : List ℕ → List ℕ
 record_of body = OPEN ∷ (length_bytes (length body) ++ body)
 
 -- what stands before the last gate of a journal with these bodies
-abbrev pub front_of : List ℕ → List (List ℕ) → List ℕ
-front_of title bodies = (OPEN ∷ title) ++ flat_map record_of bodies
+abbrev pub prefix_of : List ℕ → List (List ℕ) → List ℕ
+prefix_of title bodies = (OPEN ∷ title) ++ flat_map record_of bodies
 
 -- a journal with these bodies: its last gate is written as closed
 abbrev pub journal_bytes : List ℕ → List (List ℕ) → List ℕ
-journal_bytes title bodies = front_of title bodies ++ 0 ∷ []
+journal_bytes title bodies = prefix_of title bodies ++ 0 ∷ []
 
 -- what the record at a place is: none behind a gate that isn't open or isn't there; a body and the next gate's place;
 -- or no record, by the place and the byte that show it, or the file's end

@@ -1,11 +1,12 @@
 pub mod Format
 pub mod Held
 pub mod Rest
+pub mod Adding
 pub mod Answers
 pub mod Gates
 pub mod Reach
 pub mod Header
 pub mod Birth
 pub mod Start
-pub mod Way
+pub mod Path
 pub mod Reading

@@ -9,7 +9,7 @@ use Rattle.tf_journal.specs.Rest.{IsBody, AreBodies}
 -- the record at that place has this body; the file has the gate behind it
 pub record HasRecord (bytes : List ℕ) (place : ℕ) (record_body : List ℕ) : Type 0 where
   pub found : record_at bytes place ≡ body record_body (place + 5 + length record_body)
-  pub front : take (place + 5 + length record_body) bytes ≡ take place bytes ++ record_of record_body
+  pub prefix : take (place + 5 + length record_body) bytes ≡ take place bytes ++ record_of record_body
   pub is_body : IsBody record_body
   pub within : place + 6 + length record_body ≤ length bytes
   pub limit : place + 6 + length record_body ≤ SIZE_LIMIT
@@ -33,7 +33,7 @@ with_bodies (first ∷ rest) others = with_body first (with_bodies rest others)
 
 -- these bodies stand from place 17 up to that place, and the gate at that place is there
 pub record Reaches (bytes : List ℕ) (held : List (List ℕ)) (place : ℕ) : Type 0 where
-  pub front : take place bytes ≡ take 17 bytes ++ flat_map record_of held
+  pub prefix : take place bytes ≡ take 17 bytes ++ flat_map record_of held
   pub start : 17 ≤ place
   pub within : place < length bytes
   pub limit : place < SIZE_LIMIT

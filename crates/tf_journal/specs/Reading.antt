@@ -1,10 +1,9 @@
 -- How bodies are read through a journal, one after another.
-use Rattle.std.specs.Prelude.{◌≡◌, ◌≤◌, ℕ, Bool, true, false, IsTrue, List, [], ◌∷◌, Option}
-use Rattle.tf_desk.specs.Content.{Content, bytes_of}
-use Rattle.tf_desk.specs.Crash.{Images, Crashes}
-use Rattle.tf_journal.specs.Format.{title_of}
+use Rattle.std.specs.Prelude.{◌≡◌, ◌⊎◌, ℕ, ◌<◌, ◌≤◌, Bool, true, false, IsTrue, List, [], ◌∷◌, Option, None}
+use Rattle.tf_desk.specs.State.{DeskState, bytes_now, Rests}
+use Rattle.tf_journal.specs.Format.{SIZE_LIMIT, bad, record_at, title_of}
 use Rattle.tf_journal.specs.Held.{Held}
-use Rattle.tf_journal.specs.Rest.{LiesAs, IsAtRest, Rests}
+use Rattle.tf_journal.specs.Rest.{LiesAs, IsAtRest}
 use Rattle.tf_journal.specs.declared.faults.LoadFault.{LoadFault}
 use Rattle.tf_journal.specs.declared.faults.LoadFault.TheVariants as load_fault
 
@@ -14,8 +13,8 @@ IsNext false rest found = rest ≡ []
 IsNext true rest found = (others : List (List ℕ)) × (rest ≡ found ∷ others)
 
 -- these bodies lie in the journal's file
-abbrev pub HasBodies : {K : Type 0} → (K → Content) → Held K → List (List ℕ) → Type 0
-HasBodies content journal held = LiesAs (title_of journal.title) held journal.size (bytes_of (content journal.desk))
+abbrev pub HasBodies : {K : Type 0} → (K → DeskState) → Held K → List (List ℕ) → Type 0
+HasBodies state journal held = LiesAs (title_of journal.title) held journal.size (bytes_now (state journal.desk))
 
 -- a fault that says nothing of the file
 abbrev pub IsNoRefusal : LoadFault → Type 0
@@ -23,13 +22,21 @@ IsNoRefusal load_fault.Disk = Unit {0}
 IsNoRefusal load_fault.Memory = Unit {0}
 IsNoRefusal (load_fault.NotABook offset byte) = ⊥
 
-module _ {K : Type 0} (tells : K → Bool) (shown : K → Option (List ℕ)) (content : K → Content) (left : K → Images) (crashes : K → Crashes) (disk_faults out_faults asks turns : K → ℕ) where
-  -- a journal through which bodies were read: no file changed, nothing was shown, and no count but that of disk faults rose
-  pub record OnlyReads (old new : Held K) : Type 0 where
-    pub journal : new ≡ record old { desk = new.desk }
-    pub stays : IsTrue (tells old.desk) → (held : List (List ℕ)) → IsAtRest content left old held → IsAtRest content left new held
-    pub rests : IsTrue (tells old.desk)
-        → Rests (content old.desk) (content new.desk) (left old.desk) (left new.desk) (crashes old.desk) (crashes new.desk)
-    pub no_fall : disk_faults old.desk ≤ disk_faults new.desk
-    pub others : (out_faults new.desk ≡ out_faults old.desk) × (asks new.desk ≡ asks old.desk) × (turns new.desk ≡ turns old.desk)
-    pub quiet : (tells new.desk ≡ tells old.desk) × (shown new.desk ≡ shown old.desk)
+-- a place was refused for itself: it is past the greatest size of a journal, which the place itself shows
+pub record IsPastLimit (offset : ℕ) (byte : Option ℕ) (place : ℕ) : Type 0 where
+  pub past : SIZE_LIMIT ≤ place
+  pub offset_is : offset ≡ place
+  pub byte_is : byte ≡ None
+
+-- a place of these bytes was refused: it is past the greatest size, or there is no record behind the open gate there, as that byte or the file's end
+-- shows; a fault of the disk and want of memory come only below the greatest size, and say nothing of the file
+abbrev pub RefusesPlace : LoadFault → List ℕ → ℕ → Type 0
+RefusesPlace load_fault.Disk bytes place = place < SIZE_LIMIT
+RefusesPlace load_fault.Memory bytes place = place < SIZE_LIMIT
+RefusesPlace (load_fault.NotABook offset byte) bytes place = IsPastLimit offset byte place ⊎ ((place < SIZE_LIMIT) × (record_at bytes place ≡ bad offset byte))
+
+-- a journal through which bodies were read: no file changed, nothing was shown, and no count but that of disk faults rose
+pub record OnlyReads {K : Type 0} (state : K → DeskState) (old new : Held K) : Type 0 where
+  pub journal : new ≡ record old { desk = new.desk }
+  pub stays : IsTrue (state old.desk).tells → (held : List (List ℕ)) → IsAtRest state old held → IsAtRest state new held
+  pub rests : Rests (state old.desk) (state new.desk)

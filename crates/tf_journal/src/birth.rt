@@ -1,11 +1,9 @@
 //! How a journal is made in an unborn file.
-ghost use Rattle.std.specs.Prelude.{◌≡◌, ◌≢◌, ◌↔◌, ◌≤◌, true, false, ◌++◌, ◌∷◌, [], IsTrue, length, drop, OnOk, OnErr, IsErrOf};
-ghost use Rattle.tf_desk.specs.Content.{bytes_of};
-ghost use Rattle.tf_desk.specs.Counts.{Rises};
-ghost use Rattle.tf_desk.specs.Crash.{IsDurable, Passes};
+ghost use Rattle.std.specs.Prelude.{◌≡◌, ◌≢◌, ◌↔◌, ◌≤◌, true, false, ◌++◌, ◌∷◌, [], IsTrue, length, drop, OnOk, IfErr};
+ghost use Rattle.tf_desk.specs.State.{bytes_now, IsDurable, GoesOn, FailsOnDisk};
 ghost use Rattle.tf_journal.specs.Birth.{IsClosed, IsTitled};
 ghost use Rattle.tf_journal.specs.Format.{is_unborn, journal_bytes, title_of};
-ghost use Rattle.tf_journal.specs.Rest.{GoesOn, LeavesBirth};
+ghost use Rattle.tf_journal.specs.Rest.{LeavesBirth};
 
 use crate::gates::{OPEN, write_synced};
 use crate::scanning::read_start;
@@ -14,22 +12,16 @@ use tf_desk::{Desk, DeskFault};
 
 /// Closes the gate of an unborn file of at most one byte; a longer one has it closed.
 fn close_gate<K: Desk>(desk: &mut K, title: Title, size: u64) -> Result<(), DeskFault>
-    requires unborn { IsTrue (K.tells desk.old) → is_unborn (title_of title) (bytes_of (K.content desk.old)) ≡ true }
-    requires size { IsTrue (K.tells desk.old) → length (bytes_of (K.content desk.old)) ≡ size }
-    requires durable { IsTrue (K.tells desk.old) → IsDurable (K.content desk.old) (K.left desk.old) }
-    ensures closed { OnOk result (IsTrue (K.tells desk.old)
-        → IsClosed (title_of title) (bytes_of (K.content desk.old)) (bytes_of (K.content desk.new))) }
-    ensures durable { OnOk result (IsTrue (K.tells desk.old) → IsDurable (K.content desk.new) (K.left desk.new)) }
-    ensures goes { IsTrue (K.tells desk.old) → GoesOn (K.content desk.old) (K.content desk.new) }
-    ensures crash { IsTrue (K.tells desk.old)
-        → Passes (K.content desk.old).clock (K.content desk.new).clock (K.crashes desk.old) (K.crashes desk.new)
-        (LeavesBirth (title_of title) (K.shown desk.old)) }
-    ensures disk_alone { OnErr result (IsErrOf result DeskFault.Disk) }
-    ensures cause { OnErr result (Rises (K.disk_faults desk.old) (K.disk_faults desk.new)) }
-    ensures no_fall { K.disk_faults desk.old ≤ K.disk_faults desk.new }
-    ensures others { (K.out_faults desk.new ≡ K.out_faults desk.old) × (K.asks desk.new ≡ K.asks desk.old)
-        × (K.turns desk.new ≡ K.turns desk.old) }
-    ensures quiet { (K.tells desk.new ≡ K.tells desk.old) × (K.shown desk.new ≡ K.shown desk.old) }
+    requires unborn { IsTrue (K.state desk.old).tells
+        → is_unborn (title_of title) (bytes_now (K.state desk.old)) ≡ true }
+    requires size { IsTrue (K.state desk.old).tells → length (bytes_now (K.state desk.old)) ≡ size }
+    requires durable { IsTrue (K.state desk.old).tells → IsDurable (K.state desk.old) }
+    ensures closed { OnOk result (IsTrue (K.state desk.old).tells
+        → IsClosed (title_of title) (bytes_now (K.state desk.old)) (bytes_now (K.state desk.new))) }
+    ensures durable { OnOk result (IsTrue (K.state desk.old).tells → IsDurable (K.state desk.new)) }
+    ensures goes { GoesOn (LeavesBirth (title_of title) (K.state desk.old).shown)
+        (K.state desk.old) (K.state desk.new) }
+    ensures fails { IfErr result (λ fault. FailsOnDisk fault (K.state desk.old) (K.state desk.new)) }
 {
     if size > 1 {
         return Ok(());
@@ -39,28 +31,22 @@ fn close_gate<K: Desk>(desk: &mut K, title: Title, size: u64) -> Result<(), Desk
 
 /// Writes the title and a closed gate behind the file's gate, where they don't stand there.
 fn write_title<K: Desk>(desk: &mut K, title: Title, is_titled: bool) -> Result<(), DeskFault>
-    requires unborn { IsTrue (K.tells desk.old) → is_unborn (title_of title) (bytes_of (K.content desk.old)) ≡ true }
-    requires gate { IsTrue (K.tells desk.old) → 1 ≤ length (bytes_of (K.content desk.old)) }
-    requires short { IsTrue (K.tells desk.old) → length (bytes_of (K.content desk.old)) ≤ 1
-        → bytes_of (K.content desk.old) ≡ 0 ∷ [] }
-    requires told { IsTrue (K.tells desk.old) → is_titled ≡ true
-        → drop 1 (bytes_of (K.content desk.old)) ≡ title_of title ++ 0 ∷ [] }
-    requires untold { IsTrue (K.tells desk.old) → is_titled ≡ false
-        → drop 1 (bytes_of (K.content desk.old)) ≢ title_of title ++ 0 ∷ [] }
-    requires durable { IsTrue (K.tells desk.old) → IsDurable (K.content desk.old) (K.left desk.old) }
-    ensures titled { OnOk result (IsTrue (K.tells desk.old)
-        → IsTitled (title_of title) (bytes_of (K.content desk.new))) }
-    ensures durable { OnOk result (IsTrue (K.tells desk.old) → IsDurable (K.content desk.new) (K.left desk.new)) }
-    ensures goes { IsTrue (K.tells desk.old) → GoesOn (K.content desk.old) (K.content desk.new) }
-    ensures crash { IsTrue (K.tells desk.old)
-        → Passes (K.content desk.old).clock (K.content desk.new).clock (K.crashes desk.old) (K.crashes desk.new)
-        (LeavesBirth (title_of title) (K.shown desk.old)) }
-    ensures disk_alone { OnErr result (IsErrOf result DeskFault.Disk) }
-    ensures cause { OnErr result (Rises (K.disk_faults desk.old) (K.disk_faults desk.new)) }
-    ensures no_fall { K.disk_faults desk.old ≤ K.disk_faults desk.new }
-    ensures others { (K.out_faults desk.new ≡ K.out_faults desk.old) × (K.asks desk.new ≡ K.asks desk.old)
-        × (K.turns desk.new ≡ K.turns desk.old) }
-    ensures quiet { (K.tells desk.new ≡ K.tells desk.old) × (K.shown desk.new ≡ K.shown desk.old) }
+    requires unborn { IsTrue (K.state desk.old).tells
+        → is_unborn (title_of title) (bytes_now (K.state desk.old)) ≡ true }
+    requires gate { IsTrue (K.state desk.old).tells → 1 ≤ length (bytes_now (K.state desk.old)) }
+    requires short { IsTrue (K.state desk.old).tells → length (bytes_now (K.state desk.old)) ≤ 1
+        → bytes_now (K.state desk.old) ≡ 0 ∷ [] }
+    requires told { IsTrue (K.state desk.old).tells → is_titled ≡ true
+        → drop 1 (bytes_now (K.state desk.old)) ≡ title_of title ++ 0 ∷ [] }
+    requires untold { IsTrue (K.state desk.old).tells → is_titled ≡ false
+        → drop 1 (bytes_now (K.state desk.old)) ≢ title_of title ++ 0 ∷ [] }
+    requires durable { IsTrue (K.state desk.old).tells → IsDurable (K.state desk.old) }
+    ensures titled { OnOk result (IsTrue (K.state desk.old).tells
+        → IsTitled (title_of title) (bytes_now (K.state desk.new))) }
+    ensures durable { OnOk result (IsTrue (K.state desk.old).tells → IsDurable (K.state desk.new)) }
+    ensures goes { GoesOn (LeavesBirth (title_of title) (K.state desk.old).shown)
+        (K.state desk.old) (K.state desk.new) }
+    ensures fails { IfErr result (λ fault. FailsOnDisk fault (K.state desk.old) (K.state desk.new)) }
 {
     if is_titled {
         return Ok(());
@@ -70,41 +56,28 @@ fn write_title<K: Desk>(desk: &mut K, title: Title, is_titled: bool) -> Result<(
 
 /// Opens the gate of a file that has its title.
 fn open_gate<K: Desk>(desk: &mut K, title: Title) -> Result<(), DeskFault>
-    requires titled { IsTrue (K.tells desk.old) → IsTitled (title_of title) (bytes_of (K.content desk.old)) }
-    requires durable { IsTrue (K.tells desk.old) → IsDurable (K.content desk.old) (K.left desk.old) }
-    ensures born { OnOk result (IsTrue (K.tells desk.old)
-        → bytes_of (K.content desk.new) ≡ journal_bytes (title_of title) []) }
-    ensures durable { OnOk result (IsTrue (K.tells desk.old) → IsDurable (K.content desk.new) (K.left desk.new)) }
-    ensures goes { IsTrue (K.tells desk.old) → GoesOn (K.content desk.old) (K.content desk.new) }
-    ensures crash { IsTrue (K.tells desk.old)
-        → Passes (K.content desk.old).clock (K.content desk.new).clock (K.crashes desk.old) (K.crashes desk.new)
-        (LeavesBirth (title_of title) (K.shown desk.old)) }
-    ensures disk_alone { OnErr result (IsErrOf result DeskFault.Disk) }
-    ensures cause { OnErr result (Rises (K.disk_faults desk.old) (K.disk_faults desk.new)) }
-    ensures no_fall { K.disk_faults desk.old ≤ K.disk_faults desk.new }
-    ensures others { (K.out_faults desk.new ≡ K.out_faults desk.old) × (K.asks desk.new ≡ K.asks desk.old)
-        × (K.turns desk.new ≡ K.turns desk.old) }
-    ensures quiet { (K.tells desk.new ≡ K.tells desk.old) × (K.shown desk.new ≡ K.shown desk.old) }
+    requires titled { IsTrue (K.state desk.old).tells → IsTitled (title_of title) (bytes_now (K.state desk.old)) }
+    requires durable { IsTrue (K.state desk.old).tells → IsDurable (K.state desk.old) }
+    ensures born { OnOk result (IsTrue (K.state desk.old).tells
+        → bytes_now (K.state desk.new) ≡ journal_bytes (title_of title) []) }
+    ensures durable { OnOk result (IsTrue (K.state desk.old).tells → IsDurable (K.state desk.new)) }
+    ensures goes { GoesOn (LeavesBirth (title_of title) (K.state desk.old).shown)
+        (K.state desk.old) (K.state desk.new) }
+    ensures fails { IfErr result (λ fault. FailsOnDisk fault (K.state desk.old) (K.state desk.new)) }
 {
     write_synced(desk, 0, &[OPEN])
 }
 
 /// Makes a journal without a record in an unborn file.
 pub fn bear<K: Desk>(desk: &mut K, title: Title) -> Result<(), DeskFault>
-    requires unborn { IsTrue (K.tells desk.old) → is_unborn (title_of title) (bytes_of (K.content desk.old)) ≡ true }
-    ensures born { OnOk result (IsTrue (K.tells desk.old)
-        → bytes_of (K.content desk.new) ≡ journal_bytes (title_of title) []) }
-    ensures durable { OnOk result (IsTrue (K.tells desk.old) → IsDurable (K.content desk.new) (K.left desk.new)) }
-    ensures goes { IsTrue (K.tells desk.old) → GoesOn (K.content desk.old) (K.content desk.new) }
-    ensures crash { IsTrue (K.tells desk.old)
-        → Passes (K.content desk.old).clock (K.content desk.new).clock (K.crashes desk.old) (K.crashes desk.new)
-        (LeavesBirth (title_of title) (K.shown desk.old)) }
-    ensures disk_alone { OnErr result (IsErrOf result DeskFault.Disk) }
-    ensures cause { OnErr result (Rises (K.disk_faults desk.old) (K.disk_faults desk.new)) }
-    ensures no_fall { K.disk_faults desk.old ≤ K.disk_faults desk.new }
-    ensures others { (K.out_faults desk.new ≡ K.out_faults desk.old) × (K.asks desk.new ≡ K.asks desk.old)
-        × (K.turns desk.new ≡ K.turns desk.old) }
-    ensures quiet { (K.tells desk.new ≡ K.tells desk.old) × (K.shown desk.new ≡ K.shown desk.old) }
+    requires unborn { IsTrue (K.state desk.old).tells
+        → is_unborn (title_of title) (bytes_now (K.state desk.old)) ≡ true }
+    ensures born { OnOk result (IsTrue (K.state desk.old).tells
+        → bytes_now (K.state desk.new) ≡ journal_bytes (title_of title) []) }
+    ensures durable { OnOk result (IsTrue (K.state desk.old).tells → IsDurable (K.state desk.new)) }
+    ensures goes { GoesOn (LeavesBirth (title_of title) (K.state desk.old).shown)
+        (K.state desk.old) (K.state desk.new) }
+    ensures fails { IfErr result (λ fault. FailsOnDisk fault (K.state desk.old) (K.state desk.new)) }
 {
     let mut head = [0; 18];
     let (size, count) = read_start(desk, &mut head)?;

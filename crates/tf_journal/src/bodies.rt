@@ -1,16 +1,20 @@
 //! How bodies are read through a journal, one after another.
 ghost use Rattle.std.specs.Prelude.{◌≡◌, ◌<◌, ◌≤◌, ◌++◌, ℕ, List, false, IsTrue, length, OnOk, IfOk, IfErr, IsErrOf};
 ghost use Rattle.tf_desk.specs.Counts.{Rises};
-ghost use Rattle.tf_journal.specs.Format.{front_of, title_of};
-ghost use Rattle.tf_journal.specs.Reading.{IsNext, IsNoRefusal, HasBodies, OnlyReads};
+ghost use Rattle.tf_desk.specs.State.{bytes_now};
+ghost use Rattle.tf_journal.specs.Format.{prefix_of, title_of};
+ghost use Rattle.tf_journal.specs.Reading.{IsNext, IsNoRefusal, HasBodies, OnlyReads, RefusesPlace};
 
 use crate::faults::{JournalFault, LoadFault};
 use crate::journal::Journal;
 use crate::scanning::SIZE_LIMIT;
 use tf_desk::Desk;
 
-/// Reads the body whose gate is at that place into the vector, and answers whether there is one. A place past the
-/// greatest size has none of a file that a journal was read from.
+/// Reads the body whose gate is at that place into the vector, in place of what it has, and answers whether there
+/// is one before the journal's last gate. `NotABook` comes where the place is past 67,108,863, with that place and no
+/// byte, or where the file has no record behind the open gate there, with the offset and the byte that show it, or
+/// the file's end; `Disk` only where the count of disk faults rose; `Memory` where the vector didn't grow. After each the journal and its file are as
+/// before, and the vector has any bytes.
 pub fn next_body<K: Desk>(
     journal: &mut Journal<K>,
     place: u64,
@@ -18,25 +22,30 @@ pub fn next_body<K: Desk>(
 ) -> Result<bool, LoadFault>
     requires low { 17 ≤ place }
     requires in_file { journal.old.volatile ≡ false }
-    ensures found { (before rest : List (List ℕ)) → IsTrue (K.tells journal.old.desk)
-        → HasBodies K.content journal.old (before ++ rest)
-        → place ≡ length (front_of (title_of journal.old.title) before)
+    ensures found { (before rest : List (List ℕ)) → IsTrue (K.state journal.old.desk).tells
+        → HasBodies K.state journal.old (before ++ rest)
+        → place ≡ length (prefix_of (title_of journal.old.title) before)
         → IfOk result (λ found. IsNext found rest body.new.items) }
-    ensures whole { (before rest : List (List ℕ)) → IsTrue (K.tells journal.old.desk)
-        → HasBodies K.content journal.old (before ++ rest)
-        → place ≡ length (front_of (title_of journal.old.title) before)
+    ensures whole { (before rest : List (List ℕ)) → IsTrue (K.state journal.old.desk).tells
+        → HasBodies K.state journal.old (before ++ rest)
+        → place ≡ length (prefix_of (title_of journal.old.title) before)
         → IfErr result IsNoRefusal }
+    ensures refuses { IsTrue (K.state journal.old.desk).tells
+        → IfErr result (λ fault. RefusesPlace fault (bytes_now (K.state journal.old.desk)) place) }
     ensures within { OnOk result (place < 67108864) }
     ensures cause { IsErrOf result LoadFault.Disk
-        → Rises (K.disk_faults journal.old.desk) (K.disk_faults journal.new.desk) }
-    ensures reads { OnlyReads K.tells K.shown K.content K.left K.crashes K.disk_faults K.out_faults K.asks K.turns
-        journal.old journal.new }
+        → Rises (K.state journal.old.desk).disk_faults (K.state journal.new.desk).disk_faults }
+    ensures reads { OnlyReads K.state journal.old journal.new }
 {
     if place >= SIZE_LIMIT {
         return Err(LoadFault::NotABook {
             offset: place,
             byte: None,
         });
+    }
+    // The bodies end at the gate that the opening found, also where another program has added one since.
+    if place + 1 >= journal.size() {
+        return Ok(false);
     }
     match journal.body_at(place, body) {
         Ok(Some(_)) => Ok(true),

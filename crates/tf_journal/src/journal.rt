@@ -1,10 +1,11 @@
-ghost use Rattle.std.specs.Prelude.{◌≡◌, ◌≢◌, ◌≤◌, ◌<◌, ◌+◌, ◌++◌, ◌∷◌, [], ◌↔◌, ◌⊎◌, ℕ, List, Option, None, Some, true, false, IsTrue, length, vec_capacity, OnOk, IfOk, IfErr, IsErrOf, MatchResult};
-ghost use Rattle.tf_desk.specs.Content.{bytes_of};
+ghost use Rattle.std.specs.Prelude.{◌≡◌, ◌≢◌, ◌≤◌, ◌<◌, ◌+◌, ◌++◌, ◌∷◌, [], ℕ, List, None, true, false, IsTrue, length, vec_capacity, OnOk, IfOk, IfErr, MatchResult, Ok};
 ghost use Rattle.tf_desk.specs.Counts.{Rises};
-ghost use Rattle.tf_desk.specs.Crash.{IsDurable, Passes};
-ghost use Rattle.tf_journal.specs.Answers.{RefusesFile, RefusesRecord, GivesRecord};
+ghost use Rattle.tf_desk.specs.State.{bytes_now, anything, Rests, GoesOn};
+ghost use Rattle.tf_journal.specs.Adding.{Adds, AddsAtMost, Grows, FailsToAppend};
+ghost use Rattle.tf_journal.specs.Answers.{RefusesFile, RefusesRecord, GivesRecord, FailsToCreate, FailsToRead};
 ghost use Rattle.tf_journal.specs.Format.{length_bytes, is_unborn, journal_bytes, bodies, recovered, record_at, title_of};
-ghost use Rattle.tf_journal.specs.Rest.{IsBody, IsAtRest, IsOpen, IsReady, GoesOn, Rests, HasSynced, IsSynced, LeavesBirth, LeavesEither, LeavesBeforeOrAfter, desk_after};
+ghost use Rattle.tf_journal.specs.Reading.{OnlyReads};
+ghost use Rattle.tf_journal.specs.Rest.{IsBody, IsAtRest, IsReady, AtRest, HasSynced, IsSynced, LeavesBirth, desk_after};
 
 use crate::birth::bear;
 use crate::faults::{AppendFault, JournalFault};
@@ -70,23 +71,15 @@ impl<K: Desk> Journal<K> {
     /// Makes a journal without a record in the picked file, which has to be unborn. A crash leaves an unborn
     /// file or a journal without a record. `Err` is `Disk` or `Memory`, and hands the desk back.
     pub fn create(alloc: Global, mut desk: K, title: Title) -> Result<Journal<K>, (K, JournalFault)>
-        requires { IsTrue (K.tells desk) → is_unborn (title_of title) (bytes_of (K.content desk)) ≡ true }
+        requires { IsTrue (K.state desk).tells → is_unborn (title_of title) (bytes_now (K.state desk)) ≡ true }
         ensures made { IfOk result (λ journal. (journal.title ≡ title) × (journal.size ≡ 18)
             × (journal.halted ≡ false) × (journal.volatile ≡ false)) }
-        ensures born { IfOk result (λ journal. IsTrue (K.tells desk)
-            → bytes_of (K.content journal.desk) ≡ journal_bytes (title_of title) []) }
-        ensures at_rest { IfOk result (λ journal. IsTrue (K.tells desk) → IsAtRest K.content K.left journal []) }
-        ensures any_moment { IsTrue (K.tells desk)
-            → Passes (K.content desk).clock (K.content (desk_after result)).clock
-            (K.crashes desk) (K.crashes (desk_after result)) (LeavesBirth (title_of title) (K.shown desk)) }
-        ensures goes { IsTrue (K.tells desk) → GoesOn (K.content desk) (K.content (desk_after result)) }
-        ensures faults { IfErr result (λ back. (back.1 ≡ JournalFault.Disk) ⊎ (back.1 ≡ JournalFault.Memory)) }
-        ensures cause { IfErr result (λ back. back.1 ≡ JournalFault.Disk
-            → Rises (K.disk_faults desk) (K.disk_faults back.0)) }
-        ensures no_fall { K.disk_faults desk ≤ K.disk_faults (desk_after result) }
-        ensures others { (K.out_faults (desk_after result) ≡ K.out_faults desk)
-            × (K.asks (desk_after result) ≡ K.asks desk) × (K.turns (desk_after result) ≡ K.turns desk) }
-        ensures quiet { (K.tells (desk_after result) ≡ K.tells desk) × (K.shown (desk_after result) ≡ K.shown desk) }
+        ensures born { IfOk result (λ journal. IsTrue (K.state desk).tells
+            → bytes_now (K.state journal.desk) ≡ journal_bytes (title_of title) []) }
+        ensures at_rest { IfOk result (λ journal. IsTrue (K.state desk).tells → IsAtRest K.state journal []) }
+        ensures goes { GoesOn (LeavesBirth (title_of title) (K.state desk).shown)
+            (K.state desk) (K.state (desk_after result)) }
+        ensures fails { IfErr result (λ back. FailsToCreate back.1 (K.state desk) (K.state back.0)) }
     {
         let Ok(buffer) = Vec::with_capacity(alloc, TAIL_LIMIT) else {
             return Err((desk, JournalFault::Memory));
@@ -111,24 +104,17 @@ impl<K: Desk> Journal<K> {
     pub fn load(alloc: Global, mut desk: K, title: Title) -> Result<Journal<K>, (K, JournalFault)>
         ensures made { IfOk result (λ journal. (journal.title ≡ title) × (journal.halted ≡ false)
             × (journal.volatile ≡ false)) }
-        ensures recovers { IsTrue (K.tells desk) → MatchResult result
+        ensures recovers { IsTrue (K.state desk).tells → MatchResult result
             (λ journal. (held : List (List ℕ))
-            × (recovered (title_of title) (bytes_of (K.content desk)) ≡ bodies held)
-            × IsAtRest K.content K.left journal held)
-            (λ back. RefusesFile back.1 (recovered (title_of title) (bytes_of (K.content desk)))) }
-        ensures rests { IsTrue (K.tells desk)
-            → Rests (K.content desk) (K.content (desk_after result)) (K.left desk) (K.left (desk_after result))
-            (K.crashes desk) (K.crashes (desk_after result)) }
-        ensures synced { IsTrue (K.tells desk) → IsSynced (K.content desk) (K.content (desk_after result))
-            (K.crashes (desk_after result)) (K.shown desk) }
-        ensures at_sync { IsTrue (K.tells desk) → IfErr result (λ back. back.1 ≢ JournalFault.Disk)
-            → HasSynced (K.content desk) (K.content (desk_after result)) (K.crashes (desk_after result)) (K.shown desk) }
+            × (recovered (title_of title) (bytes_now (K.state desk)) ≡ bodies held)
+            × IsAtRest K.state journal held)
+            (λ back. RefusesFile back.1 (recovered (title_of title) (bytes_now (K.state desk)))) }
+        ensures rests { Rests (K.state desk) (K.state (desk_after result)) }
+        ensures synced { IsTrue (K.state desk).tells → IsSynced (K.state desk) (K.state (desk_after result)) }
+        ensures at_sync { IsTrue (K.state desk).tells → IfErr result (λ back. back.1 ≢ JournalFault.Disk)
+            → HasSynced (K.state desk) (K.state (desk_after result)) }
         ensures cause { IfErr result (λ back. back.1 ≡ JournalFault.Disk
-            → Rises (K.disk_faults desk) (K.disk_faults back.0)) }
-        ensures no_fall { K.disk_faults desk ≤ K.disk_faults (desk_after result) }
-        ensures others { (K.out_faults (desk_after result) ≡ K.out_faults desk)
-            × (K.asks (desk_after result) ≡ K.asks desk) × (K.turns (desk_after result) ≡ K.turns desk) }
-        ensures quiet { (K.tells (desk_after result) ≡ K.tells desk) × (K.shown (desk_after result) ≡ K.shown desk) }
+            → Rises (K.state desk).disk_faults (K.state back.0).disk_faults) }
     {
         match scan(&mut desk, title) {
             Ok(size) => match Vec::with_capacity(alloc, TAIL_LIMIT) {
@@ -171,51 +157,14 @@ impl<K: Desk> Journal<K> {
     /// 67,108,864, and nothing changed; `Disk` only where the count of disk faults rose, and from then on each
     /// append answers `Halted` and changes nothing. It takes no memory.
     pub fn append(&mut self, body: &[u8]) -> Result<(), AppendFault>
-        requires ready { IsReady K.tells K.content K.left self.old }
+        requires ready { IsReady K.state self.old }
         requires body { IsBody body.now }
-        ensures ok { OnOk result
-            (self.new ≡ record self.old { desk = self.new.desk; size = self.old.size + 5 + length body.now }) }
-        ensures adds { OnOk result (IsOpen K.tells self.old → (held : List (List ℕ))
-            → IsAtRest K.content K.left self.old held
-            → IsAtRest K.content K.left self.new (held ++ body.now ∷ [])) }
-        ensures recovers { OnOk result (IsOpen K.tells self.old → (held : List (List ℕ))
-            → IsAtRest K.content K.left self.old held
-            → recovered (title_of self.old.title) (bytes_of (K.content self.new.desk)) ≡ bodies
-            (held ++ body.now ∷ [])) }
-        ensures exact { OnOk result (IsOpen K.tells self.old → (held : List (List ℕ))
-            → IsAtRest K.content K.left self.old held
-            → bytes_of (K.content self.old.desk) ≡ journal_bytes (title_of self.old.title) held
-            → bytes_of (K.content self.new.desk) ≡ journal_bytes (title_of self.old.title) (held ++ body.now ∷ [])) }
-        ensures lasts { OnOk result (IsOpen K.tells self.old → (held : List (List ℕ))
-            → IsAtRest K.content K.left self.old held
-            → (image text : List ℕ) → K.crashes self.new.desk (K.content self.new.desk).clock image text
-            → recovered (title_of self.old.title) image ≡ bodies (held ++ body.now ∷ [])) }
-        ensures any_moment { IsOpen K.tells self.old → (held : List (List ℕ))
-            → IsAtRest K.content K.left self.old held
-            → Passes (K.content self.old.desk).clock (K.content self.new.desk).clock (K.crashes self.old.desk)
-            (K.crashes self.new.desk)
-            (LeavesBeforeOrAfter (title_of self.old.title) held body.now (K.shown self.old.desk)) }
-        ensures leaves { IsOpen K.tells self.old → (held : List (List ℕ))
-            → IsAtRest K.content K.left self.old held
-            → LeavesEither (title_of self.old.title) (K.content self.new.desk) (K.left self.new.desk) held
-            (held ++ body.now ∷ []) }
-        ensures full { (result ≡ Err (AppendFault.Full self.old.size (5 + length body.now)))
-            ↔ ((self.old.halted ≡ false) × (67108864 < self.old.size + 5 + length body.now)) }
-        ensures full_numbers { (size need : ℕ) → result ≡ Err (AppendFault.Full size need) → (size ≡ self.old.size)
-            × (need ≡ 5 + length body.now) × (self.new ≡ self.old) }
-        ensures halted { IsErrOf result AppendFault.Halted ↔ (self.old.halted ≡ true) }
-        ensures halted_same { IsErrOf result AppendFault.Halted → self.new ≡ self.old }
-        ensures disk { IsErrOf result AppendFault.Disk
-            → self.new ≡ record self.old { desk = self.new.desk; halted = true } }
-        ensures cause { IsErrOf result AppendFault.Disk
-            → Rises (K.disk_faults self.old.desk) (K.disk_faults self.new.desk) }
+        ensures grows { OnOk result (Grows body.now self.old self.new) }
+        ensures adds { OnOk result (AtRest K.state self.old (Adds K.state body.now self.old self.new)) }
+        ensures at_most { AtRest K.state self.old (AddsAtMost K.state body.now self.old self.new) }
+        ensures fails { IfErr result (FailsToAppend K.state body.now self.old self.new) }
         ensures volatile { self.old.volatile ≡ true → self.new.desk ≡ self.old.desk }
-        ensures goes { IsTrue (K.tells self.old.desk) → GoesOn (K.content self.old.desk) (K.content self.new.desk) }
-        ensures no_fall { K.disk_faults self.old.desk ≤ K.disk_faults self.new.desk }
-        ensures others { (K.out_faults self.new.desk ≡ K.out_faults self.old.desk)
-            × (K.asks self.new.desk ≡ K.asks self.old.desk) × (K.turns self.new.desk ≡ K.turns self.old.desk) }
-        ensures quiet { (K.tells self.new.desk ≡ K.tells self.old.desk)
-            × (K.shown self.new.desk ≡ K.shown self.old.desk) }
+        ensures goes { GoesOn anything (K.state self.old.desk) (K.state self.new.desk) }
     {
         if self.halted {
             return Err(AppendFault::Halted);
@@ -249,28 +198,16 @@ impl<K: Desk> Journal<K> {
     pub fn body_at(&mut self, place: u64, into: &mut Vec<u8>) -> Result<Option<u64>, JournalFault>
         requires low { 17 ≤ place }
         requires high { place < 67108864 }
-        ensures gives { IsTrue (K.tells self.old.desk) → self.old.volatile ≡ false
+        ensures gives { IsTrue (K.state self.old.desk).tells → self.old.volatile ≡ false
             → IfOk result
             (λ next. GivesRecord next into.old.items into.new.items
-            (record_at (bytes_of (K.content self.old.desk)) place)) }
-        ensures refuses { IsTrue (K.tells self.old.desk) → self.old.volatile ≡ false
-            → IfErr result (λ fault. RefusesRecord fault (record_at (bytes_of (K.content self.old.desk)) place)) }
+            (record_at (bytes_now (K.state self.old.desk)) place)) }
+        ensures refuses { IsTrue (K.state self.old.desk).tells → self.old.volatile ≡ false
+            → IfErr result (λ fault. RefusesRecord fault (record_at (bytes_now (K.state self.old.desk)) place)) }
         ensures volatile { self.old.volatile ≡ true → (result ≡ Ok None) × (self.new ≡ self.old)
             × (into.new.items ≡ into.old.items) }
-        ensures never_unborn { IsErrOf result JournalFault.Unborn → ⊥ }
-        ensures same { self.new ≡ record self.old { desk = self.new.desk } }
-        ensures stays { IsTrue (K.tells self.old.desk) → (held : List (List ℕ))
-            → IsAtRest K.content K.left self.old held → IsAtRest K.content K.left self.new held }
-        ensures rests { IsTrue (K.tells self.old.desk)
-            → Rests (K.content self.old.desk) (K.content self.new.desk) (K.left self.old.desk) (K.left self.new.desk)
-            (K.crashes self.old.desk) (K.crashes self.new.desk) }
-        ensures cause { IsErrOf result JournalFault.Disk
-            → Rises (K.disk_faults self.old.desk) (K.disk_faults self.new.desk) }
-        ensures no_fall { K.disk_faults self.old.desk ≤ K.disk_faults self.new.desk }
-        ensures others { (K.out_faults self.new.desk ≡ K.out_faults self.old.desk)
-            × (K.asks self.new.desk ≡ K.asks self.old.desk) × (K.turns self.new.desk ≡ K.turns self.old.desk) }
-        ensures quiet { (K.tells self.new.desk ≡ K.tells self.old.desk)
-            × (K.shown self.new.desk ≡ K.shown self.old.desk) }
+        ensures fails { IfErr result (λ fault. FailsToRead fault (K.state self.old.desk) (K.state self.new.desk)) }
+        ensures reads { OnlyReads K.state self.old self.new }
     {
         if self.volatile {
             return Ok(None);

@@ -1,12 +1,10 @@
 //! What a journal's file is, read a few bytes at a time.
-ghost use Rattle.std.specs.Prelude.{◌≡◌, ◌≢◌, ◌<◌, ◌+◌, ◌*◌, ◌≤◌, List, ℕ, IsTrue, length, take, drop, IfOk, OnOk, OnErr, IsErrOf, MatchResult, Err};
-ghost use Rattle.tf_desk.specs.Content.{bytes_of};
-ghost use Rattle.tf_desk.specs.Counts.{Rises};
-ghost use Rattle.tf_desk.specs.Crash.{IsDurable};
-ghost use Rattle.tf_journal.specs.Answers.{RefusesFile};
+ghost use Rattle.std.specs.Prelude.{◌≡◌, ◌≢◌, ◌<◌, ◌+◌, ◌*◌, ◌≤◌, List, ℕ, IsTrue, length, take, drop, IfOk, IfErr, OnOk, MatchResult, Err};
+ghost use Rattle.tf_desk.specs.State.{bytes_now, IsDurable, Rests, FailsOnDisk};
+ghost use Rattle.tf_journal.specs.Answers.{RefusesFile, FailsToScan};
 ghost use Rattle.tf_journal.specs.Format.{bodies, records_from, recovered, title_of};
 ghost use Rattle.tf_journal.specs.Reach.{IsNear, Shows, EndsRecords};
-ghost use Rattle.tf_journal.specs.Rest.{LiesAs, Rests, HasSynced, IsSynced};
+ghost use Rattle.tf_journal.specs.Rest.{LiesAs, HasSynced, IsSynced};
 
 use crate::faults::JournalFault;
 use crate::gates::OPEN;
@@ -67,46 +65,35 @@ fn read_head(head: &[u8], size: u64, place: u64) -> Look
     Look::Body { length }
 }
 
-/// Looks at the record whose gate is at that place, in a file of that size.
-pub fn look_at<K: Desk>(desk: &mut K, size: u64, place: u64) -> Result<Look, DeskFault>
+/// Looks at the record whose gate is at that place. The file's size is asked for after the record's first bytes
+/// are read, so that a record which another program adds at the time is in the file where its gate is open.
+pub fn look_at<K: Desk>(desk: &mut K, place: u64) -> Result<Look, DeskFault>
     requires { place < SIZE_LIMIT }
     ensures near { IfOk result (λ look. IsNear look place) }
-    ensures shows { IfOk result (λ look. IsTrue (K.tells desk.old) → length (bytes_of (K.content desk.old)) ≡ size
-        → Shows look (bytes_of (K.content desk.old)) place) }
-    ensures rests { IsTrue (K.tells desk.old)
-        → Rests (K.content desk.old) (K.content desk.new) (K.left desk.old) (K.left desk.new) (K.crashes desk.old)
-        (K.crashes desk.new) }
-    ensures cause { OnErr result (Rises (K.disk_faults desk.old) (K.disk_faults desk.new)) }
-    ensures no_fall { K.disk_faults desk.old ≤ K.disk_faults desk.new }
-    ensures others { (K.out_faults desk.new ≡ K.out_faults desk.old) × (K.asks desk.new ≡ K.asks desk.old)
-        × (K.turns desk.new ≡ K.turns desk.old) }
-    ensures quiet { (K.tells desk.new ≡ K.tells desk.old) × (K.shown desk.new ≡ K.shown desk.old) }
+    ensures shows { IfOk result (λ look. IsTrue (K.state desk.old).tells
+        → Shows look (bytes_now (K.state desk.old)) place) }
+    ensures rests { Rests (K.state desk.old) (K.state desk.new) }
+    ensures fails { IfErr result (λ fault. FailsOnDisk fault (K.state desk.old) (K.state desk.new)) }
 {
     let mut head = [0; 5];
     let count = desk.read(place, &mut head)?;
+    let size = desk.size()?;
     Ok(read_head(&head[..count], size, place))
 }
 
 /// Reads the records from place 17 on, and answers the place after the gate that ends them.
-fn scan_records<K: Desk>(desk: &mut K, size: u64) -> Result<u64, JournalFault>
-    ensures scanned { IsTrue (K.tells desk.old) → length (bytes_of (K.content desk.old)) ≡ size → 18 ≤ size
-        → MatchResult result (λ end. EndsRecords (bytes_of (K.content desk.old)) end)
+fn scan_records<K: Desk>(desk: &mut K) -> Result<u64, JournalFault>
+    ensures scanned { IsTrue (K.state desk.old).tells → 18 ≤ length (bytes_now (K.state desk.old))
+        → MatchResult result (λ end. EndsRecords (bytes_now (K.state desk.old)) end)
         (λ fault. RefusesFile fault
-        (records_from (length (bytes_of (K.content desk.old))) (bytes_of (K.content desk.old)) 17)) }
-    ensures not_memory { IsErrOf result JournalFault.Memory → ⊥ }
+        (records_from (length (bytes_now (K.state desk.old))) (bytes_now (K.state desk.old)) 17)) }
     ensures bounds { IfOk result (λ end. (18 ≤ end) × (end ≤ 67108864)) }
-    ensures rests { IsTrue (K.tells desk.old)
-        → Rests (K.content desk.old) (K.content desk.new) (K.left desk.old) (K.left desk.new) (K.crashes desk.old)
-        (K.crashes desk.new) }
-    ensures cause { IsErrOf result JournalFault.Disk → Rises (K.disk_faults desk.old) (K.disk_faults desk.new) }
-    ensures no_fall { K.disk_faults desk.old ≤ K.disk_faults desk.new }
-    ensures others { (K.out_faults desk.new ≡ K.out_faults desk.old) × (K.asks desk.new ≡ K.asks desk.old)
-        × (K.turns desk.new ≡ K.turns desk.old) }
-    ensures quiet { (K.tells desk.new ≡ K.tells desk.old) × (K.shown desk.new ≡ K.shown desk.old) }
+    ensures rests { Rests (K.state desk.old) (K.state desk.new) }
+    ensures fails { IfErr result (λ fault. FailsToScan fault (K.state desk.old) (K.state desk.new)) }
 {
     let mut place = 17;
     loop {
-        match look_at(desk, size, place) {
+        match look_at(desk, place) {
             Ok(Look::Closed) => return Ok(place + 1),
             Ok(Look::Body { length }) => place += 5 + length,
             Ok(Look::Bad { offset, byte }) => return Err(JournalFault::NotABook { offset, byte }),
@@ -118,24 +105,17 @@ fn scan_records<K: Desk>(desk: &mut K, size: u64) -> Result<u64, JournalFault>
 /// Syncs the file, and reads its size and its first bytes.
 pub fn read_start<K: Desk>(desk: &mut K, head: &mut [u8; 18]) -> Result<(u64, usize), DeskFault>
     ensures bound { IfOk result (λ start. start.1 ≤ 18) }
-    ensures size { IfOk result (λ start. IsTrue (K.tells desk.old)
-        → length (bytes_of (K.content desk.old)) ≡ start.0) }
-    ensures bytes { IfOk result (λ start. IsTrue (K.tells desk.old)
-        → take start.1 head.new ≡ take 18 (bytes_of (K.content desk.old))) }
-    ensures durable { OnOk result (IsTrue (K.tells desk.old) → IsDurable (K.content desk.new) (K.left desk.new)) }
-    ensures disk_alone { OnErr result (IsErrOf result DeskFault.Disk) }
-    ensures rests { IsTrue (K.tells desk.old)
-        → Rests (K.content desk.old) (K.content desk.new) (K.left desk.old) (K.left desk.new) (K.crashes desk.old)
-        (K.crashes desk.new) }
-    ensures synced { IsTrue (K.tells desk.old)
-        → IsSynced (K.content desk.old) (K.content desk.new) (K.crashes desk.new) (K.shown desk.old) }
-    ensures at_sync { OnOk result (IsTrue (K.tells desk.old)
-        → HasSynced (K.content desk.old) (K.content desk.new) (K.crashes desk.new) (K.shown desk.old)) }
-    ensures cause { OnErr result (Rises (K.disk_faults desk.old) (K.disk_faults desk.new)) }
-    ensures no_fall { K.disk_faults desk.old ≤ K.disk_faults desk.new }
-    ensures others { (K.out_faults desk.new ≡ K.out_faults desk.old) × (K.asks desk.new ≡ K.asks desk.old)
-        × (K.turns desk.new ≡ K.turns desk.old) }
-    ensures quiet { (K.tells desk.new ≡ K.tells desk.old) × (K.shown desk.new ≡ K.shown desk.old) }
+    ensures size { IfOk result (λ start. IsTrue (K.state desk.old).tells
+        → length (bytes_now (K.state desk.old)) ≡ start.0) }
+    ensures bytes { IfOk result (λ start. IsTrue (K.state desk.old).tells
+        → take start.1 head.new ≡ take 18 (bytes_now (K.state desk.old))) }
+    ensures durable { OnOk result (IsTrue (K.state desk.old).tells → IsDurable (K.state desk.new)) }
+    ensures rests { Rests (K.state desk.old) (K.state desk.new) }
+    ensures synced { IsTrue (K.state desk.old).tells
+        → IsSynced (K.state desk.old) (K.state desk.new) }
+    ensures at_sync { OnOk result (IsTrue (K.state desk.old).tells
+        → HasSynced (K.state desk.old) (K.state desk.new)) }
+    ensures fails { IfErr result (λ fault. FailsOnDisk fault (K.state desk.old) (K.state desk.new)) }
 {
     desk.sync()?;
     let size = desk.size()?;
@@ -147,25 +127,18 @@ pub fn read_start<K: Desk>(desk: &mut K, head: &mut [u8; 18]) -> Result<(u64, us
 /// `Unborn` and `NotABook` come exactly where the file is so, and `Disk` only where the count of disk faults
 /// rose. The file is synced first.
 pub fn scan<K: Desk>(desk: &mut K, title: Title) -> Result<u64, JournalFault>
-    ensures scanned { IsTrue (K.tells desk.old) → MatchResult result
-        (λ end. (held : List (List ℕ)) × (recovered (title_of title) (bytes_of (K.content desk.old)) ≡ bodies held)
-        × LiesAs (title_of title) held end (bytes_of (K.content desk.new)))
-        (λ fault. RefusesFile fault (recovered (title_of title) (bytes_of (K.content desk.old)))) }
-    ensures durable { OnOk result (IsTrue (K.tells desk.old) → IsDurable (K.content desk.new) (K.left desk.new)) }
-    ensures not_memory { IsErrOf result JournalFault.Memory → ⊥ }
+    ensures scanned { IsTrue (K.state desk.old).tells → MatchResult result
+        (λ end. (held : List (List ℕ)) × (recovered (title_of title) (bytes_now (K.state desk.old)) ≡ bodies held)
+        × LiesAs (title_of title) held end (bytes_now (K.state desk.new)))
+        (λ fault. RefusesFile fault (recovered (title_of title) (bytes_now (K.state desk.old)))) }
+    ensures durable { OnOk result (IsTrue (K.state desk.old).tells → IsDurable (K.state desk.new)) }
     ensures bounds { IfOk result (λ end. (18 ≤ end) × (end ≤ 67108864)) }
-    ensures rests { IsTrue (K.tells desk.old)
-        → Rests (K.content desk.old) (K.content desk.new) (K.left desk.old) (K.left desk.new) (K.crashes desk.old)
-        (K.crashes desk.new) }
-    ensures synced { IsTrue (K.tells desk.old)
-        → IsSynced (K.content desk.old) (K.content desk.new) (K.crashes desk.new) (K.shown desk.old) }
-    ensures at_sync { IsTrue (K.tells desk.old) → result ≢ Err JournalFault.Disk
-        → HasSynced (K.content desk.old) (K.content desk.new) (K.crashes desk.new) (K.shown desk.old) }
-    ensures cause { IsErrOf result JournalFault.Disk → Rises (K.disk_faults desk.old) (K.disk_faults desk.new) }
-    ensures no_fall { K.disk_faults desk.old ≤ K.disk_faults desk.new }
-    ensures others { (K.out_faults desk.new ≡ K.out_faults desk.old) × (K.asks desk.new ≡ K.asks desk.old)
-        × (K.turns desk.new ≡ K.turns desk.old) }
-    ensures quiet { (K.tells desk.new ≡ K.tells desk.old) × (K.shown desk.new ≡ K.shown desk.old) }
+    ensures rests { Rests (K.state desk.old) (K.state desk.new) }
+    ensures synced { IsTrue (K.state desk.old).tells
+        → IsSynced (K.state desk.old) (K.state desk.new) }
+    ensures at_sync { IsTrue (K.state desk.old).tells → result ≢ Err JournalFault.Disk
+        → HasSynced (K.state desk.old) (K.state desk.new) }
+    ensures fails { IfErr result (λ fault. FailsToScan fault (K.state desk.old) (K.state desk.new)) }
 {
     let mut head = [0; 18];
     let Ok((size, count)) = read_start(desk, &mut head) else {
@@ -174,6 +147,6 @@ pub fn scan<K: Desk>(desk: &mut K, title: Title) -> Result<u64, JournalFault>
     match read_header(&head[..count], size, title) {
         Header::Unborn => Err(JournalFault::Unborn),
         Header::Bad { offset, byte } => Err(JournalFault::NotABook { offset, byte }),
-        Header::Titled => scan_records(desk, size),
+        Header::Titled => scan_records(desk),
     }
 }

@@ -17,7 +17,8 @@ impl Links {
     #[tactic(auto, using(crate::proofs::CycleLemmas::layers_start, crate::proofs::CycleLemmas::layers_more, crate::proofs::CycleLemmas::came_back, crate::proofs::CycleLemmas::not_yet_back, crate::proofs::CycleLemmas::never_back, tf_numbers::proofs::ListLemmas::none_within))]
     pub fn cycle(&self, alloc: Global, item: usize) -> Result<Vec<usize>, Memory>
         requires { item < self.now.count }
-        ensures shortest { IfOk result (λ items. (pairs : List Pair) → AreLinks self.now pairs → items.items ≡ shortest_cycle self.now.count pairs item) }
+        ensures shortest { IfOk result (λ items. (pairs : List Pair) → AreLinks self.now pairs
+            → items.items ≡ shortest_cycle self.now.count pairs item) }
         ensures within { IfOk result (λ items. (k : ℕ) → has_number items.items k ≡ true → k < self.now.count) }
     {
         let mut layers = Vec::new(alloc);
@@ -49,7 +50,8 @@ impl Links {
     fn leading_into(&self, alloc: Global, set: &Bits) -> Result<Bits, Memory>
         requires { length set.now ≡ words_for self.now.count }
         ensures wide { IfOk result (λ found. length found ≡ words_for self.now.count) }
-        ensures set { IfOk result (λ found. (u : ℕ) → u < self.now.count → has found u ≡ is_some (first_into self.now set.now u)) }
+        ensures set { IfOk result (λ found. (u : ℕ) → u < self.now.count
+            → has found u ≡ is_some (first_into self.now set.now u)) }
     {
         let mut found = Bits::new(alloc, self.count())?;
         for item in 0..self.count() {

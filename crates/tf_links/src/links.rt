@@ -25,7 +25,12 @@ impl Model for Links {
 
     ghost view = { λ links. record { count = links.count; rows = links.from.items } };
 
-    ghost invariant = { λ links. record { from : IsSquare links.count links.from.items; to : IsSquare links.count links.to.items; back : (u v : ℕ) → leads links.to.items v u ≡ leads links.from.items u v; within : (u v : ℕ) → leads links.from.items u v ≡ true → v < links.count } };
+    ghost invariant = { λ links. record {
+      from : IsSquare links.count links.from.items;
+      to : IsSquare links.count links.to.items;
+      back : (u v : ℕ) → leads links.to.items v u ≡ leads links.from.items u v;
+      within : (u v : ℕ) → leads links.from.items u v ≡ true → v < links.count;
+    } };
 }
 
 impl Links {
@@ -65,7 +70,8 @@ impl Links {
     #[tactic(auto, using(crate::proofs::StandingLemmas::led_within, crate::proofs::LinkLemmas::row_zero, crate::proofs::LinkLemmas::led_row))]
     pub(crate) fn led_to(&self, alloc: Global, item: usize) -> Result<Vec<usize>, Memory>
         requires { item < self.now.count }
-        ensures all { IfOk result (λ items. items.items ≡ which_below (64 * words_for self.now.count) (leads self.now.rows item)) }
+        ensures all { IfOk result (λ items. items.items
+            ≡ which_below (64 * words_for self.now.count) (leads self.now.rows item)) }
         ensures square { IsSquare self.now.count self.now.rows }
         ensures within { IfOk result (λ items. (k : ℕ) → has_number items.items k ≡ true → k < self.now.count) }
     {

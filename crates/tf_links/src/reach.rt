@@ -14,7 +14,8 @@ impl Links {
     /// Which item reaches which by links, as rows.
     #[tactic(auto, using(crate::proofs::ReachLemmas::reaching_start, crate::proofs::ReachLemmas::reaching_more, crate::proofs::ReachLemmas::reaching_all, crate::proofs::ReachLemmas::pivot_within, crate::proofs::ReachLemmas::row_width))]
     pub fn reach(&self, alloc: Global) -> Result<Vec<Bits>, Memory>
-        ensures { IfOk result (λ rows. (pairs : List Pair) → AreLinks self.now pairs → AreReached self.now.count (reached self.now.count pairs) rows.items) }
+        ensures { IfOk result (λ rows. (pairs : List Pair) → AreLinks self.now pairs
+            → AreReached self.now.count (reached self.now.count pairs) rows.items) }
     {
         let pivots = self.pivots(alloc)?;
         let mut rows = copy_rows(alloc, self.rows())?;
@@ -72,7 +73,8 @@ fn pass(rows: &mut Vec<Bits>, pivot: usize, through: &Bits)
     requires square { IsSquare (length rows.old.items) rows.old.items }
     requires wide { length through.now ≡ words_for (length rows.old.items) }
     ensures square { IsSquare (length rows.old.items) rows.new.items }
-    ensures more { (u v : ℕ) → leads rows.new.items u v ≡ (leads rows.old.items u v || (leads rows.old.items u pivot && has through.now v)) }
+    ensures more { (u v : ℕ)
+        → leads rows.new.items u v ≡ (leads rows.old.items u v || (leads rows.old.items u pivot && has through.now v)) }
 {
     if through.first().is_none() {
         return;
@@ -89,7 +91,9 @@ fn pass_row(rows: &mut Vec<Bits>, u: usize, pivot: usize, through: &Bits)
     requires square { IsSquare (length rows.old.items) rows.old.items }
     requires wide { length through.now ≡ words_for (length rows.old.items) }
     ensures square { IsSquare (length rows.old.items) rows.new.items }
-    ensures more { (a b : ℕ) → leads rows.new.items a b ≡ (leads rows.old.items a b || (nat_eq u a && (leads rows.old.items u pivot && has through.now b))) }
+    ensures more { (a b : ℕ)
+        → leads rows.new.items a b ≡ (leads rows.old.items a b
+        || (nat_eq u a && (leads rows.old.items u pivot && has through.now b))) }
 {
     if !has_in(rows, u, pivot) {
         return;

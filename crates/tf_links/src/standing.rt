@@ -15,7 +15,8 @@ impl Links {
     /// taken. Items on a cycle, and those behind one, are left out.
     #[tactic(auto, using(crate::proofs::StandingLemmas::taken_none))]
     pub fn standing(&self, alloc: Global) -> Result<Vec<usize>, Memory>
-        ensures { IfOk result (λ taken. (pairs : List Pair) → AreLinks self.now pairs → taken.items ≡ standing_items self.now.count pairs) }
+        ensures { IfOk result (λ taken. (pairs : List Pair) → AreLinks self.now pairs
+            → taken.items ≡ standing_items self.now.count pairs) }
     {
         let mut taken = Vec::new(alloc);
         let mut done = Bits::new(alloc, self.count())?;
@@ -53,7 +54,8 @@ impl Links {
         requires done_wide { length done.old ≡ words_for self.now.count }
         requires wide { length ready.old ≡ words_for self.now.count }
         requires ready { AreReady self.now done.old ready.old }
-        ensures { OnOk result ((rounds : ℕ) → Taken self.now done.old ready.old taken.old.items rounds → Taken self.now done.new ready.new taken.new.items (rounds + 1)) }
+        ensures { OnOk result ((rounds : ℕ) → Taken self.now done.old ready.old taken.old.items rounds
+            → Taken self.now done.new ready.new taken.new.items (rounds + 1)) }
     {
         let Some(item) = ready.first() else {
             return Ok(());

@@ -11,7 +11,7 @@ use Rattle.tf_model.specs.Snapshot.{Snapshot}
 use Rattle.tf_model.specs.Forced.{forced, forced_if_running, is_active}
 use Rattle.tf_model.specs.Candidates.{priority, is_candidate, outranks, is_best, taken_up, candidate_entry, candidate_if_running, choice}
 use Rattle.tf_numbers.proofs.TruthLemmas.{and_first, true_both, first_false, second_false}
-use Rattle.tf_machine.proofs.FitLemmas.{candidate_task}
+use Rattle.tf_hands.proofs.FitLemmas.{candidate_task}
 use Rattle.tf_machine.specs.Best.{outranked, best_below, is_start}
 use Rattle.tf_links.specs.Bits.{has}
 use Rattle.tf_machine.specs.declared.worklists.Worklist.{Worklist}

@@ -6,8 +6,8 @@ use Rattle.std.proofs.lemmas.List.Folds.{list_any_more}
 use Rattle.tf_flow.specs.declared.atoms.RetryKind.{RetryKind}
 use Rattle.tf_flow.specs.declared.deciders.Depth.{Depth}
 use Rattle.tf_flow.specs.declared.ways.Turn.{Turn}
-use Rattle.tf_ports.specs.declared.orders.Given.{Given}
-use Rattle.tf_ports.specs.declared.outcomes.Action.TheVariants as action
+use Rattle.tf_actions.specs.declared.orders.Given.{Given}
+use Rattle.tf_actions.specs.declared.outcomes.Action.TheVariants as action
 use Rattle.tf_states.specs.declared.record.AtomView.{AtomView}
 use Rattle.tf_states.specs.declared.record.Kind.{Kind}
 use Rattle.tf_states.specs.declared.record.Kind.TheVariants as kind

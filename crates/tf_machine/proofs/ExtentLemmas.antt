@@ -13,7 +13,7 @@ use Rattle.tf_numbers.proofs.TruthLemmas.{and_second, clash, never_true}
 use Rattle.tf_states.specs.declared.record.Kind.{Kind}
 use Rattle.tf_model.specs.States.{is_running}
 use Rattle.tf_machine.specs.declared.worklists.Extent.TheVariants as extent
-use Rattle.tf_machine.specs.Worklists.{IsAsBefore, AreMoved, AreMarksHeld, event}
+use Rattle.tf_machine.specs.Worklists.{AgreesOnAtom, AreMoved, AreMarksHeld, event}
 
 -- the marks stay as an atom enters a state, unless it is a retry controller that begins to run
 mark_stays : (plan : Outline) (a : ℕ) (state : AtomState) (held : Payload) (b : ℕ) (before : Option Resolve) → is_running state && is_retry plan a ≡ false → mark_after plan (what.Atom a state held) b before ≡ before

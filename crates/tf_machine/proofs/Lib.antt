@@ -10,8 +10,7 @@ pub mod DecidedLemmas
 pub mod BestLemmas
 pub mod EndLemmas
 pub mod RuleLemmas
-pub mod FitLemmas
-pub mod FactLemmas
+pub mod AttemptLemmas
 pub mod ChangeLemmas
 pub mod LaterLemmas
 pub mod RecordLemmas

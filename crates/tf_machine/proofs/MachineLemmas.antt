@@ -6,8 +6,8 @@ use Rattle.tf_states.specs.declared.state.AtomState.{AtomState}
 use Rattle.tf_states.specs.declared.state.AtomState.TheVariants as atom
 use Rattle.tf_states.specs.declared.state.FlowState.{FlowState}
 use Rattle.tf_states.specs.declared.state.FlowState.TheVariants as flow
-use Rattle.tf_ports.specs.declared.outcomes.Outcome.{Outcome}
-use Rattle.tf_ports.specs.declared.outcomes.Outcome.TheVariants as outcome
+use Rattle.tf_actions.specs.declared.outcomes.Outcome.{Outcome}
+use Rattle.tf_actions.specs.declared.outcomes.Outcome.TheVariants as outcome
 use Rattle.tf_machine.specs.declared.tables.Place.{Place}
 use Rattle.tf_numbers.specs.Numbers.{is_number}
 use Rattle.tf_model.specs.Compilation.{compile_refusal}
@@ -30,29 +30,32 @@ use Rattle.tf_bound.specs.Costs.{tries_at}
 use Rattle.tf_bound.specs.Kept.{IsKept, IsBounded}
 use Rattle.tf_bound.specs.Short.{IsShortEvent, IsWithinLimits}
 use Rattle.tf_bound.proofs.PastLemmas.{first_bounded, next_bounded, bounded_kept}
-use Rattle.tf_machine.specs.Answers.{view_at, views_of, is_with, task_of, end_by, ended_from}
-use Rattle.tf_machine.specs.TableFacts.{TableFacts, HasTries, HasFewTries}
-use Rattle.tf_machine.specs.Machine.{MachineValue, outline, shown, StandsFor, IsSound}
+use Rattle.tf_machine.specs.Answers.{view_at, views_of}
+use Rattle.tf_hands.specs.Flight.{is_with, task_of, end_by, ended_from}
+use Rattle.tf_machine.specs.Tries.{HasTries, HasFewTries}
+use Rattle.tf_hands.specs.Flight.{FlightFacts}
+use Rattle.tf_machine.specs.Machine.{MachineValue, outline, shown, StandsFor, IsSoundMachine}
 use Rattle.tf_model.specs.Views.{state_in, payload_in}
 use Rattle.tf_machine.specs.Worklists.{AreMarksHeld}
 use Rattle.tf_machine.specs.Tables.{hand_in, mark_in, attempts_told}
 use Rattle.tf_machine.specs.Changes.{first_view, first_place, first_views, first_places}
-use Rattle.tf_machine.proofs.FactLemmas.{past_facts, step_tries, first_tries}
+use Rattle.tf_hands.proofs.FactLemmas.{past_facts}
+use Rattle.tf_machine.proofs.AttemptLemmas.{step_tries, first_tries}
 use Rattle.tf_numbers.proofs.OptionLemmas.{is_this_number}
 use Rattle.tf_machine.proofs.LaterLemmas.{same_snapshot}
 
 -- the facts of legal histories hold of what a machine shows
-pub sound_facts : (m : MachineValue) → IsSound m → TableFacts (outline m) (shown m)
-sound_facts m sound = subst (TableFacts (outline m)) (sym sound.some.1.shows) (past_facts (outline m) sound.some.0 sound.some.1.legal)
+pub sound_facts : (m : MachineValue) → IsSoundMachine m → FlightFacts (outline m) (shown m)
+sound_facts m sound = subst (FlightFacts (outline m)) (sym sound.some.1.shows) (past_facts (outline m) sound.some.0 sound.some.1.legal)
 
 -- each mark is one of a flow that holds the atom
-pub sound_marked : (m : MachineValue) → IsSound m → AreMarksHeld (outline m) (shown m)
+pub sound_marked : (m : MachineValue) → IsSoundMachine m → AreMarksHeld (outline m) (shown m)
 sound_marked m sound =
     let facts : Facts (outline m) (shown m) = subst (Facts (outline m)) (sym sound.some.1.shows) (facts_hold m.plan sound.some.0 sound.compiles sound.some.1.legal) in
     λ a mark is. (facts.whole_marks a mark is).0
 
 -- what makes less owed holds of what a machine shows
-pub sound_kept : (m : MachineValue) → IsSound m → IsKept (outline m) (shown m)
+pub sound_kept : (m : MachineValue) → IsSoundMachine m → IsKept (outline m) (shown m)
 sound_kept m sound =
     let facts : Facts (outline m) (shown m) = subst (Facts (outline m)) (sym sound.some.1.shows) (facts_hold m.plan sound.some.0 sound.compiles sound.some.1.legal) in
     bounded_kept m.plan (shown m) sound.compiles facts.order sound.bounded
@@ -67,8 +70,8 @@ stands_later old new e plan step moved past stands =
       shows = moved ∙ (ap (later (outline old) e) stands.shows ∙ (sym (one_more (outline old) e past) ∙ ap (λ (o : Outline). snapshot o (e ∷ past)) (sym same)));
     }
 
-pub sound_later : (old new : MachineValue) (e : Entry) → IsSound old → IsShortEvent e.what → new.plan ≡ old.plan → Step (outline old) (shown old) e → shown new ≡ later (outline old) e (shown old)
-    → length new.views ≡ length old.views → length new.places ≡ length old.places → IsSound new
+pub sound_later : (old new : MachineValue) (e : Entry) → IsSoundMachine old → IsShortEvent e.what → new.plan ≡ old.plan → Step (outline old) (shown old) e → shown new ≡ later (outline old) e (shown old)
+    → length new.views ≡ length old.views → length new.places ≡ length old.places → IsSoundMachine new
 sound_later old new e sound short plan step moved views places =
     let same : outline new ≡ outline old = ap outline_of plan in
     record {
@@ -85,7 +88,7 @@ sound_later old new e sound short plan step moved views places =
     }
 
 -- attempts of what a machine shows fit 16 bits
-pub sound_few : (m : MachineValue) → IsSound m → (a : ℕ) → (shown m).attempts a < 65536
+pub sound_few : (m : MachineValue) → IsSoundMachine m → (a : ℕ) → (shown m).attempts a < 65536
 sound_few m sound a =
     let most : (shown m).attempts a ≤ tries_at (outline m) a = sound.tries.most a in
     let few : tries_at (outline m) a < 65536 = sound.few a in
@@ -133,7 +136,7 @@ stands_first m n views places state = record {
       state;
 }
 
-pub sound_first : (m : MachineValue) (n : ℕ) → compile_refusal m.plan ≡ None → missing_symbol (outline m) ≡ None → HasFewTries (outline m) → IsWithinLimits (outline m) → n ≡ count (outline m) → m.views ≡ first_views n → m.places ≡ first_places n → m.flow ≡ flow.Pending → IsSound m
+pub sound_first : (m : MachineValue) (n : ℕ) → compile_refusal m.plan ≡ None → missing_symbol (outline m) ≡ None → HasFewTries (outline m) → IsWithinLimits (outline m) → n ≡ count (outline m) → m.views ≡ first_views n → m.places ≡ first_places n → m.flow ≡ flow.Pending → IsSoundMachine m
 sound_first m n compiles complete few limits all views places state = record {
   compiles = compiles;
   complete = complete;
@@ -157,12 +160,12 @@ ended_as plan s hand a atom.Reverting (outcome.Failed f) was works goes has = rw
 ended_as plan s hand a state result was works goes has = absurd (cc)
 
 -- what a hand has in flight is a task
-pub flying_task : (m : MachineValue) (hand a : ℕ) → IsSound m → task_of (outline m) (shown m) hand ≡ Some a → is_task (outline m) a ≡ true
+pub flying_task : (m : MachineValue) (hand a : ℕ) → IsSoundMachine m → task_of (outline m) (shown m) hand ≡ Some a → is_task (outline m) a ≡ true
 flying_task m hand a sound is =
     ((sound_facts m sound).busy a hand (is_this_number ((shown m).hand a) hand (found_passes (count (outline m)) (is_with (shown m) hand) a is))).task
 
 -- it may follow
-pub settled_step : (plan : Outline) (s : Snapshot) (hand a : ℕ) (result : Outcome) → TableFacts plan s → task_of plan s hand ≡ Some a → Step plan s (end_by s hand result a)
+pub settled_step : (plan : Outline) (s : Snapshot) (hand a : ℕ) (result : Outcome) → FlightFacts plan s → task_of plan s hand ≡ Some a → Step plan s (end_by s hand result a)
 settled_step plan s hand a result facts is =
     let has = found_passes (count plan) (is_with s hand) a is in
     let busy = facts.busy a hand (is_this_number (s.hand a) hand has) in
@@ -184,7 +187,7 @@ seen m k None is below = let within = slice_get-get_or m.views k first_view belo
 seen m k (Some v) is below = ap (λ (o : Option AtomView). Some (record { state = state_in o; payload = payload_in o })) (sym is)
 
 -- the views are those of what is shown
-pub views_told : (m : MachineValue) → IsSound m → m.views ≡ views_of (outline m) (shown m)
+pub views_told : (m : MachineValue) → IsSoundMachine m → m.views ≡ views_of (outline m) (shown m)
 views_told m sound =
     same_list m.views (views_of (outline m) (shown m)) (sound.views ∙ sym (rows_length (view_at (shown m)) (count (outline m))))
     (λ k below. seen m k (slice_get m.views k) refl below
@@ -192,19 +195,19 @@ views_told m sound =
 
 -- ---- what holds of each history that it stands for
 
-pub stuck_never : (m : MachineValue) (past : List Entry) → IsSound m → StandsFor m past → flow_of past ≡ flow.Running
+pub stuck_never : (m : MachineValue) (past : List Entry) → IsSoundMachine m → StandsFor m past → flow_of past ≡ flow.Running
     → forced (outline m) (snapshot (outline m) past) ≡ None → choice (outline m) (snapshot (outline m) past) ≡ None → is_still (outline m) (snapshot (outline m) past) ≡ true
     → is_some (end_of (outline m) (shown m)) ≡ true
 stuck_never m past sound stands runs unforced unstarted still =
     ap (λ (s : Snapshot). is_some (end_of (outline m) s)) stands.shows ∙ never_stuck m.plan past sound.compiles stands.legal runs unforced unstarted still
 
-pub facts_here : (m : MachineValue) (past : List Entry) → IsSound m → StandsFor m past → Facts (outline m) (snapshot (outline m) past)
+pub facts_here : (m : MachineValue) (past : List Entry) → IsSoundMachine m → StandsFor m past → Facts (outline m) (snapshot (outline m) past)
 facts_here m past sound stands = facts_hold m.plan past sound.compiles stands.legal
 
 flow_read : (plan : Outline) (past : List Entry) (f : FlowState) → (snapshot plan past).flow ≡ f → flow_of past ≡ f
 unfolding snapshot
 flow_read plan past f is = is
 
-pub completed_here : (m : MachineValue) (past : List Entry) → IsSound m → StandsFor m past → (shown m).flow ≡ flow.Reverted → CompletedReversion (outline m) past
+pub completed_here : (m : MachineValue) (past : List Entry) → IsSoundMachine m → StandsFor m past → (shown m).flow ≡ flow.Reverted → CompletedReversion (outline m) past
 completed_here m past sound stands reverted =
     reversion_completed m.plan past sound.compiles stands.legal (flow_read (outline m) past flow.Reverted (ap (λ (s : Snapshot). s.flow) (sym stands.shows) ∙ reverted))

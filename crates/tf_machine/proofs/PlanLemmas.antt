@@ -19,26 +19,12 @@ use Rattle.tf_model.specs.Before.{passes_flow}
 use Rattle.tf_model.specs.Plan.{Outline, outline_of, count, way, holds, is_task, is_retry, own_flow, last_flow}
 use Rattle.tf_flow.proofs.OutlineLemmas.{same_atoms, same_retries}
 use Rattle.tf_model.specs.Candidates.{priority}
-use Rattle.tf_machine.specs.Compiled.{priority_at, AreWithin}
+use Rattle.tf_machine.specs.Compiled.{priority_at, AreNoGreater}
 use Rattle.tf_model.specs.Orders.{task_part, task_at}
 use Rattle.tf_model.proofs.PlanLemmas.{way_told, atoms_counted}
 use Rattle.tf_model.proofs.Told.{way_in, is_task_in, is_retry_in, priority_in, task_in}
 use Rattle.tf_numbers.proofs.ListLemmas.{take_whole}
 use Rattle.tf_numbers.proofs.TruthLemmas.{clash, not_true}
-
--- a number past the last atom's is no task's
-pub no_task : (plan : Outline) (a : ℕ) → count plan ≤ a → is_task plan a ≡ false
-no_task plan a past = ap is_task_in (slice_get_past plan.atoms a past)
-
-pub no_retry : (plan : Outline) (a : ℕ) → count plan ≤ a → is_retry plan a ≡ false
-no_retry plan a past = ap is_retry_in (slice_get_past plan.atoms a past)
-
--- a task is one of the plan's atoms
-pub task_below : (plan : Outline) (a : ℕ) → is_task plan a ≡ true → a < count plan
-task_below plan a is = elim (cases_lt a (count plan)) [
-  | inl below ↦ below
-  | inr past ↦ absurd (clash (is_task plan a) is (no_task plan a past))
-]
 
 -- the task that an atom is, by what the plan has at its number
 pub task_read : (plan : PlanValue) (a : ℕ) (t : Task) → numbering.part plan a ≡ Some (a_task t) → task_at (outline_of plan) a ≡ Some t
@@ -85,16 +71,16 @@ priorities_all plan k done is whole = is ∙ ap (map priority_at) (take_whole (o
 
 -- ---- the greatest priority
 
-within_more : (old most : ℤ) (numbers : List ℤ) (n : ℤ) → int_lt most old ≡ false → int_lt most n ≡ false → AreWithin old numbers → AreWithin most (numbers ++ n ∷ [])
+within_more : (old most : ℤ) (numbers : List ℤ) (n : ℤ) → int_lt most old ≡ false → int_lt most n ≡ false → AreNoGreater old numbers → AreNoGreater most (numbers ++ n ∷ [])
 within_more old most [] n above last within = (last, tt)
 within_more old most (m ∷ numbers) n above last (first, others) = (not_above old most m above first, within_more old most numbers n above last others)
   where
     not_above : (x y z : ℤ) → int_lt y x ≡ false → int_lt x z ≡ false → int_lt y z ≡ false
     not_above x y z first second = grind (arith, ints)
 
-pub greater_next : (old : ℤ) (numbers : List ℤ) (k : ℕ) (d : ℤ) → k < length numbers → int_lt old (get_or numbers k d) ≡ true → AreWithin old (take k numbers) → AreWithin (get_or numbers k d) (take (k + 1) numbers)
+pub greater_next : (old : ℤ) (numbers : List ℤ) (k : ℕ) (d : ℤ) → k < length numbers → int_lt old (get_or numbers k d) ≡ true → AreNoGreater old (take k numbers) → AreNoGreater (get_or numbers k d) (take (k + 1) numbers)
 greater_next old numbers k d below greater within =
-    subst (AreWithin (get_or numbers k d)) (sym (ap (λ (n : ℕ). take n numbers) (add-one k) ∙ take-suc numbers k d below))
+    subst (AreNoGreater (get_or numbers k d)) (sym (ap (λ (n : ℕ). take n numbers) (add-one k) ∙ take-suc numbers k d below))
     (within_more old (get_or numbers k d) (take k numbers) (get_or numbers k d) (not_below old (get_or numbers k d) greater) (not_self (get_or numbers k d)) within)
   where
     not_below : (x y : ℤ) → int_lt x y ≡ true → int_lt y x ≡ false
@@ -103,23 +89,23 @@ greater_next old numbers k d below greater within =
     not_self : (x : ℤ) → int_lt x x ≡ false
     not_self x = grind (arith, ints)
 
-pub no_greater_next : (old : ℤ) (numbers : List ℤ) (k : ℕ) (d : ℤ) → k < length numbers → int_lt old (get_or numbers k d) ≡ false → AreWithin old (take k numbers) → AreWithin old (take (k + 1) numbers)
+pub no_greater_next : (old : ℤ) (numbers : List ℤ) (k : ℕ) (d : ℤ) → k < length numbers → int_lt old (get_or numbers k d) ≡ false → AreNoGreater old (take k numbers) → AreNoGreater old (take (k + 1) numbers)
 no_greater_next old numbers k d below is within =
-    subst (AreWithin old) (sym (ap (λ (n : ℕ). take n numbers) (add-one k) ∙ take-suc numbers k d below))
+    subst (AreNoGreater old) (sym (ap (λ (n : ℕ). take n numbers) (add-one k) ∙ take-suc numbers k d below))
     (within_more old old (take k numbers) (get_or numbers k d) (not_self old) is within)
   where
     not_self : (x : ℤ) → int_lt x x ≡ false
     not_self x = grind (arith, ints)
 
-pub all_within : (most : ℤ) (numbers : List ℤ) (k : ℕ) → length numbers ≤ k → AreWithin most (take k numbers) → AreWithin most numbers
-all_within most numbers k past within = subst (AreWithin most) (take_whole numbers k past) within
+pub all_within : (most : ℤ) (numbers : List ℤ) (k : ℕ) → length numbers ≤ k → AreNoGreater most (take k numbers) → AreNoGreater most numbers
+all_within most numbers k past within = subst (AreNoGreater most) (take_whole numbers k past) within
 
 not_past : (atoms : List Atom) (a : ℕ) → a < length atoms → slice_get atoms a ≡ None → ⊥
 not_past [] a below out = absurd (omega (arith, below))
 not_past (atom ∷ atoms) zero below out = absurd (cc)
 not_past (atom ∷ atoms) (suc a) below out = not_past atoms a (omega (arith, below)) out
 
-within_at : (most : ℤ) (numbers : List ℤ) (a : ℕ) (n : ℤ) → AreWithin most numbers → slice_get numbers a ≡ Some n → int_lt most n ≡ false
+within_at : (most : ℤ) (numbers : List ℤ) (a : ℕ) (n : ℤ) → AreNoGreater most numbers → slice_get numbers a ≡ Some n → int_lt most n ≡ false
 within_at most [] a n within is = absurd (cc)
 within_at most (m ∷ numbers) zero n (first, others) is = let same : m ≡ n = cc in ap (int_lt most) (sym same) ∙ first
 within_at most (m ∷ numbers) (suc a) n (first, others) is = within_at most numbers a n others is
@@ -127,7 +113,7 @@ within_at most (m ∷ numbers) (suc a) n (first, others) is = within_at most num
 below_top : (top p n : ℤ) → int_lt p top ≡ false → int_lt top n ≡ false → int_lt p n ≡ false
 below_top top p n first second = grind (arith, ints)
 
-pub none_outranks : (plan : Outline) (numbers : List ℤ) (most p : ℤ) (b : Bool) → numbers ≡ map priority_at plan.atoms → AreWithin most numbers → b ≡ int_lt p most → not b ≡ true → (a : ℕ) → a < count plan → int_lt p (priority plan a) ≡ false
+pub none_outranks : (plan : Outline) (numbers : List ℤ) (most p : ℤ) (b : Bool) → numbers ≡ map priority_at plan.atoms → AreNoGreater most numbers → b ≡ int_lt p most → not b ≡ true → (a : ℕ) → a < count plan → int_lt p (priority plan a) ≡ false
 none_outranks plan numbers most p b is within told lower a below = by (slice_get plan.atoms a) refl
   where
     by : (o : Option Atom) → slice_get plan.atoms a ≡ o → int_lt p (priority_in o) ≡ false

@@ -10,7 +10,7 @@ use Rattle.tf_model.specs.Plan.{outline_of, count}
 use Rattle.tf_model.specs.Retries.{kind_of_part}
 use Rattle.tf_model.proofs.Told.{kind_in}
 use Rattle.tf_bound.specs.Costs.{tries_of, tries_at}
-use Rattle.tf_machine.specs.TableFacts.{HasFewTries}
+use Rattle.tf_machine.specs.Tries.{HasFewTries}
 use Rattle.tf_model.proofs.PlanLemmas.{atoms_counted}
 
 tries_told : (plan : PlanValue) (a : ℕ) (p : Part) → numbering.part plan a ≡ Some p → tries_at (outline_of plan) a ≡ tries_of (kind_of_part p)

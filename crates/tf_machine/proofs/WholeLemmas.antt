@@ -25,12 +25,12 @@ use Rattle.tf_flow.specs.Refusal.{empty, duplicate, unknown, bad_link, bad_atom,
 use Rattle.tf_flow.specs.Rules.{is_bad_atom, bad_atom_at, bind_symbols, least_arguments, has_wrong_words, runs_nothing, repeats_itself}
 use Rattle.tf_flow.specs.Tree.{Tree, Trees, task, flow, no_trees, tree, tree_of, nesting}
 use Rattle.tf_flow.specs.Outline.{Atom, Part, a_task, a_retry, atoms_of, atoms_among, retry_atoms, enter, flow_count}
-use Rattle.tf_ports.specs.declared.orders.Given.{Given}
-use Rattle.tf_ports.specs.declared.orders.Given.TheVariants as given
-use Rattle.tf_ports.specs.declared.orders.Pair.{Pair}
-use Rattle.tf_ports.specs.declared.outcomes.Action.{Action}
-use Rattle.tf_ports.specs.declared.outcomes.Action.TheVariants as action
-use Rattle.tf_ports.specs.Whole.{HasFewWords, IsGivenEnough, IsWhole}
+use Rattle.tf_actions.specs.declared.orders.Given.{Given}
+use Rattle.tf_actions.specs.declared.orders.Given.TheVariants as given
+use Rattle.tf_actions.specs.declared.orders.Pair.{Pair}
+use Rattle.tf_actions.specs.declared.outcomes.Action.{Action}
+use Rattle.tf_actions.specs.declared.outcomes.Action.TheVariants as action
+use Rattle.tf_actions.specs.Whole.{HasFewWords, IsGivenEnough, IsWhole}
 use Rattle.tf_model.specs.Plan.{Outline, outline_of, arguments}
 use Rattle.tf_model.specs.Orders.{task_part, task_at, order_with, order_of}
 use Rattle.tf_model.proofs.Told.{arguments_in, task_in}

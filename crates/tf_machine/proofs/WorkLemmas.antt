@@ -19,7 +19,7 @@ use Rattle.tf_model.specs.Forced.{is_unhurt, is_unhurt_at, is_marked_again, is_t
 use Rattle.tf_model.specs.Candidates.{is_interrupted, is_candidate}
 use Rattle.tf_model.specs.Steps.{is_not_with, is_idle}
 use Rattle.tf_order.specs.Graph.{predecessors_of, successors_of}
-use Rattle.tf_machine.specs.Answers.{is_with}
+use Rattle.tf_hands.specs.Flight.{is_with}
 use Rattle.tf_machine.specs.Cases.{applies, case_of, IsCaseAt, is_asked_again}
 use Rattle.tf_machine.specs.declared.cases.Case.{Case}
 use Rattle.tf_machine.specs.declared.cases.Case.TheVariants as case
@@ -29,7 +29,7 @@ use Rattle.tf_machine.specs.Compiled.{IsSpanAround}
 use Rattle.tf_facts.proofs.LayoutLemmas.{before_below, before_below_first}
 use Rattle.tf_machine.specs.declared.worklists.Reach.{Reach}
 use Rattle.tf_machine.specs.declared.worklists.Reach.TheVariants as reach
-use Rattle.tf_machine.specs.Worklists.{ListedAt, HasRoom, IsListed, SameAt, IsAsBefore, IsMovedAt, IsListedWithin, AreReached, is_reached, counts_in}
+use Rattle.tf_machine.specs.Worklists.{ListedAt, HasRoom, IsListed, SameAt, AgreesOnAtom, IsMovedAt, IsListedWithin, AreRelisted, is_reached, counts_in}
 use Rattle.tf_machine.specs.declared.counters.Counters.{Counters}
 use Rattle.tf_machine.specs.Counts.{waiting_of, holding_of, AreCounted}
 use Rattle.tf_machine.specs.Stretches.{IsZeroless}
@@ -92,7 +92,7 @@ no_case_told plan s a none case.Run = none 7 (omega arith)
 -- ---- what can't be reached stays
 
 -- a is before b and done with only where b may come to run
-runs_still : (plan : Outline) (s t : Snapshot) (a b : ℕ) → ((c : ℕ) → nat_eq a c ≡ false → t.state c ≡ s.state c) → IsAsBefore s t b → is_done (t.state a) && is_before plan a b ≡ false → can_run plan t b ≡ true → can_run plan s b ≡ true
+runs_still : (plan : Outline) (s t : Snapshot) (a b : ℕ) → ((c : ℕ) → nat_eq a c ≡ false → t.state c ≡ s.state c) → AgreesOnAtom s t b → is_done (t.state a) && is_before plan a b ≡ false → can_run plan t b ≡ true → can_run plan s b ≡ true
 unfolding can_run
 runs_still plan s t a b states before far is =
     true_both (is_pending (s.state b) && is_unmarked s b) _
@@ -115,7 +115,7 @@ runs_still plan s t a b states before far is =
     by c below true same = there c (eqb-true a c same) below (is_before plan c b) refl
     by c below false apart = ap (λ (x : AtomState). not (is_before plan c b) || is_done x) (sym (states c apart)) ∙ let_all c below
 
-reverts_still : (plan : Outline) (s t : Snapshot) (a b : ℕ) → ((c : ℕ) → nat_eq a c ≡ false → t.state c ≡ s.state c) → IsAsBefore s t b → is_settled (t.state a) && is_before plan b a ≡ false → can_revert plan t b ≡ true → can_revert plan s b ≡ true
+reverts_still : (plan : Outline) (s t : Snapshot) (a b : ℕ) → ((c : ℕ) → nat_eq a c ≡ false → t.state c ≡ s.state c) → AgreesOnAtom s t b → is_settled (t.state a) && is_before plan b a ≡ false → can_revert plan t b ≡ true → can_revert plan s b ≡ true
 unfolding can_revert
 reverts_still plan s t a b states before far is =
     true_both (is_executed (s.state b) && not (is_unmarked s b)) _
@@ -139,7 +139,7 @@ reverts_still plan s t a b states before far is =
     by c below false apart = ap (λ (x : AtomState). not (is_before plan b c) || is_settled x) (sym (states c apart)) ∙ let_all c below
 
 -- an atom whose state, mark and hand stay is listed still, where it can do no more than before
-stays_listed : (plan : Outline) (s t : Snapshot) (old new : Worklist) (b : ℕ) → IsAsBefore s t b
+stays_listed : (plan : Outline) (s t : Snapshot) (old new : Worklist) (b : ℕ) → AgreesOnAtom s t b
     → (can_run plan t b ≡ true → can_run plan s b ≡ true) → (can_revert plan t b ≡ true → can_revert plan s b ≡ true)
     → SameAt old new b → ListedAt plan s old b → ListedAt plan t new b
 stays_listed plan s t old new b before runs reverts same listed = record {
@@ -193,7 +193,7 @@ stays_listed plan s t old new b before runs reverts same listed = record {
 -- ---- after the state or the hand of one atom changed
 
 -- b is listed, since it was and can do no more, or since it was listed anew
-around_at : (plan : Outline) (s t : Snapshot) (old new : Worklist) (a b : ℕ) → ((c : ℕ) → nat_eq a c ≡ false → t.state c ≡ s.state c) → IsAsBefore s t b → ListedAt plan s old b
+around_at : (plan : Outline) (s t : Snapshot) (old new : Worklist) (a b : ℕ) → ((c : ℕ) → nat_eq a c ≡ false → t.state c ≡ s.state c) → AgreesOnAtom s t b → ListedAt plan s old b
     → SameAt old new b ⊎ ListedAt plan t new b
     → (is_done (t.state a) ≡ true → has_number (successors_of plan a) b ≡ true → can_run plan t b ≡ true → ListedAt plan t new b)
     → (is_settled (t.state a) ≡ true → has_number (predecessors_of plan a) b ≡ true → can_revert plan t b ≡ true → ListedAt plan t new b)
@@ -309,7 +309,7 @@ none_so_far plan s how atoms old room = record { room = room; hurt = refl; moved
 
 -- a stretch more is as it was or listed, and listed where it is reached
 pub stretch_so_far : (plan : Outline) (s : Snapshot) (how : Reach) (atoms : List ℕ) (k e x : ℕ) (old now new : Worklist) → IsPassed atoms k e x
-    → AreSoFar plan s how atoms (drop k atoms) old now → AreReached plan s how x (x + (e - k)) now new → AreSoFar plan s how atoms (drop e atoms) old new
+    → AreSoFar plan s how atoms (drop k atoms) old now → AreRelisted plan s how x (x + (e - k)) now new → AreSoFar plan s how atoms (drop e atoms) old new
 stretch_so_far plan s how atoms k e x old now new passed far are = record {
   room = are.room;
   hurt = are.hurt ∙ far.hurt;
@@ -347,7 +347,7 @@ as_many_counts plan s reach.Revert counters are = are.holding.as_many
 
 pub none_reached : (plan : Outline) (s : Snapshot) (how : Reach) (counters : Counters) (counts : List ℕ) (first at : ℕ) (list : Worklist) → AreCounted plan s counters → counts ≡ counts_in how counters → HasRoom plan list → at ≤ count plan
     → IsZeroless counts first at
-    → AreReached plan s how first at list list
+    → AreRelisted plan s how first at list list
 none_reached plan s how counters counts first at list are same room within none = record {
   room = room;
   hurt = refl;
@@ -356,8 +356,8 @@ none_reached plan s how counters counts first at list are same room within none 
 }
 
 -- one more is listed, and those behind it that aren't reached are passed by
-pub next_reached : (plan : Outline) (s : Snapshot) (how : Reach) (counters : Counters) (counts : List ℕ) (first at next : ℕ) (old now new : Worklist) → AreCounted plan s counters → counts ≡ counts_in how counters → next ≤ count plan → AreReached plan s how first at old now
-    → HasRoom plan new → new.hurt ≡ now.hurt → ListedAt plan s new at → ((b : ℕ) → nat_eq at b ≡ false → SameAt now new b) → IsZeroless counts (at + 1) next → AreReached plan s how first next old new
+pub next_reached : (plan : Outline) (s : Snapshot) (how : Reach) (counters : Counters) (counts : List ℕ) (first at next : ℕ) (old now new : Worklist) → AreCounted plan s counters → counts ≡ counts_in how counters → next ≤ count plan → AreRelisted plan s how first at old now
+    → HasRoom plan new → new.hurt ≡ now.hurt → ListedAt plan s new at → ((b : ℕ) → nat_eq at b ≡ false → SameAt now new b) → IsZeroless counts (at + 1) next → AreRelisted plan s how first next old new
 next_reached plan s how counters counts first at next old now new are same within before room kept here others none = record {
   room = room;
   hurt = kept ∙ before.hurt;

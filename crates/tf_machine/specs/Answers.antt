@@ -7,17 +7,17 @@ use Rattle.tf_states.specs.declared.record.What.{What}
 use Rattle.tf_states.specs.declared.record.What.TheVariants as what
 use Rattle.tf_states.specs.declared.state.AtomState.{AtomState}
 use Rattle.tf_states.specs.declared.state.AtomState.TheVariants as atom
-use Rattle.tf_ports.specs.declared.outcomes.Action.{Action}
-use Rattle.tf_ports.specs.declared.outcomes.Action.TheVariants as action
-use Rattle.tf_ports.specs.declared.outcomes.Outcome.{Outcome}
-use Rattle.tf_ports.specs.declared.outcomes.Outcome.TheVariants as outcome
+use Rattle.tf_actions.specs.declared.outcomes.Action.{Action}
+use Rattle.tf_actions.specs.declared.outcomes.Action.TheVariants as action
+use Rattle.tf_actions.specs.declared.outcomes.Outcome.{Outcome}
+use Rattle.tf_actions.specs.declared.outcomes.Outcome.TheVariants as outcome
 use Rattle.tf_order.specs.declared.faults.CompileFault.TheVariants as compile_fault
 use Rattle.tf_order.specs.Refusals.{IsRefusedBy}
 use Rattle.tf_machine.specs.declared.faults.ApplyFault.{ApplyFault}
 use Rattle.tf_machine.specs.declared.faults.ApplyFault.TheVariants as apply_fault
 use Rattle.tf_machine.specs.declared.faults.BuildFault.{BuildFault}
 use Rattle.tf_machine.specs.declared.faults.BuildFault.TheVariants as build_fault
-use Rattle.tf_machine.specs.declared.candidates.Start.{Start}
+use Rattle.tf_hands.specs.declared.starts.Start.{Start}
 use Rattle.tf_flow.specs.Plan.{PlanValue}
 use Rattle.tf_scopes.specs.declared.faults.ScopeFault.TheVariants as scope_fault
 use Rattle.tf_scopes.specs.Providers.{IsMissing}
@@ -35,41 +35,6 @@ view_at s a = record { state = s.state a; payload = s.payload a }
 -- the views of all atoms, by their numbers
 abbrev pub views_of : Outline → Snapshot → List AtomView
 views_of plan s = map (view_at s) (numbers_below (count plan))
-
--- the hand has a in flight
-abbrev pub is_with : Snapshot → ℕ → ℕ → Bool
-is_with s hand a = is_number (s.hand a) hand
-
--- the task that the hand has in flight
-abbrev pub task_of : Outline → Snapshot → ℕ → Option ℕ
-task_of plan s hand = first_below (count plan) (is_with s hand)
-
--- the state that a task enters as this action begins
-abbrev pub begun : Action → AtomState
-begun action.Execute = atom.Running
-begun action.Revert = atom.Reverting
-
--- the entry with which a task is taken up
-abbrev pub start_entry : Start → What
-start_entry start = if start.restart then what.Restart start.atom else enters start.atom (begun start.action)
-
--- what is done with a task in this state that is taken up: it is executed where it is PENDING or RUNNING
-abbrev pub action_in : AtomState → Action
-action_in atom.Pending = action.Execute
-action_in atom.Running = action.Execute
-action_in state = action.Revert
-
--- the end of task a that was in this state, with an outcome: RUNNING ends SUCCESS or FAILURE, REVERTING
--- ends REVERTED or REVERT_FAILURE
-abbrev pub ended_from : ℕ → AtomState → Outcome → What
-ended_from a atom.Running (outcome.Gave result) = what.Atom a atom.Success (payload.Value result)
-ended_from a atom.Running (outcome.Failed fault) = what.Atom a atom.Failure (payload.Fault fault)
-ended_from a state (outcome.Gave result) = what.Atom a atom.Reverted payload.Empty
-ended_from a state (outcome.Failed fault) = what.Atom a atom.RevertFailure (payload.Fault fault)
-
--- the end of a task, by the hand that has it in flight
-abbrev pub end_by : Snapshot → ℕ → Outcome → ℕ → Entry
-end_by s hand result a = record { hand = hand; what = ended_from a (s.state a) result }
 
 -- the fault is the plan's first refusal: to compile it, or else the symbol that is missing; want of memory says nothing of
 -- it, and is neither

@@ -22,9 +22,9 @@ pub record AreDecided (plan : Outline) (decided : List Bool) : Type 0 where
   pub never : (a : ℕ) → slice_get decided a ≡ Some false → (s : Snapshot) → refused plan s a ≡ None
 
 -- none of the numbers is greater
-abbrev pub AreWithin : ℤ → List ℤ → Type 0
-AreWithin most [] = Unit {0}
-AreWithin most (n ∷ numbers) = (int_lt most n ≡ false) × AreWithin most numbers
+abbrev pub AreNoGreater : ℤ → List ℤ → Type 0
+AreNoGreater most [] = Unit {0}
+AreNoGreater most (n ∷ numbers) = (int_lt most n ≡ false) × AreNoGreater most numbers
 
 -- an atom is one of those of a span
 abbrev pub IsInSpan : Span → ℕ → Type 0
@@ -52,6 +52,6 @@ pub record IsCompiled (plan : PlanValue) (order : GraphValue) (sources : List (L
   pub providers : IsOf sources plan
   pub complete : missing_symbol (outline_of plan) ≡ None
   pub priorities : numbers ≡ map priority_at (outline_of plan).atoms
-  pub greatest : AreWithin most numbers
+  pub greatest : AreNoGreater most numbers
   pub decided : AreDecided (outline_of plan) marks
   pub spans : AreSpans (outline_of plan) found

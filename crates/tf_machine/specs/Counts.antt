@@ -41,8 +41,8 @@ pub record AreCounted (plan : Outline) (s : Snapshot) (counters : Counters) : Ty
   pub holding : AreNumbers (count plan) (holding_of plan s) counters.holding.items
 
 -- the counters that stand in the tables are those of what the tables show
-abbrev pub IsCounted : Outline → Tables → Type 0
-IsCounted plan tables = AreCounted plan (shown_by tables) tables.counters
+abbrev pub HasCounters : Outline → Tables → Type 0
+HasCounters plan tables = AreCounted plan (shown_by tables) tables.counters
 
 -- one more, as far as a number of 16 bits tells it, or one less
 abbrev pub stepped : Bool → ℕ → ℕ

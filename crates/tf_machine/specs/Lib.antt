@@ -7,7 +7,7 @@ pub mod Best
 pub mod Cases
 pub mod Entries
 pub mod Changes
-pub mod TableFacts
+pub mod Tries
 pub mod Counts
 pub mod Worklists
 pub mod Stretches

@@ -16,7 +16,7 @@ use Rattle.tf_machine.specs.Counts.{AreCounted}
 use Rattle.tf_machine.specs.declared.counters.Counters.{Counters}
 use Rattle.tf_machine.specs.declared.worklists.Worklist.{Worklist}
 use Rattle.tf_machine.specs.Worklists.{IsListed}
-use Rattle.tf_machine.specs.TableFacts.{HasTries, HasFewTries}
+use Rattle.tf_machine.specs.Tries.{HasTries, HasFewTries}
 use Rattle.tf_machine.specs.Tables.{shown_of}
 
 -- a machine: its plan, and of each atom its view and what else is kept; and the flow's state
@@ -45,7 +45,7 @@ HasHistory m = (past : List Entry) × StandsFor m past
 
 -- the plan of every machine compiles, lacks no symbol and has tries that a number of 16 bits counts; the machine has a view and
 -- a place for each atom, stands for some history, and what bounds a run and its attempts holds of what it shows
-pub record IsSound (m : MachineValue) : Type 0 where
+pub record IsSoundMachine (m : MachineValue) : Type 0 where
   pub compiles : compile_refusal m.plan ≡ None
   pub complete : missing_symbol (outline m) ≡ None
   pub few : HasFewTries (outline m)
@@ -57,6 +57,6 @@ pub record IsSound (m : MachineValue) : Type 0 where
 
 -- what every machine keeps: it is sound, its counters are those of what it shows, and what is to be looked at then is listed
 pub record IsSoundWith (m : MachineValue) (counters : Counters) (list : Worklist) : Type 0 where
-  pub sound : IsSound m
+  pub sound : IsSoundMachine m
   pub counted : AreCounted (outline m) (shown m) counters
   pub listed : IsListed (outline m) (shown m) list

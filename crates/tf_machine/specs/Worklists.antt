@@ -46,7 +46,7 @@ pub record SameAt (old new : Worklist) (a : ℕ) : Type 0 where
   pub busy : has new.busy a ≡ has old.busy a
 
 -- two moments agree on an atom's state, mark and hand
-pub record IsAsBefore (s t : Snapshot) (a : ℕ) : Type 0 where
+pub record AgreesOnAtom (s t : Snapshot) (a : ℕ) : Type 0 where
   pub state : t.state a ≡ s.state a
   pub mark : t.mark a ≡ s.mark a
   pub hand : t.hand a ≡ s.hand a
@@ -54,7 +54,7 @@ pub record IsAsBefore (s t : Snapshot) (a : ℕ) : Type 0 where
 -- two moments agree on the states of all atoms but one, and on the marks and the hands of those of them that a flow, if one is named, doesn't hold
 pub record IsMovedAt (plan : Outline) (a : ℕ) (flow : Option ℕ) (s t : Snapshot) : Type 0 where
   pub states : (b : ℕ) → nat_eq a b ≡ false → t.state b ≡ s.state b
-  pub others : (b : ℕ) → nat_eq a b ≡ false → holds_with plan flow b ≡ false → IsAsBefore s t b
+  pub others : (b : ℕ) → nat_eq a b ≡ false → holds_with plan flow b ≡ false → AgreesOnAtom s t b
 
 -- two moments agree on all that an entry of this extent doesn't change
 abbrev pub AreMoved : Outline → Snapshot → Extent → Snapshot → Type 0
@@ -86,7 +86,7 @@ counts_in reach.Revert counters = counters.holding.items
 
 -- from one worklist to another each atom stays as it is or is listed as it is at this moment, and of those from one on and before another each that is
 -- reached is so
-pub record AreReached (plan : Outline) (s : Snapshot) (how : Reach) (first past : ℕ) (old new : Worklist) : Type 0 where
+pub record AreRelisted (plan : Outline) (s : Snapshot) (how : Reach) (first past : ℕ) (old new : Worklist) : Type 0 where
   pub room : HasRoom plan new
   pub hurt : new.hurt ≡ old.hurt
   pub moved : (a : ℕ) → SameAt old new a ⊎ ListedAt plan s new a

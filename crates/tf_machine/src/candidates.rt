@@ -2,9 +2,9 @@ ghost use Rattle.std.specs.Prelude.{◌≡◌, ◌≢◌, ◌<◌, ◌&&◌, tru
 ghost use Rattle.tf_numbers.specs.Numbers.{first_below};
 ghost use Rattle.tf_model.specs.Plan.{outline_of, count, is_task};
 ghost use Rattle.tf_model.specs.Candidates.{is_interrupted, is_candidate, is_best, taken_up, choice, candidate_if_running};
-ghost use Rattle.tf_machine.specs.Answers.{start_entry, action_in};
+ghost use Rattle.tf_hands.specs.Flight.{start_entry, action_in};
 ghost use Rattle.tf_machine.specs.Best.{outranked, is_start};
-ghost use Rattle.tf_machine.specs.Counts.{IsCounted};
+ghost use Rattle.tf_machine.specs.Counts.{HasCounters};
 ghost use Rattle.tf_machine.specs.Tables.{shown_by};
 ghost use Rattle.tf_machine.specs.Worklists.{IsListed};
 
@@ -14,37 +14,9 @@ use crate::readiness::{can_revert, can_run};
 use crate::states::is_at_work;
 use crate::tables::Tables;
 use crate::worklists::{Worklist, first_of};
-use tf_ports::Action;
+use tf_actions::Action;
+use tf_hands::Start;
 use tf_states::{AtomState, Payload, What};
-
-/// A task that a hand may take up: what is done with it, and whether this was begun before and is
-/// taken up again.
-#[derive(Clone, Copy, Debug, PartialEq, Eq)]
-pub struct Start {
-    pub atom: u16,
-    pub action: Action,
-    pub restart: bool,
-}
-
-impl Start {
-    /// The entry with which the task is taken up.
-    pub fn what(&self) -> What
-        ensures { result ≡ start_entry self.now }
-    {
-        if self.restart {
-            return What::Restart(self.atom);
-        }
-        let state = match self.action {
-            Action::Execute => AtomState::Running,
-            Action::Revert => AtomState::Reverting,
-        };
-        What::Atom {
-            atom: self.atom,
-            state,
-            payload: Payload::Empty,
-        }
-    }
-}
 
 /// Whether a task is at work, and no hand has it in flight.
 fn is_interrupted(compiled: &Compiled, tables: &Tables, atom: u16) -> bool
@@ -55,7 +27,7 @@ fn is_interrupted(compiled: &Compiled, tables: &Tables, atom: u16) -> bool
 
 /// Whether a task may be taken up.
 pub fn is_candidate(compiled: &Compiled, tables: &Tables, atom: u16) -> bool
-    requires counted { IsCounted (outline_of compiled.now) tables.now }
+    requires counted { HasCounters (outline_of compiled.now) tables.now }
     requires atom { atom < count (outline_of compiled.now) }
     ensures { result ≡ is_candidate (outline_of compiled.now) (shown_by tables.now) atom }
 {
@@ -76,7 +48,7 @@ fn outranks(compiled: &Compiled, best: Option<u16>, atom: u16) -> bool
 
 /// Whether a task may be taken up, which it may not where it isn't listed.
 fn is_listed_candidate(compiled: &Compiled, tables: &Tables, list: &Worklist, atom: u16) -> bool
-    requires counted { IsCounted (outline_of compiled.now) tables.now }
+    requires counted { HasCounters (outline_of compiled.now) tables.now }
     requires listed { IsListed (outline_of compiled.now) (shown_by tables.now) list.now }
     requires atom { atom < count (outline_of compiled.now) }
     ensures { result ≡ is_candidate (outline_of compiled.now) (shown_by tables.now) atom }
@@ -88,9 +60,10 @@ fn is_listed_candidate(compiled: &Compiled, tables: &Tables, list: &Worklist, at
 /// RUNNING.
 #[tactic(auto, using(crate::proofs::BestLemmas::best_is, crate::proofs::BestLemmas::none_best))]
 pub fn best(compiled: &Compiled, tables: &Tables, list: &Worklist) -> Option<u16>
-    requires counted { IsCounted (outline_of compiled.now) tables.now }
+    requires counted { HasCounters (outline_of compiled.now) tables.now }
     requires listed { IsListed (outline_of compiled.now) (shown_by tables.now) list.now }
-    ensures { result ≡ first_below (count (outline_of compiled.now)) (is_best (outline_of compiled.now) (shown_by tables.now)) }
+    ensures { result ≡ first_below (count (outline_of compiled.now))
+        (is_best (outline_of compiled.now) (shown_by tables.now)) }
 {
     let mut best = None;
     let start = first_of(&list.ready, compiled.atoms());
@@ -127,7 +100,7 @@ fn start_of(state: AtomState, atom: u16) -> Start
 /// The first candidate, while the flow is RUNNING, no atom is REVERT_FAILURE and nothing is forced.
 #[tactic(auto, using(crate::proofs::BestLemmas::choice_none))]
 pub fn candidate(compiled: &Compiled, tables: &Tables, list: &Worklist) -> Option<Start>
-    requires counted { IsCounted (outline_of compiled.now) tables.now }
+    requires counted { HasCounters (outline_of compiled.now) tables.now }
     requires listed { IsListed (outline_of compiled.now) (shown_by tables.now) list.now }
     ensures entry { option_map start_entry result ≡ choice (outline_of compiled.now) (shown_by tables.now) }
     ensures action { IfSome result (λ start. start.action ≡ action_in ((shown_by tables.now).state start.atom)) }
@@ -185,7 +158,7 @@ fn is_entry_of(start: &Start, what: &What) -> bool
 /// Whether the first candidate is taken up by this entry.
 #[tactic(auto, using(crate::proofs::BestLemmas::never_chosen))]
 pub fn is_choice(compiled: &Compiled, tables: &Tables, list: &Worklist, what: &What) -> bool
-    requires counted { IsCounted (outline_of compiled.now) tables.now }
+    requires counted { HasCounters (outline_of compiled.now) tables.now }
     requires listed { IsListed (outline_of compiled.now) (shown_by tables.now) list.now }
     ensures yes { result ≡ true → choice (outline_of compiled.now) (shown_by tables.now) ≡ Some what.now }
     ensures no { result ≡ false → choice (outline_of compiled.now) (shown_by tables.now) ≢ Some what.now }

@@ -5,7 +5,7 @@ ghost use Rattle.tf_model.specs.Plan.{outline_of, count, is_retry};
 ghost use Rattle.tf_model.specs.Forced as rule;
 ghost use Rattle.tf_machine.specs.declared.cases.Case.{Case as AnyCase};
 ghost use Rattle.tf_machine.specs.Cases as specs;
-ghost use Rattle.tf_machine.specs.Counts.{IsCounted};
+ghost use Rattle.tf_machine.specs.Counts.{HasCounters};
 ghost use Rattle.tf_machine.specs.Tables.{shown_by};
 ghost use Rattle.tf_machine.specs.Worklists.{IsListed};
 
@@ -66,7 +66,7 @@ const CASES: [Case; 8] = [
 /// The first case that applies, with the first atom to which it does. It is found in one pass over the atoms that are listed.
 #[tactic(auto, using(crate::proofs::FirstLemmas::none_yet, crate::proofs::FirstLemmas::next_first, crate::proofs::FirstLemmas::skipped_first, crate::proofs::FirstLemmas::first_forced, crate::proofs::FirstLemmas::first_within, crate::proofs::FirstLemmas::none_forced))]
 pub fn first_case(compiled: &Compiled, tables: &Tables, list: &Worklist) -> Option<Forcing>
-    requires counted { IsCounted (outline_of compiled.now) tables.now }
+    requires counted { HasCounters (outline_of compiled.now) tables.now }
     requires listed { IsListed (outline_of compiled.now) (shown_by tables.now) list.now }
     ensures entry { option_map (specs.entry_of (outline_of compiled.now) (shown_by tables.now)) result
         ≡ rule.forced_if_running (outline_of compiled.now) (shown_by tables.now) }
@@ -107,7 +107,7 @@ fn sooner(first: Option<Placed>, next: Option<usize>, atom: u16) -> Option<Place
 
 /// The place of the first case that applies to an atom.
 pub fn case_at(compiled: &Compiled, tables: &Tables, atom: u16) -> Option<usize>
-    requires counted { IsCounted (outline_of compiled.now) tables.now }
+    requires counted { HasCounters (outline_of compiled.now) tables.now }
     requires atom { atom < count (outline_of compiled.now) }
     ensures { specs.IsCaseAt (outline_of compiled.now) (shown_by tables.now) atom result }
 {
@@ -125,9 +125,10 @@ pub fn case_at(compiled: &Compiled, tables: &Tables, atom: u16) -> Option<usize>
 /// Whether an atom is a task that is neither FAILURE nor refused: no case applies to it then.
 #[tactic(auto, using(crate::proofs::FirstLemmas::no_case_at))]
 fn is_quiet(compiled: &Compiled, tables: &Tables, atom: u16) -> bool
-    requires counted { IsCounted (outline_of compiled.now) tables.now }
+    requires counted { HasCounters (outline_of compiled.now) tables.now }
     requires atom { atom < count (outline_of compiled.now) }
-    ensures { result ≡ true → (k : AnyCase) → specs.applies (outline_of compiled.now) (shown_by tables.now) k atom ≡ false }
+    ensures { result ≡ true → (k : AnyCase)
+        → specs.applies (outline_of compiled.now) (shown_by tables.now) k atom ≡ false }
 {
     if compiled.is_retry(atom) || is_failure(tables.state(atom)) {
         return false;
@@ -137,7 +138,7 @@ fn is_quiet(compiled: &Compiled, tables: &Tables, atom: u16) -> bool
 
 /// Whether a case applies to an atom.
 fn applies(compiled: &Compiled, tables: &Tables, case: Case, atom: u16) -> bool
-    requires counted { IsCounted (outline_of compiled.now) tables.now }
+    requires counted { HasCounters (outline_of compiled.now) tables.now }
     requires atom { atom < count (outline_of compiled.now) }
     ensures { result ≡ specs.applies (outline_of compiled.now) (shown_by tables.now) case atom }
 {
@@ -176,7 +177,8 @@ pub fn is_asked_again(compiled: &Compiled, tables: &Tables, atom: u16) -> bool
 
 /// Whether every other atom of a retry controller's flow is settled.
 fn are_settled_beside(compiled: &Compiled, tables: &Tables, retry: u16) -> bool
-    ensures { result ≡ all_below (count (outline_of compiled.now)) (rule.is_settled_beside (outline_of compiled.now) (shown_by tables.now) retry) }
+    ensures { result ≡ all_below (count (outline_of compiled.now))
+        (rule.is_settled_beside (outline_of compiled.now) (shown_by tables.now) retry) }
 {
     let span = compiled.span_around(retry);
     for atom in span.first..span.end {
@@ -196,7 +198,7 @@ fn is_settled_beside(compiled: &Compiled, tables: &Tables, retry: u16, atom: u16
 
 /// Whether an atom can run and is refused.
 fn is_refused(compiled: &Compiled, tables: &Tables, atom: u16) -> bool
-    requires counted { IsCounted (outline_of compiled.now) tables.now }
+    requires counted { HasCounters (outline_of compiled.now) tables.now }
     requires atom { atom < count (outline_of compiled.now) }
     ensures { result ≡ rule.is_refused (outline_of compiled.now) (shown_by tables.now) atom }
 {

@@ -13,14 +13,14 @@ ghost use Rattle.tf_model.specs.Before.{passes_flow};
 ghost use Rattle.tf_model.specs.Plan.{outline_of, count, is_task, is_retry, holds, own_flow, last_flow, retry_of, way};
 ghost use Rattle.tf_model.specs.Candidates.{priority};
 ghost use Rattle.tf_machine.specs.Answers.{IsBuildRefusal};
-ghost use Rattle.tf_machine.specs.Compiled.{priority_at, AreDecided, AreWithin, AreSpans, IsSpanAround, IsSpanOf};
+ghost use Rattle.tf_machine.specs.Compiled.{priority_at, AreDecided, AreNoGreater, AreSpans, IsSpanAround, IsSpanOf};
 
 use crate::faults::BuildFault;
 use std::alloc::Global;
 use std::marker::Model;
+use tf_actions::{Action, Given};
 use tf_flow::{Depth, Part, Plan, Retry, Task, Turn};
 use tf_order::{Graph, compile};
-use tf_ports::{Action, Given};
 use tf_rules::{affected, has_decider, retry_at, retry_of, widest};
 use tf_scopes::{Providers, find_providers};
 use tf_states::AtomView;
@@ -58,7 +58,8 @@ impl Model for Compiled {
 
     ghost view = { λ compiled. compiled.plan };
 
-    ghost invariant = { λ compiled. IsCompiled compiled.plan compiled.graph compiled.providers compiled.priorities.items compiled.greatest compiled.decided.items compiled.spans.items };
+    ghost invariant = { λ compiled. IsCompiled compiled.plan compiled.graph compiled.providers
+        compiled.priorities.items compiled.greatest compiled.decided.items compiled.spans.items };
 }
 
 impl Compiled {
@@ -108,7 +109,7 @@ impl Compiled {
     }
 
     /// Whether an atom is a task.
-    #[tactic(auto, using(tf_model::proofs::PlanLemmas::atoms_counted, tf_model::proofs::PlanLemmas::task_told, crate::proofs::PlanLemmas::no_task))]
+    #[tactic(auto, using(tf_model::proofs::PlanLemmas::atoms_counted, tf_model::proofs::PlanLemmas::task_told, tf_model::proofs::PlanLemmas::no_task))]
     pub fn is_task(&self, atom: u16) -> bool
         ensures { result ≡ is_task (outline_of self.now) atom }
     {
@@ -119,7 +120,7 @@ impl Compiled {
     }
 
     /// Whether an atom is a retry controller.
-    #[tactic(auto, using(tf_model::proofs::PlanLemmas::atoms_counted, tf_model::proofs::PlanLemmas::retry_told, crate::proofs::PlanLemmas::no_retry))]
+    #[tactic(auto, using(tf_model::proofs::PlanLemmas::atoms_counted, tf_model::proofs::PlanLemmas::retry_told, tf_model::proofs::PlanLemmas::no_retry))]
     pub fn is_retry(&self, atom: u16) -> bool
         ensures { result ≡ is_retry (outline_of self.now) atom }
     {
@@ -130,7 +131,7 @@ impl Compiled {
     }
 
     /// The task of that number.
-    #[tactic(auto, using(tf_model::proofs::PlanLemmas::atoms_counted, crate::proofs::PlanLemmas::task_below))]
+    #[tactic(auto, using(tf_model::proofs::PlanLemmas::atoms_counted, tf_model::proofs::PlanLemmas::task_below))]
     pub fn task(&self, atom: u16) -> &Task
         requires { is_task (outline_of self.now) atom ≡ true }
         ensures task { task_at (outline_of self.now) atom ≡ Some result.now }
@@ -144,7 +145,7 @@ impl Compiled {
     }
 
     /// What an atom is given at the moment that the views show.
-    #[tactic(auto, using(crate::proofs::PlanLemmas::task_below))]
+    #[tactic(auto, using(tf_model::proofs::PlanLemmas::task_below))]
     pub fn given(
         &self,
         alloc: Global,
@@ -153,7 +154,8 @@ impl Compiled {
         action: Action,
     ) -> Result<Given, Memory>
         requires { atom < count (outline_of self.now) }
-        ensures { (s : Snapshot) → Shows views.now s → IfOk result (λ given. given ≡ given_for (outline_of self.now) s atom action) }
+        ensures { (s : Snapshot) → Shows views.now s
+            → IfOk result (λ given. given ≡ given_for (outline_of self.now) s atom action) }
     {
         self.providers
             .arguments(alloc, &self.plan, views, atom, action)
@@ -357,7 +359,7 @@ fn is_less(first: i32, second: i32) -> bool
 /// The greatest of these numbers, or the least that there can be where there is none.
 #[tactic(auto, using(crate::proofs::PlanLemmas::greater_next, crate::proofs::PlanLemmas::no_greater_next, crate::proofs::PlanLemmas::all_within))]
 fn greatest(numbers: &[i32]) -> i32
-    ensures { AreWithin result numbers.now }
+    ensures { AreNoGreater result numbers.now }
 {
     let mut greatest = i32::MIN;
     for number in numbers {

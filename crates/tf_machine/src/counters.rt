@@ -25,7 +25,8 @@ impl Counters {
     /// The counters of a plan before a run.
     #[tactic(auto, using(crate::proofs::CountLemmas::none_counted, crate::proofs::CountLemmas::one_counted, crate::proofs::CountLemmas::all_counted))]
     pub fn make(alloc: Global, compiled: &Compiled) -> Result<Counters, Memory>
-        ensures { IfOk result (λ counters. (s : Snapshot) → ((a : ℕ) → s.state a ≡ pending) → AreCounted (outline_of compiled.now) s counters) }
+        ensures { IfOk result (λ counters. (s : Snapshot) → ((a : ℕ) → s.state a ≡ pending)
+            → AreCounted (outline_of compiled.now) s counters) }
     {
         let mut waiting = Vec::new(alloc);
         let mut holding = Vec::new(alloc);
@@ -38,7 +39,8 @@ impl Counters {
 
     /// How many atoms before an atom are neither SUCCESS nor IGNORE.
     pub fn waiting(&self, atom: u16) -> u16
-        ensures { (plan : Outline) (s : Snapshot) → AreCounted plan s self.now → atom < count plan → result ≡ waiting_of plan s atom }
+        ensures { (plan : Outline) (s : Snapshot) → AreCounted plan s self.now → atom < count plan
+            → result ≡ waiting_of plan s atom }
     {
         match self.waiting.get(atom as usize) {
             Some(count) => *count,
@@ -48,7 +50,8 @@ impl Counters {
 
     /// How many atoms after an atom aren't settled.
     pub fn holding(&self, atom: u16) -> u16
-        ensures { (plan : Outline) (s : Snapshot) → AreCounted plan s self.now → atom < count plan → result ≡ holding_of plan s atom }
+        ensures { (plan : Outline) (s : Snapshot) → AreCounted plan s self.now → atom < count plan
+            → result ≡ holding_of plan s atom }
     {
         match self.holding.get(atom as usize) {
             Some(count) => *count,
@@ -62,7 +65,8 @@ impl Counters {
         requires waiting { length self.old.waiting.items ≡ count (outline_of compiled.now) }
         requires holding { length self.old.holding.items ≡ count (outline_of compiled.now) }
         ensures { (s t : Snapshot) → AreCounted (outline_of compiled.now) s self.old → s.state atom ≡ from
-            → ((a : ℕ) → t.state a ≡ (if nat_eq atom a then to else s.state a)) → AreCounted (outline_of compiled.now) t self.new }
+            → ((a : ℕ) → t.state a ≡ (if nat_eq atom a then to else s.state a))
+            → AreCounted (outline_of compiled.now) t self.new }
     {
         compiled.atoms();
         turn_each(

@@ -1,6 +1,6 @@
 ghost use Rattle.std.specs.Prelude.{◌≡◌, ◌<◌, ◌≤◌, IfOk, OnOk, length};
 ghost use Rattle.tf_numbers.specs.Numbers.{first_below};
-ghost use Rattle.tf_ports.specs.declared.outcomes.Action.TheVariants.{Execute as execute};
+ghost use Rattle.tf_actions.specs.declared.outcomes.Action.TheVariants.{Execute as execute};
 ghost use Rattle.tf_model.specs.Plan.{outline_of, count};
 ghost use Rattle.tf_model.specs.Forced as rule;
 ghost use Rattle.tf_model.specs.Retries as retries;
@@ -15,8 +15,8 @@ use crate::compiled::Compiled;
 use crate::states::{is_pending, is_put_back};
 use crate::tables::Tables;
 use std::alloc::Global;
+use tf_actions::{Action, Args, Given};
 use tf_flow::{Depth, Retry, RetryKind};
-use tf_ports::{Action, Args, Given};
 use tf_rules::{attempt_value, resolve, strategy};
 use tf_states::{AtomState, Kind, Payload, What};
 use tf_values::Memory;
@@ -116,7 +116,8 @@ fn given_to(
     retry: &Retry,
 ) -> Result<Given, Memory>
     requires { atom < count (outline_of compiled.now) }
-    ensures { IfOk result (λ given. IsAsGiven retry.now.kind given (given_for (outline_of compiled.now) (shown_by tables.now) atom execute)) }
+    ensures { IfOk result (λ given. IsAsGiven retry.now.kind given
+        (given_for (outline_of compiled.now) (shown_by tables.now) atom execute)) }
 {
     match &retry.kind {
         RetryKind::Parameterized { .. } => {
@@ -198,7 +199,8 @@ fn again_entry(compiled: &Compiled, tables: &Tables, retry: u16) -> What
 
 /// The first atom of a retry controller's flow that is to be put back.
 fn first_to_put_back(compiled: &Compiled, tables: &Tables, retry: u16) -> Option<u16>
-    ensures { result ≡ first_below (count (outline_of compiled.now)) (rule.is_to_put_back (outline_of compiled.now) (shown_by tables.now) retry) }
+    ensures { result ≡ first_below (count (outline_of compiled.now))
+        (rule.is_to_put_back (outline_of compiled.now) (shown_by tables.now) retry) }
 {
     let span = compiled.span_around(retry);
     for atom in span.first..span.end {
@@ -237,7 +239,8 @@ fn ignore_entry(compiled: &Compiled, tables: &Tables, refused: u16) -> What
 #[tactic(auto, using(tf_numbers::proofs::BelowLemmas::still_none))]
 fn first_ignored(compiled: &Compiled, tables: &Tables, refused: u16, depth: Depth) -> Option<u16>
     requires { refused < count (outline_of compiled.now) }
-    ensures { result ≡ first_below (count (outline_of compiled.now)) (rule.is_to_ignore (outline_of compiled.now) (shown_by tables.now) refused depth) }
+    ensures { result ≡ first_below (count (outline_of compiled.now))
+        (rule.is_to_ignore (outline_of compiled.now) (shown_by tables.now) refused depth) }
 {
     for atom in 0..compiled.atoms() {
         if is_to_ignore(compiled, tables, refused, depth, atom) {

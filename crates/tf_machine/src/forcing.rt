@@ -1,7 +1,7 @@
 ghost use Rattle.std.specs.Prelude.{◌≡◌, ◌≢◌, true, false, Some, Ok, IfOk, is_some};
 ghost use Rattle.tf_model.specs.Plan.{outline_of};
 ghost use Rattle.tf_model.specs.Forced.{is_unhurt, is_active, forced_if_running, forced};
-ghost use Rattle.tf_machine.specs.Counts.{IsCounted};
+ghost use Rattle.tf_machine.specs.Counts.{HasCounters};
 ghost use Rattle.tf_machine.specs.Tables.{shown_by};
 ghost use Rattle.tf_machine.specs.Worklists.{IsListed};
 
@@ -48,7 +48,7 @@ pub fn is_active(compiled: &Compiled, tables: &Tables, list: &Worklist) -> bool
 
 /// Whether something is forced, read as if the flow were RUNNING. It takes no memory.
 pub fn something_forced(compiled: &Compiled, tables: &Tables, list: &Worklist) -> bool
-    requires counted { IsCounted (outline_of compiled.now) tables.now }
+    requires counted { HasCounters (outline_of compiled.now) tables.now }
     requires listed { IsListed (outline_of compiled.now) (shown_by tables.now) list.now }
     ensures { result ≡ is_some (forced_if_running (outline_of compiled.now) (shown_by tables.now)) }
 {
@@ -63,7 +63,7 @@ pub fn forced(
     tables: &Tables,
     list: &Worklist,
 ) -> Result<Option<What>, Memory>
-    requires counted { IsCounted (outline_of compiled.now) tables.now }
+    requires counted { HasCounters (outline_of compiled.now) tables.now }
     requires listed { IsListed (outline_of compiled.now) (shown_by tables.now) list.now }
     ensures { IfOk result (λ found. found ≡ forced (outline_of compiled.now) (shown_by tables.now)) }
 {
@@ -84,7 +84,7 @@ pub fn is_forced(
     list: &Worklist,
     what: &What,
 ) -> Result<bool, Memory>
-    requires counted { IsCounted (outline_of compiled.now) tables.now }
+    requires counted { HasCounters (outline_of compiled.now) tables.now }
     requires listed { IsListed (outline_of compiled.now) (shown_by tables.now) list.now }
     ensures yes { result ≡ Ok true → forced (outline_of compiled.now) (shown_by tables.now) ≡ Some what.now }
     ensures no { result ≡ Ok false → forced (outline_of compiled.now) (shown_by tables.now) ≢ Some what.now }

@@ -21,6 +21,6 @@ mod tables;
 mod tries;
 mod worklists;
 
-pub use candidates::Start;
 pub use faults::{ApplyFault, BuildFault};
 pub use machine::Machine;
+pub use tf_hands::Start;

@@ -3,9 +3,9 @@ ghost use Rattle.tf_states.specs.declared.record.Entry.{Entry as Record};
 ghost use Rattle.tf_states.specs.declared.record.What.{What as Event};
 ghost use Rattle.tf_states.specs.declared.record.What.TheVariants.{Flow as flow_turns};
 ghost use Rattle.tf_states.specs.declared.state.FlowState.TheVariants.{Running as running, Reverted as reverted, Resuming as resuming};
-ghost use Rattle.tf_ports.specs.Whole.{IsWhole};
-ghost use Rattle.tf_ports.specs.declared.outcomes.Outcome.{Outcome as Came};
-ghost use Rattle.tf_ports.specs.declared.outcomes.Outcome.TheVariants.{Gave as given, Failed as failing};
+ghost use Rattle.tf_actions.specs.Whole.{IsWhole};
+ghost use Rattle.tf_actions.specs.declared.outcomes.Outcome.{Outcome as Came};
+ghost use Rattle.tf_actions.specs.declared.outcomes.Outcome.TheVariants.{Gave as given, Failed as failing};
 ghost use Rattle.tf_model.specs.Compilation.{compile_refusal};
 ghost use Rattle.tf_model.specs.Orders.{order_of};
 ghost use Rattle.tf_model.specs.Plan.{outline_of, count, is_task};
@@ -17,7 +17,8 @@ ghost use Rattle.tf_model.specs.Candidates.{choice, end_of};
 ghost use Rattle.tf_model.specs.Steps.{Step, is_still};
 ghost use Rattle.tf_facts.specs.Facts.{Facts, CompletedReversion};
 ghost use Rattle.tf_machine.specs.declared.faults.ApplyFault.TheVariants.{NotAStep as refuses};
-ghost use Rattle.tf_machine.specs.Answers.{views_of, task_of, start_entry, action_in, end_by, ended_from, IsBuildRefusal, IsBack};
+ghost use Rattle.tf_machine.specs.Answers.{views_of, IsBuildRefusal, IsBack};
+ghost use Rattle.tf_hands.specs.Flight.{task_of, start_entry, action_in, end_by, ended_from};
 ghost use Rattle.tf_machine.specs.Counts.{waiting_of, holding_of};
 ghost use Rattle.tf_machine.specs.Machine.{outline, shown, StandsFor, HasHistory};
 ghost use Rattle.tf_model.specs.States.{flow_runs, flow_suspends};
@@ -25,7 +26,7 @@ ghost use Rattle.tf_model.specs.Bound.{entry_bound};
 ghost use Rattle.tf_bound.specs.Owed.{left, left_later};
 ghost use Rattle.tf_bound.specs.Short.{IsWithinLimits};
 
-use crate::candidates::{Start, candidate};
+use crate::candidates::candidate;
 use crate::compiled::Compiled;
 use crate::ending::end_of;
 use crate::faults::{ApplyFault, BuildFault};
@@ -37,9 +38,10 @@ use crate::tries::tries_are_few;
 use crate::worklists::{Worklist, extent_of};
 use std::alloc::Global;
 use std::marker::Model;
+use tf_actions::{Order, Outcome};
 use tf_bound::{event_is_short, plan_is_within_limits};
 use tf_flow::Plan;
-use tf_ports::{Order, Outcome};
+use tf_hands::Start;
 use tf_states::{AtomState, AtomView, Entry, Failure, FlowState, Payload, What};
 use tf_values::{Memory, Val};
 
@@ -64,7 +66,12 @@ impl Model for Machine {
 
     ghost view = { λ m. record { plan = m.compiled; views = m.tables.views.items; places = m.tables.places.items; flow = m.tables.flow } };
 
-    ghost invariant = { λ m. IsSoundWith (record { plan = m.compiled; views = m.tables.views.items; places = m.tables.places.items; flow = m.tables.flow }) m.tables.counters m.list };
+    ghost invariant = { λ m. IsSoundWith (record {
+      plan = m.compiled;
+      views = m.tables.views.items;
+      places = m.tables.places.items;
+      flow = m.tables.flow;
+    }) m.tables.counters m.list };
 }
 
 impl Machine {
@@ -99,7 +106,8 @@ impl Machine {
         ensures plan { self.new.plan ≡ self.old.plan }
         ensures step { OnOk result (Step (outline self.old) (shown self.old) entry) }
         ensures moved { OnOk result (shown self.new ≡ later (outline self.old) entry (shown self.old)) }
-        ensures stands { OnOk result ((past : List Record) → StandsFor self.old past → StandsFor self.new (entry ∷ past)) }
+        ensures stands { OnOk result ((past : List Record) → StandsFor self.old past
+            → StandsFor self.new (entry ∷ past)) }
         ensures refused { (e : Record) → result ≡ Err (refuses e) → ¬ (Step (outline self.old) (shown self.old) entry) }
         ensures refused_after { (e : Record) → result ≡ Err (refuses e) → (past : List Record) → StandsFor self.old past
             → ¬ (Step (outline self.old) (snapshot (outline self.old) past) entry) }
@@ -123,7 +131,8 @@ impl Machine {
         ensures moved { shown self.new ≡ later (outline self.old) entry (shown self.old) }
         ensures stands { (past : List Record) → StandsFor self.old past → StandsFor self.new (entry ∷ past) }
         ensures less { flow_runs (shown self.old).flow || flow_suspends (shown self.old).flow ≡ true
-            → entry.what ≢ flow_turns resuming → left self.new.plan (shown self.new) < left self.old.plan (shown self.old) }
+            → entry.what ≢ flow_turns resuming
+            → left self.new.plan (shown self.new) < left self.old.plan (shown self.old) }
     {
         event_is_short(&entry.what);
         let extent = extent_of(&self.compiled, &entry.what);
@@ -173,7 +182,9 @@ impl Machine {
             → option_map start_entry result ≡ choice (outline self.now) (snapshot (outline self.now) past) }
         ensures action { IfSome result (λ start. start.action ≡ action_in ((shown self.now).state start.atom)) }
         ensures task { IfSome result (λ start. is_task (outline self.now) start.atom ≡ true) }
-        ensures less { IfSome result (λ start. (hand : ℕ) → left_later self.now.plan hand (start_entry start) (shown self.now) < left self.now.plan (shown self.now)) }
+        ensures less { IfSome result (λ start. (hand : ℕ)
+            → left_later self.now.plan hand (start_entry start) (shown self.now)
+            < left self.now.plan (shown self.now)) }
     {
         candidate(&self.compiled, &self.tables, &self.list)
     }
@@ -182,9 +193,11 @@ impl Machine {
     /// recorded.
     pub fn order(&self, alloc: Global, start: &Start) -> Result<Order, Memory>
         requires { is_task (outline self.now) start.now.atom ≡ true }
-        ensures is { IfOk result (λ order. Some order ≡ order_of (outline self.now) (shown self.now) start.now.atom start.now.action) }
+        ensures is { IfOk result (λ order. Some order
+            ≡ order_of (outline self.now) (shown self.now) start.now.atom start.now.action) }
         ensures after { IfOk result (λ order. (past : List Record) → StandsFor self.now past
-            → Some order ≡ order_of (outline self.now) (snapshot (outline self.now) past) start.now.atom start.now.action) }
+            → Some order ≡ order_of (outline self.now)
+            (snapshot (outline self.now) past) start.now.atom start.now.action) }
         ensures whole { IfOk result (λ order. IsWhole order) }
     {
         order(
@@ -219,7 +232,8 @@ impl Machine {
         ensures ends { (a : ℕ) (outcome : Came) → result ≡ Some a
             → Step (outline self.now) (shown self.now) (end_by (shown self.now) hand outcome a) }
         ensures less { (a : ℕ) (outcome : Came) → result ≡ Some a
-            → left self.now.plan (later (outline self.now) (end_by (shown self.now) hand outcome a) (shown self.now)) < left self.now.plan (shown self.now) }
+            → left self.now.plan (later (outline self.now) (end_by (shown self.now) hand outcome a)
+            (shown self.now)) < left self.now.plan (shown self.now) }
     {
         task_of(&self.compiled, &self.tables, &self.list, hand)
     }
@@ -282,8 +296,10 @@ impl Machine {
     /// REVERTED, its reversion is completed.
     pub fn flow_state(&self) -> FlowState
         ensures is { result ≡ (shown self.now).flow }
-        ensures after { (past : List Record) → StandsFor self.now past → result ≡ (snapshot (outline self.now) past).flow }
-        ensures facts { (past : List Record) → StandsFor self.now past → Facts (outline self.now) (snapshot (outline self.now) past) }
+        ensures after { (past : List Record) → StandsFor self.now past
+            → result ≡ (snapshot (outline self.now) past).flow }
+        ensures facts { (past : List Record) → StandsFor self.now past
+            → Facts (outline self.now) (snapshot (outline self.now) past) }
         ensures reversion { (past : List Record) → StandsFor self.now past → result ≡ reverted
             → CompletedReversion (outline self.now) past }
     {

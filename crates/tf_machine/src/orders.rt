@@ -1,5 +1,5 @@
 ghost use Rattle.std.specs.Prelude.{◌≡◌, IfOk, Some, true};
-ghost use Rattle.tf_ports.specs.Whole.{IsWhole};
+ghost use Rattle.tf_actions.specs.Whole.{IsWhole};
 ghost use Rattle.tf_model.specs.Orders.{order_of};
 ghost use Rattle.tf_model.specs.Plan.{outline_of, is_task};
 ghost use Rattle.tf_machine.specs.Tables.{shown_by};
@@ -7,8 +7,8 @@ ghost use Rattle.tf_machine.specs.Tables.{shown_by};
 use crate::compiled::Compiled;
 use crate::tables::Tables;
 use std::alloc::Global;
+use tf_actions::{Action, Order};
 use tf_flow::Undo;
-use tf_ports::{Action, Order};
 use tf_values::{Memory, Texts};
 
 /// The order to do so with a task at this moment.
@@ -20,7 +20,8 @@ pub fn order(
     action: Action,
 ) -> Result<Order, Memory>
     requires { is_task (outline_of compiled.now) atom ≡ true }
-    ensures is { IfOk result (λ order. Some order ≡ order_of (outline_of compiled.now) (shown_by tables.now) atom action) }
+    ensures is { IfOk result (λ order. Some order ≡ order_of (outline_of compiled.now)
+        (shown_by tables.now) atom action) }
     ensures whole { IfOk result (λ order. IsWhole order) }
 {
     let task = compiled.task(atom);

@@ -5,8 +5,8 @@ ghost use Rattle.tf_numbers.specs.Numbers.{all_below, first_below};
 ghost use Rattle.tf_model.specs.Plan.{outline_of, count};
 ghost use Rattle.tf_model.specs.Forced.{forced};
 ghost use Rattle.tf_model.specs.Steps.{Rule, Step, is_free, is_still, is_settled_at, is_put_back_at, ends_as, ends_task, may_turn, turns_flow, end_entry, may_suspend, reset, put_back_or_rest};
-ghost use Rattle.tf_machine.specs.Answers.{task_of, is_with};
-ghost use Rattle.tf_machine.specs.Counts.{IsCounted};
+ghost use Rattle.tf_hands.specs.Flight.{task_of, is_with};
+ghost use Rattle.tf_machine.specs.Counts.{HasCounters};
 ghost use Rattle.tf_machine.specs.Tables.{shown_by};
 ghost use Rattle.tf_machine.specs.Worklists.{IsListed};
 
@@ -125,7 +125,7 @@ fn turns_flow(from: FlowState, what: &What) -> bool
 
 /// Whether the entry records the end.
 fn is_end(compiled: &Compiled, tables: &Tables, list: &Worklist, what: &What) -> bool
-    requires counted { IsCounted (outline_of compiled.now) tables.now }
+    requires counted { HasCounters (outline_of compiled.now) tables.now }
     requires listed { IsListed (outline_of compiled.now) (shown_by tables.now) list.now }
     ensures yes { result ≡ true → end_entry (outline_of compiled.now) (shown_by tables.now) ≡ Some what.now }
     ensures no { result ≡ false → end_entry (outline_of compiled.now) (shown_by tables.now) ≢ Some what.now }
@@ -141,11 +141,12 @@ fn is_end(compiled: &Compiled, tables: &Tables, list: &Worklist, what: &What) ->
 
 /// Whether the entry suspends the flow, which nothing forbids.
 fn is_suspension(compiled: &Compiled, tables: &Tables, list: &Worklist, what: &What) -> bool
-    requires counted { IsCounted (outline_of compiled.now) tables.now }
+    requires counted { HasCounters (outline_of compiled.now) tables.now }
     requires listed { IsListed (outline_of compiled.now) (shown_by tables.now) list.now }
     ensures may { result ≡ true → may_suspend (outline_of compiled.now) (shown_by tables.now) ≡ true }
     ensures yes { result ≡ true → what.now ≡ flow_enters suspended }
-    ensures no { result ≡ false → may_suspend (outline_of compiled.now) (shown_by tables.now) ≡ true → what.now ≢ flow_enters suspended }
+    ensures no { result ≡ false → may_suspend (outline_of compiled.now) (shown_by tables.now) ≡ true
+        → what.now ≢ flow_enters suspended }
 {
     match what {
         What::Flow(FlowState::Suspended) => may_suspend(compiled, tables, list),
@@ -156,7 +157,7 @@ fn is_suspension(compiled: &Compiled, tables: &Tables, list: &Worklist, what: &W
 /// Whether in SUSPENDING nothing is in flight and there is no end.
 #[tactic(auto, unfolding(tf_model::specs::Steps::may_suspend))]
 fn may_suspend(compiled: &Compiled, tables: &Tables, list: &Worklist) -> bool
-    requires counted { IsCounted (outline_of compiled.now) tables.now }
+    requires counted { HasCounters (outline_of compiled.now) tables.now }
     requires listed { IsListed (outline_of compiled.now) (shown_by tables.now) list.now }
     ensures { result ≡ may_suspend (outline_of compiled.now) (shown_by tables.now) }
 {
@@ -232,10 +233,11 @@ fn has_rule(
     entry: &Entry,
     is_forced: bool,
 ) -> bool
-    requires counted { IsCounted (outline_of compiled.now) tables.now }
+    requires counted { HasCounters (outline_of compiled.now) tables.now }
     requires listed { IsListed (outline_of compiled.now) (shown_by tables.now) list.now }
     requires forced { is_forced ≡ true → forced (outline_of compiled.now) (shown_by tables.now) ≡ Some entry.now.what }
-    requires unforced { is_forced ≡ false → forced (outline_of compiled.now) (shown_by tables.now) ≢ Some entry.now.what }
+    requires unforced { is_forced ≡ false
+        → forced (outline_of compiled.now) (shown_by tables.now) ≢ Some entry.now.what }
     ensures yes { result ≡ true → Rule (outline_of compiled.now) (shown_by tables.now) entry.now }
     ensures no { result ≡ false → ¬ (Rule (outline_of compiled.now) (shown_by tables.now) entry.now) }
 {
@@ -266,7 +268,7 @@ pub fn is_step(
     list: &Worklist,
     entry: &Entry,
 ) -> Result<bool, Memory>
-    requires counted { IsCounted (outline_of compiled.now) tables.now }
+    requires counted { HasCounters (outline_of compiled.now) tables.now }
     requires listed { IsListed (outline_of compiled.now) (shown_by tables.now) list.now }
     ensures yes { result ≡ Ok true → Step (outline_of compiled.now) (shown_by tables.now) entry.now }
     ensures no { result ≡ Ok false → ¬ (Step (outline_of compiled.now) (shown_by tables.now) entry.now) }
@@ -283,10 +285,11 @@ fn may_follow(
     entry: &Entry,
     is_forced: bool,
 ) -> bool
-    requires counted { IsCounted (outline_of compiled.now) tables.now }
+    requires counted { HasCounters (outline_of compiled.now) tables.now }
     requires listed { IsListed (outline_of compiled.now) (shown_by tables.now) list.now }
     requires forced { is_forced ≡ true → forced (outline_of compiled.now) (shown_by tables.now) ≡ Some entry.now.what }
-    requires unforced { is_forced ≡ false → forced (outline_of compiled.now) (shown_by tables.now) ≢ Some entry.now.what }
+    requires unforced { is_forced ≡ false
+        → forced (outline_of compiled.now) (shown_by tables.now) ≢ Some entry.now.what }
     ensures yes { result ≡ true → Step (outline_of compiled.now) (shown_by tables.now) entry.now }
     ensures no { result ≡ false → ¬ (Step (outline_of compiled.now) (shown_by tables.now) entry.now) }
 {

@@ -5,12 +5,12 @@ ghost use Rattle.tf_states.specs.declared.state.FlowState.TheVariants.{Pending a
 ghost use Rattle.tf_model.specs.Plan.{outline_of, count, is_task};
 ghost use Rattle.tf_model.specs.Snapshot.{later, is_at_work, state_after, payload_after, held_after, attempts_in, attempts_after};
 ghost use Rattle.tf_model.specs.Steps.{Step};
-ghost use Rattle.tf_machine.specs.TableFacts.{TableFacts};
+ghost use Rattle.tf_hands.specs.Flight.{FlightFacts};
 ghost use Rattle.tf_model.specs.Readiness.{is_unmarked, is_to_revert};
-ghost use Rattle.tf_machine.specs.Answers.{is_with};
+ghost use Rattle.tf_hands.specs.Flight.{is_with};
 ghost use Rattle.tf_model.specs.Forced.{is_marked_again};
 ghost use Rattle.tf_machine.specs.Tables.{shown_by, resolve_of};
-ghost use Rattle.tf_machine.specs.Counts.{IsCounted};
+ghost use Rattle.tf_machine.specs.Counts.{HasCounters};
 ghost use Rattle.tf_machine.specs.Worklists.{AreMarksHeld};
 ghost use Rattle.tf_machine.specs.Changes.{first_views, first_places, entered_view, entered_place, ArePlacesHeld, AreChanged, Stays, changed, turned, cleared, marked, begun};
 
@@ -65,7 +65,7 @@ impl Tables {
         ensures views { IfOk result (λ tables. tables.views.items ≡ first_views (count (outline_of compiled.now))) }
         ensures places { IfOk result (λ tables. tables.places.items ≡ first_places (count (outline_of compiled.now))) }
         ensures flow { IfOk result (λ tables. tables.flow ≡ pending_flow) }
-        ensures counted { IfOk result (IsCounted (outline_of compiled.now)) }
+        ensures counted { IfOk result (HasCounters (outline_of compiled.now)) }
     {
         let counters = Counters::make(alloc, compiled)?;
         let mut views = Vec::new(alloc);
@@ -164,17 +164,17 @@ impl Tables {
 
     /// Records an entry that may follow. It takes no memory.
     pub fn record(&mut self, compiled: &Compiled, entry: Entry)
-        requires facts { TableFacts (outline_of compiled.now) (shown_by self.old) }
+        requires facts { FlightFacts (outline_of compiled.now) (shown_by self.old) }
         requires few { (a : ℕ) → (shown_by self.old).attempts a < 65536 }
         requires views { length self.old.views.items ≡ count (outline_of compiled.now) }
         requires places { length self.old.places.items ≡ count (outline_of compiled.now) }
-        requires counted { IsCounted (outline_of compiled.now) self.old }
+        requires counted { HasCounters (outline_of compiled.now) self.old }
         requires marked { AreMarksHeld (outline_of compiled.now) (shown_by self.old) }
         requires step { Step (outline_of compiled.now) (shown_by self.old) entry }
         ensures moved { shown_by self.new ≡ later (outline_of compiled.now) entry (shown_by self.old) }
         ensures views { length self.new.views.items ≡ length self.old.views.items }
         ensures places { length self.new.places.items ≡ length self.old.places.items }
-        ensures counted { IsCounted (outline_of compiled.now) self.new }
+        ensures counted { HasCounters (outline_of compiled.now) self.new }
     {
         let Entry { hand, what } = entry;
         match what {
@@ -210,7 +210,8 @@ impl Tables {
             ≡ state_after (atom_enters atom state payload) a ((shown_by self.old).state a) }
         ensures payload { (a : ℕ) → (shown_by self.new).payload a
             ≡ payload_after (atom_enters atom state payload) a ((shown_by self.old).state a) ((shown_by self.old).payload a) }
-        ensures hand { (a : ℕ) → (shown_by self.new).hand a ≡ (if nat_eq atom a then hand else (shown_by self.old).hand a) }
+        ensures hand { (a : ℕ)
+            → (shown_by self.new).hand a ≡ (if nat_eq atom a then hand else (shown_by self.old).hand a) }
         ensures mark { (a : ℕ) → (shown_by self.new).mark a ≡ (shown_by self.old).mark a }
         ensures attempts { (a : ℕ) → (shown_by self.new).attempts a
             ≡ attempts_after (atom_enters atom state payload) a ((shown_by self.old).attempts a) }
@@ -226,7 +227,8 @@ impl Tables {
     /// A hand takes up an atom again.
     fn take(&mut self, hand: u8, atom: u16)
         requires place { atom < length self.old.places.items }
-        ensures hand { (a : ℕ) → (shown_by self.new).hand a ≡ (if nat_eq atom a then Some hand else (shown_by self.old).hand a) }
+        ensures hand { (a : ℕ)
+            → (shown_by self.new).hand a ≡ (if nat_eq atom a then Some hand else (shown_by self.old).hand a) }
         ensures mark { (a : ℕ) → (shown_by self.new).mark a ≡ (shown_by self.old).mark a }
         ensures attempts { (a : ℕ) → (shown_by self.new).attempts a ≡ (shown_by self.old).attempts a }
         ensures views { self.new.views.items ≡ self.old.views.items }

@@ -4,7 +4,7 @@ ghost use Rattle.tf_model.specs.Plan.{outline_of};
 ghost use Rattle.tf_model.specs.Retries.{kind_of_part};
 ghost use Rattle.tf_model.specs.Bound as bound;
 ghost use Rattle.tf_bound.specs.Costs.{tries_of};
-ghost use Rattle.tf_machine.specs.TableFacts.{HasFewTries};
+ghost use Rattle.tf_machine.specs.Tries.{HasFewTries};
 
 use tf_flow::{Part, Plan, RetryKind};
 

@@ -5,7 +5,7 @@ ghost use Rattle.tf_links.specs.Bits.{has};
 ghost use Rattle.tf_model.specs.Plan.{outline_of, count, is_retry};
 ghost use Rattle.tf_model.specs.Readiness.{can_run};
 ghost use Rattle.tf_model.specs.Snapshot.{Snapshot, later};
-ghost use Rattle.tf_machine.specs.Counts.{IsCounted, AreDistinct};
+ghost use Rattle.tf_machine.specs.Counts.{HasCounters, AreDistinct};
 ghost use Rattle.tf_machine.specs.Tables.{shown_by};
 ghost use Rattle.tf_model.specs.Deciders.{refused};
 ghost use Rattle.tf_model.specs.States.{is_running};
@@ -14,7 +14,7 @@ ghost use Rattle.tf_machine.specs.Cases.{is_asked_again};
 ghost use Rattle.tf_machine.specs.declared.cases.Case.{Case as AnyCase};
 ghost use Rattle.tf_machine.specs.Compiled.{IsSpanAround};
 ghost use Rattle.tf_machine.specs.Stretches.{AreApart};
-ghost use Rattle.tf_machine.specs.Worklists.{IsListed, ListedAt, SameAt, HasRoom, AreMoved, AreMarksHeld, IsMovedAt, IsListedWithin, AreReached, is_reached, counts_in, event};
+ghost use Rattle.tf_machine.specs.Worklists.{IsListed, ListedAt, SameAt, HasRoom, AreMoved, AreMarksHeld, IsMovedAt, IsListedWithin, AreRelisted, is_reached, counts_in, event};
 
 use crate::candidates::is_candidate;
 use crate::cases::{case_at, is_asked_again};
@@ -112,9 +112,10 @@ impl Worklist {
     /// An entry of this extent was recorded, after which the tables show what they do: the atoms of which it may have
     /// changed what is to be done with them are listed anew. It takes no memory.
     pub fn follow(&mut self, compiled: &Compiled, tables: &Tables, extent: Extent)
-        requires counted { IsCounted (outline_of compiled.now) tables.now }
+        requires counted { HasCounters (outline_of compiled.now) tables.now }
         requires room { HasRoom (outline_of compiled.now) self.old }
-        ensures { (s : Snapshot) → IsListed (outline_of compiled.now) s self.old → AreMoved (outline_of compiled.now) s extent (shown_by tables.now)
+        ensures { (s : Snapshot) → IsListed (outline_of compiled.now) s self.old
+            → AreMoved (outline_of compiled.now) s extent (shown_by tables.now)
             → IsListed (outline_of compiled.now) (shown_by tables.now) self.new }
     {
         match extent {
@@ -130,7 +131,7 @@ impl Worklist {
 
     /// Lists the atoms of a span as they are now.
     fn list_span(&mut self, compiled: &Compiled, tables: &Tables, span: Span)
-        requires counted { IsCounted (outline_of compiled.now) tables.now }
+        requires counted { HasCounters (outline_of compiled.now) tables.now }
         requires room { HasRoom (outline_of compiled.now) self.old }
         requires within { span.end ≤ count (outline_of compiled.now) }
         ensures { (flow : Option ℕ) → IsSpanAround (outline_of compiled.now) flow span
@@ -144,7 +145,7 @@ impl Worklist {
     /// Lists every atom as it is now.
     #[tactic(auto, using(crate::proofs::WorkLemmas::none_listed))]
     fn list_all(&mut self, compiled: &Compiled, tables: &Tables)
-        requires counted { IsCounted (outline_of compiled.now) tables.now }
+        requires counted { HasCounters (outline_of compiled.now) tables.now }
         requires room { HasRoom (outline_of compiled.now) self.old }
         ensures { IsListed (outline_of compiled.now) (shown_by tables.now) self.new }
     {
@@ -156,7 +157,7 @@ impl Worklist {
 
     /// Lists an atom whose state or hand changed, and those before it and after it. The atoms of a flow whose marks changed, too, are listed already.
     fn list_around(&mut self, compiled: &Compiled, tables: &Tables, atom: u16)
-        requires counted { IsCounted (outline_of compiled.now) tables.now }
+        requires counted { HasCounters (outline_of compiled.now) tables.now }
         requires room { HasRoom (outline_of compiled.now) self.old }
         ensures { (s : Snapshot) (flow : Option ℕ) (old : Worklist) → IsListed (outline_of compiled.now) s old
             → IsListedWithin (outline_of compiled.now) (shown_by tables.now) flow old self.old
@@ -182,14 +183,15 @@ impl Worklist {
         may: bool,
         atoms: &[u16],
     )
-        requires counted { IsCounted (outline_of compiled.now) tables.now }
+        requires counted { HasCounters (outline_of compiled.now) tables.now }
         requires room { HasRoom (outline_of compiled.now) self.old }
         requires distinct { AreDistinct atoms.now }
         requires apart { AreApart atoms.now }
         requires within { (a : ℕ) → has_number atoms.now a ≡ true → a < count (outline_of compiled.now) }
         ensures room { HasRoom (outline_of compiled.now) self.new }
         ensures hurt { self.new.hurt ≡ self.old.hurt }
-        ensures moved { (a : ℕ) → SameAt self.old self.new a ⊎ ListedAt (outline_of compiled.now) (shown_by tables.now) self.new a }
+        ensures moved { (a : ℕ) → SameAt self.old self.new a
+            ⊎ ListedAt (outline_of compiled.now) (shown_by tables.now) self.new a }
         ensures reached { (a : ℕ) → may ≡ true → has_number atoms.now a ≡ true
             → is_reached (outline_of compiled.now) (shown_by tables.now) reach a ≡ true
             → ListedAt (outline_of compiled.now) (shown_by tables.now) self.new a }
@@ -215,11 +217,11 @@ impl Worklist {
         first: usize,
         past: usize,
     )
-        requires counted { IsCounted (outline_of compiled.now) tables.now }
+        requires counted { HasCounters (outline_of compiled.now) tables.now }
         requires room { HasRoom (outline_of compiled.now) self.old }
         requires order { first ≤ past }
         requires within { past ≤ count (outline_of compiled.now) }
-        ensures { AreReached (outline_of compiled.now) (shown_by tables.now) reach first past self.old self.new }
+        ensures { AreRelisted (outline_of compiled.now) (shown_by tables.now) reach first past self.old self.new }
     {
         compiled.atoms();
         let counts = counts_of(tables, reach);
@@ -232,11 +234,12 @@ impl Worklist {
 
     /// Lists an atom as it is now, if it is one of the plan.
     fn list_one(&mut self, compiled: &Compiled, tables: &Tables, atom: u16)
-        requires counted { IsCounted (outline_of compiled.now) tables.now }
+        requires counted { HasCounters (outline_of compiled.now) tables.now }
         requires room { HasRoom (outline_of compiled.now) self.old }
         ensures room { HasRoom (outline_of compiled.now) self.new }
         ensures hurt { self.new.hurt ≡ self.old.hurt }
-        ensures here { atom < count (outline_of compiled.now) → ListedAt (outline_of compiled.now) (shown_by tables.now) self.new atom }
+        ensures here { atom < count (outline_of compiled.now)
+            → ListedAt (outline_of compiled.now) (shown_by tables.now) self.new atom }
         ensures others { (a : ℕ) → nat_eq atom a ≡ false → SameAt self.old self.new a }
     {
         if atom < compiled.atoms() {
@@ -246,7 +249,7 @@ impl Worklist {
 
     /// Lists an atom as it is now.
     fn list(&mut self, compiled: &Compiled, tables: &Tables, atom: u16)
-        requires counted { IsCounted (outline_of compiled.now) tables.now }
+        requires counted { HasCounters (outline_of compiled.now) tables.now }
         requires room { HasRoom (outline_of compiled.now) self.old }
         requires atom { atom < count (outline_of compiled.now) }
         ensures room { HasRoom (outline_of compiled.now) self.new }
@@ -276,9 +279,10 @@ fn counts_of(tables: &Tables, reach: Reach) -> &[u16]
 /// Whether a case applies to an atom, or may come to apply to it while it can run.
 #[tactic(auto, using(crate::proofs::WorkLemmas::no_case_told))]
 fn may_be_forced(compiled: &Compiled, tables: &Tables, atom: u16) -> bool
-    requires counted { IsCounted (outline_of compiled.now) tables.now }
+    requires counted { HasCounters (outline_of compiled.now) tables.now }
     requires atom { atom < count (outline_of compiled.now) }
-    ensures cases { result ≡ false → (k : AnyCase) → specs.applies (outline_of compiled.now) (shown_by tables.now) k atom ≡ false }
+    ensures cases { result ≡ false → (k : AnyCase)
+        → specs.applies (outline_of compiled.now) (shown_by tables.now) k atom ≡ false }
     ensures never { result ≡ false → can_run (outline_of compiled.now) (shown_by tables.now) atom ≡ true
         → (s : Snapshot) → refused (outline_of compiled.now) s atom ≡ None }
     ensures again { result ≡ false → is_asked_again (outline_of compiled.now) (shown_by tables.now) atom ≡ false }

@@ -1,16 +1,18 @@
 -- What the numbering of a plan tells of the atoms of its outline.
-use Rattle.std.proofs.Common.{◌≡◌, ℕ, List, [], length, Bool, true, false, not, Option, Some, None, refl, sym, ap, ◌∙◌, slice_get}
+use Rattle.std.proofs.Common.{◌≡◌, ℕ, ◌<◌, ◌≤◌, List, [], length, Bool, true, false, not, Option, Some, None, refl, sym, ap, ◌∙◌, slice_get, inl, inr}
 use Rattle.std.specs.Prelude.{option_map}
 use Rattle.std.specs.Option.{option_map_or, option_and_then}
 use Rattle.std.proofs.lemmas.List.{length-map}
-use Rattle.std.proofs.lemmas.Option.{slice_get-map}
+use Rattle.std.proofs.lemmas.Option.{slice_get-map, slice_get_past}
+use Rattle.std.proofs.lemmas.Bool.{cases_lt}
+use Rattle.tf_numbers.proofs.TruthLemmas.{clash}
 use Rattle.tf_flow.specs.declared.atoms.Provides.TheVariants as provides
 use Rattle.tf_flow.specs.declared.ways.Turn.{Turn}
 use Rattle.tf_flow.specs.Plan.{PlanValue}
 use Rattle.tf_flow.specs.Plan as numbering
 use Rattle.tf_flow.specs.Outline.{Part, a_task, a_retry, Atom, is_task_part, is_retry_part, is_retry_atom, name_of, name_of_atom, arguments_of, injected_in, provided_by, way_of}
 use Rattle.tf_flow.proofs.OutlineLemmas.{same_atoms, same_retries}
-use Rattle.tf_model.specs.Plan.{outline_of, count, way, is_task, is_retry, arguments, injects, provides_of, atom_name}
+use Rattle.tf_model.specs.Plan.{Outline, outline_of, count, way, is_task, is_retry, arguments, injects, provides_of, atom_name}
 use Rattle.tf_model.specs.Retries.{kind_of_part, retry_kind}
 use Rattle.tf_model.proofs.Told.{is_task_in, is_retry_in, name_in, way_in}
 
@@ -75,3 +77,19 @@ way_by (Some atom) w is = let same : atom.way ≡ w = cc in same
 
 pub way_told : (plan : PlanValue) (a : ℕ) (w : List Turn) → slice_get (numbering.ways plan) a ≡ Some w → w ≡ way (outline_of plan) a
 way_told plan a w is = sym (way_by (slice_get (outline_of plan).atoms a) w (sym (slice_get-map way_of (outline_of plan).atoms a) ∙ is))
+
+-- ---- numbers past the last atom's
+
+-- a number past the last atom's is no task's
+pub no_task : (plan : Outline) (a : ℕ) → count plan ≤ a → is_task plan a ≡ false
+no_task plan a past = ap is_task_in (slice_get_past plan.atoms a past)
+
+pub no_retry : (plan : Outline) (a : ℕ) → count plan ≤ a → is_retry plan a ≡ false
+no_retry plan a past = ap is_retry_in (slice_get_past plan.atoms a past)
+
+-- a task is one of the plan's atoms
+pub task_below : (plan : Outline) (a : ℕ) → is_task plan a ≡ true → a < count plan
+task_below plan a is = elim (cases_lt a (count plan)) [
+  | inl below ↦ below
+  | inr past ↦ absurd (clash (is_task plan a) is (no_task plan a past))
+]

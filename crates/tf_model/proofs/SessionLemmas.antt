@@ -12,7 +12,7 @@ use Rattle.tf_model.specs.Snapshot.{flow_after}
 use Rattle.tf_model.specs.History.{snapshot, flow_of}
 use Rattle.tf_model.specs.Steps.{LegalPast}
 use Rattle.tf_model.specs.Sessions.{Session, already_ended, entered, halted, whole, entering, has_ended, is_last, is_inner, is_inner_entry}
-use Rattle.tf_model.specs.Laws.{is_allowed, HasAllowed, flow_states, flow_state_in, IsGoing, IsStopped, IsWhole}
+use Rattle.tf_model.specs.Laws.{is_allowed, HasAllowed, flow_states, flow_state_in, IsGoing, IsStopped, IsWholeRun}
 use Rattle.tf_model.proofs.StepLemmas.{past_allowed}
 use Rattle.tf_numbers.proofs.TruthLemmas.{and_first, and_second}
 
@@ -91,7 +91,7 @@ session_end plan before inner hand last open_yet is all legal =
     stopped (flow_states inner) (flow_of (inner ++ (reverse (entering (flow_of before)) ++ before))) last is may.0
     (inner_stands plan inner (reverse (entering (flow_of before)) ++ before) (entered_runs (flow_of before) before open_yet) all may.1)
 
-whole_by : (plan : Outline) (before entries : List Entry) (o : Option FlowState) (last : FlowState) → Session plan before entries o → o ≡ Some last → IsWhole before entries last
+whole_by : (plan : Outline) (before entries : List Entry) (o : Option FlowState) (last : FlowState) → Session plan before entries o → o ≡ Some last → IsWholeRun before entries last
 whole_by plan before entries o last (already_ended is legal) same = inl (is, refl)
 whole_by plan before entries o last (entered some others is legal) same = absurd (cc)
 whole_by plan before entries o last (halted inner open_yet all legal) same = absurd (cc)
@@ -104,5 +104,5 @@ whole_by plan before entries o last (whole hand f inner is all open_yet legal) s
     })
 
 -- a run that stopped recorded of the flow what it should
-pub whole_states : (plan : Outline) (before entries : List Entry) (last : FlowState) → Session plan before entries (Some last) → IsWhole before entries last
+pub whole_states : (plan : Outline) (before entries : List Entry) (last : FlowState) → Session plan before entries (Some last) → IsWholeRun before entries last
 whole_states plan before entries last session = whole_by plan before entries (Some last) last session refl

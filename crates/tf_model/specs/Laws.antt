@@ -95,8 +95,8 @@ pub record StoppedAfter (before entries : List Entry) (last : FlowState) : Type 
   pub stopped : IsStopped last (flow_states newer)
 
 -- a run that stopped recorded nothing, where the flow had ended, or that
-abbrev pub IsWhole : List Entry → List Entry → FlowState → Type 0
-IsWhole before entries last = ((has_ended (flow_of before) ≡ true) × (entries ≡ [])) ⊎ StoppedAfter before entries last
+abbrev pub IsWholeRun : List Entry → List Entry → FlowState → Type 0
+IsWholeRun before entries last = ((has_ended (flow_of before) ≡ true) × (entries ≡ [])) ⊎ StoppedAfter before entries last
 
 -- of the items of each flow, one that comes before a second that comes before a third comes before the
 -- third, and none comes before itself

@@ -12,11 +12,11 @@ use Rattle.tf_flow.specs.declared.atoms.Provides.{Provides}
 use Rattle.tf_flow.specs.declared.atoms.Provides.TheVariants as provides
 use Rattle.tf_flow.specs.Names.{same_name, is_among, first_some}
 use Rattle.tf_flow.specs.Rules.{bind_symbols}
-use Rattle.tf_ports.specs.declared.orders.Given.{Given}
-use Rattle.tf_ports.specs.declared.orders.Given.TheVariants as given
-use Rattle.tf_ports.specs.declared.orders.Pair.{Pair}
-use Rattle.tf_ports.specs.declared.outcomes.Action.{Action}
-use Rattle.tf_ports.specs.declared.outcomes.Action.TheVariants as action
+use Rattle.tf_actions.specs.declared.orders.Given.{Given}
+use Rattle.tf_actions.specs.declared.orders.Given.TheVariants as given
+use Rattle.tf_actions.specs.declared.orders.Pair.{Pair}
+use Rattle.tf_actions.specs.declared.outcomes.Action.{Action}
+use Rattle.tf_actions.specs.declared.outcomes.Action.TheVariants as action
 use Rattle.tf_states.specs.declared.record.Payload.{Payload}
 use Rattle.tf_states.specs.declared.record.Payload.TheVariants as payload
 use Rattle.tf_numbers.specs.Numbers.{numbers_below}

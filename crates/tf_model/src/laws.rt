@@ -23,7 +23,7 @@ ghost use Rattle.tf_model.specs.States.{is_running, is_success};
 ghost use Rattle.tf_model.specs.Scope.{members, is_earlier};
 ghost use Rattle.tf_model.specs.Steps.{LegalPast};
 ghost use Rattle.tf_model.specs.Sessions.{Session};
-ghost use Rattle.tf_model.specs.Laws.{IsFirstCycle, IsLinkedTask, resolves_atom, ends_mark_of, AreOrdered, Extreme, IsWhole, HasAllowed, enters_by, puts_back, last_success, name_of_flow};
+ghost use Rattle.tf_model.specs.Laws.{IsFirstCycle, IsLinkedTask, resolves_atom, ends_mark_of, AreOrdered, Extreme, IsWholeRun, HasAllowed, enters_by, puts_back, last_success, name_of_flow};
 ghost use Rattle.tf_flow.specs.Outline.{name_of_atom, is_retry_atom};
 
 /// The outline of a plan has the plan's atoms and flows, by their numbers.
@@ -37,7 +37,8 @@ pub fn outline_has_the_numbers()
 /// A flow that holds an atom holds all that the atom's own flow holds.
 #[tactic(auto, using(crate::proofs::NestingLemmas::own_flow_in))]
 pub fn own_flows_are_within()
-    ensures { (plan : PlanValue) (a own flow other : ℕ) → own_flow (outline_of plan) a ≡ Some own → holds (outline_of plan) flow a ≡ true
+    ensures { (plan : PlanValue) (a own flow other : ℕ) → own_flow (outline_of plan) a ≡ Some own
+        → holds (outline_of plan) flow a ≡ true
         → holds (outline_of plan) own other ≡ true → holds (outline_of plan) flow other ≡ true }
 {}
 
@@ -58,34 +59,41 @@ pub fn items_are_ordered()
 /// third is before the third.
 #[tactic(auto, using(crate::proofs::BeforeLemmas::before_chain))]
 pub fn before_is_transitive()
-    ensures { (plan : Outline) → AreOrdered plan.flows → (a b c : ℕ) → is_before plan a b ≡ true → is_before plan b c ≡ true → is_before plan a c ≡ true }
+    ensures { (plan : Outline) → AreOrdered plan.flows → (a b c : ℕ) → is_before plan a b ≡ true
+        → is_before plan b c ≡ true → is_before plan a c ≡ true }
 {}
 
 /// Of the atoms of a list that isn't empty there is one that none of them is after, and one that none of
 /// them is before.
 #[tactic(auto, using(crate::proofs::EndLemmas::last_of, crate::proofs::EndLemmas::first_of))]
 pub fn lists_have_a_last_and_a_first()
-    ensures last { (plan : Outline) → AreOrdered plan.flows → (a : ℕ) (others : List ℕ) → Extreme (is_before plan) (a ∷ others) }
-    ensures first { (plan : Outline) → AreOrdered plan.flows → (a : ℕ) (others : List ℕ) → Extreme (is_earlier plan) (a ∷ others) }
+    ensures last { (plan : Outline) → AreOrdered plan.flows → (a : ℕ) (others : List ℕ)
+        → Extreme (is_before plan) (a ∷ others) }
+    ensures first { (plan : Outline) → AreOrdered plan.flows → (a : ℕ) (others : List ℕ)
+        → Extreme (is_earlier plan) (a ∷ others) }
 {}
 
 /// To an atom outside a flow all atoms that the flow holds are alike: it is before all of them or none,
 /// and after all of them or none.
 pub fn atoms_of_a_flow_are_alike()
-    ensures { (plan : PlanValue) (flow a b other : ℕ) → holds (outline_of plan) flow a ≡ true → holds (outline_of plan) flow b ≡ true → holds (outline_of plan) flow other ≡ false
-        → (is_before (outline_of plan) other a ≡ is_before (outline_of plan) other b) × (is_before (outline_of plan) a other ≡ is_before (outline_of plan) b other) }
+    ensures { (plan : PlanValue) (flow a b other : ℕ) → holds (outline_of plan) flow a ≡ true
+        → holds (outline_of plan) flow b ≡ true → holds (outline_of plan) flow other ≡ false
+        → (is_before (outline_of plan) other a ≡ is_before (outline_of plan) other b)
+        × (is_before (outline_of plan) a other ≡ is_before (outline_of plan) b other) }
 {}
 
 /// The retry controller of a flow is before every other atom that the flow holds.
 #[tactic(auto, using(crate::proofs::RetryLemmas::retry_first))]
 pub fn retries_come_first()
-    ensures { (plan : PlanValue) (r flow a : ℕ) → is_retry (outline_of plan) r ≡ true → own_flow (outline_of plan) r ≡ Some flow
+    ensures { (plan : PlanValue) (r flow a : ℕ) → is_retry (outline_of plan) r ≡ true
+        → own_flow (outline_of plan) r ≡ Some flow
         → holds (outline_of plan) flow a ≡ true → r ≢ a → is_before (outline_of plan) r a ≡ true }
 {}
 
 /// Of two flows that hold one atom, the one holds all that the other holds.
 pub fn flows_are_nested_or_apart()
-    ensures { (plan : PlanValue) (one other shared : ℕ) → holds (outline_of plan) one shared ≡ true → holds (outline_of plan) other shared ≡ true
+    ensures { (plan : PlanValue) (one other shared : ℕ) → holds (outline_of plan) one shared ≡ true
+        → holds (outline_of plan) other shared ≡ true
         → ((a : ℕ) → holds (outline_of plan) other a ≡ true → holds (outline_of plan) one a ≡ true)
         ⊎ ((a : ℕ) → holds (outline_of plan) one a ≡ true → holds (outline_of plan) other a ≡ true) }
 {}
@@ -100,8 +108,10 @@ pub fn root_holds_each_atom()
 /// is to run again.
 #[tactic(auto, using(crate::proofs::ResolutionLemmas::resolution_holds, crate::proofs::ResolutionLemmas::resolution_is_controlled))]
 pub fn resolutions_hold_what_failed()
-    ensures holds { (plan : PlanValue) (s : Snapshot) (a : ℕ) → a < count (outline_of plan) → holds (outline_of plan) (resolution (outline_of plan) s a).flow a ≡ true }
-    ensures controlled { (plan : Outline) (s : Snapshot) (a : ℕ) → (resolution plan s a).kind ≡ kind.Retry → is_some (retry_of plan (resolution plan s a).flow) ≡ true }
+    ensures holds { (plan : PlanValue) (s : Snapshot) (a : ℕ) → a < count (outline_of plan)
+        → holds (outline_of plan) (resolution (outline_of plan) s a).flow a ≡ true }
+    ensures controlled { (plan : Outline) (s : Snapshot) (a : ℕ) → (resolution plan s a).kind ≡ kind.Retry
+        → is_some (retry_of plan (resolution plan s a).flow) ≡ true }
 {}
 
 /// The members of an atom's scope are before it.
@@ -114,16 +124,19 @@ pub fn members_are_before()
 /// links; where none is reported, no item lies on one.
 #[tactic(auto, using(crate::proofs::CycleLemmas::cycle_is_first))]
 pub fn reported_cycles_are_of_the_first_item()
-    ensures first { (plan : PlanValue) (g : ℕ) (f : Flow) (names : List (List ℕ)) → find_flow (outline_of plan).flows g ≡ Some f
+    ensures first { (plan : PlanValue) (g : ℕ) (f : Flow) (names : List (List ℕ))
+        → find_flow (outline_of plan).flows g ≡ Some f
         → cycle_of f ≡ Some (cycle names) → IsFirstCycle f names }
-    ensures none { (plan : PlanValue) (g : ℕ) (f : Flow) → find_flow (outline_of plan).flows g ≡ Some f → cycle_of f ≡ None
+    ensures none { (plan : PlanValue) (g : ℕ) (f : Flow) → find_flow (outline_of plan).flows g ≡ Some f
+        → cycle_of f ≡ None
         → (u : ℕ) → u < length f.place.items → Chain f.linked u u → ⊥ }
 {}
 
 /// Where a plan compiles, what a refused task ignores is the task itself, or is after it.
 #[tactic(auto, using(crate::proofs::IgnoredLemmas::ignored_after))]
 pub fn ignored_atoms_are_after()
-    ensures { (plan : PlanValue) (v : ℕ) (how : Depth) (a : ℕ) → compile_refusal plan ≡ None → ignores (outline_of plan) v how a ≡ true
+    ensures { (plan : PlanValue) (v : ℕ) (how : Depth) (a : ℕ) → compile_refusal plan ≡ None
+        → ignores (outline_of plan) v how a ≡ true
         → (v ≡ a) ⊎ (is_before (outline_of plan) v a ≡ true) }
 {}
 
@@ -131,7 +144,8 @@ pub fn ignored_atoms_are_after()
 /// in a flow that is no graph nothing else is ignored, though a next task is there.
 #[tactic(auto, using(crate::proofs::IgnoredLemmas::neighbor_linked, crate::proofs::IgnoredLemmas::neighbors_in_graphs))]
 pub fn neighbors_are_linked()
-    ensures linked { (plan : Outline) (v a : ℕ) → ignores plan v depth.Neighbors a ≡ true → (v ≡ a) ⊎ IsLinkedTask plan v a }
+    ensures linked { (plan : Outline) (v a : ℕ) → ignores plan v depth.Neighbors a ≡ true → (v ≡ a)
+        ⊎ IsLinkedTask plan v a }
     ensures graphs { (plan : PlanValue) (v a : ℕ) → is_graph (home (outline_of plan) v).place.kind ≡ false
         → ignores (outline_of plan) v depth.Neighbors a ≡ nat_eq v a }
 {}
@@ -141,17 +155,20 @@ pub fn neighbors_are_linked()
 /// resolve holds the atom, its mark is EXECUTE.
 #[tactic(auto, using(crate::proofs::MarkLemmas::mark_from_last, crate::proofs::MarkLemmas::unmarked_unresolved))]
 pub fn marks_come_from_the_last_resolve()
-    ensures last { (plan : Outline) (newer older : List Entry) (a hand : ℕ) (mark : Resolve) → holds plan mark.flow a ≡ true
+    ensures last { (plan : Outline) (newer older : List Entry) (a hand : ℕ) (mark : Resolve)
+        → holds plan mark.flow a ≡ true
         → list_any (resolves_atom plan a) newer ≡ false
         → mark_of plan (newer ++ record { hand = hand; what = what.Resolve mark.flow mark.kind } ∷ older) a
         ≡ (if list_any (ends_mark_of plan mark) newer then None else Some mark) }
-    ensures none { (plan : Outline) (past : List Entry) (a : ℕ) → list_any (resolves_atom plan a) past ≡ false → mark_of plan past a ≡ None }
+    ensures none { (plan : Outline) (past : List Entry) (a : ℕ) → list_any (resolves_atom plan a) past ≡ false
+        → mark_of plan past a ≡ None }
 {}
 
 /// One entry more changes the snapshot of a history as `later` says.
 #[tactic(auto, using(crate::proofs::HistoryLemmas::one_more))]
 pub fn one_entry_more()
-    ensures { (plan : Outline) (e : Entry) (past : List Entry) → snapshot plan (e ∷ past) ≡ later plan e (snapshot plan past) }
+    ensures { (plan : Outline) (e : Entry) (past : List Entry)
+        → snapshot plan (e ∷ past) ≡ later plan e (snapshot plan past) }
 {}
 
 /// The beginning of a legal history is legal.
@@ -171,30 +188,35 @@ pub fn entries_are_allowed()
 pub fn put_back_between_starts()
     ensures { (plan : Outline) (second first : Entry) (newer past : List Entry) (a : ℕ) → is_retry plan a ≡ false
         → LegalPast plan (second ∷ (newer ++ (first ∷ past)))
-        → enters_by is_running a second.what ≡ true → enters_by is_running a first.what ≡ true → puts_back newer a ≡ true }
+        → enters_by is_running a second.what ≡ true → enters_by is_running a first.what ≡ true
+        → puts_back newer a ≡ true }
 {}
 
 /// An atom that is SUCCESS has the value that its last SUCCESS entry carries.
 #[tactic(auto, using(crate::proofs::HistoryLemmas::success_kept))]
 pub fn results_are_kept()
-    ensures { (past : List Entry) (a : ℕ) → is_success (state_of past a) ≡ true → payload_of past a ≡ last_success past a }
+    ensures { (past : List Entry) (a : ℕ) → is_success (state_of past a) ≡ true
+        → payload_of past a ≡ last_success past a }
 {}
 
 /// What a run records is legal after what stood before.
 #[tactic(auto, using(crate::proofs::HistoryLemmas::session_legal))]
 pub fn sessions_are_legal()
-    ensures { (plan : Outline) (before entries : List Entry) (last : Option FlowState) → Session plan before entries last → LegalPast plan (entries ++ before) }
+    ensures { (plan : Outline) (before entries : List Entry) (last : Option FlowState)
+        → Session plan before entries last → LegalPast plan (entries ++ before) }
 {}
 
 /// A run that stopped leaves the flow in the state in which it stopped.
 #[tactic(auto, using(crate::proofs::HistoryLemmas::session_state))]
 pub fn sessions_stop_in_their_state()
-    ensures { (plan : Outline) (before entries : List Entry) (last : FlowState) → Session plan before entries (Some last) → flow_of (entries ++ before) ≡ last }
+    ensures { (plan : Outline) (before entries : List Entry) (last : FlowState)
+        → Session plan before entries (Some last) → flow_of (entries ++ before) ≡ last }
 {}
 
 /// A run that stopped recorded nothing where the flow had ended; else it entered, and then recorded of
 /// the flow the state in which it stopped and at most SUSPENDING before.
 #[tactic(auto, using(crate::proofs::SessionLemmas::whole_states))]
 pub fn sessions_record_as_stated()
-    ensures { (plan : Outline) (before entries : List Entry) (last : FlowState) → Session plan before entries (Some last) → IsWhole before entries last }
+    ensures { (plan : Outline) (before entries : List Entry) (last : FlowState)
+        → Session plan before entries (Some last) → IsWholeRun before entries last }
 {}

@@ -12,7 +12,7 @@ use Rattle.tf_model.specs.Plan.{is_before, way}
 use Rattle.tf_numbers.proofs.EquationLemmas.{ap2}
 use Rattle.tf_flow.specs.declared.listing.Outline.{Outline}
 use Rattle.tf_flow.specs.Listing.{shown_atom, shown_atoms}
-use Rattle.tf_order.specs.Stretches.{IsEarlierPlace, IsWayUpTo, IsAscending, Agree, IsUpToItem, GoesAlong, IsSteady, IsAlike, IsSame}
+use Rattle.tf_order.specs.Stretches.{IsEarlierPlace, IsWayUpTo, IsAscending, Agree, IsUpToItem, GoesAlong, IsSteady, IsAlike, TellsTheSame}
 use Rattle.tf_order.specs.Tables.{plan_seen, atoms_found}
 
 -- ---- the ways of a tree's atoms ascend
@@ -281,7 +281,7 @@ along_more outline b turns most end middle ascending before behind over within a
 
 -- ---- a stretch
 
-pub stretch_alone : (test : ℕ → Bool) (on : Bool) (b end : ℕ) → on ≡ test b → end ≡ b + 1 → IsSame test on b end
+pub stretch_alone : (test : ℕ → Bool) (on : Bool) (b end : ℕ) → on ≡ test b → end ≡ b + 1 → TellsTheSame test on b end
 stretch_alone test on b end is ends k from to = let here : k ≡ b = omega (arith, ends, from, to) in ap test here ∙ sym is
 
 pub before_seen : (outline : Outline) (a b : ℕ) (v w : List Turn) (on : Bool) → v ≡ way_at (shown_atoms outline.atoms.items) a → w ≡ way_at (shown_atoms outline.atoms.items) b → on ≡ way_before (plan_seen outline).flows v w → on ≡ is_before (plan_seen outline) a b
@@ -290,7 +290,7 @@ before_seen outline a b v w on v_is w_is is = is ∙ ap2 (way_before (plan_seen 
 
 pub stretch_along : (outline : Outline) (a b turns most end : ℕ) (on : Bool) (v w : List Turn) → IsAscending (plan_seen outline) → AllAlong outline b turns most end → end ≤ atoms_found outline
     → on ≡ is_before (plan_seen outline) a b → v ≡ way_at (shown_atoms outline.atoms.items) a → w ≡ way_at (shown_atoms outline.atoms.items) b → IsAlike (plan_seen outline).flows turns v w most
-    → IsSame (is_before (plan_seen outline) a) on b end
+    → TellsTheSame (is_before (plan_seen outline) a) on b end
 unfolding plan_seen is_before
 stretch_along outline a b turns most end on v w ascending along ends is v_is w_is alike k from to =
     let alike_there : IsAlike (plan_seen outline).flows turns (way_at (shown_atoms outline.atoms.items) a) (way_at (shown_atoms outline.atoms.items) b) most =

@@ -22,7 +22,7 @@ use Rattle.tf_order.specs.Graph.{GraphValue, leads_to, leads_in, standing_of_pla
 use Rattle.tf_links.specs.Links.{leads}
 use Rattle.tf_flow.specs.Listing.{shown_atom, shown_atoms}
 use Rattle.tf_order.specs.Rows.{row_in, row_at, is_in_row}
-use Rattle.tf_order.specs.Stretches.{IsSame}
+use Rattle.tf_order.specs.Stretches.{TellsTheSame}
 use Rattle.tf_order.specs.Tables.{plan_seen, atoms_found, number_if, RowAdded, RowsAdded, AreRows, AreTables, AllBelow, leads_from, flow_in_flows}
 use Rattle.tf_order.specs.Ways.{flow_of_turn, item_of_turn}
 use Rattle.tf_numbers.proofs.BelowLemmas.{which_more}
@@ -233,7 +233,7 @@ stretch_passes test n b (suc m) room each =
     ∙ ap (λ (k : ℕ). which_below k test) next)))
 
 -- a stretch of numbers that all pass
-pub passing_stretch : (test : ℕ → Bool) (on : Bool) (n b end : ℕ) (numbers row new : List ℕ) → row ≡ which_below b test → IsSame test on b end → on ≡ true → b ≤ end → end ≤ n → numbers ≡ numbers_below n
+pub passing_stretch : (test : ℕ → Bool) (on : Bool) (n b end : ℕ) (numbers row new : List ℕ) → row ≡ which_below b test → TellsTheSame test on b end → on ≡ true → b ≤ end → end ≤ n → numbers ≡ numbers_below n
     → new ≡ row ++ slice_range numbers b end → new ≡ which_below end test
 passing_stretch test on n b end numbers row new is same passed order room numbers_are more =
     let whole : b + (end - b) ≡ end = omega (arith, order) in
@@ -243,7 +243,7 @@ passing_stretch test on n b end numbers row new is same passed order room number
     ∙ ap (λ (k : ℕ). which_below k test) whole))
 
 -- a stretch of numbers of which none passes
-pub failing_stretch : (test : ℕ → Bool) (on : Bool) (b end : ℕ) (row : List ℕ) → row ≡ which_below b test → IsSame test on b end → on ≡ false → b ≤ end → row ≡ which_below end test
+pub failing_stretch : (test : ℕ → Bool) (on : Bool) (b end : ℕ) (row : List ℕ) → row ≡ which_below b test → TellsTheSame test on b end → on ≡ false → b ≤ end → row ≡ which_below end test
 failing_stretch test on b end row is same failed order = is ∙ sym (which_more b end test order (λ k from to. same k from to ∙ failed))
 
 pub get_set_same : {X : Type 0} (xs : List X) (i : ℕ) (x : X) → i < length xs → slice_get (slice_set xs i x) i ≡ Some x
@@ -315,7 +315,7 @@ spread_next from i number old rows row new before above below read pushed =
     added_next (nat_le from) number i old rows (slice_set rows i new) before (row_added i (nat_le from i) number rows row new (le-leb from i above) below read pushed)
 
 -- the rows of a stretch of numbers that pass, or don't
-pub rows_stretched : (test : ℕ → Bool) (on : Bool) (b end number : ℕ) (old rows new : List (List ℕ)) → RowsAdded b test number old rows → IsSame test on b end → on ≡ true → b ≤ end → RowsAdded end (nat_le b) number rows new → RowsAdded end test number old new
+pub rows_stretched : (test : ℕ → Bool) (on : Bool) (b end number : ℕ) (old rows new : List (List ℕ)) → RowsAdded b test number old rows → TellsTheSame test on b end → on ≡ true → b ≤ end → RowsAdded end (nat_le b) number rows new → RowsAdded end test number old new
 rows_stretched test on b end number old rows new before same passed order more = record {
   height = more.height ∙ before.height;
   told = λ k. more.told k
@@ -340,7 +340,7 @@ rows_stretched test on b end number old rows new before same passed order more =
         ap2 (λ (c d : Bool). number_if (c && test k) number ++ number_if (nat_lt k end && d) number) past (le-leb b k above)
         ∙ by_end k above (nat_lt k end) refl
 
-pub rows_passed : (test : ℕ → Bool) (on : Bool) (b end number : ℕ) (old rows : List (List ℕ)) → RowsAdded b test number old rows → IsSame test on b end → on ≡ false → b ≤ end → RowsAdded end test number old rows
+pub rows_passed : (test : ℕ → Bool) (on : Bool) (b end number : ℕ) (old rows : List (List ℕ)) → RowsAdded b test number old rows → TellsTheSame test on b end → on ≡ false → b ≤ end → RowsAdded end test number old rows
 rows_passed test on b end number old rows before same failed order = record {
   height = before.height;
   told = λ k. before.told k ∙ ap (λ (c : Bool). row_at old k ++ number_if c number) (by_place k (cases_lt k b));

@@ -56,5 +56,5 @@ IsAlike flows turns first second most = (other : List Turn) → IsWayUpTo second
     → way_before flows first other ≡ way_before flows first second
 
 -- the test tells the same of all numbers from one on up to before the end
-abbrev pub IsSame : (ℕ → Bool) → Bool → ℕ → ℕ → Type 0
-IsSame test on from end = (k : ℕ) → from ≤ k → k < end → test k ≡ on
+abbrev pub TellsTheSame : (ℕ → Bool) → Bool → ℕ → ℕ → Type 0
+TellsTheSame test on from end = (k : ℕ) → from ≤ k → k < end → test k ≡ on

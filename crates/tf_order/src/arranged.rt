@@ -84,7 +84,8 @@ fn last_unordered(u: usize, v: usize) -> usize
 /// is told where `v` is `u`.
 #[tactic(auto, using(crate::proofs::ArrangedLemmas::steady_found))]
 pub fn last_item_alike(table: &[Option<Arranged>], flow: usize, u: usize, v: usize) -> Option<usize>
-    ensures { IfSome result (λ last. (flows : List Flow) → ShowsFlows table.now flows → IsSteady u (before.item_before flows flow u) v last) }
+    ensures { IfSome result (λ last. (flows : List Flow) → ShowsFlows table.now flows
+        → IsSteady u (before.item_before flows flow u) v last) }
 {
     if u == v {
         return None;

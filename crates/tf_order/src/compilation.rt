@@ -48,7 +48,8 @@ fn look_at_flows(
 ) -> Result<Found, Memory>
     requires providers { AreProviders outline.now providers.now }
     requires numbers { map level_number outline.now.levels.items ≡ numbers_below (length outline.now.levels.items) }
-    ensures { IfOk result (λ found. AreLooked (shown_atoms outline.now.atoms.items) (shown_levels outline.now.levels.items) 0 found.table.items found.faults.items) }
+    ensures { IfOk result (λ found. AreLooked (shown_atoms outline.now.atoms.items)
+        (shown_levels outline.now.levels.items) 0 found.table.items found.faults.items) }
 {
     let mut found = nothing_found(alloc, outline.levels.len())?;
     for flow in (0..outline.levels.len()).rev() {
@@ -83,8 +84,10 @@ fn look_at_flow(
     requires providers { AreProviders outline.now providers.now }
     requires numbers { map level_number outline.now.levels.items ≡ numbers_below (length outline.now.levels.items) }
     requires flow { flow < length outline.now.levels.items }
-    requires looked { AreLooked (shown_atoms outline.now.atoms.items) (shown_levels outline.now.levels.items) (flow + 1) found.old.table.items found.old.faults.items }
-    ensures { OnOk result (AreLooked (shown_atoms outline.now.atoms.items) (shown_levels outline.now.levels.items) flow found.new.table.items found.new.faults.items) }
+    requires looked { AreLooked (shown_atoms outline.now.atoms.items) (shown_levels outline.now.levels.items)
+        (flow + 1) found.old.table.items found.old.faults.items }
+    ensures { OnOk result (AreLooked (shown_atoms outline.now.atoms.items)
+        (shown_levels outline.now.levels.items) flow found.new.table.items found.new.faults.items) }
 {
     let sight = Sight {
         atoms: &outline.atoms,
@@ -101,7 +104,8 @@ fn look_at_flow(
 /// The first fault, in the order in which flows are refused.
 #[tactic(auto, using(crate::proofs::CompilationLemmas::refused_start, crate::proofs::CompilationLemmas::refused_more, crate::proofs::CompilationLemmas::refused_all, crate::proofs::CompilationLemmas::refused_here))]
 fn first_fault(inner_first: &[usize], faults: Vec<Option<CompileFault>>) -> Option<CompileFault>
-    ensures { MatchOption result (first_some (told_at faults.items) inner_first.now ≡ None) (IsRefusedBy (first_some (told_at faults.items) inner_first.now)) }
+    ensures { MatchOption result (first_some (told_at faults.items) inner_first.now ≡ None)
+        (IsRefusedBy (first_some (told_at faults.items) inner_first.now)) }
 {
     let mut faults = faults;
     for flow in inner_first {
@@ -115,8 +119,10 @@ fn first_fault(inner_first: &[usize], faults: Vec<Option<CompileFault>>) -> Opti
 /// Takes the fault of a flow, where it has one.
 #[tactic(auto, using(crate::proofs::CompilationLemmas::refused_told))]
 fn take_fault(flow: usize, faults: &mut Vec<Option<CompileFault>>) -> Option<CompileFault>
-    ensures fault { MatchOption result (told_at faults.old.items flow ≡ None) (IsRefusedBy (told_at faults.old.items flow)) }
-    ensures kept { MatchOption result ((g : ℕ) → told_at faults.new.items g ≡ told_at faults.old.items g) (λ _. Unit {0}) }
+    ensures fault { MatchOption result (told_at faults.old.items flow ≡ None)
+        (IsRefusedBy (told_at faults.old.items flow)) }
+    ensures kept { MatchOption result ((g : ℕ)
+        → told_at faults.new.items g ≡ told_at faults.old.items g) (λ _. Unit {0}) }
 {
     if flow >= faults.len() {
         return None;

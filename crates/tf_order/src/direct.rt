@@ -26,7 +26,8 @@ pub fn direct_rows(
 ) -> Result<Vec<Row>, Memory>
     requires shows { ShowsFlows table.now (plan_seen outline.now).flows }
     requires few { atoms_found outline.now ≤ 1000 }
-    ensures { IfOk result (λ rows. rows.items ≡ map (λ a. which_below (atoms_found outline.now) (leads_to (plan_seen outline.now) a)) (numbers_below (atoms_found outline.now))) }
+    ensures { IfOk result (λ rows. rows.items ≡ map (λ a. which_below (atoms_found outline.now)
+        (leads_to (plan_seen outline.now) a)) (numbers_below (atoms_found outline.now))) }
 {
     let tasks = tasks_by_item(alloc, outline)?;
     let mut rows = Vec::with_capacity(alloc, outline.atoms.len())?;
@@ -59,7 +60,8 @@ fn add_task(
 ) -> Result<(), Memory>
     requires few { atoms_found outline.now ≤ 1000 }
     requires atom { atom < atoms_found outline.now }
-    ensures { OnOk result ((item : ℕ) → row_at rows.new.items item ≡ row_at rows.old.items item ++ number_if (stands_at outline.now item atom) atom) }
+    ensures { OnOk result ((item : ℕ)
+        → row_at rows.new.items item ≡ row_at rows.old.items item ++ number_if (stands_at outline.now item atom) atom) }
 {
     let Some(item) = task_item(&outline.atoms[atom]) else {
         return Ok(());
@@ -141,7 +143,8 @@ fn items_led_to(
     from: Turn,
     bound: usize,
 ) -> Result<Vec<usize>, Memory>
-    ensures { IfOk result (λ items. (flows : List Flow) → ShowsFlows table.now flows → (v : ℕ) → v < bound → has_number items.items v ≡ leads_in (flow_at flows from.flow) from.item (Some v)) }
+    ensures { IfOk result (λ items. (flows : List Flow) → ShowsFlows table.now flows → (v : ℕ) → v < bound
+        → has_number items.items v ≡ leads_in (flow_at flows from.flow) from.item (Some v)) }
 {
     let Some(u) = from.item else {
         return Ok(Vec::new(alloc));
@@ -193,7 +196,8 @@ fn add_own(outline: &Outline<'_>, flow: usize, tasks: &[u16], found: &mut Bits)
     requires within { (k : ℕ) → has_number tasks.now k ≡ true → k < atoms_found outline.now }
     requires wide { length found.old ≡ words_for (atoms_found outline.now) }
     ensures wide { length found.new ≡ words_for (atoms_found outline.now) }
-    ensures found { (k : ℕ) → has found.new k ≡ (has found.old k || (has_number tasks.now k && is_own outline.now flow k)) }
+    ensures found { (k : ℕ)
+        → has found.new k ≡ (has found.old k || (has_number tasks.now k && is_own outline.now flow k)) }
 {
     for task in tasks {
         add_if_own(outline, flow, *task as usize, found);

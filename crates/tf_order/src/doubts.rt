@@ -37,7 +37,8 @@ pub fn ambiguity(
 ) -> Result<Option<CompileFault>, Memory>
     requires providers { HasProviders sight.now }
     requires reach { HasReach sight.now reach.now }
-    ensures { IfOk result (λ fault. (inner : List Flow) → ShowsFlows sight.now.table.now inner → told_in fault ≡ compiling.ambiguity_at (atoms_seen sight.now) inner (place_seen sight.now) item) }
+    ensures { IfOk result (λ fault. (inner : List Flow) → ShowsFlows sight.now.table.now inner
+        → told_in fault ≡ compiling.ambiguity_at (atoms_seen sight.now) inner (place_seen sight.now) item) }
 {
     let symbols = ambiguous_symbols(alloc, sight, reach, item)?;
     let Some(symbol) = least(&symbols) else {
@@ -73,7 +74,9 @@ pub fn cycle_fault(
     reach: &[Bits],
 ) -> Result<Option<CompileFault>, Memory>
     requires { links.now.count ≡ count_seen sight.now }
-    ensures { IfOk result (λ fault. (pairs : List Pair) → AreLinks links.now pairs → AreReached (count_seen sight.now) (reached (count_seen sight.now) pairs) reach.now → told_in fault ≡ first_cycle (place_seen sight.now) (count_seen sight.now) pairs) }
+    ensures { IfOk result (λ fault. (pairs : List Pair) → AreLinks links.now pairs
+        → AreReached (count_seen sight.now) (reached (count_seen sight.now) pairs) reach.now
+        → told_in fault ≡ first_cycle (place_seen sight.now) (count_seen sight.now) pairs) }
 {
     for item in 0..links.count() {
         if has_in(reach, item, item) {
@@ -108,7 +111,9 @@ fn ambiguous_symbols(
 ) -> Result<Vec<Name>, Memory>
     requires providers { HasProviders sight.now }
     requires reach { HasReach sight.now reach.now }
-    ensures { IfOk result (λ symbols. (inner : List Flow) → ShowsFlows sight.now.table.now inner → symbols.items ≡ filter (compiling.is_ambiguous (atoms_seen sight.now) (place_seen sight.now) item) (model.needs (atoms_seen sight.now) inner (place_seen sight.now).number item)) }
+    ensures { IfOk result (λ symbols. (inner : List Flow) → ShowsFlows sight.now.table.now inner
+        → symbols.items ≡ filter (compiling.is_ambiguous (atoms_seen sight.now) (place_seen sight.now) item)
+        (model.needs (atoms_seen sight.now) inner (place_seen sight.now).number item)) }
 {
     let mut symbols = Vec::new(alloc);
     for atom in 0..sight.atoms.len() {
@@ -130,7 +135,8 @@ fn add_of_atom(
     requires providers { HasProviders sight.now }
     requires reach { HasReach sight.now reach.now }
     requires atom { atom < length sight.now.atoms.now }
-    ensures { OnOk result ((inner : List Flow) → ShowsFlows sight.now.table.now inner → symbols.new.items ≡ symbols.old.items ++ doubts_inside sight.now inner item atom) }
+    ensures { OnOk result ((inner : List Flow) → ShowsFlows sight.now.table.now inner
+        → symbols.new.items ≡ symbols.old.items ++ doubts_inside sight.now inner item atom) }
 {
     let place = &sight.atoms[atom];
     if !passes_item(place.way.turns(), sight.level.number, item) {
@@ -154,7 +160,9 @@ fn add_of_part(
     requires providers { HasProviders sight.now }
     requires reach { HasReach sight.now reach.now }
     requires atom { atom < length sight.now.atoms.now }
-    ensures { OnOk result ((inner : List Flow) → ShowsFlows sight.now.table.now inner → symbols.new.items ≡ symbols.old.items ++ doubts_by sight.now inner item atom (shown_part part.entry) (arguments_of (shown_part part.entry))) }
+    ensures { OnOk result ((inner : List Flow) → ShowsFlows sight.now.table.now inner
+        → symbols.new.items ≡ symbols.old.items ++ doubts_by sight.now inner item atom (shown_part part.entry)
+        (arguments_of (shown_part part.entry))) }
 {
     for arg in part.args() {
         add_of_argument(alloc, sight, reach, item, atom, part, arg, symbols)?;
@@ -177,7 +185,9 @@ fn add_of_argument(
     requires providers { HasProviders sight.now }
     requires reach { HasReach sight.now reach.now }
     requires atom { atom < length sight.now.atoms.now }
-    ensures { OnOk result ((inner : List Flow) → ShowsFlows sight.now.table.now inner → symbols.new.items ≡ symbols.old.items ++ doubts_by sight.now inner item atom (shown_part part.entry) (arg.now ∷ [])) }
+    ensures { OnOk result ((inner : List Flow) → ShowsFlows sight.now.table.now inner
+        → symbols.new.items ≡ symbols.old.items ++ doubts_by sight.now inner item atom (shown_part part.entry)
+        (arg.now ∷ [])) }
 {
     if binds(part.injects(), &arg.symbol) {
         return Ok(());

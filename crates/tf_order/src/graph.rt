@@ -42,7 +42,12 @@ impl Graph {
         direct_tasks: Vec<Row>,
         standing: Vec<u16>,
     ) -> Result<Graph, Memory>
-        ensures { IfOk result (λ graph. graph ≡ record { predecessors = predecessors.items; successors = successors.items; direct_tasks = direct_tasks.items; standing = standing.items }) }
+        ensures { IfOk result (λ graph. graph ≡ record {
+          predecessors = predecessors.items;
+          successors = successors.items;
+          direct_tasks = direct_tasks.items;
+          standing = standing.items;
+        }) }
     {
         let later = row_sets(alloc, &successors)?;
         Ok(Graph {

@@ -76,7 +76,9 @@ impl NameIndex {
 
     /// Adds a number to those of a name, where it isn't the last of them already.
     pub fn add(&mut self, alloc: Global, name: &Name, number: usize) -> Result<(), Memory>
-        ensures { OnOk result ((other : List ℕ) → told self.new other ≡ (if same_name name.now other then add_once (told self.old other) number else told self.old other)) }
+        ensures { OnOk result ((other : List ℕ)
+            → told self.new other ≡ (if same_name name.now other then add_once
+            (told self.old other) number else told self.old other)) }
     {
         if let Some(numbers) = self.numbers.get_mut(name) {
             return numbers.add(number);
@@ -100,7 +102,8 @@ impl NameIndex {
 
 /// Which atoms provide a symbol.
 pub fn providers(alloc: Global, atoms: &[AtomPlace<'_>]) -> Result<NameIndex, Memory>
-    ensures { IfOk result (λ index. (symbol : List ℕ) → told index symbol ≡ which_below (length atoms.now) (provides_at (shown_atoms atoms.now) symbol)) }
+    ensures { IfOk result (λ index. (symbol : List ℕ)
+        → told index symbol ≡ which_below (length atoms.now) (provides_at (shown_atoms atoms.now) symbol)) }
 {
     let mut index = NameIndex::new(alloc);
     for (number, atom) in atoms.iter().enumerate() {
@@ -117,7 +120,9 @@ fn add_provided(
     number: usize,
     index: &mut NameIndex,
 ) -> Result<(), Memory>
-    ensures { OnOk result ((symbol : List ℕ) → told index.new symbol ≡ (if is_among (provided provides.now) symbol then add_once (told index.old symbol) number else told index.old symbol)) }
+    ensures { OnOk result ((symbol : List ℕ)
+        → told index.new symbol ≡ (if is_among (provided provides.now) symbol then add_once
+        (told index.old symbol) number else told index.old symbol)) }
 {
     match provides {
         Provides::Nothing => Ok(()),
@@ -133,7 +138,9 @@ fn add_names(
     number: usize,
     index: &mut NameIndex,
 ) -> Result<(), Memory>
-    ensures { OnOk result ((name : List ℕ) → told index.new name ≡ (if is_among names.now name then add_once (told index.old name) number else told index.old name)) }
+    ensures { OnOk result ((name : List ℕ)
+        → told index.new name ≡ (if is_among names.now name then add_once
+        (told index.old name) number else told index.old name)) }
 {
     for name in names {
         index.add(alloc, name, number)?;
@@ -143,7 +150,8 @@ fn add_names(
 
 /// Which items have a name.
 pub fn item_names(alloc: Global, items: &[ItemPlace]) -> Result<NameIndex, Memory>
-    ensures { IfOk result (λ index. (name : List ℕ) → told index name ≡ which_below (length items.now) (is_named_at (map shown_item items.now) name)) }
+    ensures { IfOk result (λ index. (name : List ℕ)
+        → told index name ≡ which_below (length items.now) (is_named_at (map shown_item items.now) name)) }
 {
     let mut index = NameIndex::new(alloc);
     for (place, item) in items.iter().enumerate() {

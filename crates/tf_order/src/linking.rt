@@ -40,7 +40,9 @@ pub fn infer(
     requires wide { length found.old.doubts ≡ words_for (count_seen sight.now) }
     ensures count { OnOk result (found.new.links.count ≡ count_seen sight.now) }
     ensures wide { OnOk result (length found.new.doubts ≡ words_for (count_seen sight.now)) }
-    ensures links { OnOk result ((inner : List Flow) → ShowsFlows sight.now.table.now inner → LinksBy sight.now (model.needs (atoms_seen sight.now) inner (place_seen sight.now).number) found.old.links found.old.doubts found.new.links found.new.doubts) }
+    ensures links { OnOk result ((inner : List Flow) → ShowsFlows sight.now.table.now inner
+        → LinksBy sight.now (model.needs (atoms_seen sight.now) inner
+        (place_seen sight.now).number) found.old.links found.old.doubts found.new.links found.new.doubts) }
 {
     for atom in 0..sight.atoms.len() {
         link_atom(alloc, sight, reach, atom, found)?;
@@ -64,7 +66,9 @@ fn link_atom(
     requires wide { length found.old.doubts ≡ words_for (count_seen sight.now) }
     ensures count { OnOk result (found.new.links.count ≡ count_seen sight.now) }
     ensures wide { OnOk result (length found.new.doubts ≡ words_for (count_seen sight.now)) }
-    ensures links { OnOk result ((inner : List Flow) → ShowsFlows sight.now.table.now inner → LinksBy sight.now (passed_at sight.now inner atom (way_at (atoms_seen sight.now) atom)) found.old.links found.old.doubts found.new.links found.new.doubts) }
+    ensures links { OnOk result ((inner : List Flow) → ShowsFlows sight.now.table.now inner
+        → LinksBy sight.now (passed_at sight.now inner atom
+        (way_at (atoms_seen sight.now) atom)) found.old.links found.old.doubts found.new.links found.new.doubts) }
 {
     for turn in sight.atoms[atom].way.turns() {
         link_turn(alloc, sight, reach, atom, *turn, found)?;
@@ -89,7 +93,9 @@ fn link_turn(
     requires wide { length found.old.doubts ≡ words_for (count_seen sight.now) }
     ensures count { OnOk result (found.new.links.count ≡ count_seen sight.now) }
     ensures wide { OnOk result (length found.new.doubts ≡ words_for (count_seen sight.now)) }
-    ensures links { OnOk result ((inner : List Flow) → ShowsFlows sight.now.table.now inner → LinksBy sight.now (taken_at sight.now inner atom turn) found.old.links found.old.doubts found.new.links found.new.doubts) }
+    ensures links { OnOk result ((inner : List Flow) → ShowsFlows sight.now.table.now inner
+        → LinksBy sight.now
+        (taken_at sight.now inner atom turn) found.old.links found.old.doubts found.new.links found.new.doubts) }
 {
     if turn.flow != sight.level.number {
         return Ok(());
@@ -122,7 +128,9 @@ fn link_item(
     requires wide { length found.old.doubts ≡ words_for (count_seen sight.now) }
     ensures count { OnOk result (found.new.links.count ≡ count_seen sight.now) }
     ensures wide { OnOk result (length found.new.doubts ≡ words_for (count_seen sight.now)) }
-    ensures links { OnOk result ((inner : List Flow) → ShowsFlows sight.now.table.now inner → LinksBy sight.now (for_item item (needed_at sight.now inner atom item)) found.old.links found.old.doubts found.new.links found.new.doubts) }
+    ensures links { OnOk result ((inner : List Flow) → ShowsFlows sight.now.table.now inner
+        → LinksBy sight.now (for_item item
+        (needed_at sight.now inner atom item)) found.old.links found.old.doubts found.new.links found.new.doubts) }
 {
     let part = sight.atoms[atom].part;
     for arg in part.args() {
@@ -151,7 +159,9 @@ fn link_argument(
     requires wide { length found.old.doubts ≡ words_for (count_seen sight.now) }
     ensures count { OnOk result (found.new.links.count ≡ count_seen sight.now) }
     ensures wide { OnOk result (length found.new.doubts ≡ words_for (count_seen sight.now)) }
-    ensures links { OnOk result ((inner : List Flow) → ShowsFlows sight.now.table.now inner → LinksBy sight.now (for_item item (needed_by sight.now inner item atom (shown_part part.entry) (arg.now ∷ []))) found.old.links found.old.doubts found.new.links found.new.doubts) }
+    ensures links { OnOk result ((inner : List Flow) → ShowsFlows sight.now.table.now inner
+        → LinksBy sight.now (for_item item (needed_by sight.now inner item atom (shown_part part.entry)
+        (arg.now ∷ []))) found.old.links found.old.doubts found.new.links found.new.doubts) }
 {
     if binds(part.injects(), &arg.symbol) {
         return Ok(());
@@ -194,7 +204,8 @@ fn link_symbol(
     requires wide { length found.old.doubts ≡ words_for (count_seen sight.now) }
     ensures count { OnOk result (found.new.links.count ≡ count_seen sight.now) }
     ensures wide { OnOk result (length found.new.doubts ≡ words_for (count_seen sight.now)) }
-    ensures links { OnOk result (LinksBy sight.now (for_item item (symbol.now ∷ [])) found.old.links found.old.doubts found.new.links found.new.doubts) }
+    ensures links { OnOk result (LinksBy sight.now (for_item item
+        (symbol.now ∷ [])) found.old.links found.old.doubts found.new.links found.new.doubts) }
 {
     let from = givers(alloc, sight, reach, item, symbol)?;
     if from.is_empty() {
@@ -232,7 +243,8 @@ fn link_all(from: &[usize], to: &[usize], links: &mut Links)
     requires from { (k : ℕ) → has_number from.now k ≡ true → k < links.old.count }
     requires to { (k : ℕ) → has_number to.now k ≡ true → k < links.old.count }
     ensures count { links.new.count ≡ links.old.count }
-    ensures more { (u v : ℕ) → leads links.new.rows u v ≡ ((has_number from.now u && has_number to.now v) || leads links.old.rows u v) }
+    ensures more { (u v : ℕ)
+        → leads links.new.rows u v ≡ ((has_number from.now u && has_number to.now v) || leads links.old.rows u v) }
 {
     for first in from {
         link_each(*first, to, links);
@@ -245,7 +257,8 @@ fn link_each(first: usize, to: &[usize], links: &mut Links)
     requires first { first < links.old.count }
     requires to { (k : ℕ) → has_number to.now k ≡ true → k < links.old.count }
     ensures count { links.new.count ≡ links.old.count }
-    ensures more { (u v : ℕ) → leads links.new.rows u v ≡ ((nat_eq first u && has_number to.now v) || leads links.old.rows u v) }
+    ensures more { (u v : ℕ)
+        → leads links.new.rows u v ≡ ((nat_eq first u && has_number to.now v) || leads links.old.rows u v) }
 {
     for second in to {
         links.insert(first, *second);

@@ -33,8 +33,10 @@ pub struct Looked {
 /// Looks at a flow: finds its links, its order and its refusal.
 pub fn look(alloc: Global, sight: &Sight<'_, '_>) -> Result<Looked, Memory>
     requires providers { HasProviders sight.now }
-    ensures arranged { IfOk result (λ looked. (inner : List Flow) → ShowsFlows sight.now.table.now inner → IsArranged looked.arranged (arranged_seen sight.now inner)) }
-    ensures refusal { IfOk result (λ looked. (inner : List Flow) → ShowsFlows sight.now.table.now inner → told_in looked.refusal ≡ refusal_seen sight.now inner) }
+    ensures arranged { IfOk result (λ looked. (inner : List Flow) → ShowsFlows sight.now.table.now inner
+        → IsArranged looked.arranged (arranged_seen sight.now inner)) }
+    ensures refusal { IfOk result (λ looked. (inner : List Flow) → ShowsFlows sight.now.table.now inner
+        → told_in looked.refusal ≡ refusal_seen sight.now inner) }
 {
     match sight.level.flow.kind {
         FlowKind::Linear | FlowKind::Unordered => look_at_plain(alloc, sight),
@@ -46,8 +48,10 @@ pub fn look(alloc: Global, sight: &Sight<'_, '_>) -> Result<Looked, Memory>
 #[tactic(auto, using(crate::proofs::LookLemmas::plain_arranged, crate::proofs::LookLemmas::plain_refusal))]
 fn look_at_plain(alloc: Global, sight: &Sight<'_, '_>) -> Result<Looked, Memory>
     requires kind { is_graph (place_seen sight.now).kind ≡ false }
-    ensures arranged { IfOk result (λ looked. (inner : List Flow) → ShowsFlows sight.now.table.now inner → IsArranged looked.arranged (arranged_seen sight.now inner)) }
-    ensures refusal { IfOk result (λ looked. (inner : List Flow) → ShowsFlows sight.now.table.now inner → told_in looked.refusal ≡ refusal_seen sight.now inner) }
+    ensures arranged { IfOk result (λ looked. (inner : List Flow) → ShowsFlows sight.now.table.now inner
+        → IsArranged looked.arranged (arranged_seen sight.now inner)) }
+    ensures refusal { IfOk result (λ looked. (inner : List Flow) → ShowsFlows sight.now.table.now inner
+        → told_in looked.refusal ≡ refusal_seen sight.now inner) }
 {
     let links = Links::new(alloc, sight.level.items.len())?;
     let standing = standing_atoms(alloc, sight, &links)?;
@@ -68,8 +72,10 @@ fn look_at_plain(alloc: Global, sight: &Sight<'_, '_>) -> Result<Looked, Memory>
 fn look_at_graph(alloc: Global, sight: &Sight<'_, '_>) -> Result<Looked, Memory>
     requires providers { HasProviders sight.now }
     requires kind { (place_seen sight.now).kind ≡ kind.Graph }
-    ensures arranged { IfOk result (λ looked. (inner : List Flow) → ShowsFlows sight.now.table.now inner → IsArranged looked.arranged (arranged_seen sight.now inner)) }
-    ensures refusal { IfOk result (λ looked. (inner : List Flow) → ShowsFlows sight.now.table.now inner → told_in looked.refusal ≡ refusal_seen sight.now inner) }
+    ensures arranged { IfOk result (λ looked. (inner : List Flow) → ShowsFlows sight.now.table.now inner
+        → IsArranged looked.arranged (arranged_seen sight.now inner)) }
+    ensures refusal { IfOk result (λ looked. (inner : List Flow) → ShowsFlows sight.now.table.now inner
+        → told_in looked.refusal ≡ refusal_seen sight.now inner) }
 {
     let links = explicit(alloc, sight.level)?;
     let explicit_reach = links.reach(alloc)?;
@@ -99,8 +105,10 @@ fn reach_of(
     explicit_reach: &[Bits],
 ) -> Result<Vec<Bits>, Memory>
     requires written { IsSquare links.now.count written.now }
-    requires reach { (pairs : List Pair) → AreLinks record { count = links.now.count; rows = written.now } pairs → AreReached links.now.count (reached links.now.count pairs) explicit_reach.now }
-    ensures { IfOk result (λ rows. (pairs : List Pair) → AreLinks links.now pairs → AreReached links.now.count (reached links.now.count pairs) rows.items) }
+    requires reach { (pairs : List Pair) → AreLinks record { count = links.now.count; rows = written.now } pairs
+        → AreReached links.now.count (reached links.now.count pairs) explicit_reach.now }
+    ensures { IfOk result (λ rows. (pairs : List Pair) → AreLinks links.now pairs
+        → AreReached links.now.count (reached links.now.count pairs) rows.items) }
 {
     if are_same(links.count(), written, links.rows()) {
         let rows = copy_rows(alloc, explicit_reach)?;
@@ -122,8 +130,13 @@ fn refusal(
     requires providers { HasProviders sight.now }
     requires reach { HasReach sight.now explicit_reach.now }
     requires count { links.now.count ≡ count_seen sight.now }
-    ensures doubt { IfOk result (λ fault. (item : ℕ) (inner : List Flow) → first_below (room doubts.now) (has doubts.now) ≡ Some item → ShowsFlows sight.now.table.now inner → told_in fault ≡ ambiguity_at (atoms_seen sight.now) inner (place_seen sight.now) item) }
-    ensures cycle { IfOk result (λ fault. (pairs : List Pair) → first_below (room doubts.now) (has doubts.now) ≡ None → AreLinks links.now pairs → AreReached (count_seen sight.now) (reached (count_seen sight.now) pairs) reach.now → told_in fault ≡ first_cycle (place_seen sight.now) (count_seen sight.now) pairs) }
+    ensures doubt { IfOk result (λ fault. (item : ℕ) (inner : List Flow)
+        → first_below (room doubts.now) (has doubts.now) ≡ Some item → ShowsFlows sight.now.table.now inner
+        → told_in fault ≡ ambiguity_at (atoms_seen sight.now) inner (place_seen sight.now) item) }
+    ensures cycle { IfOk result (λ fault. (pairs : List Pair)
+        → first_below (room doubts.now) (has doubts.now) ≡ None → AreLinks links.now pairs
+        → AreReached (count_seen sight.now) (reached (count_seen sight.now) pairs) reach.now
+        → told_in fault ≡ first_cycle (place_seen sight.now) (count_seen sight.now) pairs) }
 {
     match doubts.first() {
         Some(item) => ambiguity(alloc, sight, explicit_reach, item),

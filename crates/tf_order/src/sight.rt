@@ -34,7 +34,8 @@ pub struct Sight<'b, 'a> {
 pub fn is_unserved(sight: &Sight<'_, '_>, item: usize, atom: usize, symbol: &Name) -> bool
     requires providers { HasProviders sight.now }
     requires atom { atom < length sight.now.atoms.now }
-    ensures { (inner : List Flow) → ShowsFlows sight.now.table.now inner → result ≡ model.is_unserved (atoms_seen sight.now) inner (place_seen sight.now).number item atom symbol.now }
+    ensures { (inner : List Flow) → ShowsFlows sight.now.table.now inner
+        → result ≡ model.is_unserved (atoms_seen sight.now) inner (place_seen sight.now).number item atom symbol.now }
 {
     for other in sight.providers.numbers(symbol) {
         if serves(sight, item, atom, *other) {
@@ -49,7 +50,8 @@ pub fn is_unserved(sight: &Sight<'_, '_>, item: usize, atom: usize, symbol: &Nam
 fn serves(sight: &Sight<'_, '_>, item: usize, atom: usize, other: usize) -> bool
     requires atom { atom < length sight.now.atoms.now }
     requires other { other < length sight.now.atoms.now }
-    ensures { (inner : List Flow) → ShowsFlows sight.now.table.now inner → result ≡ serves_in (atoms_seen sight.now) inner (place_seen sight.now).number item atom other }
+    ensures { (inner : List Flow) → ShowsFlows sight.now.table.now inner
+        → result ≡ serves_in (atoms_seen sight.now) inner (place_seen sight.now).number item atom other }
 {
     let way = sight.atoms[other].way.turns();
     passes_item(way, sight.level.number, item)
@@ -64,7 +66,8 @@ pub fn providing_items(
     symbol: &Name,
 ) -> Result<Vec<usize>, Memory>
     requires providers { HasProviders sight.now }
-    ensures { IfOk result (λ items. items.items ≡ which_below (count_seen sight.now) (model.item_provides (atoms_seen sight.now) (place_seen sight.now).number symbol.now)) }
+    ensures { IfOk result (λ items. items.items ≡ which_below (count_seen sight.now)
+        (model.item_provides (atoms_seen sight.now) (place_seen sight.now).number symbol.now)) }
 {
     let count = sight.level.items.len();
     let mut set = Bits::new(alloc, count)?;
@@ -118,7 +121,8 @@ pub fn givers(
 ) -> Result<Vec<usize>, Memory>
     requires providers { HasProviders sight.now }
     requires reach { HasReach sight.now reach.now }
-    ensures all { IfOk result (λ found. found.items ≡ model.givers (atoms_seen sight.now) (place_seen sight.now) item symbol.now) }
+    ensures all { IfOk result (λ found. found.items ≡ model.givers (atoms_seen sight.now)
+        (place_seen sight.now) item symbol.now) }
     ensures within { IfOk result (λ found. (k : ℕ) → has_number found.items k ≡ true → k < count_seen sight.now) }
 {
     if retry_provides(&sight.level.flow.retry, symbol) {

@@ -23,7 +23,8 @@ pub fn standing_atoms(
     links: &Links,
 ) -> Result<Vec<usize>, Memory>
     requires { links.now.count ≡ count_seen sight.now }
-    ensures { IfOk result (λ atoms. (inner : List Flow) (pairs : List Pair) → ShowsFlows sight.now.table.now inner → AreLinks links.now pairs → atoms.items ≡ model.standing_atoms inner (place_seen sight.now) pairs) }
+    ensures { IfOk result (λ atoms. (inner : List Flow) (pairs : List Pair) → ShowsFlows sight.now.table.now inner
+        → AreLinks links.now pairs → atoms.items ≡ model.standing_atoms inner (place_seen sight.now) pairs) }
 {
     let mut atoms = Vec::new(alloc);
     add_retry(sight, &mut atoms)?;
@@ -50,7 +51,8 @@ fn add_retry(sight: &Sight<'_, '_>, atoms: &mut Vec<usize>) -> Result<(), Memory
 /// Adds the atoms of an item in standing order.
 #[tactic(auto, using(crate::proofs::StandingAtomLemmas::item_none, crate::proofs::StandingAtomLemmas::item_task, crate::proofs::StandingAtomLemmas::item_flow))]
 fn add_item(sight: &Sight<'_, '_>, item: usize, atoms: &mut Vec<usize>) -> Result<(), Memory>
-    ensures { OnOk result ((inner : List Flow) → ShowsFlows sight.now.table.now inner → atoms.new.items ≡ atoms.old.items ++ model.standing_of_item inner (place_seen sight.now) item) }
+    ensures { OnOk result ((inner : List Flow) → ShowsFlows sight.now.table.now inner
+        → atoms.new.items ≡ atoms.old.items ++ model.standing_of_item inner (place_seen sight.now) item) }
 {
     let Some(place) = sight.level.items.get(item) else {
         return Ok(());
@@ -70,7 +72,8 @@ fn add_item(sight: &Sight<'_, '_>, item: usize, atoms: &mut Vec<usize>) -> Resul
 /// Adds the atoms of a flow in standing order.
 #[tactic(auto, using(crate::proofs::StandingAtomLemmas::flow_found, crate::proofs::StandingAtomLemmas::flow_none))]
 fn add_flow(table: &[Option<Arranged>], flow: usize, atoms: &mut Vec<usize>) -> Result<(), Memory>
-    ensures { OnOk result ((inner : List Flow) → ShowsFlows table.now inner → atoms.new.items ≡ atoms.old.items ++ (flow_at inner flow).standing) }
+    ensures { OnOk result ((inner : List Flow) → ShowsFlows table.now inner
+        → atoms.new.items ≡ atoms.old.items ++ (flow_at inner flow).standing) }
 {
     match table.get(flow) {
         Some(Some(arranged)) => {

@@ -3,7 +3,7 @@ ghost use Rattle.tf_model.specs.Before.{Flow, same_place, way_at};
 ghost use Rattle.tf_model.specs.Plan.{is_before};
 ghost use Rattle.tf_order.specs.Arranged.{ShowsFlows};
 ghost use Rattle.tf_flow.specs.Listing.{shown_atoms};
-ghost use Rattle.tf_order.specs.Stretches.{IsAscending, Agree, IsUpToItem, GoesAlong, IsAlike, IsSame};
+ghost use Rattle.tf_order.specs.Stretches.{IsAscending, Agree, IsUpToItem, GoesAlong, IsAlike, TellsTheSame};
 ghost use Rattle.tf_order.specs.Tables.{plan_seen, atoms_found};
 
 use crate::arranged::{Arranged, is_way_before, last_item_alike};
@@ -33,7 +33,7 @@ pub fn stretch_from(
     requires second { b < atoms_found outline.now }
     ensures begins { b < result.end }
     ensures ends { result.end ≤ atoms_found outline.now }
-    ensures same { IsSame (is_before (plan_seen outline.now) a) result.is_after b result.end }
+    ensures same { TellsTheSame (is_before (plan_seen outline.now) a) result.is_after b result.end }
 {
     let first = outline.atoms[a].way.turns();
     let second = outline.atoms[b].way.turns();
@@ -94,7 +94,8 @@ fn last_alike(
     turns: usize,
 ) -> Option<usize>
     requires { Agree turns first.now second.now }
-    ensures { IfSome result (λ most. (flows : List Flow) → ShowsFlows table.now flows → IsAlike flows turns first.now second.now most) }
+    ensures { IfSome result (λ most. (flows : List Flow) → ShowsFlows table.now flows
+        → IsAlike flows turns first.now second.now most) }
 {
     let (Some(x), Some(y)) = (first.get(turns), second.get(turns)) else {
         return None;
@@ -118,7 +119,9 @@ fn end_along(outline: &Outline<'_>, b: usize, turns: usize, most: usize) -> usiz
     requires atom { b < atoms_found outline.now }
     ensures begins { b < result }
     ensures ends { result ≤ atoms_found outline.now }
-    ensures along { (k : ℕ) → b < k → k < result → GoesAlong turns most (way_at (shown_atoms outline.now.atoms.items) b) (way_at (shown_atoms outline.now.atoms.items) k) }
+    ensures along { (k : ℕ) → b < k → k < result
+        → GoesAlong turns most (way_at (shown_atoms outline.now.atoms.items) b)
+        (way_at (shown_atoms outline.now.atoms.items) k) }
 {
     let mut end = b + 1;
     let mut past = outline.atoms.len();
@@ -138,7 +141,9 @@ fn end_along(outline: &Outline<'_>, b: usize, turns: usize, most: usize) -> usiz
 fn goes_along(outline: &Outline<'_>, b: usize, turns: usize, most: usize, atom: usize) -> bool
     requires first { b < atoms_found outline.now }
     requires second { atom < atoms_found outline.now }
-    ensures { result ≡ true → GoesAlong turns most (way_at (shown_atoms outline.now.atoms.items) b) (way_at (shown_atoms outline.now.atoms.items) atom) }
+    ensures { result ≡ true
+        → GoesAlong turns most (way_at (shown_atoms outline.now.atoms.items) b)
+        (way_at (shown_atoms outline.now.atoms.items) atom) }
 {
     let way = outline.atoms[b].way.turns();
     let other = outline.atoms[atom].way.turns();

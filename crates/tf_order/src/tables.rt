@@ -57,8 +57,12 @@ fn order_atoms(
     requires shows { ShowsFlows table.now (plan_seen outline.now).flows }
     requires ascending { IsAscending (plan_seen outline.now) }
     requires few { atoms_found outline.now ≤ 1000 }
-    ensures predecessors { IfOk result (λ found. AreRows (atoms_found outline.now) (λ b. which_below (atoms_found outline.now) (λ a. is_before (plan_seen outline.now) a b)) found.predecessors.items) }
-    ensures successors { IfOk result (λ found. found.successors.items ≡ map (λ a. which_below (atoms_found outline.now) (is_before (plan_seen outline.now) a)) (numbers_below (atoms_found outline.now))) }
+    ensures predecessors { IfOk result (λ found. AreRows (atoms_found outline.now)
+        (λ b. which_below (atoms_found outline.now) (λ a. is_before
+        (plan_seen outline.now) a b)) found.predecessors.items) }
+    ensures successors { IfOk result (λ found. found.successors.items
+        ≡ map (λ a. which_below (atoms_found outline.now) (is_before (plan_seen outline.now) a))
+        (numbers_below (atoms_found outline.now))) }
 {
     let numbers = all_numbers(alloc, outline.atoms.len())?;
     let mut predecessors = empty_rows(alloc, outline.atoms.len())?;
@@ -103,8 +107,10 @@ fn add_atom(
     requires numbers { numbers.now ≡ numbers_below (atoms_found outline.now) }
     requires atom { a < atoms_found outline.now }
     requires height { length predecessors.old.items ≡ atoms_found outline.now }
-    ensures after { IfOk result (λ after. after ≡ which_below (atoms_found outline.now) (is_before (plan_seen outline.now) a)) }
-    ensures before { OnOk result (RowsAdded (atoms_found outline.now) (is_before (plan_seen outline.now) a) a predecessors.old.items predecessors.new.items) }
+    ensures after { IfOk result (λ after. after ≡ which_below (atoms_found outline.now)
+        (is_before (plan_seen outline.now) a)) }
+    ensures before { OnOk result (RowsAdded (atoms_found outline.now)
+        (is_before (plan_seen outline.now) a) a predecessors.old.items predecessors.new.items) }
 {
     let mut after = Row::new(alloc);
     let mut b = 0;

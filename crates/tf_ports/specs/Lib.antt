@@ -1,7 +1,4 @@
-pub mod Built
 pub mod Contents
-pub mod Gives
-pub mod Laws
 pub mod Links
 pub mod MemoryCrew
 pub mod MemoryLink
@@ -11,6 +8,4 @@ pub mod MemorySpawner
 pub mod PlayedLaws
 pub mod Remaining
 pub mod Sockets
-pub mod Told
 pub mod Wanted
-pub mod Whole

@@ -13,7 +13,7 @@ abbrev pub seen : MemorySource → Source
 seen source = record { name = source.name; bytes = source.bytes.items }
 
 -- the sources in order, and how many faults there were
-pub record Held : Type 0 where
+pub record HeldBySources : Type 0 where
   pub sources : List Source
   pub faults : ℕ
 

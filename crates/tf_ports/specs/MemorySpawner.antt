@@ -5,7 +5,7 @@ use Rattle.tf_ports.specs.declared.memory_spawner.MemoryProgram.{MemoryProgram}
 use Rattle.tf_ports.specs.declared.programs.Done.{Done}
 
 -- the programs in order, and how many faults there were
-pub record Held : Type 0 where
+pub record HeldBySpawner : Type 0 where
   pub programs : List MemoryProgram
   pub faults : ℕ
 
@@ -23,5 +23,5 @@ end_at [] name = None
 end_at (program ∷ programs) name = if pointwise ◌==◌ program.name name then Some (end_of program) else end_at programs name
 
 -- the program of that name may end so, whatever its arguments are
-abbrev pub EndsAs : Held → List ℕ → List (List ℕ) → Done → Type 0
+abbrev pub EndsAs : HeldBySpawner → List ℕ → List (List ℕ) → Done → Type 0
 EndsAs held name words done = end_at held.programs name ≡ Some done

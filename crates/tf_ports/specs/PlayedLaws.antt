@@ -4,14 +4,14 @@ use Rattle.std.proofs.Common.{inl, inr, subst}
 use Rattle.tf_values.specs.declared.value.Val.{Val}
 use Rattle.tf_values.specs.declared.value.Val.TheVariants as value
 use Rattle.tf_states.specs.declared.record.Failure.TheVariants as failure
-use Rattle.tf_ports.specs.declared.orders.Given.{Given}
-use Rattle.tf_ports.specs.declared.orders.Given.TheVariants as given
-use Rattle.tf_ports.specs.declared.orders.Order.{Order}
-use Rattle.tf_ports.specs.declared.outcomes.Action.{Action}
-use Rattle.tf_ports.specs.declared.outcomes.Action.TheVariants as action
-use Rattle.tf_ports.specs.declared.outcomes.Outcome.{Outcome}
-use Rattle.tf_ports.specs.declared.outcomes.Outcome.TheVariants as outcome
-use Rattle.tf_ports.specs.Laws.{LooksUp, RevertsToNothing}
+use Rattle.tf_actions.specs.declared.orders.Given.{Given}
+use Rattle.tf_actions.specs.declared.orders.Given.TheVariants as given
+use Rattle.tf_actions.specs.declared.orders.Order.{Order}
+use Rattle.tf_actions.specs.declared.outcomes.Action.{Action}
+use Rattle.tf_actions.specs.declared.outcomes.Action.TheVariants as action
+use Rattle.tf_actions.specs.declared.outcomes.Outcome.{Outcome}
+use Rattle.tf_actions.specs.declared.outcomes.Outcome.TheVariants as outcome
+use Rattle.tf_actions.specs.Laws.{LooksUp, RevertsToNothing}
 use Rattle.tf_ports.specs.MemoryPerformer.{IsNothingOrLost, IsPlayed, IsPlayedFor}
 
 pub nothing_alone : (result : Val) → IsNothingOrLost (outcome.Gave result) → result ≡ value.Nothing

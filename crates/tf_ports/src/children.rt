@@ -3,13 +3,13 @@ ghost use Rattle.tf_ports.specs.Remaining.{IsFirstLeft};
 
 use crate::programs::{Done, OUTPUT_LIMIT, Output, SpawnFault, Spawner};
 use std::alloc::Global;
-use std::io::Read;
+use std::io::{self, Eprint, Error, ErrorKind, Read};
 use std::process::{Command, Processes, Stdio};
-use tf_desk::read_on;
+use tf_desk::{read_on, tell_reason};
 use tf_values::{Text, Texts};
 
-/// The real spawner: a program is a child of this process, with no input, and its standard error is
-/// dropped. It tells its count alone.
+/// The real spawner: a program is a child of this process, with no input, and it has this process's standard
+/// error. Where a program can't be run the system's reason is said there. It tells its count alone.
 #[derive(Drop)]
 pub struct Children<R> {
     runtime: R,
@@ -23,7 +23,7 @@ impl<R> Children<R> {
     }
 }
 
-impl<R: Processes + Drop> Spawner for Children<R> {
+impl<R: Processes + Eprint + Drop> Spawner for Children<R> {
     ghost faults = { λ children. children.faults };
 
     ghost answers = { λ _ _ _ _. Unit {0} };
@@ -41,7 +41,7 @@ impl<R: Processes + Drop> Spawner for Children<R> {
 }
 
 /// Starts a child, reads its output and waits for its end.
-fn run_child<R: Processes>(
+fn run_child<R: Processes + Eprint>(
     runtime: &R,
     alloc: Global,
     program: &Text,
@@ -50,21 +50,37 @@ fn run_child<R: Processes>(
     ensures short { IfOk result (λ done. length done.out ≤ OUTPUT_LIMIT) }
 {
     let mut command = command_of(alloc, program, args)?;
-    let Ok(mut child) = command.spawn(runtime) else {
-        return Err(SpawnFault::Failed);
+    let mut child = match command.spawn(runtime) {
+        Ok(child) => child,
+        Err(reason) => return Err(fault_told(runtime, program, &reason)),
     };
     let Some(output) = child.stdout.take() else {
         return Err(SpawnFault::Failed);
     };
     let kept = read_output(alloc, output);
-    let Ok(status) = child.wait() else {
-        return Err(SpawnFault::Failed);
+    let status = match child.wait() {
+        Ok(status) => status,
+        Err(reason) => return Err(fault_told(runtime, program, &reason)),
     };
-    let bytes = kept?;
+    let bytes = match kept {
+        Ok(bytes) => bytes,
+        Err(reason) => return Err(fault_told(runtime, program, &reason)),
+    };
     Ok(Done {
         status: status.code().unwrap_or(-1),
         out: Output::make(bytes),
     })
+}
+
+/// The fault of a program that couldn't be run: want of memory, or the fault whose reason is told here.
+fn fault_told<R: Eprint>(runtime: &R, program: &Text, reason: &Error) -> SpawnFault {
+    if reason.kind() == ErrorKind::OutOfMemory {
+        return SpawnFault::Memory;
+    }
+    if let Ok(name) = str::from_utf8(program.bytes()) {
+        tell_reason(runtime, name, reason);
+    }
+    SpawnFault::Failed
 }
 
 /// The program with its arguments, with no input and with its output collected.
@@ -85,40 +101,34 @@ fn command_of(alloc: Global, program: &Text, args: &Texts) -> Result<Command, Sp
     }
     command.stdin(Stdio::null());
     command.stdout(Stdio::piped());
-    command.stderr(Stdio::null());
+    command.stderr(Stdio::inherit());
     Ok(command)
 }
 
 /// Reads an output to its end, and keeps as many of its bytes as are kept. An interrupted read is tried
 /// again. The output is closed then.
 #[tactic(auto, using(crate::proofs::RemainingLemmas::first_left))]
-fn read_output<F: Read + Drop>(alloc: Global, mut output: F) -> Result<Vec<u8>, SpawnFault>
+fn read_output<F: Read + Drop>(alloc: Global, mut output: F) -> io::Result<Vec<u8>>
     ensures short { IfOk result (λ bytes. length bytes.items ≤ OUTPUT_LIMIT) }
     ensures first { IfOk result (λ bytes. IsFirstLeft (F.remaining output) OUTPUT_LIMIT bytes.items) }
 {
     let mut bytes = Vec::new(alloc);
     if bytes.resize(OUTPUT_LIMIT, 0).is_err() {
-        return Err(SpawnFault::Memory);
+        return Err(Error::from(ErrorKind::OutOfMemory));
     }
-    let Some(count) = read_on(&mut output, &mut bytes) else {
-        return Err(SpawnFault::Failed);
-    };
-    if !read_out(&mut output) {
-        return Err(SpawnFault::Failed);
-    }
+    let count = read_on(&mut output, &mut bytes)?;
+    read_out(&mut output)?;
     bytes.truncate(count);
     Ok(bytes)
 }
 
-/// Reads what is left and drops it. `false`: a read failed.
-fn read_out<F: Read>(output: &mut F) -> bool {
+/// Reads what is left and drops it.
+fn read_out<F: Read>(output: &mut F) -> io::Result<()> {
     let mut piece = [0; 8192];
     for _ in 0..u64::MAX {
-        match read_on(output, &mut piece) {
-            Some(8192) => {}
-            Some(_) => return true,
-            None => return false,
+        if read_on(output, &mut piece)? < 8192 {
+            return Ok(());
         }
     }
-    false
+    Err(Error::from(ErrorKind::FileTooLarge))
 }

@@ -1,12 +1,12 @@
 ghost use Rattle.std.specs.Prelude.{◌≡◌, ℕ, ◌≤◌, List, Option, IfOk, OnOk, OnErr, IsErrOf, vec_len};
 ghost use Rattle.tf_desk.specs.Counts.{Rises};
 ghost use Rattle.tf_ports.specs.declared.crews.Want.{Want as AWant};
-ghost use Rattle.tf_ports.specs.Told.{told_with};
+ghost use Rattle.tf_actions.specs.Told.{told_with};
 ghost use Rattle.tf_ports.specs.Wanted.{wanted};
 
-use crate::performers::Performer;
 use std::alloc::Global;
 use std::marker::Model;
+use tf_actions::Performer;
 use tf_values::{Memory, Text};
 
 /// Where a remote hand is: a Unix socket's path, or a port of 127.0.0.1.

@@ -1,15 +1,16 @@
-ghost use Rattle.std.specs.Prelude.{◌≡◌, ◌≤◌, length, None, IfOk, IsErrOf};
+ghost use Rattle.std.specs.Prelude.{◌≡◌, ◌≢◌, ◌≤◌, length, None, IfOk, IsErrOf};
 ghost use Rattle.tf_ports.specs.Remaining.{IsAllLeft, HasMoreLeft};
 
 use crate::reading::{SOURCE_LIMIT, SourceFault, Sources};
 use std::alloc::Global;
 use std::fs;
-use std::io::Read;
+use std::io::{Eprint, Error, ErrorKind, Read};
 use std::rt::Files;
-use tf_desk::read_on;
+use tf_desk::{read_on, tell_reason};
 use tf_values::Text;
 
-/// The folder that the program runs in: a name is a path. It tells its count alone.
+/// The folder that the program runs in: a name is a path. Where a file can't be read the system's reason is said
+/// on standard error. It tells its count alone.
 #[derive(Drop)]
 pub struct Folder<R> {
     runtime: R,
@@ -23,7 +24,7 @@ impl<R> Folder<R> {
     }
 }
 
-impl<R: Files + Drop> Sources for Folder<R> {
+impl<R: Files + Eprint + Drop> Sources for Folder<R> {
     ghost contents = { λ _. None };
 
     ghost faults = { λ folder. folder.faults };
@@ -41,20 +42,40 @@ impl<R: Files + Drop> Sources for Folder<R> {
 }
 
 /// All bytes of the file, up to the limit.
-fn read_file<R: Files>(runtime: &R, alloc: Global, name: &Text) -> Result<Vec<u8>, SourceFault>
+fn read_file<R: Files + Eprint>(
+    runtime: &R,
+    alloc: Global,
+    name: &Text,
+) -> Result<Vec<u8>, SourceFault>
     ensures short { IfOk result (λ bytes. length bytes.items ≤ SOURCE_LIMIT) }
 {
     let Ok(path) = str::from_utf8(name.bytes()) else {
         return Err(SourceFault::Read);
     };
-    let Ok(mut file) = fs::open(runtime, path) else {
-        return Err(SourceFault::Read);
-    };
-    read_to_limit(alloc, &mut file)
+    match fs::open(runtime, path) {
+        Ok(mut file) => read_to_limit(runtime, alloc, path, &mut file),
+        Err(reason) => Err(fault_told(runtime, path, &reason)),
+    }
+}
+
+/// The fault of a file that couldn't be read: want of memory, or the fault whose reason is told here.
+fn fault_told<R: Eprint>(runtime: &R, path: &str, reason: &Error) -> SourceFault
+    ensures { result ≢ SourceFault.TooLong }
+{
+    if reason.kind() == ErrorKind::OutOfMemory {
+        return SourceFault::Memory;
+    }
+    tell_reason(runtime, path, reason);
+    SourceFault::Read
 }
 
 /// All bytes that the reader has left, up to the limit. An interrupted read is tried again.
-fn read_to_limit<F: Read>(alloc: Global, file: &mut F) -> Result<Vec<u8>, SourceFault>
+fn read_to_limit<R: Eprint, F: Read>(
+    runtime: &R,
+    alloc: Global,
+    path: &str,
+    file: &mut F,
+) -> Result<Vec<u8>, SourceFault>
     ensures short { IfOk result (λ bytes. length bytes.items ≤ SOURCE_LIMIT) }
     ensures whole { IfOk result (λ bytes. IsAllLeft (F.remaining file.old) bytes.items) }
     ensures too_long { IsErrOf result SourceFault.TooLong → HasMoreLeft (F.remaining file.old) SOURCE_LIMIT }
@@ -64,8 +85,9 @@ fn read_to_limit<F: Read>(alloc: Global, file: &mut F) -> Result<Vec<u8>, Source
     if bytes.resize(SOURCE_LIMIT + 1, 0).is_err() {
         return Err(SourceFault::Memory);
     }
-    let Some(count) = read_on(file, &mut bytes) else {
-        return Err(SourceFault::Read);
+    let count = match read_on(file, &mut bytes) {
+        Ok(count) => count,
+        Err(reason) => return Err(fault_told(runtime, path, &reason)),
     };
     if count > SOURCE_LIMIT {
         return Err(SourceFault::TooLong);

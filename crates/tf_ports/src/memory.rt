@@ -26,9 +26,9 @@ pub struct MemorySources {
 
 impl Model for MemorySources {
     ghost use Rattle.std.specs.Prelude.{map};
-    ghost use Rattle.tf_ports.specs.MemorySources.{Held, seen};
+    ghost use Rattle.tf_ports.specs.MemorySources.{HeldBySources, seen};
 
-    ghost Value = { Held };
+    ghost Value = { HeldBySources };
 
     ghost view = { λ held. record { sources = map seen held.sources.items; faults = held.faults } };
 }

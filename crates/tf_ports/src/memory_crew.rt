@@ -2,9 +2,9 @@ ghost use Rattle.std.specs.Prelude.{◌≡◌, ◌≤◌, [], Some, IsErrOf};
 ghost use Rattle.tf_desk.specs.Counts.{Rises};
 
 use crate::crews::{Crew, PortFault, Want};
-use crate::performers::Performer;
 use std::alloc::Global;
 use std::marker::Model;
+use tf_actions::Performer;
 
 /// A crew in memory, with hands that wait to be hired. Its calls are numbered from 1, and the stated ones
 /// fail; so does one that wants more hands than are left.
@@ -18,9 +18,9 @@ pub struct MemoryCrew<P> {
 }
 
 impl<P> Model for MemoryCrew<P> {
-    ghost use Rattle.tf_ports.specs.MemoryCrew.{Held};
+    ghost use Rattle.tf_ports.specs.MemoryCrew.{HeldByCrew};
 
-    ghost Value = { Held };
+    ghost Value = { HeldByCrew };
 
     ghost view = { λ crew. record { hired = crew.hired.items; faults = crew.faults } };
 }

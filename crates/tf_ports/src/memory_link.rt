@@ -25,9 +25,9 @@ pub struct MemoryLink {
 
 impl Model for MemoryLink {
     ghost use Rattle.std.specs.Prelude.{drop};
-    ghost use Rattle.tf_ports.specs.MemoryLink.{Held};
+    ghost use Rattle.tf_ports.specs.MemoryLink.{HeldByLink};
 
-    ghost Value = { Held };
+    ghost Value = { HeldByLink };
 
     ghost view = { λ link. record { left = drop link.given link.bytes.items; sent = link.sent.items; faults = link.faults; ends = link.ends } };
 }

@@ -2,11 +2,9 @@ ghost use Rattle.std.specs.Prelude.{◌≡◌, [], Some};
 ghost use Rattle.tf_ports.specs.MemoryPerformer.{IsPlayed, IsNothingOrLost};
 ghost use Rattle.tf_ports.specs.PlayedLaws.{played_looks_up, played_reverts};
 
-use crate::orders::{Given, Order};
-use crate::outcomes::{Action, Outcome};
-use crate::performers::Performer;
 use std::alloc::Global;
 use std::marker::Model;
+use tf_actions::{Action, Given, Order, Outcome, Performer};
 use tf_states::Failure;
 use tf_values::{Memory, Val};
 
@@ -20,9 +18,9 @@ pub struct MemoryPerformer {
 }
 
 impl Model for MemoryPerformer {
-    ghost use Rattle.tf_ports.specs.MemoryPerformer.{Held};
+    ghost use Rattle.tf_ports.specs.MemoryPerformer.{HeldByPerformer};
 
-    ghost Value = { Held };
+    ghost Value = { HeldByPerformer };
 
     ghost view = { λ performer. record { did = performer.did.items } };
 }

@@ -25,9 +25,9 @@ pub struct MemorySpawner {
 }
 
 impl Model for MemorySpawner {
-    ghost use Rattle.tf_ports.specs.MemorySpawner.{Held};
+    ghost use Rattle.tf_ports.specs.MemorySpawner.{HeldBySpawner};
 
-    ghost Value = { Held };
+    ghost Value = { HeldBySpawner };
 
     ghost view = { λ held. record { programs = held.programs.items; faults = held.faults } };
 }

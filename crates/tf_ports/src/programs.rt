@@ -67,6 +67,7 @@ pub trait Spawner: Drop {
         ensures answered { IfOk result (λ done. answers self.old program.now args.now done) }
         ensures short { IfOk result (λ done. length done.out ≤ OUTPUT_LIMIT) }
         ensures cause { IsErrOf result SpawnFault.Failed → Rises (faults self.old) (faults self.new) }
-        ensures same { (name : List ℕ) (words : List (List ℕ)) (done : ADone) → (answers self.new name words done ↔ answers self.old name words done) }
+        ensures same { (name : List ℕ) (words : List (List ℕ)) (done : ADone)
+            → (answers self.new name words done ↔ answers self.old name words done) }
         ensures no_fall { faults self.old ≤ faults self.new };
 }

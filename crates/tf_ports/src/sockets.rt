@@ -1,15 +1,15 @@
 ghost use Rattle.std.specs.Prelude.{◌<◌, length, None};
-ghost use Rattle.tf_ports.specs.Sockets.{Reads};
+ghost use Rattle.tf_ports.specs.Sockets.{ReadsSome};
 
 use crate::crews::{Address, PortFault};
 use crate::doors::Door;
 use crate::links::{Came, Link, LinkFault};
 use std::alloc::Global;
-use std::io::{ErrorKind, Read};
+use std::io::{self, Eprint, Error, ErrorKind, Read};
 use std::net::{Ipv4Addr, Net, SocketAddrV4, TcpListener, TcpStream};
 use std::os::unix::net::{UnixListener, UnixStream};
 use std::rt::Files;
-use tf_desk::write_whole;
+use tf_desk::{tell_reason, write_whole};
 
 /// A stream of the system's: a Unix socket's, or a connection by TCP.
 #[derive(Drop)]
@@ -51,7 +51,7 @@ impl Link for SocketLink {
             Stream::Unix(stream) => write_whole(stream, bytes),
             Stream::Tcp(stream) => write_whole(stream, bytes),
         };
-        if !done {
+        if done.is_err() {
             self.faults = self.faults.saturating_add(1);
             return Err(LinkFault);
         }
@@ -80,7 +80,7 @@ impl Link for SocketLink {
 /// What comes over the stream next; an interrupted read is tried again.
 fn get<S: Read>(stream: &mut S, buf: &mut [u8]) -> Came
     requires room { 0 < length buf.old }
-    ensures { Reads (S.remaining stream.old) (S.remaining stream.new) buf.new result }
+    ensures { ReadsSome (S.remaining stream.old) (S.remaining stream.new) buf.new result }
 {
     for _ in 0..u64::MAX {
         match stream.read(buf) {
@@ -104,7 +104,8 @@ enum Listener {
 }
 
 /// The real door: a Unix socket at a path that nothing has yet, and that stays when the door is gone, or a
-/// port of 127.0.0.1. It tells its count alone.
+/// port of 127.0.0.1. Where it can't be opened, or fails, the system's reason is said on standard error. It tells
+/// its count alone.
 #[derive(Drop)]
 pub struct SocketDoor<R> {
     runtime: R,
@@ -123,18 +124,20 @@ impl<R> SocketDoor<R> {
     }
 }
 
-impl<R: Net<Listener = TcpListener, Stream = TcpStream> + Files + Drop> Door for SocketDoor<R> {
+impl<R: Net<Listener = TcpListener, Stream = TcpStream> + Files + Eprint + Drop> Door
+    for SocketDoor<R> {
     type Made = SocketLink;
 
     ghost faults = { λ door. door.faults };
 
     fn listen(&mut self, _alloc: Global, address: &Address) -> Result<(), PortFault> {
         match open(&self.runtime, address) {
-            Some(listener) => {
+            Ok(listener) => {
                 self.listener = Some(listener);
                 Ok(())
             }
-            None => {
+            Err(reason) => {
+                tell_address_reason(&self.runtime, address, &reason);
                 self.faults = self.faults.saturating_add(1);
                 Err(PortFault::Failed)
             }
@@ -144,11 +147,12 @@ impl<R: Net<Listener = TcpListener, Stream = TcpStream> + Files + Drop> Door for
     fn accept(&mut self, _alloc: Global) -> Result<SocketLink, PortFault> {
         let stream = match &self.listener {
             Some(listener) => next(listener),
-            None => None,
+            None => Err(Error::from(ErrorKind::NotConnected)),
         };
         match stream {
-            Some(stream) => Ok(SocketLink::make(stream)),
-            None => {
+            Ok(stream) => Ok(SocketLink::make(stream)),
+            Err(reason) => {
+                tell_reason(&self.runtime, "the socket", &reason);
                 self.faults = self.faults.saturating_add(1);
                 Err(PortFault::Failed)
             }
@@ -156,41 +160,49 @@ impl<R: Net<Listener = TcpListener, Stream = TcpStream> + Files + Drop> Door for
     }
 }
 
-/// A socket that waits at the address. `None`: it couldn't be made.
-fn open<R: Net<Listener = TcpListener, Stream = TcpStream> + Files>(
-    runtime: &R,
-    address: &Address,
-) -> Option<Listener> {
+/// Says on standard error why no socket could be made at the address.
+fn tell_address_reason<R: Eprint>(runtime: &R, address: &Address, reason: &Error) {
     match address {
         Address::Unix(path) => {
-            let Ok(path) = str::from_utf8(path.bytes()) else {
-                return None;
-            };
-            match UnixListener::bind(runtime, path) {
-                Ok(listener) => Some(Listener::Unix(listener)),
-                Err(_) => None,
+            if let Ok(path) = str::from_utf8(path.bytes()) {
+                tell_reason(runtime, path, reason);
             }
         }
         Address::Tcp(port) => {
-            let here = SocketAddrV4::new(Ipv4Addr::LOCALHOST, *port);
-            match TcpListener::bind(runtime, here) {
-                Ok(listener) => Some(Listener::Tcp(listener)),
-                Err(_) => None,
-            }
+            let _told = eprintln!(runtime; "taskflow: 127.0.0.1:{port}: {reason}");
         }
     }
 }
 
-/// The next connection; an interrupted wait goes on. `None`: the socket failed.
-fn next(listener: &Listener) -> Option<Stream> {
+/// A socket that waits at the address.
+fn open<R: Net<Listener = TcpListener, Stream = TcpStream> + Files>(
+    runtime: &R,
+    address: &Address,
+) -> io::Result<Listener> {
+    match address {
+        Address::Unix(path) => {
+            let Ok(path) = str::from_utf8(path.bytes()) else {
+                return Err(Error::from(ErrorKind::InvalidInput));
+            };
+            Ok(Listener::Unix(UnixListener::bind(runtime, path)?))
+        }
+        Address::Tcp(port) => {
+            let here = SocketAddrV4::new(Ipv4Addr::LOCALHOST, *port);
+            Ok(Listener::Tcp(TcpListener::bind(runtime, here)?))
+        }
+    }
+}
+
+/// The next connection; an interrupted wait goes on.
+fn next(listener: &Listener) -> io::Result<Stream> {
     match listener {
-        Listener::Unix(listener) => match listener.accept() {
-            Ok((stream, _)) => Some(Stream::Unix(stream)),
-            Err(_) => None,
-        },
-        Listener::Tcp(listener) => match listener.accept() {
-            Ok((stream, _)) => Some(Stream::Tcp(stream)),
-            Err(_) => None,
-        },
+        Listener::Unix(listener) => {
+            let (stream, _) = listener.accept()?;
+            Ok(Stream::Unix(stream))
+        }
+        Listener::Tcp(listener) => {
+            let (stream, _) = listener.accept()?;
+            Ok(Stream::Tcp(stream))
+        }
     }
 }

@@ -3,8 +3,8 @@ use Rattle.std.specs.Prelude.{ℕ, List, [], ◌∷◌, ◌++◌, codes, Option,
 use Rattle.std.specs.Fmt.{decimal}
 use Rattle.tf_states.specs.declared.state.JobState.{JobState}
 use Rattle.tf_states.specs.declared.state.JobState.TheVariants as job
-use Rattle.tf_report.specs.declared.job_lines.Priority.{Priority}
-use Rattle.tf_report.specs.declared.job_lines.Priority.TheVariants as priority
+use Rattle.tf_states.specs.declared.priorities.Priority.{Priority}
+use Rattle.tf_states.specs.declared.priorities.Priority.TheVariants as priority
 use Rattle.tf_report.specs.declared.job_lines.JobLine.{JobLine}
 
 -- the word for how urgent a job is

@@ -61,7 +61,8 @@ pub fn append_pair(head: &[u8], name: &[u8], out: &mut Vec<u8>) -> Result<(), Me
 pub fn append_named(head: &[u8], name: &[u8], word: &str, out: &mut Vec<u8>) -> Result<(), Memory>
     ensures ok { OnOk result (out.new.items ≡ out.old.items ++ (head.now ++ name.now ++ 32 ∷ word.now)) }
     ensures err { OnErr result (KeepsFront out.old.items out.new.items) }
-    ensures full { OnErr result (vec_capacity out.old < length out.old.items + (length head.now + length name.now + 1 + length word.now)) }
+    ensures full { OnErr result (vec_capacity out.old
+        < length out.old.items + (length head.now + length name.now + 1 + length word.now)) }
     ensures capacity { vec_capacity out.old ≤ vec_capacity out.new }
 {
     append_pair(head, name, out)?;

@@ -4,18 +4,8 @@ ghost use Rattle.tf_values.specs.Growth.{KeepsFront};
 ghost use Rattle.tf_report.specs.Jobs.{priority_word as word_of_priority, job_word as word_of_job, owner_text, job_line};
 
 use crate::appending::{append, append_counted, append_named, append_pair};
-use tf_states::JobState;
+use tf_states::{JobState, Priority};
 use tf_values::{Memory, Name, Text};
-
-/// How urgent a job is.
-#[derive(Clone, Copy, Debug, PartialEq, Eq)]
-pub enum Priority {
-    VeryHigh,
-    High,
-    Normal,
-    Low,
-    VeryLow,
-}
 
 /// What the list of a board says of a job: its number on the board, counted from 1, its id in text, its name, how
 /// urgent it is, where it stands, and who has it.

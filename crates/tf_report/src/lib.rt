@@ -12,9 +12,10 @@ mod state_words;
 mod tables;
 
 pub use appending::{append, append_counted, append_named, append_number, append_pair};
-pub use job_lines::{JobLine, Priority, jobs, priority_word};
+pub use job_lines::{JobLine, jobs, priority_word};
 pub use lines::line;
 pub use names::flow_name;
 pub use reports::report;
 pub use state_words::flow_word;
 pub use tables::table;
+pub use tf_states::Priority;

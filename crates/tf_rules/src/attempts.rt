@@ -6,8 +6,8 @@ ghost use Rattle.tf_model.specs.Retries as retries;
 ghost use Rattle.tf_model.specs.Scope.{item_value};
 
 use std::alloc::Global;
+use tf_actions::{Given, Pair};
 use tf_flow::{Part, Plan, Retry, RetryKind};
-use tf_ports::{Given, Pair};
 use tf_states::{Failure, Kind, Payload};
 use tf_values::{Memory, Name, Scalar, Val};
 

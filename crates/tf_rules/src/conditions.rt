@@ -27,7 +27,8 @@ pub struct Seen<'a> {
 /// Whether a test is true of the results that are seen. A comparison with a name that has none is false.
 #[cycle(passing)]
 pub fn passes(seen: &Seen<'_>, test: &Test) -> bool
-    ensures { (s : Snapshot) → Shows seen.now.views.now s → result ≡ deciders.passes (seen_in s seen.now) (condition_of test.now) }
+    ensures { (s : Snapshot) → Shows seen.now.views.now s
+        → result ≡ deciders.passes (seen_in s seen.now) (condition_of test.now) }
 {
     match test {
         Test::Is(name, value) => compares_same(result_of(seen, name), value),

@@ -48,7 +48,8 @@ pub fn widest(plan: &Plan, views: &[AtomView], atom: u16) -> Option<Depth>
 
 /// The widest depth among the links that refuse the task whose tests see this.
 fn widest_of(seen: &Seen<'_>) -> Option<Depth>
-    ensures { (s : Snapshot) → Shows seen.now.views.now s → result ≡ deciders.widest (refusing_depths s seen.now seen.now.links.now) }
+    ensures { (s : Snapshot) → Shows seen.now.views.now s
+        → result ≡ deciders.widest (refusing_depths s seen.now seen.now.links.now) }
 {
     let mut found = None;
     for link in seen.links {
@@ -84,7 +85,8 @@ fn wider(one: Depth, other: Depth) -> Depth
 /// The depth of a link whose test is false; a link whose source was ignored isn't asked.
 fn refused_depth(seen: &Seen<'_>, link: &Link) -> Option<Depth>
     ensures { (s : Snapshot) → Shows seen.now.views.now s
-        → result ≡ deciders.refused_depth (outline_of seen.now.plan.now) s (seen_in s seen.now) (connection_of link.now) }
+        → result ≡ deciders.refused_depth (outline_of seen.now.plan.now) s (seen_in s seen.now)
+        (connection_of link.now) }
 {
     if was_ignored(seen, &link.from) {
         return None;

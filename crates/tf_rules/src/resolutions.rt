@@ -87,7 +87,8 @@ fn resolved(
     answer: Kind,
 ) -> Resolution
     ensures { (others : List Controlled) → is_outermost ≡ retries.is_outermost others
-        → shown_resolution result ≡ retries.resolved defer (shown_controller here) others (shown_resolution outer) answer }
+        → shown_resolution result ≡ retries.resolved defer (shown_controller here) others
+        (shown_resolution outer) answer }
 {
     match answer {
         Kind::Retry => Resolution {

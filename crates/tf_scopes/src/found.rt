@@ -35,7 +35,8 @@ pub fn found_in<'a>(
 ) -> Option<Found<'a>>
     requires atom { atom < count (outline_of plan.now) }
     requires source { source.now ≡ source_of (outline_of plan.now) atom symbol.now }
-    ensures { (s : Snapshot) → Shows views.now s → shown_in result ≡ symbol_value (outline_of plan.now) s atom symbol.now }
+    ensures { (s : Snapshot) → Shows views.now s
+        → shown_in result ≡ symbol_value (outline_of plan.now) s atom symbol.now }
 {
     match source {
         Source::Injected(place) => bound_at(plan.part(atom).injects(), *place),
@@ -63,7 +64,8 @@ fn first_given<'a>(
     atoms: &[u16],
 ) -> Option<Found<'a>>
     requires { (k : ℕ) → has_number atoms.now k ≡ true → k < count (outline_of plan.now) }
-    ensures { (s : Snapshot) → Shows views.now s → shown_in result ≡ first_some (given_by (outline_of plan.now) s symbol.now) atoms.now }
+    ensures { (s : Snapshot) → Shows views.now s
+        → shown_in result ≡ first_some (given_by (outline_of plan.now) s symbol.now) atoms.now }
 {
     for atom in atoms {
         if let Some(found) = given_by(plan, views, symbol, *atom) {

@@ -10,8 +10,8 @@ ghost use Rattle.tf_scopes.specs.Providers.{IsOf};
 use crate::found::Found;
 use crate::providers::Providers;
 use std::alloc::Global;
+use tf_actions::{Action, Args, Given, Pair};
 use tf_flow::Plan;
-use tf_ports::{Action, Args, Given, Pair};
 use tf_states::AtomView;
 use tf_values::{Memory, Val};
 
@@ -30,7 +30,8 @@ impl Providers {
     ) -> Result<Given, Memory>
         requires providers { IsOf self.now plan.now }
         requires atom { atom < count (outline_of plan.now) }
-        ensures { (s : Snapshot) → Shows views.now s → IfOk result (λ given. given ≡ given_for (outline_of plan.now) s atom action) }
+        ensures { (s : Snapshot) → Shows views.now s
+            → IfOk result (λ given. given ≡ given_for (outline_of plan.now) s atom action) }
     {
         let args = plan.part(atom).args();
         let mut pairs = Vec::with_capacity(alloc, args.len())?;

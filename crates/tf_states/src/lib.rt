@@ -2,10 +2,12 @@
 //! history.
 #![tactic(auto)]
 
+mod priorities;
 mod record;
 mod state;
 mod transitions;
 
+pub use priorities::Priority;
 pub use record::{AtomView, Entry, Failure, Kind, Payload, What};
 pub use state::{AtomState, FlowState, JobState};
 pub use transitions::{allowed_flow, allowed_job, allowed_retry, allowed_task};

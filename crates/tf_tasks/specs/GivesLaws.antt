@@ -6,15 +6,15 @@ use Rattle.tf_values.specs.declared.value.Val.TheVariants as value
 use Rattle.tf_states.specs.declared.record.Failure.TheVariants as failure
 use Rattle.tf_flow.specs.declared.atoms.Undo.{Undo}
 use Rattle.tf_flow.specs.declared.atoms.Undo.TheVariants as undo
-use Rattle.tf_ports.specs.declared.orders.Given.{Given}
-use Rattle.tf_ports.specs.declared.orders.Given.TheVariants as given
-use Rattle.tf_ports.specs.declared.orders.Order.{Order}
-use Rattle.tf_ports.specs.declared.outcomes.Action.{Action}
-use Rattle.tf_ports.specs.declared.outcomes.Action.TheVariants as action
-use Rattle.tf_ports.specs.declared.outcomes.Outcome.{Outcome}
-use Rattle.tf_ports.specs.declared.outcomes.Outcome.TheVariants as outcome
-use Rattle.tf_ports.specs.Gives.{Gives, GivesFor, GivesReverted}
-use Rattle.tf_ports.specs.Laws.{LooksUp, RevertsToNothing}
+use Rattle.tf_actions.specs.declared.orders.Given.{Given}
+use Rattle.tf_actions.specs.declared.orders.Given.TheVariants as given
+use Rattle.tf_actions.specs.declared.orders.Order.{Order}
+use Rattle.tf_actions.specs.declared.outcomes.Action.{Action}
+use Rattle.tf_actions.specs.declared.outcomes.Action.TheVariants as action
+use Rattle.tf_actions.specs.declared.outcomes.Outcome.{Outcome}
+use Rattle.tf_actions.specs.declared.outcomes.Outcome.TheVariants as outcome
+use Rattle.tf_actions.specs.Gives.{Gives, GivesFor, GivesReverted}
+use Rattle.tf_actions.specs.Laws.{LooksUp, RevertsToNothing}
 
 pub undone_is_nothing : (how : Undo) (result : Val) → GivesReverted how (outcome.Gave result) → result ≡ value.Nothing
 undone_is_nothing undo.Pass result is = cc

@@ -6,16 +6,16 @@ use Rattle.tf_values.specs.Text.{is_text}
 use Rattle.tf_states.specs.declared.record.Failure.TheVariants as failure
 use Rattle.tf_flow.specs.declared.atoms.Undo.{Undo}
 use Rattle.tf_flow.specs.declared.atoms.Undo.TheVariants as undo
-use Rattle.tf_ports.specs.declared.orders.Given.{Given}
-use Rattle.tf_ports.specs.declared.orders.Given.TheVariants as given
-use Rattle.tf_ports.specs.declared.orders.Order.{Order}
-use Rattle.tf_ports.specs.declared.orders.Pair.{Pair}
-use Rattle.tf_ports.specs.declared.outcomes.Action.{Action}
-use Rattle.tf_ports.specs.declared.outcomes.Action.TheVariants as action
-use Rattle.tf_ports.specs.declared.outcomes.Outcome.{Outcome}
-use Rattle.tf_ports.specs.declared.outcomes.Outcome.TheVariants as outcome
+use Rattle.tf_actions.specs.declared.orders.Given.{Given}
+use Rattle.tf_actions.specs.declared.orders.Given.TheVariants as given
+use Rattle.tf_actions.specs.declared.orders.Order.{Order}
+use Rattle.tf_actions.specs.declared.orders.Pair.{Pair}
+use Rattle.tf_actions.specs.declared.outcomes.Action.{Action}
+use Rattle.tf_actions.specs.declared.outcomes.Action.TheVariants as action
+use Rattle.tf_actions.specs.declared.outcomes.Outcome.{Outcome}
+use Rattle.tf_actions.specs.declared.outcomes.Outcome.TheVariants as outcome
 use Rattle.tf_ports.specs.declared.programs.Done.{Done}
-use Rattle.tf_ports.specs.Built.{plain_pair}
+use Rattle.tf_actions.specs.Built.{plain_pair}
 
 -- the plain bytes of an argument are a text (they are UTF-8, so that only their length can keep them from
 -- being one)
@@ -80,5 +80,5 @@ ObeysFor action.Execute answers cause order (given.Found pairs) result = RunsTo 
 ObeysFor action.Revert answers cause order (given.Found pairs) result = UndoesTo answers cause order.undo pairs result
 ObeysFor how answers cause order (given.Missing symbol) result = ⊥
 
-abbrev pub Obeys : (List ℕ → List (List ℕ) → Done → Type 0) → Type 0 → Order → Outcome → Type 0
-Obeys answers cause order result = ObeysFor order.action answers cause order order.given result
+abbrev pub ObeysOrder : (List ℕ → List (List ℕ) → Done → Type 0) → Type 0 → Order → Outcome → Type 0
+ObeysOrder answers cause order result = ObeysFor order.action answers cause order order.given result

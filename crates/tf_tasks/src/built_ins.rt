@@ -1,17 +1,17 @@
 ghost use Rattle.std.specs.Prelude.{◌≡◌, ◌≤◌, length, false, Some, IfOk};
 ghost use Rattle.tf_flow.specs.Rules.{is_command, least_arguments};
-ghost use Rattle.tf_ports.specs.Built.{built, by_first, by_first_two, echoed, measured, picked, compared, demanded, raised, joined};
+ghost use Rattle.tf_actions.specs.Built.{built, by_first, by_first_two, echoed, measured, picked, compared, demanded, raised, joined};
 ghost use Rattle.tf_flow.specs.declared.atoms.Undo.TheVariants as undo;
-ghost use Rattle.tf_ports.specs.Gives.{Gives, GivesReverted};
-ghost use Rattle.tf_ports.specs.Whole.{IsWhole};
+ghost use Rattle.tf_actions.specs.Gives.{Gives, GivesReverted};
+ghost use Rattle.tf_actions.specs.Whole.{IsWhole};
 ghost use Rattle.tf_tasks.specs.Program.{is_program, is_run};
 
 use crate::lists::{list, measure, pick};
 use crate::numbers::{compare, sum};
 use crate::plain::{concat, demand, join, raise};
 use std::alloc::Global;
+use tf_actions::{Action, Given, Order, Outcome, Pair};
 use tf_flow::{TaskKind, Undo};
-use tf_ports::{Action, Given, Order, Outcome, Pair};
 use tf_states::Failure;
 use tf_values::{Memory, Val};
 
@@ -92,7 +92,8 @@ fn demand_first(alloc: Global, pairs: &[Pair]) -> Result<Outcome, Memory>
 
 fn pick_from_first(alloc: Global, pairs: &[Pair]) -> Result<Outcome, Memory>
     requires { 2 ≤ length pairs.now }
-    ensures { IfOk result (λ outcome. by_first_two (λ first second. picked first first.value second) pairs.now ≡ Some outcome) }
+    ensures { IfOk result (λ outcome. by_first_two (λ first second. picked first first.value second) pairs.now
+        ≡ Some outcome) }
 {
     match pairs {
         [first, second, ..] => pick(alloc, first, second),
@@ -102,7 +103,8 @@ fn pick_from_first(alloc: Global, pairs: &[Pair]) -> Result<Outcome, Memory>
 
 fn compare_first(alloc: Global, pairs: &[Pair]) -> Result<Outcome, Memory>
     requires { 2 ≤ length pairs.now }
-    ensures { IfOk result (λ outcome. by_first_two (λ first second. compared first first.value second) pairs.now ≡ Some outcome) }
+    ensures { IfOk result (λ outcome. by_first_two (λ first second. compared first first.value second) pairs.now
+        ≡ Some outcome) }
 {
     match pairs {
         [first, second, ..] => compare(alloc, first, second),

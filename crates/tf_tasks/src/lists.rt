@@ -1,11 +1,11 @@
 ghost use Rattle.std.specs.Prelude.{◌≡◌, ◌++◌, ◌<◌, ◌^◌, pos, IfOk};
 ghost use Rattle.std.specs.List.{flat_map};
 ghost use Rattle.tf_values.specs.declared.value.Val.TheVariants as value;
-ghost use Rattle.tf_ports.specs.declared.outcomes.Outcome.TheVariants as outcome;
-ghost use Rattle.tf_ports.specs.Built.{spread, spread_pair, listed, measured, picked, picked_by, item_at};
+ghost use Rattle.tf_actions.specs.declared.outcomes.Outcome.TheVariants as outcome;
+ghost use Rattle.tf_actions.specs.Built.{spread, spread_pair, listed, measured, picked, picked_by, item_at};
 
 use std::alloc::Global;
-use tf_ports::{Outcome, Pair};
+use tf_actions::{Outcome, Pair};
 use tf_states::Failure;
 use tf_values::{Memory, Scalar, Scalars, Val};
 

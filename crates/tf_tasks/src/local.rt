@@ -1,18 +1,19 @@
 ghost use Rattle.std.specs.Prelude.{◌≡◌, true, false, None, IfOk, ◌≤◌, length};
 ghost use Rattle.std.specs.List.{list_all};
 ghost use Rattle.tf_desk.specs.Counts.{Rises};
-ghost use Rattle.tf_ports.specs.Gives.{Gives, GivesNothing};
-ghost use Rattle.tf_ports.specs.Whole.{IsWhole};
+ghost use Rattle.tf_actions.specs.Gives.{Gives, GivesNothing};
+ghost use Rattle.tf_actions.specs.Whole.{IsWhole};
 ghost use Rattle.tf_flow.specs.declared.atoms.Undo.TheVariants as undo;
 ghost use Rattle.tf_tasks.specs.GivesLaws.{gives_looks_up, gives_reverts};
 ghost use Rattle.tf_tasks.specs.Program.{is_program, runs_program};
-ghost use Rattle.tf_tasks.specs.Run.{has_text, Obeys, RunsTo, UndoesTo};
+ghost use Rattle.tf_tasks.specs.Run.{has_text, ObeysOrder, RunsTo, UndoesTo};
 
 use crate::built_ins::value_of;
 use crate::runs::{drop_output, run};
 use std::alloc::Global;
+use tf_actions::{Action, Given, Order, Outcome, Pair, Performer};
 use tf_flow::{TaskKind, Undo};
-use tf_ports::{Action, Given, Order, Outcome, Pair, Performer, Spawner};
+use tf_ports::Spawner;
 use tf_values::{Memory, Text};
 
 /// The hand that performs orders in this process: built-in tasks itself, and programs by its spawner. It
@@ -44,7 +45,9 @@ impl<S: Spawner> LocalHand<S> {
     pub fn obey(&mut self, alloc: Global, order: &Order) -> Result<Outcome, Memory>
         requires whole { IsWhole order.now }
         ensures gives { IfOk result (λ outcome. Gives order.now outcome) }
-        ensures program { is_program order.now ≡ true → IfOk result (λ outcome. Obeys (S.answers self.old.spawner) (Rises (S.faults self.old.spawner) (S.faults self.new.spawner)) order.now outcome) }
+        ensures program { is_program order.now ≡ true
+            → IfOk result (λ outcome. ObeysOrder (S.answers self.old.spawner)
+            (Rises (S.faults self.old.spawner) (S.faults self.new.spawner)) order.now outcome) }
         ensures unrun { runs_program order.now ≡ false → self.new ≡ self.old }
     {
         if let Given::Found(args) = &order.given {
@@ -67,7 +70,8 @@ fn undo<S: Spawner>(
     pairs: &[Pair],
 ) -> Result<Outcome, Memory>
     requires { 1 ≤ length words.now }
-    ensures runs { IfOk result (λ outcome. UndoesTo (S.answers spawner.old) (Rises (S.faults spawner.old) (S.faults spawner.new)) (undo.Run words.now) pairs.now outcome) }
+    ensures runs { IfOk result (λ outcome. UndoesTo (S.answers spawner.old)
+        (Rises (S.faults spawner.old) (S.faults spawner.new)) (undo.Run words.now) pairs.now outcome) }
     ensures gives { IfOk result (λ outcome. GivesNothing outcome) }
     ensures unrun { list_all has_text pairs.now ≡ false → spawner.new ≡ spawner.old }
 {

@@ -2,11 +2,11 @@ ghost use Rattle.std.specs.Prelude.{◌≡◌, ◌++◌, ◌≤◌, ◌*◌, ◌
 ghost use Rattle.std.specs.List.{list_all};
 ghost use Rattle.std.specs.Fmt.{signed_decimal};
 ghost use Rattle.tf_flow.specs.Names.{first_some};
-ghost use Rattle.tf_ports.specs.Built.{is_integer, has_integers, scalar_amount, scalars_total, amount, total, not_summed, number_of, summed, not_below, not_below_by, compared};
+ghost use Rattle.tf_actions.specs.Built.{is_integer, has_integers, scalar_amount, scalars_total, amount, total, not_summed, number_of, summed, not_below, not_below_by, compared};
 
 use itoa::Buffer;
 use std::alloc::Global;
-use tf_ports::{Outcome, Pair};
+use tf_actions::{Outcome, Pair};
 use tf_states::Failure;
 use tf_values::{MakeFault, Memory, Name, Scalar, Text, Val};
 

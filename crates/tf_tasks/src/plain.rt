@@ -1,9 +1,9 @@
 ghost use Rattle.std.specs.Prelude.{◌≡◌, ◌++◌, ◌≤◌, length, codes, true, IfOk, if◌then◌else◌};
 ghost use Rattle.tf_values.specs.Text.{is_text};
-ghost use Rattle.tf_ports.specs.Built.{plain, joined, text_of, raised, demanded};
+ghost use Rattle.tf_actions.specs.Built.{plain, joined, text_of, raised, demanded};
 
 use std::alloc::Global;
-use tf_ports::{Outcome, Pair};
+use tf_actions::{Outcome, Pair};
 use tf_states::Failure;
 use tf_values::{MakeFault, Memory, Text, Val};
 

@@ -1,13 +1,14 @@
 ghost use Rattle.std.specs.Prelude.{◌≡◌, ◌∷◌, [], ◌++◌, ◌≤◌, length, map, true, false, IfOk};
 ghost use Rattle.std.specs.List.{list_all};
 ghost use Rattle.tf_desk.specs.Counts.{Rises};
-ghost use Rattle.tf_ports.specs.Built.{plain_pair};
-ghost use Rattle.tf_ports.specs.Gives.{GivesText, GivesNothing};
+ghost use Rattle.tf_actions.specs.Built.{plain_pair};
+ghost use Rattle.tf_actions.specs.Gives.{GivesText, GivesNothing};
 ghost use Rattle.tf_tasks.specs.Run.{has_text, without_feed as unfed, spelled, ended, EndsWith, RunsTo, dropped};
 
 use crate::plain::append_plain;
 use std::alloc::Global;
-use tf_ports::{Done, Outcome, Pair, SpawnFault, Spawner};
+use tf_actions::{Outcome, Pair};
+use tf_ports::{Done, SpawnFault, Spawner};
 use tf_states::Failure;
 use tf_values::{MakeFault, Memory, Text, Texts, Val};
 
@@ -22,7 +23,8 @@ pub fn run<S: Spawner>(
     pairs: &[Pair],
 ) -> Result<Outcome, Memory>
     requires { 1 ≤ length words.now }
-    ensures runs { IfOk result (λ outcome. RunsTo (S.answers spawner.old) (Rises (S.faults spawner.old) (S.faults spawner.new)) words.now pairs.now outcome) }
+    ensures runs { IfOk result (λ outcome. RunsTo (S.answers spawner.old)
+        (Rises (S.faults spawner.old) (S.faults spawner.new)) words.now pairs.now outcome) }
     ensures gives { IfOk result (λ outcome. GivesText outcome) }
     ensures unrun { list_all has_text pairs.now ≡ false → spawner.new ≡ spawner.old }
 {
@@ -43,7 +45,8 @@ fn run_with<S: Spawner>(
     program: &Text,
     args: &Texts,
 ) -> Result<Outcome, Memory>
-    ensures ends { IfOk result (λ outcome. EndsWith (S.answers spawner.old) (Rises (S.faults spawner.old) (S.faults spawner.new)) program.now args.now outcome) }
+    ensures ends { IfOk result (λ outcome. EndsWith (S.answers spawner.old)
+        (Rises (S.faults spawner.old) (S.faults spawner.new)) program.now args.now outcome) }
     ensures gives { IfOk result (λ outcome. GivesText outcome) }
 {
     match spawner.run(alloc, program, args) {

@@ -12,8 +12,8 @@ use Rattle.atomic_table.specs.declared.shared.Seat.{Seat}
 use Rattle.tf_turnstile.specs.declared.rule.View.{View}
 use Rattle.tf_turnstile.specs.Seats.{IsOut, pass_of}
 use Rattle.tf_turnstile.specs.declared.rule.Opening.{Opening}
-use Rattle.tf_turnstile.specs.Numbered.{AllBelow, IsLater}
-use Rattle.tf_turnstile.specs.Order.{Stands, back_view}
+use Rattle.tf_turnstile.specs.Numbered.{AreNumberedBelow, IsLater}
+use Rattle.tf_turnstile.specs.Order.{HoldsBetweenSteps, back_view}
 use Rattle.tf_turnstile.specs.Passes.{TurnstileValue, PassValue, IsPassOf, IsIdle, AreAll, HasGrown}
 use Rattle.tf_turnstile.proofs.NumberedLemmas.{each_get, own-later}
 use Rattle.tf_turnstile.proofs.PassLemmas.{home_at_last}
@@ -73,11 +73,11 @@ module _ {B E : Type 0} where
 
   -- each entry carries the number of a pass, and to each pass the entries are what it has seen with entries of others after it
   pub record AreLast (turnstile : TurnstileValue B) (passes : List (PassValue B E)) (added : List (ℕ × E)) : Type 0 where
-    pub numbers : AllBelow turnstile.passes added
+    pub numbers : AreNumberedBelow turnstile.passes added
     pub seen : All (λ pass. IsLater pass.number pass.seen added) passes
 
   -- what each pass has seen has come true of the entries in the end
-  pub all_seen : (turnstile : TurnstileValue B) (passes front : List (PassValue B E)) (last : PassValue B E) (added : List (ℕ × E)) → passes ≡ front ++ last ∷ [] → AreSplit turnstile front last → AllBelow turnstile.passes added
+  pub all_seen : (turnstile : TurnstileValue B) (passes front : List (PassValue B E)) (last : PassValue B E) (added : List (ℕ × E)) → passes ≡ front ++ last ∷ [] → AreSplit turnstile front last → AreNumberedBelow turnstile.passes added
       → ((i : ℕ) (seen : List (ℕ × E)) → get_elem? (map (λ (p : PassValue B E). p.seen) front) i ≡ some seen → IsLater i seen added) → IsLater last.number last.seen added → AreLast turnstile passes added
   all_seen turnstile passes front last added is split numbers back end =
       let Q : PassValue B E → Type 0 = λ p. IsLater p.number p.seen added in
@@ -100,16 +100,16 @@ module _ {B O E : Type 0} (origin : B → O) (first : B → ℕ) (entries : B �
     pub same : origin now ≡ origin opening.kept.value
     pub added : List (ℕ × E)
     pub history : entries now ≡ entries opening.kept.value ++ added
-    pub numbers : AllBelow opening.passes added
+    pub numbers : AreNumberedBelow opening.passes added
     pub back : (i : ℕ) (seen : List (ℕ × E)) → get_elem? v.back i ≡ some seen → IsLater i seen added
     pub last : IsLater v.number v.seen added
 
   pub ends_with : (opening : Opening B) (id : ℕ) (v : View B E) (a : B) (words : List ℕ) (slots : List (Option B)) (slot : Option B) → v.start ≡ Some a → v.taken ≡ None → v.number + 1 ≡ opening.passes → length v.back ≡ v.number
-      → Final (Seen (Stands origin first entries opening) id v) words slots → get_elem? slots 0 ≡ some slot → Ends opening v slot
+      → Final (Seen (HoldsBetweenSteps origin first entries opening) id v) words slots → get_elem? slots 0 ≡ some slot → Ends opening v slot
   ends_with opening id v a words slots slot live free whole all final there =
       let st = final.1.0 in
       let h = home_at_last origin first entries opening id v a final.0 live free whole all final.1 in
-      let P : ℕ → Type 0 = λ n. AllBelow n st.added in record {
+      let P : ℕ → Type 0 = λ n. AreNumberedBelow n st.added in record {
         now = st.now;
         is = some-injective slot (Some st.now) (sym there ∙ final.4 0 (Some st.now) h.0);
         same = st.same;
@@ -125,7 +125,7 @@ module _ {B O E : Type 0} (origin : B → O) (first : B → ℕ) (entries : B �
       → opening.passes ≡ turnstile.passes → passes ≡ front ++ last ∷ [] → AreSplit turnstile front last → pass_of seat ≡ last → n ≡ with_back seat.me (map (λ (p : PassValue B E). p.seen) front)
       → (end : Ends opening n.0 slot) → AreLast turnstile passes end.added
   all_last opening turnstile passes front last seat n slot count is split view back end =
-      let P : ℕ → Type 0 = λ k. AllBelow k end.added in
+      let P : ℕ → Type 0 = λ k. AreNumberedBelow k end.added in
       let Q : List (List (ℕ × E)) → Type 0 = λ l. (i : ℕ) (seen : List (ℕ × E)) → get_elem? l i ≡ some seen → IsLater i seen end.added in
       let R : Me (Option B) (View B E) → Type 0 = λ m. IsLater m.0.number m.0.seen end.added in
       let S : PassValue B E → Type 0 = λ p. IsLater p.number p.seen end.added in

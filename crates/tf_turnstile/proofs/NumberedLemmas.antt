@@ -6,7 +6,7 @@ use Rattle.std.proofs.lemmas.List.Elements.{All-append, filter-append}
 use Rattle.std.proofs.lemmas.Option.{get_or_from_slice_get, slice_get_within, slice_get-get_or}
 use mathlib.Core.Option.{some, some-injective, some-ne-none}
 use lib.ListN.{get_elem?}
-use Rattle.tf_turnstile.specs.Numbered.{AllBy, NoneBy, AllBelow, own, IsLater, IsLonger}
+use Rattle.tf_turnstile.specs.Numbered.{AllBy, NoneBy, AreNumberedBelow, own, IsLater, IsLonger}
 
 module _ {E : Type 0} where
   -- what one number carries another does not
@@ -26,15 +26,15 @@ module _ {E : Type 0} where
       record { since = l.since ++ g.mine; begins = g.begins ∙ ap (λ x. x ++ g.mine) l.begins ∙ append_assoc seen l.since g.mine; others = All-append (λ e. e.0 ≢ m) l.since g.mine l.others (none_by m n g.mine ne g.own) }
 
   -- a number below the bound keeps all below it
-  pub below_on : (n bound : ℕ) (added now : List (ℕ × E)) → n < bound → AllBelow bound added → IsLonger n added now → AllBelow bound now
+  pub below_on : (n bound : ℕ) (added now : List (ℕ × E)) → n < bound → AreNumberedBelow bound added → IsLonger n added now → AreNumberedBelow bound now
   below_on n bound added now lt all g =
-      let P : List (ℕ × E) → Type 0 = λ x. AllBelow bound x in
+      let P : List (ℕ × E) → Type 0 = λ x. AreNumberedBelow bound x in
       subst P (sym g.begins) (All-append (λ e. e.0 < bound) added g.mine all (λ k d h. let e = g.own k d h in omega (arith, e)))
 
-  pub none_of : (n : ℕ) (entries : List (ℕ × E)) → AllBelow n entries → NoneBy n entries
+  pub none_of : (n : ℕ) (entries : List (ℕ × E)) → AreNumberedBelow n entries → NoneBy n entries
   none_of n entries all = λ k d h q. let lt = all k d h in omega (arith, lt, q)
 
-  pub below_more : (n : ℕ) (entries : List (ℕ × E)) → AllBelow n entries → AllBelow (n + 1) entries
+  pub below_more : (n : ℕ) (entries : List (ℕ × E)) → AreNumberedBelow n entries → AreNumberedBelow (n + 1) entries
   below_more n entries all = λ k d h. let lt = all k d h in omega (arith, lt)
 
   -- no entry carries the number

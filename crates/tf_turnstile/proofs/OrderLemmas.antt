@@ -6,8 +6,8 @@ use Rattle.atomic_table.specs.Table.{State}
 use Rattle.atomic_table.proofs.Lists.{at_set}
 use Rattle.tf_turnstile.specs.declared.rule.View.{View}
 use Rattle.tf_turnstile.specs.declared.rule.Opening.{Opening}
-use Rattle.tf_turnstile.specs.Numbered.{AllBelow, IsLater, IsLonger}
-use Rattle.tf_turnstile.specs.Order.{AreBack, Fits, Stands}
+use Rattle.tf_turnstile.specs.Numbered.{AreNumberedBelow, IsLater, IsLonger}
+use Rattle.tf_turnstile.specs.Order.{AreBack, Fits, HoldsBetweenSteps}
 use Rattle.tf_turnstile.proofs.NumberedLemmas.{later_on, below_on, there_below}
 
 -- a view after a step: it may have seen more, and taken or given the value
@@ -60,7 +60,7 @@ module _ {B E : Type 0} where
 
 module _ {B O E : Type 0} (origin : B → O) (first : B → ℕ) (entries : B → List (ℕ × E)) where
   -- a live seat's step on the words and the slot
-  pub stands_after : (opening : Opening B) (s : State (Option B) (View B E)) (st : Stands origin first entries opening s) (id : ℕ) (v : View B E) (a : B) → get_elem? s.views id ≡ some v → v.start ≡ Some a
+  pub stands_after : (opening : Opening B) (s : State (Option B) (View B E)) (st : HoldsBetweenSteps origin first entries opening s) (id : ℕ) (v : View B E) (a : B) → get_elem? s.views id ≡ some v → v.start ≡ Some a
       → (now : B) (added : List (ℕ × E)) (by : ℕ) (seen : List (ℕ × E)) (held : Option B) (words : List ℕ) (homes : List (mathlib.Core.Option.Option (Option B)))
       → origin now ≡ origin opening.kept.value → entries now ≡ entries opening.kept.value ++ added → IsLonger id st.added added
       → length words ≡ 3 → slice_index words 1 ≡ first now + length (entries now)
@@ -68,11 +68,11 @@ module _ {B O E : Type 0} (origin : B → O) (first : B → ℕ) (entries : B �
       → (slice_index words 0 ≢ 0 → (w : View B E) × (get_elem? (slice_set s.views id (view_after v seen held)) by ≡ some w) × (w.taken ≡ Some now))
       → ((i : ℕ) → i ≢ id → i ≡ st.by → slice_index s.words 0 ≢ 0 → (st.now ≡ now) × (i ≡ by) × (slice_index words 0 ≢ 0))
       → ((b : B) → held ≡ Some b → (b ≡ now) × (id ≡ by) × (slice_index words 0 ≢ 0)) → IsLater id seen added
-      → Stands origin first entries opening (record { words = words; homes = homes; views = slice_set s.views id (view_after v seen held) })
+      → HoldsBetweenSteps origin first entries opening (record { words = words; homes = homes; views = slice_set s.views id (view_after v seen held) })
   stands_after opening s st id v a at live now added by seen held words homes same history more three count home out others has later =
       let w : View B E = view_after v seen held in
       let long : length (slice_set s.views id w) ≡ length s.views = length-set s.views id w in
-      let Below : ℕ → Type 0 = λ n. AllBelow n added in record {
+      let Below : ℕ → Type 0 = λ n. AreNumberedBelow n added in record {
         now = now;
         added = added;
         by = by;

@@ -10,8 +10,8 @@ use Rattle.atomic_table.specs.Table.{State, Splits, Joins, Seen, opening as open
 use Rattle.atomic_table.proofs.Lists.{at_set, set_here, set_else, at_longer}
 use Rattle.tf_turnstile.specs.declared.rule.View.{View}
 use Rattle.tf_turnstile.specs.declared.rule.Opening.{Opening}
-use Rattle.tf_turnstile.specs.Numbered.{AllBelow, IsLater}
-use Rattle.tf_turnstile.specs.Order.{AreBack, Fits, Stands, first_view, left_view, right_view, back_view, spent_view}
+use Rattle.tf_turnstile.specs.Numbered.{AreNumberedBelow, IsLater}
+use Rattle.tf_turnstile.specs.Order.{AreBack, Fits, HoldsBetweenSteps, first_view, left_view, right_view, back_view, spent_view}
 use Rattle.tf_turnstile.proofs.NumberedLemmas.{later_same, none_of, below_more, at_end, is_there, there_below}
 use Rattle.tf_turnstile.proofs.OrderLemmas.{fits_at}
 
@@ -37,7 +37,7 @@ module _ {B E : Type 0} where
 module _ {B O E : Type 0} (origin : B → O) (first : B → ℕ) (entries : B → List (ℕ × E)) (opening : Opening B) where
   -- the last seat becomes a pass, and the new one the last
   pub deal_allowed : (id : ℕ) (v : View B E) (a : B) → v.start ≡ Some a → v.taken ≡ None → v.is_last ≡ true → v.seen ≡ [] → v.back ≡ [] → v.number + 1 < opening.passes
-      → Splits (Stands origin first entries opening) id v (left_view v) (right_view v)
+      → Splits (HoldsBetweenSteps origin first entries opening) id v (left_view v) (right_view v)
   deal_allowed id v a live free last unseen unback few s st at =
       let views : List (View B E) = s.views in
       let left : View B E = left_view v in
@@ -51,7 +51,7 @@ module _ {B O E : Type 0} (origin : B → O) (first : B → ℕ) (entries : B �
       let there : id < length views = there_below views id v at in
       let turn : ℕ = slice_index s.words 0 in
       let start : B = opening.kept.value in
-      let numbers : AllBelow (id + 1) st.added = let P : ℕ → Type 0 = λ n. AllBelow n st.added in subst P long st.numbers in
+      let numbers : AreNumberedBelow (id + 1) st.added = let P : ℕ → Type 0 = λ n. AreNumberedBelow n st.added in subst P long st.numbers in
       let number_is : v.number ≡ id = f.1 in
       let left_fits : Fits start st.now st.added turn st.by after id left = record {
         taken = fit.taken;
@@ -79,7 +79,7 @@ module _ {B O E : Type 0} (origin : B → O) (first : B → ℕ) (entries : B �
         by = st.by;
         same = st.same;
         history = st.history;
-        numbers = let P : ℕ → Type 0 = λ n. AllBelow n st.added in let more = below_more (id + 1) st.added numbers in let n : id + 1 + 1 ≡ length after = omega (arith, after_long) in subst P n more;
+        numbers = let P : ℕ → Type 0 = λ n. AreNumberedBelow n st.added in let more = below_more (id + 1) st.added numbers in let n : id + 1 + 1 ≡ length after = omega (arith, after_long) in subst P n more;
         passes = omega (arith, after_long, few, number_is);
         words = st.words;
         count = st.count;
@@ -99,7 +99,7 @@ module _ {B O E : Type 0} (origin : B → O) (first : B → ℕ) (entries : B �
   -- the last seat takes another one back
   pub return_allowed : (id : ℕ) (v : View B E) (other : ℕ) (w : View B E) (a b : B) → v.start ≡ Some a → v.taken ≡ None → v.number + 1 ≡ opening.passes
       → w.start ≡ Some b → w.taken ≡ None → w.number ≡ length v.back
-      → Joins (Stands origin first entries opening) id v other w (back_view v w) spent_view
+      → Joins (HoldsBetweenSteps origin first entries opening) id v other w (back_view v w) spent_view
   return_allowed id v other w a b live free whole other_live other_free next s st at apart other_at =
       let views : List (View B E) = s.views in
       let both : View B E = back_view v w in
@@ -166,7 +166,7 @@ module _ {B O E : Type 0} (origin : B → O) (first : B → ℕ) (entries : B �
         by = st.by;
         same = st.same;
         history = st.history;
-        numbers = let P : ℕ → Type 0 = λ n. AllBelow n st.added in subst P (sym after_long) st.numbers;
+        numbers = let P : ℕ → Type 0 = λ n. AreNumberedBelow n st.added in subst P (sym after_long) st.numbers;
         passes = omega (arith, after_long, few);
         words = st.words;
         count = st.count;
@@ -186,7 +186,7 @@ module _ {B O E : Type 0} (origin : B → O) (first : B → ℕ) (entries : B �
 
   -- once all others were taken back, the value is at home
   pub home_at_last : (id : ℕ) (v : View B E) (a : B) (s : State (Option B) (View B E)) → v.start ≡ Some a → v.taken ≡ None → v.number + 1 ≡ opening.passes → length v.back ≡ v.number
-      → (seen : Seen (Stands origin first entries opening) id v s) → (get_elem? s.homes 0 ≡ some (some (Some seen.0.now))) × (length s.views ≡ opening.passes) × AreBack seen.0.added s.views v.back × IsLater v.number v.seen seen.0.added
+      → (seen : Seen (HoldsBetweenSteps origin first entries opening) id v s) → (get_elem? s.homes 0 ≡ some (some (Some seen.0.now))) × (length s.views ≡ opening.passes) × AreBack seen.0.added s.views v.back × IsLater v.number v.seen seen.0.added
   home_at_last id v a s live free whole all seen =
       let st = seen.0 in
       let at = seen.1 in
@@ -212,13 +212,13 @@ module _ {B O E : Type 0} (origin : B → O) (first : B → ℕ) (entries : B �
 
   -- at first the value is at home, and there is one seat
   pub stands_first : (kept : B) (count : ℕ) (words : List ℕ) (slots : List (Option B)) → opening.kept.value ≡ kept → 0 < opening.passes → count ≡ first kept + length (entries kept) → words ≡ 0 ∷ count ∷ 0 ∷ [] → slots ≡ Some kept ∷ []
-      → Stands origin first entries opening (opens words slots (first_view opening.kept.value))
+      → HoldsBetweenSteps origin first entries opening (opens words slots (first_view opening.kept.value))
   stands_first kept count words slots is some_passes counted words_are slots_are =
       let v : View B E = first_view opening.kept.value in
-      let W : List ℕ → Type 0 = λ ws. Stands origin first entries opening (opens ws slots v) in
-      let S : List (Option B) → Type 0 = λ xs. Stands origin first entries opening (opens (0 ∷ count ∷ 0 ∷ []) xs v) in
+      let W : List ℕ → Type 0 = λ ws. HoldsBetweenSteps origin first entries opening (opens ws slots v) in
+      let S : List (Option B) → Type 0 = λ xs. HoldsBetweenSteps origin first entries opening (opens (0 ∷ count ∷ 0 ∷ []) xs v) in
       let no_entries : List (ℕ × E) = [] in
-      let none : AllBelow 1 no_entries = All-nil (λ e. e.0 < 1) in
+      let none : AreNumberedBelow 1 no_entries = All-nil (λ e. e.0 < 1) in
       let fit : Fits opening.kept.value kept [] 0 0 (v ∷ []) 0 v = record {
         taken = λ b e. absurd cc;
         live = λ b e. let same : opening.kept.value ≡ b = cc in (sym same, refl, later_same 0 no_entries);

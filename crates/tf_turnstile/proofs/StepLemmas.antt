@@ -9,7 +9,7 @@ use Rattle.atomic_table.proofs.Lists.{set_here, set_again}
 use Rattle.tf_turnstile.specs.declared.rule.View.{View}
 use Rattle.tf_turnstile.specs.declared.rule.Opening.{Opening}
 use Rattle.tf_turnstile.specs.Numbered.{IsLonger}
-use Rattle.tf_turnstile.specs.Order.{Stands}
+use Rattle.tf_turnstile.specs.Order.{HoldsBetweenSteps}
 use Rattle.tf_turnstile.specs.Steps.{takes_out, tells_nothing, puts_home, looks, counts}
 use Rattle.tf_turnstile.proofs.NumberedLemmas.{later_same, longer_same, there_below}
 use Rattle.tf_turnstile.proofs.OrderLemmas.{view_after, stands_after}
@@ -25,11 +25,11 @@ one_slot {B} slots b c p q =
 
 module _ {B O E : Type 0} (origin : B → O) (first : B → ℕ) (entries : B → List (ℕ × E)) (opening : Opening B) (slots : ℕ) where
   -- the words change, and turn and count stay as they were: nothing is learned
-  pub quiet_keeps : (s : State (Option B) (View B E)) (st : Stands origin first entries opening s) (id : ℕ) (v : View B E) → get_elem? s.views id ≡ some v
+  pub quiet_keeps : (s : State (Option B) (View B E)) (st : HoldsBetweenSteps origin first entries opening s) (id : ℕ) (v : View B E) → get_elem? s.views id ≡ some v
       → (words : List ℕ) → length words ≡ 3 → slice_index words 0 ≡ slice_index s.words 0 → slice_index words 1 ≡ slice_index s.words 1
-      → Stands origin first entries opening (record { words = words; homes = s.homes; views = slice_set s.views id v })
+      → HoldsBetweenSteps origin first entries opening (record { words = words; homes = s.homes; views = slice_set s.views id v })
   quiet_keeps s st id v at words three turn count =
-      let P : List (View B E) → Type 0 = λ views. Stands origin first entries opening (record { words = words; homes = s.homes; views = views }) in
+      let P : List (View B E) → Type 0 = λ views. HoldsBetweenSteps origin first entries opening (record { words = words; homes = s.homes; views = views }) in
       let Q : ℕ → Type 0 = λ n. (i : ℕ) (u : View B E) → get_elem? s.views i ≡ some u → Rattle.tf_turnstile.specs.Order.Fits opening.kept.value st.now st.added n st.by s.views i u in
       subst P (sym (set_again s.views id v at)) (record {
         now = st.now;
@@ -47,7 +47,7 @@ module _ {B O E : Type 0} (origin : B → O) (first : B → ℕ) (entries : B �
       })
 
   -- a load of the count without the value in hand
-  pub glance_allowed : (id : ℕ) (m : Me (Option B) (View B E)) (step : Step (Option B)) → Allows (Stands origin first entries opening) slots id m 1 (λ n. n) (tells_nothing step m)
+  pub glance_allowed : (id : ℕ) (m : Me (Option B) (View B E)) (step : Step (Option B)) → Allows (HoldsBetweenSteps origin first entries opening) slots id m 1 (λ n. n) (tells_nothing step m)
   glance_allowed id m step s st one at wide =
       let long = st.words in
       let there : 1 < length s.words = omega (arith, long) in (
@@ -60,7 +60,7 @@ module _ {B O E : Type 0} (origin : B → O) (first : B → ℕ) (entries : B �
       )
 
   -- a step on the bell
-  pub bell_allowed : (id : ℕ) (m : Me (Option B) (View B E)) (step : Step (Option B)) (f : ℕ → ℕ) → Allows (Stands origin first entries opening) slots id m 2 f (tells_nothing step m)
+  pub bell_allowed : (id : ℕ) (m : Me (Option B) (View B E)) (step : Step (Option B)) (f : ℕ → ℕ) → Allows (HoldsBetweenSteps origin first entries opening) slots id m 2 f (tells_nothing step m)
   bell_allowed id m step f s st one at wide =
       let long = st.words in
       let n : ℕ = f (slice_index s.words 2) in (
@@ -74,7 +74,7 @@ module _ {B O E : Type 0} (origin : B → O) (first : B → ℕ) (entries : B �
 
   -- the exchange out
   pub take_allowed : (id : ℕ) (m : Me (Option B) (View B E)) (step : Step (Option B)) (a : B) → m.0.start ≡ Some a → m.0.taken ≡ None → m.1 ≡ []
-      → Allows (Stands origin first entries opening) slots id m 0 (λ _. 1) (takes_out step m)
+      → Allows (HoldsBetweenSteps origin first entries opening) slots id m 0 (λ _. 1) (takes_out step m)
   take_allowed id m step a live free none s st one at wide =
       let words : List ℕ = slice_set s.words 0 1 in
       let long : length s.words ≡ 3 = st.words in
@@ -108,7 +108,7 @@ module _ {B O E : Type 0} (origin : B → O) (first : B → ℕ) (entries : B �
 
   -- the load with the value in hand
   pub look_allowed : (id : ℕ) (m : Me (Option B) (View B E)) (step : Step (Option B)) (a b : B) → m.0.start ≡ Some a → m.0.taken ≡ Some b
-      → Allows (Stands origin first entries opening) slots id m 1 (λ n. n) (looks origin first entries step m)
+      → Allows (HoldsBetweenSteps origin first entries opening) slots id m 1 (λ n. n) (looks origin first entries step m)
   look_allowed id m step a b live held s st one at wide =
       let n : ℕ = slice_index s.words 1 in
       let words : List ℕ = slice_set s.words 1 n in
@@ -144,7 +144,7 @@ module _ {B O E : Type 0} (origin : B → O) (first : B → ℕ) (entries : B �
   -- the count: what was taken is in the slot again, with entries of the seat's number added
   pub count_allowed : (id : ℕ) (m : Me (Option B) (View B E)) (step : Step (Option B)) (a b kept : B) (n : ℕ) → m.0.start ≡ Some a → m.0.taken ≡ Some b → m.1 ≡ (0, Some kept) ∷ []
       → origin kept ≡ origin b → IsLonger m.0.number (entries b) (entries kept) → n ≡ first kept + length (entries kept)
-      → Allows (Stands origin first entries opening) slots id m 1 (λ _. n) (λ _. counts origin first entries step m n)
+      → Allows (HoldsBetweenSteps origin first entries opening) slots id m 1 (λ _. n) (λ _. counts origin first entries step m n)
   count_allowed id m step a b kept n live held slot same longer count_is s st one at wide =
       let words : List ℕ = slice_set s.words 1 n in
       let long : length s.words ≡ 3 = st.words in
@@ -175,7 +175,7 @@ module _ {B O E : Type 0} (origin : B → O) (first : B → ℕ) (entries : B �
 
   -- the exchange home
   pub home_allowed : (id : ℕ) (m : Me (Option B) (View B E)) (step : Step (Option B)) (a kept : B) → slots ≡ 1 → m.0.start ≡ Some a → m.0.taken ≡ Some kept → m.1 ≡ (0, Some kept) ∷ []
-      → Allows (Stands origin first entries opening) slots id m 0 (λ _. 0) (λ _. puts_home step m 0)
+      → Allows (HoldsBetweenSteps origin first entries opening) slots id m 0 (λ _. 0) (λ _. puts_home step m 0)
   home_allowed id m step a kept only live held slot s st one at wide =
       let words : List ℕ = slice_set s.words 0 0 in
       let long : length s.words ≡ 3 = st.words in
@@ -187,7 +187,7 @@ module _ {B O E : Type 0} (origin : B → O) (first : B → ℕ) (entries : B �
       let t = fit.taken kept held in
       let homes = slice_set s.homes 0 (some (Some kept)) in
       let now_is : some (some (Some kept)) ≡ some (some (Some st.now)) = ap (λ y. some (some (Some y))) t.0 in
-      let P : List (ℕ × Option B) → Type 0 = λ c. Stands origin first entries opening (record { words = words; homes = Rattle.atomic_table.specs.Table.put_back s.homes c; views = slice_set s.views id (view_after v v.seen None) }) in (
+      let P : List (ℕ × Option B) → Type 0 = λ c. HoldsBetweenSteps origin first entries opening (record { words = words; homes = Rattle.atomic_table.specs.Table.put_back s.homes c; views = slice_set s.views id (view_after v v.seen None) }) in (
         view_after v v.seen None,
         gives,
         tt,

@@ -12,8 +12,8 @@ module _ {E : Type 0} where
   NoneBy number entries = All (λ e. e.0 ≢ number) entries
 
   -- each of these entries carries a number below this one
-  abbrev pub AllBelow : ℕ → List (ℕ × E) → Type 0
-  AllBelow bound entries = All (λ e. e.0 < bound) entries
+  abbrev pub AreNumberedBelow : ℕ → List (ℕ × E) → Type 0
+  AreNumberedBelow bound entries = All (λ e. e.0 < bound) entries
 
   -- the entries that carry this number, in their order
   abbrev pub own : ℕ → List (ℕ × E) → List (ℕ × E)

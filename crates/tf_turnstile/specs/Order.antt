@@ -5,7 +5,7 @@ use lib.ListN.{get_elem?}
 use Rattle.atomic_table.specs.Table.{State}
 use Rattle.tf_turnstile.specs.declared.rule.View.{View}
 use Rattle.tf_turnstile.specs.declared.rule.Opening.{Opening}
-use Rattle.tf_turnstile.specs.Numbered.{AllBelow, IsLater}
+use Rattle.tf_turnstile.specs.Numbered.{AreNumberedBelow, IsLater}
 
 -- what the first seat knows: it is the last one in number, and makes the others
 abbrev pub first_view : {B E : Type 0} → B → View B E
@@ -42,13 +42,13 @@ module _ {B E : Type 0} where
 
 module _ {B O E : Type 0} (origin : B → O) (first : B → ℕ) (entries : B → List (ℕ × E)) where
   -- what holds between any two steps
-  pub record Stands (opening : Opening B) (s : State (Option B) (View B E)) : Type 0 where
+  pub record HoldsBetweenSteps (opening : Opening B) (s : State (Option B) (View B E)) : Type 0 where
     pub now : B
     pub added : List (ℕ × E)
     pub by : ℕ
     pub same : origin now ≡ origin opening.kept.value
     pub history : entries now ≡ entries opening.kept.value ++ added
-    pub numbers : AllBelow (length s.views) added
+    pub numbers : AreNumberedBelow (length s.views) added
     pub passes : length s.views ≤ opening.passes
     pub words : length s.words ≡ 3
     pub count : slice_index s.words 1 ≡ first now + length (entries now)

@@ -2,7 +2,7 @@
 use Rattle.std.specs.Prelude.{◌≡◌, ℕ, ◌<◌, List, [], ◌++◌, length, Option, Some, None, slice_index_or}
 use Rattle.std.specs.List.{All}
 use Rattle.atomic_table.specs.Seated.{TableId}
-use Rattle.tf_turnstile.specs.Numbered.{AllBelow, IsLater, IsLonger, own}
+use Rattle.tf_turnstile.specs.Numbered.{AreNumberedBelow, IsLater, IsLonger, own}
 
 -- which turnstile it is, the value that it was made with, and for how many passes
 pub record TurnstileValue (B : Type 0) : Type 0 where
@@ -46,7 +46,7 @@ module _ {B E : Type 0} where
 
 module _ {B O E : Type 0} (origin : B → O) (entries : B → List (ℕ × E)) where
   -- the pass may give this value: it has what the value that was taken may never change, and that one's entries with the pass's own after them
-  pub record IsTurn (pass : PassValue B E) (kept : B) : Type 0 where
+  pub record MayGive (pass : PassValue B E) (kept : B) : Type 0 where
     pub taken : B
     pub has : pass.taken ≡ Some taken
     pub same : origin kept ≡ origin taken
@@ -57,6 +57,6 @@ module _ {B E : Type 0} (entries : B → List (ℕ × E)) where
   pub record HasGrown (turnstile : TurnstileValue B) (passes : List (PassValue B E)) (kept : B) : Type 0 where
     pub added : List (ℕ × E)
     pub history : entries kept ≡ entries turnstile.start ++ added
-    pub numbers : AllBelow turnstile.passes added
+    pub numbers : AreNumberedBelow turnstile.passes added
     pub seen : All (λ pass. IsLater pass.number pass.seen added) passes
     pub own : All (λ pass. own pass.number added ≡ own pass.number pass.seen) passes

@@ -15,8 +15,8 @@ abbrev pub IsSized : TableId → Type 0
 IsSized table = (table.words ≡ 3) × (table.slots ≡ 1)
 
 -- the same seat of the same table, whatever it knows
-abbrev pub IsSame : {B E : Type 0} → Seat (Option B) (View B E) → Seat (Option B) (View B E) → Type 0
-IsSame seat after = (after.table_id ≡ seat.table_id) × (after.id ≡ seat.id)
+abbrev pub IsSameSeat : {B E : Type 0} → Seat (Option B) (View B E) → Seat (Option B) (View B E) → Type 0
+IsSameSeat seat after = (after.table_id ≡ seat.table_id) × (after.id ≡ seat.id)
 
 -- a seat took the slot, with a value in it
 abbrev pub TakesSlot : {B E : Type 0} → Me (Option B) (View B E) → Me (Option B) (View B E) → Type 0

@@ -1,6 +1,6 @@
 // A turnstile and its passes: how they are made, and how the value is had back in the end.
 ghost use Rattle.std.specs.Prelude.{◌≡◌, ℕ, ◌<◌, ◌≤◌, ◌++◌, ◌+◌, [], ◌∷◌, List, Some, IfOk, IfErr, map, slice_get, vec_capacity};
-ghost use Rattle.tf_turnstile.specs.Seats.{IsFree, IsPassSeat, IsOut, IsSame, IsSized, pass_of};
+ghost use Rattle.tf_turnstile.specs.Seats.{IsFree, IsPassSeat, IsOut, IsSameSeat, IsSized, pass_of};
 ghost use Rattle.tf_turnstile.specs.Order.{first_view};
 ghost use Rattle.tf_turnstile.specs.Passes.{AreNew, AreAll, HasGrown, PassValue};
 
@@ -26,7 +26,8 @@ impl<B: Kept> Model for Turnstile<B> {
 
     ghost view = { λ t. record { table = t.table.shared.table_id; start = t.table.shared.key.kept.value; passes = t.table.shared.key.passes } };
 
-    ghost invariant = { λ t. (t.table.shared.table_id.words ≡ 3) × (t.table.shared.table_id.slots ≡ 1) × (0 < t.table.shared.key.passes) };
+    ghost invariant = { λ t. (t.table.shared.table_id.words ≡ 3) × (t.table.shared.table_id.slots ≡ 1)
+        × (0 < t.table.shared.key.passes) };
 }
 
 /// The right to take turns at one turnstile. Its number is that of the entries that its holder adds.
@@ -73,7 +74,8 @@ impl<B: Kept> Turnstile<B> {
     ) -> Result<(Turnstile<B>, Vec<Pass<B>>), (B, Memory)>
         requires some { 0 < passes }
         requires few { passes ≤ 64 }
-        ensures made { IfOk result (λ made. (made.0.start ≡ kept) × (made.0.passes ≡ passes) × AreNew made.0 made.1.items) }
+        ensures made { IfOk result (λ made. (made.0.start ≡ kept) × (made.0.passes ≡ passes)
+            × AreNew made.0 made.1.items) }
         ensures back { IfErr result (λ refused. refused.0 ≡ kept) }
     {
         let Ok(room) = Vec::with_capacity(alloc, passes as usize) else {
@@ -163,8 +165,9 @@ fn take_back<B: Kept>(
     requires table { IsSized shared.now.table_id × (last.old.table_id ≡ shared.now.table_id) }
     requires free { IsFree last.old }
     requires whole { (last.old.me.0.number + 1 ≡ shared.now.key.passes) × (last.old.me.0.back ≡ []) }
-    requires passes { (i : ℕ) (pass : PassValue B B.Entry) → slice_get passes.items i ≡ Some pass → IsOut shared.now.table_id i pass }
-    ensures same { IsSame last.old last.new }
+    requires passes { (i : ℕ) (pass : PassValue B B.Entry) → slice_get passes.items i ≡ Some pass
+        → IsOut shared.now.table_id i pass }
+    ensures same { IsSameSeat last.old last.new }
     ensures back { last.new.me ≡ (record last.old.me.0 { back = map (λ pass. pass.seen) passes.items }, []) }
 {
     for pass in passes {

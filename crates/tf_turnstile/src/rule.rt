@@ -38,9 +38,9 @@ impl<B, E> Model for View<B, E> {
 pub(crate) struct Order;
 
 impl<B: Kept> TableRule<Option<B>, View<B, B::Entry>, Opening<B>> for Order {
-    ghost use Rattle.tf_turnstile.specs.Order.{Stands, first_view};
+    ghost use Rattle.tf_turnstile.specs.Order.{HoldsBetweenSteps, first_view};
 
-    ghost holds = { Stands B.origin B.first B.entries };
+    ghost holds = { HoldsBetweenSteps B.origin B.first B.entries };
 
     ghost first = { λ opening. first_view opening.kept.value };
 }

@@ -1,8 +1,8 @@
 // Turns at a turnstile: the value is taken, given back, and waited for.
 ghost use Rattle.std.specs.Prelude.{◌≡◌, ◌+◌, ◌-◌, ◌^◌, ◌<◌, ◌++◌, [], ◌∷◌, None, Some, length, MatchBool};
-ghost use Rattle.tf_turnstile.specs.Seats.{IsFree, IsSame, IsSized, TakesSlot};
+ghost use Rattle.tf_turnstile.specs.Seats.{IsFree, IsSameSeat, IsSized, TakesSlot};
 ghost use Rattle.tf_turnstile.specs.Numbered.{IsLater, IsLonger, own};
-ghost use Rattle.tf_turnstile.specs.Passes.{IsPassOf, IsTurn};
+ghost use Rattle.tf_turnstile.specs.Passes.{IsPassOf, MayGive};
 
 use crate::keeping::Kept;
 use crate::passes::{Pass, Turnstile};
@@ -46,7 +46,7 @@ impl<B: Kept> Turnstile<B> {
     pub fn give(&self, kept: B, pass: &mut Pass<B>)
         requires mine { IsPassOf self.now pass.old }
         requires room { B.first kept + length (B.entries kept) < 2 ^ 64 - 1 }
-        requires turn { IsTurn B.origin B.entries pass.old kept }
+        requires turn { MayGive B.origin B.entries pass.old kept }
         ensures history { B.entries kept ≡ B.entries self.now.start ++ pass.new.seen }
         ensures seen { IsLonger pass.old.number pass.old.seen pass.new.seen }
         ensures pass { pass.new ≡ record pass.old { seen = pass.new.seen; taken = None } }
@@ -82,7 +82,7 @@ fn take_out<B: Kept, R: Wait>(
 )
     requires table { IsSized shared.now.table_id × (seat.old.table_id ≡ shared.now.table_id) }
     requires free { IsFree seat.old }
-    ensures same { IsSame seat.old seat.new }
+    ensures same { IsSameSeat seat.old seat.new }
     ensures taken { TakesSlot seat.old.me seat.new.me }
 {
     for _ in rt.forever() {
@@ -102,7 +102,7 @@ fn try_take_out<B: Kept>(
 ) -> bool
     requires table { IsSized shared.now.table_id × (seat.old.table_id ≡ shared.now.table_id) }
     requires free { IsFree seat.old }
-    ensures same { IsSame seat.old seat.new }
+    ensures same { IsSameSeat seat.old seat.new }
     ensures taken { MatchBool result (TakesSlot seat.old.me seat.new.me) (seat.new.me ≡ seat.old.me) }
 {
     shared.swap::<TakeOut>(seat, TURN, 1) == 0
@@ -116,7 +116,7 @@ fn wait_for_more<B: Kept, R: Wait>(
     last: u64,
 )
     requires table { IsSized shared.now.table_id × (seat.old.table_id ≡ shared.now.table_id) }
-    ensures { IsSame seat.old seat.new × (seat.new.me ≡ seat.old.me) }
+    ensures { IsSameSeat seat.old seat.new × (seat.new.me ≡ seat.old.me) }
 {
     for _ in rt.forever() {
         let bell = shared.peek(BELL);
@@ -135,7 +135,7 @@ fn ring<B: Kept>(
     stopped: bool,
 )
     requires table { IsSized shared.now.table_id × (seat.old.table_id ≡ shared.now.table_id) }
-    ensures { IsSame seat.old seat.new × (seat.new.me ≡ seat.old.me) }
+    ensures { IsSameSeat seat.old seat.new × (seat.new.me ≡ seat.old.me) }
 {
     if stopped {
         shared.fetch_or::<Quiet>(seat, BELL, STOPPED);

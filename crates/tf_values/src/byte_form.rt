@@ -83,7 +83,8 @@ fn append_list(scalars: &[Scalar], out: &mut Vec<u8>) -> Result<(), AllocError>
 fn append_scalars(scalars: &[Scalar], out: &mut Vec<u8>) -> Result<(), AllocError>
     ensures ok { OnOk result (out.new.items ≡ out.old.items ++ flat_map scalar_bytes scalars.now) }
     ensures err { OnErr result (KeepsFront out.old.items out.new.items) }
-    ensures full { OnErr result (vec_capacity out.old < length out.old.items + length (flat_map scalar_bytes scalars.now)) }
+    ensures full { OnErr result (vec_capacity out.old
+        < length out.old.items + length (flat_map scalar_bytes scalars.now)) }
     ensures capacity { vec_capacity out.old ≤ vec_capacity out.new }
 {
     for scalar in scalars {

@@ -70,7 +70,8 @@ impl Model for Scalars {
 
     ghost view = { λ scalars. scalars.items.items };
 
-    ghost invariant = { λ scalars. (are_scalars scalars.items.items ≡ true) × AllByRecursion IsElement scalars.items.items };
+    ghost invariant = { λ scalars. (are_scalars scalars.items.items ≡ true)
+        × AllByRecursion IsElement scalars.items.items };
 }
 
 impl Scalars {

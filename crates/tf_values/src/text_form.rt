@@ -86,7 +86,8 @@ fn append_value(value: &Val, out: &mut Vec<u8>) -> Result<(), AllocError>
 fn append_list(scalars: &[Scalar], out: &mut Vec<u8>) -> Result<(), AllocError>
     ensures ok { OnOk result (out.new.items ≡ out.old.items ++ 91 ∷ scalars_text scalars.now ++ 93 ∷ []) }
     ensures err { OnErr result (KeepsFront out.old.items out.new.items) }
-    ensures full { OnErr result (vec_capacity out.old < length out.old.items + (2 + length (scalars_text scalars.now))) }
+    ensures full { OnErr result (vec_capacity out.old
+        < length out.old.items + (2 + length (scalars_text scalars.now))) }
     ensures capacity { vec_capacity out.old ≤ vec_capacity out.new }
 {
     out.extend_from_slice(b"[")?;

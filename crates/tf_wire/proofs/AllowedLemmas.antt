@@ -5,13 +5,13 @@ use Rattle.tf_numbers.proofs.TruthLemmas.{and_first, and_second, true_both, not_
 use Rattle.tf_flow.specs.Rules.{is_command, least_arguments, has_wrong_words, has_none, runs_nothing}
 use Rattle.tf_flow.specs.declared.atoms.TaskKind.{TaskKind}
 use Rattle.tf_flow.specs.declared.atoms.TaskKind.TheVariants as kind
-use Rattle.tf_ports.specs.Whole.{IsGivenEnough, HasFewWords}
-use Rattle.tf_ports.specs.declared.orders.Given.TheVariants as given
-use Rattle.tf_ports.specs.declared.orders.Pair.{Pair}
-use Rattle.tf_ports.specs.declared.outcomes.Action.{Action}
-use Rattle.tf_ports.specs.declared.outcomes.Action.TheVariants as action
+use Rattle.tf_actions.specs.Whole.{IsGivenEnough, HasFewWords}
+use Rattle.tf_actions.specs.declared.orders.Given.TheVariants as given
+use Rattle.tf_actions.specs.declared.orders.Pair.{Pair}
+use Rattle.tf_actions.specs.declared.outcomes.Action.{Action}
+use Rattle.tf_actions.specs.declared.outcomes.Action.TheVariants as action
 use Rattle.tf_wire.specs.Orders.{undo_of}
-use Rattle.tf_wire.specs.Reading.{IsAllowed, RevertsByCommand, is_allowed, suits, names_differ}
+use Rattle.tf_wire.specs.Reading.{IsFitRequest, RevertsByCommand, is_fit_request, suits, names_differ}
 use Rattle.tf_wire.specs.declared.messages.Request.{Request}
 
 at_most : (m n : ℕ) → nat_le m n ≡ true → m ≤ n
@@ -51,7 +51,7 @@ by_command : (how : Action) (k : TaskKind) (pairs : List Pair) → suits how k p
 by_command action.Execute k pairs suit = tt
 by_command action.Revert k pairs suit = the_command k suit
 
-pub passes : (request : Request) → is_allowed request ≡ true → IsAllowed request
+pub passes : (request : Request) → is_fit_request request ≡ true → IsFitRequest request
 passes request is =
     let few_words = nat_le (length request.words) 64 in
     let few_args = nat_le (length request.args) 64 in
@@ -85,7 +85,7 @@ few_given : (how : Action) (k : TaskKind) (pairs : List Pair) → IsGivenEnough 
 few_given action.Execute k pairs enough = enough.1
 few_given action.Revert k pairs enough = enough
 
-pub passes_where_allowed : (request : Request) → IsAllowed request → is_allowed request ≡ true
+pub passes_where_allowed : (request : Request) → IsFitRequest request → is_fit_request request ≡ true
 passes_where_allowed request is =
     let few_words = nat_le (length request.words) 64 in
     let few_args = nat_le (length request.args) 64 in

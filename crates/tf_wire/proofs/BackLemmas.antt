@@ -20,14 +20,14 @@ use Rattle.tf_states.specs.declared.record.Failure.{Failure}
 use Rattle.tf_states.specs.declared.record.Failure.TheVariants as failure
 use Rattle.tf_flow.specs.declared.atoms.TaskKind.{TaskKind}
 use Rattle.tf_flow.specs.declared.atoms.TaskKind.TheVariants as kind
-use Rattle.tf_ports.specs.declared.orders.Pair.{Pair}
-use Rattle.tf_ports.specs.declared.outcomes.Action.{Action}
-use Rattle.tf_ports.specs.declared.outcomes.Action.TheVariants as action
+use Rattle.tf_actions.specs.declared.orders.Pair.{Pair}
+use Rattle.tf_actions.specs.declared.outcomes.Action.{Action}
+use Rattle.tf_actions.specs.declared.outcomes.Action.TheVariants as action
 use Rattle.tf_wire.specs.Grammar.{each_of, text_of, name_of, id_of, status_of, count_of, scalar_of, value_of, pair_of, failure_of, action_of, kind_of, request_of, response_of}
-use Rattle.tf_wire.specs.Limits.{IsWord, IsArgument, IsFault, HasParts, HasPart, id_in}
+use Rattle.tf_wire.specs.Limits.{IsWord, IsArgument, IsFailure, HasParts, HasPart, id_in}
 use Rattle.tf_wire.specs.Messages.{scalar_data, value_data, pair_data, failure_data, request_data, response_data}
 use Rattle.serde_json.specs.Written.{compact_text}
-use Rattle.tf_wire.specs.Reading.{message_of, IsAllowed, AreRequest, AreResponse}
+use Rattle.tf_wire.specs.Reading.{message_of, IsFitRequest, AreRequest, AreResponse}
 use Rattle.tf_wire.specs.Words.{action_word, kind_word}
 use Rattle.tf_wire.specs.declared.messages.Request.{Request}
 use Rattle.tf_wire.specs.declared.messages.Response.{Response}
@@ -91,7 +91,7 @@ status_back (negsuc n) fits = let below : n < 2 ^ 31 = omega (arith, ints, fits)
 count_back : (n : ℕ) → n < 2 ^ 32 → count_of (number (unsigned n)) ≡ Some n
 count_back n below = grind (arith, common_steps)
 
-failure_back : (fault : Failure) → IsFault fault → failure_of (failure_data fault) ≡ Some fault
+failure_back : (fault : Failure) → IsFailure fault → failure_of (failure_data fault) ≡ Some fault
 failure_back (failure.Raised text) good = rw (word_back text good) refl
 failure_back (failure.WrongKind name) good = rw (name_back name good) refl
 failure_back failure.Overflow good = refl
@@ -170,7 +170,7 @@ response_depth (response.Failure id fault) = omega (arith, failure_depth fault)
 -- ---- frames
 
 pub request_again : {A E : Type 0} (r : Result A E) (d : Data) (request : Request) → d ≡ request_data request → HasParts request → OnOk r (depth d ≤ 127 → message_of (compact_text d) ≡ Some d)
-    → OnOk r (request.id < 2 ^ 63 → IsAllowed request → AreRequest (compact_text (request_data request)) request)
+    → OnOk r (request.id < 2 ^ 63 → IsFitRequest request → AreRequest (compact_text (request_data request)) request)
 request_again (Ok done) d request is good reads = λ below allowed. record {
   message = request_data request;
   read_as = subst (λ (message : Data). depth message ≤ 127 → message_of (compact_text message) ≡ Some message) is reads (request_depth request);

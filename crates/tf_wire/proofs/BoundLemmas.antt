@@ -23,18 +23,18 @@ use Rattle.tf_values.specs.Scalars.{are_scalars}
 use Rattle.tf_values.specs.Value.{IsValue}
 use Rattle.tf_values.proofs.ByteLemmas.{text_is_short}
 use Rattle.tf_values.proofs.NameLemmas.{length-is_name}
-use Rattle.tf_ports.specs.declared.orders.Pair.{Pair}
+use Rattle.tf_actions.specs.declared.orders.Pair.{Pair}
 use Rattle.tf_states.specs.declared.record.Failure.{Failure}
 use Rattle.tf_states.specs.declared.record.Failure.TheVariants as failure
 use Rattle.tf_flow.specs.declared.atoms.TaskKind.{TaskKind}
 use Rattle.tf_flow.specs.declared.atoms.TaskKind.TheVariants as kind
-use Rattle.tf_ports.specs.declared.outcomes.Action.{Action}
-use Rattle.tf_ports.specs.declared.outcomes.Action.TheVariants as action
+use Rattle.tf_actions.specs.declared.outcomes.Action.{Action}
+use Rattle.tf_actions.specs.declared.outcomes.Action.TheVariants as action
 use Rattle.tf_wire.specs.declared.messages.Request.{Request}
 use Rattle.tf_wire.specs.declared.messages.Response.{Response}
 use Rattle.tf_wire.specs.declared.messages.Response.TheVariants as response
 use Rattle.tf_wire.specs.Words.{action_word, kind_word}
-use Rattle.tf_wire.specs.Limits.{IsWord, IsArgument, IsFault, HasParts, HasPart}
+use Rattle.tf_wire.specs.Limits.{IsWord, IsArgument, IsFailure, HasParts, HasPart}
 use Rattle.tf_wire.specs.Messages.{scalar_data, value_data, pair_data, alone, with_data, failure_data, request_data, response_data}
 
 -- ---- strings
@@ -188,7 +188,7 @@ status_length : (n : ℤ) → FitsSigned w32 n → length (number_text (of_integ
 status_length (pos n) fits = let below : n < 2 ^ 31 = omega (arith, ints, fits) in length-decimal-le 20 n (omega arith) (omega arith) (omega arith)
 status_length (negsuc n) fits = let small : n < 2 ^ 31 = omega (arith, ints, fits) in length_signed_le 19 (negsuc n) (omega (arith, ints, small)) (omega (arith, ints, small))
 
-failure_length : (fault : Failure) → IsFault fault → length (compact_text (failure_data fault)) ≤ 800000
+failure_length : (fault : Failure) → IsFailure fault → length (compact_text (failure_data fault)) ≤ 800000
 failure_length (failure.Raised text) good = omega (arith, with_length (codes "raised") (string text), quoted_length text, text_is_short text good)
 failure_length (failure.WrongKind name) good = omega (arith, with_length (codes "type") (string name), quoted_length name, length-is_name name good)
 failure_length failure.Overflow good = omega (arith, alone_length (codes "overflow"))

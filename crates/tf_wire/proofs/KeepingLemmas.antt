@@ -3,8 +3,8 @@ use Rattle.std.proofs.Common.{◌≡◌, ℕ, ◌+◌, ◌-◌, List, [], ◌∷
 use Rattle.std.specs.Prelude.{OnOk, IfErr}
 use Rattle.std.proofs.lemmas.Grind.{flat_map-append}
 use Rattle.std.proofs.lemmas.List.{drop_at, length-drop, drop-drop}
-use Rattle.tf_wire.specs.Stream.{IsFrame, framed, joined, BeginsWithFrame, BeginsWithBadLength, IsCut}
-use Rattle.tf_wire.specs.Keeping.{Kept, counted, StandsFor, IsCutOff, IsHere, GoesOn, Stops, IsAnswer, KeepsFrames}
+use Rattle.tf_wire.specs.Stream.{IsFrame, framed, joined, BeginsWithFrame, BeginsWithBadLength, SplitsInto}
+use Rattle.tf_wire.specs.Keeping.{KeptFrames, counted, KeepsStream, IsCutOff, IsHere, IsUnrefused, StopsAt, IsPieceAnswer, KeepsFrames}
 use Rattle.tf_wire.proofs.StreamLemmas.{cut_more, cut_on, bad_stays, bad_is_no_frame, not_refused}
 use Rattle.tf_wire.specs.declared.faults.WireFault.{WireFault}
 use Rattle.tf_wire.specs.declared.faults.WireFault.TheVariants as fault
@@ -16,58 +16,58 @@ joined_length : (xs ys : List (List ℕ)) → length (joined (xs ++ ys)) ≡ len
 joined_length xs ys = ap length (flat_map-append framed xs ys) ∙ length-append (joined xs) (joined ys)
 
 -- the same with a piece behind the rest
-abbrev pub with_piece : Kept → List ℕ → Kept
+abbrev pub with_piece : KeptFrames → List ℕ → KeptFrames
 with_piece kept piece = record { waiting = kept.waiting; rest = kept.rest ++ piece; place = kept.place }
 
 -- nothing was dropped where no bad length stands
-none_dropped : (kept : Kept) (stream : List ℕ) (taken : List (List ℕ)) → ¬ (BeginsWithBadLength kept.rest) → StandsFor kept stream taken → IsCut stream (taken ++ kept.waiting) kept.rest
+none_dropped : (kept : KeptFrames) (stream : List ℕ) (taken : List (List ℕ)) → ¬ (BeginsWithBadLength kept.rest) → KeepsStream kept stream taken → SplitsInto stream (taken ++ kept.waiting) kept.rest
 none_dropped kept stream taken whole stands =
     let none : stands.dropped ≡ [] = elim stands.is_dropped [ inl is ↦ is | inr bad ↦ absurd (whole bad) ] in
-    subst (λ (behind : List ℕ). IsCut stream (taken ++ kept.waiting) behind) (ap (λ (more : List ℕ). kept.rest ++ more) none ∙ append-nil kept.rest) stands.cut
+    subst (λ (behind : List ℕ). SplitsInto stream (taken ++ kept.waiting) behind) (ap (λ (more : List ℕ). kept.rest ++ more) none ∙ append-nil kept.rest) stands.cut
 
 -- a piece more
-pub stands_on : (kept : Kept) (piece stream : List ℕ) (taken : List (List ℕ)) → ¬ (BeginsWithBadLength kept.rest) → StandsFor kept stream taken → StandsFor (with_piece kept piece) (stream ++ piece) taken
+pub stands_on : (kept : KeptFrames) (piece stream : List ℕ) (taken : List (List ℕ)) → ¬ (BeginsWithBadLength kept.rest) → KeepsStream kept stream taken → KeepsStream (with_piece kept piece) (stream ++ piece) taken
 stands_on kept piece stream taken whole stands = record {
   dropped = [];
-  cut = subst (λ (behind : List ℕ). IsCut (stream ++ piece) (taken ++ kept.waiting) behind) (sym (append-nil (kept.rest ++ piece))) (cut_on stream piece (taken ++ kept.waiting) kept.rest (none_dropped kept stream taken whole stands));
+  cut = subst (λ (behind : List ℕ). SplitsInto (stream ++ piece) (taken ++ kept.waiting) behind) (sym (append-nil (kept.rest ++ piece))) (cut_on stream piece (taken ++ kept.waiting) kept.rest (none_dropped kept stream taken whole stands));
   is_dropped = inl refl;
   is_place = stands.is_place;
 }
 
-all_waiting : (old new : Kept) (taken : List (List ℕ)) (off : IsCutOff old new) → (taken ++ old.waiting) ++ off.frames ≡ taken ++ new.waiting
+all_waiting : (old new : KeptFrames) (taken : List (List ℕ)) (off : IsCutOff old new) → (taken ++ old.waiting) ++ off.frames ≡ taken ++ new.waiting
 all_waiting old new taken off = append_assoc taken old.waiting off.frames ∙ ap (λ (waiting : List (List ℕ)). taken ++ waiting) (sym off.is_waiting)
 
 -- the frames that are whole are cut off, where nothing was dropped
-cut_off : (old new : Kept) (stream : List ℕ) (taken : List (List ℕ)) (off : IsCutOff old new) → IsCut stream (taken ++ old.waiting) old.rest → IsCut stream (taken ++ new.waiting) new.rest
+cut_off : (old new : KeptFrames) (stream : List ℕ) (taken : List (List ℕ)) (off : IsCutOff old new) → SplitsInto stream (taken ++ old.waiting) old.rest → SplitsInto stream (taken ++ new.waiting) new.rest
 cut_off old new stream taken off before =
-    subst (λ (frames : List (List ℕ)). IsCut stream frames new.rest) (all_waiting old new taken off) (cut_more stream (taken ++ old.waiting) off.frames old.rest new.rest before off.cut)
+    subst (λ (frames : List (List ℕ)). SplitsInto stream frames new.rest) (all_waiting old new taken off) (cut_more stream (taken ++ old.waiting) off.frames old.rest new.rest before off.cut)
 
-place_off : (old new : Kept) (taken : List (List ℕ)) (off : IsCutOff old new) → old.place ≡ counted (length (joined (taken ++ old.waiting))) → new.place ≡ counted (length (joined (taken ++ new.waiting)))
+place_off : (old new : KeptFrames) (taken : List (List ℕ)) (off : IsCutOff old new) → old.place ≡ counted (length (joined (taken ++ old.waiting))) → new.place ≡ counted (length (joined (taken ++ new.waiting)))
 place_off old new taken off place =
     off.is_place ∙ ap (λ (at : ℕ). counted (at + length (joined off.frames))) place ∙ counted_more (length (joined (taken ++ old.waiting))) (length (joined off.frames))
     ∙ ap counted (sym (joined_length (taken ++ old.waiting) off.frames)) ∙ ap (λ (frames : List (List ℕ)). counted (length (joined frames))) (all_waiting old new taken off)
 
 -- what is kept of a stream after a piece of it
-pub record Cuts (kept : Kept) (stream : List ℕ) (taken : List (List ℕ)) : Type 0 where
-  pub stands : StandsFor kept stream taken
-  pub cut : IsCut stream (taken ++ kept.waiting) kept.rest
+pub record Cuts (kept : KeptFrames) (stream : List ℕ) (taken : List (List ℕ)) : Type 0 where
+  pub stands : KeepsStream kept stream taken
+  pub cut : SplitsInto stream (taken ++ kept.waiting) kept.rest
 
-pub cuts : (old new : Kept) (piece stream : List ℕ) (taken : List (List ℕ)) → ¬ (BeginsWithBadLength old.rest) → IsCutOff (with_piece old piece) new → StandsFor old stream taken → Cuts new (stream ++ piece) taken
+pub cuts : (old new : KeptFrames) (piece stream : List ℕ) (taken : List (List ℕ)) → ¬ (BeginsWithBadLength old.rest) → IsCutOff (with_piece old piece) new → KeepsStream old stream taken → Cuts new (stream ++ piece) taken
 cuts old new piece stream taken whole off stands =
     let before = cut_on stream piece (taken ++ old.waiting) old.rest (none_dropped old stream taken whole stands) in
-    let after : IsCut (stream ++ piece) (taken ++ new.waiting) new.rest = cut_off (with_piece old piece) new (stream ++ piece) taken off before in
+    let after : SplitsInto (stream ++ piece) (taken ++ new.waiting) new.rest = cut_off (with_piece old piece) new (stream ++ piece) taken off before in
     record {
       stands = record {
         dropped = [];
-        cut = subst (λ (behind : List ℕ). IsCut (stream ++ piece) (taken ++ new.waiting) behind) (sym (append-nil new.rest)) after;
+        cut = subst (λ (behind : List ℕ). SplitsInto (stream ++ piece) (taken ++ new.waiting) behind) (sym (append-nil new.rest)) after;
         is_dropped = inl refl;
         is_place = place_off (with_piece old piece) new taken off stands.is_place;
       };
       cut = after;
     }
 
-pub goes_on : (old new : Kept) (piece stream : List ℕ) (taken : List (List ℕ)) → ¬ (BeginsWithBadLength old.rest) → IsCutOff (with_piece old piece) new
-    → ¬ (BeginsWithFrame new.rest) → ¬ (BeginsWithBadLength new.rest) → StandsFor old stream taken → GoesOn new (stream ++ piece) taken
+pub goes_on : (old new : KeptFrames) (piece stream : List ℕ) (taken : List (List ℕ)) → ¬ (BeginsWithBadLength old.rest) → IsCutOff (with_piece old piece) new
+    → ¬ (BeginsWithFrame new.rest) → ¬ (BeginsWithBadLength new.rest) → KeepsStream old stream taken → IsUnrefused new (stream ++ piece) taken
 goes_on old new piece stream taken whole off no_frame no_bad stands =
     let now = cuts old new piece stream taken whole off stands in
     record {
@@ -76,7 +76,7 @@ goes_on old new piece stream taken whole off no_frame no_bad stands =
       not_refused = not_refused (stream ++ piece) (taken ++ new.waiting) new.rest now.cut no_frame no_bad;
     }
 
-stops : (kept : Kept) (stream : List ℕ) (taken : List (List ℕ)) (behind : List ℕ) → StandsFor kept stream taken → IsCut stream (taken ++ kept.waiting) behind → BeginsWithBadLength behind → Stops kept stream taken kept.place
+stops : (kept : KeptFrames) (stream : List ℕ) (taken : List (List ℕ)) (behind : List ℕ) → KeepsStream kept stream taken → SplitsInto stream (taken ++ kept.waiting) behind → BeginsWithBadLength behind → StopsAt kept stream taken kept.place
 stops kept stream taken behind stands cut bad = record {
   stands = stands;
   frames = record { behind = behind; cut = cut; no_more = bad_is_no_frame behind bad };
@@ -84,42 +84,42 @@ stops kept stream taken behind stands cut bad = record {
 }
 
 -- a fault after frames were cut off
-pub answers : (old new : Kept) (piece stream : List ℕ) (taken : List (List ℕ)) (e : WireFault) → ¬ (BeginsWithBadLength old.rest) → IsCutOff (with_piece old piece) new
-    → IsHere new e → StandsFor old stream taken → IsAnswer new stream piece taken e
+pub answers : (old new : KeptFrames) (piece stream : List ℕ) (taken : List (List ℕ)) (e : WireFault) → ¬ (BeginsWithBadLength old.rest) → IsCutOff (with_piece old piece) new
+    → IsHere new e → KeepsStream old stream taken → IsPieceAnswer new stream piece taken e
 answers old new piece stream taken (fault.Bad place) whole off here stands =
     let now = cuts old new piece stream taken whole off stands in
-    subst (λ (at : ℕ). Stops new (stream ++ piece) taken at) (sym here.1) (stops new (stream ++ piece) taken new.rest now.stands now.cut here.0)
+    subst (λ (at : ℕ). StopsAt new (stream ++ piece) taken at) (sym here.1) (stops new (stream ++ piece) taken new.rest now.stands now.cut here.0)
 answers old new piece stream taken fault.Memory whole off here stands = inr (cuts old new piece stream taken whole off stands).stands
 
 -- a piece behind a bad length is dropped
-pub stops_again : (kept : Kept) (piece stream : List ℕ) (taken : List (List ℕ)) → BeginsWithBadLength kept.rest → StandsFor kept stream taken → Stops kept (stream ++ piece) taken kept.place
+pub stops_again : (kept : KeptFrames) (piece stream : List ℕ) (taken : List (List ℕ)) → BeginsWithBadLength kept.rest → KeepsStream kept stream taken → StopsAt kept (stream ++ piece) taken kept.place
 stops_again kept piece stream taken bad stands =
-    let cut : IsCut (stream ++ piece) (taken ++ kept.waiting) (kept.rest ++ (stands.dropped ++ piece)) =
-    subst (λ (behind : List ℕ). IsCut (stream ++ piece) (taken ++ kept.waiting) behind) (append_assoc kept.rest stands.dropped piece) (cut_on stream piece (taken ++ kept.waiting) (kept.rest ++ stands.dropped) stands.cut) in
-    let now : StandsFor kept (stream ++ piece) taken = record { dropped = stands.dropped ++ piece; cut = cut; is_dropped = inr bad; is_place = stands.is_place } in
+    let cut : SplitsInto (stream ++ piece) (taken ++ kept.waiting) (kept.rest ++ (stands.dropped ++ piece)) =
+    subst (λ (behind : List ℕ). SplitsInto (stream ++ piece) (taken ++ kept.waiting) behind) (append_assoc kept.rest stands.dropped piece) (cut_on stream piece (taken ++ kept.waiting) (kept.rest ++ stands.dropped) stands.cut) in
+    let now : KeepsStream kept (stream ++ piece) taken = record { dropped = stands.dropped ++ piece; cut = cut; is_dropped = inr bad; is_place = stands.is_place } in
     stops kept (stream ++ piece) taken (kept.rest ++ (stands.dropped ++ piece)) now cut (bad_stays kept.rest (stands.dropped ++ piece) bad)
 
 -- what a feed promises, whatever it answers
-pub fed_ok : {A : Type 0} (r : Result A WireFault) (old mid new : Kept) (piece : List ℕ) → ¬ (BeginsWithBadLength old.rest) → mid ≡ with_piece old piece → IsCutOff mid new
-    → OnOk r ((¬ (BeginsWithFrame new.rest)) × (¬ (BeginsWithBadLength new.rest))) → OnOk r ((stream : List ℕ) (taken : List (List ℕ)) → StandsFor old stream taken → GoesOn new (stream ++ piece) taken)
-fed_ok (Ok u) old mid new piece whole is off neither = λ stream taken stands. goes_on old new piece stream taken whole (subst (λ (kept : Kept). IsCutOff kept new) is off) neither.0 neither.1 stands
+pub fed_ok : {A : Type 0} (r : Result A WireFault) (old mid new : KeptFrames) (piece : List ℕ) → ¬ (BeginsWithBadLength old.rest) → mid ≡ with_piece old piece → IsCutOff mid new
+    → OnOk r ((¬ (BeginsWithFrame new.rest)) × (¬ (BeginsWithBadLength new.rest))) → OnOk r ((stream : List ℕ) (taken : List (List ℕ)) → KeepsStream old stream taken → IsUnrefused new (stream ++ piece) taken)
+fed_ok (Ok u) old mid new piece whole is off neither = λ stream taken stands. goes_on old new piece stream taken whole (subst (λ (kept : KeptFrames). IsCutOff kept new) is off) neither.0 neither.1 stands
 fed_ok (Err e) old mid new piece whole is off neither = tt
 
-pub fed_refused : {A : Type 0} (r : Result A WireFault) (old mid new : Kept) (piece : List ℕ) → ¬ (BeginsWithBadLength old.rest) → mid ≡ with_piece old piece → IsCutOff mid new
-    → IfErr r (IsHere new) → IfErr r (λ e. (stream : List ℕ) (taken : List (List ℕ)) → StandsFor old stream taken → IsAnswer new stream piece taken e)
+pub fed_refused : {A : Type 0} (r : Result A WireFault) (old mid new : KeptFrames) (piece : List ℕ) → ¬ (BeginsWithBadLength old.rest) → mid ≡ with_piece old piece → IsCutOff mid new
+    → IfErr r (IsHere new) → IfErr r (λ e. (stream : List ℕ) (taken : List (List ℕ)) → KeepsStream old stream taken → IsPieceAnswer new stream piece taken e)
 fed_refused (Ok u) old mid new piece whole is off here = tt
-fed_refused (Err e) old mid new piece whole is off here = λ stream taken stands. answers old new piece stream taken e whole (subst (λ (kept : Kept). IsCutOff kept new) is off) here stands
+fed_refused (Err e) old mid new piece whole is off here = λ stream taken stands. answers old new piece stream taken e whole (subst (λ (kept : KeptFrames). IsCutOff kept new) is off) here stands
 
 -- ---- taking
 
 -- one frame more is taken
-pub stands_taken : (old new : Kept) (frame : List ℕ) (stream : List ℕ) (taken : List (List ℕ)) → old ≡ record { waiting = frame ∷ new.waiting; rest = new.rest; place = new.place } → StandsFor old stream taken → StandsFor new stream (taken ++ frame ∷ [])
+pub stands_taken : (old new : KeptFrames) (frame : List ℕ) (stream : List ℕ) (taken : List (List ℕ)) → old ≡ record { waiting = frame ∷ new.waiting; rest = new.rest; place = new.place } → KeepsStream old stream taken → KeepsStream new stream (taken ++ frame ∷ [])
 stands_taken old new frame stream taken is stands =
-    let before : StandsFor (record { waiting = frame ∷ new.waiting; rest = new.rest; place = new.place }) stream taken = subst (λ (kept : Kept). StandsFor kept stream taken) is stands in
+    let before : KeepsStream (record { waiting = frame ∷ new.waiting; rest = new.rest; place = new.place }) stream taken = subst (λ (kept : KeptFrames). KeepsStream kept stream taken) is stands in
     let same : taken ++ frame ∷ new.waiting ≡ (taken ++ frame ∷ []) ++ new.waiting = sym (append_assoc taken (frame ∷ []) new.waiting) in
     record {
       dropped = before.dropped;
-      cut = subst (λ (frames : List (List ℕ)). IsCut stream frames (new.rest ++ before.dropped)) same before.cut;
+      cut = subst (λ (frames : List (List ℕ)). SplitsInto stream frames (new.rest ++ before.dropped)) same before.cut;
       is_dropped = before.is_dropped;
       is_place = before.is_place ∙ ap (λ (frames : List (List ℕ)). counted (length (joined frames))) same;
     }
@@ -137,7 +137,7 @@ keeps_more bytes frame behind before between after len within keeps good front i
     let left : length (drop len bytes) ≡ length bytes - len = length-drop len bytes in
     let rest : drop (len + (4 + length frame)) bytes ≡ behind =
     sym (drop-drop (4 + length frame) len bytes) ∙ ap (λ (more : List ℕ). drop (4 + length frame) more) front ∙ drop_at (framed frame) behind (4 + length frame) (framed_length frame) in
-    let one : IsCut (drop len bytes) (frame ∷ []) (drop (len + (4 + length frame)) bytes) = record {
+    let one : SplitsInto (drop len bytes) (frame ∷ []) (drop (len + (4 + length frame)) bytes) = record {
       is = front ∙ ap (λ (more : List ℕ). framed frame ++ more) (sym rest) ∙ ap (λ (more : List ℕ). more ++ drop (len + (4 + length frame)) bytes) (sym (append-nil (framed frame)));
       are_frames = (good, tt);
     } in (

@@ -5,7 +5,7 @@ use Rattle.std.specs.Str.{IsUtf8, is_utf8}
 use Rattle.serde_json.specs.Data.{Data}
 use Rattle.serde_json.specs.Read.{read}
 use Rattle.tf_wire.specs.Grammar.{chain, request_of, response_of}
-use Rattle.tf_wire.specs.Reading.{message_of, IsAllowed, AreRequest, AreResponse, is_allowed, allowed_only, request_in, response_in}
+use Rattle.tf_wire.specs.Reading.{message_of, IsFitRequest, AreRequest, AreResponse, is_fit_request, allowed_only, request_in, response_in}
 use Rattle.tf_wire.specs.declared.messages.Request.{Request}
 use Rattle.tf_wire.specs.declared.messages.Response.{Response}
 use Rattle.tf_wire.proofs.AllowedLemmas.{passes, passes_where_allowed}
@@ -24,14 +24,14 @@ no_message bytes none = no_message_at (is_utf8 bytes) bytes (λ is. none (IsUtf8
 
 -- ---- requests
 
-allowed_some : (test : Bool) (x r : Request) → test ≡ is_allowed x → (if test then Some x else None) ≡ Some r → IsAllowed x × (x ≡ r)
+allowed_some : (test : Bool) (x r : Request) → test ≡ is_fit_request x → (if test then Some x else None) ≡ Some r → IsFitRequest x × (x ≡ r)
 allowed_some true x r is found = (passes x (sym is), cc)
 allowed_some false x r is found = cc
 
 spelled_some : (bytes : List ℕ) (d : Data) (q : Option Request) (r : Request) → message_of bytes ≡ Some d → q ≡ request_of d → chain q allowed_only ≡ Some r → AreRequest bytes r
 spelled_some bytes d None r read_as is found = cc
 spelled_some bytes d (Some x) r read_as is found =
-    let both = allowed_some (is_allowed x) x r refl found in
+    let both = allowed_some (is_fit_request x) x r refl found in
     subst (λ (request : Request). AreRequest bytes request) both.1 record { message = d; read_as = read_as; spelled = sym is; allowed = both.0 }
 
 read_some : (bytes : List ℕ) (m : Option Data) (r : Request) → m ≡ message_of bytes → chain m (λ message. chain (request_of message) allowed_only) ≡ Some r → AreRequest bytes r

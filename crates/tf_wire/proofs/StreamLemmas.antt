@@ -6,7 +6,7 @@ use Rattle.std.proofs.lemmas.Grind.{common_steps, flat_map-append}
 use Rattle.std.proofs.lemmas.List.{take_at, drop_at, take-append-drop, length-take}
 use Rattle.std.proofs.lemmas.Nat.{from_be_bytes-to_be_bytes_4}
 use Rattle.tf_values.proofs.Codes.{IsCode, one_reading}
-use Rattle.tf_wire.specs.Stream.{is_length, IsFrame, framed, joined, BeginsWithFrame, BeginsWithBadLength, IsCut, AreFramesOf, IsRefusedAt}
+use Rattle.tf_wire.specs.Stream.{is_length, IsFrame, framed, joined, BeginsWithFrame, BeginsWithBadLength, SplitsInto, AreFramesOf, IsBadLengthAt}
 use Rattle.tf_wire.specs.Fronts.{IsFront}
 use Rattle.tf_wire.specs.declared.fronts.Front.{Front}
 use Rattle.tf_wire.specs.declared.fronts.Front.TheVariants as front
@@ -106,7 +106,7 @@ none_begins : (bytes : List ℕ) → ¬ (BeginsWithFrame bytes) → (frame behin
 none_begins bytes none frame behind good follows front = none record { frame = frame; behind = behind; is_frame = good; front = front }
 
 -- two cuts that both go as far as they can are one
-pub one_cut : (stream : List ℕ) (xs ys : List (List ℕ)) (a b : List ℕ) → IsCut stream xs a → IsCut stream ys b → ¬ (BeginsWithFrame a) → ¬ (BeginsWithFrame b) → (xs ≡ ys) × (a ≡ b)
+pub one_cut : (stream : List ℕ) (xs ys : List (List ℕ)) (a b : List ℕ) → SplitsInto stream xs a → SplitsInto stream ys b → ¬ (BeginsWithFrame a) → ¬ (BeginsWithFrame b) → (xs ≡ ys) × (a ≡ b)
 one_cut stream xs ys a b cx cy na nb =
     one_reading framed IsFrame (λ _. Unit {0}) frame_code xs ys a b cx.are_frames cy.are_frames tt tt (none_begins a na) (none_begins b nb) (sym cx.is ∙ cy.is)
 
@@ -115,26 +115,26 @@ pub one_frames : (stream : List ℕ) (xs ys : List (List ℕ)) → AreFramesOf s
 one_frames stream xs ys ax ay = (one_cut stream xs ys ax.behind ay.behind ax.cut ay.cut ax.no_more ay.no_more).0
 
 -- a stream is refused at one place
-pub one_place : (stream : List ℕ) (m n : ℕ) → IsRefusedAt stream m → IsRefusedAt stream n → m ≡ n
+pub one_place : (stream : List ℕ) (m n : ℕ) → IsBadLengthAt stream m → IsBadLengthAt stream n → m ≡ n
 one_place stream m n rm rn =
     let same = one_cut stream rm.frames rn.frames rm.behind rn.behind rm.cut rn.cut (bad_is_no_frame rm.behind rm.bad) (bad_is_no_frame rn.behind rn.bad) in
     rm.is_place ∙ ap (λ (frames : List (List ℕ)). length (joined frames)) same.0 ∙ sym rn.is_place
 
 -- a stream behind whose frames no bad length stands isn't refused
-pub not_refused : (stream : List ℕ) (frames : List (List ℕ)) (behind : List ℕ) → IsCut stream frames behind → ¬ (BeginsWithFrame behind) → ¬ (BeginsWithBadLength behind) → (place : ℕ) → ¬ (IsRefusedAt stream place)
+pub not_refused : (stream : List ℕ) (frames : List (List ℕ)) (behind : List ℕ) → SplitsInto stream frames behind → ¬ (BeginsWithFrame behind) → ¬ (BeginsWithBadLength behind) → (place : ℕ) → ¬ (IsBadLengthAt stream place)
 not_refused stream frames behind cut no_frame no_bad place refused =
     let same = one_cut stream frames refused.frames behind refused.behind cut refused.cut no_frame (bad_is_no_frame refused.behind refused.bad) in
     no_bad (subst BeginsWithBadLength (sym same.1) refused.bad)
 
 -- frames behind frames
-pub cut_more : (stream : List ℕ) (xs ys : List (List ℕ)) (a b : List ℕ) → IsCut stream xs a → IsCut a ys b → IsCut stream (xs ++ ys) b
+pub cut_more : (stream : List ℕ) (xs ys : List (List ℕ)) (a b : List ℕ) → SplitsInto stream xs a → SplitsInto a ys b → SplitsInto stream (xs ++ ys) b
 cut_more stream xs ys a b cx cy = record {
   is = cx.is ∙ ap (λ (rest : List ℕ). joined xs ++ rest) cy.is ∙ sym (append_assoc (joined xs) (joined ys) b) ∙ ap (λ (front : List ℕ). front ++ b) (sym (flat_map-append framed xs ys));
   are_frames = all_append xs ys cx.are_frames cy.are_frames;
 }
 
 -- what comes later stands behind the frames
-pub cut_on : (stream more : List ℕ) (frames : List (List ℕ)) (behind : List ℕ) → IsCut stream frames behind → IsCut (stream ++ more) frames (behind ++ more)
+pub cut_on : (stream more : List ℕ) (frames : List (List ℕ)) (behind : List ℕ) → SplitsInto stream frames behind → SplitsInto (stream ++ more) frames (behind ++ more)
 cut_on stream more frames behind cut = record {
   is = ap (λ (front : List ℕ). front ++ more) cut.is ∙ append_assoc (joined frames) behind more;
   are_frames = cut.are_frames;

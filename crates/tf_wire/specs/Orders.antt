@@ -2,10 +2,10 @@
 use Rattle.std.specs.Prelude.{ℕ, List}
 use Rattle.tf_flow.specs.declared.atoms.Undo.{Undo}
 use Rattle.tf_flow.specs.declared.atoms.Undo.TheVariants as undo
-use Rattle.tf_ports.specs.declared.orders.Given.TheVariants as given
-use Rattle.tf_ports.specs.declared.orders.Order.{Order}
-use Rattle.tf_ports.specs.declared.outcomes.Action.{Action}
-use Rattle.tf_ports.specs.declared.outcomes.Action.TheVariants as action
+use Rattle.tf_actions.specs.declared.orders.Given.TheVariants as given
+use Rattle.tf_actions.specs.declared.orders.Order.{Order}
+use Rattle.tf_actions.specs.declared.outcomes.Action.{Action}
+use Rattle.tf_actions.specs.declared.outcomes.Action.TheVariants as action
 use Rattle.tf_wire.specs.declared.messages.Request.{Request}
 
 -- what undoes the task of an order: a revert runs the words

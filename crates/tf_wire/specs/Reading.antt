@@ -8,10 +8,10 @@ use Rattle.tf_flow.specs.Names.{same_name}
 use Rattle.tf_flow.specs.Rules.{is_command, least_arguments, has_wrong_words}
 use Rattle.tf_flow.specs.declared.atoms.TaskKind.{TaskKind}
 use Rattle.tf_flow.specs.declared.atoms.TaskKind.TheVariants as kind
-use Rattle.tf_ports.specs.Whole.{IsWhole}
-use Rattle.tf_ports.specs.declared.orders.Pair.{Pair}
-use Rattle.tf_ports.specs.declared.outcomes.Action.{Action}
-use Rattle.tf_ports.specs.declared.outcomes.Action.TheVariants as action
+use Rattle.tf_actions.specs.Whole.{IsWhole}
+use Rattle.tf_actions.specs.declared.orders.Pair.{Pair}
+use Rattle.tf_actions.specs.declared.outcomes.Action.{Action}
+use Rattle.tf_actions.specs.declared.outcomes.Action.TheVariants as action
 use Rattle.tf_wire.specs.Grammar.{chain, request_of, response_of}
 use Rattle.tf_wire.specs.Orders.{order_of}
 use Rattle.tf_wire.specs.declared.faults.WireFault.{WireFault}
@@ -37,7 +37,7 @@ RevertsByCommand action.Execute task_kind = Unit {0}
 RevertsByCommand action.Revert task_kind = task_kind ≡ kind.Command
 
 -- the order that the request names is whole, its arguments' names differ, and a revert's kind is that of commands
-pub record IsAllowed (request : Request) : Type 0 where
+pub record IsFitRequest (request : Request) : Type 0 where
   pub whole : IsWhole (order_of request)
   pub differ : names_differ request.args ≡ true
   pub reverts : RevertsByCommand request.action request.kind
@@ -47,7 +47,7 @@ pub record AreRequest (bytes : List ℕ) (request : Request) : Type 0 where
   pub message : Data
   pub read_as : message_of bytes ≡ Some message
   pub spelled : request_of message ≡ Some request
-  pub allowed : IsAllowed request
+  pub allowed : IsFitRequest request
 
 -- the bytes are JSON that spells this response
 pub record AreResponse (bytes : List ℕ) (response : Response) : Type 0 where
@@ -62,8 +62,8 @@ abbrev pub suits : Action → TaskKind → List Pair → Bool
 suits action.Execute task_kind pairs = nat_le (least_arguments task_kind) (length pairs)
 suits action.Revert task_kind pairs = is_command task_kind
 
-abbrev pub is_allowed : Request → Bool
-is_allowed request =
+abbrev pub is_fit_request : Request → Bool
+is_fit_request request =
     nat_le (length request.words) 64 && nat_le (length request.args) 64
     && not (has_wrong_words request.kind request.words)
     && suits request.action request.kind request.args
@@ -71,7 +71,7 @@ is_allowed request =
 
 -- the request that bytes spell and that is allowed
 abbrev pub allowed_only : Request → Option Request
-allowed_only request = if is_allowed request then Some request else None
+allowed_only request = if is_fit_request request then Some request else None
 
 abbrev pub request_in : List ℕ → Option Request
 request_in bytes = chain (message_of bytes) (λ message. chain (request_of message) allowed_only)

@@ -39,20 +39,20 @@ pub record BeginsWithBadLength (bytes : List ℕ) : Type 0 where
   pub front : bytes ≡ to_be_bytes w32 stated ++ behind
 
 -- these frames stand at the front of the stream, and this behind them
-pub record IsCut (stream : List ℕ) (frames : List (List ℕ)) (behind : List ℕ) : Type 0 where
+pub record SplitsInto (stream : List ℕ) (frames : List (List ℕ)) (behind : List ℕ) : Type 0 where
   pub is : stream ≡ joined frames ++ behind
   pub are_frames : AllByRecursion IsFrame frames
 
 -- these are the whole frames at the front of the stream
 pub record AreFramesOf (stream : List ℕ) (frames : List (List ℕ)) : Type 0 where
   pub behind : List ℕ
-  pub cut : IsCut stream frames behind
+  pub cut : SplitsInto stream frames behind
   pub no_more : ¬ (BeginsWithFrame behind)
 
 -- after whole frames of the stream a length that no frame has stands at this place
-pub record IsRefusedAt (stream : List ℕ) (place : ℕ) : Type 0 where
+pub record IsBadLengthAt (stream : List ℕ) (place : ℕ) : Type 0 where
   pub frames : List (List ℕ)
   pub behind : List ℕ
-  pub cut : IsCut stream frames behind
+  pub cut : SplitsInto stream frames behind
   pub bad : BeginsWithBadLength behind
   pub is_place : place ≡ length (joined frames)

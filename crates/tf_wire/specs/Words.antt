@@ -2,8 +2,8 @@
 use Rattle.std.specs.Prelude.{ℕ, List, codes}
 use Rattle.tf_flow.specs.declared.atoms.TaskKind.{TaskKind}
 use Rattle.tf_flow.specs.declared.atoms.TaskKind.TheVariants as kind
-use Rattle.tf_ports.specs.declared.outcomes.Action.{Action}
-use Rattle.tf_ports.specs.declared.outcomes.Action.TheVariants as action
+use Rattle.tf_actions.specs.declared.outcomes.Action.{Action}
+use Rattle.tf_actions.specs.declared.outcomes.Action.TheVariants as action
 
 -- the word of an action
 abbrev pub action_word : Action → List ℕ

@@ -1,6 +1,6 @@
 ghost use Rattle.std.specs.Prelude.{◌≡◌, ◌↔◌, IsTrue, ℕ, List, [], ◌∷◌, ◌++◌, ◌≤◌, drop, length, true, OnOk, IfErr, IfSome, MatchOption};
 ghost use Rattle.tf_wire.specs.Stream.{BeginsWithFrame, BeginsWithBadLength};
-ghost use Rattle.tf_wire.specs.Keeping.{StandsFor, IsCutOff, IsHere, GoesOn, IsAnswer, KeepsFrames};
+ghost use Rattle.tf_wire.specs.Keeping.{KeepsStream, IsCutOff, IsHere, IsUnrefused, IsPieceAnswer, KeepsFrames};
 
 use crate::faults::WireFault;
 use crate::fronts::{Front, front_of};
@@ -18,9 +18,9 @@ pub struct Frames {
 }
 
 impl Model for Frames {
-    ghost use Rattle.tf_wire.specs.Keeping.{Kept};
+    ghost use Rattle.tf_wire.specs.Keeping.{KeptFrames};
 
-    ghost Value = { Kept };
+    ghost Value = { KeptFrames };
 
     ghost view = { λ frames. record { waiting = frames.waiting; rest = frames.rest.items; place = frames.place } };
 }
@@ -28,7 +28,7 @@ impl Model for Frames {
 impl Frames {
     /// Nothing of a stream yet.
     pub fn make(alloc: Global) -> Frames
-        ensures { StandsFor result [] [] }
+        ensures { KeepsStream result [] [] }
     {
         Frames {
             waiting: Waiting::make(alloc),
@@ -41,10 +41,13 @@ impl Frames {
     /// far, a length that no frame has stands at that place; the frames before it can still be taken, and each
     /// later piece is answered so too. Where memory runs out, the piece was kept or it wasn't.
     pub fn feed(&mut self, alloc: Global, piece: &[u8]) -> Result<(), WireFault>
-        ensures ok { OnOk result ((stream : List ℕ) (taken : List (List ℕ)) → StandsFor self.old stream taken → GoesOn self.new (stream ++ piece.now) taken) }
-        ensures refused { IfErr result (λ fault. (stream : List ℕ) (taken : List (List ℕ)) → StandsFor self.old stream taken → IsAnswer self.new stream piece.now taken fault) }
+        ensures ok { OnOk result ((stream : List ℕ) (taken : List (List ℕ)) → KeepsStream self.old stream taken
+            → IsUnrefused self.new (stream ++ piece.now) taken) }
+        ensures refused { IfErr result (λ fault. (stream : List ℕ) (taken : List (List ℕ))
+            → KeepsStream self.old stream taken → IsPieceAnswer self.new stream piece.now taken fault) }
         ensures here { IfErr result (IsHere self.new) }
-        ensures again { BeginsWithBadLength self.old.rest → (result ≡ Err (WireFault.Bad self.old.place)) × (self.new ≡ self.old) }
+        ensures again { BeginsWithBadLength self.old.rest → (result ≡ Err (WireFault.Bad self.old.place))
+            × (self.new ≡ self.old) }
     {
         if let Front::BadLength = front_of(&self.rest) {
             return Err(WireFault::Bad { at: self.place });
@@ -81,8 +84,11 @@ impl Frames {
 
     /// Takes the first whole frame that wasn't taken yet; none is there exactly where all were taken.
     pub fn take_frame(&mut self) -> Option<Vec<u8>>
-        ensures is { MatchOption result ((self.old.waiting ≡ []) × (self.new ≡ self.old)) (λ frame. self.old ≡ record self.new { waiting = frame.items ∷ self.new.waiting }) }
-        ensures taken { IfSome result (λ frame. (stream : List ℕ) (taken : List (List ℕ)) → StandsFor self.old stream taken → StandsFor self.new stream (taken ++ frame.items ∷ [])) }
+        ensures is { MatchOption result ((self.old.waiting ≡ [])
+            × (self.new ≡ self.old)) (λ frame. self.old
+            ≡ record self.new { waiting = frame.items ∷ self.new.waiting }) }
+        ensures taken { IfSome result (λ frame. (stream : List ℕ) (taken : List (List ℕ))
+            → KeepsStream self.old stream taken → KeepsStream self.new stream (taken ++ frame.items ∷ [])) }
     {
         self.waiting.take()
     }

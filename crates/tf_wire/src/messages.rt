@@ -1,5 +1,5 @@
+use tf_actions::{Action, Args};
 use tf_flow::TaskKind;
-use tf_ports::{Action, Args};
 use tf_states::Failure;
 use tf_values::{Texts, Val};
 

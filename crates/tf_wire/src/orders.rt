@@ -3,8 +3,8 @@ ghost use Rattle.tf_wire.specs.Orders.{order_of, undo_of as undo_of_action};
 
 use crate::messages::Request;
 use std::alloc::Global;
+use tf_actions::{Action, Given, Order};
 use tf_flow::Undo;
-use tf_ports::{Action, Given, Order};
 use tf_values::{Memory, Texts};
 
 impl Request {

@@ -6,16 +6,16 @@ ghost use Rattle.serde_json.specs.Written.{has_float, compact_text};
 ghost use Rattle.tf_values.specs.Name.{is_name};
 ghost use Rattle.tf_values.specs.Text.{is_text};
 ghost use Rattle.tf_values.specs.Value.{IsValue};
-ghost use Rattle.tf_wire.specs.Limits.{IsWord, IsArgument, IsFault, HasParts, HasPart, id_in};
-ghost use Rattle.tf_wire.specs.Reading.{message_of, IsAllowed, AreRequest, AreResponse};
+ghost use Rattle.tf_wire.specs.Limits.{IsWord, IsArgument, IsFailure, HasParts, HasPart, id_in};
+ghost use Rattle.tf_wire.specs.Reading.{message_of, IsFitRequest, AreRequest, AreResponse};
 ghost use Rattle.tf_wire.specs.Messages.{scalar_data, value_data, pair_data, failure_data, alone, with_data, request_data, object_of_request, response_data, running_data, success_data, fault_data, frame_of};
 ghost use Rattle.tf_wire.specs.Words.{action_word as word_of_action, kind_word as word_of_kind};
 
 use crate::messages::{Request, Response};
 use serde_json::{Value, json};
 use std::alloc::{AllocError, Global};
+use tf_actions::{Action, Pair};
 use tf_flow::TaskKind;
-use tf_ports::{Action, Pair};
 use tf_states::Failure;
 use tf_values::{Memory, Name, Scalar, Text, Val};
 
@@ -171,7 +171,7 @@ fn request_object(
 /// The JSON of a failure.
 fn failure_value(alloc: Global, fault: &Failure) -> Result<Value, Memory>
     ensures spelled { IfOk result (λ made. view made ≡ failure_data fault.now) }
-    ensures fault { IfOk result (λ _. IsFault fault.now) }
+    ensures fault { IfOk result (λ _. IsFailure fault.now) }
 {
     match fault {
         Failure::Raised(text) => with_value(alloc, "raised", text_value(alloc, text)?),
@@ -241,7 +241,8 @@ fn print_message(alloc: Global, message: &Value, out: &mut Vec<u8>) -> Result<()
     requires no_float { has_float (view message.now) ≡ false }
     requires short { length (compact_text (view message.now)) < 2 ^ 32 }
     ensures frame { OnOk result (out.new.items ≡ out.old.items ++ frame_of (view message.now)) }
-    ensures back { OnOk result (depth (view message.now) ≤ 127 → message_of (compact_text (view message.now)) ≡ Some (view message.now)) }
+    ensures back { OnOk result (depth (view message.now) ≤ 127
+        → message_of (compact_text (view message.now)) ≡ Some (view message.now)) }
 {
     let text = message.to_string(alloc)?;
     let len = text.len() as u32;
@@ -255,7 +256,8 @@ pub fn print_request(alloc: Global, request: &Request, out: &mut Vec<u8>) -> Res
     requires few_words { length request.now.words ≤ 64 }
     requires few_args { length request.now.args ≤ 64 }
     ensures frame { OnOk result (out.new.items ≡ out.old.items ++ frame_of (request_data request.now)) }
-    ensures back { OnOk result (request.now.id < 2 ^ 63 → IsAllowed request.now → AreRequest (compact_text (request_data request.now)) request.now) }
+    ensures back { OnOk result (request.now.id < 2 ^ 63 → IsFitRequest request.now
+        → AreRequest (compact_text (request_data request.now)) request.now) }
 {
     let message = request_value(alloc, request)?;
     print_message(alloc, &message, out)
@@ -264,7 +266,8 @@ pub fn print_request(alloc: Global, request: &Request, out: &mut Vec<u8>) -> Res
 /// Appends the frame of a response. It is read back from it, where its id has 63 bits.
 pub fn print_response(alloc: Global, response: &Response, out: &mut Vec<u8>) -> Result<(), Memory>
     ensures frame { OnOk result (out.new.items ≡ out.old.items ++ frame_of (response_data response.now)) }
-    ensures back { OnOk result (id_in response.now < 2 ^ 63 → AreResponse (compact_text (response_data response.now)) response.now) }
+    ensures back { OnOk result (id_in response.now < 2 ^ 63
+        → AreResponse (compact_text (response_data response.now)) response.now) }
 {
     let message = response_value(alloc, response)?;
     print_message(alloc, &message, out)

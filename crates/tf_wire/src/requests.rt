@@ -6,8 +6,8 @@ use crate::messages::Request;
 use crate::values::{id_of, name_of, text_of, value_of};
 use serde_json::Value;
 use std::alloc::Global;
+use tf_actions::{Action, Args, Pair};
 use tf_flow::TaskKind;
-use tf_ports::{Action, Args, Pair};
 use tf_values::{Memory, Text, Texts};
 
 /// How many members the object has; none where it is no object.
@@ -136,7 +136,8 @@ fn kind_named(word: &str) -> Option<TaskKind>
 
 /// The texts at the key `words`, or none.
 fn words_at(alloc: Global, message: &Value) -> Result<Option<Vec<Text>>, Memory>
-    ensures { IfOk result (λ made. option_map (λ words. words.items) made ≡ at (codes "words") (list_of text_spelled) (view message.now)) }
+    ensures { IfOk result (λ made. option_map (λ words. words.items) made
+        ≡ at (codes "words") (list_of text_spelled) (view message.now)) }
 {
     match message.get("words") {
         Some(value) => words_of(alloc, value),
@@ -155,7 +156,8 @@ fn words_of(alloc: Global, value: &Value) -> Result<Option<Vec<Text>>, Memory>
 
 /// The texts that items are, or none where one is no text.
 fn each_word(alloc: Global, items: &[Value]) -> Result<Option<Vec<Text>>, Memory>
-    ensures { IfOk result (λ made. option_map (λ words. words.items) made ≡ each_of text_spelled (items_view items.now)) }
+    ensures { IfOk result (λ made. option_map (λ words. words.items) made
+        ≡ each_of text_spelled (items_view items.now)) }
 {
     let mut words = Vec::new(alloc);
     for item in items {
@@ -169,7 +171,8 @@ fn each_word(alloc: Global, items: &[Value]) -> Result<Option<Vec<Text>>, Memory
 
 /// The arguments at the key `args`, or none.
 fn args_at(alloc: Global, message: &Value) -> Result<Option<Vec<Pair>>, Memory>
-    ensures { IfOk result (λ made. option_map (λ args. args.items) made ≡ at (codes "args") (list_of pair_spelled) (view message.now)) }
+    ensures { IfOk result (λ made. option_map (λ args. args.items) made
+        ≡ at (codes "args") (list_of pair_spelled) (view message.now)) }
 {
     match message.get("args") {
         Some(value) => args_of(alloc, value),

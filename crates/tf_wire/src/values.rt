@@ -123,7 +123,8 @@ fn scalar_text(alloc: Global, word: &str) -> Result<Option<Scalar>, Memory>
 
 /// The scalars that items are, or none where one is no scalar.
 fn scalars_of(alloc: Global, items: &[Value]) -> Result<Option<Vec<Scalar>>, Memory>
-    ensures { IfOk result (λ made. option_map (λ scalars. scalars.items) made ≡ each_of scalar_spelled (items_view items.now)) }
+    ensures { IfOk result (λ made. option_map (λ scalars. scalars.items) made
+        ≡ each_of scalar_spelled (items_view items.now)) }
 {
     let mut scalars = Vec::new(alloc);
     for item in items {

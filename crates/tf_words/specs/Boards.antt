@@ -1,8 +1,8 @@
 -- What the commands of a board ask for, by the values that their words give to the names of their options and as positional words.
 use Rattle.std.specs.Prelude.{ℕ, List, [], ◌∷◌, codes, Option, Some, None, option_map, option_and_then, if◌then◌else◌}
 use Rattle.uuid.specs.Text.{parsed}
-use Rattle.tf_report.specs.declared.job_lines.Priority.{Priority}
-use Rattle.tf_report.specs.declared.job_lines.Priority.TheVariants as priority
+use Rattle.tf_states.specs.declared.priorities.Priority.{Priority}
+use Rattle.tf_states.specs.declared.priorities.Priority.TheVariants as priority
 use Rattle.tf_values.specs.Name.{is_name}
 use Rattle.tf_values.specs.declared.value.Val.{Val}
 use Rattle.tf_values.specs.declared.value.Val.TheVariants as value

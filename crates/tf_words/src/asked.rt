@@ -8,7 +8,7 @@ use crate::word::{Word, are_filled};
 use std::alloc::Global;
 use tf_flow::Binds;
 use tf_ports::{Address, Want};
-use tf_report::Priority;
+use tf_states::Priority;
 use tf_values::{Memory, Name, Text, Val};
 use uuid::Uuid;
 

@@ -10,7 +10,7 @@ use crate::commands::text_of;
 use crate::given::Given;
 use crate::spelled::value_meant;
 use std::alloc::Global;
-use tf_report::Priority;
+use tf_states::Priority;
 use tf_values::{Memory, Name, Text, Val};
 use uuid::Uuid;
 
@@ -132,7 +132,11 @@ pub fn trash_of(alloc: Global, words: &[&str]) -> Result<Option<Asked>, Memory>
 /// The board, the job's id and the owner, or none where the words are no such three.
 fn applied_in(alloc: Global, words: &[&str]) -> Result<Option<(Text, Uuid, Name)>, Memory>
     requires { All (λ word. is_text word.now ≡ true) words.now }
-    ensures { IfOk result (λ found. option_map (λ found. record { board = found.0; id = found.1; owner = found.2 }) found
+    ensures { IfOk result (λ found. option_map (λ found. record {
+      board = found.0;
+      id = found.1;
+      owner = found.2;
+    }) found
         ≡ applied_said (texts_in words.now)) }
 {
     let [board, id, owner] = words else {

@@ -29,7 +29,8 @@ pub fn given_by<'a>(
 ) -> Result<Option<Given<'a>>, Memory>
     requires filled { are_filled words.now ≡ true }
     requires named { takes_value (map form_of keys.now) [] ≡ None }
-    ensures { IfOk result (λ given. option_map (λ given. held_by given.matches) given ≡ said_by (map form_of keys.now) words.now) }
+    ensures { IfOk result (λ given. option_map (λ given. held_by given.matches) given
+        ≡ said_by (map form_of keys.now) words.now) }
 {
     match parsed(alloc, keys, words)? {
         Some(matches) => Ok(Some(Given { matches })),
@@ -40,7 +41,8 @@ pub fn given_by<'a>(
 impl<'a> Given<'a> {
     /// The values of the name, in order.
     pub fn values(&self, name: &str) -> Option<&[&'a str]>
-        ensures values { unwrap_or (option_map (λ texts. texts_in texts.now) result) [] ≡ held_by self.now.matches name.now }
+        ensures values { unwrap_or (option_map (λ texts. texts_in texts.now) result) []
+            ≡ held_by self.now.matches name.now }
         ensures texts { IfSome result (λ texts. All (λ text. is_text text.now ≡ true) texts.now) }
     {
         self.matches.get_strs(name)
@@ -49,7 +51,8 @@ impl<'a> Given<'a> {
     /// The value of an option, if it stands. None comes where it stands more than once.
     pub fn once(&self, name: &str) -> Option<Option<&'a str>>
         ensures text { IfSome result (λ found. IfSome found (λ text. is_text text.now ≡ true)) }
-        ensures once { option_map (option_map (λ text. text.now)) result ≡ once None (λ value. Some (Some value)) (held_by self.now.matches name.now) }
+        ensures once { option_map (option_map (λ text. text.now)) result
+            ≡ once None (λ value. Some (Some value)) (held_by self.now.matches name.now) }
     {
         match self.values(name) {
             None => Some(None),

@@ -103,7 +103,8 @@ pub fn keys_of(verb: Verb) -> &'static [Key]
 
 /// The command that the first word chooses, or `board` and the second, if they choose one.
 pub fn chosen_in(words: &[Word]) -> Option<Choice<'_>>
-    ensures is { option_map (λ chosen. record { verb = chosen.verb; others = chosen.others.now }) result ≡ chosen_by words.now }
+    ensures is { option_map (λ chosen. record { verb = chosen.verb; others = chosen.others.now }) result
+        ≡ chosen_by words.now }
     ensures filled { are_filled words.now ≡ true → IfSome result (λ chosen. are_filled chosen.others.now ≡ true) }
 {
     let (first, others) = words.split_first()?;
@@ -116,7 +117,8 @@ pub fn chosen_in(words: &[Word]) -> Option<Choice<'_>>
 
 /// The command of a board that the first of these words chooses.
 fn chosen_of_board(words: &[Word]) -> Option<Choice<'_>>
-    ensures is { option_map (λ chosen. record { verb = chosen.verb; others = chosen.others.now }) result ≡ chosen_behind_board words.now }
+    ensures is { option_map (λ chosen. record { verb = chosen.verb; others = chosen.others.now }) result
+        ≡ chosen_behind_board words.now }
     ensures filled { are_filled words.now ≡ true → IfSome result (λ chosen. are_filled chosen.others.now ≡ true) }
 {
     let (first, others) = words.split_first()?;

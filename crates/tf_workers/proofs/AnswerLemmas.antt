@@ -2,20 +2,20 @@
 use Rattle.std.proofs.Common.{◌≡◌, ◌≢◌, ℕ, ◌≤◌, List, [], ◌∷◌, Option, refl, ap, ◌∙◌, subst, arith}
 use Rattle.tf_desk.specs.Counts.{Rises}
 use Rattle.tf_ports.specs.Links.{sent_with, SendsFront}
-use Rattle.tf_ports.specs.Told.{told_with}
-use Rattle.tf_ports.specs.declared.orders.Order.{Order}
-use Rattle.tf_ports.specs.declared.outcomes.Outcome.{Outcome}
+use Rattle.tf_actions.specs.Told.{told_with}
+use Rattle.tf_actions.specs.declared.orders.Order.{Order}
+use Rattle.tf_actions.specs.declared.outcomes.Outcome.{Outcome}
 use Rattle.tf_wire.specs.Reading.{AreRequest}
 use Rattle.tf_workers.specs.Dialogue.{Exchange, order_asked, spoken, told, running}
-use Rattle.tf_workers.specs.Session.{Seen, did_with, IsGiven}
-use Rattle.tf_workers.specs.Progress.{TakesNothing, Reaches, StopsFor}
-use Rattle.tf_workers.specs.Progress.Reaches.{performed}
+use Rattle.tf_workers.specs.Session.{Seen, did_with, MayBeGiven}
+use Rattle.tf_workers.specs.Progress.{TakesNothing, HasComeTo, StopsFor}
+use Rattle.tf_workers.specs.Progress.HasComeTo.{performed}
 use Rattle.tf_workers.specs.declared.answering.Stop.{Stop}
 use Rattle.tf_workers.specs.declared.answering.Stop.TheVariants as stop
 use Rattle.tf_workers.proofs.ListLemmas.{front_more}
 
 -- some way was gone, and then the link failed or memory ran out
-pub stopped : (gives : Order → Outcome → Type 0) (frame : List ℕ) (before now : Seen) (why : Stop) → TakesNothing before now → Reaches gives frame before now → why ≢ stop.Bad → (why ≡ stop.Lost → Rises before.faults now.faults) → StopsFor gives frame before now why
+pub stopped : (gives : Order → Outcome → Type 0) (frame : List ℕ) (before now : Seen) (why : Stop) → TakesNothing before now → HasComeTo gives frame before now → why ≢ stop.Bad → (why ≡ stop.Lost → Rises before.faults now.faults) → StopsFor gives frame before now why
 stopped gives frame before now stop.Bad none reaches not_bad lost = absurd (not_bad refl)
 stopped gives frame before now stop.Lost none reaches not_bad lost = (none, reaches, lost refl)
 stopped gives frame before now stop.Memory none reaches not_bad lost = (none, reaches)
@@ -25,14 +25,14 @@ pub takes_on : (before between now : Seen) → TakesNothing before between → T
 takes_on before between now first second = record { left = second.left ∙ first.left; faults = omega arith; ends = omega arith }
 
 -- an outcome and an order that are those of an exchange
-pub given_for : (gives : Order → Outcome → Type 0) (order : Order) (exchange : Exchange) → order ≡ order_asked exchange → gives order exchange.outcome → IsGiven gives exchange
+pub given_for : (gives : Order → Outcome → Type 0) (order : Order) (exchange : Exchange) → order ≡ order_asked exchange → gives order exchange.outcome → MayBeGiven gives exchange
 given_for gives order exchange is given = subst (λ (asked : Order). gives asked exchange.outcome) is given
 
 pub done_for : (before now : Option (List Order)) (order : Order) (exchange : Exchange) → order ≡ order_asked exchange → now ≡ told_with before order → now ≡ did_with before (order_asked exchange ∷ [])
 done_for before now order exchange is done = done ∙ ap (λ (asked : Order). did_with before (asked ∷ [])) is
 
 -- the order was performed, and a front of its outcome was said
-pub said_front : (gives : Order → Outcome → Type 0) (frame : List ℕ) (before now : Seen) (exchange : Exchange) (between : Option (List ℕ)) → AreRequest frame exchange.request → IsGiven gives exchange
-    → now.did ≡ did_with before.did (order_asked exchange ∷ []) → between ≡ sent_with before.sent (running exchange.request) → SendsFront between (spoken (told exchange.request.id exchange.outcome)) now.sent → Reaches gives frame before now
+pub said_front : (gives : Order → Outcome → Type 0) (frame : List ℕ) (before now : Seen) (exchange : Exchange) (between : Option (List ℕ)) → AreRequest frame exchange.request → MayBeGiven gives exchange
+    → now.did ≡ did_with before.did (order_asked exchange ∷ []) → between ≡ sent_with before.sent (running exchange.request) → SendsFront between (spoken (told exchange.request.id exchange.outcome)) now.sent → HasComeTo gives frame before now
 said_front gives frame before now exchange between read gave did first second =
     performed exchange read gave did (front_more before.sent between now.sent (running exchange.request) (spoken (told exchange.request.id exchange.outcome)) first second)

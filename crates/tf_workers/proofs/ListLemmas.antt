@@ -5,7 +5,7 @@ use Rattle.std.proofs.lemmas.Grind.{flat_map-append}
 use Rattle.std.proofs.lemmas.List.{take_all}
 use Rattle.std.proofs.Math.Seq.{take-append-add}
 use Rattle.tf_ports.specs.Links.{sent_with, left_before, SendsFront}
-use Rattle.tf_ports.specs.declared.orders.Order.{Order}
+use Rattle.tf_actions.specs.declared.orders.Order.{Order}
 use Rattle.tf_wire.specs.Messages.{response_data, frame_of}
 use Rattle.tf_wire.specs.Reading.{AreRequest}
 use Rattle.tf_wire.specs.Stream.{framed, joined}

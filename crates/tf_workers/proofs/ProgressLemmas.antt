@@ -6,17 +6,17 @@ use Rattle.std.proofs.lemmas.Grind.{flat_map-append}
 use Rattle.std.proofs.lemmas.List.{append_cancel_left}
 use Rattle.tf_desk.specs.Counts.{Rises}
 use Rattle.tf_ports.specs.Links.{sent_with, left_before, SendsFront}
-use Rattle.tf_ports.specs.declared.orders.Order.{Order}
-use Rattle.tf_ports.specs.declared.outcomes.Outcome.{Outcome}
-use Rattle.tf_wire.specs.Keeping.{Kept, counted, StandsFor, IsHere, IsAnswer}
-use Rattle.tf_wire.specs.Keeping.{GoesOn as FeedsOn}
+use Rattle.tf_actions.specs.declared.orders.Order.{Order}
+use Rattle.tf_actions.specs.declared.outcomes.Outcome.{Outcome}
+use Rattle.tf_wire.specs.Keeping.{KeptFrames, counted, KeepsStream, IsHere, IsPieceAnswer}
+use Rattle.tf_wire.specs.Keeping.{IsUnrefused as FeedsOn}
 use Rattle.tf_wire.specs.declared.faults.WireFault.TheVariants as fault
-use Rattle.tf_wire.specs.Stream.{IsFrame, framed, joined, IsCut, BeginsWithFrame, BeginsWithBadLength}
+use Rattle.tf_wire.specs.Stream.{IsFrame, framed, joined, SplitsInto, BeginsWithFrame, BeginsWithBadLength}
 use Rattle.tf_wire.proofs.StreamLemmas.{bad_stays, cut_on, short_is_no_frame, short_is_no_bad_length}
 use Rattle.tf_workers.specs.Dialogue.{Exchange, running, reply, dialogue}
-use Rattle.tf_workers.specs.Session.{Seen, IsGiven, Session, Serves}
-use Rattle.tf_workers.specs.Progress.{IsKnown, Feeds, TakesIn, IsAtEnd, RunsOut, IsStopped, SoFar, GoesOn, TakesNothing, Answers, Reaches, StopsFor}
-use Rattle.tf_workers.specs.Progress.Reaches.{nothing, begun, performed}
+use Rattle.tf_workers.specs.Session.{Seen, MayBeGiven, WorkerSession, Serves}
+use Rattle.tf_workers.specs.Progress.{IsKnown, Feeds, TakesIn, IsAtEnd, RunsOut, HasNothingMore, SoFar, HasAnsweredAll, TakesNothing, Answers, HasComeTo, StopsFor}
+use Rattle.tf_workers.specs.Progress.HasComeTo.{nothing, begun, performed}
 use Rattle.tf_workers.specs.declared.answering.Stop.TheVariants as stop
 use Rattle.tf_workers.specs.declared.incoming.Incoming.{Incoming}
 use Rattle.tf_workers.specs.declared.serving.ServeEnd.{ServeEnd}
@@ -35,26 +35,26 @@ le_on a b c first second = omega arith
 -- ---- what stands behind the frames that were taken
 
 -- the frames that wait, and what is kept behind them
-abbrev behind_of : (kept : Kept) (given : List ℕ) (taken : List (List ℕ)) → StandsFor kept given taken → List ℕ
+abbrev behind_of : (kept : KeptFrames) (given : List ℕ) (taken : List (List ℕ)) → KeepsStream kept given taken → List ℕ
 behind_of kept given taken keeps = joined kept.waiting ++ (kept.rest ++ keeps.dropped)
 
-cut_of : (kept : Kept) (given : List ℕ) (taken : List (List ℕ)) (keeps : StandsFor kept given taken) → IsCut given taken (behind_of kept given taken keeps)
+cut_of : (kept : KeptFrames) (given : List ℕ) (taken : List (List ℕ)) (keeps : KeepsStream kept given taken) → SplitsInto given taken (behind_of kept given taken keeps)
 cut_of kept given taken keeps = record {
   is = keeps.cut.is ∙ ap (λ (front : List ℕ). front ++ (kept.rest ++ keeps.dropped)) (flat_map-append framed taken kept.waiting) ∙ append_assoc (joined taken) (joined kept.waiting) (kept.rest ++ keeps.dropped);
   are_frames = all_front IsFrame taken kept.waiting keeps.cut.are_frames;
 }
 
 -- where no frame waits, and nothing was dropped
-cut_rest : (kept : Kept) (given : List ℕ) (taken : List (List ℕ)) → kept.waiting ≡ [] → ¬ (BeginsWithBadLength kept.rest) → StandsFor kept given taken → IsCut given taken kept.rest
+cut_rest : (kept : KeptFrames) (given : List ℕ) (taken : List (List ℕ)) → kept.waiting ≡ [] → ¬ (BeginsWithBadLength kept.rest) → KeepsStream kept given taken → SplitsInto given taken kept.rest
 cut_rest kept given taken none not_bad keeps =
     let dropped : keeps.dropped ≡ [] = elim keeps.is_dropped [ inl is ↦ is | inr bad ↦ absurd (not_bad bad) ] in
-    subst (IsCut given taken) (
+    subst (SplitsInto given taken) (
     ap (λ (waiting : List (List ℕ)). joined waiting ++ (kept.rest ++ keeps.dropped)) none ∙ ap (λ (more : List ℕ). kept.rest ++ more) dropped ∙ append-nil kept.rest
     ) (cut_of kept given taken keeps)
 
 -- where the stream is refused behind the frames that were taken
-cut_bad : (kept : Kept) (given : List ℕ) (taken : List (List ℕ)) → kept.waiting ≡ [] → (keeps : StandsFor kept given taken) → IsCut given taken (kept.rest ++ keeps.dropped)
-cut_bad kept given taken none keeps = subst (IsCut given taken) (ap (λ (waiting : List (List ℕ)). joined waiting ++ (kept.rest ++ keeps.dropped)) none) (cut_of kept given taken keeps)
+cut_bad : (kept : KeptFrames) (given : List ℕ) (taken : List (List ℕ)) → kept.waiting ≡ [] → (keeps : KeepsStream kept given taken) → SplitsInto given taken (kept.rest ++ keeps.dropped)
+cut_bad kept given taken none keeps = subst (SplitsInto given taken) (ap (λ (waiting : List (List ℕ)). joined waiting ++ (kept.rest ++ keeps.dropped)) none) (cut_of kept given taken keeps)
 
 -- ---- sessions that end with what was answered
 
@@ -71,7 +71,7 @@ so_far_on gives before now after given frames exchanges none did sent far = reco
 }
 
 abbrev session_of : (gives : Order → Outcome → Type 0) (before now : Seen) (given : List ℕ) (frames : List (List ℕ)) (exchanges : List Exchange) (behind : List ℕ)
-    → SoFar gives before now given frames exchanges → IsCut given frames behind → Session gives before now
+    → SoFar gives before now given frames exchanges → SplitsInto given frames behind → WorkerSession gives before now
 session_of gives before now given frames exchanges behind far cut = record {
   given = given;
   came = far.came;
@@ -90,10 +90,10 @@ session_of gives before now given frames exchanges behind far cut = record {
 -- ---- a frame is taken
 
 -- the same with this frame before those that wait
-abbrev pub with_frame : Kept → List ℕ → Kept
+abbrev pub with_frame : KeptFrames → List ℕ → KeptFrames
 with_frame kept frame = record { waiting = frame ∷ kept.waiting; rest = kept.rest; place = kept.place }
 
-known_taken : (kept : Kept) (frame : List ℕ) (refused : Option ℕ) → IsKnown (with_frame kept frame) refused → IsKnown kept refused
+known_taken : (kept : KeptFrames) (frame : List ℕ) (refused : Option ℕ) → IsKnown (with_frame kept frame) refused → IsKnown kept refused
 known_taken kept frame None known = known
 known_taken kept frame (Some at) known = known
 
@@ -103,19 +103,19 @@ place_more taken frame place is =
     omega (arith, long, is)
 
 -- what is known where a frame was taken of what was kept
-pub record Taking (old new : Kept) (frame : List ℕ) : Type 0 where
+pub record Taking (old new : KeptFrames) (frame : List ℕ) : Type 0 where
   pub is : old ≡ with_frame new frame
-  pub keeps : (stream : List ℕ) (taken : List (List ℕ)) → StandsFor old stream taken → StandsFor new stream (taken ++ frame ∷ [])
+  pub keeps : (stream : List ℕ) (taken : List (List ℕ)) → KeepsStream old stream taken → KeepsStream new stream (taken ++ frame ∷ [])
 
-pub taking_of : (old new : Kept) (items frame : List ℕ) → frame ≡ items → old ≡ with_frame new items → ((stream : List ℕ) (taken : List (List ℕ)) → StandsFor old stream taken → StandsFor new stream (taken ++ items ∷ [])) → Taking old new frame
+pub taking_of : (old new : KeptFrames) (items frame : List ℕ) → frame ≡ items → old ≡ with_frame new items → ((stream : List ℕ) (taken : List (List ℕ)) → KeepsStream old stream taken → KeepsStream new stream (taken ++ items ∷ [])) → Taking old new frame
 taking_of old new items frame same is keeps = record {
   is = is ∙ ap (with_frame new) (sym same);
-  keeps = λ stream taken stands. subst (λ (bytes : List ℕ). StandsFor new stream (taken ++ bytes ∷ [])) (sym same) (keeps stream taken stands);
+  keeps = λ stream taken stands. subst (λ (bytes : List ℕ). KeepsStream new stream (taken ++ bytes ∷ [])) (sym same) (keeps stream taken stands);
 }
 
 -- one exchange more
-pub answered : (gives : Order → Outcome → Type 0) (before now after : Seen) (old new : Kept) (place later : ℕ) (refused : Option ℕ) (frame : List ℕ) → Taking old new frame → later ≡ counted (counted (place + 4) + length frame)
-    → Answers gives frame now after → GoesOn gives before now old place refused → GoesOn gives before after new later refused
+pub answered : (gives : Order → Outcome → Type 0) (before now after : Seen) (old new : KeptFrames) (place later : ℕ) (refused : Option ℕ) (frame : List ℕ) → Taking old new frame → later ≡ counted (counted (place + 4) + length frame)
+    → Answers gives frame now after → HasAnsweredAll gives before now old place refused → HasAnsweredAll gives before after new later refused
 answered gives before now after old new place later refused frame taking later_is one on = record {
   given = on.given;
   taken = on.taken ++ frame ∷ [];
@@ -123,14 +123,14 @@ answered gives before now after old new place later refused frame taking later_i
   so_far = record {
     came = on.so_far.came ∙ ap (left_before on.given) (sym one.takes_nothing.left);
     read = read_more on.taken on.exchanges frame one.exchange on.so_far.read one.read;
-    gave = all_more (IsGiven gives) on.exchanges one.exchange on.so_far.gave one.gave;
+    gave = all_more (MayBeGiven gives) on.exchanges one.exchange on.so_far.gave one.gave;
     did = did_more before.did now.did after.did on.exchanges one.exchange on.so_far.did one.did;
     sent = sent_more before.sent now.sent after.sent (dialogue on.exchanges) (reply one.exchange) on.so_far.sent one.sent ∙ ap (sent_with before.sent) (sym (dialogue_more on.exchanges one.exchange));
     faults = le_on before.faults now.faults after.faults on.so_far.faults one.takes_nothing.faults;
     ends = le_on before.ends now.ends after.ends on.so_far.ends one.takes_nothing.ends;
   };
   keeps = taking.keeps on.given on.taken on.keeps;
-  is_known = known_taken new frame refused (subst (λ (kept : Kept). IsKnown kept refused) taking.is on.is_known);
+  is_known = known_taken new frame refused (subst (λ (kept : KeptFrames). IsKnown kept refused) taking.is on.is_known);
   is_place = later_is ∙ place_more on.taken frame place on.is_place;
 }
 
@@ -138,21 +138,21 @@ answered gives before now after old new place later refused frame taking later_i
 record Next (given : List ℕ) (taken : List (List ℕ)) (frame : List ℕ) : Type 0 where
   behind : List ℕ
   is_frame : IsFrame frame
-  cut : IsCut given taken (framed frame ++ behind)
+  cut : SplitsInto given taken (framed frame ++ behind)
 
-next_of : (old new : Kept) (frame given : List ℕ) (taken : List (List ℕ)) → old ≡ with_frame new frame → StandsFor old given taken → Next given taken frame
+next_of : (old new : KeptFrames) (frame given : List ℕ) (taken : List (List ℕ)) → old ≡ with_frame new frame → KeepsStream old given taken → Next given taken frame
 next_of old new frame given taken is keeps =
-    let had : StandsFor (with_frame new frame) given taken = subst (λ (kept : Kept). StandsFor kept given taken) is keeps in
+    let had : KeepsStream (with_frame new frame) given taken = subst (λ (kept : KeptFrames). KeepsStream kept given taken) is keeps in
     let waits : AllByRecursion IsFrame (frame ∷ new.waiting) = all_behind IsFrame taken (frame ∷ new.waiting) had.cut.are_frames in record {
       behind = joined new.waiting ++ (new.rest ++ had.dropped);
       is_frame = waits.0;
-      cut = subst (IsCut given taken) (append_assoc (framed frame) (joined new.waiting) (new.rest ++ had.dropped)) (cut_of (with_frame new frame) given taken had);
+      cut = subst (SplitsInto given taken) (append_assoc (framed frame) (joined new.waiting) (new.rest ++ had.dropped)) (cut_of (with_frame new frame) given taken had);
     }
 
 -- ---- a frame isn't answered
 
-reached : (gives : Order → Outcome → Type 0) (before now after : Seen) (new : Kept) (frame given : List ℕ) (taken : List (List ℕ)) (exchanges : List Exchange)
-    → SoFar gives before now given taken exchanges → Next given taken frame → StandsFor new given (taken ++ frame ∷ []) → TakesNothing now after → Reaches gives frame now after → Session gives before after
+reached : (gives : Order → Outcome → Type 0) (before now after : Seen) (new : KeptFrames) (frame given : List ℕ) (taken : List (List ℕ)) (exchanges : List Exchange)
+    → SoFar gives before now given taken exchanges → Next given taken frame → KeepsStream new given (taken ++ frame ∷ []) → TakesNothing now after → HasComeTo gives frame now after → WorkerSession gives before after
 reached gives before now after new frame given taken exchanges far next keeps none (nothing did sent) =
     session_of gives before after given taken exchanges (framed frame ++ next.behind) (so_far_on gives before now after given taken exchanges none did sent far) next.cut
 reached gives before now after new frame given taken exchanges far next keeps none (begun request spells did sent) = record {
@@ -177,7 +177,7 @@ reached gives before now after new frame given taken exchanges far next keeps no
   cut = cut_of new given (taken ++ frame ∷ []) keeps;
   exchanges = exchanges ++ exchange ∷ [];
   read = read_more taken exchanges frame exchange far.read spells;
-  gave = all_more (IsGiven gives) exchanges exchange far.gave gave;
+  gave = all_more (MayBeGiven gives) exchanges exchange far.gave gave;
   did = did_more before.did now.did after.did exchanges exchange far.did did;
   begun = None;
   is_begun = tt;
@@ -185,13 +185,13 @@ reached gives before now after new frame given taken exchanges far next keeps no
       (front_more before.sent now.sent after.sent (dialogue exchanges) (reply exchange) far.sent sent);
 }
 
-session_at : (gives : Order → Outcome → Type 0) (before now after : Seen) (old new : Kept) (place : ℕ) (refused : Option ℕ) (frame : List ℕ)
-    → Taking old new frame → GoesOn gives before now old place refused → TakesNothing now after → Reaches gives frame now after → Session gives before after
+session_at : (gives : Order → Outcome → Type 0) (before now after : Seen) (old new : KeptFrames) (place : ℕ) (refused : Option ℕ) (frame : List ℕ)
+    → Taking old new frame → HasAnsweredAll gives before now old place refused → TakesNothing now after → HasComeTo gives frame now after → WorkerSession gives before after
 session_at gives before now after old new place refused frame taking on none reaches =
     reached gives before now after new frame on.given on.taken on.exchanges on.so_far (next_of old new frame on.given on.taken taking.is on.keeps) (taking.keeps on.given on.taken on.keeps) none reaches
 
-pub stopped_lost : (gives : Order → Outcome → Type 0) (before now after : Seen) (old new : Kept) (place : ℕ) (refused : Option ℕ) (frame : List ℕ)
-    → Taking old new frame → StopsFor gives frame now after stop.Lost → GoesOn gives before now old place refused → Serves gives before after end.Lost
+pub stopped_lost : (gives : Order → Outcome → Type 0) (before now after : Seen) (old new : KeptFrames) (place : ℕ) (refused : Option ℕ) (frame : List ℕ)
+    → Taking old new frame → StopsFor gives frame now after stop.Lost → HasAnsweredAll gives before now old place refused → Serves gives before after end.Lost
 stopped_lost gives before now after old new place refused frame taking why on = record {
   session = session_at gives before now after old new place refused frame taking on why.0 why.1;
   ends_as = inl (rises_on before.faults now.faults after.faults on.so_far.faults why.2);
@@ -199,8 +199,8 @@ stopped_lost gives before now after old new place refused frame taking why on = 
   ends = le_on before.ends now.ends after.ends on.so_far.ends why.0.ends;
 }
 
-pub stopped_memory : (gives : Order → Outcome → Type 0) (before now after : Seen) (old new : Kept) (place : ℕ) (refused : Option ℕ) (frame : List ℕ)
-    → Taking old new frame → StopsFor gives frame now after stop.Memory → GoesOn gives before now old place refused → Serves gives before after end.Memory
+pub stopped_memory : (gives : Order → Outcome → Type 0) (before now after : Seen) (old new : KeptFrames) (place : ℕ) (refused : Option ℕ) (frame : List ℕ)
+    → Taking old new frame → StopsFor gives frame now after stop.Memory → HasAnsweredAll gives before now old place refused → Serves gives before after end.Memory
 stopped_memory gives before now after old new place refused frame taking why on = record {
   session = session_at gives before now after old new place refused frame taking on why.0 why.1;
   ends_as = tt;
@@ -208,8 +208,8 @@ stopped_memory gives before now after old new place refused frame taking why on 
   ends = le_on before.ends now.ends after.ends on.so_far.ends why.0.ends;
 }
 
-pub stopped_bad : (gives : Order → Outcome → Type 0) (before now after : Seen) (old new : Kept) (place : ℕ) (refused : Option ℕ) (frame : List ℕ)
-    → Taking old new frame → StopsFor gives frame now after stop.Bad → GoesOn gives before now old place refused → Serves gives before after (end.Bad place)
+pub stopped_bad : (gives : Order → Outcome → Type 0) (before now after : Seen) (old new : KeptFrames) (place : ℕ) (refused : Option ℕ) (frame : List ℕ)
+    → Taking old new frame → StopsFor gives frame now after stop.Bad → HasAnsweredAll gives before now old place refused → Serves gives before after (end.Bad place)
 stopped_bad gives before now after old new place refused frame taking why on =
     let next = next_of old new frame on.given on.taken taking.is on.keeps in
     let far = so_far_on gives before now after on.given on.taken on.exchanges why.0 why.1.did why.1.sent on.so_far in record {
@@ -237,8 +237,8 @@ so_far_received gives before now after given piece frames exchanges came did sen
   ends = le_on before.ends now.ends after.ends far.ends ends;
 }
 
-pub received : (gives : Order → Outcome → Type 0) (before now after : Seen) (old new : Kept) (place : ℕ) (refused later : Option ℕ) → TakesIn old new later now.left after.left
-    → after.did ≡ now.did → after.sent ≡ now.sent → now.faults ≤ after.faults → now.ends ≤ after.ends → GoesOn gives before now old place refused → GoesOn gives before after new place later
+pub received : (gives : Order → Outcome → Type 0) (before now after : Seen) (old new : KeptFrames) (place : ℕ) (refused later : Option ℕ) → TakesIn old new later now.left after.left
+    → after.did ≡ now.did → after.sent ≡ now.sent → now.faults ≤ after.faults → now.ends ≤ after.ends → HasAnsweredAll gives before now old place refused → HasAnsweredAll gives before after new place later
 received gives before now after old new place refused later takes did sent faults ends on =
     let fed = takes.feeds on.given on.taken on.keeps in record {
       given = on.given ++ takes.piece;
@@ -253,8 +253,8 @@ received gives before now after old new place refused later takes did sent fault
 -- ---- nothing comes
 
 -- the end of a session in which every frame was answered
-over_ended : (gives : Order → Outcome → Type 0) (before now after : Seen) (kept : Kept) (place : ℕ) → kept.waiting ≡ [] → kept.rest ≡ [] → TakesNothing now after → after.did ≡ now.did → after.sent ≡ now.sent
-    → IsAtEnd now.left after.left now.ends after.ends → GoesOn gives before now kept place None → Serves gives before after end.Ended
+over_ended : (gives : Order → Outcome → Type 0) (before now after : Seen) (kept : KeptFrames) (place : ℕ) → kept.waiting ≡ [] → kept.rest ≡ [] → TakesNothing now after → after.did ≡ now.did → after.sent ≡ now.sent
+    → IsAtEnd now.left after.left now.ends after.ends → HasAnsweredAll gives before now kept place None → Serves gives before after end.Ended
 over_ended gives before now after kept place empty nothing_behind none did sent at_end on =
     let far = so_far_on gives before now after on.given on.taken on.exchanges none did sent on.so_far in record {
       session = session_of gives before after on.given on.taken on.exchanges kept.rest far (cut_rest kept on.given on.taken empty on.is_known.1 on.keeps);
@@ -267,8 +267,8 @@ over_ended gives before now after kept place empty nothing_behind none did sent 
       ends = far.ends;
     }
 
-over_failed : (gives : Order → Outcome → Type 0) (before now after : Seen) (kept : Kept) (place : ℕ) (refused : Option ℕ) → TakesNothing now after → after.did ≡ now.did → after.sent ≡ now.sent
-    → Rises now.faults after.faults → GoesOn gives before now kept place refused → Serves gives before after end.Lost
+over_failed : (gives : Order → Outcome → Type 0) (before now after : Seen) (kept : KeptFrames) (place : ℕ) (refused : Option ℕ) → TakesNothing now after → after.did ≡ now.did → after.sent ≡ now.sent
+    → Rises now.faults after.faults → HasAnsweredAll gives before now kept place refused → Serves gives before after end.Lost
 over_failed gives before now after kept place refused none did sent rose on =
     let far = so_far_on gives before now after on.given on.taken on.exchanges none did sent on.so_far in record {
       session = session_of gives before after on.given on.taken on.exchanges (behind_of kept on.given on.taken on.keeps) far (cut_of kept on.given on.taken on.keeps);
@@ -277,8 +277,8 @@ over_failed gives before now after kept place refused none did sent rose on =
       ends = far.ends;
     }
 
-over_short : (gives : Order → Outcome → Type 0) (before now after : Seen) (kept : Kept) (place : ℕ) → kept.waiting ≡ [] → kept.rest ≢ [] → TakesNothing now after → after.did ≡ now.did → after.sent ≡ now.sent
-    → IsAtEnd now.left after.left now.ends after.ends → GoesOn gives before now kept place None → Serves gives before after end.Lost
+over_short : (gives : Order → Outcome → Type 0) (before now after : Seen) (kept : KeptFrames) (place : ℕ) → kept.waiting ≡ [] → kept.rest ≢ [] → TakesNothing now after → after.did ≡ now.did → after.sent ≡ now.sent
+    → IsAtEnd now.left after.left now.ends after.ends → HasAnsweredAll gives before now kept place None → Serves gives before after end.Lost
 over_short gives before now after kept place empty some_behind none did sent at_end on =
     let far = so_far_on gives before now after on.given on.taken on.exchanges none did sent on.so_far in record {
       session = session_of gives before after on.given on.taken on.exchanges kept.rest far (cut_rest kept on.given on.taken empty on.is_known.1 on.keeps);
@@ -291,8 +291,8 @@ over_short gives before now after kept place empty some_behind none did sent at_
       ends = far.ends;
     }
 
-over_bad : (gives : Order → Outcome → Type 0) (before now after : Seen) (kept : Kept) (place at : ℕ) → kept.waiting ≡ [] → TakesNothing now after → after.did ≡ now.did → after.sent ≡ now.sent
-    → GoesOn gives before now kept place (Some at) → Serves gives before after (end.Bad at)
+over_bad : (gives : Order → Outcome → Type 0) (before now after : Seen) (kept : KeptFrames) (place at : ℕ) → kept.waiting ≡ [] → TakesNothing now after → after.did ≡ now.did → after.sent ≡ now.sent
+    → HasAnsweredAll gives before now kept place (Some at) → Serves gives before after (end.Bad at)
 over_bad gives before now after kept place at empty none did sent on =
     let far = so_far_on gives before now after on.given on.taken on.exchanges none did sent on.so_far in record {
       session = session_of gives before after on.given on.taken on.exchanges (kept.rest ++ on.keeps.dropped) far (cut_bad kept on.given on.taken empty on.keeps);
@@ -305,8 +305,8 @@ over_bad gives before now after kept place at empty none did sent on =
       ends = far.ends;
     }
 
-over_full : (gives : Order → Outcome → Type 0) (before now after : Seen) (kept : Kept) (place : ℕ) (refused : Option ℕ) → RunsOut now.left after.left → after.did ≡ now.did → after.sent ≡ now.sent
-    → now.faults ≤ after.faults → now.ends ≤ after.ends → GoesOn gives before now kept place refused → Serves gives before after end.Memory
+over_full : (gives : Order → Outcome → Type 0) (before now after : Seen) (kept : KeptFrames) (place : ℕ) (refused : Option ℕ) → RunsOut now.left after.left → after.did ≡ now.did → after.sent ≡ now.sent
+    → now.faults ≤ after.faults → now.ends ≤ after.ends → HasAnsweredAll gives before now kept place refused → Serves gives before after end.Memory
 over_full gives before now after kept place refused out did sent faults ends on =
     let far = so_far_received gives before now after on.given out.piece on.taken on.exchanges out.came did sent faults ends on.so_far in record {
       session = session_of gives before after (on.given ++ out.piece) on.taken on.exchanges (behind_of kept on.given on.taken on.keeps ++ out.piece) far
@@ -317,37 +317,37 @@ over_full gives before now after kept place refused out did sent faults ends on 
     }
 
 pub over : (gives : Order → Outcome → Type 0) (before now after : Seen) (incoming : Incoming) (how : ServeEnd) → incoming.frames.waiting ≡ [] → after.did ≡ now.did → after.sent ≡ now.sent
-    → now.faults ≤ after.faults → now.ends ≤ after.ends → IsStopped incoming now.left after.left now.faults after.faults now.ends after.ends how
-    → GoesOn gives before now incoming.frames incoming.place incoming.refused → Serves gives before after how
+    → now.faults ≤ after.faults → now.ends ≤ after.ends → HasNothingMore incoming now.left after.left now.faults after.faults now.ends after.ends how
+    → HasAnsweredAll gives before now incoming.frames incoming.place incoming.refused → Serves gives before after how
 over gives before now after incoming end.Ended empty did sent faults ends why on =
     let none : TakesNothing now after = record { left = why.0.stays; faults = faults; ends = ends } in
-    over_ended gives before now after incoming.frames incoming.place empty why.2 none did sent why.0 (subst (GoesOn gives before now incoming.frames incoming.place) why.1 on)
+    over_ended gives before now after incoming.frames incoming.place empty why.2 none did sent why.0 (subst (HasAnsweredAll gives before now incoming.frames incoming.place) why.1 on)
 over gives before now after incoming end.Lost empty did sent faults ends (inl failed) on =
     over_failed gives before now after incoming.frames incoming.place incoming.refused record { left = failed.0; faults = faults; ends = ends } did sent failed.1 on
 over gives before now after incoming end.Lost empty did sent faults ends (inr ended) on =
     let none : TakesNothing now after = record { left = ended.0.stays; faults = faults; ends = ends } in
-    over_short gives before now after incoming.frames incoming.place empty ended.2 none did sent ended.0 (subst (GoesOn gives before now incoming.frames incoming.place) ended.1 on)
+    over_short gives before now after incoming.frames incoming.place empty ended.2 none did sent ended.0 (subst (HasAnsweredAll gives before now incoming.frames incoming.place) ended.1 on)
 over gives before now after incoming (end.Bad at) empty did sent faults ends why on =
     let none : TakesNothing now after = record { left = why.0; faults = faults; ends = ends } in
-    over_bad gives before now after incoming.frames incoming.place at empty none did sent (subst (GoesOn gives before now incoming.frames incoming.place) why.1 on)
+    over_bad gives before now after incoming.frames incoming.place at empty none did sent (subst (HasAnsweredAll gives before now incoming.frames incoming.place) why.1 on)
 over gives before now after incoming end.Memory empty did sent faults ends why on =
     over_full gives before now after incoming.frames incoming.place incoming.refused why did sent faults ends on
 
 -- what comes is taken in, or the session is over
-pub received_or_over : (r : Result (Unit {0}) ServeEnd) (gives : Order → Outcome → Type 0) (before now after : Seen) (kept : Kept) (mid new : Incoming) → mid.frames ≡ kept → kept.waiting ≡ []
-    → MatchResult r (λ _. TakesIn mid.frames new.frames new.refused now.left after.left) (IsStopped mid now.left after.left now.faults after.faults now.ends after.ends) → new.place ≡ mid.place
-    → after.did ≡ now.did → after.sent ≡ now.sent → now.faults ≤ after.faults → now.ends ≤ after.ends → GoesOn gives before now kept mid.place mid.refused
-    → MatchResult r (λ _. GoesOn gives before after new.frames new.place new.refused) (Serves gives before after)
+pub received_or_over : (r : Result (Unit {0}) ServeEnd) (gives : Order → Outcome → Type 0) (before now after : Seen) (kept : KeptFrames) (mid new : Incoming) → mid.frames ≡ kept → kept.waiting ≡ []
+    → MatchResult r (λ _. TakesIn mid.frames new.frames new.refused now.left after.left) (HasNothingMore mid now.left after.left now.faults after.faults now.ends after.ends) → new.place ≡ mid.place
+    → after.did ≡ now.did → after.sent ≡ now.sent → now.faults ≤ after.faults → now.ends ≤ after.ends → HasAnsweredAll gives before now kept mid.place mid.refused
+    → MatchResult r (λ _. HasAnsweredAll gives before after new.frames new.place new.refused) (Serves gives before after)
 received_or_over (Ok u) gives before now after kept mid new same empty takes place did sent faults ends on =
-    subst (λ (at : ℕ). GoesOn gives before after new.frames at new.refused) (sym place)
-    (received gives before now after mid.frames new.frames mid.place mid.refused new.refused takes did sent faults ends (subst (λ (frames : Kept). GoesOn gives before now frames mid.place mid.refused) (sym same) on))
+    subst (λ (at : ℕ). HasAnsweredAll gives before after new.frames at new.refused) (sym place)
+    (received gives before now after mid.frames new.frames mid.place mid.refused new.refused takes did sent faults ends (subst (λ (frames : KeptFrames). HasAnsweredAll gives before now frames mid.place mid.refused) (sym same) on))
 received_or_over (Err how) gives before now after kept mid new same empty why place did sent faults ends on =
-    over gives before now after mid how (ap (λ (frames : Kept). frames.waiting) same ∙ empty) did sent faults ends why (subst (λ (frames : Kept). GoesOn gives before now frames mid.place mid.refused) (sym same) on)
+    over gives before now after mid how (ap (λ (frames : KeptFrames). frames.waiting) same ∙ empty) did sent faults ends why (subst (λ (frames : KeptFrames). HasAnsweredAll gives before now frames mid.place mid.refused) (sym same) on)
 
 -- ---- a piece is fed
 
 -- a stream that goes on isn't refused behind its whole frames
-known_free : (kept : Kept) (stream : List ℕ) (taken : List (List ℕ)) → FeedsOn kept stream taken → IsKnown kept None
+known_free : (kept : KeptFrames) (stream : List ℕ) (taken : List (List ℕ)) → FeedsOn kept stream taken → IsKnown kept None
 known_free kept stream taken on =
     let not_bad : ¬ (BeginsWithBadLength kept.rest) = λ bad. on.not_refused (length (joined (taken ++ kept.waiting))) record {
       frames = taken ++ kept.waiting;
@@ -362,16 +362,16 @@ known_free kept stream taken on =
     ∙ append_cancel_left (joined (taken ++ kept.waiting)) (kept.rest ++ on.stands.dropped) on.frames.behind (sym on.stands.cut.is ∙ on.frames.cut.is) in
     (subst (λ (behind : List ℕ). ¬ (BeginsWithFrame behind)) (sym same) on.frames.no_more, not_bad)
 
-pub feeds_on : (old new : Kept) (piece : List ℕ) (refused : Option ℕ) → refused ≡ None → ((stream : List ℕ) (taken : List (List ℕ)) → StandsFor old stream taken → FeedsOn new (stream ++ piece) taken) → Feeds old new piece refused
+pub feeds_on : (old new : KeptFrames) (piece : List ℕ) (refused : Option ℕ) → refused ≡ None → ((stream : List ℕ) (taken : List (List ℕ)) → KeepsStream old stream taken → FeedsOn new (stream ++ piece) taken) → Feeds old new piece refused
 feeds_on old new piece refused is on stream taken stands =
     let fed = on stream taken stands in (fed.stands, subst (IsKnown new) (sym is) (known_free new (stream ++ piece) taken fed))
 
-pub feeds_bad : (old new : Kept) (piece : List ℕ) (at : ℕ) → IsHere new (fault.Bad at) → ((stream : List ℕ) (taken : List (List ℕ)) → StandsFor old stream taken → IsAnswer new stream piece taken (fault.Bad at)) → Feeds old new piece (Some at)
+pub feeds_bad : (old new : KeptFrames) (piece : List ℕ) (at : ℕ) → IsHere new (fault.Bad at) → ((stream : List ℕ) (taken : List (List ℕ)) → KeepsStream old stream taken → IsPieceAnswer new stream piece taken (fault.Bad at)) → Feeds old new piece (Some at)
 feeds_bad old new piece at here stops stream taken stands = ((stops stream taken stands).stands, here)
 
 -- ---- nothing came yet
 
-pub starts : (gives : Order → Outcome → Type 0) (now : Seen) (kept : Kept) (place : ℕ) (refused : Option ℕ) → StandsFor kept [] [] → place ≡ 0 → refused ≡ None → GoesOn gives now now kept place refused
+pub starts : (gives : Order → Outcome → Type 0) (now : Seen) (kept : KeptFrames) (place : ℕ) (refused : Option ℕ) → KeepsStream kept [] [] → place ≡ 0 → refused ≡ None → HasAnsweredAll gives now now kept place refused
 starts gives now kept place refused keeps first free =
     let short : length kept.rest < 4 = omega (arith, simp length-append at (ap length keeps.cut.is)) in record {
       given = [];
@@ -392,7 +392,7 @@ starts gives now kept place refused keeps first free =
     }
 
 -- the longest session ends for want of memory
-pub gives_up : (gives : Order → Outcome → Type 0) (before now : Seen) (kept : Kept) (place : ℕ) (refused : Option ℕ) → GoesOn gives before now kept place refused → Serves gives before now end.Memory
+pub gives_up : (gives : Order → Outcome → Type 0) (before now : Seen) (kept : KeptFrames) (place : ℕ) (refused : Option ℕ) → HasAnsweredAll gives before now kept place refused → Serves gives before now end.Memory
 gives_up gives before now kept place refused on = record {
   session = session_of gives before now on.given on.taken on.exchanges (behind_of kept on.given on.taken on.keeps) on.so_far (cut_of kept on.given on.taken on.keeps);
   ends_as = tt;

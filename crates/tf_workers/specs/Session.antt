@@ -3,11 +3,11 @@ use Rattle.std.specs.Prelude.{◌≡◌, ◌≢◌, ℕ, ◌≤◌, List, [], �
 use Rattle.std.specs.List.{AllByRecursion}
 use Rattle.tf_desk.specs.Counts.{Rises}
 use Rattle.tf_ports.specs.Links.{sent_with, left_before, SendsFront, IsNothingLeft}
-use Rattle.tf_ports.specs.declared.orders.Order.{Order}
-use Rattle.tf_ports.specs.declared.outcomes.Outcome.{Outcome}
+use Rattle.tf_actions.specs.declared.orders.Order.{Order}
+use Rattle.tf_actions.specs.declared.outcomes.Outcome.{Outcome}
 use Rattle.tf_wire.specs.Keeping.{counted}
 use Rattle.tf_wire.specs.Reading.{AreRequest}
-use Rattle.tf_wire.specs.Stream.{IsFrame, framed, joined, IsCut, BeginsWithFrame, BeginsWithBadLength}
+use Rattle.tf_wire.specs.Stream.{IsFrame, framed, joined, SplitsInto, BeginsWithFrame, BeginsWithBadLength}
 use Rattle.tf_wire.specs.declared.messages.Request.{Request}
 use Rattle.tf_workers.specs.Dialogue.{Exchange, order_asked, running, dialogue}
 use Rattle.tf_workers.specs.declared.serving.ServeEnd.{ServeEnd}
@@ -37,8 +37,8 @@ AreRead (frame ∷ frames) [] = ⊥
 AreRead (frame ∷ frames) (exchange ∷ exchanges) = AreRequest frame exchange.request × AreRead frames exchanges
 
 -- the hand may give the outcome for the order that the request names
-abbrev pub IsGiven : (Order → Outcome → Type 0) → Exchange → Type 0
-IsGiven gives exchange = gives (order_asked exchange) exchange.outcome
+abbrev pub MayBeGiven : (Order → Outcome → Type 0) → Exchange → Type 0
+MayBeGiven gives exchange = gives (order_asked exchange) exchange.outcome
 
 -- a whole frame that spells this request stands at the front
 pub record BeginsWithRequest (bytes : List ℕ) (request : Request) : Type 0 where
@@ -69,22 +69,22 @@ begun_reply (Some request) = running request
 -- The link gave some bytes. Of the frames at their front some were read as requests, and the hand was asked for
 -- the orders that these name, each once and in order. At most one request behind them was read besides, to
 -- which no outcome came. The link was sent a front of the dialogue.
-pub record Session (gives : Order → Outcome → Type 0) (before now : Seen) : Type 0 where
+pub record WorkerSession (gives : Order → Outcome → Type 0) (before now : Seen) : Type 0 where
   pub given : List ℕ
   pub came : before.left ≡ left_before given now.left
   pub frames : List (List ℕ)
   pub behind : List ℕ
-  pub cut : IsCut given frames behind
+  pub cut : SplitsInto given frames behind
   pub exchanges : List Exchange
   pub read : AreRead frames exchanges
-  pub gave : AllByRecursion (IsGiven gives) exchanges
+  pub gave : AllByRecursion (MayBeGiven gives) exchanges
   pub did : now.did ≡ did_with before.did (map order_asked exchanges)
   pub begun : Option Request
   pub is_begun : IsBegun behind begun
   pub sent : SendsFront before.sent (dialogue exchanges ++ begun_reply begun) now.sent
 
 -- no request was begun without an outcome, and the whole dialogue was sent
-pub record IsAnswered {gives : Order → Outcome → Type 0} {before now : Seen} (session : Session gives before now) : Type 0 where
+pub record IsFullyAnswered {gives : Order → Outcome → Type 0} {before now : Seen} (session : WorkerSession gives before now) : Type 0 where
   pub none_begun : session.begun ≡ None
   pub sent : now.sent ≡ sent_with before.sent (dialogue session.exchanges)
 
@@ -95,22 +95,22 @@ pub record IsCutShort (behind : List ℕ) : Type 0 where
   pub not_bad : ¬ (BeginsWithBadLength behind)
 
 -- the link ended
-pub record IsOver (before now : Seen) : Type 0 where
+pub record IsLinkOver (before now : Seen) : Type 0 where
   pub rose : Rises before.ends now.ends
   pub nothing_left : IsNothingLeft now.left
 
 -- How a session ends. Ended: the link ended between two frames. Lost: the link failed, or it ended inside a
 -- frame. Bad: at this place stands a frame that spells no request, or a length that no frame has. Of Memory
 -- nothing is said.
-abbrev pub EndsAs : {gives : Order → Outcome → Type 0} {before now : Seen} → ServeEnd → Session gives before now → Type 0
-EndsAs {gives} {before} {now} end.Ended session = IsAnswered session × (session.behind ≡ []) × IsOver before now
-EndsAs {gives} {before} {now} end.Lost session = Rises before.faults now.faults ⊎ (IsAnswered session × IsCutShort session.behind × IsOver before now)
-EndsAs {gives} {before} {now} (end.Bad at) session = IsAnswered session × (at ≡ counted (length (joined session.frames))) × (BeginsWithNoRequest session.behind ⊎ BeginsWithBadLength session.behind)
-EndsAs {gives} {before} {now} end.Memory session = Unit {0}
+abbrev pub SessionEndsAs : {gives : Order → Outcome → Type 0} {before now : Seen} → ServeEnd → WorkerSession gives before now → Type 0
+SessionEndsAs {gives} {before} {now} end.Ended session = IsFullyAnswered session × (session.behind ≡ []) × IsLinkOver before now
+SessionEndsAs {gives} {before} {now} end.Lost session = Rises before.faults now.faults ⊎ (IsFullyAnswered session × IsCutShort session.behind × IsLinkOver before now)
+SessionEndsAs {gives} {before} {now} (end.Bad at) session = IsFullyAnswered session × (at ≡ counted (length (joined session.frames))) × (BeginsWithNoRequest session.behind ⊎ BeginsWithBadLength session.behind)
+SessionEndsAs {gives} {before} {now} end.Memory session = Unit {0}
 
 -- what serving a link promises; no count falls
 pub record Serves (gives : Order → Outcome → Type 0) (before now : Seen) (how : ServeEnd) : Type 0 where
-  pub session : Session gives before now
-  pub ends_as : EndsAs how session
+  pub session : WorkerSession gives before now
+  pub ends_as : SessionEndsAs how session
   pub faults : before.faults ≤ now.faults
   pub ends : before.ends ≤ now.ends

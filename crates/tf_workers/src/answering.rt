@@ -6,7 +6,8 @@ ghost use Rattle.tf_workers.specs.Progress.{Answers, StopsFor};
 ghost use Rattle.tf_workers.specs.Session.{seen};
 
 use std::alloc::Global;
-use tf_ports::{Link, Outcome, Performer};
+use tf_actions::{Outcome, Performer};
+use tf_ports::Link;
 use tf_wire::{Response, WireFault, print_response, read_request};
 
 /// Why a frame wasn't answered.
@@ -28,8 +29,12 @@ pub fn answer<L: Link, P: Performer>(
     link: &mut L,
     hand: &mut P,
 ) -> Result<(), Stop>
-    ensures answered { OnOk result (Answers P.gives frame.now (seen L.left L.sent L.faults L.ends P.did link.old hand.old) (seen L.left L.sent L.faults L.ends P.did link.new hand.new)) }
-    ensures stopped { IfErr result (StopsFor P.gives frame.now (seen L.left L.sent L.faults L.ends P.did link.old hand.old) (seen L.left L.sent L.faults L.ends P.did link.new hand.new)) }
+    ensures answered { OnOk result (Answers P.gives frame.now
+        (seen L.left L.sent L.faults L.ends P.did link.old hand.old)
+        (seen L.left L.sent L.faults L.ends P.did link.new hand.new)) }
+    ensures stopped { IfErr result (StopsFor P.gives frame.now
+        (seen L.left L.sent L.faults L.ends P.did link.old hand.old)
+        (seen L.left L.sent L.faults L.ends P.did link.new hand.new)) }
 {
     let request = match read_request(alloc, frame) {
         Ok(request) => request,

@@ -1,6 +1,6 @@
 ghost use Rattle.std.specs.Prelude.{◌≡◌, ◌≤◌, [], None, OnOk, OnErr, IsErrOf, MatchResult};
-ghost use Rattle.tf_wire.specs.Keeping.{StandsFor};
-ghost use Rattle.tf_workers.specs.Progress.{TakesIn, IsStopped, Feeds};
+ghost use Rattle.tf_wire.specs.Keeping.{KeepsStream};
+ghost use Rattle.tf_workers.specs.Progress.{TakesIn, HasNothingMore, Feeds};
 
 use crate::serving::ServeEnd;
 use std::alloc::Global;
@@ -22,7 +22,7 @@ pub struct Incoming {
 impl Incoming {
     /// Nothing yet.
     pub fn make(alloc: Global) -> Incoming
-        ensures frames { StandsFor result.frames [] [] }
+        ensures frames { KeepsStream result.frames [] [] }
         ensures place { result.place ≡ 0 }
         ensures refused { result.refused ≡ None }
     {
@@ -37,7 +37,8 @@ impl Incoming {
     pub fn receive<L: Link>(&mut self, alloc: Global, link: &mut L) -> Result<(), ServeEnd>
         ensures came { MatchResult result
             (λ _. TakesIn self.old.frames self.new.frames self.new.refused (L.left link.old) (L.left link.new))
-            (IsStopped self.old (L.left link.old) (L.left link.new) (L.faults link.old) (L.faults link.new) (L.ends link.old) (L.ends link.new)) }
+            (HasNothingMore self.old (L.left link.old) (L.left link.new) (L.faults link.old) (L.faults link.new)
+            (L.ends link.old) (L.ends link.new)) }
         ensures place { self.new.place ≡ self.old.place }
         ensures sent { L.sent link.new ≡ L.sent link.old }
         ensures no_fall { (L.faults link.old ≤ L.faults link.new) × (L.ends link.old ≤ L.ends link.new) }

@@ -1,11 +1,12 @@
 ghost use Rattle.std.specs.Prelude.{◌≡◌, MatchResult};
-ghost use Rattle.tf_workers.specs.Progress.{GoesOn};
+ghost use Rattle.tf_workers.specs.Progress.{HasAnsweredAll};
 ghost use Rattle.tf_workers.specs.Session.{Seen, seen, Serves};
 
 use crate::answering::{Stop, answer};
 use crate::incoming::Incoming;
 use std::alloc::Global;
-use tf_ports::{Link, Performer};
+use tf_actions::Performer;
+use tf_ports::Link;
 
 /// How a session ended.
 #[derive(Clone, Copy, Debug, PartialEq, Eq)]
@@ -24,7 +25,8 @@ pub enum ServeEnd {
 /// Serves the requests that come over the link, in order, until it ends: says that an order runs, has the hand
 /// perform it, and says the outcome.
 pub fn serve<L: Link, P: Performer>(alloc: Global, link: &mut L, hand: &mut P) -> ServeEnd
-    ensures { Serves P.gives (seen L.left L.sent L.faults L.ends P.did link.old hand.old) (seen L.left L.sent L.faults L.ends P.did link.new hand.new) result }
+    ensures { Serves P.gives (seen L.left L.sent L.faults L.ends P.did link.old hand.old)
+        (seen L.left L.sent L.faults L.ends P.did link.new hand.new) result }
 {
     let mut incoming = Incoming::make(alloc);
     for _ in 0..u64::MAX {
@@ -43,9 +45,14 @@ fn go_on<L: Link, P: Performer>(
     link: &mut L,
     hand: &mut P,
 ) -> Result<(), ServeEnd>
-    ensures { (before : Seen) → GoesOn P.gives before (seen L.left L.sent L.faults L.ends P.did link.old hand.old) incoming.old.frames incoming.old.place incoming.old.refused
+    ensures { (before : Seen)
+        → HasAnsweredAll P.gives before
+        (seen L.left L.sent L.faults L.ends P.did link.old hand.old)
+        incoming.old.frames incoming.old.place incoming.old.refused
         → MatchResult result
-        (λ _. GoesOn P.gives before (seen L.left L.sent L.faults L.ends P.did link.new hand.new) incoming.new.frames incoming.new.place incoming.new.refused)
+        (λ _. HasAnsweredAll P.gives before
+        (seen L.left L.sent L.faults L.ends P.did link.new hand.new)
+        incoming.new.frames incoming.new.place incoming.new.refused)
         (Serves P.gives before (seen L.left L.sent L.faults L.ends P.did link.new hand.new)) }
 {
     let Some(frame) = incoming.frames.take_frame() else {

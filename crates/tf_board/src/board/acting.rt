@@ -12,7 +12,7 @@ use crate::kept::Change;
 use crate::rules::{Refusal, refusal_at};
 use std::alloc::Global;
 use tf_desk::Desk;
-use tf_report::Priority;
+use tf_states::Priority;
 use tf_values::{Name, Val};
 use uuid::Uuid;
 
@@ -35,13 +35,12 @@ pub(crate) fn fault_of(alloc: Global, refusal: Refusal, id: &Uuid) -> BoardFault
 }
 
 impl<K: Desk> Board<K> {
-    /// Posts a job, and answers its number. It is never refused. `Full` comes exactly where the board's size and what
-    /// is needed pass 67,108,864, and nothing changed; `Disk` only where the count of disk faults rose, and from then on
-    /// each call that would record answers `Halted`. Want of memory leaves everything as it was. A crash inside leaves
-    /// the commands from before, with the new one or without; after `Ok` every crash leaves it.
+    /// Posts a job, and answers its number. It is never refused. `Full` comes exactly where the board's size and
+    /// what is needed pass 67,108,864, and nothing changed; `Disk` only where the count of disk faults rose, and
+    /// from then on each call that would record answers `Halted`. Want of memory leaves everything as it was. A
+    /// crash inside leaves the commands from before, with the new one or without; after `Ok` every crash leaves it.
     pub fn post(&mut self, name: Name, priority: Priority, details: Val) -> Result<u64, BoardFault>
-        ensures records { Records K.tells K.shown K.content K.left K.crashes K.disk_faults K.out_faults K.asks K.turns
-            self.old self.new (command.Post name priority details) result }
+        ensures records { Records K.state self.old self.new (command.Post name priority details) result }
         ensures number { IfOk result (λ number. number ≡ count_of self.old.past + 1) }
     {
         let Ok(job) = self.kept.next(self.alloc, &name, priority) else {
@@ -59,11 +58,12 @@ impl<K: Desk> Board<K> {
         }
     }
 
-    /// Takes the job that the id names for this owner. It is refused where no job has the id (`NoJob`), where the job is
-    /// gone (`Gone`) or somebody has it (`Claimed`), and then nothing changes; what else it may answer is as at `post`.
+    /// Takes the job that the id names for this owner. It is refused where no job has the id (`NoJob`), where the
+    /// job is gone (`Gone`) or somebody has it (`Claimed`), and then nothing changes; what else it may answer is as
+    /// at `post`.
     pub fn claim(&mut self, id: &Uuid, owner: &Name) -> Result<(), BoardFault>
-        ensures { Acts K.tells K.shown K.content K.left K.crashes K.disk_faults K.out_faults K.asks K.turns
-            (refuses_id self.old.past JobAction.Claim id.now owner.now) self.old self.new JobAction.Claim id.now owner.now result }
+        ensures { Acts K.state (refuses_id self.old.past JobAction.Claim id.now owner.now) self.old self.new
+            JobAction.Claim id.now owner.now result }
     {
         self.act(JobAction::Claim, id, owner)
     }
@@ -71,24 +71,24 @@ impl<K: Desk> Board<K> {
     /// Gives the job back that this owner has. It is refused where no job has the id, where the job is gone, or where
     /// this owner doesn't have it (`NotOwner`, with who has it, if somebody does), and then nothing changes.
     pub fn abandon(&mut self, id: &Uuid, owner: &Name) -> Result<(), BoardFault>
-        ensures { Acts K.tells K.shown K.content K.left K.crashes K.disk_faults K.out_faults K.asks K.turns
-            (refuses_id self.old.past JobAction.Abandon id.now owner.now) self.old self.new JobAction.Abandon id.now owner.now result }
+        ensures { Acts K.state (refuses_id self.old.past JobAction.Abandon id.now owner.now) self.old self.new
+            JobAction.Abandon id.now owner.now result }
     {
         self.act(JobAction::Abandon, id, owner)
     }
 
     /// Finishes the job that this owner has: it is gone from then on. It is refused as `abandon` is.
     pub fn consume(&mut self, id: &Uuid, owner: &Name) -> Result<(), BoardFault>
-        ensures { Acts K.tells K.shown K.content K.left K.crashes K.disk_faults K.out_faults K.asks K.turns
-            (refuses_id self.old.past JobAction.Consume id.now owner.now) self.old self.new JobAction.Consume id.now owner.now result }
+        ensures { Acts K.state (refuses_id self.old.past JobAction.Consume id.now owner.now) self.old self.new
+            JobAction.Consume id.now owner.now result }
     {
         self.act(JobAction::Consume, id, owner)
     }
 
     /// Throws the job away that this owner has: it is gone from then on. It is refused as `abandon` is.
     pub fn trash(&mut self, id: &Uuid, owner: &Name) -> Result<(), BoardFault>
-        ensures { Acts K.tells K.shown K.content K.left K.crashes K.disk_faults K.out_faults K.asks K.turns
-            (refuses_id self.old.past JobAction.Trash id.now owner.now) self.old self.new JobAction.Trash id.now owner.now result }
+        ensures { Acts K.state (refuses_id self.old.past JobAction.Trash id.now owner.now) self.old self.new
+            JobAction.Trash id.now owner.now result }
     {
         self.act(JobAction::Trash, id, owner)
     }
@@ -100,8 +100,8 @@ impl<K: Desk> Board<K> {
         id: &Uuid,
         owner: &Name,
     ) -> Result<(), BoardFault>
-        ensures { Acts K.tells K.shown K.content K.left K.crashes K.disk_faults K.out_faults K.asks K.turns
-            (refuses_id self.old.past action id.now owner.now) self.old self.new action id.now owner.now result }
+        ensures { Acts K.state (refuses_id self.old.past action id.now owner.now) self.old self.new
+            action id.now owner.now result }
     {
         let Some(place) = self.kept.place_of(id) else {
             return Err(fault_of(self.alloc, Refusal::NoJob, id));

@@ -6,7 +6,8 @@ use super::Board;
 use crate::jobs::{Job, is_listed, line_of};
 use std::alloc::Global;
 use tf_desk::Desk;
-use tf_report::{JobLine, Priority};
+use tf_report::JobLine;
+use tf_states::Priority;
 use tf_values::Memory;
 
 /// The priorities from the most urgent on.

@@ -16,8 +16,7 @@ impl<K: Desk> Board<K> {
     pub(super) fn record(&mut self, command: &Command, change: Change) -> Result<(), BoardFault>
         requires allowed { refuses self.old.past command.now ≡ None }
         requires change { IsChange self.old.past command.now change }
-        ensures { Records K.tells K.shown K.content K.left K.crashes K.disk_faults K.out_faults K.asks K.turns
-            self.old self.new command.now result }
+        ensures { Records K.state self.old self.new command.now result }
     {
         let mut body = Vec::new(self.alloc);
         let Ok(()) = append_command(command, &mut body) else {

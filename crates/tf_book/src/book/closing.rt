@@ -1,4 +1,5 @@
 ghost use Rattle.std.specs.Prelude.{◌≡◌, ◌⊎◌, ℕ, List, [], None, Some, OnOk, OnErr, IfOk, IfErr, IsErrOf};
+ghost use Rattle.tf_desk.specs.State.{IsUnasked};
 ghost use Rattle.tf_report.specs.Report.{report as report_of};
 ghost use Rattle.tf_book.specs.Book.{BookValue, outline, moment};
 ghost use Rattle.tf_book.specs.Closed.{Closed};
@@ -16,18 +17,15 @@ use tf_values::Memory;
 
 impl<K: Desk> Book<K> {
     /// Says what closes a run.
-    #[tactic(auto, using(crate::proofs::ClosingLemmas::unchanged_goes))]
     fn say_closing(&mut self, closing: &[u8]) -> Result<(), Halt>
         requires sound { self.old.halt ≡ None }
-        ensures closes { (start : BookValue K)
-            → Kept K.tells K.shown K.content K.left K.crashes K.disk_faults K.out_faults start self.old
-            → Closed K.tells K.shown K.content K.left K.crashes K.disk_faults K.out_faults start self.new closing.now }
+        ensures closes { (start : BookValue K) → Kept K.state start self.old
+            → Closed K.state start self.new closing.now }
         ensures same { self.new ≡ record self.old {
           journal = record self.old.journal { desk = self.new.journal.desk };
           halt = halt_after result;
         } }
-        ensures asks { (K.asks self.new.journal.desk ≡ K.asks self.old.journal.desk)
-            × (K.turns self.new.journal.desk ≡ K.turns self.old.journal.desk) }
+        ensures unasked { IsUnasked (K.state self.old.journal.desk) (K.state self.new.journal.desk) }
         ensures out_alone { OnErr result (IsErrOf result Halt.Out) }
     {
         match say_line(&mut self.journal, closing, false) {
@@ -42,9 +40,8 @@ impl<K: Desk> Book<K> {
     /// Halts for want of memory, with nothing said of what was to close the run.
     fn leave_unsaid(&mut self)
         requires sound { self.old.halt ≡ None }
-        ensures closes { (start : BookValue K) (closing : List ℕ)
-            → Kept K.tells K.shown K.content K.left K.crashes K.disk_faults K.out_faults start self.old
-            → Closed K.tells K.shown K.content K.left K.crashes K.disk_faults K.out_faults start self.new closing }
+        ensures closes { (start : BookValue K) (closing : List ℕ) → Kept K.state start self.old
+            → Closed K.state start self.new closing }
         ensures same { self.new ≡ record self.old { halt = Some Halt.Memory } }
     {
         self.halt = Some(Halt::Memory);
@@ -68,20 +65,17 @@ impl<K: Desk> Book<K> {
     /// Says what closes a run, if it could be made.
     pub(super) fn say_made(&mut self, made: Result<Vec<u8>, Memory>) -> Result<(), Halt>
         requires sound { self.old.halt ≡ None }
-        ensures closes { (start : BookValue K) (closing : List ℕ)
-            → Kept K.tells K.shown K.content K.left K.crashes K.disk_faults K.out_faults start self.old
+        ensures closes { (start : BookValue K) (closing : List ℕ) → Kept K.state start self.old
             → IfOk made (λ text. text.items ≡ closing)
-            → Closed K.tells K.shown K.content K.left K.crashes K.disk_faults K.out_faults start self.new closing }
+            → Closed K.state start self.new closing }
         ensures same { self.new ≡ record self.old {
           journal = record self.old.journal { desk = self.new.journal.desk };
           halt = halt_after result;
         } }
-        ensures asks { (K.asks self.new.journal.desk ≡ K.asks self.old.journal.desk)
-            × (K.turns self.new.journal.desk ≡ K.turns self.old.journal.desk) }
+        ensures unasked { IsUnasked (K.state self.old.journal.desk) (K.state self.new.journal.desk) }
         ensures faults { IfErr result (λ halt. (halt ≡ Halt.Out) ⊎ (halt ≡ Halt.Memory)) }
-        ensures unsaid { IsErrOf result Halt.Memory → (start : BookValue K)
-            → Kept K.tells K.shown K.content K.left K.crashes K.disk_faults K.out_faults start self.old
-            → Closed K.tells K.shown K.content K.left K.crashes K.disk_faults K.out_faults start self.new [] }
+        ensures unsaid { IsErrOf result Halt.Memory → (start : BookValue K) → Kept K.state start self.old
+            → Closed K.state start self.new [] }
     {
         let Ok(text) = made else {
             self.leave_unsaid();
@@ -93,24 +87,21 @@ impl<K: Desk> Book<K> {
     /// Says how the flow stands, and where it failed, which reversions failed. It is never halted by the disk or by
     /// a full journal; where it is halted for want of memory, nothing was said.
     pub fn report(&mut self) -> Result<(), BookFault>
-        ensures closes { (start : BookValue K)
-            → Kept K.tells K.shown K.content K.left K.crashes K.disk_faults K.out_faults start self.old → self.old.halt ≡ None
-            → Closed K.tells K.shown K.content K.left K.crashes K.disk_faults K.out_faults start self.new
-            (report_of (outline self.old) (moment self.old)) }
+        ensures closes { (start : BookValue K) → Kept K.state start self.old → self.old.halt ≡ None
+            → Closed K.state start self.new (report_of (outline self.old) (moment self.old)) }
         ensures same { self.new ≡ record self.old {
           journal = record self.old.journal { desk = self.new.journal.desk };
           halt = self.new.halt;
         } }
-        ensures asks { (K.asks self.new.journal.desk ≡ K.asks self.old.journal.desk)
-            × (K.turns self.new.journal.desk ≡ K.turns self.old.journal.desk) }
+        ensures unasked { IsUnasked (K.state self.old.journal.desk) (K.state self.new.journal.desk) }
         ensures sound { OnOk result (self.new.halt ≡ None) }
         ensures fault { IfErr result (IsFault self.old.halt self.new.halt) }
         ensures faults { IfErr result (λ fault. self.old.halt ≡ None
             → (fault ≡ BookFault.Out) ⊎ (fault ≡ BookFault.Memory)) }
         ensures halted { (cause : Cause) → self.old.halt ≡ Some cause → self.new ≡ self.old }
         ensures unsaid { IsErrOf result BookFault.Memory → (start : BookValue K)
-            → Kept K.tells K.shown K.content K.left K.crashes K.disk_faults K.out_faults start self.old → self.old.halt ≡ None
-            → Closed K.tells K.shown K.content K.left K.crashes K.disk_faults K.out_faults start self.new [] }
+            → Kept K.state start self.old → self.old.halt ≡ None
+            → Closed K.state start self.new [] }
     {
         if let Some(cause) = self.halt {
             return Err(BookFault::Halted(cause));

@@ -4,9 +4,10 @@ ghost use Rattle.tf_states.specs.declared.record.What.TheVariants.{Flow as flow_
 ghost use Rattle.tf_states.specs.declared.state.FlowState.TheVariants as flow;
 ghost use Rattle.tf_hands.specs.Hands.{by_hand};
 ghost use Rattle.tf_model.specs.Steps.{may_turn};
-ghost use Rattle.tf_book.specs.Book.{BookValue, state as state_of};
+ghost use Rattle.tf_desk.specs.State.{IsUnasked};
+ghost use Rattle.tf_book.specs.Book.{BookValue, flow_state};
 ghost use Rattle.tf_book.specs.Faults.{IsFault};
-ghost use Rattle.tf_book.specs.Kept.{Kept};
+ghost use Rattle.tf_book.specs.Kept.{Kept, Proceeds};
 ghost use Rattle.tf_book.specs.Recording.{halt_after, past_after};
 ghost use Rattle.tf_book.specs.Stopping.{limit_from};
 ghost use Rattle.tf_book.specs.Turns.{IsEntering, IsEntered};
@@ -18,22 +19,18 @@ use tf_desk::Desk;
 use tf_states::{Entry, FlowState, What};
 
 impl<K: Desk> Book<K> {
-    /// Records that the flow turns to a state.
+    /// Logs that the flow turns to a state.
     #[tactic(auto, using(crate::proofs::TurnLemmas::turn_step))]
     pub(super) fn turn_to(&mut self, hand: u8, state: FlowState) -> Result<(), Halt>
         requires sound { self.old.halt ≡ None }
         requires hand { hand < 64 }
-        requires allowed { may_turn (state_of self.old) state ≡ true }
-        ensures keeps { (start : BookValue K)
-            → Kept K.tells K.shown K.content K.left K.crashes K.disk_faults K.out_faults start self.old
-            → Kept K.tells K.shown K.content K.left K.crashes K.disk_faults K.out_faults start self.new }
+        requires allowed { may_turn (flow_state self.old) state ≡ true }
+        ensures proceeds { Proceeds K.state self.old self.new }
         ensures same { self.new ≡ record self.old {
           past = past_after (by_hand hand (flow_turns state)) self.old.past result;
           journal = self.new.journal;
           halt = halt_after result;
         } }
-        ensures asks { (K.asks self.new.journal.desk ≡ K.asks self.old.journal.desk)
-            × (K.turns self.new.journal.desk ≡ K.turns self.old.journal.desk) }
     {
         self.record(Entry {
             hand,
@@ -41,18 +38,12 @@ impl<K: Desk> Book<K> {
         })
     }
 
-    /// Records that the flow runs, from PENDING or SUSPENDED.
+    /// Logs that the flow runs, from PENDING or SUSPENDED.
     fn run(&mut self, hand: u8) -> Result<(), Halt>
         requires sound { self.old.halt ≡ None }
         requires hand { hand < 64 }
-        requires from { may_turn (state_of self.old) flow.Running ≡ true }
-        ensures plan { self.new.plan ≡ self.old.plan }
-        ensures limit { self.new.limit ≡ self.old.limit }
-        ensures asks { (K.asks self.new.journal.desk ≡ K.asks self.old.journal.desk)
-            × (K.turns self.new.journal.desk ≡ K.turns self.old.journal.desk) }
-        ensures keeps { (start : BookValue K)
-            → Kept K.tells K.shown K.content K.left K.crashes K.disk_faults K.out_faults start self.old
-            → Kept K.tells K.shown K.content K.left K.crashes K.disk_faults K.out_faults start self.new }
+        requires from { may_turn (flow_state self.old) flow.Running ≡ true }
+        ensures proceeds { Proceeds K.state self.old self.new }
         ensures entered { OnOk result (IsEntered hand self.old.past self.new.past Entered.Running) }
         ensures cut { OnErr result (IsEntering hand self.old.past self.new.past) }
         ensures halt { self.new.halt ≡ halt_after result }
@@ -60,18 +51,12 @@ impl<K: Desk> Book<K> {
         self.turn_to(hand, FlowState::Running)
     }
 
-    /// Records that the flow is suspended, from RESUMING, and runs.
+    /// Logs that the flow is suspended, from RESUMING, and runs.
     fn suspend_and_run(&mut self, hand: u8) -> Result<(), Halt>
         requires sound { self.old.halt ≡ None }
         requires hand { hand < 64 }
-        requires from { state_of self.old ≡ flow.Resuming }
-        ensures plan { self.new.plan ≡ self.old.plan }
-        ensures limit { self.new.limit ≡ self.old.limit }
-        ensures asks { (K.asks self.new.journal.desk ≡ K.asks self.old.journal.desk)
-            × (K.turns self.new.journal.desk ≡ K.turns self.old.journal.desk) }
-        ensures keeps { (start : BookValue K)
-            → Kept K.tells K.shown K.content K.left K.crashes K.disk_faults K.out_faults start self.old
-            → Kept K.tells K.shown K.content K.left K.crashes K.disk_faults K.out_faults start self.new }
+        requires from { flow_state self.old ≡ flow.Resuming }
+        ensures proceeds { Proceeds K.state self.old self.new }
         ensures entered { OnOk result (IsEntered hand self.old.past self.new.past Entered.Running) }
         ensures cut { OnErr result (IsEntering hand self.old.past self.new.past) }
         ensures halt { self.new.halt ≡ halt_after result }
@@ -80,18 +65,12 @@ impl<K: Desk> Book<K> {
         self.turn_to(hand, FlowState::Running)
     }
 
-    /// Records that a run that was interrupted, in RUNNING or SUSPENDING, is resumed and suspended, and runs.
+    /// Logs that a run that was interrupted, in RUNNING or SUSPENDING, is resumed and suspended, and runs.
     fn resume_and_run(&mut self, hand: u8) -> Result<(), Halt>
         requires sound { self.old.halt ≡ None }
         requires hand { hand < 64 }
-        requires from { may_turn (state_of self.old) flow.Resuming ≡ true }
-        ensures plan { self.new.plan ≡ self.old.plan }
-        ensures limit { self.new.limit ≡ self.old.limit }
-        ensures asks { (K.asks self.new.journal.desk ≡ K.asks self.old.journal.desk)
-            × (K.turns self.new.journal.desk ≡ K.turns self.old.journal.desk) }
-        ensures keeps { (start : BookValue K)
-            → Kept K.tells K.shown K.content K.left K.crashes K.disk_faults K.out_faults start self.old
-            → Kept K.tells K.shown K.content K.left K.crashes K.disk_faults K.out_faults start self.new }
+        requires from { may_turn (flow_state self.old) flow.Resuming ≡ true }
+        ensures proceeds { Proceeds K.state self.old self.new }
         ensures entered { OnOk result (IsEntered hand self.old.past self.new.past Entered.Running) }
         ensures cut { OnErr result (IsEntering hand self.old.past self.new.past) }
         ensures halt { self.new.halt ≡ halt_after result }
@@ -101,17 +80,11 @@ impl<K: Desk> Book<K> {
         self.turn_to(hand, FlowState::Running)
     }
 
-    /// Records what a session enters with.
+    /// Logs what a session enters with.
     fn begin(&mut self, hand: u8) -> Result<Entered, Halt>
         requires sound { self.old.halt ≡ None }
         requires hand { hand < 64 }
-        ensures plan { self.new.plan ≡ self.old.plan }
-        ensures limit { self.new.limit ≡ self.old.limit }
-        ensures asks { (K.asks self.new.journal.desk ≡ K.asks self.old.journal.desk)
-            × (K.turns self.new.journal.desk ≡ K.turns self.old.journal.desk) }
-        ensures keeps { (start : BookValue K)
-            → Kept K.tells K.shown K.content K.left K.crashes K.disk_faults K.out_faults start self.old
-            → Kept K.tells K.shown K.content K.left K.crashes K.disk_faults K.out_faults start self.new }
+        ensures proceeds { Proceeds K.state self.old self.new }
         ensures entered { IfOk result (IsEntered hand self.old.past self.new.past) }
         ensures cut { OnErr result (IsEntering hand self.old.past self.new.past) }
         ensures sound { OnOk result (self.new.halt ≡ None) }
@@ -140,9 +113,7 @@ impl<K: Desk> Book<K> {
     /// Keeps where the session is to be suspended, which begins now and may record so many entries before.
     fn keep_limit(&mut self, limit: Option<u32>)
         requires sound { self.old.halt ≡ None }
-        ensures keeps { (start : BookValue K)
-            → Kept K.tells K.shown K.content K.left K.crashes K.disk_faults K.out_faults start self.old
-            → Kept K.tells K.shown K.content K.left K.crashes K.disk_faults K.out_faults start self.new }
+        ensures keeps { (start : BookValue K) → Kept K.state start self.old → Kept K.state start self.new }
         ensures same { self.new ≡ record self.old { limit = limit_from limit (length self.old.past) } }
     {
         match limit {
@@ -157,12 +128,9 @@ impl<K: Desk> Book<K> {
     pub fn enter(&mut self, hand: u8, limit: Option<u32>) -> Result<Entered, BookFault>
         requires { hand < 64 }
         ensures plan { self.new.plan ≡ self.old.plan }
-        ensures keeps { (start : BookValue K)
-            → Kept K.tells K.shown K.content K.left K.crashes K.disk_faults K.out_faults start self.old
-            → Kept K.tells K.shown K.content K.left K.crashes K.disk_faults K.out_faults start self.new }
+        ensures keeps { (start : BookValue K) → Kept K.state start self.old → Kept K.state start self.new }
         ensures limit { self.old.halt ≡ None → self.new.limit ≡ limit_from limit (length self.old.past) }
-        ensures asks { (K.asks self.new.journal.desk ≡ K.asks self.old.journal.desk)
-            × (K.turns self.new.journal.desk ≡ K.turns self.old.journal.desk) }
+        ensures unasked { IsUnasked (K.state self.old.journal.desk) (K.state self.new.journal.desk) }
         ensures entered { IfOk result (IsEntered hand self.old.past self.new.past) }
         ensures cut { OnErr result (IsEntering hand self.old.past self.new.past) }
         ensures sound { OnOk result (self.new.halt ≡ None) }

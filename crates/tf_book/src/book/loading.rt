@@ -1,11 +1,11 @@
 ghost use Rattle.std.specs.Prelude.{◌≡◌, ◌≢◌, ◌≤◌, ℕ, List, [], None, false, IsTrue, IfOk, IfErr};
-ghost use Rattle.tf_desk.specs.Content.{bytes_of};
 ghost use Rattle.tf_desk.specs.Counts.{Rises};
+ghost use Rattle.tf_desk.specs.State.{bytes_now, Rests};
 ghost use Rattle.tf_journal.specs.Format.{title_of, recovered};
-ghost use Rattle.tf_journal.specs.Rest.{IsAtRest, Rests, HasSynced, IsSynced};
+ghost use Rattle.tf_journal.specs.Rest.{IsAtRest, HasSynced, IsSynced};
 ghost use Rattle.tf_journal.specs.declared.title.Title.TheVariants.{Book as book_title};
-ghost use Rattle.tf_book.specs.Loading.{RefusesBodies, RefusesBook};
-ghost use Rattle.tf_book.specs.Loaded.{desk_loaded, IsMade, IsLoadedFrom, IsLoaded};
+ghost use Rattle.tf_book.specs.Loading.{RefusesBookBodies, RefusesBook};
+ghost use Rattle.tf_book.specs.Loaded.{desk_after_load, IsMade, IsLoadedFrom, IsLoaded};
 
 use super::Book;
 use crate::recovering::read_back;
@@ -29,23 +29,16 @@ impl<K: Desk> Book<K> {
         requires title { journal.title ≡ book_title }
         requires sound { journal.halted ≡ false }
         requires kept { journal.volatile ≡ false }
-        requires told { IsTrue (K.tells journal.desk) → (held : List (List ℕ)) × IsAtRest K.content K.left journal held }
-        ensures made { IfOk result (IsMade K.tells K.content K.left) }
-        ensures loads { IfOk result (λ loaded. IsTrue (K.tells journal.desk) → (held : List (List ℕ))
-            → IsAtRest K.content K.left journal held → IsLoadedFrom loaded held) }
-        ensures refused { IfErr result (λ back. IsTrue (K.tells journal.desk) → (held : List (List ℕ))
-            → IsAtRest K.content K.left journal held → RefusesBodies back.1 held) }
+        requires told { IsTrue (K.state journal.desk).tells → (held : List (List ℕ))
+            × IsAtRest K.state journal held }
+        ensures made { IfOk result (IsMade K.state) }
+        ensures loads { IfOk result (λ loaded. IsTrue (K.state journal.desk).tells → (held : List (List ℕ))
+            → IsAtRest K.state journal held → IsLoadedFrom loaded held) }
+        ensures refused { IfErr result (λ back. IsTrue (K.state journal.desk).tells → (held : List (List ℕ))
+            → IsAtRest K.state journal held → RefusesBookBodies back.1 held) }
         ensures cause { IfErr result (λ back. back.1 ≡ LoadFault.Disk
-            → Rises (K.disk_faults journal.desk) (K.disk_faults back.0)) }
-        ensures rests { IsTrue (K.tells journal.desk)
-            → Rests (K.content journal.desk) (K.content (desk_loaded result)) (K.left journal.desk)
-            (K.left (desk_loaded result)) (K.crashes journal.desk) (K.crashes (desk_loaded result)) }
-        ensures no_fall { K.disk_faults journal.desk ≤ K.disk_faults (desk_loaded result) }
-        ensures others { (K.out_faults (desk_loaded result) ≡ K.out_faults journal.desk)
-            × (K.asks (desk_loaded result) ≡ K.asks journal.desk)
-            × (K.turns (desk_loaded result) ≡ K.turns journal.desk) }
-        ensures quiet { (K.tells (desk_loaded result) ≡ K.tells journal.desk)
-            × (K.shown (desk_loaded result) ≡ K.shown journal.desk) }
+            → Rises (K.state journal.desk).disk_faults (K.state back.0).disk_faults) }
+        ensures rests { Rests (K.state journal.desk) (K.state (desk_after_load result)) }
     {
         // A journal without a record has its gate, its title and a gate.
         if journal.size() == 18 {
@@ -76,24 +69,17 @@ impl<K: Desk> Book<K> {
     /// moment in it since which a crash leaves just what a read gives.
     #[tactic(auto, using(tf_journal::proofs::CrashLemmas::synced_on))]
     pub fn load(alloc: Global, desk: K) -> Result<Loaded<K>, (K, LoadFault)>
-        ensures made { IfOk result (IsMade K.tells K.content K.left) }
-        ensures loads { IfOk result (λ loaded. IsTrue (K.tells desk)
-            → IsLoaded loaded (recovered (title_of book_title) (bytes_of (K.content desk)))) }
-        ensures refused { IfErr result (λ back. IsTrue (K.tells desk)
-            → RefusesBook back.1 (recovered (title_of book_title) (bytes_of (K.content desk)))) }
+        ensures made { IfOk result (IsMade K.state) }
+        ensures loads { IfOk result (λ loaded. IsTrue (K.state desk).tells
+            → IsLoaded loaded (recovered (title_of book_title) (bytes_now (K.state desk)))) }
+        ensures refused { IfErr result (λ back. IsTrue (K.state desk).tells
+            → RefusesBook back.1 (recovered (title_of book_title) (bytes_now (K.state desk)))) }
         ensures cause { IfErr result (λ back. back.1 ≡ LoadFault.Disk
-            → Rises (K.disk_faults desk) (K.disk_faults back.0)) }
-        ensures rests { IsTrue (K.tells desk)
-            → Rests (K.content desk) (K.content (desk_loaded result)) (K.left desk) (K.left (desk_loaded result))
-            (K.crashes desk) (K.crashes (desk_loaded result)) }
-        ensures synced { IsTrue (K.tells desk) → IsSynced (K.content desk) (K.content (desk_loaded result))
-            (K.crashes (desk_loaded result)) (K.shown desk) }
-        ensures at_sync { IsTrue (K.tells desk) → IfErr result (λ back. back.1 ≢ LoadFault.Disk)
-            → HasSynced (K.content desk) (K.content (desk_loaded result)) (K.crashes (desk_loaded result)) (K.shown desk) }
-        ensures no_fall { K.disk_faults desk ≤ K.disk_faults (desk_loaded result) }
-        ensures others { (K.out_faults (desk_loaded result) ≡ K.out_faults desk)
-            × (K.asks (desk_loaded result) ≡ K.asks desk) × (K.turns (desk_loaded result) ≡ K.turns desk) }
-        ensures quiet { (K.tells (desk_loaded result) ≡ K.tells desk) × (K.shown (desk_loaded result) ≡ K.shown desk) }
+            → Rises (K.state desk).disk_faults (K.state back.0).disk_faults) }
+        ensures rests { Rests (K.state desk) (K.state (desk_after_load result)) }
+        ensures synced { IsTrue (K.state desk).tells → IsSynced (K.state desk) (K.state (desk_after_load result)) }
+        ensures at_sync { IsTrue (K.state desk).tells → IfErr result (λ back. back.1 ≢ LoadFault.Disk)
+            → HasSynced (K.state desk) (K.state (desk_after_load result)) }
     {
         match Journal::load(alloc, desk, Title::Book) {
             Ok(journal) => Book::read(alloc, journal),

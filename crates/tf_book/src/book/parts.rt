@@ -1,11 +1,10 @@
 ghost use Rattle.std.specs.Prelude.{◌≡◌, None, false, IsTrue, length};
-ghost use Rattle.tf_desk.specs.Content.{bytes_of};
-ghost use Rattle.tf_desk.specs.Crash.{IsDurable};
+ghost use Rattle.tf_desk.specs.State.{bytes_now, IsDurable};
 ghost use Rattle.tf_journal.specs.Format.{title_of};
 ghost use Rattle.tf_journal.specs.Rest.{LiesAs};
 ghost use Rattle.tf_journal.specs.declared.title.Title.TheVariants.{Book as book_title};
 ghost use Rattle.tf_machine.specs.Machine.{StandsFor};
-ghost use Rattle.tf_book.specs.Book.{bodies_of, size_of};
+ghost use Rattle.tf_book.specs.Book.{bodies_of, book_size};
 
 use super::Book;
 use crate::faults::Halt;
@@ -40,11 +39,11 @@ impl<K: Desk> Book<K> {
     /// history, and a crash now leaves nothing else.
     pub fn close(self) -> K
         ensures desk { result ≡ self.journal.desk }
-        ensures file { self.halt ≡ None → IsTrue (K.tells self.journal.desk) → self.journal.volatile ≡ false
-            → LiesAs (title_of book_title) (bodies_of self.plan self.past) (size_of self.plan self.past)
-            (bytes_of (K.content result)) }
-        ensures durable { self.halt ≡ None → IsTrue (K.tells self.journal.desk) → self.journal.volatile ≡ false
-            → IsDurable (K.content result) (K.left result) }
+        ensures file { self.halt ≡ None → IsTrue (K.state self.journal.desk).tells → self.journal.volatile ≡ false
+            → LiesAs (title_of book_title) (bodies_of self.plan self.past) (book_size self.plan self.past)
+            (bytes_now (K.state result)) }
+        ensures durable { self.halt ≡ None → IsTrue (K.state self.journal.desk).tells → self.journal.volatile ≡ false
+            → IsDurable (K.state result) }
     {
         let Book {
             alloc: _,

@@ -1,49 +1,49 @@
 ghost use Rattle.std.specs.Prelude.{◌≡◌, ◌≢◌, ◌<◌, ◌^◌, None, Some, true, false, ℕ, length, IsSome, IsTrue, IfOk, IfSome, option_map, is_some};
 ghost use Rattle.tf_states.specs.declared.state.FlowState.TheVariants as flow;
-ghost use Rattle.tf_machine.specs.Answers.{start_entry, action_in, task_of, end_by};
+ghost use Rattle.tf_hands.specs.Flight.{start_entry, action_in, task_of, end_by};
 ghost use Rattle.tf_model.specs.Candidates.{choice, end_of};
 ghost use Rattle.tf_model.specs.Forced.{forced as forced_entry};
 ghost use Rattle.tf_model.specs.Orders.{order_of};
 ghost use Rattle.tf_model.specs.Plan.{is_task};
 ghost use Rattle.tf_model.specs.Steps.{Step, LegalPast, is_still};
-ghost use Rattle.tf_ports.specs.Whole.{IsWhole};
+ghost use Rattle.tf_actions.specs.Whole.{IsWhole};
 ghost use Rattle.tf_bound.specs.Short.{AreShort, IsWithinLimits};
 ghost use Rattle.tf_model.specs.Compilation.{compile_refusal};
 ghost use Rattle.tf_journal.specs.Format.{title_of};
 ghost use Rattle.tf_journal.specs.Rest.{LeavesBodies};
 ghost use Rattle.tf_journal.specs.declared.title.Title.TheVariants.{Book as book_title};
-ghost use Rattle.tf_book.specs.Book.{outline, moment, state, bodies_of};
+ghost use Rattle.tf_book.specs.Book.{outline, moment, flow_state, bodies_of};
 ghost use Rattle.tf_book.specs.declared.faults.Halt.{Halt as Cause};
 
 use super::Book;
+use tf_actions::{Order, Outcome};
 use tf_desk::Desk;
 use tf_machine::Start;
-use tf_ports::{Order, Outcome};
 use tf_states::{Entry, FlowState, What};
 use tf_values::Memory;
 
 impl<K: Desk> Book<K> {
     /// The state of the flow.
     pub(super) fn flow(&self) -> FlowState
-        ensures { result ≡ state self.now }
+        ensures { result ≡ flow_state self.now }
     {
         self.machine.flow_state()
     }
 
-    /// The state of the flow. The history is legal and not too long to be counted, and its plan compiles. Unless the book was halted by the disk, a
-    /// crash now leaves just its plan and its history, where the desk tells its content.
+    /// The state of the flow. The history is legal and not too long to be counted, and its plan compiles. Unless the
+    /// book was halted by the disk, a crash now leaves just its plan and its history, where the desk tells its content.
     #[tactic(auto, using(crate::proofs::HistoryLemmas::past_long))]
     pub fn state(&self) -> FlowState
-        ensures is { result ≡ state self.now }
+        ensures is { result ≡ flow_state self.now }
         ensures legal { LegalPast (outline self.now) self.now.past }
         ensures few { length self.now.past < 2 ^ 63 }
         ensures compiles { compile_refusal self.now.plan ≡ None }
         ensures limits { IsWithinLimits (outline self.now) }
         ensures short { AreShort self.now.past }
         ensures open { self.now.halt ≢ Some Cause.Disk → self.now.journal.halted ≡ false }
-        ensures leaves { IsTrue (K.tells self.now.journal.desk) → self.now.journal.volatile ≡ false
+        ensures leaves { IsTrue (K.state self.now.journal.desk).tells → self.now.journal.volatile ≡ false
             → self.now.halt ≢ Some Cause.Disk
-            → LeavesBodies (title_of book_title) (K.content self.now.journal.desk) (K.left self.now.journal.desk)
+            → LeavesBodies (title_of book_title) (K.state self.now.journal.desk)
             (bodies_of self.now.plan self.now.past) }
     {
         let _plan = self.machine.plan();
@@ -71,7 +71,8 @@ impl<K: Desk> Book<K> {
     /// The order to do so with a task.
     pub(super) fn order(&self, start: &Start) -> Result<Order, Memory>
         requires { is_task (outline self.now) start.now.atom ≡ true }
-        ensures is { IfOk result (λ order. order_of (outline self.now) (moment self.now) start.now.atom start.now.action ≡ Some order) }
+        ensures is { IfOk result (λ order. order_of (outline self.now) (moment self.now) start.now.atom start.now.action
+            ≡ Some order) }
         ensures whole { IfOk result (λ order. IsWhole order) }
     {
         let order = self.machine.order(self.alloc, start)?;
@@ -89,7 +90,8 @@ impl<K: Desk> Book<K> {
     /// and nothing is in flight.
     pub(super) fn ended(&self) -> Option<FlowState>
         ensures is { result ≡ end_of (outline self.now) (moment self.now) }
-        ensures never_stuck { state self.now ≡ flow.Running → forced_entry (outline self.now) (moment self.now) ≡ None
+        ensures never_stuck { flow_state self.now ≡ flow.Running
+            → forced_entry (outline self.now) (moment self.now) ≡ None
             → choice (outline self.now) (moment self.now) ≡ None → is_still (outline self.now) (moment self.now) ≡ true
             → is_some result ≡ true }
     {

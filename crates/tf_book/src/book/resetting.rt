@@ -4,9 +4,9 @@ ghost use Rattle.tf_states.specs.declared.state.FlowState.TheVariants as flow;
 ghost use Rattle.tf_model.specs.Plan.{count};
 ghost use Rattle.tf_model.specs.Steps.{is_put_back_at, put_back_or_rest, reset as reset_of};
 ghost use Rattle.tf_numbers.specs.Numbers.{first_below};
-ghost use Rattle.tf_book.specs.Book.{BookValue, outline, moment, state as state_of};
+ghost use Rattle.tf_book.specs.Book.{outline, moment, flow_state};
 ghost use Rattle.tf_book.specs.Faults.{IsFault};
-ghost use Rattle.tf_book.specs.Kept.{Kept};
+ghost use Rattle.tf_book.specs.Kept.{Proceeds};
 ghost use Rattle.tf_book.specs.Resetting.{may_reset as may, IsPutBackBy, IsPutBackOn, IsPutBack};
 ghost use Rattle.tf_book.specs.declared.faults.BookFault.{BookFault as Fault};
 ghost use Rattle.tf_book.specs.declared.faults.Halt.{Halt as Cause};
@@ -28,27 +28,22 @@ impl<K: Desk> Book<K> {
     /// What is recorded next to put the flow back.
     fn reset_event(&self) -> What
         requires { may (outline self.now) (moment self.now) ≡ true }
-        ensures is { result ≡ put_back_or_rest (first_below (count (outline self.now)) (is_put_back_at (moment self.now))) }
+        ensures is { result
+            ≡ put_back_or_rest (first_below (count (outline self.now)) (is_put_back_at (moment self.now))) }
         ensures reset { reset_of (outline self.now) (moment self.now) ≡ Some result }
     {
         reset_event(&self.machine)
     }
 
-    /// Records what puts the flow back next, and answers whether something is left to put back.
+    /// Logs what puts the flow back next, and answers whether something is left to put back.
     #[tactic(auto, using(crate::proofs::ResetLemmas::reset_step))]
     fn put_back_once(&mut self) -> Result<bool, Halt>
         requires sound { self.old.halt ≡ None }
         requires may { may (outline self.old) (moment self.old) ≡ true }
-        ensures keeps { (start : BookValue K)
-            → Kept K.tells K.shown K.content K.left K.crashes K.disk_faults K.out_faults start self.old
-            → Kept K.tells K.shown K.content K.left K.crashes K.disk_faults K.out_faults start self.new }
-        ensures plan { self.new.plan ≡ self.old.plan }
-        ensures limit { self.new.limit ≡ self.old.limit }
-        ensures asks { (K.asks self.new.journal.desk ≡ K.asks self.old.journal.desk)
-            × (K.turns self.new.journal.desk ≡ K.turns self.old.journal.desk) }
+        ensures proceeds { Proceeds K.state self.old self.new }
         ensures put { OnOk result (IsPutBackBy (outline self.old) self.old.past self.new.past) }
         ensures more { result ≡ Ok true → may (outline self.new) (moment self.new) ≡ true }
-        ensures done { result ≡ Ok false → state_of self.new ≡ flow.Pending }
+        ensures done { result ≡ Ok false → flow_state self.new ≡ flow.Pending }
         ensures cut { OnErr result (IsPutBackBy (outline self.old) self.old.past self.new.past
             ⊎ (self.new.past ≡ self.old.past)) }
         ensures sound { OnOk result (self.new.halt ≡ None) }
@@ -64,17 +59,11 @@ impl<K: Desk> Book<K> {
         Ok(true)
     }
 
-    /// Records all that puts the flow back.
+    /// Logs all that puts the flow back.
     fn put_back(&mut self) -> Result<(), Halt>
         requires sound { self.old.halt ≡ None }
         requires may { may (outline self.old) (moment self.old) ≡ true }
-        ensures keeps { (start : BookValue K)
-            → Kept K.tells K.shown K.content K.left K.crashes K.disk_faults K.out_faults start self.old
-            → Kept K.tells K.shown K.content K.left K.crashes K.disk_faults K.out_faults start self.new }
-        ensures plan { self.new.plan ≡ self.old.plan }
-        ensures limit { self.new.limit ≡ self.old.limit }
-        ensures asks { (K.asks self.new.journal.desk ≡ K.asks self.old.journal.desk)
-            × (K.turns self.new.journal.desk ≡ K.turns self.old.journal.desk) }
+        ensures proceeds { Proceeds K.state self.old self.new }
         ensures put_back { OnOk result (IsPutBack (outline self.old) self.old.past self.new.past) }
         ensures cut { OnErr result (IsPutBackOn (outline self.old) self.old.past self.new.past) }
         ensures sound { OnOk result (self.new.halt ≡ None) }
@@ -91,21 +80,15 @@ impl<K: Desk> Book<K> {
     /// flow does, each with its line. `Forbidden` comes exactly where the flow isn't REVERTED or an atom isn't
     /// settled, and the book isn't halted; it names the flow's state, and nothing changes.
     pub fn reset(&mut self) -> Result<(), ResetFault>
-        ensures plan { self.new.plan ≡ self.old.plan }
-        ensures limit { self.new.limit ≡ self.old.limit }
-        ensures asks { (K.asks self.new.journal.desk ≡ K.asks self.old.journal.desk)
-            × (K.turns self.new.journal.desk ≡ K.turns self.old.journal.desk) }
-        ensures keeps { (start : BookValue K)
-            → Kept K.tells K.shown K.content K.left K.crashes K.disk_faults K.out_faults start self.old
-            → Kept K.tells K.shown K.content K.left K.crashes K.disk_faults K.out_faults start self.new }
+        ensures proceeds { Proceeds K.state self.old self.new }
         ensures put_back { OnOk result (IsPutBack (outline self.old) self.old.past self.new.past) }
         ensures cut { OnErr result (IsPutBackOn (outline self.old) self.old.past self.new.past) }
         ensures sound { OnOk result (self.new.halt ≡ None) }
         ensures refused { (named : State) → result ≡ Err (ResetFault.Forbidden named)
-            → (named ≡ state_of self.old) × (self.new ≡ self.old) × (self.old.halt ≡ None)
+            → (named ≡ flow_state self.old) × (self.new ≡ self.old) × (self.old.halt ≡ None)
             × (may (outline self.old) (moment self.old) ≡ false) }
         ensures forbidden { self.old.halt ≡ None → may (outline self.old) (moment self.old) ≡ false
-            → result ≡ Err (ResetFault.Forbidden (state_of self.old)) }
+            → result ≡ Err (ResetFault.Forbidden (flow_state self.old)) }
         ensures fault { (why : Fault) → result ≡ Err (ResetFault.Book why) → IsFault self.old.halt self.new.halt why }
         ensures halted { (cause : Cause) → self.old.halt ≡ Some cause → self.new ≡ self.old }
     {

@@ -1,6 +1,6 @@
-ghost use Rattle.std.specs.Prelude.{◌≡◌, ◌≢◌, ◌⊎◌, ◌<◌, ◌≤◌, ◌-◌, None, Some, Ok, true, false, length, IsSome, IfOk, IfErr, OnOk, OnErr, IsErrOf};
+ghost use Rattle.std.specs.Prelude.{◌≡◌, ◌⊎◌, ◌<◌, ◌≤◌, ◌-◌, None, Some, Ok, true, false, length, IsSome, IfOk, IfErr, OnOk, OnErr, IsErrOf};
 ghost use Rattle.tf_states.specs.declared.state.FlowState.TheVariants as flow;
-ghost use Rattle.tf_machine.specs.Answers.{start_entry, action_in, task_of};
+ghost use Rattle.tf_hands.specs.Flight.{start_entry, action_in, task_of};
 ghost use Rattle.tf_model.specs.Candidates.{choice, end_of};
 ghost use Rattle.tf_model.specs.Forced.{forced as forced_entry};
 ghost use Rattle.tf_model.specs.Plan.{is_task};
@@ -9,12 +9,11 @@ ghost use Rattle.tf_model.specs.States.{flow_runs, flow_suspends};
 ghost use Rattle.tf_model.specs.Steps.{is_free, is_still};
 ghost use Rattle.tf_hands.specs.Hands.{by_hand};
 ghost use Rattle.tf_states.specs.declared.record.What.TheVariants.{Flow as flow_turns};
-ghost use Rattle.tf_ports.specs.Whole.{IsWhole};
-ghost use Rattle.tf_book.specs.Book.{BookValue, outline, moment, state as state_of};
+ghost use Rattle.tf_actions.specs.Whole.{IsWhole};
+ghost use Rattle.tf_book.specs.Book.{BookValue, outline, moment, flow_state};
 ghost use Rattle.tf_book.specs.Faults.{IsFault};
-ghost use Rattle.tf_book.specs.Kept.{Kept};
+ghost use Rattle.tf_book.specs.Kept.{Kept, Proceeds, TakesTurn};
 ghost use Rattle.tf_book.specs.Recording.{halt_for_memory, halt_after, past_after};
-ghost use Rattle.tf_desk.specs.Counts.{Rises};
 ghost use Rattle.tf_book.specs.Stopping.{is_to_stop, IsAnswered};
 ghost use Rattle.tf_book.specs.Turns.{RanOn, RanUntilStop, IsForcedBy, IsForcedOn, IsStartedSo, IsStartOf, HasRested, IsClosedOr, HasStopped, IsStoppedOr, IsFinished, IsLessAfterStart, IsTurn, IsHaltedTurn, IsTurnAsked, IsHaltedTurnAsked, is_entered, end_now, suspending_after};
 ghost use Rattle.tf_book.specs.declared.faults.Halt.{Halt as Cause};
@@ -24,17 +23,15 @@ use super::Book;
 use crate::faults::{BookFault, Halt};
 use crate::log::ask;
 use crate::turn::Turn;
+use tf_actions::Outcome;
 use tf_desk::Desk;
 use tf_machine::Start;
-use tf_ports::Outcome;
 use tf_states::{Entry, FlowState, What};
 
 impl<K: Desk> Book<K> {
     /// Halts a book that isn't halted, for want of memory.
     pub fn halt_for_memory(&mut self)
-        ensures keeps { (start : BookValue K)
-            → Kept K.tells K.shown K.content K.left K.crashes K.disk_faults K.out_faults start self.old
-            → Kept K.tells K.shown K.content K.left K.crashes K.disk_faults K.out_faults start self.new }
+        ensures keeps { (start : BookValue K) → Kept K.state start self.old → Kept K.state start self.new }
         ensures same { self.new ≡ record self.old { halt = halt_for_memory self.old.halt } }
     {
         if self.halt.is_none() {
@@ -42,24 +39,18 @@ impl<K: Desk> Book<K> {
         }
     }
 
-    /// Records what is forced, if something is, and answers whether it was.
+    /// Logs what is forced, if something is, and answers whether it was.
     fn force_once(&mut self, hand: u8) -> Result<bool, Halt>
         requires sound { self.old.halt ≡ None }
         requires hand { hand < 64 }
-        requires running { state_of self.old ≡ flow.Running }
-        ensures keeps { (start : BookValue K)
-            → Kept K.tells K.shown K.content K.left K.crashes K.disk_faults K.out_faults start self.old
-            → Kept K.tells K.shown K.content K.left K.crashes K.disk_faults K.out_faults start self.new }
-        ensures plan { self.new.plan ≡ self.old.plan }
-        ensures limit { self.new.limit ≡ self.old.limit }
-        ensures asks { (K.asks self.new.journal.desk ≡ K.asks self.old.journal.desk)
-            × (K.turns self.new.journal.desk ≡ K.turns self.old.journal.desk) }
+        requires running { flow_state self.old ≡ flow.Running }
+        ensures proceeds { Proceeds K.state self.old self.new }
         ensures forced { result ≡ Ok true → IsForcedBy (outline self.old) hand self.old.past self.new.past }
         ensures nothing { result ≡ Ok false
             → (self.new.past ≡ self.old.past) × (forced_entry (outline self.old) (moment self.old) ≡ None) }
         ensures cut { OnErr result (IsForcedBy (outline self.old) hand self.old.past self.new.past
             ⊎ (self.new.past ≡ self.old.past)) }
-        ensures running { OnOk result (state_of self.new ≡ flow.Running) }
+        ensures running { OnOk result (flow_state self.new ≡ flow.Running) }
         ensures sound { OnOk result (self.new.halt ≡ None) }
         ensures halt { IfErr result (λ halt. self.new.halt ≡ Some halt) }
         ensures no_more { 67108864 - self.new.journal.size ≤ 67108864 - self.old.journal.size }
@@ -89,24 +80,19 @@ impl<K: Desk> Book<K> {
         }
     }
 
-    /// Records what is forced, one entry after another, until nothing is or the session is to stop, and answers
+    /// Logs what is forced, one entry after another, until nothing is or the session is to stop, and answers
     /// whether it is.
     fn force(&mut self, hand: u8, asked: bool) -> Result<bool, Halt>
         requires sound { self.old.halt ≡ None }
         requires hand { hand < 64 }
-        requires running { state_of self.old ≡ flow.Running }
-        ensures keeps { (start : BookValue K)
-            → Kept K.tells K.shown K.content K.left K.crashes K.disk_faults K.out_faults start self.old
-            → Kept K.tells K.shown K.content K.left K.crashes K.disk_faults K.out_faults start self.new }
-        ensures plan { self.new.plan ≡ self.old.plan }
-        ensures limit { self.new.limit ≡ self.old.limit }
-        ensures asks { (K.asks self.new.journal.desk ≡ K.asks self.old.journal.desk)
-            × (K.turns self.new.journal.desk ≡ K.turns self.old.journal.desk) }
+        requires running { flow_state self.old ≡ flow.Running }
+        ensures proceeds { Proceeds K.state self.old self.new }
         ensures ran { result ≡ Ok false
             → RanOn (outline self.old) hand asked self.old.limit self.old.past self.new.past }
         ensures stops { result ≡ Ok true
             → RanUntilStop (outline self.old) hand asked self.old.limit self.old.past self.new.past }
-        ensures cut { OnErr result (IsForcedOn (outline self.old) hand asked self.old.limit self.old.past self.new.past) }
+        ensures cut { OnErr result
+            (IsForcedOn (outline self.old) hand asked self.old.limit self.old.past self.new.past) }
         ensures sound { OnOk result (self.new.halt ≡ None) }
         ensures halt { IfErr result (λ halt. self.new.halt ≡ Some halt) }
         ensures no_more { 67108864 - self.new.journal.size ≤ 67108864 - self.old.journal.size }
@@ -129,13 +115,7 @@ impl<K: Desk> Book<K> {
         requires chosen { choice (outline self.old) (moment self.old) ≡ Some (start_entry start) }
         requires action { start.action ≡ action_in ((moment self.old).state start.atom) }
         requires task { is_task (outline self.old) start.atom ≡ true }
-        ensures plan { self.new.plan ≡ self.old.plan }
-        ensures limit { self.new.limit ≡ self.old.limit }
-        ensures asks { (K.asks self.new.journal.desk ≡ K.asks self.old.journal.desk)
-            × (K.turns self.new.journal.desk ≡ K.turns self.old.journal.desk) }
-        ensures keeps { (start : BookValue K)
-            → Kept K.tells K.shown K.content K.left K.crashes K.disk_faults K.out_faults start self.old
-            → Kept K.tells K.shown K.content K.left K.crashes K.disk_faults K.out_faults start self.new }
+        ensures proceeds { Proceeds K.state self.old self.new }
         ensures started { IfOk result (IsStartOf (outline self.old) hand self.old.past self.new.past start) }
         ensures cut { OnErr result (IsStartedSo (outline self.old) hand self.old.past self.new.past start
             ⊎ (self.new.past ≡ self.old.past)) }
@@ -152,22 +132,16 @@ impl<K: Desk> Book<K> {
         Ok(Turn::Start(order))
     }
 
-    /// Records a last entry of the flow.
+    /// Logs a last entry of the flow.
     #[tactic(auto, using(crate::proofs::ForceLemmas::last_step))]
     fn close_session(&mut self, hand: u8, state: FlowState) -> Result<(), Halt>
         requires sound { self.old.halt ≡ None }
         requires hand { hand < 64 }
         requires still { is_still (outline self.old) (moment self.old) ≡ true }
         requires ends { (end_of (outline self.old) (moment self.old) ≡ Some state)
-            ⊎ ((end_of (outline self.old) (moment self.old) ≡ None) × (state_of self.old ≡ flow.Suspending)
+            ⊎ ((end_of (outline self.old) (moment self.old) ≡ None) × (flow_state self.old ≡ flow.Suspending)
             × (state ≡ flow.Suspended)) }
-        ensures plan { self.new.plan ≡ self.old.plan }
-        ensures limit { self.new.limit ≡ self.old.limit }
-        ensures asks { (K.asks self.new.journal.desk ≡ K.asks self.old.journal.desk)
-            × (K.turns self.new.journal.desk ≡ K.turns self.old.journal.desk) }
-        ensures keeps { (start : BookValue K)
-            → Kept K.tells K.shown K.content K.left K.crashes K.disk_faults K.out_faults start self.old
-            → Kept K.tells K.shown K.content K.left K.crashes K.disk_faults K.out_faults start self.new }
+        ensures proceeds { Proceeds K.state self.old self.new }
         ensures past { self.new.past ≡ past_after (by_hand hand (flow_turns state)) self.old.past result }
         ensures halt { self.new.halt ≡ halt_after result }
     {
@@ -182,16 +156,10 @@ impl<K: Desk> Book<K> {
     fn rest(&mut self, hand: u8) -> Result<Turn, Halt>
         requires sound { self.old.halt ≡ None }
         requires hand { hand < 64 }
-        requires running { state_of self.old ≡ flow.Running }
+        requires running { flow_state self.old ≡ flow.Running }
         requires unforced { forced_entry (outline self.old) (moment self.old) ≡ None }
         requires unchosen { choice (outline self.old) (moment self.old) ≡ None }
-        ensures plan { self.new.plan ≡ self.old.plan }
-        ensures limit { self.new.limit ≡ self.old.limit }
-        ensures asks { (K.asks self.new.journal.desk ≡ K.asks self.old.journal.desk)
-            × (K.turns self.new.journal.desk ≡ K.turns self.old.journal.desk) }
-        ensures keeps { (start : BookValue K)
-            → Kept K.tells K.shown K.content K.left K.crashes K.disk_faults K.out_faults start self.old
-            → Kept K.tells K.shown K.content K.left K.crashes K.disk_faults K.out_faults start self.new }
+        ensures proceeds { Proceeds K.state self.old self.new }
         ensures rested { IfOk result (HasRested (outline self.old) hand self.old.past self.new.past) }
         ensures cut { OnErr result (IsClosedOr (outline self.old) hand self.old.past self.new.past) }
         ensures sound { OnOk result (self.new.halt ≡ None) }
@@ -212,14 +180,8 @@ impl<K: Desk> Book<K> {
     fn wind_up(&mut self, hand: u8) -> Result<Turn, Halt>
         requires sound { self.old.halt ≡ None }
         requires hand { hand < 64 }
-        requires suspending { state_of self.old ≡ flow.Suspending }
-        ensures plan { self.new.plan ≡ self.old.plan }
-        ensures limit { self.new.limit ≡ self.old.limit }
-        ensures asks { (K.asks self.new.journal.desk ≡ K.asks self.old.journal.desk)
-            × (K.turns self.new.journal.desk ≡ K.turns self.old.journal.desk) }
-        ensures keeps { (start : BookValue K)
-            → Kept K.tells K.shown K.content K.left K.crashes K.disk_faults K.out_faults start self.old
-            → Kept K.tells K.shown K.content K.left K.crashes K.disk_faults K.out_faults start self.new }
+        requires suspending { flow_state self.old ≡ flow.Suspending }
+        ensures proceeds { Proceeds K.state self.old self.new }
         ensures rested { IfOk result (HasRested (outline self.old) hand self.old.past self.new.past) }
         ensures cut { OnErr result (IsClosedOr (outline self.old) hand self.old.past self.new.past) }
         ensures sound { OnOk result (self.new.halt ≡ None) }
@@ -236,21 +198,16 @@ impl<K: Desk> Book<K> {
         Ok(Turn::Ended(state))
     }
 
-    /// Records SUSPENDING, and then what comes in it.
+    /// Logs SUSPENDING, and then what comes in it.
     fn suspend(&mut self, hand: u8) -> Result<Turn, Halt>
         requires sound { self.old.halt ≡ None }
         requires hand { hand < 64 }
-        requires running { state_of self.old ≡ flow.Running }
-        ensures plan { self.new.plan ≡ self.old.plan }
-        ensures limit { self.new.limit ≡ self.old.limit }
-        ensures asks { (K.asks self.new.journal.desk ≡ K.asks self.old.journal.desk)
-            × (K.turns self.new.journal.desk ≡ K.turns self.old.journal.desk) }
-        ensures keeps { (start : BookValue K)
-            → Kept K.tells K.shown K.content K.left K.crashes K.disk_faults K.out_faults start self.old
-            → Kept K.tells K.shown K.content K.left K.crashes K.disk_faults K.out_faults start self.new }
+        requires running { flow_state self.old ≡ flow.Running }
+        ensures proceeds { Proceeds K.state self.old self.new }
         ensures rested { IfOk result
             (HasRested (outline self.old) hand (suspending_after hand self.old.past) self.new.past) }
-        ensures cut { OnErr result (IsClosedOr (outline self.old) hand (suspending_after hand self.old.past) self.new.past
+        ensures cut { OnErr result
+            (IsClosedOr (outline self.old) hand (suspending_after hand self.old.past) self.new.past
             ⊎ (self.new.past ≡ self.old.past)) }
         ensures sound { OnOk result (self.new.halt ≡ None) }
         ensures halt { IfErr result (λ halt. self.new.halt ≡ Some halt) }
@@ -274,14 +231,8 @@ impl<K: Desk> Book<K> {
     fn stop(&mut self, hand: u8) -> Result<Turn, Halt>
         requires sound { self.old.halt ≡ None }
         requires hand { hand < 64 }
-        requires running { state_of self.old ≡ flow.Running }
-        ensures plan { self.new.plan ≡ self.old.plan }
-        ensures limit { self.new.limit ≡ self.old.limit }
-        ensures asks { (K.asks self.new.journal.desk ≡ K.asks self.old.journal.desk)
-            × (K.turns self.new.journal.desk ≡ K.turns self.old.journal.desk) }
-        ensures keeps { (start : BookValue K)
-            → Kept K.tells K.shown K.content K.left K.crashes K.disk_faults K.out_faults start self.old
-            → Kept K.tells K.shown K.content K.left K.crashes K.disk_faults K.out_faults start self.new }
+        requires running { flow_state self.old ≡ flow.Running }
+        ensures proceeds { Proceeds K.state self.old self.new }
         ensures stopped { IfOk result (HasStopped (outline self.old) hand self.old.past self.new.past) }
         ensures cut { OnErr result (IsStoppedOr (outline self.old) hand self.old.past self.new.past) }
         ensures sound { OnOk result (self.new.halt ≡ None) }
@@ -300,14 +251,8 @@ impl<K: Desk> Book<K> {
         requires sound { self.old.halt ≡ None }
         requires hand { hand < 64 }
         requires free { is_free (outline self.old) (moment self.old) hand ≡ true }
-        requires running { state_of self.old ≡ flow.Running }
-        ensures plan { self.new.plan ≡ self.old.plan }
-        ensures limit { self.new.limit ≡ self.old.limit }
-        ensures asks { (K.asks self.new.journal.desk ≡ K.asks self.old.journal.desk)
-            × (K.turns self.new.journal.desk ≡ K.turns self.old.journal.desk) }
-        ensures keeps { (start : BookValue K)
-            → Kept K.tells K.shown K.content K.left K.crashes K.disk_faults K.out_faults start self.old
-            → Kept K.tells K.shown K.content K.left K.crashes K.disk_faults K.out_faults start self.new }
+        requires running { flow_state self.old ≡ flow.Running }
+        ensures proceeds { Proceeds K.state self.old self.new }
         ensures turn { IfOk result (IsTurn (outline self.old) hand asked self.old.limit self.old.past self.new.past) }
         ensures cut { OnErr result
             (IsHaltedTurn (outline self.old) hand asked self.old.limit self.old.past self.new.past) }
@@ -329,14 +274,8 @@ impl<K: Desk> Book<K> {
         requires sound { self.old.halt ≡ None }
         requires hand { hand < 64 }
         requires free { is_free (outline self.old) (moment self.old) hand ≡ true }
-        requires entered { is_entered (state_of self.old) ≡ true }
-        ensures plan { self.new.plan ≡ self.old.plan }
-        ensures limit { self.new.limit ≡ self.old.limit }
-        ensures asks { (K.asks self.new.journal.desk ≡ K.asks self.old.journal.desk)
-            × (K.turns self.new.journal.desk ≡ K.turns self.old.journal.desk) }
-        ensures keeps { (start : BookValue K)
-            → Kept K.tells K.shown K.content K.left K.crashes K.disk_faults K.out_faults start self.old
-            → Kept K.tells K.shown K.content K.left K.crashes K.disk_faults K.out_faults start self.new }
+        requires entered { is_entered (flow_state self.old) ≡ true }
+        ensures proceeds { Proceeds K.state self.old self.new }
         ensures turn { IfOk result (IsTurn (outline self.old) hand asked self.old.limit self.old.past self.new.past) }
         ensures cut { OnErr result
             (IsHaltedTurn (outline self.old) hand asked self.old.limit self.old.past self.new.past) }
@@ -357,18 +296,11 @@ impl<K: Desk> Book<K> {
     /// Asks the desk in RUNNING whether a stop is asked for. In another state of the flow it isn't asked.
     fn ask(&mut self) -> bool
         requires sound { self.old.halt ≡ None }
-        ensures keeps { (start : BookValue K)
-            → Kept K.tells K.shown K.content K.left K.crashes K.disk_faults K.out_faults start self.old
-            → Kept K.tells K.shown K.content K.left K.crashes K.disk_faults K.out_faults start self.new }
-        ensures same { self.new ≡ record self.old { journal = record self.old.journal { desk = self.new.journal.desk } } }
-        ensures answered { IsAnswered result (K.asks self.old.journal.desk) (K.asks self.new.journal.desk) }
-        ensures turned { state_of self.old ≡ flow.Running
-            → Rises (K.turns self.old.journal.desk) (K.turns self.new.journal.desk) }
-        ensures unasked { state_of self.old ≢ flow.Running
-            → (K.asks self.new.journal.desk ≡ K.asks self.old.journal.desk)
-            × (K.turns self.new.journal.desk ≡ K.turns self.old.journal.desk) }
-        ensures no_fall { (K.asks self.old.journal.desk ≤ K.asks self.new.journal.desk)
-            × (K.turns self.old.journal.desk ≤ K.turns self.new.journal.desk) }
+        ensures takes { TakesTurn K.state self.old self.new }
+        ensures same { self.new ≡ record self.old {
+          journal = record self.old.journal { desk = self.new.journal.desk };
+        } }
+        ensures answered { IsAnswered result (K.state self.old.journal.desk).asks (K.state self.new.journal.desk).asks }
     {
         if !matches!(self.flow(), FlowState::Running) {
             return false;
@@ -386,23 +318,12 @@ impl<K: Desk> Book<K> {
     pub fn next(&mut self, hand: u8) -> Result<Turn, BookFault>
         requires hand { hand < 64 }
         requires free { is_free (outline self.old) (moment self.old) hand ≡ true }
-        requires entered { is_entered (state_of self.old) ≡ true }
-        ensures plan { self.new.plan ≡ self.old.plan }
-        ensures limit { self.new.limit ≡ self.old.limit }
-        ensures keeps { (start : BookValue K)
-            → Kept K.tells K.shown K.content K.left K.crashes K.disk_faults K.out_faults start self.old
-            → Kept K.tells K.shown K.content K.left K.crashes K.disk_faults K.out_faults start self.new }
-        ensures turn { IfOk result (IsTurnAsked (outline self.old) hand self.old.limit (K.asks self.old.journal.desk)
-            (K.asks self.new.journal.desk) self.old.past self.new.past) }
+        requires entered { is_entered (flow_state self.old) ≡ true }
+        ensures takes { TakesTurn K.state self.old self.new }
+        ensures turn { IfOk result (IsTurnAsked (outline self.old) hand self.old.limit
+            (K.state self.old.journal.desk).asks (K.state self.new.journal.desk).asks self.old.past self.new.past) }
         ensures cut { OnErr result (IsHaltedTurnAsked (outline self.old) hand self.old.limit
-            (K.asks self.old.journal.desk) (K.asks self.new.journal.desk) self.old.past self.new.past) }
-        ensures turned { self.old.halt ≡ None → state_of self.old ≡ flow.Running
-            → Rises (K.turns self.old.journal.desk) (K.turns self.new.journal.desk) }
-        ensures unasked { state_of self.old ≢ flow.Running
-            → (K.asks self.new.journal.desk ≡ K.asks self.old.journal.desk)
-            × (K.turns self.new.journal.desk ≡ K.turns self.old.journal.desk) }
-        ensures no_fall { (K.asks self.old.journal.desk ≤ K.asks self.new.journal.desk)
-            × (K.turns self.old.journal.desk ≤ K.turns self.new.journal.desk) }
+            (K.state self.old.journal.desk).asks (K.state self.new.journal.desk).asks self.old.past self.new.past) }
         ensures sound { OnOk result (self.new.halt ≡ None) }
         ensures fault { IfErr result (IsFault self.old.halt self.new.halt) }
         ensures halted { (cause : Cause) → self.old.halt ≡ Some cause → self.new ≡ self.old }
@@ -418,17 +339,11 @@ impl<K: Desk> Book<K> {
         }
     }
 
-    /// Records the end of the task that the hand has in flight, with its outcome.
+    /// Logs the end of the task that the hand has in flight, with its outcome.
     pub fn finish(&mut self, hand: u8, outcome: Outcome) -> Result<(), BookFault>
         requires hand { hand < 64 }
         requires task { IsSome (task_of (outline self.old) (moment self.old) hand) }
-        ensures plan { self.new.plan ≡ self.old.plan }
-        ensures limit { self.new.limit ≡ self.old.limit }
-        ensures asks { (K.asks self.new.journal.desk ≡ K.asks self.old.journal.desk)
-            × (K.turns self.new.journal.desk ≡ K.turns self.old.journal.desk) }
-        ensures keeps { (start : BookValue K)
-            → Kept K.tells K.shown K.content K.left K.crashes K.disk_faults K.out_faults start self.old
-            → Kept K.tells K.shown K.content K.left K.crashes K.disk_faults K.out_faults start self.new }
+        ensures proceeds { Proceeds K.state self.old self.new }
         ensures finished { OnOk result (IsFinished (outline self.old) hand outcome self.old.past self.new.past) }
         ensures cut { OnErr result (IsFinished (outline self.old) hand outcome self.old.past self.new.past
             ⊎ (self.new.past ≡ self.old.past)) }

@@ -5,4 +5,4 @@ pub returns-in-Ok-clause-closes : goal.returns-in-Ok-clause-closes
 returns-in-Ok-clause-closes g c = said c.in-Ok.ensures.said
 
 pub returns-in-Err-clause-closes : goal.returns-in-Err-clause-closes
-returns-in-Err-clause-closes g c = cut c.in-Err.ensures.cut
+returns-in-Err-clause-closes g c = cut c.in-Err.ensures.says.prefix

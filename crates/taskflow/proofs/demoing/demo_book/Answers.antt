@@ -1,8 +1,8 @@
 use Rattle.std.proofs.Common.{subst}
-use Rattle.tf_desk.specs.Counts.{Rises}
 use Rattle.tf_flow.specs.Written.{PlanTree}
 use Rattle.tf_ports.specs.declared.crews.Want.TheVariants as want
 use Rattle.taskflow.specs.Books.{Runs, demonstrated}
+use Rattle.taskflow.specs.Causes.{WasAsked}
 use Rattle.taskflow.specs.Run.{unspoken}
 use Rattle.taskflow.proofs.demoing.demo_book.Goals as goal
 
@@ -10,5 +10,7 @@ pub returns-in-Ok-clause-demonstrates : goal.returns-in-Ok-clause-demonstrates
 returns-in-Ok-clause-demonstrates g c =
     let D = g.K.Desk in
     let run = c.run_plan in
-    demonstrated (subst (λ (t : PlanTree). Runs D.tells D.shown D.content D.left D.crashes D.disk_faults g.W.Hand.Performer.gives (unspoken (want.Local c.args.hands)) (Rises (D.asks c.args.desk) (D.asks run.result.desk))
-    c.args.name.now (g.W.Crew.hired c.args.crew.now) (g.W.Crew.hired run.new.crew) c.args.desk run.result.desk t run.result.status) c.in-Ok.ensures.generated run.ensures.runs)
+    let entry = D.state c.args.desk in
+    let now = D.state run.result.desk in
+    demonstrated (subst (λ (t : PlanTree). Runs g.W.Hand.Performer.gives (unspoken (want.Local c.args.hands)) (WasAsked entry now)
+    c.args.name.now (g.W.Crew.hired c.args.crew.now) (g.W.Crew.hired run.new.crew) entry now t run.result.status) c.in-Ok.ensures.generated run.ensures.runs)

@@ -1,6 +1,6 @@
 use Rattle.std.proofs.Common.{◌∙◌, ap, ◌++◌, List, ℕ, codes}
 use Rattle.std.proofs.lemmas.Result.{on_ok_weaker}
-use Rattle.taskflow.specs.Messages.{byte_or_end}
+use Rattle.tf_board.specs.Answers.{byte_or_end}
 use Rattle.taskflow.proofs.MessageLemmas.{no_book_told}
 use Rattle.taskflow.proofs.messages.append_not_a_book.Goals as goal
 

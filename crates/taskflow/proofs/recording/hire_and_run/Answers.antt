@@ -6,8 +6,5 @@ pub returns-in-Ok-clause-runs : goal.returns-in-Ok-clause-runs
 returns-in-Ok-clause-runs g c = λ name entry opened found. inr (c.in-Ok.ensures.hired, c.run_in.ensures.runs name entry opened found)
 
 pub returns-in-Err-clause-runs : goal.returns-in-Err-clause-runs
-returns-in-Err-clause-runs g c =
-    let D = g.K.Desk in
-    λ name entry opened found.
-    inl (unhired_so D.tells D.shown D.content D.left D.crashes D.disk_faults D.out_faults name entry c.say_unhired.result.desk _ _ c.say_unhired.result.status c.in-Err.ensures.not_hired
-    (c.say_unhired.ensures.refuses name entry (untouched_by D.tells D.shown D.content D.left D.crashes D.disk_faults D.out_faults name entry _ _ (sym c.into_desk.ensures) opened.untouched)))
+returns-in-Err-clause-runs g c = λ name entry opened found.
+    inl (unhired_so c.in-Err.ensures.not_hired (c.say_unhired.ensures.refuses name entry (untouched_by g.K.Desk.state _ _ (sym c.into_desk.ensures) opened.untouched)))

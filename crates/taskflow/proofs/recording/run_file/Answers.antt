@@ -5,11 +5,9 @@ use Rattle.taskflow.proofs.recording.run_file.Goals as goal
 
 pub returns-in-Ok-clause-runs : goal.returns-in-Ok-clause-runs
 returns-in-Ok-clause-runs g c =
-    let D = g.K.Desk in
-    done_file _ c.args.source _ c.in-Ok.machine (Runs D.tells D.shown D.content D.left D.crashes D.disk_faults _ c.args.request.now _ _ _ _ _ _) _ _ c.run_plan.result.status c.in-Ok.ensures.opened
+    done_file _ c.args.source _ c.in-Ok.machine (Runs _ c.args.request.now _ _ _ _ _ _) _ _ c.run_plan.result.status c.in-Ok.ensures.opened
     (rw c.in-Ok.ensures.same at c.run_plan.ensures.runs)
 
 pub returns-in-Err-clause-runs : goal.returns-in-Err-clause-runs
 returns-in-Err-clause-runs g c =
-    let D = g.K.Desk in
-    undone_file _ c.args.source _ _ (Runs D.tells D.shown D.content D.left D.crashes D.disk_faults _ c.args.request.now _ _ _ _ _ _) _ _ c.in-Err.status (λ still. (refl, still)) c.in-Err.ensures.closed
+    undone_file _ c.args.source _ _ (Runs _ c.args.request.now _ _ _ _ _ _) _ _ c.in-Err.status (λ still. (refl, still)) c.in-Err.ensures.closed

@@ -1,7 +1,7 @@
-use Rattle.std.proofs.Common.{refl, inl, inr, sym}
+use Rattle.std.proofs.Common.{inl, inr, sym, arith}
 use Rattle.taskflow.specs.Books.{unopened_reset, nothing_put_back}
 use Rattle.taskflow.proofs.BookLemmas.{untouched_by}
-use Rattle.taskflow.proofs.OpenLemmas.{shown_causes, unopened_apart}
+use Rattle.taskflow.proofs.CountLemmas.{untouched_reaches, said_causes, unopened_hired}
 use Rattle.taskflow.proofs.resetting.reset_book.Goals as goal
 
 pub returns-in-Ok-Book-clause-resets : goal.returns-in-Ok-Book-clause-resets
@@ -12,12 +12,10 @@ returns-in-Ok-Book-clause-resets g c =
 
 pub returns-in-Ok-NoFlow-clause-resets : goal.returns-in-Ok-NoFlow-clause-resets
 returns-in-Ok-NoFlow-clause-resets g c =
-    let D = g.K.Desk in
     let opened = rw c.in-Ok-NoFlow.field-0-is at c.in-Ok-NoFlow.ensures.opened in
     let loads = rw c.in-Ok-NoFlow.field-0-is at c.in-Ok-NoFlow.ensures.loads in
     nothing_put_back (λ told. inr (loads told))
-    (c.say_empty.ensures.refuses c.args.name.now c.args.desk
-    (untouched_by D.tells D.shown D.content D.left D.crashes D.disk_faults D.out_faults c.args.name.now c.args.desk _ _ (sym c.into_desk.ensures) opened.untouched))
+    (c.say_empty.ensures.refuses c.args.name.now c.args.desk (untouched_by g.K.Desk.state _ _ (sym c.into_desk.ensures) opened.untouched))
 
 pub returns-in-Ok-Unborn-clause-resets : goal.returns-in-Ok-Unborn-clause-resets
 returns-in-Ok-Unborn-clause-resets g c =
@@ -30,11 +28,8 @@ returns-in-Err-clause-resets g c = unopened_reset (c.refuse_book.ensures.unopene
 
 pub returns-in-Err-clause-causes : goal.returns-in-Err-clause-causes
 returns-in-Err-clause-causes g c =
-    let D = g.K.Desk in
     let e = c.in-Err.ensures in
     let r = c.refuse_book in
-    shown_causes (D.disk_faults c.args.desk) (D.out_faults c.args.desk) (D.disk_faults c.in-Err.desk) (D.out_faults c.in-Err.desk)
-    (D.disk_faults r.result.desk) (D.out_faults r.result.desk) r.result.status
-    e.unopened.disk e.unopened.out r.ensures.said (λ is. e.cause (r.ensures.failed is))
-    (unopened_apart D.tells D.shown D.content D.left D.crashes D.disk_faults D.out_faults c.args.name.now c.args.desk r.result.desk r.result.status
-    (r.ensures.unopened c.args.name.now c.args.desk e.unopened e.refused))
+    said_causes (untouched_reaches e.unopened) r.ensures.said (omega arith) (λ is. e.cause (r.ensures.failed is))
+    (λ is. absurd (unopened_hired c.args.name.now (g.K.Desk.state c.args.desk) (g.K.Desk.state r.result.desk) r.result.status
+    (r.ensures.unopened c.args.name.now c.args.desk e.unopened e.refused) is))

@@ -1,6 +1,6 @@
-use Rattle.std.proofs.Common.{refl, arith}
-use Rattle.tf_desk.specs.Counts.{Rises}
-use Rattle.taskflow.proofs.CountLemmas.{ran_causes}
+use Rattle.std.proofs.Common.{arith}
+use Rattle.taskflow.specs.Causes.{WasAsked}
+use Rattle.taskflow.proofs.CountLemmas.{reaches_itself, ran_causes}
 use Rattle.taskflow.proofs.ResumeLemmas.{ended_so, ended_on, ended_goes}
 use Rattle.taskflow.proofs.resuming.go_on.Goals as goal
 
@@ -12,21 +12,17 @@ returns-in-Success-clause-goes g c =
     let status = c.report_end.result.status in
     let at = c.state-state.ensures in
     λ name entry opened holds.
-    ended_goes D.tells D.shown D.content D.left D.crashes D.disk_faults D.out_faults g.W.Hand.Performer.gives c.args.request.now _ name entry c.args.book now status _ c.state-state.result
+    ended_goes D.state g.W.Hand.Performer.gives c.args.request.now _ name (D.state entry) c.args.book (D.state now) status _ c.state-state.result
     opened holds c.requires.kept at.is (ended_so c.state-state.result c.in-Success.is)
-    (ended_on D.tells D.shown D.content D.left D.crashes D.disk_faults D.out_faults g.W.Hand.Performer.gives c.args.request.now (Rises (D.asks c.args.book.journal.desk) (D.asks now)) c.args.book now status c.state-state.result
+    (ended_on D.state g.W.Hand.Performer.gives c.args.request.now (WasAsked (D.state c.args.book.journal.desk) (D.state now)) c.args.book (D.state now) status c.state-state.result
     c.requires.sound c.requires.speaks at.is (ended_so c.state-state.result c.in-Success.is) at.legal at.compiles at.limits at.short (c.report_end.ensures.runs c.args.request.now c.args.book c.requires.spoken))
-    (λ told picked. here.picked_is_there now name told picked) (λ told bytes is. here.reads_left now name bytes told is) c.requires.speaks
+    (record { there = λ told picked. here.picked_is_there now name told picked; reads = λ told bytes is. here.reads_left now name bytes told is }) c.requires.speaks
 
 pub returns-in-Success-clause-causes : goal.returns-in-Success-clause-causes
 returns-in-Success-clause-causes g c =
     let D = g.K.Desk in
-    let now = c.report_end.result.desk in
-    let status = c.report_end.result.status in
+    let now = D.state c.report_end.result.desk in
     let at = c.state-state.ensures in
-    let runs = ended_on D.tells D.shown D.content D.left D.crashes D.disk_faults D.out_faults g.W.Hand.Performer.gives c.args.request.now (Rises (D.asks c.args.book.journal.desk) (D.asks now)) c.args.book now status c.state-state.result
+    let runs = ended_on D.state g.W.Hand.Performer.gives c.args.request.now (WasAsked (D.state c.args.book.journal.desk) now) c.args.book now c.report_end.result.status c.state-state.result
     c.requires.sound c.requires.speaks at.is (ended_so c.state-state.result c.in-Success.is) at.legal at.compiles at.limits at.short (c.report_end.ensures.runs c.args.request.now c.args.book c.requires.spoken) in
-    let disk = D.disk_faults c.args.book.journal.desk in
-    let out = D.out_faults c.args.book.journal.desk in
-    let faults = g.W.Crew.faults c.args.crew.now in
-    ran_causes status disk disk (D.disk_faults now) out out (D.out_faults now) faults faults (omega arith) refl runs.disk runs.out (omega arith) runs.unsaid runs.failed c.report_end.ensures.apart
+    ran_causes reaches_itself runs.continues runs.ended (omega arith) c.report_end.ensures.apart

@@ -22,7 +22,7 @@ returns-in-Some-clause-course g c =
 
 pub returns-in-None-clause-course : goal.returns-in-None-clause-course
 returns-in-None-clause-course g c =
-    no_command (ap if_done_here (sym c.in-Ok.ensures) ∙ sym c.done_here.ensures.is ∙ c.in-None.is) c.close-status.ensures.closes (refl, λ told. (c.close-status.ensures.stands told).files)
+    no_command (ap if_done_here (sym c.in-Ok.ensures) ∙ sym c.done_here.ensures.is ∙ c.in-None.is) c.close-status.ensures.closes (refl, λ told. (c.close-status.ensures.says.files told).files)
 
 pub returns-in_default-clause-hires : goal.returns-in_default-clause-hires
 returns-in_default-clause-hires g c = hires_nobody _ _

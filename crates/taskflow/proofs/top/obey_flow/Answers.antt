@@ -17,37 +17,35 @@ pub demo_book-requires-clause-few : goal.demo_book-requires-clause-few
 demo_book-requires-clause-few g c = λ lives kept. (few_so c.args.asked _ c.in-Demo.is c.requires.within).1
 
 pub returns-in-Try-clause-obeys : goal.returns-in-Try-clause-obeys
-returns-in-Try-clause-obeys g c = obeys_so _ _ _ _ _ _ _ _ c.args.asked _ _ _ _ _ _ _ c.in-Try.is (c.try_file.ensures.tried, c.try_file.ensures.stays)
+returns-in-Try-clause-obeys g c = obeys_so g.K.Desk.state _ _ c.args.asked _ _ _ _ _ _ _ c.in-Try.is (c.try_file.ensures.tried, c.try_file.ensures.stays)
 
 pub returns-in-Run-clause-obeys : goal.returns-in-Run-clause-obeys
-returns-in-Run-clause-obeys g c = obeys_so _ _ _ _ _ _ _ _ c.args.asked _ _ _ _ _ _ _ c.in-Run.is c.run_file.ensures.runs
+returns-in-Run-clause-obeys g c = obeys_so g.K.Desk.state _ _ c.args.asked _ _ _ _ _ _ _ c.in-Run.is c.run_file.ensures.runs
 
 pub returns-in-Resume-clause-obeys : goal.returns-in-Resume-clause-obeys
-returns-in-Resume-clause-obeys g c = obeys_so _ _ _ _ _ _ _ _ c.args.asked _ _ _ _ _ _ _ c.in-Resume.is c.resume_book.ensures.resumes
+returns-in-Resume-clause-obeys g c = obeys_so g.K.Desk.state _ _ c.args.asked _ _ _ _ _ _ _ c.in-Resume.is c.resume_book.ensures.resumes
 
 pub returns-in-Show-clause-obeys : goal.returns-in-Show-clause-obeys
-returns-in-Show-clause-obeys g c = obeys_so _ _ _ _ _ _ _ _ c.args.asked _ _ _ _ _ _ _ c.in-Show.is (c.show_book.ensures.shows, refl)
+returns-in-Show-clause-obeys g c = obeys_so g.K.Desk.state _ _ c.args.asked _ _ _ _ _ _ _ c.in-Show.is (c.show_book.ensures.shows, refl)
 
 pub returns-in-Reset-clause-obeys : goal.returns-in-Reset-clause-obeys
-returns-in-Reset-clause-obeys g c = obeys_so _ _ _ _ _ _ _ _ c.args.asked _ _ _ _ _ _ _ c.in-Reset.is (c.reset_book.ensures.resets, refl)
+returns-in-Reset-clause-obeys g c = obeys_so g.K.Desk.state _ _ c.args.asked _ _ _ _ _ _ _ c.in-Reset.is (c.reset_book.ensures.resets, refl)
 
 pub returns-in-Check-clause-obeys : goal.returns-in-Check-clause-obeys
-returns-in-Check-clause-obeys g c = obeys_so _ _ _ _ _ _ _ _ c.args.asked _ _ _ _ _ _ _ c.in-Check.is
-    (quiet_file _ _ _ _ _ _ _ _ (λ still. (refl, still)) c.check_file-status.ensures.checked, (refl, c.check_file-status.ensures.stays))
+returns-in-Check-clause-obeys g c = obeys_so g.K.Desk.state _ _ c.args.asked _ _ _ _ _ _ _ c.in-Check.is
+    (quiet_file _ _ _ _ _ _ _ _ (λ still. (refl, still)) c.check_file-status.ensures.checked, (refl, c.check_file-status.ensures.says.files))
 
 pub returns-in-Demo-clause-obeys : goal.returns-in-Demo-clause-obeys
-returns-in-Demo-clause-obeys g c = obeys_so _ _ _ _ _ _ _ _ c.args.asked _ _ _ _ _ _ _ c.in-Demo.is c.demo_book.ensures.demonstrates
+returns-in-Demo-clause-obeys g c = obeys_so g.K.Desk.state _ _ c.args.asked _ _ _ _ _ _ _ c.in-Demo.is c.demo_book.ensures.demonstrates
 
 pub returns-in-Worker-clause-obeys : goal.returns-in-Worker-clause-obeys
-returns-in-Worker-clause-obeys g c = obeys_so _ _ _ _ _ _ _ _ c.args.asked _ _ _ _ _ _ _ c.in-Worker.is (c.work-status.ensures.works, c.work-status.ensures.says.files)
+returns-in-Worker-clause-obeys g c = obeys_so g.K.Desk.state _ _ c.args.asked _ _ _ _ _ _ _ c.in-Worker.is (c.work-status.ensures.works, c.work-status.ensures.says.files)
 
 pub returns-in-Worker-clause-causes : goal.returns-in-Worker-clause-causes
 returns-in-Worker-clause-causes g c =
-    let says = c.work-status.ensures.says in
     listened_so _ _ _ _ _ (λ both. (subst IsWork (sym c.in-Worker.is) both.0, both.1))
-    (worked_causes c.work-status.result (g.K.Desk.disk_faults c.args.desk) (g.K.Desk.disk_faults c.work-status.new.desk) (g.K.Desk.out_faults c.args.desk) (g.K.Desk.out_faults c.work-status.new.desk)
-    (g.S.Sources.faults c.args.sources.now) (g.S.Sources.faults c.args.sources.now) (g.W.Crew.faults c.args.crew.now) (g.W.Crew.faults c.work-status.new.crew) (g.L.Door.faults c.args.door.now) (g.L.Door.faults c.work-status.new.door)
-    says.disk says.out refl c.work-status.ensures.crew_stands c.work-status.ensures.unhired c.work-status.ensures.unsaid c.work-status.ensures.status)
+    (worked_causes c.work-status.result (g.S.Sources.faults c.args.sources.now) (g.S.Sources.faults c.args.sources.now) (g.W.Crew.faults c.args.crew.now) (g.W.Crew.faults c.work-status.new.crew)
+    (g.L.Door.faults c.args.door.now) (g.L.Door.faults c.work-status.new.door) c.work-status.ensures.says refl c.work-status.ensures.crew_stands c.work-status.ensures.unhired c.work-status.ensures.unsaid c.work-status.ensures.status)
 
 pub returns-in-Try-clause-hires : goal.returns-in-Try-clause-hires
 returns-in-Try-clause-hires g c = hires_so c.args.asked _ _ _ c.in-Try.is c.try_file.ensures.hires

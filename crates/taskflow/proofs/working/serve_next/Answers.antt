@@ -1,5 +1,4 @@
 use Rattle.taskflow.specs.Working.{no_next_link}
-use Rattle.taskflow.proofs.WorkLemmas.{closed_cause}
 use Rattle.taskflow.proofs.working.serve_next.Goals as goal
 
 pub returns-in-Err-Failed-clause-stopped : goal.returns-in-Err-Failed-clause-stopped

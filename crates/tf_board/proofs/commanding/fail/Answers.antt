@@ -1,4 +1,4 @@
-use Rattle.std.proofs.Common.{subst, sym, ℕ, ◌≡◌}
+use Rattle.std.proofs.Common.{subst, ℕ}
 use Rattle.tf_board.specs.Answers.{fault_text}
 use Rattle.tf_board.specs.Does.{Ends}
 use Rattle.tf_board.proofs.commanding.fail.Goals as goal
@@ -6,5 +6,5 @@ use Rattle.tf_board.proofs.commanding.fail.Goals as goal
 pub returns-clause-ends : goal.returns-clause-ends
 returns-clause-ends g c = λ name past pending after entry r.
     let D = g.K.Desk in
-    subst (λ (n : ℕ). Ends D.tells D.shown D.content D.left D.crashes name past pending after entry c.say_text.result.0 (fault_text c.args.fault) n c.say_text.result.1) c.status_of-status.ensures
+    subst (λ (n : ℕ). Ends name past pending after (D.state entry) (D.state c.say_text.result.0) (fault_text c.args.fault) n c.say_text.result.1) c.status_of-status.ensures
     (c.say_text.ensures.reached (fault_text c.args.fault) c.fault_line-text.ensures.line name past pending after entry r)

@@ -1,24 +1,26 @@
-use Rattle.std.proofs.Common.{refl, sym, subst, ⊎_elim, ap, [], ◌≡◌, ◌∙◌, List, ℕ, Option}
+use Rattle.std.proofs.Common.{refl, subst}
 use Rattle.std.specs.Prelude.{IsTrue}
 use Rattle.tf_journal.specs.Start.{file_of}
 use Rattle.tf_journal.specs.declared.faults.LoadFault.{LoadFault}
 use Rattle.tf_board.specs.Answers.{not_a_board}
 use Rattle.tf_board.specs.Board.{board_in, IsNoBoard, RefusesBoard}
 use Rattle.tf_board.specs.Does.{unopened_memory, unopened_disk, no_board}
-use Rattle.tf_board.proofs.DoesLemmas.{unopened_stops, no_board_stays}
+use Rattle.tf_board.proofs.EndLemmas.{unopened_stops, no_board_stays, concludes_none}
 use Rattle.tf_board.proofs.commanding.refuse.Goals as goal
 
 pub returns-in-Disk-clause-does : goal.returns-in-Disk-clause-does
-returns-in-Disk-clause-does g c = λ asked name entry u is. unopened_disk (c.say.ensures.unopened name entry u)
+returns-in-Disk-clause-does g c = λ asked name entry u. unopened_disk (c.say.ensures.unopened name c.args.fault entry u)
 
 pub returns-in-NotABook-clause-does : goal.returns-in-NotABook-clause-does
-returns-in-NotABook-clause-does g c = λ asked name entry u is.
+returns-in-NotABook-clause-does g c = λ asked name entry u.
     let D = g.K.Desk in
-    let bad_is : IsTrue (D.tells entry) → IsNoBoard (board_in (file_of (D.content entry) name)) c.in-NotABook.offset c.in-NotABook.byte = λ told. subst (λ (f : LoadFault). RefusesBoard f (board_in (file_of (D.content entry) name))) c.in-NotABook.is (is told) in
-    let ends = c.say_text.ensures.unopened (not_a_board c.in-NotABook.offset c.in-NotABook.byte) c.not_a_board_text-text.ensures name entry u in
+    let bad_is : IsTrue (D.state entry).tells → IsNoBoard (board_in (file_of (D.state entry) name)) c.in-NotABook.offset c.in-NotABook.byte =
+    λ told. subst (λ (f : LoadFault). RefusesBoard f (board_in (file_of (D.state entry) name))) c.in-NotABook.is (u.refused told) in
+    let ends = c.say_text.ensures.unopened (not_a_board c.in-NotABook.offset c.in-NotABook.byte) c.not_a_board_text-text.ensures name c.args.fault entry u in
     no_board c.in-NotABook.offset c.in-NotABook.byte bad_is (λ told. no_board_stays _ _ _ _ (bad_is told) (ends.stays told).file) ends
 
 pub returns-in-Memory-clause-does : goal.returns-in-Memory-clause-does
-returns-in-Memory-clause-does g c = λ asked name entry u is.
-    let D = g.K.Desk in
-    unopened_memory refl (unopened_stops D.tells D.shown D.content D.left D.crashes D.disk_faults D.out_faults name entry c.args.desk [] 9 9 u refl)
+returns-in-Memory-clause-does g c = λ asked name entry u. unopened_memory refl (unopened_stops u refl)
+
+pub returns-in-Memory-clause-concludes : goal.returns-in-Memory-clause-concludes
+returns-in-Memory-clause-concludes g c = concludes_none 9 (λ is. cc)

@@ -1,25 +1,26 @@
+use Rattle.std.proofs.Common.{subst}
+use Rattle.tf_desk.specs.State.{FailsToPick}
+use Rattle.tf_desk.specs.declared.device.DeskFault.{DeskFault}
+use Rattle.tf_desk.proofs.StateLemmas.{on_disk_within}
+use Rattle.tf_journal.specs.declared.faults.LoadFault.TheVariants as load_fault
 use Rattle.tf_journal.proofs.OpenLemmas.{unpicked}
 use Rattle.tf_board.proofs.OpeningLemmas.{untouched_unopened}
 use Rattle.tf_board.proofs.opening.open.Goals as goal
 
-pub returns-in-Ok-clause-unopened : goal.returns-in-Ok-clause-unopened
-returns-in-Ok-clause-unopened g c =
+pub returns-in-Ok : goal.returns-in-Ok
+returns-in-Ok g c =
     let p = c.pick.ensures in
-    (c.load.ensures.opens c.args.name.now c.args.desk
-    (record { told = p.quiet.0; quiet = p.quiet.1; picks = c.in-Ok.ensures.picked; made = p.leaves; disk = p.no_fall; out = p.others.0 })).1
+    c.load.ensures.opens c.args.name.now c.args.desk
+    (record { on_disk = on_disk_within p.on_disk (λ told image text left. tt); picks = c.in-Ok.ensures.picked; made = p.leaves })
 
-pub returns-in-Err-Disk-clause-unopened : goal.returns-in-Err-Disk-clause-unopened
-returns-in-Err-Disk-clause-unopened g c =
-    let D = g.K.Desk in
+pub returns-in-Err-Disk : goal.returns-in-Err-Disk
+returns-in-Err-Disk g c =
     let p = c.pick.ensures in
-    untouched_unopened D.tells D.shown D.content D.left D.crashes D.disk_faults D.out_faults c.args.name.now c.args.desk c.pick.new.self
-    (unpicked D.tells D.shown D.content D.left D.crashes D.disk_faults D.out_faults c.args.name.now c.args.desk c.pick.new.self
-    p.quiet.0 p.quiet.1 c.in-Err-Disk.ensures.unpicked p.no_fall p.others.0)
+    untouched_unopened load_fault.Disk (unpicked p.on_disk c.in-Err-Disk.ensures.unpicked) (on_disk_within p.on_disk (λ told image text left. tt)) (λ told. tt)
+    (λ is. subst (λ (f : DeskFault). FailsToPick f (g.K.Desk.state c.args.desk) (g.K.Desk.state c.pick.new.self)) c.in-Err-Disk.field-0-is c.in-Err-Disk.ensures.fails)
 
-pub returns-in-Err-Memory-clause-unopened : goal.returns-in-Err-Memory-clause-unopened
-returns-in-Err-Memory-clause-unopened g c =
-    let D = g.K.Desk in
+pub returns-in-Err-Memory : goal.returns-in-Err-Memory
+returns-in-Err-Memory g c =
     let p = c.pick.ensures in
-    untouched_unopened D.tells D.shown D.content D.left D.crashes D.disk_faults D.out_faults c.args.name.now c.args.desk c.pick.new.self
-    (unpicked D.tells D.shown D.content D.left D.crashes D.disk_faults D.out_faults c.args.name.now c.args.desk c.pick.new.self
-    p.quiet.0 p.quiet.1 c.in-Err-Memory.ensures.unpicked p.no_fall p.others.0)
+    untouched_unopened load_fault.Memory (unpicked p.on_disk c.in-Err-Memory.ensures.unpicked) (on_disk_within p.on_disk (λ told image text left. tt)) (λ told. tt)
+    (λ is. absurd (cc))

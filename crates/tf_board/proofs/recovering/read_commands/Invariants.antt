@@ -6,8 +6,8 @@ use Rattle.tf_board.proofs.recovering.read_commands.Given as goal
 abbrev pub invariant-reading : goal.invariant-reading
 invariant-reading g l = record {
   low : 17 ≤ l.place;
-  read : HasRead g.K.Desk.tells g.K.Desk.shown g.K.Desk.content g.K.Desk.left g.K.Desk.crashes g.K.Desk.disk_faults g.K.Desk.out_faults g.K.Desk.asks g.K.Desk.turns l.fn.journal l.kept l.place;
-  reads : OnlyReads g.K.Desk.tells g.K.Desk.shown g.K.Desk.content g.K.Desk.left g.K.Desk.crashes g.K.Desk.disk_faults g.K.Desk.out_faults g.K.Desk.asks g.K.Desk.turns l.fn.journal l.journal;
+  read : HasRead g.K.Desk.state l.fn.journal l.kept l.place;
+  reads : OnlyReads g.K.Desk.state l.fn.journal l.journal;
 }
 
 abbrev pub decreases-reading : goal.decreases-reading

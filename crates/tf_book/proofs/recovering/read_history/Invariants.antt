@@ -1,15 +1,15 @@
 use Rattle.std.proofs.Common.{◌≤◌, ◌-◌}
 use Rattle.tf_journal.specs.Reading.{OnlyReads}
 use Rattle.tf_book.specs.History.{HasAllRoom}
-use Rattle.tf_book.specs.Reading.{HasRead}
+use Rattle.tf_book.specs.Reading.{HasReadBook}
 use Rattle.tf_book.proofs.recovering.read_history.Given as goal
 
 abbrev pub invariant-reading : goal.invariant-reading
 invariant-reading g l = record {
   low : 17 ≤ l.place;
-  read : HasRead g.K.Desk.tells g.K.Desk.shown g.K.Desk.content g.K.Desk.left g.K.Desk.crashes g.K.Desk.disk_faults g.K.Desk.out_faults g.K.Desk.asks g.K.Desk.turns l.fn.journal l.back.machine l.back.history l.place;
+  read : HasReadBook g.K.Desk.state l.fn.journal l.back.machine l.back.history l.place;
   room : HasAllRoom l.fn.back.history → HasAllRoom l.back.history;
-  reads : OnlyReads g.K.Desk.tells g.K.Desk.shown g.K.Desk.content g.K.Desk.left g.K.Desk.crashes g.K.Desk.disk_faults g.K.Desk.out_faults g.K.Desk.asks g.K.Desk.turns l.fn.journal l.journal;
+  reads : OnlyReads g.K.Desk.state l.fn.journal l.journal;
 }
 
 abbrev pub decreases-reading : goal.decreases-reading

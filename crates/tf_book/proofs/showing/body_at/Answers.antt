@@ -1,5 +1,5 @@
 use Rattle.std.proofs.Common.{arith}
-use Rattle.tf_book.proofs.ShowLemmas.{begins_length, begins_within, begins_body}
+use Rattle.tf_book.proofs.ShowLemmas.{begins_length, begins_within}
 use Rattle.tf_book.proofs.showing.body_at.Goals as goal
 
 pub slice_bounds-result-end : goal.slice_bounds-result-end

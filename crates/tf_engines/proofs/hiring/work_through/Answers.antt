@@ -1,5 +1,5 @@
 use Rattle.std.proofs.Common.{◌≡◌, ◌<◌, ◌++◌, ℕ, List, length, take, drop, arith, ap, sym, subst, slice_index_or}
-use Rattle.tf_engines.specs.Working.{IsOpened, IsReady, HasWorked}
+use Rattle.tf_engines.specs.Working.{IsOpenedFor, IsReadyToTurn, HasWorked}
 use Rattle.tf_engines.specs.declared.hand_loop.Worker.{Worker}
 use Rattle.tf_engines.proofs.CloseLemmas.{take_front}
 use Rattle.tf_engines.proofs.hiring.work_through.Goals as goal
@@ -7,7 +7,7 @@ use Rattle.tf_engines.proofs.hiring.work_through.Goals as goal
 pub work_all-requires-clause-each : goal.work_all-requires-clause-each
 work_all-requires-clause-each g c κs within = λ i d below.
     let same = c.as_mut_slice.ensures.value in
-    subst (λ (l : List (Worker g.row.K.Denot g.row.P.Denot)). IsOpened c.args.turnstile.now i × IsReady c.args.turnstile.now i (slice_index_or l i d).pass) (sym same) (c.requires.each i d (subst (λ (l : List (Worker g.row.K.Denot g.row.P.Denot)). i < length l) same below))
+    subst (λ (l : List (Worker g.row.K.Denot g.row.P.Denot)). IsOpenedFor c.args.turnstile.now i × IsReadyToTurn c.args.turnstile.now i (slice_index_or l i d).pass) (sym same) (c.requires.each i d (subst (λ (l : List (Worker g.row.K.Denot g.row.P.Denot)). i < length l) same below))
 
 pub returns-clause-worked : goal.returns-clause-worked
 returns-clause-worked g c = λ i d below.

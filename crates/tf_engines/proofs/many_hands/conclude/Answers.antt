@@ -4,7 +4,7 @@ use Rattle.tf_engines.proofs.many_hands.conclude.Goals as goal
 
 pub returns-clause-run : goal.returns-clause-run
 returns-clause-run g c =
-    concluded g.K.Desk.tells g.K.Desk.shown g.K.Desk.content g.K.Desk.left g.K.Desk.crashes g.K.Desk.disk_faults g.K.Desk.out_faults g.K.Desk.asks g.P.Performer.gives c.args.shared c.into_book-book.result c.halt_for.new.book c.stopped-how.result c.into_book-book.ensures.shared c.into_book-book.ensures.legal c.into_book-book.ensures.book
+    concluded g.K.Desk.state g.P.Performer.gives c.args.shared c.into_book-book.result c.halt_for.new.book c.stopped-how.result c.into_book-book.ensures.shared c.into_book-book.ensures.legal c.into_book-book.ensures.book
     c.halt_for.ensures.keeps c.halt_for.ensures.same c.stopped-how.ensures
 
 pub returns-clause-orders : goal.returns-clause-orders

@@ -27,7 +27,7 @@ conclude-requires g c =
     let h = c.hire-hired.ensures in
     all_last c.args.turnstile (λ (w : Worker g.row.K.Denot g.row.P.Denot). w.pass) (λ (w : Worker g.row.K.Denot g.row.P.Denot). w.hand) g.P.Performer.did (λ (w : Worker g.row.K.Denot g.row.P.Denot). w.failed) c.hire-hired.result.items c.work_through-done.result.items c.work_through-done.ensures.count
     c.work_through-done.ensures.worked c.dismiss-failed.new.passes.items c.dismiss-failed.ensures.passes c.close-shared.result c.close-shared.ensures.history
-    g.K.Desk.tells g.K.Desk.shown g.K.Desk.content g.K.Desk.left g.K.Desk.crashes g.K.Desk.disk_faults g.K.Desk.out_faults g.K.Desk.asks g.P.Performer.gives r.fresh c.close-shared.ensures.origin c.known.ensures.shared c.dismiss-failed.result c.dismiss-failed.ensures.failed
+    g.K.Desk.state g.P.Performer.gives r.fresh c.close-shared.ensures.origin c.known.ensures.shared c.dismiss-failed.result c.dismiss-failed.ensures.failed
     (omega (arith, h.count, r.some, r.passes.0, r.passes.1.count, c.args.passes.ok.0, c.hire-hired.result.ok.0))
 
 pub returns-clause-orders : goal.returns-clause-orders
@@ -38,7 +38,7 @@ returns-clause-orders g c = λ i d below.
     let here : i < length c.hire-hired.result.items = omega (arith, below, h.count, r.passes.0, r.passes.1.count, c.args.passes.ok.0, c.hire-hired.result.ok.0) in
     let done = all_done t (λ (w : Worker g.row.K.Denot g.row.P.Denot). w.pass) (λ (w : Worker g.row.K.Denot g.row.P.Denot). w.hand) g.P.Performer.did (λ (w : Worker g.row.K.Denot g.row.P.Denot). w.failed) c.hire-hired.result.items c.work_through-done.result.items c.work_through-done.ensures.count
     c.work_through-done.ensures.worked c.dismiss-failed.new.passes.items c.dismiss-failed.ensures.passes c.close-shared.result c.close-shared.ensures.history
-    g.K.Desk.tells g.K.Desk.shown g.K.Desk.content g.K.Desk.left g.K.Desk.crashes g.K.Desk.disk_faults g.K.Desk.out_faults g.K.Desk.asks g.P.Performer.gives r.fresh c.close-shared.ensures.origin c.known.ensures.shared c.dismiss-failed.result c.dismiss-failed.ensures.failed
+    g.K.Desk.state g.P.Performer.gives r.fresh c.close-shared.ensures.origin c.known.ensures.shared c.dismiss-failed.result c.dismiss-failed.ensures.failed
     c.args.hands.now.items c.dismiss-failed.new.hands.items (front_all _ c.hire-hired.new.hands.items _ h.empty h.hands) c.dismiss-failed.ensures.hands
     (all_made t (λ (w : Worker g.row.K.Denot g.row.P.Denot). w.pass) c.hire-hired.result.items c.args.passes.items h.passes r.passes.1) i d here in
     c.conclude.ensures.orders _ _ _ _

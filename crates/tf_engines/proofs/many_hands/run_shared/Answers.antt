@@ -1,5 +1,5 @@
 use Rattle.std.proofs.Common.{◌≡◌, List, Option, subst, slice_index_or}
-use Rattle.tf_ports.specs.declared.orders.Order.{Order}
+use Rattle.tf_actions.specs.declared.orders.Order.{Order}
 use Rattle.tf_hands.specs.Hands.{orders}
 use Rattle.tf_book.specs.Book.{outline}
 use Rattle.tf_engines.specs.Asked.{HasDoneBy}

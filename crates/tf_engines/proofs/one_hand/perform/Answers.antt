@@ -6,7 +6,7 @@ use Rattle.tf_model.specs.Steps.{LegalPast, is_still}
 use Rattle.tf_states.specs.declared.record.Entry.{Entry}
 use Rattle.tf_hands.proofs.FlightLemmas.{order_told}
 use Rattle.tf_book.specs.Book.{BookValue}
-use Rattle.tf_engines.specs.Runs.{GoesOn}
+use Rattle.tf_engines.specs.Runs.{IsUnderWay}
 use Rattle.tf_engines.proofs.OrderLemmas.{finished_done, finished_or_done, done_next, done_whole, halted_asks}
 use Rattle.tf_engines.proofs.RunLemmas.{goes_session, halts_so, goes_finished, finished_or_not, still_after, runs_after, told_some}
 use Rattle.tf_engines.proofs.one_hand.perform.Goals as goal
@@ -16,14 +16,14 @@ returns-in_default-clause-ran g c = λ limit before on.
     let same = c.halt_for_memory.ensures.same in
     halts_so _ _ 1 _ _ before _ _ _ c.halted.ensures.cause None
     (goes_session _ _ 1 _ _ before _ c.args.book.now.limit (subst (λ (p : PlanValue). LegalPast (outline_of p) c.halt_for_memory.new.self.past) (ap (λ (b : BookValue _). b.plan) same) c.halted.ensures.legal)
-    (subst (λ (l : List Entry). GoesOn g.P.Performer.gives 1 limit (outline_of c.args.book.now.plan) before l c.args.book.now.limit) (sym (ap (λ (b : BookValue _). b.past) same)) on))
+    (subst (λ (l : List Entry). IsUnderWay g.P.Performer.gives 1 limit (outline_of c.args.book.now.plan) before l c.args.book.now.limit) (sym (ap (λ (b : BookValue _). b.past) same)) on))
 
 pub finish-requires-clause-task : goal.finish-requires-clause-task
 finish-requires-clause-task g c = told_some _ _ (order_told _ _ 0 _ c.state-before.ensures.legal c.requires.has)
 
 pub returns-in-Ok-finish-clause-on : goal.returns-in-Ok-finish-clause-on
 returns-in-Ok-finish-clause-on g c = λ limit before on.
-    subst (λ (k : Option ℕ). GoesOn g.P.Performer.gives 1 limit (outline_of c.args.book.now.plan) before c.finish.new.self.past k) (sym c.finish.ensures.limit)
+    subst (λ (k : Option ℕ). IsUnderWay g.P.Performer.gives 1 limit (outline_of c.args.book.now.plan) before c.finish.new.self.past k) (sym c.finish.ensures.proceeds.limit)
     (goes_finished _ 0 1 _ _ before _ _ _ _ _ refl g.met.P.Performer.reverts_to_nothing c.state-before.ensures.legal c.requires.has c.in-Ok.ensures.given c.in-Ok-finish.ensures.finished on)
 
 pub returns-in-Ok-finish-clause-goes : goal.returns-in-Ok-finish-clause-goes
@@ -32,7 +32,7 @@ returns-in-Ok-finish-clause-goes g c =
     record {
       sound = e.sound;
       running = runs_after 0 _ _ _ _ e.finished ∙ c.requires.running;
-      still = subst (λ (p : PlanValue). is_still (outline_of p) (snapshot (outline_of p) c.finish.new.self.past) ≡ true) (sym e.plan)
+      still = subst (λ (p : PlanValue). is_still (outline_of p) (snapshot (outline_of p) c.finish.new.self.past) ≡ true) (sym e.proceeds.plan)
           (still_after 0 _ _ _ _ c.state-before.ensures.legal c.requires.alone e.finished);
     }
 
@@ -40,7 +40,7 @@ pub returns-clause-ran : goal.returns-clause-ran
 returns-clause-ran g c = λ limit before on.
     halts_so _ _ 1 _ _ before _ _ _ c.halted-in-Err.ensures.cause None
     (finished_or_not _ _ 0 1 _ _ before _ _ _ _ _ refl g.met.P.Performer.reverts_to_nothing c.state-before.ensures.legal
-    (subst (λ (p : PlanValue). LegalPast (outline_of p) c.finish.new.self.past) c.in-Err.ensures.plan c.halted-in-Err.ensures.legal) c.requires.has c.in-Ok.ensures.given c.in-Err.ensures.cut on)
+    (subst (λ (p : PlanValue). LegalPast (outline_of p) c.finish.new.self.past) c.in-Err.ensures.proceeds.plan c.halted-in-Err.ensures.legal) c.requires.has c.in-Ok.ensures.given c.in-Err.ensures.cut on)
 
 pub returns-in-Ok-finish-clause-asked : goal.returns-in-Ok-finish-clause-asked
 returns-in-Ok-finish-clause-asked g c = λ told base to_do.

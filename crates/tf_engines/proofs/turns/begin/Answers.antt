@@ -14,8 +14,8 @@ use Rattle.tf_engines.proofs.turns.begin.Goals as goal
 pub returns-in-Ok-clause-stands : goal.returns-in-Ok-clause-stands
 returns-in-Ok-clause-stands g c = λ number asked limit before below le s.
     let e = c.next.ensures in
-    turn_leaves c.args.hand number below g.P.Performer.gives limit _ before _ _ c.args.book.now.limit c.next.new.self.limit asked _ _ le e.no_fall.0 e.limit
-    (subst (λ (p : PlanValue). LegalPast (outline_of p) c.next.new.self.past) e.plan c.state-after.ensures.legal) c.in-Ok.turn c.in-Ok.ensures.turn s
+    turn_leaves c.args.hand number below g.P.Performer.gives limit _ before _ _ c.args.book.now.limit c.next.new.self.limit asked _ _ le e.takes.asks e.takes.limit
+    (subst (λ (p : PlanValue). LegalPast (outline_of p) c.next.new.self.past) e.takes.plan c.state-after.ensures.legal) c.in-Ok.turn c.in-Ok.ensures.turn s
 
 pub returns-in-Ok-clause-added : goal.returns-in-Ok-clause-added
 returns-in-Ok-clause-added g c = turn_adds c.args.hand _ _ _ _ _ _ c.in-Ok.turn c.in-Ok.ensures.turn
@@ -23,7 +23,7 @@ returns-in-Ok-clause-added g c = turn_adds c.args.hand _ _ _ _ _ _ c.in-Ok.turn 
 pub returns-in-Ok-clause-has : goal.returns-in-Ok-clause-has
 returns-in-Ok-clause-has g c =
     subst (λ (n : Next). HasNext (outline c.args.book.now) c.next.new.self.past c.args.hand n) (sym c.after.ensures)
-    (turn_next c.args.hand _ _ _ _ _ _ c.in-Ok.turn (subst (λ (p : PlanValue). LegalPast (outline_of p) c.next.new.self.past) c.next.ensures.plan c.state-after.ensures.legal) c.requires.free c.in-Ok.ensures.turn)
+    (turn_next c.args.hand _ _ _ _ _ _ c.in-Ok.turn (subst (λ (p : PlanValue). LegalPast (outline_of p) c.next.new.self.past) c.next.ensures.takes.plan c.state-after.ensures.legal) c.requires.free c.in-Ok.ensures.turn)
 
 pub returns-in-Ok-clause-orders : goal.returns-in-Ok-clause-orders
 returns-in-Ok-clause-orders g c = λ told base did has.
@@ -33,8 +33,8 @@ returns-in-Ok-clause-orders g c = λ told base did has.
 pub returns-in-Err-clause-stands : goal.returns-in-Err-clause-stands
 returns-in-Err-clause-stands g c = λ number asked limit before below le s.
     let e = c.next.ensures in
-    halted_leaves c.args.hand number below g.P.Performer.gives limit _ before _ _ c.args.book.now.limit c.next.new.self.limit asked _ _ le e.no_fall.0 e.limit
-    (subst (λ (p : PlanValue). LegalPast (outline_of p) c.next.new.self.past) e.plan c.state-after-in-Err.ensures.legal) c.in-Err.ensures.cut s
+    halted_leaves c.args.hand number below g.P.Performer.gives limit _ before _ _ c.args.book.now.limit c.next.new.self.limit asked _ _ le e.takes.asks e.takes.limit
+    (subst (λ (p : PlanValue). LegalPast (outline_of p) c.next.new.self.past) e.takes.plan c.state-after-in-Err.ensures.legal) c.in-Err.ensures.cut s
 
 pub returns-in-Err-clause-added : goal.returns-in-Err-clause-added
 returns-in-Err-clause-added g c = halted_adds c.args.hand _ _ _ _ _ _ c.in-Err.ensures.cut

@@ -17,7 +17,7 @@ finish-requires-clause-task g c = told_some _ _ (order_told _ _ c.args.hand _ c.
 pub returns-in-Ok-clause-stands : goal.returns-in-Ok-clause-stands
 returns-in-Ok-clause-stands g c = λ number asked limit before below le s.
     let e = c.finish.ensures in
-    finish_leaves c.args.hand number below g.P.Performer.gives limit _ before _ _ c.args.book.now.limit c.finish.new.self.limit asked _ _ e.asks.0 e.limit c.args.outcome g.met.P.Performer.reverts_to_nothing c.state-before.ensures.legal
+    finish_leaves c.args.hand number below g.P.Performer.gives limit _ before _ _ c.args.book.now.limit c.finish.new.self.limit asked _ _ e.proceeds.unasked.asks e.proceeds.limit c.args.outcome g.met.P.Performer.reverts_to_nothing c.state-before.ensures.legal
     c.requires.has c.in-Ok.ensures.finished s
 
 pub returns-in-Ok-clause-added : goal.returns-in-Ok-clause-added
@@ -25,7 +25,7 @@ returns-in-Ok-clause-added g c = finished_adds c.args.hand _ _ _ _ c.in-Ok.ensur
 
 pub returns-in-Ok-clause-free : goal.returns-in-Ok-clause-free
 returns-in-Ok-clause-free g c = λ goes.
-    subst (λ (p : PlanValue). is_free (outline c.args.book.now) (snapshot (outline_of p) c.finish.new.self.past) c.args.hand ≡ true) (sym c.finish.ensures.plan)
+    subst (λ (p : PlanValue). is_free (outline c.args.book.now) (snapshot (outline_of p) c.finish.new.self.past) c.args.hand ≡ true) (sym c.finish.ensures.proceeds.plan)
     (finished_free c.args.hand _ _ _ _ c.state-before.ensures.legal c.in-Ok.ensures.finished)
 
 pub returns-in-Ok-clause-orders : goal.returns-in-Ok-clause-orders
@@ -34,7 +34,7 @@ returns-in-Ok-clause-orders g c = finished_asks c.args.hand _ _ _ _ c.in-Ok.ensu
 pub returns-in-Err-clause-stands : goal.returns-in-Err-clause-stands
 returns-in-Err-clause-stands g c = λ number asked limit before below le s.
     let e = c.finish.ensures in
-    finish_or_leaves c.args.hand number below g.P.Performer.gives limit _ before _ _ c.args.book.now.limit c.finish.new.self.limit asked _ _ e.asks.0 e.limit c.args.outcome g.met.P.Performer.reverts_to_nothing c.state-before.ensures.legal
+    finish_or_leaves c.args.hand number below g.P.Performer.gives limit _ before _ _ c.args.book.now.limit c.finish.new.self.limit asked _ _ e.proceeds.unasked.asks e.proceeds.limit c.args.outcome g.met.P.Performer.reverts_to_nothing c.state-before.ensures.legal
     c.requires.has c.in-Err.ensures.cut s
 
 pub returns-in-Err-clause-added : goal.returns-in-Err-clause-added

@@ -1,3 +1,5 @@
+use Rattle.std.proofs.Common.{arith}
+use Rattle.tf_journal.proofs.PlaceLemmas.{nothing_behind}
 use Rattle.tf_journal.proofs.ReadingLemmas.{next_by}
 use Rattle.tf_journal.proofs.bodies.next_body.Goals as goal
 
@@ -12,3 +14,7 @@ returns-in-Ok-None-clause-found g c = λ before rest told lies at.
 pub returns-in-Err-NotABook-clause-whole : goal.returns-in-Err-NotABook-clause-whole
 returns-in-Err-NotABook-clause-whole g c = λ before rest told lies at.
     next_by _ before rest _ _ _ _ lies at (rw c.in-Err-NotABook.field-0-is at (c.in-Err-NotABook.ensures.refuses told c.requires.in_file))
+
+pub returns-then-place-size-clause-found : goal.returns-then-place-size-clause-found
+returns-then-place-size-clause-found g c = λ before rest told lies at.
+    nothing_behind _ before rest _ _ lies (omega (arith, at, c.if-place-size.true, c.size.ensures))

@@ -1,57 +1,55 @@
 use Rattle.std.proofs.Common.{◌≡◌, ℕ, List, length, take, IsTrue, Result, Ok, Err, OnOk, ◌∷◌, sym, ◌∙◌, ap, subst, arith}
 use Rattle.std.proofs.lemmas.Result.{MatchResult-weaker}
-use Rattle.tf_desk.specs.Content.{bytes_of}
-use Rattle.tf_desk.specs.Crash.{IsDurable}
+use Rattle.tf_desk.specs.State.{bytes_now, IsDurable}
+use Rattle.tf_desk.proofs.StateLemmas.{on_disk_told, bytes_stay, durable_on}
 use Rattle.tf_journal.specs.declared.faults.JournalFault.{JournalFault}
 use Rattle.tf_journal.specs.Format.{OPEN, bodies, recovered, records_from, title_of}
 use Rattle.tf_journal.specs.Answers.{RefusesFile}
 use Rattle.tf_journal.specs.Rest.{LiesAs}
 use Rattle.tf_journal.specs.Reach.{EndsRecords}
-use Rattle.tf_journal.proofs.CrashLemmas.{goes_bytes, durable_on}
 use Rattle.tf_journal.proofs.ReachLemmas.{reach_closed, reach_lies}
 use Rattle.tf_journal.proofs.HeaderLemmas.{sixteen}
 use Rattle.tf_journal.proofs.scanning.scan.Goals as goal
 
 pub returns-in-Titled-clause-scanned : goal.returns-in-Titled-clause-scanned
 returns-in-Titled-clause-scanned g c =
-    let D = g.K.Desk in
+    let S = g.K.Desk.state in
     let old = c.args.desk.now in
     let mid = c.read_start.new.desk in
     let new = c.scan_records.new.desk in
     let title = title_of c.args.title in
-    let bytes = bytes_of (D.content old) in
+    let bytes = bytes_now (S old) in
     λ told.
-    let still : IsTrue (D.tells mid) = subst IsTrue (sym c.read_start.ensures.quiet.0) told in
-    let same : bytes_of (D.content mid) ≡ bytes = goes_bytes (D.content old) (D.content mid) (c.read_start.ensures.rests told).content in
-    let last : bytes_of (D.content new) ≡ bytes = goes_bytes (D.content mid) (D.content new) (c.scan_records.ensures.rests still).content ∙ same in
+    let still : IsTrue (S mid).tells = on_disk_told c.read_start.ensures.rests.on_disk told in
+    let same : bytes_now (S mid) ≡ bytes = bytes_stay (c.read_start.ensures.rests.files told) in
+    let last : bytes_now (S new) ≡ bytes = bytes_stay (c.scan_records.ensures.rests.files still) ∙ same in
     let size : length bytes ≡ c.in-Ok.size = c.in-Ok.ensures.size told in
     let titled = c.in-Titled.ensures bytes (c.in-Ok.ensures.bytes told) size in
-    let scanned = c.scan_records.ensures.scanned still (ap length same ∙ size) (omega (arith, titled.1, size)) in
-    MatchResult-weaker c.scan_records.result {P = λ end. EndsRecords (bytes_of (D.content mid)) end} {P' = λ end. (held : List (List ℕ)) × (recovered title bytes ≡ bodies held) × LiesAs title held end (bytes_of (D.content new))}
-    {Q = λ fault. RefusesFile fault (records_from (length (bytes_of (D.content mid))) (bytes_of (D.content mid)) 17)} {Q' = λ fault. RefusesFile fault (recovered title bytes)}
+    let scanned = c.scan_records.ensures.scanned still (omega (arith, titled.1, ap length same)) in
+    MatchResult-weaker c.scan_records.result {P = λ end. EndsRecords (bytes_now (S mid)) end} {P' = λ end. (held : List (List ℕ)) × (recovered title bytes ≡ bodies held) × LiesAs title held end (bytes_now (S new))}
+    {Q = λ fault. RefusesFile fault (records_from (length (bytes_now (S mid))) (bytes_now (S mid)) 17)} {Q' = λ fault. RefusesFile fault (recovered title bytes)}
     scanned
-    (λ end ends. lies_in title bytes (bytes_of (D.content mid)) (bytes_of (D.content new)) end same last (sixteen c.args.title) titled.0 titled.2 ends)
+    (λ end ends. lies_in title bytes (bytes_now (S mid)) (bytes_now (S new)) end same last (sixteen c.args.title) titled.0 titled.2 ends)
     (λ fault refuses. subst (RefusesFile fault) (ap (λ (b : List ℕ). records_from (length b) b 17) same ∙ sym titled.2) refuses)
   where
     lies_in : (title bytes mid new : List ℕ) (end : ℕ) → mid ≡ bytes → new ≡ bytes → length title ≡ 16 → take 17 bytes ≡ OPEN ∷ title → recovered title bytes ≡ records_from (length bytes) bytes 17 → EndsRecords mid end
         → (held : List (List ℕ)) × (recovered title bytes ≡ bodies held) × LiesAs title held end new
-    lies_in title bytes mid new end same last long front whole ends =
+    lies_in title bytes mid new end same last long prefix whole ends =
         let e : EndsRecords bytes end = subst (λ (b : List ℕ). EndsRecords b end) same ends in (
           e.held,
           whole ∙ reach_closed bytes e.held e.place e.reaches e.ends,
-          subst (λ (b : List ℕ). LiesAs title e.held end b) (sym last) (subst (λ (n : ℕ). LiesAs title e.held n bytes) (sym e.behind) (reach_lies title bytes e.held e.place front long e.reaches e.ends)),
+          subst (λ (b : List ℕ). LiesAs title e.held end b) (sym last) (subst (λ (n : ℕ). LiesAs title e.held n bytes) (sym e.behind) (reach_lies title bytes e.held e.place prefix long e.reaches e.ends)),
         )
 
 pub returns-in-Titled-clause-durable : goal.returns-in-Titled-clause-durable
 returns-in-Titled-clause-durable g c =
-    let D = g.K.Desk in
+    let S = g.K.Desk.state in
     let mid = c.read_start.new.desk in
     let new = c.scan_records.new.desk in
-    let kept : IsTrue (D.tells c.args.desk.now) → IsDurable (D.content new) (D.left new) = λ told.
-    let still : IsTrue (D.tells mid) = subst IsTrue (sym c.read_start.ensures.quiet.0) told in
-    let rests = c.scan_records.ensures.rests still in
-    durable_on (D.content mid) (D.content new) (D.left mid) (D.left new) (c.in-Ok.ensures.durable told) rests.content rests.leaves in
-    ok_anyway c.scan_records.result (IsTrue (D.tells c.args.desk.now) → IsDurable (D.content new) (D.left new)) kept
+    let kept : IsTrue (S c.args.desk.now).tells → IsDurable (S new) = λ told.
+    let still : IsTrue (S mid).tells = on_disk_told c.read_start.ensures.rests.on_disk told in
+    durable_on (c.scan_records.ensures.rests.files still) (c.in-Ok.ensures.durable told) in
+    ok_anyway c.scan_records.result (IsTrue (S c.args.desk.now).tells → IsDurable (S new)) kept
   where
     ok_anyway : (r : Result ℕ JournalFault) (P : Type 0) → P → OnOk r P
     ok_anyway (Ok n) P p = p

@@ -1,7 +1,7 @@
 use Rattle.std.proofs.Common.{◌≡◌, ◌∙◌, ap, List}
 use Rattle.std.specs.Prelude.{ℕ, Some}
 use Rattle.tf_flow.specs.declared.atoms.Undo.{Undo}
-use Rattle.tf_ports.specs.declared.orders.Given.{Given}
+use Rattle.tf_actions.specs.declared.orders.Given.{Given}
 use Rattle.tf_model.specs.Orders.{order_with}
 use Rattle.tf_model.specs.Plan.{outline_of}
 use Rattle.tf_model.specs.Scope.{given_for}

@@ -1,6 +1,6 @@
 use Rattle.std.proofs.Common.{◌≡◌, drop}
 use Rattle.std.specs.List.{list_all}
-use Rattle.tf_ports.specs.Built.{is_integer}
+use Rattle.tf_actions.specs.Built.{is_integer}
 use Rattle.tf_tasks.proofs.numbers.are_integers.Given as goal
 
 abbrev pub invariant-loop-scalar : goal.invariant-loop-scalar

@@ -1,6 +1,6 @@
 use Rattle.std.proofs.Common.{◌≡◌, drop}
 use Rattle.tf_flow.specs.Names.{first_some}
-use Rattle.tf_ports.specs.Built.{not_summed}
+use Rattle.tf_actions.specs.Built.{not_summed}
 use Rattle.tf_tasks.proofs.numbers.first_not_summed.Given as goal
 
 abbrev pub invariant-loop-pair : goal.invariant-loop-pair

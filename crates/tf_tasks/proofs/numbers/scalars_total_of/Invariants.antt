@@ -1,5 +1,5 @@
 use Rattle.std.proofs.Common.{◌≡◌, ◌*◌, ◌^◌, drop, pos, ◌+ℤ◌, neg_ℤ, ◌≤ℤ◌}
-use Rattle.tf_ports.specs.Built.{scalars_total}
+use Rattle.tf_actions.specs.Built.{scalars_total}
 use Rattle.tf_tasks.proofs.numbers.scalars_total_of.Given as goal
 
 abbrev pub invariant-loop-scalar : goal.invariant-loop-scalar

@@ -1,5 +1,5 @@
 use Rattle.std.proofs.Common.{◌≡◌, ◌*◌, ◌^◌, drop, pos, ◌+ℤ◌, neg_ℤ, ◌≤ℤ◌}
-use Rattle.tf_ports.specs.Built.{total}
+use Rattle.tf_actions.specs.Built.{total}
 use Rattle.tf_tasks.proofs.numbers.total_of.Given as goal
 
 abbrev pub invariant-loop-pair : goal.invariant-loop-pair

@@ -1,6 +1,6 @@
 use Rattle.std.proofs.Common.{◌≡◌, ◌++◌, take, drop, map}
 use Rattle.std.specs.List.{list_all}
-use Rattle.tf_ports.specs.Built.{plain_pair}
+use Rattle.tf_actions.specs.Built.{plain_pair}
 use Rattle.tf_tasks.specs.Run.{has_text}
 use Rattle.tf_tasks.proofs.runs.append_texts.Given as goal
 

@@ -2,8 +2,8 @@ use Rattle.std.proofs.Common.{◌++◌, ap, ◌∙◌, refl, subst, Err}
 use Rattle.tf_ports.specs.Links.{sent_with, SendsFront}
 use Rattle.tf_wire.specs.declared.messages.Response.{Response}
 use Rattle.tf_workers.specs.Dialogue.{Exchange, spoken, running}
-use Rattle.tf_workers.specs.Progress.{TakesNothing, Reaches}
-use Rattle.tf_workers.specs.Progress.Reaches.{begun}
+use Rattle.tf_workers.specs.Progress.{TakesNothing, HasComeTo}
+use Rattle.tf_workers.specs.Progress.HasComeTo.{begun}
 use Rattle.tf_workers.specs.Session.{Seen, seen}
 use Rattle.tf_workers.proofs.AnswerLemmas.{stopped, said_front, takes_on, given_for, done_for}
 use Rattle.tf_workers.proofs.ListLemmas.{sent_more, whole_front}
@@ -15,7 +15,7 @@ returns-in-Err-clause-stopped g c =
     let before : Seen = seen g.L.Link.left g.L.Link.sent g.L.Link.faults g.L.Link.ends g.P.Performer.did c.args.link.now c.args.hand.now in
     let now : Seen = seen g.L.Link.left g.L.Link.sent g.L.Link.faults g.L.Link.ends g.P.Performer.did c.say.new.link c.args.hand.now in
     let none : TakesNothing before now = record { left = c.in-Err.ensures.left; faults = c.in-Err.ensures.no_fall.0; ends = c.in-Err.ensures.no_fall.1 } in
-    let reaches : Reaches g.P.Performer.gives c.args.frame.now before now = begun c.in-Ok.request c.in-Ok.ensures.ok refl c.in-Err.ensures.cut in
+    let reaches : HasComeTo g.P.Performer.gives c.args.frame.now before now = begun c.in-Ok.request c.in-Ok.ensures.ok refl c.in-Err.ensures.cut in
     stopped g.P.Performer.gives c.args.frame.now before now c.in-Err.stop none reaches (λ is. c.in-Err.ensures.not_bad (ap Err is)) (λ is. c.in-Err.ensures.lost (ap Err is))
 
 pub returns-in_default-order-clause-stopped : goal.returns-in_default-order-clause-stopped
@@ -41,7 +41,7 @@ returns-in-Err-say-clause-stopped g c =
     let second : TakesNothing between now = record { left = c.in-Err-say.ensures.left; faults = c.in-Err-say.ensures.no_fall.0; ends = c.in-Err-say.ensures.no_fall.1 } in
     let exchange : Exchange = record { request = c.in-Ok.request; outcome = c.in-Ok-perform.outcome } in
     let cut : SendsFront between.sent (spoken c.told.result) now.sent = c.in-Err-say.ensures.cut in
-    let reaches : Reaches g.P.Performer.gives c.args.frame.now before now =
+    let reaches : HasComeTo g.P.Performer.gives c.args.frame.now before now =
     said_front g.P.Performer.gives c.args.frame.now before now exchange between.sent c.in-Ok.ensures.ok
     (given_for g.P.Performer.gives c.in-Ok-order.order exchange c.in-Ok-order.ensures c.in-Ok-perform.ensures.given)
     (done_for before.did now.did c.in-Ok-order.order exchange c.in-Ok-order.ensures c.in-Ok-perform.ensures.done)

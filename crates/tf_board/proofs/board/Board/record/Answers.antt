@@ -1,23 +1,24 @@
-use Rattle.std.proofs.Common.{◌≡◌, ◌∙◌, ◌++◌, List, ℕ, length, sym, subst, ap, refl, arith}
+use Rattle.std.proofs.Common.{◌≡◌, ◌∙◌, ◌++◌, List, ℕ, length, subst, ap, refl, arith}
 use Rattle.tf_board.specs.Kept.{past_of}
 use Rattle.tf_board.specs.Board.{BoardValue, IsSound}
 use Rattle.tf_board.specs.Commands.{command_bytes}
+use Rattle.tf_board.specs.declared.faults.BoardFault.TheVariants as fault
 use Rattle.tf_board.proofs.FormLemmas.{command_long}
-use Rattle.tf_board.proofs.BoardLemmas.{records_memory}
+use Rattle.tf_board.proofs.BoardLemmas.{records_same}
 use Rattle.tf_board.proofs.board.Board.record.Goals as goal
 
 pub returns-in_default : goal.returns-in_default
 returns-in_default g c =
     let D = g.K.Desk in
-    let s = subst (λ (b : BoardValue _). IsSound D.tells D.content D.left c.self.inside.kept b) c.self.view_is c.self.invariant in
-    records_memory D.tells D.shown D.content D.left D.crashes D.disk_faults D.out_faults D.asks D.turns c.self.inside.kept c.args.self.now c.args.self.now c.args.command.now s refl
+    let s = subst (λ (b : BoardValue _). IsSound D.state c.self.inside.kept b) c.self.view_is c.self.invariant in
+    records_same D.state c.self.inside.kept c.args.self.now c.args.self.now c.args.command.now fault.Memory s refl refl
 
 pub returns-in_default-reserve : goal.returns-in_default-reserve
 returns-in_default-reserve g c =
     let D = g.K.Desk in
-    let s = subst (λ (b : BoardValue _). IsSound D.tells D.content D.left c.self.inside.kept b) c.self.view_is c.self.invariant in
-    records_memory D.tells D.shown D.content D.left D.crashes D.disk_faults D.out_faults D.asks D.turns c.self.inside.kept c.args.self.now _ c.args.command.now s
-    (ap (λ items. record { past = past_of items; journal = c.self.inside.journal }) c.reserve.ensures.commands ∙ c.self.view_is)
+    let s = subst (λ (b : BoardValue _). IsSound D.state c.self.inside.kept b) c.self.view_is c.self.invariant in
+    let same = ap (λ items. record { past = past_of items; journal = c.self.inside.journal }) c.reserve.ensures.commands ∙ c.self.view_is in
+    records_same D.state c.self.inside.kept c.args.self.now _ c.args.command.now fault.Memory s same same
 
 pub append-requires-clause-body : goal.append-requires-clause-body
 append-requires-clause-body g c =

@@ -1,12 +1,11 @@
-use Rattle.tf_book.proofs.AskLemmas.{keeps_asked, sound_asked}
+use Rattle.std.proofs.Common.{rules}
+use Rattle.tf_book.proofs.AskLemmas.{asks_turn, sound_asked}
 use Rattle.tf_book.proofs.book.Book.ask.Goals as goal
 
 pub invariant_of-self : goal.invariant_of-self
 invariant_of-self g c =
     let s = c.ask.ensures in
-    (c.self.invariant.0, c.self.invariant.1, sound_asked _ g.K.Desk.shown _ _ g.K.Desk.crashes g.K.Desk.disk_faults g.K.Desk.out_faults _ _ _ _ c.ask.new.journal c.self.view_is c.requires.sound c.self.invariant.2 s.same s.quiet.0 s.rests)
+    (c.self.invariant.0, c.self.invariant.1, sound_asked g.K.Desk.state _ _ _ _ c.ask.new.journal c.self.view_is c.requires.sound c.self.invariant.2 s.same s.asks)
 
-pub returns-clause-keeps : goal.returns-clause-keeps
-returns-clause-keeps g c = λ start k.
-    let s = c.ask.ensures in
-    keeps_asked _ _ _ _ _ _ _ start _ _ c.ask.new.journal c.self.view_is s.same s.rests s.others s.quiet k
+pub returns-clause-takes : goal.returns-clause-takes
+returns-clause-takes g c = asks_turn g.K.Desk.state _ _ c.ask.new.journal c.self.view_is c.ask.ensures.same c.ask.ensures.asks (search rules)

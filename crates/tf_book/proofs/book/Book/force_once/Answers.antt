@@ -1,6 +1,5 @@
-use Rattle.std.proofs.Common.{◌∙◌, ap, sym, List}
+use Rattle.std.proofs.Common.{◌∙◌, ap, sym}
 use Rattle.std.specs.Prelude.{Result}
-use Rattle.tf_states.specs.declared.record.Entry.{Entry}
 use Rattle.tf_hands.specs.Hands.{by_hand}
 use Rattle.tf_model.specs.History.{flow_of}
 use Rattle.tf_book.proofs.ForceLemmas.{forced_stays}

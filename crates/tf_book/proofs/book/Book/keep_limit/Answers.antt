@@ -1,5 +1,5 @@
-use Rattle.tf_book.proofs.AskLemmas.{keeps_limit, sound_limit}
+use Rattle.tf_book.proofs.AskLemmas.{sound_limit}
 use Rattle.tf_book.proofs.book.Book.keep_limit.Goals as goal
 
 pub invariant_of-self : goal.invariant_of-self
-invariant_of-self g c = (c.self.invariant.0, c.self.invariant.1, sound_limit _ g.K.Desk.shown _ _ g.K.Desk.crashes g.K.Desk.disk_faults g.K.Desk.out_faults _ _ _ _ c.self.invariant.2)
+invariant_of-self g c = (c.self.invariant.0, c.self.invariant.1, sound_limit g.K.Desk.state _ _ _ _ c.self.invariant.2)

@@ -6,8 +6,8 @@ returns-in-Some-clause-cut g c = never_asked _ _ _ _ _
 
 pub returns-in-Ok-clause-turn : goal.returns-in-Ok-clause-turn
 returns-in-Ok-clause-turn g c =
-    turn_asked c.args.self.now c.ask-asked.new.self _ _ _ _ _ _ _ c.ask-asked.ensures.same c.ask-asked.ensures.answered c.turn.ensures.asks.0 c.in-Ok.ensures.turn
+    turn_asked c.args.self.now c.ask-asked.new.self _ _ _ _ _ _ _ c.ask-asked.ensures.same c.ask-asked.ensures.answered c.turn.ensures.proceeds.unasked.asks c.in-Ok.ensures.turn
 
 pub returns-in-Err-clause-cut : goal.returns-in-Err-clause-cut
 returns-in-Err-clause-cut g c =
-    halted_asked c.args.self.now c.ask-asked.new.self _ _ _ _ _ _ c.ask-asked.ensures.same c.ask-asked.ensures.answered c.turn.ensures.asks.0 c.in-Err.ensures.cut
+    halted_asked c.args.self.now c.ask-asked.new.self _ _ _ _ _ _ c.ask-asked.ensures.same c.ask-asked.ensures.answered c.turn.ensures.proceeds.unasked.asks c.in-Err.ensures.cut

@@ -4,4 +4,4 @@ use Rattle.tf_book.proofs.book.Book.read.Goals as goal
 
 pub returns-then-size-eq18-clause-loads : goal.returns-then-size-eq18-clause-loads
 returns-then-size-eq18-clause-loads g c = λ told held at_rest.
-    found_none g.K.Desk.tells g.K.Desk.shown g.K.Desk.content g.K.Desk.left g.K.Desk.crashes g.K.Desk.disk_faults g.K.Desk.out_faults g.K.Desk.asks g.K.Desk.turns c.args.journal held c.requires.title (sym c.size.ensures ∙ c.if-size-eq18.true) at_rest.lies
+    found_none g.K.Desk.state c.args.journal held c.requires.title (sym c.size.ensures ∙ c.if-size-eq18.true) at_rest.lies

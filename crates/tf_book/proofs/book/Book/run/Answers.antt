@@ -1,4 +1,4 @@
-use Rattle.std.proofs.Common.{List, [], refl, ap}
+use Rattle.std.proofs.Common.{[], refl, ap}
 use Rattle.tf_book.proofs.TurnLemmas.{last_cut, runs_from, to_running}
 use Rattle.tf_book.specs.Book.{BookValue}
 use Rattle.tf_book.proofs.book.Book.run.Goals as goal

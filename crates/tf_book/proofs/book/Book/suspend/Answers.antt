@@ -1,7 +1,5 @@
-use Rattle.std.proofs.Common.{◌≡◌, ◌∙◌, List, ap, inl}
+use Rattle.std.proofs.Common.{◌≡◌, ◌∙◌, ap, inl}
 use Rattle.std.specs.Prelude.{Result}
-use Rattle.tf_flow.specs.Plan.{PlanValue}
-use Rattle.tf_states.specs.declared.record.Entry.{Entry}
 use Rattle.tf_states.specs.declared.record.What.TheVariants as what
 use Rattle.tf_states.specs.declared.state.FlowState.TheVariants as flow
 use Rattle.tf_hands.specs.Hands.{by_hand}

@@ -1,4 +1,4 @@
-use Rattle.std.proofs.Common.{List, [], ◌∷◌, ◌∙◌, refl, ap}
+use Rattle.std.proofs.Common.{[], ◌∷◌, ◌∙◌, refl, ap}
 use Rattle.std.specs.Prelude.{Result}
 use Rattle.tf_book.proofs.TurnLemmas.{cut_entering, last_cut, on_err, suspends_from, to_running, to_suspended}
 use Rattle.tf_book.specs.Book.{BookValue}

@@ -1,10 +1,9 @@
 use Rattle.std.proofs.Common.{rules, ◌≡◌, List, [], ◌∷◌, ℕ, subst, ap, sym, ◌∙◌}
-use Rattle.tf_desk.specs.Content.{bytes_of}
-use Rattle.tf_desk.specs.Crash.{Passes}
+use Rattle.tf_desk.specs.State.{bytes_now}
 use Rattle.tf_entries.specs.Plans.{plan_bytes}
 use Rattle.tf_journal.specs.Format.{bodies, journal_bytes, recovered, title_of}
 use Rattle.tf_journal.specs.declared.title.Title.TheVariants.{Book as book_title}
-use Rattle.tf_journal.specs.Rest.{IsAtRest, LeavesBeforeOrAfter}
+use Rattle.tf_journal.specs.Rest.{IsAtRest}
 use Rattle.tf_journal.specs.declared.title.Title.{Title}
 use Rattle.tf_book.proofs.StartLemmas.{begun_crash}
 use Rattle.tf_book.proofs.book.starting.append_plan.Goals as goal
@@ -12,24 +11,24 @@ use Rattle.tf_book.proofs.book.starting.append_plan.Goals as goal
 pub returns-in-Ok-append-clause-rests : goal.returns-in-Ok-append-clause-rests
 returns-in-Ok-append-clause-rests g c = λ opened.
     let same : c.deref.result.now ≡ plan_bytes c.args.plan.now = search rules in
-    subst (λ (b : List ℕ). IsAtRest g.K.Desk.content g.K.Desk.left c.append.new.self (b ∷ [])) same (c.in-Ok-append.ensures.adds opened [] (c.requires.ready opened))
+    subst (λ (b : List ℕ). IsAtRest g.K.Desk.state c.append.new.self (b ∷ [])) same ((c.in-Ok-append.ensures.adds opened [] (c.requires.new.ready opened)).rest)
 
 pub returns-in-Ok-append-clause-recovers : goal.returns-in-Ok-append-clause-recovers
 returns-in-Ok-append-clause-recovers g c = λ opened.
     let same : c.deref.result.now ≡ plan_bytes c.args.plan.now = search rules in
-    ap (λ (t : Title). recovered (title_of t) (bytes_of (g.K.Desk.content c.append.new.self.desk))) (sym c.requires.title)
-    ∙ c.in-Ok-append.ensures.recovers opened [] (c.requires.ready opened) ∙ ap (λ (b : List ℕ). bodies (b ∷ [])) same
+    ap (λ (t : Title). recovered (title_of t) (bytes_now (g.K.Desk.state c.append.new.self.desk))) (sym c.requires.new.title)
+    ∙ (c.in-Ok-append.ensures.adds opened [] (c.requires.new.ready opened)).recovers ∙ ap (λ (b : List ℕ). bodies (b ∷ [])) same
 
 pub returns-in-Ok-append-clause-crash : goal.returns-in-Ok-append-clause-crash
 returns-in-Ok-append-clause-crash g c = λ opened.
-    begun_crash _ _ _ _ _ _ c.deref.result.now c.args.plan.now c.requires.title (search rules) (c.append.ensures.any_moment opened [] (c.requires.ready opened))
+    begun_crash c.args.plan.now c.requires.new.title (search rules) (c.append.ensures.at_most opened [] (c.requires.new.ready opened)).crash
 
 pub returns-in-Err-Disk-clause-crash : goal.returns-in-Err-Disk-clause-crash
 returns-in-Err-Disk-clause-crash g c = λ opened.
-    begun_crash _ _ _ _ _ _ c.deref.result.now c.args.plan.now c.requires.title (search rules) (c.append.ensures.any_moment opened [] (c.requires.ready opened))
+    begun_crash c.args.plan.now c.requires.new.title (search rules) (c.append.ensures.at_most opened [] (c.requires.new.ready opened)).crash
 
 pub returns-in-Ok-append-clause-exact : goal.returns-in-Ok-append-clause-exact
 returns-in-Ok-append-clause-exact g c = λ opened just.
     let same : c.deref.result.now ≡ plan_bytes c.args.plan.now = search rules in
-    c.in-Ok-append.ensures.exact opened [] (c.requires.ready opened) (just ∙ ap (λ (t : Title). journal_bytes (title_of t) []) (sym c.requires.title))
-    ∙ ap (λ (t : Title). journal_bytes (title_of t) (c.deref.result.now ∷ [])) c.requires.title ∙ ap (λ (b : List ℕ). journal_bytes (title_of book_title) (b ∷ [])) same
+    (c.in-Ok-append.ensures.adds opened [] (c.requires.new.ready opened)).exact (just ∙ ap (λ (t : Title). journal_bytes (title_of t) []) (sym c.requires.new.title))
+    ∙ ap (λ (t : Title). journal_bytes (title_of t) (c.deref.result.now ∷ [])) c.requires.new.title ∙ ap (λ (b : List ℕ). journal_bytes (title_of book_title) (b ∷ [])) same

@@ -1,10 +1,8 @@
-use Rattle.std.proofs.Common.{◌≡◌, ◌∷◌, List, ◌∙◌, ap}
-use Rattle.tf_desk.specs.MemoryDesk.{Held}
-use Rattle.tf_desk.specs.Acts.{Act, synced}
-use Rattle.tf_desk.proofs.ActSteps.{synced_leaves}
+use Rattle.std.proofs.Common.{◌∙◌}
+use Rattle.tf_desk.proofs.ActSteps.{synced_rests}
+use Rattle.tf_desk.specs.contracts.memory.MemoryDesk.{the_view}
 use Rattle.tf_desk.proofs.memory.MemoryDeskDesk.sync.Goals as goal
 
-pub returns-clause-leaves : goal.returns-clause-leaves
-returns-clause-leaves c =
-    let before : c.self.inside.past ≡ c.args.self.now.past = ap (λ (h : Held). h.past) (c.self.view_is ∙ c.fails.ensures.same) in
-    λ told. synced_leaves c.args.self.now.past c.sync.new.self (c.sync.ensures.noted c.if-not-sync.false ∙ ap (λ (p : List Act). synced ∷ p) before)
+pub returns-clause-rests : goal.returns-clause-rests
+returns-clause-rests c =
+    synced_rests c.args.self.now (the_view c.self.inside) c.sync.new.self (c.self.view_is ∙ c.fails.ensures.same) (c.sync.ensures.noted c.if-not-sync.false)

@@ -1,7 +1,7 @@
 use Rattle.std.proofs.Common.{◌≤◌, sym, ap, ◌∙◌, arith}
 use Rattle.tf_flow.specs.Plan.{PlanValue}
 use Rattle.tf_model.specs.Plan.{outline_of, count, is_retry}
-use Rattle.tf_machine.proofs.PlanLemmas.{no_retry}
+use Rattle.tf_model.proofs.PlanLemmas.{no_retry}
 use Rattle.tf_model.proofs.PlanLemmas.{atoms_counted}
 use Rattle.tf_machine.proofs.compiled.Compiled.is_retry.Goals as goal
 

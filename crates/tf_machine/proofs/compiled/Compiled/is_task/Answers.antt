@@ -1,7 +1,7 @@
 use Rattle.std.proofs.Common.{◌≤◌, sym, ap, ◌∙◌, arith}
 use Rattle.tf_flow.specs.Plan.{PlanValue}
 use Rattle.tf_model.specs.Plan.{outline_of, count, is_task}
-use Rattle.tf_machine.proofs.PlanLemmas.{no_task}
+use Rattle.tf_model.proofs.PlanLemmas.{no_task}
 use Rattle.tf_model.proofs.PlanLemmas.{atoms_counted}
 use Rattle.tf_machine.proofs.compiled.Compiled.is_task.Goals as goal
 

@@ -1,7 +1,7 @@
 use Rattle.std.proofs.Common.{◌<◌, true, ◌≡◌, ap, ◌∙◌, arith}
 use Rattle.tf_flow.specs.Plan.{PlanValue}
 use Rattle.tf_model.specs.Plan.{outline_of, count, is_task}
-use Rattle.tf_machine.proofs.PlanLemmas.{task_below}
+use Rattle.tf_model.proofs.PlanLemmas.{task_below}
 use Rattle.tf_model.proofs.PlanLemmas.{atoms_counted}
 use Rattle.tf_machine.proofs.compiled.Compiled.task.Goals as goal
 

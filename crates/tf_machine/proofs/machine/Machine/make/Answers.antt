@@ -4,7 +4,7 @@ use Rattle.tf_model.specs.Compilation.{compile_refusal}
 use Rattle.tf_model.specs.Plan.{outline_of, count}
 use Rattle.tf_model.specs.Scope.{missing_symbol}
 use Rattle.tf_bound.specs.Short.{IsWithinLimits}
-use Rattle.tf_machine.specs.TableFacts.{HasFewTries}
+use Rattle.tf_machine.specs.Tries.{HasFewTries}
 use Rattle.tf_machine.proofs.MachineLemmas.{stands_first, sound_first}
 use Rattle.tf_machine.proofs.machine.Machine.make.Goals as goal
 

@@ -11,7 +11,7 @@ use Rattle.tf_machine.specs.Counts.{AreCounted}
 use Rattle.tf_machine.specs.Tables.{shown_of, shown_by}
 use Rattle.std.specs.Prelude.{slice_get}
 use Rattle.tf_machine.proofs.CountLemmas.{same_counted}
-use Rattle.tf_machine.proofs.FitLemmas.{entered_below, restarted_below}
+use Rattle.tf_hands.proofs.FitLemmas.{entered_below, restarted_below}
 use Rattle.tf_machine.proofs.RecordLemmas.{written_back, entered_recorded, taken_recorded, turned_recorded, resolved_recorded}
 use Rattle.tf_machine.proofs.tables.Tables.record.Goals as goal
 

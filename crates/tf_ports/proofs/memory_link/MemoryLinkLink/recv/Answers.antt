@@ -1,6 +1,6 @@
 use Rattle.std.proofs.Common.{◌≡◌, ◌-◌, ℕ, List, Some, ap, arith, length, drop, take, sym, ◌∙◌, length-drop}
 use Rattle.std.proofs.lemmas.List.{take_all}
-use Rattle.tf_ports.specs.MemoryLink.{Held}
+use Rattle.tf_ports.specs.MemoryLink.{HeldByLink}
 use Rattle.tf_ports.proofs.LinkLemmas.{given_first}
 use Rattle.tf_ports.proofs.memory_link.MemoryLinkLink.recv.Goals as goal
 
@@ -10,7 +10,7 @@ returns-clause-came c =
     let place = c.self.inside.given in
     let rest = take (length c.deref.result.now - place) (drop place c.deref.result.now) in
     let given : rest ≡ drop place bytes = take_all (length c.deref.result.now - place) (drop place c.deref.result.now) (omega (arith, length-drop place c.deref.result.now)) ∙ ap (drop place) c.deref.ensures.value in
-    let left : c.args.self.now.left ≡ drop place bytes = ap (λ (held : Held). held.left) (sym c.fails.ensures.same ∙ sym c.self.view_is) in (
+    let left : c.args.self.now.left ≡ drop place bytes = ap (λ (held : HeldByLink). held.left) (sym c.fails.ensures.same ∙ sym c.self.view_is) in (
       c.copy_front-count.ensures.some,
       c.copy_front-count.ensures.fits,
       ap Some (left ∙ given_first bytes rest c.copy_front-count.new.buf place c.copy_front-count.result given c.copy_front-count.ensures.copied),

@@ -1,0 +1,6 @@
+pub mod Built
+pub mod Far
+pub mod Gives
+pub mod Laws
+pub mod Told
+pub mod Whole

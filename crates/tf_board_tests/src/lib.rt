@@ -1,0 +1,5 @@
+//! A test of the calls of a board that the commands don't make one by one.
+#![tactic(auto)]
+
+#[cfg(test)]
+mod boards;

@@ -1,0 +1,155 @@
+ghost use Rattle.std.specs.Prelude.{◌≡◌, None, IfOk, vec_len};
+ghost use Rattle.tf_actions.specs.Gives.{Gives};
+ghost use Rattle.tf_tasks.specs.GivesLaws.{gives_looks_up, gives_reverts};
+
+use crate::books::{ONE_TASK, ONE_TASK_BOOK, TWO_ECHOES, begun, desk, opened, plan};
+use std::alloc::Global;
+use std::sync::atomic::{AtomicU64, Ordering};
+use std::sync::{Arc, Wait};
+use std::test::Fail;
+use std::thread;
+use std::thread::Threads;
+use tf_actions::{Order, Outcome, Performer};
+use tf_book::{Book, Halt};
+use tf_desk::MemoryDesk;
+use tf_engines::{How, RunEnd, parallel};
+use tf_ports::MemorySpawner;
+use tf_states::FlowState;
+use tf_tasks::LocalHand;
+use tf_values::Memory;
+
+/// How many turns a hand waits at most for another one.
+const TURNS: u64 = 1_000_000_000;
+
+/// A hand that performs its first order once so many hands were given one. Where that takes more turns than it waits
+/// it answers for want of memory.
+#[derive(Drop)]
+struct Meeting {
+    hand: LocalHand<MemorySpawner>,
+    begun: Arc<AtomicU64, Global>,
+    wanted: u64,
+    turns: u64,
+    has_begun: bool,
+}
+
+impl Meeting {
+    fn meets(&mut self) -> bool {
+        if self.has_begun {
+            return true;
+        }
+        self.has_begun = true;
+        self.begun.fetch_add(1, Ordering::SeqCst);
+        for _ in 0..self.turns {
+            if self.begun.load(Ordering::SeqCst) >= self.wanted {
+                return true;
+            }
+            thread::yield_now();
+        }
+        false
+    }
+}
+
+impl Performer for Meeting {
+    ghost did = { λ _. None };
+
+    ghost gives = { Gives };
+
+    ghost looks_up = { gives_looks_up };
+
+    ghost reverts_to_nothing = { gives_reverts };
+
+    fn perform(&mut self, alloc: Global, order: &Order) -> Result<Outcome, Memory> {
+        if !self.meets() {
+            return Err(Memory);
+        }
+        self.hand.perform(alloc, order)
+    }
+}
+
+fn hand(
+    alloc: Global,
+    begun: &Arc<AtomicU64, Global>,
+    wanted: u64,
+    turns: u64,
+) -> Result<Meeting, Fail> {
+    let spawner = MemorySpawner::make(Vec::new(alloc), Vec::new(alloc));
+    Ok(Meeting {
+        hand: LocalHand::make(spawner),
+        begun: Arc::try_clone(begun)?,
+        wanted,
+        turns,
+        has_begun: false,
+    })
+}
+
+/// Two hands of which each performs its first order once so many were given one.
+fn two_hands(alloc: Global, wanted: u64, turns: u64) -> Result<Vec<Meeting>, Fail>
+    ensures { IfOk result (λ hands. vec_len hands ≡ 2) }
+{
+    let begun = Arc::new(alloc, AtomicU64::new(0))?;
+    let mut hands = Vec::new(alloc);
+    hands.push(hand(alloc, &begun, wanted, turns)?)?;
+    hands.push(hand(alloc, &begun, wanted, turns)?)?;
+    Ok(hands)
+}
+
+/// The end of a run of a book by two hands.
+fn run_by<R: Threads + Wait + Sync>(
+    rt: &R,
+    alloc: Global,
+    book: Book<MemoryDesk>,
+    hands: Vec<Meeting>,
+) -> RunEnd<MemoryDesk>
+    requires { vec_len hands ≡ 2 }
+{
+    let mut hands = hands;
+    parallel(rt, alloc, book, &mut hands, None)
+}
+
+/// How a run of a book by two such hands stopped, and its book.
+fn ran<R: Threads + Wait + Sync>(
+    rt: &R,
+    alloc: Global,
+    book: Book<MemoryDesk>,
+    wanted: u64,
+    turns: u64,
+) -> Result<(How, Book<MemoryDesk>), Fail> {
+    let hands = two_hands(alloc, wanted, turns)?;
+    let RunEnd { book, how } = run_by(rt, alloc, book, hands);
+    Ok((how, book))
+}
+
+#[test]
+fn two_hands_are_at_work_at_once(rt: HostRuntime) -> Result<(), Fail> {
+    let alloc = rt.alloc();
+    let plan = plan(alloc, TWO_ECHOES)?;
+    let book = begun(alloc, plan, desk(alloc, &[])?)?;
+    let (how, book) = ran(&rt, alloc, book, 2, TURNS)?;
+    assert!(rt; how == How::Ended(FlowState::Success));
+    assert_eq!(rt; book.count(), 6);
+    Ok(())
+}
+
+#[test]
+fn a_hand_without_memory_halts_the_book(rt: HostRuntime) -> Result<(), Fail> {
+    let alloc = rt.alloc();
+    let book = begun(alloc, plan(alloc, ONE_TASK)?, desk(alloc, &[])?)?;
+    let (how, book) = ran(&rt, alloc, book, 3, 0)?;
+    assert!(rt; how == How::Halted(Halt::Memory));
+    assert_eq!(rt; book.count(), 2);
+    Ok(())
+}
+
+/// The numbers that the desk's call has which writes the end of the task: where the other hand takes a turn meanwhile,
+/// it asks before whether to stop.
+const ENDS: [u64; 2] = [24, 25];
+
+#[test]
+fn an_end_that_is_not_written_halts_the_book(rt: HostRuntime) -> Result<(), Fail> {
+    let alloc = rt.alloc();
+    let book = opened(alloc, desk(alloc, &ENDS)?, ONE_TASK_BOOK)?;
+    let (how, book) = ran(&rt, alloc, book, 1, 1)?;
+    assert!(rt; how == How::Halted(Halt::Disk));
+    assert_eq!(rt; book.count(), 2);
+    Ok(())
+}

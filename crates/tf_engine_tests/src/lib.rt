@@ -1,0 +1,10 @@
+//! Tests of engines: two hands on one book whose calls come in a stated order, hands that wait for each other, a hand without
+//! memory, and a disk that fails.
+#![tactic(auto)]
+
+#[cfg(test)]
+mod books;
+#[cfg(test)]
+mod calls;
+#[cfg(test)]
+mod hands;
