@@ -19,7 +19,8 @@ use Rattle.taskflow.specs.Course.{Course, Obeys, source_so, IsRefused, IsBoardRe
 use Rattle.taskflow.specs.Saying.{OnlySays}
 use Rattle.taskflow.specs.declared.reading.Source.{Source}
 use Rattle.taskflow.proofs.BoardLemmas.{board_apart, board_refuses}
-use Rattle.taskflow.proofs.EndLemmas.{Ended, works_ended, closes_status, ended_apart, tries_ended, checks_ended, runs_ended, demonstrates_ended, resumes_ended, shows_ended, resets_ended, ended_unrefused}
+use Rattle.taskflow.proofs.EndLemmas.{Ended, works_ended, ended_apart, tries_ended, checks_ended, runs_ended, demonstrates_ended, resumes_ended, shows_ended, resets_ended, ended_unrefused}
+use Rattle.taskflow.proofs.CountLemmas.{closes_status}
 use Rattle.taskflow.proofs.FileLemmas.{FileStatus, file_status, file_unrefused, file_usage, file_refused}
 use Rattle.taskflow.proofs.WorkLemmas.{works_one}
 

@@ -30,7 +30,8 @@ use Rattle.taskflow.specs.Resets.{IsResetSaid, all_back, disk_failed_back, fille
 use Rattle.taskflow.specs.declared.running.Request.{Request}
 use Rattle.taskflow.specs.Run.{spoken_run, heading_of, stop_status, Ran, ShowsLines, closed, line_cut, stopped, IsLastSaid, reported, disk_failed as disk_said, filled}
 use Rattle.taskflow.specs.Saying.{ClosesWithOrStops}
-use Rattle.taskflow.proofs.EndLemmas.{Ended, is_complete, is_failed, is_no_book, is_unsaid, is_unhired, is_forbidden, is_suspended, closes_status, ran_ended, ran_suspended}
+use Rattle.taskflow.proofs.EndLemmas.{Ended, is_complete, is_failed, is_no_book, is_unsaid, is_unhired, is_forbidden, is_suspended, ran_ended, ran_suspended}
+use Rattle.taskflow.proofs.CountLemmas.{closes_status}
 use Rattle.taskflow.proofs.FileLemmas.{accepted_done}
 use Rattle.taskflow.proofs.FlowLemmas.{no_book_held, flow_held}
 use Rattle.taskflow.proofs.WorkLemmas.{works_one}

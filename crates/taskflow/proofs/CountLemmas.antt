@@ -54,14 +54,15 @@ said_causes {status} {old} {mid} {now} r s le failed hired = record {
 
 -- ---- which statuses a command on a book can't have
 
-closes_so : (before after : Option (List ℕ)) (message : List ℕ) (wanted status : ℕ) → ClosesWith before message wanted after status → (status ≡ wanted) ⊎ (status ≡ UNSAID)
-closes_so before after message wanted status (said text) = inl refl
-closes_so before after message wanted status (cut prefix) = inr refl
+-- a message closes a command with its status or that of a failed output
+pub closes_status : (before after : Option (List ℕ)) (message : List ℕ) (wanted status : ℕ) → ClosesWith before message wanted after status → (status ≡ wanted) ⊎ (status ≡ UNSAID)
+closes_status before after message wanted status (said text) = inl refl
+closes_status before after message wanted status (cut prefix) = inr refl
 
 -- a command that was closed with another status isn't one that hired nobody
 closes_hired : (before after : Option (List ℕ)) (message : List ℕ) (wanted status : ℕ) → wanted ≢ UNHIRED → ClosesWith before message wanted after status → status ≢ UNHIRED
 closes_hired before after message wanted status apart closes is =
-    ⊎_elim (λ same. apart (sym same ∙ is)) (λ unsaid. omega (arith, is, unsaid)) (closes_so before after message wanted status closes)
+    ⊎_elim (λ same. apart (sym same ∙ is)) (λ unsaid. omega (arith, is, unsaid)) (closes_status before after message wanted status closes)
 
 -- what was said with this status, or not said
 pub forbids_hired : (status : ℕ) → (status ≡ FORBIDDEN) ⊎ (status ≡ UNSAID) ⊎ (status ≡ OUT_OF_MEMORY) → (status ≢ UNHIRED) × (status ≢ DISK_FAILED)

@@ -18,7 +18,8 @@ use Rattle.taskflow.specs.Course.{Tries, IsRunComplete}
 use Rattle.taskflow.specs.Resets.{IsResetSaid, all_back, disk_failed_back, filled_back}
 use Rattle.taskflow.specs.declared.running.Request.{Request}
 use Rattle.taskflow.specs.Run.{heading_of, stop_status, Ran, ShowsLines, closed, line_cut, stopped, IsLastSaid, reported, disk_failed as disk_said, filled}
-use Rattle.taskflow.specs.Saying.{ClosesWith, said, cut, ClosesWithOrStops}
+use Rattle.taskflow.specs.Saying.{ClosesWithOrStops}
+use Rattle.taskflow.proofs.CountLemmas.{closes_status}
 
 pub data Ended (status : ℕ) : Type 0 where
   is_complete : IsRunComplete status → Ended status
@@ -38,11 +39,6 @@ works_ended status (inl is) = is_complete (inl is)
 works_ended status (inr (inl is)) = out_ends status is
 works_ended status (inr (inr (inl is))) = is_unhired is
 works_ended status (inr (inr (inr is))) = is_unsaid is
-
--- a message closes a command with its status or that of a failed output
-pub closes_status : (before after : Option (List ℕ)) (message : List ℕ) (wanted status : ℕ) → ClosesWith before message wanted after status → (status ≡ wanted) ⊎ (status ≡ 7)
-closes_status before after message wanted status (said text) = inl refl
-closes_status before after message wanted status (cut front) = inr refl
 
 apart_three : (status wanted other : ℕ) → status ≡ other → status ≡ wanted → (wanted ≡ 2) ⊎ (wanted ≡ 3) ⊎ (wanted ≡ 4) → ¬ (other ≡ 2) → ¬ (other ≡ 3) → ¬ (other ≡ 4) → ⊥
 apart_three status wanted other a is (inl two) no_two no_three no_four = no_two (sym a ∙ is ∙ two)

@@ -10,7 +10,8 @@ use Rattle.taskflow.specs.Course.{BytesRead, FileRead, IsRefused, passes_limit, 
 use Rattle.taskflow.specs.declared.accepting.Refusal.{Refusal}
 use Rattle.taskflow.specs.declared.reading.Source.{Source}
 use Rattle.taskflow.proofs.AcceptLemmas.{gives_one}
-use Rattle.taskflow.proofs.EndLemmas.{Ended, is_unsaid, out_ends, closes_status, ended_apart, ended_unrefused}
+use Rattle.taskflow.proofs.EndLemmas.{Ended, is_unsaid, out_ends, ended_apart, ended_unrefused}
+use Rattle.taskflow.proofs.CountLemmas.{closes_status}
 
 -- what a status tells of a flow file
 pub data FileStatus (files : Contents) (source : Source) (status : ℕ) : Type 0 where

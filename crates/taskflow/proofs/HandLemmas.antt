@@ -1,15 +1,12 @@
 -- How many hands the words of a command want: 1 to 64.
-use Rattle.std.proofs.Common.{◌≡◌, ℕ, ◌≤◌, List, [], ◌∷◌, Bool, true, false, ◌&&◌, Option, Some, None, refl, subst, nat_le, arith}
-use Rattle.std.proofs.lemmas.Bool.Decides.{nat_tests}
+use Rattle.std.proofs.Common.{◌≡◌, ℕ, List, [], ◌∷◌, Bool, true, false, Option, Some, None, refl, subst, arith}
 use Rattle.std.specs.Prelude.{IfSome, codes, option_map, option_and_then, if◌then◌else◌}
-use Rattle.std.specs.Str.Parse.{digits_value}
-use Rattle.tf_numbers.proofs.TruthLemmas.{and_first, and_second}
 use Rattle.tf_ports.specs.declared.crews.Want.TheVariants as want
 use Rattle.tf_values.specs.Name.{is_name}
 use Rattle.tf_words.specs.Addresses.{worker_of, address_of, sessions_in}
-use Rattle.tf_words.specs.Boards.{Applied, id_in, post_of, claim_of, abandon_of, consume_of, trash_of, owner_of, list_of, applied_in, priority_in, details_in}
+use Rattle.tf_words.specs.Boards.{Applied, id_in, post_of, owner_of, list_of, applied_in, priority_in, details_in}
 use Rattle.tf_words.specs.Commands.{hands_in, deferral_in, stop_in, try_of, run_of, resume_of, show_of, reset_of, check_of, demo_of, asked_by}
-use Rattle.tf_words.specs.Numbers.{is_number, number_between}
+use Rattle.tf_words.specs.Numbers.{number_between}
 use Rattle.tf_words.specs.Options.{Said, once}
 use Rattle.tf_words.specs.Pairs.{sets_behind}
 use Rattle.tf_words.specs.Pieces.{are_filled, said_by}

@@ -1,5 +1,5 @@
 -- What the end of a run is: the flow's last entry records the end of the history before it.
-use Rattle.std.proofs.Common.{◌≡◌, ℕ, List, [], ◌∷◌, Bool, true, false, not, Option, Some, None, refl, sym, ap, ◌∙◌, subst}
+use Rattle.std.proofs.Common.{◌≡◌, ℕ, List, [], ◌∷◌, true, false, not, Option, Some, None, refl, sym, ap, ◌∙◌, subst}
 use Rattle.std.specs.Prelude.{◌&&◌, option_map}
 use Rattle.std.specs.List.{list_all}
 use Rattle.tf_flow.specs.Plan.{PlanValue}

@@ -9,9 +9,10 @@ use Rattle.tf_desk.specs.State.{DeskState, Says}
 use Rattle.tf_workers.specs.declared.serving.ServeEnd.{ServeEnd}
 use Rattle.tf_workers.specs.declared.serving.ServeEnd.TheVariants as end
 use Rattle.taskflow.specs.Messages.{cannot_hire, cannot_listen}
-use Rattle.taskflow.specs.Saying.{ClosesWith, said, cut, OnlySays}
+use Rattle.taskflow.specs.Saying.{said, OnlySays}
 use Rattle.taskflow.specs.Working.{session_line, session_lines, IsOver, SaysSessions, SaysNext, StopsNext, ServesAll, Works, HasStopCause, HasServeCause, exhausted_next, no_next_link, unsaid_next, all_served, exhausted, no_link, cut_short, unbegun, unhired, unopened, worked}
 use Rattle.taskflow.specs.declared.statuses.TheConstants.{SUCCEEDED, UNHIRED, OUT_OF_MEMORY, UNSAID}
+use Rattle.taskflow.proofs.CountLemmas.{closes_status}
 
 -- ---- texts
 
@@ -74,12 +75,6 @@ serves_so_far before now after number sessions ends status long few says (unsaid
     cut_short is (ends ++ how ∷ []) (omega (arith, long, length_more ends how)) (over_more ends how says.over over)
     (subst (λ (lines : List ℕ). ShowsPrefix before lines after) (next_line before number ends how long) (prefix_more before now after (session_lines 1 ends) (session_line (number + 1) how) says.said prefix))
 
--- ---- what a message leaves
-
-pub closes_one : (before after : Option (List ℕ)) (message : List ℕ) (wanted status : ℕ) → ClosesWith before message wanted after status → (status ≡ wanted) ⊎ (status ≡ UNSAID)
-closes_one before after message wanted status (said shown) = inl refl
-closes_one before after message wanted status (cut prefix) = inr refl
-
 pub stop_later : {old mid now : DeskState} {door_then door_mid door_now status : ℕ} → OnlySays old mid → door_then ≤ door_mid → HasStopCause mid now door_mid door_now status → HasServeCause old now door_then door_now status
 stop_later says door cause = record {
   unlinked = λ is. let rose = cause.unlinked is in omega (arith, rose, door);
@@ -102,14 +97,14 @@ printed number from how bytes out empty same is none number_is = same ∙ is ∙
 serves_one : (before now : Option (List ℕ)) (sessions status : ℕ) → ServesAll before now sessions status → (status ≡ SUCCEEDED) ⊎ (status ≡ OUT_OF_MEMORY) ⊎ (status ≡ UNHIRED) ⊎ (status ≡ UNSAID)
 serves_one before now sessions status (all_served is ends long says) = inl is
 serves_one before now sessions status (exhausted is ends few says) = inr (inl is)
-serves_one before now sessions status (no_link ends between few says closes) = inr (inr (closes_one between now cannot_listen UNHIRED status closes))
+serves_one before now sessions status (no_link ends between few says closes) = inr (inr (closes_status between now cannot_listen UNHIRED status closes))
 serves_one before now sessions status (cut_short is ends few over prefix) = inr (inr (inr is))
 
 pub works_one : (hired after_hiring : Option (List Want)) (before now : Option (List ℕ)) (sessions status : ℕ) → Works hired after_hiring before now sessions status
     → (status ≡ SUCCEEDED) ⊎ (status ≡ OUT_OF_MEMORY) ⊎ (status ≡ UNHIRED) ⊎ (status ≡ UNSAID)
 works_one hired after_hiring before now sessions status (unbegun is same) = inr (inl is)
-works_one hired after_hiring before now sessions status (unhired same closes) = inr (inr (closes_one before now cannot_hire UNHIRED status closes))
-works_one hired after_hiring before now sessions status (unopened here closes) = inr (inr (closes_one before now cannot_listen UNHIRED status closes))
+works_one hired after_hiring before now sessions status (unhired same closes) = inr (inr (closes_status before now cannot_hire UNHIRED status closes))
+works_one hired after_hiring before now sessions status (unopened here closes) = inr (inr (closes_status before now cannot_listen UNHIRED status closes))
 works_one hired after_hiring before now sessions status (worked here serves) = serves_one before now sessions status serves
 
 -- ---- nothing but saying

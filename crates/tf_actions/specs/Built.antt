@@ -1,5 +1,5 @@
 -- What each kind of built-in task gives for its arguments.
-use Rattle.std.specs.Prelude.{◌≡◌, ℕ, ℤ, pos, negsuc, ◌+ℤ◌, ◌^◌, List, [], ◌∷◌, ◌++◌, Bool, true, false, nat_lt, Option, Some, None, option_map, length, slice_get, if◌then◌else◌, codes}
+use Rattle.std.specs.Prelude.{ℕ, ℤ, pos, negsuc, ◌+ℤ◌, ◌^◌, List, [], ◌∷◌, ◌++◌, Bool, true, false, nat_lt, Option, Some, None, length, slice_get, if◌then◌else◌, codes}
 use Rattle.std.specs.Fmt.{signed_decimal}
 use Rattle.std.specs.List.{flat_map, list_all}
 use Rattle.tf_values.specs.declared.elements.Scalar.{Scalar}

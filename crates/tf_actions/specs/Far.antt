@@ -1,6 +1,5 @@
 -- Which outcomes an order may have where the hand is on another machine: the outcome relation of a remote hand.
 use Rattle.std.specs.Prelude.{◌≡◌, ◌⊎◌, Bool, true, false}
-use Rattle.tf_states.specs.declared.record.Failure.{Failure}
 use Rattle.tf_states.specs.declared.record.Failure.TheVariants as failure
 use Rattle.tf_flow.specs.declared.atoms.Undo.{Undo}
 use Rattle.tf_flow.specs.declared.atoms.Undo.TheVariants as undo

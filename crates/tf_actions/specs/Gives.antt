@@ -1,5 +1,5 @@
 -- Which outcomes an order may have.
-use Rattle.std.specs.Prelude.{◌≡◌, ℕ, ℤ, pos, List, true, Some, codes}
+use Rattle.std.specs.Prelude.{◌≡◌, pos, List, true, Some, codes}
 use Rattle.tf_values.specs.declared.value.Val.{Val}
 use Rattle.tf_values.specs.declared.value.Val.TheVariants as value
 use Rattle.tf_values.specs.Text.{is_text}

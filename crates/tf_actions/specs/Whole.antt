@@ -1,5 +1,5 @@
 -- Orders that a performer can be asked for.
-use Rattle.std.specs.Prelude.{◌≡◌, ℕ, ◌≤◌, List, false, length}
+use Rattle.std.specs.Prelude.{◌≡◌, ◌≤◌, false, length}
 use Rattle.tf_flow.specs.declared.atoms.TaskKind.{TaskKind}
 use Rattle.tf_flow.specs.declared.atoms.Undo.{Undo}
 use Rattle.tf_flow.specs.declared.atoms.Undo.TheVariants as undo

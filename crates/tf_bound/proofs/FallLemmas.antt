@@ -16,7 +16,7 @@ use Rattle.tf_flow.specs.declared.deciders.Depth.{Depth}
 use Rattle.tf_numbers.specs.Numbers.{first_below, is_number}
 use Rattle.tf_model.specs.Plan.{Outline, count, holds, is_retry, is_task, own_flow}
 use Rattle.tf_model.specs.Snapshot.{Resolve, Snapshot, later, mark_after, hand_after, begun_again, is_again, is_retry_of, is_at_work}
-use Rattle.tf_model.specs.States.{is_pending, is_running, is_success, is_failure, is_reverting, is_done, is_settled, is_executed, is_retrying, flow_runs, flow_suspends, flow_is_reverted}
+use Rattle.tf_model.specs.States.{is_pending, is_running, is_success, is_failure, is_done, is_settled, is_executed, is_retrying, flow_runs, flow_suspends, flow_is_reverted}
 use Rattle.tf_model.specs.Readiness.{can_run, can_revert, is_unmarked}
 use Rattle.tf_model.specs.Deciders.{refused}
 use Rattle.tf_model.specs.Retries.{attempt, ends_with, resolution}
@@ -39,7 +39,7 @@ use Rattle.tf_bound.proofs.RoomLemmas.{IsWeighed}
 use Rattle.tf_bound.proofs.OwedLemmas.{free_in, free, owed_if_free, owed_at_most, descends, moves, KeepsMarks, stays_held, unsettled_free, none_held, is_held, others_stay, one_falls, descent_falls, put_back_falls}
 use Rattle.tf_bound.proofs.BeginLemmas.{begins_falls}
 use Rattle.tf_facts.proofs.CaseLemmas.{NoneIs, forced_by, none_begins}
-use Rattle.tf_facts.proofs.ForcedLemmas.{running_is, reverting_is, success_is, failure_is}
+use Rattle.tf_facts.proofs.ForcedLemmas.{running_is, reverting_is, success_is}
 
 -- what is recorded makes less owed, whoever records it
 abbrev pub Falls : Outline → (ℕ → ℕ) → Snapshot → What → Type 0

@@ -7,7 +7,7 @@ use crate::device::{Desk, DeskFault};
 use crate::reasons::tell_reason;
 use crate::streams::{end_of, read_at, write_at, write_whole};
 use std::alloc::Global;
-use std::fs::{self, File, OpenFile, OpenOptions};
+use std::fs::{self, File, OpenFile, OpenOptions, TryLockError};
 use std::io::{self, Eprint, Error, ErrorKind};
 use std::path::Path;
 use std::rt::Files;
@@ -33,7 +33,8 @@ struct Seen {
     modified: SystemTime,
 }
 
-/// The picked file with its path, what was seen of it when it was picked, and whether it is locked for this desk's writes.
+/// The picked file with its path, what was seen of it when it was picked, and whether it is locked for this
+/// desk's writes.
 #[derive(Drop)]
 struct Picked {
     path: String,
@@ -167,8 +168,12 @@ fn own(picked: &mut Picked) -> io::Result<()> {
     if picked.owned {
         return Ok(());
     }
-    if picked.file.try_lock().is_err() {
-        return Err(Error::other("another program writes it"));
+    match picked.file.try_lock() {
+        Ok(()) => {}
+        Err(TryLockError::WouldBlock) => {
+            return Err(Error::other("another program writes it"));
+        }
+        Err(TryLockError::Error(reason)) => return Err(reason),
     }
     let seen = look_at(&picked.file)?;
     if seen != picked.seen {

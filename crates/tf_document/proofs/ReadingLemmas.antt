@@ -1,9 +1,9 @@
 -- A fault of one part of a document is the fault of the whole.
-use Rattle.std.proofs.Common.{◌≡◌, ℕ, ◌+◌, ◌<◌, List, [], ◌∷◌, ◌++◌, true, false, Option, Some, None, Result, Ok, Err, length, get_or, drop, add-one, refl, ap, sym, ◌∙◌, append_assoc, append-nil}
+use Rattle.std.proofs.Common.{◌≡◌, ℕ, ◌+◌, ◌<◌, List, [], ◌∷◌, ◌++◌, Option, Some, None, Result, Ok, Err, length, get_or, drop, add-one, refl, ap, sym, ◌∙◌, append_assoc, append-nil}
 use Rattle.std.specs.Prelude.{IfErr}
 use Rattle.std.specs.Fmt.{decimal}
 use Rattle.tf_document.specs.Paths.{below}
-use Rattle.tf_document.specs.Reading.{RefusesWith, chain, has_key, unknown_key, unless_unknown, known_only, required_at, required, optional, of_kind, put_first, each}
+use Rattle.tf_document.specs.Reading.{RefusesWith, chain, unknown_key, unless_unknown, known_only, required_at, required, optional, of_kind, put_first, each}
 use Rattle.tf_document.specs.declared.faults.FileFault.{FileFault}
 use Rattle.tf_document.specs.declared.faults.FileFault.TheVariants as fault
 use Rattle.toml.proofs.Views.{items_view-drop}

@@ -13,12 +13,11 @@ use Rattle.tf_actions.specs.Told.{told_with}
 use Rattle.tf_actions.specs.declared.orders.Order.{Order}
 use Rattle.tf_actions.specs.declared.outcomes.Outcome.{Outcome}
 use Rattle.tf_states.specs.declared.record.Entry.{Entry}
-use Rattle.tf_states.specs.declared.record.What.{What}
 use Rattle.tf_states.specs.declared.record.What.TheVariants as what
 use Rattle.tf_states.specs.declared.state.FlowState.{FlowState}
 use Rattle.tf_states.specs.declared.state.FlowState.TheVariants as flow
 use Rattle.tf_hands.specs.declared.starts.Start.{Start}
-use Rattle.tf_hands.specs.Hands.{by_hand, is_of_flow, takes_task, orders}
+use Rattle.tf_hands.specs.Hands.{by_hand, is_of_flow, orders}
 use Rattle.tf_hands.proofs.ForcedLemmas.{forced_takes_none}
 use Rattle.tf_hands.proofs.ChoiceLemmas.{choice_orders}
 use Rattle.tf_hands.proofs.EndLemmas.{end_orders}

@@ -3,6 +3,7 @@ use Rattle.std.specs.Prelude.{◌≡◌, ◌⊎◌, ℕ, ◌≤◌, Bool, true, 
 use Rattle.std.specs.List.{list_all}
 use Rattle.tf_actions.specs.declared.orders.Order.{Order}
 use Rattle.tf_actions.specs.declared.outcomes.Outcome.{Outcome}
+use Rattle.tf_actions.specs.Whole.{IsWhole}
 use Rattle.tf_states.specs.declared.record.Entry.{Entry}
 use Rattle.tf_states.specs.declared.record.What.{What}
 use Rattle.tf_states.specs.declared.record.What.TheVariants as what
@@ -11,7 +12,7 @@ use Rattle.tf_states.specs.declared.state.FlowState.TheVariants as flow
 use Rattle.tf_model.specs.History.{flow_of, snapshot}
 use Rattle.tf_model.specs.Steps.{is_still}
 use Rattle.tf_model.specs.Orders.{IsGiven}
-use Rattle.tf_hands.specs.Hands.{by_hand, is_over}
+use Rattle.tf_hands.specs.Hands.{by_hand, is_over, HasOrder, IsAlone}
 use Rattle.tf_model.specs.Plan.{Outline, is_task}
 use Rattle.tf_model.specs.Sessions.{Session, entering, has_ended, is_inner_entry, is_last}
 use Rattle.tf_model.specs.States.{flow_suspends}
@@ -131,3 +132,11 @@ pub record IsBetweenTurns (plan : Outline) (past : List Entry) (halted : Option 
   pub sound : halted ≡ None
   pub running : flow_of past ≡ flow.Running
   pub still : is_still plan (snapshot plan past) ≡ true
+
+-- while the one hand performs its order: the book isn't halted, the flow is RUNNING, and this order alone is in flight, whole
+pub record IsPerforming (plan : Outline) (past : List Entry) (halted : Option Halt) (order : Order) : Type 0 where
+  pub sound : halted ≡ None
+  pub running : flow_of past ≡ flow.Running
+  pub has : HasOrder plan past 0 order
+  pub alone : IsAlone plan past 0
+  pub whole : IsWhole order

@@ -2,15 +2,14 @@ ghost use Rattle.std.specs.Prelude.{◌≡◌, ◌<◌, ◌≤◌, ◌+◌, ◌-
 ghost use Rattle.tf_desk.specs.Counts.{Rises};
 ghost use Rattle.tf_states.specs.declared.record.Entry.{Entry as Record};
 ghost use Rattle.tf_states.specs.declared.state.FlowState.TheVariants as flow;
-ghost use Rattle.tf_hands.specs.Hands.{IsAlone, HasOrder, orders};
+ghost use Rattle.tf_hands.specs.Hands.{orders};
 ghost use Rattle.tf_model.specs.Bound.{entry_bound};
 ghost use Rattle.tf_model.specs.Steps.{LegalPast};
-ghost use Rattle.tf_actions.specs.Whole.{IsWhole};
 ghost use Rattle.tf_actions.specs.declared.orders.Order.{Order as AnOrder};
 ghost use Rattle.tf_book.specs.Book.{BookValue, outline, moment, flow_state as state_of};
 ghost use Rattle.tf_book.specs.Kept.{Kept};
 ghost use Rattle.tf_engines.specs.Asked.{HasDone, HasToDo, HasDoneBy};
-ghost use Rattle.tf_engines.specs.Runs.{IsUnderWay, HasRun, HaltsAs, StandsAs, IsBetweenTurns};
+ghost use Rattle.tf_engines.specs.Runs.{IsUnderWay, HasRun, HaltsAs, StandsAs, IsBetweenTurns, IsPerforming};
 
 use crate::engine::{How, RunEnd};
 use std::alloc::Global;
@@ -43,11 +42,7 @@ fn perform<K: Desk, P: Performer>(
     hand: &mut P,
     order: Order,
 ) -> Option<How>
-    requires sound { book.old.halt ≡ None }
-    requires running { state_of book.old ≡ flow.Running }
-    requires has { HasOrder (outline book.old) book.old.past 0 order }
-    requires alone { IsAlone (outline book.old) book.old.past 0 }
-    requires whole { IsWhole order }
+    requires at_work { IsPerforming (outline book.old) book.old.past book.old.halt order }
     ensures keeps { (start : BookValue K)
         → Kept K.state start book.old
         → Kept K.state start book.new }

@@ -1,6 +1,5 @@
 -- Each forced entry keeps what every moment has.
-use Rattle.std.proofs.Common.{◌≡◌, ◌≢◌, ℕ, ◌<◌, Bool, true, false, not, ◌&&◌, ◌||◌, Option, Some, None, refl, sym, ap, ◌∙◌, ◌⊎◌, inl, inr, subst, eq-eqb}
-use Rattle.std.specs.Option.{option_or, option_map}
+use Rattle.std.proofs.Common.{◌≡◌, ◌≢◌, ℕ, true, false, not, ◌&&◌, ◌||◌, Option, Some, None, refl, sym, ap, ◌∙◌, ◌⊎◌, inl, inr, eq-eqb}
 use Rattle.std.specs.Prelude.{nat_eq}
 use Rattle.tf_states.specs.declared.record.Payload.{Payload}
 use Rattle.tf_states.specs.declared.record.Payload.TheVariants as payload
@@ -19,9 +18,9 @@ use Rattle.tf_model.specs.States.{is_pending, is_running, is_success, is_failure
 use Rattle.tf_model.specs.Readiness.{can_run, can_revert}
 use Rattle.tf_model.specs.Deciders.{refused}
 use Rattle.tf_model.specs.Retries.{attempt, ends_with, resolution}
-use Rattle.tf_model.specs.Forced.{first_entry, holds_with, is_of_its_flow, forced_attempt, forced_again, forced_reverted, forced_resolution, forced_retrying, forced_revert, forced_ignore, forced_run, forced_if_running, forced, is_active, is_attempting, attempt_entry, is_beginning_again, again_entry, is_to_put_back, put_back_or_run, is_undone_retry, reverted_entry, is_unresolved, resolution_entry, is_marked_again, is_settled_beside, is_to_begin_again, retrying_entry, is_retry_to_revert, reverting_entry, is_refused, ignore_entry, ignore_by, ignore_or_self, is_to_ignore, ignored_entry, is_retry_to_run, running_entry}
+use Rattle.tf_model.specs.Forced.{holds_with, is_of_its_flow, forced_if_running, forced, is_active, is_to_put_back, put_back_or_run, is_marked_again, is_settled_beside, is_to_begin_again, retrying_entry, reverting_entry, ignore_by, ignore_or_self, is_to_ignore, ignored_entry}
 use Rattle.tf_numbers.proofs.TruthLemmas.{and_first, and_second, true_first, true_both, clash, either_way, not_true}
-use Rattle.tf_numbers.proofs.BelowLemmas.{found_passes, all_at, found_below, none_at}
+use Rattle.tf_numbers.proofs.BelowLemmas.{found_passes, all_at, none_at}
 use Rattle.tf_facts.specs.Facts.{is_undoing}
 use Rattle.tf_facts.proofs.LayoutLemmas.{IsLaidOut, held_below}
 use Rattle.tf_facts.proofs.CoreLemmas.{Core, retrying_is, kept}

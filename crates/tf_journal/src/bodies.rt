@@ -13,8 +13,8 @@ use tf_desk::Desk;
 /// Reads the body whose gate is at that place into the vector, in place of what it has, and answers whether there
 /// is one before the journal's last gate. `NotABook` comes where the place is past 67,108,863, with that place and no
 /// byte, or where the file has no record behind the open gate there, with the offset and the byte that show it, or
-/// the file's end; `Disk` only where the count of disk faults rose; `Memory` where the vector didn't grow. After each the journal and its file are as
-/// before, and the vector has any bytes.
+/// the file's end; `Disk` only where the count of disk faults rose; `Memory` where the vector didn't grow. After
+/// each the journal and its file are as before, and the vector has any bytes.
 pub fn next_body<K: Desk>(
     journal: &mut Journal<K>,
     place: u64,

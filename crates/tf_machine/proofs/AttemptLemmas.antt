@@ -1,25 +1,23 @@
 -- Attempts are fewer than tries, at each moment of a run.
-use Rattle.std.proofs.Common.{◌≡◌, ℕ, ◌<◌, ◌≤◌, List, [], ◌∷◌, Bool, true, false, ◌&&◌, ◌||◌, Option, Some, None, refl, sym, ap, ◌∙◌, subst, inl, inr, arith, eqb-true}
+use Rattle.std.proofs.Common.{◌≡◌, ℕ, ◌<◌, ◌≤◌, [], Bool, true, false, ◌||◌, refl, subst, inl, inr, arith, eqb-true}
 use Rattle.std.specs.Prelude.{if◌then◌else◌, nat_eq}
 use Rattle.tf_states.specs.declared.record.Entry.{Entry}
 use Rattle.tf_states.specs.declared.record.What.{What}
 use Rattle.tf_states.specs.declared.record.What.TheVariants as what
 use Rattle.tf_states.specs.declared.state.AtomState.{AtomState}
 use Rattle.tf_states.specs.declared.state.AtomState.TheVariants as atom
-use Rattle.tf_states.specs.declared.state.FlowState.{FlowState}
 use Rattle.tf_states.specs.declared.state.FlowState.TheVariants as flow
-use Rattle.tf_model.specs.Plan.{Outline, is_task}
-use Rattle.tf_model.specs.Snapshot.{Snapshot, later, is_at_work, attempts_in, hand_after}
+use Rattle.tf_model.specs.Plan.{Outline}
+use Rattle.tf_model.specs.Snapshot.{Snapshot, later, attempts_in}
 use Rattle.tf_model.specs.History.{snapshot}
-use Rattle.tf_model.specs.States.{is_pending, is_running, is_retrying, flow_runs, flow_suspends}
-use Rattle.tf_model.specs.Steps.{Step, LegalPast, is_hand}
-use Rattle.tf_model.proofs.HistoryLemmas.{one_more}
-use Rattle.tf_numbers.proofs.TruthLemmas.{and_first, and_second, or_either}
+use Rattle.tf_model.specs.States.{is_pending, is_running, is_retrying}
+use Rattle.tf_model.specs.Steps.{Step}
+use Rattle.tf_numbers.proofs.TruthLemmas.{or_either}
 use Rattle.tf_bound.specs.Costs.{tries_at, HasAttempts}
 use Rattle.tf_bound.specs.Kept.{IsCounted}
 use Rattle.tf_machine.specs.Tries.{HasTries}
-use Rattle.tf_hands.specs.Flight.{Busy, FlightFacts}
-use Rattle.tf_hands.proofs.FitLemmas.{MayWork, StateFits, Turning, goes_on, resumes, is_free_of_work, Fits, step_fits}
+use Rattle.tf_hands.specs.Flight.{FlightFacts}
+use Rattle.tf_hands.proofs.FitLemmas.{StateFits, Fits, step_fits}
 
 -- the snapshot after what a hand recorded
 abbrev after : Outline → Snapshot → ℕ → What → Snapshot

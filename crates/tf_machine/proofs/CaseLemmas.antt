@@ -1,21 +1,14 @@
 -- The first case that applies is what is forced.
-use Rattle.std.proofs.Common.{◌≡◌, ℕ, suc, ◌+◌, ◌<◌, ◌≤◌, List, ◌∷◌, length, drop, get_or, add-one, Bool, true, false, not, ◌||◌, Option, Some, None, refl, sym, ap, ◌∙◌}
+use Rattle.std.proofs.Common.{◌≡◌, ℕ, suc, ◌+◌, ◌<◌, ◌≤◌, List, ◌∷◌, length, drop, get_or, add-one, Option, Some, None, sym, ap, ◌∙◌}
 use Rattle.std.specs.Option.{option_or, option_map}
-use Rattle.std.specs.List.{list_all}
 use Rattle.tf_states.specs.declared.record.What.{What}
 use Rattle.tf_machine.specs.declared.cases.Case.{Case}
-use Rattle.tf_order.specs.Graph.{successors_of}
-use Rattle.tf_numbers.specs.Numbers.{all_below, first_below}
-use Rattle.tf_model.specs.Plan.{Outline, count, is_before, holds, is_retry, own_flow}
+use Rattle.tf_numbers.specs.Numbers.{first_below}
+use Rattle.tf_model.specs.Plan.{Outline, count}
 use Rattle.tf_model.specs.Snapshot.{Snapshot}
-use Rattle.tf_model.specs.States.{is_settled}
-use Rattle.tf_model.specs.Forced.{forced_attempt, forced_again, forced_reverted, forced_resolution, forced_retrying, forced_revert, forced_ignore, forced_run, forced_if_running, holds_with, is_of_its_flow, is_settled_beside}
-use Rattle.tf_numbers.proofs.BelowLemmas.{all_same, all_which}
+use Rattle.tf_model.specs.Forced.{forced_attempt, forced_again, forced_reverted, forced_resolution, forced_retrying, forced_revert, forced_ignore, forced_run, forced_if_running}
 use Rattle.tf_numbers.proofs.ListLemmas.{drop_first, drop_whole}
 use Rattle.tf_numbers.proofs.OptionLemmas.{or_none}
-use Rattle.tf_numbers.proofs.TruthLemmas.{and_first, clash, never_true}
-use Rattle.tf_facts.proofs.LayoutLemmas.{IsLaidOut}
-use Rattle.tf_bound.proofs.BeginLemmas.{not_itself}
 use Rattle.tf_machine.specs.Cases.{applies, entry_in, cases, entry_among}
 
 -- ---- the cases in their order

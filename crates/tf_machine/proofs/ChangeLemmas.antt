@@ -23,7 +23,7 @@ use Rattle.tf_machine.specs.Compiled.{IsInSpan, IsSpanOf, IsSpanAround}
 use Rattle.tf_machine.specs.Worklists.{AreMarksHeld}
 use Rattle.tf_machine.proofs.ExtentLemmas.{kept_outside}
 use Rattle.tf_numbers.proofs.TruthLemmas.{never_true}
-use Rattle.tf_machine.specs.Changes.{IsMarkHeld, ArePlacesHeld, Stays, changed, AreChanged, entered_view, flow_resumes, flow_rests, turned, marked, released, begun, cleared}
+use Rattle.tf_machine.specs.Changes.{ArePlacesHeld, Stays, changed, AreChanged, entered_view, flow_resumes, flow_rests, turned, marked, released, begun, cleared}
 
 -- ---- one element
 

@@ -1,18 +1,16 @@
 -- How many of some atoms pass a test, and how this changes with one of them.
-use Rattle.std.proofs.Common.{◌≡◌, ◌≢◌, ℕ, zero, suc, ◌+◌, ◌-◌, ◌<◌, ◌≤◌, List, [], ◌∷◌, ◌++◌, length, map, drop, get_or, Bool, true, false, not, ◌&&◌, ◌||◌, Option, Some, None, refl, sym, ap, ◌∙◌, subst, inl, inr, arith, slice_get, add-one, length-set, eqb-true, eq-eqb}
+use Rattle.std.proofs.Common.{◌≡◌, ◌≢◌, ℕ, zero, suc, ◌+◌, ◌-◌, ◌<◌, ◌≤◌, List, [], ◌∷◌, ◌++◌, length, map, drop, Bool, true, false, not, ◌&&◌, ◌||◌, Some, None, refl, sym, ap, ◌∙◌, subst, inl, inr, arith, slice_get, add-one, eqb-true, eq-eqb}
 use Rattle.std.specs.Prelude.{if◌then◌else◌, nat_eq, option_map}
 use Rattle.std.specs.List.{list_all}
-use Rattle.std.proofs.Math.ListN.{set}
 use Rattle.std.proofs.lemmas.Bool.{cases_lt}
 use Rattle.std.proofs.lemmas.List.{map-append}
-use Rattle.std.proofs.lemmas.Option.{slice_get-get_or}
 use Rattle.tf_states.specs.declared.state.AtomState.{AtomState}
 use Rattle.tf_states.specs.declared.state.AtomState.TheVariants as atom
 use Rattle.tf_numbers.specs.Numbers.{has_number, which_below, numbers_below}
-use Rattle.tf_numbers.proofs.ListLemmas.{nothing_after, drop_first, drop_whole, length_both}
+use Rattle.tf_numbers.proofs.ListLemmas.{nothing_after, drop_whole, length_both}
 use Rattle.tf_numbers.proofs.NumberLemmas.{turn_eq}
 use Rattle.tf_numbers.proofs.PairLemmas.{which_passes, passes_which}
-use Rattle.tf_numbers.proofs.TruthLemmas.{same_truth, never_true, neither, neither_first, neither_second, true_first, true_second}
+use Rattle.tf_numbers.proofs.TruthLemmas.{same_truth, never_true, neither, neither_first, neither_second}
 use Rattle.tf_model.specs.Plan.{Outline, count, is_before}
 use Rattle.tf_model.specs.Scope.{is_earlier}
 use Rattle.tf_model.specs.Snapshot.{Snapshot}

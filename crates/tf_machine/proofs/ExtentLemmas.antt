@@ -1,8 +1,7 @@
 -- What an entry changes of the atoms other than its own.
-use Rattle.std.proofs.Common.{◌≡◌, ℕ, Bool, true, false, ◌&&◌, refl, sym, ap, ◌∙◌, subst, eqb-true}
+use Rattle.std.proofs.Common.{◌≡◌, ℕ, Bool, true, false, ◌&&◌, refl, ap, ◌∙◌, eqb-true}
 use Rattle.std.specs.Prelude.{nat_eq, if◌then◌else◌, Option, Some, None}
 use Rattle.tf_states.specs.declared.record.Payload.{Payload}
-use Rattle.tf_states.specs.declared.record.What.{What}
 use Rattle.tf_states.specs.declared.record.What.TheVariants as what
 use Rattle.tf_states.specs.declared.state.AtomState.{AtomState}
 use Rattle.tf_states.specs.declared.state.AtomState.TheVariants as atom
@@ -13,7 +12,7 @@ use Rattle.tf_numbers.proofs.TruthLemmas.{and_second, clash, never_true}
 use Rattle.tf_states.specs.declared.record.Kind.{Kind}
 use Rattle.tf_model.specs.States.{is_running}
 use Rattle.tf_machine.specs.declared.worklists.Extent.TheVariants as extent
-use Rattle.tf_machine.specs.Worklists.{AgreesOnAtom, AreMoved, AreMarksHeld, event}
+use Rattle.tf_machine.specs.Worklists.{AreMoved, AreMarksHeld, event}
 
 -- the marks stay as an atom enters a state, unless it is a retry controller that begins to run
 mark_stays : (plan : Outline) (a : ℕ) (state : AtomState) (held : Payload) (b : ℕ) (before : Option Resolve) → is_running state && is_retry plan a ≡ false → mark_after plan (what.Atom a state held) b before ≡ before

@@ -1,30 +1,26 @@
 -- The numbers, the parts and the priorities of a plan's atoms.
-use Rattle.std.proofs.Common.{◌≡◌, ℕ, zero, ℤ, suc, ◌+◌, ◌<◌, ◌≤◌, List, [], ◌∷◌, ◌++◌, length, map, take, Bool, true, false, not, Option, Some, None, refl, sym, ap, ◌∙◌, slice_get, add-one, inl, inr, arith}
+use Rattle.std.proofs.Common.{◌≡◌, ℕ, zero, ℤ, suc, ◌+◌, ◌<◌, ◌≤◌, List, [], ◌∷◌, ◌++◌, length, map, take, Bool, true, false, not, Option, Some, None, refl, sym, ap, ◌∙◌, slice_get, add-one, arith}
 use Rattle.std.specs.Prelude.{option_map, int_lt}
 use Rattle.std.proofs.Common.{get_or, subst}
 use Rattle.std.proofs.Math.Seq.{take-suc}
 use Rattle.std.proofs.lemmas.Int.{ints}
-use Rattle.std.proofs.lemmas.Bool.{cases_lt}
-use Rattle.std.proofs.lemmas.List.{length-map}
 use Rattle.std.proofs.lemmas.Option.{slice_get-map, slice_get_past}
-use Rattle.tf_flow.specs.declared.atoms.Retry.{Retry}
 use Rattle.tf_flow.specs.declared.atoms.Task.{Task}
 use Rattle.tf_flow.specs.Plan.{PlanValue}
 use Rattle.tf_flow.specs.Plan as numbering
 use Rattle.tf_flow.specs.declared.ways.Part.{Part as CodePart}
 use Rattle.tf_flow.specs.Ways.{shown_part}
-use Rattle.tf_flow.specs.Outline.{Part, a_task, a_retry, Atom, part_of, way_of, priority_of, name_of_atom, is_retry_atom, is_retry_part, is_task_part}
+use Rattle.tf_flow.specs.Outline.{Part, a_task, Atom, part_of, priority_of}
 use Rattle.tf_flow.specs.declared.ways.Turn.{Turn}
 use Rattle.tf_model.specs.Before.{passes_flow}
-use Rattle.tf_model.specs.Plan.{Outline, outline_of, count, way, holds, is_task, is_retry, own_flow, last_flow}
-use Rattle.tf_flow.proofs.OutlineLemmas.{same_atoms, same_retries}
+use Rattle.tf_model.specs.Plan.{Outline, outline_of, count, holds, own_flow, last_flow}
 use Rattle.tf_model.specs.Candidates.{priority}
 use Rattle.tf_machine.specs.Compiled.{priority_at, AreNoGreater}
 use Rattle.tf_model.specs.Orders.{task_part, task_at}
 use Rattle.tf_model.proofs.PlanLemmas.{way_told, atoms_counted}
-use Rattle.tf_model.proofs.Told.{way_in, is_task_in, is_retry_in, priority_in, task_in}
+use Rattle.tf_model.proofs.Told.{way_in, priority_in, task_in}
 use Rattle.tf_numbers.proofs.ListLemmas.{take_whole}
-use Rattle.tf_numbers.proofs.TruthLemmas.{clash, not_true}
+use Rattle.tf_numbers.proofs.TruthLemmas.{not_true}
 
 -- the task that an atom is, by what the plan has at its number
 pub task_read : (plan : PlanValue) (a : ℕ) (t : Task) → numbering.part plan a ≡ Some (a_task t) → task_at (outline_of plan) a ≡ Some t

@@ -1,11 +1,10 @@
 -- What is listed stays enough where the state of one atom changes and those that it reaches are listed anew.
-use Rattle.std.proofs.Common.{◌≡◌, ℕ, zero, suc, ◌+◌, ◌-◌, ◌<◌, ◌≤◌, List, [], ◌∷◌, drop, get_or, length, Bool, true, false, not, ◌&&◌, ◌||◌, ◌≢◌, Option, Some, None, ◌⊎◌, inl, inr, refl, sym, ap, ◌∙◌, subst, arith, add-one, eqb-true, eq-eqb}
+use Rattle.std.proofs.Common.{◌≡◌, ℕ, ◌+◌, ◌-◌, ◌<◌, ◌≤◌, List, [], drop, get_or, length, Bool, true, false, not, ◌&&◌, ◌||◌, ◌≢◌, Option, Some, None, ◌⊎◌, inl, inr, refl, sym, ap, ◌∙◌, subst, arith, eqb-true, eq-eqb}
 use Rattle.std.specs.Prelude.{nat_eq, is_some, is_none}
 use Rattle.tf_numbers.specs.Numbers.{has_number, all_below, first_below, is_number}
 use Rattle.tf_numbers.proofs.BelowLemmas.{all_at, all_of, first_none, none_at}
-use Rattle.tf_numbers.proofs.ListLemmas.{drop_first, drop_whole}
-use Rattle.tf_numbers.proofs.NumberLemmas.{turn_eq}
-use Rattle.tf_numbers.proofs.TruthLemmas.{clash, never_true, true_both, and_first, and_second, true_first, true_second, or_either, first_false, second_false, neither, neither_first, neither_second, not_true}
+use Rattle.tf_numbers.proofs.ListLemmas.{drop_whole}
+use Rattle.tf_numbers.proofs.TruthLemmas.{clash, never_true, true_both, and_first, and_second, true_first, true_second, or_either, neither_first, neither_second}
 use Rattle.tf_links.specs.Bits.{has, room, words_for}
 use Rattle.tf_links.proofs.BitLemmas.{past_none}
 use Rattle.std.proofs.lemmas.Bool.{cases_lt}
@@ -20,7 +19,7 @@ use Rattle.tf_model.specs.Candidates.{is_interrupted, is_candidate}
 use Rattle.tf_model.specs.Steps.{is_not_with, is_idle}
 use Rattle.tf_order.specs.Graph.{predecessors_of, successors_of}
 use Rattle.tf_hands.specs.Flight.{is_with}
-use Rattle.tf_machine.specs.Cases.{applies, case_of, IsCaseAt, is_asked_again}
+use Rattle.tf_machine.specs.Cases.{applies, IsCaseAt, is_asked_again}
 use Rattle.tf_machine.specs.declared.cases.Case.{Case}
 use Rattle.tf_machine.specs.declared.cases.Case.TheVariants as case
 use Rattle.tf_machine.specs.declared.worklists.Worklist.{Worklist}

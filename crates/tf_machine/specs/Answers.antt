@@ -1,15 +1,11 @@
 -- What a machine answers, by what it shows.
-use Rattle.std.specs.Prelude.{◌≡◌, ◌≢◌, ℕ, List, Bool, Option, None, map, if◌then◌else◌}
+use Rattle.std.specs.Prelude.{◌≡◌, ◌≢◌, ℕ, List, None, map}
 use Rattle.tf_states.specs.declared.record.AtomView.{AtomView}
 use Rattle.tf_states.specs.declared.record.Entry.{Entry}
 use Rattle.tf_states.specs.declared.record.Payload.TheVariants as payload
-use Rattle.tf_states.specs.declared.record.What.{What}
 use Rattle.tf_states.specs.declared.record.What.TheVariants as what
-use Rattle.tf_states.specs.declared.state.AtomState.{AtomState}
 use Rattle.tf_states.specs.declared.state.AtomState.TheVariants as atom
-use Rattle.tf_actions.specs.declared.outcomes.Action.{Action}
 use Rattle.tf_actions.specs.declared.outcomes.Action.TheVariants as action
-use Rattle.tf_actions.specs.declared.outcomes.Outcome.{Outcome}
 use Rattle.tf_actions.specs.declared.outcomes.Outcome.TheVariants as outcome
 use Rattle.tf_order.specs.declared.faults.CompileFault.TheVariants as compile_fault
 use Rattle.tf_order.specs.Refusals.{IsRefusedBy}
@@ -17,16 +13,14 @@ use Rattle.tf_machine.specs.declared.faults.ApplyFault.{ApplyFault}
 use Rattle.tf_machine.specs.declared.faults.ApplyFault.TheVariants as apply_fault
 use Rattle.tf_machine.specs.declared.faults.BuildFault.{BuildFault}
 use Rattle.tf_machine.specs.declared.faults.BuildFault.TheVariants as build_fault
-use Rattle.tf_hands.specs.declared.starts.Start.{Start}
 use Rattle.tf_flow.specs.Plan.{PlanValue}
 use Rattle.tf_scopes.specs.declared.faults.ScopeFault.TheVariants as scope_fault
 use Rattle.tf_scopes.specs.Providers.{IsMissing}
 use Rattle.tf_model.specs.Compilation.{compile_refusal}
 use Rattle.tf_model.specs.Scope.{missing_symbol}
-use Rattle.tf_numbers.specs.Numbers.{first_below, numbers_below, is_number}
+use Rattle.tf_numbers.specs.Numbers.{numbers_below}
 use Rattle.tf_model.specs.Plan.{Outline, outline_of, count}
 use Rattle.tf_model.specs.Snapshot.{Snapshot}
-use Rattle.tf_model.specs.Forced.{enters}
 
 -- the view of atom a
 abbrev pub view_at : Snapshot → ℕ → AtomView

@@ -1,9 +1,8 @@
 -- How often an atom was tried: it holds at each moment of a run.
-use Rattle.std.specs.Prelude.{◌≡◌, ℕ, ◌<◌, ◌≤◌, true, ◌||◌, Some}
-use Rattle.tf_model.specs.Plan.{Outline, is_task}
-use Rattle.tf_model.specs.Snapshot.{Snapshot, is_at_work}
-use Rattle.tf_model.specs.States.{is_pending, is_running, flow_runs, flow_suspends}
-use Rattle.tf_model.specs.Steps.{is_hand}
+use Rattle.std.specs.Prelude.{◌≡◌, ℕ, ◌<◌, ◌≤◌, true}
+use Rattle.tf_model.specs.Plan.{Outline}
+use Rattle.tf_model.specs.Snapshot.{Snapshot}
+use Rattle.tf_model.specs.States.{is_pending, is_running}
 use Rattle.tf_bound.specs.Costs.{tries_at}
 
 -- attempts begin anew with PENDING, and are never more than the atom has tries: fewer while it is RUNNING

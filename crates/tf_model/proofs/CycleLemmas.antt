@@ -11,7 +11,7 @@ use Rattle.tf_numbers.specs.Numbers.{first_below}
 use Rattle.tf_numbers.proofs.BelowLemmas.{found_passes, found_below, first_before, none_at}
 use Rattle.tf_numbers.proofs.TruthLemmas.{clash}
 use Rattle.tf_model.specs.Before.{Flow, find_flow}
-use Rattle.tf_model.specs.Compilation.{CompileRefusal, cycle, cycle_of, cycle_through, is_back}
+use Rattle.tf_model.specs.Compilation.{cycle, cycle_of, cycle_through, is_back}
 use Rattle.tf_model.specs.Laws.{IsFirstCycle}
 use Rattle.tf_model.specs.Linked.{item_name}
 use Rattle.tf_model.specs.Plan.{outline_of}

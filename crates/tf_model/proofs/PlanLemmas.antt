@@ -10,9 +10,9 @@ use Rattle.tf_flow.specs.declared.atoms.Provides.TheVariants as provides
 use Rattle.tf_flow.specs.declared.ways.Turn.{Turn}
 use Rattle.tf_flow.specs.Plan.{PlanValue}
 use Rattle.tf_flow.specs.Plan as numbering
-use Rattle.tf_flow.specs.Outline.{Part, a_task, a_retry, Atom, is_task_part, is_retry_part, is_retry_atom, name_of, name_of_atom, arguments_of, injected_in, provided_by, way_of}
+use Rattle.tf_flow.specs.Outline.{Part, a_task, a_retry, Atom, is_task_part, is_retry_part, is_retry_atom, name_of, name_of_atom, arguments_of, injected_in, way_of}
 use Rattle.tf_flow.proofs.OutlineLemmas.{same_atoms, same_retries}
-use Rattle.tf_model.specs.Plan.{Outline, outline_of, count, way, is_task, is_retry, arguments, injects, provides_of, atom_name}
+use Rattle.tf_model.specs.Plan.{Outline, outline_of, count, way, is_task, is_retry, arguments, injects, atom_name}
 use Rattle.tf_model.specs.Retries.{kind_of_part, retry_kind}
 use Rattle.tf_model.proofs.Told.{is_task_in, is_retry_in, name_in, way_in}
 

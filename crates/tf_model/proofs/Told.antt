@@ -1,5 +1,5 @@
 -- What is told of an atom, an item or a flow that may be there: for proofs by cases on whether it is.
-use Rattle.std.specs.Prelude.{ℕ, ℤ, pos, List, [], Bool, false, Option, None, Some, option_map}
+use Rattle.std.specs.Prelude.{ℕ, ℤ, pos, List, [], Bool, false, Option, option_map}
 use Rattle.std.specs.Option.{option_map_or, option_and_then, unwrap_or}
 use Rattle.tf_flow.specs.declared.atoms.Arg.{Arg}
 use Rattle.tf_flow.specs.declared.atoms.Bind.{Bind}

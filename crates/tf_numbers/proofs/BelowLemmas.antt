@@ -1,12 +1,12 @@
 -- Tests of the numbers below a count.
-use Rattle.std.proofs.Common.{◌≡◌, ℕ, zero, suc, ◌<◌, ◌≤◌, List, [], ◌∷◌, ◌++◌, Bool, true, false, not, ◌&&◌, ◌||◌, Option, Some, None, refl, sym, ap, ◌∙◌, ◌⊎◌, inl, inr, arith, slice_get}
+use Rattle.std.proofs.Common.{◌≡◌, ℕ, zero, suc, ◌<◌, ◌≤◌, [], ◌∷◌, Bool, true, false, not, ◌&&◌, ◌||◌, Option, Some, None, refl, sym, ap, ◌∙◌, ◌⊎◌, inl, inr, arith}
 use Rattle.std.specs.Prelude.{is_some, if◌then◌else◌}
 use Rattle.std.specs.List.{list_all}
 use Rattle.std.specs.Option.{option_or}
 use Rattle.std.proofs.lemmas.Bool.{cases_lt}
 use Rattle.std.proofs.lemmas.List.Folds.{list_all-append}
 use Rattle.tf_numbers.specs.Numbers.{all_below, any_below, first_below, which_below}
-use Rattle.tf_numbers.proofs.TruthLemmas.{never_true, clash, either_way, true_both, and_first, and_second, first_false, second_false, and_true, true_first, true_second, or_either, neither}
+use Rattle.tf_numbers.proofs.TruthLemmas.{clash, either_way, true_both, and_first, and_second, first_false, second_false, and_true, true_first, true_second, or_either, neither}
 use Rattle.tf_numbers.proofs.OptionLemmas.{or_none}
 use Rattle.tf_numbers.proofs.ListLemmas.{nothing_after}
 

@@ -1,5 +1,5 @@
 -- What a spawner in memory answers.
-use Rattle.std.specs.Prelude.{◌≡◌, ℕ, ℤ, List, [], ◌∷◌, Option, Some, None, take, if◌then◌else◌, ◌==◌}
+use Rattle.std.specs.Prelude.{◌≡◌, ℕ, List, [], ◌∷◌, Option, Some, None, take, if◌then◌else◌, ◌==◌}
 use Rattle.std.specs.Cmp.Lexicographic.{pointwise}
 use Rattle.tf_ports.specs.declared.memory_spawner.MemoryProgram.{MemoryProgram}
 use Rattle.tf_ports.specs.declared.programs.Done.{Done}

@@ -1,18 +1,16 @@
 -- The names and the parts of a plan's atoms and flows by their numbers.
-use Rattle.std.proofs.Common.{◌≡◌, ℕ, ◌≤◌, List, [], length, Bool, true, false, not, Option, Some, None, refl, sym, ap, ◌∙◌}
+use Rattle.std.proofs.Common.{◌≡◌, ℕ, ◌≤◌, List, [], length, false, Option, Some, None, refl, sym, ap, ◌∙◌}
 use Rattle.std.specs.Prelude.{slice_get, option_map}
 use Rattle.std.proofs.lemmas.List.{length-map}
 use Rattle.std.proofs.lemmas.Option.{slice_get-map, slice_get_past}
 use Rattle.tf_flow.specs.Plan.{PlanValue}
 use Rattle.tf_flow.specs.Plan as numbering
 use Rattle.tf_model.specs.Before.{Flow}
-use Rattle.tf_flow.specs.Outline.{Part, a_task, a_retry, name_of_atom, is_retry_atom, is_retry_part, is_task_part, Atom}
 use Rattle.tf_model.specs.Laws as laws
-use Rattle.tf_model.specs.Plan.{outline_of, count, is_task, atom_name}
-use Rattle.tf_model.proofs.Told.{is_task_in, name_in}
+use Rattle.tf_model.specs.Plan.{outline_of, is_task, atom_name}
+use Rattle.tf_model.proofs.Told.{is_task_in}
 use Rattle.tf_model.proofs.PlanLemmas.{atoms_counted}
 use Rattle.tf_model.proofs.OutlineLemmas.{same_flows}
-use Rattle.tf_flow.proofs.OutlineLemmas.{same_atoms, same_retries}
 use Rattle.tf_report.specs.Lines.{name_of_flow, flow_name}
 
 -- ---- atoms

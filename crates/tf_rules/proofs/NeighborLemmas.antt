@@ -3,7 +3,6 @@ use Rattle.std.proofs.Common.{◌≡◌, ◌≢◌, ℕ, ◌<◌, List, [], Bool
 use Rattle.std.specs.Prelude.{nat_eq}
 use Rattle.std.specs.List.{list_any}
 use Rattle.tf_numbers.specs.Numbers.{which_below}
-use Rattle.tf_numbers.specs.Pairs.{Pair, has_pair}
 use Rattle.tf_numbers.proofs.PairLemmas.{passes_which, which_passes}
 use Rattle.tf_numbers.proofs.TruthLemmas.{same_truth, true_first, never_true, second_false}
 use Rattle.tf_flow.specs.declared.deciders.Depth.{Depth}

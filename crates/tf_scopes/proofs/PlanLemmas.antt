@@ -1,16 +1,12 @@
 -- What is before an atom is an atom.
-use Rattle.std.proofs.Common.{◌≡◌, ℕ, ◌<◌, length, true, false, Option, Some, None, sym, ap, ◌∙◌, slice_get, inl, inr}
-use Rattle.std.specs.Prelude.{option_map}
+use Rattle.std.proofs.Common.{◌≡◌, ℕ, ◌<◌, true, false, Option, sym, ap, ◌∙◌, slice_get, inl, inr}
 use Rattle.std.proofs.lemmas.Bool.{cases_lt}
-use Rattle.std.proofs.lemmas.List.{length-map}
 use Rattle.std.proofs.lemmas.Option.{slice_get_past}
-use Rattle.tf_flow.specs.Plan.{PlanValue}
 use Rattle.tf_flow.specs.Plan as numbering
-use Rattle.tf_flow.specs.Outline.{Part, Atom, part_of, name_of_atom, name_of, arguments_of, injected_in, provided_by}
-use Rattle.tf_flow.proofs.OutlineLemmas.{same_atoms}
+use Rattle.tf_flow.specs.Outline.{Atom}
 use Rattle.tf_model.specs.Before.{way_before}
-use Rattle.tf_model.specs.Plan.{Outline, outline_of, count, way, is_before, arguments, injects, provides_of, atom_name}
-use Rattle.tf_model.proofs.Told.{way_in, arguments_in, injects_in, provides_in, name_in}
+use Rattle.tf_model.specs.Plan.{Outline, count, way, is_before}
+use Rattle.tf_model.proofs.Told.{way_in}
 
 pub before_is_atom : (plan : Outline) (a b : ℕ) → is_before plan a b ≡ true → a < count plan
 unfolding is_before

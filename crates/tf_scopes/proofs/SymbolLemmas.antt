@@ -1,6 +1,6 @@
 -- The places of those that list a symbol, and who gives it to an atom.
-use Rattle.std.proofs.Common.{◌≡◌, ℕ, zero, suc, ◌+◌, ◌-◌, ◌<◌, ◌≤◌, List, [], ◌∷◌, ◌++◌, length, Bool, true, false, Option, Some, None, refl, sym, ap, ◌∙◌, add-one, arith, slice_get, slice_index_or, eqb-true}
-use Rattle.std.specs.Prelude.{nat_eq, if◌then◌else◌}
+use Rattle.std.proofs.Common.{◌≡◌, ℕ, suc, ◌+◌, ◌-◌, ◌<◌, ◌≤◌, List, [], ◌∷◌, ◌++◌, length, Bool, true, false, Option, None, sym, ap, ◌∙◌, add-one, arith, slice_get, slice_index_or}
+use Rattle.std.specs.Prelude.{if◌then◌else◌}
 use Rattle.std.proofs.lemmas.Option.{slice_get_past}
 use Rattle.tf_flow.specs.Plan.{PlanValue}
 use Rattle.tf_flow.specs.Plan as numbering
@@ -8,11 +8,10 @@ use Rattle.tf_flow.specs.Outline.{Atom}
 use Rattle.tf_model.specs.Plan.{Outline, outline_of}
 use Rattle.tf_model.proofs.Told.{listed_by}
 use Rattle.tf_model.specs.Scope.{lists_symbol}
-use Rattle.tf_numbers.specs.Numbers.{is_number, which_below}
+use Rattle.tf_numbers.specs.Numbers.{which_below}
 use Rattle.tf_numbers.proofs.ListLemmas.{nothing_after}
-use Rattle.tf_numbers.proofs.TruthLemmas.{never_true}
 use Rattle.tf_order.specs.Graph.{standing_of_plan}
-use Rattle.tf_order.specs.Index.{add_once, ends_with}
+use Rattle.tf_order.specs.Index.{add_once}
 use Rattle.tf_scopes.specs.Symbols.{lists_in, lists_at}
 use Rattle.tf_scopes.proofs.PlaceLemmas.{number_there}
 use Rattle.tf_model.proofs.PlanLemmas.{atoms_counted}

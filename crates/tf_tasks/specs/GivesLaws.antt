@@ -1,5 +1,5 @@
 -- The outcome relation keeps the laws of outcomes.
-use Rattle.std.specs.Prelude.{◌≡◌, ℕ, List}
+use Rattle.std.specs.Prelude.{◌≡◌}
 use Rattle.std.proofs.Common.{subst}
 use Rattle.tf_values.specs.declared.value.Val.{Val}
 use Rattle.tf_values.specs.declared.value.Val.TheVariants as value
@@ -11,7 +11,6 @@ use Rattle.tf_actions.specs.declared.orders.Given.TheVariants as given
 use Rattle.tf_actions.specs.declared.orders.Order.{Order}
 use Rattle.tf_actions.specs.declared.outcomes.Action.{Action}
 use Rattle.tf_actions.specs.declared.outcomes.Action.TheVariants as action
-use Rattle.tf_actions.specs.declared.outcomes.Outcome.{Outcome}
 use Rattle.tf_actions.specs.declared.outcomes.Outcome.TheVariants as outcome
 use Rattle.tf_actions.specs.Gives.{Gives, GivesFor, GivesReverted}
 use Rattle.tf_actions.specs.Laws.{LooksUp, RevertsToNothing}

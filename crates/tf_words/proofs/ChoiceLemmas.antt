@@ -1,5 +1,5 @@
 -- The words behind those that choose a command, and words that spell nothing.
-use Rattle.std.proofs.Common.{◌≡◌, ℕ, List, ◌∷◌, Bool, true, Option, Some, None, refl, sym, ap, ◌∙◌}
+use Rattle.std.proofs.Common.{◌≡◌, ℕ, List, ◌∷◌, true, Option, Some, None, refl, sym, ap, ◌∙◌}
 use Rattle.tf_numbers.proofs.TruthLemmas.{and_second}
 use Rattle.tf_words.specs.Pieces.{is_filled, are_filled}
 

@@ -1,5 +1,5 @@
 -- Addresses, and the command of a worker.
-use Rattle.std.specs.Prelude.{ℕ, List, [], ◌∷◌, codes, length, take, drop, not, Bool, true, false, ◌&&◌, ◌==◌, nat_le, Option, Some, None, option_map, option_and_then, if◌then◌else◌}
+use Rattle.std.specs.Prelude.{ℕ, List, [], ◌∷◌, codes, length, take, drop, not, Bool, ◌&&◌, ◌==◌, nat_le, Option, Some, None, option_map, option_and_then, if◌then◌else◌}
 use Rattle.std.specs.List.{list_any}
 use Rattle.tf_ports.specs.declared.crews.Address.{Address}
 use Rattle.tf_ports.specs.declared.crews.Address.TheVariants as address

@@ -1,5 +1,5 @@
 -- How far the answer to a frame came.
-use Rattle.std.proofs.Common.{◌≡◌, ◌≢◌, ℕ, ◌≤◌, List, [], ◌∷◌, Option, refl, ap, ◌∙◌, subst, arith}
+use Rattle.std.proofs.Common.{◌≡◌, ◌≢◌, ℕ, List, [], ◌∷◌, Option, refl, ap, ◌∙◌, subst, arith}
 use Rattle.tf_desk.specs.Counts.{Rises}
 use Rattle.tf_ports.specs.Links.{sent_with, SendsFront}
 use Rattle.tf_actions.specs.Told.{told_with}

@@ -19,28 +19,28 @@ returns-in_default-clause-ran g c = λ limit before on.
     (subst (λ (l : List Entry). IsUnderWay g.P.Performer.gives 1 limit (outline_of c.args.book.now.plan) before l c.args.book.now.limit) (sym (ap (λ (b : BookValue _). b.past) same)) on))
 
 pub finish-requires-clause-task : goal.finish-requires-clause-task
-finish-requires-clause-task g c = told_some _ _ (order_told _ _ 0 _ c.state-before.ensures.legal c.requires.has)
+finish-requires-clause-task g c = told_some _ _ (order_told _ _ 0 _ c.state-before.ensures.legal c.requires.at_work.has)
 
 pub returns-in-Ok-finish-clause-on : goal.returns-in-Ok-finish-clause-on
 returns-in-Ok-finish-clause-on g c = λ limit before on.
     subst (λ (k : Option ℕ). IsUnderWay g.P.Performer.gives 1 limit (outline_of c.args.book.now.plan) before c.finish.new.self.past k) (sym c.finish.ensures.proceeds.limit)
-    (goes_finished _ 0 1 _ _ before _ _ _ _ _ refl g.met.P.Performer.reverts_to_nothing c.state-before.ensures.legal c.requires.has c.in-Ok.ensures.given c.in-Ok-finish.ensures.finished on)
+    (goes_finished _ 0 1 _ _ before _ _ _ _ _ refl g.met.P.Performer.reverts_to_nothing c.state-before.ensures.legal c.requires.at_work.has c.in-Ok.ensures.given c.in-Ok-finish.ensures.finished on)
 
 pub returns-in-Ok-finish-clause-goes : goal.returns-in-Ok-finish-clause-goes
 returns-in-Ok-finish-clause-goes g c =
     let e = c.in-Ok-finish.ensures in
     record {
       sound = e.sound;
-      running = runs_after 0 _ _ _ _ e.finished ∙ c.requires.running;
+      running = runs_after 0 _ _ _ _ e.finished ∙ c.requires.at_work.running;
       still = subst (λ (p : PlanValue). is_still (outline_of p) (snapshot (outline_of p) c.finish.new.self.past) ≡ true) (sym e.proceeds.plan)
-          (still_after 0 _ _ _ _ c.state-before.ensures.legal c.requires.alone e.finished);
+          (still_after 0 _ _ _ _ c.state-before.ensures.legal c.requires.at_work.alone e.finished);
     }
 
 pub returns-clause-ran : goal.returns-clause-ran
 returns-clause-ran g c = λ limit before on.
     halts_so _ _ 1 _ _ before _ _ _ c.halted-in-Err.ensures.cause None
     (finished_or_not _ _ 0 1 _ _ before _ _ _ _ _ refl g.met.P.Performer.reverts_to_nothing c.state-before.ensures.legal
-    (subst (λ (p : PlanValue). LegalPast (outline_of p) c.finish.new.self.past) c.in-Err.ensures.proceeds.plan c.halted-in-Err.ensures.legal) c.requires.has c.in-Ok.ensures.given c.in-Err.ensures.cut on)
+    (subst (λ (p : PlanValue). LegalPast (outline_of p) c.finish.new.self.past) c.in-Err.ensures.proceeds.plan c.halted-in-Err.ensures.legal) c.requires.at_work.has c.in-Ok.ensures.given c.in-Err.ensures.cut on)
 
 pub returns-in-Ok-finish-clause-asked : goal.returns-in-Ok-finish-clause-asked
 returns-in-Ok-finish-clause-asked g c = λ told base to_do.

@@ -20,25 +20,16 @@ use Rattle.tf_desk.proofs.CountLemmas.{rises_later}
 pub next-requires-clause-free : goal.next-requires-clause-free
 next-requires-clause-free g c = still_free _ _ 0 c.requires.going.still
 
-pub perform-requires-clause-has : goal.perform-requires-clause-has
-perform-requires-clause-has g c =
+pub perform-requires : goal.perform-requires
+perform-requires g c =
     let t = rw c.in-Ok-Start.field-0-is at c.in-Ok-Start.ensures.turn in
-    subst (λ (p : PlanValue). HasOrder (outline_of p) c.next.new.self.past 0 c.in-Ok-Start.order) (sym c.next.ensures.takes.plan) (has_started 0 _ _ _ t.stop _ _ t.is.0)
-
-pub perform-requires-clause-alone : goal.perform-requires-clause-alone
-perform-requires-clause-alone g c =
-    let t = rw c.in-Ok-Start.field-0-is at c.in-Ok-Start.ensures.turn in
-    subst (λ (p : PlanValue). IsAlone (outline_of p) c.next.new.self.past 0) (sym c.next.ensures.takes.plan) (alone_started 0 _ _ _ t.stop _ _ c.requires.going.still t.is.0)
-
-pub perform-requires-clause-running : goal.perform-requires-clause-running
-perform-requires-clause-running g c =
-    let t = rw c.in-Ok-Start.field-0-is at c.in-Ok-Start.ensures.turn in
-    runs_started 0 _ _ _ t.stop _ _ t.is.0
-
-pub perform-requires-clause-whole : goal.perform-requires-clause-whole
-perform-requires-clause-whole g c =
-    let t = rw c.in-Ok-Start.field-0-is at c.in-Ok-Start.ensures.turn in
-    t.is.1
+    record {
+      sound = c.in-Ok-Start.ensures.sound;
+      running = runs_started 0 _ _ _ t.stop _ _ t.is.0;
+      has = subst (λ (p : PlanValue). HasOrder (outline_of p) c.next.new.self.past 0 c.in-Ok-Start.order) (sym c.next.ensures.takes.plan) (has_started 0 _ _ _ t.stop _ _ t.is.0);
+      alone = subst (λ (p : PlanValue). IsAlone (outline_of p) c.next.new.self.past 0) (sym c.next.ensures.takes.plan) (alone_started 0 _ _ _ t.stop _ _ c.requires.going.still t.is.0);
+      whole = t.is.1;
+    }
 
 pub unreachable-requires : goal.unreachable-requires
 unreachable-requires g c =

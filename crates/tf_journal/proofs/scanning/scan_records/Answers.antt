@@ -1,4 +1,4 @@
-use Rattle.std.proofs.Common.{◌≡◌, ℕ, ◌+◌, List, [], ◌∷◌, ◌++◌, length, ◌∙◌, ap, subst, arith}
+use Rattle.std.proofs.Common.{◌≡◌, ℕ, ◌+◌, List, [], ◌∷◌, ◌++◌, length, subst, arith}
 use Rattle.tf_desk.specs.State.{bytes_now}
 use Rattle.tf_desk.proofs.StateLemmas.{on_disk_told, bytes_stay, rests_none, rests_on}
 use Rattle.tf_journal.specs.Reach.{IsNear, Shows, Reaches}

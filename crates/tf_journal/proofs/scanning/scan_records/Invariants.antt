@@ -1,4 +1,4 @@
-use Rattle.std.proofs.Common.{◌≡◌, ◌-◌, ◌≤◌, ◌<◌, ℕ, List, length, IsTrue}
+use Rattle.std.proofs.Common.{◌-◌, ◌≤◌, ◌<◌, ℕ, List, length, IsTrue}
 use Rattle.tf_desk.specs.State.{bytes_now, Rests}
 use Rattle.tf_journal.specs.Format.{SIZE_LIMIT}
 use Rattle.tf_journal.specs.Reach.{Reaches}

@@ -1,4 +1,4 @@
-use Rattle.std.proofs.Common.{◌≡◌, ◌∙◌, sym, ap, ℕ, Bool, Option, Some, None, true, false}
+use Rattle.std.proofs.Common.{◌≡◌, ◌∙◌, sym, ℕ, Bool, Option, Some, None, true, false}
 use Rattle.tf_numbers.specs.Numbers.{all_below, first_below}
 use Rattle.tf_model.specs.Plan.{Outline, outline_of, count}
 use Rattle.tf_model.specs.Snapshot.{Snapshot}

@@ -1,4 +1,4 @@
-use Rattle.std.proofs.Common.{◌≡◌, ◌<◌, false, not, sym, ◌∙◌, ap, arith}
+use Rattle.std.proofs.Common.{◌≡◌, ◌<◌, false, sym, arith}
 use Rattle.tf_model.specs.Plan.{outline_of, count}
 use Rattle.tf_model.specs.Forced.{is_unhurt_at}
 use Rattle.tf_machine.specs.Tables.{shown_by}

@@ -1,5 +1,5 @@
 use Rattle.std.proofs.Common.{take, arith}
-use Rattle.tf_ports.proofs.SocketLemmas.{keeps_itself, keeps_on, consumes_after, at_end}
+use Rattle.tf_ports.proofs.SocketLemmas.{keeps_itself, keeps_on, consumes_after}
 use Rattle.tf_ports.proofs.sockets.get.Goals as goal
 
 pub loop-init : goal.loop-init

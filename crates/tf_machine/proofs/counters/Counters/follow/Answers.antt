@@ -1,4 +1,4 @@
-use Rattle.std.proofs.Common.{◌≡◌, ℕ, ◌<◌, List, length, sym, ap, ◌∙◌, subst, arith, slice_get}
+use Rattle.std.proofs.Common.{◌≡◌, ℕ, ◌<◌, List, length, sym, ap, ◌∙◌, subst, arith}
 use Rattle.tf_numbers.specs.Numbers.{has_number}
 use Rattle.tf_model.specs.Plan.{outline_of, count}
 use Rattle.tf_machine.specs.Counts.{AreDistinct, AreNumbers, after_turn, waiting_of, holding_of}

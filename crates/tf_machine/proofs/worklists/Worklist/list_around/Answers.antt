@@ -1,4 +1,4 @@
-use Rattle.std.proofs.Common.{ℕ, Bool, List, true, ◌≡◌, ◌∙◌, ◌||◌, ap, sym, subst}
+use Rattle.std.proofs.Common.{ℕ, Bool, List, ◌∙◌, ◌||◌, ap, sym, subst}
 use Rattle.tf_numbers.specs.Numbers.{has_number}
 use Rattle.tf_model.specs.Plan.{outline_of}
 use Rattle.tf_model.specs.States.{is_done, is_settled, is_revert_failure}

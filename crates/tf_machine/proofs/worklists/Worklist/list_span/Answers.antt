@@ -1,4 +1,4 @@
-use Rattle.std.proofs.Common.{◌∙◌, arith}
+use Rattle.std.proofs.Common.{arith}
 use Rattle.tf_model.specs.Plan.{outline_of}
 use Rattle.tf_machine.specs.Tables.{shown_by}
 use Rattle.tf_machine.proofs.WorkLemmas.{none_of_span, one_of_span, all_of_span}

@@ -1,4 +1,4 @@
-use Rattle.std.proofs.Common.{◌≡◌, ◌-◌, ℕ, List, Some, ap, arith, length, drop, take, sym, ◌∙◌, length-drop}
+use Rattle.std.proofs.Common.{◌≡◌, ◌-◌, Some, ap, arith, length, drop, take, sym, ◌∙◌, length-drop}
 use Rattle.std.proofs.lemmas.List.{take_all}
 use Rattle.tf_ports.specs.MemoryLink.{HeldByLink}
 use Rattle.tf_ports.proofs.LinkLemmas.{given_first}
