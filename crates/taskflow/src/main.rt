@@ -2,31 +2,10 @@
 //! transition, and keeps the jobs of a board.
 #![tactic(auto)]
 
-mod accepting;
-mod boards;
-mod books;
-mod checking;
-mod closing;
-mod crew;
-mod demoing;
-mod messages;
-mod reading;
-mod recording;
-mod resetting;
-mod resuming;
-mod running;
-mod showing;
-mod statuses;
-mod top;
-mod trying;
-mod working;
-
-use crate::crew::LocalCrew;
-use crate::statuses::OUT_OF_MEMORY;
-use crate::top::{Outside, taskflow};
 use std::env::Env;
 use std::process::ExitCode;
 use std::{env, io};
+use tf_commands::{LocalCrew, OUT_OF_MEMORY, Outside, taskflow};
 use tf_desk::FileDesk;
 use tf_ports::{Folder, SocketDoor};
 use tf_words::Word;
@@ -61,6 +40,3 @@ fn read_arguments(rt: &(impl Env + AllocGlobal)) -> io::Result<Vec<Word>> {
     }
     Ok(words)
 }
-
-#[cfg(test)]
-mod tests;

@@ -1,6 +1,0 @@
-use Rattle.std.proofs.Common.{refl, inl}
-use Rattle.taskflow.proofs.AloneLemmas.{stops_untouched}
-use Rattle.taskflow.proofs.showing.say_whole.Goals as goal
-
-pub returns-in-Err-clause-shows : goal.returns-in-Err-clause-shows
-returns-in-Err-clause-shows g c = λ name entry untouched. rw c.close-desk.ensures.desk (inl (stops_untouched _ untouched refl))

@@ -1,0 +1,76 @@
+-- A run that may be suspended for one reason may be so for a wider one.
+use Rattle.std.proofs.Common.{◌⊎◌, ℕ, List, [], ◌∷◌, Option, inl, inr, ⊎_elim}
+use Rattle.tf_desk.specs.State.{DeskState}
+use Rattle.tf_flow.specs.Plan.{PlanValue}
+use Rattle.tf_ports.specs.declared.crews.Want.{Want}
+use Rattle.tf_actions.specs.declared.orders.Order.{Order}
+use Rattle.tf_actions.specs.declared.outcomes.Outcome.{Outcome}
+use Rattle.tf_states.specs.declared.record.Entry.{Entry}
+use Rattle.tf_states.specs.declared.state.FlowState.{FlowState}
+use Rattle.tf_engines.specs.Runs.{AreDue, IsSuspended, IsSession}
+use Rattle.tf_commands.specs.Books.{Promised, Resumes, unopened_again, empty, unhired_again, resumed}
+use Rattle.tf_commands.specs.declared.running.Request.{Request}
+use Rattle.tf_commands.specs.Run.{Ran}
+use Rattle.tf_model.specs.Plan.{Outline}
+
+due_more : (few more : Type 0) (limit : Option ℕ) → (few → more) → (entries : List Entry) → AreDue few limit entries → AreDue more limit entries
+due_more few more limit widens [] due = tt
+due_more few more limit widens (e ∷ entries) due = (λ is. ⊎_elim (λ asked. inl (widens asked)) (λ reached. inr reached) (due.0 is), due_more few more limit widens entries due.1)
+
+suspended_more : (few more : Type 0) (limit : Option ℕ) → (few → more) → (entries : List Entry) → IsSuspended few limit entries → IsSuspended more limit entries
+suspended_more few more limit widens entries s = record {
+  cause = ⊎_elim (λ asked. inl (widens asked)) (λ reached. inr reached) s.cause;
+  hand = s.hand;
+  before = s.before;
+  last = s.last;
+}
+
+pub session_more : (gives : Order → Outcome → Type 0) (few more : Type 0) (number : ℕ) (limit : Option ℕ) (plan : Outline) (before after : List Entry) (stop : Option FlowState) → (few → more)
+    → IsSession gives few number limit plan before after stop → IsSession gives more number limit plan before after stop
+session_more gives few more number limit plan before after stop widens s = record {
+  entries = s.entries;
+  recorded = s.recorded;
+  session = s.session;
+  given = s.given;
+  hands = s.hands;
+  due = due_more few more limit widens s.entries s.due;
+  within = s.within;
+  suspended = λ is. suspended_more few more limit widens s.entries (s.suspended is);
+}
+
+pub ran_more : (gives : Order → Outcome → Type 0) (request : Request) (few more : Type 0) (plan : PlanValue) (before entries : List Entry) (stop : Option FlowState)
+    (shown now : Option (List ℕ)) (closing : List ℕ) (status : ℕ) → (few → more)
+    → Ran gives request few plan before entries stop shown now closing status → Ran gives request more plan before entries stop shown now closing status
+ran_more gives request few more plan before entries stop shown now closing status widens r = record {
+  steps = record {
+    session = r.steps.session;
+    hands = r.steps.hands;
+    due = due_more few more request.limit widens entries r.steps.due;
+    within = r.steps.within;
+    suspended = λ is. suspended_more few more request.limit widens entries (r.steps.suspended is);
+  };
+  bound = r.bound;
+  outcomes = r.outcomes;
+  text = r.text;
+  end = r.end;
+}
+
+pub promised_more : (gives : Order → Outcome → Type 0) (request : Request) (few more : Type 0) (name : List ℕ) (plan : PlanValue) (before : List Entry) (entry now : DeskState) (status : ℕ) → (few → more)
+    → Promised gives request few name plan before entry now status
+    → Promised gives request more name plan before entry now status
+promised_more gives request few more name plan before entry now status widens p = record {
+  entries = p.entries;
+  stop = p.stop;
+  closing = p.closing;
+  ran = ran_more gives request few more plan before p.entries p.stop entry.shown now.shown p.closing status widens p.ran;
+  lasts = p.lasts;
+}
+
+pub resumes_more : (gives : Order → Outcome → Type 0) (request : Request) (few more : Type 0) (name : List ℕ) (hired after_hiring : Option (List Want)) (entry now : DeskState) (status : ℕ) → (few → more)
+    → Resumes gives request few name hired after_hiring entry now status
+    → Resumes gives request more name hired after_hiring entry now status
+resumes_more gives request few more name hired after_hiring entry now status widens (unopened_again same is) = unopened_again same is
+resumes_more gives request few more name hired after_hiring entry now status widens (empty same none r) = empty same none r
+resumes_more gives request few more name hired after_hiring entry now status widens (unhired_again plan past held going is) = unhired_again plan past held going is
+resumes_more gives request few more name hired after_hiring entry now status widens (resumed plan past can held hires p) =
+    resumed plan past can held hires (promised_more gives request few more name plan past entry now status widens p)

@@ -1,0 +1,179 @@
+-- What a status tells of the way that a command went.
+use Rattle.std.proofs.Common.{◌≡◌, ◌⊎◌, ℕ, ◌≤◌, List, Option, Some, None, true, false, inl, inr, refl, arith, ⊎_elim}
+use Rattle.std.specs.Prelude.{is_some}
+use Rattle.tf_desk.specs.Counts.{Rises}
+use Rattle.tf_desk.specs.State.{DeskState}
+use Rattle.tf_ports.specs.Contents.{Contents}
+use Rattle.tf_ports.specs.declared.crews.Want.{Want}
+use Rattle.tf_actions.specs.declared.orders.Order.{Order}
+use Rattle.tf_actions.specs.declared.outcomes.Outcome.{Outcome}
+use Rattle.tf_words.specs.declared.asked.Asked.{Asked}
+use Rattle.tf_words.specs.declared.asked.Asked.TheVariants as asked
+use Rattle.tf_board.specs.Answers.{board_of}
+use Rattle.tf_board.specs.Does.{IsBoardStatus}
+use Rattle.tf_board.proofs.DoesLemmas.{does_status}
+use Rattle.tf_commands.specs.Asking.{file_asked_for, asked_for}
+use Rattle.tf_commands.specs.Causes.{Counts, HasEachCause, HasCausesOr, counts_of}
+use Rattle.tf_commands.specs.Course as course
+use Rattle.tf_commands.specs.Course.{Course, Obeys, source_so, IsRefused, IsBoardRefused}
+use Rattle.tf_commands.specs.Saying.{OnlySays}
+use Rattle.tf_commands.specs.declared.reading.Source.{Source}
+use Rattle.tf_commands.proofs.BoardLemmas.{board_apart, board_refuses}
+use Rattle.tf_commands.proofs.EndLemmas.{Ended, works_ended, ended_apart, tries_ended, checks_ended, runs_ended, demonstrates_ended, resumes_ended, shows_ended, resets_ended, ended_unrefused}
+use Rattle.tf_commands.proofs.CountLemmas.{closes_status}
+use Rattle.tf_commands.proofs.FileLemmas.{FileStatus, file_status, file_unrefused, file_usage, file_refused}
+use Rattle.tf_commands.proofs.WorkLemmas.{works_one}
+
+-- ---- what the words ask for
+
+data AskedStatus (command : Asked) (files : Contents) (status : ℕ) : Type 0 where
+  by_file : (source : Source) → file_asked_for command ≡ Some source → FileStatus files source status → AskedStatus command files status
+  by_book : Ended status → AskedStatus command files status
+  by_board : is_some (board_of command) ≡ true → IsBoardStatus status → AskedStatus command files status
+
+status_usage : (command : Asked) (files : Contents) (status : ℕ) → AskedStatus command files status → status ≡ 2 → ⊥
+status_usage command files status (by_file source about is) two = file_usage files source status is two
+status_usage command files status (by_book ended) two = ended_apart status 2 ended two (inl refl)
+status_usage command files status (by_board about ended) two = (board_apart status ended).0 two
+
+status_refused : (words : List (List ℕ)) (files : Contents) (command : Asked) (status : ℕ) → asked_for words ≡ Some command → AskedStatus command files status → status ≡ 4 → IsRefused words files
+status_refused words files command status asks (by_file source about is) four = file_refused words files command source status asks about is four
+status_refused words files command status asks (by_book ended) four = absurd (ended_apart status 4 ended four (inr (inr refl)))
+status_refused words files command status asks (by_board about ended) four = absurd ((board_apart status ended).2 four)
+
+status_of_board : (command : Asked) (files : Contents) (status : ℕ) → AskedStatus command files status → status ≡ 15 → is_some (board_of command) ≡ true
+status_of_board command files status (by_file source about is) fifteen = absurd (file_unrefused files source status is fifteen)
+status_of_board command files status (by_book ended) fifteen = absurd (ended_unrefused status ended fifteen)
+status_of_board command files status (by_board about ended) fifteen = about
+
+module _ {K : Type 0} (state : K → DeskState) where
+  asked_status : (gives : Order → Outcome → Type 0) (asked_so : Type 0) (command : Asked) (files : Contents) (hired after_hiring : Option (List Want)) (entry now : K) (status : ℕ)
+      → Obeys state gives asked_so command files hired after_hiring entry now status → AskedStatus command files status
+  asked_status gives asked_so (asked.Try file sets defer hands) files hired after_hiring entry now status obeys =
+      by_file (source_so file sets defer) refl (file_status files (source_so file sets defer) _ _ (state entry).shown (state now).shown status
+      (λ plan did. tries_ended hired after_hiring (state entry).shown (state now).shown plan status did) obeys.0)
+  asked_status gives asked_so (asked.Check file sets) files hired after_hiring entry now status obeys =
+      by_file (source_so file sets false) refl (file_status files (source_so file sets false) _ _ (state entry).shown (state now).shown status
+      (λ plan did. checks_ended (state entry).shown (state now).shown _ status did) obeys.0)
+  asked_status gives asked_so (asked.Run file book sets defer hands stop) files hired after_hiring entry now status obeys =
+      by_file (source_so file sets defer) refl (file_status files (source_so file sets defer) _ _ (state entry).shown (state now).shown status
+      (λ plan did. runs_ended book hired after_hiring (state entry) (state now) plan status did) obeys)
+  asked_status gives asked_so (asked.Resume book hands stop) files hired after_hiring entry now status obeys =
+      by_book (resumes_ended book hired after_hiring (state entry) (state now) status obeys)
+  asked_status gives asked_so (asked.Show book) files hired after_hiring entry now status obeys =
+      by_book (shows_ended book (state entry) (state now) status obeys.0)
+  asked_status gives asked_so (asked.Reset book) files hired after_hiring entry now status obeys =
+      by_book (resets_ended book (state entry) (state now) status obeys.0)
+  asked_status gives asked_so (asked.Demo seed size book hands) files hired after_hiring entry now status obeys =
+      by_book (demonstrates_ended book hired after_hiring entry now seed size status obeys)
+  asked_status gives asked_so (asked.Worker address sessions) files hired after_hiring entry now status obeys =
+      by_book (works_ended status (works_one hired after_hiring (state entry).shown (state now).shown sessions status obeys.0))
+  asked_status gives asked_so (asked.Post board name priority details) files hired after_hiring entry now status obeys =
+      by_board refl (does_status (asked.Post board name priority details) board (state entry) (state now) status obeys.0)
+  asked_status gives asked_so (asked.Claim board id owner) files hired after_hiring entry now status obeys =
+      by_board refl (does_status (asked.Claim board id owner) board (state entry) (state now) status obeys.0)
+  asked_status gives asked_so (asked.Abandon board id owner) files hired after_hiring entry now status obeys =
+      by_board refl (does_status (asked.Abandon board id owner) board (state entry) (state now) status obeys.0)
+  asked_status gives asked_so (asked.Consume board id owner) files hired after_hiring entry now status obeys =
+      by_board refl (does_status (asked.Consume board id owner) board (state entry) (state now) status obeys.0)
+  asked_status gives asked_so (asked.Trash board id owner) files hired after_hiring entry now status obeys =
+      by_board refl (does_status (asked.Trash board id owner) board (state entry) (state now) status obeys.0)
+  asked_status gives asked_so (asked.Owner board id) files hired after_hiring entry now status obeys =
+      by_board refl (does_status (asked.Owner board id) board (state entry) (state now) status obeys.0)
+  asked_status gives asked_so (asked.List board) files hired after_hiring entry now status obeys =
+      by_board refl (does_status (asked.List board) board (state entry) (state now) status obeys.0)
+
+  -- status 2 comes only where the words are no command
+  pub usage_tells : {gives : Order → Outcome → Type 0} {asked_so : Type 0} (words : List (List ℕ)) (files : Contents) (hired after_hiring : Option (List Want)) (entry now : K) (status : ℕ)
+      → Course state gives asked_so words files hired after_hiring entry now status → status ≡ 2 → asked_for words ≡ None
+  usage_tells words files hired after_hiring entry now status (course.unheard is same still) two = absurd (omega arith)
+  usage_tells words files hired after_hiring entry now status (course.no_command none closes still) two = none
+  usage_tells {gives} {asked_so} words files hired after_hiring entry now status (course.obeyed command asks obeys) two =
+      absurd (status_usage command files status (asked_status gives asked_so command files hired after_hiring entry now status obeys) two)
+
+  -- status 4 comes only where the file is refused
+  pub refused_tells : {gives : Order → Outcome → Type 0} {asked_so : Type 0} (words : List (List ℕ)) (files : Contents) (hired after_hiring : Option (List Want)) (entry now : K) (status : ℕ)
+      → Course state gives asked_so words files hired after_hiring entry now status → status ≡ 4 → IsRefused words files
+  refused_tells words files hired after_hiring entry now status (course.unheard is same still) four = absurd (omega arith)
+  refused_tells words files hired after_hiring entry now status (course.no_command none closes still) four =
+      absurd (⊎_elim (λ is. omega arith) (λ is. omega arith) (closes_status (state entry).shown (state now).shown _ 2 status closes))
+  refused_tells {gives} {asked_so} words files hired after_hiring entry now status (course.obeyed command asks obeys) four =
+      status_refused words files command status asks (asked_status gives asked_so command files hired after_hiring entry now status obeys) four
+
+  on_board : (gives : Order → Outcome → Type 0) (asked_so : Type 0) (words : List (List ℕ)) (command : Asked) (files : Contents) (hired after_hiring : Option (List Want)) (entry now : K) (status : ℕ)
+      → asked_for words ≡ Some command → is_some (board_of command) ≡ true → Obeys state gives asked_so command files hired after_hiring entry now status → status ≡ 15
+      → IsBoardRefused words (state entry)
+  on_board gives asked_so words (asked.Post board name priority details) files hired after_hiring entry now status asks about obeys is =
+      board_refuses words (asked.Post board name priority details) board (state entry) (state now) status asks refl obeys.0 is
+  on_board gives asked_so words (asked.Claim board id owner) files hired after_hiring entry now status asks about obeys is =
+      board_refuses words (asked.Claim board id owner) board (state entry) (state now) status asks refl obeys.0 is
+  on_board gives asked_so words (asked.Abandon board id owner) files hired after_hiring entry now status asks about obeys is =
+      board_refuses words (asked.Abandon board id owner) board (state entry) (state now) status asks refl obeys.0 is
+  on_board gives asked_so words (asked.Consume board id owner) files hired after_hiring entry now status asks about obeys is =
+      board_refuses words (asked.Consume board id owner) board (state entry) (state now) status asks refl obeys.0 is
+  on_board gives asked_so words (asked.Trash board id owner) files hired after_hiring entry now status asks about obeys is =
+      board_refuses words (asked.Trash board id owner) board (state entry) (state now) status asks refl obeys.0 is
+  on_board gives asked_so words (asked.Owner board id) files hired after_hiring entry now status asks about obeys is =
+      board_refuses words (asked.Owner board id) board (state entry) (state now) status asks refl obeys.0 is
+  on_board gives asked_so words (asked.List board) files hired after_hiring entry now status asks about obeys is =
+      board_refuses words (asked.List board) board (state entry) (state now) status asks refl obeys.0 is
+  on_board gives asked_so words (asked.Try file sets defer hands) files hired after_hiring entry now status asks about obeys is = absurd (cc)
+  on_board gives asked_so words (asked.Run file book sets defer hands stop) files hired after_hiring entry now status asks about obeys is = absurd (cc)
+  on_board gives asked_so words (asked.Resume book hands stop) files hired after_hiring entry now status asks about obeys is = absurd (cc)
+  on_board gives asked_so words (asked.Show book) files hired after_hiring entry now status asks about obeys is = absurd (cc)
+  on_board gives asked_so words (asked.Reset book) files hired after_hiring entry now status asks about obeys is = absurd (cc)
+  on_board gives asked_so words (asked.Check file sets) files hired after_hiring entry now status asks about obeys is = absurd (cc)
+  on_board gives asked_so words (asked.Demo seed size book hands) files hired after_hiring entry now status asks about obeys is = absurd (cc)
+  on_board gives asked_so words (asked.Worker address sessions) files hired after_hiring entry now status asks about obeys is = absurd (cc)
+
+  -- status 15 comes only where a board refuses
+  pub board_tells : {gives : Order → Outcome → Type 0} {asked_so : Type 0} (words : List (List ℕ)) (files : Contents) (hired after_hiring : Option (List Want)) (entry now : K) (status : ℕ)
+      → Course state gives asked_so words files hired after_hiring entry now status → status ≡ 15 → IsBoardRefused words (state entry)
+  board_tells words files hired after_hiring entry now status (course.unheard is same still) fifteen = absurd (omega (arith, is, fifteen))
+  board_tells words files hired after_hiring entry now status (course.no_command none closes still) fifteen =
+      absurd (⊎_elim (λ is. omega (arith, is, fifteen)) (λ is. omega (arith, is, fifteen)) (closes_status (state entry).shown (state now).shown _ 2 status closes))
+  board_tells {gives} {asked_so} words files hired after_hiring entry now status (course.obeyed command asks obeys) fifteen =
+      on_board gives asked_so words command files hired after_hiring entry now status asks (status_of_board command files status (asked_status gives asked_so command files hired after_hiring entry now status obeys) fifteen) obeys fifteen
+
+-- ---- causes
+
+-- a cause that may be the door's is another's where the door had no fault
+pub alone : (unlistened : Type 0) (status : ℕ) (before after : Counts) → ¬ unlistened → HasCausesOr unlistened status before after → HasEachCause status before after
+alone unlistened status before after none causes = record {
+  none_falls = causes.none_falls;
+  unread = causes.unread;
+  failed = causes.failed;
+  unsaid = causes.unsaid;
+  unhired = λ is. ⊎_elim (λ rose. rose) (λ door. absurd (none door)) (causes.unhired is);
+}
+
+pub widened : (unlistened : Type 0) (status : ℕ) (before after : Counts) → HasEachCause status before after → HasCausesOr unlistened status before after
+widened unlistened status before after causes = record {
+  none_falls = causes.none_falls;
+  unread = causes.unread;
+  failed = causes.failed;
+  unsaid = causes.unsaid;
+  unhired = λ is. inl (causes.unhired is);
+}
+
+-- a worker's causes
+pub worked_causes : (status : ℕ) {old now : DeskState} (sources sources_now crew crew_now door door_now : ℕ) → OnlySays old now → sources_now ≡ sources → crew ≤ crew_now
+    → (status ≡ 8 → Rises crew crew_now ⊎ Rises door door_now) → (status ≡ 7 → Rises old.out_faults now.out_faults) → (status ≡ 0) ⊎ (status ≡ 9) ⊎ (status ≡ 8) ⊎ (status ≡ 7)
+    → HasCausesOr (Unit {0} × Rises door door_now) status (counts_of old sources crew) (counts_of now sources_now crew_now)
+worked_causes status sources sources_now crew crew_now door door_now says sources_is crew_le no_link no_text one = record {
+  none_falls = record { disk = omega (arith, says.disk); out = says.out; sources = omega (arith, sources_is); crew = crew_le };
+  unread = λ is. absurd (⊎_elim (λ a. omega arith) (⊎_elim (λ a. omega arith) (⊎_elim (λ a. omega arith) (λ a. omega arith))) one);
+  failed = λ is. absurd (⊎_elim (λ a. omega arith) (⊎_elim (λ a. omega arith) (⊎_elim (λ a. omega arith) (λ a. omega arith))) one);
+  unsaid = no_text;
+  unhired = λ is. ⊎_elim (λ rose. inl rose) (λ rose. inr (tt, rose)) (no_link is);
+}
+
+-- the same for a wider cause
+pub listened_so : (few more : Type 0) (status : ℕ) (before after : Counts) → (few → more) → HasCausesOr few status before after → HasCausesOr more status before after
+listened_so few more status before after widens causes = record {
+  none_falls = causes.none_falls;
+  unread = causes.unread;
+  failed = causes.failed;
+  unsaid = causes.unsaid;
+  unhired = λ is. ⊎_elim (λ rose. inl rose) (λ door. inr (widens door)) (causes.unhired is);
+}

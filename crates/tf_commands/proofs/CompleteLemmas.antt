@@ -1,0 +1,278 @@
+-- What was asked for and met no fault is done.
+use Rattle.std.proofs.Common.{◌≡◌, ◌⊎◌, ℕ, List, [], ◌++◌, length, Option, Some, None, Bool, true, false, inl, inr, refl, ◌∙◌, sym, subst, arith, ⊎_elim}
+use Rattle.std.specs.Prelude.{IsTrue}
+use Rattle.tf_desk.specs.State.{DeskState}
+use Rattle.tf_flow.specs.Plan.{PlanValue}
+use Rattle.tf_flow.specs.Written.{PlanTree}
+use Rattle.tf_ports.specs.Contents.{Contents}
+use Rattle.tf_ports.specs.declared.crews.Want.{Want}
+use Rattle.tf_actions.specs.declared.orders.Order.{Order}
+use Rattle.tf_actions.specs.declared.outcomes.Outcome.{Outcome}
+use Rattle.tf_states.specs.declared.record.Entry.{Entry}
+use Rattle.tf_states.specs.declared.state.FlowState.{FlowState}
+use Rattle.tf_states.specs.declared.state.FlowState.TheVariants as flow
+use Rattle.tf_model.specs.History.{snapshot}
+use Rattle.tf_model.specs.Plan.{outline_of}
+use Rattle.tf_book.specs.Loading.{IsNoBook}
+use Rattle.tf_book.specs.Resetting.{may_reset}
+use Rattle.tf_book.specs.Stopping.{is_reached}
+use Rattle.tf_words.specs.declared.asked.Asked.{Asked}
+use Rattle.tf_words.specs.declared.asked.Asked.TheVariants as asked
+use Rattle.tf_board.proofs.DoesLemmas.{complete_so}
+use Rattle.tf_commands.specs.Accepted.{demo_tree}
+use Rattle.tf_commands.specs.Asking.{asked_for}
+use Rattle.tf_commands.specs.Books.{Unopened, exhausted, disk_failed, no_book, Unhired, exhausted_hire, unhired, Promised, Runs, unopened, forbidden, unhired_run, ran, Demonstrates, ungenerated, demonstrated, Resumes, unopened_again, empty, unhired_again, resumed, ShowsBook, unopened_show, nothing_shown, shown_whole, ResetsBook, unopened_reset, nothing_put_back, reset_forbidden, was_reset}
+use Rattle.tf_commands.specs.Causes.{Counts, HasEachCause, HasNoFault}
+use Rattle.tf_commands.specs.Course as course
+use Rattle.tf_commands.specs.Course.{Tries, Checks, Course, Obeys, source_so, HoldsFlow, HoldsReverted, IsRunComplete, IsRunCompleteBy, IsDoneComplete, IsResetComplete, MayBeDone, IsComplete}
+use Rattle.tf_commands.specs.Durable.{book_at, HoldsNoFlow}
+use Rattle.tf_commands.specs.Resets.{IsResetSaid, all_back, disk_failed_back, filled_back}
+use Rattle.tf_commands.specs.declared.running.Request.{Request}
+use Rattle.tf_commands.specs.Run.{spoken_run, heading_of, stop_status, Ran, ShowsLines, closed, line_cut, stopped, IsLastSaid, reported, disk_failed as disk_said, filled}
+use Rattle.tf_commands.specs.Saying.{ClosesWithOrStops}
+use Rattle.tf_commands.proofs.EndLemmas.{Ended, is_complete, is_failed, is_no_book, is_unsaid, is_unhired, is_forbidden, is_suspended, ran_ended, ran_suspended}
+use Rattle.tf_commands.proofs.CountLemmas.{closes_status}
+use Rattle.tf_commands.proofs.FileLemmas.{accepted_done}
+use Rattle.tf_commands.proofs.FlowLemmas.{no_book_held, flow_held}
+use Rattle.tf_commands.proofs.WorkLemmas.{works_one}
+
+-- what ended and met no fault ended well
+ended_well : (status : ℕ) → Ended status → ¬ (status ≡ 5) → ¬ (status ≡ 6) → ¬ (status ≡ 7) → ¬ (status ≡ 8) → ¬ (status ≡ 14) → ¬ (status ≡ 12) → IsRunComplete status
+ended_well status (is_complete is) sound book sayable hirable allowed on = is
+ended_well status (is_failed is) sound book sayable hirable allowed on = absurd (sound is)
+ended_well status (is_no_book is) sound book sayable hirable allowed on = absurd (book is)
+ended_well status (is_unsaid is) sound book sayable hirable allowed on = absurd (sayable is)
+ended_well status (is_unhired is) sound book sayable hirable allowed on = absurd (hirable is)
+ended_well status (is_forbidden is) sound book sayable hirable allowed on = absurd (allowed is)
+ended_well status (is_suspended is) sound book sayable hirable allowed on = absurd (on is)
+
+-- the same, where a limit of entries may suspend it
+ended_well_by : (limit : Option ℕ) (status count : ℕ) (asked : Type 0) → Ended status → ¬ (status ≡ 5) → ¬ (status ≡ 6) → ¬ (status ≡ 7) → ¬ (status ≡ 8) → ¬ (status ≡ 14) → ¬ asked
+    → (status ≡ 12 → asked ⊎ (is_reached limit count ≡ true)) → IsRunCompleteBy limit status
+ended_well_by None status count asked ended sound book sayable hirable allowed unasked why =
+    ended_well status ended sound book sayable hirable allowed (λ is. ⊎_elim unasked (λ reached. cc) (why is))
+ended_well_by (Some limit) status count asked (is_suspended is) sound book sayable hirable allowed unasked why = inr is
+ended_well_by (Some limit) status count asked (is_complete is) sound book sayable hirable allowed unasked why = inl is
+ended_well_by (Some limit) status count asked (is_failed is) sound book sayable hirable allowed unasked why = absurd (sound is)
+ended_well_by (Some limit) status count asked (is_no_book is) sound book sayable hirable allowed unasked why = absurd (book is)
+ended_well_by (Some limit) status count asked (is_unsaid is) sound book sayable hirable allowed unasked why = absurd (sayable is)
+ended_well_by (Some limit) status count asked (is_unhired is) sound book sayable hirable allowed unasked why = absurd (hirable is)
+ended_well_by (Some limit) status count asked (is_forbidden is) sound book sayable hirable allowed unasked why = absurd (allowed is)
+
+out_well : (status : ℕ) → status ≡ 9 → IsRunComplete status
+out_well status is = inr (inr (inr (inl is)))
+
+out_well_by : (limit : Option ℕ) (status : ℕ) → status ≡ 9 → IsRunCompleteBy limit status
+out_well_by None status is = out_well status is
+out_well_by (Some limit) status is = inl (out_well status is)
+
+ran_last : (last : FlowState) → ¬ (stop_status last ≡ 6) × ¬ (stop_status last ≡ 14) × ¬ (stop_status last ≡ 8)
+ran_last flow.Pending = (λ is. omega arith, λ is. omega arith, λ is. omega arith)
+ran_last flow.Running = (λ is. omega arith, λ is. omega arith, λ is. omega arith)
+ran_last flow.Success = (λ is. omega arith, λ is. omega arith, λ is. omega arith)
+ran_last flow.Failure = (λ is. omega arith, λ is. omega arith, λ is. omega arith)
+ran_last flow.Reverted = (λ is. omega arith, λ is. omega arith, λ is. omega arith)
+ran_last flow.Suspending = (λ is. omega arith, λ is. omega arith, λ is. omega arith)
+ran_last flow.Suspended = (λ is. omega arith, λ is. omega arith, λ is. omega arith)
+ran_last flow.Resuming = (λ is. omega arith, λ is. omega arith, λ is. omega arith)
+
+-- a run tells nothing of a book that can't be opened, and nothing of a state that forbids it
+abbrev IsApart : ℕ → Type 0
+IsApart status = ¬ (status ≡ 6) × ¬ (status ≡ 14) × ¬ (status ≡ 8)
+
+shows_apart : (plan : PlanValue) (quiet : Bool) (before entries : List Entry) (shown now : Option (List ℕ)) (last : List ℕ → ℕ → Type 0) (closing : List ℕ) (status : ℕ)
+    → ((text : List ℕ) (wanted : ℕ) → last text wanted → IsApart wanted) → ShowsLines plan quiet before entries shown now last closing status → IsApart status
+shows_apart plan quiet before entries shown now last closing status told (closed text wanted ended is closes) =
+    ⊎_elim
+    (λ same. let apart = told text wanted is in (λ e. apart.0 (sym same ∙ e), λ e. apart.1 (sym same ∙ e), λ e. apart.2 (sym same ∙ e)))
+    (λ seven. (λ e. omega arith, λ e. omega arith, λ e. omega arith))
+    (closes_status _ now text wanted ended closes)
+shows_apart plan quiet before entries shown now last closing status told (line_cut front) = (λ is. omega arith, λ is. omega arith, λ is. omega arith)
+shows_apart plan quiet before entries shown now last closing status told (stopped text) = (λ is. omega arith, λ is. omega arith, λ is. omega arith)
+
+said_apart : (plan : PlanValue) (heading : List ℕ) (past : List Entry) (stop : Option FlowState) (text : List ℕ) (wanted : ℕ) → IsLastSaid plan heading past stop text wanted → IsApart wanted
+said_apart plan heading past stop text wanted (reported last) = ran_last last
+said_apart plan heading past stop text wanted (disk_said halted) = (λ is. omega arith, λ is. omega arith, λ is. omega arith)
+said_apart plan heading past stop text wanted (filled halted size need full) = (λ is. omega arith, λ is. omega arith, λ is. omega arith)
+
+ran_apart : {gives : Order → Outcome → Type 0} {request : Request} {asked : Type 0} (plan : PlanValue) (before entries : List Entry) (stop : Option FlowState) (shown now : Option (List ℕ)) (closing : List ℕ) (status : ℕ)
+    → Ran gives request asked plan before entries stop shown now closing status → IsApart status
+ran_apart {gives} {request} plan before entries stop shown now closing status r =
+    shows_apart plan request.quiet before entries shown now (IsLastSaid plan (heading_of request (outline_of plan) (entries ++ before)) (entries ++ before) stop) closing status
+    (λ text wanted is. said_apart plan (heading_of request (outline_of plan) (entries ++ before)) (entries ++ before) stop text wanted is) r.text
+
+-- no fault of these kinds came
+record IsUnhurt (status : ℕ) : Type 0 where
+  readable : ¬ (status ≡ 3)
+  sound : ¬ (status ≡ 5)
+  sayable : ¬ (status ≡ 7)
+  hirable : ¬ (status ≡ 8)
+
+unhurt : (status : ℕ) (before after : Counts) → HasEachCause status before after → HasNoFault before after → IsUnhurt status
+unhurt status before after causes none = record {
+  readable = λ is. none.sources (causes.unread is);
+  sound = λ is. none.disk (causes.failed is);
+  sayable = λ is. none.out (causes.unsaid is);
+  hirable = λ is. none.crew (causes.unhired is);
+}
+
+tries_well : {gives : Order → Outcome → Type 0} {hands : Want} {asked : Type 0} (hired after_hiring : Option (List Want)) (before after : Option (List ℕ)) (tree : PlanTree) (status : ℕ) → IsUnhurt status → ¬ asked
+    → Tries gives hands asked hired after_hiring before after tree status → IsRunComplete status
+tries_well hired after_hiring before after tree status u unasked (course.unfinished_hire is same) = out_well status is
+tries_well hired after_hiring before after tree status u unasked (course.unhired same closes) = absurd (⊎_elim u.hirable u.sayable (closes_status before after _ 8 status closes))
+tries_well {gives} {hands} {asked} hired after_hiring before after tree status u unasked (course.tried hires t) =
+    let apart = ran_apart t.plan [] t.entries t.stop before after t.closing status t.ran in
+    ended_well_by None status (length t.entries) asked (ran_ended t.plan [] t.entries t.stop before after t.closing status t.ran) u.sound apart.0 u.sayable u.hirable apart.1 unasked
+    (ran_suspended t.plan [] t.entries t.stop before after t.closing status t.ran)
+
+works_well : (status : ℕ) → IsUnhurt status → (status ≡ 0) ⊎ (status ≡ 9) ⊎ (status ≡ 8) ⊎ (status ≡ 7) → IsDoneComplete status
+works_well status u (inl is) = inl is
+works_well status u (inr (inl is)) = inr is
+works_well status u (inr (inr (inl is))) = absurd (u.hirable is)
+works_well status u (inr (inr (inr is))) = absurd (u.sayable is)
+
+checks_well : (before after : Option (List ℕ)) (message : List ℕ) (status : ℕ) → IsUnhurt status → ClosesWithOrStops before message 0 after status → IsDoneComplete status
+checks_well before after message status u (inl out) = inr out.0
+checks_well before after message status u (inr closes) = ⊎_elim (λ is. inl is) (λ is. absurd (u.sayable is)) (closes_status before after message 0 status closes)
+
+well_or_out : (limit : Option ℕ) (status : ℕ) (does : PlanTree → ℕ → Type 0) → ((plan : PlanTree) → does plan status → IsRunCompleteBy limit status) → (status ≡ 9) ⊎ ((plan : PlanTree) × does plan status)
+    → IsRunCompleteBy limit status
+well_or_out limit status does well (inl out) = out_well_by limit status out
+well_or_out limit status does well (inr did) = well did.0 did.1
+
+done_or_out : (status : ℕ) (does : PlanTree → ℕ → Type 0) → ((plan : PlanTree) → does plan status → IsDoneComplete status) → (status ≡ 9) ⊎ ((plan : PlanTree) × does plan status) → IsDoneComplete status
+done_or_out status does well (inl out) = inr out
+done_or_out status does well (inr did) = well did.0 did.1
+
+reset_said_well : (plan : PlanValue) (past : List Entry) (text : List ℕ) (wanted status : ℕ) → IsUnhurt status → IsResetSaid plan past text wanted → status ≡ wanted → IsResetComplete status
+reset_said_well plan past text wanted status u (all_back pending) same = inl same
+reset_said_well plan past text wanted status u disk_failed_back same = absurd (u.sound same)
+reset_said_well plan past text wanted status u (filled_back size need full) same = inr (inr same)
+
+reset_well : (plan : PlanValue) (past entries : List Entry) (before after : Option (List ℕ)) (closing : List ℕ) (status : ℕ) → IsUnhurt status
+    → ShowsLines plan false past entries before after (IsResetSaid plan (entries ++ past)) closing status → IsResetComplete status
+reset_well plan past entries before after closing status u (closed text wanted ended is closes) =
+    ⊎_elim (λ same. reset_said_well plan (entries ++ past) text wanted status u is same) (λ seven. absurd (u.sayable seven)) (closes_status _ after text wanted status closes)
+reset_well plan past entries before after closing status u (line_cut front) = absurd (u.sayable refl)
+reset_well plan past entries before after closing status u (stopped text) = inr (inl refl)
+
+-- ---- what met no fault is done
+
+unopened_well : (name : List ℕ) (entry now : DeskState) (status : ℕ) → IsUnhurt status → ((offset : ℕ) (byte : Option ℕ) → ¬ (IsNoBook (book_at entry name) offset byte)) → IsTrue entry.tells
+    → Unopened name entry now status → status ≡ 9
+unopened_well name entry now status u book told (exhausted stops) = stops.status_is
+unopened_well name entry now status u book told (disk_failed r) = absurd (⊎_elim u.sound u.sayable (closes_status entry.shown now.shown _ 5 status r.closes))
+unopened_well name entry now status u book told (no_book offset byte is r) = absurd (book offset byte (is told))
+
+unhired_well : (name : List ℕ) (entry now : DeskState) (hired after_hiring : Option (List Want)) (status : ℕ) → IsUnhurt status
+    → Unhired name entry now hired after_hiring status → status ≡ 9
+unhired_well name entry now hired after_hiring status u (exhausted_hire same stops) = stops.status_is
+unhired_well name entry now hired after_hiring status u (unhired same r) = absurd (⊎_elim u.hirable u.sayable (closes_status entry.shown now.shown _ 8 status r.closes))
+
+promised_well : {gives : Order → Outcome → Type 0} {request : Request} {asked : Type 0} (name : List ℕ) (plan : PlanValue) (before : List Entry) (entry now : DeskState) (status : ℕ) → IsUnhurt status → ¬ asked
+    → Promised gives request asked name plan before entry now status → IsRunCompleteBy request.limit status
+promised_well {gives} {request} {asked} name plan before entry now status u unasked p =
+    let apart = ran_apart plan before p.entries p.stop entry.shown now.shown p.closing status p.ran in
+    ended_well_by request.limit status (length p.entries) asked (ran_ended plan before p.entries p.stop entry.shown now.shown p.closing status p.ran) u.sound apart.0 u.sayable u.hirable apart.1 unasked
+    (ran_suspended plan before p.entries p.stop entry.shown now.shown p.closing status p.ran)
+
+runs_well : {gives : Order → Outcome → Type 0} {request : Request} {asked : Type 0} (name : List ℕ) (hired after_hiring : Option (List Want)) (entry now : DeskState) (tree : PlanTree) (status : ℕ) → IsUnhurt status → ¬ asked → IsTrue entry.tells
+    → HoldsNoFlow (book_at entry name) → Runs gives request asked name hired after_hiring entry now tree status → IsRunCompleteBy request.limit status
+runs_well {gives} {request} name hired after_hiring entry now tree status u unasked told none (unopened same is) =
+    out_well_by request.limit status (unopened_well name entry now status u (λ offset byte isnt. no_book_held _ offset byte none isnt) told is)
+runs_well name hired after_hiring entry now tree status u unasked told none (forbidden plan past same held r) = absurd (flow_held _ plan past none (held told))
+runs_well {gives} {request} name hired after_hiring entry now tree status u unasked told none (unhired_run so is) = out_well_by request.limit status (unhired_well name entry now hired after_hiring status u is)
+runs_well name hired after_hiring entry now tree status u unasked told none (ran plan same so hires p) = promised_well name plan [] entry now status u unasked p
+
+demonstrates_well : {K : Type 0} {state : K → DeskState} {gives : Order → Outcome → Type 0} {hands : Want} {asked : Type 0} (name : List ℕ) (hired after_hiring : Option (List Want)) (entry now : K) (seed size status : ℕ) → IsUnhurt status → ¬ asked → IsTrue (state entry).tells
+    → HoldsNoFlow (book_at (state entry) name) → Demonstrates state gives hands asked name hired after_hiring entry now seed size status → IsRunComplete status
+demonstrates_well name hired after_hiring entry now seed size status u unasked told none (ungenerated is same still) = out_well status is
+demonstrates_well {K} {state} name hired after_hiring entry now seed size status u unasked told none (demonstrated runs) =
+    runs_well name hired after_hiring (state entry) (state now) (demo_tree seed size) status u unasked told none runs
+
+resumes_well : {gives : Order → Outcome → Type 0} {request : Request} {asked : Type 0} (name : List ℕ) (hired after_hiring : Option (List Want)) (entry now : DeskState) (status : ℕ) → IsUnhurt status → ¬ asked → IsTrue entry.tells
+    → HoldsFlow (book_at entry name) → Resumes gives request asked name hired after_hiring entry now status → IsRunCompleteBy request.limit status
+resumes_well {gives} {request} name hired after_hiring entry now status u unasked told has (unopened_again same is) = out_well_by request.limit status (unopened_well name entry now status u has.0 told is)
+resumes_well name hired after_hiring entry now status u unasked told has (empty same none r) = absurd (has.1 (none told))
+resumes_well {gives} {request} name hired after_hiring entry now status u unasked told has (unhired_again plan past held going is) = out_well_by request.limit status (unhired_well name entry now hired after_hiring status u is)
+resumes_well name hired after_hiring entry now status u unasked told has (resumed plan past runs held hires p) = promised_well name plan past entry now status u unasked p
+
+resets_well : (name : List ℕ) (entry now : DeskState) (status : ℕ) → IsUnhurt status → IsTrue entry.tells → HoldsReverted (book_at entry name)
+    → ResetsBook name entry now status → IsResetComplete status
+resets_well name entry now status u told has (unopened_reset is) = inr (inl (unopened_well name entry now status u has.0.0 told is))
+resets_well name entry now status u told has (nothing_put_back none r) = absurd (has.0.1 (none told))
+resets_well name entry now status u told has (reset_forbidden plan past held never r) = absurd (clash (may_reset (outline_of plan) (snapshot (outline_of plan) past)) (has.1 plan past (held told)) never)
+  where
+    clash : (b : Bool) → b ≡ true → b ≡ false → ⊥
+    clash b is isnt = cc
+resets_well name entry now status u told has (was_reset plan past held may p) = reset_well plan past p.entries entry.shown now.shown p.closing status u p.put_back.text
+
+shows_well : (name : List ℕ) (entry now : DeskState) (status : ℕ) → IsUnhurt status → IsTrue entry.tells → HoldsFlow (book_at entry name)
+    → ShowsBook name entry now status → IsDoneComplete status
+shows_well name entry now status u told has (unopened_show is) = inr (unopened_well name entry now status u has.0 told is)
+shows_well name entry now status u told has (nothing_shown none r) = absurd (has.1 (none told))
+shows_well name entry now status u told has (shown_whole plan past held r) = ⊎_elim (λ is. inl is) (λ is. absurd (u.sayable is)) (closes_status entry.shown now.shown _ 0 status r.closes)
+
+out_complete : (command : Asked) (status : ℕ) → status ≡ 9 → IsComplete command status
+out_complete (asked.Try file sets defer hands) status is = out_well status is
+out_complete (asked.Run file book sets defer hands stop) status is = out_well_by stop status is
+out_complete (asked.Resume book hands stop) status is = out_well_by stop status is
+out_complete (asked.Show book) status is = inr is
+out_complete (asked.Check file sets) status is = inr is
+out_complete (asked.Reset book) status is = inr (inl is)
+out_complete (asked.Demo seed size book hands) status is = out_well status is
+out_complete (asked.Worker address sessions) status is = inr is
+out_complete (asked.Post board name priority details) status is = inr (inl is)
+out_complete (asked.Claim board id owner) status is = inr (inl is)
+out_complete (asked.Abandon board id owner) status is = inr (inl is)
+out_complete (asked.Consume board id owner) status is = inr (inl is)
+out_complete (asked.Trash board id owner) status is = inr (inl is)
+out_complete (asked.Owner board id) status is = inr (inl is)
+out_complete (asked.List board) status is = inr (inl is)
+
+module _ {K : Type 0} (state : K → DeskState) where
+  asked_well : (gives : Order → Outcome → Type 0) (asked_so : Type 0) (command : Asked) (files : Contents) (hired after_hiring : Option (List Want)) (entry now : K) (status : ℕ) → IsUnhurt status → ¬ asked_so
+      → MayBeDone command files (state entry) → Obeys state gives asked_so command files hired after_hiring entry now status → IsComplete command status
+  asked_well gives asked_so (asked.Try file sets defer hands) files hired after_hiring entry now status u unasked ready obeys =
+      well_or_out None status (Tries gives hands asked_so hired after_hiring (state entry).shown (state now).shown) (λ plan did. tries_well hired after_hiring (state entry).shown (state now).shown plan status u unasked did)
+      (accepted_done files (source_so file sets defer) _ _ (state entry).shown (state now).shown status ready u.readable u.sayable obeys.0)
+  asked_well gives asked_so (asked.Check file sets) files hired after_hiring entry now status u unasked ready obeys =
+      done_or_out status (Checks (state entry).shown (state now).shown) (λ plan did. checks_well (state entry).shown (state now).shown _ status u did)
+      (accepted_done files (source_so file sets false) _ _ (state entry).shown (state now).shown status ready u.readable u.sayable obeys.0)
+  asked_well gives asked_so (asked.Run file book sets defer hands stop) files hired after_hiring entry now status u unasked ready obeys =
+      well_or_out stop status (Runs gives (spoken_run hands stop) asked_so book hired after_hiring (state entry) (state now))
+      (λ plan did. runs_well book hired after_hiring (state entry) (state now) plan status u unasked ready.1.0 ready.1.1 did)
+      (accepted_done files (source_so file sets defer) _ _ (state entry).shown (state now).shown status ready.0 u.readable u.sayable obeys)
+  asked_well gives asked_so (asked.Resume book hands stop) files hired after_hiring entry now status u unasked ready obeys =
+      resumes_well book hired after_hiring (state entry) (state now) status u unasked ready.0 ready.1 obeys
+  asked_well gives asked_so (asked.Show book) files hired after_hiring entry now status u unasked ready obeys = shows_well book (state entry) (state now) status u ready.0 ready.1 obeys.0
+  asked_well gives asked_so (asked.Reset book) files hired after_hiring entry now status u unasked ready obeys = resets_well book (state entry) (state now) status u ready.0 ready.1 obeys.0
+  asked_well gives asked_so (asked.Demo seed size book hands) files hired after_hiring entry now status u unasked ready obeys =
+      demonstrates_well book hired after_hiring entry now seed size status u unasked ready.0 ready.1 obeys
+  asked_well gives asked_so (asked.Worker address sessions) files hired after_hiring entry now status u unasked ready obeys =
+      works_well status u (works_one hired after_hiring (state entry).shown (state now).shown sessions status obeys.0)
+  asked_well gives asked_so (asked.Post board name priority details) files hired after_hiring entry now status u unasked ready obeys =
+      complete_so (asked.Post board name priority details) board (state entry) (state now) status obeys.0 ready.0 ready.1 u.sound u.sayable
+  asked_well gives asked_so (asked.Claim board id owner) files hired after_hiring entry now status u unasked ready obeys =
+      complete_so (asked.Claim board id owner) board (state entry) (state now) status obeys.0 ready.0 ready.1 u.sound u.sayable
+  asked_well gives asked_so (asked.Abandon board id owner) files hired after_hiring entry now status u unasked ready obeys =
+      complete_so (asked.Abandon board id owner) board (state entry) (state now) status obeys.0 ready.0 ready.1 u.sound u.sayable
+  asked_well gives asked_so (asked.Consume board id owner) files hired after_hiring entry now status u unasked ready obeys =
+      complete_so (asked.Consume board id owner) board (state entry) (state now) status obeys.0 ready.0 ready.1 u.sound u.sayable
+  asked_well gives asked_so (asked.Trash board id owner) files hired after_hiring entry now status u unasked ready obeys =
+      complete_so (asked.Trash board id owner) board (state entry) (state now) status obeys.0 ready.0 ready.1 u.sound u.sayable
+  asked_well gives asked_so (asked.Owner board id) files hired after_hiring entry now status u unasked ready obeys =
+      complete_so (asked.Owner board id) board (state entry) (state now) status obeys.0 ready.0 ready.1 u.sound u.sayable
+  asked_well gives asked_so (asked.List board) files hired after_hiring entry now status u unasked ready obeys =
+      complete_so (asked.List board) board (state entry) (state now) status obeys.0 ready.0 ready.1 u.sound u.sayable
+
+  -- where nothing stands against it and no count of faults rose, what was asked for was done
+  pub completes : {gives : Order → Outcome → Type 0} {asked_so : Type 0} (words : List (List ℕ)) (files : Contents) (hired after_hiring : Option (List Want)) (entry now : K) (status : ℕ) (before after : Counts)
+      → Course state gives asked_so words files hired after_hiring entry now status → HasEachCause status before after
+      → (command : Asked) → asked_for words ≡ Some command → MayBeDone command files (state entry) → HasNoFault before after → ¬ asked_so → IsComplete command status
+  completes words files hired after_hiring entry now status before after (course.unheard is same still) causes command wanted ready none unasked = out_complete command status is
+  completes words files hired after_hiring entry now status before after (course.no_command unknown closes still) causes command wanted ready none unasked = absurd (cc)
+  completes {gives} {asked_so} words files hired after_hiring entry now status before after (course.obeyed other asks obeys) causes command wanted ready none unasked =
+      let same : other ≡ command = cc in
+      asked_well gives asked_so command files hired after_hiring entry now status (unhurt status before after causes none) unasked ready
+      (subst (λ (c : Asked). Obeys state gives asked_so c files hired after_hiring entry now status) same obeys)

@@ -1,0 +1,198 @@
+-- How what was done ends: the statuses that it may have.
+use Rattle.std.proofs.Common.{◌≡◌, ◌⊎◌, ℕ, List, [], ◌++◌, length, Option, Some, Bool, true, false, inl, inr, refl, ◌∙◌, sym, ap, subst, arith, ⊎_elim}
+use Rattle.tf_desk.specs.State.{DeskState}
+use Rattle.tf_flow.specs.Plan.{PlanValue}
+use Rattle.tf_flow.specs.Written.{PlanTree}
+use Rattle.tf_ports.specs.declared.crews.Want.{Want}
+use Rattle.tf_actions.specs.declared.orders.Order.{Order}
+use Rattle.tf_actions.specs.declared.outcomes.Outcome.{Outcome}
+use Rattle.tf_states.specs.declared.record.Entry.{Entry}
+use Rattle.tf_states.specs.declared.state.FlowState.{FlowState}
+use Rattle.tf_states.specs.declared.state.FlowState.TheVariants as flow
+use Rattle.tf_model.specs.Plan.{outline_of}
+use Rattle.tf_book.specs.Stopping.{is_reached}
+use Rattle.tf_commands.specs.Accepted.{demo_tree}
+use Rattle.tf_commands.specs.Books.{Unopened, exhausted, disk_failed, no_book, Refuses, Unhired, exhausted_hire, unhired, Promised, Runs, unopened, forbidden, unhired_run, ran, Demonstrates, ungenerated, demonstrated, Resumes, unopened_again, empty, unhired_again, resumed, ShowsBook, unopened_show, nothing_shown, shown_whole, ResetsBook, unopened_reset, nothing_put_back, reset_forbidden, was_reset}
+use Rattle.tf_commands.specs.Course as course
+use Rattle.tf_commands.specs.Course.{Tries, IsRunComplete}
+use Rattle.tf_commands.specs.Resets.{IsResetSaid, all_back, disk_failed_back, filled_back}
+use Rattle.tf_commands.specs.declared.running.Request.{Request}
+use Rattle.tf_commands.specs.Run.{heading_of, stop_status, Ran, ShowsLines, closed, line_cut, stopped, IsLastSaid, reported, disk_failed as disk_said, filled}
+use Rattle.tf_commands.specs.Saying.{ClosesWithOrStops}
+use Rattle.tf_commands.proofs.CountLemmas.{closes_status}
+
+pub data Ended (status : ℕ) : Type 0 where
+  is_complete : IsRunComplete status → Ended status
+  is_failed : status ≡ 5 → Ended status
+  is_no_book : status ≡ 6 → Ended status
+  is_unsaid : status ≡ 7 → Ended status
+  is_unhired : status ≡ 8 → Ended status
+  is_forbidden : status ≡ 14 → Ended status
+  is_suspended : status ≡ 12 → Ended status
+
+pub out_ends : (status : ℕ) → status ≡ 9 → Ended status
+out_ends status is = is_complete (inr (inr (inr (inl is))))
+
+-- a worker's statuses
+pub works_ended : (status : ℕ) → (status ≡ 0) ⊎ (status ≡ 9) ⊎ (status ≡ 8) ⊎ (status ≡ 7) → Ended status
+works_ended status (inl is) = is_complete (inl is)
+works_ended status (inr (inl is)) = out_ends status is
+works_ended status (inr (inr (inl is))) = is_unhired is
+works_ended status (inr (inr (inr is))) = is_unsaid is
+
+apart_three : (status wanted other : ℕ) → status ≡ other → status ≡ wanted → (wanted ≡ 2) ⊎ (wanted ≡ 3) ⊎ (wanted ≡ 4) → ¬ (other ≡ 2) → ¬ (other ≡ 3) → ¬ (other ≡ 4) → ⊥
+apart_three status wanted other a is (inl two) no_two no_three no_four = no_two (sym a ∙ is ∙ two)
+apart_three status wanted other a is (inr (inl three)) no_two no_three no_four = no_three (sym a ∙ is ∙ three)
+apart_three status wanted other a is (inr (inr four)) no_two no_three no_four = no_four (sym a ∙ is ∙ four)
+
+-- no status of what was done is one of these
+pub ended_apart : (status wanted : ℕ) → Ended status → status ≡ wanted → (wanted ≡ 2) ⊎ (wanted ≡ 3) ⊎ (wanted ≡ 4) → ⊥
+ended_apart status wanted (is_complete (inl a)) is one = apart_three status wanted 0 a is one (λ e. omega arith) (λ e. omega arith) (λ e. omega arith)
+ended_apart status wanted (is_complete (inr (inl a))) is one = apart_three status wanted 10 a is one (λ e. omega arith) (λ e. omega arith) (λ e. omega arith)
+ended_apart status wanted (is_complete (inr (inr (inl a)))) is one = apart_three status wanted 11 a is one (λ e. omega arith) (λ e. omega arith) (λ e. omega arith)
+ended_apart status wanted (is_complete (inr (inr (inr (inl a))))) is one = apart_three status wanted 9 a is one (λ e. omega arith) (λ e. omega arith) (λ e. omega arith)
+ended_apart status wanted (is_complete (inr (inr (inr (inr a))))) is one = apart_three status wanted 13 a is one (λ e. omega arith) (λ e. omega arith) (λ e. omega arith)
+ended_apart status wanted (is_failed a) is one = apart_three status wanted 5 a is one (λ e. omega arith) (λ e. omega arith) (λ e. omega arith)
+ended_apart status wanted (is_no_book a) is one = apart_three status wanted 6 a is one (λ e. omega arith) (λ e. omega arith) (λ e. omega arith)
+ended_apart status wanted (is_unsaid a) is one = apart_three status wanted 7 a is one (λ e. omega arith) (λ e. omega arith) (λ e. omega arith)
+ended_apart status wanted (is_unhired a) is one = apart_three status wanted 8 a is one (λ e. omega arith) (λ e. omega arith) (λ e. omega arith)
+ended_apart status wanted (is_forbidden a) is one = apart_three status wanted 14 a is one (λ e. omega arith) (λ e. omega arith) (λ e. omega arith)
+ended_apart status wanted (is_suspended a) is one = apart_three status wanted 12 a is one (λ e. omega arith) (λ e. omega arith) (λ e. omega arith)
+
+-- ---- runs
+
+stopped_with : (last : FlowState) → Ended (stop_status last)
+stopped_with flow.Success = is_complete (inl refl)
+stopped_with flow.Reverted = is_complete (inr (inl refl))
+stopped_with flow.Pending = is_complete (inr (inr (inl refl)))
+stopped_with flow.Running = is_complete (inr (inr (inl refl)))
+stopped_with flow.Failure = is_complete (inr (inr (inl refl)))
+stopped_with flow.Suspending = is_complete (inr (inr (inl refl)))
+stopped_with flow.Suspended = is_suspended refl
+stopped_with flow.Resuming = is_complete (inr (inr (inl refl)))
+
+pub last_said : (plan : PlanValue) (heading : List ℕ) (past : List Entry) (stop : Option FlowState) (closing : List ℕ) (wanted : ℕ) → IsLastSaid plan heading past stop closing wanted → Ended wanted
+last_said plan heading past stop closing wanted (reported last) = stopped_with last
+last_said plan heading past stop closing wanted (disk_said halted) = is_failed refl
+last_said plan heading past stop closing wanted (filled halted size need full) = is_complete (inr (inr (inr (inr refl))))
+
+-- what records and says its last ends as that tells
+pub shows_last : (plan : PlanValue) (quiet : Bool) (before entries : List Entry) (shown now : Option (List ℕ)) (last : List ℕ → ℕ → Type 0) (closing : List ℕ) (status : ℕ)
+    → ((text : List ℕ) (wanted : ℕ) → last text wanted → Ended wanted) → ShowsLines plan quiet before entries shown now last closing status → Ended status
+shows_last plan quiet before entries shown now last closing status ends (closed text wanted ended is closes) =
+    ⊎_elim (λ same. subst Ended (sym same) (ends text wanted is)) (λ seven. is_unsaid seven) (closes_status _ now text wanted ended closes)
+shows_last plan quiet before entries shown now last closing status ends (line_cut front) = is_unsaid refl
+shows_last plan quiet before entries shown now last closing status ends (stopped text) = out_ends 9 refl
+
+pub ran_ended : {gives : Order → Outcome → Type 0} {request : Request} {asked : Type 0} (plan : PlanValue) (before entries : List Entry) (stop : Option FlowState) (shown now : Option (List ℕ)) (closing : List ℕ) (status : ℕ)
+    → Ran gives request asked plan before entries stop shown now closing status → Ended status
+ran_ended {gives} {request} plan before entries stop shown now closing status r =
+    shows_last plan request.quiet before entries shown now (IsLastSaid plan (heading_of request (outline_of plan) (entries ++ before)) (entries ++ before) stop) closing status
+    (λ text wanted is. last_said plan (heading_of request (outline_of plan) (entries ++ before)) (entries ++ before) stop text wanted is) r.text
+
+-- the status of a suspension comes from one, which was asked for or reached the limit
+suspends_by : (last : FlowState) → stop_status last ≡ 12 → last ≡ flow.Suspended
+suspends_by flow.Suspended is = refl
+suspends_by flow.Success is = absurd (omega (arith, is))
+suspends_by flow.Reverted is = absurd (omega (arith, is))
+suspends_by flow.Pending is = absurd (omega (arith, is))
+suspends_by flow.Running is = absurd (omega (arith, is))
+suspends_by flow.Failure is = absurd (omega (arith, is))
+suspends_by flow.Suspending is = absurd (omega (arith, is))
+suspends_by flow.Resuming is = absurd (omega (arith, is))
+
+last_suspends : (plan : PlanValue) (heading : List ℕ) (past : List Entry) (stop : Option FlowState) (closing : List ℕ) (wanted : ℕ) → IsLastSaid plan heading past stop closing wanted → wanted ≡ 12
+    → stop ≡ Some flow.Suspended
+last_suspends plan heading past stop closing wanted (reported last) is = ap Some (suspends_by last is)
+last_suspends plan heading past stop closing wanted (disk_said halted) is = absurd (omega (arith, is))
+last_suspends plan heading past stop closing wanted (filled halted size need full) is = absurd (omega (arith, is))
+
+shows_suspended : (plan : PlanValue) (quiet : Bool) (heading : List ℕ) (before entries past : List Entry) (shown now : Option (List ℕ)) (stop : Option FlowState) (closing : List ℕ) (status : ℕ)
+    → ShowsLines plan quiet before entries shown now (IsLastSaid plan heading past stop) closing status → status ≡ 12 → stop ≡ Some flow.Suspended
+shows_suspended plan quiet heading before entries past shown now stop closing status (closed text wanted ended last closes) is =
+    ⊎_elim (λ same. last_suspends plan heading past stop text wanted last (sym same ∙ is)) (λ seven. absurd (omega (arith, seven, is))) (closes_status _ now text wanted ended closes)
+shows_suspended plan quiet heading before entries past shown now stop closing status (line_cut front) is = absurd (omega (arith, is))
+shows_suspended plan quiet heading before entries past shown now stop closing status (stopped text) is = absurd (omega (arith, is))
+
+pub ran_suspended : {gives : Order → Outcome → Type 0} {request : Request} {asked : Type 0} (plan : PlanValue) (before entries : List Entry) (stop : Option FlowState) (shown now : Option (List ℕ)) (closing : List ℕ) (status : ℕ)
+    → Ran gives request asked plan before entries stop shown now closing status → status ≡ 12 → asked ⊎ (is_reached request.limit (length entries) ≡ true)
+ran_suspended {gives} {request} plan before entries stop shown now closing status r is =
+    (r.steps.suspended (shows_suspended plan request.quiet (heading_of request (outline_of plan) (entries ++ before)) before entries (entries ++ before) shown now stop closing status r.text is)).cause
+
+-- ---- trials and checks
+
+pub tries_ended : {gives : Order → Outcome → Type 0} {hands : Want} {asked : Type 0} (hired after_hiring : Option (List Want)) (before after : Option (List ℕ)) (tree : PlanTree) (status : ℕ) → Tries gives hands asked hired after_hiring before after tree status → Ended status
+tries_ended hired after_hiring before after tree status (course.unfinished_hire is same) = out_ends status is
+tries_ended hired after_hiring before after tree status (course.unhired same closes) = ⊎_elim (λ is. is_unhired is) (λ is. is_unsaid is) (closes_status before after _ 8 status closes)
+tries_ended hired after_hiring before after tree status (course.tried hires t) = ran_ended t.plan [] t.entries t.stop before after t.closing status t.ran
+
+pub checks_ended : (before after : Option (List ℕ)) (message : List ℕ) (status : ℕ) → ClosesWithOrStops before message 0 after status → Ended status
+checks_ended before after message status (inl out) = out_ends status out.0
+checks_ended before after message status (inr closes) = ⊎_elim (λ is. is_complete (inl is)) (λ is. is_unsaid is) (closes_status before after message 0 status closes)
+
+refuses_ended : (name : List ℕ) (entry now : DeskState) (message : List ℕ) (wanted status : ℕ) → Ended wanted → Refuses name entry now message wanted status → Ended status
+refuses_ended name entry now message wanted status ended r =
+    ⊎_elim (λ is. subst Ended (sym is) ended) (λ is. is_unsaid is) (closes_status entry.shown now.shown message wanted status r.closes)
+
+unopened_ended : (name : List ℕ) (entry now : DeskState) (status : ℕ) → Unopened name entry now status → Ended status
+unopened_ended name entry now status (exhausted stops) = out_ends status stops.status_is
+unopened_ended name entry now status (disk_failed r) = refuses_ended name entry now _ 5 status (is_failed refl) r
+unopened_ended name entry now status (no_book offset byte is r) = refuses_ended name entry now _ 6 status (is_no_book refl) r
+
+unhired_ended : (name : List ℕ) (entry now : DeskState) (hired after_hiring : Option (List Want)) (status : ℕ) → Unhired name entry now hired after_hiring status → Ended status
+unhired_ended name entry now hired after_hiring status (exhausted_hire same stops) = out_ends status stops.status_is
+unhired_ended name entry now hired after_hiring status (unhired same r) = refuses_ended name entry now _ 8 status (is_unhired refl) r
+
+promised_ended : {gives : Order → Outcome → Type 0} {request : Request} {asked : Type 0} (name : List ℕ) (plan : PlanValue) (before : List Entry) (entry now : DeskState) (status : ℕ)
+    → Promised gives request asked name plan before entry now status → Ended status
+promised_ended name plan before entry now status p = ran_ended plan before p.entries p.stop entry.shown now.shown p.closing status p.ran
+
+pub runs_ended : {gives : Order → Outcome → Type 0} {request : Request} {asked : Type 0} (name : List ℕ) (hired after_hiring : Option (List Want)) (entry now : DeskState) (tree : PlanTree) (status : ℕ)
+    → Runs gives request asked name hired after_hiring entry now tree status → Ended status
+runs_ended name hired after_hiring entry now tree status (unopened same u) = unopened_ended name entry now status u
+runs_ended name hired after_hiring entry now tree status (forbidden plan past same held r) = refuses_ended name entry now _ 14 status (is_forbidden refl) r
+runs_ended name hired after_hiring entry now tree status (unhired_run none u) = unhired_ended name entry now hired after_hiring status u
+runs_ended name hired after_hiring entry now tree status (ran plan same none hires p) = promised_ended name plan [] entry now status p
+
+pub demonstrates_ended : {K : Type 0} {state : K → DeskState} {gives : Order → Outcome → Type 0} {hands : Want} {asked : Type 0} (name : List ℕ) (hired after_hiring : Option (List Want)) (entry now : K) (seed size status : ℕ)
+    → Demonstrates state gives hands asked name hired after_hiring entry now seed size status → Ended status
+demonstrates_ended name hired after_hiring entry now seed size status (ungenerated is same still) = out_ends status is
+demonstrates_ended {K} {state} name hired after_hiring entry now seed size status (demonstrated runs) = runs_ended name hired after_hiring (state entry) (state now) (demo_tree seed size) status runs
+
+pub resumes_ended : {gives : Order → Outcome → Type 0} {request : Request} {asked : Type 0} (name : List ℕ) (hired after_hiring : Option (List Want)) (entry now : DeskState) (status : ℕ)
+    → Resumes gives request asked name hired after_hiring entry now status → Ended status
+resumes_ended name hired after_hiring entry now status (unopened_again same u) = unopened_ended name entry now status u
+resumes_ended name hired after_hiring entry now status (empty same none r) = refuses_ended name entry now _ 14 status (is_forbidden refl) r
+resumes_ended name hired after_hiring entry now status (unhired_again plan past held going u) = unhired_ended name entry now hired after_hiring status u
+resumes_ended name hired after_hiring entry now status (resumed plan past runs held hires p) = promised_ended name plan past entry now status p
+
+pub shows_ended : (name : List ℕ) (entry now : DeskState) (status : ℕ) → ShowsBook name entry now status → Ended status
+shows_ended name entry now status (unopened_show u) = unopened_ended name entry now status u
+shows_ended name entry now status (nothing_shown none r) = refuses_ended name entry now _ 14 status (is_forbidden refl) r
+shows_ended name entry now status (shown_whole plan past held r) = refuses_ended name entry now _ 0 status (is_complete (inl refl)) r
+
+pub resets_ended : (name : List ℕ) (entry now : DeskState) (status : ℕ) → ResetsBook name entry now status → Ended status
+resets_ended name entry now status (unopened_reset u) = unopened_ended name entry now status u
+resets_ended name entry now status (nothing_put_back none r) = refuses_ended name entry now _ 14 status (is_forbidden refl) r
+resets_ended name entry now status (reset_forbidden plan past held never r) = refuses_ended name entry now _ 14 status (is_forbidden refl) r
+resets_ended name entry now status (was_reset plan past held may p) =
+    shows_last plan false past p.entries entry.shown now.shown (IsResetSaid plan (p.entries ++ past)) p.closing status reset_said p.put_back.text
+  where
+    reset_said : (text : List ℕ) (wanted : ℕ) → IsResetSaid plan (p.entries ++ past) text wanted → Ended wanted
+    reset_said text wanted (all_back pending) = is_complete (inl refl)
+    reset_said text wanted disk_failed_back = is_failed refl
+    reset_said text wanted (filled_back size need full) = is_complete (inr (inr (inr (inr refl))))
+
+-- no status of what was done with a flow is a board's refusal
+pub ended_unrefused : (status : ℕ) → Ended status → status ≡ 15 → ⊥
+ended_unrefused status (is_complete (inl a)) is = omega (arith, a, is)
+ended_unrefused status (is_complete (inr (inl a))) is = omega (arith, a, is)
+ended_unrefused status (is_complete (inr (inr (inl a)))) is = omega (arith, a, is)
+ended_unrefused status (is_complete (inr (inr (inr (inl a))))) is = omega (arith, a, is)
+ended_unrefused status (is_complete (inr (inr (inr (inr a))))) is = omega (arith, a, is)
+ended_unrefused status (is_failed a) is = omega (arith, a, is)
+ended_unrefused status (is_no_book a) is = omega (arith, a, is)
+ended_unrefused status (is_unsaid a) is = omega (arith, a, is)
+ended_unrefused status (is_unhired a) is = omega (arith, a, is)
+ended_unrefused status (is_forbidden a) is = omega (arith, a, is)
+ended_unrefused status (is_suspended a) is = omega (arith, a, is)

@@ -1,0 +1,93 @@
+-- What a status tells of a flow file.
+use Rattle.std.proofs.Common.{◌≡◌, ◌⊎◌, ℕ, List, length, Option, Some, None, inl, inr, refl, ◌∙◌, sym, ap, subst, arith, ⊎_elim}
+use Rattle.tf_flow.specs.Written.{PlanTree}
+use Rattle.tf_ports.specs.Contents.{Contents, GivesBytes, PassesLimit}
+use Rattle.tf_words.specs.declared.asked.Asked.{Asked}
+use Rattle.tf_commands.specs.Accepted.{GivesPlan, GivesNone}
+use Rattle.tf_commands.specs.Asking.{file_asked_for, asked_for}
+use Rattle.tf_commands.specs.Course as course
+use Rattle.tf_commands.specs.Course.{BytesRead, FileRead, IsRefused, passes_limit, gives_none, IsAccepted}
+use Rattle.tf_commands.specs.declared.accepting.Refusal.{Refusal}
+use Rattle.tf_commands.specs.declared.reading.Source.{Source}
+use Rattle.tf_commands.proofs.AcceptLemmas.{gives_one}
+use Rattle.tf_commands.proofs.EndLemmas.{Ended, is_unsaid, out_ends, ended_apart, ended_unrefused}
+use Rattle.tf_commands.proofs.CountLemmas.{closes_status}
+
+-- what a status tells of a flow file
+pub data FileStatus (files : Contents) (source : Source) (status : ℕ) : Type 0 where
+  done_so : Ended status → FileStatus files source status
+  not_read : status ≡ 3 → FileStatus files source status
+  not_short : status ≡ 4 → PassesLimit files source.file → FileStatus files source status
+  not_plan : status ≡ 4 → (bytes : List ℕ) (why : Refusal) → GivesBytes files source.file bytes → GivesNone source.sets source.defer bytes why → FileStatus files source status
+
+bytes_status : (files : Contents) (source : Source) (bytes : List ℕ) (untouched : Type 0) (does : PlanTree → ℕ → Type 0) (before after : Option (List ℕ)) (status : ℕ) → ((plan : PlanTree) → does plan status → Ended status)
+    → GivesBytes files source.file bytes → BytesRead source bytes untouched does before after status → FileStatus files source status
+bytes_status files source bytes untouched does before after status ends given (course.exhausted still is same) = done_so (out_ends status is)
+bytes_status files source bytes untouched does before after status ends given (course.refused still why none closes) =
+    ⊎_elim (λ is. not_plan is bytes why given none) (λ is. done_so (is_unsaid is)) (closes_status before after _ 4 status closes)
+bytes_status files source bytes untouched does before after status ends given (course.done plan gives did) = done_so (ends plan did)
+
+pub file_status : (files : Contents) (source : Source) (untouched : Type 0) (does : PlanTree → ℕ → Type 0) (before after : Option (List ℕ)) (status : ℕ) → ((plan : PlanTree) → does plan status → Ended status)
+    → FileRead files source untouched does before after status → FileStatus files source status
+file_status files source untouched does before after status ends (course.unfinished still is same) = done_so (out_ends status is)
+file_status files source untouched does before after status ends (course.unread still closes) =
+    ⊎_elim (λ is. not_read is) (λ is. done_so (is_unsaid is)) (closes_status before after _ 3 status closes)
+file_status files source untouched does before after status ends (course.too_long still passes closes) =
+    ⊎_elim (λ is. not_short is passes) (λ is. done_so (is_unsaid is)) (closes_status before after _ 4 status closes)
+file_status files source untouched does before after status ends (course.read bytes given came) = bytes_status files source bytes untouched does before after status ends given came
+
+-- what gives a plan is dealt with, unless memory ran out, or a fault came
+pub accepted_done : (files : Contents) (source : Source) (untouched : Type 0) (does : PlanTree → ℕ → Type 0) (before after : Option (List ℕ)) (status : ℕ) → IsAccepted source files → ¬ (status ≡ 3) → ¬ (status ≡ 7)
+    → FileRead files source untouched does before after status → (status ≡ 9) ⊎ ((plan : PlanTree) × does plan status)
+accepted_done files source untouched does before after status accepted readable sayable (course.unfinished still is same) = inl is
+accepted_done files source untouched does before after status accepted readable sayable (course.unread still closes) =
+    absurd (⊎_elim readable sayable (closes_status before after _ 3 status closes))
+accepted_done files source untouched does before after status accepted readable sayable (course.too_long still passes closes) =
+    absurd (too_short files source accepted passes)
+  where
+    too_short : (f : Contents) (src : Source) (a : IsAccepted src f) → PassesLimit f src.file → ⊥
+    too_short f src a passes = by f a.sources passes
+      where
+        by : (g : Contents) → g ≡ Some a.told → PassesLimit g src.file → ⊥
+        by None is pass = cc
+        by (Some told) is pass =
+            let same : told ≡ a.told = cc in
+            let under : Some pass.0 ≡ Some a.bytes = sym pass.1 ∙ ap (λ (t : List ℕ → Option (List ℕ)). t src.file) same ∙ a.under in
+            let bytes : pass.0 ≡ a.bytes = cc in
+            omega (arith, pass.2, ap length bytes, a.short)
+accepted_done files source untouched does before after status accepted readable sayable (course.read bytes given came) = by came
+  where
+    by : BytesRead source bytes untouched does before after status → (status ≡ 9) ⊎ ((plan : PlanTree) × does plan status)
+    by (course.exhausted still is same) = inl is
+    by (course.refused still why none closes) = absurd (gives_one source.sets source.defer bytes accepted.plan why (gives_here files accepted given) none)
+      where
+        gives_here : (f : Contents) (a : IsAccepted source f) → GivesBytes f source.file bytes → GivesPlan source.sets source.defer bytes a.plan
+        gives_here f a has = on f a.sources has
+          where
+            on : (g : Contents) → g ≡ Some a.told → GivesBytes g source.file bytes → GivesPlan source.sets source.defer bytes a.plan
+            on None is got = absurd (cc)
+            on (Some told) is got =
+                let same : told ≡ a.told = cc in
+                let under : Some bytes ≡ Some a.bytes = sym got ∙ ap (λ (t : List ℕ → Option (List ℕ)). t source.file) same ∙ a.under in
+                let bytes_are : bytes ≡ a.bytes = cc in
+                subst (λ (b : List ℕ). GivesPlan source.sets source.defer b a.plan) (sym bytes_are) a.given
+    by (course.done plan gives did) = inr (plan, did)
+
+pub file_unrefused : (files : Contents) (source : Source) (status : ℕ) → FileStatus files source status → status ≡ 15 → ⊥
+file_unrefused files source status (done_so ended) is = ended_unrefused status ended is
+file_unrefused files source status (not_read three) is = omega (arith, three, is)
+file_unrefused files source status (not_short four passes) is = omega (arith, four, is)
+file_unrefused files source status (not_plan four bytes why given none) is = omega (arith, four, is)
+
+pub file_usage : (files : Contents) (source : Source) (status : ℕ) → FileStatus files source status → status ≡ 2 → ⊥
+file_usage files source status (done_so ended) two = ended_apart status 2 ended two (inl refl)
+file_usage files source status (not_read is) two = omega arith
+file_usage files source status (not_short is passes) two = omega arith
+file_usage files source status (not_plan is bytes why given none) two = omega arith
+
+pub file_refused : (words : List (List ℕ)) (files : Contents) (command : Asked) (source : Source) (status : ℕ) → asked_for words ≡ Some command → file_asked_for command ≡ Some source → FileStatus files source status
+    → status ≡ 4 → IsRefused words files
+file_refused words files command source status asks about (done_so ended) four = absurd (ended_apart status 4 ended four (inr (inr refl)))
+file_refused words files command source status asks about (not_read is) four = absurd (omega arith)
+file_refused words files command source status asks about (not_short is passes) four = passes_limit command source asks about passes
+file_refused words files command source status asks about (not_plan is bytes why given none) four = gives_none command source bytes why asks about given none

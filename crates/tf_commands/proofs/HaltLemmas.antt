@@ -1,0 +1,254 @@
+-- What is promised where a book was halted, or nothing more is said: what is shown, what a crash leaves, and the causes.
+use Rattle.std.proofs.Common.{◌≡◌, ◌≢◌, ◌⊎◌, ℕ, List, [], ◌++◌, length, Bool, false, Option, Some, None, refl, sym, ap, ◌∙◌, subst, inl, inr, ⊎_elim, append_assoc, arith}
+use Rattle.std.specs.Prelude.{IsTrue}
+use Rattle.tf_desk.proofs.StateLemmas.{bytes_stay, left_stays, files_none, extends_told, passes_then}
+use Rattle.tf_desk.specs.Counts.{Rises}
+use Rattle.tf_desk.specs.Shown.{shown_with, ShowsPrefix}
+use Rattle.tf_desk.specs.State.{DeskState, Passes, Says, SaysPrefix, nothing_left, passes_none, passes_on, passes_within}
+use Rattle.tf_flow.specs.Plan.{PlanValue}
+use Rattle.tf_states.specs.declared.record.Entry.{Entry}
+use Rattle.tf_model.specs.Plan.{outline_of}
+use Rattle.tf_journal.specs.Format.{bodies, title_of}
+use Rattle.tf_journal.specs.Rest.{LeavesEither}
+use Rattle.tf_journal.specs.declared.title.Title.TheVariants.{Book as book_title}
+use Rattle.tf_book.specs.Book.{BookValue, outline, bodies_of}
+use Rattle.tf_book.specs.Kept.{Kept, said, IsSpoken, IsCut, HasCause, LeavesEntries, IsPending, IsExact, IsFullFor}
+use Rattle.tf_book.specs.declared.faults.Halt.{Halt}
+use Rattle.tf_book.specs.declared.faults.Halt.TheVariants as halt
+use Rattle.tf_book.proofs.SpokenLemmas.{shown_none}
+use Rattle.tf_commands.specs.Messages.{disk_fault_text, book_full}
+use Rattle.tf_commands.specs.Run.{ShowsLines, closed, line_cut, stopped}
+use Rattle.tf_commands.specs.Durable.{book_in, IsPendingSo, MayLeave}
+use Rattle.tf_commands.specs.Runs.{SaysHalt, HasMessage, HasSaidHalt, book_desk, LastsFrom, HasEnded}
+use Rattle.tf_commands.specs.Saying.{ClosesWith, said as was_said, cut}
+use Rattle.tf_commands.specs.declared.statuses.TheConstants.{UNSAID, UNREAD, UNHIRED, DISK_FAILED, FULL}
+
+-- nothing was said
+pub says_nothing : {now : DeskState} → Says [] now now
+says_nothing {now} = record {
+  tells = refl;
+  prefix = record { count = 0; prefix = sym (shown_none now.shown) };
+  disk_faults = refl;
+  out_faults = omega arith;
+  asks = refl;
+  turns = refl;
+  marks = λ told. refl;
+  files = λ told. files_none;
+  crash = λ told. passes_none;
+}
+
+-- what is shown once a halt was said, where a message for it is among what may be said last
+pub halt_said : (plan : PlanValue) (quiet : Bool) (before entries : List Entry) (start mid now : DeskState) (last : List ℕ → ℕ → Type 0) (why : Halt) (closing : List ℕ) (status : ℕ)
+    → last disk_fault_text DISK_FAILED → ((size need : ℕ) → IsFullFor plan (entries ++ before) size need → last (book_full size need) FULL)
+    → IsSpoken quiet (outline_of plan) before start.shown entries (Some why) mid.shown → HasCause plan (entries ++ before) start mid (Some why)
+    → SaysHalt mid.shown now.shown why closing status → ShowsLines plan quiet before entries start.shown now.shown last closing status
+halt_said plan quiet before entries start mid now last halt.Disk closing status failed full spoken cause says =
+    subst (λ (c : List ℕ). ShowsLines plan quiet before entries start.shown now.shown last c status) (sym says.0)
+    (closed disk_fault_text DISK_FAILED status failed (subst (λ (t : Option (List ℕ)). ClosesWith t disk_fault_text DISK_FAILED now.shown status) spoken says.1))
+halt_said plan quiet before entries start mid now last halt.Out closing status failed full spoken cause says =
+    subst (λ (c : List ℕ). ShowsLines plan quiet before entries start.shown now.shown last c status) (sym says.0)
+    (subst (λ (n : ℕ). ShowsLines plan quiet before entries start.shown now.shown last [] n) (sym says.1)
+    (line_cut (subst (λ (t : Option (List ℕ)). IsCut quiet (outline_of plan) before start.shown entries t) (sym says.2) spoken)))
+halt_said plan quiet before entries start mid now last (halt.Full size need) closing status failed full spoken cause (inl out) =
+    subst (λ (c : List ℕ). ShowsLines plan quiet before entries start.shown now.shown last c status) (sym out.0)
+    (subst (λ (n : ℕ). ShowsLines plan quiet before entries start.shown now.shown last [] n) (sym out.1) (stopped (out.2 ∙ spoken)))
+halt_said plan quiet before entries start mid now last (halt.Full size need) closing status failed full spoken cause (inr says) =
+    subst (λ (c : List ℕ). ShowsLines plan quiet before entries start.shown now.shown last c status) (sym says.0)
+    (closed (book_full size need) FULL status (full size need cause) (subst (λ (t : Option (List ℕ)). ClosesWith t (book_full size need) FULL now.shown status) spoken says.1))
+halt_said plan quiet before entries start mid now last halt.Memory closing status failed full spoken cause says =
+    subst (λ (c : List ℕ). ShowsLines plan quiet before entries start.shown now.shown last c status) (sym says.0)
+    (subst (λ (n : ℕ). ShowsLines plan quiet before entries start.shown now.shown last [] n) (sym says.1) (stopped (says.2 ∙ spoken)))
+
+-- ---- what a crash leaves
+
+-- a prefix of the lines of some of the entries, the oldest
+pub left_runs : (plan : PlanValue) (quiet : Bool) (before entries pending : List Entry) (shown : Option (List ℕ)) (closing image text : List ℕ) → LeavesEntries plan quiet before (pending ++ entries) shown image text
+    → MayLeave plan quiet before entries pending shown closing image text
+left_runs plan quiet before entries pending shown closing image text l = record {
+  lost = l.lost;
+  kept = l.kept;
+  oldest = l.splits;
+  finds = inl l.recovers;
+  spoken = inl l.spoken;
+}
+
+-- all lines, and a prefix of the closing
+pub closing_runs : (plan : PlanValue) (quiet : Bool) (before entries pending more : List Entry) (shown : Option (List ℕ)) (closing image text : List ℕ) → ((pending ≡ more) ⊎ (more ≡ []))
+    → book_in image ≡ bodies (bodies_of plan ((more ++ entries) ++ before))
+    → ShowsPrefix (shown_with shown (said quiet (outline_of plan) before entries)) closing (Some text) → MayLeave plan quiet before entries pending shown closing image text
+closing_runs plan quiet before entries pending more shown closing image text (inl same) found prefix = record {
+  lost = [];
+  kept = more ++ entries;
+  oldest = ap (λ (p : List Entry). p ++ entries) same;
+  finds = inl found;
+  spoken = inr (more, refl, prefix);
+}
+closing_runs plan quiet before entries pending more shown closing image text (inr none) found prefix = record {
+  lost = pending;
+  kept = entries;
+  oldest = refl;
+  finds = inl (found ∙ ap (λ (p : List Entry). bodies (bodies_of plan ((p ++ entries) ++ before))) none);
+  spoken = inr ([], refl, prefix);
+}
+
+-- the pending entry of a halt
+pub pending_so : (halted : Option Halt) (pending : List Entry) (plan : PlanValue) (past : List Entry) (old now : DeskState) → IsPending halted pending → HasCause plan past old now halted → IsPendingSo pending old now
+pending_so None pending plan past old now few cause = record { few = omega (arith, ap (length {A = Entry}) few); caused = inl few }
+pending_so (Some halt.Disk) pending plan past old now few cause = record { few = few; caused = inr cause }
+pending_so (Some halt.Out) pending plan past old now few cause = record { few = omega (arith, ap (length {A = Entry}) few); caused = inl few }
+pending_so (Some halt.Memory) pending plan past old now few cause = record { few = omega (arith, ap (length {A = Entry}) few); caused = inl few }
+pending_so (Some (halt.Full size need)) pending plan past old now few cause = record { few = omega (arith, ap (length {A = Entry}) few); caused = inl few }
+
+-- ---- how a halt was said
+
+-- what closes a command tells neither a file that can't be read nor a hand that can't be hired
+pub apart_closes : (before now : Option (List ℕ)) (message : List ℕ) (wanted status : ℕ) → ClosesWith before message wanted now status → (wanted ≢ UNREAD) × (wanted ≢ UNHIRED)
+    → (status ≢ UNREAD) × (status ≢ UNHIRED)
+apart_closes before now message wanted status (was_said text) apart = apart
+apart_closes before now message wanted status (cut prefix) apart = (λ is. absurd (cc), λ is. absurd (cc))
+
+-- by a message
+pub halt_spoken : (why : Halt) {old now : DeskState} (message : List ℕ) (status : ℕ) → HasMessage why → SaysHalt old.shown now.shown why message status → Says message old now
+    → (status ≡ UNSAID → Rises old.out_faults now.out_faults) → (status ≡ DISK_FAILED → why ≡ halt.Disk) → (status ≢ UNREAD) × (status ≢ UNHIRED) → HasSaidHalt why old now status
+halt_spoken why message status has ends says unsaid failed apart = record {
+  closing = message;
+  ends = ends;
+  says = says;
+  how = inl has;
+  unsaid = λ is. inr (unsaid is);
+  failed = failed;
+  apart = apart;
+}
+
+-- by nothing
+pub halt_unspoken : (why : Halt) (old : DeskState) (status : ℕ) → SaysHalt old.shown old.shown why [] status
+    → (status ≡ UNSAID → why ≡ halt.Out) → (status ≢ DISK_FAILED) → (status ≢ UNREAD) × (status ≢ UNHIRED) → HasSaidHalt why old old status
+halt_unspoken why old status ends unsaid failed apart = record {
+  closing = [];
+  ends = ends;
+  says = says_nothing;
+  how = inr (λ told. passes_none);
+  unsaid = λ is. inl (unsaid is);
+  failed = λ is. absurd (failed is);
+  apart = apart;
+}
+
+module _ {K : Type 0} (state : K → DeskState) where
+  -- what a crash may leave and leaves of a file, where nothing more is said than a closing, which comes after all lines
+  pub said_lasts : (start book : BookValue K) (closing : List ℕ) (now : DeskState) → Says closing (book_desk state book) now
+      → (¬ (Rises (book_desk state start).disk_faults now.disk_faults) → book.journal.halted ≡ false)
+      → (k : Kept state start book)
+      → ((book_desk state book).shown ≡ shown_with (book_desk state start).shown (said start.quiet (outline start) start.past k.entries))
+      ⊎ (IsTrue (book_desk state book).tells → Passes nothing_left (book_desk state book) now)
+      → LastsFrom state start now k.entries closing
+  said_lasts start book closing now says unhurt k how telling kept at_rest =
+      let d = k.crash telling kept in
+      let telling_book : IsTrue (book_desk state book).tells = extends_told k.continues.extends telling in
+      let leaves = d.left at_rest in
+      let pending = pending_so book.halt d.pending start.plan book.past (book_desk state start) (book_desk state book) d.few k.cause in
+      let before : (image text : List ℕ) → LeavesEntries start.plan start.quiet start.past (d.pending ++ k.entries) (book_desk state start).shown image text
+      → MayLeave start.plan start.quiet start.past k.entries d.pending (book_desk state start).shown closing image text =
+      (λ image text l. left_runs start.plan start.quiet start.past k.entries d.pending (book_desk state start).shown closing image text l) in
+      record {
+        pending = d.pending;
+        few = record { few = pending.few; caused = ⊎_elim (λ none. inl none) (λ rose. inr (omega (arith, rose, says.disk_faults))) pending.caused };
+        passes = ⊎_elim
+            (λ whole. passes_on d.passes (says.crash telling_book) before (loud_leaves k.entries d.pending whole leaves))
+            (λ still. passes_then (passes_within d.passes before) (still telling_book))
+            how;
+        leaves = λ image now_left. ⊎_elim (λ a. inl a) (λ b. inr (b ∙ ap bodies (entries_past d.pending k.entries))) (leaves image (left_stays (says.files telling_book) image now_left));
+        exact = λ unrisen known.
+            bytes_stay (says.files telling_book)
+            ∙ subst (λ (p : PlanValue). IsExact (book_desk state book) p (k.entries ++ start.past)) k.plan
+            (subst (λ (p : List Entry). IsExact (book_desk state book) book.plan p) k.recorded (k.exact telling kept (unhurt unrisen) known));
+      }
+    where
+      entries_past : (pending entries : List Entry) → bodies_of start.plan ((pending ++ entries) ++ start.past) ≡ bodies_of start.plan (pending ++ (entries ++ start.past))
+      entries_past pending entries = ap (bodies_of start.plan) (append_assoc pending entries start.past)
+
+      loud_leaves : (entries pending : List Entry) → (book_desk state book).shown ≡ shown_with (book_desk state start).shown (said start.quiet (outline start) start.past entries)
+          → LeavesEither (title_of book_title) (book_desk state book) (bodies_of start.plan (entries ++ start.past)) (bodies_of start.plan ((pending ++ entries) ++ start.past))
+          → (image text : List ℕ) → SaysPrefix (book_desk state book) closing image text
+          → MayLeave start.plan start.quiet start.past entries pending (book_desk state start).shown closing image text
+      loud_leaves entries pending whole leaves image text inside =
+          ⊎_elim
+          (λ found. closing_runs start.plan start.quiet start.past entries pending [] (book_desk state start).shown closing image text (inr refl) found (prefix inside.1))
+          (λ found. closing_runs start.plan start.quiet start.past entries pending pending (book_desk state start).shown closing image text (inl refl) found (prefix inside.1))
+          (leaves image inside.0)
+        where
+          prefix : ShowsPrefix (book_desk state book).shown closing (Some text) → ShowsPrefix (shown_with (book_desk state start).shown (said start.quiet (outline start) start.past entries)) closing (Some text)
+          prefix f = subst (λ (t : Option (List ℕ)). ShowsPrefix t closing (Some text)) whole f
+
+  -- why the book was halted
+  halt_cause : (start book : BookValue K) (why : Halt) → book.halt ≡ Some why → Kept state start book → HasCause start.plan book.past (book_desk state start) (book_desk state book) (Some why)
+  halt_cause start book why halted k = subst (λ (h : Option Halt). HasCause start.plan book.past (book_desk state start) (book_desk state book) h) halted k.cause
+
+  -- the text at the halt
+  halt_text : (start book : BookValue K) (why : Halt) → book.halt ≡ Some why → (k : Kept state start book)
+      → IsSpoken start.quiet (outline start) start.past (book_desk state start).shown k.entries (Some why) (book_desk state book).shown
+  halt_text start book why halted k =
+      subst (λ (h : Option Halt). IsSpoken start.quiet (outline start) start.past (book_desk state start).shown k.entries h (book_desk state book).shown) halted k.text
+
+  -- the same where a book was halted and that was said, or nothing
+  pub halt_lasts : (start book : BookValue K) (why : Halt) (now : DeskState) (status : ℕ) → book.halt ≡ Some why → (book.halt ≢ Some halt.Disk → book.journal.halted ≡ false)
+      → (s : HasSaidHalt why (book_desk state book) now status) → (k : Kept state start book) → LastsFrom state start now k.entries s.closing
+  halt_lasts start book why now status halted unhalted s k =
+      said_lasts start book s.closing now s.says
+      (λ unrisen. unhalted (λ is. unrisen (rises_disk (let same : why ≡ halt.Disk = some_same (sym halted ∙ is) in same) (halt_cause start book why halted k))))
+      k (⊎_elim (λ has. inl (whole_text why has k.entries (halt_text start book why halted k))) (λ still. inr still) s.how)
+    where
+      some_same : Some why ≡ Some halt.Disk → why ≡ halt.Disk
+      some_same is = cc
+
+      -- the text at the halt, where there is a message for it
+      whole_text : (w : Halt) → HasMessage w → (entries : List Entry) → IsSpoken start.quiet (outline start) start.past (book_desk state start).shown entries (Some w) (book_desk state book).shown
+          → (book_desk state book).shown ≡ shown_with (book_desk state start).shown (said start.quiet (outline start) start.past entries)
+      whole_text halt.Disk has entries spoken = spoken
+      whole_text halt.Out has entries spoken = absurd has
+      whole_text (halt.Full size need) has entries spoken = spoken
+      whole_text halt.Memory has entries spoken = absurd has
+
+      rises_disk : why ≡ halt.Disk → HasCause start.plan book.past (book_desk state start) (book_desk state book) (Some why) → Rises (book_desk state start).disk_faults now.disk_faults
+      rises_disk is cause =
+          let rose : Rises (book_desk state start).disk_faults (book_desk state book).disk_faults =
+          subst (λ (w : Halt). HasCause start.plan book.past (book_desk state start) (book_desk state book) (Some w)) is cause in
+          omega (arith, rose, s.says.disk_faults)
+
+  -- a halt that was said with the status of a failed output tells of such a fault, and one with that of a failed disk of a fault of the disk
+  pub halt_ended : (start book : BookValue K) (why : Halt) (now : DeskState) (status : ℕ) → book.halt ≡ Some why → HasSaidHalt why (book_desk state book) now status
+      → Kept state start book → HasEnded (book_desk state start) now status
+  halt_ended start book why now status halted s k = record {
+    unsaid = λ is. output_rose why (s.unsaid is) (halt_cause start book why halted k);
+    failed = λ is. disk_rose why (s.failed is) (halt_cause start book why halted k);
+  }
+    where
+      output_rose : (w : Halt) → (w ≡ halt.Out) ⊎ Rises (book_desk state book).out_faults now.out_faults → HasCause start.plan book.past (book_desk state start) (book_desk state book) (Some w)
+          → Rises (book_desk state start).out_faults now.out_faults
+      output_rose w (inr rose) cause = omega (arith, rose, k.continues.extends.out_faults)
+      output_rose halt.Out (inl is) cause = omega (arith, cause, s.says.out_faults)
+      output_rose halt.Disk (inl is) cause = absurd (cc)
+      output_rose halt.Memory (inl is) cause = absurd (cc)
+      output_rose (halt.Full size need) (inl is) cause = absurd (cc)
+
+      disk_rose : (w : Halt) → w ≡ halt.Disk → HasCause start.plan book.past (book_desk state start) (book_desk state book) (Some w) → Rises (book_desk state start).disk_faults now.disk_faults
+      disk_rose halt.Disk is cause = omega (arith, cause, s.says.disk_faults)
+      disk_rose halt.Out is cause = absurd (cc)
+      disk_rose halt.Memory is cause = absurd (cc)
+      disk_rose (halt.Full size need) is cause = absurd (cc)
+
+  -- the text once a halt was said
+  pub halt_shows : (start book : BookValue K) (why : Halt) (now : DeskState) (status : ℕ) (last : List ℕ → ℕ → Type 0) → book.halt ≡ Some why
+      → (s : HasSaidHalt why (book_desk state book) now status) → (k : Kept state start book)
+      → last disk_fault_text DISK_FAILED → ((size need : ℕ) → IsFullFor start.plan (k.entries ++ start.past) size need → last (book_full size need) FULL)
+      → ShowsLines start.plan start.quiet start.past k.entries (book_desk state start).shown now.shown last s.closing status
+  halt_shows start book why now status last halted s k failed full =
+      halt_said start.plan start.quiet start.past k.entries (book_desk state start) (book_desk state book) now last why s.closing status failed full
+      (halt_text start book why halted k)
+      (subst (λ (p : List Entry). HasCause start.plan p (book_desk state start) (book_desk state book) (Some why)) k.recorded (halt_cause start book why halted k))
+      s.ends
+
+  -- the text of a book that wasn't halted
+  pub sound_text : (start book : BookValue K) → book.halt ≡ None → (k : Kept state start book)
+      → (book_desk state book).shown ≡ shown_with (book_desk state start).shown (said start.quiet (outline start) start.past k.entries)
+  sound_text start book sound k =
+      subst (λ (h : Option Halt). IsSpoken start.quiet (outline start) start.past (book_desk state start).shown k.entries h (book_desk state book).shown) sound k.text

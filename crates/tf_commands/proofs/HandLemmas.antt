@@ -1,0 +1,154 @@
+-- How many hands the words of a command want: 1 to 64.
+use Rattle.std.proofs.Common.{◌≡◌, ℕ, List, [], ◌∷◌, Bool, true, false, Option, Some, None, refl, subst, arith}
+use Rattle.std.specs.Prelude.{IfSome, codes, option_map, option_and_then, if◌then◌else◌}
+use Rattle.tf_ports.specs.declared.crews.Want.TheVariants as want
+use Rattle.tf_values.specs.Name.{is_name}
+use Rattle.tf_words.specs.Addresses.{worker_of, address_of, sessions_in}
+use Rattle.tf_words.specs.Boards.{Applied, id_in, post_of, owner_of, list_of, applied_in, priority_in, details_in}
+use Rattle.tf_words.specs.Commands.{hands_in, deferral_in, stop_in, try_of, run_of, resume_of, show_of, reset_of, check_of, demo_of, asked_by}
+use Rattle.tf_words.specs.Numbers.{number_between}
+use Rattle.tf_words.specs.Options.{Said, once}
+use Rattle.tf_words.specs.Pairs.{sets_behind}
+use Rattle.tf_words.specs.Pieces.{are_filled, said_by}
+use Rattle.tf_words.specs.Verbs.{Choice, choice_of, forms_of}
+use Rattle.tf_words.specs.Words.{asked_of, command_of}
+use Rattle.tf_words.specs.declared.asked.Asked.{Asked}
+use Rattle.tf_words.specs.declared.asked.Asked.TheVariants as asked
+use Rattle.tf_words.specs.declared.verbs.Verb.{Verb}
+use Rattle.tf_words.specs.declared.verbs.Verb.TheVariants as verb
+use Rattle.tf_commands.specs.Asking.{AreHands}
+use Rattle.tf_words.proofs.DemoLemmas.{between}
+
+-- the hands that a command wants may run a flow
+abbrev pub HasHands : Asked → Type 0
+HasHands (asked.Try file sets defer hands) = AreHands hands
+HasHands (asked.Run file book sets defer hands stop) = AreHands hands
+HasHands (asked.Resume book hands stop) = AreHands hands
+HasHands (asked.Demo seed size book hands) = AreHands (want.Local hands)
+HasHands command = Unit {0}
+
+-- ---- what is given has a property where all that may be given has it
+
+all_map : {A B : Type 0} (P : B → Type 0) (f : A → B) (o : Option A) → ((a : A) → P (f a)) → IfSome (option_map f o) P
+all_map P f None all = tt
+all_map P f (Some a) all = all a
+
+all_then : {A B : Type 0} (P : B → Type 0) (f : A → Option B) (o : Option A) → ((a : A) → o ≡ Some a → IfSome (f a) P) → IfSome (option_and_then f o) P
+all_then P f None all = tt
+all_then P f (Some a) all = all a refl
+
+all_where : {A : Type 0} (P : A → Type 0) (c : Bool) (o : Option A) → IfSome o P → IfSome (if c then o else None) P
+all_where P true o all = all
+all_where P false o all = tt
+
+-- ---- a number of hands
+
+hands_within : (said : Said) (n : ℕ) → hands_in said ≡ Some n → AreHands (want.Local n)
+hands_within said n is = by (said (codes "hands")) is
+  where
+    by : (values : List (List ℕ)) → once 1 (number_between 1 64) values ≡ Some n → AreHands (want.Local n)
+    by [] found =
+        let one : 1 ≡ n = cc in
+        record { least = omega (arith, one); most = omega (arith, one) }
+    by (value ∷ []) found =
+        let bounds = between 1 64 value n found in
+        record { least = bounds.0; most = bounds.1 }
+    by (value ∷ more ∷ others) found = absurd (cc)
+
+-- ---- each command
+
+try_hands : (said : Said) (words : List (List ℕ)) → IfSome (try_of said words) HasHands
+try_hands said [] = tt
+try_hands said (file ∷ pairs) =
+    all_then HasHands _ (deferral_in said) (λ defer is. all_then HasHands _ (hands_in said) (λ n is_hands. all_map HasHands _ (sets_behind [] pairs) (λ sets. hands_within said n is_hands)))
+
+run_hands : (said : Said) (words : List (List ℕ)) → IfSome (run_of said words) HasHands
+run_hands said [] = tt
+run_hands said (file ∷ []) = tt
+run_hands said (file ∷ book ∷ pairs) =
+    all_then HasHands _ (deferral_in said) (λ defer is. all_then HasHands _ (hands_in said) (λ n is_hands. all_then HasHands _ (stop_in said) (λ stop is_stop.
+    all_map HasHands _ (sets_behind [] pairs) (λ sets. hands_within said n is_hands))))
+
+resume_hands : (said : Said) (words : List (List ℕ)) → IfSome (resume_of said words) HasHands
+resume_hands said [] = tt
+resume_hands said (book ∷ []) = all_then HasHands _ (hands_in said) (λ n is_hands. all_map HasHands _ (stop_in said) (λ stop. hands_within said n is_hands))
+resume_hands said (book ∷ more ∷ others) = tt
+
+show_hands : (words : List (List ℕ)) → IfSome (show_of words) HasHands
+show_hands [] = tt
+show_hands (book ∷ []) = tt
+show_hands (book ∷ more ∷ others) = tt
+
+reset_hands : (words : List (List ℕ)) → IfSome (reset_of words) HasHands
+reset_hands [] = tt
+reset_hands (book ∷ []) = tt
+reset_hands (book ∷ more ∷ others) = tt
+
+check_hands : (words : List (List ℕ)) → IfSome (check_of words) HasHands
+check_hands [] = tt
+check_hands (file ∷ pairs) = all_map HasHands _ (sets_behind [] pairs) (λ sets. tt)
+
+demo_of_hands : (said : Said) (seed size : ℕ) (book : List ℕ) (o : Option ℕ) → hands_in said ≡ o → IfSome (option_map (λ n. asked.Demo seed size book n) o) HasHands
+demo_of_hands said seed size book None is = tt
+demo_of_hands said seed size book (Some n) is = hands_within said n is
+
+demo_hands : (said : Said) (words : List (List ℕ)) → IfSome (demo_of said words) HasHands
+demo_hands said [] = tt
+demo_hands said (first ∷ []) = tt
+demo_hands said (first ∷ second ∷ []) = tt
+demo_hands said (first ∷ second ∷ book ∷ []) =
+    all_then HasHands _ (number_between 0 65536 first) (λ seed is_seed. all_then HasHands _ (number_between 1 900 second) (λ size is_size. demo_of_hands said seed size book (hands_in said) refl))
+demo_hands said (first ∷ second ∷ book ∷ other ∷ others) = tt
+
+worker_hands : (said : Said) (words : List (List ℕ)) → IfSome (worker_of said words) HasHands
+worker_hands said [] = tt
+worker_hands said (word ∷ []) = all_then HasHands _ (sessions_in said) (λ n is. all_map HasHands _ (address_of word) (λ address. tt))
+worker_hands said (word ∷ more ∷ others) = tt
+
+post_hands : (said : Said) (words : List (List ℕ)) → IfSome (post_of said words) HasHands
+post_hands said [] = tt
+post_hands said (board ∷ []) = tt
+post_hands said (board ∷ job ∷ []) =
+    all_where HasHands (is_name job) _ (all_then HasHands _ (priority_in said) (λ p is. all_map HasHands (λ d. asked.Post board job p d) (details_in said) (λ d. tt)))
+post_hands said (board ∷ job ∷ more ∷ others) = tt
+
+owner_hands : (words : List (List ℕ)) → IfSome (owner_of words) HasHands
+owner_hands [] = tt
+owner_hands (board ∷ []) = tt
+owner_hands (board ∷ id ∷ []) = all_map HasHands (λ i. asked.Owner board i) (id_in id) (λ i. tt)
+owner_hands (board ∷ id ∷ more ∷ others) = tt
+
+list_hands : (words : List (List ℕ)) → IfSome (list_of words) HasHands
+list_hands [] = tt
+list_hands (board ∷ []) = tt
+list_hands (board ∷ more ∷ others) = tt
+
+-- ---- all commands
+
+asked_hands : (which : Verb) (said : Said) → IfSome (asked_by which said) HasHands
+asked_hands verb.Try said = try_hands said (said [])
+asked_hands verb.Run said = run_hands said (said [])
+asked_hands verb.Resume said = resume_hands said (said [])
+asked_hands verb.Show said = show_hands (said [])
+asked_hands verb.Reset said = reset_hands (said [])
+asked_hands verb.Check said = check_hands (said [])
+asked_hands verb.Demo said = demo_hands said (said [])
+asked_hands verb.Worker said = worker_hands said (said [])
+asked_hands verb.Post said = post_hands said (said [])
+asked_hands verb.Claim said = all_map HasHands (λ (found : Applied). asked.Claim found.board found.id found.owner) (applied_in (said [])) (λ found. tt)
+asked_hands verb.Abandon said = all_map HasHands (λ (found : Applied). asked.Abandon found.board found.id found.owner) (applied_in (said [])) (λ found. tt)
+asked_hands verb.Consume said = all_map HasHands (λ (found : Applied). asked.Consume found.board found.id found.owner) (applied_in (said [])) (λ found. tt)
+asked_hands verb.Trash said = all_map HasHands (λ (found : Applied). asked.Trash found.board found.id found.owner) (applied_in (said [])) (λ found. tt)
+asked_hands verb.Owner said = owner_hands (said [])
+asked_hands verb.List said = list_hands (said [])
+
+chosen_hands : (choice : Choice) → IfSome (asked_of choice) HasHands
+chosen_hands choice = all_then HasHands (asked_by choice.verb) (said_by (forms_of choice.verb) choice.others) (λ said is. asked_hands choice.verb said)
+
+all_hands_within : (words : List (List ℕ)) → IfSome (command_of words) HasHands
+all_hands_within words =
+    all_where HasHands (are_filled words) (option_and_then asked_of (choice_of words)) (all_then HasHands asked_of (choice_of words) (λ choice is. chosen_hands choice))
+
+-- the hands that the words of a command want
+pub command_hands : (words : List (List ℕ)) (command : Asked) → command_of words ≡ Some command → HasHands command
+command_hands words command is = subst (λ (o : Option Asked). IfSome o HasHands) is (all_hands_within words)

@@ -1,0 +1,87 @@
+-- How many tasks a plan has, and what a check says of it.
+use Rattle.std.proofs.Common.{◌≡◌, ℕ, suc, ◌+◌, List, [], ◌∷◌, ◌++◌, length, Bool, true, false, not, Option, sym, ap, ◌∙◌, arith, codes, ◌-◌}
+use Rattle.std.specs.Prelude.{if◌then◌else◌}
+use Rattle.std.specs.Fmt.{decimal}
+use Rattle.std.proofs.lemmas.List.{length-append, append_assoc}
+use Rattle.tf_flow.specs.Plan.{PlanValue}
+use Rattle.tf_flow.specs.Plan as numbering
+use Rattle.tf_model.specs.Laws as laws
+use Rattle.tf_numbers.specs.Numbers.{which_below}
+use Rattle.tf_model.specs.Plan.{Outline, outline_of, count, is_task}
+use Rattle.tf_model.proofs.PlanLemmas.{atoms_counted}
+use Rattle.tf_report.specs.Lines.{flow_name, flow_word}
+use Rattle.tf_states.specs.declared.state.FlowState.{FlowState}
+use Rattle.tf_board.specs.Answers.{byte_or_end}
+use Rattle.tf_commands.specs.Messages.{tasks_below, checked, not_a_book, book_full, state_forbids}
+use Rattle.tf_report.proofs.LineLemmas.{flows_counted}
+
+-- ---- flows
+
+-- ---- how many atoms are tasks
+
+-- one atom more, which is a task
+pub counted_task : (plan : Outline) (a tasks : ℕ) → is_task plan a ≡ true → tasks ≡ tasks_below plan a → tasks + 1 ≡ tasks_below plan (a + 1)
+counted_task plan a tasks is counted =
+    let next : a + 1 ≡ suc a = omega arith in
+    ap (λ (n : ℕ). n + 1) counted
+    ∙ (sym (length-append (which_below a (is_task plan)) (if is_task plan a then a ∷ [] else []) ∙ ap (λ (test : Bool). tasks_below plan a + length (if test then a ∷ [] else [])) is)
+    ∙ ap (tasks_below plan) (sym next))
+
+-- one atom more, which is none
+pub counted_other : (plan : Outline) (a tasks : ℕ) → is_task plan a ≡ false → tasks ≡ tasks_below plan a → tasks ≡ tasks_below plan (a + 1)
+counted_other plan a tasks is counted =
+    let next : a + 1 ≡ suc a = omega arith in
+    let none : tasks_below plan a + 0 ≡ tasks_below plan a = omega arith in
+    counted
+    ∙ (sym (length-append (which_below a (is_task plan)) (if is_task plan a then a ∷ [] else []) ∙ (ap (λ (test : Bool). tasks_below plan a + length (if test then a ∷ [] else [])) is ∙ none))
+    ∙ ap (tasks_below plan) (sym next))
+
+-- ---- what a check says
+
+-- nine texts that were appended by twos
+by_twos : (front a b c d e f g h i : List ℕ) → ((((front ++ (a ++ b)) ++ (c ++ d)) ++ (e ++ f)) ++ (g ++ h)) ++ i ≡ front ++ (a ++ b ++ c ++ d ++ e ++ f ++ g ++ h ++ i)
+by_twos front a b c d e f g h i = search (append_assoc)
+
+-- four texts, of which the first three were appended at once
+three_at_once : (front a b c d : List ℕ) → (front ++ (a ++ (b ++ c))) ++ d ≡ front ++ (a ++ b ++ c ++ d)
+three_at_once front a b c d = search (append_assoc)
+
+-- five texts that were appended by twos
+five_by_twos : (front a b c d e : List ℕ) → ((front ++ (a ++ b)) ++ (c ++ d)) ++ e ≡ front ++ (a ++ b ++ c ++ d ++ e)
+five_by_twos front a b c d e = search (append_assoc)
+
+-- what was appended of a book that is full
+pub full_told : (front : List ℕ) (size need : ℕ)
+    → ((front ++ (codes "taskflow: book full: " ++ decimal size)) ++ (codes " + " ++ decimal need)) ++ codes "\n" ≡ front ++ book_full size need
+unfolding book_full
+full_told front size need = five_by_twos front (codes "taskflow: book full: ") (decimal size) (codes " + ") (decimal need) (codes "\n")
+
+-- five texts, of which the first two were appended at once
+five_by_one : (front a b c d e : List ℕ) → (((front ++ (a ++ b)) ++ c) ++ d) ++ e ≡ front ++ (a ++ b ++ c ++ d ++ e)
+five_by_one front a b c d e = search (append_assoc)
+
+-- what was appended of a file that is no book
+pub no_book_told : (front : List ℕ) (offset : ℕ) (byte : Option ℕ)
+    → (((front ++ (codes "taskflow: not a book: offset " ++ decimal offset)) ++ codes ", ") ++ byte_or_end byte) ++ codes "\n" ≡ front ++ not_a_book offset byte
+unfolding not_a_book
+no_book_told front offset byte = five_by_one front (codes "taskflow: not a book: offset ") (decimal offset) (codes ", ") (byte_or_end byte) (codes "\n")
+
+-- what was appended of a flow whose state forbids a command
+pub forbids_told : (front : List ℕ) (plan : Outline) (state : FlowState)
+    → (front ++ (codes "taskflow: state forbids: " ++ (flow_name plan 0 ++ 32 ∷ flow_word state))) ++ codes "\n" ≡ front ++ state_forbids plan state
+unfolding state_forbids
+forbids_told front plan state = three_at_once front (codes "taskflow: state forbids: ") (flow_name plan 0) (32 ∷ flow_word state) (codes "\n")
+
+-- what was appended of a plan
+pub checked_told : (plan : PlanValue) (front : List ℕ) (tasks atoms flows : ℕ) → tasks ≡ tasks_below (outline_of plan) (count (outline_of plan)) → atoms ≡ length (numbering.atoms plan) → flows ≡ length (numbering.flows plan)
+    → ((((front ++ (codes "ok " ++ flow_name (outline_of plan) 0)) ++ (codes ": " ++ decimal tasks)) ++ (codes " tasks, " ++ decimal (atoms - tasks))) ++ (codes " retries, " ++ decimal flows)) ++ codes " flows\n"
+    ≡ front ++ checked (outline_of plan)
+unfolding checked
+checked_told plan front tasks atoms flows counted all flowing =
+    let outline : Outline = outline_of plan in
+    let number : atoms ≡ count outline = all ∙ atoms_counted plan in
+    let flow_number : flows ≡ length outline.flows = flowing ∙ flows_counted plan in
+    by_twos front (codes "ok ") (flow_name outline 0) (codes ": ") (decimal tasks) (codes " tasks, ") (decimal (atoms - tasks)) (codes " retries, ") (decimal flows) (codes " flows\n")
+    ∙ (ap (λ (n : ℕ). front ++ (codes "ok " ++ flow_name outline 0 ++ codes ": " ++ decimal n ++ codes " tasks, " ++ decimal (atoms - n) ++ codes " retries, " ++ decimal flows ++ codes " flows\n")) counted
+    ∙ (ap (λ (n : ℕ). front ++ (codes "ok " ++ flow_name outline 0 ++ codes ": " ++ decimal (tasks_below outline (count outline)) ++ codes " tasks, " ++ decimal (n - tasks_below outline (count outline)) ++ codes " retries, " ++ decimal flows ++ codes " flows\n")) number
+    ∙ ap (λ (n : ℕ). front ++ (codes "ok " ++ flow_name outline 0 ++ codes ": " ++ decimal (tasks_below outline (count outline)) ++ codes " tasks, " ++ decimal (count outline - tasks_below outline (count outline)) ++ codes " retries, " ++ decimal n ++ codes " flows\n")) flow_number))

@@ -1,0 +1,193 @@
+-- What is promised of a command on a book: how it was opened, and how the run went.
+use Rattle.std.proofs.Common.{◌≡◌, ◌⊎◌, ℕ, ◌≤◌, List, [], ◌++◌, length, Bool, Option, Some, None, refl, sym, ap, ◌∙◌, subst, inl, inr, ⊎_elim, append-nil, arith}
+use Rattle.std.specs.Prelude.{IsTrue, false, unwrap_or}
+use Rattle.tf_desk.proofs.StateLemmas.{extends_told}
+use Rattle.tf_desk.specs.Crash.{Pairs}
+use Rattle.tf_desk.specs.Shown.{ShowsPrefix}
+use Rattle.tf_desk.specs.State.{DeskState, Continues, Says}
+use Rattle.tf_flow.specs.Plan.{PlanValue}
+use Rattle.tf_journal.specs.Format.{bodies, journal_bytes, title_of}
+use Rattle.tf_journal.specs.Path.{Path, IsSet, Open}
+use Rattle.tf_journal.specs.Rest.{LeavesBodies}
+use Rattle.tf_journal.specs.Start.{file_of, IsStart}
+use Rattle.tf_journal.specs.declared.title.Title.TheVariants.{Book as book_title}
+use Rattle.tf_actions.specs.declared.orders.Order.{Order}
+use Rattle.tf_actions.specs.declared.outcomes.Outcome.{Outcome}
+use Rattle.tf_states.specs.declared.record.Entry.{Entry}
+use Rattle.tf_book.specs.Book.{BookValue, bodies_of}
+use Rattle.tf_book.specs.Kept.{IsExact}
+use Rattle.tf_book.proofs.SpokenLemmas.{shown_none}
+use Rattle.tf_journal.proofs.PathLemmas.{set_start, path_said}
+use Rattle.tf_commands.specs.Begun.{Begins, Unbegun}
+use Rattle.tf_commands.specs.Books.{Promised}
+use Rattle.tf_commands.specs.Durable.{book_in, book_at, HoldsNoFlow, FindsHistory, IsFreshFile, MayLeave, Lasts}
+use Rattle.tf_commands.specs.Messages.{disk_fault_text}
+use Rattle.tf_commands.specs.declared.running.Request.{Request}
+use Rattle.tf_commands.specs.Run.{Ran, RunShows, closed, stopped, disk_failed}
+use Rattle.tf_commands.specs.Runs.{book_desk, HoldsBook, RunLasts, LastsFrom, RunsOn}
+use Rattle.tf_commands.specs.Saying.{ClosesWith}
+use Rattle.tf_commands.specs.declared.statuses.TheConstants.{DISK_FAILED, OUT_OF_MEMORY}
+use Rattle.tf_commands.proofs.AskedLemmas.{ran_more}
+use Rattle.tf_commands.proofs.FlowLemmas.{flow_held}
+use Rattle.tf_commands.proofs.PathLemmas.{ReadsPicked, reads_as, set_continues, path_continues}
+use Rattle.tf_commands.proofs.RunLemmas.{unbegun}
+
+-- a crash that left the file as a run found it
+found_leaves : (plan : PlanValue) (quiet : Bool) (before entries pending : List Entry) (shown : Option (List ℕ)) (closing image text : List ℕ) → FindsHistory plan before (book_in image) → shown ≡ Some text
+    → MayLeave plan quiet before entries pending shown closing image text
+found_leaves plan quiet before entries pending shown closing image text finds is = record {
+  lost = pending ++ entries;
+  kept = [];
+  oldest = sym (append-nil (pending ++ entries));
+  finds = finds;
+  spoken = inl (record { count = 0; prefix = sym is ∙ sym (shown_none shown) });
+}
+
+-- a fresh file holds no flow
+fresh_holds : (file : List ℕ) → IsFreshFile file → HoldsNoFlow (book_in file)
+fresh_holds file (inl unborn_so) = inl unborn_so
+fresh_holds file (inr is) = inr (ap book_in is ∙ refl)
+
+-- a run that couldn't begin: its message was said or cut, or memory ran out
+pub unbegun_promised : (gives : Order → Outcome → Type 0) (request : Request) (asked : Type 0) (name : List ℕ) (plan : PlanValue) (entry mid now : DeskState) (closing : List ℕ) (status : ℕ)
+    → Unbegun name entry plan mid
+    → ((closing ≡ disk_fault_text) × ClosesWith mid.shown disk_fault_text DISK_FAILED now.shown status) ⊎ ((closing ≡ []) × (status ≡ OUT_OF_MEMORY) × (now.shown ≡ mid.shown))
+    → Says closing mid now → ReadsPicked name now
+    → Promised gives request asked name plan [] entry now status
+unbegun_promised gives request asked name plan entry mid now closing status u ends says laws = record {
+  entries = [];
+  stop = None;
+  closing = closing;
+  ran = unbegun gives request asked plan entry.shown now.shown closing status (text ends);
+  lasts = λ told.
+      let told_mid : IsTrue mid.tells = subst IsTrue (sym u.quiet.told) told in
+      let told_now : IsTrue now.tells = subst IsTrue (sym says.tells) told_mid in
+      let still = says.files told_mid in
+      let picked : now.content.picked ≡ Some name = still.picked ∙ (u.quiet.set told).picked in
+      let read = reads_as picked laws told_now in
+      let path = path_said {wider = MayLeave plan request.quiet [] [] [] entry.shown closing} (u.path told) told_mid says
+      (λ image text may. found_leaves plan request.quiet [] [] [] entry.shown closing image text may.0 may.1)
+      (λ image text finds prefix. record {
+        lost = [];
+        kept = [];
+        oldest = refl;
+        finds = finds;
+        spoken = inr (
+          [],
+          refl,
+          subst (λ (o : Option (List ℕ)). ShowsPrefix o closing (Some text)) (sym (shown_none entry.shown))
+              (subst (λ (o : Option (List ℕ)). ShowsPrefix o closing (Some text)) u.quiet.shown prefix),
+        );
+      }) in
+      let start = set_start (u.quiet.set told) in
+      let start_now : IsStart name entry now start.0 = record { more = start.1.more; added = says.marks told_mid ∙ start.1.added; first = start.1.first } in
+      record {
+        pending = [];
+        few = record { few = omega arith; caused = inl refl };
+        file = inl (path.still start.0 start_now (file_of now name) read.0);
+        exact = λ none short unrisen holds.
+            let blank = u.blank (λ rose. unrisen (omega (arith, rose, says.disk_faults))) told in
+            let same : file_of now name ≡ file_of mid name = ap (λ (f : List ℕ → Option (List ℕ)). unwrap_or (f name) []) still.files in
+            absurd (flow_held (book_at mid name) plan [] blank (ap book_in (sym same) ∙ holds));
+        others = path.others;
+        crash = path.crash;
+      };
+}
+  where
+    text : ((closing ≡ disk_fault_text) × ClosesWith mid.shown disk_fault_text DISK_FAILED now.shown status) ⊎ ((closing ≡ []) × (status ≡ OUT_OF_MEMORY) × (now.shown ≡ mid.shown))
+        → RunShows request plan [] [] entry.shown now.shown None closing status
+    text (inl said) = subst (λ (c : List ℕ). RunShows request plan [] [] entry.shown now.shown None c status) (sym said.0)
+        (closed disk_fault_text DISK_FAILED status (disk_failed None)
+        (subst (λ (o : Option (List ℕ)). ClosesWith o disk_fault_text DISK_FAILED now.shown status) (u.quiet.shown ∙ sym (shown_none entry.shown)) said.1))
+    text (inr out) = subst (λ (c : List ℕ). RunShows request plan [] [] entry.shown now.shown None c status) (sym out.0)
+        (subst (λ (n : ℕ). RunShows request plan [] [] entry.shown now.shown None [] n) (sym out.1) (stopped (out.2 ∙ u.quiet.shown ∙ sym (shown_none entry.shown))))
+
+module _ {K : Type 0} (state : K → DeskState) where
+  -- how the file lasts through a run that went on from one that was set
+  run_lasts : (name : List ℕ) (entry : DeskState) (book : BookValue K) (now : DeskState) (entries : List Entry) (closing : List ℕ) {may : Pairs} {held : List ℕ → Type 0}
+      → Path name entry (book_desk state book) may held → IsSet name entry (book_desk state book)
+      → (book_desk state book).shown ≡ entry.shown → entry.disk_faults ≤ (book_desk state book).disk_faults
+      → Continues (book_desk state book) now → IsTrue (book_desk state book).tells
+      → (r : RunLasts state book now entries closing)
+      → ((image text : List ℕ) → may image text → MayLeave book.plan book.quiet book.past entries r.pending entry.shown closing image text)
+      → (IsFreshFile (file_of entry name) → length (file_of entry name) ≤ 18 → IsExact (book_desk state book) book.plan book.past)
+      → ReadsPicked name now
+      → Lasts name book.plan book.quiet book.past entries entry now closing
+  run_lasts name entry book now entries closing path set quiet before call told r widens known laws =
+      let set_now = set_continues set call told in
+      let read = reads_as set_now.picked laws (extends_told call.extends told) in
+      let on = path_continues {wider = MayLeave book.plan book.quiet book.past entries r.pending entry.shown closing} {holds = λ image. Unit {0}} path set call told r.passes widens
+      (λ image text leaves. subst (λ (o : Option (List ℕ)). MayLeave book.plan book.quiet book.past entries r.pending o closing image text) quiet leaves) (λ image is. tt) in
+      record {
+        pending = r.pending;
+        few = record { few = r.few.few; caused = ⊎_elim (λ none. inl none) (λ rose. inr (omega (arith, rose, before))) r.few.caused };
+        file = ⊎_elim (λ found. inl (inl found)) (λ found. inr found) (r.leaves (file_of now name) read.0);
+        exact = λ none short unrisen holds. read.1 ∙ r.exact (λ rose. unrisen (omega (arith, rose, before))) (known none short);
+        others = on.others;
+        crash = on.crash;
+      }
+
+  -- a run that began in this call
+  pub begun_promised : (gives : Order → Outcome → Type 0) (request : Request) (asked more : Type 0) (name : List ℕ) (plan : PlanValue) (entry : DeskState) (book : BookValue K) (now : DeskState) (status : ℕ)
+      → Begins state name entry plan book
+      → RunsOn state gives request asked book now status → ReadsPicked name now
+      → book.quiet ≡ request.quiet → (asked → more)
+      → Promised gives request more name plan [] entry now status
+  begun_promised gives request asked more name plan entry book now status b r laws speaks widens = record {
+    entries = r.entries;
+    stop = r.stop;
+    closing = r.closing;
+    ran = ran_more gives request asked more plan [] r.entries r.stop entry.shown now.shown r.closing status widens
+        (subst (λ (p : PlanValue). Ran gives request asked p [] r.entries r.stop entry.shown now.shown r.closing status) b.plan_is
+        (subst (λ (past : List Entry). Ran gives request asked book.plan past r.entries r.stop entry.shown now.shown r.closing status) b.past_is
+        (subst (λ (o : Option (List ℕ)). Ran gives request asked book.plan book.past r.entries r.stop o now.shown r.closing status) b.quiet.shown r.ran)));
+    lasts = λ told.
+        let told_book : IsTrue (book_desk state book).tells = subst IsTrue (sym b.quiet.told) told in
+        let start = set_start (b.quiet.set told) in
+        let at_rest : LeavesBodies (title_of book_title) (book_desk state book) (bodies_of book.plan book.past) =
+        (λ image is. (b.path told).still start.0 start.1 image is ∙ ap (λ (p : PlanValue). bodies (bodies_of p [])) (sym b.plan_is) ∙ ap (λ (past : List Entry). bodies (bodies_of book.plan past)) (sym b.past_is)) in
+        let l = r.lasts told_book b.kept at_rest in
+        subst (λ (q : Bool). Lasts name plan q [] r.entries entry now r.closing) speaks
+        (subst (λ (p : PlanValue). Lasts name p book.quiet [] r.entries entry now r.closing) b.plan_is
+        (subst (λ (past : List Entry). Lasts name book.plan book.quiet past r.entries entry now r.closing) b.past_is
+        (run_lasts name entry book now r.entries r.closing (b.path told) (b.quiet.set told) b.quiet.shown b.quiet.disk r.continues told_book l
+        (λ image text may. found_leaves book.plan book.quiet book.past r.entries l.pending entry.shown r.closing image text
+        (subst (λ (p : PlanValue). FindsHistory p book.past (book_in image)) (sym b.plan_is) (subst (λ (past : List Entry). FindsHistory plan past (book_in image)) (sym b.past_is) may.0)) may.1)
+        (λ fresh short. b.exact told fresh short ∙ ap (λ (p : PlanValue). journal_bytes (title_of book_title) (bodies_of p [])) (sym b.plan_is)
+        ∙ ap (λ (past : List Entry). journal_bytes (title_of book_title) (bodies_of book.plan past)) (sym b.past_is))
+        laws)));
+  }
+
+  -- how the file lasts through what went on from the history which the book held
+  pub opened_lasts : (name : List ℕ) (entry : DeskState) (book : BookValue K) (now : DeskState) (entries : List Entry) (closing : List ℕ)
+      → Open name entry (book_desk state book) → book.journal.volatile ≡ false → HoldsBook name entry book
+      → LastsFrom state book now entries closing → Continues (book_desk state book) now → ReadsPicked name now
+      → IsTrue entry.tells
+      → Lasts name book.plan book.quiet book.past entries entry now closing
+  opened_lasts name entry book now entries closing o kept holds lasts call laws told =
+      let told_book : IsTrue (book_desk state book).tells = subst IsTrue (sym o.untouched.told) told in
+      let start = set_start (o.set told) in
+      let path = o.untouched.path told in
+      let at_rest : LeavesBodies (title_of book_title) (book_desk state book) (bodies_of book.plan book.past) =
+      (λ image is. ap book_in (path.still start.0 start.1 image is) ∙ holds told) in
+      let l = lasts told_book kept at_rest in
+      run_lasts name entry book now entries closing path (o.set told) o.untouched.quiet o.untouched.disk call told_book l
+      (λ image text may. found_leaves book.plan book.quiet book.past entries l.pending entry.shown closing image text (inl (ap book_in may.0 ∙ holds told)) may.1)
+      (λ none short. absurd (flow_held (book_at entry name) book.plan book.past (fresh_holds (file_of entry name) none) (holds told)))
+      laws
+
+  -- a run that went on from the history which the book held
+  pub resumed_promised : (gives : Order → Outcome → Type 0) (request : Request) (asked : Type 0) (name : List ℕ) (entry : DeskState) (book : BookValue K) (now : DeskState) (status : ℕ)
+      → Open name entry (book_desk state book) → book.journal.volatile ≡ false → HoldsBook name entry book
+      → RunsOn state gives request asked book now status → ReadsPicked name now
+      → book.quiet ≡ request.quiet
+      → Promised gives request asked name book.plan book.past entry now status
+  resumed_promised gives request asked name entry book now status o kept holds r laws speaks = record {
+    entries = r.entries;
+    stop = r.stop;
+    closing = r.closing;
+    ran = subst (λ (t : Option (List ℕ)). Ran gives request asked book.plan book.past r.entries r.stop t now.shown r.closing status) o.untouched.quiet r.ran;
+    lasts = λ told.
+        subst (λ (q : Bool). Lasts name book.plan q book.past r.entries entry now r.closing) speaks
+        (opened_lasts name entry book now r.entries r.closing o kept holds r.lasts r.continues laws told);
+  }

@@ -1,0 +1,73 @@
+-- A run that goes on from the history which a book holds.
+use Rattle.std.proofs.Common.{◌≡◌, ◌⊎◌, ℕ, List, [], true, false, Option, Some, None, refl, sym, ap, subst, inl, inr}
+use Rattle.tf_desk.specs.State.{DeskState}
+use Rattle.tf_ports.specs.declared.crews.Want.{Want}
+use Rattle.tf_actions.specs.declared.orders.Order.{Order}
+use Rattle.tf_actions.specs.declared.outcomes.Outcome.{Outcome}
+use Rattle.tf_states.specs.declared.state.FlowState.{FlowState}
+use Rattle.tf_states.specs.declared.state.FlowState.TheVariants as flow
+use Rattle.tf_model.specs.Compilation.{compile_refusal}
+use Rattle.tf_model.specs.Sessions.{already_ended, has_ended}
+use Rattle.tf_model.specs.Steps.{LegalPast}
+use Rattle.tf_bound.specs.Short.{AreShort, IsWithinLimits}
+use Rattle.tf_book.specs.Book.{BookValue, outline, flow_state}
+use Rattle.tf_book.proofs.KeptLemmas.{keeps_none}
+use Rattle.tf_commands.specs.declared.running.Request.{Request}
+use Rattle.tf_commands.specs.Runs.{HoldsBook, book_desk, IsRunTo, RunsOn, GoesFurther, went_on}
+use Rattle.tf_journal.specs.Path.{Open}
+use Rattle.tf_commands.proofs.PathLemmas.{ReadsPicked}
+use Rattle.tf_commands.proofs.PromiseLemmas.{resumed_promised}
+
+-- a flow that has ended, in one of the three ways
+pub ended_so : (last : FlowState) → (last ≡ flow.Success) ⊎ (last ≡ flow.Failure) ⊎ (last ≡ flow.Reverted) → has_ended last ≡ true
+ended_so last (inl is) = ap has_ended is
+ended_so last (inr (inl is)) = ap has_ended is
+ended_so last (inr (inr is)) = ap has_ended is
+
+-- a flow that has ended isn't suspended
+ended_apart : (state : FlowState) → has_ended state ≡ true → Some state ≡ Some flow.Suspended → ⊥
+ended_apart flow.Suspended ended is = cc
+ended_apart flow.Pending ended is = cc
+ended_apart flow.Running ended is = cc
+ended_apart flow.Success ended is = cc
+ended_apart flow.Failure ended is = cc
+ended_apart flow.Reverted ended is = cc
+ended_apart flow.Suspending ended is = cc
+ended_apart flow.Resuming ended is = cc
+
+module _ {K : Type 0} (state : K → DeskState) where
+  -- the run of a book whose flow had ended: nothing was recorded
+  pub ended_run : (gives : Order → Outcome → Type 0) (request : Request) (asked : Type 0) (book : BookValue K) → book.halt ≡ None → book.quiet ≡ request.quiet → has_ended (flow_state book) ≡ true → LegalPast (outline book) book.past
+      → compile_refusal book.plan ≡ None → IsWithinLimits (outline book) → AreShort book.past
+      → IsRunTo state gives request asked book book (Some (flow_state book))
+  ended_run gives request asked book sound speaks ended legal compiles limits short = record {
+    kept = keeps_none state book sound;
+    session = record { entries = []; recorded = refl; session = already_ended ended legal; given = tt; hands = refl; due = tt; within = tt; suspended = λ is. absurd (ended_apart (flow_state book) ended is) };
+    compiles = compiles;
+    limits = limits;
+    short_before = short;
+    short = short;
+    speaks = speaks;
+  }
+
+  -- such a run, said with its report
+  pub ended_on : (gives : Order → Outcome → Type 0) (request : Request) (asked : Type 0) (book : BookValue K) (now : DeskState) (status : ℕ) (last : FlowState)
+      → book.halt ≡ None → book.quiet ≡ request.quiet → last ≡ flow_state book → has_ended last ≡ true → LegalPast (outline book) book.past
+      → compile_refusal book.plan ≡ None → IsWithinLimits (outline book) → AreShort book.past
+      → (IsRunTo state gives request asked book book (Some last)
+      → RunsOn state gives request asked book now status)
+      → RunsOn state gives request asked book now status
+  ended_on gives request asked book now status last sound speaks same ended legal compiles limits short runs =
+      runs (subst (λ (s : FlowState). IsRunTo state gives request asked book book (Some s)) (sym same)
+      (ended_run gives request asked book sound speaks (subst (λ (s : FlowState). has_ended s ≡ true) same ended) legal compiles limits short))
+
+  -- a book whose flow had ended is reported, and no hand is hired
+  pub ended_goes : (gives : Order → Outcome → Type 0) (request : Request) (asked : Type 0) (name : List ℕ) (entry : DeskState) (book : BookValue K) (now : DeskState) (status : ℕ) (hired : Option (List Want)) (last : FlowState)
+      → Open name entry (book_desk state book) → HoldsBook name entry book
+      → book.journal.volatile ≡ false → last ≡ flow_state book → has_ended last ≡ true
+      → RunsOn state gives request asked book now status → ReadsPicked name now
+      → book.quiet ≡ request.quiet
+      → GoesFurther gives request asked name entry book hired hired now status
+  ended_goes gives request asked name entry book now status hired last opened holds kept same ended runs laws speaks =
+      went_on (inl (subst (λ (s : FlowState). has_ended s ≡ true) same ended, refl))
+      (resumed_promised state gives request asked name entry book now status opened kept holds runs laws speaks)

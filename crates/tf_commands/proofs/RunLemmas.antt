@@ -1,0 +1,197 @@
+-- What a run promises, put together from what the book keeps and what was said last.
+use Rattle.std.proofs.Common.{◌≡◌, ◌≢◌, ℕ, List, [], ◌∷◌, ◌++◌, Bool, false, Option, Some, None, refl, sym, ap, ◌∙◌, subst, inl, inr, arith}
+use Rattle.std.proofs.lemmas.List.{append_cancel_right}
+use Rattle.tf_desk.proofs.StateLemmas.{continues_on, says_continues}
+use Rattle.tf_desk.specs.Counts.{Rises}
+use Rattle.tf_desk.specs.Shown.{shown_with}
+use Rattle.tf_desk.specs.State.{DeskState, Says, passes_within}
+use Rattle.tf_flow.specs.Plan.{PlanValue}
+use Rattle.tf_states.specs.declared.record.Entry.{Entry}
+use Rattle.tf_states.specs.declared.state.FlowState.{FlowState}
+use Rattle.tf_states.specs.declared.state.FlowState.TheVariants as flow
+use Rattle.tf_ports.specs.Wanted.{wanted as number_of}
+use Rattle.tf_actions.specs.declared.orders.Order.{Order}
+use Rattle.tf_actions.specs.declared.outcomes.Outcome.{Outcome}
+use Rattle.tf_model.proofs.HistoryLemmas.{session_legal, session_state}
+use Rattle.tf_model.specs.Compilation.{compile_refusal}
+use Rattle.tf_model.specs.History.{snapshot}
+use Rattle.tf_model.specs.Plan.{Outline, outline_of}
+use Rattle.tf_model.specs.Sessions.{Session, entered, flow_entry}
+use Rattle.tf_bound.specs.Short.{AreShort, IsWithinLimits}
+use Rattle.tf_bound.proofs.SessionLemmas.{session_at_most}
+use Rattle.tf_report.specs.Report.{report}
+use Rattle.tf_book.specs.Book.{BookValue, outline, moment}
+use Rattle.tf_book.specs.Closed.{Closed, IsClosing, LeavesClosed}
+use Rattle.tf_book.specs.Kept.{said, IsExact}
+use Rattle.tf_book.specs.declared.faults.Halt.{Halt}
+use Rattle.tf_book.specs.declared.faults.Halt.TheVariants as halt
+use Rattle.tf_engines.specs.Runs.{AreGiven, IsSession}
+use Rattle.tf_commands.specs.declared.running.Request.{Request}
+use Rattle.tf_commands.specs.Run.{heading_of, HasSteps, HasReached, stop_status, IsLastSaid, reported, disk_failed, filled, ShowsLines, RunShows, closed, stopped, Ran}
+use Rattle.tf_commands.specs.Durable.{MayLeave}
+use Rattle.tf_commands.specs.Runs.{HasSaidHalt, IsRunTo, book_desk, RunsOn}
+use Rattle.tf_commands.specs.Saying.{ClosesWith}
+use Rattle.tf_commands.specs.declared.statuses.TheConstants.{UNSAID, OUT_OF_MEMORY, DISK_FAILED}
+use Rattle.tf_commands.proofs.HaltLemmas.{says_nothing, left_runs, closing_runs, halt_lasts, halt_ended, halt_shows, said_lasts, sound_text}
+use Rattle.tf_commands.proofs.ReachLemmas.{reached_by}
+use Rattle.tf_commands.proofs.ReportLemmas.{StatusAfter, ClosingFor, report_said, report_ended}
+
+-- the newer of short entries are short
+front_short : (newer past : List Entry) → AreShort (newer ++ past) → AreShort newer
+front_short [] past short = tt
+front_short (e ∷ newer) past short = (short.0, front_short newer past short.1)
+
+-- a session of these entries
+same_session : (gives : Order → Outcome → Type 0) (asked : Type 0) (number : ℕ) (limit : Option ℕ) (plan : Outline) (before after entries : List Entry) (stop : Option FlowState) → IsSession gives asked number limit plan before after stop → after ≡ entries ++ before
+    → HasSteps asked number limit plan before entries stop × AreGiven gives plan before entries
+same_session gives asked number limit plan before after entries stop s recorded =
+    let same : s.entries ≡ entries = append_cancel_right s.entries entries before (sym s.recorded ∙ recorded) in
+    subst (λ (l : List Entry). HasSteps asked number limit plan before l stop × AreGiven gives plan before l) same
+    (record { session = s.session; hands = s.hands; due = s.due; within = s.within; suspended = s.suspended }, s.given)
+
+-- where a session stopped
+stop_reached : (plan : PlanValue) (before entries : List Entry) (stop : Option FlowState) → compile_refusal plan ≡ None → Session (outline_of plan) before entries stop
+    → (last : FlowState) → stop ≡ Some last → HasReached (outline_of plan) (entries ++ before) last
+stop_reached plan before entries stop compiles session last is =
+    let so : Session (outline_of plan) before entries (Some last) = subst (λ (o : Option FlowState). Session (outline_of plan) before entries o) is session in
+    reached_by plan (entries ++ before) last compiles (session_legal (outline_of plan) before entries (Some last) so) (session_state (outline_of plan) before entries last so)
+
+-- a run of these entries, by what was shown
+pub ran_so : (gives : Order → Outcome → Type 0) (request : Request) (asked : Type 0) (plan : PlanValue) (before after entries : List Entry) (stop : Option FlowState) (shown now : Option (List ℕ)) (closing : List ℕ) (status : ℕ)
+    → IsSession gives asked (number_of request.want) request.limit (outline_of plan) before after stop → after ≡ entries ++ before → compile_refusal plan ≡ None → IsWithinLimits (outline_of plan) → AreShort before → AreShort after
+    → RunShows request plan before entries shown now stop closing status → Ran gives request asked plan before entries stop shown now closing status
+ran_so gives request asked plan before after entries stop shown now closing status session recorded compiles limits short_before short text =
+    let parts = same_session gives asked (number_of request.want) request.limit (outline_of plan) before after entries stop session recorded in
+    record {
+      steps = parts.0;
+      bound = session_at_most plan before entries stop compiles limits short_before (front_short entries before (subst AreShort recorded short)) parts.0.session;
+      outcomes = parts.1;
+      text = text;
+      end = stop_reached plan before entries stop compiles parts.0.session;
+    }
+
+-- nothing was recorded, since memory ran out or the disk failed before
+pub unbegun : (gives : Order → Outcome → Type 0) (request : Request) (asked : Type 0) (plan : PlanValue) (shown now : Option (List ℕ)) (closing : List ℕ) (status : ℕ) → RunShows request plan [] [] shown now None closing status
+    → Ran gives request asked plan [] [] None shown now closing status
+unbegun gives request asked plan shown now closing status text = record {
+  steps = record { session = entered [] (flow_entry flow.Running ∷ []) refl tt; hands = refl; due = tt; within = tt; suspended = λ is. absurd (cc) };
+  bound = omega arith;
+  outcomes = tt;
+  text = text;
+  end = λ last is. absurd (cc);
+}
+
+-- ---- how a run ends
+
+module _ {K : Type 0} (state : K → DeskState) where
+  -- the report was said, or cut, or memory ran out
+  pub closes_run : (gives : Order → Outcome → Type 0) (request : Request) (asked : Type 0) (start book new : BookValue K) (last : FlowState) (closing : List ℕ) (status : ℕ)
+      → ((plan : Outline) (past : List Entry) → heading_of request plan past ≡ [])
+      → IsRunTo state gives request asked start book (Some last) → new.past ≡ book.past → new.plan ≡ book.plan
+      → Closed state start new closing → ClosingFor (report (outline book) (moment book)) new.halt closing → StatusAfter last new.halt status
+      → RunsOn state gives request asked start (book_desk state new) status
+  closes_run gives request asked start book new last closing status plain to same plan c closes is =
+      let report_is : report (outline book) (moment book) ≡ report (outline start) (snapshot (outline start) (c.entries ++ start.past)) =
+      ap (λ (p : PlanValue). report (outline_of p) (snapshot (outline_of p) book.past)) to.kept.plan
+      ∙ ap (λ (p : List Entry). report (outline start) (snapshot (outline start) p)) (sym same ∙ c.recorded) in
+      let spoken : IsClosing (shown_with (book_desk state start).shown (said request.quiet (outline start) start.past c.entries)) closing new.halt (book_desk state new).shown =
+      subst (λ (b : Bool). IsClosing (shown_with (book_desk state start).shown (said b (outline start) start.past c.entries)) closing new.halt (book_desk state new).shown) to.speaks c.text in
+      let told = report_said request start.plan start.past c.entries (book_desk state start).shown (book_desk state new).shown closing last status new.halt (plain (outline start) (c.entries ++ start.past))
+      (subst (λ (t : List ℕ). ClosingFor t new.halt closing) report_is closes) spoken is in
+      record {
+        entries = c.entries;
+        stop = Some last;
+        closing = closing;
+        lasts = λ telling kept at_rest. record {
+          pending = [];
+          few = record { few = omega arith; caused = inl refl };
+          passes = passes_within (c.crash telling kept) (λ image text is_left. closed_leaves c.entries image text is_left);
+          leaves = λ image now_left. inl (c.left_now telling kept at_rest image now_left);
+          exact = λ unrisen known. subst (λ (p : PlanValue). IsExact (book_desk state new) p (c.entries ++ start.past)) (plan ∙ to.kept.plan)
+              (subst (λ (p : List Entry). IsExact (book_desk state new) new.plan p) c.recorded (c.exact telling kept known));
+        };
+        ran = ran_so gives request asked start.plan start.past book.past c.entries (Some last) (book_desk state start).shown (book_desk state new).shown closing status to.session (sym same ∙ c.recorded)
+            to.compiles to.limits to.short_before to.short told;
+        continues = c.continues;
+        ended = report_ended last new.halt status (book_desk state start) (book_desk state new) start.plan new.past is c.cause;
+      }
+    where
+      closed_leaves : (entries : List Entry) (image text : List ℕ) → LeavesClosed start.plan start.quiet start.past entries (book_desk state start).shown closing image text
+          → MayLeave start.plan start.quiet start.past entries [] (book_desk state start).shown closing image text
+      closed_leaves entries image text (inl l) = left_runs start.plan start.quiet start.past entries [] (book_desk state start).shown closing image text l
+      closed_leaves entries image text (inr l) = closing_runs start.plan start.quiet start.past entries [] [] (book_desk state start).shown closing image text (inr refl) l.0 l.1
+
+  -- the report behind its heading was said, or cut
+  pub sums_run : (gives : Order → Outcome → Type 0) (request : Request) (asked : Type 0) (start book : BookValue K) (last : FlowState) (closing : List ℕ) (now : DeskState) (status : ℕ)
+      → IsRunTo state gives request asked start book (Some last) → book.halt ≡ None → book.journal.halted ≡ false
+      → closing ≡ heading_of request (outline book) book.past ++ report (outline book) (moment book)
+      → ClosesWith (book_desk state book).shown closing (stop_status last) now.shown status → Says closing (book_desk state book) now
+      → (status ≡ UNSAID → Rises (book_desk state book).out_faults now.out_faults) → status ≢ DISK_FAILED
+      → RunsOn state gives request asked start now status
+  sums_run gives request asked start book last closing now status to sound unhalted closing_is closes says unsaid undamaged =
+      let k = to.kept in
+      let spoken = sound_text state start book sound k in
+      let same : closing ≡ heading_of request (outline start) (k.entries ++ start.past) ++ report (outline start) (snapshot (outline start) (k.entries ++ start.past)) =
+      closing_is ∙ ap (λ (p : PlanValue). heading_of request (outline_of p) book.past ++ report (outline_of p) (snapshot (outline_of p) book.past)) k.plan
+      ∙ ap (λ (p : List Entry). heading_of request (outline start) p ++ report (outline start) (snapshot (outline start) p)) k.recorded in
+      record {
+        entries = k.entries;
+        stop = Some last;
+        closing = closing;
+        lasts = said_lasts state start book closing now says (λ unrisen. unhalted) k (inl spoken);
+        ran = ran_so gives request asked start.plan start.past book.past k.entries (Some last) (book_desk state start).shown now.shown closing status to.session k.recorded
+            to.compiles to.limits to.short_before to.short
+            (subst (λ (b : Bool). ShowsLines start.plan b start.past k.entries (book_desk state start).shown now.shown
+            (IsLastSaid start.plan (heading_of request (outline start) (k.entries ++ start.past)) (k.entries ++ start.past) (Some last)) closing status) to.speaks
+            (closed closing (stop_status last) status
+            (subst (λ (c : List ℕ). IsLastSaid start.plan (heading_of request (outline start) (k.entries ++ start.past)) (k.entries ++ start.past) (Some last) c (stop_status last)) (sym same) (reported last))
+            (subst (λ (t : Option (List ℕ)). ClosesWith t closing (stop_status last) now.shown status) spoken closes)));
+        continues = continues_on k.continues (says_continues says);
+        ended = record {
+          unsaid = λ is. (let rose : Rises (book_desk state book).out_faults now.out_faults = unsaid is in omega (arith, rose, k.continues.extends.out_faults));
+          failed = λ is. absurd (undamaged is);
+        };
+      }
+
+  -- memory ran out before the report was made
+  pub stops_run : (gives : Order → Outcome → Type 0) (request : Request) (asked : Type 0) (start book : BookValue K) (last : FlowState)
+      → IsRunTo state gives request asked start book (Some last) → book.halt ≡ None → book.journal.halted ≡ false
+      → RunsOn state gives request asked start (book_desk state book) OUT_OF_MEMORY
+  stops_run gives request asked start book last to sound unhalted =
+      let k = to.kept in
+      let spoken = sound_text state start book sound k in
+      record {
+        entries = k.entries;
+        stop = Some last;
+        closing = [];
+        lasts = said_lasts state start book [] (book_desk state book) says_nothing (λ unrisen. unhalted) k (inl spoken);
+        ran = ran_so gives request asked start.plan start.past book.past k.entries (Some last) (book_desk state start).shown (book_desk state book).shown [] OUT_OF_MEMORY to.session k.recorded
+            to.compiles to.limits to.short_before to.short
+            (subst (λ (b : Bool). ShowsLines start.plan b start.past k.entries (book_desk state start).shown (book_desk state book).shown
+            (IsLastSaid start.plan (heading_of request (outline start) (k.entries ++ start.past)) (k.entries ++ start.past) (Some last)) [] OUT_OF_MEMORY) to.speaks (stopped spoken));
+        continues = k.continues;
+        ended = record { unsaid = λ is. absurd (cc); failed = λ is. absurd (cc) };
+      }
+
+  -- why the book was halted was said, or cut, or it says nothing
+  pub halts_run : (gives : Order → Outcome → Type 0) (request : Request) (asked : Type 0) (start book : BookValue K) (stop : Option FlowState) (why : Halt) (now : DeskState) (status : ℕ)
+      → IsRunTo state gives request asked start book stop → book.halt ≡ Some why
+      → (book.halt ≢ Some halt.Disk → book.journal.halted ≡ false)
+      → HasSaidHalt why (book_desk state book) now status
+      → RunsOn state gives request asked start now status
+  halts_run gives request asked start book stop why now status to halted unhalted s =
+      let k = to.kept in
+      record {
+        entries = k.entries;
+        stop = stop;
+        closing = s.closing;
+        lasts = halt_lasts state start book why now status halted unhalted s k;
+        ran = ran_so gives request asked start.plan start.past book.past k.entries stop (book_desk state start).shown now.shown s.closing status to.session k.recorded
+            to.compiles to.limits to.short_before to.short
+            (subst (λ (b : Bool). ShowsLines start.plan b start.past k.entries (book_desk state start).shown now.shown
+            (IsLastSaid start.plan (heading_of request (outline start) (k.entries ++ start.past)) (k.entries ++ start.past) stop) s.closing status) to.speaks
+            (halt_shows state start book why now status
+            (IsLastSaid start.plan (heading_of request (outline start) (k.entries ++ start.past)) (k.entries ++ start.past) stop) halted s k (disk_failed stop) (filled stop)));
+        continues = continues_on k.continues (says_continues s.says);
+        ended = halt_ended state start book why now status halted s k;
+      }

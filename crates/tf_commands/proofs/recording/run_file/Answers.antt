@@ -1,0 +1,13 @@
+use Rattle.std.proofs.Common.{refl}
+use Rattle.tf_commands.specs.Books.{Runs}
+use Rattle.tf_commands.proofs.CourseLemmas.{done_file, undone_file}
+use Rattle.tf_commands.proofs.recording.run_file.Goals as goal
+
+pub returns-in-Ok-clause-runs : goal.returns-in-Ok-clause-runs
+returns-in-Ok-clause-runs g c =
+    done_file _ c.args.source _ c.in-Ok.machine (Runs _ c.args.request.now _ _ _ _ _ _) _ _ c.run_plan.result.status c.in-Ok.ensures.opened
+    (rw c.in-Ok.ensures.same at c.run_plan.ensures.runs)
+
+pub returns-in-Err-clause-runs : goal.returns-in-Err-clause-runs
+returns-in-Err-clause-runs g c =
+    undone_file _ c.args.source _ _ (Runs _ c.args.request.now _ _ _ _ _ _) _ _ c.in-Err.status (λ still. (refl, still)) c.in-Err.ensures.closed

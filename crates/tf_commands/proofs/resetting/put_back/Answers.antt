@@ -1,0 +1,64 @@
+use Rattle.std.proofs.Common.{◌≡◌, ◌∙◌, sym, ap, arith, None, Some, Err}
+use Rattle.tf_book.specs.Book.{BookValue, outline, moment}
+use Rattle.tf_book.specs.Resetting.{may_reset}
+use Rattle.tf_book.specs.declared.faults.Halt.TheVariants as halt
+use Rattle.tf_book.proofs.KeptLemmas.{keeps_none}
+use Rattle.tf_commands.specs.declared.statuses.TheConstants.{SUCCEEDED}
+use Rattle.tf_commands.proofs.CountLemmas.{reaches_itself, ran_causes}
+use Rattle.tf_commands.proofs.BookLemmas.{untouched_by}
+use Rattle.tf_commands.proofs.ResetLemmas.{is_so, halts_so, all_goes_back, resets_over, forbidden_back}
+use Rattle.tf_commands.proofs.resetting.put_back.Goals as goal
+
+pub stop-requires : goal.stop-requires
+stop-requires g c = record {
+  halted = halts_so c.args.book.halt c.reset.new.self.halt c.in-Err-Book._fault c.requires.sound (c.in-Err-Book.ensures.fault c.in-Err-Book._fault (ap Err c.in-Err-Book.field-0-is));
+}
+
+pub returns-in-Ok-clause-causes : goal.returns-in-Ok-clause-causes
+returns-in-Ok-clause-causes g c =
+    let kept = c.reset.ensures.proceeds.keeps c.args.book (keeps_none g.K.Desk.state c.args.book c.requires.sound) in
+    rw (sym c.close.ensures.desk) at
+    (ran_causes {status = SUCCEEDED} {crew = 0} {crew_now = 0} reaches_itself kept.continues (record { unsaid = λ is. absurd (cc); failed = λ is. absurd (cc) }) (omega arith) (λ is. absurd (cc), λ is. absurd (cc)))
+
+pub returns-in-Ok-clause-goes : goal.returns-in-Ok-clause-goes
+returns-in-Ok-clause-goes g c = λ name entry opened holds.
+    let D = g.K.Desk in
+    let book = c.reset.new.self in
+    let kept = c.reset.ensures.proceeds.keeps c.args.book (keeps_none D.state c.args.book c.requires.sound) in
+    let may = is_so (may_reset (outline c.args.book) (moment c.args.book)) (λ never. (let refused = c.reset.ensures.forbidden c.requires.sound never in cc)) in
+    let opened_so = c.state-pending.ensures.open (λ is. (let clash : None ≡ Some halt.Disk = sym c.in-Ok.ensures.sound ∙ is in cc)) in
+    rw (sym c.close.ensures.desk) at
+    (resets_over D.state name (D.state entry) c.args.book (D.state book.journal.desk) _ opened holds c.requires.kept c.requires.speaks may
+    (all_goes_back D.state c.args.book book
+    (record { kept = kept; put = c.in-Ok.ensures.put_back.on; speaks = c.requires.speaks }) c.in-Ok.ensures.sound opened_so c.in-Ok.ensures.put_back.pending)
+    (record {
+      there = λ told picked. g.met.K.Desk.picked_is_there book.journal.desk name told picked;
+      reads = λ told bytes is. g.met.K.Desk.reads_left book.journal.desk name bytes told is;
+    }))
+
+pub returns-in-Err-Forbidden-clause-goes : goal.returns-in-Err-Forbidden-clause-goes
+returns-in-Err-Forbidden-clause-goes g c = λ name entry opened holds.
+    let D = g.K.Desk in
+    let refused = c.in-Err-Forbidden.ensures.refused c.in-Err-Forbidden._state (ap Err c.in-Err-Forbidden.field-0-is) in
+    forbidden_back D.state name (D.state entry) c.args.book c.reset.new.self (D.state c.forbid.result.desk) c.forbid.result.status refused.1 holds refused.3
+    (c.forbid.ensures.refuses name entry
+    (untouched_by D.state _ _ (ap (λ (b : BookValue g.row.K.Denot). b.journal.desk) (sym refused.1)) opened.untouched))
+
+pub returns-in-Err-Book-clause-goes : goal.returns-in-Err-Book-clause-goes
+returns-in-Err-Book-clause-goes g c = λ name entry opened holds.
+    let D = g.K.Desk in
+    let now = c.stop.result.desk in
+    let kept = c.reset.ensures.proceeds.keeps c.args.book (keeps_none D.state c.args.book c.requires.sound) in
+    let may = is_so (may_reset (outline c.args.book) (moment c.args.book)) (λ never. (let refused = c.reset.ensures.forbidden c.requires.sound never in cc)) in
+    resets_over D.state name (D.state entry) c.args.book (D.state now) c.stop.result.status opened holds c.requires.kept c.requires.speaks may
+    (c.stop.ensures.goes c.args.book (record { kept = kept; put = c.in-Err-Book.ensures.cut; speaks = c.requires.speaks }))
+    (record {
+      there = λ told picked. g.met.K.Desk.picked_is_there now name told picked;
+      reads = λ told bytes is. g.met.K.Desk.reads_left now name bytes told is;
+    })
+
+pub returns-in-Err-Book-clause-causes : goal.returns-in-Err-Book-clause-causes
+returns-in-Err-Book-clause-causes g c =
+    let kept = c.reset.ensures.proceeds.keeps c.args.book (keeps_none g.K.Desk.state c.args.book c.requires.sound) in
+    let back = c.stop.ensures.goes c.args.book (record { kept = kept; put = c.in-Err-Book.ensures.cut; speaks = c.requires.speaks }) in
+    ran_causes reaches_itself back.continues back.ended (omega arith) c.stop.ensures.apart

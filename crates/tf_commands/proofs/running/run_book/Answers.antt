@@ -1,0 +1,41 @@
+use Rattle.tf_book.proofs.KeptLemmas.{keeps_none}
+use Rattle.tf_commands.proofs.AskedLemmas.{session_more}
+use Rattle.tf_commands.proofs.CountLemmas.{rises_until}
+use Rattle.tf_commands.proofs.running.run_book.Goals as goal
+
+pub returns-in-Ended-clause-runs : goal.returns-in-Ended-clause-runs
+returns-in-Ended-clause-runs g c =
+    c.end_run.ensures.runs c.args.book (record {
+      kept = c.go_through-book.ensures.keeps c.args.book (keeps_none g.K.Desk.state c.args.book c.requires.sound);
+      session = session_more _ _ _ _ _ _ _ _ _ (λ rose. rises_until (g.K.Desk.state c.args.book.journal.desk).asks (g.K.Desk.state c.go_through-book.result.book.journal.desk).asks _ rose c.end_run.ensures.asks) (rw c.requires.all at (rw c.in-Ended.is at c.go_through-book.ensures.ran));
+      compiles = c.state-before.ensures.compiles;
+      limits = c.state-before.ensures.limits;
+      short_before = c.state-before.ensures.short;
+      short = c.state-after.ensures.short;
+      speaks = c.requires.speaks;
+    })
+
+pub returns-in-Suspended-clause-runs : goal.returns-in-Suspended-clause-runs
+returns-in-Suspended-clause-runs g c =
+    c.end_run-in-Suspended.ensures.runs c.args.book (record {
+      kept = c.go_through-book.ensures.keeps c.args.book (keeps_none g.K.Desk.state c.args.book c.requires.sound);
+      session = session_more _ _ _ _ _ _ _ _ _ (λ rose. rises_until (g.K.Desk.state c.args.book.journal.desk).asks (g.K.Desk.state c.go_through-book.result.book.journal.desk).asks _ rose c.end_run-in-Suspended.ensures.asks) (rw c.requires.all at (rw c.in-Suspended.is at c.go_through-book.ensures.ran));
+      compiles = c.state-before.ensures.compiles;
+      limits = c.state-before.ensures.limits;
+      short_before = c.state-before.ensures.short;
+      short = c.state-after.ensures.short;
+      speaks = c.requires.speaks;
+    })
+
+pub returns-in-Halted-clause-runs : goal.returns-in-Halted-clause-runs
+returns-in-Halted-clause-runs g c =
+    let ran = rw c.requires.all at (rw c.in-Halted.is at c.go_through-book.ensures.ran) in
+    c.say_halt.ensures.runs c.args.request.now c.args.book ran.0 (record {
+      kept = c.go_through-book.ensures.keeps c.args.book (keeps_none g.K.Desk.state c.args.book c.requires.sound);
+      session = session_more _ _ _ _ _ _ _ _ _ (λ rose. rises_until (g.K.Desk.state c.args.book.journal.desk).asks (g.K.Desk.state c.go_through-book.result.book.journal.desk).asks _ rose c.say_halt.ensures.asks) (ran.1);
+      compiles = c.state-before.ensures.compiles;
+      limits = c.state-before.ensures.limits;
+      short_before = c.state-before.ensures.short;
+      short = c.state-after.ensures.short;
+      speaks = c.requires.speaks;
+    })

@@ -1,0 +1,72 @@
+use Rattle.std.proofs.Common.{refl, subst, sym}
+use Rattle.tf_commands.specs.Asking.{IsWork}
+use Rattle.tf_commands.proofs.CauseLemmas.{worked_causes, listened_so}
+use Rattle.tf_commands.proofs.CourseLemmas.{obeys_so, hires_so, few_so, quiet_file}
+use Rattle.tf_commands.proofs.top.obey_flow.Goals as goal
+
+pub try_file-requires-clause-few : goal.try_file-requires-clause-few
+try_file-requires-clause-few g c = λ lives kept. few_so c.args.asked _ c.in-Try.is c.requires.within
+
+pub run_file-requires-clause-few : goal.run_file-requires-clause-few
+run_file-requires-clause-few g c = λ lives kept. few_so c.args.asked _ c.in-Run.is c.requires.within
+
+pub resume_book-requires-clause-few : goal.resume_book-requires-clause-few
+resume_book-requires-clause-few g c = λ lives kept. few_so c.args.asked _ c.in-Resume.is c.requires.within
+
+pub demo_book-requires-clause-few : goal.demo_book-requires-clause-few
+demo_book-requires-clause-few g c = λ lives kept. (few_so c.args.asked _ c.in-Demo.is c.requires.within).1
+
+pub returns-in-Try-clause-obeys : goal.returns-in-Try-clause-obeys
+returns-in-Try-clause-obeys g c = obeys_so g.K.Desk.state _ _ c.args.asked _ _ _ _ _ _ _ c.in-Try.is (c.try_file.ensures.tried, c.try_file.ensures.stays)
+
+pub returns-in-Run-clause-obeys : goal.returns-in-Run-clause-obeys
+returns-in-Run-clause-obeys g c = obeys_so g.K.Desk.state _ _ c.args.asked _ _ _ _ _ _ _ c.in-Run.is c.run_file.ensures.runs
+
+pub returns-in-Resume-clause-obeys : goal.returns-in-Resume-clause-obeys
+returns-in-Resume-clause-obeys g c = obeys_so g.K.Desk.state _ _ c.args.asked _ _ _ _ _ _ _ c.in-Resume.is c.resume_book.ensures.resumes
+
+pub returns-in-Show-clause-obeys : goal.returns-in-Show-clause-obeys
+returns-in-Show-clause-obeys g c = obeys_so g.K.Desk.state _ _ c.args.asked _ _ _ _ _ _ _ c.in-Show.is (c.show_book.ensures.shows, refl)
+
+pub returns-in-Reset-clause-obeys : goal.returns-in-Reset-clause-obeys
+returns-in-Reset-clause-obeys g c = obeys_so g.K.Desk.state _ _ c.args.asked _ _ _ _ _ _ _ c.in-Reset.is (c.reset_book.ensures.resets, refl)
+
+pub returns-in-Check-clause-obeys : goal.returns-in-Check-clause-obeys
+returns-in-Check-clause-obeys g c = obeys_so g.K.Desk.state _ _ c.args.asked _ _ _ _ _ _ _ c.in-Check.is
+    (quiet_file _ _ _ _ _ _ _ _ (λ still. (refl, still)) c.check_file-status.ensures.checked, (refl, c.check_file-status.ensures.says.files))
+
+pub returns-in-Demo-clause-obeys : goal.returns-in-Demo-clause-obeys
+returns-in-Demo-clause-obeys g c = obeys_so g.K.Desk.state _ _ c.args.asked _ _ _ _ _ _ _ c.in-Demo.is c.demo_book.ensures.demonstrates
+
+pub returns-in-Worker-clause-obeys : goal.returns-in-Worker-clause-obeys
+returns-in-Worker-clause-obeys g c = obeys_so g.K.Desk.state _ _ c.args.asked _ _ _ _ _ _ _ c.in-Worker.is (c.work-status.ensures.works, c.work-status.ensures.says.files)
+
+pub returns-in-Worker-clause-causes : goal.returns-in-Worker-clause-causes
+returns-in-Worker-clause-causes g c =
+    listened_so _ _ _ _ _ (λ both. (subst IsWork (sym c.in-Worker.is) both.0, both.1))
+    (worked_causes c.work-status.result (g.S.Sources.faults c.args.sources.now) (g.S.Sources.faults c.args.sources.now) (g.W.Crew.faults c.args.crew.now) (g.W.Crew.faults c.work-status.new.crew)
+    (g.L.Door.faults c.args.door.now) (g.L.Door.faults c.work-status.new.door) c.work-status.ensures.says refl c.work-status.ensures.crew_stands c.work-status.ensures.unhired c.work-status.ensures.unsaid c.work-status.ensures.status)
+
+pub returns-in-Try-clause-hires : goal.returns-in-Try-clause-hires
+returns-in-Try-clause-hires g c = hires_so c.args.asked _ _ _ c.in-Try.is c.try_file.ensures.hires
+
+pub returns-in-Run-clause-hires : goal.returns-in-Run-clause-hires
+returns-in-Run-clause-hires g c = hires_so c.args.asked _ _ _ c.in-Run.is c.run_file.ensures.hires
+
+pub returns-in-Resume-clause-hires : goal.returns-in-Resume-clause-hires
+returns-in-Resume-clause-hires g c = hires_so c.args.asked _ _ _ c.in-Resume.is c.resume_book.ensures.hires
+
+pub returns-in-Show-clause-hires : goal.returns-in-Show-clause-hires
+returns-in-Show-clause-hires g c = hires_so c.args.asked _ _ _ c.in-Show.is refl
+
+pub returns-in-Reset-clause-hires : goal.returns-in-Reset-clause-hires
+returns-in-Reset-clause-hires g c = hires_so c.args.asked _ _ _ c.in-Reset.is refl
+
+pub returns-in-Check-clause-hires : goal.returns-in-Check-clause-hires
+returns-in-Check-clause-hires g c = hires_so c.args.asked _ _ _ c.in-Check.is refl
+
+pub returns-in-Demo-clause-hires : goal.returns-in-Demo-clause-hires
+returns-in-Demo-clause-hires g c = hires_so c.args.asked _ _ _ c.in-Demo.is c.demo_book.ensures.hires
+
+pub returns-in-Worker-clause-hires : goal.returns-in-Worker-clause-hires
+returns-in-Worker-clause-hires g c = hires_so c.args.asked _ _ _ c.in-Worker.is c.work-status.ensures.hires

@@ -1,0 +1,16 @@
+use Rattle.tf_commands.proofs.CauseLemmas.{usage_tells, refused_tells, board_tells, alone}
+use Rattle.tf_commands.proofs.CompleteLemmas.{completes}
+use Rattle.tf_commands.proofs.top.taskflow.Goals as goal
+
+pub returns-clause-no_command : goal.returns-clause-no_command
+returns-clause-no_command g c = usage_tells g.K.Desk.state _ _ _ _ _ _ _ c.answer-desk.ensures.course
+
+pub returns-clause-refused : goal.returns-clause-refused
+returns-clause-refused g c = refused_tells g.K.Desk.state _ _ _ _ _ _ _ c.answer-desk.ensures.course
+
+pub returns-clause-board_refused : goal.returns-clause-board_refused
+returns-clause-board_refused g c = board_tells g.K.Desk.state _ _ _ _ _ _ _ c.answer-desk.ensures.course
+
+pub returns-clause-complete : goal.returns-clause-complete
+returns-clause-complete g c command asks ready unasked unlistened none =
+    completes g.K.Desk.state _ _ _ _ _ _ _ _ _ c.answer-desk.ensures.course (alone _ _ _ _ (λ both. unlistened both.1) c.answer-desk.ensures.causes) command asks ready none unasked

@@ -1,0 +1,26 @@
+use Rattle.std.proofs.Common.{refl}
+use Rattle.tf_commands.specs.Causes.{WasAsked}
+use Rattle.tf_commands.specs.Course.{IsUntouched, Tries}
+use Rattle.tf_commands.specs.Durable.{NoFileChanges}
+use Rattle.tf_commands.proofs.CourseLemmas.{done_file, undone_file}
+use Rattle.tf_commands.proofs.trying.try_file.Goals as goal
+
+pub returns-in-Ok-clause-tried : goal.returns-in-Ok-clause-tried
+returns-in-Ok-clause-tried g c =
+    let entry = g.K.Desk.state c.args.desk in
+    let now = g.K.Desk.state c.try_plan.result.desk in
+    done_file _ c.args.source _ c.in-Ok.machine
+    (Tries g.W.Hand.Performer.gives c.args.request.now.want (WasAsked entry now) (g.W.Crew.hired c.args.crew.now) (g.W.Crew.hired c.try_plan.new.crew) entry.shown now.shown)
+    _ _ c.try_plan.result.status c.in-Ok.ensures.opened (rw c.in-Ok.ensures.same at c.try_plan.ensures.tried)
+
+pub returns-in-Ok-clause-stays : goal.returns-in-Ok-clause-stays
+returns-in-Ok-clause-stays g c = rw c.in-Ok.ensures.same at c.try_plan.ensures.stays
+
+pub returns-in-Err-clause-tried : goal.returns-in-Err-clause-tried
+returns-in-Err-clause-tried g c =
+    let entry = g.K.Desk.state c.args.desk in
+    let now = g.K.Desk.state c.open_file.new.desk in
+    let hired = g.W.Crew.hired c.args.crew.now in
+    undone_file _ c.args.source (NoFileChanges entry now) (IsUntouched hired hired entry now)
+    (Tries g.W.Hand.Performer.gives c.args.request.now.want (WasAsked entry now) hired hired entry.shown now.shown)
+    _ _ c.in-Err.status (λ still. (refl, still)) c.in-Err.ensures.closed

@@ -1,0 +1,32 @@
+use Rattle.std.proofs.Common.{ap, refl, inr, ◌∙◌, arith}
+use Rattle.tf_book.specs.Book.{BookValue}
+use Rattle.tf_commands.proofs.TrialLemmas.{tried_run, tried_unbegun, tried_unbegun_on, causes_run, stays_run}
+use Rattle.tf_commands.proofs.trying.try_with.Goals as goal
+use Rattle.tf_desk.proofs.CountLemmas.{rises_later}
+
+pub returns-in-Ok-start-clause-tried : goal.returns-in-Ok-start-clause-tried
+returns-in-Ok-start-clause-tried g c =
+    let D = g.K.Desk in
+    let same = c.in-Ok-start.ensures.volatile c.in-Ok.ensures.made.3 ∙ c.in-Ok.ensures.made.0 in
+    tried_run D.state g.P.Performer.gives c.args.request.now _ _ c.args.machine.plan c.args.desk c.in-Ok-start.book (D.state c.run_book.result.desk) c.run_book.result.status
+    c.requires.said (ap (λ (b : BookValue g.row.K.Denot). b.plan) c.in-Ok-start.ensures.made) (ap (λ (b : BookValue g.row.K.Denot). b.past) c.in-Ok-start.ensures.made)
+    same c.run_book.ensures.runs
+    (λ rose. rises_later (D.state c.args.desk).asks (D.state c.in-Ok-start.book.journal.desk).asks _ (omega (arith, ap (λ (k : g.row.K.Denot). (D.state k).asks) same)) rose)
+
+pub returns-in-Ok-start-clause-causes : goal.returns-in-Ok-start-clause-causes
+returns-in-Ok-start-clause-causes g c =
+    causes_run g.K.Desk.state c.args.desk (c.in-Ok-start.ensures.volatile c.in-Ok.ensures.made.3 ∙ c.in-Ok.ensures.made.0) c.run_book.ensures.runs c.run_book.ensures.apart
+
+pub returns-in-Ok-start-clause-stays : goal.returns-in-Ok-start-clause-stays
+returns-in-Ok-start-clause-stays g c =
+    stays_run g.K.Desk.state c.args.desk (c.in-Ok-start.ensures.volatile c.in-Ok.ensures.made.3 ∙ c.in-Ok.ensures.made.0) c.run_book.ensures.runs
+
+pub returns-in-Err-start-clause-tried : goal.returns-in-Err-start-clause-tried
+returns-in-Err-start-clause-tried g c =
+    tried_unbegun_on g.K.Desk.state g.P.Performer.gives c.args.request.now.want _ c.args.machine.plan c.args.desk c.in-Err-start.desk (g.K.Desk.state c.say_unbegun.result.desk) c.say_unbegun.result.status
+    (c.in-Err-start.ensures.volatile c.in-Ok.ensures.made.3 ∙ c.in-Ok.ensures.made.0) c.say_unbegun.ensures.closes
+
+pub returns-in-Err-clause-tried : goal.returns-in-Err-clause-tried
+returns-in-Err-clause-tried g c =
+    tried_unbegun g.P.Performer.gives c.args.request.now.want _ c.args.machine.plan (g.K.Desk.state c.args.desk).shown (g.K.Desk.state c.in-Err.desk).shown 9
+    (inr (refl, ap (λ (k : g.row.K.Denot). (g.K.Desk.state k).shown) c.in-Err.ensures.back))

@@ -1,0 +1,273 @@
+-- The ways that a command can go.
+use Rattle.std.specs.Prelude.{◌≡◌, ◌≤◌, ◌⊎◌, ℕ, List, [], length, codes, true, false, IsTrue, Bool, Option, Some, None}
+use Rattle.tf_desk.specs.State.{DeskState}
+use Rattle.tf_flow.specs.declared.atoms.Bind.{Bind}
+use Rattle.tf_ports.specs.Contents.{Contents, GivesBytes, PassesLimit}
+use Rattle.tf_ports.specs.declared.crews.Want.{Want}
+use Rattle.tf_ports.specs.declared.crews.Want.TheVariants as want
+use Rattle.tf_actions.specs.declared.orders.Order.{Order}
+use Rattle.tf_actions.specs.declared.outcomes.Outcome.{Outcome}
+use Rattle.tf_ports.specs.declared.reading.TheConstants.{SOURCE_LIMIT}
+use Rattle.tf_flow.specs.Plan.{PlanValue}
+use Rattle.tf_flow.specs.Written.{PlanTree, plan_tree}
+use Rattle.tf_journal.specs.Format.{Recovered}
+use Rattle.tf_book.specs.Loading.{IsNoBook}
+use Rattle.tf_book.specs.Resetting.{may_reset}
+use Rattle.tf_model.specs.History.{snapshot}
+use Rattle.tf_model.specs.Plan.{outline_of}
+use Rattle.tf_states.specs.declared.record.Entry.{Entry}
+use Rattle.tf_states.specs.declared.state.FlowState.{FlowState}
+use Rattle.tf_words.specs.declared.asked.Asked.{Asked}
+use Rattle.tf_words.specs.declared.asked.Asked.TheVariants as asked
+use Rattle.tf_board.specs.Answers.{answer_of, board_of}
+use Rattle.tf_board.specs.Board.{board_in, Finds}
+use Rattle.tf_board.specs.Jobs.{LegalJobs}
+use Rattle.tf_board.specs.declared.commands.Command.{Command}
+use Rattle.tf_board.specs.declared.statuses.TheConstants.{BOARD_REFUSED}
+use Rattle.tf_board.specs.Does.{Does, IsAllowed, IsBoardComplete}
+use Rattle.tf_commands.specs.Accepted.{outline_in, GivesPlan, GivesNone}
+use Rattle.tf_commands.specs.Asking.{file_asked_for, asked_for, wanted_by}
+use Rattle.tf_commands.specs.Books.{Hires, Runs, Demonstrates, Resumes, ShowsBook, ResetsBook}
+use Rattle.tf_journal.specs.Start.{file_of}
+use Rattle.tf_commands.specs.Durable.{NoFileChanges, OnlyPickedChanges, book_at, HoldsNoFlow, HoldsHistory}
+use Rattle.tf_commands.specs.Messages.{checked, usage, cannot_read, cannot_hire, refusal, reason_text}
+use Rattle.tf_commands.specs.Run.{spoken_run, Ran}
+use Rattle.tf_commands.specs.Saying.{ClosesWith, ClosesWithOrStops}
+use Rattle.tf_commands.specs.Working.{Works}
+use Rattle.tf_commands.specs.declared.statuses.TheConstants.{SUCCEEDED, NO_COMMAND, UNREAD, REFUSED, UNHIRED, OUT_OF_MEMORY, REVERTED, FAILED, SUSPENDED, FULL}
+use Rattle.tf_commands.specs.declared.accepting.Refusal.{Refusal}
+use Rattle.tf_commands.specs.declared.reading.Source.{Source}
+
+-- ---- flow files
+
+-- what becomes of the bytes of a flow file, which these values and this deferral go with, where its plan is dealt with so; where they
+-- give none, all else is untouched
+pub data BytesRead (source : Source) (bytes : List ℕ) (untouched : Type 0) (does : PlanTree → ℕ → Type 0) (before after : Option (List ℕ)) (status : ℕ) : Type 0 where
+  -- memory ran out before anything was said or run
+  exhausted : untouched → status ≡ OUT_OF_MEMORY → after ≡ before → BytesRead source bytes untouched does before after status
+  -- they are refused for the first reason why they give no plan, and that is said
+  refused : untouched → (reason : Refusal) → GivesNone source.sets source.defer bytes reason
+      → ClosesWith before (refusal (reason_text reason)) REFUSED after status → BytesRead source bytes untouched does before after status
+  -- the plan that they give is dealt with
+  done : (plan : PlanTree) → GivesPlan source.sets source.defer bytes plan → does plan status → BytesRead source bytes untouched does before after status
+
+-- what becomes of a flow file, where its plan is dealt with so; where it gives none, all else is untouched
+pub data FileRead (files : Contents) (source : Source) (untouched : Type 0) (does : PlanTree → ℕ → Type 0) (before after : Option (List ℕ)) (status : ℕ) : Type 0 where
+  -- memory ran out before anything was said or run
+  unfinished : untouched → status ≡ OUT_OF_MEMORY → after ≡ before → FileRead files source untouched does before after status
+  -- it can't be read
+  unread : untouched → ClosesWith before cannot_read UNREAD after status → FileRead files source untouched does before after status
+  -- it is longer than a flow file may be
+  too_long : untouched → PassesLimit files source.file → ClosesWith before (refusal (codes "too long")) REFUSED after status
+      → FileRead files source untouched does before after status
+  -- its bytes are those that the sources have under its name
+  read : (bytes : List ℕ) → GivesBytes files source.file bytes → BytesRead source bytes untouched does before after status
+      → FileRead files source untouched does before after status
+
+-- nothing is done with a plan
+abbrev pub Undone : PlanTree → ℕ → Type 0
+Undone plan status = ⊥
+
+-- ---- trials and checks
+
+-- a run of a plan with these hands, of which nothing is kept
+pub record Tried (gives : Order → Outcome → Type 0) (hands : Want) (stopped : Type 0) (tree : PlanTree) (shown now : Option (List ℕ)) (status : ℕ) : Type 0 where
+  pub plan : PlanValue
+  pub same : plan_tree plan ≡ tree
+  pub entries : List Entry
+  pub stop : Option FlowState
+  pub closing : List ℕ
+  pub ran : Ran gives (spoken_run hands None) stopped plan [] entries stop shown now closing status
+
+-- to try a plan is to hire the hands that are wanted and to run the plan with them
+pub data Tries (gives : Order → Outcome → Type 0) (hands : Want) (stopped : Type 0) (hired after_hiring : Option (List Want)) (before after : Option (List ℕ)) (tree : PlanTree) (status : ℕ) : Type 0 where
+  -- memory ran out as the hands were hired, or before the run began, and nothing was said
+  unfinished_hire : status ≡ OUT_OF_MEMORY → after ≡ before → Tries gives hands stopped hired after_hiring before after tree status
+  -- they couldn't be hired, and that is said
+  unhired : after_hiring ≡ hired → ClosesWith before cannot_hire UNHIRED after status → Tries gives hands stopped hired after_hiring before after tree status
+  -- they were hired, and ran the plan
+  tried : Hires hands hired after_hiring → Tried gives hands stopped tree before after status → Tries gives hands stopped hired after_hiring before after tree status
+
+-- nobody was hired, or the hands that were wanted
+abbrev pub HiresAtMost : Want → Option (List Want) → Option (List Want) → Type 0
+HiresAtMost hands hired after_hiring = (after_hiring ≡ hired) ⊎ Hires hands hired after_hiring
+
+-- nobody was hired, or the hands that were wanted, if any were
+abbrev pub HiresAsWanted : Option Want → Option (List Want) → Option (List Want) → Type 0
+HiresAsWanted None hired after_hiring = after_hiring ≡ hired
+HiresAsWanted (Some hands) hired after_hiring = HiresAtMost hands hired after_hiring
+
+-- nobody was hired, or the hands that the words ask for
+abbrev pub HiresAsAsked : List (List ℕ) → Option (List Want) → Option (List Want) → Type 0
+HiresAsAsked words hired after_hiring = HiresAsWanted (wanted_by words) hired after_hiring
+
+-- to check a plan is to say what it has, unless memory runs out
+abbrev pub Checks : Option (List ℕ) → Option (List ℕ) → PlanTree → ℕ → Type 0
+Checks before after plan status = ClosesWithOrStops before (checked (outline_in plan)) SUCCEEDED after status
+
+-- ---- all commands
+
+-- these values and this deferral of that flow file
+abbrev pub source_so : List ℕ → List Bind → Bool → Source
+source_so file sets defer = record { file = file; sets = sets; defer = defer }
+
+-- nobody was hired, and no file changed
+abbrev pub IsUntouched : Option (List Want) → Option (List Want) → DeskState → DeskState → Type 0
+IsUntouched hired after_hiring entry now = (after_hiring ≡ hired) × NoFileChanges entry now
+
+module _ {K : Type 0} (state : K → DeskState) where
+  -- what becomes of what the words ask for, where a run may be suspended for a stop that was asked for; a trial changes no file but one that was picked before, and a check none
+  abbrev pub Obeys : (Order → Outcome → Type 0) → Type 0 → Asked → Contents → Option (List Want) → Option (List Want) → K → K → ℕ → Type 0
+  Obeys gives stopped (asked.Try file sets defer hands) files hired after_hiring entry now status =
+      FileRead files (source_so file sets defer) (IsUntouched hired after_hiring (state entry) (state now))
+      (Tries gives hands stopped hired after_hiring (state entry).shown (state now).shown) (state entry).shown (state now).shown status × OnlyPickedChanges (state entry) (state now)
+  Obeys gives stopped (asked.Check file sets) files hired after_hiring entry now status =
+      FileRead files (source_so file sets false) (IsUntouched hired after_hiring (state entry) (state now))
+      (Checks (state entry).shown (state now).shown) (state entry).shown (state now).shown status × IsUntouched hired after_hiring (state entry) (state now)
+  Obeys gives stopped (asked.Run file book sets defer hands stop) files hired after_hiring entry now status =
+      FileRead files (source_so file sets defer) (IsUntouched hired after_hiring (state entry) (state now))
+      (Runs gives (spoken_run hands stop) stopped book hired after_hiring (state entry) (state now)) (state entry).shown (state now).shown status
+  Obeys gives stopped (asked.Resume book hands stop) files hired after_hiring entry now status =
+      Resumes gives (spoken_run hands stop) stopped book hired after_hiring (state entry) (state now) status
+  Obeys gives stopped (asked.Show book) files hired after_hiring entry now status =
+      ShowsBook book (state entry) (state now) status × (after_hiring ≡ hired)
+  Obeys gives stopped (asked.Reset book) files hired after_hiring entry now status =
+      ResetsBook book (state entry) (state now) status × (after_hiring ≡ hired)
+  Obeys gives stopped (asked.Demo seed size book hands) files hired after_hiring entry now status =
+      Demonstrates state gives (want.Local hands) stopped book hired after_hiring entry now seed size status
+  Obeys gives stopped (asked.Worker address sessions) files hired after_hiring entry now status =
+      Works hired after_hiring (state entry).shown (state now).shown sessions status × NoFileChanges (state entry) (state now)
+  Obeys gives stopped (asked.Post board name priority details) files hired after_hiring entry now status =
+      Does (asked.Post board name priority details) board (state entry) (state now) status × (after_hiring ≡ hired)
+  Obeys gives stopped (asked.Claim board id owner) files hired after_hiring entry now status =
+      Does (asked.Claim board id owner) board (state entry) (state now) status × (after_hiring ≡ hired)
+  Obeys gives stopped (asked.Abandon board id owner) files hired after_hiring entry now status =
+      Does (asked.Abandon board id owner) board (state entry) (state now) status × (after_hiring ≡ hired)
+  Obeys gives stopped (asked.Consume board id owner) files hired after_hiring entry now status =
+      Does (asked.Consume board id owner) board (state entry) (state now) status × (after_hiring ≡ hired)
+  Obeys gives stopped (asked.Trash board id owner) files hired after_hiring entry now status =
+      Does (asked.Trash board id owner) board (state entry) (state now) status × (after_hiring ≡ hired)
+  Obeys gives stopped (asked.Owner board id) files hired after_hiring entry now status =
+      Does (asked.Owner board id) board (state entry) (state now) status × (after_hiring ≡ hired)
+  Obeys gives stopped (asked.List board) files hired after_hiring entry now status =
+      Does (asked.List board) board (state entry) (state now) status × (after_hiring ≡ hired)
+
+  -- the way that a command went, with hands that keep this relation of orders and outcomes, and with runs that may be suspended where
+  -- a stop was asked for: its words, what the sources tell, which hands were hired before and after, the desk before and after, the
+  -- status
+  pub data Course (gives : Order → Outcome → Type 0) (stopped : Type 0) (words : List (List ℕ)) (files : Contents) (hired after_hiring : Option (List Want)) (entry now : K)
+      (status : ℕ) : Type 0 where
+    -- memory ran out before the words were read
+    unheard : status ≡ OUT_OF_MEMORY → (state now).shown ≡ (state entry).shown → IsUntouched hired after_hiring (state entry) (state now)
+        → Course gives stopped words files hired after_hiring entry now status
+    -- the words are no command
+    no_command : asked_for words ≡ None → ClosesWith (state entry).shown usage NO_COMMAND (state now).shown status → IsUntouched hired after_hiring (state entry) (state now)
+        → Course gives stopped words files hired after_hiring entry now status
+    -- what they ask for was done, or it was said why not
+    obeyed : (command : Asked) → asked_for words ≡ Some command → Obeys gives stopped command files hired after_hiring entry now status
+        → Course gives stopped words files hired after_hiring entry now status
+
+-- ---- what a status tells
+
+-- the words ask for a flow file that the sources refuse as too long or whose bytes give no plan
+pub data IsRefused (words : List (List ℕ)) (files : Contents) : Type 0 where
+  passes_limit : (command : Asked) (source : Source) → asked_for words ≡ Some command → file_asked_for command ≡ Some source → PassesLimit files source.file
+      → IsRefused words files
+  gives_none : (command : Asked) (source : Source) (bytes : List ℕ) (reason : Refusal) → asked_for words ≡ Some command → file_asked_for command ≡ Some source
+      → GivesBytes files source.file bytes → GivesNone source.sets source.defer bytes reason → IsRefused words files
+
+-- the words are a command on a board which refuses it, by the commands that its file has
+pub record IsBoardRefused (words : List (List ℕ)) (entry : DeskState) : Type 0 where
+  pub command : Asked
+  pub name : List ℕ
+  pub past : List Command
+  pub asks : asked_for words ≡ Some command
+  pub about : board_of command ≡ Some name
+  pub legal : LegalJobs past
+  pub found : IsTrue entry.tells → Finds past (board_in (file_of entry name))
+  pub refuses : (answer_of command past).status ≡ BOARD_REFUSED
+
+-- the sources tell bytes under the name of a flow file that give a plan, and that aren't too long
+pub record IsAccepted (source : Source) (files : Contents) : Type 0 where
+  pub told : List ℕ → Option (List ℕ)
+  pub bytes : List ℕ
+  pub plan : PlanTree
+  pub sources : files ≡ Some told
+  pub under : told source.file ≡ Some bytes
+  pub short : length bytes ≤ SOURCE_LIMIT
+  pub given : GivesPlan source.sets source.defer bytes plan
+
+-- a file is a book
+abbrev pub IsBook : Recovered → Type 0
+IsBook found = (offset : ℕ) (byte : Option ℕ) → ¬ (IsNoBook found offset byte)
+
+-- a book that holds a flow
+abbrev pub HoldsFlow : Recovered → Type 0
+HoldsFlow found = IsBook found × ¬ (HoldsNoFlow found)
+
+-- a run that met no fault ends with SUCCESS, in completed reversion or in FAILURE, or memory runs out; or its next record would make the
+-- book longer than its limit
+abbrev pub IsRunComplete : ℕ → Type 0
+IsRunComplete status = (status ≡ SUCCEEDED) ⊎ (status ≡ REVERTED) ⊎ (status ≡ FAILED) ⊎ (status ≡ OUT_OF_MEMORY) ⊎ (status ≡ FULL)
+
+-- the same, where it may be suspended after so many entries
+abbrev pub IsRunCompleteBy : Option ℕ → ℕ → Type 0
+IsRunCompleteBy None status = IsRunComplete status
+IsRunCompleteBy (Some limit) status = IsRunComplete status ⊎ (status ≡ SUSPENDED)
+
+-- what else was done and met no fault ends well, or memory runs out
+abbrev pub IsDoneComplete : ℕ → Type 0
+IsDoneComplete status = (status ≡ SUCCEEDED) ⊎ (status ≡ OUT_OF_MEMORY)
+
+-- a reset that met no fault ends well, or memory runs out, or its next record would make the book longer than its limit
+abbrev pub IsResetComplete : ℕ → Type 0
+IsResetComplete status = (status ≡ SUCCEEDED) ⊎ (status ≡ OUT_OF_MEMORY) ⊎ (status ≡ FULL)
+
+-- a book that holds a flow which may be put back: it is REVERTED, and every atom is settled
+abbrev pub HoldsReverted : Recovered → Type 0
+HoldsReverted found = HoldsFlow found
+    × ((plan : PlanValue) (past : List Entry) → HoldsHistory plan past found → may_reset (outline_of plan) (snapshot (outline_of plan) past) ≡ true)
+
+-- what the desk has under a name is this, and it tells so
+abbrev pub HasBook : List ℕ → DeskState → (Recovered → Type 0) → Type 0
+HasBook name entry is = IsTrue entry.tells × is (book_at entry name)
+
+-- the file of that name is a board on which the command isn't refused, and the desk tells so
+abbrev pub HasBoard : List ℕ → DeskState → Asked → Type 0
+HasBoard name entry command = IsTrue entry.tells × IsAllowed command (board_in (file_of entry name))
+
+-- nothing stands against what the words ask for: the flow file gives a plan, and the book or the board is as the command wants it
+abbrev pub MayBeDone : Asked → Contents → DeskState → Type 0
+MayBeDone (asked.Try file sets defer hands) files entry = IsAccepted (source_so file sets defer) files
+MayBeDone (asked.Run file book sets defer hands stop) files entry = IsAccepted (source_so file sets defer) files × HasBook book entry HoldsNoFlow
+MayBeDone (asked.Resume book hands stop) files entry = HasBook book entry HoldsFlow
+MayBeDone (asked.Show book) files entry = HasBook book entry HoldsFlow
+MayBeDone (asked.Reset book) files entry = HasBook book entry HoldsReverted
+MayBeDone (asked.Check file sets) files entry = IsAccepted (source_so file sets false) files
+MayBeDone (asked.Demo seed size book hands) files entry = HasBook book entry HoldsNoFlow
+MayBeDone (asked.Worker address sessions) files entry = Unit {0}
+MayBeDone (asked.Post board name priority details) files entry = HasBoard board entry (asked.Post board name priority details)
+MayBeDone (asked.Claim board id owner) files entry = HasBoard board entry (asked.Claim board id owner)
+MayBeDone (asked.Abandon board id owner) files entry = HasBoard board entry (asked.Abandon board id owner)
+MayBeDone (asked.Consume board id owner) files entry = HasBoard board entry (asked.Consume board id owner)
+MayBeDone (asked.Trash board id owner) files entry = HasBoard board entry (asked.Trash board id owner)
+MayBeDone (asked.Owner board id) files entry = HasBoard board entry (asked.Owner board id)
+MayBeDone (asked.List board) files entry = HasBoard board entry (asked.List board)
+
+-- it ends so, where no count of faults rose
+abbrev pub IsComplete : Asked → ℕ → Type 0
+IsComplete (asked.Try file sets defer hands) status = IsRunComplete status
+IsComplete (asked.Run file book sets defer hands stop) status = IsRunCompleteBy stop status
+IsComplete (asked.Resume book hands stop) status = IsRunCompleteBy stop status
+IsComplete (asked.Show book) status = IsDoneComplete status
+IsComplete (asked.Reset book) status = IsResetComplete status
+IsComplete (asked.Check file sets) status = IsDoneComplete status
+IsComplete (asked.Demo seed size book hands) status = IsRunComplete status
+IsComplete (asked.Worker address sessions) status = IsDoneComplete status
+IsComplete (asked.Post board name priority details) status = IsBoardComplete status
+IsComplete (asked.Claim board id owner) status = IsBoardComplete status
+IsComplete (asked.Abandon board id owner) status = IsBoardComplete status
+IsComplete (asked.Consume board id owner) status = IsBoardComplete status
+IsComplete (asked.Trash board id owner) status = IsBoardComplete status
+IsComplete (asked.Owner board id) status = IsBoardComplete status
+IsComplete (asked.List board) status = IsBoardComplete status

@@ -1,0 +1,13 @@
+-- What opening a file keeps.
+use Rattle.std.specs.Prelude.{ℕ, List}
+use Rattle.tf_ports.specs.Contents.{Contents, GivesBytes}
+use Rattle.tf_flow.specs.Written.{plan_tree}
+use Rattle.tf_machine.specs.Machine.{MachineValue}
+use Rattle.tf_commands.specs.Accepted.{GivesPlan}
+use Rattle.tf_commands.specs.declared.reading.Source.{Source}
+
+-- the machine's plan is the one that the file gives
+pub record Opened (files : Contents) (source : Source) (m : MachineValue) : Type 0 where
+  pub bytes : List ℕ
+  pub given : GivesBytes files source.file bytes
+  pub plan : GivesPlan source.sets source.defer bytes (plan_tree m.plan)

@@ -1,0 +1,129 @@
+-- What a run of a book keeps, from the book on which it began to the desk that it left; no clause of the top call cites it.
+use Rattle.std.specs.Prelude.{◌≡◌, ◌≢◌, ◌⊎◌, ℕ, true, false, IsTrue, List, [], ◌++◌, Option, None}
+use Rattle.tf_desk.specs.Counts.{Rises}
+use Rattle.tf_desk.specs.State.{DeskState, Continues, Passes, Says, nothing_left}
+use Rattle.tf_actions.specs.declared.orders.Order.{Order}
+use Rattle.tf_actions.specs.declared.outcomes.Outcome.{Outcome}
+use Rattle.tf_states.specs.declared.record.Entry.{Entry}
+use Rattle.tf_states.specs.declared.state.FlowState.{FlowState}
+use Rattle.tf_journal.specs.Format.{title_of}
+use Rattle.tf_journal.specs.Rest.{LeavesBodies, LeavesEither}
+use Rattle.tf_journal.specs.declared.title.Title.TheVariants.{Book as book_title}
+use Rattle.tf_book.specs.Book.{BookValue, outline, bodies_of, flow_state}
+use Rattle.tf_book.specs.Kept.{Kept, IsExact}
+use Rattle.tf_book.specs.Resetting.{IsPutBackOn}
+use Rattle.tf_bound.specs.Short.{AreShort, IsWithinLimits}
+use Rattle.tf_book.specs.declared.faults.Halt.{Halt}
+use Rattle.tf_book.specs.declared.faults.Halt.TheVariants as halt
+use Rattle.tf_engines.specs.Runs.{IsSession}
+use Rattle.tf_model.specs.Compilation.{compile_refusal}
+use Rattle.tf_model.specs.Sessions.{has_ended}
+use Rattle.tf_ports.specs.Wanted.{wanted as number_of}
+use Rattle.tf_ports.specs.declared.crews.Want.{Want}
+use Rattle.tf_commands.specs.Books.{Hires, Unhired, Promised}
+use Rattle.tf_commands.specs.Durable.{book_at, HoldsHistory, IsPendingSo, MayLeave}
+use Rattle.tf_commands.specs.Messages.{disk_fault_text, book_full}
+use Rattle.tf_commands.specs.Resets.{PutBack}
+use Rattle.tf_commands.specs.Run.{Ran}
+use Rattle.tf_commands.specs.declared.running.Request.{Request}
+use Rattle.tf_commands.specs.Saying.{ClosesWith}
+use Rattle.tf_commands.specs.declared.statuses.TheConstants.{UNREAD, DISK_FAILED, UNSAID, UNHIRED, OUT_OF_MEMORY, FULL}
+
+-- what was said of a halt, by why the book was halted, and how the command ends: a message, or nothing where the output failed or memory
+-- ran out
+abbrev pub SaysHalt : Option (List ℕ) → Option (List ℕ) → Halt → List ℕ → ℕ → Type 0
+SaysHalt before now halt.Disk closing status = (closing ≡ disk_fault_text) × ClosesWith before disk_fault_text DISK_FAILED now status
+SaysHalt before now halt.Out closing status = (closing ≡ []) × (status ≡ UNSAID) × (now ≡ before)
+SaysHalt before now (halt.Full size need) closing status =
+    ((closing ≡ []) × (status ≡ OUT_OF_MEMORY) × (now ≡ before)) ⊎ ((closing ≡ book_full size need) × ClosesWith before (book_full size need) FULL now status)
+SaysHalt before now halt.Memory closing status = (closing ≡ []) × (status ≡ OUT_OF_MEMORY) × (now ≡ before)
+
+-- there is a message for it
+abbrev pub HasMessage : Halt → Type 0
+HasMessage halt.Disk = Unit {0}
+HasMessage halt.Out = ⊥
+HasMessage (halt.Full size need) = Unit {0}
+HasMessage halt.Memory = ⊥
+
+-- what was said of a halt on a desk: a message for it, or nothing
+pub record HasSaidHalt (why : Halt) (old new : DeskState) (status : ℕ) : Type 0 where
+  pub closing : List ℕ
+  pub ends : SaysHalt old.shown new.shown why closing status
+  pub says : Says closing old new
+  pub how : HasMessage why ⊎ (IsTrue old.tells → Passes nothing_left old new)
+  pub unsaid : status ≡ UNSAID → (why ≡ halt.Out) ⊎ Rises old.out_faults new.out_faults
+  pub failed : status ≡ DISK_FAILED → why ≡ halt.Disk
+  pub apart : (status ≢ UNREAD) × (status ≢ UNHIRED)
+
+-- the file held the plan and the history of the book at entry
+abbrev pub HoldsBook : {K : Type 0} → List ℕ → DeskState → BookValue K → Type 0
+HoldsBook name entry book = IsTrue entry.tells → HoldsHistory book.plan book.past (book_at entry name)
+
+-- what a status tells of a run or a reset: the output or the disk failed only where its count rose
+pub record HasEnded (old new : DeskState) (status : ℕ) : Type 0 where
+  pub unsaid : status ≡ UNSAID → Rises old.out_faults new.out_faults
+  pub failed : status ≡ DISK_FAILED → Rises old.disk_faults new.disk_faults
+
+module _ {K : Type 0} (state : K → DeskState) where
+  -- the desk of a book
+  abbrev pub book_desk : BookValue K → DeskState
+  book_desk book = state book.journal.desk
+
+  -- a run went from one book to another that stopped so
+  pub record IsRunTo (gives : Order → Outcome → Type 0) (request : Request) (asked : Type 0) (start now : BookValue K) (stop : Option FlowState) : Type 0 where
+    pub kept : Kept state start now
+    pub session : IsSession gives asked (number_of request.want) request.limit (outline start) start.past now.past stop
+    pub compiles : compile_refusal start.plan ≡ None
+    pub limits : IsWithinLimits (outline start)
+    pub short_before : AreShort start.past
+    pub short : AreShort now.past
+    pub speaks : start.quiet ≡ request.quiet
+
+  -- what a crash since the start may leave and now leaves, and each byte of a file that was known
+  pub record RunLasts (start : BookValue K) (now : DeskState) (entries : List Entry) (closing : List ℕ) : Type 0 where
+    pub pending : List Entry
+    pub few : IsPendingSo pending (book_desk start) now
+    pub passes : Passes (MayLeave start.plan start.quiet start.past entries pending (book_desk start).shown closing) (book_desk start) now
+    pub leaves : LeavesEither (title_of book_title) now (bodies_of start.plan (entries ++ start.past)) (bodies_of start.plan (pending ++ (entries ++ start.past)))
+    pub exact : ¬ (Rises (book_desk start).disk_faults now.disk_faults) → IsExact (book_desk start) start.plan start.past
+        → IsExact now start.plan (entries ++ start.past)
+
+  -- so it is where the desk tells, the book is kept in a file, and a crash at the start left just its bodies
+  abbrev pub LastsFrom : BookValue K → DeskState → List Entry → List ℕ → Type 0
+  LastsFrom start now entries closing =
+      IsTrue (book_desk start).tells → start.journal.volatile ≡ false
+      → LeavesBodies (title_of book_title) (book_desk start) (bodies_of start.plan start.past) → RunLasts start now entries closing
+
+  -- from the book on which a run began to the desk that it left
+  pub record RunsOn (gives : Order → Outcome → Type 0) (request : Request) (asked : Type 0) (start : BookValue K) (now : DeskState) (status : ℕ) : Type 0 where
+    pub entries : List Entry
+    pub stop : Option FlowState
+    pub closing : List ℕ
+    pub lasts : LastsFrom start now entries closing
+    pub ran : Ran gives request asked start.plan start.past entries stop (book_desk start).shown now.shown closing status
+    pub continues : Continues (book_desk start) now
+    pub ended : HasEnded (book_desk start) now status
+
+  -- the flow of a book is put back: some of what that records was recorded
+  pub record IsPutBackTo (start now : BookValue K) : Type 0 where
+    pub kept : Kept state start now
+    pub put : IsPutBackOn (outline start) start.past now.past
+    pub speaks : start.quiet ≡ false
+
+  -- from the book whose flow is put back to the desk that it left
+  pub record GoesBack (start : BookValue K) (now : DeskState) (status : ℕ) : Type 0 where
+    pub entries : List Entry
+    pub closing : List ℕ
+    pub lasts : LastsFrom start now entries closing
+    pub put_back : PutBack start.plan start.past entries (book_desk start).shown now.shown closing status
+    pub continues : Continues (book_desk start) now
+    pub ended : HasEnded (book_desk start) now status
+
+-- a book that was opened goes on: with hands, or without any where its flow had ended; or they couldn't be hired
+pub data GoesFurther {K : Type 0} (gives : Order → Outcome → Type 0) (request : Request) (asked : Type 0) (name : List ℕ) (entry : DeskState) (book : BookValue K)
+    (hired after_hiring : Option (List Want)) (now : DeskState) (status : ℕ) : Type 0 where
+  nobody : has_ended (flow_state book) ≡ false → Unhired name entry now hired after_hiring status
+      → GoesFurther gives request asked name entry book hired after_hiring now status
+  went_on : ((has_ended (flow_state book) ≡ true) × (after_hiring ≡ hired)) ⊎ ((has_ended (flow_state book) ≡ false) × Hires request.want hired after_hiring)
+      → Promised gives request asked name book.plan book.past entry now status
+      → GoesFurther gives request asked name entry book hired after_hiring now status

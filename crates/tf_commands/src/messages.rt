@@ -1,0 +1,246 @@
+ghost use Rattle.std.specs.Prelude.{◌≡◌, ◌≤◌, [], ◌∷◌, ◌++◌, OnOk, length};
+ghost use Rattle.std.specs.List.{flat_map};
+ghost use Rattle.tf_numbers.specs.Numbers.{which_below};
+ghost use Rattle.tf_model.specs.Plan.{outline_of, count, is_task};
+ghost use Rattle.tf_board.specs.Answers.{byte_or_end};
+ghost use Rattle.tf_commands.specs.Messages.{limit_word as word_of_limit, checked, summary, tasks_below, spaced, plan_fault_text, file_fault_text, compile_fault_text, scope_fault_text, reason_text, refusal, not_a_book, book_full, state_forbids};
+
+use crate::accepting::Refusal;
+use tf_document::{FileFault, Path};
+use tf_flow::{Limit, Plan, PlanFault};
+use tf_order::CompileFault;
+use tf_report::{
+    append, append_counted, append_named, append_number, append_pair, flow_name, flow_word,
+};
+use tf_scopes::ScopeFault;
+use tf_states::FlowState;
+use tf_values::{Memory, Name};
+
+/// The message for words that are no command.
+pub const USAGE: &[u8] = b"taskflow: usage\n";
+
+/// The message for a file that can't be read.
+pub const CANNOT_READ: &[u8] = b"taskflow: cannot read\n";
+
+/// The message where no hand could be hired.
+pub const CANNOT_HIRE: &[u8] = b"taskflow: cannot hire\n";
+
+/// The message where nobody can be listened to.
+pub const CANNOT_LISTEN: &[u8] = b"taskflow: cannot listen\n";
+
+/// The message for a file that is longer than a flow file may be.
+pub const TOO_LONG: &[u8] = b"taskflow: flow file: too long\n";
+
+/// The message for a fault of the disk.
+pub const DISK_FAULT: &[u8] = b"taskflow: disk fault\n";
+
+/// The message for a book that holds no flow.
+pub const NO_FLOW: &[u8] = b"taskflow: no flow in the book\n";
+
+/// Appends the message for a file that is no book: the offset and the byte that show it, or the file's end.
+#[tactic(auto, unfolding(crate::specs::Messages::not_a_book))]
+pub fn append_not_a_book(offset: u64, byte: Option<u8>, out: &mut Vec<u8>) -> Result<(), Memory>
+    ensures { OnOk result (out.new.items ≡ out.old.items ++ not_a_book offset byte) }
+{
+    append_counted(b"taskflow: not a book: offset ", offset, out)?;
+    append(b", ", out)?;
+    append_byte(byte, out)?;
+    append(b"\n", out)
+}
+
+/// Appends a byte of a file, or that there is none.
+fn append_byte(byte: Option<u8>, out: &mut Vec<u8>) -> Result<(), Memory>
+    ensures { OnOk result (out.new.items ≡ out.old.items ++ byte_or_end byte) }
+{
+    match byte {
+        Some(byte) => append_counted(b"byte ", byte, out),
+        None => append(b"end", out),
+    }
+}
+
+/// Appends the message for a book that is full: its size, and how many bytes more were asked for.
+#[tactic(auto, unfolding(crate::specs::Messages::book_full))]
+pub fn append_book_full(size: u64, need: u64, out: &mut Vec<u8>) -> Result<(), Memory>
+    ensures { OnOk result (out.new.items ≡ out.old.items ++ book_full size need) }
+{
+    append_counted(b"taskflow: book full: ", size, out)?;
+    append_counted(b" + ", need, out)?;
+    append(b"\n", out)
+}
+
+/// Appends the message for a flow whose state forbids a command.
+#[tactic(auto, unfolding(crate::specs::Messages::state_forbids))]
+pub fn append_state_forbids(plan: &Plan, state: FlowState, out: &mut Vec<u8>) -> Result<(), Memory>
+    ensures { OnOk result (out.new.items ≡ out.old.items ++ state_forbids (outline_of plan.now) state) }
+{
+    append_named(
+        b"taskflow: state forbids: ",
+        flow_name(plan, 0),
+        flow_word(state),
+        out,
+    )?;
+    append(b"\n", out)
+}
+
+/// Appends what a check says of a plan.
+#[tactic(auto, unfolding(crate::specs::Messages::checked), using(tf_model::proofs::PlanLemmas::atoms_counted, tf_report::proofs::LineLemmas::flows_counted))]
+pub fn append_checked(plan: &Plan, out: &mut Vec<u8>) -> Result<(), Memory>
+    ensures { OnOk result (out.new.items ≡ out.old.items ++ checked (outline_of plan.now)) }
+{
+    let tasks = count_tasks(plan);
+    append_pair(b"ok ", flow_name(plan, 0), out)?;
+    append_counted(b": ", tasks, out)?;
+    append_counted(b" tasks, ", plan.atoms() - tasks, out)?;
+    append_counted(b" retries, ", plan.flows(), out)?;
+    append(b" flows\n", out)
+}
+
+/// Appends how many tasks a generated flow has, and how many entries its history.
+#[tactic(auto, unfolding(crate::specs::Messages::summary))]
+pub fn append_summary(plan: &Plan, entries: u64, out: &mut Vec<u8>) -> Result<(), Memory>
+    ensures { OnOk result (out.new.items ≡ out.old.items ++ summary (outline_of plan.now) entries) }
+{
+    append_counted(b"demo ", count_tasks(plan), out)?;
+    append_counted(b" tasks, ", entries, out)?;
+    append(b" entries\n", out)
+}
+
+/// How many tasks the plan has.
+fn count_tasks(plan: &Plan) -> u16
+    ensures is { result ≡ tasks_below (outline_of plan.now) (count (outline_of plan.now)) }
+    ensures few { result ≤ count (outline_of plan.now) }
+{
+    let mut tasks = 0;
+    for atom in 0..plan.atoms() {
+        if !plan.is_retry(atom) {
+            tasks += 1;
+        }
+    }
+    tasks
+}
+
+/// Appends the message for a flow file that is refused for the reason.
+#[tactic(auto, unfolding(crate::specs::Messages::refusal))]
+pub fn append_refusal(reason: &Refusal, out: &mut Vec<u8>) -> Result<(), Memory>
+    ensures { OnOk result (out.new.items ≡ out.old.items ++ refusal (reason_text reason.now)) }
+{
+    append(b"taskflow: flow file: ", out)?;
+    append_reason(reason, out)?;
+    append(b"\n", out)
+}
+
+fn append_reason(reason: &Refusal, out: &mut Vec<u8>) -> Result<(), Memory>
+    ensures { OnOk result (out.new.items ≡ out.old.items ++ reason_text reason.now) }
+{
+    match reason {
+        Refusal::File(fault) => append_file_fault(fault, out),
+        Refusal::Compile(fault) => append_compile_fault(fault, out),
+        Refusal::Scope(fault) => append_scope_fault(fault, out),
+        Refusal::Memory => Ok(()),
+    }
+}
+
+fn append_scope_fault(fault: &ScopeFault, out: &mut Vec<u8>) -> Result<(), Memory>
+    ensures { OnOk result (out.new.items ≡ out.old.items ++ scope_fault_text fault.now) }
+{
+    match fault {
+        ScopeFault::Missing { atom, symbol } => {
+            append_pair(b"missing ", atom.bytes(), out)?;
+            append_pair(b" ", symbol.bytes(), out)
+        }
+        ScopeFault::Memory => Ok(()),
+    }
+}
+
+fn append_compile_fault(fault: &CompileFault, out: &mut Vec<u8>) -> Result<(), Memory>
+    ensures { OnOk result (out.new.items ≡ out.old.items ++ compile_fault_text fault.now) }
+{
+    match fault {
+        CompileFault::Ambiguous {
+            symbol,
+            first,
+            second,
+        } => {
+            append_pair(b"ambiguous ", symbol.bytes(), out)?;
+            append_pair(b" ", first.bytes(), out)?;
+            append_pair(b" ", second.bytes(), out)
+        }
+        CompileFault::Cycle(names) => {
+            append(b"cycle", out)?;
+            append_names(names.items(), out)
+        }
+        CompileFault::Memory => Ok(()),
+    }
+}
+
+/// Appends names, each after a space.
+fn append_names(names: &[Name], out: &mut Vec<u8>) -> Result<(), Memory>
+    ensures { OnOk result (out.new.items ≡ out.old.items ++ flat_map spaced names.now) }
+{
+    for name in names {
+        append_pair(b" ", name.bytes(), out)?;
+    }
+    Ok(())
+}
+
+fn append_file_fault(fault: &FileFault, out: &mut Vec<u8>) -> Result<(), Memory>
+    ensures { OnOk result (out.new.items ≡ out.old.items ++ file_fault_text fault.now) }
+{
+    match fault {
+        FileFault::NotToml => append(b"not toml", out),
+        FileFault::UnknownKey(path) => append_place(b"unknown key ", path, out),
+        FileFault::MissingKey(path) => append_place(b"missing key ", path, out),
+        FileFault::WrongKind(path) => append_place(b"wrong kind ", path, out),
+        FileFault::BadName(path) => append_place(b"bad name ", path, out),
+        FileFault::BadChoice(path) => append_place(b"bad choice ", path, out),
+        FileFault::BadNumber(path) => append_place(b"bad number ", path, out),
+        FileFault::BadValue(path) => append_place(b"bad value ", path, out),
+        FileFault::Plan(fault) => append_plan_fault(fault, out),
+        FileFault::Memory => Ok(()),
+    }
+}
+
+/// Appends a head and a path.
+fn append_place(head: &[u8], path: &Path, out: &mut Vec<u8>) -> Result<(), Memory>
+    ensures { OnOk result (out.new.items ≡ out.old.items ++ (head.now ++ path.now)) }
+{
+    append_pair(head, path.bytes(), out)
+}
+
+fn append_plan_fault(fault: &PlanFault, out: &mut Vec<u8>) -> Result<(), Memory>
+    ensures { OnOk result (out.new.items ≡ out.old.items ++ plan_fault_text fault.now) }
+{
+    match fault {
+        PlanFault::TooLarge { which, n } => {
+            append(b"too large ", out)?;
+            append(limit_word(*which).as_bytes(), out)?;
+            append(b" ", out)?;
+            append_number(*n, out)
+        }
+        PlanFault::Empty => append(b"empty", out),
+        PlanFault::Duplicate(name) => append_pair(b"duplicate ", name.bytes(), out),
+        PlanFault::Unknown(name) => append_pair(b"unknown item ", name.bytes(), out),
+        PlanFault::BadLink(name) => append_pair(b"bad link ", name.bytes(), out),
+        PlanFault::BadAtom(name) => append_pair(b"bad atom ", name.bytes(), out),
+        PlanFault::Memory => Ok(()),
+    }
+}
+
+fn limit_word(limit: Limit) -> &'static str
+    ensures { result.now ≡ word_of_limit limit }
+{
+    match limit {
+        Limit::Nesting => "nesting",
+        Limit::Atoms => "atoms",
+        Limit::Flows => "flows",
+        Limit::Links => "links",
+        Limit::Arguments => "arguments",
+        Limit::Injects => "injects",
+        Limit::Provided => "provided",
+        Limit::Words => "words",
+        Limit::Store => "store",
+        Limit::Test => "test",
+        Limit::Comparisons => "comparisons",
+        Limit::Plan => "plan",
+    }
+}

@@ -1,0 +1,114 @@
+//! A run that goes on from the history which a book holds.
+
+ghost use Rattle.std.specs.Prelude.{◌≡◌, ◌≤◌, ℕ, List, false, None};
+ghost use Rattle.tf_book.specs.Book.{flow_state};
+ghost use Rattle.tf_model.specs.Sessions.{has_ended};
+ghost use Rattle.tf_commands.specs.Asking.{AreHands};
+ghost use Rattle.tf_commands.specs.Books.{Resumes};
+ghost use Rattle.tf_commands.specs.Causes.{HasEachCause, WasAsked, counts_of};
+ghost use Rattle.tf_commands.specs.Course.{HiresAtMost};
+ghost use Rattle.tf_commands.specs.Runs.{HoldsBook, GoesFurther};
+ghost use Rattle.tf_journal.specs.Path.{Open};
+
+use crate::books::{open, refuse_book, say_empty, say_unhired};
+use crate::running::{Over, Request, report_end, run_book};
+use std::alloc::Global;
+use std::sync::Wait;
+use std::thread::Threads;
+use tf_book::{Book, Loaded};
+use tf_desk::Desk;
+use tf_ports::Crew;
+use tf_states::FlowState;
+use tf_values::Text;
+
+/// Opens the book, and runs its flow on with hands that are hired then, as it is requested; of a flow that has ended it
+/// says the report.
+pub fn resume_book<K: Desk + Send, W: Crew, R: Threads + Wait + Sync>(
+    rt: &R,
+    alloc: Global,
+    name: &Text,
+    request: &Request,
+    desk: K,
+    crew: &mut W,
+) -> Over<K>
+    requires speaks { request.now.quiet ≡ false }
+    requires few { AreHands request.now.want }
+    ensures resumes { Resumes W.Hand.gives request.now (WasAsked (K.state desk) (K.state result.desk)) name.now
+        (W.hired crew.old) (W.hired crew.new) (K.state desk) (K.state result.desk) result.status }
+    ensures hires { HiresAtMost request.now.want (W.hired crew.old) (W.hired crew.new) }
+    ensures asks { (K.state desk).asks ≤ (K.state result.desk).asks }
+    ensures causes { HasEachCause result.status (counts_of (K.state desk) 0 (W.faults crew.old))
+        (counts_of (K.state result.desk) 0 (W.faults crew.new)) }
+{
+    match open(alloc, desk, name) {
+        Ok(Loaded::Book(book)) => {
+            let _plan = book.machine().plan();
+            go_on(rt, alloc, book, request, crew)
+        }
+        Ok(Loaded::NoFlow(journal)) => say_empty(journal.into_desk()),
+        Ok(Loaded::Unborn(desk)) => say_empty(desk),
+        Err((desk, fault)) => refuse_book(alloc, desk, fault),
+    }
+}
+
+/// Runs a book's flow on, unless it has ended.
+fn go_on<K: Desk + Send, W: Crew, R: Threads + Wait + Sync>(
+    rt: &R,
+    alloc: Global,
+    book: Book<K>,
+    request: &Request,
+    crew: &mut W,
+) -> Over<K>
+    requires sound { book.halt ≡ None }
+    requires speaks { book.quiet ≡ request.now.quiet }
+    requires spoken { request.now.quiet ≡ false }
+    requires few { AreHands request.now.want }
+    requires kept { book.journal.volatile ≡ false }
+    ensures goes { (name : List ℕ) (entry : K)
+        → Open name (K.state entry) (K.state book.journal.desk)
+        → HoldsBook name (K.state entry) book
+        → GoesFurther W.Hand.gives request.now (WasAsked (K.state book.journal.desk) (K.state result.desk))
+        name (K.state entry) book (W.hired crew.old) (W.hired crew.new) (K.state result.desk) result.status }
+    ensures hires { HiresAtMost request.now.want (W.hired crew.old) (W.hired crew.new) }
+    ensures asks { (K.state book.journal.desk).asks ≤ (K.state result.desk).asks }
+    ensures causes { HasEachCause result.status (counts_of (K.state book.journal.desk) 0 (W.faults crew.old))
+        (counts_of (K.state result.desk) 0 (W.faults crew.new)) }
+{
+    let state = book.state();
+    match state {
+        FlowState::Success | FlowState::Failure | FlowState::Reverted => {
+            report_end::<K, W::Hand>(book, state)
+        }
+        _ => hire_and_go_on(rt, alloc, book, request, crew),
+    }
+}
+
+/// Hires the hands that are wanted, and runs a book's flow on with them.
+fn hire_and_go_on<K: Desk + Send, W: Crew, R: Threads + Wait + Sync>(
+    rt: &R,
+    alloc: Global,
+    book: Book<K>,
+    request: &Request,
+    crew: &mut W,
+) -> Over<K>
+    requires sound { book.halt ≡ None }
+    requires speaks { book.quiet ≡ request.now.quiet }
+    requires spoken { request.now.quiet ≡ false }
+    requires few { AreHands request.now.want }
+    requires kept { book.journal.volatile ≡ false }
+    requires going { has_ended (flow_state book) ≡ false }
+    ensures goes { (name : List ℕ) (entry : K)
+        → Open name (K.state entry) (K.state book.journal.desk)
+        → HoldsBook name (K.state entry) book
+        → GoesFurther W.Hand.gives request.now (WasAsked (K.state book.journal.desk) (K.state result.desk))
+        name (K.state entry) book (W.hired crew.old) (W.hired crew.new) (K.state result.desk) result.status }
+    ensures hires { HiresAtMost request.now.want (W.hired crew.old) (W.hired crew.new) }
+    ensures asks { (K.state book.journal.desk).asks ≤ (K.state result.desk).asks }
+    ensures causes { HasEachCause result.status (counts_of (K.state book.journal.desk) 0 (W.faults crew.old))
+        (counts_of (K.state result.desk) 0 (W.faults crew.new)) }
+{
+    match crew.hire(alloc, &request.want) {
+        Ok(hands) => run_book(rt, alloc, book, hands, request),
+        Err(fault) => say_unhired(book.close(), fault),
+    }
+}

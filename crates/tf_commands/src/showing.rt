@@ -1,0 +1,52 @@
+//! How a book is shown: the lines of its whole history, and the table.
+
+ghost use Rattle.std.specs.Prelude.{◌≡◌, ◌≤◌, ◌⊎◌, ℕ, List};
+ghost use Rattle.tf_book.specs.Book.{outline};
+ghost use Rattle.tf_book.specs.Showing.{history_text};
+ghost use Rattle.tf_commands.specs.Books.{RefusesOrStops, ShowsBook};
+ghost use Rattle.tf_commands.specs.Causes.{HasEachCause, counts_of};
+ghost use Rattle.tf_commands.specs.Saying.{HasSaid};
+ghost use Rattle.tf_journal.specs.Path.{Untouched};
+
+use crate::books::{open, refuse_book, say_empty, say_over};
+use crate::running::Over;
+use crate::statuses::{OUT_OF_MEMORY, SUCCEEDED, UNSAID};
+use std::alloc::Global;
+use tf_book::{Book, Loaded};
+use tf_desk::Desk;
+use tf_values::Text;
+
+/// Opens the book, and says the lines of its whole history and the table. Nothing is recorded.
+pub fn show_book<K: Desk>(alloc: Global, name: &Text, desk: K) -> Over<K>
+    ensures shows { ShowsBook name.now (K.state desk) (K.state result.desk) result.status }
+    ensures causes { HasEachCause result.status (counts_of (K.state desk) 0 0)
+        (counts_of (K.state result.desk) 0 0) }
+    ensures asks { (K.state desk).asks ≤ (K.state result.desk).asks }
+{
+    match open(alloc, desk, name) {
+        Ok(Loaded::Book(book)) => say_whole(book),
+        Ok(Loaded::NoFlow(journal)) => say_empty(journal.into_desk()),
+        Ok(Loaded::Unborn(desk)) => say_empty(desk),
+        Err((desk, fault)) => refuse_book(alloc, desk, fault),
+    }
+}
+
+/// Says the lines of a book's history and the table, unless memory runs out.
+fn say_whole<K: Desk>(book: Book<K>) -> Over<K>
+    ensures shows { (name : List ℕ) (entry : K)
+        → Untouched name (K.state entry) (K.state book.journal.desk)
+        → RefusesOrStops name (K.state entry) (K.state result.desk)
+        (history_text (outline book) book.past) SUCCEEDED result.status }
+    ensures said { HasSaid (K.state book.journal.desk) (K.state result.desk) result.status }
+    ensures status { (result.status ≡ SUCCEEDED) ⊎ (result.status ≡ UNSAID) ⊎ (result.status ≡ OUT_OF_MEMORY) }
+{
+    let made = book.history_text();
+    let desk = book.close();
+    match made {
+        Ok(text) => say_over(&text, SUCCEEDED, desk),
+        Err(_) => Over {
+            desk,
+            status: OUT_OF_MEMORY,
+        },
+    }
+}

@@ -1,0 +1,311 @@
+ghost use Rattle.std.specs.Prelude.{◌≡◌, ◌≤◌, true, false, is_some, None, Some, IfSome};
+ghost use Rattle.tf_board.specs.Answers.{board_of};
+ghost use Rattle.tf_desk.specs.Counts.{Rises};
+ghost use Rattle.tf_commands.specs.Asking.{is_local as wants_local, is_done_here as is_done, asked_for, if_done_here, IsWithin, want_of, IsWork, AsksForWork};
+ghost use Rattle.tf_commands.specs.Causes.{HasCausesOr, HasNoFault, WasAsked, counts_of};
+ghost use Rattle.tf_commands.specs.Course.{Course, HiresAsAsked, HiresAsWanted, Obeys, IsRefused, IsBoardRefused, MayBeDone, IsComplete};
+ghost use Rattle.tf_board.specs.declared.statuses.TheConstants.{BOARD_REFUSED};
+ghost use Rattle.tf_words.specs.declared.asked.Asked.{Asked as AnAsked};
+
+use crate::boards::{is_of_board, on_board};
+use crate::checking::check_file;
+use crate::closing::close;
+use crate::demoing::demo_book;
+use crate::messages::USAGE;
+use crate::reading::Source;
+use crate::recording::run_file;
+use crate::resetting::reset_book;
+use crate::resuming::resume_book;
+use crate::running::{Over, Request};
+use crate::showing::show_book;
+use crate::statuses::{DISK_FAILED, NO_COMMAND, OUT_OF_MEMORY, REFUSED, UNHIRED, UNREAD, UNSAID};
+use crate::trying::try_file;
+use crate::working::work;
+use std::alloc::Global;
+use std::sync::Wait;
+use std::thread::Threads;
+use tf_desk::Desk;
+use tf_ports::{Crew, Door, Sources, Want};
+use tf_words::{Asked, Word, demo_numbers_are_within, read_words};
+
+/// What a command reaches beside its words: the desk, the sources, the crew that hires hands, and the door at
+/// which a worker listens.
+#[derive(Drop)]
+pub struct Outside<K, S, W, L> {
+    pub desk: K,
+    pub sources: S,
+    pub crew: W,
+    pub door: L,
+}
+
+/// What a command leaves: the outside, and its status.
+#[derive(Drop)]
+pub struct Ended<K, S, W, L> {
+    pub outside: Outside<K, S, W, L>,
+    pub status: u8,
+}
+
+/// Does what the words ask for, and answers the outside and the status. Where several hands run a flow, they are threads
+/// of the runtime.
+pub fn taskflow<K: Desk + Send, S: Sources, W: Crew, L: Door, R: Threads + Wait + Sync>(
+    rt: &R,
+    alloc: Global,
+    words: &[Word],
+    outside: Outside<K, S, W, L>,
+) -> Ended<K, S, W, L>
+    // The way that the command went: which command the words are, which plan the sources' bytes give or
+    // why they give none, what the book held and holds, which hands were hired, what was recorded, what was
+    // shown, what a crash may leave, and the status.
+    ensures course { Course K.state W.Hand.gives (WasAsked (K.state outside.desk) (K.state result.outside.desk))
+        words.now (S.contents outside.sources)
+        (W.hired outside.crew) (W.hired result.outside.crew) outside.desk result.outside.desk result.status }
+
+    // Status 2 comes only where the words are no command.
+    ensures no_command { result.status ≡ NO_COMMAND → asked_for words.now ≡ None }
+
+    // Status 4 comes only where the file is too long or gives no plan to run.
+    ensures refused { result.status ≡ REFUSED → IsRefused words.now (S.contents outside.sources) }
+
+    // Status 15 comes only where the words are a command on a board which refuses it, by the commands that its file has.
+    ensures board_refused { result.status ≡ BOARD_REFUSED → IsBoardRefused words.now (K.state outside.desk) }
+
+    // A file that gives a plan is run to its end, or said to be in order, a book that holds a flow is resumed to its
+    // end, or shown, or put back, and a command is done on a board that doesn't refuse it, unless a count of faults
+    // rose, a stop was asked for or memory ran out; 13 comes only as the course says, and 12 only where there is a
+    // limit of entries.
+    ensures complete { (command : AnAsked) → asked_for words.now ≡ Some command
+        → MayBeDone command (S.contents outside.sources) (K.state outside.desk)
+        → ¬ (WasAsked (K.state outside.desk) (K.state result.outside.desk))
+        → ¬ (Rises (L.faults outside.door) (L.faults result.outside.door))
+        → HasNoFault (counts_of (K.state outside.desk) (S.faults outside.sources) (W.faults outside.crew))
+        (counts_of (K.state result.outside.desk) (S.faults result.outside.sources) (W.faults result.outside.crew))
+        → IsComplete command result.status }
+
+    // Nobody is hired, or exactly the hands that the words ask for, and these are where something was recorded, as the course
+    // says.
+    ensures hires { HiresAsAsked words.now (W.hired outside.crew) (W.hired result.outside.crew) }
+
+    // A file can't be read, the disk fails, a text can't be said, no hands are hired and a worker's door fails only where
+    // the count of such faults rose; no count falls.
+    ensures asks { (K.state outside.desk).asks ≤ (K.state result.outside.desk).asks }
+    ensures door { L.faults outside.door ≤ L.faults result.outside.door }
+    ensures causes { HasCausesOr (AsksForWork words.now × Rises (L.faults outside.door) (L.faults result.outside.door))
+        result.status (counts_of (K.state outside.desk) (S.faults outside.sources) (W.faults outside.crew))
+        (counts_of (K.state result.outside.desk) (S.faults result.outside.sources) (W.faults result.outside.crew)) }
+{
+    let Outside {
+        desk,
+        mut sources,
+        mut crew,
+        mut door,
+    } = outside;
+    let Over { desk, status } = answer(rt, alloc, words, desk, &mut sources, &mut crew, &mut door);
+    Ended {
+        outside: Outside {
+            desk,
+            sources,
+            crew,
+            door,
+        },
+        status,
+    }
+}
+
+/// Does what the words ask for, and answers the desk and the status.
+#[tactic(auto, using(crate::proofs::CauseLemmas::widened))]
+fn answer<K: Desk + Send, S: Sources, W: Crew, L: Door, R: Threads + Wait + Sync>(
+    rt: &R,
+    alloc: Global,
+    words: &[Word],
+    mut desk: K,
+    sources: &mut S,
+    crew: &mut W,
+    door: &mut L,
+) -> Over<K>
+    ensures course { Course K.state W.Hand.gives (WasAsked (K.state desk) (K.state result.desk)) words.now
+        (S.contents sources.old) (W.hired crew.old) (W.hired crew.new) desk result.desk result.status }
+    ensures hires { HiresAsAsked words.now (W.hired crew.old) (W.hired crew.new) }
+    ensures asks { (K.state desk).asks ≤ (K.state result.desk).asks }
+    ensures door { L.faults door.old ≤ L.faults door.new }
+    ensures causes { HasCausesOr (AsksForWork words.now × Rises (L.faults door.old) (L.faults door.new)) result.status
+        (counts_of (K.state desk) (S.faults sources.old) (W.faults crew.old))
+        (counts_of (K.state result.desk) (S.faults sources.new) (W.faults crew.new)) }
+{
+    let Ok(found) = read_words(alloc, words) else {
+        return Over {
+            desk,
+            status: OUT_OF_MEMORY,
+        };
+    };
+    demo_numbers_are_within();
+    match done_here(found) {
+        Some(asked) => obey(rt, alloc, asked, desk, sources, crew, door),
+        None => {
+            let status = close(USAGE, NO_COMMAND, &mut desk);
+            Over { desk, status }
+        }
+    }
+}
+
+/// The command, where the program does it.
+fn done_here(found: Option<Asked>) -> Option<Asked>
+    ensures is { result ≡ if_done_here found }
+    ensures done { IfSome result (λ asked. is_done asked ≡ true) }
+{
+    match found {
+        Some(asked) => {
+            if is_done_here(&asked) {
+                Some(asked)
+            } else {
+                None
+            }
+        }
+        None => None,
+    }
+}
+
+/// Whether the program does the command.
+fn is_done_here(asked: &Asked) -> bool
+    ensures { result ≡ is_done asked.now }
+{
+    match asked {
+        Asked::Try { want, .. } => is_local(want),
+        Asked::Run { want, .. } => is_local(want),
+        Asked::Resume { want, .. } => is_local(want),
+        Asked::Show { .. } | Asked::Reset { .. } | Asked::Check { .. } => true,
+        Asked::Demo { .. } | Asked::Worker { .. } => true,
+        Asked::Post { .. }
+        | Asked::Claim { .. }
+        | Asked::Abandon { .. }
+        | Asked::Consume { .. }
+        | Asked::Trash { .. }
+        | Asked::Owner { .. }
+        | Asked::List { .. } => true,
+    }
+}
+
+/// Whether hands of this process are wanted.
+fn is_local(want: &Want) -> bool
+    ensures { result ≡ wants_local want.now }
+{
+    match want {
+        Want::Local(_) => true,
+        Want::Remote(_) => false,
+    }
+}
+
+/// Does what is asked for, and answers the desk and the status.
+fn obey<K: Desk + Send, S: Sources, W: Crew, L: Door, R: Threads + Wait + Sync>(
+    rt: &R,
+    alloc: Global,
+    asked: Asked,
+    desk: K,
+    sources: &mut S,
+    crew: &mut W,
+    door: &mut L,
+) -> Over<K>
+    requires done { is_done asked ≡ true }
+    requires within { IsWithin asked }
+    ensures obeys { Obeys K.state W.Hand.gives (WasAsked (K.state desk) (K.state result.desk)) asked
+        (S.contents sources.old) (W.hired crew.old) (W.hired crew.new) desk result.desk result.status }
+    ensures hires { HiresAsWanted (want_of asked) (W.hired crew.old) (W.hired crew.new) }
+    ensures asks { (K.state desk).asks ≤ (K.state result.desk).asks }
+    ensures door { L.faults door.old ≤ L.faults door.new }
+    ensures causes { HasCausesOr (IsWork asked × Rises (L.faults door.old) (L.faults door.new)) result.status
+        (counts_of (K.state desk) (S.faults sources.old) (W.faults crew.old))
+        (counts_of (K.state result.desk) (S.faults sources.new) (W.faults crew.new)) }
+{
+    if is_of_board(&asked) {
+        on_board(alloc, asked, desk)
+    } else {
+        obey_flow(rt, alloc, asked, desk, sources, crew, door)
+    }
+}
+
+/// Does what is asked for of a flow or of a worker, and answers the desk and the status.
+#[tactic(auto, using(crate::proofs::CauseLemmas::widened))]
+fn obey_flow<K: Desk + Send, S: Sources, W: Crew, L: Door, R: Threads + Wait + Sync>(
+    rt: &R,
+    alloc: Global,
+    asked: Asked,
+    mut desk: K,
+    sources: &mut S,
+    crew: &mut W,
+    door: &mut L,
+) -> Over<K>
+    requires done { is_done asked ≡ true }
+    requires no_board { is_some (board_of asked) ≡ false }
+    requires within { IsWithin asked }
+    ensures obeys { Obeys K.state W.Hand.gives (WasAsked (K.state desk) (K.state result.desk)) asked
+        (S.contents sources.old) (W.hired crew.old) (W.hired crew.new) desk result.desk result.status }
+    ensures hires { HiresAsWanted (want_of asked) (W.hired crew.old) (W.hired crew.new) }
+    ensures asks { (K.state desk).asks ≤ (K.state result.desk).asks }
+    ensures door { L.faults door.old ≤ L.faults door.new }
+    ensures causes { HasCausesOr (IsWork asked × Rises (L.faults door.old) (L.faults door.new)) result.status
+        (counts_of (K.state desk) (S.faults sources.old) (W.faults crew.old))
+        (counts_of (K.state result.desk) (S.faults sources.new) (W.faults crew.new)) }
+{
+    match asked {
+        Asked::Try {
+            file,
+            sets,
+            defer,
+            want,
+        } => {
+            let source = Source { file, sets, defer };
+            let request = Request {
+                want,
+                quiet: false,
+                limit: None,
+            };
+            try_file(rt, alloc, source, &request, desk, sources, crew)
+        }
+        Asked::Run {
+            file,
+            book,
+            sets,
+            defer,
+            want,
+            stop_after,
+        } => {
+            let source = Source { file, sets, defer };
+            let request = Request {
+                want,
+                quiet: false,
+                limit: stop_after,
+            };
+            run_file(rt, alloc, source, &book, &request, desk, sources, crew)
+        }
+        Asked::Resume {
+            book,
+            want,
+            stop_after,
+        } => {
+            let request = Request {
+                want,
+                quiet: false,
+                limit: stop_after,
+            };
+            resume_book(rt, alloc, &book, &request, desk, crew)
+        }
+        Asked::Show { book } => show_book(alloc, &book, desk),
+        Asked::Reset { book } => reset_book(alloc, &book, desk),
+        Asked::Check { file, sets } => {
+            let defer = false;
+            let source = Source { file, sets, defer };
+            let status = check_file(alloc, source, &mut desk, sources);
+            Over { desk, status }
+        }
+        Asked::Demo {
+            seed,
+            size,
+            book,
+            hands,
+        } => demo_book(rt, alloc, seed, size, &book, hands, desk, crew),
+        Asked::Worker { address, sessions } => {
+            let status = work(alloc, &address, sessions, &mut desk, crew, door);
+            Over { desk, status }
+        }
+        _ => unreachable!(),
+    }
+}

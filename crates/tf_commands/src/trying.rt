@@ -1,0 +1,117 @@
+//! A trial: a run of a flow file's plan of which nothing is kept.
+
+ghost use Rattle.std.specs.Prelude.{◌≡◌, ◌≤◌, [], None, vec_len};
+ghost use Rattle.tf_flow.specs.Written.{plan_tree};
+ghost use Rattle.tf_ports.specs.Wanted.{wanted as number_of};
+ghost use Rattle.tf_machine.specs.Machine.{StandsFor};
+ghost use Rattle.tf_commands.specs.Asking.{AreHands};
+ghost use Rattle.tf_commands.specs.Causes.{HasEachCause, WasAsked, counts_of};
+ghost use Rattle.tf_commands.specs.Course.{FileRead, IsUntouched, Tries, Tried, HiresAtMost};
+ghost use Rattle.tf_commands.specs.Durable.{OnlyPickedChanges};
+ghost use Rattle.tf_commands.specs.Run.{spoken_run};
+
+use crate::books::{say_unbegun, say_unhired};
+use crate::reading::{Source, open_file};
+use crate::running::{Over, Request, run_book};
+use crate::statuses::OUT_OF_MEMORY;
+use std::alloc::Global;
+use std::sync::Wait;
+use std::thread::Threads;
+use tf_actions::Performer;
+use tf_book::Book;
+use tf_desk::Desk;
+use tf_journal::Journal;
+use tf_machine::Machine;
+use tf_ports::{Crew, Sources};
+
+/// Reads the file, hires the hands that are wanted, runs the file's flow with them and reports its end. Nothing of it is
+/// kept.
+pub fn try_file<K: Desk + Send, S: Sources, W: Crew, R: Threads + Wait + Sync>(
+    rt: &R,
+    alloc: Global,
+    source: Source,
+    request: &Request,
+    mut desk: K,
+    sources: &mut S,
+    crew: &mut W,
+) -> Over<K>
+    requires said { request.now ≡ spoken_run request.now.want None }
+    requires few { AreHands request.now.want }
+    ensures tried { FileRead (S.contents sources.old) source
+        (IsUntouched (W.hired crew.old) (W.hired crew.new) (K.state desk) (K.state result.desk))
+        (Tries W.Hand.gives request.now.want (WasAsked (K.state desk) (K.state result.desk))
+        (W.hired crew.old) (W.hired crew.new) (K.state desk).shown (K.state result.desk).shown)
+        (K.state desk).shown (K.state result.desk).shown result.status }
+    ensures stays { OnlyPickedChanges (K.state desk) (K.state result.desk) }
+    ensures hires { HiresAtMost request.now.want (W.hired crew.old) (W.hired crew.new) }
+    ensures asks { (K.state desk).asks ≤ (K.state result.desk).asks }
+    ensures causes { HasEachCause result.status (counts_of (K.state desk) (S.faults sources.old) (W.faults crew.old))
+        (counts_of (K.state result.desk) (S.faults sources.new) (W.faults crew.new)) }
+{
+    match open_file(alloc, source, &mut desk, sources) {
+        Ok(machine) => try_plan(rt, alloc, machine, request, desk, crew),
+        Err(status) => Over { desk, status },
+    }
+}
+
+/// Hires the hands that are wanted, and runs the plan of a machine with them.
+fn try_plan<K: Desk + Send, W: Crew, R: Threads + Wait + Sync>(
+    rt: &R,
+    alloc: Global,
+    machine: Machine,
+    request: &Request,
+    desk: K,
+    crew: &mut W,
+) -> Over<K>
+    requires fresh { StandsFor machine [] }
+    requires said { request.now ≡ spoken_run request.now.want None }
+    requires few { AreHands request.now.want }
+    ensures tried { Tries W.Hand.gives request.now.want (WasAsked (K.state desk) (K.state result.desk))
+        (W.hired crew.old) (W.hired crew.new) (K.state desk).shown (K.state result.desk).shown
+        (plan_tree machine.plan) result.status }
+    ensures stays { OnlyPickedChanges (K.state desk) (K.state result.desk) }
+    ensures hires { HiresAtMost request.now.want (W.hired crew.old) (W.hired crew.new) }
+    ensures asks { (K.state desk).asks ≤ (K.state result.desk).asks }
+    ensures causes { HasEachCause result.status (counts_of (K.state desk) 0 (W.faults crew.old))
+        (counts_of (K.state result.desk) 0 (W.faults crew.new)) }
+{
+    match crew.hire(alloc, &request.want) {
+        Ok(hands) => try_with(rt, alloc, machine, request, desk, hands),
+        Err(fault) => {
+            drop(machine);
+            say_unhired(desk, fault)
+        }
+    }
+}
+
+/// Runs the plan of a machine with the hands that were hired for it, in a journal that keeps nothing.
+fn try_with<K: Desk + Send, P: Performer + Send, R: Threads + Wait + Sync>(
+    rt: &R,
+    alloc: Global,
+    machine: Machine,
+    request: &Request,
+    desk: K,
+    hands: Vec<P>,
+) -> Over<K>
+    requires fresh { StandsFor machine [] }
+    requires said { request.now ≡ spoken_run request.now.want None }
+    requires all { vec_len hands ≡ number_of request.now.want }
+    requires few { AreHands request.now.want }
+    ensures tried { Tried P.gives request.now.want (WasAsked (K.state desk) (K.state result.desk))
+        (plan_tree machine.plan) (K.state desk).shown (K.state result.desk).shown result.status }
+    ensures stays { OnlyPickedChanges (K.state desk) (K.state result.desk) }
+    ensures asks { (K.state desk).asks ≤ (K.state result.desk).asks }
+    ensures causes { HasEachCause result.status (counts_of (K.state desk) 0 0)
+        (counts_of (K.state result.desk) 0 0) }
+{
+    match Journal::volatile(alloc, desk) {
+        Ok(journal) => match Book::start(alloc, journal, machine, false) {
+            Ok(book) => run_book(rt, alloc, book, hands, request),
+            Err((desk, fault)) => say_unbegun::<K, P>(desk, fault),
+        },
+        Err((desk, _)) => Over {
+            desk,
+            status: OUT_OF_MEMORY,
+        },
+    }
+}

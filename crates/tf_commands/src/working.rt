@@ -1,0 +1,166 @@
+//! A worker: it serves the requests of remote hands that come to an address, one session after the other.
+
+ghost use Rattle.std.specs.Prelude.{◌≡◌, ◌≤◌, ◌+◌, ◌++◌, ◌⊎◌, ℕ, List, Option, OnOk, IfErr};
+ghost use Rattle.tf_desk.specs.Counts.{Rises};
+ghost use Rattle.tf_ports.specs.declared.crews.Want.{Want as AWant};
+ghost use Rattle.tf_commands.specs.Working.{end_word, session_line, SaysNext, StopsNext, HasStopCause, HasServeCause, HiresHere, ServesAll, Works};
+ghost use Rattle.tf_commands.specs.Saying.{OnlySays};
+
+use crate::closing::close;
+use crate::messages::{CANNOT_HIRE, CANNOT_LISTEN};
+use crate::statuses::{OUT_OF_MEMORY, SUCCEEDED, UNHIRED, UNSAID};
+use std::alloc::Global;
+use tf_actions::Performer;
+use tf_desk::Desk;
+use tf_ports::{Address, Crew, Door, PortFault, Want};
+use tf_report::{append, append_counted};
+use tf_values::Memory;
+use tf_workers::{ServeEnd, serve};
+
+/// Hires a hand of this process, opens the door at the address, and serves so many sessions with the hand, one
+/// after the other. Says how each ended.
+pub fn work<K: Desk, W: Crew, D: Door>(
+    alloc: Global,
+    address: &Address,
+    sessions: u32,
+    desk: &mut K,
+    crew: &mut W,
+    door: &mut D,
+) -> u8
+    ensures works { Works (W.hired crew.old) (W.hired crew.new) (K.state desk.old).shown (K.state desk.new).shown
+        sessions result }
+    ensures says { OnlySays (K.state desk.old) (K.state desk.new) }
+    ensures hires { (W.hired crew.new ≡ W.hired crew.old) ⊎ HiresHere (W.hired crew.old) (W.hired crew.new) }
+    ensures unhired { result ≡ UNHIRED
+        → Rises (W.faults crew.old) (W.faults crew.new) ⊎ Rises (D.faults door.old) (D.faults door.new) }
+    ensures unsaid { result ≡ UNSAID → Rises (K.state desk.old).out_faults (K.state desk.new).out_faults }
+    ensures status { (result ≡ SUCCEEDED) ⊎ (result ≡ OUT_OF_MEMORY) ⊎ (result ≡ UNHIRED) ⊎ (result ≡ UNSAID) }
+    ensures crew_stands { W.faults crew.old ≤ W.faults crew.new }
+    ensures door_stands { D.faults door.old ≤ D.faults door.new }
+{
+    match crew.hire(alloc, &Want::Local(1)) {
+        Ok(mut hands) => {
+            let Some(mut hand) = hands.pop() else {
+                unreachable!();
+            };
+            listen_and_serve(alloc, address, sessions, desk, &mut hand, door)
+        }
+        Err(PortFault::Failed) => close(CANNOT_HIRE, UNHIRED, desk),
+        Err(PortFault::Memory) => OUT_OF_MEMORY,
+    }
+}
+
+/// Opens the door at the address, and serves so many sessions.
+fn listen_and_serve<K: Desk, P: Performer, D: Door>(
+    alloc: Global,
+    address: &Address,
+    sessions: u32,
+    desk: &mut K,
+    hand: &mut P,
+    door: &mut D,
+) -> u8
+    ensures works { (hired after_hiring : Option (List AWant)) → HiresHere hired after_hiring
+        → Works hired after_hiring (K.state desk.old).shown (K.state desk.new).shown sessions result }
+    ensures says { OnlySays (K.state desk.old) (K.state desk.new) }
+    ensures causes { HasServeCause (K.state desk.old) (K.state desk.new)
+        (D.faults door.old) (D.faults door.new) result }
+    ensures door { D.faults door.old ≤ D.faults door.new }
+{
+    match door.listen(alloc, address) {
+        Ok(()) => serve_all(alloc, sessions, desk, hand, door),
+        Err(PortFault::Failed) => close(CANNOT_LISTEN, UNHIRED, desk),
+        Err(PortFault::Memory) => OUT_OF_MEMORY,
+    }
+}
+
+/// Serves so many sessions.
+fn serve_all<K: Desk, P: Performer, D: Door>(
+    alloc: Global,
+    sessions: u32,
+    desk: &mut K,
+    hand: &mut P,
+    door: &mut D,
+) -> u8
+    ensures serves { ServesAll (K.state desk.old).shown (K.state desk.new).shown sessions result }
+    ensures says { OnlySays (K.state desk.old) (K.state desk.new) }
+    ensures causes { HasServeCause (K.state desk.old) (K.state desk.new)
+        (D.faults door.old) (D.faults door.new) result }
+    ensures door { D.faults door.old ≤ D.faults door.new }
+{
+    for number in 0..sessions {
+        if let Err(status) = serve_next(alloc, number, desk, hand, door) {
+            return status;
+        }
+    }
+    SUCCEEDED
+}
+
+/// Takes the next link, serves it, and says how the session ended: the one of this number, from 0.
+fn serve_next<K: Desk, P: Performer, D: Door>(
+    alloc: Global,
+    number: u32,
+    desk: &mut K,
+    hand: &mut P,
+    door: &mut D,
+) -> Result<(), u8>
+    ensures next { OnOk result (SaysNext (K.state desk.old).shown (K.state desk.new).shown (number + 1)) }
+    ensures stopped { IfErr result (StopsNext (K.state desk.old).shown (K.state desk.new).shown (number + 1)) }
+    ensures causes { IfErr result (HasStopCause (K.state desk.old) (K.state desk.new)
+        (D.faults door.old) (D.faults door.new)) }
+    ensures says { OnlySays (K.state desk.old) (K.state desk.new) }
+    ensures door { D.faults door.old ≤ D.faults door.new }
+{
+    match door.accept(alloc) {
+        Ok(mut link) => {
+            let end = serve(alloc, &mut link, hand);
+            say_end(alloc, number, end, desk)
+        }
+        Err(PortFault::Failed) => Err(close(CANNOT_LISTEN, UNHIRED, desk)),
+        Err(PortFault::Memory) => Err(OUT_OF_MEMORY),
+    }
+}
+
+/// Says how the session of this number, from 0, ended; unless memory ended it, or runs out.
+fn say_end<K: Desk>(alloc: Global, number: u32, end: ServeEnd, desk: &mut K) -> Result<(), u8>
+    ensures next { OnOk result (SaysNext (K.state desk.old).shown (K.state desk.new).shown (number + 1)) }
+    ensures stopped { IfErr result (StopsNext (K.state desk.old).shown (K.state desk.new).shown (number + 1)) }
+    ensures causes { (door : ℕ)
+        → IfErr result (HasStopCause (K.state desk.old) (K.state desk.new) door door) }
+    ensures says { OnlySays (K.state desk.old) (K.state desk.new) }
+{
+    if let ServeEnd::Memory = end {
+        return Err(OUT_OF_MEMORY);
+    }
+    let mut line = Vec::new(alloc);
+    let Ok(()) = append_line(u64::from(number) + 1, end, &mut line) else {
+        return Err(OUT_OF_MEMORY);
+    };
+    match desk.say(&line) {
+        Ok(()) => Ok(()),
+        Err(_) => Err(UNSAID),
+    }
+}
+
+/// Appends the line of a session of this number.
+#[tactic(auto, unfolding(crate::specs::Working::session_line))]
+fn append_line(number: u64, end: ServeEnd, out: &mut Vec<u8>) -> Result<(), Memory>
+    ensures { OnOk result (out.new.items ≡ out.old.items ++ session_line number end) }
+{
+    append_counted(b"session ", number, out)?;
+    append_end(end, out)
+}
+
+/// Appends how a session ended.
+fn append_end(end: ServeEnd, out: &mut Vec<u8>) -> Result<(), Memory>
+    ensures { OnOk result (out.new.items ≡ out.old.items ++ end_word end) }
+{
+    match end {
+        ServeEnd::Ended => append(b" ended\n", out),
+        ServeEnd::Lost => append(b" lost\n", out),
+        ServeEnd::Bad { at } => {
+            append_counted(b" bad ", at, out)?;
+            append(b"\n", out)
+        }
+        ServeEnd::Memory => Ok(()),
+    }
+}
