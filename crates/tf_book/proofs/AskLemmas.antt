@@ -10,7 +10,7 @@ use Rattle.tf_model.specs.Plan.{Outline, outline_of}
 use Rattle.tf_states.specs.declared.record.Entry.{Entry}
 use Rattle.tf_states.specs.declared.state.FlowState.TheVariants as flow
 use Rattle.tf_book.specs.Book.{BookValue, flow_state, outline}
-use Rattle.tf_book.specs.Kept.{IsSpoken, HasCause, Kept, Proceeds, TakesTurn}
+use Rattle.tf_book.specs.SessionInvariant.{IsSpoken, HasCause, SessionInvariant, Proceeds, TakesTurn}
 use Rattle.tf_book.specs.Sound.{IsSoundBook}
 use Rattle.tf_book.specs.Stopping.{IsAnswered}
 use Rattle.tf_book.specs.Turns.{IsTurn, IsHaltedTurn, forcing, IsTurnAsked, IsHaltedTurnAsked}
@@ -30,7 +30,7 @@ cause_stays start mid now plan past (Some (halt.Full size need)) disk out cause 
 cause_stays start mid now plan past (Some halt.Memory) disk out cause = tt
 
 module _ {K : Type 0} (state : K → DeskState) where
-  limit_keeps : (start b : BookValue K) (l : Option ℕ) → Kept state start b → Kept state start (record b { limit = l })
+  limit_keeps : (start b : BookValue K) (l : Option ℕ) → SessionInvariant state start b → SessionInvariant state start (record b { limit = l })
   limit_keeps start b l k = record {
     entries = k.entries;
     recorded = k.recorded;
@@ -45,8 +45,8 @@ module _ {K : Type 0} (state : K → DeskState) where
   }
 
   -- another limit changes nothing of what is kept
-  pub keeps_limit : (start old b : BookValue K) (l : Option ℕ) → b ≡ old → Kept state start old → Kept state start (record b { limit = l })
-  keeps_limit start old b l same k = limit_keeps start b l (subst (λ (x : BookValue K). Kept state start x) (sym same) k)
+  pub keeps_limit : (start old b : BookValue K) (l : Option ℕ) → b ≡ old → SessionInvariant state start old → SessionInvariant state start (record b { limit = l })
+  keeps_limit start old b l same k = limit_keeps start b l (subst (λ (x : BookValue K). SessionInvariant state start x) (sym same) k)
 
   -- nor of what the type keeps
   pub sound_limit : (machine : MachineValue) (kept : List ℕ) (b : BookValue K) (l : Option ℕ) → IsSoundBook state machine kept b → IsSoundBook state machine kept (record b { limit = l })
@@ -65,7 +65,7 @@ module _ {K : Type 0} (state : K → DeskState) where
 
   -- what was kept is kept where a desk was asked
   asked_keeps : (start b : BookValue K) (j : Held K) → j ≡ record b.journal { desk = j.desk } → Asks (state b.journal.desk) (state j.desk)
-      → Kept state start b → Kept state start (record b { journal = j })
+      → SessionInvariant state start b → SessionInvariant state start (record b { journal = j })
   asked_keeps start b j same asks k = record {
     entries = k.entries;
     recorded = k.recorded;

@@ -21,13 +21,13 @@ use Rattle.tf_model.specs.Plan.{Outline, outline_of}
 use Rattle.tf_model.specs.Snapshot.{Snapshot}
 use Rattle.tf_model.specs.Views.{Shows}
 use Rattle.tf_book.specs.Book.{BookValue, outline, bodies_of}
-use Rattle.tf_book.specs.Kept.{said, LeavesEntries, IsSpoken, HasCause, Kept}
+use Rattle.tf_book.specs.SessionInvariant.{said, LeavesEntries, IsSpoken, HasCause, SessionInvariant}
 use Rattle.tf_book.specs.Closed.{IsClosing, LeavesClosing, LeavesClosed, Closed}
 use Rattle.tf_book.specs.Logging.{IsSaid}
 use Rattle.tf_book.specs.Recording.{halt_after}
 use Rattle.tf_book.specs.Sound.{IsSoundBook}
 use Rattle.tf_book.proofs.LogLemmas.{OutAlone, said_at_rest}
-use Rattle.tf_book.proofs.KeptLemmas.{not_disk}
+use Rattle.tf_book.proofs.InvariantLemmas.{not_disk}
 use Rattle.tf_book.proofs.SpokenLemmas.{none_pending}
 use Rattle.tf_book.specs.declared.faults.Halt.{Halt}
 use Rattle.tf_book.specs.declared.faults.Halt.TheVariants as halt
@@ -87,7 +87,7 @@ module _ {K : Type 0} (state : K → DeskState) where
 
   -- a closing after what was kept
   pub closes_on : (start old : BookValue K) (j : Held K) (halted : Option Halt) (closing : List ℕ) → old.halt ≡ None → old.journal.halted ≡ false
-      → SaidClosing state old.plan old.past old.journal j closing halted → Kept state start old
+      → SaidClosing state old.plan old.past old.journal j closing halted → SessionInvariant state start old
       → Closed state start (record old { journal = j; halt = halted }) closing
   closes_on start old j halted closing sound unhalted s k = record {
     entries = k.entries;
@@ -158,7 +158,7 @@ module _ {K : Type 0} (state : K → DeskState) where
       → b ≡ old → old.halt ≡ None → IsSoundBook state machine kept b → h ≡ halt_after r
       → j ≡ record b.journal { desk = j.desk } → IsSaid (state b.journal.desk).shown closing (state j.desk).shown r → Says closing (state b.journal.desk) (state j.desk)
       → OutAlone r (state b.journal.desk) (state j.desk)
-      → Kept state start old
+      → SessionInvariant state start old
       → Closed state start (record b { journal = j; halt = h }) closing
   book_closes start old b machine kept j h closing r is_old unhalted is halts same text says alone k =
       let sound : b.halt ≡ None = ap (λ (x : BookValue K). x.halt) is_old ∙ unhalted in
@@ -171,4 +171,4 @@ module _ {K : Type 0} (state : K → DeskState) where
         files = says.files;
         crash = λ opened. leaves_closing b.journal b.plan b.past closing is.title (is.ready opened) (says.crash opened.told);
       }))
-      (subst (λ (x : BookValue K). Kept state start x) (sym is_old) k)
+      (subst (λ (x : BookValue K). SessionInvariant state start x) (sym is_old) k)

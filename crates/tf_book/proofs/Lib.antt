@@ -1,7 +1,7 @@
 pub mod LogLemmas
 pub mod PayloadLemmas
 pub mod SpokenLemmas
-pub mod KeptLemmas
+pub mod InvariantLemmas
 pub mod HistoryLemmas
 pub mod TurnLemmas
 pub mod ForceLemmas

@@ -10,7 +10,7 @@ use Rattle.tf_journal.proofs.FoundLemmas.{length_read}
 use Rattle.tf_model.specs.Plan.{outline_of}
 use Rattle.tf_report.specs.Lines.{line}
 use Rattle.tf_book.specs.History.{framed_bodies}
-use Rattle.tf_book.specs.Kept.{said}
+use Rattle.tf_book.specs.SessionInvariant.{said}
 use Rattle.tf_book.specs.Loading.{IsEntryOf, AreEntriesOf}
 use Rattle.tf_book.specs.Showing.{BeginsWithBody, HasLines}
 

@@ -11,7 +11,7 @@ use Rattle.tf_model.specs.Plan.{Outline, outline_of}
 use Rattle.tf_report.specs.Lines.{line}
 use Rattle.tf_book.specs.Book.{bodies_of}
 use Rattle.tf_book.specs.Logging.{said_of, LeavesLogged}
-use Rattle.tf_book.specs.Kept.{said, IsCut, LeavesEntries, IsPending}
+use Rattle.tf_book.specs.SessionInvariant.{said, IsCut, LeavesEntries, IsPending}
 use Rattle.tf_book.specs.declared.faults.Halt.{Halt}
 
 -- ---- the shown text

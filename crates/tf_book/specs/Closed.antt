@@ -10,7 +10,7 @@ use Rattle.tf_journal.specs.Rest.{LeavesBodies}
 use Rattle.tf_journal.specs.declared.title.Title.TheVariants.{Book as book_title}
 use Rattle.tf_model.specs.Plan.{outline_of}
 use Rattle.tf_book.specs.Book.{BookValue, bodies_of}
-use Rattle.tf_book.specs.Kept.{said, LeavesEntries, IsExact, HasCause}
+use Rattle.tf_book.specs.SessionInvariant.{said, LeavesEntries, IsExact, HasCause}
 use Rattle.tf_book.specs.declared.faults.Halt.{Halt}
 use Rattle.tf_book.specs.declared.faults.Halt.TheVariants as halt
 

@@ -1,6 +1,6 @@
 pub mod Logging
 pub mod Book
-pub mod Kept
+pub mod SessionInvariant
 pub mod History
 pub mod Recording
 pub mod Sound

@@ -8,7 +8,7 @@ use Rattle.tf_model.specs.History.{snapshot}
 use Rattle.tf_model.specs.Plan.{Outline, outline_of}
 use Rattle.tf_report.specs.Table.{table}
 use Rattle.tf_book.specs.History.{framed_bodies}
-use Rattle.tf_book.specs.Kept.{said}
+use Rattle.tf_book.specs.SessionInvariant.{said}
 
 -- the lines of a whole history, numbered from 1, and the table of this moment
 abbrev pub history_text : Outline → List Entry → List ℕ

@@ -1,7 +1,7 @@
 ghost use Rattle.std.specs.Prelude.{◌≡◌, ◌<◌, ◌≤◌, ◌-◌, ◌∷◌, List, None, Some, OnOk, IsErrOf};
 ghost use Rattle.tf_model.specs.Steps.{Step};
 ghost use Rattle.tf_book.specs.Book.{outline, moment};
-ghost use Rattle.tf_book.specs.Kept.{Proceeds};
+ghost use Rattle.tf_book.specs.SessionInvariant.{Proceeds};
 ghost use Rattle.tf_book.specs.Recording.{halt_after, past_after};
 
 mod closing;

@@ -12,7 +12,7 @@ use Rattle.tf_journal.specs.Format.{bodies, title_of}
 use Rattle.tf_journal.specs.Rest.{LeavesEither}
 use Rattle.tf_journal.specs.declared.title.Title.TheVariants.{Book as book_title}
 use Rattle.tf_book.specs.Book.{BookValue, outline, bodies_of}
-use Rattle.tf_book.specs.Kept.{Kept, said, IsSpoken, IsCut, HasCause, LeavesEntries, IsPending, IsExact, IsFullFor}
+use Rattle.tf_book.specs.SessionInvariant.{SessionInvariant, said, IsSpoken, IsCut, HasCause, LeavesEntries, IsPending, IsExact, IsFullFor}
 use Rattle.tf_book.specs.declared.faults.Halt.{Halt}
 use Rattle.tf_book.specs.declared.faults.Halt.TheVariants as halt
 use Rattle.tf_book.proofs.SpokenLemmas.{shown_none}
@@ -137,7 +137,7 @@ module _ {K : Type 0} (state : K → DeskState) where
   -- what a crash may leave and leaves of a file, where nothing more is said than a closing, which comes after all lines
   pub said_lasts : (start book : BookValue K) (closing : List ℕ) (now : DeskState) → Says closing (book_desk state book) now
       → (¬ (Rises (book_desk state start).disk_faults now.disk_faults) → book.journal.halted ≡ false)
-      → (k : Kept state start book)
+      → (k : SessionInvariant state start book)
       → ((book_desk state book).shown ≡ shown_with (book_desk state start).shown (said start.quiet (outline start) start.past k.entries))
       ⊎ (IsTrue (book_desk state book).tells → Passes nothing_left (book_desk state book) now)
       → LastsFrom state start now k.entries closing
@@ -180,18 +180,18 @@ module _ {K : Type 0} (state : K → DeskState) where
           prefix f = subst (λ (t : Option (List ℕ)). ShowsPrefix t closing (Some text)) whole f
 
   -- why the book was halted
-  halt_cause : (start book : BookValue K) (why : Halt) → book.halt ≡ Some why → Kept state start book → HasCause start.plan book.past (book_desk state start) (book_desk state book) (Some why)
+  halt_cause : (start book : BookValue K) (why : Halt) → book.halt ≡ Some why → SessionInvariant state start book → HasCause start.plan book.past (book_desk state start) (book_desk state book) (Some why)
   halt_cause start book why halted k = subst (λ (h : Option Halt). HasCause start.plan book.past (book_desk state start) (book_desk state book) h) halted k.cause
 
   -- the text at the halt
-  halt_text : (start book : BookValue K) (why : Halt) → book.halt ≡ Some why → (k : Kept state start book)
+  halt_text : (start book : BookValue K) (why : Halt) → book.halt ≡ Some why → (k : SessionInvariant state start book)
       → IsSpoken start.quiet (outline start) start.past (book_desk state start).shown k.entries (Some why) (book_desk state book).shown
   halt_text start book why halted k =
       subst (λ (h : Option Halt). IsSpoken start.quiet (outline start) start.past (book_desk state start).shown k.entries h (book_desk state book).shown) halted k.text
 
   -- the same where a book was halted and that was said, or nothing
   pub halt_lasts : (start book : BookValue K) (why : Halt) (now : DeskState) (status : ℕ) → book.halt ≡ Some why → (book.halt ≢ Some halt.Disk → book.journal.halted ≡ false)
-      → (s : HasSaidHalt why (book_desk state book) now status) → (k : Kept state start book) → LastsFrom state start now k.entries s.closing
+      → (s : HasSaidHalt why (book_desk state book) now status) → (k : SessionInvariant state start book) → LastsFrom state start now k.entries s.closing
   halt_lasts start book why now status halted unhalted s k =
       said_lasts start book s.closing now s.says
       (λ unrisen. unhalted (λ is. unrisen (rises_disk (let same : why ≡ halt.Disk = some_same (sym halted ∙ is) in same) (halt_cause start book why halted k))))
@@ -216,7 +216,7 @@ module _ {K : Type 0} (state : K → DeskState) where
 
   -- a halt that was said with the status of a failed output tells of such a fault, and one with that of a failed disk of a fault of the disk
   pub halt_ended : (start book : BookValue K) (why : Halt) (now : DeskState) (status : ℕ) → book.halt ≡ Some why → HasSaidHalt why (book_desk state book) now status
-      → Kept state start book → HasEnded (book_desk state start) now status
+      → SessionInvariant state start book → HasEnded (book_desk state start) now status
   halt_ended start book why now status halted s k = record {
     unsaid = λ is. output_rose why (s.unsaid is) (halt_cause start book why halted k);
     failed = λ is. disk_rose why (s.failed is) (halt_cause start book why halted k);
@@ -238,7 +238,7 @@ module _ {K : Type 0} (state : K → DeskState) where
 
   -- the text once a halt was said
   pub halt_shows : (start book : BookValue K) (why : Halt) (now : DeskState) (status : ℕ) (last : List ℕ → ℕ → Type 0) → book.halt ≡ Some why
-      → (s : HasSaidHalt why (book_desk state book) now status) → (k : Kept state start book)
+      → (s : HasSaidHalt why (book_desk state book) now status) → (k : SessionInvariant state start book)
       → last disk_fault_text DISK_FAILED → ((size need : ℕ) → IsFullFor start.plan (k.entries ++ start.past) size need → last (book_full size need) FULL)
       → ShowsLines start.plan start.quiet start.past k.entries (book_desk state start).shown now.shown last s.closing status
   halt_shows start book why now status last halted s k failed full =
@@ -248,7 +248,7 @@ module _ {K : Type 0} (state : K → DeskState) where
       s.ends
 
   -- the text of a book that wasn't halted
-  pub sound_text : (start book : BookValue K) → book.halt ≡ None → (k : Kept state start book)
+  pub sound_text : (start book : BookValue K) → book.halt ≡ None → (k : SessionInvariant state start book)
       → (book_desk state book).shown ≡ shown_with (book_desk state start).shown (said start.quiet (outline start) start.past k.entries)
   sound_text start book sound k =
       subst (λ (h : Option Halt). IsSpoken start.quiet (outline start) start.past (book_desk state start).shown k.entries h (book_desk state book).shown) sound k.text

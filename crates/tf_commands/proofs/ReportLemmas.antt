@@ -11,7 +11,7 @@ use Rattle.tf_model.specs.History.{snapshot}
 use Rattle.tf_model.specs.Plan.{outline_of}
 use Rattle.tf_report.specs.Report.{report}
 use Rattle.tf_book.specs.Closed.{IsClosing}
-use Rattle.tf_book.specs.Kept.{said, HasCause}
+use Rattle.tf_book.specs.SessionInvariant.{said, HasCause}
 use Rattle.tf_book.specs.Faults.{IsHaltedBy, IsFault}
 use Rattle.tf_book.specs.declared.faults.BookFault.{BookFault}
 use Rattle.tf_book.specs.declared.faults.BookFault.TheVariants as fault

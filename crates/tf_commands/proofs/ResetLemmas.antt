@@ -11,7 +11,7 @@ use Rattle.tf_states.specs.declared.state.FlowState.TheVariants as flow
 use Rattle.tf_model.specs.History.{flow_of}
 use Rattle.tf_model.specs.Plan.{outline_of}
 use Rattle.tf_book.specs.Book.{BookValue, outline, moment, flow_state}
-use Rattle.tf_book.specs.Kept.{said}
+use Rattle.tf_book.specs.SessionInvariant.{said}
 use Rattle.tf_book.specs.Resetting.{may_reset, AreReset, IsPutBackOn}
 use Rattle.tf_book.specs.Faults.{IsFault}
 use Rattle.tf_book.specs.declared.faults.BookFault.{BookFault}

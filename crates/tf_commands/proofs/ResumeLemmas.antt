@@ -11,7 +11,7 @@ use Rattle.tf_model.specs.Sessions.{already_ended, has_ended}
 use Rattle.tf_model.specs.Steps.{LegalPast}
 use Rattle.tf_bound.specs.Short.{AreShort, IsWithinLimits}
 use Rattle.tf_book.specs.Book.{BookValue, outline, flow_state}
-use Rattle.tf_book.proofs.KeptLemmas.{keeps_none}
+use Rattle.tf_book.proofs.InvariantLemmas.{keeps_none}
 use Rattle.tf_commands.specs.declared.running.Request.{Request}
 use Rattle.tf_commands.specs.Runs.{HoldsBook, book_desk, IsRunTo, RunsOn, GoesFurther, went_on}
 use Rattle.tf_journal.specs.Path.{Open}

@@ -22,7 +22,7 @@ use Rattle.tf_bound.proofs.SessionLemmas.{session_at_most}
 use Rattle.tf_report.specs.Report.{report}
 use Rattle.tf_book.specs.Book.{BookValue, outline, moment}
 use Rattle.tf_book.specs.Closed.{Closed, IsClosing, LeavesClosed}
-use Rattle.tf_book.specs.Kept.{said, IsExact}
+use Rattle.tf_book.specs.SessionInvariant.{said, IsExact}
 use Rattle.tf_book.specs.declared.faults.Halt.{Halt}
 use Rattle.tf_book.specs.declared.faults.Halt.TheVariants as halt
 use Rattle.tf_engines.specs.Runs.{AreGiven, IsSession}

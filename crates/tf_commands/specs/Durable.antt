@@ -10,7 +10,7 @@ use Rattle.tf_journal.specs.Format.{Recovered, unborn, bodies, recovered, journa
 use Rattle.tf_journal.specs.declared.title.Title.TheVariants.{Book as book_title}
 use Rattle.tf_model.specs.Plan.{outline_of}
 use Rattle.tf_book.specs.Book.{bodies_of}
-use Rattle.tf_book.specs.Kept.{said}
+use Rattle.tf_book.specs.SessionInvariant.{said}
 
 -- ---- files
 

@@ -5,7 +5,7 @@ use Rattle.tf_states.specs.declared.record.Entry.{Entry}
 use Rattle.tf_states.specs.declared.state.FlowState.TheVariants as flow
 use Rattle.tf_model.specs.History.{flow_of}
 use Rattle.tf_model.specs.Plan.{outline_of}
-use Rattle.tf_book.specs.Kept.{IsFullFor}
+use Rattle.tf_book.specs.SessionInvariant.{IsFullFor}
 use Rattle.tf_book.specs.Resetting.{AreReset}
 use Rattle.tf_commands.specs.Messages.{disk_fault_text, book_full}
 use Rattle.tf_commands.specs.Run.{ShowsLines}

@@ -21,7 +21,7 @@ use Rattle.tf_model.specs.States.{is_settled}
 use Rattle.tf_facts.specs.Facts.{CompletedReversion}
 use Rattle.tf_hands.specs.Hands.{is_of_flow}
 use Rattle.tf_report.specs.Report.{report}
-use Rattle.tf_book.specs.Kept.{said, IsCut, IsFullFor}
+use Rattle.tf_book.specs.SessionInvariant.{said, IsCut, IsFullFor}
 use Rattle.tf_engines.specs.Runs.{AreGiven, AreDue, AreWithin, IsSuspended, is_of}
 use Rattle.tf_commands.specs.Messages.{disk_fault_text, book_full, summary}
 use Rattle.tf_commands.specs.declared.running.Request.{Request}

@@ -10,7 +10,7 @@ use Rattle.tf_journal.specs.Format.{title_of}
 use Rattle.tf_journal.specs.Rest.{LeavesBodies, LeavesEither}
 use Rattle.tf_journal.specs.declared.title.Title.TheVariants.{Book as book_title}
 use Rattle.tf_book.specs.Book.{BookValue, outline, bodies_of, flow_state}
-use Rattle.tf_book.specs.Kept.{Kept, IsExact}
+use Rattle.tf_book.specs.SessionInvariant.{SessionInvariant, IsExact}
 use Rattle.tf_book.specs.Resetting.{IsPutBackOn}
 use Rattle.tf_bound.specs.Short.{AreShort, IsWithinLimits}
 use Rattle.tf_book.specs.declared.faults.Halt.{Halt}
@@ -71,7 +71,7 @@ module _ {K : Type 0} (state : K → DeskState) where
 
   -- a run went from one book to another that stopped so
   pub record IsRunTo (gives : Order → Outcome → Type 0) (request : Request) (asked : Type 0) (start now : BookValue K) (stop : Option FlowState) : Type 0 where
-    pub kept : Kept state start now
+    pub kept : SessionInvariant state start now
     pub session : IsSession gives asked (number_of request.want) request.limit (outline start) start.past now.past stop
     pub compiles : compile_refusal start.plan ≡ None
     pub limits : IsWithinLimits (outline start)
@@ -106,7 +106,7 @@ module _ {K : Type 0} (state : K → DeskState) where
 
   -- the flow of a book is put back: some of what that records was recorded
   pub record IsPutBackTo (start now : BookValue K) : Type 0 where
-    pub kept : Kept state start now
+    pub kept : SessionInvariant state start now
     pub put : IsPutBackOn (outline start) start.past now.past
     pub speaks : start.quiet ≡ false
 

@@ -6,7 +6,7 @@ ghost use Rattle.tf_report.specs.Report.{report};
 ghost use Rattle.tf_states.specs.declared.record.Entry.{Entry as Record};
 ghost use Rattle.tf_ports.specs.Wanted.{wanted as number_of};
 ghost use Rattle.tf_book.specs.Book.{BookValue, outline, moment, flow_state};
-ghost use Rattle.tf_book.specs.Kept.{Kept};
+ghost use Rattle.tf_book.specs.SessionInvariant.{SessionInvariant};
 ghost use Rattle.tf_book.specs.declared.faults.Halt.{Halt as Cause};
 ghost use Rattle.tf_engines.specs.Runs.{HasRun, StandsAs};
 ghost use Rattle.tf_commands.specs.Asking.{AreHands};
@@ -85,7 +85,8 @@ fn go_through<K: Desk + Send, P: Performer + Send, R: Threads + Wait + Sync>(
 ) -> RunEnd<K>
     requires some { 1 ≤ vec_len hands }
     requires few { vec_len hands ≤ 64 }
-    ensures keeps { (start : BookValue K) → Kept K.state start book → Kept K.state start result.book }
+    ensures keeps { (start : BookValue K) → SessionInvariant K.state start book
+        → SessionInvariant K.state start result.book }
     ensures stops { StandsAs result.book.halt (flow_state result.book) result.how }
     ensures plan { result.book.plan ≡ book.plan }
     ensures ran { HasRun P.gives (WasAsked (K.state book.journal.desk) (K.state result.book.journal.desk))

@@ -14,7 +14,7 @@ use Rattle.tf_model.specs.Sessions.{has_ended}
 use Rattle.tf_model.specs.Steps.{LegalPast}
 use Rattle.tf_flow.specs.Plan.{PlanValue}
 use Rattle.tf_book.specs.Book.{BookValue, outline}
-use Rattle.tf_book.specs.Kept.{Kept}
+use Rattle.tf_book.specs.SessionInvariant.{SessionInvariant}
 use Rattle.tf_book.specs.Turns.{entering_by, IsEntering}
 use Rattle.tf_book.specs.Stopping.{limit_from}
 use Rattle.tf_engines.specs.declared.engine.How.{How}
@@ -39,7 +39,7 @@ module _ {K : Type 0} where
 module _ {K : Type 0} (state : K → DeskState) (gives : Order → Outcome → Type 0) where
   -- a session that was entered
   pub entered_shared : (s : SharedValue K) → 1 ≤ s.number → s.number ≤ 64
-      → ((earlier : BookValue K) → Kept state earlier s.start → Kept state earlier s.now)
+      → ((earlier : BookValue K) → SessionInvariant state earlier s.start → SessionInvariant state earlier s.now)
       → s.now.plan ≡ s.start.plan → (state s.now.journal.desk).asks ≡ (state s.start.journal.desk).asks → s.now.limit ≡ limit_from s.limit (length s.start.past) → LegalPast (outline s.now) s.now.past
       → (has_ended (flow_of s.start.past) ≡ false) × (s.now.past ≡ reverse (entering_by 0 (flow_of s.start.past)) ++ s.start.past)
       → IsShared state gives s
@@ -57,7 +57,7 @@ module _ {K : Type 0} (state : K → DeskState) (gives : Order → Outcome → T
 
   -- a flow that had ended
   pub ended_run : (number : ℕ) (limit : Option ℕ) (start now : BookValue K) (last : FlowState)
-      → ((earlier : BookValue K) → Kept state earlier start → Kept state earlier now)
+      → ((earlier : BookValue K) → SessionInvariant state earlier start → SessionInvariant state earlier now)
       → now.plan ≡ start.plan → (state now.journal.desk).asks ≡ (state start.journal.desk).asks → now.halt ≡ None → LegalPast (outline start) start.past
       → (flow_of start.past ≡ last) × (has_ended last ≡ true) × (now.past ≡ start.past) → IsRun state gives number limit start now (how.Ended last)
   ended_run number limit start now last keeps plan asks sound legal is = record {
@@ -70,7 +70,7 @@ module _ {K : Type 0} (state : K → DeskState) (gives : Order → Outcome → T
 
   -- a book that was halted before, or while it was entered
   pub cut_run : (number : ℕ) (limit : Option ℕ) (start now : BookValue K) (answer : How) → 1 ≤ number
-      → ((earlier : BookValue K) → Kept state earlier start → Kept state earlier now)
+      → ((earlier : BookValue K) → SessionInvariant state earlier start → SessionInvariant state earlier now)
       → now.plan ≡ start.plan → (state now.journal.desk).asks ≡ (state start.journal.desk).asks → HaltsAs now.halt answer → StandsAs now.halt (flow_of now.past) answer → LegalPast (outline now) now.past
       → IsEntering 0 start.past now.past → IsRun state gives number limit start now answer
   cut_run number limit start now answer some keeps plan asks halts stands legal is = record {

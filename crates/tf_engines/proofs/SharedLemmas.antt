@@ -21,7 +21,7 @@ use Rattle.tf_model.specs.Plan.{Outline, outline_of}
 use Rattle.tf_model.specs.Sessions.{has_ended, is_inner, is_inner_entry, is_last}
 use Rattle.tf_model.specs.Steps.{LegalPast}
 use Rattle.tf_book.specs.Book.{BookValue, outline}
-use Rattle.tf_book.specs.Kept.{Kept}
+use Rattle.tf_book.specs.SessionInvariant.{SessionInvariant}
 use Rattle.tf_book.specs.Turns.{is_entered, IsTurnAsked, IsHaltedTurnAsked, IsFinished}
 use Rattle.tf_book.specs.declared.faults.Halt.{Halt}
 use Rattle.tf_book.specs.declared.turn.Turn.{Turn}
@@ -158,7 +158,7 @@ module _ {K : Type 0} (state : K → DeskState) (gives : Order → Outcome → T
   -- a turn of a hand keeps it
   pub shared_after : (s new : SharedValue K) (hand : ℕ) → hand < s.number → IsShared state gives s
       → new.start ≡ s.start → new.limit ≡ s.limit → new.number ≡ s.number
-      → ((earlier : BookValue K) → Kept state earlier s.now → Kept state earlier new.now)
+      → ((earlier : BookValue K) → SessionInvariant state earlier s.now → SessionInvariant state earlier new.now)
       → new.now.plan ≡ s.now.plan → (state s.now.journal.desk).asks ≤ (state new.now.journal.desk).asks
       → ((number asked : ℕ) (limit : Option ℕ) (before : List Entry) → hand < number → asked ≤ (state s.now.journal.desk).asks
       → StandsBetween gives (Rises asked (state s.now.journal.desk).asks) number limit (outline s.now) before s.now.past s.now.limit
@@ -180,12 +180,12 @@ module _ {K : Type 0} (state : K → DeskState) (gives : Order → Outcome → T
 
   -- so does a halt
   pub shared_halted : (s new : SharedValue K) (halt : Option Halt) → IsShared state gives s → new.start ≡ s.start → new.limit ≡ s.limit → new.number ≡ s.number
-      → ((earlier : BookValue K) → Kept state earlier s.now → Kept state earlier new.now)
+      → ((earlier : BookValue K) → SessionInvariant state earlier s.now → SessionInvariant state earlier new.now)
       → new.now ≡ record s.now { halt = halt } → IsShared state gives new
   shared_halted s new halt had start limit number keeps same =
       let again : shared_of s.start (record s.now { halt = halt }) s.limit s.number ≡ new = same_shared s new (record s.now { halt = halt }) start same limit number in
-      let kept : (earlier : BookValue K) → Kept state earlier s.now → Kept state earlier (record s.now { halt = halt })
-      = subst (λ (b : BookValue K). (earlier : BookValue K) → Kept state earlier s.now → Kept state earlier b) same keeps in
+      let kept : (earlier : BookValue K) → SessionInvariant state earlier s.now → SessionInvariant state earlier (record s.now { halt = halt })
+      = subst (λ (b : BookValue K). (earlier : BookValue K) → SessionInvariant state earlier s.now → SessionInvariant state earlier b) same keeps in
       subst (λ (x : SharedValue K). IsShared state gives x) again (record {
         keeps = λ earlier before. kept earlier (had.keeps earlier before);
         plan = had.plan;
@@ -219,11 +219,11 @@ module _ {K : Type 0} (state : K → DeskState) (gives : Order → Outcome → T
 
   -- a hand that failed may have halted the book before
   pub concluded : (s : SharedValue K) (book now : BookValue K) (answer : How) → IsShared state gives s → LegalPast (outline s.start) s.now.past → book ≡ s.now
-      → ((earlier : BookValue K) → Kept state earlier book → Kept state earlier now)
+      → ((earlier : BookValue K) → SessionInvariant state earlier book → SessionInvariant state earlier now)
       → now ≡ record book { halt = now.halt } → StandsAs now.halt (flow_of now.past) answer → IsRun state gives s.number s.limit s.start now answer
   concluded s book now answer had legal is keeps same stands =
-      let kept : (earlier : BookValue K) → Kept state earlier s.now → Kept state earlier now
-      = subst (λ (b : BookValue K). (earlier : BookValue K) → Kept state earlier b → Kept state earlier now) is keeps in
+      let kept : (earlier : BookValue K) → SessionInvariant state earlier s.now → SessionInvariant state earlier now
+      = subst (λ (b : BookValue K). (earlier : BookValue K) → SessionInvariant state earlier b → SessionInvariant state earlier now) is keeps in
       let again : now ≡ record s.now { halt = now.halt } = subst (λ (b : BookValue K). now ≡ record b { halt = now.halt }) is same in
       shared_run (shared_of s.start now s.limit s.number) answer (shared_halted s (shared_of s.start now s.limit s.number) now.halt had refl refl refl kept again)
       (subst (λ (l : List Entry). LegalPast (outline s.start) l) (sym (ap (λ (b : BookValue K). b.past) again)) legal) stands

@@ -11,7 +11,7 @@ use Rattle.tf_model.specs.History.{flow_of, snapshot}
 use Rattle.tf_model.specs.Sessions.{entering, has_ended}
 use Rattle.tf_model.specs.Steps.{is_still}
 use Rattle.tf_book.specs.Book.{BookValue, outline}
-use Rattle.tf_book.specs.Kept.{Kept}
+use Rattle.tf_book.specs.SessionInvariant.{SessionInvariant}
 use Rattle.tf_turnstile.specs.Passes.{TurnstileValue, PassValue}
 use Rattle.tf_engines.specs.Runs.{StandsBetween}
 
@@ -72,7 +72,7 @@ module _ {K : Type 0} (state : K → DeskState) (gives : Order → Outcome → T
   -- since the session's start: to every earlier start to which the book had kept it still keeps; the plan stays; the count of stops didn't
   -- fall; the session stands as one of its hands with outcomes that they may give; and nobody resumes in it
   pub record IsShared (s : SharedValue K) : Type 0 where
-    pub keeps : (earlier : BookValue K) → Kept state earlier s.start → Kept state earlier s.now
+    pub keeps : (earlier : BookValue K) → SessionInvariant state earlier s.start → SessionInvariant state earlier s.now
     pub plan : s.now.plan ≡ s.start.plan
     pub asks : (state s.start.journal.desk).asks ≤ (state s.now.journal.desk).asks
     pub stands : StandsBetween gives (Rises (state s.start.journal.desk).asks (state s.now.journal.desk).asks) s.number s.limit (outline s.start) s.start.past s.now.past s.now.limit

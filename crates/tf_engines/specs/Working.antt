@@ -13,7 +13,7 @@ use Rattle.tf_model.specs.Plan.{Outline, count}
 use Rattle.tf_model.specs.Sessions.{is_last}
 use Rattle.tf_model.specs.Steps.{is_free}
 use Rattle.tf_book.specs.Book.{BookValue, outline}
-use Rattle.tf_book.specs.Kept.{Kept}
+use Rattle.tf_book.specs.SessionInvariant.{SessionInvariant}
 use Rattle.tf_book.specs.declared.turn.Turn.{Turn}
 use Rattle.tf_book.specs.declared.turn.Turn.TheVariants as turn
 use Rattle.tf_turnstile.specs.Passes.{TurnstileValue, PassValue, IsIdle}
@@ -104,7 +104,7 @@ module _ {K : Type 0} where
 module _ {K : Type 0} (state : K → DeskState) (gives : Order → Outcome → Type 0) where
   -- what is promised of a run's book, beside the orders
   pub record IsRun (number : ℕ) (limit : Option ℕ) (start now : BookValue K) (how : How) : Type 0 where
-    pub keeps : (earlier : BookValue K) → Kept state earlier start → Kept state earlier now
+    pub keeps : (earlier : BookValue K) → SessionInvariant state earlier start → SessionInvariant state earlier now
     pub stops : StandsAs now.halt (flow_of now.past) how
     pub plan : now.plan ≡ start.plan
     pub ran : HasRun gives (Rises (state start.journal.desk).asks (state now.journal.desk).asks) number limit (outline start) start.past now.past how

@@ -6,7 +6,7 @@ ghost use Rattle.tf_model.specs.History.{flow_of};
 ghost use Rattle.tf_model.specs.Sessions.{is_last};
 ghost use Rattle.tf_actions.specs.declared.orders.Order.{Order as AnOrder};
 ghost use Rattle.tf_book.specs.Book.{BookValue, outline, flow_state as state_of};
-ghost use Rattle.tf_book.specs.Kept.{Kept};
+ghost use Rattle.tf_book.specs.SessionInvariant.{SessionInvariant};
 ghost use Rattle.tf_turnstile.specs.Passes.{AreNew};
 ghost use Rattle.tf_engines.specs.Asked.{HasDoneBy};
 ghost use Rattle.tf_engines.specs.Runs.{HasRun, StandsAs};
@@ -48,8 +48,8 @@ fn stopped<K: Desk>(book: &Book<K>) -> How
 /// Halts a book for want of memory where a hand couldn't go on, if it isn't halted.
 fn halt_for<K: Desk>(book: &mut Book<K>, failed: bool)
     ensures keeps { (start : BookValue K)
-        → Kept K.state start book.old
-        → Kept K.state start book.new }
+        → SessionInvariant K.state start book.old
+        → SessionInvariant K.state start book.new }
     ensures same { book.new ≡ record book.old { halt = book.new.halt } }
     ensures halted { failed ≡ true → IsSome book.new.halt }
 {
@@ -189,8 +189,8 @@ pub fn parallel<K: Desk + Send, P: Performer + Send, R: Threads + Wait + Sync>(
     requires some { 1 ≤ vec_len hands.old }
     requires few { vec_len hands.old ≤ 64 }
     ensures keeps { (start : BookValue K)
-        → Kept K.state start book
-        → Kept K.state start result.book }
+        → SessionInvariant K.state start book
+        → SessionInvariant K.state start result.book }
     ensures stops { StandsAs result.book.halt (state_of result.book) result.how }
     ensures plan { result.book.plan ≡ book.plan }
     ensures ran { HasRun P.gives (Rises (K.state book.journal.desk).asks (K.state result.book.journal.desk).asks)

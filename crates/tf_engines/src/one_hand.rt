@@ -7,7 +7,7 @@ ghost use Rattle.tf_model.specs.Bound.{entry_bound};
 ghost use Rattle.tf_model.specs.Steps.{LegalPast};
 ghost use Rattle.tf_actions.specs.declared.orders.Order.{Order as AnOrder};
 ghost use Rattle.tf_book.specs.Book.{BookValue, outline, moment, flow_state as state_of};
-ghost use Rattle.tf_book.specs.Kept.{Kept};
+ghost use Rattle.tf_book.specs.SessionInvariant.{SessionInvariant};
 ghost use Rattle.tf_engines.specs.Asked.{HasDone, HasToDo, HasDoneBy};
 ghost use Rattle.tf_engines.specs.Runs.{IsUnderWay, HasRun, HaltsAs, StandsAs, IsBetweenTurns, IsPerforming};
 
@@ -44,8 +44,8 @@ fn perform<K: Desk, P: Performer>(
 ) -> Option<How>
     requires at_work { IsPerforming (outline book.old) book.old.past book.old.halt order }
     ensures keeps { (start : BookValue K)
-        → Kept K.state start book.old
-        → Kept K.state start book.new }
+        → SessionInvariant K.state start book.old
+        → SessionInvariant K.state start book.new }
     ensures stops { IfSome result (StandsAs book.new.halt (state_of book.new)) }
     ensures plan { book.new.plan ≡ book.old.plan }
     ensures ran { (limit : Option ℕ) (before : List Record)
@@ -82,8 +82,8 @@ fn perform<K: Desk, P: Performer>(
 fn take_turn<K: Desk, P: Performer>(alloc: Global, book: &mut Book<K>, hand: &mut P) -> Option<How>
     requires going { IsBetweenTurns (outline book.old) book.old.past book.old.halt }
     ensures keeps { (start : BookValue K)
-        → Kept K.state start book.old
-        → Kept K.state start book.new }
+        → SessionInvariant K.state start book.old
+        → SessionInvariant K.state start book.new }
     ensures stops { IfSome result (StandsAs book.new.halt (state_of book.new)) }
     ensures plan { book.new.plan ≡ book.old.plan }
     ensures ran { (limit : Option ℕ) (before : List Record)
@@ -127,8 +127,8 @@ fn take_turn<K: Desk, P: Performer>(alloc: Global, book: &mut Book<K>, hand: &mu
 fn run<K: Desk, P: Performer>(alloc: Global, book: &mut Book<K>, hand: &mut P) -> How
     requires going { IsBetweenTurns (outline book.old) book.old.past book.old.halt }
     ensures keeps { (start : BookValue K)
-        → Kept K.state start book.old
-        → Kept K.state start book.new }
+        → SessionInvariant K.state start book.old
+        → SessionInvariant K.state start book.new }
     ensures stops { StandsAs book.new.halt (state_of book.new) result }
     ensures plan { book.new.plan ≡ book.old.plan }
     ensures ran { (limit : Option ℕ) (before : List Record)
@@ -157,8 +157,8 @@ fn run_session<K: Desk, P: Performer>(
     limit: Option<u32>,
 ) -> How
     ensures keeps { (start : BookValue K)
-        → Kept K.state start book.old
-        → Kept K.state start book.new }
+        → SessionInvariant K.state start book.old
+        → SessionInvariant K.state start book.new }
     ensures stops { StandsAs book.new.halt (state_of book.new) result }
     ensures plan { book.new.plan ≡ book.old.plan }
     ensures ran { HasRun P.gives (Rises (K.state book.old.journal.desk).asks
@@ -192,8 +192,8 @@ pub fn serial<K: Desk, P: Performer>(
     limit: Option<u32>,
 ) -> RunEnd<K>
     ensures keeps { (start : BookValue K)
-        → Kept K.state start book
-        → Kept K.state start result.book }
+        → SessionInvariant K.state start book
+        → SessionInvariant K.state start result.book }
     ensures stops { StandsAs result.book.halt (state_of result.book) result.how }
     ensures plan { result.book.plan ≡ book.plan }
     ensures ran { HasRun P.gives (Rises (K.state book.journal.desk).asks

@@ -6,7 +6,7 @@ ghost use Rattle.tf_hands.specs.Hands.{orders};
 ghost use Rattle.tf_model.specs.Steps.{is_free};
 ghost use Rattle.tf_actions.specs.declared.orders.Order.{Order as AnOrder};
 ghost use Rattle.tf_book.specs.Book.{BookValue, outline, moment, flow_state as state_of};
-ghost use Rattle.tf_book.specs.Kept.{Kept};
+ghost use Rattle.tf_book.specs.SessionInvariant.{SessionInvariant};
 ghost use Rattle.tf_book.specs.Turns.{is_entered};
 ghost use Rattle.tf_engines.specs.Asked.{HasDone};
 ghost use Rattle.tf_engines.specs.Runs.{StandsBetween};
@@ -44,8 +44,8 @@ pub(crate) fn begin<K: Desk, P: Performer>(book: &mut Book<K>, hand: u8) -> Next
     requires free { is_free (outline book.old) (moment book.old) hand ≡ true }
     requires entered { is_entered (state_of book.old) ≡ true }
     ensures keeps { (start : BookValue K)
-        → Kept K.state start book.old
-        → Kept K.state start book.new }
+        → SessionInvariant K.state start book.old
+        → SessionInvariant K.state start book.new }
     ensures plan { book.new.plan ≡ book.old.plan }
     ensures asks { (K.state book.old.journal.desk).asks ≤ (K.state book.new.journal.desk).asks }
     ensures stands { (number asked : ℕ) (limit : Option ℕ) (before : List Record) → hand < number
@@ -80,8 +80,8 @@ pub(crate) fn end<K: Desk, P: Performer>(book: &mut Book<K>, hand: u8, outcome: 
     requires hand { hand < 64 }
     requires has { HasOutcome P.gives (outline book.old) book.old.past hand outcome }
     ensures keeps { (start : BookValue K)
-        → Kept K.state start book.old
-        → Kept K.state start book.new }
+        → SessionInvariant K.state start book.old
+        → SessionInvariant K.state start book.new }
     ensures plan { book.new.plan ≡ book.old.plan }
     ensures asks { (K.state book.old.journal.desk).asks ≤ (K.state book.new.journal.desk).asks }
     ensures stands { (number asked : ℕ) (limit : Option ℕ) (before : List Record) → hand < number

@@ -6,7 +6,7 @@ pub mod SightLemmas
 pub mod LinkingLemmas
 pub mod ExplicitLemmas
 pub mod StandingAtomLemmas
-pub mod DoubtLemmas
+pub mod AmbiguityLemmas
 pub mod LookLemmas
 pub mod CompilationLemmas
 pub mod StretchLemmas

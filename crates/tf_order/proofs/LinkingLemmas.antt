@@ -1,4 +1,4 @@
--- How links and doubts grow with the symbols that were looked at.
+-- How links and ambiguities grow with the symbols that were looked at.
 use Rattle.tf_flow.specs.Ways.{shown_part}
 use Rattle.std.proofs.Common.{◌≡◌, ◌≢◌, ℕ, zero, suc, ◌+◌, ◌<◌, ◌≤◌, List, [], ◌∷◌, ◌++◌, length, take, map, filter, flat_map, Bool, true, false, ◌&&◌, ◌||◌, not, Option, Some, None, refl, sym, ap, ◌∙◌, add-one, append_assoc, arith, eqb-true, eq-eqb, slice_index_or, slice_get, cond}
 use Rattle.std.specs.Prelude.{nat_eq, nat_lt, if◌then◌else◌}
@@ -39,7 +39,7 @@ links_then sight first second seen s0 s1 s2 d0 d1 d2 one other both = record {
   links = λ u v. other.links u v ∙ (ap (λ (b : Bool). b || (nat_lt v (count_seen sight) && list_any (is_inferred_by (atoms_seen sight) (place_seen sight) u v) (second v))) (one.links u v)
       ∙ (or_spread (leads s0.rows u v) (nat_lt v (count_seen sight)) (list_any (is_inferred_by (atoms_seen sight) (place_seen sight) u v) (first v)) (list_any (is_inferred_by (atoms_seen sight) (place_seen sight) u v) (second v))
       ∙ ap (λ (b : Bool). leads s0.rows u v || (nat_lt v (count_seen sight) && b)) (sym (both v (is_inferred_by (atoms_seen sight) (place_seen sight) u v)))));
-  doubts = λ v. other.doubts v ∙ (ap (λ (b : Bool). b || (nat_lt v (count_seen sight) && list_any (is_ambiguous (atoms_seen sight) (place_seen sight) v) (second v))) (one.doubts v)
+  ambiguities = λ v. other.ambiguities v ∙ (ap (λ (b : Bool). b || (nat_lt v (count_seen sight) && list_any (is_ambiguous (atoms_seen sight) (place_seen sight) v) (second v))) (one.ambiguities v)
       ∙ (or_spread (has d0 v) (nat_lt v (count_seen sight)) (list_any (is_ambiguous (atoms_seen sight) (place_seen sight) v) (first v)) (list_any (is_ambiguous (atoms_seen sight) (place_seen sight) v) (second v))
       ∙ ap (λ (b : Bool). has d0 v || (nat_lt v (count_seen sight) && b)) (sym (both v (is_ambiguous (atoms_seen sight) (place_seen sight) v)))));
 }
@@ -47,14 +47,14 @@ links_then sight first second seen s0 s1 s2 d0 d1 d2 one other both = record {
 pub links_none : (sight : Sight) (seen : ℕ → List (List ℕ)) (s : LinksValue) (d : List ℕ) → ((v : ℕ) (p : List ℕ → Bool) → list_any p (seen v) ≡ false) → LinksBy sight seen s d s d
 links_none sight seen s d none = record {
   links = λ u v. or_nothing (leads s.rows u v) _ (second_false (nat_lt v (count_seen sight)) _ (none v (is_inferred_by (atoms_seen sight) (place_seen sight) u v)));
-  doubts = λ v. or_nothing (has d v) _ (second_false (nat_lt v (count_seen sight)) _ (none v (is_ambiguous (atoms_seen sight) (place_seen sight) v)));
+  ambiguities = λ v. or_nothing (has d v) _ (second_false (nat_lt v (count_seen sight)) _ (none v (is_ambiguous (atoms_seen sight) (place_seen sight) v)));
 }
 
 -- the same symbols, told otherwise
 pub links_as : (sight : Sight) (seen other : ℕ → List (List ℕ)) (s0 s1 : LinksValue) (d0 d1 : List ℕ) → LinksBy sight seen s0 d0 s1 d1 → ((v : ℕ) → seen v ≡ other v) → LinksBy sight other s0 d0 s1 d1
 links_as sight seen other s0 s1 d0 d1 is same = record {
   links = λ u v. is.links u v ∙ ap (λ (xs : List (List ℕ)). leads s0.rows u v || (nat_lt v (count_seen sight) && list_any (is_inferred_by (atoms_seen sight) (place_seen sight) u v) xs)) (same v);
-  doubts = λ v. is.doubts v ∙ ap (λ (xs : List (List ℕ)). has d0 v || (nat_lt v (count_seen sight) && list_any (is_ambiguous (atoms_seen sight) (place_seen sight) v) xs)) (same v);
+  ambiguities = λ v. is.ambiguities v ∙ ap (λ (xs : List (List ℕ)). has d0 v || (nat_lt v (count_seen sight) && list_any (is_ambiguous (atoms_seen sight) (place_seen sight) v) xs)) (same v);
 }
 
 -- ---- one symbol of one item
@@ -77,7 +77,7 @@ giver_below sight item symbol found u is on = below (is_served (atoms_seen sight
 pub symbol_none : (sight : Sight) (item : ℕ) (symbol found : List ℕ) (s : LinksValue) (d : List ℕ) → found ≡ givers (atoms_seen sight) (place_seen sight) item symbol → length found ≡ 0 → LinksBy sight (for_item item (symbol ∷ [])) s d s d
 symbol_none sight item symbol found s d is none = record {
   links = λ u v. or_nothing (leads s.rows u v) _ (second_false (nat_lt v (count_seen sight)) _ (by_item v (nat_eq item v) refl (is_inferred_by (atoms_seen sight) (place_seen sight) u v) (λ same. ap (λ (k : ℕ). is_only u (givers (atoms_seen sight) (place_seen sight) k symbol)) (sym same) ∙ (ap (is_only u) (sym is) ∙ only_none u found none))));
-  doubts = λ v. or_nothing (has d v) _ (second_false (nat_lt v (count_seen sight)) _ (by_item v (nat_eq item v) refl (is_ambiguous (atoms_seen sight) (place_seen sight) v) (λ same. ap (λ (k : ℕ). are_several (givers (atoms_seen sight) (place_seen sight) k symbol)) (sym same) ∙ (ap are_several (sym is) ∙ several_none found none))));
+  ambiguities = λ v. or_nothing (has d v) _ (second_false (nat_lt v (count_seen sight)) _ (by_item v (nat_eq item v) refl (is_ambiguous (atoms_seen sight) (place_seen sight) v) (λ same. ap (λ (k : ℕ). are_several (givers (atoms_seen sight) (place_seen sight) k symbol)) (sym same) ∙ (ap are_several (sym is) ∙ several_none found none))));
 }
   where
     only_none : (u : ℕ) (xs : List ℕ) → length xs ≡ 0 → is_only u xs ≡ false
@@ -96,7 +96,7 @@ pub symbol_one : (sight : Sight) (item : ℕ) (symbol found : List ℕ) (s new :
     → ((a b : ℕ) → leads new.rows a b ≡ ((nat_eq (slice_index_or found 0 0) a && nat_eq item b) || leads s.rows a b)) → LinksBy sight (for_item item (symbol ∷ [])) s d new d
 symbol_one sight item symbol found s new d is one below put = record {
   links = λ u v. put u v ∙ by_item u v (nat_eq item v) refl;
-  doubts = λ v. or_nothing (has d v) _ (second_false (nat_lt v (count_seen sight)) _ (no_doubt v (nat_eq item v) refl));
+  ambiguities = λ v. or_nothing (has d v) _ (second_false (nat_lt v (count_seen sight)) _ (no_ambiguity v (nat_eq item v) refl));
 }
   where
     only_one : (u : ℕ) (xs : List ℕ) → length xs ≡ 1 → is_only u xs ≡ nat_eq u (slice_index_or xs 0 0)
@@ -109,9 +109,9 @@ symbol_one sight item symbol found s new d is one below put = record {
     several_one (x ∷ []) one = refl
     several_one (x ∷ y ∷ ys) one = absurd (omega arith)
 
-    no_doubt : (v : ℕ) (b : Bool) → nat_eq item v ≡ b → list_any (is_ambiguous (atoms_seen sight) (place_seen sight) v) (if b then symbol ∷ [] else []) ≡ false
-    no_doubt v true same = ap (λ (b : Bool). b || false) (ap (λ (k : ℕ). are_several (givers (atoms_seen sight) (place_seen sight) k symbol)) (sym (eqb-true item v same)) ∙ (ap are_several (sym is) ∙ several_one found one))
-    no_doubt v false other = refl
+    no_ambiguity : (v : ℕ) (b : Bool) → nat_eq item v ≡ b → list_any (is_ambiguous (atoms_seen sight) (place_seen sight) v) (if b then symbol ∷ [] else []) ≡ false
+    no_ambiguity v true same = ap (λ (b : Bool). b || false) (ap (λ (k : ℕ). are_several (givers (atoms_seen sight) (place_seen sight) k symbol)) (sym (eqb-true item v same)) ∙ (ap are_several (sym is) ∙ several_one found one))
+    no_ambiguity v false other = refl
 
     turned : (a b : Bool) → (a && true) || b ≡ b || (true && (a || false))
     turned true true = refl
@@ -138,7 +138,7 @@ pub symbol_several : (sight : Sight) (item : ℕ) (symbol found : List ℕ) (s :
     → ((k : ℕ) → has new k ≡ (nat_eq item k || has d k)) → LinksBy sight (for_item item (symbol ∷ [])) s d s new
 symbol_several sight item symbol found s d new is many below put = record {
   links = λ u v. or_nothing (leads s.rows u v) _ (second_false (nat_lt v (count_seen sight)) _ (no_link u v (nat_eq item v) refl));
-  doubts = λ v. put v ∙ by_item v (nat_eq item v) refl;
+  ambiguities = λ v. put v ∙ by_item v (nat_eq item v) refl;
 }
   where
     only_several : (u : ℕ) (xs : List ℕ) → 1 < length xs → is_only u xs ≡ false
@@ -274,7 +274,7 @@ turn_retry sight atom turn s d none inner shows = links_none sight (taken_at sig
 pub turn_past : (sight : Sight) (atom : ℕ) (turn : Turn) (item : ℕ) (s : LinksValue) (d : List ℕ) → turn.item ≡ Some item → count_seen sight ≤ item → TurnSeen sight atom turn s d s d
 turn_past sight atom turn item s d is past inner shows = record {
   links = λ u v. or_nothing (leads s.rows u v) _ (nothing v (is_inferred_by (atoms_seen sight) (place_seen sight) u v));
-  doubts = λ v. or_nothing (has d v) _ (nothing v (is_ambiguous (atoms_seen sight) (place_seen sight) v));
+  ambiguities = λ v. or_nothing (has d v) _ (nothing v (is_ambiguous (atoms_seen sight) (place_seen sight) v));
 }
   where
     nothing : (v : ℕ) (p : List ℕ → Bool) → nat_lt v (count_seen sight) && list_any p (taken_at sight inner atom turn v) ≡ false

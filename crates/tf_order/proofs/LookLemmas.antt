@@ -73,9 +73,9 @@ some_inferred sight u v (x ∷ xs) on = elim (or_either (is_inferred_by (atoms_s
   | inr there ↦ some_inferred sight u v xs there
 ]
 
-pub graph_links : (sight : Sight) (inner : List Flow) (old new : LinksValue) (doubts_old doubts : List ℕ) → is_graph (place_seen sight).kind ≡ true → old.count ≡ count_seen sight → new.count ≡ count_seen sight → AreLinks old (explicit (place_seen sight))
-    → LinksBy sight (needs (atoms_seen sight) inner (place_seen sight).number) old doubts_old new doubts → AreLinks new (linked_pairs (atoms_seen sight) inner (place_seen sight))
-graph_links sight inner old new doubts_old doubts graph old_count new_count are is = subst (AreLinks new) (sym (ap (λ (b : Bool). if b then pairs_below (length (place_seen sight).items) (is_linked (atoms_seen sight) inner (place_seen sight)) else []) graph)) (record {
+pub graph_links : (sight : Sight) (inner : List Flow) (old new : LinksValue) (ambiguities_old ambiguities : List ℕ) → is_graph (place_seen sight).kind ≡ true → old.count ≡ count_seen sight → new.count ≡ count_seen sight → AreLinks old (explicit (place_seen sight))
+    → LinksBy sight (needs (atoms_seen sight) inner (place_seen sight).number) old ambiguities_old new ambiguities → AreLinks new (linked_pairs (atoms_seen sight) inner (place_seen sight))
+graph_links sight inner old new ambiguities_old ambiguities graph old_count new_count are is = subst (AreLinks new) (sym (ap (λ (b : Bool). if b then pairs_below (length (place_seen sight).items) (is_linked (atoms_seen sight) inner (place_seen sight)) else []) graph)) (record {
   same = λ u v. is.links u v ∙ (ap (λ (b : Bool). b || (nat_lt v (count_seen sight) && is_inferred (atoms_seen sight) inner (place_seen sight) u v)) (are.same u v) ∙ told u v);
   first = λ u v on. let passes = pair_passes (length (place_seen sight).items) (is_linked (atoms_seen sight) inner (place_seen sight)) u v on in omega (arith, passes.first, new_count, length_items sight);
   second = λ u v on. let passes = pair_passes (length (place_seen sight).items) (is_linked (atoms_seen sight) inner (place_seen sight)) u v on in omega (arith, passes.second, new_count, length_items sight);
@@ -173,8 +173,8 @@ several_refused place symbol [] is = absurd (cc)
 several_refused place symbol (x ∷ []) is = absurd (cc)
 several_refused place symbol (x ∷ y ∷ ys) is = refl
 
-doubtful_item : (sight : Sight) (inner : List Flow) (v : ℕ) → list_any (is_ambiguous (atoms_seen sight) (place_seen sight) v) (needs (atoms_seen sight) inner (place_seen sight).number v) ≡ true → is_some (ambiguity_at (atoms_seen sight) inner (place_seen sight) v) ≡ true
-doubtful_item sight inner v on =
+ambiguous_item : (sight : Sight) (inner : List Flow) (v : ℕ) → list_any (is_ambiguous (atoms_seen sight) (place_seen sight) v) (needs (atoms_seen sight) inner (place_seen sight).number v) ≡ true → is_some (ambiguity_at (atoms_seen sight) inner (place_seen sight) v) ≡ true
+ambiguous_item sight inner v on =
     let found = some_kept (is_ambiguous (atoms_seen sight) (place_seen sight) v) (needs (atoms_seen sight) inner (place_seen sight).number v) on in
     ap (λ (o : Option (List ℕ)). is_some (refuse_symbol (atoms_seen sight) (place_seen sight) v o)) found.is
     ∙ several_refused (place_seen sight) found.symbol (givers (atoms_seen sight) (place_seen sight) v found.symbol) found.passes
@@ -204,48 +204,48 @@ first_given {Y = Y} give (suc n) k below is before = some_append give (numbers_b
       ap (λ (o : Option Y). option_or o (option_or (give n) None)) (none_given give n (λ j less. before j (omega (arith, less, same)))) ∙ (or_none (give n) ∙ ap give (sym same))
 ]
 
--- the doubts that were found are the items with an ambiguous symbol
-doubt_told : (sight : Sight) (inner : List Flow) (old new : LinksValue) (doubts_old doubts : List ℕ) (v : ℕ) → ((k : ℕ) → has doubts_old k ≡ false) → LinksBy sight (needs (atoms_seen sight) inner (place_seen sight).number) old doubts_old new doubts
-    → has doubts v ≡ (nat_lt v (count_seen sight) && list_any (is_ambiguous (atoms_seen sight) (place_seen sight) v) (needs (atoms_seen sight) inner (place_seen sight).number v))
-doubt_told sight inner old new doubts_old doubts v none is = is.doubts v ∙ ap (λ (b : Bool). b || (nat_lt v (count_seen sight) && list_any (is_ambiguous (atoms_seen sight) (place_seen sight) v) (needs (atoms_seen sight) inner (place_seen sight).number v))) (none v)
+-- the ambiguities that were found are the items with an ambiguous symbol
+ambiguity_told : (sight : Sight) (inner : List Flow) (old new : LinksValue) (ambiguities_old ambiguities : List ℕ) (v : ℕ) → ((k : ℕ) → has ambiguities_old k ≡ false) → LinksBy sight (needs (atoms_seen sight) inner (place_seen sight).number) old ambiguities_old new ambiguities
+    → has ambiguities v ≡ (nat_lt v (count_seen sight) && list_any (is_ambiguous (atoms_seen sight) (place_seen sight) v) (needs (atoms_seen sight) inner (place_seen sight).number v))
+ambiguity_told sight inner old new ambiguities_old ambiguities v none is = is.ambiguities v ∙ ap (λ (b : Bool). b || (nat_lt v (count_seen sight) && list_any (is_ambiguous (atoms_seen sight) (place_seen sight) v) (needs (atoms_seen sight) inner (place_seen sight).number v))) (none v)
 
 graph_refused : (sight : Sight) (inner : List Flow) → is_graph (place_seen sight).kind ≡ true → refusal_seen sight inner ≡ option_or (ambiguity (atoms_seen sight) inner (place_seen sight)) (cycle_of (arranged_seen sight inner))
 graph_refused sight inner graph = ap (λ (b : Bool). if b then option_or (ambiguity (atoms_seen sight) inner (place_seen sight)) (cycle_of (arranged_seen sight inner)) else None) graph
 
--- an item below the first doubtful one is clear
-below_clear : (sight : Sight) (inner : List Flow) (old new : LinksValue) (doubts_old doubts : List ℕ) (v : ℕ) → ((k : ℕ) → has doubts_old k ≡ false) → LinksBy sight (needs (atoms_seen sight) inner (place_seen sight).number) old doubts_old new doubts → has doubts v ≡ false → v < count_seen sight
+-- an item below the first ambiguous one is clear
+below_clear : (sight : Sight) (inner : List Flow) (old new : LinksValue) (ambiguities_old ambiguities : List ℕ) (v : ℕ) → ((k : ℕ) → has ambiguities_old k ≡ false) → LinksBy sight (needs (atoms_seen sight) inner (place_seen sight).number) old ambiguities_old new ambiguities → has ambiguities v ≡ false → v < count_seen sight
     → ambiguity_at (atoms_seen sight) inner (place_seen sight) v ≡ None
-below_clear sight inner old new doubts_old doubts v none is off below = clear_item sight inner v
-    (sym (ap (λ (b : Bool). b && list_any (is_ambiguous (atoms_seen sight) (place_seen sight) v) (needs (atoms_seen sight) inner (place_seen sight).number v)) (lt-ltb v (count_seen sight) below)) ∙ (sym (doubt_told sight inner old new doubts_old doubts v none is) ∙ off))
+below_clear sight inner old new ambiguities_old ambiguities v none is off below = clear_item sight inner v
+    (sym (ap (λ (b : Bool). b && list_any (is_ambiguous (atoms_seen sight) (place_seen sight) v) (needs (atoms_seen sight) inner (place_seen sight).number v)) (lt-ltb v (count_seen sight) below)) ∙ (sym (ambiguity_told sight inner old new ambiguities_old ambiguities v none is) ∙ off))
 
-pub doubt_refused : (sight : Sight) (inner : List Flow) (old new : LinksValue) (doubts_old doubts : List ℕ) (item : ℕ) (told : Option CompileRefusal) → is_graph (place_seen sight).kind ≡ true → ((k : ℕ) → has doubts_old k ≡ false)
-    → LinksBy sight (needs (atoms_seen sight) inner (place_seen sight).number) old doubts_old new doubts → first_below (room doubts) (has doubts) ≡ Some item → told ≡ ambiguity_at (atoms_seen sight) inner (place_seen sight) item → told ≡ refusal_seen sight inner
-doubt_refused sight inner old new doubts_old doubts item told graph none is first told_is =
+pub ambiguity_refused : (sight : Sight) (inner : List Flow) (old new : LinksValue) (ambiguities_old ambiguities : List ℕ) (item : ℕ) (told : Option CompileRefusal) → is_graph (place_seen sight).kind ≡ true → ((k : ℕ) → has ambiguities_old k ≡ false)
+    → LinksBy sight (needs (atoms_seen sight) inner (place_seen sight).number) old ambiguities_old new ambiguities → first_below (room ambiguities) (has ambiguities) ≡ Some item → told ≡ ambiguity_at (atoms_seen sight) inner (place_seen sight) item → told ≡ refusal_seen sight inner
+ambiguity_refused sight inner old new ambiguities_old ambiguities item told graph none is first told_is =
     let on : nat_lt item (count_seen sight) && list_any (is_ambiguous (atoms_seen sight) (place_seen sight) item) (needs (atoms_seen sight) inner (place_seen sight).number item) ≡ true =
-    sym (doubt_told sight inner old new doubts_old doubts item none is) ∙ found_passes (room doubts) (has doubts) item first in
+    sym (ambiguity_told sight inner old new ambiguities_old ambiguities item none is) ∙ found_passes (room ambiguities) (has ambiguities) item first in
     let below : item < count_seen sight = ltb-true item (count_seen sight) (and_first (nat_lt item (count_seen sight)) _ on) in
-    let some : is_some (ambiguity_at (atoms_seen sight) inner (place_seen sight) item) ≡ true = doubtful_item sight inner item (and_second (nat_lt item (count_seen sight)) _ on) in
+    let some : is_some (ambiguity_at (atoms_seen sight) inner (place_seen sight) item) ≡ true = ambiguous_item sight inner item (and_second (nat_lt item (count_seen sight)) _ on) in
     let whole : ambiguity (atoms_seen sight) inner (place_seen sight) ≡ ambiguity_at (atoms_seen sight) inner (place_seen sight) item =
     first_given (ambiguity_at (atoms_seen sight) inner (place_seen sight)) (length (place_seen sight).items) item (omega (arith, below, length_items sight)) some
-    (λ j less. below_clear sight inner old new doubts_old doubts j none is (first_before (room doubts) (has doubts) item j first less) (omega (arith, below, less))) in
+    (λ j less. below_clear sight inner old new ambiguities_old ambiguities j none is (first_before (room ambiguities) (has ambiguities) item j first less) (omega (arith, below, less))) in
     told_is ∙ sym (graph_refused sight inner graph ∙ (ap (λ (o : Option CompileRefusal). option_or o (cycle_of (arranged_seen sight inner))) whole ∙ kept_first (ambiguity_at (atoms_seen sight) inner (place_seen sight) item) (cycle_of (arranged_seen sight inner)) some))
 
-pub cycle_refused : (sight : Sight) (inner : List Flow) (old new : LinksValue) (doubts_old doubts : List ℕ) (told : Option CompileRefusal) → (place_seen sight).kind ≡ kind.Graph → ((k : ℕ) → has doubts_old k ≡ false) → length doubts ≡ words_for (count_seen sight)
-    → LinksBy sight (needs (atoms_seen sight) inner (place_seen sight).number) old doubts_old new doubts → first_below (room doubts) (has doubts) ≡ None
+pub cycle_refused : (sight : Sight) (inner : List Flow) (old new : LinksValue) (ambiguities_old ambiguities : List ℕ) (told : Option CompileRefusal) → (place_seen sight).kind ≡ kind.Graph → ((k : ℕ) → has ambiguities_old k ≡ false) → length ambiguities ≡ words_for (count_seen sight)
+    → LinksBy sight (needs (atoms_seen sight) inner (place_seen sight).number) old ambiguities_old new ambiguities → first_below (room ambiguities) (has ambiguities) ≡ None
     → told ≡ first_cycle (place_seen sight) (count_seen sight) (linked_pairs (atoms_seen sight) inner (place_seen sight)) → told ≡ refusal_seen sight inner
-cycle_refused sight inner old new doubts_old doubts told graph none wide is nobody told_is =
+cycle_refused sight inner old new ambiguities_old ambiguities told graph none wide is nobody told_is =
     let clear : ambiguity (atoms_seen sight) inner (place_seen sight) ≡ None =
     none_given (ambiguity_at (atoms_seen sight) inner (place_seen sight)) (length (place_seen sight).items)
-    (λ k below. below_clear sight inner old new doubts_old doubts k none is (none_at (room doubts) (has doubts) k nobody (omega (arith, below, length_items sight, wide))) (omega (arith, below, length_items sight))) in
+    (λ k below. below_clear sight inner old new ambiguities_old ambiguities k none is (none_at (room ambiguities) (has ambiguities) k nobody (omega (arith, below, length_items sight, wide))) (omega (arith, below, length_items sight))) in
     told_is ∙ (ap (λ (n : ℕ). first_cycle (place_seen sight) n (linked_pairs (atoms_seen sight) inner (place_seen sight))) (sym (length_items sight))
     ∙ sym (graph_refused sight inner (ap is_graph graph) ∙ ap (λ (o : Option CompileRefusal). option_or o (cycle_of (arranged_seen sight inner))) clear))
 
-pub graph_refusal : (sight : Sight) (inner : List Flow) (old new : LinksValue) (doubts_old doubts : List ℕ) (told : Option CompileRefusal) (o : Option ℕ) → first_below (room doubts) (has doubts) ≡ o → (place_seen sight).kind ≡ kind.Graph → ((k : ℕ) → has doubts_old k ≡ false) → length doubts ≡ words_for (count_seen sight)
-    → LinksBy sight (needs (atoms_seen sight) inner (place_seen sight).number) old doubts_old new doubts
-    → ((item : ℕ) → first_below (room doubts) (has doubts) ≡ Some item → told ≡ ambiguity_at (atoms_seen sight) inner (place_seen sight) item)
-    → (first_below (room doubts) (has doubts) ≡ None → told ≡ first_cycle (place_seen sight) (count_seen sight) (linked_pairs (atoms_seen sight) inner (place_seen sight))) → told ≡ refusal_seen sight inner
-graph_refusal sight inner old new doubts_old doubts told (Some item) first graph none wide is doubt cycle_is = doubt_refused sight inner old new doubts_old doubts item told (ap is_graph graph) none is first (doubt item first)
-graph_refusal sight inner old new doubts_old doubts told None first graph none wide is doubt cycle_is = cycle_refused sight inner old new doubts_old doubts told graph none wide is first (cycle_is first)
+pub graph_refusal : (sight : Sight) (inner : List Flow) (old new : LinksValue) (ambiguities_old ambiguities : List ℕ) (told : Option CompileRefusal) (o : Option ℕ) → first_below (room ambiguities) (has ambiguities) ≡ o → (place_seen sight).kind ≡ kind.Graph → ((k : ℕ) → has ambiguities_old k ≡ false) → length ambiguities ≡ words_for (count_seen sight)
+    → LinksBy sight (needs (atoms_seen sight) inner (place_seen sight).number) old ambiguities_old new ambiguities
+    → ((item : ℕ) → first_below (room ambiguities) (has ambiguities) ≡ Some item → told ≡ ambiguity_at (atoms_seen sight) inner (place_seen sight) item)
+    → (first_below (room ambiguities) (has ambiguities) ≡ None → told ≡ first_cycle (place_seen sight) (count_seen sight) (linked_pairs (atoms_seen sight) inner (place_seen sight))) → told ≡ refusal_seen sight inner
+graph_refusal sight inner old new ambiguities_old ambiguities told (Some item) first graph none wide is ambiguity cycle_is = ambiguity_refused sight inner old new ambiguities_old ambiguities item told (ap is_graph graph) none is first (ambiguity item first)
+graph_refusal sight inner old new ambiguities_old ambiguities told None first graph none wide is ambiguity cycle_is = cycle_refused sight inner old new ambiguities_old ambiguities told graph none wide is first (cycle_is first)
 
 pub reach_as : (count other : ℕ) (pairs : List Pair) (rows same : List (List ℕ)) → AreReached count (reached count pairs) rows → count ≡ other → same ≡ rows → AreReached other (reached other pairs) same
 reach_as count other pairs rows same is counted shown = subst (λ (n : ℕ). AreReached n (reached n pairs) same) counted (subst (AreReached count (reached count pairs)) (sym shown) is)

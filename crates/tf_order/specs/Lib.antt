@@ -7,7 +7,7 @@ pub mod Arranged
 pub mod Marks
 pub mod Sight
 pub mod Looked
-pub mod Doubts
+pub mod Ambiguities
 pub mod Stretches
 pub mod Tables
 pub mod Direct

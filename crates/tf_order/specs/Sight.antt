@@ -35,11 +35,11 @@ HasProviders sight = (symbol : List ℕ) → told sight.providers.now symbol ≡
 abbrev pub HasReach : Sight → List (List ℕ) → Type 0
 HasReach sight reach = AreReached (count_seen sight) (reached (count_seen sight) (explicit (place_seen sight))) reach
 
--- there are so many more links and doubts as the symbols give that were looked at for each item: a link
--- where one other item provides the symbol, a doubt where several do
-pub record LinksBy (sight : Sight) (seen : ℕ → List (List ℕ)) (old : LinksValue) (doubts_old : List ℕ) (new : LinksValue) (doubts_new : List ℕ) : Type 0 where
+-- there are so many more links and ambiguities as the symbols give that were looked at for each item: a link
+-- where one other item provides the symbol, a ambiguity where several do
+pub record LinksBy (sight : Sight) (seen : ℕ → List (List ℕ)) (old : LinksValue) (ambiguities_old : List ℕ) (new : LinksValue) (ambiguities_new : List ℕ) : Type 0 where
   pub links : (u v : ℕ) → leads new.rows u v ≡ (leads old.rows u v || (nat_lt v (count_seen sight) && list_any (is_inferred_by (atoms_seen sight) (place_seen sight) u v) (seen v)))
-  pub doubts : (v : ℕ) → has doubts_new v ≡ (has doubts_old v || (nat_lt v (count_seen sight) && list_any (is_ambiguous (atoms_seen sight) (place_seen sight) v) (seen v)))
+  pub ambiguities : (v : ℕ) → has ambiguities_new v ≡ (has ambiguities_old v || (nat_lt v (count_seen sight) && list_any (is_ambiguous (atoms_seen sight) (place_seen sight) v) (seen v)))
 
 -- these symbols for one item, and none for others
 abbrev pub for_item : ℕ → List (List ℕ) → ℕ → List (List ℕ)

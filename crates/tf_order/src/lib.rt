@@ -1,10 +1,10 @@
 //! The order among the atoms of a plan: links, what is before what, and why a plan doesn't compile.
 #![tactic(auto)]
 
+mod ambiguities;
 mod arranged;
 mod compilation;
 mod direct;
-mod doubts;
 mod faults;
 mod graph;
 mod index;

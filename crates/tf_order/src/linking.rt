@@ -22,7 +22,7 @@ use tf_values::{Memory, Name};
 #[derive(Drop)]
 pub struct Found {
     pub links: Links,
-    pub doubts: Bits,
+    pub ambiguities: Bits,
 }
 
 /// Adds the links that are inferred to the explicit ones, and tells the items that have an ambiguous
@@ -37,12 +37,12 @@ pub fn infer(
     requires providers { HasProviders sight.now }
     requires reach { HasReach sight.now reach.now }
     requires count { found.old.links.count ≡ count_seen sight.now }
-    requires wide { length found.old.doubts ≡ words_for (count_seen sight.now) }
+    requires wide { length found.old.ambiguities ≡ words_for (count_seen sight.now) }
     ensures count { OnOk result (found.new.links.count ≡ count_seen sight.now) }
-    ensures wide { OnOk result (length found.new.doubts ≡ words_for (count_seen sight.now)) }
+    ensures wide { OnOk result (length found.new.ambiguities ≡ words_for (count_seen sight.now)) }
     ensures links { OnOk result ((inner : List Flow) → ShowsFlows sight.now.table.now inner
         → LinksBy sight.now (model.needs (atoms_seen sight.now) inner
-        (place_seen sight.now).number) found.old.links found.old.doubts found.new.links found.new.doubts) }
+        (place_seen sight.now).number) found.old.links found.old.ambiguities found.new.links found.new.ambiguities) }
 {
     for atom in 0..sight.atoms.len() {
         link_atom(alloc, sight, reach, atom, found)?;
@@ -63,12 +63,12 @@ fn link_atom(
     requires reach { HasReach sight.now reach.now }
     requires atom { atom < length sight.now.atoms.now }
     requires count { found.old.links.count ≡ count_seen sight.now }
-    requires wide { length found.old.doubts ≡ words_for (count_seen sight.now) }
+    requires wide { length found.old.ambiguities ≡ words_for (count_seen sight.now) }
     ensures count { OnOk result (found.new.links.count ≡ count_seen sight.now) }
-    ensures wide { OnOk result (length found.new.doubts ≡ words_for (count_seen sight.now)) }
+    ensures wide { OnOk result (length found.new.ambiguities ≡ words_for (count_seen sight.now)) }
     ensures links { OnOk result ((inner : List Flow) → ShowsFlows sight.now.table.now inner
         → LinksBy sight.now (passed_at sight.now inner atom
-        (way_at (atoms_seen sight.now) atom)) found.old.links found.old.doubts found.new.links found.new.doubts) }
+        (way_at (atoms_seen sight.now) atom)) found.old.links found.old.ambiguities found.new.links found.new.ambiguities) }
 {
     for turn in sight.atoms[atom].way.turns() {
         link_turn(alloc, sight, reach, atom, *turn, found)?;
@@ -90,12 +90,12 @@ fn link_turn(
     requires reach { HasReach sight.now reach.now }
     requires atom { atom < length sight.now.atoms.now }
     requires count { found.old.links.count ≡ count_seen sight.now }
-    requires wide { length found.old.doubts ≡ words_for (count_seen sight.now) }
+    requires wide { length found.old.ambiguities ≡ words_for (count_seen sight.now) }
     ensures count { OnOk result (found.new.links.count ≡ count_seen sight.now) }
-    ensures wide { OnOk result (length found.new.doubts ≡ words_for (count_seen sight.now)) }
+    ensures wide { OnOk result (length found.new.ambiguities ≡ words_for (count_seen sight.now)) }
     ensures links { OnOk result ((inner : List Flow) → ShowsFlows sight.now.table.now inner
         → LinksBy sight.now
-        (taken_at sight.now inner atom turn) found.old.links found.old.doubts found.new.links found.new.doubts) }
+        (taken_at sight.now inner atom turn) found.old.links found.old.ambiguities found.new.links found.new.ambiguities) }
 {
     if turn.flow != sight.level.number {
         return Ok(());
@@ -125,12 +125,13 @@ fn link_item(
     requires atom { atom < length sight.now.atoms.now }
     requires item { item < count_seen sight.now }
     requires count { found.old.links.count ≡ count_seen sight.now }
-    requires wide { length found.old.doubts ≡ words_for (count_seen sight.now) }
+    requires wide { length found.old.ambiguities ≡ words_for (count_seen sight.now) }
     ensures count { OnOk result (found.new.links.count ≡ count_seen sight.now) }
-    ensures wide { OnOk result (length found.new.doubts ≡ words_for (count_seen sight.now)) }
+    ensures wide { OnOk result (length found.new.ambiguities ≡ words_for (count_seen sight.now)) }
     ensures links { OnOk result ((inner : List Flow) → ShowsFlows sight.now.table.now inner
         → LinksBy sight.now (for_item item
-        (needed_at sight.now inner atom item)) found.old.links found.old.doubts found.new.links found.new.doubts) }
+        (needed_at sight.now inner atom item)) found.old.links found.old.ambiguities
+        found.new.links found.new.ambiguities) }
 {
     let part = sight.atoms[atom].part;
     for arg in part.args() {
@@ -156,12 +157,12 @@ fn link_argument(
     requires atom { atom < length sight.now.atoms.now }
     requires item { item < count_seen sight.now }
     requires count { found.old.links.count ≡ count_seen sight.now }
-    requires wide { length found.old.doubts ≡ words_for (count_seen sight.now) }
+    requires wide { length found.old.ambiguities ≡ words_for (count_seen sight.now) }
     ensures count { OnOk result (found.new.links.count ≡ count_seen sight.now) }
-    ensures wide { OnOk result (length found.new.doubts ≡ words_for (count_seen sight.now)) }
+    ensures wide { OnOk result (length found.new.ambiguities ≡ words_for (count_seen sight.now)) }
     ensures links { OnOk result ((inner : List Flow) → ShowsFlows sight.now.table.now inner
         → LinksBy sight.now (for_item item (needed_by sight.now inner item atom (shown_part part.entry)
-        (arg.now ∷ []))) found.old.links found.old.doubts found.new.links found.new.doubts) }
+        (arg.now ∷ []))) found.old.links found.old.ambiguities found.new.links found.new.ambiguities) }
 {
     if binds(part.injects(), &arg.symbol) {
         return Ok(());
@@ -187,7 +188,7 @@ pub fn binds(injects: &[Bind], symbol: &Name) -> bool
 }
 
 /// Adds what a symbol gives an item that needs it: a link from the only other item that provides it, or
-/// a doubt where there are several.
+/// a ambiguity where there are several.
 #[tactic(auto, using(crate::proofs::LinkingLemmas::symbol_none, crate::proofs::LinkingLemmas::symbol_one, crate::proofs::LinkingLemmas::symbol_several, crate::proofs::LinkingLemmas::giver_within))]
 fn link_symbol(
     alloc: Global,
@@ -201,18 +202,18 @@ fn link_symbol(
     requires reach { HasReach sight.now reach.now }
     requires item { item < count_seen sight.now }
     requires count { found.old.links.count ≡ count_seen sight.now }
-    requires wide { length found.old.doubts ≡ words_for (count_seen sight.now) }
+    requires wide { length found.old.ambiguities ≡ words_for (count_seen sight.now) }
     ensures count { OnOk result (found.new.links.count ≡ count_seen sight.now) }
-    ensures wide { OnOk result (length found.new.doubts ≡ words_for (count_seen sight.now)) }
+    ensures wide { OnOk result (length found.new.ambiguities ≡ words_for (count_seen sight.now)) }
     ensures links { OnOk result (LinksBy sight.now (for_item item
-        (symbol.now ∷ [])) found.old.links found.old.doubts found.new.links found.new.doubts) }
+        (symbol.now ∷ [])) found.old.links found.old.ambiguities found.new.links found.new.ambiguities) }
 {
     let from = givers(alloc, sight, reach, item, symbol)?;
     if from.is_empty() {
         return Ok(());
     }
     if from.len() > 1 {
-        found.doubts.insert(item);
+        found.ambiguities.insert(item);
         return Ok(());
     }
     found.links.insert(from[0], item);

@@ -12,8 +12,8 @@ ghost use Rattle.tf_links.specs.Bits.{has, room};
 ghost use Rattle.tf_links.specs.Links.{AreLinks, AreReached, IsSquare};
 ghost use Rattle.tf_order.specs.Sight.{HasProviders, HasReach, atoms_seen, place_seen, count_seen};
 
+use crate::ambiguities::{ambiguity, cycle_fault};
 use crate::arranged::Arranged;
-use crate::doubts::{ambiguity, cycle_fault};
 use crate::faults::CompileFault;
 use crate::linking::{Found, explicit, infer};
 use crate::sight::Sight;
@@ -80,12 +80,12 @@ fn look_at_graph(alloc: Global, sight: &Sight<'_, '_>) -> Result<Looked, Memory>
     let links = explicit(alloc, sight.level)?;
     let explicit_reach = links.reach(alloc)?;
     let written = copy_rows(alloc, links.rows())?;
-    let doubts = Bits::new(alloc, links.count())?;
-    let mut found = Found { links, doubts };
+    let ambiguities = Bits::new(alloc, links.count())?;
+    let mut found = Found { links, ambiguities };
     infer(alloc, sight, &explicit_reach, &mut found)?;
-    let Found { links, doubts } = found;
+    let Found { links, ambiguities } = found;
     let reach = reach_of(alloc, &links, &written, &explicit_reach)?;
-    let refusal = refusal(alloc, sight, &explicit_reach, &doubts, &links, &reach)?;
+    let refusal = refusal(alloc, sight, &explicit_reach, &ambiguities, &links, &reach)?;
     let standing = standing_atoms(alloc, sight, &links)?;
     let arranged = Arranged {
         kind: FlowKind::Graph,
@@ -123,22 +123,22 @@ fn refusal(
     alloc: Global,
     sight: &Sight<'_, '_>,
     explicit_reach: &[Bits],
-    doubts: &Bits,
+    ambiguities: &Bits,
     links: &Links,
     reach: &[Bits],
 ) -> Result<Option<CompileFault>, Memory>
     requires providers { HasProviders sight.now }
     requires reach { HasReach sight.now explicit_reach.now }
     requires count { links.now.count ≡ count_seen sight.now }
-    ensures doubt { IfOk result (λ fault. (item : ℕ) (inner : List Flow)
-        → first_below (room doubts.now) (has doubts.now) ≡ Some item → ShowsFlows sight.now.table.now inner
+    ensures ambiguity { IfOk result (λ fault. (item : ℕ) (inner : List Flow)
+        → first_below (room ambiguities.now) (has ambiguities.now) ≡ Some item → ShowsFlows sight.now.table.now inner
         → told_in fault ≡ ambiguity_at (atoms_seen sight.now) inner (place_seen sight.now) item) }
     ensures cycle { IfOk result (λ fault. (pairs : List Pair)
-        → first_below (room doubts.now) (has doubts.now) ≡ None → AreLinks links.now pairs
+        → first_below (room ambiguities.now) (has ambiguities.now) ≡ None → AreLinks links.now pairs
         → AreReached (count_seen sight.now) (reached (count_seen sight.now) pairs) reach.now
         → told_in fault ≡ first_cycle (place_seen sight.now) (count_seen sight.now) pairs) }
 {
-    match doubts.first() {
+    match ambiguities.first() {
         Some(item) => ambiguity(alloc, sight, explicit_reach, item),
         None => cycle_fault(alloc, sight, links, reach),
     }

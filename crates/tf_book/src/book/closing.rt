@@ -4,7 +4,7 @@ ghost use Rattle.tf_report.specs.Report.{report as report_of};
 ghost use Rattle.tf_book.specs.Book.{BookValue, outline, moment};
 ghost use Rattle.tf_book.specs.Closed.{Closed};
 ghost use Rattle.tf_book.specs.Faults.{IsFault};
-ghost use Rattle.tf_book.specs.Kept.{Kept};
+ghost use Rattle.tf_book.specs.SessionInvariant.{SessionInvariant};
 ghost use Rattle.tf_book.specs.Recording.{halt_after};
 ghost use Rattle.tf_book.specs.declared.faults.Halt.{Halt as Cause};
 
@@ -19,7 +19,7 @@ impl<K: Desk> Book<K> {
     /// Says what closes a run.
     fn say_closing(&mut self, closing: &[u8]) -> Result<(), Halt>
         requires sound { self.old.halt ≡ None }
-        ensures closes { (start : BookValue K) → Kept K.state start self.old
+        ensures closes { (start : BookValue K) → SessionInvariant K.state start self.old
             → Closed K.state start self.new closing.now }
         ensures same { self.new ≡ record self.old {
           journal = record self.old.journal { desk = self.new.journal.desk };
@@ -40,7 +40,7 @@ impl<K: Desk> Book<K> {
     /// Halts for want of memory, with nothing said of what was to close the run.
     fn leave_unsaid(&mut self)
         requires sound { self.old.halt ≡ None }
-        ensures closes { (start : BookValue K) (closing : List ℕ) → Kept K.state start self.old
+        ensures closes { (start : BookValue K) (closing : List ℕ) → SessionInvariant K.state start self.old
             → Closed K.state start self.new closing }
         ensures same { self.new ≡ record self.old { halt = Some Halt.Memory } }
     {
@@ -65,7 +65,7 @@ impl<K: Desk> Book<K> {
     /// Says what closes a run, if it could be made.
     pub(super) fn say_made(&mut self, made: Result<Vec<u8>, Memory>) -> Result<(), Halt>
         requires sound { self.old.halt ≡ None }
-        ensures closes { (start : BookValue K) (closing : List ℕ) → Kept K.state start self.old
+        ensures closes { (start : BookValue K) (closing : List ℕ) → SessionInvariant K.state start self.old
             → IfOk made (λ text. text.items ≡ closing)
             → Closed K.state start self.new closing }
         ensures same { self.new ≡ record self.old {
@@ -74,7 +74,7 @@ impl<K: Desk> Book<K> {
         } }
         ensures unasked { IsUnasked (K.state self.old.journal.desk) (K.state self.new.journal.desk) }
         ensures faults { IfErr result (λ halt. (halt ≡ Halt.Out) ⊎ (halt ≡ Halt.Memory)) }
-        ensures unsaid { IsErrOf result Halt.Memory → (start : BookValue K) → Kept K.state start self.old
+        ensures unsaid { IsErrOf result Halt.Memory → (start : BookValue K) → SessionInvariant K.state start self.old
             → Closed K.state start self.new [] }
     {
         let Ok(text) = made else {
@@ -87,7 +87,7 @@ impl<K: Desk> Book<K> {
     /// Says how the flow stands, and where it failed, which reversions failed. It is never halted by the disk or by
     /// a full journal; where it is halted for want of memory, nothing was said.
     pub fn report(&mut self) -> Result<(), BookFault>
-        ensures closes { (start : BookValue K) → Kept K.state start self.old → self.old.halt ≡ None
+        ensures closes { (start : BookValue K) → SessionInvariant K.state start self.old → self.old.halt ≡ None
             → Closed K.state start self.new (report_of (outline self.old) (moment self.old)) }
         ensures same { self.new ≡ record self.old {
           journal = record self.old.journal { desk = self.new.journal.desk };
@@ -100,7 +100,7 @@ impl<K: Desk> Book<K> {
             → (fault ≡ BookFault.Out) ⊎ (fault ≡ BookFault.Memory)) }
         ensures halted { (cause : Cause) → self.old.halt ≡ Some cause → self.new ≡ self.old }
         ensures unsaid { IsErrOf result BookFault.Memory → (start : BookValue K)
-            → Kept K.state start self.old → self.old.halt ≡ None
+            → SessionInvariant K.state start self.old → self.old.halt ≡ None
             → Closed K.state start self.new [] }
     {
         if let Some(cause) = self.halt {

@@ -7,7 +7,7 @@ ghost use Rattle.tf_model.specs.Steps.{may_turn};
 ghost use Rattle.tf_desk.specs.State.{IsUnasked};
 ghost use Rattle.tf_book.specs.Book.{BookValue, flow_state};
 ghost use Rattle.tf_book.specs.Faults.{IsFault};
-ghost use Rattle.tf_book.specs.Kept.{Kept, Proceeds};
+ghost use Rattle.tf_book.specs.SessionInvariant.{SessionInvariant, Proceeds};
 ghost use Rattle.tf_book.specs.Recording.{halt_after, past_after};
 ghost use Rattle.tf_book.specs.Stopping.{limit_from};
 ghost use Rattle.tf_book.specs.Turns.{IsEntering, IsEntered};
@@ -113,7 +113,8 @@ impl<K: Desk> Book<K> {
     /// Keeps where the session is to be suspended, which begins now and may record so many entries before.
     fn keep_limit(&mut self, limit: Option<u32>)
         requires sound { self.old.halt ≡ None }
-        ensures keeps { (start : BookValue K) → Kept K.state start self.old → Kept K.state start self.new }
+        ensures keeps { (start : BookValue K) → SessionInvariant K.state start self.old
+            → SessionInvariant K.state start self.new }
         ensures same { self.new ≡ record self.old { limit = limit_from limit (length self.old.past) } }
     {
         match limit {
@@ -128,7 +129,8 @@ impl<K: Desk> Book<K> {
     pub fn enter(&mut self, hand: u8, limit: Option<u32>) -> Result<Entered, BookFault>
         requires { hand < 64 }
         ensures plan { self.new.plan ≡ self.old.plan }
-        ensures keeps { (start : BookValue K) → Kept K.state start self.old → Kept K.state start self.new }
+        ensures keeps { (start : BookValue K) → SessionInvariant K.state start self.old
+            → SessionInvariant K.state start self.new }
         ensures limit { self.old.halt ≡ None → self.new.limit ≡ limit_from limit (length self.old.past) }
         ensures unasked { IsUnasked (K.state self.old.journal.desk) (K.state self.new.journal.desk) }
         ensures entered { IfOk result (IsEntered hand self.old.past self.new.past) }

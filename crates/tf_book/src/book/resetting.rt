@@ -6,7 +6,7 @@ ghost use Rattle.tf_model.specs.Steps.{is_put_back_at, put_back_or_rest, reset a
 ghost use Rattle.tf_numbers.specs.Numbers.{first_below};
 ghost use Rattle.tf_book.specs.Book.{outline, moment, flow_state};
 ghost use Rattle.tf_book.specs.Faults.{IsFault};
-ghost use Rattle.tf_book.specs.Kept.{Proceeds};
+ghost use Rattle.tf_book.specs.SessionInvariant.{Proceeds};
 ghost use Rattle.tf_book.specs.Resetting.{may_reset as may, IsPutBackBy, IsPutBackOn, IsPutBack};
 ghost use Rattle.tf_book.specs.declared.faults.BookFault.{BookFault as Fault};
 ghost use Rattle.tf_book.specs.declared.faults.Halt.{Halt as Cause};

@@ -6,7 +6,7 @@ ghost use Rattle.tf_journal.specs.declared.title.Title.TheVariants.{Book as book
 ghost use Rattle.tf_machine.specs.Machine.{StandsFor};
 ghost use Rattle.tf_book.specs.Book.{bodies_of, book_size};
 ghost use Rattle.tf_book.specs.History.{past_shown, HasAllRoom, HasDraftRoom};
-ghost use Rattle.tf_book.specs.Kept.{IsExact};
+ghost use Rattle.tf_book.specs.SessionInvariant.{IsExact};
 ghost use Rattle.tf_book.specs.Starting.{HasNoRecord, begun_book, desk_started, LeavesPlan, FailsToAppendPlan, FailsToStart};
 
 use super::Book;

@@ -12,7 +12,7 @@ ghost use Rattle.tf_states.specs.declared.record.What.TheVariants.{Flow as flow_
 ghost use Rattle.tf_actions.specs.Whole.{IsWhole};
 ghost use Rattle.tf_book.specs.Book.{BookValue, outline, moment, flow_state};
 ghost use Rattle.tf_book.specs.Faults.{IsFault};
-ghost use Rattle.tf_book.specs.Kept.{Kept, Proceeds, TakesTurn};
+ghost use Rattle.tf_book.specs.SessionInvariant.{SessionInvariant, Proceeds, TakesTurn};
 ghost use Rattle.tf_book.specs.Recording.{halt_for_memory, halt_after, past_after};
 ghost use Rattle.tf_book.specs.Stopping.{is_to_stop, IsAnswered};
 ghost use Rattle.tf_book.specs.Turns.{RanOn, RanUntilStop, IsForcedBy, IsForcedOn, IsStartedSo, IsStartOf, HasRested, IsClosedOr, HasStopped, IsStoppedOr, IsFinished, IsLessAfterStart, IsTurn, IsHaltedTurn, IsTurnAsked, IsHaltedTurnAsked, is_entered, end_now, suspending_after};
@@ -31,7 +31,8 @@ use tf_states::{Entry, FlowState, What};
 impl<K: Desk> Book<K> {
     /// Halts a book that isn't halted, for want of memory.
     pub fn halt_for_memory(&mut self)
-        ensures keeps { (start : BookValue K) → Kept K.state start self.old → Kept K.state start self.new }
+        ensures keeps { (start : BookValue K) → SessionInvariant K.state start self.old
+            → SessionInvariant K.state start self.new }
         ensures same { self.new ≡ record self.old { halt = halt_for_memory self.old.halt } }
     {
         if self.halt.is_none() {

@@ -2,7 +2,7 @@ use Rattle.std.proofs.Common.{◌≡◌, ◌∙◌, sym, ap, arith, None, Some, 
 use Rattle.tf_book.specs.Book.{BookValue, outline, moment}
 use Rattle.tf_book.specs.Resetting.{may_reset}
 use Rattle.tf_book.specs.declared.faults.Halt.TheVariants as halt
-use Rattle.tf_book.proofs.KeptLemmas.{keeps_none}
+use Rattle.tf_book.proofs.InvariantLemmas.{keeps_none}
 use Rattle.tf_commands.specs.declared.statuses.TheConstants.{SUCCEEDED}
 use Rattle.tf_commands.proofs.CountLemmas.{reaches_itself, ran_causes}
 use Rattle.tf_commands.proofs.BookLemmas.{untouched_by}

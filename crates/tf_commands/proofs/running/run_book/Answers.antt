@@ -1,4 +1,4 @@
-use Rattle.tf_book.proofs.KeptLemmas.{keeps_none}
+use Rattle.tf_book.proofs.InvariantLemmas.{keeps_none}
 use Rattle.tf_commands.proofs.AskedLemmas.{session_more}
 use Rattle.tf_commands.proofs.CountLemmas.{rises_until}
 use Rattle.tf_commands.proofs.running.run_book.Goals as goal

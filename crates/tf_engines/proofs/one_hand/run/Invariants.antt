@@ -4,14 +4,14 @@ use Rattle.tf_actions.specs.declared.orders.Order.{Order}
 use Rattle.tf_hands.specs.Hands.{orders}
 use Rattle.tf_engines.specs.Asked.{HasDone}
 use Rattle.tf_book.specs.Book.{BookValue, outline}
-use Rattle.tf_book.specs.Kept.{Kept}
+use Rattle.tf_book.specs.SessionInvariant.{SessionInvariant}
 use Rattle.tf_engines.specs.Runs.{IsUnderWay, IsBetweenTurns}
 use Rattle.tf_engines.proofs.one_hand.run.Given as goal
 
 abbrev pub invariant-turns : goal.invariant-turns
 invariant-turns g l = record {
-  keeps : (start : BookValue g.row.K.Denot) → Kept g.K.Desk.state start l.fn.book
-      → Kept g.K.Desk.state start l.book;
+  keeps : (start : BookValue g.row.K.Denot) → SessionInvariant g.K.Desk.state start l.fn.book
+      → SessionInvariant g.K.Desk.state start l.book;
   plan : l.book.plan ≡ l.fn.book.plan;
   asks : (g.K.Desk.state l.fn.book.journal.desk).asks ≤ (g.K.Desk.state l.book.journal.desk).asks;
   going : IsBetweenTurns (outline l.book) l.book.past l.book.halt;

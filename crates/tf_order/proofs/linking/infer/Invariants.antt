@@ -7,6 +7,6 @@ use Rattle.tf_order.proofs.linking.infer.Given as goal
 abbrev pub invariant-loop-atom : goal.invariant-loop-atom
 invariant-loop-atom l = record {
   count : l.found.links.count ≡ count_seen l.sight;
-  wide : length l.found.doubts ≡ words_for (count_seen l.sight);
-  seen : AtomsSeen l.sight l.fn.found.links l.fn.found.doubts l.found.links l.found.doubts l.atom;
+  wide : length l.found.ambiguities ≡ words_for (count_seen l.sight);
+  seen : AtomsSeen l.sight l.fn.found.links l.fn.found.ambiguities l.found.links l.found.ambiguities l.atom;
 }

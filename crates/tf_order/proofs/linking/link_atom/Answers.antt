@@ -10,11 +10,11 @@ pub loop-turn-preserved : goal.loop-turn-preserved
 loop-turn-preserved c = record {
   count = c.in_ok-link_turn.ensures.count;
   wide = c.in_ok-link_turn.ensures.wide;
-  seen = turns_next c.args.sight.now c.args.atom c.args.found.now.links c.loop-turn.found.links c.link_turn.new.found.links c.args.found.now.doubts c.loop-turn.found.doubts c.link_turn.new.found.doubts c.turns-turn-items.result.now c.loop-turn.turn-index (record { flow = 0; item = None })
+  seen = turns_next c.args.sight.now c.args.atom c.args.found.now.links c.loop-turn.found.links c.link_turn.new.found.links c.args.found.now.ambiguities c.loop-turn.found.ambiguities c.link_turn.new.found.ambiguities c.turns-turn-items.result.now c.loop-turn.turn-index (record { flow = 0; item = None })
       c.loop-turn.invariant.seen c.loop-turn-test.true c.in_ok-link_turn.ensures.links;
 }
 
 pub returns-clause-links : goal.returns-clause-links
-returns-clause-links c = turns_all c.args.sight.now c.args.atom c.args.found.now.links c.loop-turn.found.links c.args.found.now.doubts c.loop-turn.found.doubts c.turns-turn-items.result.now c.loop-turn.turn-index (way_at (atoms_seen c.args.sight.now) c.args.atom)
+returns-clause-links c = turns_all c.args.sight.now c.args.atom c.args.found.now.links c.loop-turn.found.links c.args.found.now.ambiguities c.loop-turn.found.ambiguities c.turns-turn-items.result.now c.loop-turn.turn-index (way_at (atoms_seen c.args.sight.now) c.args.atom)
     c.loop-turn.invariant.seen c.loop-turn-test.false
     (c.turns-turn-items.ensures ∙ (ap (λ (a : AtomPlace). a.way) (sym c.index-sight-atom.is) ∙ sym (way_seen c.args.sight.now.atoms.now c.args.atom c.index-sight-atom.result c.requires.atom c.index-sight-atom.is)))

@@ -7,6 +7,6 @@ use Rattle.tf_order.proofs.linking.link_atom.Given as goal
 abbrev pub invariant-loop-turn : goal.invariant-loop-turn
 invariant-loop-turn l = record {
   count : l.found.links.count ≡ count_seen l.sight;
-  wide : length l.found.doubts ≡ words_for (count_seen l.sight);
-  seen : TurnsSeen l.sight l.atom l.fn.found.links l.fn.found.doubts l.found.links l.found.doubts (take l.turn-index l.turn-items);
+  wide : length l.found.ambiguities ≡ words_for (count_seen l.sight);
+  seen : TurnsSeen l.sight l.atom l.fn.found.links l.fn.found.ambiguities l.found.links l.found.ambiguities (take l.turn-index l.turn-items);
 }

@@ -8,6 +8,6 @@ use Rattle.tf_order.proofs.linking.link_item.Given as goal
 abbrev pub invariant-loop-arg : goal.invariant-loop-arg
 invariant-loop-arg l = record {
   count : l.found.links.count ≡ count_seen l.sight;
-  wide : length l.found.doubts ≡ words_for (count_seen l.sight);
-  seen : ArgumentsSeen l.sight l.item l.atom (shown_part l.part) l.fn.found.links l.fn.found.doubts l.found.links l.found.doubts (take l.arg-index l.arg-items);
+  wide : length l.found.ambiguities ≡ words_for (count_seen l.sight);
+  seen : ArgumentsSeen l.sight l.item l.atom (shown_part l.part) l.fn.found.links l.fn.found.ambiguities l.found.links l.found.ambiguities (take l.arg-index l.arg-items);
 }

@@ -1,7 +1,7 @@
 use Rattle.std.proofs.Common.{◌∙◌, sym, ap, Bool, Ok, arith}
 use Rattle.tf_model.specs.Plan.{outline_of}
 use Rattle.tf_book.proofs.ForceLemmas.{forced_more, forced_cut, forced_out, stops_same}
-use Rattle.tf_book.proofs.KeptLemmas.{proceeds_on}
+use Rattle.tf_book.proofs.InvariantLemmas.{proceeds_on}
 use Rattle.tf_book.proofs.TurnLemmas.{on_err}
 use Rattle.tf_book.proofs.book.Book.force.Goals as goal
 

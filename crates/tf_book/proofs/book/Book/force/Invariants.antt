@@ -1,7 +1,7 @@
 use Rattle.std.proofs.Common.{◌≡◌, ◌≤◌, ◌-◌, None}
 use Rattle.tf_states.specs.declared.state.FlowState.TheVariants as flow
 use Rattle.tf_book.specs.Book.{outline, flow_state}
-use Rattle.tf_book.specs.Kept.{Proceeds}
+use Rattle.tf_book.specs.SessionInvariant.{Proceeds}
 use Rattle.tf_book.specs.Turns.{IsForcedOn}
 use Rattle.tf_book.proofs.book.Book.force.Given as goal
 

@@ -1,6 +1,6 @@
 use Rattle.std.proofs.Common.{ap, Bool, Ok}
 use Rattle.tf_model.specs.Plan.{outline_of}
-use Rattle.tf_book.proofs.KeptLemmas.{proceeds_on}
+use Rattle.tf_book.proofs.InvariantLemmas.{proceeds_on}
 use Rattle.tf_book.proofs.ResetLemmas.{put_more, put_cut}
 use Rattle.tf_book.proofs.TurnLemmas.{on_err}
 use Rattle.tf_book.proofs.book.Book.put_back.Goals as goal

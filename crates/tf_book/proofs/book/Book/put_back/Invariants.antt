@@ -1,6 +1,6 @@
 use Rattle.std.proofs.Common.{◌≡◌, ◌-◌, None, true}
 use Rattle.tf_book.specs.Book.{outline, moment}
-use Rattle.tf_book.specs.Kept.{Proceeds}
+use Rattle.tf_book.specs.SessionInvariant.{Proceeds}
 use Rattle.tf_book.specs.Resetting.{may_reset, IsPutBackOn}
 use Rattle.tf_book.proofs.book.Book.put_back.Given as goal
 

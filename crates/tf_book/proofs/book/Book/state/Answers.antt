@@ -1,4 +1,4 @@
-use Rattle.tf_book.proofs.KeptLemmas.{sound_leaves}
+use Rattle.tf_book.proofs.InvariantLemmas.{sound_leaves}
 use Rattle.tf_book.proofs.book.Book.state.Goals as goal
 
 pub returns-clause-leaves : goal.returns-clause-leaves

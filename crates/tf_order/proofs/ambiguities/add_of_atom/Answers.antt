@@ -3,8 +3,8 @@ use Rattle.tf_model.specs.Before.{way_at}
 use Rattle.tf_flow.specs.declared.listing.AtomPlace.{AtomPlace}
 use Rattle.tf_order.specs.Sight.{atoms_seen}
 use Rattle.tf_order.proofs.SightLemmas.{way_seen}
-use Rattle.tf_order.proofs.DoubtLemmas.{atom_outside, atom_inside}
-use Rattle.tf_order.proofs.doubts.add_of_atom.Goals as goal
+use Rattle.tf_order.proofs.AmbiguityLemmas.{atom_outside, atom_inside}
+use Rattle.tf_order.proofs.ambiguities.add_of_atom.Goals as goal
 
 pub returns-then-not-passes_item : goal.returns-then-not-passes_item
 returns-then-not-passes_item c =

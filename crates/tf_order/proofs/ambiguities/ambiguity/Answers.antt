@@ -2,8 +2,8 @@ use Rattle.std.proofs.Common.{◌∙◌, ◌≤◌, sym, ap, length, arith}
 use Rattle.std.proofs.lemmas.Grind.{common_steps}
 use Rattle.tf_model.specs.Compilation.{least}
 use Rattle.tf_order.specs.Sight.{count_seen}
-use Rattle.tf_order.proofs.DoubtLemmas.{two_named, number_read}
-use Rattle.tf_order.proofs.doubts.ambiguity.Goals as goal
+use Rattle.tf_order.proofs.AmbiguityLemmas.{two_named, number_read}
+use Rattle.tf_order.proofs.ambiguities.ambiguity.Goals as goal
 
 pub item_name-requires : goal.item_name-requires
 item_name-requires c =

@@ -1,6 +1,6 @@
 use Rattle.tf_flow.specs.Ways.{shown_part}
-use Rattle.tf_order.proofs.DoubtLemmas.{part_more}
-use Rattle.tf_order.proofs.doubts.add_of_part.Goals as goal
+use Rattle.tf_order.proofs.AmbiguityLemmas.{part_more}
+use Rattle.tf_order.proofs.ambiguities.add_of_part.Goals as goal
 
 pub loop-arg-preserved : goal.loop-arg-preserved
 loop-arg-preserved c = part_more c.args.sight.now c.args.item c.args.atom (shown_part c.args.part) c.args.symbols.now.items c.loop-arg.symbols.items c.add_of_argument.new.symbols.items c.args-arg-items.result.now c.loop-arg.arg-index c.arg-item.result

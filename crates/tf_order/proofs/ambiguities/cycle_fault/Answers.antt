@@ -1,8 +1,8 @@
 use Rattle.std.proofs.Common.{◌∙◌, sym, ap, map, arith}
 use Rattle.tf_model.specs.Linked.{item_name}
 use Rattle.tf_order.specs.Sight.{place_seen}
-use Rattle.tf_order.proofs.DoubtLemmas.{cycle_found, no_cycle}
-use Rattle.tf_order.proofs.doubts.cycle_fault.Goals as goal
+use Rattle.tf_order.proofs.AmbiguityLemmas.{cycle_found, no_cycle}
+use Rattle.tf_order.proofs.ambiguities.cycle_fault.Goals as goal
 
 pub returns-then-has_in : goal.returns-then-has_in
 returns-then-has_in c =

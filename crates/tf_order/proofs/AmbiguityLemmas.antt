@@ -23,7 +23,7 @@ use Rattle.tf_flow.specs.declared.listing.AtomPlace.{AtomPlace}
 use Rattle.tf_flow.specs.declared.listing.ItemPlace.{ItemPlace}
 use Rattle.tf_order.specs.declared.sight.Sight.{Sight}
 use Rattle.tf_order.specs.Arranged.{ShowsFlows}
-use Rattle.tf_order.specs.Doubts.{doubtful, doubts_by, doubts_inside, doubts_below}
+use Rattle.tf_order.specs.Ambiguities.{ambiguous_of, ambiguities_by, ambiguities_inside, ambiguities_below}
 use Rattle.tf_flow.specs.Listing.{shown_item}
 use Rattle.tf_order.specs.Sight.{atoms_seen, place_seen, count_seen, needed_by, needed_at, needed_below}
 use Rattle.tf_links.specs.Links.{leads, LinksValue, AreLinks, AreReached}
@@ -41,18 +41,18 @@ use Rattle.tf_numbers.proofs.ListLemmas.{take_whole, filter_append, nothing_afte
 nothing_more : (symbols more : List (List ℕ)) → more ≡ [] → symbols ≡ symbols ++ more
 nothing_more symbols more none = sym (nothing_after symbols) ∙ ap (λ (xs : List (List ℕ)). symbols ++ xs) (sym none)
 
-pub argument_bound : (sight : Sight) (inner : List Flow) (item atom : ℕ) (part : Part) (arg : Arg) (symbols : List (List ℕ)) → is_among (bind_symbols (injected_in part)) arg.symbol ≡ true → symbols ≡ symbols ++ doubts_by sight inner item atom part (arg ∷ [])
-argument_bound sight inner item atom part arg symbols bound = nothing_more symbols (doubts_by sight inner item atom part (arg ∷ []))
-    (ap (λ (b : Bool). doubtful sight item (filter (is_unserved (atoms_seen sight) inner (place_seen sight).number item atom) (map arg_symbol (cond (not b) (arg ∷ []) [])))) bound)
+pub argument_bound : (sight : Sight) (inner : List Flow) (item atom : ℕ) (part : Part) (arg : Arg) (symbols : List (List ℕ)) → is_among (bind_symbols (injected_in part)) arg.symbol ≡ true → symbols ≡ symbols ++ ambiguities_by sight inner item atom part (arg ∷ [])
+argument_bound sight inner item atom part arg symbols bound = nothing_more symbols (ambiguities_by sight inner item atom part (arg ∷ []))
+    (ap (λ (b : Bool). ambiguous_of sight item (filter (is_unserved (atoms_seen sight) inner (place_seen sight).number item atom) (map arg_symbol (cond (not b) (arg ∷ []) [])))) bound)
 
 pub argument_served : (sight : Sight) (inner : List Flow) (item atom : ℕ) (part : Part) (arg : Arg) (symbols : List (List ℕ)) → is_among (bind_symbols (injected_in part)) arg.symbol ≡ false
-    → false ≡ is_unserved (atoms_seen sight) inner (place_seen sight).number item atom arg.symbol → symbols ≡ symbols ++ doubts_by sight inner item atom part (arg ∷ [])
-argument_served sight inner item atom part arg symbols free served = nothing_more symbols (doubts_by sight inner item atom part (arg ∷ []))
-    (ap (doubtful sight item) (one_needed sight inner item atom part arg free) ∙ ap (λ (b : Bool). doubtful sight item (cond b (arg.symbol ∷ []) [])) (sym served))
+    → false ≡ is_unserved (atoms_seen sight) inner (place_seen sight).number item atom arg.symbol → symbols ≡ symbols ++ ambiguities_by sight inner item atom part (arg ∷ [])
+argument_served sight inner item atom part arg symbols free served = nothing_more symbols (ambiguities_by sight inner item atom part (arg ∷ []))
+    (ap (ambiguous_of sight item) (one_needed sight inner item atom part arg free) ∙ ap (λ (b : Bool). ambiguous_of sight item (cond b (arg.symbol ∷ []) [])) (sym served))
 
-one_doubt : (sight : Sight) (inner : List Flow) (item atom : ℕ) (part : Part) (arg : Arg) → is_among (bind_symbols (injected_in part)) arg.symbol ≡ false
-    → true ≡ is_unserved (atoms_seen sight) inner (place_seen sight).number item atom arg.symbol → doubts_by sight inner item atom part (arg ∷ []) ≡ doubtful sight item (arg.symbol ∷ [])
-one_doubt sight inner item atom part arg free needed = ap (doubtful sight item) (one_needed sight inner item atom part arg free ∙ ap (λ (b : Bool). cond b (arg.symbol ∷ []) []) (sym needed))
+one_ambiguity : (sight : Sight) (inner : List Flow) (item atom : ℕ) (part : Part) (arg : Arg) → is_among (bind_symbols (injected_in part)) arg.symbol ≡ false
+    → true ≡ is_unserved (atoms_seen sight) inner (place_seen sight).number item atom arg.symbol → ambiguities_by sight inner item atom part (arg ∷ []) ≡ ambiguous_of sight item (arg.symbol ∷ [])
+one_ambiguity sight inner item atom part arg free needed = ap (ambiguous_of sight item) (one_needed sight inner item atom part arg free ∙ ap (λ (b : Bool). cond b (arg.symbol ∷ []) []) (sym needed))
 
 few : (xs : List ℕ) → length xs < 2 → are_several xs ≡ false
 few [] less = refl
@@ -65,72 +65,72 @@ many (x ∷ []) more = absurd (omega arith)
 many (x ∷ y ∷ ys) more = refl
 
 pub argument_clear : (sight : Sight) (inner : List Flow) (item atom : ℕ) (part : Part) (arg : Arg) (symbols : List (List ℕ)) (found : List ℕ) → is_among (bind_symbols (injected_in part)) arg.symbol ≡ false
-    → true ≡ is_unserved (atoms_seen sight) inner (place_seen sight).number item atom arg.symbol → found ≡ givers (atoms_seen sight) (place_seen sight) item arg.symbol → length found < 2 → symbols ≡ symbols ++ doubts_by sight inner item atom part (arg ∷ [])
-argument_clear sight inner item atom part arg symbols found free needed is less = nothing_more symbols (doubts_by sight inner item atom part (arg ∷ []))
-    (one_doubt sight inner item atom part arg free needed ∙ ap (λ (b : Bool). cond b (arg.symbol ∷ []) []) (ap are_several (sym is) ∙ few found less))
+    → true ≡ is_unserved (atoms_seen sight) inner (place_seen sight).number item atom arg.symbol → found ≡ givers (atoms_seen sight) (place_seen sight) item arg.symbol → length found < 2 → symbols ≡ symbols ++ ambiguities_by sight inner item atom part (arg ∷ [])
+argument_clear sight inner item atom part arg symbols found free needed is less = nothing_more symbols (ambiguities_by sight inner item atom part (arg ∷ []))
+    (one_ambiguity sight inner item atom part arg free needed ∙ ap (λ (b : Bool). cond b (arg.symbol ∷ []) []) (ap are_several (sym is) ∙ few found less))
 
-pub argument_doubtful : (sight : Sight) (inner : List Flow) (item atom : ℕ) (part : Part) (arg : Arg) (symbols : List (List ℕ)) (found : List ℕ) → is_among (bind_symbols (injected_in part)) arg.symbol ≡ false
-    → true ≡ is_unserved (atoms_seen sight) inner (place_seen sight).number item atom arg.symbol → found ≡ givers (atoms_seen sight) (place_seen sight) item arg.symbol → 2 ≤ length found → symbols ++ arg.symbol ∷ [] ≡ symbols ++ doubts_by sight inner item atom part (arg ∷ [])
-argument_doubtful sight inner item atom part arg symbols found free needed is more = ap (λ (xs : List (List ℕ)). symbols ++ xs)
-    (sym (one_doubt sight inner item atom part arg free needed ∙ ap (λ (b : Bool). cond b (arg.symbol ∷ []) []) (ap are_several (sym is) ∙ many found more)))
+pub argument_ambiguous : (sight : Sight) (inner : List Flow) (item atom : ℕ) (part : Part) (arg : Arg) (symbols : List (List ℕ)) (found : List ℕ) → is_among (bind_symbols (injected_in part)) arg.symbol ≡ false
+    → true ≡ is_unserved (atoms_seen sight) inner (place_seen sight).number item atom arg.symbol → found ≡ givers (atoms_seen sight) (place_seen sight) item arg.symbol → 2 ≤ length found → symbols ++ arg.symbol ∷ [] ≡ symbols ++ ambiguities_by sight inner item atom part (arg ∷ [])
+argument_ambiguous sight inner item atom part arg symbols found free needed is more = ap (λ (xs : List (List ℕ)). symbols ++ xs)
+    (sym (one_ambiguity sight inner item atom part arg free needed ∙ ap (λ (b : Bool). cond b (arg.symbol ∷ []) []) (ap are_several (sym is) ∙ many found more)))
 
 -- ---- the arguments of an atom
 
-abbrev pub DoubtsSeen : Sight → ℕ → ℕ → Part → List (List ℕ) → List (List ℕ) → List Arg → Type 0
-DoubtsSeen sight item atom part old symbols args = (inner : List Flow) → ShowsFlows sight.table.now inner → symbols ≡ old ++ doubts_by sight inner item atom part args
+abbrev pub AmbiguitiesSeen : Sight → ℕ → ℕ → Part → List (List ℕ) → List (List ℕ) → List Arg → Type 0
+AmbiguitiesSeen sight item atom part old symbols args = (inner : List Flow) → ShowsFlows sight.table.now inner → symbols ≡ old ++ ambiguities_by sight inner item atom part args
 
-pub part_start : (sight : Sight) (item atom : ℕ) (part : Part) (symbols : List (List ℕ)) (args : List Arg) → DoubtsSeen sight item atom part symbols symbols (take 0 args)
-part_start sight item atom part symbols args inner shows = nothing_more symbols (doubts_by sight inner item atom part (take 0 args)) (ap (doubts_by sight inner item atom part) (take_none args))
+pub part_start : (sight : Sight) (item atom : ℕ) (part : Part) (symbols : List (List ℕ)) (args : List Arg) → AmbiguitiesSeen sight item atom part symbols symbols (take 0 args)
+part_start sight item atom part symbols args inner shows = nothing_more symbols (ambiguities_by sight inner item atom part (take 0 args)) (ap (ambiguities_by sight inner item atom part) (take_none args))
 
-pub part_more : (sight : Sight) (item atom : ℕ) (part : Part) (old symbols new : List (List ℕ)) (args : List Arg) (i : ℕ) (arg : Arg) → DoubtsSeen sight item atom part old symbols (take i args) → i < length args → arg ≡ slice_index_or args i arg
-    → DoubtsSeen sight item atom part symbols new (arg ∷ []) → DoubtsSeen sight item atom part old new (take (i + 1) args)
+pub part_more : (sight : Sight) (item atom : ℕ) (part : Part) (old symbols new : List (List ℕ)) (args : List Arg) (i : ℕ) (arg : Arg) → AmbiguitiesSeen sight item atom part old symbols (take i args) → i < length args → arg ≡ slice_index_or args i arg
+    → AmbiguitiesSeen sight item atom part symbols new (arg ∷ []) → AmbiguitiesSeen sight item atom part old new (take (i + 1) args)
 part_more sight item atom part old symbols new args i arg before within is one inner shows = one inner shows
-    ∙ (ap (λ (xs : List (List ℕ)). xs ++ doubts_by sight inner item atom part (arg ∷ [])) (before inner shows)
-    ∙ (append_assoc old (doubts_by sight inner item atom part (take i args)) (doubts_by sight inner item atom part (arg ∷ []))
+    ∙ (ap (λ (xs : List (List ℕ)). xs ++ ambiguities_by sight inner item atom part (arg ∷ [])) (before inner shows)
+    ∙ (append_assoc old (ambiguities_by sight inner item atom part (take i args)) (ambiguities_by sight inner item atom part (arg ∷ []))
     ∙ ap (λ (xs : List (List ℕ)). old ++ xs)
-    (sym (ap (doubts_by sight inner item atom part) (ap (λ (n : ℕ). take n args) (add-one i) ∙ take_next args i arg within is)
-    ∙ (ap (doubtful sight item) (needed_append sight inner item atom part (take i args) (arg ∷ []))
+    (sym (ap (ambiguities_by sight inner item atom part) (ap (λ (n : ℕ). take n args) (add-one i) ∙ take_next args i arg within is)
+    ∙ (ap (ambiguous_of sight item) (needed_append sight inner item atom part (take i args) (arg ∷ []))
     ∙ filter_append (is_ambiguous (atoms_seen sight) (place_seen sight) item) (needed_by sight inner item atom part (take i args)) (needed_by sight inner item atom part (arg ∷ [])))))))
 
-pub part_all : (sight : Sight) (item atom : ℕ) (part : Part) (old symbols : List (List ℕ)) (args : List Arg) (i : ℕ) → DoubtsSeen sight item atom part old symbols (take i args) → length args ≤ i → args ≡ arguments_of part → DoubtsSeen sight item atom part old symbols (arguments_of part)
-part_all sight item atom part old symbols args i is whole are inner shows = is inner shows ∙ ap (λ (xs : List Arg). old ++ doubts_by sight inner item atom part xs) (take_whole args i whole ∙ are)
+pub part_all : (sight : Sight) (item atom : ℕ) (part : Part) (old symbols : List (List ℕ)) (args : List Arg) (i : ℕ) → AmbiguitiesSeen sight item atom part old symbols (take i args) → length args ≤ i → args ≡ arguments_of part → AmbiguitiesSeen sight item atom part old symbols (arguments_of part)
+part_all sight item atom part old symbols args i is whole are inner shows = is inner shows ∙ ap (λ (xs : List Arg). old ++ ambiguities_by sight inner item atom part xs) (take_whole args i whole ∙ are)
 
 -- ---- one atom
 
-pub atom_outside : (sight : Sight) (inner : List Flow) (item atom : ℕ) (place : AtomPlace) (symbols : List (List ℕ)) (way : List Turn) → way ≡ way_at (atoms_seen sight) atom → passes_item (place_seen sight).number (Some item) way ≡ false → symbols ≡ symbols ++ doubts_inside sight inner item atom
-atom_outside sight inner item atom place symbols way is off = nothing_more symbols (doubts_inside sight inner item atom)
-    (ap (λ (b : Bool). if b then doubtful sight item (needed_at sight inner atom item) else []) (ap (passes_item (place_seen sight).number (Some item)) (sym is) ∙ off))
+pub atom_outside : (sight : Sight) (inner : List Flow) (item atom : ℕ) (place : AtomPlace) (symbols : List (List ℕ)) (way : List Turn) → way ≡ way_at (atoms_seen sight) atom → passes_item (place_seen sight).number (Some item) way ≡ false → symbols ≡ symbols ++ ambiguities_inside sight inner item atom
+atom_outside sight inner item atom place symbols way is off = nothing_more symbols (ambiguities_inside sight inner item atom)
+    (ap (λ (b : Bool). if b then ambiguous_of sight item (needed_at sight inner atom item) else []) (ap (passes_item (place_seen sight).number (Some item)) (sym is) ∙ off))
 
 pub atom_inside : (sight : Sight) (item atom : ℕ) (place : AtomPlace) (old symbols : List (List ℕ)) (way : List Turn) → way ≡ way_at (atoms_seen sight) atom → passes_item (place_seen sight).number (Some item) way ≡ true → atom < length sight.atoms.now → place ≡ slice_index_or sight.atoms.now atom place
-    → DoubtsSeen sight item atom (shown_part place.part) old symbols (arguments_of (shown_part place.part)) → (inner : List Flow) → ShowsFlows sight.table.now inner → symbols ≡ old ++ doubts_inside sight inner item atom
+    → AmbiguitiesSeen sight item atom (shown_part place.part) old symbols (arguments_of (shown_part place.part)) → (inner : List Flow) → ShowsFlows sight.table.now inner → symbols ≡ old ++ ambiguities_inside sight inner item atom
 atom_inside sight item atom place old symbols way is on within read seen inner shows = seen inner shows
     ∙ ap (λ (xs : List (List ℕ)). old ++ xs)
-    (ap (λ (xs : List (List ℕ)). doubtful sight item (filter (is_unserved (atoms_seen sight) inner (place_seen sight).number item atom) xs)) (sym (part_seen sight.atoms.now atom place within read))
-    ∙ sym (ap (λ (b : Bool). if b then doubtful sight item (needed_at sight inner atom item) else []) (ap (passes_item (place_seen sight).number (Some item)) (sym is) ∙ on)))
+    (ap (λ (xs : List (List ℕ)). ambiguous_of sight item (filter (is_unserved (atoms_seen sight) inner (place_seen sight).number item atom) xs)) (sym (part_seen sight.atoms.now atom place within read))
+    ∙ sym (ap (λ (b : Bool). if b then ambiguous_of sight item (needed_at sight inner atom item) else []) (ap (passes_item (place_seen sight).number (Some item)) (sym is) ∙ on)))
 
 -- ---- all atoms
 
-abbrev pub DoubtsBelow : Sight → ℕ → List (List ℕ) → ℕ → Type 0
-DoubtsBelow sight item symbols n = (inner : List Flow) → ShowsFlows sight.table.now inner → symbols ≡ doubts_below sight inner item n
+abbrev pub AmbiguitiesBelow : Sight → ℕ → List (List ℕ) → ℕ → Type 0
+AmbiguitiesBelow sight item symbols n = (inner : List Flow) → ShowsFlows sight.table.now inner → symbols ≡ ambiguities_below sight inner item n
 
-pub all_start : (sight : Sight) (item : ℕ) (symbols : List (List ℕ)) → symbols ≡ [] → DoubtsBelow sight item symbols 0
+pub all_start : (sight : Sight) (item : ℕ) (symbols : List (List ℕ)) → symbols ≡ [] → AmbiguitiesBelow sight item symbols 0
 all_start sight item symbols none inner shows = none
 
-pub all_more : (sight : Sight) (item : ℕ) (symbols new : List (List ℕ)) (atom : ℕ) → DoubtsBelow sight item symbols atom → ((inner : List Flow) → ShowsFlows sight.table.now inner → new ≡ symbols ++ doubts_inside sight inner item atom) → DoubtsBelow sight item new (atom + 1)
+pub all_more : (sight : Sight) (item : ℕ) (symbols new : List (List ℕ)) (atom : ℕ) → AmbiguitiesBelow sight item symbols atom → ((inner : List Flow) → ShowsFlows sight.table.now inner → new ≡ symbols ++ ambiguities_inside sight inner item atom) → AmbiguitiesBelow sight item new (atom + 1)
 all_more sight item symbols new atom before more inner shows = more inner shows
-    ∙ (ap (λ (xs : List (List ℕ)). xs ++ doubts_inside sight inner item atom) (before inner shows)
-    ∙ sym (ap (λ (n : ℕ). doubts_below sight inner item n) (add-one atom)
-    ∙ (ap (doubtful sight item) (flat_append (needs_of_atom (atoms_seen sight) inner (place_seen sight).number item) (which_below atom (is_inside (atoms_seen sight) (place_seen sight).number item)) (if is_inside (atoms_seen sight) (place_seen sight).number item atom then atom ∷ [] else []))
+    ∙ (ap (λ (xs : List (List ℕ)). xs ++ ambiguities_inside sight inner item atom) (before inner shows)
+    ∙ sym (ap (λ (n : ℕ). ambiguities_below sight inner item n) (add-one atom)
+    ∙ (ap (ambiguous_of sight item) (flat_append (needs_of_atom (atoms_seen sight) inner (place_seen sight).number item) (which_below atom (is_inside (atoms_seen sight) (place_seen sight).number item)) (if is_inside (atoms_seen sight) (place_seen sight).number item atom then atom ∷ [] else []))
     ∙ (filter_append (is_ambiguous (atoms_seen sight) (place_seen sight) item) (needed_below sight inner atom item) (flat_map (needs_of_atom (atoms_seen sight) inner (place_seen sight).number item) (if is_inside (atoms_seen sight) (place_seen sight).number item atom then atom ∷ [] else []))
-    ∙ ap (λ (xs : List (List ℕ)). doubts_below sight inner item atom ++ xs) (last (is_inside (atoms_seen sight) (place_seen sight).number item atom))))))
+    ∙ ap (λ (xs : List (List ℕ)). ambiguities_below sight inner item atom ++ xs) (last (is_inside (atoms_seen sight) (place_seen sight).number item atom))))))
   where
-    last : (b : Bool) → doubtful sight item (flat_map (needs_of_atom (atoms_seen sight) inner (place_seen sight).number item) (if b then atom ∷ [] else [])) ≡ (if b then doubtful sight item (needed_at sight inner atom item) else [])
-    last true = ap (doubtful sight item) (nothing_after (needs_of_atom (atoms_seen sight) inner (place_seen sight).number item atom))
+    last : (b : Bool) → ambiguous_of sight item (flat_map (needs_of_atom (atoms_seen sight) inner (place_seen sight).number item) (if b then atom ∷ [] else [])) ≡ (if b then ambiguous_of sight item (needed_at sight inner atom item) else [])
+    last true = ap (ambiguous_of sight item) (nothing_after (needs_of_atom (atoms_seen sight) inner (place_seen sight).number item atom))
     last false = refl
 
-pub all_done : (sight : Sight) (item : ℕ) (symbols : List (List ℕ)) (n : ℕ) → DoubtsBelow sight item symbols n → n ≡ length sight.atoms.now → (inner : List Flow) → ShowsFlows sight.table.now inner
+pub all_done : (sight : Sight) (item : ℕ) (symbols : List (List ℕ)) (n : ℕ) → AmbiguitiesBelow sight item symbols n → n ≡ length sight.atoms.now → (inner : List Flow) → ShowsFlows sight.table.now inner
     → symbols ≡ filter (is_ambiguous (atoms_seen sight) (place_seen sight) item) (needs (atoms_seen sight) inner (place_seen sight).number item)
-all_done sight item symbols n is whole inner shows = is inner shows ∙ ap (λ (k : ℕ). doubts_below sight inner item k) (whole ∙ sym (length_seen sight.atoms.now))
+all_done sight item symbols n is whole inner shows = is inner shows ∙ ap (λ (k : ℕ). ambiguities_below sight inner item k) (whole ∙ sym (length_seen sight.atoms.now))
 
 -- ---- the refusal
 

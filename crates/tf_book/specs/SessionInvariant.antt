@@ -80,7 +80,7 @@ HasCause plan past old now (Some halt.Memory) = Unit {0}
 
 module _ {K : Type 0} (state : K → DeskState) where
   -- from the start until now: the entries recorded since; the plan and the kind of book stay; and the facts
-  pub record Kept (start now : BookValue K) : Type 0 where
+  pub record SessionInvariant (start now : BookValue K) : Type 0 where
     pub entries : List Entry
     pub recorded : now.past ≡ entries ++ start.past
     pub plan : now.plan ≡ start.plan
@@ -99,7 +99,7 @@ module _ {K : Type 0} (state : K → DeskState) where
     pub plan : new.plan ≡ old.plan
     pub limit : new.limit ≡ old.limit
     pub unasked : IsUnasked (state old.journal.desk) (state new.journal.desk)
-    pub keeps : (start : BookValue K) → Kept start old → Kept start new
+    pub keeps : (start : BookValue K) → SessionInvariant start old → SessionInvariant start new
 
   -- a hand's turn: the same, but that in RUNNING the desk is asked, unless the book is halted
   pub record TakesTurn (old new : BookValue K) : Type 0 where
@@ -109,4 +109,4 @@ module _ {K : Type 0} (state : K → DeskState) where
     pub turns : (state old.journal.desk).turns ≤ (state new.journal.desk).turns
     pub turned : old.halt ≡ None → flow_state old ≡ flow.Running → Rises (state old.journal.desk).turns (state new.journal.desk).turns
     pub unasked : flow_state old ≢ flow.Running → IsUnasked (state old.journal.desk) (state new.journal.desk)
-    pub keeps : (start : BookValue K) → Kept start old → Kept start new
+    pub keeps : (start : BookValue K) → SessionInvariant start old → SessionInvariant start new

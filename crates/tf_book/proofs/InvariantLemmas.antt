@@ -22,7 +22,7 @@ use Rattle.tf_model.specs.Steps.{Step}
 use Rattle.tf_report.specs.Lines.{line}
 use Rattle.tf_book.specs.Book.{BookValue, outline, moment, bodies_of, book_size}
 use Rattle.tf_book.specs.Logging.{said_of, is_logged, Logged}
-use Rattle.tf_book.specs.Kept.{said, IsSpoken, LeavesEntries, IsPending, IsExact, IsFullFor, HasCause, Kept, Proceeds}
+use Rattle.tf_book.specs.SessionInvariant.{said, IsSpoken, LeavesEntries, IsPending, IsExact, IsFullFor, HasCause, SessionInvariant, Proceeds}
 use Rattle.tf_book.specs.Recording.{halt_after, past_after}
 use Rattle.tf_book.specs.Sound.{IsSoundBook}
 use Rattle.tf_book.specs.declared.faults.Halt.{Halt}
@@ -55,7 +55,7 @@ pub record Wrote {K : Type 0} (state : K → DeskState) (old : BookValue K) (j :
   pub logged : Logged state (entry_bytes e) (next_line old e) old.journal j r
 
 module _ {K : Type 0} (state : K → DeskState) where
-  module _ (start old : BookValue K) (j : Held K) (e : Entry) (sound : old.halt ≡ None) (k : Kept state start old) where
+  module _ (start old : BookValue K) (j : Held K) (e : Entry) (sound : old.halt ≡ None) (k : SessionInvariant state start old) where
     the_line : next_line old e ≡ said_of start.quiet (line (outline start) (length (k.entries ++ start.past) + 1) e)
     the_line = same_line old.quiet start.quiet old.plan start.plan old.past start.past k.entries e k.quiet k.plan k.recorded
 
@@ -121,7 +121,7 @@ module _ {K : Type 0} (state : K → DeskState) where
     recorded_kept : (halted : Option Halt) (r : Result (Unit {0}) Halt) → Wrote state old j e r → is_logged r ≡ true → j.title ≡ old.journal.title → j.volatile ≡ old.journal.volatile
         → IsPending halted [] → IsSpoken start.quiet (outline_of start.plan) start.past (state start.journal.desk).shown (e ∷ k.entries) halted (state j.desk).shown
         → HasCause start.plan (e ∷ old.past) (state start.journal.desk) (state j.desk) halted
-        → Kept state start (record old { past = e ∷ old.past; journal = j; halt = halted })
+        → SessionInvariant state start (record old { past = e ∷ old.past; journal = j; halt = halted })
     recorded_kept halted r w recorded titled volatile none text cause = record {
       entries = e ∷ k.entries;
       recorded = ap (λ (l : List Entry). e ∷ l) k.recorded;
@@ -139,7 +139,7 @@ module _ {K : Type 0} (state : K → DeskState) where
     halted_here : (halted : Option Halt) → ((pending : List Entry) → pending ≡ [] → IsPending halted pending)
         → IsSpoken start.quiet (outline_of start.plan) start.past (state start.journal.desk).shown k.entries halted (state old.journal.desk).shown
         → HasCause start.plan old.past (state start.journal.desk) (state old.journal.desk) halted
-        → Kept state start (record old { halt = halted })
+        → SessionInvariant state start (record old { halt = halted })
     halted_here halted few text cause = record {
       entries = k.entries;
       recorded = k.recorded;
@@ -153,7 +153,7 @@ module _ {K : Type 0} (state : K → DeskState) where
       cause = cause;
     }
 
-    by_result : (r : Result (Unit {0}) Halt) → Wrote state old j e r → Kept state start (record old { past = past_after e old.past r; journal = j; halt = halt_after r })
+    by_result : (r : Result (Unit {0}) Halt) → Wrote state old j e r → SessionInvariant state start (record old { past = past_after e old.past r; journal = j; halt = halt_after r })
     by_result (Ok u) w =
         recorded_kept None (Ok u) w refl (ap (λ (h : Held K). h.title) w.logged.journal) (ap (λ (h : Held K). h.volatile) w.logged.journal) refl
         (said_more start.quiet (outline start) start.past k.entries (state start.journal.desk).shown (state old.journal.desk).shown (state j.desk).shown e (next_line old e) the_line shown_then w.logged.text) tt
@@ -174,21 +174,21 @@ module _ {K : Type 0} (state : K → DeskState) where
       cause = rises_later (state start.journal.desk).disk_faults (state old.journal.desk).disk_faults (state j.desk).disk_faults k.continues.extends.disk_faults w.logged.cause;
     }
     by_result (Err (halt.Full size need)) w =
-        subst (λ (h : Held K). Kept state start (record old { journal = h; halt = Some (halt.Full size need) })) (sym w.logged.journal)
+        subst (λ (h : Held K). SessionInvariant state start (record old { journal = h; halt = Some (halt.Full size need) })) (sym w.logged.journal)
         (halted_here (Some (halt.Full size need)) (λ p none. none) shown_then (full_then (Err (halt.Full size need)) w size need w.logged.cause))
     by_result (Err halt.Memory) w = absurd w.logged.cause
 
   -- one entry that was to be recorded
   pub keeps_on : (start old new : BookValue K) (e : Entry) (r : Result (Unit {0}) Halt) → old.halt ≡ None → Wrote state old new.journal e r
-      → new ≡ record old { past = past_after e old.past r; journal = new.journal; halt = halt_after r } → Kept state start old → Kept state start new
-  keeps_on start old new e r sound w same k = subst (λ (b : BookValue K). Kept state start b) (sym same) (by_result start old new.journal e sound k r w)
+      → new ≡ record old { past = past_after e old.past r; journal = new.journal; halt = halt_after r } → SessionInvariant state start old → SessionInvariant state start new
+  keeps_on start old new e r sound w same k = subst (λ (b : BookValue K). SessionInvariant state start b) (sym same) (by_result start old new.journal e sound k r w)
 
   -- want of memory halts
-  pub keeps_halted : (start old : BookValue K) → old.halt ≡ None → Kept state start old → Kept state start (record old { halt = Some halt.Memory })
+  pub keeps_halted : (start old : BookValue K) → old.halt ≡ None → SessionInvariant state start old → SessionInvariant state start (record old { halt = Some halt.Memory })
   keeps_halted start old sound k = halted_here start old old.journal any_entry sound k (Some halt.Memory) (λ p none. none) (shown_then start old old.journal any_entry sound k) tt
 
   -- at the start
-  pub keeps_none : (start : BookValue K) → start.halt ≡ None → Kept state start start
+  pub keeps_none : (start : BookValue K) → start.halt ≡ None → SessionInvariant state start start
   keeps_none start sound = record {
     entries = [];
     recorded = refl;

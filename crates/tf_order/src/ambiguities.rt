@@ -10,7 +10,7 @@ ghost use Rattle.tf_numbers.specs.Numbers.{has_number};
 ghost use Rattle.tf_links.specs.Reach.{reached};
 ghost use Rattle.tf_flow.specs.Outline.{arguments_of};
 ghost use Rattle.tf_order.specs.Arranged.{ShowsFlows};
-ghost use Rattle.tf_order.specs.Doubts.{doubts_by, doubts_inside};
+ghost use Rattle.tf_order.specs.Ambiguities.{ambiguities_by, ambiguities_inside};
 ghost use Rattle.tf_model.specs.Compilation.{first_cycle};
 ghost use Rattle.tf_links.specs.Links.{AreLinks, AreReached};
 ghost use Rattle.tf_order.specs.Looked.{told_in};
@@ -28,7 +28,7 @@ use tf_values::{Memory, Name, Names};
 
 /// The refusal of an item: its first ambiguous symbol in byte order, and the first two items that provide
 /// it. There is none where no symbol is ambiguous.
-#[tactic(auto, using(crate::proofs::DoubtLemmas::no_symbol, crate::proofs::DoubtLemmas::too_few, crate::proofs::DoubtLemmas::two_named, crate::proofs::DoubtLemmas::number_read))]
+#[tactic(auto, using(crate::proofs::AmbiguityLemmas::no_symbol, crate::proofs::AmbiguityLemmas::too_few, crate::proofs::AmbiguityLemmas::two_named, crate::proofs::AmbiguityLemmas::number_read))]
 pub fn ambiguity(
     alloc: Global,
     sight: &Sight<'_, '_>,
@@ -56,7 +56,7 @@ pub fn ambiguity(
 }
 
 /// The name of an item.
-#[tactic(auto, using(crate::proofs::DoubtLemmas::name_seen))]
+#[tactic(auto, using(crate::proofs::AmbiguityLemmas::name_seen))]
 pub fn item_name(sight: &Sight<'_, '_>, item: usize) -> Name
     requires { item < count_seen sight.now }
     ensures { result ≡ model.item_name (place_seen sight.now) item }
@@ -66,7 +66,7 @@ pub fn item_name(sight: &Sight<'_, '_>, item: usize) -> Name
 
 /// The refusal of a flow for its links: the shortest cycle through the first item that lies on one. There
 /// is none where no item reaches itself.
-#[tactic(auto, using(crate::proofs::DoubtLemmas::cycle_found, crate::proofs::DoubtLemmas::no_cycle, crate::proofs::DoubtLemmas::none_back_more))]
+#[tactic(auto, using(crate::proofs::AmbiguityLemmas::cycle_found, crate::proofs::AmbiguityLemmas::no_cycle, crate::proofs::AmbiguityLemmas::none_back_more))]
 pub fn cycle_fault(
     alloc: Global,
     sight: &Sight<'_, '_>,
@@ -89,7 +89,7 @@ pub fn cycle_fault(
 }
 
 /// The names of items.
-#[tactic(auto, using(crate::proofs::DoubtLemmas::names_more, crate::proofs::ExplicitLemmas::number_within))]
+#[tactic(auto, using(crate::proofs::AmbiguityLemmas::names_more, crate::proofs::ExplicitLemmas::number_within))]
 fn names_of(alloc: Global, sight: &Sight<'_, '_>, items: &[usize]) -> Result<Vec<Name>, Memory>
     requires { (k : ℕ) → has_number items.now k ≡ true → k < count_seen sight.now }
     ensures { IfOk result (λ names. names.items ≡ map (model.item_name (place_seen sight.now)) items.now) }
@@ -102,7 +102,7 @@ fn names_of(alloc: Global, sight: &Sight<'_, '_>, items: &[usize]) -> Result<Vec
 }
 
 /// The symbols that an item needs and that two or more others provide.
-#[tactic(auto, using(crate::proofs::DoubtLemmas::all_start, crate::proofs::DoubtLemmas::all_more, crate::proofs::DoubtLemmas::all_done))]
+#[tactic(auto, using(crate::proofs::AmbiguityLemmas::all_start, crate::proofs::AmbiguityLemmas::all_more, crate::proofs::AmbiguityLemmas::all_done))]
 fn ambiguous_symbols(
     alloc: Global,
     sight: &Sight<'_, '_>,
@@ -123,7 +123,7 @@ fn ambiguous_symbols(
 }
 
 /// Adds the ambiguous symbols of an atom, where it stands in the item.
-#[tactic(auto, using(crate::proofs::DoubtLemmas::atom_outside, crate::proofs::DoubtLemmas::atom_inside, crate::proofs::SightLemmas::way_seen))]
+#[tactic(auto, using(crate::proofs::AmbiguityLemmas::atom_outside, crate::proofs::AmbiguityLemmas::atom_inside, crate::proofs::SightLemmas::way_seen))]
 fn add_of_atom(
     alloc: Global,
     sight: &Sight<'_, '_>,
@@ -136,7 +136,7 @@ fn add_of_atom(
     requires reach { HasReach sight.now reach.now }
     requires atom { atom < length sight.now.atoms.now }
     ensures { OnOk result ((inner : List Flow) → ShowsFlows sight.now.table.now inner
-        → symbols.new.items ≡ symbols.old.items ++ doubts_inside sight.now inner item atom) }
+        → symbols.new.items ≡ symbols.old.items ++ ambiguities_inside sight.now inner item atom) }
 {
     let place = &sight.atoms[atom];
     if !passes_item(place.way.turns(), sight.level.number, item) {
@@ -147,7 +147,7 @@ fn add_of_atom(
 }
 
 /// Adds the ambiguous symbols of an atom that stands in the item.
-#[tactic(auto, using(crate::proofs::DoubtLemmas::part_start, crate::proofs::DoubtLemmas::part_more, crate::proofs::DoubtLemmas::part_all))]
+#[tactic(auto, using(crate::proofs::AmbiguityLemmas::part_start, crate::proofs::AmbiguityLemmas::part_more, crate::proofs::AmbiguityLemmas::part_all))]
 fn add_of_part(
     alloc: Global,
     sight: &Sight<'_, '_>,
@@ -161,7 +161,7 @@ fn add_of_part(
     requires reach { HasReach sight.now reach.now }
     requires atom { atom < length sight.now.atoms.now }
     ensures { OnOk result ((inner : List Flow) → ShowsFlows sight.now.table.now inner
-        → symbols.new.items ≡ symbols.old.items ++ doubts_by sight.now inner item atom (shown_part part.entry)
+        → symbols.new.items ≡ symbols.old.items ++ ambiguities_by sight.now inner item atom (shown_part part.entry)
         (arguments_of (shown_part part.entry))) }
 {
     for arg in part.args() {
@@ -171,7 +171,7 @@ fn add_of_part(
 }
 
 /// Adds the symbol of an argument, where it is ambiguous.
-#[tactic(auto, using(crate::proofs::DoubtLemmas::argument_bound, crate::proofs::DoubtLemmas::argument_served, crate::proofs::DoubtLemmas::argument_clear, crate::proofs::DoubtLemmas::argument_doubtful))]
+#[tactic(auto, using(crate::proofs::AmbiguityLemmas::argument_bound, crate::proofs::AmbiguityLemmas::argument_served, crate::proofs::AmbiguityLemmas::argument_clear, crate::proofs::AmbiguityLemmas::argument_ambiguous))]
 fn add_of_argument(
     alloc: Global,
     sight: &Sight<'_, '_>,
@@ -186,7 +186,7 @@ fn add_of_argument(
     requires reach { HasReach sight.now reach.now }
     requires atom { atom < length sight.now.atoms.now }
     ensures { OnOk result ((inner : List Flow) → ShowsFlows sight.now.table.now inner
-        → symbols.new.items ≡ symbols.old.items ++ doubts_by sight.now inner item atom (shown_part part.entry)
+        → symbols.new.items ≡ symbols.old.items ++ ambiguities_by sight.now inner item atom (shown_part part.entry)
         (arg.now ∷ [])) }
 {
     if binds(part.injects(), &arg.symbol) {
@@ -231,7 +231,7 @@ fn lesser(name: Name, other: Option<Name>) -> Name
 }
 
 /// Whether the first bytes stand before the second.
-#[tactic(auto, using(crate::proofs::DoubtLemmas::less_apart, crate::proofs::DoubtLemmas::less_same, crate::proofs::DoubtLemmas::less_over))]
+#[tactic(auto, using(crate::proofs::AmbiguityLemmas::less_apart, crate::proofs::AmbiguityLemmas::less_same, crate::proofs::AmbiguityLemmas::less_over))]
 fn is_less(a: &[u8], b: &[u8]) -> bool
     ensures { result ≡ compiling.name_less a.now b.now }
 {

@@ -1,6 +1,6 @@
 use Rattle.std.proofs.Common.{◌≡◌, drop}
 use Rattle.tf_model.specs.Compilation.{least}
-use Rattle.tf_order.proofs.doubts.least.Given as goal
+use Rattle.tf_order.proofs.ambiguities.least.Given as goal
 
 abbrev pub invariant-loop-i : goal.invariant-loop-i
 invariant-loop-i l = l.best ≡ least (drop l.i l.names)
