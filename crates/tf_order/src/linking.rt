@@ -42,7 +42,8 @@ pub fn infer(
     ensures wide { OnOk result (length found.new.ambiguities ≡ words_for (count_seen sight.now)) }
     ensures links { OnOk result ((inner : List Flow) → ShowsFlows sight.now.table.now inner
         → LinksBy sight.now (model.needs (atoms_seen sight.now) inner
-        (place_seen sight.now).number) found.old.links found.old.ambiguities found.new.links found.new.ambiguities) }
+        (place_seen sight.now).number)
+        found.old.links found.old.ambiguities found.new.links found.new.ambiguities) }
 {
     for atom in 0..sight.atoms.len() {
         link_atom(alloc, sight, reach, atom, found)?;
@@ -68,7 +69,8 @@ fn link_atom(
     ensures wide { OnOk result (length found.new.ambiguities ≡ words_for (count_seen sight.now)) }
     ensures links { OnOk result ((inner : List Flow) → ShowsFlows sight.now.table.now inner
         → LinksBy sight.now (passed_at sight.now inner atom
-        (way_at (atoms_seen sight.now) atom)) found.old.links found.old.ambiguities found.new.links found.new.ambiguities) }
+        (way_at (atoms_seen sight.now) atom))
+        found.old.links found.old.ambiguities found.new.links found.new.ambiguities) }
 {
     for turn in sight.atoms[atom].way.turns() {
         link_turn(alloc, sight, reach, atom, *turn, found)?;
@@ -95,7 +97,8 @@ fn link_turn(
     ensures wide { OnOk result (length found.new.ambiguities ≡ words_for (count_seen sight.now)) }
     ensures links { OnOk result ((inner : List Flow) → ShowsFlows sight.now.table.now inner
         → LinksBy sight.now
-        (taken_at sight.now inner atom turn) found.old.links found.old.ambiguities found.new.links found.new.ambiguities) }
+        (taken_at sight.now inner atom turn)
+        found.old.links found.old.ambiguities found.new.links found.new.ambiguities) }
 {
     if turn.flow != sight.level.number {
         return Ok(());
@@ -162,7 +165,8 @@ fn link_argument(
     ensures wide { OnOk result (length found.new.ambiguities ≡ words_for (count_seen sight.now)) }
     ensures links { OnOk result ((inner : List Flow) → ShowsFlows sight.now.table.now inner
         → LinksBy sight.now (for_item item (needed_by sight.now inner item atom (shown_part part.entry)
-        (arg.now ∷ []))) found.old.links found.old.ambiguities found.new.links found.new.ambiguities) }
+        (arg.now ∷ [])))
+        found.old.links found.old.ambiguities found.new.links found.new.ambiguities) }
 {
     if binds(part.injects(), &arg.symbol) {
         return Ok(());
@@ -206,7 +210,8 @@ fn link_symbol(
     ensures count { OnOk result (found.new.links.count ≡ count_seen sight.now) }
     ensures wide { OnOk result (length found.new.ambiguities ≡ words_for (count_seen sight.now)) }
     ensures links { OnOk result (LinksBy sight.now (for_item item
-        (symbol.now ∷ [])) found.old.links found.old.ambiguities found.new.links found.new.ambiguities) }
+        (symbol.now ∷ []))
+        found.old.links found.old.ambiguities found.new.links found.new.ambiguities) }
 {
     let from = givers(alloc, sight, reach, item, symbol)?;
     if from.is_empty() {
