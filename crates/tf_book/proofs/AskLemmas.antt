@@ -17,6 +17,7 @@ use Rattle.tf_book.specs.Turns.{IsTurn, IsHaltedTurn, forcing, IsTurnAsked, IsHa
 use Rattle.tf_book.specs.declared.faults.Halt.{Halt}
 use Rattle.tf_book.specs.declared.faults.Halt.TheVariants as halt
 use Rattle.tf_book.specs.declared.turn.Turn.{Turn}
+use Rattle.tf_book.proofs.LogLemmas.{off_on, off_asks}
 use Rattle.tf_book.proofs.ForceLemmas.{forced_none}
 use Rattle.tf_book.proofs.ClosingLemmas.{sound_on}
 
@@ -38,6 +39,7 @@ module _ {K : Type 0} (state : K → DeskState) where
     quiet = k.quiet;
     volatile = k.volatile;
     continues = k.continues;
+    off_disk = k.off_disk;
     text = k.text;
     crash = k.crash;
     exact = k.exact;
@@ -53,6 +55,7 @@ module _ {K : Type 0} (state : K → DeskState) where
   sound_limit machine kept b l is = record {
     stands = is.stands;
     plan = is.plan;
+    limits = is.limits;
     kept_is = is.kept_is;
     short = is.short;
     forms = is.forms;
@@ -73,6 +76,7 @@ module _ {K : Type 0} (state : K → DeskState) where
     quiet = k.quiet;
     volatile = ap (λ (h : Held K). h.volatile) same ∙ k.volatile;
     continues = continues_on k.continues (asks_continues asks);
+    off_disk = λ volatile. off_on (k.off_disk volatile) (λ told. extends_told k.continues.extends told) (off_asks asks);
     text = subst (λ (s : Option (List ℕ)). IsSpoken start.quiet (outline_of start.plan) start.past (state start.journal.desk).shown k.entries b.halt s) (sym asks.shown) k.text;
     crash = λ was kept. (let d = k.crash was kept in let told = extends_told k.continues.extends was in record {
       pending = d.pending;

@@ -26,7 +26,7 @@ use Rattle.tf_book.specs.Closed.{IsClosing, LeavesClosing, LeavesClosed, Closed}
 use Rattle.tf_book.specs.Logging.{IsSaid}
 use Rattle.tf_book.specs.Recording.{halt_after}
 use Rattle.tf_book.specs.Sound.{IsSoundBook}
-use Rattle.tf_book.proofs.LogLemmas.{OutAlone, said_at_rest}
+use Rattle.tf_book.proofs.LogLemmas.{OutAlone, said_at_rest, off_on}
 use Rattle.tf_book.proofs.InvariantLemmas.{not_disk}
 use Rattle.tf_book.proofs.SpokenLemmas.{none_pending}
 use Rattle.tf_book.specs.declared.faults.Halt.{Halt}
@@ -62,6 +62,7 @@ pub record SaidClosing {K : Type 0} (state : K → DeskState) (plan : PlanValue)
   pub journal : now ≡ record old { desk = now.desk }
   pub continues : Continues (state old.desk) (state now.desk)
   pub files : IsTrue (state old.desk).tells → FilesStay (state old.desk) (state now.desk)
+  pub disk_faults : (state now.desk).disk_faults ≡ (state old.desk).disk_faults
   pub crash : IsOpen state old → Passes (LeavesClosing plan past (state old.desk).shown closing) (state old.desk) (state now.desk)
 
 module _ {K : Type 0} (state : K → DeskState) where
@@ -82,6 +83,7 @@ module _ {K : Type 0} (state : K → DeskState) where
     journal = refl;
     continues = continues_none;
     files = λ told. files_none;
+    disk_faults = refl;
     crash = λ opened. passes_none;
   }
 
@@ -96,6 +98,7 @@ module _ {K : Type 0} (state : K → DeskState) where
     quiet = k.quiet;
     volatile = ap (λ (h : Held K). h.volatile) s.journal ∙ k.volatile;
     continues = continues_on k.continues s.continues;
+    off_disk = λ volatile. off_on (k.off_disk volatile) told_then (record { files = λ told. (s.files told).files; disk_faults = s.disk_faults });
     text = subst (λ (b : Option (List ℕ)). IsClosing b closing halted (state j.desk).shown) shown_then s.text;
     crash = λ told kept. crash_then told kept;
     left_now = λ told kept before image is_left.
@@ -141,6 +144,7 @@ module _ {K : Type 0} (state : K → DeskState) where
   sound_on machine kept b j halted is sound same told files = record {
     stands = is.stands;
     plan = is.plan;
+    limits = is.limits;
     kept_is = is.kept_is;
     short = is.short;
     forms = is.forms;
@@ -169,6 +173,7 @@ module _ {K : Type 0} (state : K → DeskState) where
         journal = same;
         continues = says_continues says;
         files = says.files;
+        disk_faults = says.disk_faults;
         crash = λ opened. leaves_closing b.journal b.plan b.past closing is.title (is.ready opened) (says.crash opened.told);
       }))
       (subst (λ (x : BookValue K). SessionInvariant state start x) (sym is_old) k)

@@ -1,5 +1,5 @@
 -- What stays true of a book when one more entry was to be recorded.
-use Rattle.std.proofs.Common.{◌≡◌, ◌≢◌, ◌<◌, inl, inr, ⊎_elim, ℕ, ◌+◌, Bool, true, false, List, [], ◌∷◌, ◌++◌, length, Option, Some, None, refl, sym, ◌∙◌, ap, subst, arith}
+use Rattle.std.proofs.Common.{◌≡◌, ◌≢◌, ◌<◌, inl, inr, ⊎_elim, ℕ, ◌+◌, Bool, true, false, List, [], ◌∷◌, ◌++◌, length, Option, Some, None, refl, sym, ◌∙◌, ap, subst}
 use Rattle.std.specs.Prelude.{IsTrue, Result, Ok, Err}
 use Rattle.tf_desk.specs.Shown.{shown_with}
 use Rattle.tf_desk.specs.State.{DeskState, bytes_now, Passes, passes_none, passes_on}
@@ -18,15 +18,18 @@ use Rattle.tf_journal.specs.declared.title.Title.TheVariants.{Book as book_title
 use Rattle.tf_machine.specs.Machine.{MachineValue}
 use Rattle.tf_model.specs.History.{snapshot}
 use Rattle.tf_model.specs.Plan.{outline_of}
-use Rattle.tf_model.specs.Steps.{Step}
+use Rattle.tf_model.specs.Steps.{Step, LegalPast}
 use Rattle.tf_report.specs.Lines.{line}
 use Rattle.tf_book.specs.Book.{BookValue, outline, moment, bodies_of, book_size}
-use Rattle.tf_book.specs.Logging.{said_of, is_logged, Logged}
-use Rattle.tf_book.specs.SessionInvariant.{said, IsSpoken, LeavesEntries, IsPending, IsExact, IsFullFor, HasCause, SessionInvariant, Proceeds}
+use Rattle.tf_book.specs.Forms.{IsForm}
+use Rattle.tf_book.specs.Loading.{IsAcceptedPlan, CanRun, IsHistoryOf}
+use Rattle.tf_book.specs.Logging.{said_of, is_logged, StaysOffDisk, Logged}
+use Rattle.tf_book.specs.SessionInvariant.{said, IsSpoken, LeavesEntries, MayFollow, nothing_more, one_more, IsPending, IsExact, IsFullFor, HasCause, SessionInvariant, Proceeds}
 use Rattle.tf_book.specs.Recording.{halt_after, past_after}
 use Rattle.tf_book.specs.Sound.{IsSoundBook}
 use Rattle.tf_book.specs.declared.faults.Halt.{Halt}
 use Rattle.tf_book.specs.declared.faults.Halt.TheVariants as halt
+use Rattle.tf_book.proofs.LogLemmas.{off_none, off_on}
 use Rattle.tf_book.proofs.SpokenLemmas.{shown_none, same_line, said_more, said_cut, left_before, left_now, none_pending}
 
 -- a book that isn't halted wasn't halted by the disk
@@ -48,6 +51,7 @@ next_line old e = said_of old.quiet (line (outline old) (length old.past + 1) e)
 -- what is known of a call that was to record an entry: the old book's journal was ready, and what the append and the line did
 pub record Wrote {K : Type 0} (state : K → DeskState) (old : BookValue K) (j : Held K) (e : Entry) (r : Result (Unit {0}) Halt) : Type 0 where
   pub step : Step (outline old) (moment old) e
+  pub form : IsForm e
   pub title : old.journal.title ≡ book_title
   pub size : old.journal.size ≡ book_size old.plan old.past
   pub sound : old.journal.halted ≡ false
@@ -83,6 +87,7 @@ module _ {K : Type 0} (state : K → DeskState) where
     full_then r w size need is = record {
       entry = e;
       step = subst (λ (p : PlanValue). Step (outline_of p) (snapshot (outline_of p) old.past) e) k.plan w.step;
+      form = w.form;
       size_is = is.0 ∙ w.size ∙ ap (λ (p : PlanValue). book_size p old.past) k.plan;
       need_is = is.1;
       over = is.2;
@@ -108,6 +113,16 @@ module _ {K : Type 0} (state : K → DeskState) where
         (λ is. inr (titled ∙ is ∙ ap (λ (h : List (List ℕ)). bodies (h ++ entry_bytes e ∷ [])) bodies_then))
         ((w.logged.at_most opened (bodies_of old.plan old.past) (w.ready opened)).leaves image left_now)
 
+    -- where nothing is kept in a file the disk isn't touched
+    off_then : (r : Result (Unit {0}) Halt) → Wrote state old j e r → start.journal.volatile ≡ true → StaysOffDisk (state start.journal.desk) (state j.desk)
+    off_then r w volatile = off_on (k.off_disk volatile) (λ told. extends_told k.continues.extends told) (w.logged.off_disk (k.volatile ∙ volatile))
+
+    -- the entry may follow what was recorded since the start
+    follows_then : (r : Result (Unit {0}) Halt) → Wrote state old j e r → MayFollow start.plan (k.entries ++ start.past) (e ∷ [])
+    follows_then r w = one_more e
+        (subst (λ (p : List Entry). Step (outline start) (snapshot (outline start) p) e) k.recorded
+        (subst (λ (p : PlanValue). Step (outline_of p) (snapshot (outline_of p) old.past) e) k.plan w.step)) w.form
+
     -- an exact file stays exact
     exact_recorded : (r : Result (Unit {0}) Halt) → Wrote state old j e r → is_logged r ≡ true → IsTrue (state start.journal.desk).tells → start.journal.volatile ≡ false
         → IsExact (state start.journal.desk) start.plan start.past → IsExact (state j.desk) old.plan (e ∷ old.past)
@@ -119,7 +134,7 @@ module _ {K : Type 0} (state : K → DeskState) where
         ∙ ap (λ (t : Title). journal_bytes (title_of t) (bodies_of old.plan old.past ++ entry_bytes e ∷ [])) w.title
 
     recorded_kept : (halted : Option Halt) (r : Result (Unit {0}) Halt) → Wrote state old j e r → is_logged r ≡ true → j.title ≡ old.journal.title → j.volatile ≡ old.journal.volatile
-        → IsPending halted [] → IsSpoken start.quiet (outline_of start.plan) start.past (state start.journal.desk).shown (e ∷ k.entries) halted (state j.desk).shown
+        → IsPending start.plan ((e ∷ k.entries) ++ start.past) halted [] → IsSpoken start.quiet (outline_of start.plan) start.past (state start.journal.desk).shown (e ∷ k.entries) halted (state j.desk).shown
         → HasCause start.plan (e ∷ old.past) (state start.journal.desk) (state j.desk) halted
         → SessionInvariant state start (record old { past = e ∷ old.past; journal = j; halt = halted })
     recorded_kept halted r w recorded titled volatile none text cause = record {
@@ -129,6 +144,7 @@ module _ {K : Type 0} (state : K → DeskState) where
       quiet = k.quiet;
       volatile = volatile ∙ k.volatile;
       continues = continues_on k.continues w.logged.continues;
+      off_disk = off_then r w;
       text = text;
       crash = λ told kept. record { pending = []; few = none; passes = passes_then r w told kept; left = λ before image left_now. inl (leaves_recorded r w recorded titled told kept image left_now) };
       exact = λ told kept unhalted just. exact_recorded r w recorded told kept just;
@@ -136,7 +152,7 @@ module _ {K : Type 0} (state : K → DeskState) where
     }
 
     -- the book is halted with nothing recorded
-    halted_here : (halted : Option Halt) → ((pending : List Entry) → pending ≡ [] → IsPending halted pending)
+    halted_here : (halted : Option Halt) → ((pending : List Entry) → pending ≡ [] → IsPending start.plan (k.entries ++ start.past) halted pending)
         → IsSpoken start.quiet (outline_of start.plan) start.past (state start.journal.desk).shown k.entries halted (state old.journal.desk).shown
         → HasCause start.plan old.past (state start.journal.desk) (state old.journal.desk) halted
         → SessionInvariant state start (record old { halt = halted })
@@ -147,6 +163,7 @@ module _ {K : Type 0} (state : K → DeskState) where
       quiet = k.quiet;
       volatile = k.volatile;
       continues = k.continues;
+      off_disk = k.off_disk;
       text = text;
       crash = λ told kept. (let d = k.crash told kept in record { pending = d.pending; few = few d.pending (none_pending old.halt d.pending sound d.few); passes = d.passes; left = d.left });
       exact = k.exact;
@@ -168,8 +185,9 @@ module _ {K : Type 0} (state : K → DeskState) where
       quiet = k.quiet;
       volatile = ap (λ (h : Held K). h.volatile) w.logged.journal ∙ k.volatile;
       continues = continues_on k.continues w.logged.continues;
+      off_disk = off_then (Err halt.Disk) w;
       text = w.logged.text ∙ shown_then;
-      crash = λ told kept. record { pending = e ∷ []; few = omega arith; passes = passes_then (Err halt.Disk) w told kept; left = λ before. leaves_pending (Err halt.Disk) w told kept };
+      crash = λ told kept. record { pending = e ∷ []; few = follows_then (Err halt.Disk) w; passes = passes_then (Err halt.Disk) w told kept; left = λ before. leaves_pending (Err halt.Disk) w told kept };
       exact = λ told kept unhalted just. absurd (halted_apart j.halted (ap (λ (h : Held K). h.halted) w.logged.journal) unhalted);
       cause = rises_later (state start.journal.desk).disk_faults (state old.journal.desk).disk_faults (state j.desk).disk_faults k.continues.extends.disk_faults w.logged.cause;
     }
@@ -196,6 +214,7 @@ module _ {K : Type 0} (state : K → DeskState) where
     quiet = refl;
     volatile = refl;
     continues = continues_none;
+    off_disk = λ volatile. off_none;
     text = subst (λ (h : Option Halt). IsSpoken start.quiet (outline_of start.plan) start.past (state start.journal.desk).shown [] h (state start.journal.desk).shown) (sym sound)
         (sym (shown_none (state start.journal.desk).shown));
     crash = λ told kept. record { pending = []; few = none_few start.halt sound; passes = passes_none; left = λ before image left_now. inl (before image left_now) };
@@ -203,17 +222,17 @@ module _ {K : Type 0} (state : K → DeskState) where
     cause = subst (λ (h : Option Halt). HasCause start.plan start.past (state start.journal.desk) (state start.journal.desk) h) (sym sound) tt;
   }
     where
-      none_few : (halted : Option Halt) → halted ≡ None → IsPending halted []
+      none_few : (halted : Option Halt) → halted ≡ None → IsPending start.plan start.past halted []
       none_few None is = refl
       none_few (Some h) is = absurd (cc)
 
   -- the same of a book that is open, whose parts are as these
   pub book_proceeds : (old o : BookValue K) (p : PlanValue) (past : List Entry) (j : Held K) (h : Option Halt) (n : ℕ) (machine : MachineValue) (kept : List ℕ) (e : Entry) (r : Result (Unit {0}) Halt)
-      → o ≡ old → n ≡ length o.past → old.halt ≡ None → Step (outline old) (moment old) e → IsSoundBook state machine kept o
+      → o ≡ old → n ≡ length o.past → old.halt ≡ None → Step (outline old) (moment old) e → IsForm e → IsSoundBook state machine kept o
       → Logged state (entry_bytes e) (said_of o.quiet (line (outline o) (n + 1) e)) o.journal j r
       → p ≡ o.plan → past ≡ past_after e o.past r → h ≡ halt_after r
       → Proceeds state old (record { plan = p; past = past; journal = j; quiet = o.quiet; halt = h; limit = o.limit })
-  book_proceeds old o p past j h n machine kept e r same number sound step is logged plan_is past_is halt_is =
+  book_proceeds old o p past j h n machine kept e r same number sound step form is logged plan_is past_is halt_is =
       subst (λ (x : BookValue K). Proceeds state x next) same (record {
         plan = plan_is;
         limit = refl;
@@ -230,6 +249,7 @@ module _ {K : Type 0} (state : K → DeskState) where
       wrote : Wrote state o j e r
       wrote = record {
         step = subst (λ (b : BookValue K). Step (outline b) (moment b) e) (sym same) step;
+        form = form;
         title = is.title;
         size = is.size (is.sound (not_disk o.halt sound_here));
         sound = is.sound (not_disk o.halt sound_here);
@@ -265,3 +285,27 @@ sound_leaves {K} state machine kept b old same is told saved apart =
 
     here : LeavesBodies (title_of book_title) (state b.journal.desk) (bodies_of b.plan b.past)
     here image left_now = ap (λ (t : Title). recovered (title_of t) image) (sym is.title) ∙ rest_leaves state b.journal (bodies_of b.plan b.past) (is.ready opened) image left_now
+
+-- what came before is a history too
+pub history_before : {plan : PlanValue} (newer older : List Entry) → IsHistoryOf plan (newer ++ older) → IsHistoryOf plan older
+history_before [] older h = h
+history_before (e ∷ newer) older h =
+    history_before newer older (record { accepted = h.accepted; limits = h.limits; runs = h.runs; legal = h.legal.1; forms = h.forms.1 })
+
+-- and so is a history with an entry that may follow it
+pub history_on : {plan : PlanValue} {past pending : List Entry} → MayFollow plan past pending → IsHistoryOf plan past → IsHistoryOf plan (pending ++ past)
+history_on nothing_more h = h
+history_on (one_more e step form) h = record { accepted = h.accepted; limits = h.limits; runs = h.runs; legal = (step, h.legal); forms = (form, h.forms) }
+
+-- a book holds a history that a book may hold
+pub sound_history : {K : Type 0} (state : K → DeskState) (machine : MachineValue) (kept : List ℕ) (b old : BookValue K) → b ≡ old → IsSoundBook state machine kept b
+    → IsAcceptedPlan machine.plan → CanRun machine.plan → IsHistoryOf old.plan old.past
+sound_history {K} state machine kept b old same is accepted runs =
+    subst (λ (x : BookValue K). IsHistoryOf x.plan x.past) same
+    (record {
+      accepted = subst IsAcceptedPlan is.plan accepted;
+      limits = is.limits;
+      runs = subst CanRun is.plan runs;
+      legal = subst (λ (p : PlanValue). LegalPast (outline_of p) b.past) is.plan is.stands.legal;
+      forms = is.forms;
+    })

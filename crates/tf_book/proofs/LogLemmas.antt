@@ -1,16 +1,16 @@
 -- How an append and a line that is said after it go together.
 use Rattle.std.proofs.Common.{◌≡◌, inl, inr, ⊎_elim, ℕ, ◌+◌, ◌≤◌, Bool, List, [], length, Option, Some, None, refl, sym, ◌∙◌, ap, subst, append-nil, arith}
-use Rattle.std.specs.Prelude.{Result, Ok, Err, IfErr}
+use Rattle.std.specs.Prelude.{IsTrue, true, Result, Ok, Err, IfErr}
 use Rattle.tf_desk.specs.Counts.{Rises}
 use Rattle.tf_desk.specs.Shown.{shown_with, ShowsPrefix}
-use Rattle.tf_desk.specs.State.{DeskState, anything, FilesStay, GoesOn, Says, passes_none, passes_on}
+use Rattle.tf_desk.specs.State.{DeskState, anything, FilesStay, GoesOn, Says, Asks, passes_none, passes_on}
 use Rattle.tf_desk.proofs.StateLemmas.{files_none, bytes_stay, left_stays, on_disk_told, continues_on, goes_continues, says_continues}
 use Rattle.tf_journal.specs.Adding.{Adds, AddsAtMost, Grows}
 use Rattle.tf_journal.specs.Format.{SIZE_LIMIT, recovered, title_of}
 use Rattle.tf_journal.specs.Held.{Held}
 use Rattle.tf_journal.specs.Rest.{IsAtRest, AtRest, LeavesBeforeOrAfter}
 use Rattle.tf_journal.proofs.CrashLemmas.{at_rest_on}
-use Rattle.tf_book.specs.Logging.{said_of, journal_after, IsSaid, IsCaused, FailsToSay, LeavesLogged, Logged}
+use Rattle.tf_book.specs.Logging.{said_of, journal_after, IsSaid, IsCaused, FailsToSay, LeavesLogged, StaysOffDisk, Logged}
 use Rattle.tf_book.specs.declared.faults.Halt.{Halt}
 use Rattle.tf_book.specs.declared.faults.Halt.TheVariants as halt
 
@@ -36,6 +36,26 @@ says_none {old} = record {
 -- nothing more is a prefix of any bytes
 shows_none : (shown : Option (List ℕ)) (bytes text : List ℕ) → shown ≡ Some text → ShowsPrefix shown bytes (Some text)
 shows_none shown bytes text is = record { count = 0; prefix = sym is ∙ quiet_says shown }
+
+-- ---- off the disk
+
+pub off_none : {now : DeskState} → StaysOffDisk now now
+off_none = record { files = λ told. refl; disk_faults = refl }
+
+-- an equal desk
+pub off_same : {K : Type 0} (state : K → DeskState) (old new : K) → new ≡ old → StaysOffDisk (state old) (state new)
+off_same {K} state old new same = subst (λ (d : K). StaysOffDisk (state old) (state d)) (sym same) off_none
+
+-- one call after another
+pub off_on : {old mid new : DeskState} → StaysOffDisk old mid → (IsTrue old.tells → IsTrue mid.tells) → StaysOffDisk mid new → StaysOffDisk old new
+off_on a told b = record { files = λ is. b.files (told is) ∙ a.files is; disk_faults = b.disk_faults ∙ a.disk_faults }
+
+-- to say is off the disk, and so is to ask
+pub off_says : {bytes : List ℕ} {old new : DeskState} → Says bytes old new → StaysOffDisk old new
+off_says says = record { files = λ told. (says.files told).files; disk_faults = says.disk_faults }
+
+pub off_asks : {old new : DeskState} → Asks old new → StaysOffDisk old new
+off_asks asks = record { files = λ told. (asks.files told).files; disk_faults = asks.disk_faults }
 
 -- what an append may leave is what an append and its line may leave
 appended_logged : (title : List ℕ) (held : List (List ℕ)) (new line : List ℕ) (shown : Option (List ℕ)) (image text : List ℕ)
@@ -73,15 +93,17 @@ module _ {K : Type 0} (state : K → DeskState) where
   -- the body was added, and its line said after it, or cut
   pub said_logged : {body line : List ℕ} {old mid new : Held K} (r : Result (Unit {0}) Halt) → Grows body old mid → AtRest state old (Adds state body old mid)
       → AtRest state old (AddsAtMost state body old mid) → GoesOn anything (state old.desk) (state mid.desk)
+      → (old.volatile ≡ true → mid.desk ≡ old.desk)
       → new ≡ record mid { desk = new.desk } → IsSaid (state mid.desk).shown line (state new.desk).shown r → Says line (state mid.desk) (state new.desk)
       → OutAlone r (state mid.desk) (state new.desk) → Logged state body line old new r
-  said_logged {body} {line} {old} {mid} {new} r grows adds at_most goes same text says fails = record {
+  said_logged {body} {line} {old} {mid} {new} r grows adds at_most goes still same text says fails = record {
     journal = grown ∙ sym (said_after old new.desk (length body) (state mid.desk) (state new.desk) r fails);
     text = subst (λ (s : Option (List ℕ)). IsSaid s line (state new.desk).shown r) goes.on_disk.shown text;
     cause = said_caused (state old.desk) (state mid.desk) (state new.desk) old.size (length body) r goes.on_disk.out_faults fails;
     limit = λ on. subst (λ (n : ℕ). n ≤ SIZE_LIMIT) (sym (ap (λ (h : Held K). h.size) grown)) grows.fits;
     continues = continues_on (goes_continues goes) (says_continues says);
     unasked = record { asks = says.asks ∙ goes.on_disk.asks; turns = says.turns ∙ goes.on_disk.turns };
+    off_disk = λ volatile. off_on (off_same state old.desk mid.desk (still volatile)) (λ told. on_disk_told goes.on_disk told) (off_says says);
     records = λ on opened held rest. (let added = adds opened held rest in let stay = says.files (on_disk_told goes.on_disk opened.told) in record {
       rest = said_at_rest same stay added.rest;
       exact = λ just. bytes_stay stay ∙ added.exact just;

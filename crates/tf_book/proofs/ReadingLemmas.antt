@@ -6,7 +6,7 @@ use Rattle.tf_desk.specs.State.{DeskState}
 use Rattle.tf_flow.specs.Plan.{PlanValue}
 use Rattle.tf_states.specs.declared.record.Entry.{Entry}
 use Rattle.tf_entries.specs.Entries.{entry_bytes}
-use Rattle.tf_entries.specs.Plans.{plan_bytes}
+use Rattle.tf_entries.specs.Plans.{IsPlan, plan_bytes}
 use Rattle.tf_journal.specs.Format.{SIZE_LIMIT, OPEN, Recovered, bodies, record_of, prefix_of, title_of, length_bytes}
 use Rattle.tf_journal.specs.Held.{Held}
 use Rattle.tf_journal.specs.Reading.{IsNext, IsNoRefusal, HasBodies, OnlyReads}
@@ -20,13 +20,11 @@ use Rattle.tf_journal.proofs.ReadingLemmas.{bodies_stay, bodies_were, told_was, 
 use Rattle.tf_values.specs.declared.faults.MakeFault.{MakeFault}
 use Rattle.tf_values.specs.declared.faults.MakeFault.TheVariants as make_fault
 use Rattle.tf_machine.specs.Machine.{MachineValue, StandsFor}
-use Rattle.tf_model.specs.Plan.{outline_of}
-use Rattle.tf_model.specs.Steps.{LegalPast}
 use Rattle.tf_bound.specs.Short.{AreShort}
 use Rattle.tf_book.specs.Book.{bodies_of, book_size}
 use Rattle.tf_book.specs.Forms.{AreForms}
 use Rattle.tf_book.specs.History.{past_shown, framed_bodies}
-use Rattle.tf_book.specs.Loading.{CanRun, IsNoPlan, IsNoStep, first, later, IsBookRefusedAt, RefusesBookBodies, RefusesBook, bad_body}
+use Rattle.tf_book.specs.Loading.{IsAcceptedPlan, CanRun, IsHistoryOf, IsNoPlan, IsNoStep, first, later, IsBookRefusedAt, RefusesBookBodies, RefusesBook, bad_body}
 use Rattle.tf_book.specs.Reading.{HasReadEntry, IsReadBack, HasReadBook, HasReadWholeBook}
 use Rattle.tf_book.specs.declared.history.History.{History}
 
@@ -72,6 +70,8 @@ read_back_on before after old new bytes back one =
     let past = past_shown old.entries.items in
     let longer : past_shown new.entries.items ≡ one.entry ∷ past = one.past in
     record {
+      accepted = subst IsAcceptedPlan (sym one.plan) back.accepted;
+      limits = subst IsPlan (sym one.plan) back.limits;
       runs = subst CanRun (sym one.plan) back.runs;
       stands = subst (λ (p : List Entry). StandsFor after p) (sym longer) (one.stands past back.stands);
       kept = one.kept ∙ ap (λ (l : List ℕ). l ++ (length_bytes (length bytes) ++ bytes)) back.kept
@@ -79,6 +79,14 @@ read_back_on before after old new bytes back one =
       short = subst (λ (p : List Entry). AreShort p) (sym longer) (one.short, back.short);
       forms = subst (λ (p : List Entry). AreForms p) (sym longer) ((one.is_entry.hand, one.is_entry.payload), back.forms);
     }
+
+-- a plan that a book may hold has the empty history
+pub not_begun : (plan : PlanValue) → IsAcceptedPlan plan → IsPlan plan → CanRun plan → IsHistoryOf plan []
+not_begun plan accepted limits runs = record { accepted = accepted; limits = limits; runs = runs; legal = tt; forms = tt }
+
+-- what was read is a history that a book may hold
+pub history_read : (machine : MachineValue) (history : History) → IsReadBack machine history → IsHistoryOf machine.plan (past_shown history.entries.items)
+history_read machine history back = record { accepted = back.accepted; limits = back.limits; runs = back.runs; legal = back.stands.legal; forms = back.forms }
 
 module _ {K : Type 0} (state : K → DeskState) where
   abbrev Reads : Held K → Held K → Type 0
@@ -162,13 +170,10 @@ module _ {K : Type 0} (state : K → DeskState) where
         body = bytes;
         after = n.2.0;
         splits = n.1 ∙ ap (λ (r : List (List ℕ)). bodies_of machine.plan past ++ r) n.2.1;
-        cannot = later machine.plan past read.back.runs (legal machine.plan machine past refl read.back.stands) refl no_step;
+        cannot = later machine.plan past (history_read machine history read.back) refl no_step;
         offset_is = omega (arith, at, read.place_is, prefix_long machine.plan past);
         byte_is = its;
       }
-    where
-      legal : (plan : PlanValue) (m : MachineValue) (past : List Entry) → m.plan ≡ plan → StandsFor m past → LegalPast (outline_of plan) past
-      legal plan m past same stands = subst (λ (p : PlanValue). LegalPast (outline_of p) past) same stands.legal
 
   -- nothing is left
   pub read_out : (a b : Held K) (machine : MachineValue) (history : History) (place : ℕ) → Read a machine history place → Reads a b → a.title ≡ book_title
@@ -213,12 +218,14 @@ module _ {K : Type 0} (state : K → DeskState) where
       some (omega (arith, size, same, start))
 
   -- the plan was read
-  pub read_plan_first : (j : Held K) (machine : MachineValue) (history : History) (place : ℕ) (bytes : List ℕ) → plan_bytes machine.plan ≡ bytes → StandsFor machine [] → CanRun machine.plan
+  pub read_plan_first : (j : Held K) (machine : MachineValue) (history : History) (place : ℕ) (bytes : List ℕ) → plan_bytes machine.plan ≡ bytes → StandsFor machine [] → IsHistoryOf machine.plan []
       → past_shown history.entries.items ≡ [] → history.bodies.items ≡ [] → place ≡ 22 + length bytes
       → (IsTrue (state j.desk).tells → (held : List (List ℕ)) → HasBodies state j held → IsNext true held bytes) → Read j machine history place
-  read_plan_first j machine history place bytes form fresh runs none empty at leads = record {
+  read_plan_first j machine history place bytes form fresh good none empty at leads = record {
     back = record {
-      runs = runs;
+      accepted = good.accepted;
+      limits = good.limits;
+      runs = good.runs;
       stands = subst (λ (p : List Entry). StandsFor machine p) (sym none) fresh;
       kept = empty ∙ ap framed_bodies (sym none);
       short = subst (λ (p : List Entry). AreShort p) (sym none) tt;

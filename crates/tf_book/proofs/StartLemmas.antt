@@ -2,13 +2,14 @@
 use Rattle.std.proofs.Common.{◌≡◌, ℕ, List, [], Option, ap, ◌∙◌, sym, subst}
 use Rattle.tf_desk.specs.Counts.{Rises}
 use Rattle.tf_desk.specs.State.{DeskState, Passes}
-use Rattle.tf_entries.specs.Plans.{plan_bytes}
+use Rattle.tf_entries.specs.Plans.{IsPlan, plan_bytes}
 use Rattle.tf_flow.specs.Plan.{PlanValue}
 use Rattle.tf_journal.specs.Format.{title_of}
 use Rattle.tf_journal.specs.Held.{Held}
 use Rattle.tf_journal.specs.Rest.{LeavesBeforeOrAfter}
 use Rattle.tf_journal.specs.declared.title.Title.{Title}
 use Rattle.tf_journal.specs.declared.title.Title.TheVariants.{Book as book_title}
+use Rattle.tf_book.specs.Loading.{IsHistoryOf}
 use Rattle.tf_book.specs.Starting.{LeavesPlan, FailsToAppendPlan, FailsToStart}
 use Rattle.tf_book.specs.declared.faults.BookFault.{BookFault}
 use Rattle.tf_book.specs.declared.faults.BookFault.TheVariants as fault
@@ -21,10 +22,11 @@ begun_crash {old} {new} {shown} {t} {body} plan titled same passes =
     (subst (λ (x : Title). Passes (LeavesBeforeOrAfter (title_of x) [] body shown) old new) titled passes)
 
 -- the fault of the append is the start's, and the journal's desk comes back
-pub start_fails : {K : Type 0} (state : K → DeskState) (why : BookFault) (old new : Held K) (desk : K) → desk ≡ new.desk → FailsToAppendPlan state why old new
-    → FailsToStart state why old.desk desk
-start_fails {K} state fault.Disk old new desk back fails = subst (λ (d : K). Rises (state old.desk).disk_faults (state d).disk_faults) (sym back) fails
-start_fails {K} state fault.Memory old new desk back fails = back ∙ ap (λ (h : Held K). h.desk) fails
-start_fails state fault.Out old new desk back fails = absurd fails
-start_fails state (fault.Full size need) old new desk back fails = absurd fails
-start_fails state (fault.Halted cause) old new desk back fails = absurd fails
+pub start_fails : {K : Type 0} (state : K → DeskState) (plan : PlanValue) (why : BookFault) (old new : Held K) (desk : K) → desk ≡ new.desk → (IsPlan plan → IsHistoryOf plan [])
+    → FailsToAppendPlan state plan why old new → FailsToStart state plan why old.desk desk
+start_fails {K} state plan fault.Disk old new desk back good fails =
+    (good fails.0, subst (λ (d : K). Rises (state old.desk).disk_faults (state d).disk_faults) (sym back) fails.1)
+start_fails {K} state plan fault.Memory old new desk back good fails = back ∙ ap (λ (h : Held K). h.desk) fails
+start_fails state plan fault.Out old new desk back good fails = absurd fails
+start_fails state plan (fault.Full size need) old new desk back good fails = absurd fails
+start_fails state plan (fault.Halted cause) old new desk back good fails = absurd fails

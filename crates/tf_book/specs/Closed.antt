@@ -1,5 +1,5 @@
 -- What is true of a book that said its report: what was kept since the start of a session, and what was said last.
-use Rattle.std.specs.Prelude.{◌≡◌, ◌⊎◌, ℕ, Bool, false, IsTrue, List, ◌++◌, Option, Some, None}
+use Rattle.std.specs.Prelude.{◌≡◌, ◌⊎◌, ℕ, Bool, true, false, IsTrue, List, ◌++◌, Option, Some, None}
 use Rattle.tf_desk.specs.Crash.{Pairs}
 use Rattle.tf_desk.specs.Shown.{shown_with, ShowsPrefix}
 use Rattle.tf_desk.specs.State.{DeskState, Passes, Continues}
@@ -10,6 +10,7 @@ use Rattle.tf_journal.specs.Rest.{LeavesBodies}
 use Rattle.tf_journal.specs.declared.title.Title.TheVariants.{Book as book_title}
 use Rattle.tf_model.specs.Plan.{outline_of}
 use Rattle.tf_book.specs.Book.{BookValue, bodies_of}
+use Rattle.tf_book.specs.Logging.{StaysOffDisk}
 use Rattle.tf_book.specs.SessionInvariant.{said, LeavesEntries, IsExact, HasCause}
 use Rattle.tf_book.specs.declared.faults.Halt.{Halt}
 use Rattle.tf_book.specs.declared.faults.Halt.TheVariants as halt
@@ -43,6 +44,7 @@ module _ {K : Type 0} (state : K → DeskState) where
     pub quiet : now.quiet ≡ start.quiet
     pub volatile : now.journal.volatile ≡ start.journal.volatile
     pub continues : Continues (state start.journal.desk) (state now.journal.desk)
+    pub off_disk : start.journal.volatile ≡ true → StaysOffDisk (state start.journal.desk) (state now.journal.desk)
     pub text : IsClosing (shown_with (state start.journal.desk).shown (said start.quiet (outline_of start.plan) start.past entries)) closing now.halt
         (state now.journal.desk).shown
     pub crash : IsTrue (state start.journal.desk).tells → start.journal.volatile ≡ false

@@ -5,7 +5,7 @@ use Rattle.tf_journal.specs.Format.{Recovered, unborn, bodies}
 use Rattle.tf_journal.specs.Rest.{IsAtRest}
 use Rattle.tf_journal.specs.declared.title.Title.TheVariants.{Book as book_title}
 use Rattle.tf_book.specs.Book.{bodies_of}
-use Rattle.tf_book.specs.Loading.{CanRun}
+use Rattle.tf_book.specs.Loading.{IsHistoryOf}
 use Rattle.tf_book.specs.declared.book.loading.Loaded.{Loaded}
 use Rattle.tf_book.specs.declared.book.loading.Loaded.TheVariants as loaded
 
@@ -19,15 +19,15 @@ abbrev pub desk_after_load : {K F : Type 0} → Result (Loaded K) (K × F) → K
 desk_after_load (Ok found) = desk_of found
 desk_after_load (Err back) = back.0
 
--- the file has exactly the bodies of the book's plan, which can run, and of its history; or none; or it is unborn
+-- the file has exactly the bodies of the book's plan and of its history, which a book may hold; or none; or it is unborn
 abbrev pub IsLoaded : {K : Type 0} → Loaded K → Recovered → Type 0
-IsLoaded (loaded.Book book) file = (file ≡ bodies (bodies_of book.plan book.past)) × CanRun book.plan
+IsLoaded (loaded.Book book) file = (file ≡ bodies (bodies_of book.plan book.past)) × IsHistoryOf book.plan book.past
 IsLoaded (loaded.NoFlow journal) file = file ≡ bodies []
 IsLoaded (loaded.Unborn desk) file = file ≡ unborn
 
 -- the same of the bodies of a file that is a journal
 abbrev pub IsLoadedFrom : {K : Type 0} → Loaded K → List (List ℕ) → Type 0
-IsLoadedFrom (loaded.Book book) held = (held ≡ bodies_of book.plan book.past) × CanRun book.plan
+IsLoadedFrom (loaded.Book book) held = (held ≡ bodies_of book.plan book.past) × IsHistoryOf book.plan book.past
 IsLoadedFrom (loaded.NoFlow journal) held = held ≡ []
 IsLoadedFrom (loaded.Unborn desk) held = ⊥
 

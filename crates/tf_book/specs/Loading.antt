@@ -6,7 +6,7 @@ use Rattle.tf_flow.specs.Plan.{PlanValue}
 use Rattle.tf_flow.specs.Refusal.{first_refusal}
 use Rattle.tf_states.specs.declared.record.Entry.{Entry}
 use Rattle.tf_entries.specs.Entries.{IsEntry, entry_bytes}
-use Rattle.tf_entries.specs.Plans.{KeepsLimits, plan_bytes}
+use Rattle.tf_entries.specs.Plans.{IsPlan, KeepsLimits, plan_bytes}
 use Rattle.tf_journal.specs.Format.{prefix_of, Recovered, bodies, not_a_book, title_of}
 use Rattle.tf_journal.specs.declared.faults.LoadFault.{LoadFault}
 use Rattle.tf_journal.specs.declared.faults.LoadFault.TheVariants as load_fault
@@ -17,6 +17,7 @@ use Rattle.tf_model.specs.Plan.{outline_of}
 use Rattle.tf_model.specs.Scope.{missing_symbol}
 use Rattle.tf_model.specs.Steps.{Step, LegalPast}
 use Rattle.tf_book.specs.Book.{bodies_of}
+use Rattle.tf_book.specs.Forms.{AreForms}
 
 -- a plan within every limit and rule
 abbrev pub IsAcceptedPlan : PlanValue → Type 0
@@ -25,6 +26,15 @@ IsAcceptedPlan plan = first_refusal plan.root plan.store ≡ None
 -- a plan that can run: it compiles and lacks no symbol
 abbrev pub CanRun : PlanValue → Type 0
 CanRun plan = (compile_refusal plan ≡ None) × (missing_symbol (outline_of plan) ≡ None)
+
+-- a history that a book may hold: its plan is within every limit and rule, has a form that can be read again, and can run; and each
+-- entry has such a form, and may follow those before it
+pub record IsHistoryOf (plan : PlanValue) (past : List Entry) : Type 0 where
+  pub accepted : IsAcceptedPlan plan
+  pub limits : IsPlan plan
+  pub runs : CanRun plan
+  pub legal : LegalPast (outline_of plan) past
+  pub forms : AreForms past
 
 -- an entry of the plan: its numbers are in the plan's range
 abbrev pub IsEntryOf : PlanValue → Entry → Type 0
@@ -37,7 +47,7 @@ AreEntriesOf plan entries = AllByRecursion (IsEntryOf plan) entries
 -- the body is no plan's form, or that of a plan that can't run
 pub data IsNoPlan (body : List ℕ) : Type 0 where
   no_form : ((plan : PlanValue) → IsAcceptedPlan plan → KeepsLimits plan → plan_bytes plan ≢ body) → IsNoPlan body
-  no_run : (plan : PlanValue) → IsAcceptedPlan plan → plan_bytes plan ≡ body → ¬ (CanRun plan) → IsNoPlan body
+  no_run : (plan : PlanValue) → IsAcceptedPlan plan → IsPlan plan → plan_bytes plan ≡ body → ¬ (CanRun plan) → IsNoPlan body
 
 -- no entry of the plan that may follow the history has this form
 abbrev pub IsNoStep : PlanValue → List Entry → List ℕ → Type 0
@@ -46,8 +56,7 @@ IsNoStep plan past body = (e : Entry) → IsEntryOf plan e → Step (outline_of 
 -- the body can't come after these: as the first it is no plan, or after a plan and a history it is no entry that may follow
 pub data CannotFollow (before : List (List ℕ)) (body : List ℕ) : Type 0 where
   first : before ≡ [] → IsNoPlan body → CannotFollow before body
-  later : (plan : PlanValue) (past : List Entry) → CanRun plan → LegalPast (outline_of plan) past → before ≡ bodies_of plan past → IsNoStep plan past body
-      → CannotFollow before body
+  later : (plan : PlanValue) (past : List Entry) → IsHistoryOf plan past → before ≡ bodies_of plan past → IsNoStep plan past body → CannotFollow before body
 
 -- one of the bodies can't come after those before it; the offset and the byte are those of its first byte in the file
 pub record IsBookRefusedAt (held : List (List ℕ)) (offset : ℕ) (byte : Option ℕ) : Type 0 where

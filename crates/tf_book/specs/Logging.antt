@@ -1,5 +1,5 @@
 -- How one body is appended, and its line is said once no crash can take the body away.
-use Rattle.std.specs.Prelude.{◌≡◌, ◌⊎◌, ◌<◌, ◌≤◌, ℕ, ◌+◌, Bool, true, false, List, [], ◌∷◌, ◌++◌, Option, Some, Result, Ok, Err, if◌then◌else◌, length}
+use Rattle.std.specs.Prelude.{IsTrue, ◌≡◌, ◌⊎◌, ◌<◌, ◌≤◌, ℕ, ◌+◌, Bool, true, false, List, [], ◌∷◌, ◌++◌, Option, Some, Result, Ok, Err, if◌then◌else◌, length}
 use Rattle.tf_desk.specs.Counts.{Rises}
 use Rattle.tf_desk.specs.Crash.{Pairs}
 use Rattle.tf_desk.specs.Shown.{shown_with, ShowsPrefix}
@@ -64,6 +64,11 @@ pub record LogsAtMost {K : Type 0} (state : K → DeskState) (body line : List �
   pub crash : Passes (LeavesLogged (title_of old.title) held body line (state old.desk).shown) (state old.desk) (state new.desk)
   pub leaves : LeavesEither (title_of old.title) (state new.desk) held (held ++ body ∷ [])
 
+-- no file changed, and the disk had no fault
+pub record StaysOffDisk (old new : DeskState) : Type 0 where
+  pub files : IsTrue old.tells → new.content.files ≡ old.content.files
+  pub disk_faults : new.disk_faults ≡ old.disk_faults
+
 -- a body was to be appended, and its line said after it; nothing else was done
 pub record Logged {K : Type 0} (state : K → DeskState) (body line : List ℕ) (old new : Held K) (result : Result (Unit {0}) Halt) : Type 0 where
   pub journal : new ≡ journal_after old new.desk (length body) result
@@ -72,5 +77,6 @@ pub record Logged {K : Type 0} (state : K → DeskState) (body line : List ℕ) 
   pub limit : is_logged result ≡ true → new.size ≤ SIZE_LIMIT
   pub continues : Continues (state old.desk) (state new.desk)
   pub unasked : IsUnasked (state old.desk) (state new.desk)
+  pub off_disk : old.volatile ≡ true → StaysOffDisk (state old.desk) (state new.desk)
   pub records : is_logged result ≡ true → AtRest state old (Logs state body old new)
   pub at_most : AtRest state old (LogsAtMost state body line old new)

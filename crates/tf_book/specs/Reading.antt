@@ -4,6 +4,7 @@ use Rattle.tf_desk.specs.State.{DeskState}
 use Rattle.tf_states.specs.declared.record.Entry.{Entry}
 use Rattle.tf_bound.specs.Short.{IsShortEntry, AreShort}
 use Rattle.tf_entries.specs.Entries.{entry_bytes}
+use Rattle.tf_entries.specs.Plans.{IsPlan}
 use Rattle.tf_journal.specs.Format.{SIZE_LIMIT, length_bytes}
 use Rattle.tf_journal.specs.Held.{Held}
 use Rattle.tf_journal.specs.Reading.{HasBodies}
@@ -11,7 +12,7 @@ use Rattle.tf_machine.specs.Machine.{MachineValue, StandsFor}
 use Rattle.tf_book.specs.Book.{bodies_of, book_size}
 use Rattle.tf_book.specs.Forms.{AreForms}
 use Rattle.tf_book.specs.History.{past_shown, framed_bodies}
-use Rattle.tf_book.specs.Loading.{CanRun, IsEntryOf}
+use Rattle.tf_book.specs.Loading.{IsAcceptedPlan, CanRun, IsEntryOf}
 use Rattle.tf_book.specs.declared.history.History.{History}
 
 -- one entry more was read from these bytes: it follows the history for which the machine stood, and is kept behind it
@@ -28,6 +29,8 @@ pub record HasReadEntry (before after : MachineValue) (old new : History) (bytes
 
 -- what is known of a machine and the history that was read for it, the newest entry first
 pub record IsReadBack (machine : MachineValue) (history : History) : Type 0 where
+  pub accepted : IsAcceptedPlan machine.plan
+  pub limits : IsPlan machine.plan
   pub runs : CanRun machine.plan
   pub stands : StandsFor machine (past_shown history.entries.items)
   pub kept : history.bodies.items ≡ framed_bodies (past_shown history.entries.items)

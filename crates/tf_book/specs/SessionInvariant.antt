@@ -1,5 +1,5 @@
 -- What stays true of a book from the start of a session on: what is recorded since, what is shown, what a crash may leave, and why the book was halted.
-use Rattle.std.specs.Prelude.{◌≡◌, ◌≢◌, ◌<◌, ◌≤◌, ℕ, ◌+◌, Bool, false, IsTrue, List, [], ◌∷◌, ◌++◌, length, Option, Some, None}
+use Rattle.std.specs.Prelude.{◌≡◌, ◌≢◌, ◌<◌, ◌≤◌, ℕ, ◌+◌, Bool, true, false, IsTrue, List, [], ◌∷◌, ◌++◌, length, Option, Some, None}
 use Rattle.tf_desk.specs.Counts.{Rises}
 use Rattle.tf_desk.specs.Shown.{shown_with, ShowsPrefix}
 use Rattle.tf_desk.specs.State.{DeskState, bytes_now, Passes, Continues, IsUnasked}
@@ -15,7 +15,8 @@ use Rattle.tf_model.specs.Plan.{Outline, outline_of}
 use Rattle.tf_model.specs.Steps.{Step}
 use Rattle.tf_report.specs.Lines.{line}
 use Rattle.tf_book.specs.Book.{BookValue, flow_state, bodies_of, book_size}
-use Rattle.tf_book.specs.Logging.{said_of}
+use Rattle.tf_book.specs.Forms.{IsForm}
+use Rattle.tf_book.specs.Logging.{said_of, StaysOffDisk}
 use Rattle.tf_book.specs.declared.faults.Halt.{Halt}
 use Rattle.tf_book.specs.declared.faults.Halt.TheVariants as halt
 
@@ -44,16 +45,21 @@ pub record LeavesEntries (plan : PlanValue) (quiet : Bool) (before entries : Lis
   pub recovers : recovered (title_of book_title) image ≡ bodies (bodies_of plan (kept ++ before))
   pub spoken : ShowsPrefix shown (said quiet (outline_of plan) before kept) (Some text)
 
--- at most one entry is pending, and only after a fault of the disk in its append
-abbrev pub IsPending : Option Halt → List Entry → Type 0
-IsPending (Some halt.Disk) pending = length pending ≤ 1
-IsPending other pending = pending ≡ []
+-- nothing, or one entry that may follow the history and has a form that a book can read again
+pub data MayFollow (plan : PlanValue) (past : List Entry) : List Entry → Type 0 where
+  nothing_more : MayFollow plan past []
+  one_more : (e : Entry) → Step (outline_of plan) (snapshot (outline_of plan) past) e → IsForm e → MayFollow plan past (e ∷ [])
+
+-- at most one entry is pending behind the history, and only after a fault of the disk in its append
+abbrev pub IsPending : PlanValue → List Entry → Option Halt → List Entry → Type 0
+IsPending plan past (Some halt.Disk) pending = MayFollow plan past pending
+IsPending plan past other pending = pending ≡ []
 
 -- since the start a crash left no more than that; and where one at the start left just the bodies of the history then, one now leaves
 -- those of all entries, or the pending one with them
 pub record OutlastsCrash (plan : PlanValue) (quiet : Bool) (before entries : List Entry) (halted : Option Halt) (old now : DeskState) : Type 0 where
   pub pending : List Entry
-  pub few : IsPending halted pending
+  pub few : IsPending plan (entries ++ before) halted pending
   pub passes : Passes (LeavesEntries plan quiet before (pending ++ entries) old.shown) old now
   pub left : LeavesBodies (title_of book_title) old (bodies_of plan before)
       → LeavesEither (title_of book_title) now (bodies_of plan (entries ++ before)) (bodies_of plan ((pending ++ entries) ++ before))
@@ -62,10 +68,11 @@ pub record OutlastsCrash (plan : PlanValue) (quiet : Bool) (before entries : Lis
 abbrev pub IsExact : DeskState → PlanValue → List Entry → Type 0
 IsExact now plan past = bytes_now now ≡ journal_bytes (title_of book_title) (bodies_of plan past)
 
--- the record of some entry that may follow would have made the journal longer than its limit
+-- the record of some entry that may follow, with a form that a book can read again, would have made the journal longer than its limit
 pub record IsFullFor (plan : PlanValue) (past : List Entry) (size need : ℕ) : Type 0 where
   pub entry : Entry
   pub step : Step (outline_of plan) (snapshot (outline_of plan) past) entry
+  pub form : IsForm entry
   pub size_is : size ≡ book_size plan past
   pub need_is : need ≡ 5 + length (entry_bytes entry)
   pub over : SIZE_LIMIT < size + need
@@ -87,6 +94,7 @@ module _ {K : Type 0} (state : K → DeskState) where
     pub quiet : now.quiet ≡ start.quiet
     pub volatile : now.journal.volatile ≡ start.journal.volatile
     pub continues : Continues (state start.journal.desk) (state now.journal.desk)
+    pub off_disk : start.journal.volatile ≡ true → StaysOffDisk (state start.journal.desk) (state now.journal.desk)
     pub text : IsSpoken start.quiet (outline_of start.plan) start.past (state start.journal.desk).shown entries now.halt (state now.journal.desk).shown
     pub crash : IsTrue (state start.journal.desk).tells → start.journal.volatile ≡ false
         → OutlastsCrash start.plan start.quiet start.past entries now.halt (state start.journal.desk) (state now.journal.desk)

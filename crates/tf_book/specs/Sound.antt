@@ -2,6 +2,7 @@
 use Rattle.std.specs.Prelude.{◌≡◌, ◌≢◌, ◌≤◌, false, Some, ℕ, List}
 use Rattle.tf_desk.specs.State.{DeskState}
 use Rattle.tf_bound.specs.Short.{AreShort}
+use Rattle.tf_entries.specs.Plans.{IsPlan}
 use Rattle.tf_journal.specs.Format.{SIZE_LIMIT}
 use Rattle.tf_journal.specs.Rest.{IsAtRest, IsOpen}
 use Rattle.tf_journal.specs.declared.title.Title.TheVariants.{Book as book_title}
@@ -11,11 +12,12 @@ use Rattle.tf_book.specs.Forms.{AreForms}
 use Rattle.tf_book.specs.History.{framed_bodies}
 use Rattle.tf_book.specs.declared.faults.Halt.TheVariants as halt
 
--- the machine stands for the history, whose bodies are in memory; unless the book was halted by the disk, no append found a
+-- the machine stands for the history, whose bodies are in memory; the plan has a form that can be read again; unless the book was halted by the disk, no append found a
 -- disk fault, the journal has the plan and the history, and where the desk tells its content the file is as the last call left it
 pub record IsSoundBook {K : Type 0} (state : K → DeskState) (machine : MachineValue) (kept : List ℕ) (b : BookValue K) : Type 0 where
   pub stands : StandsFor machine b.past
   pub plan : machine.plan ≡ b.plan
+  pub limits : IsPlan b.plan
   pub kept_is : kept ≡ framed_bodies b.past
   pub short : AreShort b.past
   pub forms : AreForms b.past

@@ -8,8 +8,9 @@ use Rattle.tf_journal.specs.Held.{Held}
 use Rattle.tf_journal.specs.Rest.{IsAtRest, IsOpen, LeavesBeforeOrAfter}
 use Rattle.tf_journal.specs.declared.title.Title.TheVariants.{Book as book_title}
 use Rattle.tf_flow.specs.Plan.{PlanValue}
-use Rattle.tf_entries.specs.Plans.{plan_bytes}
+use Rattle.tf_entries.specs.Plans.{IsPlan, plan_bytes}
 use Rattle.tf_book.specs.Book.{BookValue, book_size}
+use Rattle.tf_book.specs.Loading.{IsHistoryOf}
 use Rattle.tf_book.specs.declared.faults.BookFault.{BookFault}
 use Rattle.tf_book.specs.declared.faults.BookFault.TheVariants as fault
 
@@ -33,14 +34,15 @@ pub record HasNoRecord {K : Type 0} (state : K → DeskState) (journal : Held K)
 abbrev pub LeavesPlan : PlanValue → Option (List ℕ) → Pairs
 LeavesPlan plan shown image text = LeavesBeforeOrAfter (title_of book_title) [] (plan_bytes plan) shown image text
 
--- why a plan's body wasn't appended: the disk failed, so that its count rose; or want of memory, and nothing was done
-abbrev pub FailsToAppendPlan : {K : Type 0} → (K → DeskState) → BookFault → Held K → Held K → Type 0
-FailsToAppendPlan state fault.Disk old new = Rises (state old.desk).disk_faults (state new.desk).disk_faults
-FailsToAppendPlan state fault.Memory old new = new ≡ old
-FailsToAppendPlan state other old new = ⊥
+-- why a plan's body wasn't appended: the disk failed, so that its count rose, and the plan has a form; or want of memory, and nothing
+-- was done
+abbrev pub FailsToAppendPlan : {K : Type 0} → (K → DeskState) → PlanValue → BookFault → Held K → Held K → Type 0
+FailsToAppendPlan state plan fault.Disk old new = IsPlan plan × Rises (state old.desk).disk_faults (state new.desk).disk_faults
+FailsToAppendPlan state plan fault.Memory old new = new ≡ old
+FailsToAppendPlan state plan other old new = ⊥
 
--- why no book started: the same of the desk that came back
-abbrev pub FailsToStart : {K : Type 0} → (K → DeskState) → BookFault → K → K → Type 0
-FailsToStart state fault.Disk old new = Rises (state old).disk_faults (state new).disk_faults
-FailsToStart state fault.Memory old new = new ≡ old
-FailsToStart state other old new = ⊥
+-- why no book started: the disk failed, where a crash may have left the plan, which a book may hold; or want of memory
+abbrev pub FailsToStart : {K : Type 0} → (K → DeskState) → PlanValue → BookFault → K → K → Type 0
+FailsToStart state plan fault.Disk old new = IsHistoryOf plan [] × Rises (state old).disk_faults (state new).disk_faults
+FailsToStart state plan fault.Memory old new = new ≡ old
+FailsToStart state plan other old new = ⊥

@@ -36,6 +36,7 @@ pub fn ask<K: Desk>(journal: &mut Journal<K>) -> bool
 
 /// Appends a body, and then says its line, unless the book is quiet. The line is said only where the append
 /// answered `Ok`, so that no crash takes away what was shown. It takes no memory.
+#[tactic(auto, using(crate::proofs::LogLemmas::off_same))]
 pub fn log<K: Desk>(
     journal: &mut Journal<K>,
     body: &[u8],

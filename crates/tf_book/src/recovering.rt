@@ -10,7 +10,7 @@ ghost use Rattle.tf_machine.specs.Answers.{IsBuildRefusal, IsBack};
 ghost use Rattle.tf_machine.specs.Machine.{StandsFor};
 ghost use Rattle.tf_machine.specs.declared.faults.ApplyFault.TheVariants.{NotAStep as refuses};
 ghost use Rattle.tf_book.specs.History.{HasAllRoom};
-ghost use Rattle.tf_book.specs.Loading.{CanRun, IsNoPlan, IsNoStep, RefusesBookBodies};
+ghost use Rattle.tf_book.specs.Loading.{IsHistoryOf, CanRun, IsNoPlan, IsNoStep, RefusesBookBodies};
 ghost use Rattle.tf_book.specs.Reading.{HasReadEntry, HasReadBook, HasReadWholeBook};
 
 use crate::history::History;
@@ -55,10 +55,11 @@ fn unapplied(fault: &ApplyFault) -> MakeFault
 
 /// The machine of the plan of these bytes, before a run. `No` comes where they are no plan's form, or where the
 /// plan doesn't compile or lacks a symbol.
+#[tactic(auto, using(crate::proofs::ReadingLemmas::not_begun))]
 fn read_plan(alloc: Global, body: &[u8]) -> Result<Machine, MakeFault>
     ensures form { IfOk result (λ machine. plan_bytes machine.plan ≡ body.now) }
     ensures fresh { IfOk result (λ machine. StandsFor machine []) }
-    ensures runs { IfOk result (λ machine. CanRun machine.plan) }
+    ensures history { IfOk result (λ machine. IsHistoryOf machine.plan []) }
     ensures refused { IsErrOf result MakeFault.No → IsNoPlan body.now }
 {
     let plan = decode_plan(alloc, body)?;
@@ -129,7 +130,7 @@ fn read_first<K: Desk>(
     requires some { journal.old.size ≢ 18 }
     ensures form { IfOk result (λ machine. plan_bytes machine.plan ≡ body.new.items) }
     ensures fresh { IfOk result (λ machine. StandsFor machine []) }
-    ensures runs { IfOk result (λ machine. CanRun machine.plan) }
+    ensures history { IfOk result (λ machine. IsHistoryOf machine.plan []) }
     ensures first { OnOk result (IsTrue (K.state journal.old.desk).tells → (held : List (List ℕ))
         → HasBodies K.state journal.old held → IsNext true held body.new.items) }
     ensures refused { IfErr result (λ fault. IsTrue (K.state journal.old.desk).tells → (held : List (List ℕ))

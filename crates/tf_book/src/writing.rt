@@ -8,6 +8,7 @@ ghost use Rattle.tf_machine.specs.Machine.{outline, shown, StandsFor};
 ghost use Rattle.tf_model.specs.Steps.{Step};
 ghost use Rattle.tf_report.specs.Lines.{line as line_of};
 ghost use Rattle.tf_model.specs.Plan.{outline_of};
+ghost use Rattle.tf_book.specs.Forms.{IsForm};
 ghost use Rattle.tf_book.specs.History.{past_shown, HasEntryRoom, HasAllRoom, HasDraftRoom, HasWriteRoom};
 ghost use Rattle.tf_book.specs.Logging.{said_of, is_logged, Logged};
 ghost use Rattle.tf_book.specs.Recording.{KeepsEntry, KeepsNothing};
@@ -113,6 +114,7 @@ pub fn write<K: Desk>(
     ensures unrecorded { is_logged result ≡ false
         → KeepsNothing machine.old machine.new history.old history.new }
     ensures short { IsShortEvent entry.what }
+    ensures form { IsForm entry }
 {
     event_is_short(&entry.what);
     let number = history.entries.len() as u64 + 1;

@@ -17,6 +17,7 @@ use Rattle.tf_journal.specs.Start.{file_of}
 use Rattle.tf_journal.specs.declared.title.Title.{Title}
 use Rattle.tf_journal.specs.declared.title.Title.TheVariants.{Book as book_title}
 use Rattle.tf_book.specs.Book.{BookValue, bodies_of}
+use Rattle.tf_book.specs.Loading.{IsHistoryOf}
 use Rattle.tf_book.specs.Starting.{LeavesPlan, FailsToStart}
 use Rattle.tf_book.specs.declared.faults.BookFault.{BookFault}
 use Rattle.tf_book.specs.declared.faults.BookFault.TheVariants as book_fault
@@ -33,14 +34,17 @@ use Rattle.tf_commands.proofs.PathLemmas.{ReadsPicked, reads_as, set_continues, 
 -- ---- what a crash leaves
 
 -- no flow is the empty history of every plan
-no_flow_finds : (plan : PlanValue) (found : Recovered) → HoldsNoFlow found → FindsHistory plan [] found
-no_flow_finds plan found none = inr (refl, none)
+no_flow_finds : {first : Recovered} (plan : PlanValue) (found : Recovered) → HoldsNoFlow first → HoldsNoFlow found → FindsHistory first plan [] found
+no_flow_finds plan found at_first none = inr (refl, at_first, none)
 
-birth_finds : (plan : PlanValue) (shown : Option (List ℕ)) (image text : List ℕ) → LeavesBirth (title_of book_title) shown image text → MayBegin plan shown image text
-birth_finds plan shown image text l = (no_flow_finds plan (book_in image) l.0, l.1)
+birth_finds : {first : Recovered} (plan : PlanValue) (shown : Option (List ℕ)) (image text : List ℕ) → HoldsNoFlow first → LeavesBirth (title_of book_title) shown image text
+    → MayBegin first plan shown image text
+birth_finds plan shown image text at_first l = (no_flow_finds plan (book_in image) at_first l.0, l.1)
 
-plan_finds : (plan : PlanValue) (shown : Option (List ℕ)) (image text : List ℕ) → LeavesPlan plan shown image text → MayBegin plan shown image text
-plan_finds plan shown image text l = (⊎_elim (λ none. no_flow_finds plan (book_in image) (inr none)) (λ is. inl is) l.0, l.1)
+plan_finds : {first : Recovered} (plan : PlanValue) (shown : Option (List ℕ)) (image text : List ℕ) → HoldsNoFlow first → IsHistoryOf plan [] → LeavesPlan plan shown image text
+    → MayBegin first plan shown image text
+plan_finds plan shown image text at_first good l =
+    (⊎_elim (λ none. no_flow_finds plan (book_in image) at_first (inr none)) (λ is. inl (record { is = is; history = good })) l.0, l.1)
 
 -- what holds of an answer that is Ok, and of one that is Err
 pub ok_on : {A B : Type 0} (r : Result A B) (has gives : A → Type 0) → IfOk r has → ((a : A) → has a → gives a) → IfOk r gives
@@ -65,20 +69,21 @@ created_so file (inl none) found = absurd (clash (sym none ∙ found))
 created_so file (inr same) found = same
 
 -- a start failed as a beginning does
-pub start_fails : {K : Type 0} (state : K → DeskState) (why : BookFault) (old new : K) → FailsToStart state why old new → FailsToBegin why (state old) (state new)
-start_fails state book_fault.Disk old new fails = record { one = inl refl; cause = λ is. fails }
-start_fails state book_fault.Memory old new fails = record { one = inr refl; cause = λ is. absurd (cc) }
-start_fails state book_fault.Out old new fails = absurd fails
-start_fails state (book_fault.Full size need) old new fails = absurd fails
-start_fails state (book_fault.Halted cause) old new fails = absurd fails
+pub start_fails : {K : Type 0} (state : K → DeskState) (plan : PlanValue) (why : BookFault) (old new : K) → FailsToStart state plan why old new → FailsToBegin why (state old) (state new)
+start_fails state plan book_fault.Disk old new fails = record { one = inl refl; cause = λ is. fails.1 }
+start_fails state plan book_fault.Memory old new fails = record { one = inr refl; cause = λ is. absurd (cc) }
+start_fails state plan book_fault.Out old new fails = absurd fails
+start_fails state plan (book_fault.Full size need) old new fails = absurd fails
+start_fails state plan (book_fault.Halted cause) old new fails = absurd fails
 
 -- so the disk had a fault, or nothing was done
-pub start_failed : {K : Type 0} (state : K → DeskState) (why : BookFault) (old new : K) → FailsToStart state why old new → Rises (state old).disk_faults (state new).disk_faults ⊎ (new ≡ old)
-start_failed state book_fault.Disk old new fails = inl fails
-start_failed state book_fault.Memory old new fails = inr fails
-start_failed state book_fault.Out old new fails = absurd fails
-start_failed state (book_fault.Full size need) old new fails = absurd fails
-start_failed state (book_fault.Halted cause) old new fails = absurd fails
+pub start_failed : {K : Type 0} (state : K → DeskState) (plan : PlanValue) (why : BookFault) (old new : K) → FailsToStart state plan why old new
+    → (IsHistoryOf plan [] × Rises (state old).disk_faults (state new).disk_faults) ⊎ (new ≡ old)
+start_failed state plan book_fault.Disk old new fails = inl fails
+start_failed state plan book_fault.Memory old new fails = inr fails
+start_failed state plan book_fault.Out old new fails = absurd fails
+start_failed state plan (book_fault.Full size need) old new fails = absurd fails
+start_failed state plan (book_fault.Halted cause) old new fails = absurd fails
 
 -- ---- a call more
 
@@ -97,26 +102,29 @@ pub opened_unbegun : {name : List ℕ} {entry now : DeskState} (plan : PlanValue
 opened_unbegun {name} {entry} plan o none = record {
   quiet = record { told = o.untouched.told; shown = o.untouched.quiet; disk = o.untouched.disk; out = o.untouched.out; set = o.set };
   blank = λ unrisen told. subst HoldsNoFlow (sym (ap book_in (o.untouched.file told))) (none told);
+  first = none;
   path = λ told. path_widens (o.untouched.path told)
-      (λ image text same. (no_flow_finds plan (book_in image) (subst HoldsNoFlow (sym (ap book_in same.0)) (none told)), same.1))
-      (λ image same. no_flow_finds plan (book_in image) (subst HoldsNoFlow (sym (ap book_in same)) (none told)));
+      (λ image text same. (no_flow_finds plan (book_in image) (none told) (subst HoldsNoFlow (sym (ap book_in same.0)) (none told)), same.1))
+      (λ image same. no_flow_finds plan (book_in image) (none told) (subst HoldsNoFlow (sym (ap book_in same)) (none told)));
 }
 
 -- after a call more a crash leaves no flow or the plan alone
 unbegun_on : {name : List ℕ} {entry mid now : DeskState} {wide during : Pairs} (plan : PlanValue) → Unbegun name entry plan mid
     → GoesOn wide mid now → (IsTrue mid.tells → Passes during mid now)
-    → ((image text : List ℕ) → during image text → MayBegin plan mid.shown image text)
-    → (IsTrue now.tells → (image : List ℕ) → MayLeaveNow now image → FindsHistory plan [] (book_in image))
+    → (HoldsNoFlow (book_at entry name) → (image text : List ℕ) → during image text → MayBegin (book_at entry name) plan mid.shown image text)
+    → (HoldsNoFlow (book_at entry name) → IsTrue now.tells → (image : List ℕ) → MayLeaveNow now image → FindsHistory (book_at entry name) plan [] (book_in image))
     → (¬ (Rises entry.disk_faults now.disk_faults) → IsTrue entry.tells → HoldsNoFlow (book_at now name))
     → Unbegun name entry plan now
 unbegun_on {name} {entry} {mid} {now} plan u call passes inside leaves blank = record {
   quiet = quiet_on u.quiet call;
   blank = blank;
+  first = u.first;
   path = λ told.
+      let at_first = u.first told in
       let told_mid : IsTrue mid.tells = subst IsTrue (sym u.quiet.told) told in
       path_continues (u.path told) (u.quiet.set told) (goes_continues call) told_mid (passes told_mid) (λ image text may. may)
-      (λ image text is. subst (λ (o : Option (List ℕ)). MayBegin plan o image text) u.quiet.shown (inside image text is))
-      (leaves (on_disk_told call.on_disk told_mid));
+      (λ image text is. subst (λ (o : Option (List ℕ)). MayBegin (book_at entry name) plan o image text) u.quiet.shown (inside at_first image text is))
+      (leaves at_first (on_disk_told call.on_disk told_mid));
 }
 
 -- what the desk's laws say of what a crash now leaves: it is one since each moment before, the shown text is told, and since this moment there is no other
@@ -144,8 +152,8 @@ pub created_unbegun : {name : List ℕ} {entry mid now : DeskState} {wide : Pair
     → LeavesNoFlow now → Unbegun name entry plan now
 created_unbegun {name} {entry} {mid} {now} plan u call passes laws none =
     unbegun_on plan u call passes
-    (λ image text is. birth_finds plan mid.shown image text is)
-    (λ told image is. no_flow_finds plan (book_in image) (none told image is))
+    (λ at_first image text is. birth_finds plan mid.shown image text at_first is)
+    (λ at_first told image is. no_flow_finds plan (book_in image) at_first (none told image is))
     (λ unrisen told.
     let told_now : IsTrue now.tells = on_disk_told call.on_disk (subst IsTrue (sym u.quiet.told) told) in
     let read = reads_as ((quiet_on u.quiet call).set told).picked laws told_now in
@@ -154,14 +162,14 @@ created_unbegun {name} {entry} {mid} {now} plan u call passes laws none =
 -- a start that met a fault of the disk
 pub failed_unbegun : {name : List ℕ} {entry mid now : DeskState} {wide : Pairs} (plan : PlanValue) → Unbegun name entry plan mid
     → GoesOn wide mid now → (IsTrue mid.tells → Passes (LeavesPlan plan mid.shown) mid now) → FollowsLaws mid now
-    → LeavesNoFlow mid → Rises mid.disk_faults now.disk_faults
+    → LeavesNoFlow mid → IsHistoryOf plan [] → Rises mid.disk_faults now.disk_faults
     → Unbegun name entry plan now
-failed_unbegun {name} {entry} {mid} {now} plan u call passes laws none rose =
+failed_unbegun {name} {entry} {mid} {now} plan u call passes laws none good rose =
     unbegun_on plan u call passes
-    (λ image text is. plan_finds plan mid.shown image text is)
-    (λ told image is.
-    ⊎_elim (λ before. no_flow_finds plan (book_in image) (none (subst IsTrue call.on_disk.tells told) image before))
-    (λ inside. (plan_finds plan mid.shown image inside.0 inside.1).0)
+    (λ at_first image text is. plan_finds plan mid.shown image text at_first good is)
+    (λ at_first told image is.
+    ⊎_elim (λ before. no_flow_finds plan (book_in image) at_first (none (subst IsTrue call.on_disk.tells told) image before))
+    (λ inside. (plan_finds plan mid.shown image inside.0 at_first good inside.1).0)
     (left_by call passes laws told image is))
     (λ unrisen told. absurd (unrisen (omega (arith, u.quiet.disk, rose))))
 
@@ -186,8 +194,9 @@ module _ {K : Type 0} (state : K → DeskState) where
       → GoesOn wide mid (book_desk state book) → (IsTrue mid.tells → Passes (LeavesPlan plan mid.shown) mid (book_desk state book))
       → (IsTrue (book_desk state book).tells → LeavesBodies (title_of book_title) (book_desk state book) (bodies_of book.plan book.past))
       → (IsTrue mid.tells → IsFreshFile (file_of entry name) → length (file_of entry name) ≤ 18 → bytes_now (book_desk state book) ≡ journal_bytes (title_of book_title) (bodies_of plan []))
+      → IsHistoryOf book.plan book.past
       → Begins state name entry plan book
-  begins_on {name} {entry} {mid} plan book u plan_is past_is sound kept call passes rest exact = record {
+  begins_on {name} {entry} {mid} plan book u plan_is past_is sound kept call passes rest exact history = record {
     plan_is = plan_is;
     past_is = past_is;
     sound = sound;
@@ -196,14 +205,20 @@ module _ {K : Type 0} (state : K → DeskState) where
     path = λ told.
         let here : IsTrue mid.tells = told_mid told in
         path_continues (u.path told) (u.quiet.set told) (goes_continues call) here (passes here) (λ image text may. may)
-        (λ image text is. subst (λ (o : Option (List ℕ)). MayBegin plan o image text) u.quiet.shown (plan_finds plan mid.shown image text is))
-        (λ image is. rest (on_disk_told call.on_disk here) image is
-        ∙ ap (λ (past : List Entry). bodies (bodies_of book.plan past)) past_is ∙ ap (λ (p : PlanValue). bodies (bodies_of p [])) plan_is);
+        (λ image text is. subst (λ (o : Option (List ℕ)). MayBegin (book_at entry name) plan o image text) u.quiet.shown (plan_finds plan mid.shown image text (u.first told) good is))
+        (λ image is. record {
+          is = rest (on_disk_told call.on_disk here) image is
+              ∙ ap (λ (past : List Entry). bodies (bodies_of book.plan past)) past_is ∙ ap (λ (p : PlanValue). bodies (bodies_of p [])) plan_is;
+          history = good;
+        });
     exact = λ told fresh short. exact (told_mid told) fresh short;
   }
     where
       told_mid : IsTrue entry.tells → IsTrue mid.tells
       told_mid told = subst IsTrue (sym u.quiet.told) told
+
+      good : IsHistoryOf plan []
+      good = subst (λ (p : PlanValue). IsHistoryOf p []) plan_is (subst (IsHistoryOf book.plan) past_is history)
 
   -- a journal of a book that was made, or found without a record
   pub recordless : (journal : Held K) → journal.title ≡ book_title → journal.size ≡ 18 → journal.halted ≡ false → journal.volatile ≡ false

@@ -1,5 +1,5 @@
 -- What a status tells of the way that a command went.
-use Rattle.std.proofs.Common.{◌≡◌, ◌⊎◌, ℕ, ◌≤◌, List, Option, Some, None, true, false, inl, inr, refl, arith, ⊎_elim}
+use Rattle.std.proofs.Common.{◌≡◌, ◌⊎◌, ℕ, ◌≤◌, List, Option, Some, None, true, false, inl, inr, refl, subst, arith, ⊎_elim}
 use Rattle.std.specs.Prelude.{is_some}
 use Rattle.tf_desk.specs.Counts.{Rises}
 use Rattle.tf_desk.specs.State.{DeskState}
@@ -12,7 +12,7 @@ use Rattle.tf_words.specs.declared.asked.Asked.TheVariants as asked
 use Rattle.tf_board.specs.Answers.{board_of}
 use Rattle.tf_board.specs.Does.{IsBoardStatus}
 use Rattle.tf_board.proofs.DoesLemmas.{does_status}
-use Rattle.tf_commands.specs.Asking.{file_asked_for, asked_for}
+use Rattle.tf_commands.specs.Asking.{file_asked_for, asked_for, IsWork}
 use Rattle.tf_commands.specs.Causes.{Counts, HasEachCause, HasCausesOr, counts_of}
 use Rattle.tf_commands.specs.Course as course
 use Rattle.tf_commands.specs.Course.{Course, Obeys, source_so, IsRefused, IsBoardRefused}
@@ -136,6 +136,10 @@ module _ {K : Type 0} (state : K → DeskState) where
       on_board gives asked_so words command files hired after_hiring entry now status asks (status_of_board command files status (asked_status gives asked_so command files hired after_hiring entry now status obeys) fifteen) obeys fifteen
 
 -- ---- causes
+
+-- the command that the words are asks for a worker
+pub works_so : (words : List (List ℕ)) (other command : Asked) → asked_for words ≡ Some other → IsWork other → asked_for words ≡ Some command → IsWork command
+works_so words other command is works asks = let same : other ≡ command = cc in subst IsWork same works
 
 -- a cause that may be the door's is another's where the door had no fault
 pub alone : (unlistened : Type 0) (status : ℕ) (before after : Counts) → ¬ unlistened → HasCausesOr unlistened status before after → HasEachCause status before after

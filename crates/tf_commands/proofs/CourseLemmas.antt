@@ -1,8 +1,9 @@
 -- The way that a command went, put together from its parts.
-use Rattle.std.proofs.Common.{◌≡◌, ℕ, List, Option, Some, None, Bool, true, false, refl, sym, inl, inr, subst}
+use Rattle.std.proofs.Common.{◌≡◌, ◌≤◌, ℕ, length, List, Option, Some, None, Bool, true, false, refl, sym, inl, inr, subst}
 use Rattle.std.specs.Prelude.{Result, Ok, Err, IfErr, option_and_then, if◌then◌else◌}
 use Rattle.tf_flow.specs.Written.{PlanTree, plan_tree}
 use Rattle.tf_ports.specs.Contents.{Contents, GivesBytes}
+use Rattle.tf_ports.specs.declared.reading.TheConstants.{SOURCE_LIMIT}
 use Rattle.tf_desk.specs.State.{DeskState}
 use Rattle.tf_ports.specs.declared.crews.Want.{Want}
 use Rattle.tf_actions.specs.declared.orders.Order.{Order}
@@ -40,10 +41,10 @@ refused_bytes source bytes untouched (reason.Compile fault) before after status 
 refused_bytes source bytes untouched (reason.Scope fault) before after status still none out closes = refused_by source bytes untouched (reason.Scope fault) before after status still none (closes refl)
 
 -- the bytes of a file that give no plan
-pub closed_file : {T : Type 0} (came : Result T ℕ) (files : Contents) (source : Source) (bytes : List ℕ) (untouched : Type 0) (before after : Option (List ℕ)) → GivesBytes files source.file bytes
+pub closed_file : {T : Type 0} (came : Result T ℕ) (files : Contents) (source : Source) (bytes : List ℕ) (untouched : Type 0) (before after : Option (List ℕ)) → GivesBytes files source.file bytes → length bytes ≤ SOURCE_LIMIT
     → IfErr came (BytesRead source bytes untouched Undone before after) → IfErr came (FileRead files source untouched Undone before after)
-closed_file (Ok made) files source bytes untouched before after given closed = tt
-closed_file (Err status) files source bytes untouched before after given closed = read bytes given closed
+closed_file (Ok made) files source bytes untouched before after given short closed = tt
+closed_file (Err status) files source bytes untouched before after given short closed = read bytes given short closed
 
 -- ---- a file
 
@@ -59,8 +60,8 @@ pub undone_file : (files : Contents) (source : Source) (untouched quiet : Type 0
 undone_file files source untouched quiet does before after status so (unfinished still is same) = unfinished (so still) is same
 undone_file files source untouched quiet does before after status so (unread still closes) = unread (so still) closes
 undone_file files source untouched quiet does before after status so (too_long still passes closes) = too_long (so still) passes closes
-undone_file files source untouched quiet does before after status so (read bytes given closed) =
-    read bytes given (undone_bytes source bytes untouched quiet does before after status so closed)
+undone_file files source untouched quiet does before after status so (read bytes given short closed) =
+    read bytes given short (undone_bytes source bytes untouched quiet does before after status so closed)
 
 quiet_bytes : (source : Source) (bytes : List ℕ) (untouched quiet : Type 0) (does : PlanTree → ℕ → Type 0) (before after : Option (List ℕ)) (status : ℕ) → (untouched → quiet)
     → BytesRead source bytes untouched does before after status → BytesRead source bytes quiet does before after status
@@ -74,13 +75,13 @@ pub quiet_file : (files : Contents) (source : Source) (untouched quiet : Type 0)
 quiet_file files source untouched quiet does before after status so (unfinished still is same) = unfinished (so still) is same
 quiet_file files source untouched quiet does before after status so (unread still closes) = unread (so still) closes
 quiet_file files source untouched quiet does before after status so (too_long still passes closes) = too_long (so still) passes closes
-quiet_file files source untouched quiet does before after status so (read bytes given came) =
-    read bytes given (quiet_bytes source bytes untouched quiet does before after status so came)
+quiet_file files source untouched quiet does before after status so (read bytes given short came) =
+    read bytes given short (quiet_bytes source bytes untouched quiet does before after status so came)
 
 -- the plan of a machine is dealt with
 pub done_file : (files : Contents) (source : Source) (quiet : Type 0) (m : MachineValue) (does : PlanTree → ℕ → Type 0) (before after : Option (List ℕ)) (status : ℕ)
     → Opened files source m → does (plan_tree m.plan) status → FileRead files source quiet does before after status
-done_file files source quiet m does before after status opened did = read opened.bytes opened.given (done (plan_tree m.plan) opened.plan did)
+done_file files source quiet m does before after status opened did = read opened.bytes opened.given opened.short (done (plan_tree m.plan) opened.plan did)
 
 -- ---- what the words ask for
 

@@ -34,7 +34,7 @@ file_status files source untouched does before after status ends (course.unread 
     ⊎_elim (λ is. not_read is) (λ is. done_so (is_unsaid is)) (closes_status before after _ 3 status closes)
 file_status files source untouched does before after status ends (course.too_long still passes closes) =
     ⊎_elim (λ is. not_short is passes) (λ is. done_so (is_unsaid is)) (closes_status before after _ 4 status closes)
-file_status files source untouched does before after status ends (course.read bytes given came) = bytes_status files source bytes untouched does before after status ends given came
+file_status files source untouched does before after status ends (course.read bytes given short came) = bytes_status files source bytes untouched does before after status ends given came
 
 -- what gives a plan is dealt with, unless memory ran out, or a fault came
 pub accepted_done : (files : Contents) (source : Source) (untouched : Type 0) (does : PlanTree → ℕ → Type 0) (before after : Option (List ℕ)) (status : ℕ) → IsAccepted source files → ¬ (status ≡ 3) → ¬ (status ≡ 7)
@@ -55,7 +55,7 @@ accepted_done files source untouched does before after status accepted readable 
             let under : Some pass.0 ≡ Some a.bytes = sym pass.1 ∙ ap (λ (t : List ℕ → Option (List ℕ)). t src.file) same ∙ a.under in
             let bytes : pass.0 ≡ a.bytes = cc in
             omega (arith, pass.2, ap length bytes, a.short)
-accepted_done files source untouched does before after status accepted readable sayable (course.read bytes given came) = by came
+accepted_done files source untouched does before after status accepted readable sayable (course.read bytes given short came) = by came
   where
     by : BytesRead source bytes untouched does before after status → (status ≡ 9) ⊎ ((plan : PlanTree) × does plan status)
     by (course.exhausted still is same) = inl is

@@ -30,5 +30,5 @@ bodies_some plan (e ∷ past) is = never (bodies_of plan past) _ is
     never (first ∷ before) body none = cc
 
 pub flow_held : (found : Recovered) (plan : PlanValue) (past : List Entry) → HoldsNoFlow found → HoldsHistory plan past found → ⊥
-flow_held found plan past (inl is) held = let both : unborn ≡ bodies (bodies_of plan past) = sym is ∙ held in cc
-flow_held found plan past (inr is) held = let both : bodies [] ≡ bodies (bodies_of plan past) = sym is ∙ held in bodies_some plan past (let same : bodies_of plan past ≡ [] = cc in same)
+flow_held found plan past (inl is) held = let both : unborn ≡ bodies (bodies_of plan past) = sym is ∙ held.is in cc
+flow_held found plan past (inr is) held = let both : bodies [] ≡ bodies (bodies_of plan past) = sym is ∙ held.is in bodies_some plan past (let same : bodies_of plan past ≡ [] = cc in same)

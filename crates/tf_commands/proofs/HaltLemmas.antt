@@ -1,5 +1,5 @@
 -- What is promised where a book was halted, or nothing more is said: what is shown, what a crash leaves, and the causes.
-use Rattle.std.proofs.Common.{◌≡◌, ◌≢◌, ◌⊎◌, ℕ, List, [], ◌++◌, length, Bool, false, Option, Some, None, refl, sym, ap, ◌∙◌, subst, inl, inr, ⊎_elim, append_assoc, arith}
+use Rattle.std.proofs.Common.{◌≡◌, ◌≢◌, ◌⊎◌, ℕ, List, [], ◌++◌, Bool, false, Option, Some, None, refl, sym, ap, ◌∙◌, subst, inl, inr, ⊎_elim, append_assoc, arith}
 use Rattle.std.specs.Prelude.{IsTrue}
 use Rattle.tf_desk.proofs.StateLemmas.{bytes_stay, left_stays, files_none, extends_told, passes_then}
 use Rattle.tf_desk.specs.Counts.{Rises}
@@ -8,17 +8,19 @@ use Rattle.tf_desk.specs.State.{DeskState, Passes, Says, SaysPrefix, nothing_lef
 use Rattle.tf_flow.specs.Plan.{PlanValue}
 use Rattle.tf_states.specs.declared.record.Entry.{Entry}
 use Rattle.tf_model.specs.Plan.{outline_of}
-use Rattle.tf_journal.specs.Format.{bodies, title_of}
+use Rattle.tf_journal.specs.Format.{Recovered, bodies, title_of}
 use Rattle.tf_journal.specs.Rest.{LeavesEither}
 use Rattle.tf_journal.specs.declared.title.Title.TheVariants.{Book as book_title}
 use Rattle.tf_book.specs.Book.{BookValue, outline, bodies_of}
-use Rattle.tf_book.specs.SessionInvariant.{SessionInvariant, said, IsSpoken, IsCut, HasCause, LeavesEntries, IsPending, IsExact, IsFullFor}
+use Rattle.tf_book.specs.SessionInvariant.{SessionInvariant, said, IsSpoken, IsCut, HasCause, LeavesEntries, MayFollow, nothing_more, IsPending, IsExact, IsFullFor}
+use Rattle.tf_book.specs.Loading.{IsHistoryOf}
+use Rattle.tf_book.proofs.InvariantLemmas.{history_before, history_on}
 use Rattle.tf_book.specs.declared.faults.Halt.{Halt}
 use Rattle.tf_book.specs.declared.faults.Halt.TheVariants as halt
 use Rattle.tf_book.proofs.SpokenLemmas.{shown_none}
 use Rattle.tf_commands.specs.Messages.{disk_fault_text, book_full}
 use Rattle.tf_commands.specs.Run.{ShowsLines, closed, line_cut, stopped}
-use Rattle.tf_commands.specs.Durable.{book_in, IsPendingSo, MayLeave}
+use Rattle.tf_commands.specs.Durable.{book_in, HoldsHistory, IsPendingSo, MayLeave}
 use Rattle.tf_commands.specs.Runs.{SaysHalt, HasMessage, HasSaidHalt, book_desk, LastsFrom, HasEnded}
 use Rattle.tf_commands.specs.Saying.{ClosesWith, said as was_said, cut}
 use Rattle.tf_commands.specs.declared.statuses.TheConstants.{UNSAID, UNREAD, UNHIRED, DISK_FAILED, FULL}
@@ -62,42 +64,52 @@ halt_said plan quiet before entries start mid now last halt.Memory closing statu
 -- ---- what a crash leaves
 
 -- a prefix of the lines of some of the entries, the oldest
-pub left_runs : (plan : PlanValue) (quiet : Bool) (before entries pending : List Entry) (shown : Option (List ℕ)) (closing image text : List ℕ) → LeavesEntries plan quiet before (pending ++ entries) shown image text
-    → MayLeave plan quiet before entries pending shown closing image text
-left_runs plan quiet before entries pending shown closing image text l = record {
+pub left_runs : (first : Recovered) (plan : PlanValue) (quiet : Bool) (before entries pending : List Entry) (shown : Option (List ℕ)) (closing image text : List ℕ)
+    → IsHistoryOf plan ((pending ++ entries) ++ before) → LeavesEntries plan quiet before (pending ++ entries) shown image text
+    → MayLeave first plan quiet before entries pending shown closing image text
+left_runs first plan quiet before entries pending shown closing image text whole l = record {
   lost = l.lost;
   kept = l.kept;
   oldest = l.splits;
-  finds = inl l.recovers;
+  finds = inl (record {
+    is = l.recovers;
+    history = history_before l.lost (l.kept ++ before) (subst (IsHistoryOf plan) (ap (λ (p : List Entry). p ++ before) l.splits ∙ append_assoc l.lost l.kept before) whole);
+  });
   spoken = inl l.spoken;
 }
 
 -- all lines, and a prefix of the closing
-pub closing_runs : (plan : PlanValue) (quiet : Bool) (before entries pending more : List Entry) (shown : Option (List ℕ)) (closing image text : List ℕ) → ((pending ≡ more) ⊎ (more ≡ []))
-    → book_in image ≡ bodies (bodies_of plan ((more ++ entries) ++ before))
-    → ShowsPrefix (shown_with shown (said quiet (outline_of plan) before entries)) closing (Some text) → MayLeave plan quiet before entries pending shown closing image text
-closing_runs plan quiet before entries pending more shown closing image text (inl same) found prefix = record {
+pub closing_runs : (first : Recovered) (plan : PlanValue) (quiet : Bool) (before entries pending more : List Entry) (shown : Option (List ℕ)) (closing image text : List ℕ)
+    → ((pending ≡ more) ⊎ (more ≡ [])) → HoldsHistory plan ((more ++ entries) ++ before) (book_in image)
+    → ShowsPrefix (shown_with shown (said quiet (outline_of plan) before entries)) closing (Some text)
+    → MayLeave first plan quiet before entries pending shown closing image text
+closing_runs first plan quiet before entries pending more shown closing image text (inl same) found prefix = record {
   lost = [];
   kept = more ++ entries;
   oldest = ap (λ (p : List Entry). p ++ entries) same;
   finds = inl found;
   spoken = inr (more, refl, prefix);
 }
-closing_runs plan quiet before entries pending more shown closing image text (inr none) found prefix = record {
+closing_runs first plan quiet before entries pending more shown closing image text (inr none) found prefix = record {
   lost = pending;
   kept = entries;
   oldest = refl;
-  finds = inl (found ∙ ap (λ (p : List Entry). bodies (bodies_of plan ((p ++ entries) ++ before))) none);
+  finds = inl (subst (λ (p : List Entry). HoldsHistory plan ((p ++ entries) ++ before) (book_in image)) none found);
   spoken = inr ([], refl, prefix);
 }
 
+-- nothing is pending
+pub none_so : (plan : PlanValue) (past pending : List Entry) (old now : DeskState) → pending ≡ [] → IsPendingSo plan past pending old now
+none_so plan past pending old now none = record { few = subst (MayFollow plan past) (sym none) nothing_more; caused = inl none }
+
 -- the pending entry of a halt
-pub pending_so : (halted : Option Halt) (pending : List Entry) (plan : PlanValue) (past : List Entry) (old now : DeskState) → IsPending halted pending → HasCause plan past old now halted → IsPendingSo pending old now
-pending_so None pending plan past old now few cause = record { few = omega (arith, ap (length {A = Entry}) few); caused = inl few }
-pending_so (Some halt.Disk) pending plan past old now few cause = record { few = few; caused = inr cause }
-pending_so (Some halt.Out) pending plan past old now few cause = record { few = omega (arith, ap (length {A = Entry}) few); caused = inl few }
-pending_so (Some halt.Memory) pending plan past old now few cause = record { few = omega (arith, ap (length {A = Entry}) few); caused = inl few }
-pending_so (Some (halt.Full size need)) pending plan past old now few cause = record { few = omega (arith, ap (length {A = Entry}) few); caused = inl few }
+pub pending_so : (halted : Option Halt) (pending : List Entry) (plan : PlanValue) (past recorded : List Entry) (old now : DeskState) → IsPending plan past halted pending → HasCause plan recorded old now halted
+    → IsPendingSo plan past pending old now
+pending_so None pending plan past recorded old now few cause = none_so plan past pending old now few
+pending_so (Some halt.Disk) pending plan past recorded old now few cause = record { few = few; caused = inr cause }
+pending_so (Some halt.Out) pending plan past recorded old now few cause = none_so plan past pending old now few
+pending_so (Some halt.Memory) pending plan past recorded old now few cause = none_so plan past pending old now few
+pending_so (Some (halt.Full size need)) pending plan past recorded old now few cause = none_so plan past pending old now few
 
 -- ---- how a halt was said
 
@@ -137,23 +149,27 @@ module _ {K : Type 0} (state : K → DeskState) where
   -- what a crash may leave and leaves of a file, where nothing more is said than a closing, which comes after all lines
   pub said_lasts : (start book : BookValue K) (closing : List ℕ) (now : DeskState) → Says closing (book_desk state book) now
       → (¬ (Rises (book_desk state start).disk_faults now.disk_faults) → book.journal.halted ≡ false)
-      → (k : SessionInvariant state start book)
+      → (k : SessionInvariant state start book) → IsHistoryOf start.plan book.past
       → ((book_desk state book).shown ≡ shown_with (book_desk state start).shown (said start.quiet (outline start) start.past k.entries))
       ⊎ (IsTrue (book_desk state book).tells → Passes nothing_left (book_desk state book) now)
       → LastsFrom state start now k.entries closing
-  said_lasts start book closing now says unhurt k how telling kept at_rest =
+  said_lasts start book closing now says unhurt k history how telling kept at_rest first =
       let d = k.crash telling kept in
       let telling_book : IsTrue (book_desk state book).tells = extends_told k.continues.extends telling in
       let leaves = d.left at_rest in
-      let pending = pending_so book.halt d.pending start.plan book.past (book_desk state start) (book_desk state book) d.few k.cause in
+      let pending = pending_so book.halt d.pending start.plan (k.entries ++ start.past) book.past (book_desk state start) (book_desk state book) d.few k.cause in
+      let so_far : IsHistoryOf start.plan (k.entries ++ start.past) = subst (IsHistoryOf start.plan) k.recorded history in
+      let whole : IsHistoryOf start.plan ((d.pending ++ k.entries) ++ start.past) =
+      subst (IsHistoryOf start.plan) (sym (append_assoc d.pending k.entries start.past)) (history_on pending.few so_far) in
       let before : (image text : List ℕ) → LeavesEntries start.plan start.quiet start.past (d.pending ++ k.entries) (book_desk state start).shown image text
-      → MayLeave start.plan start.quiet start.past k.entries d.pending (book_desk state start).shown closing image text =
-      (λ image text l. left_runs start.plan start.quiet start.past k.entries d.pending (book_desk state start).shown closing image text l) in
+      → MayLeave first start.plan start.quiet start.past k.entries d.pending (book_desk state start).shown closing image text =
+      (λ image text l. left_runs first start.plan start.quiet start.past k.entries d.pending (book_desk state start).shown closing image text whole l) in
       record {
         pending = d.pending;
         few = record { few = pending.few; caused = ⊎_elim (λ none. inl none) (λ rose. inr (omega (arith, rose, says.disk_faults))) pending.caused };
+        history = so_far;
         passes = ⊎_elim
-            (λ whole. passes_on d.passes (says.crash telling_book) before (loud_leaves k.entries d.pending whole leaves))
+            (λ loud. passes_on d.passes (says.crash telling_book) before (loud_leaves k.entries d.pending so_far whole loud leaves))
             (λ still. passes_then (passes_within d.passes before) (still telling_book))
             how;
         leaves = λ image now_left. ⊎_elim (λ a. inl a) (λ b. inr (b ∙ ap bodies (entries_past d.pending k.entries))) (leaves image (left_stays (says.files telling_book) image now_left));
@@ -166,18 +182,21 @@ module _ {K : Type 0} (state : K → DeskState) where
       entries_past : (pending entries : List Entry) → bodies_of start.plan ((pending ++ entries) ++ start.past) ≡ bodies_of start.plan (pending ++ (entries ++ start.past))
       entries_past pending entries = ap (bodies_of start.plan) (append_assoc pending entries start.past)
 
-      loud_leaves : (entries pending : List Entry) → (book_desk state book).shown ≡ shown_with (book_desk state start).shown (said start.quiet (outline start) start.past entries)
+      loud_leaves : (entries pending : List Entry) → IsHistoryOf start.plan (entries ++ start.past) → IsHistoryOf start.plan ((pending ++ entries) ++ start.past)
+          → (book_desk state book).shown ≡ shown_with (book_desk state start).shown (said start.quiet (outline start) start.past entries)
           → LeavesEither (title_of book_title) (book_desk state book) (bodies_of start.plan (entries ++ start.past)) (bodies_of start.plan ((pending ++ entries) ++ start.past))
           → (image text : List ℕ) → SaysPrefix (book_desk state book) closing image text
-          → MayLeave start.plan start.quiet start.past entries pending (book_desk state start).shown closing image text
-      loud_leaves entries pending whole leaves image text inside =
+          → MayLeave first start.plan start.quiet start.past entries pending (book_desk state start).shown closing image text
+      loud_leaves entries pending so_far whole loud leaves image text inside =
           ⊎_elim
-          (λ found. closing_runs start.plan start.quiet start.past entries pending [] (book_desk state start).shown closing image text (inr refl) found (prefix inside.1))
-          (λ found. closing_runs start.plan start.quiet start.past entries pending pending (book_desk state start).shown closing image text (inl refl) found (prefix inside.1))
+          (λ found. closing_runs first start.plan start.quiet start.past entries pending [] (book_desk state start).shown closing image text (inr refl)
+          (record { is = found; history = so_far }) (prefix inside.1))
+          (λ found. closing_runs first start.plan start.quiet start.past entries pending pending (book_desk state start).shown closing image text (inl refl)
+          (record { is = found; history = whole }) (prefix inside.1))
           (leaves image inside.0)
         where
           prefix : ShowsPrefix (book_desk state book).shown closing (Some text) → ShowsPrefix (shown_with (book_desk state start).shown (said start.quiet (outline start) start.past entries)) closing (Some text)
-          prefix f = subst (λ (t : Option (List ℕ)). ShowsPrefix t closing (Some text)) whole f
+          prefix f = subst (λ (t : Option (List ℕ)). ShowsPrefix t closing (Some text)) loud f
 
   -- why the book was halted
   halt_cause : (start book : BookValue K) (why : Halt) → book.halt ≡ Some why → SessionInvariant state start book → HasCause start.plan book.past (book_desk state start) (book_desk state book) (Some why)
@@ -191,11 +210,12 @@ module _ {K : Type 0} (state : K → DeskState) where
 
   -- the same where a book was halted and that was said, or nothing
   pub halt_lasts : (start book : BookValue K) (why : Halt) (now : DeskState) (status : ℕ) → book.halt ≡ Some why → (book.halt ≢ Some halt.Disk → book.journal.halted ≡ false)
-      → (s : HasSaidHalt why (book_desk state book) now status) → (k : SessionInvariant state start book) → LastsFrom state start now k.entries s.closing
-  halt_lasts start book why now status halted unhalted s k =
+      → (s : HasSaidHalt why (book_desk state book) now status) → (k : SessionInvariant state start book) → IsHistoryOf start.plan book.past
+      → LastsFrom state start now k.entries s.closing
+  halt_lasts start book why now status halted unhalted s k history =
       said_lasts start book s.closing now s.says
       (λ unrisen. unhalted (λ is. unrisen (rises_disk (let same : why ≡ halt.Disk = some_same (sym halted ∙ is) in same) (halt_cause start book why halted k))))
-      k (⊎_elim (λ has. inl (whole_text why has k.entries (halt_text start book why halted k))) (λ still. inr still) s.how)
+      k history (⊎_elim (λ has. inl (whole_text why has k.entries (halt_text start book why halted k))) (λ still. inr still) s.how)
     where
       some_same : Some why ≡ Some halt.Disk → why ≡ halt.Disk
       some_same is = cc

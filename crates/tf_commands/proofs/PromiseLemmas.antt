@@ -6,7 +6,7 @@ use Rattle.tf_desk.specs.Crash.{Pairs}
 use Rattle.tf_desk.specs.Shown.{ShowsPrefix}
 use Rattle.tf_desk.specs.State.{DeskState, Continues, Says}
 use Rattle.tf_flow.specs.Plan.{PlanValue}
-use Rattle.tf_journal.specs.Format.{bodies, journal_bytes, title_of}
+use Rattle.tf_journal.specs.Format.{Recovered, bodies, journal_bytes, title_of}
 use Rattle.tf_journal.specs.Path.{Path, IsSet, Open}
 use Rattle.tf_journal.specs.Rest.{LeavesBodies}
 use Rattle.tf_journal.specs.Start.{file_of, IsStart}
@@ -16,11 +16,12 @@ use Rattle.tf_actions.specs.declared.outcomes.Outcome.{Outcome}
 use Rattle.tf_states.specs.declared.record.Entry.{Entry}
 use Rattle.tf_book.specs.Book.{BookValue, bodies_of}
 use Rattle.tf_book.specs.SessionInvariant.{IsExact}
+use Rattle.tf_book.proofs.InvariantLemmas.{history_on}
 use Rattle.tf_book.proofs.SpokenLemmas.{shown_none}
 use Rattle.tf_journal.proofs.PathLemmas.{set_start, path_said}
 use Rattle.tf_commands.specs.Begun.{Begins, Unbegun}
 use Rattle.tf_commands.specs.Books.{Promised}
-use Rattle.tf_commands.specs.Durable.{book_in, book_at, HoldsNoFlow, FindsHistory, IsFreshFile, MayLeave, Lasts}
+use Rattle.tf_commands.specs.Durable.{book_in, book_at, HoldsNoFlow, HoldsHistory, FindsHistory, IsFreshFile, MayLeave, Lasts}
 use Rattle.tf_commands.specs.Messages.{disk_fault_text}
 use Rattle.tf_commands.specs.declared.running.Request.{Request}
 use Rattle.tf_commands.specs.Run.{Ran, RunShows, closed, stopped, disk_failed}
@@ -29,13 +30,15 @@ use Rattle.tf_commands.specs.Saying.{ClosesWith}
 use Rattle.tf_commands.specs.declared.statuses.TheConstants.{DISK_FAILED, OUT_OF_MEMORY}
 use Rattle.tf_commands.proofs.AskedLemmas.{ran_more}
 use Rattle.tf_commands.proofs.FlowLemmas.{flow_held}
+use Rattle.tf_commands.proofs.HaltLemmas.{none_so}
 use Rattle.tf_commands.proofs.PathLemmas.{ReadsPicked, reads_as, set_continues, path_continues}
 use Rattle.tf_commands.proofs.RunLemmas.{unbegun}
 
 -- a crash that left the file as a run found it
-found_leaves : (plan : PlanValue) (quiet : Bool) (before entries pending : List Entry) (shown : Option (List ℕ)) (closing image text : List ℕ) → FindsHistory plan before (book_in image) → shown ≡ Some text
-    → MayLeave plan quiet before entries pending shown closing image text
-found_leaves plan quiet before entries pending shown closing image text finds is = record {
+found_leaves : (first : Recovered) (plan : PlanValue) (quiet : Bool) (before entries pending : List Entry) (shown : Option (List ℕ)) (closing image text : List ℕ)
+    → FindsHistory first plan before (book_in image) → shown ≡ Some text
+    → MayLeave first plan quiet before entries pending shown closing image text
+found_leaves first plan quiet before entries pending shown closing image text finds is = record {
   lost = pending ++ entries;
   kept = [];
   oldest = sym (append-nil (pending ++ entries));
@@ -65,8 +68,8 @@ unbegun_promised gives request asked name plan entry mid now closing status u en
       let still = says.files told_mid in
       let picked : now.content.picked ≡ Some name = still.picked ∙ (u.quiet.set told).picked in
       let read = reads_as picked laws told_now in
-      let path = path_said {wider = MayLeave plan request.quiet [] [] [] entry.shown closing} (u.path told) told_mid says
-      (λ image text may. found_leaves plan request.quiet [] [] [] entry.shown closing image text may.0 may.1)
+      let path = path_said {wider = MayLeave (book_at entry name) plan request.quiet [] [] [] entry.shown closing} (u.path told) told_mid says
+      (λ image text may. found_leaves (book_at entry name) plan request.quiet [] [] [] entry.shown closing image text may.0 may.1)
       (λ image text finds prefix. record {
         lost = [];
         kept = [];
@@ -83,12 +86,12 @@ unbegun_promised gives request asked name plan entry mid now closing status u en
       let start_now : IsStart name entry now start.0 = record { more = start.1.more; added = says.marks told_mid ∙ start.1.added; first = start.1.first } in
       record {
         pending = [];
-        few = record { few = omega arith; caused = inl refl };
+        few = none_so plan [] [] entry now refl;
         file = inl (path.still start.0 start_now (file_of now name) read.0);
         exact = λ none short unrisen holds.
             let blank = u.blank (λ rose. unrisen (omega (arith, rose, says.disk_faults))) told in
             let same : file_of now name ≡ file_of mid name = ap (λ (f : List ℕ → Option (List ℕ)). unwrap_or (f name) []) still.files in
-            absurd (flow_held (book_at mid name) plan [] blank (ap book_in (sym same) ∙ holds));
+            absurd (flow_held (book_at mid name) plan [] blank (subst (λ (f : List ℕ). HoldsHistory plan [] (book_in f)) same holds));
         others = path.others;
         crash = path.crash;
       };
@@ -108,20 +111,21 @@ module _ {K : Type 0} (state : K → DeskState) where
       → Path name entry (book_desk state book) may held → IsSet name entry (book_desk state book)
       → (book_desk state book).shown ≡ entry.shown → entry.disk_faults ≤ (book_desk state book).disk_faults
       → Continues (book_desk state book) now → IsTrue (book_desk state book).tells
-      → (r : RunLasts state book now entries closing)
-      → ((image text : List ℕ) → may image text → MayLeave book.plan book.quiet book.past entries r.pending entry.shown closing image text)
+      → (r : RunLasts state (book_at entry name) book now entries closing)
+      → ((image text : List ℕ) → may image text → MayLeave (book_at entry name) book.plan book.quiet book.past entries r.pending entry.shown closing image text)
       → (IsFreshFile (file_of entry name) → length (file_of entry name) ≤ 18 → IsExact (book_desk state book) book.plan book.past)
       → ReadsPicked name now
       → Lasts name book.plan book.quiet book.past entries entry now closing
   run_lasts name entry book now entries closing path set quiet before call told r widens known laws =
       let set_now = set_continues set call told in
       let read = reads_as set_now.picked laws (extends_told call.extends told) in
-      let on = path_continues {wider = MayLeave book.plan book.quiet book.past entries r.pending entry.shown closing} {holds = λ image. Unit {0}} path set call told r.passes widens
-      (λ image text leaves. subst (λ (o : Option (List ℕ)). MayLeave book.plan book.quiet book.past entries r.pending o closing image text) quiet leaves) (λ image is. tt) in
+      let on = path_continues {wider = MayLeave (book_at entry name) book.plan book.quiet book.past entries r.pending entry.shown closing} {holds = λ image. Unit {0}} path set call told r.passes widens
+      (λ image text leaves. subst (λ (o : Option (List ℕ)). MayLeave (book_at entry name) book.plan book.quiet book.past entries r.pending o closing image text) quiet leaves) (λ image is. tt) in
       record {
         pending = r.pending;
         few = record { few = r.few.few; caused = ⊎_elim (λ none. inl none) (λ rose. inr (omega (arith, rose, before))) r.few.caused };
-        file = ⊎_elim (λ found. inl (inl found)) (λ found. inr found) (r.leaves (file_of now name) read.0);
+        file = ⊎_elim (λ found. inl (inl (record { is = found; history = r.history })))
+            (λ found. inr (record { is = found; history = history_on r.few.few r.history })) (r.leaves (file_of now name) read.0);
         exact = λ none short unrisen holds. read.1 ∙ r.exact (λ rose. unrisen (omega (arith, rose, before))) (known none short);
         others = on.others;
         crash = on.crash;
@@ -145,14 +149,14 @@ module _ {K : Type 0} (state : K → DeskState) where
         let told_book : IsTrue (book_desk state book).tells = subst IsTrue (sym b.quiet.told) told in
         let start = set_start (b.quiet.set told) in
         let at_rest : LeavesBodies (title_of book_title) (book_desk state book) (bodies_of book.plan book.past) =
-        (λ image is. (b.path told).still start.0 start.1 image is ∙ ap (λ (p : PlanValue). bodies (bodies_of p [])) (sym b.plan_is) ∙ ap (λ (past : List Entry). bodies (bodies_of book.plan past)) (sym b.past_is)) in
-        let l = r.lasts told_book b.kept at_rest in
+        (λ image is. ((b.path told).still start.0 start.1 image is).is ∙ ap (λ (p : PlanValue). bodies (bodies_of p [])) (sym b.plan_is) ∙ ap (λ (past : List Entry). bodies (bodies_of book.plan past)) (sym b.past_is)) in
+        let l = r.lasts told_book b.kept at_rest (book_at entry name) in
         subst (λ (q : Bool). Lasts name plan q [] r.entries entry now r.closing) speaks
         (subst (λ (p : PlanValue). Lasts name p book.quiet [] r.entries entry now r.closing) b.plan_is
         (subst (λ (past : List Entry). Lasts name book.plan book.quiet past r.entries entry now r.closing) b.past_is
         (run_lasts name entry book now r.entries r.closing (b.path told) (b.quiet.set told) b.quiet.shown b.quiet.disk r.continues told_book l
-        (λ image text may. found_leaves book.plan book.quiet book.past r.entries l.pending entry.shown r.closing image text
-        (subst (λ (p : PlanValue). FindsHistory p book.past (book_in image)) (sym b.plan_is) (subst (λ (past : List Entry). FindsHistory plan past (book_in image)) (sym b.past_is) may.0)) may.1)
+        (λ image text may. found_leaves (book_at entry name) book.plan book.quiet book.past r.entries l.pending entry.shown r.closing image text
+        (subst (λ (p : PlanValue). FindsHistory (book_at entry name) p book.past (book_in image)) (sym b.plan_is) (subst (λ (past : List Entry). FindsHistory (book_at entry name) plan past (book_in image)) (sym b.past_is) may.0)) may.1)
         (λ fresh short. b.exact told fresh short ∙ ap (λ (p : PlanValue). journal_bytes (title_of book_title) (bodies_of p [])) (sym b.plan_is)
         ∙ ap (λ (past : List Entry). journal_bytes (title_of book_title) (bodies_of book.plan past)) (sym b.past_is))
         laws)));
@@ -169,10 +173,11 @@ module _ {K : Type 0} (state : K → DeskState) where
       let start = set_start (o.set told) in
       let path = o.untouched.path told in
       let at_rest : LeavesBodies (title_of book_title) (book_desk state book) (bodies_of book.plan book.past) =
-      (λ image is. ap book_in (path.still start.0 start.1 image is) ∙ holds told) in
-      let l = lasts told_book kept at_rest in
+      (λ image is. ap book_in (path.still start.0 start.1 image is) ∙ (holds told).is) in
+      let l = lasts told_book kept at_rest (book_at entry name) in
       run_lasts name entry book now entries closing path (o.set told) o.untouched.quiet o.untouched.disk call told_book l
-      (λ image text may. found_leaves book.plan book.quiet book.past entries l.pending entry.shown closing image text (inl (ap book_in may.0 ∙ holds told)) may.1)
+      (λ image text may. found_leaves (book_at entry name) book.plan book.quiet book.past entries l.pending entry.shown closing image text
+      (inl (subst (λ (f : List ℕ). HoldsHistory book.plan book.past (book_in f)) (sym may.0) (holds told))) may.1)
       (λ none short. absurd (flow_held (book_at entry name) book.plan book.past (fresh_holds (file_of entry name) none) (holds told)))
       laws
 

@@ -12,6 +12,7 @@ use Rattle.tf_model.specs.History.{flow_of}
 use Rattle.tf_model.specs.Plan.{outline_of}
 use Rattle.tf_book.specs.Book.{BookValue, outline, moment, flow_state}
 use Rattle.tf_book.specs.SessionInvariant.{said}
+use Rattle.tf_book.specs.Loading.{IsHistoryOf}
 use Rattle.tf_book.specs.Resetting.{may_reset, AreReset, IsPutBackOn}
 use Rattle.tf_book.specs.Faults.{IsFault}
 use Rattle.tf_book.specs.declared.faults.BookFault.{BookFault}
@@ -51,14 +52,14 @@ module _ {K : Type 0} (state : K → DeskState) where
   -- why the book was halted was said, or cut, or it says nothing
   pub halts_back : (start book : BookValue K) (why : Halt) (now : DeskState) (status : ℕ) → IsPutBackTo state start book → book.halt ≡ Some why
       → (book.halt ≢ Some halt.Disk → book.journal.halted ≡ false)
-      → HasSaidHalt why (book_desk state book) now status
+      → HasSaidHalt why (book_desk state book) now status → IsHistoryOf book.plan book.past
       → GoesBack state start now status
-  halts_back start book why now status to halted unhalted s =
+  halts_back start book why now status to halted unhalted s history =
       let k = to.kept in
       record {
         entries = k.entries;
         closing = s.closing;
-        lasts = halt_lasts state start book why now status halted unhalted s k;
+        lasts = halt_lasts state start book why now status halted unhalted s k (subst (λ (p : PlanValue). IsHistoryOf p book.past) k.plan history);
         put_back = record {
           steps = put_entries start.plan start.past book.past k.entries to.put k.recorded;
           text = subst (λ (b : Bool). ShowsLines start.plan b start.past k.entries (book_desk state start).shown now.shown (IsResetSaid start.plan (k.entries ++ start.past)) s.closing status) to.speaks
@@ -70,14 +71,14 @@ module _ {K : Type 0} (state : K → DeskState) where
 
   -- all of it was recorded
   pub all_goes_back : (start book : BookValue K) → IsPutBackTo state start book → book.halt ≡ None → book.journal.halted ≡ false
-      → flow_state book ≡ flow.Pending → GoesBack state start (book_desk state book) SUCCEEDED
-  all_goes_back start book to sound unhalted pending =
+      → flow_state book ≡ flow.Pending → IsHistoryOf book.plan book.past → GoesBack state start (book_desk state book) SUCCEEDED
+  all_goes_back start book to sound unhalted pending history =
       let k = to.kept in
       let spoken = sound_text state start book sound k in
       record {
         entries = k.entries;
         closing = [];
-        lasts = said_lasts state start book [] (book_desk state book) says_nothing (λ unrisen. unhalted) k (inl spoken);
+        lasts = said_lasts state start book [] (book_desk state book) says_nothing (λ unrisen. unhalted) k (subst (λ (p : PlanValue). IsHistoryOf p book.past) k.plan history) (inl spoken);
         put_back = record {
           steps = put_entries start.plan start.past book.past k.entries to.put k.recorded;
           text = subst (λ (b : Bool). ShowsLines start.plan b start.past k.entries (book_desk state start).shown (book_desk state book).shown (IsResetSaid start.plan (k.entries ++ start.past)) [] SUCCEEDED) to.speaks

@@ -6,11 +6,10 @@ use Rattle.tf_actions.specs.declared.orders.Order.{Order}
 use Rattle.tf_actions.specs.declared.outcomes.Outcome.{Outcome}
 use Rattle.tf_states.specs.declared.state.FlowState.{FlowState}
 use Rattle.tf_states.specs.declared.state.FlowState.TheVariants as flow
-use Rattle.tf_model.specs.Compilation.{compile_refusal}
 use Rattle.tf_model.specs.Sessions.{already_ended, has_ended}
-use Rattle.tf_model.specs.Steps.{LegalPast}
 use Rattle.tf_bound.specs.Short.{AreShort, IsWithinLimits}
 use Rattle.tf_book.specs.Book.{BookValue, outline, flow_state}
+use Rattle.tf_book.specs.Loading.{IsHistoryOf}
 use Rattle.tf_book.proofs.InvariantLemmas.{keeps_none}
 use Rattle.tf_commands.specs.declared.running.Request.{Request}
 use Rattle.tf_commands.specs.Runs.{HoldsBook, book_desk, IsRunTo, RunsOn, GoesFurther, went_on}
@@ -37,13 +36,13 @@ ended_apart flow.Resuming ended is = cc
 
 module _ {K : Type 0} (state : K → DeskState) where
   -- the run of a book whose flow had ended: nothing was recorded
-  pub ended_run : (gives : Order → Outcome → Type 0) (request : Request) (asked : Type 0) (book : BookValue K) → book.halt ≡ None → book.quiet ≡ request.quiet → has_ended (flow_state book) ≡ true → LegalPast (outline book) book.past
-      → compile_refusal book.plan ≡ None → IsWithinLimits (outline book) → AreShort book.past
+  pub ended_run : (gives : Order → Outcome → Type 0) (request : Request) (asked : Type 0) (book : BookValue K) → book.halt ≡ None → book.quiet ≡ request.quiet → has_ended (flow_state book) ≡ true → IsHistoryOf book.plan book.past
+      → IsWithinLimits (outline book) → AreShort book.past
       → IsRunTo state gives request asked book book (Some (flow_state book))
-  ended_run gives request asked book sound speaks ended legal compiles limits short = record {
+  ended_run gives request asked book sound speaks ended history limits short = record {
     kept = keeps_none state book sound;
-    session = record { entries = []; recorded = refl; session = already_ended ended legal; given = tt; hands = refl; due = tt; within = tt; suspended = λ is. absurd (ended_apart (flow_state book) ended is) };
-    compiles = compiles;
+    session = record { entries = []; recorded = refl; session = already_ended ended history.legal; given = tt; hands = refl; due = tt; within = tt; suspended = λ is. absurd (ended_apart (flow_state book) ended is) };
+    history = history;
     limits = limits;
     short_before = short;
     short = short;
@@ -52,14 +51,14 @@ module _ {K : Type 0} (state : K → DeskState) where
 
   -- such a run, said with its report
   pub ended_on : (gives : Order → Outcome → Type 0) (request : Request) (asked : Type 0) (book : BookValue K) (now : DeskState) (status : ℕ) (last : FlowState)
-      → book.halt ≡ None → book.quiet ≡ request.quiet → last ≡ flow_state book → has_ended last ≡ true → LegalPast (outline book) book.past
-      → compile_refusal book.plan ≡ None → IsWithinLimits (outline book) → AreShort book.past
+      → book.halt ≡ None → book.quiet ≡ request.quiet → last ≡ flow_state book → has_ended last ≡ true → IsHistoryOf book.plan book.past
+      → IsWithinLimits (outline book) → AreShort book.past
       → (IsRunTo state gives request asked book book (Some last)
       → RunsOn state gives request asked book now status)
       → RunsOn state gives request asked book now status
-  ended_on gives request asked book now status last sound speaks same ended legal compiles limits short runs =
+  ended_on gives request asked book now status last sound speaks same ended history limits short runs =
       runs (subst (λ (s : FlowState). IsRunTo state gives request asked book book (Some s)) (sym same)
-      (ended_run gives request asked book sound speaks (subst (λ (s : FlowState). has_ended s ≡ true) same ended) legal compiles limits short))
+      (ended_run gives request asked book sound speaks (subst (λ (s : FlowState). has_ended s ≡ true) same ended) history limits short))
 
   -- a book whose flow had ended is reported, and no hand is hired
   pub ended_goes : (gives : Order → Outcome → Type 0) (request : Request) (asked : Type 0) (name : List ℕ) (entry : DeskState) (book : BookValue K) (now : DeskState) (status : ℕ) (hired : Option (List Want)) (last : FlowState)

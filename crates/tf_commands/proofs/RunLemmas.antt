@@ -1,7 +1,7 @@
 -- What a run promises, put together from what the book keeps and what was said last.
 use Rattle.std.proofs.Common.{◌≡◌, ◌≢◌, ℕ, List, [], ◌∷◌, ◌++◌, Bool, false, Option, Some, None, refl, sym, ap, ◌∙◌, subst, inl, inr, arith}
 use Rattle.std.proofs.lemmas.List.{append_cancel_right}
-use Rattle.tf_desk.proofs.StateLemmas.{continues_on, says_continues}
+use Rattle.tf_desk.proofs.StateLemmas.{continues_on, says_continues, extends_told}
 use Rattle.tf_desk.specs.Counts.{Rises}
 use Rattle.tf_desk.specs.Shown.{shown_with}
 use Rattle.tf_desk.specs.State.{DeskState, Says, passes_within}
@@ -17,12 +17,15 @@ use Rattle.tf_model.specs.Compilation.{compile_refusal}
 use Rattle.tf_model.specs.History.{snapshot}
 use Rattle.tf_model.specs.Plan.{Outline, outline_of}
 use Rattle.tf_model.specs.Sessions.{Session, entered, flow_entry}
+use Rattle.tf_journal.specs.Format.{Recovered}
 use Rattle.tf_bound.specs.Short.{AreShort, IsWithinLimits}
 use Rattle.tf_bound.proofs.SessionLemmas.{session_at_most}
 use Rattle.tf_report.specs.Report.{report}
 use Rattle.tf_book.specs.Book.{BookValue, outline, moment}
 use Rattle.tf_book.specs.Closed.{Closed, IsClosing, LeavesClosed}
+use Rattle.tf_book.specs.Loading.{IsHistoryOf}
 use Rattle.tf_book.specs.SessionInvariant.{said, IsExact}
+use Rattle.tf_book.proofs.LogLemmas.{off_on, off_says}
 use Rattle.tf_book.specs.declared.faults.Halt.{Halt}
 use Rattle.tf_book.specs.declared.faults.Halt.TheVariants as halt
 use Rattle.tf_engines.specs.Runs.{AreGiven, IsSession}
@@ -32,7 +35,7 @@ use Rattle.tf_commands.specs.Durable.{MayLeave}
 use Rattle.tf_commands.specs.Runs.{HasSaidHalt, IsRunTo, book_desk, RunsOn}
 use Rattle.tf_commands.specs.Saying.{ClosesWith}
 use Rattle.tf_commands.specs.declared.statuses.TheConstants.{UNSAID, OUT_OF_MEMORY, DISK_FAILED}
-use Rattle.tf_commands.proofs.HaltLemmas.{says_nothing, left_runs, closing_runs, halt_lasts, halt_ended, halt_shows, said_lasts, sound_text}
+use Rattle.tf_commands.proofs.HaltLemmas.{says_nothing, left_runs, closing_runs, none_so, halt_lasts, halt_ended, halt_shows, said_lasts, sound_text}
 use Rattle.tf_commands.proofs.ReachLemmas.{reached_by}
 use Rattle.tf_commands.proofs.ReportLemmas.{StatusAfter, ClosingFor, report_said, report_ended}
 
@@ -91,6 +94,7 @@ module _ {K : Type 0} (state : K → DeskState) where
       → Closed state start new closing → ClosingFor (report (outline book) (moment book)) new.halt closing → StatusAfter last new.halt status
       → RunsOn state gives request asked start (book_desk state new) status
   closes_run gives request asked start book new last closing status plain to same plan c closes is =
+      let so_far : IsHistoryOf start.plan (c.entries ++ start.past) = subst (IsHistoryOf start.plan) (sym same ∙ c.recorded) to.history in
       let report_is : report (outline book) (moment book) ≡ report (outline start) (snapshot (outline start) (c.entries ++ start.past)) =
       ap (λ (p : PlanValue). report (outline_of p) (snapshot (outline_of p) book.past)) to.kept.plan
       ∙ ap (λ (p : List Entry). report (outline start) (snapshot (outline start) p)) (sym same ∙ c.recorded) in
@@ -102,24 +106,30 @@ module _ {K : Type 0} (state : K → DeskState) where
         entries = c.entries;
         stop = Some last;
         closing = closing;
-        lasts = λ telling kept at_rest. record {
+        lasts = λ telling kept at_rest first. record {
           pending = [];
-          few = record { few = omega arith; caused = inl refl };
-          passes = passes_within (c.crash telling kept) (λ image text is_left. closed_leaves c.entries image text is_left);
+          few = none_so start.plan (c.entries ++ start.past) [] (book_desk state start) (book_desk state new) refl;
+          history = so_far;
+          passes = passes_within (c.crash telling kept) (λ image text is_left. closed_leaves first c.entries so_far image text is_left);
           leaves = λ image now_left. inl (c.left_now telling kept at_rest image now_left);
           exact = λ unrisen known. subst (λ (p : PlanValue). IsExact (book_desk state new) p (c.entries ++ start.past)) (plan ∙ to.kept.plan)
               (subst (λ (p : List Entry). IsExact (book_desk state new) new.plan p) c.recorded (c.exact telling kept known));
         };
         ran = ran_so gives request asked start.plan start.past book.past c.entries (Some last) (book_desk state start).shown (book_desk state new).shown closing status to.session (sym same ∙ c.recorded)
-            to.compiles to.limits to.short_before to.short told;
+            to.history.runs.0 to.limits to.short_before to.short told;
         continues = c.continues;
+        off_disk = c.off_disk;
         ended = report_ended last new.halt status (book_desk state start) (book_desk state new) start.plan new.past is c.cause;
       }
     where
-      closed_leaves : (entries : List Entry) (image text : List ℕ) → LeavesClosed start.plan start.quiet start.past entries (book_desk state start).shown closing image text
-          → MayLeave start.plan start.quiet start.past entries [] (book_desk state start).shown closing image text
-      closed_leaves entries image text (inl l) = left_runs start.plan start.quiet start.past entries [] (book_desk state start).shown closing image text l
-      closed_leaves entries image text (inr l) = closing_runs start.plan start.quiet start.past entries [] [] (book_desk state start).shown closing image text (inr refl) l.0 l.1
+      closed_leaves : (first : Recovered) (entries : List Entry) → IsHistoryOf start.plan (entries ++ start.past) → (image text : List ℕ)
+          → LeavesClosed start.plan start.quiet start.past entries (book_desk state start).shown closing image text
+          → MayLeave first start.plan start.quiet start.past entries [] (book_desk state start).shown closing image text
+      closed_leaves first entries so_far image text (inl l) =
+          left_runs first start.plan start.quiet start.past entries [] (book_desk state start).shown closing image text so_far l
+      closed_leaves first entries so_far image text (inr l) =
+          closing_runs first start.plan start.quiet start.past entries [] [] (book_desk state start).shown closing image text (inr refl)
+          (record { is = l.0; history = so_far }) l.1
 
   -- the report behind its heading was said, or cut
   pub sums_run : (gives : Order → Outcome → Type 0) (request : Request) (asked : Type 0) (start book : BookValue K) (last : FlowState) (closing : List ℕ) (now : DeskState) (status : ℕ)
@@ -138,15 +148,16 @@ module _ {K : Type 0} (state : K → DeskState) where
         entries = k.entries;
         stop = Some last;
         closing = closing;
-        lasts = said_lasts state start book closing now says (λ unrisen. unhalted) k (inl spoken);
+        lasts = said_lasts state start book closing now says (λ unrisen. unhalted) k to.history (inl spoken);
         ran = ran_so gives request asked start.plan start.past book.past k.entries (Some last) (book_desk state start).shown now.shown closing status to.session k.recorded
-            to.compiles to.limits to.short_before to.short
+            to.history.runs.0 to.limits to.short_before to.short
             (subst (λ (b : Bool). ShowsLines start.plan b start.past k.entries (book_desk state start).shown now.shown
             (IsLastSaid start.plan (heading_of request (outline start) (k.entries ++ start.past)) (k.entries ++ start.past) (Some last)) closing status) to.speaks
             (closed closing (stop_status last) status
             (subst (λ (c : List ℕ). IsLastSaid start.plan (heading_of request (outline start) (k.entries ++ start.past)) (k.entries ++ start.past) (Some last) c (stop_status last)) (sym same) (reported last))
             (subst (λ (t : Option (List ℕ)). ClosesWith t closing (stop_status last) now.shown status) spoken closes)));
         continues = continues_on k.continues (says_continues says);
+        off_disk = λ volatile. off_on (k.off_disk volatile) (λ told. extends_told k.continues.extends told) (off_says says);
         ended = record {
           unsaid = λ is. (let rose : Rises (book_desk state book).out_faults now.out_faults = unsaid is in omega (arith, rose, k.continues.extends.out_faults));
           failed = λ is. absurd (undamaged is);
@@ -164,12 +175,13 @@ module _ {K : Type 0} (state : K → DeskState) where
         entries = k.entries;
         stop = Some last;
         closing = [];
-        lasts = said_lasts state start book [] (book_desk state book) says_nothing (λ unrisen. unhalted) k (inl spoken);
+        lasts = said_lasts state start book [] (book_desk state book) says_nothing (λ unrisen. unhalted) k to.history (inl spoken);
         ran = ran_so gives request asked start.plan start.past book.past k.entries (Some last) (book_desk state start).shown (book_desk state book).shown [] OUT_OF_MEMORY to.session k.recorded
-            to.compiles to.limits to.short_before to.short
+            to.history.runs.0 to.limits to.short_before to.short
             (subst (λ (b : Bool). ShowsLines start.plan b start.past k.entries (book_desk state start).shown (book_desk state book).shown
             (IsLastSaid start.plan (heading_of request (outline start) (k.entries ++ start.past)) (k.entries ++ start.past) (Some last)) [] OUT_OF_MEMORY) to.speaks (stopped spoken));
         continues = k.continues;
+        off_disk = k.off_disk;
         ended = record { unsaid = λ is. absurd (cc); failed = λ is. absurd (cc) };
       }
 
@@ -185,13 +197,14 @@ module _ {K : Type 0} (state : K → DeskState) where
         entries = k.entries;
         stop = stop;
         closing = s.closing;
-        lasts = halt_lasts state start book why now status halted unhalted s k;
+        lasts = halt_lasts state start book why now status halted unhalted s k to.history;
         ran = ran_so gives request asked start.plan start.past book.past k.entries stop (book_desk state start).shown now.shown s.closing status to.session k.recorded
-            to.compiles to.limits to.short_before to.short
+            to.history.runs.0 to.limits to.short_before to.short
             (subst (λ (b : Bool). ShowsLines start.plan b start.past k.entries (book_desk state start).shown now.shown
             (IsLastSaid start.plan (heading_of request (outline start) (k.entries ++ start.past)) (k.entries ++ start.past) stop) s.closing status) to.speaks
             (halt_shows state start book why now status
             (IsLastSaid start.plan (heading_of request (outline start) (k.entries ++ start.past)) (k.entries ++ start.past) stop) halted s k (disk_failed stop) (filled stop)));
         continues = continues_on k.continues (says_continues s.says);
+        off_disk = λ volatile. off_on (k.off_disk volatile) (λ told. extends_told k.continues.extends told) (off_says s.says);
         ended = halt_ended state start book why now status halted s k;
       }

@@ -52,8 +52,8 @@ IsFoundBlank name entry found = IsTrue entry.tells → IsFoundAs found (book_at 
 -- ---- how it begins
 
 -- a crash left no flow or the plan alone, and nothing more was shown
-abbrev pub MayBegin : PlanValue → Option (List ℕ) → Pairs
-MayBegin plan shown image text = FindsHistory plan [] (book_in image) × (shown ≡ Some text)
+abbrev pub MayBegin : Recovered → PlanValue → Option (List ℕ) → Pairs
+MayBegin first plan shown image text = FindsHistory first plan [] (book_in image) × (shown ≡ Some text)
 
 -- a file that was fresh and had at most 18 bytes is a book without a record as it was created
 abbrev pub IsExactSoFar : List ℕ → DeskState → DeskState → Type 0
@@ -88,7 +88,8 @@ pub record Begins {K : Type 0} (state : K → DeskState) (name : List ℕ) (entr
   pub sound : book.halt ≡ None
   pub kept : book.journal.volatile ≡ false
   pub quiet : IsQuiet name entry (state book.journal.desk)
-  pub path : IsTrue entry.tells → Path name entry (state book.journal.desk) (MayBegin plan entry.shown) (λ image. HoldsHistory plan [] (book_in image))
+  pub path : IsTrue entry.tells → Path name entry (state book.journal.desk) (MayBegin (book_at entry name) plan entry.shown)
+      (λ image. HoldsHistory plan [] (book_in image))
   pub exact : IsTrue entry.tells → IsFreshFile (file_of entry name) → length (file_of entry name) ≤ 18
       → bytes_now (state book.journal.desk) ≡ journal_bytes (title_of book_title) (bodies_of plan [])
 
@@ -96,4 +97,6 @@ pub record Begins {K : Type 0} (state : K → DeskState) (name : List ℕ) (entr
 pub record Unbegun (name : List ℕ) (entry : DeskState) (plan : PlanValue) (now : DeskState) : Type 0 where
   pub quiet : IsQuiet name entry now
   pub blank : ¬ (Rises entry.disk_faults now.disk_faults) → IsTrue entry.tells → HoldsNoFlow (book_at now name)
-  pub path : IsTrue entry.tells → Path name entry now (MayBegin plan entry.shown) (λ image. FindsHistory plan [] (book_in image))
+  pub first : IsTrue entry.tells → HoldsNoFlow (book_at entry name)
+  pub path : IsTrue entry.tells → Path name entry now (MayBegin (book_at entry name) plan entry.shown)
+      (λ image. FindsHistory (book_at entry name) plan [] (book_in image))

@@ -29,7 +29,7 @@ use Rattle.tf_commands.specs.Accepted.{outline_in, GivesPlan, GivesNone}
 use Rattle.tf_commands.specs.Asking.{file_asked_for, asked_for, wanted_by}
 use Rattle.tf_commands.specs.Books.{Hires, Runs, Demonstrates, Resumes, ShowsBook, ResetsBook}
 use Rattle.tf_journal.specs.Start.{file_of}
-use Rattle.tf_commands.specs.Durable.{NoFileChanges, OnlyPickedChanges, book_at, HoldsNoFlow, HoldsHistory}
+use Rattle.tf_commands.specs.Durable.{NoFileChanges, TouchesNoFile, book_at, HoldsNoFlow, HoldsHistory}
 use Rattle.tf_commands.specs.Messages.{checked, usage, cannot_read, cannot_hire, refusal, reason_text}
 use Rattle.tf_commands.specs.Run.{spoken_run, Ran}
 use Rattle.tf_commands.specs.Saying.{ClosesWith, ClosesWithOrStops}
@@ -60,8 +60,8 @@ pub data FileRead (files : Contents) (source : Source) (untouched : Type 0) (doe
   -- it is longer than a flow file may be
   too_long : untouched → PassesLimit files source.file → ClosesWith before (refusal (codes "too long")) REFUSED after status
       → FileRead files source untouched does before after status
-  -- its bytes are those that the sources have under its name
-  read : (bytes : List ℕ) → GivesBytes files source.file bytes → BytesRead source bytes untouched does before after status
+  -- its bytes are those that the sources have under its name, and not longer than a flow file may be
+  read : (bytes : List ℕ) → GivesBytes files source.file bytes → length bytes ≤ SOURCE_LIMIT → BytesRead source bytes untouched does before after status
       → FileRead files source untouched does before after status
 
 -- nothing is done with a plan
@@ -116,11 +116,11 @@ abbrev pub IsUntouched : Option (List Want) → Option (List Want) → DeskState
 IsUntouched hired after_hiring entry now = (after_hiring ≡ hired) × NoFileChanges entry now
 
 module _ {K : Type 0} (state : K → DeskState) where
-  -- what becomes of what the words ask for, where a run may be suspended for a stop that was asked for; a trial changes no file but one that was picked before, and a check none
+  -- what becomes of what the words ask for, where a run may be suspended for a stop that was asked for; a trial changes no file and never ends for a fault of the disk, and a check changes none
   abbrev pub Obeys : (Order → Outcome → Type 0) → Type 0 → Asked → Contents → Option (List Want) → Option (List Want) → K → K → ℕ → Type 0
   Obeys gives stopped (asked.Try file sets defer hands) files hired after_hiring entry now status =
       FileRead files (source_so file sets defer) (IsUntouched hired after_hiring (state entry) (state now))
-      (Tries gives hands stopped hired after_hiring (state entry).shown (state now).shown) (state entry).shown (state now).shown status × OnlyPickedChanges (state entry) (state now)
+      (Tries gives hands stopped hired after_hiring (state entry).shown (state now).shown) (state entry).shown (state now).shown status × TouchesNoFile (state entry) (state now) status
   Obeys gives stopped (asked.Check file sets) files hired after_hiring entry now status =
       FileRead files (source_so file sets false) (IsUntouched hired after_hiring (state entry) (state now))
       (Checks (state entry).shown (state now).shown) (state entry).shown (state now).shown status × IsUntouched hired after_hiring (state entry) (state now)

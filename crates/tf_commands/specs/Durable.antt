@@ -10,7 +10,9 @@ use Rattle.tf_journal.specs.Format.{Recovered, unborn, bodies, recovered, journa
 use Rattle.tf_journal.specs.declared.title.Title.TheVariants.{Book as book_title}
 use Rattle.tf_model.specs.Plan.{outline_of}
 use Rattle.tf_book.specs.Book.{bodies_of}
-use Rattle.tf_book.specs.SessionInvariant.{said}
+use Rattle.tf_commands.specs.declared.statuses.TheConstants.{DISK_FAILED}
+use Rattle.tf_book.specs.Loading.{IsHistoryOf}
+use Rattle.tf_book.specs.SessionInvariant.{said, MayFollow}
 
 -- ---- files
 
@@ -18,10 +20,9 @@ use Rattle.tf_book.specs.SessionInvariant.{said}
 abbrev pub NoFileChanges : DeskState → DeskState → Type 0
 NoFileChanges entry now = IsTrue entry.tells → now.content.files ≡ entry.content.files
 
--- no file changed but that of the name that was picked, if one was
-abbrev pub OnlyPickedChanges : DeskState → DeskState → Type 0
-OnlyPickedChanges entry now =
-    IsTrue entry.tells → (other : List ℕ) → entry.content.picked ≢ Some other → now.content.files other ≡ entry.content.files other
+-- no file changed, and the status isn't that of a failed disk
+abbrev pub TouchesNoFile : DeskState → DeskState → ℕ → Type 0
+TouchesNoFile entry now status = NoFileChanges entry now × (status ≢ DISK_FAILED)
 
 -- what recovery makes of the bytes of a book's file
 abbrev pub book_in : List ℕ → Recovered
@@ -35,9 +36,11 @@ book_at state name = book_in (file_of state name)
 abbrev pub HoldsNoFlow : Recovered → Type 0
 HoldsNoFlow found = (found ≡ unborn) ⊎ (found ≡ bodies [])
 
--- it holds the plan and the history
-abbrev pub HoldsHistory : PlanValue → List Entry → Recovered → Type 0
-HoldsHistory plan past found = found ≡ bodies (bodies_of plan past)
+-- it holds the plan and the history, which a book may hold: the plan is within every limit and rule and can run, and each entry keeps
+-- its limits and may follow those before it
+pub record HoldsHistory (plan : PlanValue) (past : List Entry) (found : Recovered) : Type 0 where
+  pub is : found ≡ bodies (bodies_of plan past)
+  pub history : IsHistoryOf plan past
 
 -- ---- nothing was recorded
 
@@ -50,9 +53,9 @@ pub record StaysAlone (name : List ℕ) (entry now : DeskState) (closing : List 
 
 -- ---- a run over a book
 
--- recovery finds the plan with this history; or no flow, where the history is empty
-abbrev pub FindsHistory : PlanValue → List Entry → Recovered → Type 0
-FindsHistory plan past found = HoldsHistory plan past found ⊎ ((past ≡ []) × HoldsNoFlow found)
+-- recovery finds the plan with this history; or no flow, where the history is empty and the file held no flow at first
+abbrev pub FindsHistory : Recovered → PlanValue → List Entry → Recovered → Type 0
+FindsHistory first plan past found = HoldsHistory plan past found ⊎ ((past ≡ []) × HoldsNoFlow first × HoldsNoFlow found)
 
 -- what is shown after a crash: a prefix of the lines of the entries that recovery finds, or, where these are all that the call recorded
 -- and perhaps the pending one, all lines of the recorded entries and a prefix of the closing
@@ -64,37 +67,37 @@ IsShownThen plan quiet before entries kept shown closing text =
 
 -- a crash leaves this image and this text: recovery finds the history before the call with some of its entries, the oldest, and perhaps
 -- the pending one the last
-pub record MayLeave (plan : PlanValue) (quiet : Bool) (before entries pending : List Entry) (shown : Option (List ℕ)) (closing image text : List ℕ) : Type 0 where
+pub record MayLeave (first : Recovered) (plan : PlanValue) (quiet : Bool) (before entries pending : List Entry) (shown : Option (List ℕ)) (closing image text : List ℕ) : Type 0 where
   pub lost : List Entry
   pub kept : List Entry
   pub oldest : pending ++ entries ≡ lost ++ kept
-  pub finds : FindsHistory plan (kept ++ before) (book_in image)
+  pub finds : FindsHistory first plan (kept ++ before) (book_in image)
   pub spoken : IsShownThen plan quiet before entries kept shown closing text
 
--- the file has the plan and the history, and after a disk fault perhaps the pending entry besides; where nothing was recorded it may
--- still hold no flow
-abbrev pub HasFile : PlanValue → (before entries pending : List Entry) → List ℕ → Type 0
-HasFile plan before entries pending file =
-    FindsHistory plan (entries ++ before) (book_in file) ⊎ HoldsHistory plan (pending ++ (entries ++ before)) (book_in file)
+-- the file has the plan and the history, and after a disk fault perhaps the pending entry besides; where nothing was recorded, one that
+-- held no flow at first may still hold none
+abbrev pub HasFile : Recovered → PlanValue → (before entries pending : List Entry) → List ℕ → Type 0
+HasFile first plan before entries pending file =
+    FindsHistory first plan (entries ++ before) (book_in file) ⊎ HoldsHistory plan (pending ++ (entries ++ before)) (book_in file)
 
 -- a fresh file: it is unborn, or a book without a record as it was created
 abbrev pub IsFreshFile : List ℕ → Type 0
 IsFreshFile file = (book_in file ≡ unborn) ⊎ (file ≡ journal_bytes (title_of book_title) [])
 
--- at most one entry is pending, and only after a fault of the disk
-pub record IsPendingSo (pending : List Entry) (old new : DeskState) : Type 0 where
-  pub few : length pending ≤ 1
+-- at most one entry is pending behind the history, which it may follow, and only after a fault of the disk
+pub record IsPendingSo (plan : PlanValue) (past pending : List Entry) (old new : DeskState) : Type 0 where
+  pub few : MayFollow plan past pending
   pub caused : (pending ≡ []) ⊎ Rises old.disk_faults new.disk_faults
 
 -- what is promised of the file and of a crash, where the desk tells its content; of a fresh file of at most 18 bytes that wasn't met by
 -- a fault of the disk each byte is told
 pub record Lasts (name : List ℕ) (plan : PlanValue) (quiet : Bool) (before entries : List Entry) (entry now : DeskState) (closing : List ℕ) : Type 0 where
   pub pending : List Entry
-  pub few : IsPendingSo pending entry now
-  pub file : HasFile plan before entries pending (file_of now name)
+  pub few : IsPendingSo plan (entries ++ before) pending entry now
+  pub file : HasFile (book_at entry name) plan before entries pending (file_of now name)
   pub exact : IsFreshFile (file_of entry name) → length (file_of entry name) ≤ 18 → ¬ (Rises entry.disk_faults now.disk_faults)
       → HoldsHistory plan (entries ++ before) (book_at now name)
       → file_of now name ≡ journal_bytes (title_of book_title) (bodies_of plan (entries ++ before))
   pub others : (other : List ℕ) → other ≢ name → now.content.files other ≡ entry.content.files other
   pub crash : (moment : ℕ) → IsStart name entry now moment → (image text : List ℕ) → now.crashes moment image text
-      → MayLeave plan quiet before entries pending entry.shown closing image text
+      → MayLeave (book_at entry name) plan quiet before entries pending entry.shown closing image text

@@ -1,6 +1,7 @@
 -- What opening a file keeps.
-use Rattle.std.specs.Prelude.{ℕ, List}
+use Rattle.std.specs.Prelude.{ℕ, ◌≤◌, List, length}
 use Rattle.tf_ports.specs.Contents.{Contents, GivesBytes}
+use Rattle.tf_ports.specs.declared.reading.TheConstants.{SOURCE_LIMIT}
 use Rattle.tf_flow.specs.Written.{plan_tree}
 use Rattle.tf_machine.specs.Machine.{MachineValue}
 use Rattle.tf_commands.specs.Accepted.{GivesPlan}
@@ -10,4 +11,5 @@ use Rattle.tf_commands.specs.declared.reading.Source.{Source}
 pub record Opened (files : Contents) (source : Source) (m : MachineValue) : Type 0 where
   pub bytes : List ℕ
   pub given : GivesBytes files source.file bytes
+  pub short : length bytes ≤ SOURCE_LIMIT
   pub plan : GivesPlan source.sets source.defer bytes (plan_tree m.plan)

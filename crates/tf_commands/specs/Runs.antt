@@ -1,22 +1,23 @@
 -- What a run of a book keeps, from the book on which it began to the desk that it left; no clause of the top call cites it.
-use Rattle.std.specs.Prelude.{◌≡◌, ◌≢◌, ◌⊎◌, ℕ, true, false, IsTrue, List, [], ◌++◌, Option, None}
+use Rattle.std.specs.Prelude.{◌≡◌, ◌≢◌, ◌⊎◌, ℕ, true, false, IsTrue, List, [], ◌++◌, Option}
 use Rattle.tf_desk.specs.Counts.{Rises}
 use Rattle.tf_desk.specs.State.{DeskState, Continues, Passes, Says, nothing_left}
 use Rattle.tf_actions.specs.declared.orders.Order.{Order}
 use Rattle.tf_actions.specs.declared.outcomes.Outcome.{Outcome}
 use Rattle.tf_states.specs.declared.record.Entry.{Entry}
 use Rattle.tf_states.specs.declared.state.FlowState.{FlowState}
-use Rattle.tf_journal.specs.Format.{title_of}
+use Rattle.tf_journal.specs.Format.{Recovered, title_of}
 use Rattle.tf_journal.specs.Rest.{LeavesBodies, LeavesEither}
 use Rattle.tf_journal.specs.declared.title.Title.TheVariants.{Book as book_title}
 use Rattle.tf_book.specs.Book.{BookValue, outline, bodies_of, flow_state}
+use Rattle.tf_book.specs.Loading.{IsHistoryOf}
 use Rattle.tf_book.specs.SessionInvariant.{SessionInvariant, IsExact}
+use Rattle.tf_book.specs.Logging.{StaysOffDisk}
 use Rattle.tf_book.specs.Resetting.{IsPutBackOn}
 use Rattle.tf_bound.specs.Short.{AreShort, IsWithinLimits}
 use Rattle.tf_book.specs.declared.faults.Halt.{Halt}
 use Rattle.tf_book.specs.declared.faults.Halt.TheVariants as halt
 use Rattle.tf_engines.specs.Runs.{IsSession}
-use Rattle.tf_model.specs.Compilation.{compile_refusal}
 use Rattle.tf_model.specs.Sessions.{has_ended}
 use Rattle.tf_ports.specs.Wanted.{wanted as number_of}
 use Rattle.tf_ports.specs.declared.crews.Want.{Want}
@@ -73,17 +74,18 @@ module _ {K : Type 0} (state : K → DeskState) where
   pub record IsRunTo (gives : Order → Outcome → Type 0) (request : Request) (asked : Type 0) (start now : BookValue K) (stop : Option FlowState) : Type 0 where
     pub kept : SessionInvariant state start now
     pub session : IsSession gives asked (number_of request.want) request.limit (outline start) start.past now.past stop
-    pub compiles : compile_refusal start.plan ≡ None
+    pub history : IsHistoryOf start.plan now.past
     pub limits : IsWithinLimits (outline start)
     pub short_before : AreShort start.past
     pub short : AreShort now.past
     pub speaks : start.quiet ≡ request.quiet
 
-  -- what a crash since the start may leave and now leaves, and each byte of a file that was known
-  pub record RunLasts (start : BookValue K) (now : DeskState) (entries : List Entry) (closing : List ℕ) : Type 0 where
+  -- what a crash since the start may leave and now leaves, of a file that was found so at first, and each byte of a file that was known
+  pub record RunLasts (first : Recovered) (start : BookValue K) (now : DeskState) (entries : List Entry) (closing : List ℕ) : Type 0 where
     pub pending : List Entry
-    pub few : IsPendingSo pending (book_desk start) now
-    pub passes : Passes (MayLeave start.plan start.quiet start.past entries pending (book_desk start).shown closing) (book_desk start) now
+    pub few : IsPendingSo start.plan (entries ++ start.past) pending (book_desk start) now
+    pub history : IsHistoryOf start.plan (entries ++ start.past)
+    pub passes : Passes (MayLeave first start.plan start.quiet start.past entries pending (book_desk start).shown closing) (book_desk start) now
     pub leaves : LeavesEither (title_of book_title) now (bodies_of start.plan (entries ++ start.past)) (bodies_of start.plan (pending ++ (entries ++ start.past)))
     pub exact : ¬ (Rises (book_desk start).disk_faults now.disk_faults) → IsExact (book_desk start) start.plan start.past
         → IsExact now start.plan (entries ++ start.past)
@@ -92,7 +94,8 @@ module _ {K : Type 0} (state : K → DeskState) where
   abbrev pub LastsFrom : BookValue K → DeskState → List Entry → List ℕ → Type 0
   LastsFrom start now entries closing =
       IsTrue (book_desk start).tells → start.journal.volatile ≡ false
-      → LeavesBodies (title_of book_title) (book_desk start) (bodies_of start.plan start.past) → RunLasts start now entries closing
+      → LeavesBodies (title_of book_title) (book_desk start) (bodies_of start.plan start.past)
+      → (first : Recovered) → RunLasts first start now entries closing
 
   -- from the book on which a run began to the desk that it left
   pub record RunsOn (gives : Order → Outcome → Type 0) (request : Request) (asked : Type 0) (start : BookValue K) (now : DeskState) (status : ℕ) : Type 0 where
@@ -102,6 +105,7 @@ module _ {K : Type 0} (state : K → DeskState) where
     pub lasts : LastsFrom start now entries closing
     pub ran : Ran gives request asked start.plan start.past entries stop (book_desk start).shown now.shown closing status
     pub continues : Continues (book_desk start) now
+    pub off_disk : start.journal.volatile ≡ true → StaysOffDisk (book_desk start) now
     pub ended : HasEnded (book_desk start) now status
 
   -- the flow of a book is put back: some of what that records was recorded

@@ -71,12 +71,12 @@ pub fn taskflow<K: Desk + Send, S: Sources, W: Crew, L: Door, R: Threads + Wait 
 
     // A file that gives a plan is run to its end, or said to be in order, a book that holds a flow is resumed to its
     // end, or shown, or put back, and a command is done on a board that doesn't refuse it, unless a count of faults
-    // rose, a stop was asked for or memory ran out; 13 comes only as the course says, and 12 only where there is a
+    // rose (that of the door for a worker alone), a stop was asked for or memory ran out; 13 comes only as the course says, and 12 only where there is a
     // limit of entries.
     ensures complete { (command : AnAsked) → asked_for words.now ≡ Some command
         → MayBeDone command (S.contents outside.sources) (K.state outside.desk)
         → ¬ (WasAsked (K.state outside.desk) (K.state result.outside.desk))
-        → ¬ (Rises (L.faults outside.door) (L.faults result.outside.door))
+        → (IsWork command → ¬ (Rises (L.faults outside.door) (L.faults result.outside.door)))
         → HasNoFault (counts_of (K.state outside.desk) (S.faults outside.sources) (W.faults outside.crew))
         (counts_of (K.state result.outside.desk) (S.faults result.outside.sources) (W.faults result.outside.crew))
         → IsComplete command result.status }

@@ -13,6 +13,7 @@ ghost use Rattle.tf_journal.specs.Format.{title_of};
 ghost use Rattle.tf_journal.specs.Rest.{LeavesBodies};
 ghost use Rattle.tf_journal.specs.declared.title.Title.TheVariants.{Book as book_title};
 ghost use Rattle.tf_book.specs.Book.{outline, moment, flow_state, bodies_of};
+ghost use Rattle.tf_book.specs.Loading.{IsHistoryOf};
 ghost use Rattle.tf_book.specs.declared.faults.Halt.{Halt as Cause};
 
 use super::Book;
@@ -38,6 +39,7 @@ impl<K: Desk> Book<K> {
         ensures legal { LegalPast (outline self.now) self.now.past }
         ensures few { length self.now.past < 2 ^ 63 }
         ensures compiles { compile_refusal self.now.plan ≡ None }
+        ensures history { IsHistoryOf self.now.plan self.now.past }
         ensures limits { IsWithinLimits (outline self.now) }
         ensures short { AreShort self.now.past }
         ensures open { self.now.halt ≢ Some Cause.Disk → self.now.journal.halted ≡ false }
@@ -46,7 +48,8 @@ impl<K: Desk> Book<K> {
             → LeavesBodies (title_of book_title) (K.state self.now.journal.desk)
             (bodies_of self.now.plan self.now.past) }
     {
-        let _plan = self.machine.plan();
+        let plan = self.machine.plan();
+        let _root = plan.root();
         self.flow()
     }
 

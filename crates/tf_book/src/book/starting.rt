@@ -1,5 +1,6 @@
 ghost use Rattle.std.specs.Prelude.{◌≡◌, ◌≤◌, [], true, OnOk, IfOk, IfErr};
 ghost use Rattle.tf_desk.specs.State.{bytes_now, anything, Passes, GoesOn};
+ghost use Rattle.tf_entries.specs.Plans.{IsPlan};
 ghost use Rattle.tf_journal.specs.Format.{title_of, bodies, journal_bytes, recovered};
 ghost use Rattle.tf_journal.specs.Rest.{IsAtRest, IsOpen};
 ghost use Rattle.tf_journal.specs.declared.title.Title.TheVariants.{Book as book_title};
@@ -48,11 +49,12 @@ fn append_plan<K: Desk>(
         → bytes_now (K.state journal.old.desk) ≡ journal_bytes (title_of book_title) []
         → IsExact (K.state journal.new.desk) plan.now []) }
     ensures short { OnOk result (book_size plan.now [] ≤ 67108864) }
+    ensures is_plan { OnOk result (IsPlan plan.now) }
     ensures crash { IsOpen K.state journal.old
         → Passes (LeavesPlan plan.now (K.state journal.old.desk).shown) (K.state journal.old.desk)
         (K.state journal.new.desk) }
     ensures goes { GoesOn anything (K.state journal.old.desk) (K.state journal.new.desk) }
-    ensures fails { IfErr result (λ fault. FailsToAppendPlan K.state fault journal.old journal.new) }
+    ensures fails { IfErr result (λ fault. FailsToAppendPlan K.state plan.now fault journal.old journal.new) }
     ensures volatile { journal.old.volatile ≡ true → journal.new.desk ≡ journal.old.desk }
 {
     body.clear();
@@ -89,14 +91,17 @@ impl<K: Desk> Book<K> {
             → Passes (LeavesPlan machine.plan (K.state journal.desk).shown) (K.state journal.desk)
             (K.state (desk_started result)) }
         ensures goes { GoesOn anything (K.state journal.desk) (K.state (desk_started result)) }
-        ensures fails { IfErr result (λ back. FailsToStart K.state back.1 journal.desk back.0) }
+        ensures fails { IfErr result (λ back. FailsToStart K.state machine.plan back.1 journal.desk back.0) }
         ensures volatile { journal.volatile ≡ true → desk_started result ≡ journal.desk }
     {
         let Ok((history, draft)) = room(alloc) else {
             return Err((journal.into_desk(), BookFault::Memory));
         };
         let mut body = Vec::new(alloc);
-        match append_plan(&mut journal, machine.plan(), &mut body) {
+        let plan = machine.plan();
+        // What the plan's type keeps is read here: it is within every limit and rule.
+        let _root = plan.root();
+        match append_plan(&mut journal, plan, &mut body) {
             Ok(()) => Ok(Book {
                 alloc,
                 journal,

@@ -21,7 +21,7 @@ returns-in-Ok-clause-begins g c = λ name entry unbegun exact.
     (ap (λ (b : BookValue g.row.K.Denot). b.plan) e.made) (ap (λ (b : BookValue g.row.K.Denot). b.past) e.made) halt_is kept
     e.goes (λ told. e.crash (opened told))
     (λ told. c.state-pending.ensures.leaves told kept (not_halted book.halt halt_is))
-    (λ told fresh short. e.exact (opened told) (exact told fresh short))
+    (λ told fresh short. e.exact (opened told) (exact told fresh short)) c.state-pending.ensures.history
 
 pub returns-in-Err-clause-unbegun : goal.returns-in-Err-clause-unbegun
 returns-in-Err-clause-unbegun g c = λ name entry unbegun.
@@ -33,11 +33,11 @@ returns-in-Err-clause-unbegun g c = λ name entry unbegun.
     let made = c.requires.made in
     let opened : IsTrue (D.state journal.desk).tells → IsOpen D.state journal = (λ told. record { told = told; sound = made.new.sound; kept = made.kept }) in
     ⊎_elim
-    (λ rose. failed_unbegun plan unbegun e.goes (λ told. e.crash (opened told))
+    (λ why. failed_unbegun plan unbegun e.goes (λ told. e.crash (opened told))
     (record { shows = g.met.K.Desk.tells_shown now; reaches = λ told start i t le leaves. g.met.K.Desk.counts_now now start i t told le leaves; only = λ told i t was. g.met.K.Desk.only_now journal.desk i t told was })
-    (no_record_left D.state journal made) rose)
+    (no_record_left D.state journal made) why.0 why.1)
     (λ same. subst (λ (k : g.row.K.Denot). Unbegun name (D.state entry) plan (D.state k)) (sym same) unbegun)
-    (start_failed D.state c.in-Err.back.1 journal.desk now e.fails)
+    (start_failed D.state plan c.in-Err.back.1 journal.desk now e.fails)
 
 pub returns-in-Err-clause-fails : goal.returns-in-Err-clause-fails
-returns-in-Err-clause-fails g c = start_fails g.K.Desk.state c.in-Err.back.1 c.args.journal.desk c.in-Err.back.0 c.in-Err.ensures.fails
+returns-in-Err-clause-fails g c = start_fails g.K.Desk.state c.args.machine.plan c.in-Err.back.1 c.args.journal.desk c.in-Err.back.0 c.in-Err.ensures.fails

@@ -5,7 +5,7 @@ use Rattle.tf_commands.proofs.reading.open_file.Goals as goal
 
 pub returns-in-Ok-clause-closed : goal.returns-in-Ok-clause-closed
 returns-in-Ok-clause-closed g c =
-    closed_file c.open_bytes.result _ c.args.source c.in-Ok.bytes.items _ _ _ c.in-Ok.ensures.whole (rw c.deref.ensures.value at c.open_bytes.ensures.closed)
+    closed_file c.open_bytes.result _ c.args.source c.in-Ok.bytes.items _ _ _ c.in-Ok.ensures.whole c.in-Ok.ensures.short (rw c.deref.ensures.value at c.open_bytes.ensures.closed)
 
 pub returns-in-Err-Read-clause-closed : goal.returns-in-Err-Read-clause-closed
 returns-in-Err-Read-clause-closed g c = unread (λ told. (c.close.ensures.says.files told).files) c.close.ensures.closes

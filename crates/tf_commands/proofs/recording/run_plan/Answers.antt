@@ -16,7 +16,7 @@ returns-in-Ok-Book-clause-runs g c =
     let book = c.in-Ok-Book.book in
     let opened = rw c.in-Ok-Book.field-0-is at c.in-Ok-Book.ensures.opened in
     let loads = rw c.in-Ok-Book.field-0-is at c.in-Ok-Book.ensures.loads in
-    forbidden_over book.plan book.past refl (λ told. (loads told).0) (c.forbid.ensures.refuses c.args.name.now c.args.desk opened.untouched)
+    forbidden_over book.plan book.past refl (λ told. record { is = (loads told).0; history = (loads told).1 }) (c.forbid.ensures.refuses c.args.name.now c.args.desk opened.untouched)
 
 pub returns-in-Ok-Book-clause-causes : goal.returns-in-Ok-Book-clause-causes
 returns-in-Ok-Book-clause-causes g c =

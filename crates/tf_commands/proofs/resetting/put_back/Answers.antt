@@ -30,7 +30,7 @@ returns-in-Ok-clause-goes g c = λ name entry opened holds.
     rw (sym c.close.ensures.desk) at
     (resets_over D.state name (D.state entry) c.args.book (D.state book.journal.desk) _ opened holds c.requires.kept c.requires.speaks may
     (all_goes_back D.state c.args.book book
-    (record { kept = kept; put = c.in-Ok.ensures.put_back.on; speaks = c.requires.speaks }) c.in-Ok.ensures.sound opened_so c.in-Ok.ensures.put_back.pending)
+    (record { kept = kept; put = c.in-Ok.ensures.put_back.on; speaks = c.requires.speaks }) c.in-Ok.ensures.sound opened_so c.in-Ok.ensures.put_back.pending c.state-pending.ensures.history)
     (record {
       there = λ told picked. g.met.K.Desk.picked_is_there book.journal.desk name told picked;
       reads = λ told bytes is. g.met.K.Desk.reads_left book.journal.desk name bytes told is;

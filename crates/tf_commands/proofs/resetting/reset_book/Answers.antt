@@ -8,7 +8,7 @@ pub returns-in-Ok-Book-clause-resets : goal.returns-in-Ok-Book-clause-resets
 returns-in-Ok-Book-clause-resets g c =
     let opened = rw c.in-Ok-Book.field-0-is at c.in-Ok-Book.ensures.opened in
     let loads = rw c.in-Ok-Book.field-0-is at c.in-Ok-Book.ensures.loads in
-    c.put_back.ensures.goes c.args.name.now c.args.desk opened (λ told. (loads told).0)
+    c.put_back.ensures.goes c.args.name.now c.args.desk opened (λ told. record { is = (loads told).0; history = (loads told).1 })
 
 pub returns-in-Ok-NoFlow-clause-resets : goal.returns-in-Ok-NoFlow-clause-resets
 returns-in-Ok-NoFlow-clause-resets g c =

@@ -16,7 +16,7 @@ returns-in-Ok-Book-clause-resumes g c =
     resumes_more _ c.args.request.now _ _ c.args.name.now _ _ (D.state c.args.desk) (D.state c.go_on.result.desk) c.go_on.result.status
     (λ rose. rises_later (D.state c.args.desk).asks (D.state book.journal.desk).asks (D.state c.go_on.result.desk).asks (rw c.in-Ok-Book.field-0-is at c.in-Ok-Book.ensures.asks) rose)
     (resumed_over book (subst CanRun c.machine.ensures.plan (c.plan-plan.ensures.compiles, c.plan-plan.ensures.complete))
-    (λ told. (loads told).0) (c.go_on.ensures.goes c.args.name.now c.args.desk opened (λ told. (loads told).0)))
+    (λ told. record { is = (loads told).0; history = (loads told).1 }) (c.go_on.ensures.goes c.args.name.now c.args.desk opened (λ told. record { is = (loads told).0; history = (loads told).1 })))
 
 pub returns-in-Ok-NoFlow-clause-resumes : goal.returns-in-Ok-NoFlow-clause-resumes
 returns-in-Ok-NoFlow-clause-resumes g c =

@@ -1,3 +1,6 @@
+use Rattle.std.proofs.Common.{subst}
+use Rattle.tf_flow.specs.Plan.{PlanValue}
+use Rattle.tf_book.specs.Loading.{IsHistoryOf}
 use Rattle.tf_book.proofs.InvariantLemmas.{keeps_none}
 use Rattle.tf_commands.proofs.AskedLemmas.{session_more}
 use Rattle.tf_commands.proofs.CountLemmas.{rises_until}
@@ -8,7 +11,7 @@ returns-in-Ended-clause-runs g c =
     c.end_run.ensures.runs c.args.book (record {
       kept = c.go_through-book.ensures.keeps c.args.book (keeps_none g.K.Desk.state c.args.book c.requires.sound);
       session = session_more _ _ _ _ _ _ _ _ _ (λ rose. rises_until (g.K.Desk.state c.args.book.journal.desk).asks (g.K.Desk.state c.go_through-book.result.book.journal.desk).asks _ rose c.end_run.ensures.asks) (rw c.requires.all at (rw c.in-Ended.is at c.go_through-book.ensures.ran));
-      compiles = c.state-before.ensures.compiles;
+      history = subst (λ (p : PlanValue). IsHistoryOf p c.go_through-book.result.book.past) c.go_through-book.ensures.plan c.state-after.ensures.history;
       limits = c.state-before.ensures.limits;
       short_before = c.state-before.ensures.short;
       short = c.state-after.ensures.short;
@@ -20,7 +23,7 @@ returns-in-Suspended-clause-runs g c =
     c.end_run-in-Suspended.ensures.runs c.args.book (record {
       kept = c.go_through-book.ensures.keeps c.args.book (keeps_none g.K.Desk.state c.args.book c.requires.sound);
       session = session_more _ _ _ _ _ _ _ _ _ (λ rose. rises_until (g.K.Desk.state c.args.book.journal.desk).asks (g.K.Desk.state c.go_through-book.result.book.journal.desk).asks _ rose c.end_run-in-Suspended.ensures.asks) (rw c.requires.all at (rw c.in-Suspended.is at c.go_through-book.ensures.ran));
-      compiles = c.state-before.ensures.compiles;
+      history = subst (λ (p : PlanValue). IsHistoryOf p c.go_through-book.result.book.past) c.go_through-book.ensures.plan c.state-after.ensures.history;
       limits = c.state-before.ensures.limits;
       short_before = c.state-before.ensures.short;
       short = c.state-after.ensures.short;
@@ -33,7 +36,7 @@ returns-in-Halted-clause-runs g c =
     c.say_halt.ensures.runs c.args.request.now c.args.book ran.0 (record {
       kept = c.go_through-book.ensures.keeps c.args.book (keeps_none g.K.Desk.state c.args.book c.requires.sound);
       session = session_more _ _ _ _ _ _ _ _ _ (λ rose. rises_until (g.K.Desk.state c.args.book.journal.desk).asks (g.K.Desk.state c.go_through-book.result.book.journal.desk).asks _ rose c.say_halt.ensures.asks) (ran.1);
-      compiles = c.state-before.ensures.compiles;
+      history = subst (λ (p : PlanValue). IsHistoryOf p c.go_through-book.result.book.past) c.go_through-book.ensures.plan c.state-after.ensures.history;
       limits = c.state-before.ensures.limits;
       short_before = c.state-before.ensures.short;
       short = c.state-after.ensures.short;

@@ -17,7 +17,7 @@ returns-in-Ok-Book-clause-shows g c =
     let is_open = subst (λ (l : Loaded g.row.K.Denot). Open c.args.name.now entry (D.state (desk_of l))) b.field-0-is b.ensures.opened in
     let loads = subst (λ (l : Loaded g.row.K.Denot). IsTrue entry.tells → IsLoaded l (book_at entry c.args.name.now)) b.field-0-is b.ensures.loads in
     shows_whole D.state c.args.name.now c.args.desk c.say_whole.result.desk c.say_whole.result.status
-    _ b.book b.book-is c.say_whole.ensures.shows is_open.untouched (λ telling. (loads telling).0)
+    _ b.book b.book-is c.say_whole.ensures.shows is_open.untouched (λ telling. record { is = (loads telling).0; history = (loads telling).1 })
 
 pub returns-in-Ok-Book-clause-causes : goal.returns-in-Ok-Book-clause-causes
 returns-in-Ok-Book-clause-causes g c =

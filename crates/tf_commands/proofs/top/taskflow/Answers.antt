@@ -1,4 +1,4 @@
-use Rattle.tf_commands.proofs.CauseLemmas.{usage_tells, refused_tells, board_tells, alone}
+use Rattle.tf_commands.proofs.CauseLemmas.{usage_tells, refused_tells, board_tells, alone, works_so}
 use Rattle.tf_commands.proofs.CompleteLemmas.{completes}
 use Rattle.tf_commands.proofs.top.taskflow.Goals as goal
 
@@ -13,4 +13,4 @@ returns-clause-board_refused g c = board_tells g.K.Desk.state _ _ _ _ _ _ _ c.an
 
 pub returns-clause-complete : goal.returns-clause-complete
 returns-clause-complete g c command asks ready unasked unlistened none =
-    completes g.K.Desk.state _ _ _ _ _ _ _ _ _ c.answer-desk.ensures.course (alone _ _ _ _ (λ both. unlistened both.1) c.answer-desk.ensures.causes) command asks ready none unasked
+    completes g.K.Desk.state _ _ _ _ _ _ _ _ _ c.answer-desk.ensures.course (alone _ _ _ _ (λ both. unlistened (works_so c.args.words.now both.0.0 command both.0.1 both.0.2 asks) both.1) c.answer-desk.ensures.causes) command asks ready none unasked

@@ -1,6 +1,10 @@
 use Rattle.std.proofs.Common.{sym, subst}
 use Rattle.tf_desk.specs.State.{anything, GoesOn}
 use Rattle.tf_desk.proofs.StateLemmas.{goes_none}
+use Rattle.tf_flow.specs.Plan.{PlanValue}
+use Rattle.tf_book.specs.Loading.{IsAcceptedPlan}
+use Rattle.tf_book.specs.Starting.{FailsToAppendPlan}
+use Rattle.tf_book.proofs.ReadingLemmas.{not_begun}
 use Rattle.tf_book.proofs.StartLemmas.{start_fails}
 use Rattle.tf_book.proofs.book.Book.start.Goals as goal
 
@@ -10,4 +14,6 @@ returns-in_default-clause-goes g c =
 
 pub returns-in-Err-clause-fails : goal.returns-in-Err-clause-fails
 returns-in-Err-clause-fails g c =
-    start_fails g.K.Desk.state c.in-Err.fault c.args.journal c.append_plan.new.journal c.into_desk-in-Err.result c.into_desk-in-Err.ensures c.in-Err.ensures.fails
+    start_fails g.K.Desk.state c.args.machine.plan c.in-Err.fault c.args.journal c.append_plan.new.journal c.into_desk-in-Err.result c.into_desk-in-Err.ensures
+    (λ limits. not_begun c.args.machine.plan (subst IsAcceptedPlan c.plan.ensures.is c.root.ensures.accepted) limits (c.plan.ensures.compiles, c.plan.ensures.complete))
+    (subst (λ (p : PlanValue). FailsToAppendPlan g.K.Desk.state p c.in-Err.fault c.args.journal c.append_plan.new.journal) c.plan.ensures.is c.in-Err.ensures.fails)
