@@ -23,10 +23,10 @@ use Rattle.tf_model.specs.Views.{Shows}
 use Rattle.tf_book.specs.Book.{BookValue, outline, bodies_of}
 use Rattle.tf_book.specs.SessionInvariant.{said, LeavesEntries, IsSpoken, HasCause, SessionInvariant}
 use Rattle.tf_book.specs.Closed.{IsClosing, LeavesClosing, LeavesClosed, Closed}
-use Rattle.tf_book.specs.Logging.{IsSaid}
+use Rattle.tf_book.specs.Logging.{IsSaid, StaysOffDisk}
 use Rattle.tf_book.specs.Recording.{halt_after}
 use Rattle.tf_book.specs.Sound.{IsSoundBook}
-use Rattle.tf_book.proofs.LogLemmas.{OutAlone, said_at_rest, off_on}
+use Rattle.tf_book.proofs.LogLemmas.{OutAlone, said_at_rest, off_none, off_on, off_says}
 use Rattle.tf_book.proofs.InvariantLemmas.{not_disk}
 use Rattle.tf_book.proofs.SpokenLemmas.{none_pending}
 use Rattle.tf_book.specs.declared.faults.Halt.{Halt}
@@ -62,7 +62,7 @@ pub record SaidClosing {K : Type 0} (state : K → DeskState) (plan : PlanValue)
   pub journal : now ≡ record old { desk = now.desk }
   pub continues : Continues (state old.desk) (state now.desk)
   pub files : IsTrue (state old.desk).tells → FilesStay (state old.desk) (state now.desk)
-  pub disk_faults : (state now.desk).disk_faults ≡ (state old.desk).disk_faults
+  pub off_disk : StaysOffDisk (state old.desk) (state now.desk)
   pub crash : IsOpen state old → Passes (LeavesClosing plan past (state old.desk).shown closing) (state old.desk) (state now.desk)
 
 module _ {K : Type 0} (state : K → DeskState) where
@@ -83,7 +83,7 @@ module _ {K : Type 0} (state : K → DeskState) where
     journal = refl;
     continues = continues_none;
     files = λ told. files_none;
-    disk_faults = refl;
+    off_disk = off_none;
     crash = λ opened. passes_none;
   }
 
@@ -98,7 +98,7 @@ module _ {K : Type 0} (state : K → DeskState) where
     quiet = k.quiet;
     volatile = ap (λ (h : Held K). h.volatile) s.journal ∙ k.volatile;
     continues = continues_on k.continues s.continues;
-    off_disk = λ volatile. off_on (k.off_disk volatile) told_then (record { files = λ told. (s.files told).files; disk_faults = s.disk_faults });
+    off_disk = λ volatile. off_on (k.off_disk volatile) told_then s.off_disk;
     text = subst (λ (b : Option (List ℕ)). IsClosing b closing halted (state j.desk).shown) shown_then s.text;
     crash = λ told kept. crash_then told kept;
     left_now = λ told kept before image is_left.
@@ -173,7 +173,7 @@ module _ {K : Type 0} (state : K → DeskState) where
         journal = same;
         continues = says_continues says;
         files = says.files;
-        disk_faults = says.disk_faults;
+        off_disk = off_says says;
         crash = λ opened. leaves_closing b.journal b.plan b.past closing is.title (is.ready opened) (says.crash opened.told);
       }))
       (subst (λ (x : BookValue K). SessionInvariant state start x) (sym is_old) k)

@@ -40,7 +40,7 @@ shows_none shown bytes text is = record { count = 0; prefix = sym is ∙ quiet_s
 -- ---- off the disk
 
 pub off_none : {now : DeskState} → StaysOffDisk now now
-off_none = record { files = λ told. refl; disk_faults = refl }
+off_none = record { files = λ told. (refl, refl); disk_faults = refl }
 
 -- an equal desk
 pub off_same : {K : Type 0} (state : K → DeskState) (old new : K) → new ≡ old → StaysOffDisk (state old) (state new)
@@ -48,14 +48,14 @@ off_same {K} state old new same = subst (λ (d : K). StaysOffDisk (state old) (s
 
 -- one call after another
 pub off_on : {old mid new : DeskState} → StaysOffDisk old mid → (IsTrue old.tells → IsTrue mid.tells) → StaysOffDisk mid new → StaysOffDisk old new
-off_on a told b = record { files = λ is. b.files (told is) ∙ a.files is; disk_faults = b.disk_faults ∙ a.disk_faults }
+off_on a told b = record { files = λ is. (let later = b.files (told is) in let before = a.files is in (later.0 ∙ before.0, later.1 ∙ before.1)); disk_faults = b.disk_faults ∙ a.disk_faults }
 
 -- to say is off the disk, and so is to ask
 pub off_says : {bytes : List ℕ} {old new : DeskState} → Says bytes old new → StaysOffDisk old new
-off_says says = record { files = λ told. (says.files told).files; disk_faults = says.disk_faults }
+off_says says = record { files = λ told. ((says.files told).files, says.marks told); disk_faults = says.disk_faults }
 
 pub off_asks : {old new : DeskState} → Asks old new → StaysOffDisk old new
-off_asks asks = record { files = λ told. (asks.files told).files; disk_faults = asks.disk_faults }
+off_asks asks = record { files = λ told. ((asks.files told).files, asks.marks told); disk_faults = asks.disk_faults }
 
 -- what an append may leave is what an append and its line may leave
 appended_logged : (title : List ℕ) (held : List (List ℕ)) (new line : List ℕ) (shown : Option (List ℕ)) (image text : List ℕ)

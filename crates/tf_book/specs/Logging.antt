@@ -64,9 +64,9 @@ pub record LogsAtMost {K : Type 0} (state : K → DeskState) (body line : List �
   pub crash : Passes (LeavesLogged (title_of old.title) held body line (state old.desk).shown) (state old.desk) (state new.desk)
   pub leaves : LeavesEither (title_of old.title) (state new.desk) held (held ++ body ∷ [])
 
--- no file changed, and the disk had no fault
+-- no file changed, none was picked or synced, and the disk had no fault
 pub record StaysOffDisk (old new : DeskState) : Type 0 where
-  pub files : IsTrue old.tells → new.content.files ≡ old.content.files
+  pub files : IsTrue old.tells → (new.content.files ≡ old.content.files) × (new.content.marks ≡ old.content.marks)
   pub disk_faults : new.disk_faults ≡ old.disk_faults
 
 -- a body was to be appended, and its line said after it; nothing else was done

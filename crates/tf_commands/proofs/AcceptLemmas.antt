@@ -25,7 +25,7 @@ use Rattle.tf_commands.specs.declared.accepting.Refusal.TheVariants as refusal
 
 -- ---- plans that are written alike are alike to a run
 
-same_outline : (p q : PlanTree) → plan_as_written p ≡ plan_as_written q → outline_in p ≡ outline_in q
+pub same_outline : (p q : PlanTree) → plan_as_written p ≡ plan_as_written q → outline_in p ≡ outline_in q
 same_outline p q same =
     let root : as_written p.root ≡ as_written q.root = ap (λ (w : WrittenPlan). w.root) same in
     let store : p.store ≡ q.store = ap (λ (w : WrittenPlan). w.store) same in

@@ -110,12 +110,12 @@ works_one hired after_hiring before now sessions status (worked here serves) = s
 -- ---- nothing but saying
 
 pub says_itself : {old : DeskState} → OnlySays old old
-says_itself = record { tells = refl; files = λ told. refl; disk = refl; out = omega arith; asks = omega arith }
+says_itself = record { tells = refl; files = λ told. (refl, refl); disk = refl; out = omega arith; asks = omega arith }
 
 pub says_on : {old mid now : DeskState} → OnlySays old mid → OnlySays mid now → OnlySays old now
 says_on first second = record {
   tells = second.tells ∙ first.tells;
-  files = λ told. second.files (subst IsTrue (sym first.tells) told) ∙ first.files told;
+  files = λ told. (let later = second.files (subst IsTrue (sym first.tells) told) in let before = first.files told in (later.0 ∙ before.0, later.1 ∙ before.1));
   disk = second.disk ∙ first.disk;
   out = omega (arith, first.out, second.out);
   asks = omega (arith, first.asks, second.asks);
@@ -125,7 +125,7 @@ says_on first second = record {
 pub says_only : {bytes : List ℕ} {old now : DeskState} → Says bytes old now → OnlySays old now
 says_only says = record {
   tells = says.tells;
-  files = λ told. (says.files told).files;
+  files = λ told. ((says.files told).files, says.marks told);
   disk = says.disk_faults;
   out = says.out_faults;
   asks = omega (arith, says.asks);

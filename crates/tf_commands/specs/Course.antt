@@ -158,7 +158,7 @@ module _ {K : Type 0} (state : K → DeskState) where
   pub data Course (gives : Order → Outcome → Type 0) (stopped : Type 0) (words : List (List ℕ)) (files : Contents) (hired after_hiring : Option (List Want)) (entry now : K)
       (status : ℕ) : Type 0 where
     -- memory ran out before the words were read
-    unheard : status ≡ OUT_OF_MEMORY → (state now).shown ≡ (state entry).shown → IsUntouched hired after_hiring (state entry) (state now)
+    unheard : status ≡ OUT_OF_MEMORY → now ≡ entry → after_hiring ≡ hired
         → Course gives stopped words files hired after_hiring entry now status
     -- the words are no command
     no_command : asked_for words ≡ None → ClosesWith (state entry).shown usage NO_COMMAND (state now).shown status → IsUntouched hired after_hiring (state entry) (state now)

@@ -16,9 +16,9 @@ use Rattle.tf_book.specs.SessionInvariant.{said, MayFollow}
 
 -- ---- files
 
--- no file changed
+-- no file changed, and none was picked or synced
 abbrev pub NoFileChanges : DeskState → DeskState → Type 0
-NoFileChanges entry now = IsTrue entry.tells → now.content.files ≡ entry.content.files
+NoFileChanges entry now = IsTrue entry.tells → (now.content.files ≡ entry.content.files) × (now.content.marks ≡ entry.content.marks)
 
 -- no file changed, and the status isn't that of a failed disk
 abbrev pub TouchesNoFile : DeskState → DeskState → ℕ → Type 0

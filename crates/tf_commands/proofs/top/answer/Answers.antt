@@ -14,7 +14,7 @@ obey-requires-clause-within g c = λ lives kept.
     (ap if_done_here (sym c.in-Ok.ensures) ∙ sym c.done_here.ensures.is ∙ c.in-Some.is)
 
 pub returns-in_default-clause-course : goal.returns-in_default-clause-course
-returns-in_default-clause-course g c = unheard refl refl (refl, λ told. refl)
+returns-in_default-clause-course g c = unheard refl refl refl
 
 pub returns-in-Some-clause-course : goal.returns-in-Some-clause-course
 returns-in-Some-clause-course g c =
@@ -22,7 +22,7 @@ returns-in-Some-clause-course g c =
 
 pub returns-in-None-clause-course : goal.returns-in-None-clause-course
 returns-in-None-clause-course g c =
-    no_command (ap if_done_here (sym c.in-Ok.ensures) ∙ sym c.done_here.ensures.is ∙ c.in-None.is) c.close-status.ensures.closes (refl, λ told. (c.close-status.ensures.says.files told).files)
+    no_command (ap if_done_here (sym c.in-Ok.ensures) ∙ sym c.done_here.ensures.is ∙ c.in-None.is) c.close-status.ensures.closes (refl, λ told. ((c.close-status.ensures.says.files told).files, c.close-status.ensures.says.marks told))
 
 pub returns-in_default-clause-hires : goal.returns-in_default-clause-hires
 returns-in_default-clause-hires g c = hires_nobody _ _

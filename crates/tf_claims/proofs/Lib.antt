@@ -1,0 +1,5 @@
+pub mod OnceLemmas
+pub mod TitleLemmas
+pub mod NameLemmas
+pub mod StepLemmas
+pub mod LifeLemmas

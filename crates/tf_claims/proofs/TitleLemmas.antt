@@ -1,0 +1,97 @@
+-- A file isn't both a book and a board.
+use Rattle.std.proofs.Common.{◌≡◌, ◌⊎◌, ℕ, ◌+◌, List, [], ◌∷◌, ◌++◌, Bool, true, false, Option, Some, None, refl, sym, ◌∙◌, ap, eqb-true, ⊎_elim, arith}
+use Rattle.std.proofs.lemmas.Bool.Decides.{Decides-eqb, not_from_Decides, eqb_tells}
+use Rattle.std.specs.Prelude.{◌==◌, ◌&&◌, ◌||◌, nat_eq, length}
+use Rattle.tf_journal.specs.Format.{OPEN, Recovered, unborn, bodies, not_a_book, title_of, title_fault, titled, is_unborn, recovered, records_from}
+use Rattle.tf_journal.specs.declared.title.Title.TheVariants.{Book as book_title, Jobs as jobs_title}
+
+-- a letter that agrees, and one that doesn't
+letter_on : (z byte : ℕ) (letters rest : List ℕ) (offset : ℕ) → (z == byte) ≡ true → title_fault (z ∷ letters) (byte ∷ rest) offset ≡ title_fault letters rest (offset + 1)
+letter_on z byte letters rest offset is = rw is refl
+
+letter_off : (z byte : ℕ) (letters rest : List ℕ) (offset : ℕ) → (z == byte) ≡ false → title_fault (z ∷ letters) (byte ∷ rest) offset ≡ Some (offset, Some byte)
+letter_off z byte letters rest offset is = rw is refl
+
+-- a title that agrees up to a letter disagrees with one that has another letter there
+other_title : (front : List ℕ) (x y : ℕ) (a b rest : List ℕ) (offset : ℕ) → (x == y) ≡ false → title_fault (front ++ x ∷ a) rest offset ≡ None
+    → (fault : ℕ × Option ℕ) × (title_fault (front ++ y ∷ b) rest offset ≡ Some fault)
+other_title [] x y a b [] offset apart none = ((offset, None), refl)
+other_title [] x y a b (byte ∷ rest) offset apart none = by (x == byte) (y == byte) refl refl
+  where
+    by : (s t : Bool) → (x == byte) ≡ s → (y == byte) ≡ t → (fault : ℕ × Option ℕ) × (title_fault (y ∷ b) (byte ∷ rest) offset ≡ Some fault)
+    by s false is isnt = ((offset, Some byte), letter_off y byte b rest offset isnt)
+    by false true is isnt = let fault = letter_off x byte a rest offset is in absurd (cc)
+    by true true is isnt = absurd (not_from_Decides (x == y) (Decides-eqb x y) apart (eqb-true x byte is ∙ sym (eqb-true y byte isnt)))
+other_title (z ∷ front) x y a b [] offset apart none = ((offset, None), refl)
+other_title (z ∷ front) x y a b (byte ∷ rest) offset apart none = by (z == byte) refl (λ later. other_title front x y a b rest (offset + 1) apart later)
+  where
+    by : (t : Bool) → (z == byte) ≡ t
+        → (title_fault (front ++ x ∷ a) rest (offset + 1) ≡ None → (fault : ℕ × Option ℕ) × (title_fault (front ++ y ∷ b) rest (offset + 1) ≡ Some fault))
+        → (fault : ℕ × Option ℕ) × (title_fault (z ∷ (front ++ y ∷ b)) (byte ∷ rest) offset ≡ Some fault)
+    by true is later =
+        let on = later (sym (letter_on z byte (front ++ x ∷ a) rest offset is) ∙ none) in
+        (on.0, letter_on z byte (front ++ y ∷ b) rest offset is ∙ on.1)
+    by false is later = let fault = letter_off z byte (front ++ x ∷ a) rest offset is in absurd (cc)
+
+-- the title of boards isn't that of a book
+jobs_apart : (rest : List ℕ) → title_fault (title_of book_title) rest 1 ≡ None → (fault : ℕ × Option ℕ) × (title_fault (title_of jobs_title) rest 1 ≡ Some fault)
+jobs_apart rest none =
+    other_title (84 ∷ 65 ∷ 83 ∷ 75 ∷ 70 ∷ 76 ∷ 79 ∷ 87 ∷ 32 ∷ []) 66 74 (79 ∷ 79 ∷ 75 ∷ 32 ∷ 49 ∷ 10 ∷ []) (79 ∷ 66 ∷ 83 ∷ 32 ∷ 49 ∷ 10 ∷ []) rest 1 refl none
+
+-- a list with a first has a length above 0
+never_none : (byte : ℕ) (rest : List ℕ) → nat_eq (length (byte ∷ rest)) 0 ≡ false
+never_none byte rest = ⊎_elim (λ none. absurd (omega (arith, none.1))) (λ some. some.0) (eqb_tells (length (byte ∷ rest)) 0)
+
+-- two tests that fail by their second halves, and one that fails
+neither : (a b c : Bool) → a ≡ false → ((a || (b && false)) || (c && false)) ≡ false
+neither false false false is = refl
+neither false false true is = refl
+neither false true false is = refl
+neither false true true is = refl
+neither true b c is = absurd (cc)
+
+-- what a file is that has an open gate first, and isn't unborn
+titled_so : (title : List ℕ) (gate : ℕ) (rest : List ℕ) → is_unborn title (gate ∷ rest) ≡ false → (gate == OPEN) ≡ true
+    → recovered title (gate ∷ rest) ≡ titled (title_fault title rest 1) (records_from (length (gate ∷ rest)) (gate ∷ rest) 17)
+titled_so title gate rest born opened = rw (born, opened) refl
+
+-- a file that is a book's journal is no board's
+pub no_board_too : (bytes : List ℕ) (held : List (List ℕ)) → recovered (title_of book_title) bytes ≡ bodies held
+    → (offset : ℕ) × (byte : Option ℕ) × (recovered (title_of jobs_title) bytes ≡ not_a_book offset byte)
+no_board_too [] held is = absurd (cc)
+no_board_too (gate ∷ rest) held is = by (is_unborn (title_of book_title) (gate ∷ rest)) (gate == OPEN) refl refl
+  where
+    book : List ℕ
+    book = title_of book_title
+
+    jobs : List ℕ
+    jobs = title_of jobs_title
+
+    all : List ℕ
+    all = gate ∷ rest
+
+    here : Recovered
+    here = records_from (length all) all 17
+
+    found : (fault : Option (ℕ × Option ℕ)) → title_fault book rest 1 ≡ fault → titled fault here ≡ bodies held → fault ≡ None
+    found None told is_so = refl
+    found (Some fault) told is_so = absurd (cc)
+
+    never_unborn : (gate == OPEN) ≡ true → title_fault book rest 1 ≡ None → is_unborn jobs all ≡ false
+    never_unborn opened none = some rest none
+      where
+        gate_is : gate ≡ OPEN
+        gate_is = eqb-true gate OPEN opened
+
+        some : (r : List ℕ) → title_fault book r 1 ≡ None → is_unborn jobs (gate ∷ r) ≡ false
+        some [] told = absurd (cc)
+        some (byte ∷ r) told = rw gate_is (neither (nat_eq (length (byte ∷ r)) 0) _ _ (never_none byte r))
+
+    by : (u o : Bool) → is_unborn book all ≡ u → (gate == OPEN) ≡ o → (offset : ℕ) × (byte : Option ℕ) × (recovered jobs all ≡ not_a_book offset byte)
+    by true o unborn_is opened = let none : recovered book all ≡ unborn = rw unborn_is refl in absurd (cc)
+    by false false unborn_is opened =
+        let none : recovered book all ≡ not_a_book 0 (Some gate) = rw (unborn_is, opened) refl in absurd (cc)
+    by false true unborn_is opened =
+        let told = found (title_fault book rest 1) refl (sym (titled_so book gate rest unborn_is opened) ∙ is) in
+        let apart = jobs_apart rest told in
+        (apart.0.0, apart.0.1, titled_so jobs gate rest (never_unborn opened told) opened ∙ ap (λ (f : Option (ℕ × Option ℕ)). titled f here) apart.1)

@@ -1,0 +1,53 @@
+-- A life of a file: calls of the program, one after another, each from what the one before it left.
+use Rattle.std.specs.Prelude.{◌≡◌, ℕ, IsTrue, List, Option, Some}
+use Rattle.tf_desk.specs.State.{DeskState}
+use Rattle.tf_ports.specs.Contents.{Contents}
+use Rattle.tf_ports.specs.declared.crews.Want.{Want}
+use Rattle.tf_actions.specs.declared.orders.Order.{Order}
+use Rattle.tf_actions.specs.declared.outcomes.Outcome.{Outcome}
+use Rattle.tf_journal.specs.Start.{file_of, IsStart}
+use Rattle.tf_words.specs.declared.asked.Asked.{Asked}
+use Rattle.tf_words.specs.declared.asked.Asked.TheVariants as asked
+use Rattle.tf_board.specs.Answers.{board_of}
+use Rattle.tf_commands.specs.Asking.{asked_for}
+use Rattle.tf_commands.specs.Causes.{WasAsked}
+use Rattle.tf_commands.specs.Course.{Course}
+
+-- the book or the board that a command is about
+abbrev pub file_of_command : Asked → Option (List ℕ)
+file_of_command (asked.Run file book sets defer hands stop) = Some book
+file_of_command (asked.Resume book hands stop) = Some book
+file_of_command (asked.Show book) = Some book
+file_of_command (asked.Reset book) = Some book
+file_of_command (asked.Demo seed size book hands) = Some book
+file_of_command command = board_of command
+
+-- the words are a command about the file of that name
+abbrev pub IsAbout : List (List ℕ) → List ℕ → Type 0
+IsAbout words name = (command : Asked) × (asked_for words ≡ Some command) × (file_of_command command ≡ Some name)
+
+module _ {K : Type 0} (state : K → DeskState) (gives : Order → Outcome → Type 0) where
+  -- a call of the program, of which the top call's clause on its course holds: by any words, with any sources, hired hands and faults, on
+  -- a desk that tells what its files have, and whatever its status
+  pub record Call : Type 0 where
+    pub words : List (List ℕ)
+    pub files : Contents
+    pub hired : Option (List Want)
+    pub after_hiring : Option (List Want)
+    pub entry : K
+    pub now : K
+    pub status : ℕ
+    pub tells : IsTrue (state entry).tells
+    pub course : Course state gives (WasAsked (state entry) (state now)) words files hired after_hiring entry now status
+
+  -- what a call leaves of the file: what it has when the call returns; or, where the words are about it, what a crash inside the call left
+  pub data Leaves (name : List ℕ) (call : Call) : List ℕ → Type 0 where
+    returned : Leaves name call (file_of (state call.now) name)
+    crashed : IsAbout call.words name → (moment : ℕ) → IsStart name (state call.entry) (state call.now) moment
+        → (image text : List ℕ) → (state call.now).crashes moment image text → Leaves name call image
+
+  -- a life of the file, from the bytes that it had at first to those that it has at last: each call began on what the one before it left
+  pub data Life (name first : List ℕ) : List ℕ → Type 0 where
+    unlived : Life name first first
+    lived : {mid last : List ℕ} → Life name first mid → (call : Call) → file_of (state call.entry) name ≡ mid → Leaves name call last
+        → Life name first last

@@ -1,0 +1,8 @@
+//! What holds over a life of a file: of calls of the program, one after another, by any words, where each starts from
+//! what the one before it left, or from what a crash inside that left. The functions do nothing; their contracts are the
+//! laws, and follow from the clauses of the top call alone.
+#![tactic(auto)]
+
+mod laws;
+
+pub use laws::history_only_grows;
