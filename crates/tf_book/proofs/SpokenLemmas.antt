@@ -27,11 +27,11 @@ shown_none None = refl
 shown_none (Some text) = ap Some (append-nil text)
 
 -- all bytes are a prefix of themselves
-prefix_whole : (before : Option (List ℕ)) (bytes text : List ℕ) → Some text ≡ shown_with before bytes → ShowsPrefix before bytes (Some text)
+pub prefix_whole : (before : Option (List ℕ)) (bytes text : List ℕ) → Some text ≡ shown_with before bytes → ShowsPrefix before bytes (Some text)
 prefix_whole before bytes text is = record { count = length bytes; prefix = is ∙ ap (shown_with before) (sym (take-length bytes)) }
 
 -- a prefix of what follows is a prefix of all
-prefix_further : (before mid : Option (List ℕ)) (a b text : List ℕ) → mid ≡ shown_with before a → ShowsPrefix mid b (Some text) → ShowsPrefix before (a ++ b) (Some text)
+pub prefix_further : (before mid : Option (List ℕ)) (a b text : List ℕ) → mid ≡ shown_with before a → ShowsPrefix mid b (Some text) → ShowsPrefix before (a ++ b) (Some text)
 prefix_further before mid a b text is then = record {
   count = length a + then.count;
   prefix = then.prefix ∙ ap (λ (s : Option (List ℕ)). shown_with s (take then.count b)) is ∙ shown_twice before a (take then.count b)

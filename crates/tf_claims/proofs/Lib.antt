@@ -3,3 +3,4 @@ pub mod TitleLemmas
 pub mod NameLemmas
 pub mod StepLemmas
 pub mod LifeLemmas
+pub mod ShownLemmas

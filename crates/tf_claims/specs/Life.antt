@@ -1,6 +1,8 @@
 -- A life of a file: calls of the program, one after another, each from what the one before it left.
-use Rattle.std.specs.Prelude.{◌≡◌, ℕ, IsTrue, List, Option, Some}
+use Rattle.std.specs.Prelude.{◌≡◌, ◌⊎◌, ℕ, Bool, IsTrue, List, [], ◌++◌, Option, Some}
 use Rattle.tf_desk.specs.State.{DeskState}
+use Rattle.tf_flow.specs.Plan.{PlanValue}
+use Rattle.tf_states.specs.declared.record.Entry.{Entry}
 use Rattle.tf_ports.specs.Contents.{Contents}
 use Rattle.tf_ports.specs.declared.crews.Want.{Want}
 use Rattle.tf_actions.specs.declared.orders.Order.{Order}
@@ -12,6 +14,7 @@ use Rattle.tf_board.specs.Answers.{board_of}
 use Rattle.tf_commands.specs.Asking.{asked_for}
 use Rattle.tf_commands.specs.Causes.{WasAsked}
 use Rattle.tf_commands.specs.Course.{Course}
+use Rattle.tf_commands.specs.Durable.{book_in, HoldsHistory, IsShownThen}
 
 -- the book or the board that a command is about
 abbrev pub file_of_command : Asked → Option (List ℕ)
@@ -46,8 +49,21 @@ module _ {K : Type 0} (state : K → DeskState) (gives : Order → Outcome → T
     crashed : IsAbout call.words name → (moment : ℕ) → IsStart name (state call.entry) (state call.now) moment
         → (image text : List ℕ) → (state call.now).crashes moment image text → Leaves name call image
 
+  -- the text that was shown when a call had left the file so
+  pub data Shown (name : List ℕ) (call : Call) : List ℕ → List ℕ → Type 0 where
+    after_call : (text : List ℕ) → (state call.now).shown ≡ Some text → Shown name call (file_of (state call.now) name) text
+    at_crash : IsAbout call.words name → (moment : ℕ) → IsStart name (state call.entry) (state call.now) moment
+        → (image text : List ℕ) → (state call.now).crashes moment image text → Shown name call image text
+
   -- a life of the file, from the bytes that it had at first to those that it has at last: each call began on what the one before it left
   pub data Life (name first : List ℕ) : List ℕ → Type 0 where
     unlived : Life name first first
     lived : {mid last : List ℕ} → Life name first mid → (call : Call) → file_of (state call.entry) name ≡ mid → Leaves name call last
         → Life name first last
+
+-- the text that a call showed is told by entries that a file holds behind the history before the call: by the lines of these, and, where
+-- they are all that the call recorded, by a prefix of its closing; where there are none the file may hold no flow
+pub record IsToldBy (plan : PlanValue) (quiet : Bool) (before entries : List Entry) (shown : Option (List ℕ)) (closing text file : List ℕ) : Type 0 where
+  pub kept : List Entry
+  pub spoken : IsShownThen plan quiet before entries kept shown closing text
+  pub holds : (kept ≡ []) ⊎ ((newer : List Entry) × HoldsHistory plan (newer ++ (kept ++ before)) (book_in file))

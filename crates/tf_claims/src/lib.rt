@@ -5,4 +5,4 @@
 
 mod laws;
 
-pub use laws::history_only_grows;
+pub use laws::{history_only_grows, nothing_shown_is_lost};
