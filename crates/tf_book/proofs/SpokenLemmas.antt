@@ -101,5 +101,5 @@ left_now plan q before entries s0 old e title bytes held titled lies same was im
     }
 
 pub none_pending : {plan : PlanValue} {past : List Entry} (halted : Option Halt) (pending : List Entry) → halted ≡ None → IsPending plan past halted pending → pending ≡ []
-none_pending None pending is few = few
-none_pending (Some h) pending is few = absurd (cc)
+none_pending {plan} {past} None pending is few = few
+none_pending {plan} {past} (Some h) pending is few = absurd (cc)

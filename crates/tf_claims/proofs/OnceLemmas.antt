@@ -3,7 +3,7 @@ use Rattle.std.proofs.Common.{◌≡◌, ℕ, ◌+◌, List, [], ◌∷◌, ◌+
 use Rattle.std.specs.Prelude.{Bool}
 use Rattle.tf_flow.specs.Plan.{PlanValue}
 use Rattle.tf_flow.specs.Tree.{tree_of}
-use Rattle.tf_flow.specs.Written.{WrittenTree, written_task, written_flow, WrittenTrees, nothing_written, written, WrittenHead, as_written, plan_tree}
+use Rattle.tf_flow.specs.Written.{WrittenTree, written_task, written_flow, WrittenTrees, nothing_written, written, WrittenHead, as_written, plan_tree, plan_as_written}
 use Rattle.tf_flow.specs.declared.atoms.Bind.{Bind}
 use Rattle.tf_flow.specs.declared.atoms.Provides.{Provides}
 use Rattle.tf_flow.specs.declared.atoms.Provides.TheVariants as provides
@@ -25,7 +25,7 @@ use Rattle.tf_model.specs.Plan.{Outline, outline_of}
 use Rattle.tf_model.specs.Steps.{LegalPast}
 use Rattle.tf_book.specs.Book.{bodies_of}
 use Rattle.tf_book.specs.Forms.{IsForm, AreForms}
-use Rattle.tf_book.specs.Loading.{IsHistoryOf}
+use Rattle.tf_book.specs.Loading.{IsAcceptedPlan}
 use Rattle.tf_commands.specs.Durable.{HoldsHistory}
 use Rattle.tf_commands.proofs.AcceptLemmas.{same_outline}
 
@@ -79,14 +79,17 @@ keeps_limits plan good = record { root = loose_tree (as_written (tree_of plan.ro
 
 -- ---- one form
 
--- plans of one form are the same to a run
-same_plan : {p q : PlanValue} {h k : List Entry} → IsHistoryOf p h → IsHistoryOf q k → plan_bytes p ≡ plan_bytes q → outline_of p ≡ outline_of q
-same_plan {p} {q} first second same =
-    let one = plan_one p q first.accepted second.accepted (keeps_limits p first.limits) (keeps_limits q second.limits) same in
-    same_outline (plan_tree p) (plan_tree q)
-    (ap (λ (t : WrittenTree). record { root = t; store = p.store; defer = p.defer }) one.0
+-- plans of one form are written alike, and the same to a run
+pub same_written : (p q : PlanValue) → IsAcceptedPlan p → IsPlan p → IsAcceptedPlan q → IsPlan q → plan_bytes p ≡ plan_bytes q
+    → plan_as_written (plan_tree p) ≡ plan_as_written (plan_tree q)
+same_written p q accepted_p limits_p accepted_q limits_q same =
+    let one = plan_one p q accepted_p accepted_q (keeps_limits p limits_p) (keeps_limits q limits_q) same in
+    ap (λ (t : WrittenTree). record { root = t; store = p.store; defer = p.defer }) one.0
     ∙ ap (λ (s : List Bind). record { root = as_written (tree_of q.root); store = s; defer = p.defer }) one.1
-    ∙ ap (λ (d : Bool). record { root = as_written (tree_of q.root); store = q.store; defer = d }) one.2)
+    ∙ ap (λ (d : Bool). record { root = as_written (tree_of q.root); store = q.store; defer = d }) one.2
+
+pub same_plan : (p q : PlanValue) → IsAcceptedPlan p → IsPlan p → IsAcceptedPlan q → IsPlan q → plan_bytes p ≡ plan_bytes q → outline_of p ≡ outline_of q
+same_plan p q accepted_p limits_p accepted_q limits_q same = same_outline (plan_tree p) (plan_tree q) (same_written p q accepted_p limits_p accepted_q limits_q same)
 
 -- numbers of two bytes are below their limit
 among_all : (w : What) → HasItsPayload w → IsAmong (2 ^ 16) (2 ^ 16) w
@@ -105,7 +108,7 @@ form_one a b good_a good_b same = entry_one (2 ^ 16) (2 ^ 16) a b (is_entry a go
 -- ---- one list of bodies
 
 -- lists with a last item each
-last_same : (xs ys : List (List ℕ)) (x y : List ℕ) → xs ++ x ∷ [] ≡ ys ++ y ∷ [] → (xs ≡ ys) × (x ≡ y)
+pub last_same : (xs ys : List (List ℕ)) (x y : List ℕ) → xs ++ x ∷ [] ≡ ys ++ y ∷ [] → (xs ≡ ys) × (x ≡ y)
 last_same [] [] x y is = (refl, (let same : x ≡ y = cc in same))
 last_same [] (b ∷ ys) x y is = absurd (none ys (let rest : [] ≡ ys ++ y ∷ [] = cc in rest))
   where
@@ -123,7 +126,7 @@ last_same (a ∷ xs) (b ∷ ys) x y is =
     (ap (λ (n : List ℕ). n ∷ xs) first ∙ ap (λ (l : List (List ℕ)). b ∷ l) rest.0, rest.1)
 
 -- a plan's body comes first
-never_empty : (p : PlanValue) (h : List Entry) → bodies_of p h ≡ [] → ⊥
+pub never_empty : (p : PlanValue) (h : List Entry) → bodies_of p h ≡ [] → ⊥
 never_empty p [] is = cc
 never_empty p (e ∷ h) is = none (bodies_of p h) is
   where
@@ -131,7 +134,7 @@ never_empty p (e ∷ h) is = none (bodies_of p h) is
     none [] empty = cc
     none (z ∷ zs) empty = cc
 
-same_bodies : (p q : PlanValue) (h k : List Entry) → AreForms h → AreForms k → bodies_of p h ≡ bodies_of q k → (plan_bytes p ≡ plan_bytes q) × (h ≡ k)
+pub same_bodies : (p q : PlanValue) (h k : List Entry) → AreForms h → AreForms k → bodies_of p h ≡ bodies_of q k → (plan_bytes p ≡ plan_bytes q) × (h ≡ k)
 same_bodies p q [] [] good_h good_k is = ((let same : plan_bytes p ≡ plan_bytes q = cc in same), refl)
 same_bodies p q [] (f ∷ k) good_h good_k is = absurd (never_empty q k (sym (last_same [] (bodies_of q k) (plan_bytes p) (entry_bytes f) is).0))
 same_bodies p q (e ∷ h) [] good_h good_k is = absurd (never_empty p h (last_same (bodies_of p h) [] (entry_bytes e) (plan_bytes q) is).0)
@@ -146,21 +149,27 @@ plan_alike : {p q : PlanValue} → plan_bytes p ≡ plan_bytes q → (l : List E
 plan_alike same [] = ap (λ (b : List ℕ). b ∷ []) same
 plan_alike same (e ∷ l) = ap (λ (l : List (List ℕ)). l ++ entry_bytes e ∷ []) (plan_alike same l)
 
--- a file that holds two histories holds the same twice; what it holds later begins with both
+-- a file that holds two histories holds the same twice
+pub once : {p q : PlanValue} {h k : List Entry} {found : Recovered} → HoldsHistory p h found → HoldsHistory q k found
+    → (plan_bytes p ≡ plan_bytes q) × (outline_of q ≡ outline_of p) × (k ≡ h)
+once {p} {q} {h} {k} first second =
+    let same : bodies_of p h ≡ bodies_of q k = (let both : bodies (bodies_of p h) ≡ bodies (bodies_of q k) = sym first.is ∙ second.is in cc) in
+    let one = same_bodies p q h k first.history.forms second.history.forms same in
+    (one.0, sym (same_plan p q first.history.accepted first.history.limits second.history.accepted second.history.limits one.0), sym one.1)
+
+-- what it holds later begins with both
 pub grows_so : {p q : PlanValue} {h k more : List Entry} {found later : Recovered} → HoldsHistory p h found → HoldsHistory q k found
     → HoldsHistory q (more ++ k) later → HoldsHistory p (more ++ h) later
 grows_so {p} {q} {h} {k} {more} {found} {later} first second on =
-    let same : bodies_of p h ≡ bodies_of q k = (let both : bodies (bodies_of p h) ≡ bodies (bodies_of q k) = sym first.is ∙ second.is in cc) in
-    let one = same_bodies p q h k first.history.forms second.history.forms same in
-    let outlines : outline_of q ≡ outline_of p = sym (same_plan first.history second.history one.0) in
-    let past : more ++ k ≡ more ++ h = ap (λ (l : List Entry). more ++ l) (sym one.1) in
+    let one = once first second in
+    let past : more ++ k ≡ more ++ h = ap (λ (l : List Entry). more ++ l) one.2 in
     record {
       is = on.is ∙ ap bodies (sym (plan_alike one.0 (more ++ k)) ∙ ap (bodies_of p) past);
       history = record {
         accepted = first.history.accepted;
         limits = first.history.limits;
         runs = first.history.runs;
-        legal = subst (λ (o : Outline). LegalPast o (more ++ h)) outlines (subst (LegalPast (outline_of q)) past on.history.legal);
+        legal = subst (λ (o : Outline). LegalPast o (more ++ h)) one.1 (subst (LegalPast (outline_of q)) past on.history.legal);
         forms = subst AreForms past on.history.forms;
       };
     }

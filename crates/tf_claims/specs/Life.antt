@@ -1,20 +1,25 @@
 -- A life of a file: calls of the program, one after another, each from what the one before it left.
-use Rattle.std.specs.Prelude.{◌≡◌, ◌⊎◌, ℕ, Bool, IsTrue, List, [], ◌++◌, Option, Some}
+use Rattle.std.specs.Prelude.{◌≡◌, ◌⊎◌, ℕ, Bool, true, IsTrue, List, [], ◌++◌, Option, Some}
 use Rattle.tf_desk.specs.State.{DeskState}
 use Rattle.tf_flow.specs.Plan.{PlanValue}
 use Rattle.tf_states.specs.declared.record.Entry.{Entry}
+use Rattle.tf_states.specs.declared.state.FlowState.{FlowState}
 use Rattle.tf_ports.specs.Contents.{Contents}
 use Rattle.tf_ports.specs.declared.crews.Want.{Want}
 use Rattle.tf_actions.specs.declared.orders.Order.{Order}
 use Rattle.tf_actions.specs.declared.outcomes.Outcome.{Outcome}
 use Rattle.tf_journal.specs.Start.{file_of, IsStart}
+use Rattle.tf_model.specs.Plan.{outline_of}
+use Rattle.tf_model.specs.Sessions.{has_ended}
 use Rattle.tf_words.specs.declared.asked.Asked.{Asked}
 use Rattle.tf_words.specs.declared.asked.Asked.TheVariants as asked
 use Rattle.tf_board.specs.Answers.{board_of}
 use Rattle.tf_commands.specs.Asking.{asked_for}
 use Rattle.tf_commands.specs.Causes.{WasAsked}
-use Rattle.tf_commands.specs.Course.{Course}
+use Rattle.tf_commands.specs.Course.{Course, MayBeDone, IsComplete}
 use Rattle.tf_commands.specs.Durable.{book_in, HoldsHistory, IsShownThen}
+use Rattle.tf_commands.specs.Run.{HasReached, stop_status}
+use Rattle.tf_commands.specs.declared.statuses.TheConstants.{OUT_OF_MEMORY, FULL}
 
 -- the book or the board that a command is about
 abbrev pub file_of_command : Asked → Option (List ℕ)
@@ -49,6 +54,10 @@ module _ {K : Type 0} (state : K → DeskState) (gives : Order → Outcome → T
     crashed : IsAbout call.words name → (moment : ℕ) → IsStart name (state call.entry) (state call.now) moment
         → (image text : List ℕ) → (state call.now).crashes moment image text → Leaves name call image
 
+  -- the top call's clause on completeness, where no count of faults rose and no stop was asked for
+  abbrev pub IsUnfailing : Call → Type 0
+  IsUnfailing call = (command : Asked) → asked_for call.words ≡ Some command → MayBeDone command call.files (state call.entry) → IsComplete command call.status
+
   -- the text that was shown when a call had left the file so
   pub data Shown (name : List ℕ) (call : Call) : List ℕ → List ℕ → Type 0 where
     after_call : (text : List ℕ) → (state call.now).shown ≡ Some text → Shown name call (file_of (state call.now) name) text
@@ -67,3 +76,12 @@ pub record IsToldBy (plan : PlanValue) (quiet : Bool) (before entries : List Ent
   pub kept : List Entry
   pub spoken : IsShownThen plan quiet before entries kept shown closing text
   pub holds : (kept ≡ []) ⊎ ((newer : List Entry) × HoldsHistory plan (newer ++ (kept ++ before)) (book_in file))
+
+-- a run that goes on from a history that the file held ended as stated: memory ran out; or the next record would make the book longer than
+-- its limit; or the file holds that history with what was recorded, whose end is that of the flow, and the status tells it: 0 for SUCCESS,
+-- 10 for REVERTED, which is completed reversion, and 11 for FAILURE
+pub data EndsAsStated (plan : PlanValue) (past : List Entry) (file : List ℕ) : ℕ → Type 0 where
+  exhausted : EndsAsStated plan past file OUT_OF_MEMORY
+  filled : EndsAsStated plan past file FULL
+  ended : (last : FlowState) (entries : List Entry) → HoldsHistory plan (entries ++ past) (book_in file) → has_ended last ≡ true
+      → HasReached (outline_of plan) (entries ++ past) last → EndsAsStated plan past file (stop_status last)

@@ -1,13 +1,18 @@
 //! The laws of a life.
 
-ghost use Rattle.std.specs.Prelude.{◌++◌, false, ℕ, List};
+ghost use Rattle.std.specs.Prelude.{◌≡◌, ◌++◌, false, ℕ, List, Some, None};
+ghost use Rattle.tf_desk.specs.Counts.{Rises};
 ghost use Rattle.tf_flow.specs.Plan.{PlanValue};
 ghost use Rattle.tf_states.specs.declared.record.Entry.{Entry};
+ghost use Rattle.tf_ports.specs.declared.crews.Want.{Want as AWant};
+ghost use Rattle.tf_journal.specs.Start.{file_of};
+ghost use Rattle.tf_words.specs.declared.asked.Asked.TheVariants.{Resume};
+ghost use Rattle.tf_commands.specs.Asking.{asked_for};
 ghost use Rattle.tf_commands.specs.Books.{Promised, PutsBack};
 ghost use Rattle.tf_commands.specs.Causes.{WasAsked};
 ghost use Rattle.tf_commands.specs.declared.running.Request.{Request};
-ghost use Rattle.tf_commands.specs.Durable.{book_in, HoldsHistory};
-ghost use Rattle.tf_claims.specs.Life.{Call, Shown, Life, IsToldBy};
+ghost use Rattle.tf_commands.specs.Durable.{book_in, book_at, HoldsHistory};
+ghost use Rattle.tf_claims.specs.Life.{Call, IsUnfailing, Shown, Life, IsToldBy, EndsAsStated};
 
 use tf_desk::Desk;
 use tf_ports::Crew;
@@ -36,4 +41,16 @@ pub fn nothing_shown_is_lost<K: Desk, W: Crew>()
         → (p : PutsBack name plan before (K.state call.entry) (K.state call.now) call.status)
         → Shown K.state W.Hand.gives name call mid text → Life K.state W.Hand.gives name mid last
         → IsToldBy plan false before p.entries (K.state call.entry).shown p.closing text last }
+{}
+
+/// A call that resumes a flow of which the file holds a history, on which no count of faults rises and for which no stop
+/// is asked, ends the flow: in success, in completed reversion, or in failure; unless memory runs out, or the next record
+/// would make the book longer than its limit. So it is at any point of a life, whatever came before.
+pub fn ends_as_stated<K: Desk, W: Crew>()
+    ensures { (name : List ℕ) (hands : AWant) (call : Call K.state W.Hand.gives) (plan : PlanValue) (past : List Entry)
+        → asked_for call.words ≡ Some (Resume name hands None)
+        → HoldsHistory plan past (book_at (K.state call.entry) name)
+        → IsUnfailing K.state W.Hand.gives call
+        → ¬ (Rises (K.state call.entry).disk_faults (K.state call.now).disk_faults)
+        → EndsAsStated plan past (file_of (K.state call.now) name) call.status }
 {}

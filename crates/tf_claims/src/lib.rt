@@ -5,4 +5,4 @@
 
 mod laws;
 
-pub use laws::{history_only_grows, nothing_shown_is_lost};
+pub use laws::{ends_as_stated, history_only_grows, nothing_shown_is_lost};

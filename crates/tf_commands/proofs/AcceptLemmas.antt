@@ -35,7 +35,7 @@ same_outline p q same =
     ∙ (ap (λ (values : List Bind). outline_with (atoms_of 0 q.root) (flows_of 0 0 q.root) values p.defer) store
     ∙ ap (λ (b : Bool). outline_with (atoms_of 0 q.root) (flows_of 0 0 q.root) q.store b) defer))
 
-same_refusal : (p q : PlanTree) → plan_as_written p ≡ plan_as_written q → tree_refusal p.root (outline_in p) ≡ tree_refusal q.root (outline_in q)
+pub same_refusal : (p q : PlanTree) → plan_as_written p ≡ plan_as_written q → tree_refusal p.root (outline_in p) ≡ tree_refusal q.root (outline_in q)
 same_refusal p q same =
     let root : as_written p.root ≡ as_written q.root = ap (λ (w : WrittenPlan). w.root) same in
     ap (λ (order : List ℕ). first_some (refusal_at (outline_in p)) order) (innermost_alike 0 p.root q.root root)

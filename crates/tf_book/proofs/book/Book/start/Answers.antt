@@ -15,5 +15,5 @@ returns-in_default-clause-goes g c =
 pub returns-in-Err-clause-fails : goal.returns-in-Err-clause-fails
 returns-in-Err-clause-fails g c =
     start_fails g.K.Desk.state c.args.machine.plan c.in-Err.fault c.args.journal c.append_plan.new.journal c.into_desk-in-Err.result c.into_desk-in-Err.ensures
-    (λ limits. not_begun c.args.machine.plan (subst IsAcceptedPlan c.plan.ensures.is c.root.ensures.accepted) limits (c.plan.ensures.compiles, c.plan.ensures.complete))
-    (subst (λ (p : PlanValue). FailsToAppendPlan g.K.Desk.state p c.in-Err.fault c.args.journal c.append_plan.new.journal) c.plan.ensures.is c.in-Err.ensures.fails)
+    (λ limits. not_begun c.args.machine.plan (subst IsAcceptedPlan c.plan-plan.ensures.is c.root-root.ensures.accepted) limits (c.plan-plan.ensures.compiles, c.plan-plan.ensures.complete))
+    (subst (λ (p : PlanValue). FailsToAppendPlan g.K.Desk.state p c.in-Err.fault c.args.journal c.append_plan.new.journal) c.plan-plan.ensures.is c.in-Err.ensures.fails)
