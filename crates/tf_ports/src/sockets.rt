@@ -18,18 +18,23 @@ enum Stream {
     Tcp(TcpStream),
 }
 
-/// A real link, over a socket. It tells its counts alone.
+/// A real link, over a socket. Where it fails the system's reason is said on standard error, behind the address at
+/// which it was made. It tells its counts alone.
 #[derive(Drop)]
-pub struct SocketLink {
+pub struct SocketLink<R> {
+    runtime: R,
+    address: Address,
     stream: Stream,
     faults: u64,
     ends: u64,
 }
 
-impl SocketLink {
-    /// A link with no fault and no end so far.
-    fn make(stream: Stream) -> SocketLink {
+impl<R> SocketLink<R> {
+    /// A link that was made at the address, with no fault and no end so far.
+    fn make(runtime: R, address: Address, stream: Stream) -> SocketLink<R> {
         SocketLink {
+            runtime,
+            address,
             stream,
             faults: 0,
             ends: 0,
@@ -37,7 +42,7 @@ impl SocketLink {
     }
 }
 
-impl Link for SocketLink {
+impl<R: Eprint + Drop> Link for SocketLink<R> {
     ghost left = { λ _. None };
 
     ghost sent = { λ _. None };
@@ -51,7 +56,8 @@ impl Link for SocketLink {
             Stream::Unix(stream) => write_whole(stream, bytes),
             Stream::Tcp(stream) => write_whole(stream, bytes),
         };
-        if done.is_err() {
+        if let Err(reason) = done {
+            tell_address_reason(&self.runtime, &self.address, &reason);
             self.faults = self.faults.saturating_add(1);
             return Err(LinkFault);
         }
@@ -60,8 +66,8 @@ impl Link for SocketLink {
 
     fn recv(&mut self, buf: &mut [u8]) -> Came {
         let came = match &mut self.stream {
-            Stream::Unix(stream) => get(stream, buf),
-            Stream::Tcp(stream) => get(stream, buf),
+            Stream::Unix(stream) => get(&self.runtime, &self.address, stream, buf),
+            Stream::Tcp(stream) => get(&self.runtime, &self.address, stream, buf),
         };
         match came {
             Came::Bytes(count) => Came::Bytes(count),
@@ -77,8 +83,8 @@ impl Link for SocketLink {
     }
 }
 
-/// What comes over the stream next; an interrupted read is tried again.
-fn get<S: Read>(stream: &mut S, buf: &mut [u8]) -> Came
+/// What comes next over the stream of a link that was made at the address; an interrupted read is tried again.
+fn get<R: Eprint, S: Read>(runtime: &R, address: &Address, stream: &mut S, buf: &mut [u8]) -> Came
     requires room { 0 < length buf.old }
     ensures { ReadsSome (S.remaining stream.old) (S.remaining stream.new) buf.new result }
 {
@@ -86,8 +92,9 @@ fn get<S: Read>(stream: &mut S, buf: &mut [u8]) -> Came
         match stream.read(buf) {
             Ok(0) => return Came::End,
             Ok(count) => return Came::Bytes(count),
-            Err(error) => {
-                if error.kind() != ErrorKind::Interrupted {
+            Err(reason) => {
+                if reason.kind() != ErrorKind::Interrupted {
+                    tell_address_reason(runtime, address, &reason);
                     return Came::Failed;
                 }
             }
@@ -103,13 +110,20 @@ enum Listener {
     Tcp(TcpListener),
 }
 
+/// A socket that waits for connections, and its address.
+#[derive(Drop)]
+struct Opened {
+    address: Address,
+    listener: Listener,
+}
+
 /// The real door: a Unix socket at a path that nothing has yet, and that stays when the door is gone, or a
 /// port of 127.0.0.1. Where it can't be opened, or fails, the system's reason is said on standard error. It tells
 /// its count alone.
 #[derive(Drop)]
 pub struct SocketDoor<R> {
     runtime: R,
-    listener: Option<Listener>,
+    opened: Option<Opened>,
     faults: u64,
 }
 
@@ -118,22 +132,28 @@ impl<R> SocketDoor<R> {
     pub fn make(runtime: R) -> SocketDoor<R> {
         SocketDoor {
             runtime,
-            listener: None,
+            opened: None,
             faults: 0,
         }
     }
 }
 
-impl<R: Net<Listener = TcpListener, Stream = TcpStream> + Files + Eprint + Drop> Door
+impl<R: Net<Listener = TcpListener, Stream = TcpStream> + Files + Eprint + Copy + Send + Drop> Door
     for SocketDoor<R> {
-    type Made = SocketLink;
+    type Made = SocketLink<R>;
 
     ghost faults = { λ door. door.faults };
 
-    fn listen(&mut self, _alloc: Global, address: &Address) -> Result<(), PortFault> {
+    fn listen(&mut self, alloc: Global, address: &Address) -> Result<(), PortFault> {
+        let Ok(kept) = address.copy(alloc) else {
+            return Err(PortFault::Memory);
+        };
         match open(&self.runtime, address) {
             Ok(listener) => {
-                self.listener = Some(listener);
+                self.opened = Some(Opened {
+                    address: kept,
+                    listener,
+                });
                 Ok(())
             }
             Err(reason) => {
@@ -144,23 +164,41 @@ impl<R: Net<Listener = TcpListener, Stream = TcpStream> + Files + Eprint + Drop>
         }
     }
 
-    fn accept(&mut self, _alloc: Global) -> Result<SocketLink, PortFault> {
-        let stream = match &self.listener {
-            Some(listener) => next(listener),
-            None => Err(Error::from(ErrorKind::NotConnected)),
+    fn accept(&mut self, alloc: Global) -> Result<SocketLink<R>, PortFault> {
+        let made = match &self.opened {
+            Some(opened) => next_link(&self.runtime, alloc, opened),
+            None => Err(PortFault::Failed),
         };
-        match stream {
-            Ok(stream) => Ok(SocketLink::make(stream)),
-            Err(reason) => {
-                tell_reason(&self.runtime, "the socket", &reason);
+        match made {
+            Ok(link) => Ok(link),
+            Err(PortFault::Failed) => {
                 self.faults = self.faults.saturating_add(1);
                 Err(PortFault::Failed)
             }
+            Err(PortFault::Memory) => Err(PortFault::Memory),
         }
     }
 }
 
-/// Says on standard error why no socket could be made at the address.
+/// The next link that is made at the opened address.
+fn next_link<R: Eprint + Copy + Drop>(
+    runtime: &R,
+    alloc: Global,
+    opened: &Opened,
+) -> Result<SocketLink<R>, PortFault> {
+    let Ok(address) = opened.address.copy(alloc) else {
+        return Err(PortFault::Memory);
+    };
+    match next(&opened.listener) {
+        Ok(stream) => Ok(SocketLink::make(*runtime, address, stream)),
+        Err(reason) => {
+            tell_address_reason(runtime, &address, &reason);
+            Err(PortFault::Failed)
+        }
+    }
+}
+
+/// Says on standard error why no socket could be made at the address, or why a link that was made there failed.
 fn tell_address_reason<R: Eprint>(runtime: &R, address: &Address, reason: &Error) {
     match address {
         Address::Unix(path) => {
