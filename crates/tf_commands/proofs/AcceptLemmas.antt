@@ -1,8 +1,8 @@
 -- A flow file that gives a plan doesn't give none, and the faults of a machine are reasons.
 use Rattle.std.proofs.Common.{◌≡◌, ℕ, List, Bool, false, None, refl, sym, ap, ◌∙◌, subst}
 use Rattle.std.specs.Prelude.{Result, Ok, Err}
-use Rattle.tf_document.specs.Reading.{is_memory as is_memory_fault}
-use Rattle.tf_document.specs.declared.faults.FileFault.{FileFault}
+use Rattle.tf_files.specs.document.Reading.{is_memory as is_memory_fault}
+use Rattle.tf_files.specs.declared.document.faults.FileFault.{FileFault}
 use Rattle.tf_files.proofs.OutlineLemmas.{atoms_alike, flows_alike, innermost_alike}
 use Rattle.tf_files.specs.FlowFile.{flow_of, IsBroken, IsFirstReason, unspelled, broken, no_memory}
 use Rattle.tf_flow.specs.Written.{PlanTree, plan_tree, WrittenPlan, plan_as_written, as_written}

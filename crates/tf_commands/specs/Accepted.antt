@@ -1,8 +1,8 @@
 -- Which plan a flow file gives to run, and the first reason why it gives none.
 use Rattle.std.specs.Prelude.{◌≡◌, ℕ, List, [], Bool, true, false, Some, None, Ok}
 use Rattle.tf_demo.specs.Demo.{demo_flow}
-use Rattle.tf_document.specs.Reading.{is_memory as is_memory_fault}
-use Rattle.tf_document.specs.declared.faults.FileFault.{FileFault}
+use Rattle.tf_files.specs.document.Reading.{is_memory as is_memory_fault}
+use Rattle.tf_files.specs.declared.document.faults.FileFault.{FileFault}
 use Rattle.tf_files.specs.FlowFile.{flow_of, IsBroken, IsFirstReason}
 use Rattle.tf_flow.specs.Written.{PlanTree, plan_as_written}
 use Rattle.tf_flow.specs.declared.atoms.Bind.{Bind}

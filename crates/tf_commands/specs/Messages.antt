@@ -6,8 +6,8 @@ use Rattle.tf_flow.specs.declared.faults.Limit.{Limit}
 use Rattle.tf_flow.specs.declared.faults.Limit.TheVariants as limit
 use Rattle.tf_flow.specs.declared.faults.PlanFault.{PlanFault}
 use Rattle.tf_flow.specs.declared.faults.PlanFault.TheVariants as plan_fault
-use Rattle.tf_document.specs.declared.faults.FileFault.{FileFault}
-use Rattle.tf_document.specs.declared.faults.FileFault.TheVariants as file_fault
+use Rattle.tf_files.specs.declared.document.faults.FileFault.{FileFault}
+use Rattle.tf_files.specs.declared.document.faults.FileFault.TheVariants as file_fault
 use Rattle.tf_order.specs.declared.faults.CompileFault.{CompileFault}
 use Rattle.tf_order.specs.declared.faults.CompileFault.TheVariants as compile_fault
 use Rattle.tf_numbers.specs.Numbers.{which_below}

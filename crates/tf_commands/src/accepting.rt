@@ -9,8 +9,7 @@ ghost use Rattle.tf_machine.specs.Machine.{StandsFor};
 ghost use Rattle.tf_commands.specs.Accepted.{GivesPlan, Spells, IsReason};
 
 use std::alloc::Global;
-use tf_document::FileFault;
-use tf_files::read_flow;
+use tf_files::{FileFault, read_flow};
 use tf_flow::{Binds, Plan};
 use tf_machine::{BuildFault, Machine};
 use tf_order::CompileFault;

@@ -6,7 +6,7 @@ ghost use Rattle.tf_board.specs.Answers.{byte_or_end};
 ghost use Rattle.tf_commands.specs.Messages.{limit_word as word_of_limit, checked, summary, tasks_below, spaced, plan_fault_text, file_fault_text, compile_fault_text, scope_fault_text, reason_text, refusal, not_a_book, book_full, state_forbids};
 
 use crate::accepting::Refusal;
-use tf_document::{FileFault, Path};
+use tf_files::{FileFault, Path};
 use tf_flow::{Limit, Plan, PlanFault};
 use tf_order::CompileFault;
 use tf_report::{

@@ -1,3 +1,6 @@
+pub mod ReadingLemmas
+pub mod ArgumentLemmas
+pub mod ConditionLemmas
 pub mod DocumentLemmas
 pub mod NestedLemmas
 pub mod RootLemmas

@@ -1,8 +1,8 @@
 -- The first reason why a flow file gives no plan.
 use Rattle.std.proofs.Common.{◌≡◌, ◌∙◌, List, Bool, Some, None, Result, Ok, refl, sym}
-use Rattle.tf_document.specs.Reading.{RefusesWith}
-use Rattle.tf_document.specs.declared.faults.FileFault.{FileFault}
-use Rattle.tf_document.specs.declared.faults.FileFault.TheVariants as fault
+use Rattle.tf_files.specs.document.Reading.{RefusesWith}
+use Rattle.tf_files.specs.declared.document.faults.FileFault.{FileFault}
+use Rattle.tf_files.specs.declared.document.faults.FileFault.TheVariants as fault
 use Rattle.tf_flow.proofs.AlikeLemmas.{refused_alike}
 use Rattle.tf_flow.specs.Refusal.{first_refusal, IsAnswer}
 use Rattle.tf_flow.specs.Tree.{tree_of}

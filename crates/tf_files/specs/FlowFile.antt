@@ -14,13 +14,13 @@ use Rattle.tf_flow.specs.declared.nested.Flow.{Flow}
 use Rattle.tf_flow.specs.declared.nested.FlowKind.{FlowKind}
 use Rattle.tf_flow.specs.declared.nested.FlowKind.TheVariants as pattern
 use Rattle.tf_flow.specs.Written.{WrittenTree, written_task, written_flow, written_trees, as_written, WrittenPlan}
-use Rattle.tf_document.specs.Deciders.{decider_of}
-use Rattle.tf_document.specs.Reading.{chain, has_key, known_only, required, optional, of_kind, array_of}
-use Rattle.tf_document.specs.Retries.{retry_form}
-use Rattle.tf_document.specs.Tasks.{task_form}
-use Rattle.tf_document.specs.Values.{name_form, binds_form}
-use Rattle.tf_document.specs.declared.faults.FileFault.{FileFault}
-use Rattle.tf_document.specs.declared.faults.FileFault.TheVariants as fault
+use Rattle.tf_files.specs.document.Deciders.{decider_of}
+use Rattle.tf_files.specs.document.Reading.{chain, has_key, known_only, required, optional, of_kind, array_of}
+use Rattle.tf_files.specs.document.Retries.{retry_form}
+use Rattle.tf_files.specs.document.Tasks.{task_form}
+use Rattle.tf_files.specs.document.Values.{name_form, binds_form}
+use Rattle.tf_files.specs.declared.document.faults.FileFault.{FileFault}
+use Rattle.tf_files.specs.declared.document.faults.FileFault.TheVariants as fault
 use Rattle.tf_files.specs.Store.{store_with}
 use Rattle.toml.specs.Data.{Data, as_str, as_table, Members}
 use Rattle.toml.specs.Parse.{parse_document}

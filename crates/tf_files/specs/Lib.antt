@@ -1,3 +1,4 @@
+pub mod document
 pub mod Store
 pub mod Pairs
 pub mod FlowFile

@@ -1,19 +1,19 @@
 ghost use Rattle.std.specs.Prelude.{◌≡◌, [], suc, map, codes, None, Ok, IfOk, IfErr};
-ghost use Rattle.tf_document.specs.Reading.{RefusesWith, each, required as spelled_at, optional as spelled_perhaps, array_of};
-ghost use Rattle.tf_document.specs.Values.{binds_form as binds_spelled};
+ghost use Rattle.tf_files.specs.document.Reading.{RefusesWith, each, required as spelled_at, optional as spelled_perhaps, array_of};
+ghost use Rattle.tf_files.specs.document.Values.{binds_form as binds_spelled};
 ghost use Rattle.tf_flow.specs.Tree.{tree_of};
 ghost use Rattle.tf_flow.specs.Written.{as_written, item_as_written};
 ghost use Rattle.tf_files.specs.FlowFile.{root_form as root_spelled, flow_inside as inside_spelled, item_form as item_spelled, item_table as item_of, own_retry as retry_of_flow, nested_flow as nested_of, task_item as task_of, pattern_form as pattern_spelled, pattern_named as pattern_of, is_flow_table as is_table_of_flow};
 ghost use Rattle.toml.specs.View.{view, items_view, table_view};
 
+use crate::document::{
+    Field, FileFault, Path, binds_form, has_key, item_at, known_only, optional, required,
+    retry_form, task_form,
+};
 use crate::keys::name_at;
 use crate::links::links_at;
 use crate::lists::add;
 use std::alloc::Global;
-use tf_document::{
-    Field, FileFault, Path, binds_form, has_key, item_at, known_only, optional, required,
-    retry_form, task_form,
-};
 use tf_flow::{Bind, Flow, FlowKind, Item, Items, Limit, Links, PlanFault, Retry};
 use tf_values::Name;
 use toml::{Table, Value};
@@ -59,7 +59,7 @@ fn store_at(alloc: Global, path: &Path, table: &Table) -> Result<Vec<Bind>, File
 }
 
 /// The kind of flow at the key `kind`, which must be there.
-#[tactic(auto, using(tf_document::proofs::ReadingLemmas::required_stops, tf_document::proofs::ReadingLemmas::required_goes))]
+#[tactic(auto, using(crate::proofs::ReadingLemmas::required_stops, crate::proofs::ReadingLemmas::required_goes))]
 fn kind_at(alloc: Global, path: &Path, table: &Table) -> Result<FlowKind, FileFault>
     ensures ok { IfOk result (λ kind. spelled_at path.now (codes "kind") (table_view table.now) pattern_spelled
         ≡ Ok kind) }

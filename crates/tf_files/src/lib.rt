@@ -1,6 +1,7 @@
 //! Flow files: a TOML document and the plan that it spells.
 #![tactic(auto)]
 
+mod document;
 mod flows;
 mod keys;
 mod links;
@@ -8,5 +9,5 @@ mod lists;
 mod reading;
 mod store;
 
+pub use document::{FileFault, Path};
 pub use reading::read_flow;
-pub use tf_document::{FileFault, Path};

@@ -1,13 +1,13 @@
 ghost use Rattle.std.specs.Prelude.{◌≡◌, [], map, codes, None, Ok, IfOk, OnOk, IfErr};
 ghost use Rattle.tf_flow.specs.Conditions.{connection_of};
-ghost use Rattle.tf_document.specs.Reading.{RefusesWith, each, known_only as read_known, unknown_key, optional as spelled_perhaps};
+ghost use Rattle.tf_files.specs.document.Reading.{RefusesWith, each, known_only as read_known, unknown_key, optional as spelled_perhaps};
 ghost use Rattle.tf_files.specs.FlowFile.{link_keys as keys_of, link_table as link_of, link_form as link_spelled, links_form as links_spelled};
 ghost use Rattle.toml.specs.View.{view, items_view, table_view};
 
+use crate::document::{Field, FileFault, Path, decider_of, has_key, item_at, known_only, optional};
 use crate::keys::name_at;
 use crate::lists::add;
 use std::alloc::Global;
-use tf_document::{Field, FileFault, Path, decider_of, has_key, item_at, known_only, optional};
 use tf_flow::Link;
 use toml::{Table, Value};
 

@@ -1,5 +1,5 @@
 ghost use Rattle.std.specs.Prelude.{◌≡◌, Bool, List, Some, Ok, IfOk, IfErr};
-ghost use Rattle.tf_document.specs.Reading.{RefusesWith, chain};
+ghost use Rattle.tf_files.specs.document.Reading.{RefusesWith, chain};
 ghost use Rattle.tf_files.specs.FlowFile.{flow_of, root_form as root_spelled, documented, document_of, planned, plan_refusal, IsBroken, IsFirstReason};
 ghost use Rattle.tf_flow.specs.Written.{as_written, plan_tree, plan_as_written};
 ghost use Rattle.tf_flow.specs.Tree.{tree_of};
@@ -7,10 +7,10 @@ ghost use Rattle.tf_flow.specs.declared.atoms.Bind.{Bind as BindValue};
 ghost use Rattle.tf_flow.specs.declared.faults.PlanFault.{PlanFault as BrokenRule};
 ghost use Rattle.toml.specs.View.{table_view};
 
+use crate::document::FileFault;
 use crate::flows::root_form;
 use crate::store::store_with;
 use std::alloc::Global;
-use tf_document::FileFault;
 use tf_flow::{Binds, Flow, Plan, PlanFault};
 use toml::Table;
 

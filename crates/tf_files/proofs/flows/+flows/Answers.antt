@@ -1,9 +1,9 @@
 use Rattle.std.proofs.Common.{◌≡◌, map, [], ◌∷◌, codes, IfSome, option_map, subst}
 use Rattle.std.proofs.lemmas.List.{map-append}
-use Rattle.tf_document.proofs.ReadingLemmas.{each_turn, optional_refuses}
-use Rattle.tf_document.specs.Reading.{each, array_of}
-use Rattle.tf_document.specs.Paths.{below}
-use Rattle.tf_document.specs.declared.fields.Field.{Field}
+use Rattle.tf_files.proofs.ReadingLemmas.{each_turn, optional_refuses}
+use Rattle.tf_files.specs.document.Reading.{each, array_of}
+use Rattle.tf_files.specs.document.Paths.{below}
+use Rattle.tf_files.specs.declared.document.fields.Field.{Field}
 use Rattle.toml.specs.Data.{get_member}
 use Rattle.tf_files.specs.FlowFile.{item_form}
 use Rattle.tf_flow.specs.Written.{item_as_written}

@@ -1,8 +1,8 @@
 use Rattle.std.proofs.Common.{map, [], ◌∷◌}
 use Rattle.std.proofs.lemmas.List.{map-append}
 use Rattle.tf_flow.specs.Conditions.{connection_of}
-use Rattle.tf_document.proofs.ReadingLemmas.{each_turn}
-use Rattle.tf_document.specs.Reading.{each}
+use Rattle.tf_files.proofs.ReadingLemmas.{each_turn}
+use Rattle.tf_files.specs.document.Reading.{each}
 use Rattle.tf_files.specs.FlowFile.{link_form}
 use Rattle.toml.specs.View.{items_view}
 use Rattle.tf_files.proofs.links.each_link.Goals as goal

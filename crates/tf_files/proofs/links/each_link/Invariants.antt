@@ -1,7 +1,7 @@
 use Rattle.std.proofs.Common.{◌≡◌, map}
 use Rattle.tf_flow.specs.Conditions.{connection_of}
-use Rattle.tf_document.specs.Reading.{each}
-use Rattle.tf_document.proofs.ReadingLemmas.{after, each_from}
+use Rattle.tf_files.specs.document.Reading.{each}
+use Rattle.tf_files.proofs.ReadingLemmas.{after, each_from}
 use Rattle.tf_files.specs.FlowFile.{link_form}
 use Rattle.toml.specs.View.{items_view}
 use Rattle.tf_files.proofs.links.each_link.Given as goal

@@ -1,6 +1,6 @@
 use Rattle.std.proofs.lemmas.Result.{err_from_is_err_and}
-use Rattle.tf_document.proofs.ReadingLemmas.{chain_stops}
-use Rattle.tf_document.specs.Reading.{chain}
+use Rattle.tf_files.proofs.ReadingLemmas.{chain_stops}
+use Rattle.tf_files.specs.document.Reading.{chain}
 use Rattle.tf_files.specs.FlowFile.{root_form, planned, no_memory}
 use Rattle.tf_files.proofs.RefusalLemmas.{reads_first}
 use Rattle.toml.specs.View.{table_view}

@@ -1,3 +1,0 @@
-pub mod ReadingLemmas
-pub mod ArgumentLemmas
-pub mod ConditionLemmas

@@ -1,7 +1,0 @@
-use Rattle.std.proofs.Common.{◌≡◌, not, filter, take}
-use Rattle.indexmap.specs.IndexSet.{contains}
-use Rattle.tf_flow.specs.Names.{same_name}
-use Rattle.tf_document.proofs.arguments.arguments_outside.Given as goal
-
-abbrev pub invariant-loop-arg : goal.invariant-loop-arg
-invariant-loop-arg l = l.args.items ≡ filter (λ arg. not (contains same_name l.names arg.name)) (take l.arg-index l.rebound)

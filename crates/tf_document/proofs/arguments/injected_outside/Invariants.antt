@@ -1,8 +1,0 @@
-use Rattle.std.proofs.Common.{◌≡◌, not, map, filter, take}
-use Rattle.indexmap.specs.IndexSet.{contains}
-use Rattle.tf_flow.specs.Names.{same_name}
-use Rattle.tf_document.specs.Signatures.{injected_argument}
-use Rattle.tf_document.proofs.arguments.injected_outside.Given as goal
-
-abbrev pub invariant-loop-bind : goal.invariant-loop-bind
-invariant-loop-bind l = l.made.items ≡ map injected_argument (filter (λ bind. not (contains same_name l.spoken bind.symbol)) (take l.bind-index l.inject))

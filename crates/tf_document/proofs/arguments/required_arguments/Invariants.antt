@@ -1,6 +1,0 @@
-use Rattle.std.proofs.Common.{◌≡◌, map, take}
-use Rattle.tf_document.specs.Signatures.{required_argument}
-use Rattle.tf_document.proofs.arguments.required_arguments.Given as goal
-
-abbrev pub invariant-loop-name : goal.invariant-loop-name
-invariant-loop-name l = l.args.items ≡ map (required_argument l.rebound) (take l.name-index l.required)

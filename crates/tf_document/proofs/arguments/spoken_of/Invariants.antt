@@ -1,9 +1,0 @@
-use Rattle.std.proofs.Common.{◌≡◌, take, List, ℕ}
-use Rattle.std.specs.List.{list_any}
-use Rattle.indexmap.specs.IndexSet.{contains}
-use Rattle.tf_flow.specs.Names.{same_name}
-use Rattle.tf_document.specs.Signatures.{speaks_of}
-use Rattle.tf_document.proofs.arguments.spoken_of.Given as goal
-
-abbrev pub invariant-loop-arg : goal.invariant-loop-arg
-invariant-loop-arg l = (symbol : List ℕ) → contains same_name l.set symbol ≡ list_any (speaks_of symbol) (take l.arg-index l.args)

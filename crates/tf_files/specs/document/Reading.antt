@@ -1,0 +1,91 @@
+-- How a document is read: what a part of it spells, or the first reason why it spells nothing.
+use Rattle.std.specs.Prelude.{◌≡◌, ℕ, suc, List, [], ◌∷◌, Bool, true, false, is_some, Option, Some, None, Result, Ok, Err, if◌then◌else◌}
+use Rattle.std.specs.Fmt.{decimal}
+use Rattle.tf_flow.specs.Names.{same_name, is_among}
+use Rattle.tf_files.specs.document.Paths.{below, step_of}
+use Rattle.tf_files.specs.declared.document.faults.FileFault.{FileFault}
+use Rattle.tf_files.specs.declared.document.faults.FileFault.TheVariants as fault
+use Rattle.toml.specs.Data.{Data, as_str, as_array, Items, no_items, item, Members, no_members, member, get_member}
+
+-- reading goes on with what was read
+abbrev pub chain : {A B : Type 0} → Result A FileFault → (A → Result B FileFault) → Result B FileFault
+chain (Ok found) next = next found
+chain (Err reason) next = Err reason
+
+-- the members have the key
+abbrev pub has_key : List ℕ → Members → Bool
+has_key key members = is_some (get_member key members)
+
+-- the text, where there is one, is this one
+abbrev pub same_text : List ℕ → Option (List ℕ) → Bool
+same_text word None = false
+same_text word (Some text) = same_name text word
+
+-- it is this text
+abbrev pub is_text : List ℕ → Option Data → Bool
+is_text word None = false
+is_text word (Some found) = same_text word (as_str found)
+
+-- the members have this text at the key
+abbrev pub has_text : List ℕ → List ℕ → Members → Bool
+has_text key word members = is_text word (get_member key members)
+
+-- the first key that isn't one of those that are known; a table's keys stand in byte order
+abbrev pub unknown_key : List (List ℕ) → Members → Option (List ℕ)
+unknown_key known no_members = None
+unknown_key known (member key found others) = if is_among known key then unknown_key known others else Some key
+
+-- an unknown key refuses the table under the path
+abbrev pub unless_unknown : {A : Type 0} → List ℕ → Option (List ℕ) → Result A FileFault → Result A FileFault
+unless_unknown path None read = read
+unless_unknown path (Some key) read = Err (fault.UnknownKey (below path (step_of key)))
+
+-- a table under the path whose keys are all known is read on
+abbrev pub known_only : {A : Type 0} → List ℕ → List (List ℕ) → Members → Result A FileFault → Result A FileFault
+known_only path known members read = unless_unknown path (unknown_key known members) read
+
+-- the value at a path, which must be there
+abbrev pub required_at : {A : Type 0} → List ℕ → (List ℕ → Data → Result A FileFault) → Option Data → Result A FileFault
+required_at path reads None = Err (fault.MissingKey path)
+required_at path reads (Some found) = reads path found
+
+-- the value at a key of the table under the path, which must be there
+abbrev pub required : {A : Type 0} → List ℕ → List ℕ → Members → (List ℕ → Data → Result A FileFault) → Result A FileFault
+required path key members reads = required_at (below path key) reads (get_member key members)
+
+-- the value at a path, or another where it isn't there
+abbrev pub optional_at : {A : Type 0} → List ℕ → A → (List ℕ → Data → Result A FileFault) → Option Data → Result A FileFault
+optional_at path other reads None = Ok other
+optional_at path other reads (Some found) = reads path found
+
+-- the value at a key of the table under the path, or another where it isn't there
+abbrev pub optional : {A : Type 0} → List ℕ → List ℕ → Members → A → (List ℕ → Data → Result A FileFault) → Result A FileFault
+optional path key members other reads = optional_at (below path key) other reads (get_member key members)
+
+-- the value under the path is of the kind that is wanted
+abbrev pub of_kind : {A B : Type 0} → List ℕ → Option A → (A → Result B FileFault) → Result B FileFault
+of_kind path None next = Err (fault.WrongKind path)
+of_kind path (Some found) next = next found
+
+-- one more at the front of a list
+abbrev pub put_first : {A : Type 0} → Result A FileFault → Result (List A) FileFault → Result (List A) FileFault
+put_first first others = chain first (λ x. chain others (λ xs. Ok (x ∷ xs)))
+
+-- each item of an array under the path, from that number on, in order
+abbrev pub each : {A : Type 0} → (List ℕ → Data → Result A FileFault) → List ℕ → ℕ → Items → Result (List A) FileFault
+each reads path number no_items = Ok []
+each reads path number (item found others) = put_first (reads (below path (decimal number)) found) (each reads path (suc number) others)
+
+-- the array under the path, item by item
+abbrev pub array_of : {A : Type 0} → (List ℕ → Data → Result A FileFault) → List ℕ → Data → Result (List A) FileFault
+array_of reads path found = of_kind path (as_array found) (each reads path 0)
+
+-- the fault is want of memory
+abbrev pub is_memory : FileFault → Bool
+is_memory fault.Memory = true
+is_memory reason = false
+
+-- the fault is the reason why nothing is spelled, or want of memory
+abbrev pub RefusesWith : {A : Type 0} → Result A FileFault → FileFault → Type 0
+RefusesWith spelled fault.Memory = Unit {0}
+RefusesWith spelled reason = spelled ≡ Err reason
