@@ -78,7 +78,7 @@ module _ {K : Type 0} (state : K → DeskState) where
         let d = k.crash told kept in
         let opened = opened_then r w told kept in
         passes_on d.passes (w.logged.at_most opened (bodies_of old.plan old.past) (w.ready opened)).crash
-        (left_before start.plan start.quiet start.past k.entries d.pending (state start.journal.desk).shown e (none_pending old.halt d.pending sound d.few))
+        (left_before start.plan start.quiet start.past k.entries d.pending (state start.journal.desk).shown e (none_pending _ _ old.halt d.pending sound d.few))
         (left_now start.plan start.quiet start.past k.entries (state start.journal.desk).shown (state old.journal.desk).shown e (title_of old.journal.title) (next_line old e)
         (bodies_of old.plan old.past) (ap title_of w.title) bodies_then the_line shown_then)
 
@@ -165,7 +165,7 @@ module _ {K : Type 0} (state : K → DeskState) where
       continues = k.continues;
       off_disk = k.off_disk;
       text = text;
-      crash = λ told kept. (let d = k.crash told kept in record { pending = d.pending; few = few d.pending (none_pending old.halt d.pending sound d.few); passes = d.passes; left = d.left });
+      crash = λ told kept. (let d = k.crash told kept in record { pending = d.pending; few = few d.pending (none_pending _ _ old.halt d.pending sound d.few); passes = d.passes; left = d.left });
       exact = k.exact;
       cause = cause;
     }
