@@ -24,11 +24,13 @@ pub perform-requires : goal.perform-requires
 perform-requires g c =
     let t = rw c.in-Ok-Start.field-0-is at c.in-Ok-Start.ensures.turn in
     record {
-      sound = c.in-Ok-Start.ensures.sound;
-      running = runs_started 0 _ _ _ t.stop _ _ t.is.0;
-      has = subst (λ (p : PlanValue). HasOrder (outline_of p) c.next.new.self.past 0 c.in-Ok-Start.order) (sym c.next.ensures.takes.plan) (has_started 0 _ _ _ t.stop _ _ t.is.0);
-      alone = subst (λ (p : PlanValue). IsAlone (outline_of p) c.next.new.self.past 0) (sym c.next.ensures.takes.plan) (alone_started 0 _ _ _ t.stop _ _ c.requires.going.still t.is.0);
-      whole = t.is.1;
+      at_work = record {
+        sound = c.in-Ok-Start.ensures.sound;
+        running = runs_started 0 _ _ _ t.stop _ _ t.is.0;
+        has = subst (λ (p : PlanValue). HasOrder (outline_of p) c.next.new.self.past 0 c.in-Ok-Start.order) (sym c.next.ensures.takes.plan) (has_started 0 _ _ _ t.stop _ _ t.is.0);
+        alone = subst (λ (p : PlanValue). IsAlone (outline_of p) c.next.new.self.past 0) (sym c.next.ensures.takes.plan) (alone_started 0 _ _ _ t.stop _ _ c.requires.going.still t.is.0);
+        whole = t.is.1;
+      };
     }
 
 pub unreachable-requires : goal.unreachable-requires
