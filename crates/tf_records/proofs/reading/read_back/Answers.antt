@@ -82,3 +82,15 @@ returns-clause-read g c =
     read_out g.K.Desk.state g.R.Replay.replayed _ _ _ _ l.read l.reads
     (λ before rest told_now rest_now at. subst (λ (v : Bool). IsNext v rest c.next_body.new.body.items) c.if-not-branch.true (c.in_ok-next_body.ensures.found before rest told_now rest_now at))
     (omega (arith, size, c.if-place-size.false)) c.in_ok-next_body.ensures.within
+
+pub returns-in_err-next_body-clause-reads : goal.returns-in_err-next_body-clause-reads
+returns-in_err-next_body-clause-reads g c = reads_on g.K.Desk.state _ _ _ c.reading.invariant.reads c.in_err-next_body.ensures.reads
+
+pub returns-in-Err-clause-reads : goal.returns-in-Err-clause-reads
+returns-in-Err-clause-reads g c = reads_on g.K.Desk.state _ _ _ c.reading.invariant.reads c.in_ok-next_body.ensures.reads
+
+pub returns-then-place-size-clause-reads : goal.returns-then-place-size-clause-reads
+returns-then-place-size-clause-reads g c = reads_on g.K.Desk.state _ _ _ c.reading.invariant.reads c.in_ok-next_body.ensures.reads
+
+pub returns-clause-reads : goal.returns-clause-reads
+returns-clause-reads g c = reads_on g.K.Desk.state _ _ _ c.reading.invariant.reads c.in_ok-next_body.ensures.reads
