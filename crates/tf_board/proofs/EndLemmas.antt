@@ -10,7 +10,8 @@ use Rattle.tf_journal.specs.Start.{file_of}
 use Rattle.tf_journal.specs.declared.faults.LoadFault.{LoadFault}
 use Rattle.tf_journal.specs.declared.faults.LoadFault.TheVariants as load_fault
 use Rattle.tf_journal.proofs.PathLemmas.{path_said, path_widens}
-use Rattle.tf_board.specs.Board.{BoardValue, board_in, IsNoBoard, no_journal, bad_body}
+use Rattle.tf_records.specs.Refusing.{no_journal, bad_body}
+use Rattle.tf_board.specs.Board.{BoardValue, board_in, IsNoBoard}
 use Rattle.tf_board.specs.Does.{Closes, said, cut, HoldsEither, LeavesCommand, Reached, Ends, EndsUnmade, Concludes, HasCauses}
 use Rattle.tf_board.specs.Opening.{IsAsBeforeOrMade, IsOpened, IsUnopened}
 use Rattle.tf_board.specs.declared.commands.Command.{Command}

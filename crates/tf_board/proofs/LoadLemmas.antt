@@ -10,11 +10,12 @@ use Rattle.tf_journal.specs.Rest.{IsAtRest, LeavesBirth}
 use Rattle.tf_journal.specs.declared.faults.LoadFault.{LoadFault}
 use Rattle.tf_journal.specs.declared.faults.LoadFault.TheVariants as load_fault
 use Rattle.tf_journal.specs.declared.title.Title.TheVariants.{Jobs as jobs_title}
-use Rattle.tf_board.specs.Board.{BoardValue, board_in, bodies_of}
-use Rattle.tf_board.specs.Loading.{IsReadyBoard, IsLoadedBoard, FailsToReadBack, FailsToMake, FailsToLoad, LeavesLoad}
+use Rattle.tf_records.specs.Replaying.{FailsToReadBack}
+use Rattle.tf_records.proofs.ReplayLemmas.{unread}
+use Rattle.tf_board.specs.Board.{BoardValue, board_in, bodies_of, IsRefusedCommand}
+use Rattle.tf_board.specs.Loading.{IsReadyBoard, IsLoadedBoard, FailsToMake, FailsToLoad, LeavesLoad}
 use Rattle.tf_board.specs.declared.commands.Command.{Command}
 use Rattle.tf_board.proofs.BoardLemmas.{rest_holds, rest_leaves_held}
-use Rattle.tf_board.proofs.ReadingLemmas.{refuses_board}
 
 module _ {K : Type 0} (state : K → DeskState) where
   -- ---- a journal that was read
@@ -41,14 +42,12 @@ module _ {K : Type 0} (state : K → DeskState) where
       }
 
   -- they weren't
-  pub unread_unloaded : (desk : K) (journal : Held K) (r : Result (BoardValue K) (K × LoadFault)) → Rests (state desk) (state journal.desk) → Recovers desk journal
-      → IfErr r (λ back. FailsToReadBack state back.1 journal back.0) → IfErr r (λ back. FailsToLoad back.1 (state desk) (state back.0))
-  unread_unloaded desk journal (Ok board) rests lies fails = tt
-  unread_unloaded desk journal (Err back) rests lies fails = record {
-    refused = λ told. let held = lies told in
-        refuses_board back.1 held.0 (board_in (bytes_now (state desk))) held.1 (fails.refused (on_disk_told rests.on_disk told) held.0 held.2.lies);
-    cause = λ is. rises_later (state desk).disk_faults (state journal.desk).disk_faults (state back.0).disk_faults rests.on_disk.disk_faults (fails.cause is);
-  }
+  pub unread_unloaded : (desk : K) (journal : Held K) (r : Result (BoardValue K) (K × LoadFault)) → journal.title ≡ jobs_title → Rests (state desk) (state journal.desk) → Recovers desk journal
+      → IfErr r (λ back. FailsToReadBack state IsRefusedCommand back.1 journal back.0) → IfErr r (λ back. FailsToLoad back.1 (state desk) (state back.0))
+  unread_unloaded desk journal (Ok board) titled rests lies fails = tt
+  unread_unloaded desk journal (Err back) titled rests lies fails =
+      let is = unread state IsRefusedCommand jobs_title (board_in (bytes_now (state desk))) desk journal back.1 back.0 titled rests lies fails in
+      record { refused = is.0; cause = is.1 }
 
   -- ---- an unborn file
 

@@ -1,12 +1,12 @@
 -- What a board is, and what its file holds. Lists of commands have the newest first.
-use Rattle.std.specs.Prelude.{◌≡◌, ◌≢◌, ◌⊎◌, ◌≤◌, ℕ, ◌+◌, false, List, [], ◌∷◌, ◌++◌, length, Option, None, slice_get}
+use Rattle.std.specs.Prelude.{◌≡◌, ◌≢◌, ◌⊎◌, ◌≤◌, ℕ, ◌+◌, false, List, [], ◌∷◌, ◌++◌, length, Option, None}
 use Rattle.tf_desk.specs.State.{DeskState, MayLeave}
-use Rattle.tf_journal.specs.Format.{SIZE_LIMIT, Recovered, bodies, unborn, not_a_book, prefix_of, recovered, title_of}
+use Rattle.tf_journal.specs.Format.{SIZE_LIMIT, Recovered, bodies, unborn, recovered, title_of}
 use Rattle.tf_journal.specs.Held.{Held}
 use Rattle.tf_journal.specs.Rest.{IsAtRest, IsOpen}
 use Rattle.tf_journal.specs.declared.faults.LoadFault.{LoadFault}
-use Rattle.tf_journal.specs.declared.faults.LoadFault.TheVariants as load_fault
 use Rattle.tf_journal.specs.declared.title.Title.TheVariants.{Jobs as jobs_title}
+use Rattle.tf_records.specs.Refusing.{IsMalformed, RefusesMalformed}
 use Rattle.tf_board.specs.Commands.{IsCommand, command_bytes}
 use Rattle.tf_board.specs.Jobs.{refuses, LegalJobs}
 use Rattle.tf_board.specs.Kept.{IsTrueTo}
@@ -58,31 +58,17 @@ pub record IsSound {K : Type 0} (state : K → DeskState) (kept : Kept) (b : Boa
 abbrev pub IsNoCommand : List Command → List ℕ → Type 0
 IsNoCommand past body = (c : Command) → IsCommand c → refuses past c ≡ None → command_bytes c ≢ body
 
--- one of the bodies can't come after those before it, which are the forms of legal commands; the offset and the byte are those of its
--- first byte in the file
-pub record IsRefusedAt (held : List (List ℕ)) (offset : ℕ) (byte : Option ℕ) : Type 0 where
+-- the bodies before are the forms of legal commands, after which no command that isn't refused has this form
+pub record IsRefusedCommand (before : List (List ℕ)) (body : List ℕ) : Type 0 where
   pub past : List Command
-  pub body : List ℕ
-  pub after : List (List ℕ)
   pub legal : LegalJobs past
-  pub splits : held ≡ bodies_of past ++ body ∷ after
+  pub before_is : before ≡ bodies_of past
   pub cannot : IsNoCommand past body
-  pub offset_is : offset ≡ length (prefix_of (title_of jobs_title) (bodies_of past)) + 5
-  pub byte_is : byte ≡ slice_get body 0
-
--- a journal's bodies were refused for what they are; a fault of the disk and want of memory say nothing of them
-abbrev pub RefusesBodies : LoadFault → List (List ℕ) → Type 0
-RefusesBodies load_fault.Disk held = Unit {0}
-RefusesBodies load_fault.Memory held = Unit {0}
-RefusesBodies (load_fault.NotABook offset byte) held = IsRefusedAt held offset byte
 
 -- the file is no board: it is no journal of that title, or one of its bodies can't come
-pub data IsNoBoard (file : Recovered) (offset : ℕ) (byte : Option ℕ) : Type 0 where
-  no_journal : file ≡ not_a_book offset byte → IsNoBoard file offset byte
-  bad_body : (held : List (List ℕ)) → file ≡ bodies held → IsRefusedAt held offset byte → IsNoBoard file offset byte
+abbrev pub IsNoBoard : Recovered → ℕ → Option ℕ → Type 0
+IsNoBoard file offset byte = IsMalformed (title_of jobs_title) IsRefusedCommand file offset byte
 
 -- a file was refused for what it is; a fault of the disk and want of memory say nothing of it
 abbrev pub RefusesBoard : LoadFault → Recovered → Type 0
-RefusesBoard load_fault.Disk file = Unit {0}
-RefusesBoard load_fault.Memory file = Unit {0}
-RefusesBoard (load_fault.NotABook offset byte) file = IsNoBoard file offset byte
+RefusesBoard fault file = RefusesMalformed (title_of jobs_title) IsRefusedCommand fault file

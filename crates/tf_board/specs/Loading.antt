@@ -1,16 +1,14 @@
 -- What reading a board's file, or making one, leaves. Lists of commands have the newest first.
-use Rattle.std.specs.Prelude.{◌≡◌, ℕ, false, IsTrue, List, Result, Ok, Err}
+use Rattle.std.specs.Prelude.{◌≡◌, false, IsTrue, Result, Ok, Err}
 use Rattle.tf_desk.specs.Counts.{Rises}
 use Rattle.tf_desk.specs.Crash.{Pairs}
 use Rattle.tf_desk.specs.State.{DeskState, bytes_now}
 use Rattle.tf_journal.specs.Format.{unborn, title_of}
-use Rattle.tf_journal.specs.Held.{Held}
-use Rattle.tf_journal.specs.Reading.{HasBodies}
 use Rattle.tf_journal.specs.Rest.{LeavesBirth}
 use Rattle.tf_journal.specs.declared.faults.LoadFault.{LoadFault}
 use Rattle.tf_journal.specs.declared.faults.LoadFault.TheVariants as load_fault
 use Rattle.tf_journal.specs.declared.title.Title.TheVariants.{Jobs as jobs_title}
-use Rattle.tf_board.specs.Board.{BoardValue, board_in, size_of, Holds, Finds, LeavesHeld, RefusesBodies, RefusesBoard}
+use Rattle.tf_board.specs.Board.{BoardValue, board_in, size_of, Holds, Finds, LeavesHeld, RefusesBoard}
 use Rattle.tf_board.specs.Jobs.{LegalJobs}
 
 -- the desk that a load leaves
@@ -38,13 +36,6 @@ pub record IsLoadedBoard {K : Type 0} (state : K → DeskState) (old : DeskState
   pub found : IsTrue old.tells → Finds board.past (board_in (bytes_now old))
   pub holds : IsTrue old.tells → Holds board.past (board_in (bytes_now (state board.journal.desk)))
   pub leaves : IsTrue old.tells → LeavesHeld board.past (state board.journal.desk)
-
--- why a journal's bodies weren't read: what the fault says of them is so, and the disk's comes only where the count of them rose
-pub record FailsToReadBack {K : Type 0} (state : K → DeskState) (fault : LoadFault) (journal : Held K) (desk : K)
-    : Type 0 where
-  pub refused : IsTrue (state journal.desk).tells → (held : List (List ℕ)) → HasBodies state journal held
-      → RefusesBodies fault held
-  pub cause : fault ≡ load_fault.Disk → Rises (state journal.desk).disk_faults (state desk).disk_faults
 
 -- why no board was made: a fault of the disk, where the count of them rose, or want of memory
 abbrev pub FailsToMake : LoadFault → DeskState → DeskState → Type 0

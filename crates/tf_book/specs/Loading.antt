@@ -1,5 +1,5 @@
 -- What a book's file is read as, and where it is refused.
-use Rattle.std.specs.Prelude.{◌≡◌, ◌≢◌, ℕ, ◌+◌, List, [], ◌∷◌, ◌++◌, length, Option, None, slice_get}
+use Rattle.std.specs.Prelude.{◌≡◌, ◌≢◌, ℕ, List, [], length, Option, None}
 use Rattle.std.specs.List.{AllByRecursion}
 use Rattle.tf_flow.specs.Plan as numbering
 use Rattle.tf_flow.specs.Plan.{PlanValue}
@@ -7,10 +7,10 @@ use Rattle.tf_flow.specs.Refusal.{first_refusal}
 use Rattle.tf_states.specs.declared.record.Entry.{Entry}
 use Rattle.tf_entries.specs.Entries.{IsEntry, entry_bytes}
 use Rattle.tf_entries.specs.Plans.{IsPlan, KeepsLimits, plan_bytes}
-use Rattle.tf_journal.specs.Format.{prefix_of, Recovered, bodies, not_a_book, title_of}
+use Rattle.tf_journal.specs.Format.{Recovered, title_of}
 use Rattle.tf_journal.specs.declared.faults.LoadFault.{LoadFault}
-use Rattle.tf_journal.specs.declared.faults.LoadFault.TheVariants as load_fault
 use Rattle.tf_journal.specs.declared.title.Title.TheVariants.{Book as book_title}
+use Rattle.tf_records.specs.Refusing.{IsMalformed, RefusesMalformed}
 use Rattle.tf_model.specs.Compilation.{compile_refusal}
 use Rattle.tf_model.specs.History.{snapshot}
 use Rattle.tf_model.specs.Plan.{outline_of}
@@ -58,29 +58,10 @@ pub data CannotFollow (before : List (List ℕ)) (body : List ℕ) : Type 0 wher
   first : before ≡ [] → IsNoPlan body → CannotFollow before body
   later : (plan : PlanValue) (past : List Entry) → IsHistoryOf plan past → before ≡ bodies_of plan past → IsNoStep plan past body → CannotFollow before body
 
--- one of the bodies can't come after those before it; the offset and the byte are those of its first byte in the file
-pub record IsBookRefusedAt (held : List (List ℕ)) (offset : ℕ) (byte : Option ℕ) : Type 0 where
-  pub before : List (List ℕ)
-  pub body : List ℕ
-  pub after : List (List ℕ)
-  pub splits : held ≡ before ++ body ∷ after
-  pub cannot : CannotFollow before body
-  pub offset_is : offset ≡ length (prefix_of (title_of book_title) before) + 5
-  pub byte_is : byte ≡ slice_get body 0
-
--- a journal's bodies were refused for what they are; a fault of the disk and want of memory say nothing of them
-abbrev pub RefusesBookBodies : LoadFault → List (List ℕ) → Type 0
-RefusesBookBodies load_fault.Disk held = Unit {0}
-RefusesBookBodies load_fault.Memory held = Unit {0}
-RefusesBookBodies (load_fault.NotABook offset byte) held = IsBookRefusedAt held offset byte
-
 -- the file is no book: it is no journal of that title, or one of its bodies can't come
-pub data IsNoBook (file : Recovered) (offset : ℕ) (byte : Option ℕ) : Type 0 where
-  no_journal : file ≡ not_a_book offset byte → IsNoBook file offset byte
-  bad_body : (held : List (List ℕ)) → file ≡ bodies held → IsBookRefusedAt held offset byte → IsNoBook file offset byte
+abbrev pub IsNoBook : Recovered → ℕ → Option ℕ → Type 0
+IsNoBook file offset byte = IsMalformed (title_of book_title) CannotFollow file offset byte
 
 -- a file was refused for what it is; a fault of the disk and want of memory say nothing of it
 abbrev pub RefusesBook : LoadFault → Recovered → Type 0
-RefusesBook load_fault.Disk file = Unit {0}
-RefusesBook load_fault.Memory file = Unit {0}
-RefusesBook (load_fault.NotABook offset byte) file = IsNoBook file offset byte
+RefusesBook fault file = RefusesMalformed (title_of book_title) CannotFollow fault file

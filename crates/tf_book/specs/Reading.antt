@@ -1,5 +1,5 @@
 -- How a plan and a history are read from a journal, body by body.
-use Rattle.std.specs.Prelude.{◌≡◌, ◌≤◌, ℕ, ◌+◌, IsTrue, List, ◌∷◌, ◌++◌, length}
+use Rattle.std.specs.Prelude.{◌≡◌, ◌≤◌, ℕ, IsTrue, List, [], ◌∷◌, ◌++◌, length}
 use Rattle.tf_desk.specs.State.{DeskState}
 use Rattle.tf_states.specs.declared.record.Entry.{Entry}
 use Rattle.tf_bound.specs.Short.{IsShortEntry, AreShort}
@@ -11,9 +11,12 @@ use Rattle.tf_journal.specs.Reading.{HasBodies}
 use Rattle.tf_machine.specs.Machine.{MachineValue, StandsFor}
 use Rattle.tf_book.specs.Book.{bodies_of, book_size}
 use Rattle.tf_book.specs.Forms.{AreForms}
-use Rattle.tf_book.specs.History.{past_shown, framed_bodies}
+use Rattle.tf_book.specs.History.{past_shown, framed_bodies, HasAllRoom}
 use Rattle.tf_book.specs.Loading.{IsAcceptedPlan, CanRun, IsEntryOf}
 use Rattle.tf_book.specs.declared.history.History.{History}
+use Rattle.tf_book.specs.declared.recovering.ReadBack.{ReadBack}
+use Rattle.tf_book.specs.declared.recovering.Replayed.{Replayed}
+use Rattle.tf_book.specs.declared.recovering.Replayed.TheVariants as replayed
 
 -- one entry more was read from these bytes: it follows the history for which the machine stood, and is kept behind it
 pub record HasReadEntry (before after : MachineValue) (old new : History) (bytes : List ℕ) : Type 0 where
@@ -37,18 +40,22 @@ pub record IsReadBack (machine : MachineValue) (history : History) : Type 0 wher
   pub short : AreShort (past_shown history.entries.items)
   pub forms : AreForms (past_shown history.entries.items)
 
-module _ {K : Type 0} (state : K → DeskState) where
-  -- so much was read of a journal: a plan and a history, whose bodies come first in it; the next gate stands at that place
-  pub record HasReadBook (journal : Held K) (machine : MachineValue) (history : History) (place : ℕ) : Type 0 where
-    pub back : IsReadBack machine history
-    pub place_is : place + 1 ≡ book_size machine.plan (past_shown history.entries.items)
-    pub prefix : IsTrue (state journal.desk).tells → (held : List (List ℕ)) → HasBodies state journal held
-        → (rest : List (List ℕ)) × (held ≡ bodies_of machine.plan (past_shown history.entries.items) ++ rest)
+-- just these bodies were read: those of a plan and a history, with room for every history that a journal can hold
+pub record HasReadRun (back : ReadBack) (bodies : List (List ℕ)) : Type 0 where
+  pub run : IsReadBack back.machine back.history
+  pub room : HasAllRoom back.history
+  pub bodies_are : bodies ≡ bodies_of back.machine.plan (past_shown back.history.entries.items)
 
-  -- all was read of a journal: its bodies are those of the plan and the history
-  pub record HasReadWholeBook (journal : Held K) (machine : MachineValue) (history : History) : Type 0 where
-    pub back : IsReadBack machine history
-    pub size : journal.size ≡ book_size machine.plan (past_shown history.entries.items)
-    pub limit : journal.size ≤ SIZE_LIMIT
-    pub whole : IsTrue (state journal.desk).tells → (held : List (List ℕ)) → HasBodies state journal held
-        → held ≡ bodies_of machine.plan (past_shown history.entries.items)
+-- the same of what is known before the plan was read: no body was
+abbrev pub HasReplayed : Replayed → List (List ℕ) → Type 0
+HasReplayed replayed.Nothing bodies = bodies ≡ []
+HasReplayed (replayed.Run back) bodies = HasReadRun back bodies
+
+-- all was read of a journal: its bodies are those of the plan and the history
+pub record HasReadBook {K : Type 0} (state : K → DeskState) (journal : Held K) (back : ReadBack) : Type 0 where
+  pub run : IsReadBack back.machine back.history
+  pub room : HasAllRoom back.history
+  pub size : journal.size ≡ book_size back.machine.plan (past_shown back.history.entries.items)
+  pub limit : journal.size ≤ SIZE_LIMIT
+  pub whole : IsTrue (state journal.desk).tells → (held : List (List ℕ)) → HasBodies state journal held
+      → held ≡ bodies_of back.machine.plan (past_shown back.history.entries.items)

@@ -1,35 +1,40 @@
 //! How a plan and a history are read back from a journal.
-ghost use Rattle.std.specs.Prelude.{◌≡◌, ◌≢◌, ◌<◌, ◌≤◌, ◌+◌, [], ℕ, List, None, true, false, IsTrue, OnOk, IfOk, IfErr, IsErrOf, slice_get};
-ghost use Rattle.tf_desk.specs.Counts.{Rises};
+ghost use Rattle.std.specs.Prelude.{◌≡◌, ◌≢◌, ◌∷◌, [], ℕ, List, false, OnOk, IfOk, IfErr, IsErrOf};
 ghost use Rattle.tf_states.specs.declared.record.Entry.{Entry as Record};
 ghost use Rattle.tf_entries.specs.Plans.{plan_bytes};
-ghost use Rattle.tf_journal.specs.Reading.{IsNext, HasBodies, OnlyReads};
+ghost use Rattle.tf_journal.specs.Reading.{OnlyReads};
 ghost use Rattle.tf_journal.specs.declared.title.Title.TheVariants.{Book as book_title};
+ghost use Rattle.tf_records.specs.Replaying.{FailsToReadBack};
 ghost use Rattle.tf_flow.specs.Plan.{PlanValue};
 ghost use Rattle.tf_machine.specs.Answers.{IsBuildRefusal, IsBack};
 ghost use Rattle.tf_machine.specs.Machine.{StandsFor};
 ghost use Rattle.tf_machine.specs.declared.faults.ApplyFault.TheVariants.{NotAStep as refuses};
 ghost use Rattle.tf_book.specs.History.{HasAllRoom};
-ghost use Rattle.tf_book.specs.Loading.{IsHistoryOf, CanRun, IsNoPlan, IsNoStep, RefusesBookBodies};
-ghost use Rattle.tf_book.specs.Reading.{HasReadEntry, HasReadBook, HasReadWholeBook};
+ghost use Rattle.tf_book.specs.Loading.{IsHistoryOf, CanRun, IsNoPlan, IsNoStep, CannotFollow};
+ghost use Rattle.tf_book.specs.Reading.{HasReadEntry, HasReadRun, HasReplayed, HasReadBook};
 
 use crate::history::History;
 use std::alloc::Global;
 use tf_bound::event_is_short;
 use tf_desk::Desk;
 use tf_entries::{decode_entry, decode_plan, entry_has_one_form};
-use tf_journal::{Journal, LoadFault, next_body};
+use tf_journal::{Journal, LoadFault};
 use tf_machine::{ApplyFault, BuildFault, Machine};
+use tf_records::{Replay, read_back};
 use tf_values::MakeFault;
-
-/// The place of the first gate.
-const FIRST_PLACE: u64 = 17;
 
 /// What was read back: the machine of a plan, which stands for the history.
 #[derive(Drop)]
 pub struct ReadBack {
     pub machine: Machine,
     pub history: History,
+}
+
+/// What was made of a journal's bodies: of none nothing, and else the run that they tell.
+#[derive(Drop)]
+pub enum Replayed {
+    Nothing,
+    Run(ReadBack),
 }
 
 /// Why a plan is refused of which no machine was made.
@@ -103,122 +108,58 @@ fn read_entry(
     }
 }
 
-/// Why a body is refused whose gate is at that place.
-fn refusal(fault: MakeFault, place: u64, body: &[u8]) -> LoadFault
-    requires { place < 67108864 }
-    ensures no { fault ≡ MakeFault.No → result ≡ LoadFault.NotABook (place + 5) (slice_get body.now 0) }
-    ensures memory { fault ≡ MakeFault.Memory → result ≡ LoadFault.Memory }
-    ensures no_disk { result ≡ LoadFault.Disk → ⊥ }
+/// Reads the plan of these bytes, before a run. `No` comes where they are no plan's form, or where the plan can't run.
+fn read_first(alloc: Global, body: &[u8]) -> Result<ReadBack, MakeFault>
+    ensures read { IfOk result (λ back. HasReadRun back (body.now ∷ [])) }
+    ensures refused { IsErrOf result MakeFault.No → IsNoPlan body.now }
 {
-    match fault {
-        MakeFault::No => LoadFault::NotABook {
-            offset: place + 5,
-            byte: body.first().copied(),
-        },
-        MakeFault::Memory => LoadFault::Memory,
-    }
+    let machine = read_plan(alloc, body)?;
+    let Ok(history) = History::with_room(alloc) else {
+        return Err(MakeFault::Memory);
+    };
+    Ok(ReadBack { machine, history })
 }
 
-/// Reads the first body of a journal that has records, and makes the machine of the plan.
-fn read_first<K: Desk>(
-    alloc: Global,
-    journal: &mut Journal<K>,
-    body: &mut Vec<u8>,
-) -> Result<Machine, LoadFault>
-    requires kept { journal.old.volatile ≡ false }
-    requires title { journal.old.title ≡ book_title }
-    requires some { journal.old.size ≢ 18 }
-    ensures form { IfOk result (λ machine. plan_bytes machine.plan ≡ body.new.items) }
-    ensures fresh { IfOk result (λ machine. StandsFor machine []) }
-    ensures history { IfOk result (λ machine. IsHistoryOf machine.plan []) }
-    ensures first { OnOk result (IsTrue (K.state journal.old.desk).tells → (held : List (List ℕ))
-        → HasBodies K.state journal.old held → IsNext true held body.new.items) }
-    ensures refused { IfErr result (λ fault. IsTrue (K.state journal.old.desk).tells → (held : List (List ℕ))
-        → HasBodies K.state journal.old held → RefusesBookBodies fault held) }
-    ensures cause { IsErrOf result LoadFault.Disk
-        → Rises (K.state journal.old.desk).disk_faults (K.state journal.new.desk).disk_faults }
-    ensures reads { OnlyReads K.state journal.old journal.new }
-{
-    if !next_body(journal, FIRST_PLACE, body)? {
-        return Err(LoadFault::NotABook {
-            offset: FIRST_PLACE,
-            byte: None,
-        });
-    }
-    match read_plan(alloc, body) {
-        Ok(machine) => Ok(machine),
-        Err(fault) => Err(refusal(fault, FIRST_PLACE, body)),
-    }
-}
+impl Replay for Replayed {
+    ghost use Rattle.tf_book.specs.Loading.{CannotFollow};
+    ghost use Rattle.tf_book.specs.Reading.{HasReplayed};
 
-/// Reads the entries from that place on to the last one, behind what was read of the journal.
-fn read_history<K: Desk>(
-    alloc: Global,
-    journal: &mut Journal<K>,
-    start: u64,
-    back: &mut ReadBack,
-) -> Result<(), LoadFault>
-    requires kept { journal.old.volatile ≡ false }
-    requires title { journal.old.title ≡ book_title }
-    requires low { 17 ≤ start }
-    requires read { HasReadBook K.state journal.old back.old.machine back.old.history start }
-    ensures read { OnOk result (HasReadWholeBook K.state journal.old back.new.machine back.new.history) }
-    ensures room { HasAllRoom back.old.history → HasAllRoom back.new.history }
-    ensures refused { IfErr result (λ fault. IsTrue (K.state journal.old.desk).tells → (held : List (List ℕ))
-        → HasBodies K.state journal.old held → RefusesBookBodies fault held) }
-    ensures cause { IsErrOf result LoadFault.Disk
-        → Rises (K.state journal.old.desk).disk_faults (K.state journal.new.desk).disk_faults }
-    ensures reads { OnlyReads K.state journal.old journal.new }
-{
-    let mut body = Vec::new(alloc);
-    let mut place = start;
-    'reading: loop {
-        if !next_body(journal, place, &mut body)? {
-            break 'reading;
-        }
-        match read_entry(alloc, &body, &mut back.machine, &mut back.history) {
-            Ok(()) => place += 5 + body.len() as u64,
-            Err(fault) => return Err(refusal(fault, place, &body)),
+    ghost replayed = { HasReplayed };
+
+    ghost refuses = { CannotFollow };
+
+    /// Reads the plan, and then one entry after another. `No` comes where the first body is no plan that can run, or
+    /// a later one is no entry that may follow.
+    fn replay(&mut self, alloc: Global, body: &[u8]) -> Result<(), MakeFault> {
+        match self {
+            Replayed::Nothing => {
+                *self = Replayed::Run(read_first(alloc, body)?);
+                Ok(())
+            }
+            Replayed::Run(back) => { read_entry(alloc, body, &mut back.machine, &mut back.history) }
         }
     }
-    if place + 1 != journal.size() {
-        return Err(LoadFault::NotABook {
-            offset: place,
-            byte: None,
-        });
-    }
-    Ok(())
 }
 
 /// Reads the plan and the history of a journal that has records.
-#[tactic(auto, using(tf_journal::proofs::ReadingLemmas::reads_on))]
-pub fn read_back<K: Desk>(alloc: Global, journal: &mut Journal<K>) -> Result<ReadBack, LoadFault>
-    requires kept { journal.old.volatile ≡ false }
+pub fn read_book<K: Desk>(alloc: Global, journal: &mut Journal<K>) -> Result<ReadBack, LoadFault>
+    requires in_file { journal.old.volatile ≡ false }
     requires title { journal.old.title ≡ book_title }
     requires some { journal.old.size ≢ 18 }
-    ensures read { IfOk result (λ back. HasReadWholeBook K.state journal.old back.machine back.history) }
-    ensures room { IfOk result (λ back. HasAllRoom back.history) }
-    ensures refused { IfErr result (λ fault. IsTrue (K.state journal.old.desk).tells → (held : List (List ℕ))
-        → HasBodies K.state journal.old held → RefusesBookBodies fault held) }
-    ensures cause { IsErrOf result LoadFault.Disk
-        → Rises (K.state journal.old.desk).disk_faults (K.state journal.new.desk).disk_faults }
+    ensures read { IfOk result (λ back. HasReadBook K.state journal.old back) }
+    ensures fails { IfErr result (λ fault. FailsToReadBack K.state CannotFollow
+        fault journal.old journal.new.desk) }
     ensures reads { OnlyReads K.state journal.old journal.new }
 {
-    let mut body = Vec::new(alloc);
-    let machine = read_first(alloc, journal, &mut body)?;
-    let Ok(history) = History::with_room(alloc) else {
-        return Err(LoadFault::Memory);
-    };
-    let mut back = ReadBack { machine, history };
-    match read_history(
-        alloc,
-        journal,
-        FIRST_PLACE + 5 + body.len() as u64,
-        &mut back,
-    ) {
-        Ok(()) => Ok(back),
+    let mut replayed = Replayed::Nothing;
+    match read_back(alloc, journal, &mut replayed) {
+        Ok(()) => match replayed {
+            Replayed::Run(back) => Ok(back),
+            // A journal without a record has its gate, its title and a gate.
+            Replayed::Nothing => unreachable!(),
+        },
         Err(fault) => {
-            drop(back);
+            drop(replayed);
             Err(fault)
         }
     }

@@ -28,9 +28,10 @@ use Rattle.tf_model.specs.Steps.{Step}
 use Rattle.tf_bound.specs.Short.{IsShortValue, IsShortPayload, IsShortEvent, AreShort, AreShortBinds, IsShortControl, IsShortTree, AreShortTrees, IsWithinLimits}
 use Rattle.tf_bound.proofs.AcceptedLemmas.{accepted_within}
 use Rattle.tf_bound.proofs.PastLemmas.{past_kept}
+use Rattle.tf_records.specs.Refusing.{no_journal, bad_body}
 use Rattle.tf_book.specs.Book.{bodies_of}
 use Rattle.tf_book.specs.Forms.{AreForms}
-use Rattle.tf_book.specs.Loading.{AreEntriesOf, IsHistoryOf, IsNoPlan, no_form, no_run, CannotFollow, first, later, IsNoBook, no_journal, bad_body}
+use Rattle.tf_book.specs.Loading.{AreEntriesOf, IsHistoryOf, IsNoPlan, no_form, no_run, CannotFollow, first, later, IsNoBook}
 use Rattle.tf_book.proofs.AmongLemmas.{past_entries}
 use Rattle.tf_book.proofs.InvariantLemmas.{history_before}
 use Rattle.tf_commands.specs.Durable.{HoldsHistory}

@@ -3,13 +3,14 @@ ghost use Rattle.tf_desk.specs.State.{bytes_now, Rests, GoesOn};
 ghost use Rattle.tf_journal.specs.Format.{is_unborn, title_of, unborn, journal_bytes};
 ghost use Rattle.tf_journal.specs.Rest.{IsAtRest, IsReady, LeavesBirth};
 ghost use Rattle.tf_journal.specs.declared.title.Title.TheVariants.{Jobs as jobs_title};
-ghost use Rattle.tf_board.specs.Board.{board_in, bodies_of};
-ghost use Rattle.tf_board.specs.Loading.{desk_loaded, IsReadyBoard, IsLoadedBoard, FailsToReadBack, FailsToMake, FailsToLoad, LeavesLoad};
+ghost use Rattle.tf_records.specs.Replaying.{FailsToReadBack};
+ghost use Rattle.tf_board.specs.Board.{board_in, bodies_of, IsRefusedCommand};
+ghost use Rattle.tf_board.specs.Loading.{desk_loaded, IsReadyBoard, IsLoadedBoard, FailsToMake, FailsToLoad, LeavesLoad};
 ghost use Rattle.tf_board.specs.Opening.{IsPicked, Opens};
 
 use super::Board;
 use crate::kept::Kept;
-use crate::recovering::read_back;
+use crate::recovering::read_commands;
 use std::alloc::Global;
 use tf_desk::Desk;
 use tf_journal::{Journal, JournalFault, LoadFault, Title};
@@ -26,10 +27,10 @@ impl<K: Desk> Board<K> {
             → IsAtRest K.state journal held → held ≡ bodies_of board.past) }
         ensures at_rest { IfOk result (λ board. IsTrue (K.state journal.desk).tells
             → IsAtRest K.state board.journal (bodies_of board.past)) }
-        ensures fails { IfErr result (λ back. FailsToReadBack K.state back.1 journal back.0) }
+        ensures fails { IfErr result (λ back. FailsToReadBack K.state IsRefusedCommand back.1 journal back.0) }
         ensures rests { Rests (K.state journal.desk) (K.state (desk_loaded result)) }
     {
-        match read_back(alloc, &mut journal) {
+        match read_commands(alloc, &mut journal) {
             Ok(kept) => Ok(Board {
                 alloc,
                 journal,

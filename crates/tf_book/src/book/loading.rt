@@ -4,11 +4,12 @@ ghost use Rattle.tf_desk.specs.State.{bytes_now, Rests};
 ghost use Rattle.tf_journal.specs.Format.{title_of, recovered};
 ghost use Rattle.tf_journal.specs.Rest.{IsAtRest, HasSynced, IsSynced};
 ghost use Rattle.tf_journal.specs.declared.title.Title.TheVariants.{Book as book_title};
-ghost use Rattle.tf_book.specs.Loading.{RefusesBookBodies, RefusesBook};
+ghost use Rattle.tf_records.specs.Replaying.{FailsToReadBack};
+ghost use Rattle.tf_book.specs.Loading.{CannotFollow, RefusesBook};
 ghost use Rattle.tf_book.specs.Loaded.{desk_after_load, IsMade, IsLoadedFrom, IsLoaded};
 
 use super::Book;
-use crate::recovering::read_back;
+use crate::recovering::read_book;
 use crate::writing::Draft;
 use std::alloc::Global;
 use tf_desk::Desk;
@@ -34,10 +35,7 @@ impl<K: Desk> Book<K> {
         ensures made { IfOk result (IsMade K.state) }
         ensures loads { IfOk result (λ loaded. IsTrue (K.state journal.desk).tells → (held : List (List ℕ))
             → IsAtRest K.state journal held → IsLoadedFrom loaded held) }
-        ensures refused { IfErr result (λ back. IsTrue (K.state journal.desk).tells → (held : List (List ℕ))
-            → IsAtRest K.state journal held → RefusesBookBodies back.1 held) }
-        ensures cause { IfErr result (λ back. back.1 ≡ LoadFault.Disk
-            → Rises (K.state journal.desk).disk_faults (K.state back.0).disk_faults) }
+        ensures fails { IfErr result (λ back. FailsToReadBack K.state CannotFollow back.1 journal back.0) }
         ensures rests { Rests (K.state journal.desk) (K.state (desk_after_load result)) }
     {
         // A journal without a record has its gate, its title and a gate.
@@ -47,7 +45,7 @@ impl<K: Desk> Book<K> {
         let Ok(draft) = Draft::make(alloc) else {
             return Err((journal.into_desk(), LoadFault::Memory));
         };
-        match read_back(alloc, &mut journal) {
+        match read_book(alloc, &mut journal) {
             Ok(back) => Ok(Loaded::Book(Book {
                 alloc,
                 journal,

@@ -1,79 +1,8 @@
-use Rattle.std.proofs.Common.{rules, ◌≡◌, ◌∙◌, Bool, ℕ, List, ap, sym, subst, arith, Err}
-use Rattle.std.specs.Prelude.{slice_get}
-use Rattle.std.proofs.lemmas.Result.{err_from_is_err_and}
-use Rattle.tf_desk.proofs.CountLemmas.{rises_later}
-use Rattle.tf_journal.specs.Held.{Held}
-use Rattle.tf_journal.specs.Reading.{IsNext, IsNoRefusal}
-use Rattle.tf_journal.proofs.ReadingLemmas.{reads_none, reads_on}
-use Rattle.tf_board.specs.Board.{IsNoCommand}
-use Rattle.tf_board.specs.Kept.{past_in}
-use Rattle.tf_board.specs.Reading.{HasReadCommand}
-use Rattle.tf_board.proofs.ReadingLemmas.{found_next_body, refuses_nothing, refuses_so, read_none, read_on, read_refused, read_out, read_ends}
+use Rattle.tf_board.proofs.ReadingLemmas.{read_none, read_all}
 use Rattle.tf_board.proofs.recovering.read_commands.Goals as goal
 
-pub reading-init : goal.reading-init
-reading-init g c = record {
-  low = omega arith;
-  read = read_none g.K.Desk.state c.args.journal.now c.args.kept.now c.requires.none;
-  reads = reads_none g.K.Desk.state c.args.journal.now;
-}
+pub read_back-requires-clause-none : goal.read_back-requires-clause-none
+read_back-requires-clause-none g c = read_none c.none-kept.result c.none-kept.ensures
 
-pub returns-in_err-next_body-clause-fails : goal.returns-in_err-next_body-clause-fails
-returns-in_err-next_body-clause-fails g c =
-    let D = g.K.Desk in
-    let l = c.reading.invariant in
-    let p = err_from_is_err_and c.from_residual.result c.from_residual.ensures.1 in
-    rw (p.1, p.2)
-    (record {
-      refused = λ told held lies. refuses_nothing _ held (found_next_body D.state _ _ _ _ (λ rest. IsNoRefusal c.in_err-next_body.field-0.0) l.read l.reads c.requires.title c.in_err-next_body.ensures.whole told held lies).2;
-      cause = λ is. rises_later (D.state c.args.journal.now.desk).disk_faults (D.state c.reading.journal.desk).disk_faults (D.state c.next_body.new.journal.desk).disk_faults
-          l.reads.rests.on_disk.disk_faults (c.in_err-next_body.ensures.cause (ap (λ f. Err f) is));
-    })
-
-pub returns-in-Err-clause-fails : goal.returns-in-Err-clause-fails
-returns-in-Err-clause-fails g c =
-    let l = c.reading.invariant in
-    let items = c.next_body.new.body.items in
-    record {
-      refused = λ told held lies.
-          refuses_so c.in-Err.fault c.refusal.result held _ _ c.refusal.ensures.no c.refusal.ensures.memory
-          (λ is. read_refused g.K.Desk.state _ _ _ _ _ items _ l.read l.reads c.requires.title
-          (λ before rest told_now rest_now at. subst (λ (v : Bool). IsNext v rest items) c.if-not-branch.false (c.in_ok-next_body.ensures.found before rest told_now rest_now at))
-          (subst (λ (b : List ℕ). IsNoCommand (past_in c.reading.kept) b) c.deref.ensures.value (c.in-Err.ensures.refused (ap (λ f. Err f) is)))
-          (search rules) (ap (λ (b : List ℕ). slice_get b 0) c.deref-in-Err.ensures.value) told held lies);
-      cause = λ is. absurd (c.refusal.ensures.no_disk is);
-    }
-
-pub reading-preserved : goal.reading-preserved
-reading-preserved g c =
-    let l = c.reading.invariant in
-    let items = c.next_body.new.body.items in
-    record {
-      low = omega (arith, l.low);
-      read = read_on g.K.Desk.state _ _ _ _ _ _ items l.read l.reads c.requires.title
-          (λ before rest told_now rest_now at. subst (λ (v : Bool). IsNext v rest items) c.if-not-branch.false (c.in_ok-next_body.ensures.found before rest told_now rest_now at))
-          (subst (λ (b : List ℕ). HasReadCommand c.reading.kept c.read_command.new.kept b) c.deref.ensures.value c.in-Ok.ensures.ok) (search rules);
-      reads = reads_on g.K.Desk.state _ _ _ l.reads c.in_ok-next_body.ensures.reads;
-    }
-
-pub returns-then-place-size-clause-fails : goal.returns-then-place-size-clause-fails
-returns-then-place-size-clause-fails g c =
-    let l = c.reading.invariant in
-    let reads = reads_on g.K.Desk.state _ _ _ l.reads c.in_ok-next_body.ensures.reads in
-    let size : c.size.result ≡ c.args.journal.now.size = c.size.ensures ∙ ap (λ (h : Held _). h.size) reads.journal in
-    record {
-      refused = λ told held lies.
-          absurd (read_ends g.K.Desk.state _ _ _ _ l.read l.reads c.requires.title
-          (λ before rest told_now rest_now at. subst (λ (v : Bool). IsNext v rest c.next_body.new.body.items) c.if-not-branch.true (c.in_ok-next_body.ensures.found before rest told_now rest_now at))
-          (λ same. c.if-place-size.true (same ∙ sym size)) told held lies);
-      cause = λ is. absurd (cc);
-    }
-
-pub returns-clause-read : goal.returns-clause-read
-returns-clause-read g c =
-    let l = c.reading.invariant in
-    let reads = reads_on g.K.Desk.state _ _ _ l.reads c.in_ok-next_body.ensures.reads in
-    let size : c.size.result ≡ c.args.journal.now.size = c.size.ensures ∙ ap (λ (h : Held _). h.size) reads.journal in
-    read_out g.K.Desk.state _ _ _ _ l.read l.reads c.requires.title
-    (λ before rest told_now rest_now at. subst (λ (v : Bool). IsNext v rest c.next_body.new.body.items) c.if-not-branch.true (c.in_ok-next_body.ensures.found before rest told_now rest_now at))
-    (omega (arith, size, c.if-place-size.false)) c.in_ok-next_body.ensures.within
+pub returns-in-Ok-clause-read : goal.returns-in-Ok-clause-read
+returns-in-Ok-clause-read g c = read_all g.K.Desk.state c.args.journal.now c.read_back.new.into c.requires.title c.in-Ok.ensures.read

@@ -8,7 +8,8 @@ use Rattle.tf_journal.specs.declared.faults.JournalFault.{JournalFault}
 use Rattle.tf_journal.specs.declared.faults.LoadFault.TheVariants as load_fault
 use Rattle.tf_journal.specs.declared.title.Title.TheVariants.{Jobs as jobs_title}
 use Rattle.tf_journal.proofs.UnbornLemmas.{unborn_found}
-use Rattle.tf_board.specs.Board.{board_in, no_journal}
+use Rattle.tf_records.specs.Refusing.{no_journal}
+use Rattle.tf_board.specs.Board.{board_in}
 use Rattle.tf_board.specs.Loading.{desk_loaded}
 use Rattle.tf_board.proofs.DeskLaws.{KeepsLaws}
 use Rattle.tf_board.proofs.LoadLemmas.{read_loaded, unread_unloaded, made_loaded, unmade_unloaded, made_goes}
@@ -38,7 +39,7 @@ returns-in-Ok-clause-loaded g c =
 pub returns-in-Ok-clause-fails : goal.returns-in-Ok-clause-fails
 returns-in-Ok-clause-fails g c =
     let e = c.in-Ok.ensures in
-    unread_unloaded g.K.Desk.state c.args.desk c.in-Ok.journal c.read.result e.rests e.recovers c.read.ensures.fails
+    unread_unloaded g.K.Desk.state c.args.desk c.in-Ok.journal c.read.result e.made.0 e.rests e.recovers c.read.ensures.fails
 
 pub returns-in-Ok-clause-unchanged : goal.returns-in-Ok-clause-unchanged
 returns-in-Ok-clause-unchanged g c = λ told born. rests_on c.in-Ok.ensures.rests c.read.ensures.rests
@@ -55,7 +56,7 @@ returns-in-Ok-clause-opens g c = λ name entry p.
     record { tells_shown = g.met.K.Desk.tells_shown; picked_is_there = g.met.K.Desk.picked_is_there; reads_left = g.met.K.Desk.reads_left; counts_now = g.met.K.Desk.counts_now; only_now = g.met.K.Desk.only_now } in
     read_opens D.state laws name entry c.args.desk p c.in-Ok.journal.desk e.rests (λ told. e.at_sync told tt) c.read.result r.rests
     (read_loaded D.state c.args.desk c.in-Ok.journal c.read.result e.rests e.recovers r.fresh r.loads r.at_rest)
-    (unread_unloaded D.state c.args.desk c.in-Ok.journal c.read.result e.rests e.recovers r.fails)
+    (unread_unloaded D.state c.args.desk c.in-Ok.journal c.read.result e.made.0 e.rests e.recovers r.fails)
 
 -- ---- an unborn file
 

@@ -1,12 +1,12 @@
 use Rattle.std.proofs.Common.{◌≤◌, ◌-◌}
 use Rattle.tf_journal.specs.Reading.{OnlyReads}
-use Rattle.tf_board.specs.Reading.{HasRead}
-use Rattle.tf_board.proofs.recovering.read_commands.Given as goal
+use Rattle.tf_records.specs.Replaying.{HasReadTo}
+use Rattle.tf_records.proofs.reading.read_back.Given as goal
 
 abbrev pub invariant-reading : goal.invariant-reading
 invariant-reading g l = record {
   low : 17 ≤ l.place;
-  read : HasRead g.K.Desk.state l.fn.journal l.kept l.place;
+  read : HasReadTo g.K.Desk.state g.R.Replay.replayed l.fn.journal l.into l.place;
   reads : OnlyReads g.K.Desk.state l.fn.journal l.journal;
 }
 

@@ -1,0 +1,150 @@
+-- How the reading of a journal goes on, body by body, and how it ends.
+use Rattle.std.proofs.Common.{◌≡◌, ◌≢◌, ◌<◌, ℕ, ◌+◌, true, List, [], ◌∷◌, ◌++◌, length, Option, refl, sym, ◌∙◌, ap, subst, arith, append-nil, append_assoc, length-append}
+use Rattle.std.specs.Prelude.{IsTrue, slice_get}
+use Rattle.std.specs.List.{flat_map}
+use Rattle.tf_desk.specs.Counts.{Rises}
+use Rattle.tf_desk.specs.State.{DeskState, Rests}
+use Rattle.tf_desk.proofs.CountLemmas.{rises_later}
+use Rattle.tf_desk.proofs.StateLemmas.{on_disk_told}
+use Rattle.tf_journal.specs.Format.{SIZE_LIMIT, OPEN, Recovered, bodies, record_of, prefix_of, title_of}
+use Rattle.tf_journal.specs.Held.{Held}
+use Rattle.tf_journal.specs.Reading.{IsNext, IsNoRefusal, HasBodies, OnlyReads}
+use Rattle.tf_journal.specs.Rest.{IsAtRest}
+use Rattle.tf_journal.specs.declared.faults.LoadFault.{LoadFault}
+use Rattle.tf_journal.specs.declared.faults.LoadFault.TheVariants as load_fault
+use Rattle.tf_journal.specs.declared.title.Title.{Title}
+use Rattle.tf_journal.proofs.HeaderLemmas.{sixteen}
+use Rattle.tf_journal.proofs.PlaceLemmas.{first_place}
+use Rattle.tf_journal.proofs.ReachLemmas.{flat_map-push, length-record_of}
+use Rattle.tf_journal.proofs.ReadingLemmas.{bodies_stay, told_is}
+use Rattle.tf_values.specs.declared.faults.MakeFault.{MakeFault}
+use Rattle.tf_values.specs.declared.faults.MakeFault.TheVariants as make_fault
+use Rattle.tf_records.specs.Refusing.{HasRefusedBody, RefusesBodies, RefusesMalformed, bad_body}
+use Rattle.tf_records.specs.Replaying.{HasReadTo, HasReadAll, FailsToReadBack}
+
+-- ---- faults
+
+-- a fault that says nothing of the file refuses nothing
+pub refuses_nothing : (title : List ℕ) (refuses : List (List ℕ) → List ℕ → Type 0) (fault : LoadFault) (held : List (List ℕ)) → IsNoRefusal fault → RefusesBodies title refuses fault held
+refuses_nothing title refuses load_fault.Disk held is = tt
+refuses_nothing title refuses load_fault.Memory held is = tt
+refuses_nothing title refuses (load_fault.NotABook offset byte) held is = absurd is
+
+-- why a body is refused
+pub refuses_so : (title : List ℕ) (refuses : List (List ℕ) → List ℕ → Type 0) (fault : MakeFault) (answer : LoadFault) (held : List (List ℕ)) (offset : ℕ) (byte : Option ℕ)
+    → (fault ≡ make_fault.No → answer ≡ load_fault.NotABook offset byte) → (fault ≡ make_fault.Memory → answer ≡ load_fault.Memory)
+    → (fault ≡ make_fault.No → HasRefusedBody title refuses held offset byte) → RefusesBodies title refuses answer held
+refuses_so title refuses make_fault.No answer held offset byte bad memory refused = subst (λ (f : LoadFault). RefusesBodies title refuses f held) (sym (bad refl)) (refused refl)
+refuses_so title refuses make_fault.Memory answer held offset byte bad memory refused = subst (λ (f : LoadFault). RefusesBodies title refuses f held) (sym (memory refl)) tt
+
+-- a file whose bodies are refused is malformed
+pub refuses_malformed : (title : List ℕ) (refuses : List (List ℕ) → List ℕ → Type 0) (fault : LoadFault) (held : List (List ℕ)) (file : Recovered) → file ≡ bodies held
+    → RefusesBodies title refuses fault held → RefusesMalformed title refuses fault file
+refuses_malformed title refuses load_fault.Disk held file is refused = tt
+refuses_malformed title refuses load_fault.Memory held file is refused = tt
+refuses_malformed title refuses (load_fault.NotABook offset byte) held file is refused = bad_body held is refused
+
+-- ---- places
+
+-- the place behind one body more
+pub place_on : (title : List ℕ) (before : List (List ℕ)) (body : List ℕ) → length (prefix_of title (before ++ body ∷ [])) ≡ length (prefix_of title before) + (5 + length body)
+place_on title before body =
+    omega (arith, ap length (flat_map-push before body), length-append (OPEN ∷ title) (flat_map record_of (before ++ body ∷ [])), length-append (OPEN ∷ title) (flat_map record_of before), length-append (flat_map record_of before) (record_of body), length-record_of body)
+
+module _ {K R : Type 0} (state : K → DeskState) (replayed : R → List (List ℕ) → Type 0) where
+  abbrev Reads : Held K → Held K → Type 0
+  Reads old new = OnlyReads state old new
+
+  abbrev Read : Held K → R → ℕ → Type 0
+  Read j made place = HasReadTo state replayed j made place
+
+  -- what a look at that place says of the bodies behind those before it
+  abbrev FindsSo : Held K → ℕ → (List (List ℕ) → Type 0) → Type 0
+  FindsSo j place Says = (before rest : List (List ℕ)) → IsTrue (state j.desk).tells → HasBodies state j (before ++ rest) → place ≡ length (prefix_of (title_of j.title) before) → Says rest
+
+  -- no body was read yet
+  pub read_none : (j : Held K) (made : R) → replayed made [] → Read j made 17
+  read_none j made none = record {
+    before = [];
+    is_replayed = none;
+    place_is = sym (first_place (title_of j.title) (sixteen j.title));
+    begins = λ told held lies. (held, refl);
+  }
+
+  -- what was found at the next gate comes behind the bodies so far
+  pub found_behind : (a b : Held K) (made : R) (place : ℕ) (Says : List (List ℕ) → Type 0) (read : Read a made place) → Reads a b → FindsSo b place Says
+      → IsTrue (state a.desk).tells → (held : List (List ℕ)) → HasBodies state a held → (rest : List (List ℕ)) × (held ≡ read.before ++ rest) × Says rest
+  found_behind a b made place Says read reads found told held lies =
+      let first = read.begins told held lies in
+      let title : b.title ≡ a.title = ap (λ (h : Held K). h.title) reads.journal in (
+        first.0,
+        first.1,
+        found read.before first.0 (told_is state a b reads told)
+            (subst (λ (h : List (List ℕ)). HasBodies state b h) first.1 (bodies_stay state a b reads told held lies))
+            (read.place_is ∙ ap (λ (t : Title). length (prefix_of (title_of t) read.before)) (sym title)),
+      )
+
+  -- one body more was replayed
+  pub read_on : (a b : Held K) (old new : R) (place next : ℕ) (body : List ℕ) (read : Read a old place) → Reads a b → FindsSo b place (λ rest. IsNext true rest body)
+      → ((before : List (List ℕ)) → replayed old before → replayed new (before ++ body ∷ [])) → next ≡ place + (5 + length body) → Read a new next
+  read_on a b old new place next body read reads found one moved = record {
+    before = read.before ++ body ∷ [];
+    is_replayed = one read.before read.is_replayed;
+    place_is = omega (arith, moved, read.place_is, place_on (title_of a.title) read.before body);
+    begins = λ told held lies.
+        let n = found_behind a b old place (λ rest. IsNext true rest body) read reads found told held lies in
+        (n.2.0, n.1 ∙ ap (λ (r : List (List ℕ)). read.before ++ r) n.2.1 ∙ sym (append_assoc read.before (body ∷ []) n.2.0));
+  }
+
+  -- a body was refused
+  pub read_refused : (refuses : List (List ℕ) → List ℕ → Type 0) (a b : Held K) (made : R) (place offset : ℕ) (body : List ℕ) (byte : Option ℕ) (read : Read a made place) → Reads a b
+      → FindsSo b place (λ rest. IsNext true rest body) → ((before : List (List ℕ)) → replayed made before → refuses before body) → offset ≡ place + 5 → byte ≡ slice_get body 0
+      → IsTrue (state a.desk).tells → (held : List (List ℕ)) → HasBodies state a held → HasRefusedBody (title_of a.title) refuses held offset byte
+  read_refused refuses a b made place offset body byte read reads found cannot at its told held lies =
+      let n = found_behind a b made place (λ rest. IsNext true rest body) read reads found told held lies in
+      record {
+        before = read.before;
+        body = body;
+        after = n.2.0;
+        splits = n.1 ∙ ap (λ (r : List (List ℕ)). read.before ++ r) n.2.1;
+        cannot = cannot read.before read.is_replayed;
+        offset_is = omega (arith, at, read.place_is);
+        byte_is = its;
+      }
+
+  -- nothing is left
+  pub read_out : (a b : Held K) (made : R) (place : ℕ) (read : Read a made place) → Reads a b → FindsSo b place (λ rest. rest ≡ []) → place + 1 ≡ a.size → place < SIZE_LIMIT
+      → HasReadAll state replayed a made
+  read_out a b made place read reads found ends below = record {
+    bodies = read.before;
+    is_replayed = read.is_replayed;
+    size = omega (arith, ends, read.place_is);
+    limit = omega (arith, ends, below);
+    whole = λ told held lies.
+        let n = found_behind a b made place (λ rest. rest ≡ []) read reads found told held lies in
+        n.1 ∙ ap (λ (r : List (List ℕ)). read.before ++ r) n.2 ∙ append-nil read.before;
+  }
+
+  -- a file that is told ends where its size says
+  pub read_ends : (a b : Held K) (made : R) (place : ℕ) (read : Read a made place) → Reads a b → FindsSo b place (λ rest. rest ≡ []) → place + 1 ≢ a.size
+      → IsTrue (state a.desk).tells → (held : List (List ℕ)) → HasBodies state a held → ⊥
+  read_ends a b made place read reads found apart told held lies =
+      let n = found_behind a b made place (λ rest. rest ≡ []) read reads found told held lies in
+      let whole : held ≡ read.before = n.1 ∙ ap (λ (r : List (List ℕ)). read.before ++ r) n.2 ∙ append-nil read.before in
+      let same : length (prefix_of (title_of a.title) held) ≡ length (prefix_of (title_of a.title) read.before) = ap (λ (h : List (List ℕ)). length (prefix_of (title_of a.title) h)) whole in
+      apart (omega (arith, lies.place, same, read.place_is))
+
+-- ---- a journal that wasn't read back
+
+-- what the fault says of the file that was opened as this journal is so, and a fault of the disk has its cause
+pub unread : {K : Type 0} (state : K → DeskState) (refuses : List (List ℕ) → List ℕ → Type 0) (title : Title) (file : Recovered) (desk : K) (journal : Held K) (fault : LoadFault) (back : K)
+    → journal.title ≡ title → Rests (state desk) (state journal.desk) → (IsTrue (state desk).tells → (held : List (List ℕ)) × (file ≡ bodies held) × IsAtRest state journal held)
+    → FailsToReadBack state refuses fault journal back
+    → (IsTrue (state desk).tells → RefusesMalformed (title_of title) refuses fault file) × (fault ≡ load_fault.Disk → Rises (state desk).disk_faults (state back).disk_faults)
+unread state refuses title file desk journal fault back titled rests lies fails = (
+    λ told.
+        let held = lies told in
+        refuses_malformed (title_of title) refuses fault held.0 file held.1
+        (subst (λ (t : Title). RefusesBodies (title_of t) refuses fault held.0) titled (fails.refused (on_disk_told rests.on_disk told) held.0 held.2.lies)),
+    λ is. rises_later (state desk).disk_faults (state journal.desk).disk_faults (state back).disk_faults rests.on_disk.disk_faults (fails.cause is),
+)
