@@ -12,3 +12,4 @@ pub mod CompilationLemmas
 pub mod StretchLemmas
 pub mod TableLemmas
 pub mod DirectLemmas
+pub mod RootItemLemmas

@@ -11,3 +11,4 @@ pub mod Ambiguities
 pub mod Stretches
 pub mod Tables
 pub mod Direct
+pub mod RootItems

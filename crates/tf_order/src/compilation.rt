@@ -20,9 +20,9 @@ use tf_values::Memory;
 
 /// The flows as they are arranged and their faults, each at the number of its flow.
 #[derive(Drop)]
-struct Found {
-    table: Vec<Option<Arranged>>,
-    faults: Vec<Option<CompileFault>>,
+pub struct Found {
+    pub table: Vec<Option<Arranged>>,
+    pub faults: Vec<Option<CompileFault>>,
 }
 
 /// The graph of a plan, or its first refusal.
@@ -41,7 +41,7 @@ pub fn compile(alloc: Global, plan: &Plan) -> Result<Graph, CompileFault>
 }
 
 /// Looks at all flows, from the last one on: those nested in a flow come later than it.
-fn look_at_flows(
+pub fn look_at_flows(
     alloc: Global,
     outline: &Outline<'_>,
     providers: &NameIndex,
