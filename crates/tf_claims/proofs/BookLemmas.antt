@@ -21,6 +21,7 @@ use Rattle.tf_entries.specs.Entries.{HasItsPayload, IsPayload, entry_bytes}
 use Rattle.tf_entries.specs.Fields.{InTwoBytes}
 use Rattle.tf_entries.specs.Plans.{ControlWithin, IsTree, AreTrees, plan_bytes}
 use Rattle.tf_journal.specs.Format.{Recovered, bodies, not_a_book}
+use Rattle.tf_records.specs.Refusing.{no_journal, bad_body}
 use Rattle.tf_model.specs.History.{snapshot}
 use Rattle.tf_model.specs.Plan.{Outline, outline_of}
 use Rattle.tf_model.specs.Scope.{missing_symbol}

@@ -2,7 +2,7 @@
 use Rattle.std.proofs.Common.{◌≡◌, ◌∙◌, ℕ, ◌+◌, List, [], ◌∷◌, ◌++◌, map, length, drop, Bool, Option, refl, sym, ap, subst, add-one}
 use Rattle.std.proofs.lemmas.List.{map-append}
 use Rattle.tf_flow.specs.Items.{item_list}
-use Rattle.tf_flow.specs.Outline.{Atom, FlowPlace, atoms_of, flows_of}
+use Rattle.tf_flow.specs.Outline.{FlowPlace, atoms_of, flows_of}
 use Rattle.tf_flow.specs.Plan.{PlanValue}
 use Rattle.tf_flow.specs.Tree.{tree_of}
 use Rattle.tf_flow.specs.Listing.{shown_atoms, shown_levels}
