@@ -1,11 +1,13 @@
 //! The laws of a life.
 
-ghost use Rattle.std.specs.Prelude.{◌≡◌, ◌++◌, false, ℕ, List, Some, None};
+ghost use Rattle.std.specs.Prelude.{◌≡◌, ◌++◌, false, ℕ, List, Option, Some, None};
 ghost use Rattle.tf_desk.specs.Counts.{Rises};
 ghost use Rattle.tf_flow.specs.Plan.{PlanValue};
 ghost use Rattle.tf_states.specs.declared.record.Entry.{Entry};
 ghost use Rattle.tf_ports.specs.declared.crews.Want.{Want as AWant};
+ghost use Rattle.tf_journal.specs.Format.{Recovered};
 ghost use Rattle.tf_journal.specs.Start.{file_of};
+ghost use Rattle.tf_book.specs.Loading.{IsNoBook};
 ghost use Rattle.tf_words.specs.declared.asked.Asked.TheVariants.{Resume};
 ghost use Rattle.tf_commands.specs.Asking.{asked_for};
 ghost use Rattle.tf_commands.specs.Books.{Promised, PutsBack};
@@ -53,4 +55,11 @@ pub fn ends_as_stated<K: Desk, W: Crew>()
         → IsUnfailing K.state W.Hand.gives call
         → ¬ (Rises (K.state call.entry).disk_faults (K.state call.now).disk_faults)
         → EndsAsStated plan past (file_of (K.state call.now) name) call.status }
+{}
+
+/// A file that holds a plan and a history is a book: it isn't refused at any of its bodies. So status 6 comes only where
+/// the file holds no history.
+pub fn histories_are_not_refused()
+    ensures { (plan : PlanValue) (past : List Entry) (found : Recovered) → HoldsHistory plan past found
+        → (offset : ℕ) (byte : Option ℕ) → ¬ (IsNoBook found offset byte) }
 {}

@@ -5,4 +5,6 @@
 
 mod laws;
 
-pub use laws::{ends_as_stated, history_only_grows, nothing_shown_is_lost};
+pub use laws::{
+    ends_as_stated, histories_are_not_refused, history_only_grows, nothing_shown_is_lost,
+};
