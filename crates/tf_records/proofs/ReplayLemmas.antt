@@ -142,9 +142,9 @@ pub unread : {K : Type 0} (state : K → DeskState) (refuses : List (List ℕ) �
     → FailsToReadBack state refuses fault journal back
     → (IsTrue (state desk).tells → RefusesMalformed (title_of title) refuses fault file) × (fault ≡ load_fault.Disk → Rises (state desk).disk_faults (state back).disk_faults)
 unread state refuses title file desk journal fault back titled rests lies fails = (
-    λ told.
-        let held = lies told in
-        refuses_malformed (title_of title) refuses fault held.0 file held.1
-        (subst (λ (t : Title). RefusesBodies (title_of t) refuses fault held.0) titled (fails.refused (on_disk_told rests.on_disk told) held.0 held.2.lies)),
-    λ is. rises_later (state desk).disk_faults (state journal.desk).disk_faults (state back).disk_faults rests.on_disk.disk_faults (fails.cause is),
+  λ told.
+      let held = lies told in
+      refuses_malformed (title_of title) refuses fault held.0 file held.1
+      (subst (λ (t : Title). RefusesBodies (title_of t) refuses fault held.0) titled (fails.refused (on_disk_told rests.on_disk told) held.0 held.2.lies)),
+  λ is. rises_later (state desk).disk_faults (state journal.desk).disk_faults (state back).disk_faults rests.on_disk.disk_faults (fails.cause is),
 )
