@@ -1,6 +1,5 @@
 -- A trial, put together from the run of a book that keeps nothing.
-use Rattle.std.proofs.Common.{◌≡◌, ◌≢◌, ℕ, List, [], Option, None, refl, sym, ap, ◌∙◌, subst, inl, inr, arith}
-use Rattle.tf_desk.specs.Counts.{Rises}
+use Rattle.std.proofs.Common.{◌≡◌, ◌≢◌, true, ℕ, List, [], Option, None, refl, sym, ap, ◌∙◌, subst, inl, inr, arith}
 use Rattle.tf_desk.specs.State.{DeskState}
 use Rattle.tf_flow.specs.Written.{plan_tree}
 use Rattle.tf_flow.specs.Plan.{PlanValue}
@@ -9,14 +8,11 @@ use Rattle.tf_ports.specs.declared.crews.Want.{Want}
 use Rattle.tf_actions.specs.declared.orders.Order.{Order}
 use Rattle.tf_actions.specs.declared.outcomes.Outcome.{Outcome}
 use Rattle.tf_book.specs.Book.{BookValue}
-use Rattle.tf_book.specs.Starting.{FailsToStart}
-use Rattle.tf_book.specs.declared.faults.BookFault.{BookFault}
-use Rattle.tf_book.specs.declared.faults.BookFault.TheVariants as book_fault
 use Rattle.tf_book.proofs.SpokenLemmas.{shown_none}
 use Rattle.tf_commands.specs.Begun.{SaysUnbegun}
 use Rattle.tf_commands.specs.Causes.{HasEachCause, counts_of}
 use Rattle.tf_commands.specs.Course.{Tried}
-use Rattle.tf_commands.specs.Durable.{NoFileChanges, TouchesNoFile}
+use Rattle.tf_commands.specs.Durable.{TouchesNoFile}
 use Rattle.tf_commands.specs.Messages.{disk_fault_text}
 use Rattle.tf_commands.specs.declared.running.Request.{Request}
 use Rattle.tf_commands.specs.Run.{spoken_run, Ran, RunShows, closed, stopped, disk_failed}
@@ -49,15 +45,6 @@ tried_unbegun gives hands asked plan before after status (inr out) = record {
       (subst (λ (n : ℕ). RunShows (spoken_run hands None) plan [] [] before after None [] n) (sym out.0) (stopped (out.1 ∙ sym (shown_none before))));
 }
 
--- a start that failed by the disk met a fault of it
-pub disk_rose : {K : Type 0} (state : K → DeskState) (plan : PlanValue) (why : BookFault) (old new : K) → why ≡ book_fault.Disk → FailsToStart state plan why old new
-    → Rises (state old).disk_faults (state new).disk_faults
-disk_rose state plan book_fault.Disk old new is fails = fails.1
-disk_rose state plan book_fault.Memory old new is fails = absurd (cc)
-disk_rose state plan book_fault.Out old new is fails = absurd (cc)
-disk_rose state plan (book_fault.Full size need) old new is fails = absurd (cc)
-disk_rose state plan (book_fault.Halted cause) old new is fails = absurd (cc)
-
 module _ {K : Type 0} (state : K → DeskState) where
   -- it ran
   pub tried_run : (gives : Order → Outcome → Type 0) (request : Request) (asked more : Type 0) (plan : PlanValue) (entry : K) (book : BookValue K) (now : DeskState) (status : ℕ)
@@ -86,17 +73,14 @@ module _ {K : Type 0} (state : K → DeskState) where
   -- a run of which nothing is kept touches no file
   pub stays_run : {gives : Order → Outcome → Type 0} {request : Request} {asked : Type 0} (entry : K) {book : BookValue K} {now : DeskState} {status : ℕ}
       → book.journal.desk ≡ entry → book.journal.volatile ≡ true
-      → RunsOn state gives request asked book now status → TouchesNoFile (state entry) now status
-  stays_run entry {book} {now} {status} desk_is volatile r =
+      → RunsOn state gives request asked book now status → TouchesNoFile (state entry) now
+  stays_run entry {book} {now} desk_is volatile r =
       let off = r.off_disk volatile in
-      subst (λ (d : K). TouchesNoFile (state d) now status) desk_is (off.files, λ is. (let rose = r.ended.failed is in omega (arith, rose, off.disk_faults)))
+      subst (λ (d : K). TouchesNoFile (state d) now) desk_is (off.files, off.disk_faults)
 
   -- it couldn't begin, and only said so
-  pub stays_unbegun : (entry mid : K) (now : DeskState) (status : ℕ) → mid ≡ entry → HasSaid (state mid) now status → (status ≡ DISK_FAILED → Rises (state entry).disk_faults (state mid).disk_faults)
-      → TouchesNoFile (state entry) now status
-  stays_unbegun entry mid now status same said failed =
-      subst (λ (d : K). NoFileChanges (state d) now) same said.says.files,
-      λ is. (let rose = failed is in let none : (state mid).disk_faults ≡ (state entry).disk_faults = ap (λ (d : K). (state d).disk_faults) same in omega (arith, rose, none))
+  pub stays_unbegun : (entry mid : K) (now : DeskState) (status : ℕ) → mid ≡ entry → HasSaid (state mid) now status → TouchesNoFile (state entry) now
+  stays_unbegun entry mid now status same said = subst (λ (d : K). TouchesNoFile (state d) now) same (said.says.files, said.says.disk)
 
   -- it couldn't begin on a desk that is the one at entry
   pub tried_unbegun_on : (gives : Order → Outcome → Type 0) (hands : Want) (asked : Type 0) (plan : PlanValue) (entry mid : K) (now : DeskState) (status : ℕ) → mid ≡ entry → SaysUnbegun (state mid).shown now.shown status

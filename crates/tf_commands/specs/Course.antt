@@ -116,11 +116,11 @@ abbrev pub IsUntouched : Option (List Want) → Option (List Want) → DeskState
 IsUntouched hired after_hiring entry now = (after_hiring ≡ hired) × NoFileChanges entry now
 
 module _ {K : Type 0} (state : K → DeskState) where
-  -- what becomes of what the words ask for, where a run may be suspended for a stop that was asked for; a trial changes no file and never ends for a fault of the disk, and a check changes none
+  -- what becomes of what the words ask for, where a run may be suspended for a stop that was asked for; a trial changes no file and meets no fault of the disk, and a check changes none
   abbrev pub Obeys : (Order → Outcome → Type 0) → Type 0 → Asked → Contents → Option (List Want) → Option (List Want) → K → K → ℕ → Type 0
   Obeys gives stopped (asked.Try file sets defer hands) files hired after_hiring entry now status =
       FileRead files (source_so file sets defer) (IsUntouched hired after_hiring (state entry) (state now))
-      (Tries gives hands stopped hired after_hiring (state entry).shown (state now).shown) (state entry).shown (state now).shown status × TouchesNoFile (state entry) (state now) status
+      (Tries gives hands stopped hired after_hiring (state entry).shown (state now).shown) (state entry).shown (state now).shown status × TouchesNoFile (state entry) (state now)
   Obeys gives stopped (asked.Check file sets) files hired after_hiring entry now status =
       FileRead files (source_so file sets false) (IsUntouched hired after_hiring (state entry) (state now))
       (Checks (state entry).shown (state now).shown) (state entry).shown (state now).shown status × IsUntouched hired after_hiring (state entry) (state now)

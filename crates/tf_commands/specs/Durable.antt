@@ -10,7 +10,6 @@ use Rattle.tf_journal.specs.Format.{Recovered, unborn, bodies, recovered, journa
 use Rattle.tf_journal.specs.declared.title.Title.TheVariants.{Book as book_title}
 use Rattle.tf_model.specs.Plan.{outline_of}
 use Rattle.tf_book.specs.Book.{bodies_of}
-use Rattle.tf_commands.specs.declared.statuses.TheConstants.{DISK_FAILED}
 use Rattle.tf_book.specs.Loading.{IsHistoryOf}
 use Rattle.tf_book.specs.SessionInvariant.{said, MayFollow}
 
@@ -20,9 +19,9 @@ use Rattle.tf_book.specs.SessionInvariant.{said, MayFollow}
 abbrev pub NoFileChanges : DeskState → DeskState → Type 0
 NoFileChanges entry now = IsTrue entry.tells → (now.content.files ≡ entry.content.files) × (now.content.marks ≡ entry.content.marks)
 
--- no file changed, and the status isn't that of a failed disk
-abbrev pub TouchesNoFile : DeskState → DeskState → ℕ → Type 0
-TouchesNoFile entry now status = NoFileChanges entry now × (status ≢ DISK_FAILED)
+-- no file changed, and the disk had no fault
+abbrev pub TouchesNoFile : DeskState → DeskState → Type 0
+TouchesNoFile entry now = NoFileChanges entry now × (now.disk_faults ≡ entry.disk_faults)
 
 -- what recovery makes of the bytes of a book's file
 abbrev pub book_in : List ℕ → Recovered

@@ -42,7 +42,7 @@ pub fn try_file<K: Desk + Send, S: Sources, W: Crew, R: Threads + Wait + Sync>(
         (Tries W.Hand.gives request.now.want (WasAsked (K.state desk) (K.state result.desk))
         (W.hired crew.old) (W.hired crew.new) (K.state desk).shown (K.state result.desk).shown)
         (K.state desk).shown (K.state result.desk).shown result.status }
-    ensures stays { TouchesNoFile (K.state desk) (K.state result.desk) result.status }
+    ensures stays { TouchesNoFile (K.state desk) (K.state result.desk) }
     ensures hires { HiresAtMost request.now.want (W.hired crew.old) (W.hired crew.new) }
     ensures asks { (K.state desk).asks ≤ (K.state result.desk).asks }
     ensures causes { HasEachCause result.status (counts_of (K.state desk) (S.faults sources.old) (W.faults crew.old))
@@ -69,7 +69,7 @@ fn try_plan<K: Desk + Send, W: Crew, R: Threads + Wait + Sync>(
     ensures tried { Tries W.Hand.gives request.now.want (WasAsked (K.state desk) (K.state result.desk))
         (W.hired crew.old) (W.hired crew.new) (K.state desk).shown (K.state result.desk).shown
         (plan_tree machine.plan) result.status }
-    ensures stays { TouchesNoFile (K.state desk) (K.state result.desk) result.status }
+    ensures stays { TouchesNoFile (K.state desk) (K.state result.desk) }
     ensures hires { HiresAtMost request.now.want (W.hired crew.old) (W.hired crew.new) }
     ensures asks { (K.state desk).asks ≤ (K.state result.desk).asks }
     ensures causes { HasEachCause result.status (counts_of (K.state desk) 0 (W.faults crew.old))
@@ -99,7 +99,7 @@ fn try_with<K: Desk + Send, P: Performer + Send, R: Threads + Wait + Sync>(
     requires few { AreHands request.now.want }
     ensures tried { Tried P.gives request.now.want (WasAsked (K.state desk) (K.state result.desk))
         (plan_tree machine.plan) (K.state desk).shown (K.state result.desk).shown result.status }
-    ensures stays { TouchesNoFile (K.state desk) (K.state result.desk) result.status }
+    ensures stays { TouchesNoFile (K.state desk) (K.state result.desk) }
     ensures asks { (K.state desk).asks ≤ (K.state result.desk).asks }
     ensures causes { HasEachCause result.status (counts_of (K.state desk) 0 0)
         (counts_of (K.state result.desk) 0 0) }

@@ -1,7 +1,6 @@
-use Rattle.std.proofs.Common.{ap, refl, inr, ◌∙◌, subst, arith}
-use Rattle.tf_desk.specs.Counts.{Rises}
+use Rattle.std.proofs.Common.{ap, refl, inr, ◌∙◌, arith}
 use Rattle.tf_book.specs.Book.{BookValue}
-use Rattle.tf_commands.proofs.TrialLemmas.{tried_run, tried_unbegun, tried_unbegun_on, causes_run, stays_run, stays_unbegun, disk_rose}
+use Rattle.tf_commands.proofs.TrialLemmas.{tried_run, tried_unbegun, tried_unbegun_on, causes_run, stays_run, stays_unbegun}
 use Rattle.tf_commands.proofs.trying.try_with.Goals as goal
 use Rattle.tf_desk.proofs.CountLemmas.{rises_later}
 
@@ -29,8 +28,6 @@ returns-in-Err-start-clause-stays g c =
     let e = c.in-Err-start.ensures in
     stays_unbegun D.state c.args.desk c.in-Err-start.desk (D.state c.say_unbegun.result.desk) c.say_unbegun.result.status (e.volatile c.in-Ok.ensures.made.3 ∙ c.in-Ok.ensures.made.0)
     c.say_unbegun.ensures.said
-    (λ is. subst (λ (d : g.row.K.Denot). Rises (D.state d).disk_faults (D.state c.in-Err-start.desk).disk_faults) c.in-Ok.ensures.made.0
-    (disk_rose D.state c.args.machine.plan c.in-Err-start.fault c.in-Ok.journal.desk c.in-Err-start.desk (c.say_unbegun.ensures.failed is) e.fails))
 
 pub returns-in-Err-start-clause-tried : goal.returns-in-Err-start-clause-tried
 returns-in-Err-start-clause-tried g c =
