@@ -1,5 +1,5 @@
 -- A run that may be suspended for one reason may be so for a wider one.
-use Rattle.std.proofs.Common.{◌⊎◌, ℕ, List, [], ◌∷◌, Option, inl, inr, ⊎_elim}
+use Rattle.std.proofs.Common.{ℕ, List, [], ◌∷◌, Option, inl, inr, ⊎_elim}
 use Rattle.tf_desk.specs.State.{DeskState}
 use Rattle.tf_flow.specs.Plan.{PlanValue}
 use Rattle.tf_ports.specs.declared.crews.Want.{Want}

@@ -1,11 +1,10 @@
 -- How many tasks a plan has, and what a check says of it.
-use Rattle.std.proofs.Common.{◌≡◌, ℕ, suc, ◌+◌, List, [], ◌∷◌, ◌++◌, length, Bool, true, false, not, Option, sym, ap, ◌∙◌, arith, codes, ◌-◌}
+use Rattle.std.proofs.Common.{◌≡◌, ℕ, suc, ◌+◌, List, [], ◌∷◌, ◌++◌, length, Bool, true, false, Option, sym, ap, ◌∙◌, arith, codes, ◌-◌}
 use Rattle.std.specs.Prelude.{if◌then◌else◌}
 use Rattle.std.specs.Fmt.{decimal}
 use Rattle.std.proofs.lemmas.List.{length-append, append_assoc}
 use Rattle.tf_flow.specs.Plan.{PlanValue}
 use Rattle.tf_flow.specs.Plan as numbering
-use Rattle.tf_model.specs.Laws as laws
 use Rattle.tf_numbers.specs.Numbers.{which_below}
 use Rattle.tf_model.specs.Plan.{Outline, outline_of, count, is_task}
 use Rattle.tf_model.proofs.PlanLemmas.{atoms_counted}
