@@ -2,7 +2,9 @@
 use Rattle.std.proofs.Common.{◌≡◌, ℕ, List, [], ◌∷◌, ◌++◌, length, Option, Some, None, refl, sym, ap, ◌∙◌, subst, ⊎_elim}
 use Rattle.std.proofs.lemmas.Bool.Decides.{leb_tells}
 use Rattle.std.specs.List.{AllByRecursion}
+use Rattle.std.specs.Prelude.{nat_le}
 use Rattle.tf_numbers.proofs.TruthLemmas.{and_first}
+use Rattle.tf_values.specs.ByteForm.{list_bytes}
 use Rattle.tf_values.specs.Value.{IsValue}
 use Rattle.tf_values.specs.declared.value.Val.{Val}
 use Rattle.tf_values.specs.declared.value.Val.TheVariants as value
@@ -46,7 +48,7 @@ short_value value.Nothing good = tt
 short_value (value.Truth truth) good = tt
 short_value (value.Int number) good = tt
 short_value (value.Text text) good = tt
-short_value (value.List scalars) good = ⊎_elim (λ is. is.1) (λ isnt. (let is = and_first _ _ good.0 in absurd (cc))) (leb_tells (length scalars) 1024)
+short_value (value.List scalars) good = ⊎_elim (λ is. is.1) (λ isnt. (let is = and_first (nat_le (length scalars) 1024) (nat_le (length (list_bytes scalars)) 131072) good.0 in let not = isnt.0 in absurd (cc))) (leb_tells (length scalars) 1024)
 
 short_payload : (p : Payload) → IsPayload p → IsShortPayload p
 short_payload payload.Empty good = tt

@@ -1,5 +1,5 @@
 -- A call that resumes a flow, and that nothing fails, ends it as stated.
-use Rattle.std.proofs.Common.{◌≡◌, ◌≢◌, ◌⊎◌, ℕ, List, [], ◌++◌, true, Option, Some, None, refl, sym, ◌∙◌, ap, subst, inl, inr, ⊎_elim, arith}
+use Rattle.std.proofs.Common.{◌≡◌, ◌≢◌, ◌⊎◌, ℕ, List, [], ◌++◌, true, false, Option, Some, None, refl, sym, ◌∙◌, ap, subst, inl, inr, ⊎_elim, arith}
 use Rattle.std.specs.Prelude.{IsTrue}
 use Rattle.tf_desk.specs.Counts.{Rises}
 use Rattle.tf_desk.specs.State.{DeskState}
@@ -11,8 +11,9 @@ use Rattle.tf_ports.specs.declared.crews.Want.{Want}
 use Rattle.tf_actions.specs.declared.orders.Order.{Order}
 use Rattle.tf_actions.specs.declared.outcomes.Outcome.{Outcome}
 use Rattle.tf_journal.specs.Start.{file_of}
+use Rattle.tf_model.specs.History.{flow_of}
 use Rattle.tf_model.specs.Plan.{Outline, outline_of}
-use Rattle.tf_model.specs.Sessions.{Session, already_ended, whole, has_ended, is_last}
+use Rattle.tf_model.specs.Sessions.{Session, already_ended, entered, halted, whole, has_ended, is_last}
 use Rattle.tf_words.specs.declared.asked.Asked.{Asked}
 use Rattle.tf_words.specs.declared.asked.Asked.TheVariants as asked
 use Rattle.tf_commands.specs.Asking.{asked_for}
@@ -55,7 +56,7 @@ never_closes {before} {after} {message} {wanted} {status} complete closes a b c 
 
 -- a run stops in a last state
 stops_last : {plan : Outline} {before entries : List Entry} {last : FlowState} {stop : Option FlowState} → stop ≡ Some last → Session plan before entries stop → is_last last ≡ true
-stops_last is (already_ended ended legal) = last_of_ended _ _ (let same = is in cc) ended
+stops_last {before = before} {last = last} is (already_ended over legal) = last_of_ended (flow_of before) last (let both : Some (flow_of before) ≡ Some last = is in cc) over
   where
     last_of_ended : (state last : FlowState) → state ≡ last → has_ended state ≡ true → is_last last ≡ true
     last_of_ended state flow.Success same so = refl
@@ -66,7 +67,10 @@ stops_last is (already_ended ended legal) = last_of_ended _ _ (let same = is in 
     last_of_ended state flow.Running same so = sym (ap has_ended same) ∙ so
     last_of_ended state flow.Suspending same so = sym (ap has_ended same) ∙ so
     last_of_ended state flow.Resuming same so = sym (ap has_ended same) ∙ so
-stops_last is (whole hand last inner is_last_so inside going legal) = (let same : last ≡ _ = cc in subst (λ (s : FlowState). is_last s ≡ true) same is_last_so)
+stops_last is (entered some others begins legal) = (let clash = is in absurd (cc))
+stops_last is (halted inner going all_inner legal) = (let clash = is in absurd (cc))
+stops_last {before = before} {last = last} is (whole hand other inner is_last_so inside going legal) =
+    let same : other ≡ last = (let both : Some other ≡ Some last = is in cc) in subst (λ (s : FlowState). is_last s ≡ true) same is_last_so
 
 -- where it isn't suspended the flow has ended
 ended_of : (last : FlowState) → is_last last ≡ true → IsRunComplete (stop_status last) → has_ended last ≡ true
@@ -87,15 +91,15 @@ module _ {gives : Order → Outcome → Type 0} {hands : Want} {stopped : Type 0
   file_then {plan} {other} {past} {before} holds held p =
       let l = p.lasts told in
       ⊎_elim
-      (λ finds. ⊎_elim (λ on. grows_so holds held on) (λ none. absurd (flow_held (book_at entry name) plan past none.1.0 holds)) finds)
+      (λ finds. ⊎_elim (λ on. grows_so p.entries holds held on) (λ none. absurd (flow_held (book_at entry name) plan past none.1 holds)) finds)
       (λ on. ⊎_elim
-      (λ none. grows_so holds held (subst (λ (x : List Entry). HoldsHistory other (x ++ (p.entries ++ before)) (book_at now name)) none on))
+      (λ none. grows_so p.entries holds held (subst (λ (x : List Entry). HoldsHistory other (x ++ (p.entries ++ before)) (book_at now name)) none on))
       (λ rose. absurd (undamaged rose)) l.few.caused)
       l.file
 
   run_ends : {plan other : PlanValue} {past before : List Entry} → HoldsHistory plan past (book_at entry name) → HoldsHistory other before (book_at entry name)
       → (p : Promised gives (spoken_run hands None) stopped name other before entry now status) → EndsAsStated plan past (file_of now name) status
-  run_ends {plan} {other} {past} {before} holds held p = by p.ran.text
+  run_ends {plan} {other} {past} {before} holds held p = by p.closing status complete p.ran.text
     where
       one : (outline_of other ≡ outline_of plan) × (before ≡ past)
       one = (let both = once holds held in (both.1, both.2))
@@ -104,21 +108,23 @@ module _ {gives : Order → Outcome → Type 0} {hands : Want} {stopped : Type 0
       reached last is = subst (λ (o : Outline). HasReached o (p.entries ++ past) last) one.0
           (subst (λ (l : List Entry). HasReached (outline_of other) (p.entries ++ l) last) one.1 (p.ran.end last is))
 
-      said_so : (closing : List ℕ) (wanted : ℕ) (stop : Option FlowState) → p.stop ≡ stop → status ≡ wanted → IsLastSaid other [] (p.entries ++ before) stop closing wanted
-          → EndsAsStated plan past (file_of now name) status
-      said_so closing wanted _ stops same (run.reported last) =
+      said_so : (closing : List ℕ) (wanted ends : ℕ) (stop : Option FlowState) → IsRunComplete ends → p.stop ≡ stop → ends ≡ wanted
+          → IsLastSaid other [] (p.entries ++ before) stop closing wanted → EndsAsStated plan past (file_of now name) ends
+      said_so closing wanted ends _ good stops same (run.reported last) =
           subst (EndsAsStated plan past (file_of now name)) (sym same)
-          (ended last p.entries (file_then holds held p) (ended_of last (stops_last stops p.ran.steps.session) (subst IsRunComplete same complete)) (reached last stops))
-      said_so closing wanted _ stops same (run.disk_failed stop) = never complete 5 same (λ n. omega arith) (λ n. omega arith) (λ n. omega arith) (λ n. omega arith) (λ n. omega arith)
-      said_so closing wanted _ stops same (run.filled stop size need full) = subst (EndsAsStated plan past (file_of now name)) (sym same) filled
+          (ended last p.entries (file_then holds held p) (ended_of last (stops_last stops p.ran.steps.session) (subst IsRunComplete same good)) (reached last stops))
+      said_so closing wanted ends _ good stops same (run.disk_failed stop) = never good 5 same (λ n. omega arith) (λ n. omega arith) (λ n. omega arith) (λ n. omega arith) (λ n. omega arith)
+      said_so closing wanted ends _ good stops same (run.filled stop size need full) = subst (EndsAsStated plan past (file_of now name)) (sym same) filled
 
-      by : ShowsLines other false before p.entries entry.shown now.shown (IsLastSaid other [] (p.entries ++ before) p.stop) p.closing status → EndsAsStated plan past (file_of now name) status
-      by (run.closed closing wanted _ last closes) =
-          ⊎_elim (λ same. said_so closing wanted p.stop refl same last)
-          (λ is. never complete 7 is (λ n. omega arith) (λ n. omega arith) (λ n. omega arith) (λ n. omega arith) (λ n. omega arith))
-          (closes_status _ now.shown closing wanted status closes)
-      by (run.line_cut front) = never complete 7 refl (λ n. omega arith) (λ n. omega arith) (λ n. omega arith) (λ n. omega arith) (λ n. omega arith)
-      by (run.stopped same) = exhausted
+      by : (closing : List ℕ) (ends : ℕ) → IsRunComplete ends
+          → ShowsLines other false before p.entries entry.shown now.shown (IsLastSaid other [] (p.entries ++ before) p.stop) closing ends
+          → EndsAsStated plan past (file_of now name) ends
+      by _ ends good (run.closed closing wanted _ last closes) =
+          ⊎_elim (λ same. said_so closing wanted ends p.stop good refl same last)
+          (λ is. never good 7 is (λ n. omega arith) (λ n. omega arith) (λ n. omega arith) (λ n. omega arith) (λ n. omega arith))
+          (closes_status _ now.shown closing wanted ends closes)
+      by _ _ good (run.line_cut front) = never good 7 refl (λ n. omega arith) (λ n. omega arith) (λ n. omega arith) (λ n. omega arith) (λ n. omega arith)
+      by _ _ good (run.stopped same) = exhausted
 
   resume_ends : {plan : PlanValue} {past : List Entry} {hired after_hiring : Option (List Want)} → HoldsHistory plan past (book_at entry name)
       → Resumes gives (spoken_run hands None) stopped name hired after_hiring entry now status → EndsAsStated plan past (file_of now name) status
@@ -142,7 +148,7 @@ call_ends {K} state gives name hands call plan past asks holds unfailing undamag
   where
     complete : IsRunComplete call.status
     complete = unfailing (asked.Resume name hands None) asks
-        (call.tells, (λ offset byte none. is_book (book_at (state call.entry) name) holds offset byte none), (λ none. flow_held (book_at (state call.entry) name) plan past none holds))
+        (call.tells, ((λ offset byte none. is_book (book_at (state call.entry) name) holds offset byte none), (λ none. flow_held (book_at (state call.entry) name) plan past none holds)))
 
     obeyed_so : (command : Asked) → command ≡ asked.Resume name hands None
         → Obeys state gives (WasAsked (state call.entry) (state call.now)) command call.files call.hired call.after_hiring call.entry call.now call.status

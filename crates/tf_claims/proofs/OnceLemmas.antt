@@ -1,5 +1,5 @@
 -- A file holds one history, and one plan as far as a run goes.
-use Rattle.std.proofs.Common.{◌≡◌, ℕ, ◌+◌, List, [], ◌∷◌, ◌++◌, Option, Some, None, refl, sym, ap, ◌∙◌, subst}
+use Rattle.std.proofs.Common.{◌≡◌, ℕ, ◌^◌, List, [], ◌∷◌, ◌++◌, Option, Some, None, refl, sym, ap, ◌∙◌, subst}
 use Rattle.std.specs.Prelude.{Bool}
 use Rattle.tf_flow.specs.Plan.{PlanValue}
 use Rattle.tf_flow.specs.Tree.{tree_of}
@@ -145,9 +145,9 @@ same_bodies p q (e ∷ h) (f ∷ k) good_h good_k is =
     (rest.0, ap (λ (x : Entry). x ∷ h) one ∙ ap (λ (l : List Entry). f ∷ l) rest.1)
 
 -- the bodies of a history are those of every plan of one form
-plan_alike : {p q : PlanValue} → plan_bytes p ≡ plan_bytes q → (l : List Entry) → bodies_of p l ≡ bodies_of q l
-plan_alike same [] = ap (λ (b : List ℕ). b ∷ []) same
-plan_alike same (e ∷ l) = ap (λ (l : List (List ℕ)). l ++ entry_bytes e ∷ []) (plan_alike same l)
+plan_alike : (p q : PlanValue) → plan_bytes p ≡ plan_bytes q → (l : List Entry) → bodies_of p l ≡ bodies_of q l
+plan_alike p q same [] = ap (λ (b : List ℕ). b ∷ []) same
+plan_alike p q same (e ∷ l) = ap (λ (l : List (List ℕ)). l ++ entry_bytes e ∷ []) (plan_alike p q same l)
 
 -- a file that holds two histories holds the same twice
 pub once : {p q : PlanValue} {h k : List Entry} {found : Recovered} → HoldsHistory p h found → HoldsHistory q k found
@@ -158,13 +158,13 @@ once {p} {q} {h} {k} first second =
     (one.0, sym (same_plan p q first.history.accepted first.history.limits second.history.accepted second.history.limits one.0), sym one.1)
 
 -- what it holds later begins with both
-pub grows_so : {p q : PlanValue} {h k more : List Entry} {found later : Recovered} → HoldsHistory p h found → HoldsHistory q k found
+pub grows_so : {p q : PlanValue} {h k : List Entry} {found later : Recovered} (more : List Entry) → HoldsHistory p h found → HoldsHistory q k found
     → HoldsHistory q (more ++ k) later → HoldsHistory p (more ++ h) later
-grows_so {p} {q} {h} {k} {more} {found} {later} first second on =
+grows_so {p} {q} {h} {k} {found} {later} more first second on =
     let one = once first second in
     let past : more ++ k ≡ more ++ h = ap (λ (l : List Entry). more ++ l) one.2 in
     record {
-      is = on.is ∙ ap bodies (sym (plan_alike one.0 (more ++ k)) ∙ ap (bodies_of p) past);
+      is = on.is ∙ ap bodies (sym (plan_alike p q one.0 (more ++ k)) ∙ ap (bodies_of p) past);
       history = record {
         accepted = first.history.accepted;
         limits = first.history.limits;

@@ -23,6 +23,7 @@ use Rattle.tf_book.specs.Book.{bodies_of}
 use Rattle.tf_commands.specs.Asking.{asked_for}
 use Rattle.tf_commands.specs.Books as books
 use Rattle.tf_commands.specs.Books.{Unopened, Unhired, Runs, Demonstrates, Resumes, ShowsBook, ResetsBook}
+use Rattle.tf_commands.specs.Causes.{WasAsked}
 use Rattle.tf_commands.specs.Course as course
 use Rattle.tf_commands.specs.Course.{Course, Obeys, FileRead, IsUntouched}
 use Rattle.tf_commands.specs.Durable.{NoFileChanges, book_in, book_at, HoldsNoFlow, HoldsHistory, StaysAlone, Lasts}
@@ -97,12 +98,12 @@ way_effect {plan} {past} {name} {entry} {now} holds (alone closing a) = record {
 }
 way_effect {plan} {past} {name} {entry} {now} holds (recorded other quiet before entries closing found l) = record {
   file = ⊎_elim
-      (λ finds. ⊎_elim (λ on. (entries, grows_so holds found on)) (λ none. absurd (flow_held (book_at entry name) plan past none.1.0 holds)) finds)
-      (λ on. (l.pending ++ entries, grows_so holds found (subst (λ (p : List Entry). HoldsHistory other p (book_at now name)) (sym (append_assoc l.pending entries before)) on)))
+      (λ finds. ⊎_elim (λ on. (entries, grows_so entries holds found on)) (λ none. absurd (flow_held (book_at entry name) plan past none.1 holds)) finds)
+      (λ on. (l.pending ++ entries, grows_so (l.pending ++ entries) holds found (subst (λ (p : List Entry). HoldsHistory other p (book_at now name)) (sym (append_assoc l.pending entries before)) on)))
       l.file;
   crash = λ moment start image text is.
       (let m = l.crash moment start image text is in
-      ⊎_elim (λ on. (m.kept, grows_so holds found on)) (λ none. absurd (flow_held (book_at entry name) plan past none.1.0 holds)) m.finds);
+      ⊎_elim (λ on. (m.kept, grows_so m.kept holds found on)) (λ none. absurd (flow_held (book_at entry name) plan past none.1 holds)) m.finds);
 }
 way_effect {plan} {past} {name} {entry} {now} holds (began other quiet entries closing none l) = absurd (flow_held (book_at entry name) plan past none holds)
 way_effect {plan} {past} {name} {entry} {now} holds (unmade message s) = record {
@@ -174,34 +175,34 @@ file_goes name entry now status way (course.read bytes given short (course.refus
 file_goes name entry now status way (course.read bytes given short (course.done tree gives did)) = about name refl (way tree did)
 
 -- nothing happened
-itself : {entry : DeskState} → NoFileChanges entry entry
-itself told = (refl, refl)
+itself : (entry : DeskState) → NoFileChanges entry entry
+itself entry told = (refl, refl)
 
 module _ {K : Type 0} (state : K → DeskState) (gives : Order → Outcome → Type 0) where
   demo_goes : {hands : Want} {stopped : Type 0} (name : List ℕ) (hired after_hiring : Option (List Want)) (entry now : K) (seed size status : ℕ) → IsTrue (state entry).tells
       → Demonstrates state gives hands stopped name hired after_hiring entry now seed size status → Goes (Some name) (state entry) (state now)
   demo_goes name hired after_hiring entry now seed size status told (books.ungenerated is same still) =
-      untouched (subst (λ (k : K). NoFileChanges (state entry) (state k)) (sym still) itself)
+      untouched (subst (λ (k : K). NoFileChanges (state entry) (state k)) (sym still) (itself (state entry)))
   demo_goes name hired after_hiring entry now seed size status told (books.demonstrated r) = about name refl (runs_way name hired after_hiring (state entry) (state now) _ status told r)
 
-  obeys_goes : {stopped : Type 0} (command : Asked) (files : Contents) (hired after_hiring : Option (List Want)) (entry now : K) (status : ℕ) → IsTrue (state entry).tells
+  obeys_goes : (stopped : Type 0) (command : Asked) (files : Contents) (hired after_hiring : Option (List Want)) (entry now : K) (status : ℕ) → IsTrue (state entry).tells
       → Obeys state gives stopped command files hired after_hiring entry now status → Goes (file_of_command command) (state entry) (state now)
-  obeys_goes (asked.Try file sets defer hands) files hired after_hiring entry now status told obeys = untouched obeys.1.0
-  obeys_goes (asked.Check file sets) files hired after_hiring entry now status told obeys = untouched obeys.1.1
-  obeys_goes (asked.Run file book sets defer hands stop) files hired after_hiring entry now status told obeys =
+  obeys_goes stopped (asked.Try file sets defer hands) files hired after_hiring entry now status told obeys = untouched obeys.1.0
+  obeys_goes stopped (asked.Check file sets) files hired after_hiring entry now status told obeys = untouched obeys.1.1
+  obeys_goes stopped (asked.Run file book sets defer hands stop) files hired after_hiring entry now status told obeys =
       file_goes book (state entry) (state now) status (λ tree did. runs_way book hired after_hiring (state entry) (state now) tree status told did) obeys
-  obeys_goes (asked.Resume book hands stop) files hired after_hiring entry now status told obeys = about book refl (resumes_way book hired after_hiring (state entry) (state now) status told obeys)
-  obeys_goes (asked.Show book) files hired after_hiring entry now status told obeys = about book refl (shows_way book (state entry) (state now) status told obeys.0)
-  obeys_goes (asked.Reset book) files hired after_hiring entry now status told obeys = about book refl (resets_way book (state entry) (state now) status told obeys.0)
-  obeys_goes (asked.Demo seed size book hands) files hired after_hiring entry now status told obeys = demo_goes book hired after_hiring entry now seed size status told obeys
-  obeys_goes (asked.Worker address sessions) files hired after_hiring entry now status told obeys = untouched obeys.1
-  obeys_goes (asked.Post file name priority details) files hired after_hiring entry now status told obeys = about file refl (does_way _ file (state entry) (state now) status told obeys.0)
-  obeys_goes (asked.Claim file id owner) files hired after_hiring entry now status told obeys = about file refl (does_way _ file (state entry) (state now) status told obeys.0)
-  obeys_goes (asked.Abandon file id owner) files hired after_hiring entry now status told obeys = about file refl (does_way _ file (state entry) (state now) status told obeys.0)
-  obeys_goes (asked.Consume file id owner) files hired after_hiring entry now status told obeys = about file refl (does_way _ file (state entry) (state now) status told obeys.0)
-  obeys_goes (asked.Trash file id owner) files hired after_hiring entry now status told obeys = about file refl (does_way _ file (state entry) (state now) status told obeys.0)
-  obeys_goes (asked.Owner file id) files hired after_hiring entry now status told obeys = about file refl (does_way _ file (state entry) (state now) status told obeys.0)
-  obeys_goes (asked.List file) files hired after_hiring entry now status told obeys = about file refl (does_way _ file (state entry) (state now) status told obeys.0)
+  obeys_goes stopped (asked.Resume book hands stop) files hired after_hiring entry now status told obeys = about book refl (resumes_way book hired after_hiring (state entry) (state now) status told obeys)
+  obeys_goes stopped (asked.Show book) files hired after_hiring entry now status told obeys = about book refl (shows_way book (state entry) (state now) status told obeys.0)
+  obeys_goes stopped (asked.Reset book) files hired after_hiring entry now status told obeys = about book refl (resets_way book (state entry) (state now) status told obeys.0)
+  obeys_goes stopped (asked.Demo seed size book hands) files hired after_hiring entry now status told obeys = demo_goes book hired after_hiring entry now seed size status told obeys
+  obeys_goes stopped (asked.Worker address sessions) files hired after_hiring entry now status told obeys = untouched obeys.1
+  obeys_goes stopped (asked.Post file name priority details) files hired after_hiring entry now status told obeys = about file refl (does_way _ file (state entry) (state now) status told obeys.0)
+  obeys_goes stopped (asked.Claim file id owner) files hired after_hiring entry now status told obeys = about file refl (does_way _ file (state entry) (state now) status told obeys.0)
+  obeys_goes stopped (asked.Abandon file id owner) files hired after_hiring entry now status told obeys = about file refl (does_way _ file (state entry) (state now) status told obeys.0)
+  obeys_goes stopped (asked.Consume file id owner) files hired after_hiring entry now status told obeys = about file refl (does_way _ file (state entry) (state now) status told obeys.0)
+  obeys_goes stopped (asked.Trash file id owner) files hired after_hiring entry now status told obeys = about file refl (does_way _ file (state entry) (state now) status told obeys.0)
+  obeys_goes stopped (asked.Owner file id) files hired after_hiring entry now status told obeys = about file refl (does_way _ file (state entry) (state now) status told obeys.0)
+  obeys_goes stopped (asked.List file) files hired after_hiring entry now status told obeys = about file refl (does_way _ file (state entry) (state now) status told obeys.0)
 
 -- ---- what a call leaves
 
@@ -212,9 +213,9 @@ other_file : (name : List ℕ) (entry now : DeskState) → now.content.files nam
 other_file name entry now same = ap (λ (f : Option (List ℕ)). unwrap_or f []) same
 
 -- the file that the words are about
-about_one : {words : List (List ℕ)} {name : List ℕ} (command : Asked) (file : List ℕ) → asked_for words ≡ Some command → file_of_command command ≡ Some file
+about_one : (words : List (List ℕ)) (name : List ℕ) (command : Asked) (file : List ℕ) → asked_for words ≡ Some command → file_of_command command ≡ Some file
     → IsAbout words name → name ≡ file
-about_one {words} {name} command file asks is one =
+about_one words name command file asks is one =
     let same : one.0 ≡ command = (let both : Some one.0 ≡ Some command = sym one.1 ∙ asks in cc) in
     let both : Some name ≡ Some file = sym one.2 ∙ ap file_of_command same ∙ is in
     cc
@@ -241,7 +242,7 @@ module _ {K : Type 0} (state : K → DeskState) (gives : Order → Outcome → T
       by (inl same) _ (crashed one moment start image text left) = (on same).crash moment start image text left
       by (inr apart) _ returned =
           stays (file_of (state call.entry) name) (file_of (state call.now) name) holds (other_file name (state call.entry) (state call.now) (way_others way name apart))
-      by (inr apart) _ (crashed one moment start image text left) = absurd (apart (about_one command file asks is one))
+      by (inr apart) _ (crashed one moment start image text left) = absurd (apart (about_one call.words name command file asks is one))
 
   goes_grows : (name : List ℕ) (call : Call state gives) (command : Asked) → asked_for call.words ≡ Some command
       → Goes (file_of_command command) (state call.entry) (state call.now) → HoldsHistory plan past (book_at (state call.entry) name)
@@ -254,10 +255,10 @@ module _ {K : Type 0} (state : K → DeskState) (gives : Order → Outcome → T
       → (last : List ℕ) → Leaves state gives name call last → Grown plan past last
   call_grows name call holds last leaves = by call.course
     where
-      by : Course state gives _ call.words call.files call.hired call.after_hiring call.entry call.now call.status → Grown plan past last
+      by : Course state gives (WasAsked (state call.entry) (state call.now)) call.words call.files call.hired call.after_hiring call.entry call.now call.status → Grown plan past last
       by (course.unheard is same still) =
-          quiet_grows name call (subst (λ (k : K). NoFileChanges (state call.entry) (state k)) (sym same) itself) holds last leaves
+          quiet_grows name call (subst (λ (k : K). NoFileChanges (state call.entry) (state k)) (sym same) (itself (state call.entry))) holds last leaves
       by (course.no_command none closes still) = quiet_grows name call still.1 holds last leaves
       by (course.obeyed command asks obeys) =
           goes_grows name call command asks
-          (obeys_goes state gives command call.files call.hired call.after_hiring call.entry call.now call.status call.tells obeys) holds last leaves
+          (obeys_goes state gives (WasAsked (state call.entry) (state call.now)) command call.files call.hired call.after_hiring call.entry call.now call.status call.tells obeys) holds last leaves

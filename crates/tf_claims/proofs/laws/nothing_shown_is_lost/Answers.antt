@@ -1,3 +1,4 @@
+use Rattle.std.proofs.Common.{false}
 use Rattle.tf_claims.proofs.ShownLemmas.{told_later}
 use Rattle.tf_claims.proofs.laws.nothing_shown_is_lost.Goals as goal
 
