@@ -1,0 +1,5 @@
+pub mod TestLemmas
+pub mod WithinLemmas
+pub mod KeepingLemmas
+pub mod LimitLemmas
+pub mod TargetLemmas
