@@ -3,3 +3,13 @@ pub mod WithinLemmas
 pub mod KeepingLemmas
 pub mod LimitLemmas
 pub mod TargetLemmas
+pub mod OutlineLemmas
+pub mod MoveLemmas
+pub mod PartLemmas
+pub mod TailLemmas
+pub mod ImageLemmas
+pub mod CarriedLemmas
+pub mod NestedLemmas
+pub mod RootLemmas
+pub mod JoinLemmas
+pub mod LawLemmas

@@ -5,6 +5,7 @@ ghost use Rattle.tf_flow.specs.Shown.{members};
 ghost use Rattle.tf_model.specs.Compilation.{compile_refusal};
 ghost use Rattle.tf_model.specs.Plan.{outline_of};
 ghost use Rattle.tf_model.specs.Scope.{missing_symbol};
+ghost use Rattle.tf_target.specs.Laws.{KeepsOrder};
 ghost use Rattle.tf_target.specs.Kept.{place_of_name, is_marked};
 ghost use Rattle.tf_target.specs.Target.{is_kept, IsTargetOf, target_refusal, IsTargetAnswer, LeavesNoneBefore, plan_fault};
 
@@ -28,6 +29,8 @@ pub fn target(alloc: Global, plan: &Plan, name: &Name) -> Result<Plan, TargetFau
     ensures accepted { OnOk result (target_refusal plan.now name.now ≡ None) }
     ensures refused { IfErr result (IsTargetAnswer (target_refusal plan.now name.now)) }
     ensures apart { OnOk result (LeavesNoneBefore plan.now name.now) }
+    ensures order { IfOk result (λ kept. KeepsOrder (outline_of plan.now) (outline_of kept)) }
+    ensures compiled { IfOk result (λ kept. compile_refusal kept ≡ None) }
 {
     if !is_graph(plan.root().kind) {
         return Err(TargetFault::NotAGraph);
