@@ -89,20 +89,25 @@ module _ (fl at it : ℕ → ℕ) (part whole : List Atom) (c : Carried fl at it
   items_same zero u v = same_truth (nat_eq (it u) (it v)) (nat_eq u v) (λ is. eq-eqb u v (c.item_once u v (eqb-true (it u) (it v) is))) (λ is. eq-eqb (it u) (it v) (ap it (eqb-true u v is)))
   items_same (suc g) u v = refl
 
-  places_same : (g v : ℕ) (o : Option ℕ) → same_place (item_in it g o) (Some (item_at it g v)) ≡ same_place o (Some v)
-  places_same g v None = refl
-  places_same g v (Some u) = items_same g u v
+  places_alike : (g : ℕ) (o p : Option ℕ) → same_place (item_in it g o) (item_in it g p) ≡ same_place o p
+  places_alike g None None = refl
+  places_alike g None (Some v) = refl
+  places_alike g (Some u) None = refl
+  places_alike g (Some u) (Some v) = items_same g u v
 
-  takes_carried : (g v : ℕ) (x : Turn) → takes_item (fl g) (Some (item_at it g v)) (whole_turn fl it x) ≡ takes_item g (Some v) x
-  takes_carried g v x = ap (λ b. b && same_place (item_in it x.flow x.item) (Some (item_at it g v))) (flows_same x.flow g) ∙ by_flow (nat_eq x.flow g) refl
+  takes_carried : (g : ℕ) (o : Option ℕ) (x : Turn) → takes_item (fl g) (item_in it g o) (whole_turn fl it x) ≡ takes_item g o x
+  takes_carried g o x = ap (λ b. b && same_place (item_in it x.flow x.item) (item_in it g o)) (flows_same x.flow g) ∙ by_flow (nat_eq x.flow g) refl
     where
-      by_flow : (b : Bool) → nat_eq x.flow g ≡ b → b && same_place (item_in it x.flow x.item) (Some (item_at it g v)) ≡ b && same_place x.item (Some v)
-      by_flow true is = ap (λ (h : ℕ). same_place (item_in it h x.item) (Some (item_at it g v))) (eqb-true x.flow g is) ∙ places_same g v x.item
+      by_flow : (b : Bool) → nat_eq x.flow g ≡ b → b && same_place (item_in it x.flow x.item) (item_in it g o) ≡ b && same_place x.item o
+      by_flow true is = ap (λ (h : ℕ). same_place (item_in it h x.item) (item_in it g o)) (eqb-true x.flow g is) ∙ places_alike g x.item o
       by_flow false is = refl
 
+  pub passes_alike : (g : ℕ) (o : Option ℕ) (w : List Turn) → passes_item (fl g) (item_in it g o) (map (whole_turn fl it) w) ≡ passes_item g o w
+  passes_alike g o [] = refl
+  passes_alike g o (x ∷ xs) = ap2 (λ a b. a || b) (takes_carried g o x) (passes_alike g o xs)
+
   pub passes_carried : (g v : ℕ) (w : List Turn) → passes_item (fl g) (Some (item_at it g v)) (map (whole_turn fl it) w) ≡ passes_item g (Some v) w
-  passes_carried g v [] = refl
-  passes_carried g v (x ∷ xs) = ap2 (λ a b. a || b) (takes_carried g v x) (passes_carried g v xs)
+  passes_carried g v w = passes_alike g (Some v) w
 
   pub inside_carried : (g v a : ℕ) → is_inside whole (fl g) (item_at it g v) (at a) ≡ is_inside part g v a
   inside_carried g v a = ap (passes_item (fl g) (Some (item_at it g v))) (way_carried a) ∙ passes_carried g v (way_at part a)
@@ -120,7 +125,7 @@ module _ (fl at it : ℕ → ℕ) (part whole : List Atom) (c : Carried fl at it
       there (x ∷ xs) zero below is = absurd (cc)
       there (x ∷ xs) (suc k) below is = there xs k (omega (arith, below)) is
 
-  within_whole : (a : ℕ) → a < length part → at a < length whole
+  pub within_whole : (a : ℕ) → a < length part → at a < length whole
   within_whole a below = elim (cases_lt (at a) (length whole)) [
     | inl is ↦ is
     | inr from ↦ absurd (none part a below (sym (c.atoms a) ∙ slice_get_past whole (at a) from))
@@ -141,7 +146,7 @@ module _ (fl at it : ℕ → ℕ) (part whole : List Atom) (c : Carried fl at it
   pub inside_kept : (g v a : ℕ) → is_inside whole (fl g) (item_at it g v) a ≡ true → Image at (length part) a
   inside_kept g v a is = elim (c.kept a) [
     | inl image ↦ image
-    | inr avoids ↦ absurd (clash (is_inside whole (fl g) (item_at it g v) a) is (avoids g v))
+    | inr avoids ↦ absurd (clash (is_inside whole (fl g) (item_at it g v) a) is (avoids g (Some v)))
   ]
 
   -- ---- what is provided and what is needed

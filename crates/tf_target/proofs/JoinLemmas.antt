@@ -1,14 +1,14 @@
 -- A tree and what is kept of it: their atoms, their flows and their roots side by side.
-use Rattle.std.proofs.Common.{◌≡◌, ◌∙◌, ℕ, zero, suc, ◌+◌, ◌-◌, ◌<◌, ◌≤◌, List, [], ◌∷◌, ◌++◌, map, length, Bool, true, false, ◌&&◌, ◌||◌, Option, Some, None, filter, refl, sym, ap, subst, inl, inr, ◌⊎◌, arith, eqb-true, slice_get}
+use Rattle.std.proofs.Common.{◌≡◌, ◌∙◌, ℕ, zero, suc, ◌+◌, ◌-◌, ◌<◌, ◌≤◌, List, [], ◌∷◌, ◌++◌, map, flat_map, length, Bool, true, false, ◌&&◌, ◌||◌, Option, Some, None, filter, refl, sym, ap, subst, inl, inr, ◌⊎◌, arith, eqb-true, slice_get}
 use Rattle.std.specs.Prelude.{nat_eq, option_map, if◌then◌else◌}
-use Rattle.std.specs.Option.{option_map_or, option_or}
+use Rattle.std.specs.Option.{option_map_or, option_or, option_to_list}
 use Rattle.std.specs.List.{list_any}
 use Rattle.std.proofs.lemmas.Bool.{cases_lt}
 use Rattle.std.proofs.lemmas.Option.{slice_get_past}
 use Rattle.tf_flow.proofs.ListingLemmas.{length_atoms}
 use Rattle.tf_flow.specs.Conditions.{Connection, connection_of}
 use Rattle.tf_flow.specs.Names.{same_name, is_among}
-use Rattle.tf_flow.specs.Outline.{Atom, a_retry, Item, FlowPlace, flow_count, retry_count, atom_count, atoms_among_count, retry_atoms, atoms_of, atoms_among, item_of, items_of, flow_place, flows_among}
+use Rattle.tf_flow.specs.Outline.{Atom, a_retry, Item, FlowPlace, flow_count, retry_count, retry_number, atom_count, atoms_among_count, retry_atoms, atoms_of, atoms_among, item_of, items_of, flow_place, flows_among}
 use Rattle.tf_flow.specs.Places.{member_of}
 use Rattle.tf_flow.specs.Rules.{is_graph}
 use Rattle.tf_flow.specs.Tree.{Tree, task, flow, Trees, no_trees, tree, Head}
@@ -17,9 +17,9 @@ use Rattle.tf_flow.specs.declared.deciders.Link.{Link}
 use Rattle.tf_flow.specs.declared.nested.FlowKind.{FlowKind}
 use Rattle.tf_flow.specs.declared.nested.FlowKind.TheVariants as kind
 use Rattle.tf_links.specs.Reach.{reached}
-use Rattle.tf_model.specs.Before.{Flow, find_flow, item_before}
+use Rattle.tf_model.specs.Before.{Flow, find_flow, item_before, flow_at}
 use Rattle.tf_model.specs.Compilation.{ambiguity, cycle_of, refusal_of, refusal_among}
-use Rattle.tf_model.specs.Linked.{joins, name_of_item, item_name, is_explicit, linked_pairs, item_order, arrange, arranged}
+use Rattle.tf_model.specs.Linked.{joins, name_of_item, item_name, is_explicit, linked_pairs, item_order, arrange, arranged, item_standing, standing_of_item}
 use Rattle.tf_model.proofs.Told.{order_in, way_in}
 use Rattle.tf_numbers.specs.Pairs.{Pair, has_pair}
 use Rattle.tf_numbers.proofs.EquationLemmas.{ap2}
@@ -27,11 +27,16 @@ use Rattle.tf_numbers.proofs.TruthLemmas.{never_true, clash, and_first, and_seco
 use Rattle.tf_target.specs.Kept.{kept_among, joins_kept, kept_head, kept_tree, names_among}
 use Rattle.tf_target.proofs.ImageLemmas.{Image}
 use Rattle.tf_target.proofs.MoveLemmas.{size_of, across, across_below, across_past, across_rises, across_once, moved_end}
-use Rattle.tf_target.proofs.PartLemmas.{whole_atom, whole_item, Avoids, AtomsMoved, atom_kept, PlacesMoved}
-use Rattle.tf_target.proofs.TailLemmas.{one, Tail, tail_atoms, tail_places, items_sized, tail_item, tail_found}
+use Rattle.tf_target.proofs.PartLemmas.{item_at, whole_atom, whole_item, Avoids, AtomsMoved, atom_kept, PlacesMoved}
+use Rattle.tf_target.proofs.TailLemmas.{one, Tail, tail_atoms, tail_places, items_sized, tail_item, tail_found, tail_absent, IsAbsentAt}
 use Rattle.tf_target.proofs.CarriedLemmas.{Carried, OrdersCarried, moved_at, moved_or_left}
-use Rattle.tf_target.proofs.NestedLemmas.{NestedCarried, nested_carried, orders_nested}
-use Rattle.tf_target.proofs.RootLemmas.{RootBeside, linked_beside, order_beside, clear_beside, cycle_beside}
+use Rattle.tf_target.proofs.NestedLemmas.{NestedCarried, nested_carried, orders_nested, NoneKept, none_standing, standing_told, item_standing_carried}
+use Rattle.tf_links.specs.Standing.{standing_items}
+use Rattle.tf_model.proofs.Told.{standing_in}
+use Rattle.tf_numbers.proofs.ListLemmas.{filter_append, map_append}
+use Rattle.tf_numbers.proofs.NumberLemmas.{same_or_other}
+use Rattle.tf_target.proofs.RootLemmas.{RootBeside, linked_beside, order_beside, clear_beside, cycle_beside, order_back, standing_beside}
+use Rattle.tf_target.proofs.MemberLemmas.{is_image, filter_images, filter_left, filter_flat}
 
 -- the retry controller is the first atom of both
 control_moved : (fl at it : ℕ → ℕ) (r : Option Retry) (xs ys : List Atom) → fl 0 ≡ 0 → ((x : ℕ) → x < 0 + retry_count r → at x ≡ x) → AtomsMoved fl at it (0 + retry_count r) (0 + retry_count r) xs ys
@@ -104,6 +109,7 @@ module _ (test : ℕ → Bool) (head : Head) (items : Trees) where
     flows = λ x from. across_past flow_count test items 1 x from;
     flows_low = λ x below. omega (arith, below, across_below flow_count test items 1 x below);
     atoms = λ x from. across_past atom_count test items base x from;
+    atoms_low = λ x below. omega (arith, below, across_below atom_count test items base x below);
   }
 
   root_first : fl 0 ≡ 0
@@ -256,3 +262,77 @@ module _ (test : ℕ → Bool) (head : Head) (items : Trees) where
         ∙ (sym (ap (λ (b : Bool). if b then refusal_of whole all (arrange whole all root) else refusal_among whole (fl (suc g)) all)
         (never_true (nat_eq 0 (fl (suc g))) (λ is. absurd (omega (arith, eqb-true 0 (fl (suc g)) is, nested_later (suc g) (omega arith))))))
         ∙ none (fl (suc g)))
+
+    -- ---- standing order
+
+    order_none : ((v : ℕ) → item_before (arrange whole all root ∷ all) 0 v v ≡ false) → (v : ℕ) → has_pair (reached (length root.items) (linked_pairs whole all root)) v v ≡ false
+    order_none apart v = sym (ap (λ (pairs : List Pair). has_pair pairs v v) (order_of_graph head.kind (length root.items) (linked_pairs whole all root) graph)) ∙ apart v
+
+    item_stands : (u : ℕ) → standing_of_item all root (it u) ≡ map at (standing_of_item inner root_part u)
+    item_stands u = elim (cases_lt u (length root_part.items)) [
+      | inl below ↦ ap (λ (o : Option Item). option_map_or (item_standing all) o []) (item_is u below) ∙ told (slice_get root_part.items u)
+      | inr from ↦
+          let b = beside graph closed in
+          let past : length root.items ≤ it u = elim (same_or_other (length root_part.items) u) [
+            | inl same ↦ omega (arith, b.past, ap it same)
+            | inr other ↦ let less : length root_part.items < u = omega (arith, from, other) in omega (arith, b.past, b.rises (length root_part.items) u less)
+          ] in
+          ap (λ (o : Option Item). option_map_or (item_standing all) o []) (slice_get_past root.items (it u) past) ∙ sym (ap (λ (o : Option Item). map at (option_map_or (item_standing inner) o [])) (slice_get_past root_part.items u from))
+    ]
+      where
+        told : (o : Option Item) → option_map_or (item_standing all) (option_map (whole_item fl at) o) [] ≡ map at (option_map_or (item_standing inner) o [])
+        told None = refl
+        told (Some x) = item_standing_carried fl at it part whole carried inner all orders nested.each x.standing
+
+    item_left : (v : ℕ) → test v ≡ false → NoneKept at (standing_of_item all root v)
+    item_left v off = told (slice_get root.items v) (tail_absent fl at it test items 0 0 1 1 base base v tail off)
+      where
+        told : (o : Option Item) → IsAbsentAt fl at o → NoneKept at (option_map_or (item_standing all) o [])
+        told None absent = tt
+        told (Some x) absent = none_standing fl at all nested.left x.standing absent
+
+    item_kept : (v : ℕ) → test v ≡ true → filter (is_image at) (standing_of_item all root v) ≡ standing_of_item all root v
+    item_kept v on = elim (cases_lt v (length root.items)) [
+      | inl below ↦
+          let image = (beside graph closed).found v below on in
+          let moved_so : standing_of_item all root v ≡ map at (standing_of_item inner root_part image.number) = ap (standing_of_item all root) (sym image.is) ∙ item_stands image.number in
+          ap (filter (is_image at)) moved_so ∙ (filter_images at carried.rises (standing_of_item inner root_part image.number) ∙ sym moved_so)
+      | inr from ↦
+          let nothing : standing_of_item all root v ≡ [] = ap (λ (o : Option Item). option_map_or (item_standing all) o []) (slice_get_past root.items v from) in
+          ap (filter (is_image at)) nothing ∙ sym nothing
+    ]
+
+    flat_stands : (xs : List ℕ) → flat_map (standing_of_item all root) (map it xs) ≡ map at (flat_map (standing_of_item inner root_part) xs)
+    flat_stands [] = refl
+    flat_stands (x ∷ xs) = ap2 (λ ys zs. ys ++ zs) (item_stands x) (flat_stands xs) ∙ sym (map_append at (standing_of_item inner root_part x) (flat_map (standing_of_item inner root_part) xs))
+
+    control_stands : (r : Option Retry) → ((x : ℕ) → x < 0 + retry_count r → at x ≡ x) → filter (is_image at) (option_to_list (retry_number 0 r)) ≡ map at (option_to_list (retry_number 0 r))
+    control_stands None own = refl
+    control_stands (Some r) own = ap (λ (n : ℕ). filter (is_image at) (n ∷ [])) (sym (own 0 (omega arith))) ∙ filter_images at carried.rises (0 ∷ [])
+
+    root_stands : ((v : ℕ) → item_before (arrange whole all root ∷ all) 0 v v ≡ false) → filter (is_image at) (arrange whole all root).standing ≡ map at (arrange part inner root_part).standing
+    root_stands apart =
+        filter_append (is_image at) (option_to_list root.retry) (flat_map (standing_of_item all root) (standing_items (length root.items) (linked_pairs whole all root)))
+        ∙ (ap2 (λ (ys zs : List ℕ). ys ++ zs) (control_stands head.retry (λ x below. across_below atom_count test items base x below))
+        (filter_flat (is_image at) test (standing_of_item all root) item_kept (λ v off. filter_left at (standing_of_item all root v) (item_left v off)) (standing_items (length root.items) (linked_pairs whole all root))
+        ∙ (ap (flat_map (standing_of_item all root)) (standing_beside fl at it part whole carried inner all orders test root_part root (beside graph closed) clear (order_none apart))
+        ∙ flat_stands (standing_items (length root_part.items) (linked_pairs part inner root_part))))
+        ∙ sym (map_append at (option_to_list root_part.retry) (flat_map (standing_of_item inner root_part) (standing_items (length root_part.items) (linked_pairs part inner root_part)))))
+
+    -- the atoms of a flow that are kept, in standing order
+    pub flow_stands : ((v : ℕ) → item_before (arrange whole all root ∷ all) 0 v v ≡ false) → (g : ℕ) → filter (is_image at) (flow_at (arrange whole all root ∷ all) (fl g)).standing ≡ map at (flow_at (arrange part inner root_part ∷ inner) g).standing
+    flow_stands apart zero = ap (λ (h : ℕ). filter (is_image at) (flow_at (arrange whole all root ∷ all) h).standing) root_first ∙ root_stands apart
+    flow_stands apart (suc g) =
+        ap (λ (b : Bool). filter (is_image at) (standing_in (if b then Some (arrange whole all root) else find_flow all (fl (suc g)))))
+        (never_true (nat_eq 0 (fl (suc g))) (λ is. absurd (omega (arith, eqb-true 0 (fl (suc g)) is, nested_later (suc g) (omega arith)))))
+        ∙ (ap (filter (is_image at)) (standing_told fl at (find_flow inner (suc g)) (find_flow all (fl (suc g))) (nested.each (suc g)))
+        ∙ (filter_images at carried.rises (standing_in (find_flow inner (suc g)))
+        ∙ sym (ap (λ (b : Bool). map at (standing_in (if b then Some (arrange part inner root_part) else find_flow inner (suc g)))) (not_first g))))
+
+    -- an item that comes before one that is kept is kept
+    pub item_back : (g v u : ℕ) → item_before (arrange whole all root ∷ all) (fl g) v (item_at it g u) ≡ true → (j : ℕ) × (item_at it g j ≡ v)
+    item_back zero v u is =
+        let image = order_back fl at it part whole carried inner all orders test root_part root (beside graph closed) clear v u
+        (sym (ap (λ (pairs : List Pair). has_pair pairs v (it u)) (order_of_graph head.kind (length root.items) (linked_pairs whole all root) graph)) ∙ (sym (ap (λ (g : ℕ). item_before (arrange whole all root ∷ all) g v (it u)) root_first) ∙ is)) in
+        (image.number, image.is)
+    item_back (suc g) v u is = (v, refl)

@@ -1,34 +1,42 @@
 -- What is kept of a plan that compiles compiles, and keeps links and order.
-use Rattle.std.proofs.Common.{◌≡◌, ◌∙◌, ℕ, suc, ◌+◌, List, [], ◌∷◌, Bool, true, false, ◌||◌, Option, None, refl, sym, ap, subst, inl, inr, ◌⊎◌, eqb-true, eq-eqb}
-use Rattle.std.specs.Prelude.{nat_eq, if◌then◌else◌}
-use Rattle.std.specs.Option.{option_or}
+use Rattle.std.proofs.Common.{◌≡◌, ◌∙◌, ℕ, suc, ◌+◌, List, [], ◌∷◌, Bool, true, false, ◌||◌, Option, None, refl, sym, ap, subst, inl, inr, ◌⊎◌, eqb-true, eq-eqb, map, flat_map, not, ◌≤◌, ◌++◌, Some, arith, zero}
+use Rattle.std.specs.Prelude.{nat_eq, if◌then◌else◌, reverse}
+use Rattle.std.specs.Option.{option_or, option_map_or}
 use Rattle.std.specs.List.{list_any}
-use Rattle.tf_flow.specs.Names.{first_some}
-use Rattle.tf_flow.specs.Outline.{Atom, FlowPlace, flow_count, atom_count, retry_count, flows_of, flows_among, innermost_first, innermost_among, atoms_of}
-use Rattle.tf_flow.specs.Rules.{is_graph}
+use Rattle.tf_flow.specs.Names.{first_some, is_among}
+use Rattle.tf_flow.specs.Outline.{Atom, FlowPlace, flow_count, atom_count, retry_count, flows_of, flows_among, innermost_first, innermost_among, atoms_of, Part, name_of, arguments_of, injected_in}
+use Rattle.tf_flow.specs.Rules.{is_graph, bind_symbols}
 use Rattle.tf_flow.specs.Tree.{Tree, task, flow, Trees, no_trees, tree, Head, tree_of}
 use Rattle.tf_flow.specs.Plan.{PlanValue}
 use Rattle.tf_flow.specs.Written.{as_written}
 use Rattle.tf_flow.specs.declared.atoms.Bind.{Bind}
 use Rattle.tf_flow.specs.declared.nested.Flow.{Flow as FlowValue}
 use Rattle.tf_flow.proofs.TreeLemmas.{tree_of-flow}
-use Rattle.tf_model.specs.Before.{item_before, way_before, way_at}
+use Rattle.tf_model.specs.Before.{item_before, way_before, way_at, part_at, passes_item, flow_at}
 use Rattle.tf_model.specs.Compilation.{ambiguity, cycle_of, refusal_of, refusal_among, refusal_at, tree_refusal, compile_refusal}
 use Rattle.tf_model.specs.Laws.{AreOrdered}
-use Rattle.tf_model.specs.Linked.{arrange, arranged}
-use Rattle.tf_model.specs.Plan.{Outline, outline_with, outline_of_tree, outline_of, is_before}
+use Rattle.tf_model.specs.Scope.{members, members_in, is_earlier, is_elsewhere, lists_symbol, has_source, Missing, missing_of, missing_symbol}
+use Rattle.tf_flow.specs.declared.atoms.Arg.{Arg}
+use Rattle.tf_flow.specs.declared.ways.Turn.{Turn}
+use Rattle.std.proofs.Math.Path.{fun_ext}
+use Rattle.tf_model.specs.Linked.{arrange, arranged, listed}
+use Rattle.tf_model.specs.Plan.{Outline, outline_with, outline_of_tree, outline_of, is_before, count}
 use Rattle.tf_model.proofs.OrderLemmas.{compiled_ordered, each_arranged}
-use Rattle.tf_numbers.specs.Numbers.{has_number}
+use Rattle.tf_numbers.specs.Numbers.{has_number, numbers_below}
 use Rattle.tf_numbers.proofs.EquationLemmas.{ap2}
+use Rattle.tf_numbers.proofs.ListLemmas.{map_append}
 use Rattle.tf_numbers.proofs.OptionLemmas.{neither_there}
 use Rattle.tf_numbers.proofs.PairLemmas.{any_left, any_right, any_in_both}
-use Rattle.tf_numbers.proofs.TruthLemmas.{or_either, true_first, true_second, neither_first, neither_second, either_way}
+use Rattle.tf_numbers.proofs.TruthLemmas.{or_either, true_first, true_second, neither_first, neither_second, either_way, clash}
 use Rattle.tf_target.specs.Kept.{kept_tree}
 use Rattle.tf_target.specs.Laws.{KeepsOrder}
 use Rattle.tf_target.specs.Target.{target_tree, IsTargetOf}
 use Rattle.tf_target.proofs.OutlineLemmas.{atoms_alike, flows_alike, innermost_alike}
-use Rattle.tf_target.proofs.CarriedLemmas.{part_carried, way_carried, before_carried}
-use Rattle.tf_target.proofs.JoinLemmas.{fl, at, it, whole, part, carried, root, root_part, all, inner, IsClosed, item_named_so, links_beside, orders_beside, refused_beside}
+use Rattle.tf_target.proofs.CarriedLemmas.{part_carried, way_carried, before_carried, passes_alike, within_whole}
+use Rattle.tf_target.proofs.MemberLemmas.{is_image, image_yes, before_none, visits_kept, map_reverse}
+use Rattle.tf_target.proofs.PartLemmas.{item_in, whole_turn, Avoids}
+use Rattle.tf_target.proofs.RootLemmas.{each_none}
+use Rattle.tf_target.proofs.JoinLemmas.{fl, at, it, whole, part, carried, root, root_part, all, inner, IsClosed, item_named_so, links_beside, orders_beside, refused_beside, flow_stands, item_back}
 
 -- ---- where nothing is refused, no flow is
 
@@ -121,6 +129,79 @@ module _ (head : Head) (items : Trees) (store : List Bind) (defer : Bool) (item 
       (arrange (part test head items) (inner test head items) (root_part test head items) ∷ inner test head items) (arrange (whole test head items) (all test head items) (root test head items) ∷ all test head items)
       (orders_beside test head items graph closed_root clear_root) (way_at (part test head items) a) (way_at (part test head items) b))
 
+  -- ---- scopes
+
+  left_avoids : (b : ℕ) → is_image (at test head items) b ≡ false → Avoids (fl test head items) (it test head items) (way_at (whole test head items) b)
+  left_avoids b off = elim ((carried test head items).kept b) [
+    | inl image ↦ absurd (clash (is_image (at test head items) b) (ap (is_image (at test head items)) (sym image.is) ∙ image_yes (at test head items) (carried test head items).rises image.number) off)
+    | inr avoids ↦ avoids
+  ]
+
+  left_not_before : (a b : ℕ) → is_image (at test head items) b ≡ false → is_before plan b (at test head items a) ≡ false
+  unfolding is_before
+  left_not_before a b off =
+      ap (way_before plan.flows (way_at (whole test head items) b)) (way_carried (fl test head items) (at test head items) (it test head items) (part test head items) (whole test head items) (carried test head items) a)
+      ∙ before_none (fl test head items) (it test head items) plan.flows (item_back test head items graph closed_root clear_root) (way_at (whole test head items) b) (way_at (part test head items) a) (left_avoids b off)
+
+  visits : (a : ℕ) (x : Turn) → members_in plan (at test head items a) (whole_turn (fl test head items) (it test head items) x) ≡ map (at test head items) (members_in left a x)
+  visits a x =
+      visits_kept (at test head items) (is_earlier plan (at test head items a)) (is_elsewhere plan (whole_turn (fl test head items) (it test head items) x)) (is_earlier left a) (is_elsewhere left x)
+      (flow_at plan.flows (fl test head items x.flow)).standing (flow_at left.flows x.flow).standing
+      (flow_stands test head items graph closed_root clear_root (ordered.irreflexive 0) x.flow)
+      (left_not_before a)
+      (λ b off. ap not (left_avoids b off x.flow x.item))
+      (λ b. sym (before_kept b a))
+      (λ b. ap not (ap (passes_item (fl test head items x.flow) (item_in (it test head items) x.flow x.item)) (way_carried (fl test head items) (at test head items) (it test head items) (part test head items) (whole test head items) (carried test head items) b)
+      ∙ passes_alike (fl test head items) (at test head items) (it test head items) (part test head items) (whole test head items) (carried test head items) x.flow x.item (way_at (part test head items) b)))
+
+  all_visits : (a : ℕ) (xs : List Turn) → flat_map (members_in plan (at test head items a)) (map (whole_turn (fl test head items) (it test head items)) xs) ≡ map (at test head items) (flat_map (members_in left a) xs)
+  all_visits a [] = refl
+  all_visits a (x ∷ xs) = ap2 (λ ys zs. ys ++ zs) (visits a x) (all_visits a xs) ∙ sym (map_append (at test head items) (members_in left a x) (flat_map (members_in left a) xs))
+
+  pub members_kept : (a : ℕ) → map (at test head items) (members left a) ≡ members plan (at test head items a)
+  unfolding members
+  members_kept a =
+      sym (ap (λ (w : List Turn). flat_map (members_in plan (at test head items a)) (reverse w)) (way_carried (fl test head items) (at test head items) (it test head items) (part test head items) (whole test head items) (carried test head items) a)
+      ∙ (ap (flat_map (members_in plan (at test head items a))) (sym (map_reverse (whole_turn (fl test head items) (it test head items)) (way_at (part test head items) a)))
+      ∙ all_visits a (reverse (way_at (part test head items) a))))
+
+  -- ---- symbols
+
+  part_same : (a : ℕ) → part_at (whole test head items) (at test head items a) ≡ part_at (part test head items) a
+  part_same a = part_carried (fl test head items) (at test head items) (it test head items) (part test head items) (whole test head items) (carried test head items) a
+
+  lists_moved : (symbol : List ℕ) (xs : List ℕ) → list_any (lists_symbol plan symbol) (map (at test head items) xs) ≡ list_any (lists_symbol left symbol) xs
+  lists_moved symbol [] = refl
+  lists_moved symbol (x ∷ xs) = ap2 (λ p q. p || q) (ap (λ (o : Option Part). is_among (option_map_or listed o []) symbol) (part_same x)) (lists_moved symbol xs)
+
+  source_same : (a : ℕ) (symbol : List ℕ) → has_source left a symbol ≡ has_source plan (at test head items a) symbol
+  source_same a symbol =
+      ap2 (λ p q. p || (is_among (bind_symbols store) symbol || q))
+      (ap (λ (o : Option Part). is_among (bind_symbols (option_map_or injected_in o [])) symbol) (sym (part_same a)))
+      (sym (lists_moved symbol (members left a)) ∙ ap (list_any (lists_symbol plan symbol)) (members_kept a))
+
+  missing_same : (a : ℕ) → missing_of left a ≡ missing_of plan (at test head items a)
+  missing_same a =
+      ap2 (λ (give : Arg → Option Missing) (args : List Arg). first_some give args)
+      (fun_ext (λ arg. ap2 (λ (on : Bool) (name : List ℕ). if on then None else Some (record { atom = name; symbol = arg.symbol })) (source_same a arg.symbol) (ap (λ (o : Option Part). option_map_or name_of o []) (sym (part_same a)))))
+      (ap (λ (o : Option Part). option_map_or arguments_of o []) (sym (part_same a)))
+
+  pub kept_complete : missing_symbol plan ≡ None → missing_symbol left ≡ None
+  kept_complete none = all_none (count left) (omega arith)
+    where
+      all_none : (n : ℕ) → n ≤ count left → first_some (missing_of left) (numbers_below n) ≡ None
+      all_none zero le = refl
+      all_none (suc n) le = joined (numbers_below n) (all_none n (omega (arith, le)))
+        where
+          here : missing_of left n ≡ None
+          here = missing_same n ∙ each_none (missing_of plan) (count plan) none (at test head items n) (within_whole (fl test head items) (at test head items) (it test head items) (part test head items) (whole test head items) (carried test head items) n (omega (arith, le)))
+
+          joined : (xs : List ℕ) → first_some (missing_of left) xs ≡ None → first_some (missing_of left) (xs ++ n ∷ []) ≡ None
+          joined [] before = ap (λ o. option_or o None) here
+          joined (x ∷ xs) before =
+              let both = neither_there (missing_of left x) (first_some (missing_of left) xs) before in
+              ap (λ o. option_or o (first_some (missing_of left) (xs ++ n ∷ []))) both.0 ∙ joined xs both.1
+
   pub kept_order : KeepsOrder plan left
   kept_order = record {
     item = it test head items;
@@ -129,6 +210,7 @@ module _ (head : Head) (items : Trees) (store : List Bind) (defer : Bool) (item 
     linked = λ u v first second. sym (links_beside test head items graph closed_root clear_root u v first second);
     parts = λ a. sym (part_carried (fl test head items) (at test head items) (it test head items) (part test head items) (whole test head items) (carried test head items) a);
     before = before_kept;
+    scopes = members_kept;
   }
 
 -- ---- of a tree, and of a plan
@@ -140,8 +222,9 @@ IsGraphTree (flow head items) = is_graph head.kind ≡ true
 tree_laws : (t : Tree) (store : List Bind) (defer : Bool) (item : ℕ) → IsGraphTree t → tree_refusal t (outline_of_tree t store defer) ≡ None
     → (tree_refusal (kept_tree (keeps_item t store defer item) t) (outline_of_tree (kept_tree (keeps_item t store defer item) t) store defer) ≡ None)
     × KeepsOrder (outline_of_tree t store defer) (outline_of_tree (kept_tree (keeps_item t store defer item) t) store defer)
+    × (missing_symbol (outline_of_tree t store defer) ≡ None → missing_symbol (outline_of_tree (kept_tree (keeps_item t store defer item) t) store defer) ≡ None)
 tree_laws (task t) store defer item graph none = absurd graph
-tree_laws (flow head items) store defer item graph none = (kept_compiles head items store defer item graph none, kept_order head items store defer item graph none)
+tree_laws (flow head items) store defer item graph none = (kept_compiles head items store defer item graph none, kept_order head items store defer item graph none, kept_complete head items store defer item graph none)
 
 -- plans whose roots are written alike have one outline
 outline_alike : (a b : Tree) (store store' : List Bind) (defer defer' : Bool) → as_written a ≡ as_written b → store ≡ store' → defer ≡ defer' → outline_of_tree a store defer ≡ outline_of_tree b store' defer'
@@ -156,6 +239,7 @@ graph_tree f graph = subst IsGraphTree (sym (tree_of-flow f)) graph
 
 module _ (plan kept : PlanValue) (name : List ℕ) (graph : is_graph plan.root.kind ≡ true) (compiles : compile_refusal plan ≡ None) (is : IsTargetOf plan name kept) where
   laws : (tree_refusal (target_tree plan is.item) (outline_of_tree (target_tree plan is.item) plan.store plan.defer) ≡ None) × KeepsOrder (outline_of plan) (outline_of_tree (target_tree plan is.item) plan.store plan.defer)
+      × (missing_symbol (outline_of plan) ≡ None → missing_symbol (outline_of_tree (target_tree plan is.item) plan.store plan.defer) ≡ None)
   laws = tree_laws (tree_of plan.root) plan.store plan.defer is.item (graph_tree plan.root graph) compiles
 
   same_outline : outline_of kept ≡ outline_of_tree (target_tree plan is.item) plan.store plan.defer
@@ -168,3 +252,6 @@ module _ (plan kept : PlanValue) (name : List ℕ) (graph : is_graph plan.root.k
 
   pub target_order : KeepsOrder (outline_of plan) (outline_of kept)
   target_order = subst (KeepsOrder (outline_of plan)) (sym same_outline) laws.1
+
+  pub target_complete : missing_symbol (outline_of plan) ≡ None → missing_symbol (outline_of kept) ≡ None
+  target_complete none = ap missing_symbol same_outline ∙ laws.2 none

@@ -10,6 +10,8 @@ pub mod TailLemmas
 pub mod ImageLemmas
 pub mod CarriedLemmas
 pub mod NestedLemmas
+pub mod StandingPartLemmas
 pub mod RootLemmas
+pub mod MemberLemmas
 pub mod JoinLemmas
 pub mod LawLemmas

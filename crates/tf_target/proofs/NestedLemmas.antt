@@ -19,7 +19,7 @@ use Rattle.tf_numbers.specs.Numbers.{any_below, which_below, first_below, number
 use Rattle.tf_numbers.specs.Pairs.{Pair, has_pair, pairs_below}
 use Rattle.tf_numbers.proofs.EquationLemmas.{ap2}
 use Rattle.tf_numbers.proofs.TruthLemmas.{never_true}
-use Rattle.tf_target.proofs.PartLemmas.{item_at, whole_standing, whole_item, whole_place, PlacesMoved, all_placed, place_kept, place_left}
+use Rattle.tf_target.proofs.PartLemmas.{item_at, whole_standing, whole_item, whole_place, Absent, StandsAbsent, ItemsAbsent, ControlAbsent, LeftPlace, PlacesMoved, all_placed, place_kept, place_left}
 use Rattle.tf_target.proofs.CarriedLemmas.{Carried, OrdersCarried, provided_carried, needs_carried, flows_same}
 
 -- a flow of the part beside the same flow of the whole
@@ -49,7 +49,7 @@ order_told fl at None (Some whole) both = absurd both
 order_told fl at (Some f) None both = absurd both
 order_told fl at (Some f) (Some whole) both = both.order
 
-standing_told : (fl at : ℕ → ℕ) (o p : Option Flow) → BothCarried fl at o p → standing_in p ≡ map at (standing_in o)
+pub standing_told : (fl at : ℕ → ℕ) (o p : Option Flow) → BothCarried fl at o p → standing_in p ≡ map at (standing_in o)
 standing_told fl at None None both = refl
 standing_told fl at None (Some whole) both = absurd both
 standing_told fl at (Some f) None both = absurd both
@@ -115,7 +115,7 @@ module _ (fl at it : ℕ → ℕ) (part whole : List Atom) (c : Carried fl at it
       ap (λ (pairs : List Pair). if is_graph p.kind then pairs else [])
       (ap2 pairs_below (count_carried p) (fun_ext (λ u. fun_ext (λ v. ap2 (λ x y. x || y) (ap (λ (test : ℕ → ℕ → Bool). test u v) (explicit_told p)) (inferred_carried p g is u v)))))
 
-  item_standing_carried : AllCarried fl at inner all → (s : Standing) → standing_at all (whole_standing fl at s) ≡ map at (standing_at inner s)
+  pub item_standing_carried : AllCarried fl at inner all → (s : Standing) → standing_at all (whole_standing fl at s) ≡ map at (standing_at inner s)
   item_standing_carried each (stands_task a) = refl
   item_standing_carried each (stands_flow g) = standing_told fl at (find_flow inner g) (find_flow all (fl g)) (each g)
 
@@ -170,6 +170,43 @@ module _ (fl at it : ℕ → ℕ) (part whole : List Atom) (c : Carried fl at it
       (ap2 (λ (give : ℕ → Option CompileRefusal) (n : ℕ). first_some give (numbers_below n)) (fun_ext (ambiguity_carried p g is)) (count_carried p))
       (cycle_carried p (length (map (whole_item fl at) p.items)) (linked_pairs whole all (whole_place fl at p)) ∙ ap2 (first_cycle p) (count_carried p) (linked_carried p g is))
 
+-- ---- what is left out
+
+-- none of these atoms is one of what is kept
+abbrev pub NoneKept : (ℕ → ℕ) → List ℕ → Type 0
+NoneKept at [] = Unit {0}
+NoneKept at (x ∷ xs) = Absent at x × NoneKept at xs
+
+pub none_both : (at : ℕ → ℕ) (xs ys : List ℕ) → NoneKept at xs → NoneKept at ys → NoneKept at (xs ++ ys)
+none_both at [] ys first second = second
+none_both at (x ∷ xs) ys first second = (first.0, none_both at xs ys first.1 second)
+
+none_flat : (at : ℕ → ℕ) (f : ℕ → List ℕ) (xs : List ℕ) → ((u : ℕ) → NoneKept at (f u)) → NoneKept at (flat_map f xs)
+none_flat at f [] each = tt
+none_flat at f (x ∷ xs) each = none_both at (f x) (flat_map f xs) (each x) (none_flat at f xs each)
+
+pub none_standing : (fl at : ℕ → ℕ) (all : List Flow) → ((h : ℕ) → Absent fl h → NoneKept at (standing_in (find_flow all h))) → (s : Standing) → StandsAbsent fl at s → NoneKept at (standing_at all s)
+none_standing fl at all left (stands_task a) absent = (absent, tt)
+none_standing fl at all left (stands_flow g) absent = left g absent
+
+none_items : (fl at : ℕ → ℕ) (all : List Flow) → ((h : ℕ) → Absent fl h → NoneKept at (standing_in (find_flow all h))) → (items : List Item) → ItemsAbsent fl at items → (u : ℕ) → NoneKept at (option_map_or (item_standing all) (slice_get items u) [])
+none_items fl at all left [] absent u = tt
+none_items fl at all left (x ∷ xs) absent zero = none_standing fl at all left x.standing absent.0
+none_items fl at all left (x ∷ xs) absent (suc u) = none_items fl at all left xs absent.1 u
+
+none_control : (at : ℕ → ℕ) (o : Option ℕ) → ControlAbsent at o → NoneKept at (option_to_list o)
+none_control at None absent = tt
+none_control at (Some a) absent = (absent, tt)
+
+none_in_place : (fl at : ℕ → ℕ) (whole : List Atom) (all : List Flow) (q : FlowPlace) → ((h : ℕ) → Absent fl h → NoneKept at (standing_in (find_flow all h))) → LeftPlace fl at q → NoneKept at (arrange whole all q).standing
+none_in_place fl at whole all q left gone =
+    none_both at (option_to_list q.retry) (flat_map (standing_of_item all q) (standing_items (length q.items) (linked_pairs whole all q))) (none_control at q.retry gone.control)
+    (none_flat at (standing_of_item all q) (standing_items (length q.items) (linked_pairs whole all q)) (none_items fl at all left q.items gone.items))
+
+none_if : (at : ℕ → ℕ) (b : Bool) (f : Flow) (o : Option Flow) → NoneKept at f.standing → NoneKept at (standing_in o) → NoneKept at (standing_in (if b then Some f else o))
+none_if at true f o here there = here
+none_if at false f o here there = there
+
 -- ---- all nested flows
 
 pub record NestedCarried (fl at : ℕ → ℕ) (part whole : List Atom) (inner all : List Flow) : Type 0 where
@@ -177,6 +214,7 @@ pub record NestedCarried (fl at : ℕ → ℕ) (part whole : List Atom) (inner a
   pub no_root : HasNoRoot inner
   pub no_root_all : HasNoRoot all
   pub refusals : (g : ℕ) → 0 < g → refusal_among whole (fl g) all ≡ refusal_among part g inner
+  pub left : (h : ℕ) → Absent fl h → NoneKept at (standing_in (find_flow all h))
 
 not_root : (n : ℕ) → 0 < n → nat_eq n 0 ≡ false
 not_root n some = never_true (nat_eq n 0) (λ is. absurd (omega (arith, some, eqb-true n 0 is)))
@@ -203,27 +241,29 @@ kept_step fl at it part whole c inner all below p n is =
       no_root_all = if_false (nat_eq (fl p.number) 0) (Some (arrange whole all (whole_place fl at p))) (find_flow all 0) (not_root (fl p.number) (c.nested p.number some)) ∙ below.no_root_all;
       refusals = λ g more. if_same (nat_eq p.number g) (nat_eq (fl p.number) (fl g)) (refusal_of part inner (arrange part inner p)) (refusal_of whole all (arrange whole all (whole_place fl at p))) (refusal_among part g inner) (refusal_among whole (fl g) all)
           (flows_same fl at it part whole c p.number g) (refusal_carried fl at it part whole c inner all orders p n is) (below.refusals g more);
+      left = λ h absent. subst (λ (o : Option Flow). NoneKept at (standing_in o)) (sym (if_false (nat_eq (fl p.number) h) (Some (arrange whole all (whole_place fl at p))) (find_flow all h) (never_true (nat_eq (fl p.number) h) (λ same. absent p.number (eqb-true (fl p.number) h same))))) (below.left h absent);
     }
 
-left_step : (fl at it : ℕ → ℕ) (part whole : List Atom) (inner all : List Flow) → NestedCarried fl at part whole inner all → (q : FlowPlace) → ((g : ℕ) → fl g ≢ q.number) → 0 < q.number
+left_step : (fl at it : ℕ → ℕ) (part whole : List Atom) (inner all : List Flow) → NestedCarried fl at part whole inner all → (q : FlowPlace) → ((g : ℕ) → fl g ≢ q.number) → 0 < q.number → LeftPlace fl at q
     → NestedCarried fl at part whole inner (arrange whole all q ∷ all)
-left_step fl at it part whole inner all below q other some =
+left_step fl at it part whole inner all below q other some gone =
     let no : (g : ℕ) → nat_eq q.number (fl g) ≡ false = λ g. never_true (nat_eq q.number (fl g)) (λ is. other g (sym (eqb-true q.number (fl g) is))) in
     record {
       each = λ g. subst (BothCarried fl at (find_flow inner g)) (sym (if_false (nat_eq q.number (fl g)) (Some (arrange whole all q)) (find_flow all (fl g)) (no g))) (below.each g);
       no_root = below.no_root;
       no_root_all = if_false (nat_eq q.number 0) (Some (arrange whole all q)) (find_flow all 0) (not_root q.number some) ∙ below.no_root_all;
       refusals = λ g more. if_false (nat_eq q.number (fl g)) (refusal_of whole all (arrange whole all q)) (refusal_among whole (fl g) all) (no g) ∙ below.refusals g more;
+      left = λ h absent. none_if at (nat_eq q.number h) (arrange whole all q) (find_flow all h) (none_in_place fl at whole all q below.left gone) (below.left h absent);
     }
 
 with_number : (p : FlowPlace) → 0 < p.number → (n : ℕ) × (p.number ≡ suc n)
 with_number p some = (p.number - 1, omega (arith, some))
 
 pub nested_carried : (fl at it : ℕ → ℕ) (part whole : List Atom) (c : Carried fl at it part whole) (ps qs : List FlowPlace) → PlacesMoved fl at ps qs → NestedCarried fl at part whole (arranged part ps) (arranged whole qs)
-nested_carried fl at it part whole c _ _ all_placed = record { each = λ g. tt; no_root = refl; no_root_all = refl; refusals = λ g some. refl }
+nested_carried fl at it part whole c _ _ all_placed = record { each = λ g. tt; no_root = refl; no_root_all = refl; refusals = λ g some. refl; left = λ h absent. tt }
 nested_carried fl at it part whole c _ _ (place_kept p q ps qs is some rest) =
     let n = with_number p some in
     subst (λ (r : FlowPlace). NestedCarried fl at part whole (arranged part (p ∷ ps)) (arranged whole (r ∷ qs))) (sym is)
     (kept_step fl at it part whole c (arranged part ps) (arranged whole qs) (nested_carried fl at it part whole c ps qs rest) p n.0 n.1)
-nested_carried fl at it part whole c _ _ (place_left q ps qs other some rest) =
-    left_step fl at it part whole (arranged part ps) (arranged whole qs) (nested_carried fl at it part whole c ps qs rest) q other some
+nested_carried fl at it part whole c _ _ (place_left q ps qs other some gone rest) =
+    left_step fl at it part whole (arranged part ps) (arranged whole qs) (nested_carried fl at it part whole c ps qs rest) q other some gone

@@ -9,7 +9,7 @@ use Rattle.tf_flow.specs.declared.ways.Turn.{Turn}
 use Rattle.tf_model.specs.Before.{same_place, takes_item, passes_item}
 use Rattle.tf_numbers.proofs.EquationLemmas.{ap2}
 use Rattle.tf_numbers.proofs.ListLemmas.{map_append}
-use Rattle.tf_numbers.proofs.TruthLemmas.{never_true, neither, and_first, and_second}
+use Rattle.tf_numbers.proofs.TruthLemmas.{never_true, neither, and_first, and_second, second_false}
 
 -- ---- the whole's numbers in ways and flows
 
@@ -177,7 +177,7 @@ mutual
 
 -- the way leads through no item of the whole that is kept
 abbrev pub Avoids : (fl it : ℕ → ℕ) → List Turn → Type 0
-Avoids fl it way = (g v : ℕ) → passes_item (fl g) (item_in it g (Some v)) way ≡ false
+Avoids fl it way = (g : ℕ) (o : Option ℕ) → passes_item (fl g) (item_in it g o) way ≡ false
 
 -- the atoms from one number on of what is kept are those of the whole from another on, of which some are left out
 pub data AtomsMoved (fl at it : ℕ → ℕ) : ℕ → ℕ → List Atom → List Atom → Type 0 where
@@ -206,12 +206,12 @@ left_before fl at it (y ∷ ys) a b left whole each rest =
     (left_before fl at it ys a (suc b) left whole each.1 (subst (λ (n : ℕ). AtomsMoved fl at it a n left whole) (omega arith) rest))
 
 -- a way through flows of which none is kept
-avoids_between : (fl it : ℕ → ℕ) (low high : ℕ) (w : List Turn) → ((g : ℕ) → (fl g < low) ⊎ (high ≤ fl g)) → Between low high w → (g v : ℕ) → passes_item (fl g) (item_in it g (Some v)) w ≡ false
-avoids_between fl it low high [] apart each g v = refl
-avoids_between fl it low high (x ∷ xs) apart each g v =
-    neither (takes_item (fl g) (item_in it g (Some v)) x) (passes_item (fl g) (item_in it g (Some v)) xs)
-    (never_true (takes_item (fl g) (item_in it g (Some v)) x) (λ on. far (apart g) (eqb-true x.flow (fl g) (and_first (nat_eq x.flow (fl g)) (same_place x.item (item_in it g (Some v))) on))))
-    (avoids_between fl it low high xs apart each.2 g v)
+avoids_between : (fl it : ℕ → ℕ) (low high : ℕ) (w : List Turn) → ((g : ℕ) → (fl g < low) ⊎ (high ≤ fl g)) → Between low high w → (g : ℕ) (o : Option ℕ) → passes_item (fl g) (item_in it g o) w ≡ false
+avoids_between fl it low high [] apart each g o = refl
+avoids_between fl it low high (x ∷ xs) apart each g o =
+    neither (takes_item (fl g) (item_in it g o) x) (passes_item (fl g) (item_in it g o) xs)
+    (never_true (takes_item (fl g) (item_in it g o) x) (λ on. far (apart g) (eqb-true x.flow (fl g) (and_first (nat_eq x.flow (fl g)) (same_place x.item (item_in it g o)) on))))
+    (avoids_between fl it low high xs apart each.2 g o)
   where
     far : (fl g < low) ⊎ (high ≤ fl g) → x.flow ≡ fl g → ⊥
     far (inl below) same = absurd (omega (arith, below, same, each.0))
@@ -221,22 +221,96 @@ avoids_between fl it low high (x ∷ xs) apart each g v =
 pub entered_avoid : (fl it : ℕ → ℕ) (low high i : ℕ) (xs : List Atom) → fl 0 ≡ 0 → ((g : ℕ) → 0 < g → 0 < fl g) → ((v : ℕ) → it v ≢ i) → ((g : ℕ) → (fl g < low) ⊎ (high ≤ fl g)) → AllBetween low high xs → AllAvoid fl it (map (enter 0 i) xs)
 entered_avoid fl it low high i [] root nested other apart each = tt
 entered_avoid fl it low high i (x ∷ xs) root nested other apart each = (
-  (λ g v. neither (takes_item (fl g) (item_in it g (Some v)) record { flow = 0; item = Some i }) (passes_item (fl g) (item_in it g (Some v)) x.way) (first g v) (avoids_between fl it low high x.way apart each.0 g v)),
+  (λ g o. neither (takes_item (fl g) (item_in it g o) record { flow = 0; item = Some i }) (passes_item (fl g) (item_in it g o) x.way) (first g o) (avoids_between fl it low high x.way apart each.0 g o)),
   entered_avoid fl it low high i xs root nested other apart each.1,
 )
   where
-    first : (g v : ℕ) → takes_item (fl g) (item_in it g (Some v)) record { flow = 0; item = Some i } ≡ false
-    first zero v = never_true (takes_item (fl 0) (Some (it v)) record { flow = 0; item = Some i }) (λ on. other v (sym (eqb-true i (it v) (and_second (nat_eq 0 (fl 0)) (nat_eq i (it v)) on))))
-    first (suc g) v = never_true (takes_item (fl (suc g)) (Some v) record { flow = 0; item = Some i }) (λ on.
+    first : (g : ℕ) (o : Option ℕ) → takes_item (fl g) (item_in it g o) record { flow = 0; item = Some i } ≡ false
+    first g None = second_false (nat_eq 0 (fl g)) false refl
+    first zero (Some v) = never_true (takes_item (fl 0) (Some (it v)) record { flow = 0; item = Some i }) (λ on. other v (sym (eqb-true i (it v) (and_second (nat_eq 0 (fl 0)) (nat_eq i (it v)) on))))
+    first (suc g) (Some v) = never_true (takes_item (fl (suc g)) (Some v) record { flow = 0; item = Some i }) (λ on.
         let same : 0 ≡ fl (suc g) = eqb-true 0 (fl (suc g)) (and_first (nat_eq 0 (fl (suc g))) (nat_eq i v) on) in
         absurd (omega (arith, same, nested (suc g) (omega arith))))
 
 -- ---- flows that are kept, and those that are left out
 
+-- no number of what is kept becomes this one
+abbrev pub Absent : (ℕ → ℕ) → ℕ → Type 0
+Absent f x = (k : ℕ) → f k ≢ x
+
+abbrev pub StandsAbsent : (fl at : ℕ → ℕ) → Standing → Type 0
+StandsAbsent fl at (stands_task a) = Absent at a
+StandsAbsent fl at (stands_flow g) = Absent fl g
+
+abbrev pub ItemsAbsent : (fl at : ℕ → ℕ) → List Item → Type 0
+ItemsAbsent fl at [] = Unit {0}
+ItemsAbsent fl at (x ∷ xs) = StandsAbsent fl at x.standing × ItemsAbsent fl at xs
+
+abbrev pub ControlAbsent : (ℕ → ℕ) → Option ℕ → Type 0
+ControlAbsent at None = Unit {0}
+ControlAbsent at (Some a) = Absent at a
+
+-- nothing of the flow is kept
+pub record LeftPlace (fl at : ℕ → ℕ) (q : FlowPlace) : Type 0 where
+  pub control : ControlAbsent at q.retry
+  pub items : ItemsAbsent fl at q.items
+
+abbrev pub AllLeft : (fl at : ℕ → ℕ) → List FlowPlace → Type 0
+AllLeft fl at [] = Unit {0}
+AllLeft fl at (q ∷ qs) = LeftPlace fl at q × AllLeft fl at qs
+
+-- the numbers of what is kept are none of these
+abbrev pub Apart : (ℕ → ℕ) → ℕ → ℕ → Type 0
+Apart f low high = (k : ℕ) → (f k < low) ⊎ (high ≤ f k)
+
+pub absent_between : (f : ℕ → ℕ) (low high x : ℕ) → Apart f low high → low ≤ x → x < high → Absent f x
+absent_between f low high x apart a b k same = far (apart k)
+  where
+    far : (f k < low) ⊎ (high ≤ f k) → ⊥
+    far (inl below) = absurd (omega (arith, below, same, a))
+    far (inr above) = absurd (omega (arith, above, same, b))
+
+left_both : (fl at : ℕ → ℕ) (ps qs : List FlowPlace) → AllLeft fl at ps → AllLeft fl at qs → AllLeft fl at (ps ++ qs)
+left_both fl at [] qs first second = second
+left_both fl at (p ∷ ps) qs first second = (first.0, left_both fl at ps qs first.1 second)
+
+pub item_absent : (fl at : ℕ → ℕ) (t : Tree) (n a low high lo hi : ℕ) → Apart fl low high → Apart at lo hi → low ≤ n → n + flow_count t ≤ high → lo ≤ a → a + atom_count t ≤ hi → StandsAbsent fl at (item_of n a t).standing
+item_absent fl at (task t) n a low high lo hi flows atoms x y z w = absent_between at lo hi a atoms z (omega (arith, w))
+item_absent fl at (flow head items) n a low high lo hi flows atoms x y z w = absent_between fl low high n flows x (omega (arith, y))
+
+items_absent : (fl at : ℕ → ℕ) (ts : Trees) (n a low high lo hi : ℕ) → Apart fl low high → Apart at lo hi → low ≤ n → n + flows_among_count ts ≤ high → lo ≤ a → a + atoms_among_count ts ≤ hi → ItemsAbsent fl at (items_of n a ts)
+items_absent fl at no_trees n a low high lo hi flows atoms x y z w = tt
+items_absent fl at (tree first others) n a low high lo hi flows atoms x y z w = (
+  item_absent fl at first n a low high lo hi flows atoms x (omega (arith, y)) z (omega (arith, w)),
+  items_absent fl at others (n + flow_count first) (a + atom_count first) low high lo hi flows atoms (omega (arith, x)) (omega (arith, y)) (omega (arith, z)) (omega (arith, w)),
+)
+
+control_absent : (at : ℕ → ℕ) (r : Option Retry) (a lo hi : ℕ) → Apart at lo hi → lo ≤ a → a + retry_count r ≤ hi → ControlAbsent at (retry_number a r)
+control_absent at None a lo hi atoms z w = tt
+control_absent at (Some r) a lo hi atoms z w = absent_between at lo hi a atoms z (omega (arith, w))
+
+mutual
+  pub left_places : (fl at : ℕ → ℕ) (t : Tree) (n a low high lo hi : ℕ) → Apart fl low high → Apart at lo hi → low ≤ n → n + flow_count t ≤ high → lo ≤ a → a + atom_count t ≤ hi → AllLeft fl at (flows_of n a t)
+  left_places fl at (task t) n a low high lo hi flows atoms x y z w = tt
+  left_places fl at (flow head items) n a low high lo hi flows atoms x y z w = (
+    record {
+      control = control_absent at head.retry a lo hi atoms z (omega (arith, w));
+      items = items_absent fl at items (suc n) (a + retry_count head.retry) low high lo hi flows atoms (omega (arith, x)) (omega (arith, y)) (omega (arith, z)) (omega (arith, w));
+    },
+    left_among fl at items (suc n) (a + retry_count head.retry) low high lo hi flows atoms (omega (arith, x)) (omega (arith, y)) (omega (arith, z)) (omega (arith, w)),
+  )
+
+  left_among : (fl at : ℕ → ℕ) (ts : Trees) (n a low high lo hi : ℕ) → Apart fl low high → Apart at lo hi → low ≤ n → n + flows_among_count ts ≤ high → lo ≤ a → a + atoms_among_count ts ≤ hi → AllLeft fl at (flows_among n a ts)
+  left_among fl at no_trees n a low high lo hi flows atoms x y z w = tt
+  left_among fl at (tree first others) n a low high lo hi flows atoms x y z w =
+      left_both fl at (flows_of n a first) (flows_among (n + flow_count first) (a + atom_count first) others)
+      (left_places fl at first n a low high lo hi flows atoms x (omega (arith, y)) z (omega (arith, w)))
+      (left_among fl at others (n + flow_count first) (a + atom_count first) low high lo hi flows atoms (omega (arith, x)) (omega (arith, y)) (omega (arith, z)) (omega (arith, w)))
+
 pub data PlacesMoved (fl at : ℕ → ℕ) : List FlowPlace → List FlowPlace → Type 0 where
   all_placed : PlacesMoved fl at [] []
   place_kept : (p q : FlowPlace) (ps qs : List FlowPlace) → q ≡ whole_place fl at p → 0 < p.number → PlacesMoved fl at ps qs → PlacesMoved fl at (p ∷ ps) (q ∷ qs)
-  place_left : (q : FlowPlace) (ps qs : List FlowPlace) → ((g : ℕ) → fl g ≢ q.number) → 0 < q.number → PlacesMoved fl at ps qs → PlacesMoved fl at ps (q ∷ qs)
+  place_left : (q : FlowPlace) (ps qs : List FlowPlace) → ((g : ℕ) → fl g ≢ q.number) → 0 < q.number → LeftPlace fl at q → PlacesMoved fl at ps qs → PlacesMoved fl at ps (q ∷ qs)
 
 abbrev NumbersBetween : ℕ → ℕ → List FlowPlace → Type 0
 NumbersBetween low high [] = Unit {0}
@@ -267,10 +341,7 @@ places_before fl at low high [] left whole some each rest = rest
 places_before fl at low high (p ∷ ps) left whole some each rest =
     place_kept p (whole_place fl at p) (ps ++ left) (map (whole_place fl at) ps ++ whole) refl (omega (arith, some, each.0)) (places_before fl at low high ps left whole some each.2 rest)
 
-pub places_past : (fl at : ℕ → ℕ) (low high : ℕ) (qs left whole : List FlowPlace) → 0 < low → ((g : ℕ) → (fl g < low) ⊎ (high ≤ fl g)) → NumbersBetween low high qs → PlacesMoved fl at left whole → PlacesMoved fl at left (qs ++ whole)
-places_past fl at low high [] left whole some apart each rest = rest
-places_past fl at low high (q ∷ qs) left whole some apart each rest = place_left q left (qs ++ whole) (λ g same. far (apart g) same) (omega (arith, some, each.0)) (places_past fl at low high qs left whole some apart each.2 rest)
-  where
-    far : {g : ℕ} → (fl g < low) ⊎ (high ≤ fl g) → fl g ≡ q.number → ⊥
-    far (inl below) same = absurd (omega (arith, below, same, each.0))
-    far (inr above) same = absurd (omega (arith, above, same, each.1))
+pub places_past : (fl at : ℕ → ℕ) (low high : ℕ) (qs left whole : List FlowPlace) → 0 < low → Apart fl low high → NumbersBetween low high qs → AllLeft fl at qs → PlacesMoved fl at left whole → PlacesMoved fl at left (qs ++ whole)
+places_past fl at low high [] left whole some apart each gone rest = rest
+places_past fl at low high (q ∷ qs) left whole some apart each gone rest =
+    place_left q left (qs ++ whole) (absent_between fl low high q.number apart each.0 each.1) (omega (arith, some, each.0)) gone.0 (places_past fl at low high qs left whole some apart each.2 gone.1 rest)

@@ -21,7 +21,9 @@ use Rattle.tf_numbers.proofs.OptionLemmas.{neither_there}
 use Rattle.tf_links.proofs.ReachedLemmas.{reached_within}
 use Rattle.tf_numbers.proofs.NumberLemmas.{same_or_other}
 use Rattle.tf_numbers.proofs.PairLemmas.{pair_passes, passes_pair, passes_which}
-use Rattle.tf_numbers.proofs.TruthLemmas.{same_truth, never_true, and_first, and_second, true_both, true_first, true_second, neither_first, neither_second}
+use Rattle.tf_numbers.proofs.TruthLemmas.{same_truth, never_true, clash, and_first, and_second, true_both, true_first, true_second, neither_first, neither_second}
+use Rattle.tf_links.specs.Standing.{standing_items}
+use Rattle.tf_target.proofs.StandingPartLemmas.{standing_kept}
 use Rattle.tf_target.proofs.ImageLemmas.{Image, any_image, which_image}
 use Rattle.tf_target.proofs.CarriedLemmas.{Carried, OrdersCarried, provided_carried, needs_carried}
 
@@ -147,7 +149,7 @@ none_ambiguous atoms place v symbols none = by_filter (filter (is_ambiguous atom
     by_filter [] is = not_any (is_ambiguous atoms place v) symbols is
     by_filter (x ∷ xs) is = absurd (least_there (filter (is_ambiguous atoms place v) symbols) x xs is (by_least (least (filter (is_ambiguous atoms place v) symbols)) refl none))
 
-each_none : {Y : Type 0} (give : ℕ → Option Y) (n : ℕ) → first_some give (numbers_below n) ≡ None → (v : ℕ) → v < n → give v ≡ None
+pub each_none : {Y : Type 0} (give : ℕ → Option Y) (n : ℕ) → first_some give (numbers_below n) ≡ None → (v : ℕ) → v < n → give v ≡ None
 each_none give zero none v below = absurd (omega (arith, below))
 each_none give (suc n) none v below = let parts = split give (numbers_below n) n none in elim (cases_lt v n) [
   | inl less ↦ each_none give n parts.0 v less
@@ -335,3 +337,22 @@ module _ (fl at it : ℕ → ℕ) (part whole : List Atom) (c : Carried fl at it
   -- where no item of the whole leads back to itself, none of the part does
   pub cycle_beside : ((v : ℕ) → has_pair (reached many (linked_pairs whole all r)) v v ≡ false) → first_cycle r' few (linked_pairs part inner r') ≡ None
   cycle_beside none = ap (option_map (cycle_through r' few (linked_pairs part inner r'))) (first_none few (is_back few (linked_pairs part inner r')) (λ v below. sym (order_beside v v) ∙ none (it v)))
+
+  -- what reaches an item of the part is one of the part
+  pub order_back : (v u : ℕ) → has_pair (reached many (linked_pairs whole all r)) v (it u) ≡ true → Image it few v
+  order_back v u is = elim (cases_lt u few) [
+    | inl less ↦ reached_back it few many (linked_pairs part inner r') (linked_pairs whole all r) below_part below_whole linked_beside linked_back v u less is
+    | inr from ↦
+        let under : it u < many = reached_within many (linked_pairs whole all r) many below_whole.second v (it u) is in
+        absurd (elim (same_or_other few u) [
+          | inl same ↦ omega (arith, under, b.past, ap it same)
+          | inr other ↦ let less : few < u = omega (arith, from, other) in omega (arith, under, b.past, b.rises few u less)
+        ])
+  ]
+
+  -- the items of the part stand in their order in the whole
+  pub standing_beside : ((v : ℕ) → has_pair (reached many (linked_pairs whole all r)) v v ≡ false) → filter keep (standing_items many (linked_pairs whole all r)) ≡ map it (standing_items few (linked_pairs part inner r'))
+  standing_beside none =
+      standing_kept it few many (linked_pairs part inner r') (linked_pairs whole all r) keep b.rises c.item_once b.within b.keeps b.found linked_beside linked_back below_part below_whole
+      (λ v less chain. clash (has_pair (reached few (linked_pairs part inner r')) v v) (chain_reaches few (linked_pairs part inner r') below_part v v chain) (sym (order_beside v v) ∙ none (it v)))
+      (λ v less chain. clash (has_pair (reached many (linked_pairs whole all r)) v v) (chain_reaches many (linked_pairs whole all r) below_whole v v chain) (none v))

@@ -1,5 +1,5 @@
 -- The items of a plan's root one after another, beside those that are kept.
-use Rattle.std.proofs.Common.{◌≡◌, ◌≢◌, ◌∙◌, ℕ, zero, suc, ◌+◌, ◌-◌, ◌<◌, ◌≤◌, List, [], ◌∷◌, ◌++◌, map, length, Bool, true, false, refl, sym, ap, subst, inl, inr, ◌⊎◌, arith, Option, Some, slice_get}
+use Rattle.std.proofs.Common.{◌≡◌, ◌≢◌, ◌∙◌, ℕ, zero, suc, ◌+◌, ◌-◌, ◌<◌, ◌≤◌, List, [], ◌∷◌, ◌++◌, map, length, Bool, true, false, refl, sym, ap, subst, inl, inr, ◌⊎◌, arith, Option, Some, None, slice_get}
 use Rattle.std.proofs.lemmas.Bool.{cases_lt}
 use Rattle.std.proofs.lemmas.List.{length-map}
 use Rattle.tf_flow.proofs.ListingLemmas.{length_atoms}
@@ -10,7 +10,7 @@ use Rattle.tf_numbers.proofs.EquationLemmas.{ap2}
 use Rattle.tf_numbers.proofs.TruthLemmas.{either_way}
 use Rattle.tf_target.specs.Kept.{keep_first, kept_among}
 use Rattle.tf_target.proofs.MoveLemmas.{moved_by, moved, size_of, here_or_behind, behind_here, moved_from}
-use Rattle.tf_target.proofs.PartLemmas.{whole_atom, whole_item, whole_place, item_whole, Shifts, atoms_whole, flows_whole, flows_between, entered_avoid, AtomsMoved, all_moved, kept_before, left_before, PlacesMoved, all_placed, numbers_between, places_before, places_past}
+use Rattle.tf_target.proofs.PartLemmas.{whole_atom, whole_item, whole_place, item_whole, Shifts, atoms_whole, flows_whole, flows_between, entered_avoid, AtomsMoved, all_moved, kept_before, left_before, PlacesMoved, all_placed, numbers_between, places_before, places_past, left_places, item_absent, StandsAbsent}
 
 -- an item is one
 abbrev pub one : Tree → ℕ
@@ -23,6 +23,7 @@ pub record Tail (fl at it : ℕ → ℕ) (test : ℕ → Bool) (ts : Trees) (i' 
   pub flows : (x : ℕ) → n' ≤ x → fl x ≡ moved flow_count test ts n n' x
   pub flows_low : (x : ℕ) → x < n' → fl x < n
   pub atoms : (x : ℕ) → a' ≤ x → at x ≡ moved atom_count test ts a a' x
+  pub atoms_low : (x : ℕ) → x < a' → at x < a
 
 -- the function on numbers at an item that is kept, behind it, and at one that is left out
 at_kept : (size : Tree → ℕ) (test : ℕ → Bool) (first : Tree) (others : Trees) (old new x : ℕ) → test 0 ≡ true → x < new + size first → moved size test (tree first others) old new x ≡ old + (x - new)
@@ -56,6 +57,7 @@ kept_tail fl at it test first others i' i n' n a' a on_here tail = record {
   flows = λ x from. tail.flows x (omega (arith, from)) ∙ behind_kept flow_count test first others n n' x on_here from;
   flows_low = low_kept flow_count test first others fl n n' on_here tail.flows tail.flows_low;
   atoms = λ x from. tail.atoms x (omega (arith, from)) ∙ behind_kept atom_count test first others a a' x on_here from;
+  atoms_low = low_kept atom_count test first others at a a' on_here tail.atoms tail.atoms_low;
 }
 
 left_tail : (fl at it : ℕ → ℕ) (test : ℕ → Bool) (first : Tree) (others : Trees) (i' i n' n a' a : ℕ) → test 0 ≡ false → Tail fl at it test (tree first others) i' i n' n a' a
@@ -66,6 +68,7 @@ left_tail fl at it test first others i' i n' n a' a off_here tail = record {
   flows = λ x from. tail.flows x from ∙ past_left flow_count test first others n n' x off_here;
   flows_low = λ x below. omega (arith, tail.flows_low x below);
   atoms = λ x from. tail.atoms x from ∙ past_left atom_count test first others a a' x off_here;
+  atoms_low = λ x below. omega (arith, tail.atoms_low x below);
 }
 
 -- the numbers of the flows and atoms of an item that is kept
@@ -147,7 +150,8 @@ tail_places fl at it test (tree first others) i' i n' n a' a some there tail = e
       tail_places fl at it (λ u. test (suc u)) others i' (i + 1) n' (n + flow_count first) a' (a + atom_count first) some (omega (arith, there)) (left_tail fl at it test first others i' i n' n a' a off_here tail) in
       subst (λ b. PlacesMoved fl at (flows_among n' a' (keep_first b first kept)) (flows_among n a (tree first others))) (sym off_here)
       (places_past fl at n (n + flow_count first) (flows_of n a first) (flows_among n' a' kept) (flows_among (n + flow_count first) (a + atom_count first) others) there
-      (apart_left flow_count test first others fl n n' off_here tail.flows tail.flows_low) (numbers_between first n a) rest)
+      (apart_left flow_count test first others fl n n' off_here tail.flows tail.flows_low) (numbers_between first n a)
+      (left_places fl at first n a n (n + flow_count first) a (a + atom_count first) (apart_left flow_count test first others fl n n' off_here tail.flows tail.flows_low) (apart_left atom_count test first others at a a' off_here tail.atoms tail.atoms_low) (omega arith) (omega arith) (omega arith) (omega arith)) rest)
 ]
 
 -- ---- items
@@ -225,4 +229,18 @@ tail_found fl at it test (tree first others) i' i n' n a' a (suc k) tail below o
       let found = tail_found fl at it (λ u. test (suc u)) others i' (i + 1) n' (n + flow_count first) a' (a + atom_count first) k (left_tail fl at it test first others i' i n' n a' a off_here tail) (omega (arith, below)) on in
       subst (λ b. (j : ℕ) × (j < size_of one (keep_first b first (kept_among (λ u. test (suc u)) others))) × (it (i' + j) ≡ i + suc k)) (sym off_here)
       (found.0, found.1, found.2 ∙ omega arith)
+]
+
+-- an item of the whole at which the test fails isn't one of what is kept
+abbrev pub IsAbsentAt : (fl at : ℕ → ℕ) → Option Item → Type 0
+IsAbsentAt fl at None = Unit {0}
+IsAbsentAt fl at (Some item) = StandsAbsent fl at item.standing
+
+pub tail_absent : (fl at it : ℕ → ℕ) (test : ℕ → Bool) (ts : Trees) (i' i n' n a' a k : ℕ) → Tail fl at it test ts i' i n' n a' a → test k ≡ false → IsAbsentAt fl at (slice_get (items_of n a ts) k)
+tail_absent fl at it test no_trees i' i n' n a' a k tail off = tt
+tail_absent fl at it test (tree first others) i' i n' n a' a zero tail off =
+    item_absent fl at first n a n (n + flow_count first) a (a + atom_count first) (apart_left flow_count test first others fl n n' off tail.flows tail.flows_low) (apart_left atom_count test first others at a a' off tail.atoms tail.atoms_low) (omega arith) (omega arith) (omega arith) (omega arith)
+tail_absent fl at it test (tree first others) i' i n' n a' a (suc k) tail off = elim (either_way (test 0)) [
+  | inl on_here ↦ tail_absent fl at it (λ u. test (suc u)) others (i' + 1) (i + 1) (n' + flow_count first) (n + flow_count first) (a' + atom_count first) (a + atom_count first) k (kept_tail fl at it test first others i' i n' n a' a on_here tail) off
+  | inr off_here ↦ tail_absent fl at it (λ u. test (suc u)) others i' (i + 1) n' (n + flow_count first) a' (a + atom_count first) k (left_tail fl at it test first others i' i n' n a' a off_here tail) off
 ]

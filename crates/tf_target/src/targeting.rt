@@ -31,6 +31,7 @@ pub fn target(alloc: Global, plan: &Plan, name: &Name) -> Result<Plan, TargetFau
     ensures apart { OnOk result (LeavesNoneBefore plan.now name.now) }
     ensures order { IfOk result (λ kept. KeepsOrder (outline_of plan.now) (outline_of kept)) }
     ensures compiled { IfOk result (λ kept. compile_refusal kept ≡ None) }
+    ensures provided { IfOk result (λ kept. missing_symbol (outline_of kept) ≡ None) }
 {
     if !is_graph(plan.root().kind) {
         return Err(TargetFault::NotAGraph);

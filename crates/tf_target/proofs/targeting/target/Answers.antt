@@ -6,7 +6,7 @@ use Rattle.tf_flow.specs.Tree.{tree_of}
 use Rattle.tf_flow.specs.Written.{as_written}
 use Rattle.tf_flow.specs.declared.nested.Flow.{Flow}
 use Rattle.tf_target.specs.Target.{item_named, target_refusal, target_tree, IsTargetAnswer}
-use Rattle.tf_target.proofs.LawLemmas.{target_compiles, target_order}
+use Rattle.tf_target.proofs.LawLemmas.{target_compiles, target_order, target_complete}
 use Rattle.tf_target.proofs.LimitLemmas.{empty_if}
 use Rattle.tf_target.proofs.TargetLemmas.{place_within, named_by, is_item_named, root_kept, target_is, refusal_kept, not_refused, refused_so, none_before}
 use Rattle.tf_target.proofs.targeting.target.Goals as goal
@@ -45,6 +45,17 @@ returns-in-Ok-clause-compiled c =
     let graph : is_graph c.args.plan.now.root.kind ≡ true = ap (λ (f : Flow). is_graph f.kind) (sym c.root.ensures.value) ∙ (sym c.is_graph.ensures ∙ yes) in
     target_compiles c.args.plan.now c.in-Ok.kept c.args.name.now graph c.requires.compiles
     (target_is c.args.plan.now c.in-Ok.kept c.args.name.now c.in-Some.item c.in_ok-root.root c.in_ok-store.store c.defer.result named c.in-Ok.ensures.given written (c.in_ok-store.ensures ∙ c.store.ensures.value) c.defer.ensures)
+
+pub returns-in-Ok-clause-provided : goal.returns-in-Ok-clause-provided
+returns-in-Ok-clause-provided c =
+    let named : item_named c.args.plan.now c.args.name.now ≡ Some c.in-Some.item =
+    is_item_named c.args.plan.now c.args.name.now c.in-Some.item (named_by c.args.plan.now c.root-2.result.now c.items.result.now c.args.name.now c.place_of.result c.in-Some.item c.root-2.ensures.value c.items.ensures c.place_of.ensures c.in-Some.is) in
+    let written : as_written (tree_of c.in_ok-root.root) ≡ as_written (target_tree c.args.plan.now c.in-Some.item) =
+    root_kept c.args.plan.now c.root-3.result.now c.in_ok-root.root c.in_ok-marks.marks.items c.deref.result.now c.in-Some.item c.root-3.ensures.value c.deref.ensures.value c.in_ok-marks.ensures c.in_ok-root.ensures in
+    let yes : c.is_graph.result ≡ true = grind (arith, c.if-not-is_graph.false) in
+    let graph : is_graph c.args.plan.now.root.kind ≡ true = ap (λ (f : Flow). is_graph f.kind) (sym c.root.ensures.value) ∙ (sym c.is_graph.ensures ∙ yes) in
+    target_complete c.args.plan.now c.in-Ok.kept c.args.name.now graph c.requires.compiles
+    (target_is c.args.plan.now c.in-Ok.kept c.args.name.now c.in-Some.item c.in_ok-root.root c.in_ok-store.store c.defer.result named c.in-Ok.ensures.given written (c.in_ok-store.ensures ∙ c.store.ensures.value) c.defer.ensures) c.requires.complete
 
 pub returns-in-Ok-clause-accepted : goal.returns-in-Ok-clause-accepted
 returns-in-Ok-clause-accepted c =
