@@ -7,7 +7,7 @@ use Rattle.std.proofs.lemmas.Bool.{cases_lt}
 use Rattle.std.proofs.lemmas.Option.{slice_get_past}
 use Rattle.tf_flow.proofs.ListingLemmas.{length_atoms}
 use Rattle.tf_flow.specs.Conditions.{Connection, connection_of}
-use Rattle.tf_flow.specs.Names.{same_name, is_among}
+use Rattle.tf_flow.specs.Names.{same_name, is_among, first_some}
 use Rattle.tf_flow.specs.Outline.{Atom, a_retry, Item, FlowPlace, flow_count, retry_count, retry_number, atom_count, atoms_among_count, retry_atoms, atoms_of, atoms_among, item_of, items_of, flow_place, flows_among}
 use Rattle.tf_flow.specs.Places.{member_of}
 use Rattle.tf_flow.specs.Rules.{is_graph}
@@ -35,7 +35,12 @@ use Rattle.tf_links.specs.Standing.{standing_items}
 use Rattle.tf_model.proofs.Told.{standing_in}
 use Rattle.tf_numbers.proofs.ListLemmas.{filter_append, map_append}
 use Rattle.tf_numbers.proofs.NumberLemmas.{same_or_other}
-use Rattle.tf_target.proofs.RootLemmas.{RootBeside, linked_beside, order_beside, clear_beside, cycle_beside, order_back, standing_beside}
+use Rattle.tf_target.proofs.RootLemmas.{RootBeside, linked_beside, order_beside, clear_beside, cycle_beside, order_back, standing_beside, linked_kept}
+use Rattle.std.specs.Cmp.Lexicographic.{same_text}
+use Rattle.tf_flow.specs.Rules.{stray_end}
+use Rattle.tf_model.specs.Deciders.{decides_on}
+use Rattle.tf_model.specs.Linked.{is_inferred}
+use Rattle.tf_target.proofs.DeciderLemmas.{among_index, deciders_kept, IsRootTaskIn, name_in_part, in_both, task_named, name_itself}
 use Rattle.tf_target.proofs.MemberLemmas.{is_image, filter_images, filter_left, filter_flat}
 
 -- the retry controller is the first atom of both
@@ -336,3 +341,33 @@ module _ (test : ℕ → Bool) (head : Head) (items : Trees) where
         (sym (ap (λ (pairs : List Pair). has_pair pairs v (it u)) (order_of_graph head.kind (length root.items) (linked_pairs whole all root) graph)) ∙ (sym (ap (λ (g : ℕ). item_before (arrange whole all root ∷ all) g v (it u)) root_first) ∙ is)) in
         (image.number, image.is)
     item_back (suc g) v u is = (v, refl)
+
+    -- ---- deciders
+
+    pub root_deciders : first_some (stray_end (names_among items)) head.links ≡ None → (v : ℕ) (name : List ℕ) → v < length root_part.items → name ≡ item_name root_part v → filter (decides_on name) root_part.links ≡ filter (decides_on name) root.links
+    root_deciders known v name less named =
+        deciders_kept (names_among items) name (joins_kept (names_among kept)) head.links each
+        (λ link from to a b. true_both (same_name link.from from) (same_name link.to to) (ap (same_name link.from) a ∙ name_itself link.from) (ap (same_name link.to) b ∙ name_itself link.to))
+        head.links known (λ from to is. is)
+      where
+        each : (link : Link) → is_among (names_among items) link.from ≡ true → list_any (joins link.from link.to) (map connection_of head.links) ≡ true → same_name link.to name ≡ true → joins_kept (names_among kept) link ≡ true
+        each link among written to_name =
+            let found = among_index items 1 base (same_name link.from) among in
+            let from_is : link.from ≡ item_name root found.0 = same_text link.from (item_name root found.0) (sym found.2) in
+            let to_is : link.to ≡ item_name root (it v) = same_text link.to name (sym to_name) ∙ (named ∙ item_named_so v less) in
+            let explicit_is : is_explicit root found.0 (it v) ≡ true = sym (ap2 (λ (f t : List ℕ). list_any (joins f t) root.links) from_is to_is) ∙ written in
+            let image = linked_kept fl at it part whole carried inner all orders test root_part root (beside graph closed) clear found.0 v found.1 less (true_first (is_explicit root found.0 (it v)) (is_inferred whole all root found.0 (it v)) explicit_is) in
+            true_both (is_among (names_among kept) link.from) (is_among (names_among kept) link.to)
+            (item_listed kept 1 base image.number (same_name link.from) image.below (ap (same_name link.from) (item_named_so image.number image.below ∙ ap (item_name root) image.is) ∙ found.2))
+            (item_listed kept 1 base v (same_name link.to) less (ap (same_name link.to) (sym named) ∙ to_name))
+
+    -- the item of a task of the root
+    pub root_task : (a : ℕ) → IsRootTaskIn (slice_get part a) → (v : ℕ) × (v < length root_part.items) × (name_in_part (slice_get part a) ≡ item_name root_part v)
+    root_task a is =
+        in_both (λ o. IsRootTaskIn o → (v : ℕ) × (v < length root_part.items) × (name_in_part o ≡ item_name root_part v)) (retry_atoms 0 head.retry) (atoms_among 0 0 1 kept)
+        (λ absent. absurd absent) (control head.retry) (λ k there. task_named kept 0 0 base k there) a is
+      where
+        control : (r : Option Retry) (k : ℕ) → IsRootTaskIn (slice_get (retry_atoms 0 r) k) → (v : ℕ) × (v < length root_part.items) × (name_in_part (slice_get (retry_atoms 0 r) k) ≡ item_name root_part v)
+        control None k there = absurd there
+        control (Some r) zero there = let off : false ≡ true = there.tasked in absurd (cc)
+        control (Some r) (suc k) there = absurd there

@@ -1,6 +1,6 @@
 -- What is kept of a plan that compiles compiles, and keeps links and order.
-use Rattle.std.proofs.Common.{◌≡◌, ◌∙◌, ℕ, suc, ◌+◌, List, [], ◌∷◌, Bool, true, false, ◌||◌, Option, None, refl, sym, ap, subst, inl, inr, ◌⊎◌, eqb-true, eq-eqb, map, flat_map, not, ◌≤◌, ◌++◌, Some, arith, zero}
-use Rattle.std.specs.Prelude.{nat_eq, if◌then◌else◌, reverse}
+use Rattle.std.proofs.Common.{◌≡◌, ◌∙◌, ℕ, suc, ◌+◌, List, [], ◌∷◌, Bool, true, false, ◌||◌, Option, None, refl, sym, ap, subst, inl, inr, ◌⊎◌, eqb-true, eq-eqb, map, flat_map, not, ◌≤◌, ◌++◌, Some, arith, zero, filter, slice_get, ◌<◌}
+use Rattle.std.specs.Prelude.{nat_eq, if◌then◌else◌, reverse, option_map}
 use Rattle.std.specs.Option.{option_or, option_map_or}
 use Rattle.std.specs.List.{list_any}
 use Rattle.tf_flow.specs.Names.{first_some, is_among}
@@ -27,8 +27,22 @@ use Rattle.tf_numbers.proofs.EquationLemmas.{ap2}
 use Rattle.tf_numbers.proofs.ListLemmas.{map_append}
 use Rattle.tf_numbers.proofs.OptionLemmas.{neither_there}
 use Rattle.tf_numbers.proofs.PairLemmas.{any_left, any_right, any_in_both}
-use Rattle.tf_numbers.proofs.TruthLemmas.{or_either, true_first, true_second, neither_first, neither_second, either_way, clash}
+use Rattle.tf_numbers.proofs.TruthLemmas.{or_either, true_first, true_second, neither_first, neither_second, either_way, clash, never_true}
 use Rattle.tf_target.specs.Kept.{kept_tree}
+use Rattle.std.specs.Option.{unwrap_or, option_and_then}
+use Rattle.tf_flow.specs.Conditions.{Connection}
+use Rattle.tf_flow.specs.Refusal.{first_refusal}
+use Rattle.tf_flow.specs.Rules.{stray_end}
+use Rattle.tf_flow.specs.Outline.{is_task_part, part_of, way_of}
+use Rattle.tf_model.specs.Before.{Flow, find_flow, no_flow}
+use Rattle.tf_model.specs.Deciders.{decides_on, decider_links}
+use Rattle.tf_model.specs.Plan.{is_task, atom_name, last_flow}
+use Rattle.tf_model.proofs.Told.{connections_in}
+use Rattle.tf_target.specs.Kept.{names_among}
+use Rattle.tf_target.proofs.DeciderLemmas.{IsRootTaskIn, name_in_part, last_moved}
+use Rattle.tf_target.proofs.JoinLemmas.{nested, root_deciders, root_task}
+use Rattle.tf_target.proofs.LimitLemmas.{root_known}
+use Rattle.tf_target.proofs.NestedLemmas.{BothCarried}
 use Rattle.tf_target.specs.Laws.{KeepsOrder}
 use Rattle.tf_target.specs.Target.{target_tree, IsTargetOf}
 use Rattle.tf_target.proofs.OutlineLemmas.{atoms_alike, flows_alike, innermost_alike}
@@ -202,8 +216,58 @@ module _ (head : Head) (items : Trees) (store : List Bind) (defer : Bool) (item 
               let both = neither_there (missing_of left x) (first_some (missing_of left) xs) before in
               ap (λ o. option_or o (first_some (missing_of left) (xs ++ n ∷ []))) both.0 ∙ joined xs both.1
 
-  pub kept_order : KeepsOrder plan left
-  kept_order = record {
+  -- ---- deciders
+
+  abbrev home_links : List Flow → Option ℕ → List Connection
+  home_links flows o = (unwrap_or (option_and_then (find_flow flows) o) no_flow).place.links
+
+  links_told : (o p : Option Flow) → BothCarried (fl test head items) (at test head items) o p → connections_in p ≡ connections_in o
+  links_told None None both = refl
+  links_told None (Some f) both = absurd both
+  links_told (Some f) None both = absurd both
+  links_told (Some f) (Some f') both = ap (λ (p : FlowPlace). p.links) both.place
+
+  root_atom : (a : ℕ) → last_flow (way_at (part test head items) a) ≡ Some 0 → is_task left a ≡ true → IsRootTaskIn (slice_get (part test head items) a)
+  root_atom a ends tasked = by_atom (slice_get (part test head items) a) ends tasked
+    where
+      by_atom : (o : Option Atom) → last_flow (option_map_or way_of o []) ≡ Some 0 → option_map_or is_task_part (option_map part_of o) false ≡ true → IsRootTaskIn o
+      by_atom None ends tasked = absurd (cc)
+      by_atom (Some x) ends tasked = record { ends = ends; tasked = tasked }
+
+  atom_named : (a : ℕ) → atom_name left a ≡ name_in_part (slice_get (part test head items) a)
+  atom_named a = by_atom (slice_get (part test head items) a)
+    where
+      by_atom : (o : Option Atom) → option_map_or name_of (option_map part_of o) [] ≡ name_in_part o
+      by_atom None = refl
+      by_atom (Some x) = refl
+
+  name_same : (a : ℕ) → atom_name plan (at test head items a) ≡ atom_name left a
+  name_same a = ap (λ (o : Option Part). option_map_or name_of o []) (part_same a)
+
+  links_at : first_some (stray_end (names_among items)) head.links ≡ None → (a : ℕ) → is_task left a ≡ true → (o : Option ℕ) → last_flow (way_at (part test head items) a) ≡ o
+      → filter (decides_on (atom_name left a)) (home_links left.flows o) ≡ filter (decides_on (atom_name left a)) (home_links plan.flows (option_map (fl test head items) o))
+  links_at known a tasked None is = refl
+  links_at known a tasked (Some zero) is =
+      let found = root_task test head items graph closed_root clear_root a (root_atom a is tasked) in
+      root_deciders test head items graph closed_root clear_root known found.0 (atom_name left a) found.1 (atom_named a ∙ found.2)
+      ∙ sym (ap (λ (g : ℕ). filter (decides_on (atom_name left a)) (home_links plan.flows (Some g))) ((carried test head items).root))
+  links_at known a tasked (Some (suc g)) is =
+      ap (filter (decides_on (atom_name left a)))
+      (ap (λ b. connections_in (if b then Some (arrange (part test head items) (inner test head items) (root_part test head items)) else find_flow (inner test head items) (suc g))) (apart_root (suc g) (omega arith))
+      ∙ (sym (links_told (find_flow (inner test head items) (suc g)) (find_flow (all test head items) (fl test head items (suc g))) ((nested test head items).each (suc g)))
+      ∙ sym (ap (λ b. connections_in (if b then Some (arrange (whole test head items) (all test head items) (root test head items)) else find_flow (all test head items) (fl test head items (suc g)))) (apart_root (fl test head items (suc g)) ((carried test head items).nested (suc g) (omega arith))))))
+    where
+      apart_root : (h : ℕ) → 0 < h → nat_eq 0 h ≡ false
+      apart_root h some = never_true (nat_eq 0 h) (λ is. absurd (omega (arith, some, eqb-true 0 h is)))
+
+  deciders_same : first_some (stray_end (names_among items)) head.links ≡ None → (a : ℕ) → is_task left a ≡ true → decider_links left a ≡ decider_links plan (at test head items a)
+  deciders_same known a tasked =
+      links_at known a tasked (last_flow (way_at (part test head items) a)) refl
+      ∙ sym (ap2 (λ (name : List ℕ) (o : Option ℕ). filter (decides_on name) (home_links plan.flows o)) (name_same a)
+      (ap last_flow (way_carried (fl test head items) (at test head items) (it test head items) (part test head items) (whole test head items) (carried test head items) a) ∙ last_moved (fl test head items) (it test head items) (way_at (part test head items) a)))
+
+  pub kept_order : first_some (stray_end (names_among items)) head.links ≡ None → KeepsOrder plan left
+  kept_order known = record {
     item = it test head items;
     atom = at test head items;
     names = λ u below. item_named_so test head items u below;
@@ -211,20 +275,21 @@ module _ (head : Head) (items : Trees) (store : List Bind) (defer : Bool) (item 
     parts = λ a. sym (part_carried (fl test head items) (at test head items) (it test head items) (part test head items) (whole test head items) (carried test head items) a);
     before = before_kept;
     scopes = members_kept;
+    deciders = deciders_same known;
   }
 
 -- ---- of a tree, and of a plan
 
 abbrev IsGraphTree : Tree → Type 0
 IsGraphTree (task t) = ⊥
-IsGraphTree (flow head items) = is_graph head.kind ≡ true
+IsGraphTree (flow head items) = (is_graph head.kind ≡ true) × (first_some (stray_end (names_among items)) head.links ≡ None)
 
 tree_laws : (t : Tree) (store : List Bind) (defer : Bool) (item : ℕ) → IsGraphTree t → tree_refusal t (outline_of_tree t store defer) ≡ None
     → (tree_refusal (kept_tree (keeps_item t store defer item) t) (outline_of_tree (kept_tree (keeps_item t store defer item) t) store defer) ≡ None)
     × KeepsOrder (outline_of_tree t store defer) (outline_of_tree (kept_tree (keeps_item t store defer item) t) store defer)
     × (missing_symbol (outline_of_tree t store defer) ≡ None → missing_symbol (outline_of_tree (kept_tree (keeps_item t store defer item) t) store defer) ≡ None)
 tree_laws (task t) store defer item graph none = absurd graph
-tree_laws (flow head items) store defer item graph none = (kept_compiles head items store defer item graph none, kept_order head items store defer item graph none, kept_complete head items store defer item graph none)
+tree_laws (flow head items) store defer item graph none = (kept_compiles head items store defer item graph.0 none, kept_order head items store defer item graph.0 none graph.1, kept_complete head items store defer item graph.0 none)
 
 -- plans whose roots are written alike have one outline
 outline_alike : (a b : Tree) (store store' : List Bind) (defer defer' : Bool) → as_written a ≡ as_written b → store ≡ store' → defer ≡ defer' → outline_of_tree a store defer ≡ outline_of_tree b store' defer'
@@ -234,13 +299,13 @@ outline_alike a b store store' defer defer' same stored deferred =
     ∙ (ap (λ (values : List Bind). outline_with (atoms_of 0 b) (flows_of 0 0 b) values defer) stored
     ∙ ap (λ (x : Bool). outline_with (atoms_of 0 b) (flows_of 0 0 b) store' x) deferred))
 
-graph_tree : (f : FlowValue) → is_graph f.kind ≡ true → IsGraphTree (tree_of f)
-graph_tree f graph = subst IsGraphTree (sym (tree_of-flow f)) graph
+graph_tree : (f : FlowValue) (store : List Bind) → is_graph f.kind ≡ true → first_refusal f store ≡ None → IsGraphTree (tree_of f)
+graph_tree f store graph accepted = subst IsGraphTree (sym (tree_of-flow f)) (graph, root_known f store accepted)
 
-module _ (plan kept : PlanValue) (name : List ℕ) (graph : is_graph plan.root.kind ≡ true) (compiles : compile_refusal plan ≡ None) (is : IsTargetOf plan name kept) where
+module _ (plan kept : PlanValue) (name : List ℕ) (graph : is_graph plan.root.kind ≡ true) (accepted : first_refusal plan.root plan.store ≡ None) (compiles : compile_refusal plan ≡ None) (is : IsTargetOf plan name kept) where
   laws : (tree_refusal (target_tree plan is.item) (outline_of_tree (target_tree plan is.item) plan.store plan.defer) ≡ None) × KeepsOrder (outline_of plan) (outline_of_tree (target_tree plan is.item) plan.store plan.defer)
       × (missing_symbol (outline_of plan) ≡ None → missing_symbol (outline_of_tree (target_tree plan is.item) plan.store plan.defer) ≡ None)
-  laws = tree_laws (tree_of plan.root) plan.store plan.defer is.item (graph_tree plan.root graph) compiles
+  laws = tree_laws (tree_of plan.root) plan.store plan.defer is.item (graph_tree plan.root plan.store graph accepted) compiles
 
   same_outline : outline_of kept ≡ outline_of_tree (target_tree plan is.item) plan.store plan.defer
   same_outline = outline_alike (tree_of kept.root) (target_tree plan is.item) kept.store plan.store kept.defer plan.defer is.root is.store is.defer

@@ -13,5 +13,6 @@ pub mod NestedLemmas
 pub mod StandingPartLemmas
 pub mod RootLemmas
 pub mod MemberLemmas
+pub mod DeciderLemmas
 pub mod JoinLemmas
 pub mod LawLemmas

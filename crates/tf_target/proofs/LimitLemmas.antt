@@ -342,3 +342,16 @@ kept_refused f made test store graph none same =
     ∙ (ap (λ (t : Tree). tree_fault f.name (kept_tree test t) store) parts
     ∙ (kept_fault test (head_of f) (trees_of (map item_tree f.items.items.items)) store graph (ap (λ (t : Tree). tree_fault f.name t store) (sym parts) ∙ none)
     ∙ ap (λ (t : Tree). empty_if (atom_count (kept_tree test t))) (sym parts))))
+
+-- each end of a link of a plan's root names one of its items
+pub root_known : (f : Flow) (store : List Bind) → first_refusal f store ≡ None → first_some (stray_end (names_among (trees_of (map item_tree f.items.items.items)))) f.links ≡ None
+root_known f store none =
+    let items : Trees = trees_of (map item_tree f.items.items.items) in
+    let level : Level = level_of (head_of f) items in
+    let order : List Place = retry_places f.retry ++ places_among items in
+    let whole : tree_fault f.name (flow (head_of f) items) store ≡ None = ap (λ (t : Tree). tree_fault f.name t store) (sym (tree_of-flow f)) ∙ none in
+    let rules = (neither_there (too_large (capped (nesting (flow (head_of f) items))) (at_flow level ∷ order) store) (broken_rule f.name store (at_flow level ∷ order)) whole).1 in
+    let after_empty = (neither_there (empty (at_flow level ∷ order)) (option_or (duplicate (at_flow level ∷ order)) (option_or (unknown (at_flow level ∷ order)) (option_or (bad_link (at_flow level ∷ order)) (bad_atom f.name store (at_flow level ∷ order))))) rules).1 in
+    let after_names = (neither_there (duplicate (at_flow level ∷ order)) (option_or (unknown (at_flow level ∷ order)) (option_or (bad_link (at_flow level ∷ order)) (bad_atom f.name store (at_flow level ∷ order)))) after_empty).1 in
+    let ends = (neither_there (unknown (at_flow level ∷ order)) (option_or (bad_link (at_flow level ∷ order)) (bad_atom f.name store (at_flow level ∷ order))) after_names).0 in
+    (neither_there (unknown_at (at_flow level)) (first_some unknown_at order) (none_mapped (λ n. fault.Unknown n) (first_some unknown_at (at_flow level ∷ order)) ends)).0

@@ -131,11 +131,11 @@ mutual
 
 -- ---- the flows of a tree are numbered from one number on
 
-abbrev Between : ℕ → ℕ → List Turn → Type 0
+abbrev pub Between : ℕ → ℕ → List Turn → Type 0
 Between low high [] = Unit {0}
 Between low high (x ∷ xs) = (low ≤ x.flow) × (x.flow < high) × Between low high xs
 
-abbrev AllBetween : ℕ → ℕ → List Atom → Type 0
+abbrev pub AllBetween : ℕ → ℕ → List Atom → Type 0
 AllBetween low high [] = Unit {0}
 AllBetween low high (x ∷ xs) = Between low high x.way × AllBetween low high xs
 

@@ -196,7 +196,7 @@ module _ (fl at it : ℕ → ℕ) (part whole : List Atom) (c : Carried fl at it
   linked_part = ap (λ x. if x then pairs_below few (is_linked part inner r') else []) b.graph'
 
   -- what is linked to an item that is kept is kept
-  linked_kept : (u v : ℕ) → u < many → v < few → is_linked whole all r u (it v) ≡ true → Image it few u
+  pub linked_kept : (u v : ℕ) → u < many → v < few → is_linked whole all r u (it v) ≡ true → Image it few u
   linked_kept u v below less is =
       b.found u below (b.closed u (it v) (ap (λ (pairs : List Pair). has_pair pairs u (it v)) linked_root ∙ passes_pair many (is_linked whole all r) u (it v) below (b.within v less) is) (b.keeps v less))
 

@@ -32,7 +32,7 @@ returns-in-Ok-clause-order c =
     root_kept c.args.plan.now c.root-3.result.now c.in_ok-root.root c.in_ok-marks.marks.items c.deref.result.now c.in-Some.item c.root-3.ensures.value c.deref.ensures.value c.in_ok-marks.ensures c.in_ok-root.ensures in
     let yes : c.is_graph.result ≡ true = grind (arith, c.if-not-is_graph.false) in
     let graph : is_graph c.args.plan.now.root.kind ≡ true = ap (λ (f : Flow). is_graph f.kind) (sym c.root.ensures.value) ∙ (sym c.is_graph.ensures ∙ yes) in
-    target_order c.args.plan.now c.in-Ok.kept c.args.name.now graph c.requires.compiles
+    target_order c.args.plan.now c.in-Ok.kept c.args.name.now graph c.root.ensures.accepted c.requires.compiles
     (target_is c.args.plan.now c.in-Ok.kept c.args.name.now c.in-Some.item c.in_ok-root.root c.in_ok-store.store c.defer.result named c.in-Ok.ensures.given written (c.in_ok-store.ensures ∙ c.store.ensures.value) c.defer.ensures)
 
 pub returns-in-Ok-clause-compiled : goal.returns-in-Ok-clause-compiled
@@ -43,7 +43,7 @@ returns-in-Ok-clause-compiled c =
     root_kept c.args.plan.now c.root-3.result.now c.in_ok-root.root c.in_ok-marks.marks.items c.deref.result.now c.in-Some.item c.root-3.ensures.value c.deref.ensures.value c.in_ok-marks.ensures c.in_ok-root.ensures in
     let yes : c.is_graph.result ≡ true = grind (arith, c.if-not-is_graph.false) in
     let graph : is_graph c.args.plan.now.root.kind ≡ true = ap (λ (f : Flow). is_graph f.kind) (sym c.root.ensures.value) ∙ (sym c.is_graph.ensures ∙ yes) in
-    target_compiles c.args.plan.now c.in-Ok.kept c.args.name.now graph c.requires.compiles
+    target_compiles c.args.plan.now c.in-Ok.kept c.args.name.now graph c.root.ensures.accepted c.requires.compiles
     (target_is c.args.plan.now c.in-Ok.kept c.args.name.now c.in-Some.item c.in_ok-root.root c.in_ok-store.store c.defer.result named c.in-Ok.ensures.given written (c.in_ok-store.ensures ∙ c.store.ensures.value) c.defer.ensures)
 
 pub returns-in-Ok-clause-provided : goal.returns-in-Ok-clause-provided
@@ -54,7 +54,7 @@ returns-in-Ok-clause-provided c =
     root_kept c.args.plan.now c.root-3.result.now c.in_ok-root.root c.in_ok-marks.marks.items c.deref.result.now c.in-Some.item c.root-3.ensures.value c.deref.ensures.value c.in_ok-marks.ensures c.in_ok-root.ensures in
     let yes : c.is_graph.result ≡ true = grind (arith, c.if-not-is_graph.false) in
     let graph : is_graph c.args.plan.now.root.kind ≡ true = ap (λ (f : Flow). is_graph f.kind) (sym c.root.ensures.value) ∙ (sym c.is_graph.ensures ∙ yes) in
-    target_complete c.args.plan.now c.in-Ok.kept c.args.name.now graph c.requires.compiles
+    target_complete c.args.plan.now c.in-Ok.kept c.args.name.now graph c.root.ensures.accepted c.requires.compiles
     (target_is c.args.plan.now c.in-Ok.kept c.args.name.now c.in-Some.item c.in_ok-root.root c.in_ok-store.store c.defer.result named c.in-Ok.ensures.given written (c.in_ok-store.ensures ∙ c.store.ensures.value) c.defer.ensures) c.requires.complete
 
 pub returns-in-Ok-clause-accepted : goal.returns-in-Ok-clause-accepted
