@@ -1,0 +1,5 @@
+pub mod WordLemmas
+pub mod NumberLemmas
+pub mod NameLemmas
+pub mod EventLemmas
+pub mod LineLemmas
