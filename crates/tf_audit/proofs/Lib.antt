@@ -3,3 +3,5 @@ pub mod NumberLemmas
 pub mod NameLemmas
 pub mod EventLemmas
 pub mod LineLemmas
+pub mod LogLemmas
+pub mod OutcomeLemmas

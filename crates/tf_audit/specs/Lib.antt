@@ -2,3 +2,5 @@ pub mod Words
 pub mod Events
 pub mod Names
 pub mod Reading
+pub mod LogLines
+pub mod Outcomes

@@ -1,16 +1,21 @@
-//! Audits of logs: whether the text that a run said is that of a legal run, or which line of it is the first that can't
-//! be, and what should have stood there.
+//! Audits of logs: which entry of a plan each line says, and whether an end of a task carries an outcome that the task's
+//! order may have.
 #![tactic(auto)]
 
 mod entries;
+mod equality;
 mod failures;
 mod limits;
+mod lines;
 mod names;
 mod numbers;
+mod outcomes;
 mod payloads;
 mod state_words;
 mod values;
 mod words;
 
 pub use entries::{Numbered, read_line};
+pub use lines::{first_line, is_passed_over};
 pub use names::{flow_index, names_are_names};
+pub use outcomes::allows;
