@@ -5,3 +5,4 @@ pub mod EventLemmas
 pub mod LineLemmas
 pub mod LogLemmas
 pub mod OutcomeLemmas
+pub mod EndLemmas

@@ -4,3 +4,5 @@ pub mod Names
 pub mod Reading
 pub mod LogLines
 pub mod Outcomes
+pub mod Starts
+pub mod Kept

@@ -2,6 +2,7 @@
 //! order may have.
 #![tactic(auto)]
 
+mod ends;
 mod entries;
 mod equality;
 mod failures;
@@ -11,11 +12,14 @@ mod names;
 mod numbers;
 mod outcomes;
 mod payloads;
+mod starts;
 mod state_words;
 mod values;
 mod words;
 
+pub use ends::fits;
 pub use entries::{Numbered, read_line};
 pub use lines::{first_line, is_passed_over};
 pub use names::{flow_index, names_are_names};
 pub use outcomes::allows;
+pub use starts::order_asked;
