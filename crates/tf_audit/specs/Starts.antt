@@ -14,7 +14,7 @@ pub record TakesNone (plan : Outline) (w : What) : Type 0 where
   pub none : (a : ℕ) → is_task plan a ≡ true → takes_up w a ≡ false
 
 -- it takes task a up, with the order of this moment
-pub record TakesUp (plan : Outline) (s : Snapshot) (w : What) (a : ℕ) (order : Order) : Type 0 where
+pub record IsTakenUp (plan : Outline) (s : Snapshot) (w : What) (a : ℕ) (order : Order) : Type 0 where
   pub task : is_task plan a ≡ true
   pub taken : takes_up w a ≡ true
   pub asked : order_of plan s a (asked_in (state_after w a (s.state a))) ≡ Some order

@@ -2,7 +2,7 @@ ghost use Rattle.std.specs.Prelude.{◌≡◌, None, true, false, IfOk, IfSome};
 ghost use Rattle.tf_model.specs.Plan.{is_task as is_task_of};
 ghost use Rattle.tf_hands.specs.Hands.{asked_in as action_at};
 ghost use Rattle.tf_machine.specs.Machine.{outline, shown};
-ghost use Rattle.tf_audit.specs.Starts.{TakesNone, TakesUp, StartsSo};
+ghost use Rattle.tf_audit.specs.Starts.{TakesNone, IsTakenUp, StartsSo};
 
 use std::alloc::Global;
 use tf_actions::{Action, Order};
@@ -17,7 +17,8 @@ pub fn order_asked(
     what: &What,
 ) -> Result<Option<(u16, Order)>, Memory>
     ensures none { IfOk result (λ asked. asked ≡ None → TakesNone (outline machine.now) what.now) }
-    ensures some { IfOk result (λ asked. IfSome asked (λ p. TakesUp (outline machine.now) (shown machine.now) what.now p.0 p.1)) }
+    ensures some { IfOk result (λ asked. IfSome asked (λ p.
+        IsTakenUp (outline machine.now) (shown machine.now) what.now p.0 p.1)) }
 {
     match start_of(machine, what) {
         Some(start) => {
