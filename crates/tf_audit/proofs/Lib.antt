@@ -6,3 +6,5 @@ pub mod LineLemmas
 pub mod LogLemmas
 pub mod OutcomeLemmas
 pub mod EndLemmas
+pub mod FeedLemmas
+pub mod LawLemmas

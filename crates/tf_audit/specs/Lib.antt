@@ -4,5 +4,6 @@ pub mod Names
 pub mod Reading
 pub mod LogLines
 pub mod Outcomes
+pub mod Verdicts
 pub mod Starts
 pub mod Kept
