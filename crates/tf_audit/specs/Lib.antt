@@ -1,0 +1,9 @@
+pub mod Words
+pub mod Events
+pub mod Names
+pub mod Reading
+pub mod LogLines
+pub mod Outcomes
+pub mod Verdicts
+pub mod Starts
+pub mod Kept

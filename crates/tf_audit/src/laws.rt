@@ -1,0 +1,26 @@
+//! What verdicts promise, whatever the histories are.
+
+ghost use Rattle.std.specs.Prelude.{◌<◌, ◌^◌, ◌++◌, List, length};
+ghost use Rattle.std.specs.List.{AllByRecursion};
+ghost use Rattle.tf_states.specs.declared.record.Entry.{Entry};
+ghost use Rattle.tf_actions.specs.Far.{GivesFar};
+ghost use Rattle.tf_model.specs.History.{snapshot, flow_of};
+ghost use Rattle.tf_model.specs.Orders.{HasOutcomes};
+ghost use Rattle.tf_model.specs.Plan.{Outline};
+ghost use Rattle.tf_model.specs.Steps.{LegalPast};
+ghost use Rattle.tf_report.specs.Lines.{lines};
+ghost use Rattle.tf_report.specs.Table.{table};
+ghost use Rattle.tf_audit.specs.declared.verdicts.Verdict.TheVariants as verdict;
+ghost use Rattle.tf_audit.specs.Names.{AreNamed};
+ghost use Rattle.tf_audit.specs.Reading.{IsPlanEntry};
+ghost use Rattle.tf_audit.specs.Verdicts.{IsVerdict};
+
+/// The text that is shown of a legal history, its lines and its table, is that of a legal log where each end in it is one
+/// that its order allows.
+#[tactic(auto, using(crate::proofs::LawLemmas::shown_legal))]
+pub fn shown_histories_are_legal_logs()
+    ensures { (plan : Outline) (past : List Entry) → AreNamed plan → length past < 2 ^ 64
+        → AllByRecursion (IsPlanEntry plan) past → LegalPast plan past → HasOutcomes GivesFar plan past
+        → IsVerdict plan (lines plan past ++ table plan (snapshot plan past))
+        (verdict.Legal (length past) (flow_of past)) }
+{}
