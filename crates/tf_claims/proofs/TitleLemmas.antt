@@ -38,6 +38,11 @@ jobs_apart : (rest : List ℕ) → title_fault (title_of book_title) rest 1 ≡ 
 jobs_apart rest none =
     other_title (84 ∷ 65 ∷ 83 ∷ 75 ∷ 70 ∷ 76 ∷ 79 ∷ 87 ∷ 32 ∷ []) 66 74 (79 ∷ 79 ∷ 75 ∷ 32 ∷ 49 ∷ 10 ∷ []) (79 ∷ 66 ∷ 83 ∷ 32 ∷ 49 ∷ 10 ∷ []) rest 1 refl none
 
+-- and the other way round
+book_apart : (rest : List ℕ) → title_fault (title_of jobs_title) rest 1 ≡ None → (fault : ℕ × Option ℕ) × (title_fault (title_of book_title) rest 1 ≡ Some fault)
+book_apart rest none =
+    other_title (84 ∷ 65 ∷ 83 ∷ 75 ∷ 70 ∷ 76 ∷ 79 ∷ 87 ∷ 32 ∷ []) 74 66 (79 ∷ 66 ∷ 83 ∷ 32 ∷ 49 ∷ 10 ∷ []) (79 ∷ 79 ∷ 75 ∷ 32 ∷ 49 ∷ 10 ∷ []) rest 1 refl none
+
 -- a list with a first has a length above 0
 never_none : (byte : ℕ) (rest : List ℕ) → nat_eq (length (byte ∷ rest)) 0 ≡ false
 never_none byte rest = ⊎_elim (λ none. absurd (omega (arith, none.1))) (λ some. some.0) (eqb_tells (length (byte ∷ rest)) 0)
@@ -55,43 +60,47 @@ titled_so : (title : List ℕ) (gate : ℕ) (rest : List ℕ) → is_unborn titl
     → recovered title (gate ∷ rest) ≡ titled (title_fault title rest 1) (records_from (length (gate ∷ rest)) (gate ∷ rest) 17)
 titled_so title gate rest born opened = rw (born, opened) refl
 
--- a file that is a book's journal is no board's
-pub no_board_too : (bytes : List ℕ) (held : List (List ℕ)) → recovered (title_of book_title) bytes ≡ bodies held
-    → (offset : ℕ) × (byte : Option ℕ) × (recovered (title_of jobs_title) bytes ≡ not_a_book offset byte)
-no_board_too [] held is = absurd (cc)
-no_board_too (gate ∷ rest) held is = by (is_unborn (title_of book_title) (gate ∷ rest)) (gate == OPEN) refl refl
+-- a file that is a journal of one title is none of a title that disagrees with it
+no_other : (one other : List ℕ) → ((rest : List ℕ) → title_fault one rest 1 ≡ None → (fault : ℕ × Option ℕ) × (title_fault other rest 1 ≡ Some fault))
+    → (title_fault one [] 1 ≡ None → ⊥) → (bytes : List ℕ) (held : List (List ℕ)) → recovered one bytes ≡ bodies held
+    → (offset : ℕ) × (byte : Option ℕ) × (recovered other bytes ≡ not_a_book offset byte)
+no_other one other apart long [] held is = absurd (cc)
+no_other one other apart long (gate ∷ rest) held is = by (is_unborn one (gate ∷ rest)) (gate == OPEN) refl refl
   where
-    book : List ℕ
-    book = title_of book_title
-
-    jobs : List ℕ
-    jobs = title_of jobs_title
-
     all : List ℕ
     all = gate ∷ rest
 
     here : Recovered
     here = records_from (length all) all 17
 
-    found : (fault : Option (ℕ × Option ℕ)) → title_fault book rest 1 ≡ fault → titled fault here ≡ bodies held → fault ≡ None
+    found : (fault : Option (ℕ × Option ℕ)) → title_fault one rest 1 ≡ fault → titled fault here ≡ bodies held → fault ≡ None
     found None told is_so = refl
     found (Some fault) told is_so = absurd (cc)
 
-    never_unborn : (gate == OPEN) ≡ true → title_fault book rest 1 ≡ None → is_unborn jobs all ≡ false
+    never_unborn : (gate == OPEN) ≡ true → title_fault one rest 1 ≡ None → is_unborn other all ≡ false
     never_unborn opened none = some rest none
       where
         gate_is : gate ≡ OPEN
         gate_is = eqb-true gate OPEN opened
 
-        some : (r : List ℕ) → title_fault book r 1 ≡ None → is_unborn jobs (gate ∷ r) ≡ false
-        some [] told = absurd (cc)
+        some : (r : List ℕ) → title_fault one r 1 ≡ None → is_unborn other (gate ∷ r) ≡ false
+        some [] told = absurd (long told)
         some (byte ∷ r) told = rw gate_is (neither (nat_eq (length (byte ∷ r)) 0) _ _ (never_none byte r))
 
-    by : (u o : Bool) → is_unborn book all ≡ u → (gate == OPEN) ≡ o → (offset : ℕ) × (byte : Option ℕ) × (recovered jobs all ≡ not_a_book offset byte)
-    by true o unborn_is opened = let none : recovered book all ≡ unborn = rw unborn_is refl in absurd (cc)
+    by : (u o : Bool) → is_unborn one all ≡ u → (gate == OPEN) ≡ o → (offset : ℕ) × (byte : Option ℕ) × (recovered other all ≡ not_a_book offset byte)
+    by true o unborn_is opened = let none : recovered one all ≡ unborn = rw unborn_is refl in absurd (cc)
     by false false unborn_is opened =
-        let none : recovered book all ≡ not_a_book 0 (Some gate) = rw (unborn_is, opened) refl in absurd (cc)
+        let none : recovered one all ≡ not_a_book 0 (Some gate) = rw (unborn_is, opened) refl in absurd (cc)
     by false true unborn_is opened =
-        let told = found (title_fault book rest 1) refl (sym (titled_so book gate rest unborn_is opened) ∙ is) in
-        let apart = jobs_apart rest told in
-        (apart.0.0, apart.0.1, titled_so jobs gate rest (never_unborn opened told) opened ∙ ap (λ (f : Option (ℕ × Option ℕ)). titled f here) apart.1)
+        let told = found (title_fault one rest 1) refl (sym (titled_so one gate rest unborn_is opened) ∙ is) in
+        let other_is = apart rest told in
+        (other_is.0.0, other_is.0.1, titled_so other gate rest (never_unborn opened told) opened ∙ ap (λ (f : Option (ℕ × Option ℕ)). titled f here) other_is.1)
+
+-- a file that is a book's journal is no board's, and the other way round
+pub no_board_too : (bytes : List ℕ) (held : List (List ℕ)) → recovered (title_of book_title) bytes ≡ bodies held
+    → (offset : ℕ) × (byte : Option ℕ) × (recovered (title_of jobs_title) bytes ≡ not_a_book offset byte)
+no_board_too bytes held is = no_other (title_of book_title) (title_of jobs_title) jobs_apart (λ none. absurd (cc)) bytes held is
+
+pub no_book_too : (bytes : List ℕ) (held : List (List ℕ)) → recovered (title_of jobs_title) bytes ≡ bodies held
+    → (offset : ℕ) × (byte : Option ℕ) × (recovered (title_of book_title) bytes ≡ not_a_book offset byte)
+no_book_too bytes held is = no_other (title_of jobs_title) (title_of book_title) book_apart (λ none. absurd (cc)) bytes held is

@@ -1,12 +1,14 @@
 //! The laws of a life.
 
-ghost use Rattle.std.specs.Prelude.{◌≡◌, ◌++◌, false, ℕ, List, Option, Some, None};
+ghost use Rattle.std.specs.Prelude.{◌≡◌, ◌∷◌, ◌++◌, false, ℕ, List, Option, Some, None};
 ghost use Rattle.tf_desk.specs.Counts.{Rises};
 ghost use Rattle.tf_flow.specs.Plan.{PlanValue};
 ghost use Rattle.tf_states.specs.declared.record.Entry.{Entry};
 ghost use Rattle.tf_ports.specs.declared.crews.Want.{Want as AWant};
 ghost use Rattle.tf_journal.specs.Format.{Recovered};
 ghost use Rattle.tf_journal.specs.Start.{file_of};
+ghost use Rattle.tf_board.specs.Board.{board_in, Holds};
+ghost use Rattle.tf_board.specs.declared.commands.Command.{Command};
 ghost use Rattle.tf_book.specs.Loading.{IsNoBook};
 ghost use Rattle.tf_words.specs.declared.asked.Asked.TheVariants.{Resume};
 ghost use Rattle.tf_commands.specs.Asking.{asked_for};
@@ -25,6 +27,15 @@ pub fn history_only_grows<K: Desk, W: Crew>()
     ensures { (name first last : List ℕ) → Life K.state W.Hand.gives name first last
         → (plan : PlanValue) (past : List Entry) → HoldsHistory plan past (book_in first)
         → (entries : List Entry) × HoldsHistory plan (entries ++ past) (book_in last) }
+{}
+
+/// What a board's file holds at any later point of its life begins with what it held before: the same commands, with those
+/// that were added since, each behind them. So a job that was posted stays posted, and what its owners did stays done. It is
+/// said of a board with a command; a board without one may be left as a file that isn't made yet.
+pub fn boards_only_grow<K: Desk, W: Crew>()
+    ensures { (name first last : List ℕ) → Life K.state W.Hand.gives name first last
+        → (one : Command) (past : List Command) → Holds (one ∷ past) (board_in first)
+        → (added : List Command) × Holds (added ++ (one ∷ past)) (board_in last) }
 {}
 
 /// What a call showed of its entries is never lost: at any later point of the file's life it is told by the history that

@@ -6,5 +6,6 @@
 mod laws;
 
 pub use laws::{
-    ends_as_stated, histories_are_not_refused, history_only_grows, nothing_shown_is_lost,
+    boards_only_grow, ends_as_stated, histories_are_not_refused, history_only_grows,
+    nothing_shown_is_lost,
 };
