@@ -6,3 +6,4 @@ pub mod StepLemmas
 pub mod LifeLemmas
 pub mod ShownLemmas
 pub mod EndLemmas
+pub mod DoneLemmas

@@ -1,5 +1,6 @@
 -- A life of a file: calls of the program, one after another, each from what the one before it left.
 use Rattle.std.specs.Prelude.{◌≡◌, ◌⊎◌, ℕ, Bool, true, IsTrue, List, [], ◌++◌, Option, Some}
+use Rattle.tf_desk.specs.Shown.{shown_with}
 use Rattle.tf_desk.specs.State.{DeskState}
 use Rattle.tf_flow.specs.Plan.{PlanValue}
 use Rattle.tf_states.specs.declared.record.Entry.{Entry}
@@ -13,7 +14,10 @@ use Rattle.tf_model.specs.Plan.{outline_of}
 use Rattle.tf_model.specs.Sessions.{has_ended}
 use Rattle.tf_words.specs.declared.asked.Asked.{Asked}
 use Rattle.tf_words.specs.declared.asked.Asked.TheVariants as asked
-use Rattle.tf_board.specs.Answers.{board_of}
+use Rattle.tf_board.specs.Answers.{board_of, answer_of}
+use Rattle.tf_board.specs.Board.{board_in, Holds}
+use Rattle.tf_board.specs.Jobs.{LegalJobs}
+use Rattle.tf_board.specs.declared.commands.Command.{Command}
 use Rattle.tf_commands.specs.Asking.{asked_for}
 use Rattle.tf_commands.specs.Causes.{WasAsked}
 use Rattle.tf_commands.specs.Course.{Course, MayBeDone, IsComplete}
@@ -85,3 +89,11 @@ pub data EndsAsStated (plan : PlanValue) (past : List Entry) (file : List ℕ) :
   filled : EndsAsStated plan past file FULL
   ended : (last : FlowState) (entries : List Entry) → HoldsHistory plan (entries ++ past) (book_in file) → has_ended last ≡ true
       → HasReached (outline_of plan) (entries ++ past) last → EndsAsStated plan past file (stop_status last)
+
+-- a command on a board was done, and said so: it said what it comes to on legal commands, and the file has these, with what was added by it
+-- behind them and perhaps more behind that; where it added nothing, nothing is said of the file
+pub record IsDone (command : Asked) (entry now : DeskState) (file : List ℕ) : Type 0 where
+  pub past : List Command
+  pub legal : LegalJobs past
+  pub said : now.shown ≡ shown_with entry.shown (answer_of command past).text
+  pub stands : ((answer_of command past).added ≡ []) ⊎ ((newer : List Command) × Holds (newer ++ ((answer_of command past).added ++ past)) (board_in file))

@@ -8,15 +8,17 @@ ghost use Rattle.tf_ports.specs.declared.crews.Want.{Want as AWant};
 ghost use Rattle.tf_journal.specs.Format.{Recovered};
 ghost use Rattle.tf_journal.specs.Start.{file_of};
 ghost use Rattle.tf_board.specs.Board.{board_in, Holds};
+ghost use Rattle.tf_board.specs.Does.{Does};
 ghost use Rattle.tf_board.specs.declared.commands.Command.{Command};
 ghost use Rattle.tf_book.specs.Loading.{IsNoBook};
+ghost use Rattle.tf_words.specs.declared.asked.Asked.{Asked};
 ghost use Rattle.tf_words.specs.declared.asked.Asked.TheVariants.{Resume};
 ghost use Rattle.tf_commands.specs.Asking.{asked_for};
 ghost use Rattle.tf_commands.specs.Books.{Promised, PutsBack};
 ghost use Rattle.tf_commands.specs.Causes.{WasAsked};
 ghost use Rattle.tf_commands.specs.declared.running.Request.{Request};
 ghost use Rattle.tf_commands.specs.Durable.{book_in, book_at, HoldsHistory};
-ghost use Rattle.tf_claims.specs.Life.{Call, IsUnfailing, Shown, Life, IsToldBy, EndsAsStated};
+ghost use Rattle.tf_claims.specs.Life.{Call, IsUnfailing, Shown, Life, IsToldBy, EndsAsStated, IsDone};
 
 use tf_desk::Desk;
 use tf_ports::Crew;
@@ -36,6 +38,15 @@ pub fn boards_only_grow<K: Desk, W: Crew>()
     ensures { (name first last : List ℕ) → Life K.state W.Hand.gives name first last
         → (one : Command) (past : List Command) → Holds (one ∷ past) (board_in first)
         → (added : List Command) × Holds (added ++ (one ∷ past)) (board_in last) }
+{}
+
+/// What was done on a board stands. A command on it that ended with status 0 said what it comes to on the commands that
+/// the board had; and these, with what it added behind them, are in the file at any later point of its life.
+pub fn what_was_done_stands<K: Desk, W: Crew>()
+    ensures { (name last : List ℕ) (call : Call K.state W.Hand.gives) (command : Asked) → call.status ≡ 0
+        → Life K.state W.Hand.gives name (file_of (K.state call.now) name) last
+        → Does command name (K.state call.entry) (K.state call.now) call.status
+        → IsDone command (K.state call.entry) (K.state call.now) last }
 {}
 
 /// What a call showed of its entries is never lost: at any later point of the file's life it is told by the history that

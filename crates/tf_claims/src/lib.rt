@@ -7,5 +7,5 @@ mod laws;
 
 pub use laws::{
     boards_only_grow, ends_as_stated, histories_are_not_refused, history_only_grows,
-    nothing_shown_is_lost,
+    nothing_shown_is_lost, what_was_done_stands,
 };
