@@ -134,7 +134,14 @@ fn open_file<R: Files<File = File>>(runtime: &R, path: &str) -> io::Result<File>
     match how.open(runtime, path) {
         Err(error) if error.kind() == ErrorKind::NotFound => {
             how.create_new(true);
-            let file = how.open(runtime, path)?;
+            let file = match how.open(runtime, path) {
+                // Another program made it meanwhile.
+                Err(error) if error.kind() == ErrorKind::AlreadyExists => {
+                    how.create_new(false);
+                    how.open(runtime, path)?
+                }
+                made => made?,
+            };
             sync_folder(runtime, path)?;
             Ok(file)
         }
