@@ -40,8 +40,9 @@ pub fn boards_only_grow<K: Desk, W: Crew>()
         → (added : List Command) × Holds (added ++ (one ∷ past)) (board_in last) }
 {}
 
-/// What was done on a board stands. A command on it that ended with status 0 said what it comes to on the commands that
-/// the board had; and these, with what it added behind them, are in the file at any later point of its life.
+/// What was done on a board stands. A command on it that ended with status 0 said what it comes to on legal commands; and
+/// these, with what it added behind them, are in the file at any later point of its life. That they are those that the
+/// file had before is said by the clause of the call alone (`Does`).
 pub fn what_was_done_stands<K: Desk, W: Crew>()
     ensures { (name last : List ℕ) (call : Call K.state W.Hand.gives) (command : Asked) → call.status ≡ 0
         → Life K.state W.Hand.gives name (file_of (K.state call.now) name) last
