@@ -3,7 +3,8 @@ use Rattle.tf_workers.specs.Session.{Seen, seen}
 use Rattle.tf_workers.specs.Progress.{StopsFor}
 use Rattle.tf_workers.specs.declared.answering.Stop.{Stop}
 use Rattle.tf_workers.specs.declared.incoming.Incoming.{Incoming}
-use Rattle.tf_workers.proofs.ProgressLemmas.{taking_of, answered, stopped_bad, stopped_lost, stopped_memory, received_or_over}
+use Rattle.tf_workers.proofs.ProgressLemmas.{taking_of, answered, stopped_bad, stopped_lost, stopped_memory}
+use Rattle.tf_workers.proofs.PieceLemmas.{received_or_over}
 use Rattle.tf_workers.proofs.serving.go_on.Goals as goal
 
 pub returns-in_default : goal.returns-in_default

@@ -1,5 +1,5 @@
 use Rattle.tf_workers.specs.Session.{Seen, seen}
-use Rattle.tf_workers.proofs.ProgressLemmas.{starts, gives_up}
+use Rattle.tf_workers.proofs.PieceLemmas.{starts, gives_up}
 use Rattle.tf_workers.proofs.serving.serve.Goals as goal
 
 pub loop-init : goal.loop-init

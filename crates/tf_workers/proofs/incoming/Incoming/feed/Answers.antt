@@ -1,4 +1,4 @@
-use Rattle.tf_workers.proofs.ProgressLemmas.{feeds_on}
+use Rattle.tf_workers.proofs.PieceLemmas.{feeds_on}
 use Rattle.tf_workers.proofs.incoming.Incoming.feed.Goals as goal
 
 pub returns-in-Ok-clause-fed : goal.returns-in-Ok-clause-fed
