@@ -8,7 +8,7 @@ use Rattle.tf_flow.specs.Outline.{Atom, FlowPlace, flow_count, atom_count, retry
 use Rattle.tf_flow.specs.Rules.{is_graph, bind_symbols}
 use Rattle.tf_flow.specs.Tree.{Tree, task, flow, Trees, no_trees, tree, Head, tree_of}
 use Rattle.tf_flow.specs.Plan.{PlanValue}
-use Rattle.tf_flow.specs.Written.{as_written}
+use Rattle.tf_flow.specs.Written.{plan_tree, as_written}
 use Rattle.tf_flow.specs.declared.atoms.Bind.{Bind}
 use Rattle.tf_flow.specs.declared.nested.Flow.{Flow as FlowValue}
 use Rattle.tf_flow.proofs.TreeLemmas.{tree_of-flow}
@@ -302,18 +302,18 @@ outline_alike a b store store' defer defer' same stored deferred =
 graph_tree : (f : FlowValue) (store : List Bind) → is_graph f.kind ≡ true → first_refusal f store ≡ None → IsGraphTree (tree_of f)
 graph_tree f store graph accepted = subst IsGraphTree (sym (tree_of-flow f)) (graph, root_known f store accepted)
 
-module _ (plan kept : PlanValue) (name : List ℕ) (graph : is_graph plan.root.kind ≡ true) (accepted : first_refusal plan.root plan.store ≡ None) (compiles : compile_refusal plan ≡ None) (is : IsTargetOf plan name kept) where
-  laws : (tree_refusal (target_tree plan is.item) (outline_of_tree (target_tree plan is.item) plan.store plan.defer) ≡ None) × KeepsOrder (outline_of plan) (outline_of_tree (target_tree plan is.item) plan.store plan.defer)
-      × (missing_symbol (outline_of plan) ≡ None → missing_symbol (outline_of_tree (target_tree plan is.item) plan.store plan.defer) ≡ None)
+module _ (plan kept : PlanValue) (name : List ℕ) (graph : is_graph plan.root.kind ≡ true) (accepted : first_refusal plan.root plan.store ≡ None) (compiles : compile_refusal plan ≡ None) (is : IsTargetOf (plan_tree plan) name (plan_tree kept)) where
+  laws : (tree_refusal (target_tree (plan_tree plan) is.item) (outline_of_tree (target_tree (plan_tree plan) is.item) plan.store plan.defer) ≡ None) × KeepsOrder (outline_of plan) (outline_of_tree (target_tree (plan_tree plan) is.item) plan.store plan.defer)
+      × (missing_symbol (outline_of plan) ≡ None → missing_symbol (outline_of_tree (target_tree (plan_tree plan) is.item) plan.store plan.defer) ≡ None)
   laws = tree_laws (tree_of plan.root) plan.store plan.defer is.item (graph_tree plan.root plan.store graph accepted) compiles
 
-  same_outline : outline_of kept ≡ outline_of_tree (target_tree plan is.item) plan.store plan.defer
-  same_outline = outline_alike (tree_of kept.root) (target_tree plan is.item) kept.store plan.store kept.defer plan.defer is.root is.store is.defer
+  same_outline : outline_of kept ≡ outline_of_tree (target_tree (plan_tree plan) is.item) plan.store plan.defer
+  same_outline = outline_alike (tree_of kept.root) (target_tree (plan_tree plan) is.item) kept.store plan.store kept.defer plan.defer is.root is.store is.defer
 
   pub target_compiles : compile_refusal kept ≡ None
   target_compiles =
-      ap (λ (order : List ℕ). first_some (refusal_at (outline_of kept)) order) (innermost_alike 0 (tree_of kept.root) (target_tree plan is.item) is.root)
-      ∙ (ap (λ (o : Outline). tree_refusal (target_tree plan is.item) o) same_outline ∙ laws.0)
+      ap (λ (order : List ℕ). first_some (refusal_at (outline_of kept)) order) (innermost_alike 0 (tree_of kept.root) (target_tree (plan_tree plan) is.item) is.root)
+      ∙ (ap (λ (o : Outline). tree_refusal (target_tree (plan_tree plan) is.item) o) same_outline ∙ laws.0)
 
   pub target_order : KeepsOrder (outline_of plan) (outline_of kept)
   target_order = subst (KeepsOrder (outline_of plan)) (sym same_outline) laws.1

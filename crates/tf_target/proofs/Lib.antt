@@ -16,3 +16,4 @@ pub mod MemberLemmas
 pub mod DeciderLemmas
 pub mod JoinLemmas
 pub mod LawLemmas
+pub mod AlikeLemmas

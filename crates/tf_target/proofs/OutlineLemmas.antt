@@ -16,7 +16,7 @@ abbrev mutual
   all_flow_count (written first others) = written_flow_count first + all_flow_count others
 
 abbrev mutual
-  written_atom_count : WrittenTree → ℕ
+  pub written_atom_count : WrittenTree → ℕ
   written_atom_count (written_task t) = 1
   written_atom_count (written_flow head items) = retry_count head.retry + all_atom_count items
 
@@ -82,7 +82,7 @@ mutual
   all_flows_counted (tree first others) = ap (λ n. n + flows_among_count others) (flows_counted first) ∙ ap (λ n. written_flow_count (as_written first) + n) (all_flows_counted others)
 
 mutual
-  atoms_counted : (t : Tree) → atom_count t ≡ written_atom_count (as_written t)
+  pub atoms_counted : (t : Tree) → atom_count t ≡ written_atom_count (as_written t)
   atoms_counted (task t) = refl
   atoms_counted (flow head items) = ap (λ n. retry_count head.retry + n) (all_atoms_counted items)
 

@@ -10,7 +10,7 @@ use Rattle.tf_flow.specs.Refusal.{first_refusal, IsAnswer}
 use Rattle.tf_flow.specs.Rules.{is_graph, member_names}
 use Rattle.tf_flow.specs.Shown.{members}
 use Rattle.tf_flow.specs.Tree.{Tree, Trees, no_trees, tree, flow, tree_of, item_tree, trees_of}
-use Rattle.tf_flow.specs.Written.{as_written}
+use Rattle.tf_flow.specs.Written.{plan_tree, as_written}
 use Rattle.tf_flow.specs.declared.atoms.Bind.{Bind}
 use Rattle.tf_flow.specs.declared.faults.PlanFault.{PlanFault}
 use Rattle.tf_flow.specs.declared.faults.PlanFault.TheVariants as plan_refusal
@@ -27,7 +27,7 @@ use Rattle.tf_order.specs.RootItems.{root_item_before}
 use Rattle.tf_order.proofs.GraphLemmas.{rows_length, row_told}
 use Rattle.tf_order.proofs.TableLemmas.{get_set_same, get_set_other}
 use Rattle.tf_target.specs.Kept.{items_in, names_among, is_name_at, place_of_name, kept_among, keep_first, kept_head, kept_tree, mark_or_none, is_marked}
-use Rattle.tf_target.specs.Target.{item_named, is_kept, target_tree, refuse_none, refuse_item, target_refusal, IsTargetAnswer, IsTargetOf, LeavesNoneBefore, plan_fault}
+use Rattle.tf_target.specs.Target.{is_graph_flow, item_named, is_kept, target_tree, refuse_none, refuse_item, target_refusal, IsTargetAnswer, IsTargetOf, LeavesNoneBefore, plan_fault}
 use Rattle.tf_target.specs.declared.faults.TargetFault.{TargetFault}
 use Rattle.tf_target.specs.declared.faults.TargetFault.TheVariants as fault
 use Rattle.tf_target.proofs.LimitLemmas.{kept_refused, empty_if}
@@ -70,7 +70,7 @@ place_within items name u is = let below : u < length (member_names (members ite
 -- ---- the marks
 
 pub marks_kept : (plan : PlanValue) (item count : ℕ) (before marks : List Bool) → before ≡ map (root_item_before (outline_of plan) item) (numbers_below count) → item < count
-    → marks ≡ slice_set before item true → (u : ℕ) → u < count → is_marked marks u ≡ is_kept plan item u
+    → marks ≡ slice_set before item true → (u : ℕ) → u < count → is_marked marks u ≡ is_kept (plan_tree plan) item u
 marks_kept plan item count before marks is within set u below =
     let long : length before ≡ count = ap length is ∙ rows_length (root_item_before (outline_of plan) item) count in
     either long (nat_eq u item) refl
@@ -108,24 +108,28 @@ kept_alike f p q same =
 
 -- the refusal of what is kept
 pub refusal_kept : (plan : PlanValue) (made : Flow) (store : List Bind) (item : ℕ) → is_graph plan.root.kind ≡ true → first_refusal plan.root plan.store ≡ None → store ≡ plan.store
-    → as_written (tree_of made) ≡ as_written (target_tree plan item) → first_refusal made store ≡ empty_if (atom_count (target_tree plan item))
+    → as_written (tree_of made) ≡ as_written (target_tree (plan_tree plan) item) → first_refusal made store ≡ empty_if (atom_count (target_tree (plan_tree plan) item))
 refusal_kept plan made store item graph none stored same =
-    ap (first_refusal made) stored ∙ kept_refused plan.root made (is_kept plan item) plan.store graph none same
+    ap (first_refusal made) stored ∙ kept_refused plan.root made (is_kept (plan_tree plan) item) plan.store graph none same
 
-refuses : (plan : PlanValue) (name : List ℕ) (item : ℕ) → is_graph plan.root.kind ≡ true → item_named plan name ≡ Some item → target_refusal plan name ≡ refuse_none (atom_count (target_tree plan item))
-refuses plan name item graph named = ap (λ b. if b then refuse_item plan name (item_named plan name) else Some fault.NotAGraph) graph ∙ ap (refuse_item plan name) named
+-- the kind of the root
+graph_told : (f : Flow) (b : Bool) → is_graph f.kind ≡ b → is_graph_flow (tree_of f) ≡ b
+graph_told f b is = ap is_graph_flow (tree_of-flow f) ∙ is
 
-pub not_refused : (plan : PlanValue) (name : List ℕ) (item : ℕ) (refusal : Option PlanFault) → is_graph plan.root.kind ≡ true → item_named plan name ≡ Some item → refusal ≡ empty_if (atom_count (target_tree plan item)) → refusal ≡ None
-    → target_refusal plan name ≡ None
-not_refused plan name item refusal graph named is none = refuses plan name item graph named ∙ by_count (atom_count (target_tree plan item)) (sym is ∙ none)
+refuses : (plan : PlanValue) (name : List ℕ) (item : ℕ) → is_graph plan.root.kind ≡ true → item_named (plan_tree plan) name ≡ Some item → target_refusal (plan_tree plan) name ≡ refuse_none (atom_count (target_tree (plan_tree plan) item))
+refuses plan name item graph named = ap (λ b. if b then refuse_item (plan_tree plan) name (item_named (plan_tree plan) name) else Some fault.NotAGraph) (graph_told plan.root true graph) ∙ ap (refuse_item (plan_tree plan) name) named
+
+pub not_refused : (plan : PlanValue) (name : List ℕ) (item : ℕ) (refusal : Option PlanFault) → is_graph plan.root.kind ≡ true → item_named (plan_tree plan) name ≡ Some item → refusal ≡ empty_if (atom_count (target_tree (plan_tree plan) item)) → refusal ≡ None
+    → target_refusal (plan_tree plan) name ≡ None
+not_refused plan name item refusal graph named is none = refuses plan name item graph named ∙ by_count (atom_count (target_tree (plan_tree plan) item)) (sym is ∙ none)
   where
     by_count : (n : ℕ) → empty_if n ≡ None → refuse_none n ≡ None
     by_count zero none = absurd (cc)
     by_count (suc n) none = refl
 
-pub refused_so : (plan : PlanValue) (name : List ℕ) (item : ℕ) (refusal : Option PlanFault) (why : PlanFault) → is_graph plan.root.kind ≡ true → item_named plan name ≡ Some item → refusal ≡ empty_if (atom_count (target_tree plan item)) → IsAnswer refusal why
-    → IsTargetAnswer (target_refusal plan name) (plan_fault why)
-refused_so plan name item refusal why graph named is answer = subst (λ (o : Option TargetFault). IsTargetAnswer o (plan_fault why)) (sym (refuses plan name item graph named)) (by_fault why (atom_count (target_tree plan item)) (subst (λ (o : Option PlanFault). IsAnswer o why) is answer))
+pub refused_so : (plan : PlanValue) (name : List ℕ) (item : ℕ) (refusal : Option PlanFault) (why : PlanFault) → is_graph plan.root.kind ≡ true → item_named (plan_tree plan) name ≡ Some item → refusal ≡ empty_if (atom_count (target_tree (plan_tree plan) item)) → IsAnswer refusal why
+    → IsTargetAnswer (target_refusal (plan_tree plan) name) (plan_fault why)
+refused_so plan name item refusal why graph named is answer = subst (λ (o : Option TargetFault). IsTargetAnswer o (plan_fault why)) (sym (refuses plan name item graph named)) (by_fault why (atom_count (target_tree (plan_tree plan) item)) (subst (λ (o : Option PlanFault). IsAnswer o why) is answer))
   where
     by_count : (n : ℕ) (other : PlanFault) → empty_if n ≡ Some other → refuse_none n ≡ Some fault.Empty
     by_count zero other is = refl
@@ -140,17 +144,17 @@ refused_so plan name item refusal why graph named is answer = subst (λ (o : Opt
     by_fault (plan_refusal.BadLink other) n answer = by_count n (plan_refusal.BadLink other) answer
     by_fault (plan_refusal.BadAtom other) n answer = by_count n (plan_refusal.BadAtom other) answer
 
-pub no_graph : (plan : PlanValue) (name : List ℕ) → is_graph plan.root.kind ≡ false → target_refusal plan name ≡ Some fault.NotAGraph
-no_graph plan name is = ap (λ b. if b then refuse_item plan name (item_named plan name) else Some fault.NotAGraph) is
+pub no_graph : (plan : PlanValue) (name : List ℕ) → is_graph plan.root.kind ≡ false → target_refusal (plan_tree plan) name ≡ Some fault.NotAGraph
+no_graph plan name is = ap (λ b. if b then refuse_item (plan_tree plan) name (item_named (plan_tree plan) name) else Some fault.NotAGraph) (graph_told plan.root false is)
 
-pub no_item : (plan : PlanValue) (name : List ℕ) → is_graph plan.root.kind ≡ true → item_named plan name ≡ None → target_refusal plan name ≡ Some (fault.UnknownTarget name)
-no_item plan name graph none = ap (λ b. if b then refuse_item plan name (item_named plan name) else Some fault.NotAGraph) graph ∙ ap (refuse_item plan name) none
+pub no_item : (plan : PlanValue) (name : List ℕ) → is_graph plan.root.kind ≡ true → item_named (plan_tree plan) name ≡ None → target_refusal (plan_tree plan) name ≡ Some (fault.UnknownTarget name)
+no_item plan name graph none = ap (λ b. if b then refuse_item (plan_tree plan) name (item_named (plan_tree plan) name) else Some fault.NotAGraph) (graph_told plan.root true graph) ∙ ap (refuse_item (plan_tree plan) name) none
 
 -- ---- nothing that is left out comes before what is kept
 
-pub none_before : (plan : PlanValue) (name : List ℕ) → compile_refusal plan ≡ None → LeavesNoneBefore plan name
+pub none_before : (plan : PlanValue) (name : List ℕ) → compile_refusal plan ≡ None → LeavesNoneBefore (plan_tree plan) name
 none_before plan name compiles item u v named out kept =
-    never_true (root_item_before (outline_of plan) v u) (λ before. clash (is_kept plan item u) (true_second (nat_eq u item) (root_item_before (outline_of plan) item u) (leads before (or_either (nat_eq v item) (root_item_before (outline_of plan) item v) kept))) out)
+    never_true (root_item_before (outline_of plan) v u) (λ before. clash (is_kept (plan_tree plan) item u) (true_second (nat_eq u item) (root_item_before (outline_of plan) item u) (leads before (or_either (nat_eq v item) (root_item_before (outline_of plan) item v) kept))) out)
   where
     leads : root_item_before (outline_of plan) v u ≡ true → (nat_eq v item ≡ true) ⊎ (root_item_before (outline_of plan) item v ≡ true) → root_item_before (outline_of plan) item u ≡ true
     leads before (inl same) = ap (λ (w : ℕ). root_item_before (outline_of plan) w u) (sym (eqb-true v item same)) ∙ before
@@ -165,19 +169,19 @@ named_by plan root items name place item root_is items_are told is =
     ap (λ (xs : List Item). place_of_name (member_names (members xs)) name) (sym (items_are ∙ ap (λ (f : Flow). f.items.items.items) root_is)) ∙ (sym told ∙ is)
 
 -- it is the item of the name
-pub is_item_named : (plan : PlanValue) (name : List ℕ) (item : ℕ) → place_of_name (member_names (members plan.root.items.items.items)) name ≡ Some item → item_named plan name ≡ Some item
+pub is_item_named : (plan : PlanValue) (name : List ℕ) (item : ℕ) → place_of_name (member_names (members plan.root.items.items.items)) name ≡ Some item → item_named (plan_tree plan) name ≡ Some item
 is_item_named plan name item is = ap (λ (names : List (List ℕ)). place_of_name names name) (items_named plan.root) ∙ is
 
 -- the root that was made is what is kept
-pub root_kept : (plan : PlanValue) (root made : Flow) (marks seen : List Bool) (item : ℕ) → root ≡ plan.root → seen ≡ marks → ((u : ℕ) → u < length plan.root.items.items.items → is_marked marks u ≡ is_kept plan item u)
-    → as_written (tree_of made) ≡ as_written (kept_tree (is_marked seen) (tree_of root)) → as_written (tree_of made) ≡ as_written (target_tree plan item)
+pub root_kept : (plan : PlanValue) (root made : Flow) (marks seen : List Bool) (item : ℕ) → root ≡ plan.root → seen ≡ marks → ((u : ℕ) → u < length plan.root.items.items.items → is_marked marks u ≡ is_kept (plan_tree plan) item u)
+    → as_written (tree_of made) ≡ as_written (kept_tree (is_marked seen) (tree_of root)) → as_written (tree_of made) ≡ as_written (target_tree (plan_tree plan) item)
 root_kept plan root made marks seen item root_is seen_is marked is =
     is
     ∙ (ap2 (λ (ms : List Bool) (f : Flow). as_written (kept_tree (is_marked ms) (tree_of f))) seen_is root_is
-    ∙ ap as_written (kept_alike plan.root (is_marked marks) (is_kept plan item) marked))
+    ∙ ap as_written (kept_alike plan.root (is_marked marks) (is_kept (plan_tree plan) item) marked))
 
-pub target_is : (plan kept : PlanValue) (name : List ℕ) (item : ℕ) (made : Flow) (store : List Bind) (defer : Bool) → item_named plan name ≡ Some item → kept ≡ record { root = made; store = store; defer = defer }
-    → as_written (tree_of made) ≡ as_written (target_tree plan item) → store ≡ plan.store → defer ≡ plan.defer → IsTargetOf plan name kept
+pub target_is : (plan kept : PlanValue) (name : List ℕ) (item : ℕ) (made : Flow) (store : List Bind) (defer : Bool) → item_named (plan_tree plan) name ≡ Some item → kept ≡ record { root = made; store = store; defer = defer }
+    → as_written (tree_of made) ≡ as_written (target_tree (plan_tree plan) item) → store ≡ plan.store → defer ≡ plan.defer → IsTargetOf (plan_tree plan) name (plan_tree kept)
 target_is plan kept name item made store defer named is root stored deferred = record {
   item = item;
   named = named;

@@ -2,6 +2,7 @@ ghost use Rattle.std.specs.Prelude.{◌≡◌, ◌<◌, ℕ, None, length, IfOk,
 ghost use Rattle.tf_flow.specs.Items.{item_list};
 ghost use Rattle.tf_flow.specs.Rules.{is_graph, member_names};
 ghost use Rattle.tf_flow.specs.Shown.{members};
+ghost use Rattle.tf_flow.specs.Written.{plan_tree};
 ghost use Rattle.tf_model.specs.Compilation.{compile_refusal};
 ghost use Rattle.tf_model.specs.Plan.{outline_of};
 ghost use Rattle.tf_model.specs.Scope.{missing_symbol};
@@ -25,10 +26,10 @@ use tf_values::{Memory, Name};
 pub fn target(alloc: Global, plan: &Plan, name: &Name) -> Result<Plan, TargetFault>
     requires compiles { compile_refusal plan.now ≡ None }
     requires complete { missing_symbol (outline_of plan.now) ≡ None }
-    ensures target { IfOk result (IsTargetOf plan.now name.now) }
-    ensures accepted { OnOk result (target_refusal plan.now name.now ≡ None) }
-    ensures refused { IfErr result (IsTargetAnswer (target_refusal plan.now name.now)) }
-    ensures apart { OnOk result (LeavesNoneBefore plan.now name.now) }
+    ensures target { IfOk result (λ kept. IsTargetOf (plan_tree plan.now) name.now (plan_tree kept)) }
+    ensures accepted { OnOk result (target_refusal (plan_tree plan.now) name.now ≡ None) }
+    ensures refused { IfErr result (IsTargetAnswer (target_refusal (plan_tree plan.now) name.now)) }
+    ensures apart { OnOk result (LeavesNoneBefore (plan_tree plan.now) name.now) }
     ensures order { IfOk result (λ kept. KeepsOrder (outline_of plan.now) (outline_of kept)) }
     ensures compiled { IfOk result (λ kept. compile_refusal kept ≡ None) }
     ensures provided { IfOk result (λ kept. missing_symbol (outline_of kept) ≡ None) }
@@ -73,7 +74,7 @@ fn place_of(items: &[Item], name: &Name) -> Option<usize>
 fn kept_marks(alloc: Global, plan: &Plan, item: usize) -> Result<Vec<bool>, Memory>
     requires { item < length (item_list plan.now.root.items) }
     ensures { IfOk result (λ marks. (u : ℕ) → u < length (item_list plan.now.root.items)
-        → is_marked marks.items u ≡ is_kept plan.now item u) }
+        → is_marked marks.items u ≡ is_kept (plan_tree plan.now) item u) }
 {
     let mut marks = items_before(alloc, plan, item)?;
     marks[item] = true;

@@ -6,7 +6,7 @@ use Rattle.tf_numbers.proofs.TruthLemmas.{and_first, and_second}
 use Rattle.tf_words.specs.Addresses.{worker_of, address_of, sessions_in}
 use Rattle.tf_words.specs.Boards.{id_in, Applied, post_of, owner_of, list_of, applied_in, priority_in, details_in}
 use Rattle.tf_words.specs.Options.{Said}
-use Rattle.tf_words.specs.Commands.{hands_in, deferral_in, stop_in, try_of, run_of, resume_of, show_of, reset_of, check_of, demo_of, asked_by}
+use Rattle.tf_words.specs.Commands.{hands_in, deferral_in, stop_in, target_in, try_of, run_of, resume_of, show_of, reset_of, check_of, demo_of, asked_by}
 use Rattle.tf_values.specs.Name.{is_name}
 use Rattle.tf_words.specs.Demos.{IsDemo}
 use Rattle.tf_words.specs.Numbers.{is_number, number_between}
@@ -63,8 +63,9 @@ try_other said [] seed size name hands is = cc
 try_other said (file ∷ pairs) seed size name hands is =
     let a = then_some _ (deferral_in said) (asked.Demo seed size name hands) is in
     let b = then_some _ (hands_in said) (asked.Demo seed size name hands) a.2 in
-    let c = map_some _ (sets_behind [] pairs) (asked.Demo seed size name hands) b.2 in
-    let other = c.2 in cc
+    let c = then_some _ (target_in said) (asked.Demo seed size name hands) b.2 in
+    let d = map_some _ (sets_behind [] pairs) (asked.Demo seed size name hands) c.2 in
+    let other = d.2 in cc
 
 run_other : (said : Said) (words : List (List ℕ)) (seed size : ℕ) (name : List ℕ) (hands : ℕ) → run_of said words ≡ Some (asked.Demo seed size name hands) → ⊥
 run_other said [] seed size name hands is = cc
@@ -73,8 +74,9 @@ run_other said (file ∷ book ∷ pairs) seed size name hands is =
     let a = then_some _ (deferral_in said) (asked.Demo seed size name hands) is in
     let b = then_some _ (hands_in said) (asked.Demo seed size name hands) a.2 in
     let c = then_some _ (stop_in said) (asked.Demo seed size name hands) b.2 in
-    let d = map_some _ (sets_behind [] pairs) (asked.Demo seed size name hands) c.2 in
-    let other = d.2 in cc
+    let d = then_some _ (target_in said) (asked.Demo seed size name hands) c.2 in
+    let e = map_some _ (sets_behind [] pairs) (asked.Demo seed size name hands) d.2 in
+    let other = e.2 in cc
 
 resume_other : (said : Said) (words : List (List ℕ)) (seed size : ℕ) (name : List ℕ) (hands : ℕ) → resume_of said words ≡ Some (asked.Demo seed size name hands) → ⊥
 resume_other said [] seed size name hands is = cc
@@ -84,11 +86,12 @@ resume_other said (book ∷ []) seed size name hands is =
     let other = b.2 in cc
 resume_other said (book ∷ more ∷ others) seed size name hands is = cc
 
-check_other : (words : List (List ℕ)) (seed size : ℕ) (name : List ℕ) (hands : ℕ) → check_of words ≡ Some (asked.Demo seed size name hands) → ⊥
-check_other [] seed size name hands is = cc
-check_other (file ∷ pairs) seed size name hands is =
-    let a = map_some _ (sets_behind [] pairs) (asked.Demo seed size name hands) is in
-    let other = a.2 in cc
+check_other : (said : Said) (words : List (List ℕ)) (seed size : ℕ) (name : List ℕ) (hands : ℕ) → check_of said words ≡ Some (asked.Demo seed size name hands) → ⊥
+check_other said [] seed size name hands is = cc
+check_other said (file ∷ pairs) seed size name hands is =
+    let a = then_some _ (target_in said) (asked.Demo seed size name hands) is in
+    let b = map_some _ (sets_behind [] pairs) (asked.Demo seed size name hands) a.2 in
+    let other = b.2 in cc
 
 show_other : (words : List (List ℕ)) (seed size : ℕ) (name : List ℕ) (hands : ℕ) → show_of words ≡ Some (asked.Demo seed size name hands) → ⊥
 show_other [] seed size name hands is = cc
@@ -144,7 +147,7 @@ asked_within verb.Run said seed size name hands is = absurd (run_other said (sai
 asked_within verb.Resume said seed size name hands is = absurd (resume_other said (said []) seed size name hands is)
 asked_within verb.Show said seed size name hands is = absurd (show_other (said []) seed size name hands is)
 asked_within verb.Reset said seed size name hands is = absurd (reset_other (said []) seed size name hands is)
-asked_within verb.Check said seed size name hands is = absurd (check_other (said []) seed size name hands is)
+asked_within verb.Check said seed size name hands is = absurd (check_other said (said []) seed size name hands is)
 asked_within verb.Demo said seed size name hands is = demo_within said (said []) seed size name hands is
 asked_within verb.Worker said seed size name hands is = absurd (worker_other said (said []) seed size name hands is)
 asked_within verb.Post said seed size name hands is = absurd (post_other said (said []) seed size name hands is)

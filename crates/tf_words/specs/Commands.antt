@@ -1,6 +1,7 @@
 -- What each command asks for, by the values that its words give to the names of its options and, as positional words, to the empty name.
-use Rattle.std.specs.Prelude.{ℕ, List, [], ◌∷◌, codes, Bool, true, false, Option, Some, None, option_map, option_and_then}
+use Rattle.std.specs.Prelude.{ℕ, List, [], ◌∷◌, codes, Bool, true, false, Option, Some, None, option_map, option_and_then, if◌then◌else◌}
 use Rattle.tf_ports.specs.declared.crews.Want.TheVariants as want
+use Rattle.tf_values.specs.Name.{is_name}
 use Rattle.tf_words.specs.declared.asked.Asked.{Asked}
 use Rattle.tf_words.specs.declared.asked.Asked.TheVariants as asked
 use Rattle.tf_words.specs.declared.verbs.Verb.{Verb}
@@ -23,14 +24,19 @@ hands_in said = once 1 (number_between 1 64) (said (codes "hands"))
 abbrev pub stop_in : Said → Option (Option ℕ)
 stop_in said = once None (λ value. option_map Some (number_between 1 999999999 value)) (said (codes "stop-after"))
 
+-- up to which target the flow goes, if to one; it is a name
+abbrev pub target_in : Said → Option (Option (List ℕ))
+target_in said = once None (λ value. if is_name value then Some (Some value) else None) (said (codes "target"))
+
 -- `try FILE [NAME=VALUE]...`
 abbrev pub try_of : Said → List (List ℕ) → Option Asked
 try_of said [] = None
 try_of said (file ∷ pairs) =
     option_and_then (λ defer.
     option_and_then (λ hands.
-    option_map (λ sets. asked.Try file sets defer (want.Local hands))
-    (sets_behind [] pairs)) (hands_in said)) (deferral_in said)
+    option_and_then (λ target.
+    option_map (λ sets. asked.Try file sets defer (want.Local hands) target)
+    (sets_behind [] pairs)) (target_in said)) (hands_in said)) (deferral_in said)
 
 -- `run FILE BOOK [NAME=VALUE]...`
 abbrev pub run_of : Said → List (List ℕ) → Option Asked
@@ -38,8 +44,9 @@ run_of said (file ∷ book ∷ pairs) =
     option_and_then (λ defer.
     option_and_then (λ hands.
     option_and_then (λ stop.
-    option_map (λ sets. asked.Run file book sets defer (want.Local hands) stop)
-    (sets_behind [] pairs)) (stop_in said)) (hands_in said)) (deferral_in said)
+    option_and_then (λ target.
+    option_map (λ sets. asked.Run file book sets defer (want.Local hands) stop target)
+    (sets_behind [] pairs)) (target_in said)) (stop_in said)) (hands_in said)) (deferral_in said)
 run_of said _ = None
 
 -- `resume BOOK`
@@ -61,9 +68,12 @@ reset_of (book ∷ []) = Some (asked.Reset book)
 reset_of _ = None
 
 -- `check FILE [NAME=VALUE]...`
-abbrev pub check_of : List (List ℕ) → Option Asked
-check_of [] = None
-check_of (file ∷ pairs) = option_map (λ sets. asked.Check file sets) (sets_behind [] pairs)
+abbrev pub check_of : Said → List (List ℕ) → Option Asked
+check_of said [] = None
+check_of said (file ∷ pairs) =
+    option_and_then (λ target.
+    option_map (λ sets. asked.Check file sets target)
+    (sets_behind [] pairs)) (target_in said)
 
 -- `demo SEED SIZE BOOK`
 abbrev pub demo_of : Said → List (List ℕ) → Option Asked
@@ -81,7 +91,7 @@ asked_by verb.Run said = run_of said (said [])
 asked_by verb.Resume said = resume_of said (said [])
 asked_by verb.Show said = show_of (said [])
 asked_by verb.Reset said = reset_of (said [])
-asked_by verb.Check said = check_of (said [])
+asked_by verb.Check said = check_of said (said [])
 asked_by verb.Demo said = demo_of said (said [])
 asked_by verb.Worker said = worker_of said (said [])
 asked_by verb.Post said = post_of said (said [])

@@ -22,6 +22,10 @@ hands = record { name = codes "hands"; valued = true }
 abbrev pub stop_after : Form
 stop_after = record { name = codes "stop-after"; valued = true }
 
+-- `--target NAME`
+abbrev pub target : Form
+target = record { name = codes "target"; valued = true }
+
 -- `--sessions N`
 abbrev pub sessions : Form
 sessions = record { name = codes "sessions"; valued = true }
@@ -36,12 +40,12 @@ details = record { name = codes "details"; valued = true }
 
 -- the options that a command knows
 abbrev pub forms_of : Verb → List Form
-forms_of verb.Try = deferral ∷ hands ∷ []
-forms_of verb.Run = deferral ∷ hands ∷ stop_after ∷ []
+forms_of verb.Try = deferral ∷ hands ∷ target ∷ []
+forms_of verb.Run = deferral ∷ hands ∷ stop_after ∷ target ∷ []
 forms_of verb.Resume = hands ∷ stop_after ∷ []
 forms_of verb.Show = []
 forms_of verb.Reset = []
-forms_of verb.Check = []
+forms_of verb.Check = target ∷ []
 forms_of verb.Demo = hands ∷ []
 forms_of verb.Worker = sessions ∷ []
 forms_of verb.Post = urgency ∷ details ∷ []

@@ -15,14 +15,15 @@ use uuid::Uuid;
 /// What the words ask for.
 #[derive(Debug, Drop)]
 pub enum Asked {
-    /// Run the flow of a file with these values, and keep nothing of it.
+    /// Run the flow of a file with these values, up to a target if there is one, and keep nothing of it.
     Try {
         file: Text,
         sets: Binds,
         defer: bool,
         want: Want,
+        target: Option<Name>,
     },
-    /// Run the flow of a file with these values, and keep its history in a book.
+    /// Run the flow of a file with these values, up to a target if there is one, and keep its history in a book.
     Run {
         file: Text,
         book: Text,
@@ -30,6 +31,7 @@ pub enum Asked {
         defer: bool,
         want: Want,
         stop_after: Option<u32>,
+        target: Option<Name>,
     },
     /// Run the flow of a book on.
     Resume {
@@ -45,10 +47,11 @@ pub enum Asked {
     Reset {
         book: Text,
     },
-    /// Read the flow of a file with these values, and say what it has.
+    /// Read the flow of a file with these values, and say what it has, up to a target if there is one.
     Check {
         file: Text,
         sets: Binds,
+        target: Option<Name>,
     },
     /// Run a flow that is made by numbers, and keep its history in a book.
     Demo {

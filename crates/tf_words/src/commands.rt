@@ -2,7 +2,7 @@ ghost use Rattle.std.specs.Prelude.{◌≡◌, ◌≤◌, ℕ, List, [], IfOk, I
 ghost use Rattle.std.specs.List.{All};
 ghost use Rattle.tf_values.specs.Text.{is_text};
 ghost use Rattle.tf_words.specs.Held.{held_by, texts_in};
-ghost use Rattle.tf_words.specs.Commands.{asked_by as asked_in, deferral_in as deferral_said, hands_in as hands_said, stop_in as stop_said};
+ghost use Rattle.tf_words.specs.Commands.{asked_by as asked_in, deferral_in as deferral_said, hands_in as hands_said, stop_in as stop_said, target_in as target_said};
 ghost use Rattle.tf_words.specs.Commands.{try_of as try_said, run_of as run_said, resume_of as resume_said, show_of as show_said, reset_of as reset_said, check_of as check_said, demo_of as demo_said};
 
 use crate::addresses::worker_of;
@@ -14,7 +14,7 @@ use crate::pairs::sets_of;
 use crate::verbs::Verb;
 use std::alloc::Global;
 use tf_ports::Want;
-use tf_values::{Memory, Text};
+use tf_values::{Memory, Name, Text};
 
 /// What the command asks for, or none where the values are not those of the command.
 pub fn asked_by(alloc: Global, verb: Verb, given: &Given<'_>) -> Result<Option<Asked>, Memory>
@@ -29,7 +29,7 @@ pub fn asked_by(alloc: Global, verb: Verb, given: &Given<'_>) -> Result<Option<A
         Verb::Resume => resume_of(alloc, given, words),
         Verb::Show => show_of(alloc, words),
         Verb::Reset => reset_of(alloc, words),
-        Verb::Check => check_of(alloc, words),
+        Verb::Check => check_of(alloc, given, words),
         Verb::Demo => demo_of(alloc, given, words),
         Verb::Worker => worker_of(alloc, given, words),
         Verb::Post => post_of(alloc, given, words),
@@ -56,6 +56,9 @@ fn try_of(alloc: Global, given: &Given<'_>, words: &[&str]) -> Result<Option<Ask
     let Some(hands) = hands_in(given) else {
         return Ok(None);
     };
+    let Some(target) = target_in(given) else {
+        return Ok(None);
+    };
     let Some(sets) = sets_of(alloc, pairs)? else {
         return Ok(None);
     };
@@ -66,6 +69,7 @@ fn try_of(alloc: Global, given: &Given<'_>, words: &[&str]) -> Result<Option<Ask
         sets,
         defer,
         want,
+        target,
     }))
 }
 
@@ -86,6 +90,9 @@ fn run_of(alloc: Global, given: &Given<'_>, words: &[&str]) -> Result<Option<Ask
     let Some(stop_after) = stop_in(given) else {
         return Ok(None);
     };
+    let Some(target) = target_in(given) else {
+        return Ok(None);
+    };
     let Some(sets) = sets_of(alloc, pairs)? else {
         return Ok(None);
     };
@@ -99,6 +106,7 @@ fn run_of(alloc: Global, given: &Given<'_>, words: &[&str]) -> Result<Option<Ask
         defer,
         want,
         stop_after,
+        target,
     }))
 }
 
@@ -150,18 +158,21 @@ fn reset_of(alloc: Global, words: &[&str]) -> Result<Option<Asked>, Memory>
 }
 
 /// `check FILE [NAME=VALUE]...`
-fn check_of(alloc: Global, words: &[&str]) -> Result<Option<Asked>, Memory>
+fn check_of(alloc: Global, given: &Given<'_>, words: &[&str]) -> Result<Option<Asked>, Memory>
     requires { All (λ word. is_text word.now ≡ true) words.now }
-    ensures { IfOk result (λ asked. asked ≡ check_said (texts_in words.now)) }
+    ensures { IfOk result (λ asked. asked ≡ check_said (held_by given.now.matches) (texts_in words.now)) }
 {
     let [file, pairs @ ..] = words else {
+        return Ok(None);
+    };
+    let Some(target) = target_in(given) else {
         return Ok(None);
     };
     let Some(sets) = sets_of(alloc, pairs)? else {
         return Ok(None);
     };
     let file = text_of(alloc, file)?;
-    Ok(Some(Asked::Check { file, sets }))
+    Ok(Some(Asked::Check { file, sets, target }))
 }
 
 /// `demo SEED SIZE BOOK`
@@ -223,6 +234,19 @@ fn stop_in(given: &Given<'_>) -> Option<Option<u32>>
         Some(value) => {
             let stop = number_between(1, 999_999_999, value)?;
             Some(Some(stop))
+        }
+    }
+}
+
+/// Up to which target the flow goes, if to one, or none where that is no name.
+fn target_in(given: &Given<'_>) -> Option<Option<Name>>
+    ensures { result ≡ target_said (held_by given.now.matches) }
+{
+    match given.once("target")? {
+        None => Some(None),
+        Some(value) => {
+            let name = Name::make(value.as_bytes())?;
+            Some(Some(name))
         }
     }
 }

@@ -54,6 +54,11 @@ const STOP_AFTER: Key = Key {
     valued: true,
 };
 
+const TARGET: Key = Key {
+    name: "target",
+    valued: true,
+};
+
 const SESSIONS: Key = Key {
     name: "sessions",
     valued: true,
@@ -69,11 +74,13 @@ const DETAILS: Key = Key {
     valued: true,
 };
 
-static TRY: [Key; 2] = [DEFER_REVERTS, HANDS];
+static TRY: [Key; 3] = [DEFER_REVERTS, HANDS, TARGET];
 
-static RUN: [Key; 3] = [DEFER_REVERTS, HANDS, STOP_AFTER];
+static RUN: [Key; 4] = [DEFER_REVERTS, HANDS, STOP_AFTER, TARGET];
 
 static RESUME: [Key; 2] = [HANDS, STOP_AFTER];
+
+static CHECK: [Key; 1] = [TARGET];
 
 static DEMO: [Key; 1] = [HANDS];
 
@@ -92,10 +99,11 @@ pub fn keys_of(verb: Verb) -> &'static [Key]
         Verb::Try => &TRY,
         Verb::Run => &RUN,
         Verb::Resume => &RESUME,
+        Verb::Check => &CHECK,
         Verb::Demo => &DEMO,
         Verb::Worker => &WORKER,
         Verb::Post => &POST,
-        Verb::Show | Verb::Reset | Verb::Check => &NONE,
+        Verb::Show | Verb::Reset => &NONE,
         Verb::Claim | Verb::Abandon | Verb::Consume | Verb::Trash => &NONE,
         Verb::Owner | Verb::List => &NONE,
     }
