@@ -8,3 +8,5 @@ pub mod OutcomeLemmas
 pub mod EndLemmas
 pub mod FeedLemmas
 pub mod LawLemmas
+pub mod KeepLemmas
+pub mod ProgressLemmas

@@ -1,6 +1,5 @@
 -- What an audit keeps.
 use Rattle.std.specs.Prelude.{◌≡◌, ℕ, List, true, Option, Some, slice_get}
-use Rattle.tf_flow.specs.Plan as numbering
 use Rattle.tf_states.specs.declared.record.Entry.{Entry}
 use Rattle.tf_actions.specs.declared.orders.Order.{Order}
 use Rattle.tf_model.specs.History.{state_of}

@@ -7,3 +7,4 @@ pub mod Outcomes
 pub mod Verdicts
 pub mod Starts
 pub mod Kept
+pub mod Progress

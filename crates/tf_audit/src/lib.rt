@@ -2,6 +2,7 @@
 //! order may have.
 #![tactic(auto)]
 
+mod auditing;
 mod ends;
 mod entries;
 mod equality;
@@ -13,12 +14,14 @@ mod names;
 mod numbers;
 mod outcomes;
 mod payloads;
+mod progress;
 mod starts;
 mod state_words;
 mod values;
 mod verdicts;
 mod words;
 
+pub use auditing::audit;
 pub use ends::fits;
 pub use entries::{Numbered, read_line};
 pub use laws::shown_histories_are_legal_logs;
