@@ -22,13 +22,13 @@ use Rattle.tf_book.proofs.ForceLemmas.{forced_none}
 use Rattle.tf_book.proofs.ClosingLemmas.{sound_on}
 
 -- a cause stays one where no count of faults changed
-cause_stays : (start mid now : DeskState) (plan : PlanValue) (past : List Entry) (h : Option Halt) → now.disk_faults ≡ mid.disk_faults → now.out_faults ≡ mid.out_faults
-    → HasCause plan past start mid h → HasCause plan past start now h
-cause_stays start mid now plan past None disk out cause = tt
-cause_stays start mid now plan past (Some halt.Disk) disk out cause = subst (λ (n : ℕ). Rises start.disk_faults n) (sym disk) cause
-cause_stays start mid now plan past (Some halt.Out) disk out cause = subst (λ (n : ℕ). Rises start.out_faults n) (sym out) cause
-cause_stays start mid now plan past (Some (halt.Full size need)) disk out cause = cause
-cause_stays start mid now plan past (Some halt.Memory) disk out cause = tt
+cause_stays : (start mid now : DeskState) (plan : PlanValue) (past : List Entry) (failed : Option Entry) (h : Option Halt) → now.disk_faults ≡ mid.disk_faults → now.out_faults ≡ mid.out_faults
+    → HasCause plan past start mid failed h → HasCause plan past start now failed h
+cause_stays start mid now plan past failed None disk out cause = tt
+cause_stays start mid now plan past failed (Some halt.Disk) disk out cause = subst (λ (n : ℕ). Rises start.disk_faults n) (sym disk) cause
+cause_stays start mid now plan past failed (Some halt.Out) disk out cause = subst (λ (n : ℕ). Rises start.out_faults n) (sym out) cause
+cause_stays start mid now plan past failed (Some (halt.Full size need)) disk out cause = cause
+cause_stays start mid now plan past failed (Some halt.Memory) disk out cause = tt
 
 module _ {K : Type 0} (state : K → DeskState) where
   limit_keeps : (start b : BookValue K) (l : Option ℕ) → SessionInvariant state start b → SessionInvariant state start (record b { limit = l })
@@ -85,7 +85,7 @@ module _ {K : Type 0} (state : K → DeskState) where
       left = λ before image now. d.left before image (left_stays (asks.files told) image now);
     });
     exact = λ was kept unhalted just. bytes_stay (asks.files (extends_told k.continues.extends was)) ∙ k.exact was kept (sym (ap (λ (h : Held K). h.halted) same) ∙ unhalted) just;
-    cause = cause_stays (state start.journal.desk) (state b.journal.desk) (state j.desk) start.plan b.past b.halt asks.disk_faults asks.out_faults k.cause;
+    cause = cause_stays (state start.journal.desk) (state b.journal.desk) (state j.desk) start.plan b.past b.failed b.halt asks.disk_faults asks.out_faults k.cause;
   }
 
   -- and a book stays sound

@@ -103,7 +103,7 @@ module _ {K : Type 0} (state : K → DeskState) where
     crash = λ told kept. crash_then told kept;
     left_now = λ told kept before image is_left.
         (let d = k.crash told kept in
-        ⊎_elim (λ whole. whole) (λ more. more ∙ ap (λ (p : List Entry). bodies (bodies_of start.plan ((p ++ k.entries) ++ start.past))) (none_pending _ _ old.halt d.pending sound d.few))
+        ⊎_elim (λ whole. whole) (λ more. more ∙ ap (λ (p : List Entry). bodies (bodies_of start.plan ((p ++ k.entries) ++ start.past))) (none_pending _ _ old.halt old.failed d.pending sound d.few))
         (d.left before image (left_stays (s.files (told_then told)) image is_left)));
     exact = λ told kept just. bytes_stay (s.files (told_then told)) ∙ k.exact told kept unhalted just;
     cause = cause_then halted s.text s.cause;
@@ -117,7 +117,7 @@ module _ {K : Type 0} (state : K → DeskState) where
 
       cause_then : (h : Option Halt) → IsClosing (state old.journal.desk).shown closing h (state j.desk).shown
           → (h ≡ Some halt.Out → Rises (state old.journal.desk).out_faults (state j.desk).out_faults)
-          → HasCause start.plan old.past (state start.journal.desk) (state j.desk) h
+          → HasCause start.plan old.past (state start.journal.desk) (state j.desk) old.failed h
       cause_then None text cause = tt
       cause_then (Some halt.Out) text cause =
           rises_later (state start.journal.desk).out_faults (state old.journal.desk).out_faults (state j.desk).out_faults k.continues.extends.out_faults (cause refl)
@@ -130,7 +130,7 @@ module _ {K : Type 0} (state : K → DeskState) where
       crash_then told kept =
           let d = k.crash told kept in
           passes_on d.passes (s.crash (record { told = told_then told; sound = unhalted; kept = k.volatile ∙ kept }))
-          (λ image text was. inl (subst (λ (p : List Entry). LeavesEntries start.plan start.quiet start.past (p ++ k.entries) (state start.journal.desk).shown image text) (none_pending _ _ old.halt d.pending sound d.few) was))
+          (λ image text was. inl (subst (λ (p : List Entry). LeavesEntries start.plan start.quiet start.past (p ++ k.entries) (state start.journal.desk).shown image text) (none_pending _ _ old.halt old.failed d.pending sound d.few) was))
           (λ image text was. inr (
             was.0 ∙ ap (λ (p : PlanValue). bodies (bodies_of p old.past)) k.plan ∙ ap (λ (p : List Entry). bodies (bodies_of start.plan p)) k.recorded,
             subst (λ (b : Option (List ℕ)). ShowsPrefix b closing (Some text)) shown_then was.1,

@@ -24,8 +24,8 @@ use Rattle.tf_book.specs.Book.{BookValue, outline, moment, bodies_of, book_size}
 use Rattle.tf_book.specs.Forms.{IsForm}
 use Rattle.tf_book.specs.Loading.{IsAcceptedPlan, CanRun, IsHistoryOf}
 use Rattle.tf_book.specs.Logging.{said_of, is_logged, StaysOffDisk, Logged}
-use Rattle.tf_book.specs.SessionInvariant.{said, IsSpoken, LeavesEntries, MayFollow, nothing_more, one_more, IsPending, IsExact, IsFullFor, HasCause, SessionInvariant, Proceeds}
-use Rattle.tf_book.specs.Recording.{halt_after, past_after}
+use Rattle.tf_book.specs.SessionInvariant.{said, IsSpoken, LeavesEntries, MayFollow, nothing_more, one_more, HasFailed, IsPending, IsExact, IsFullFor, HasCause, SessionInvariant, Proceeds}
+use Rattle.tf_book.specs.Recording.{halt_after, failed_after, past_after}
 use Rattle.tf_book.specs.Sound.{IsSoundBook}
 use Rattle.tf_book.specs.declared.faults.Halt.{Halt}
 use Rattle.tf_book.specs.declared.faults.Halt.TheVariants as halt
@@ -78,14 +78,15 @@ module _ {K : Type 0} (state : K → DeskState) where
         let d = k.crash told kept in
         let opened = opened_then r w told kept in
         passes_on d.passes (w.logged.at_most opened (bodies_of old.plan old.past) (w.ready opened)).crash
-        (left_before start.plan start.quiet start.past k.entries d.pending (state start.journal.desk).shown e (none_pending _ _ old.halt d.pending sound d.few))
+        (left_before start.plan start.quiet start.past k.entries d.pending (state start.journal.desk).shown e (none_pending _ _ old.halt old.failed d.pending sound d.few))
         (left_now start.plan start.quiet start.past k.entries (state start.journal.desk).shown (state old.journal.desk).shown e (title_of old.journal.title) (next_line old e)
         (bodies_of old.plan old.past) (ap title_of w.title) bodies_then the_line shown_then)
 
     full_then : (r : Result (Unit {0}) Halt) → Wrote state old j e r → (size need : ℕ) → (size ≡ old.journal.size) × (need ≡ 5 + length (entry_bytes e)) × (SIZE_LIMIT < size + need)
-        → IsFullFor start.plan old.past size need
+        → IsFullFor (HasFailed (Some e)) start.plan old.past size need
     full_then r w size need is = record {
       entry = e;
+      so = refl;
       step = subst (λ (p : PlanValue). Step (outline_of p) (snapshot (outline_of p) old.past) e) k.plan w.step;
       form = w.form;
       size_is = is.0 ∙ w.size ∙ ap (λ (p : PlanValue). book_size p old.past) k.plan;
@@ -118,10 +119,10 @@ module _ {K : Type 0} (state : K → DeskState) where
     off_then r w volatile = off_on (k.off_disk volatile) (λ told. extends_told k.continues.extends told) (w.logged.off_disk (k.volatile ∙ volatile))
 
     -- the entry may follow what was recorded since the start
-    follows_then : (r : Result (Unit {0}) Halt) → Wrote state old j e r → MayFollow start.plan (k.entries ++ start.past) (e ∷ [])
+    follows_then : (r : Result (Unit {0}) Halt) → Wrote state old j e r → MayFollow (HasFailed (Some e)) start.plan (k.entries ++ start.past) (e ∷ [])
     follows_then r w = one_more e
         (subst (λ (p : List Entry). Step (outline start) (snapshot (outline start) p) e) k.recorded
-        (subst (λ (p : PlanValue). Step (outline_of p) (snapshot (outline_of p) old.past) e) k.plan w.step)) w.form
+        (subst (λ (p : PlanValue). Step (outline_of p) (snapshot (outline_of p) old.past) e) k.plan w.step)) w.form refl
 
     -- an exact file stays exact
     exact_recorded : (r : Result (Unit {0}) Halt) → Wrote state old j e r → is_logged r ≡ true → IsTrue (state start.journal.desk).tells → start.journal.volatile ≡ false
@@ -134,8 +135,8 @@ module _ {K : Type 0} (state : K → DeskState) where
         ∙ ap (λ (t : Title). journal_bytes (title_of t) (bodies_of old.plan old.past ++ entry_bytes e ∷ [])) w.title
 
     recorded_kept : (halted : Option Halt) (r : Result (Unit {0}) Halt) → Wrote state old j e r → is_logged r ≡ true → j.title ≡ old.journal.title → j.volatile ≡ old.journal.volatile
-        → IsPending start.plan ((e ∷ k.entries) ++ start.past) halted [] → IsSpoken start.quiet (outline_of start.plan) start.past (state start.journal.desk).shown (e ∷ k.entries) halted (state j.desk).shown
-        → HasCause start.plan (e ∷ old.past) (state start.journal.desk) (state j.desk) halted
+        → IsPending start.plan ((e ∷ k.entries) ++ start.past) halted old.failed [] → IsSpoken start.quiet (outline_of start.plan) start.past (state start.journal.desk).shown (e ∷ k.entries) halted (state j.desk).shown
+        → HasCause start.plan (e ∷ old.past) (state start.journal.desk) (state j.desk) old.failed halted
         → SessionInvariant state start (record old { past = e ∷ old.past; journal = j; halt = halted })
     recorded_kept halted r w recorded titled volatile none text cause = record {
       entries = e ∷ k.entries;
@@ -152,11 +153,12 @@ module _ {K : Type 0} (state : K → DeskState) where
     }
 
     -- the book is halted with nothing recorded
-    halted_here : (halted : Option Halt) → ((pending : List Entry) → pending ≡ [] → IsPending start.plan (k.entries ++ start.past) halted pending)
+    halted_here : (halted : Option Halt) (failed : Option Entry)
+        → ((pending : List Entry) → pending ≡ [] → IsPending start.plan (k.entries ++ start.past) halted failed pending)
         → IsSpoken start.quiet (outline_of start.plan) start.past (state start.journal.desk).shown k.entries halted (state old.journal.desk).shown
-        → HasCause start.plan old.past (state start.journal.desk) (state old.journal.desk) halted
-        → SessionInvariant state start (record old { halt = halted })
-    halted_here halted few text cause = record {
+        → HasCause start.plan old.past (state start.journal.desk) (state old.journal.desk) failed halted
+        → SessionInvariant state start (record old { halt = halted; failed = failed })
+    halted_here halted failed few text cause = record {
       entries = k.entries;
       recorded = k.recorded;
       plan = k.plan;
@@ -165,12 +167,12 @@ module _ {K : Type 0} (state : K → DeskState) where
       continues = k.continues;
       off_disk = k.off_disk;
       text = text;
-      crash = λ told kept. (let d = k.crash told kept in record { pending = d.pending; few = few d.pending (none_pending _ _ old.halt d.pending sound d.few); passes = d.passes; left = d.left });
+      crash = λ told kept. (let d = k.crash told kept in record { pending = d.pending; few = few d.pending (none_pending _ _ old.halt old.failed d.pending sound d.few); passes = d.passes; left = d.left });
       exact = k.exact;
       cause = cause;
     }
 
-    by_result : (r : Result (Unit {0}) Halt) → Wrote state old j e r → SessionInvariant state start (record old { past = past_after e old.past r; journal = j; halt = halt_after r })
+    by_result : (r : Result (Unit {0}) Halt) → Wrote state old j e r → SessionInvariant state start (record old { past = past_after e old.past r; journal = j; halt = halt_after r; failed = failed_after e old.failed r })
     by_result (Ok u) w =
         recorded_kept None (Ok u) w refl (ap (λ (h : Held K). h.title) w.logged.journal) (ap (λ (h : Held K). h.volatile) w.logged.journal) refl
         (said_more start.quiet (outline start) start.past k.entries (state start.journal.desk).shown (state old.journal.desk).shown (state j.desk).shown e (next_line old e) the_line shown_then w.logged.text) tt
@@ -192,18 +194,18 @@ module _ {K : Type 0} (state : K → DeskState) where
       cause = rises_later (state start.journal.desk).disk_faults (state old.journal.desk).disk_faults (state j.desk).disk_faults k.continues.extends.disk_faults w.logged.cause;
     }
     by_result (Err (halt.Full size need)) w =
-        subst (λ (h : Held K). SessionInvariant state start (record old { journal = h; halt = Some (halt.Full size need) })) (sym w.logged.journal)
-        (halted_here (Some (halt.Full size need)) (λ p none. none) shown_then (full_then (Err (halt.Full size need)) w size need w.logged.cause))
+        subst (λ (h : Held K). SessionInvariant state start (record old { journal = h; halt = Some (halt.Full size need); failed = Some e })) (sym w.logged.journal)
+        (halted_here (Some (halt.Full size need)) (Some e) (λ p none. none) shown_then (full_then (Err (halt.Full size need)) w size need w.logged.cause))
     by_result (Err halt.Memory) w = absurd w.logged.cause
 
   -- one entry that was to be recorded
   pub keeps_on : (start old new : BookValue K) (e : Entry) (r : Result (Unit {0}) Halt) → old.halt ≡ None → Wrote state old new.journal e r
-      → new ≡ record old { past = past_after e old.past r; journal = new.journal; halt = halt_after r } → SessionInvariant state start old → SessionInvariant state start new
+      → new ≡ record old { past = past_after e old.past r; journal = new.journal; halt = halt_after r; failed = failed_after e old.failed r } → SessionInvariant state start old → SessionInvariant state start new
   keeps_on start old new e r sound w same k = subst (λ (b : BookValue K). SessionInvariant state start b) (sym same) (by_result start old new.journal e sound k r w)
 
   -- want of memory halts
   pub keeps_halted : (start old : BookValue K) → old.halt ≡ None → SessionInvariant state start old → SessionInvariant state start (record old { halt = Some halt.Memory })
-  keeps_halted start old sound k = halted_here start old old.journal any_entry sound k (Some halt.Memory) (λ p none. none) (shown_then start old old.journal any_entry sound k) tt
+  keeps_halted start old sound k = halted_here start old old.journal any_entry sound k (Some halt.Memory) old.failed (λ p none. none) (shown_then start old old.journal any_entry sound k) tt
 
   -- at the start
   pub keeps_none : (start : BookValue K) → start.halt ≡ None → SessionInvariant state start start
@@ -217,22 +219,22 @@ module _ {K : Type 0} (state : K → DeskState) where
     off_disk = λ volatile. off_none;
     text = subst (λ (h : Option Halt). IsSpoken start.quiet (outline_of start.plan) start.past (state start.journal.desk).shown [] h (state start.journal.desk).shown) (sym sound)
         (sym (shown_none (state start.journal.desk).shown));
-    crash = λ told kept. record { pending = []; few = none_few start.halt sound; passes = passes_none; left = λ before image left_now. inl (before image left_now) };
+    crash = λ told kept. record { pending = []; few = none_few start.halt start.failed sound; passes = passes_none; left = λ before image left_now. inl (before image left_now) };
     exact = λ told kept unhalted just. just;
-    cause = subst (λ (h : Option Halt). HasCause start.plan start.past (state start.journal.desk) (state start.journal.desk) h) (sym sound) tt;
+    cause = subst (λ (h : Option Halt). HasCause start.plan start.past (state start.journal.desk) (state start.journal.desk) start.failed h) (sym sound) tt;
   }
     where
-      none_few : (halted : Option Halt) → halted ≡ None → IsPending start.plan start.past halted []
-      none_few None is = refl
-      none_few (Some h) is = absurd (cc)
+      none_few : (halted : Option Halt) (failed : Option Entry) → halted ≡ None → IsPending start.plan start.past halted failed []
+      none_few None failed is = refl
+      none_few (Some h) failed is = absurd (cc)
 
   -- the same of a book that is open, whose parts are as these
-  pub book_proceeds : (old o : BookValue K) (p : PlanValue) (past : List Entry) (j : Held K) (h : Option Halt) (n : ℕ) (machine : MachineValue) (kept : List ℕ) (e : Entry) (r : Result (Unit {0}) Halt)
+  pub book_proceeds : (old o : BookValue K) (p : PlanValue) (past : List Entry) (j : Held K) (h : Option Halt) (f : Option Entry) (n : ℕ) (machine : MachineValue) (kept : List ℕ) (e : Entry) (r : Result (Unit {0}) Halt)
       → o ≡ old → n ≡ length o.past → old.halt ≡ None → Step (outline old) (moment old) e → IsForm e → IsSoundBook state machine kept o
       → Logged state (entry_bytes e) (said_of o.quiet (line (outline o) (n + 1) e)) o.journal j r
-      → p ≡ o.plan → past ≡ past_after e o.past r → h ≡ halt_after r
-      → Proceeds state old (record { plan = p; past = past; journal = j; quiet = o.quiet; halt = h; limit = o.limit })
-  book_proceeds old o p past j h n machine kept e r same number sound step form is logged plan_is past_is halt_is =
+      → p ≡ o.plan → past ≡ past_after e o.past r → h ≡ halt_after r → f ≡ failed_after e o.failed r
+      → Proceeds state old (record { plan = p; past = past; journal = j; quiet = o.quiet; halt = h; failed = f; limit = o.limit })
+  book_proceeds old o p past j h f n machine kept e r same number sound step form is logged plan_is past_is halt_is failed_is =
       subst (λ (x : BookValue K). Proceeds state x next) same (record {
         plan = plan_is;
         limit = refl;
@@ -244,7 +246,7 @@ module _ {K : Type 0} (state : K → DeskState) where
       sound_here = ap (λ (b : BookValue K). b.halt) same ∙ sound
 
       next : BookValue K
-      next = record { plan = p; past = past; journal = j; quiet = o.quiet; halt = h; limit = o.limit }
+      next = record { plan = p; past = past; journal = j; quiet = o.quiet; halt = h; failed = f; limit = o.limit }
 
       wrote : Wrote state o j e r
       wrote = record {
@@ -257,11 +259,12 @@ module _ {K : Type 0} (state : K → DeskState) where
         logged = subst (λ (m : ℕ). Logged state (entry_bytes e) (said_of o.quiet (line (outline o) (m + 1) e)) o.journal j r) number logged;
       }
 
-      turned : next ≡ record o { past = past_after e o.past r; journal = j; halt = halt_after r }
+      turned : next ≡ record o { past = past_after e o.past r; journal = j; halt = halt_after r; failed = failed_after e o.failed r }
       turned =
-          ap (λ (x : Option Halt). record o { plan = p; past = past; journal = j; halt = x }) halt_is
-          ∙ ap (λ (x : PlanValue). record o { plan = x; past = past; journal = j; halt = halt_after r }) plan_is
-          ∙ ap (λ (x : List Entry). record o { past = x; journal = j; halt = halt_after r }) past_is
+          ap (λ (x : Option Halt). record o { plan = p; past = past; journal = j; halt = x; failed = f }) halt_is
+          ∙ ap (λ (x : Option Entry). record o { plan = p; past = past; journal = j; halt = halt_after r; failed = x }) failed_is
+          ∙ ap (λ (x : PlanValue). record o { plan = x; past = past; journal = j; halt = halt_after r; failed = failed_after e o.failed r }) plan_is
+          ∙ ap (λ (x : List Entry). record o { past = x; journal = j; halt = halt_after r; failed = failed_after e o.failed r }) past_is
 
 -- one call that records after another
 pub proceeds_on : {K : Type 0} {state : K → DeskState} {old mid new : BookValue K} → Proceeds state old mid → Proceeds state mid new → Proceeds state old new
@@ -293,9 +296,9 @@ history_before (e ∷ newer) older h =
     history_before newer older (record { accepted = h.accepted; limits = h.limits; runs = h.runs; legal = h.legal.1; forms = h.forms.1 })
 
 -- and so is a history with an entry that may follow it
-pub history_on : {plan : PlanValue} {past pending : List Entry} → MayFollow plan past pending → IsHistoryOf plan past → IsHistoryOf plan (pending ++ past)
+pub history_on : {is_so : Entry → Type 0} {plan : PlanValue} {past pending : List Entry} → MayFollow is_so plan past pending → IsHistoryOf plan past → IsHistoryOf plan (pending ++ past)
 history_on nothing_more h = h
-history_on (one_more e step form) h = record { accepted = h.accepted; limits = h.limits; runs = h.runs; legal = (step, h.legal); forms = (form, h.forms) }
+history_on (one_more e step form so) h = record { accepted = h.accepted; limits = h.limits; runs = h.runs; legal = (step, h.legal); forms = (form, h.forms) }
 
 -- a book holds a history that a book may hold
 pub sound_history : {K : Type 0} (state : K → DeskState) (machine : MachineValue) (kept : List ℕ) (b old : BookValue K) → b ≡ old → IsSoundBook state machine kept b

@@ -4,6 +4,7 @@ pub mod SpokenLemmas
 pub mod InvariantLemmas
 pub mod HistoryLemmas
 pub mod TurnLemmas
+pub mod TriedLemmas
 pub mod ForceLemmas
 pub mod StartLemmas
 pub mod ClosingLemmas

@@ -100,6 +100,7 @@ left_now plan q before entries s0 old e title bytes held titled lies same was im
           (prefix_further s0 old (said q (outline_of plan) before entries) bytes text was is.1);
     }
 
-pub none_pending : (plan : PlanValue) (past : List Entry) (halted : Option Halt) (pending : List Entry) → halted ≡ None → IsPending plan past halted pending → pending ≡ []
-none_pending plan past None pending is few = few
-none_pending plan past (Some h) pending is few = absurd (cc)
+pub none_pending : (plan : PlanValue) (past : List Entry) (halted : Option Halt) (failed : Option Entry) (pending : List Entry) → halted ≡ None
+    → IsPending plan past halted failed pending → pending ≡ []
+none_pending plan past None failed pending is few = few
+none_pending plan past (Some h) failed pending is few = absurd (cc)

@@ -12,13 +12,15 @@ use Rattle.tf_model.specs.Snapshot.{Snapshot}
 use Rattle.tf_book.specs.declared.faults.Halt.{Halt}
 
 -- a book: its plan, its history with the newest entry first, its journal with its desk, whether it says no lines, why it was
--- halted, if it was, and the length of the history from which on its session is to be suspended, if it has a limit
+-- halted, if it was, the entry that couldn't be recorded last, if there was one, and the length of the history from which on its session
+-- is to be suspended, if it has a limit
 pub record BookValue (K : Type 0) : Type 0 where
   pub plan : PlanValue
   pub past : List Entry
   pub journal : Held K
   pub quiet : Bool
   pub halt : Option Halt
+  pub failed : Option Entry
   pub limit : Option ℕ
 
 -- the outline of its plan

@@ -55,4 +55,4 @@ module _ {K : Type 0} (state : K → DeskState) where
         → LeavesBodies (title_of book_title) (state now.journal.desk) (bodies_of start.plan (entries ++ start.past))
     pub exact : IsTrue (state start.journal.desk).tells → start.journal.volatile ≡ false
         → IsExact (state start.journal.desk) start.plan start.past → IsExact (state now.journal.desk) now.plan now.past
-    pub cause : HasCause start.plan now.past (state start.journal.desk) (state now.journal.desk) now.halt
+    pub cause : HasCause start.plan now.past (state start.journal.desk) (state now.journal.desk) now.failed now.halt

@@ -6,6 +6,7 @@ pub mod Recording
 pub mod Sound
 pub mod Faults
 pub mod Turns
+pub mod Tried
 pub mod Starting
 pub mod Closed
 pub mod Loading

@@ -20,6 +20,14 @@ halt_after (Err halt) = Some halt
 abbrev pub past_after : Entry → List Entry → Result (Unit {0}) Halt → List Entry
 past_after e past result = if is_logged result then e ∷ past else past
 
+-- the entry that couldn't be recorded last: this one, where the disk failed or the journal is full
+abbrev pub failed_after : Entry → Option Entry → Result (Unit {0}) Halt → Option Entry
+failed_after e before (Ok u) = before
+failed_after e before (Err halt.Out) = before
+failed_after e before (Err halt.Memory) = before
+failed_after e before (Err halt.Disk) = Some e
+failed_after e before (Err (halt.Full size need)) = Some e
+
 -- a book that isn't halted is halted for want of memory
 abbrev pub halt_for_memory : Option Halt → Option Halt
 halt_for_memory None = Some halt.Memory

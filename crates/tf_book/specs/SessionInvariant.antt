@@ -45,21 +45,25 @@ pub record LeavesEntries (plan : PlanValue) (quiet : Bool) (before entries : Lis
   pub recovers : recovered (title_of book_title) image ≡ bodies (bodies_of plan (kept ++ before))
   pub spoken : ShowsPrefix shown (said quiet (outline_of plan) before kept) (Some text)
 
--- nothing, or one entry that may follow the history and has a form that a book can read again
-pub data MayFollow (plan : PlanValue) (past : List Entry) : List Entry → Type 0 where
-  nothing_more : MayFollow plan past []
-  one_more : (e : Entry) → Step (outline_of plan) (snapshot (outline_of plan) past) e → IsForm e → MayFollow plan past (e ∷ [])
+-- nothing, or one entry of this kind that may follow the history and has a form that a book can read again
+pub data MayFollow (is_so : Entry → Type 0) (plan : PlanValue) (past : List Entry) : List Entry → Type 0 where
+  nothing_more : MayFollow is_so plan past []
+  one_more : (e : Entry) → Step (outline_of plan) (snapshot (outline_of plan) past) e → IsForm e → is_so e → MayFollow is_so plan past (e ∷ [])
 
--- at most one entry is pending behind the history, and only after a fault of the disk in its append
-abbrev pub IsPending : PlanValue → List Entry → Option Halt → List Entry → Type 0
-IsPending plan past (Some halt.Disk) pending = MayFollow plan past pending
-IsPending plan past other pending = pending ≡ []
+-- it is the entry that couldn't be recorded
+abbrev pub HasFailed : Option Entry → Entry → Type 0
+HasFailed failed e = failed ≡ Some e
+
+-- at most one entry is pending behind the history, the one that couldn't be recorded, and only after a fault of the disk in its append
+abbrev pub IsPending : PlanValue → List Entry → Option Halt → Option Entry → List Entry → Type 0
+IsPending plan past (Some halt.Disk) failed pending = MayFollow (HasFailed failed) plan past pending
+IsPending plan past other failed pending = pending ≡ []
 
 -- since the start a crash left no more than that; and where one at the start left just the bodies of the history then, one now leaves
 -- those of all entries, or the pending one with them
-pub record OutlastsCrash (plan : PlanValue) (quiet : Bool) (before entries : List Entry) (halted : Option Halt) (old now : DeskState) : Type 0 where
+pub record OutlastsCrash (plan : PlanValue) (quiet : Bool) (before entries : List Entry) (halted : Option Halt) (failed : Option Entry) (old now : DeskState) : Type 0 where
   pub pending : List Entry
-  pub few : IsPending plan (entries ++ before) halted pending
+  pub few : IsPending plan (entries ++ before) halted failed pending
   pub passes : Passes (LeavesEntries plan quiet before (pending ++ entries) old.shown) old now
   pub left : LeavesBodies (title_of book_title) old (bodies_of plan before)
       → LeavesEither (title_of book_title) now (bodies_of plan (entries ++ before)) (bodies_of plan ((pending ++ entries) ++ before))
@@ -68,22 +72,24 @@ pub record OutlastsCrash (plan : PlanValue) (quiet : Bool) (before entries : Lis
 abbrev pub IsExact : DeskState → PlanValue → List Entry → Type 0
 IsExact now plan past = bytes_now now ≡ journal_bytes (title_of book_title) (bodies_of plan past)
 
--- the record of some entry that may follow, with a form that a book can read again, would have made the journal longer than its limit
-pub record IsFullFor (plan : PlanValue) (past : List Entry) (size need : ℕ) : Type 0 where
+-- the record of an entry of this kind that may follow, with a form that a book can read again, would have made the journal longer than its limit
+pub record IsFullFor (is_so : Entry → Type 0) (plan : PlanValue) (past : List Entry) (size need : ℕ) : Type 0 where
   pub entry : Entry
+  pub so : is_so entry
   pub step : Step (outline_of plan) (snapshot (outline_of plan) past) entry
   pub form : IsForm entry
   pub size_is : size ≡ book_size plan past
   pub need_is : need ≡ 5 + length (entry_bytes entry)
   pub over : SIZE_LIMIT < size + need
 
--- why it was halted: the disk or the output failed, so that its count rose, or the journal is full; want of memory has no cause that is told
-abbrev pub HasCause : PlanValue → List Entry → DeskState → DeskState → Option Halt → Type 0
-HasCause plan past old now None = Unit {0}
-HasCause plan past old now (Some halt.Disk) = Rises old.disk_faults now.disk_faults
-HasCause plan past old now (Some halt.Out) = Rises old.out_faults now.out_faults
-HasCause plan past old now (Some (halt.Full size need)) = IsFullFor plan past size need
-HasCause plan past old now (Some halt.Memory) = Unit {0}
+-- why it was halted: the disk or the output failed, so that its count rose, or the journal is full for the entry that couldn't be recorded;
+-- want of memory has no cause that is told
+abbrev pub HasCause : PlanValue → List Entry → DeskState → DeskState → Option Entry → Option Halt → Type 0
+HasCause plan past old now failed None = Unit {0}
+HasCause plan past old now failed (Some halt.Disk) = Rises old.disk_faults now.disk_faults
+HasCause plan past old now failed (Some halt.Out) = Rises old.out_faults now.out_faults
+HasCause plan past old now failed (Some (halt.Full size need)) = IsFullFor (HasFailed failed) plan past size need
+HasCause plan past old now failed (Some halt.Memory) = Unit {0}
 
 module _ {K : Type 0} (state : K → DeskState) where
   -- from the start until now: the entries recorded since; the plan and the kind of book stay; and the facts
@@ -97,10 +103,10 @@ module _ {K : Type 0} (state : K → DeskState) where
     pub off_disk : start.journal.volatile ≡ true → StaysOffDisk (state start.journal.desk) (state now.journal.desk)
     pub text : IsSpoken start.quiet (outline_of start.plan) start.past (state start.journal.desk).shown entries now.halt (state now.journal.desk).shown
     pub crash : IsTrue (state start.journal.desk).tells → start.journal.volatile ≡ false
-        → OutlastsCrash start.plan start.quiet start.past entries now.halt (state start.journal.desk) (state now.journal.desk)
+        → OutlastsCrash start.plan start.quiet start.past entries now.halt now.failed (state start.journal.desk) (state now.journal.desk)
     pub exact : IsTrue (state start.journal.desk).tells → start.journal.volatile ≡ false → now.journal.halted ≡ false
         → IsExact (state start.journal.desk) start.plan start.past → IsExact (state now.journal.desk) now.plan now.past
-    pub cause : HasCause start.plan now.past (state start.journal.desk) (state now.journal.desk) now.halt
+    pub cause : HasCause start.plan now.past (state start.journal.desk) (state now.journal.desk) now.failed now.halt
 
   -- a call that records: the plan and the limit stay, nobody was asked, and for every start what was kept stays kept
   pub record Proceeds (old new : BookValue K) : Type 0 where

@@ -21,7 +21,7 @@ desk_started (Err back) = back.0
 
 -- the book of a plan before its first entry, in this journal with this desk
 abbrev pub begun_book : {K : Type 0} → PlanValue → Held K → K → Bool → BookValue K
-begun_book plan journal desk quiet = record { plan = plan; past = []; journal = record journal { desk = desk; size = book_size plan [] }; quiet = quiet; halt = None; limit = None }
+begun_book plan journal desk quiet = record { plan = plan; past = []; journal = record journal { desk = desk; size = book_size plan [] }; quiet = quiet; halt = None; failed = None; limit = None }
 
 -- a journal of a book without a record, in which a book may start
 pub record HasNoRecord {K : Type 0} (state : K → DeskState) (journal : Held K) : Type 0 where

@@ -2,7 +2,7 @@ ghost use Rattle.std.specs.Prelude.{◌≡◌, ◌<◌, ◌≤◌, ◌-◌, ◌�
 ghost use Rattle.tf_model.specs.Steps.{Step};
 ghost use Rattle.tf_book.specs.Book.{outline, moment};
 ghost use Rattle.tf_book.specs.SessionInvariant.{Proceeds};
-ghost use Rattle.tf_book.specs.Recording.{halt_after, past_after};
+ghost use Rattle.tf_book.specs.Recording.{halt_after, failed_after, past_after};
 
 mod closing;
 mod entering;
@@ -26,8 +26,8 @@ use tf_machine::Machine;
 use tf_states::Entry;
 
 /// A run of a plan, recorded in a journal entry by entry. Contracts see its plan, its history, its journal with
-/// the desk, whether it says no lines, why it was halted, if it was, and where its session is to be suspended, if
-/// it has a limit.
+/// the desk, whether it says no lines, why it was halted, if it was, the entry that couldn't be recorded then, and
+/// where its session is to be suspended, if it has a limit.
 #[derive(Drop)]
 pub struct Book<K: Desk> {
     alloc: Global,
@@ -37,6 +37,7 @@ pub struct Book<K: Desk> {
     draft: Draft,
     quiet: bool,
     halt: Option<Halt>,
+    failed: Option<Entry>,
     limit: Option<u64>,
 }
 
@@ -57,6 +58,7 @@ impl<K: Desk> Model for Book<K> {
       journal = b.journal;
       quiet = b.quiet;
       halt = b.halt;
+      failed = b.failed;
       limit = b.limit;
     } };
 
@@ -67,6 +69,7 @@ impl<K: Desk> Model for Book<K> {
           journal = b.journal;
           quiet = b.quiet;
           halt = b.halt;
+          failed = b.failed;
           limit = b.limit;
         }) };
 }
@@ -82,6 +85,7 @@ impl<K: Desk> Book<K> {
           past = past_after entry self.old.past result;
           journal = self.new.journal;
           halt = halt_after result;
+          failed = failed_after entry self.old.failed result;
         } }
         ensures no_memory { IsErrOf result Halt.Memory → ⊥ }
         ensures less { OnOk result (67108864 - self.new.journal.size < 67108864 - self.old.journal.size) }
@@ -92,6 +96,7 @@ impl<K: Desk> Book<K> {
             &mut self.machine,
             &mut self.history,
             &mut self.draft,
+            &mut self.failed,
             self.quiet,
             entry,
         ) {

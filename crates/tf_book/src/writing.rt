@@ -11,7 +11,7 @@ ghost use Rattle.tf_model.specs.Plan.{outline_of};
 ghost use Rattle.tf_book.specs.Forms.{IsForm};
 ghost use Rattle.tf_book.specs.History.{past_shown, HasEntryRoom, HasAllRoom, HasDraftRoom, HasWriteRoom};
 ghost use Rattle.tf_book.specs.Logging.{said_of, is_logged, Logged};
-ghost use Rattle.tf_book.specs.Recording.{KeepsEntry, KeepsNothing};
+ghost use Rattle.tf_book.specs.Recording.{KeepsEntry, KeepsNothing, failed_after};
 
 use crate::faults::Halt;
 use crate::history::History;
@@ -89,13 +89,14 @@ fn keep(machine: &mut Machine, history: &mut History, entry: Entry, body: &[u8])
 }
 
 /// Logs an entry that may follow: its body and its line are made; then the body is appended, the entry is kept,
-/// and the line is said. It takes no memory: there is room for each.
+/// and the line is said. It takes no memory: there is room for each. An entry that couldn't be appended is handed out.
 #[tactic(auto, using(crate::proofs::PayloadLemmas::step_has_payload, crate::proofs::PayloadLemmas::step_has_hand, crate::proofs::HistoryLemmas::room_for))]
 pub fn write<K: Desk>(
     journal: &mut Journal<K>,
     machine: &mut Machine,
     history: &mut History,
     draft: &mut Draft,
+    failed: &mut Option<Entry>,
     quiet: bool,
     entry: Entry,
 ) -> Result<(), Halt>
@@ -113,6 +114,7 @@ pub fn write<K: Desk>(
         → KeepsEntry entry machine.old machine.new history.old history.new }
     ensures unrecorded { is_logged result ≡ false
         → KeepsNothing machine.old machine.new history.old history.new }
+    ensures failed { failed.new ≡ failed_after entry failed.old result }
     ensures short { IsShortEvent entry.what }
     ensures form { IsForm entry }
 {
@@ -129,11 +131,11 @@ pub fn write<K: Desk>(
             Err(Halt::Out)
         }
         Err(Halt::Disk) => {
-            drop(entry);
+            *failed = Some(entry);
             Err(Halt::Disk)
         }
         Err(Halt::Full { size, need }) => {
-            drop(entry);
+            *failed = Some(entry);
             Err(Halt::Full { size, need })
         }
         Err(Halt::Memory) => unreachable!(),

@@ -3,6 +3,7 @@ pub mod RunLemmas
 pub mod StandLemmas
 pub mod TurnLemmas
 pub mod EnterLemmas
+pub mod FailLemmas
 pub mod OrderLemmas
 pub mod NextLemmas
 pub mod SeenLemmas

@@ -74,7 +74,7 @@ history_send : IsSend (history.the_field).row
 history_send = search (sendable, crosses, entry.the_send) depth 14
 
 pub book_send : (K : RattleType) (g : Ghosts K.Denot) → IsSend K → IsSend (book.the_row K g)
-book_send K g k = search (sendable, crosses, heap.the_send, heap.the_field_send, journal.the_send, machine_send, history_send, draft.the_send, draft.the_field_send, halt.the_send) depth 24
+book_send K g k = search (sendable, crosses, heap.the_send, heap.the_field_send, journal.the_send, machine_send, history_send, draft.the_send, draft.the_field_send, halt.the_send, entry.the_send) depth 24
 
 pub shared_send : (K P : RattleType) (g : Ghosts K.Denot) (h : performers.Ghosts P.Denot) → IsSend K → IsSend P → IsSend (shared.the_row K P g h)
 shared_send K P g h k p = search (sendable, crosses, book_send) depth 14

@@ -30,6 +30,9 @@ use Rattle.tf_engines.specs.declared.engine.How.{How}
 use Rattle.tf_engines.specs.declared.engine.How.TheVariants as how
 use Rattle.tf_engines.specs.Runs.{IsSession, HasRun, StandsAs, StandsBetween, going_on, winding, stopped}
 use Rattle.tf_engines.specs.Shared.{SharedValue, entered_past, is_unresumed, IsInside, IsShared}
+use Rattle.tf_book.specs.declared.faults.Halt.TheVariants as halts
+use Rattle.tf_engines.specs.Failing.{MightRecord}
+use Rattle.tf_engines.proofs.FailLemmas.{memory_might}
 use Rattle.tf_engines.specs.Working.{is_by, IsAdded, HasOutcome, IsRun}
 use Rattle.tf_engines.proofs.EnterLemmas.{entering_runs}
 use Rattle.tf_engines.proofs.StandLemmas.{stands_stopped, stands_session, stands_later, finished_stands}
@@ -163,14 +166,16 @@ module _ {K : Type 0} (state : K → DeskState) (gives : Order → Outcome → T
       → ((number asked : ℕ) (limit : Option ℕ) (before : List Entry) → hand < number → asked ≤ (state s.now.journal.desk).asks
       → StandsBetween gives (Rises asked (state s.now.journal.desk).asks) number limit (outline s.now) before s.now.past s.now.limit
       → StandsBetween gives (Rises asked (state new.now.journal.desk).asks) number limit (outline s.now) before new.now.past new.now.limit)
+      → ((number : ℕ) → hand < number → MightRecord gives number s.now → MightRecord gives number new.now)
       → IsAdded hand s.now.past new.now.past → IsShared state gives new
-  shared_after s new hand below had start limit number keeps plan asks stands added =
+  shared_after s new hand below had start limit number keeps plan asks stands failed added =
       let again : shared_of s.start new.now s.limit s.number ≡ new = same_shared s new new.now start refl limit number in
       let then_stands : StandsBetween gives (Rises (state s.start.journal.desk).asks (state s.now.journal.desk).asks) s.number s.limit (outline s.now) s.start.past s.now.past s.now.limit =
       subst (λ (p : PlanValue). StandsBetween gives (Rises (state s.start.journal.desk).asks (state s.now.journal.desk).asks) s.number s.limit (outline_of p) s.start.past s.now.past s.now.limit) (sym had.plan) had.stands in
       subst (λ (x : SharedValue K). IsShared state gives x) again (record {
         keeps = λ earlier kept. keeps earlier (had.keeps earlier kept);
         plan = plan ∙ had.plan;
+        failed = failed s.number below had.failed;
         asks = omega (arith, had.asks, asks);
         stands = subst (λ (p : PlanValue). StandsBetween gives (Rises (state s.start.journal.desk).asks (state new.now.journal.desk).asks) s.number s.limit (outline_of p) s.start.past new.now.past new.now.limit) had.plan
             (stands s.number (state s.start.journal.desk).asks s.limit s.start.past below had.asks then_stands);
@@ -181,14 +186,15 @@ module _ {K : Type 0} (state : K → DeskState) (gives : Order → Outcome → T
   -- so does a halt
   pub shared_halted : (s new : SharedValue K) (halt : Option Halt) → IsShared state gives s → new.start ≡ s.start → new.limit ≡ s.limit → new.number ≡ s.number
       → ((earlier : BookValue K) → SessionInvariant state earlier s.now → SessionInvariant state earlier new.now)
-      → new.now ≡ record s.now { halt = halt } → IsShared state gives new
-  shared_halted s new halt had start limit number keeps same =
+      → new.now ≡ record s.now { halt = halt } → (halt ≡ s.now.halt) ⊎ (halt ≡ Some halts.Memory) → IsShared state gives new
+  shared_halted s new halt had start limit number keeps same memory =
       let again : shared_of s.start (record s.now { halt = halt }) s.limit s.number ≡ new = same_shared s new (record s.now { halt = halt }) start same limit number in
       let kept : (earlier : BookValue K) → SessionInvariant state earlier s.now → SessionInvariant state earlier (record s.now { halt = halt })
       = subst (λ (b : BookValue K). (earlier : BookValue K) → SessionInvariant state earlier s.now → SessionInvariant state earlier b) same keeps in
       subst (λ (x : SharedValue K). IsShared state gives x) again (record {
         keeps = λ earlier before. kept earlier (had.keeps earlier before);
         plan = had.plan;
+        failed = memory_might gives s.number s.now (record s.now { halt = halt }) refl memory had.failed;
         asks = had.asks;
         stands = had.stands;
         inside = had.inside;
@@ -213,6 +219,7 @@ module _ {K : Type 0} (state : K → DeskState) (gives : Order → Outcome → T
     keeps = had.keeps;
     stops = stands;
     plan = had.plan;
+    failed = λ sound. had.failed;
     ran = has_run (Rises (state s.start.journal.desk).asks (state s.now.journal.desk).asks) s.number s.limit (outline s.start) s.start.past s.now.past s.now.limit s.now.halt answer legal stands had.stands;
     asks = had.asks;
   }
@@ -220,10 +227,11 @@ module _ {K : Type 0} (state : K → DeskState) (gives : Order → Outcome → T
   -- a hand that failed may have halted the book before
   pub concluded : (s : SharedValue K) (book now : BookValue K) (answer : How) → IsShared state gives s → LegalPast (outline s.start) s.now.past → book ≡ s.now
       → ((earlier : BookValue K) → SessionInvariant state earlier book → SessionInvariant state earlier now)
-      → now ≡ record book { halt = now.halt } → StandsAs now.halt (flow_of now.past) answer → IsRun state gives s.number s.limit s.start now answer
-  concluded s book now answer had legal is keeps same stands =
+      → now ≡ record book { halt = now.halt } → (now.halt ≡ book.halt) ⊎ (now.halt ≡ Some halts.Memory) → StandsAs now.halt (flow_of now.past) answer
+      → IsRun state gives s.number s.limit s.start now answer
+  concluded s book now answer had legal is keeps same memory stands =
       let kept : (earlier : BookValue K) → SessionInvariant state earlier s.now → SessionInvariant state earlier now
       = subst (λ (b : BookValue K). (earlier : BookValue K) → SessionInvariant state earlier b → SessionInvariant state earlier now) is keeps in
       let again : now ≡ record s.now { halt = now.halt } = subst (λ (b : BookValue K). now ≡ record b { halt = now.halt }) is same in
-      shared_run (shared_of s.start now s.limit s.number) answer (shared_halted s (shared_of s.start now s.limit s.number) now.halt had refl refl refl kept again)
+      shared_run (shared_of s.start now s.limit s.number) answer (shared_halted s (shared_of s.start now s.limit s.number) now.halt had refl refl refl kept again (subst (λ (b : BookValue K). (now.halt ≡ b.halt) ⊎ (now.halt ≡ Some halts.Memory)) is memory))
       (subst (λ (l : List Entry). LegalPast (outline s.start) l) (sym (ap (λ (b : BookValue K). b.past) again)) legal) stands

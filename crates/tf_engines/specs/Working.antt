@@ -1,5 +1,5 @@
 -- What a hand does in a session of several hands, and what it knows. Histories have the newest entry first.
-use Rattle.std.specs.Prelude.{◌≡◌, ◌≢◌, ℕ, ◌<◌, ◌≤◌, ◌++◌, ◌&&◌, Bool, true, false, List, Option, Some, not, nat_eq}
+use Rattle.std.specs.Prelude.{◌≡◌, ◌≢◌, ℕ, ◌<◌, ◌≤◌, ◌++◌, ◌&&◌, Bool, true, false, List, Option, Some, None, not, nat_eq}
 use Rattle.std.specs.List.{list_all}
 use Rattle.tf_desk.specs.State.{DeskState}
 use Rattle.tf_desk.specs.Counts.{Rises}
@@ -21,6 +21,7 @@ use Rattle.tf_engines.specs.declared.engine.How.{How}
 use Rattle.tf_engines.specs.declared.turns.Next.{Next}
 use Rattle.tf_engines.specs.declared.turns.Next.TheVariants as next
 use Rattle.tf_engines.specs.Asked.{HasDone, HasDoneAllButOne, HasToDo}
+use Rattle.tf_engines.specs.Failing.{MightRecord}
 use Rattle.tf_engines.specs.Runs.{HasRun, StandsAs}
 use Rattle.tf_engines.specs.Shared.{SharedValue, IsJustEntered, seen_past}
 
@@ -107,5 +108,6 @@ module _ {K : Type 0} (state : K → DeskState) (gives : Order → Outcome → T
     pub keeps : (earlier : BookValue K) → SessionInvariant state earlier start → SessionInvariant state earlier now
     pub stops : StandsAs now.halt (flow_of now.past) how
     pub plan : now.plan ≡ start.plan
+    pub failed : start.halt ≡ None → MightRecord gives number now
     pub ran : HasRun gives (Rises (state start.journal.desk).asks (state now.journal.desk).asks) number limit (outline start) start.past now.past how
     pub asks : (state start.journal.desk).asks ≤ (state now.journal.desk).asks

@@ -1,4 +1,4 @@
-ghost use Rattle.std.specs.Prelude.{◌≡◌, ◌<◌, ◌≤◌, ◌+◌, ℕ, [], IsSome, None, true, false, List, Option, length, slice_index_or, vec_capacity, vec_len};
+ghost use Rattle.std.specs.Prelude.{◌≡◌, ◌⊎◌, ◌<◌, ◌≤◌, ◌+◌, ℕ, [], IsSome, None, Some, true, false, List, Option, length, slice_index_or, vec_capacity, vec_len};
 ghost use Rattle.tf_desk.specs.Counts.{Rises};
 ghost use Rattle.tf_hands.specs.Hands.{orders};
 ghost use Rattle.tf_model.specs.Bound.{entry_bound};
@@ -9,7 +9,9 @@ ghost use Rattle.tf_book.specs.Book.{BookValue, outline, flow_state as state_of}
 ghost use Rattle.tf_book.specs.SessionInvariant.{SessionInvariant};
 ghost use Rattle.tf_turnstile.specs.Passes.{AreNew};
 ghost use Rattle.tf_engines.specs.Asked.{HasDoneBy};
+ghost use Rattle.tf_engines.specs.Failing.{MightRecord};
 ghost use Rattle.tf_engines.specs.Runs.{HasRun, StandsAs};
+ghost use Rattle.tf_book.specs.declared.faults.Halt.TheVariants as halt;
 ghost use Rattle.tf_engines.specs.Shared.{IsJustEntered};
 ghost use Rattle.tf_engines.specs.Working.{HasDoneSo, IsRun};
 
@@ -52,6 +54,7 @@ fn halt_for<K: Desk>(book: &mut Book<K>, failed: bool)
         → SessionInvariant K.state start book.new }
     ensures same { book.new ≡ record book.old { halt = book.new.halt } }
     ensures halted { failed ≡ true → IsSome book.new.halt }
+    ensures memory { (book.new.halt ≡ book.old.halt) ⊎ (book.new.halt ≡ Some halt.Memory) }
 {
     if failed {
         book.halt_for_memory();
@@ -192,6 +195,7 @@ pub fn parallel<K: Desk + Send, P: Performer + Send, R: Threads + Wait + Sync>(
         → SessionInvariant K.state start book
         → SessionInvariant K.state start result.book }
     ensures stops { StandsAs result.book.halt (state_of result.book) result.how }
+    ensures failed { book.halt ≡ None → MightRecord P.gives (vec_len hands.old) result.book }
     ensures plan { result.book.plan ≡ book.plan }
     ensures ran { HasRun P.gives (Rises (K.state book.journal.desk).asks (K.state result.book.journal.desk).asks)
         (vec_len hands.old) limit (outline book) book.past result.book.past result.how }

@@ -9,6 +9,7 @@ ghost use Rattle.tf_actions.specs.declared.orders.Order.{Order as AnOrder};
 ghost use Rattle.tf_book.specs.Book.{BookValue, outline, moment, flow_state as state_of};
 ghost use Rattle.tf_book.specs.SessionInvariant.{SessionInvariant};
 ghost use Rattle.tf_engines.specs.Asked.{HasDone, HasToDo, HasDoneBy};
+ghost use Rattle.tf_engines.specs.Failing.{MightRecord};
 ghost use Rattle.tf_engines.specs.Runs.{IsUnderWay, HasRun, HaltsAs, StandsAs, IsBetweenTurns, IsPerforming};
 
 use crate::engine::{How, RunEnd};
@@ -47,6 +48,7 @@ fn perform<K: Desk, P: Performer>(
         → SessionInvariant K.state start book.old
         → SessionInvariant K.state start book.new }
     ensures stops { IfSome result (StandsAs book.new.halt (state_of book.new)) }
+    ensures failed { IfSome result (λ how. MightRecord P.gives 1 book.new) }
     ensures plan { book.new.plan ≡ book.old.plan }
     ensures ran { (limit : Option ℕ) (before : List Record)
         → IsUnderWay P.gives 1 limit (outline book.old) before book.old.past book.old.limit
@@ -85,6 +87,7 @@ fn take_turn<K: Desk, P: Performer>(alloc: Global, book: &mut Book<K>, hand: &mu
         → SessionInvariant K.state start book.old
         → SessionInvariant K.state start book.new }
     ensures stops { IfSome result (StandsAs book.new.halt (state_of book.new)) }
+    ensures failed { IfSome result (λ how. MightRecord P.gives 1 book.new) }
     ensures plan { book.new.plan ≡ book.old.plan }
     ensures ran { (limit : Option ℕ) (before : List Record)
         → IsUnderWay P.gives 1 limit (outline book.old) before book.old.past book.old.limit
@@ -130,6 +133,7 @@ fn run<K: Desk, P: Performer>(alloc: Global, book: &mut Book<K>, hand: &mut P) -
         → SessionInvariant K.state start book.old
         → SessionInvariant K.state start book.new }
     ensures stops { StandsAs book.new.halt (state_of book.new) result }
+    ensures failed { MightRecord P.gives 1 book.new }
     ensures plan { book.new.plan ≡ book.old.plan }
     ensures ran { (limit : Option ℕ) (before : List Record)
         → IsUnderWay P.gives 1 limit (outline book.old) before book.old.past book.old.limit
@@ -160,6 +164,7 @@ fn run_session<K: Desk, P: Performer>(
         → SessionInvariant K.state start book.old
         → SessionInvariant K.state start book.new }
     ensures stops { StandsAs book.new.halt (state_of book.new) result }
+    ensures failed { book.old.halt ≡ None → MightRecord P.gives 1 book.new }
     ensures plan { book.new.plan ≡ book.old.plan }
     ensures ran { HasRun P.gives (Rises (K.state book.old.journal.desk).asks
         (K.state book.new.journal.desk).asks) 1 limit
@@ -195,6 +200,7 @@ pub fn serial<K: Desk, P: Performer>(
         → SessionInvariant K.state start book
         → SessionInvariant K.state start result.book }
     ensures stops { StandsAs result.book.halt (state_of result.book) result.how }
+    ensures failed { book.halt ≡ None → MightRecord P.gives 1 result.book }
     ensures plan { result.book.plan ≡ book.plan }
     ensures ran { HasRun P.gives (Rises (K.state book.journal.desk).asks
         (K.state result.book.journal.desk).asks) 1 limit

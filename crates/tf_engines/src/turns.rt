@@ -9,6 +9,7 @@ ghost use Rattle.tf_book.specs.Book.{BookValue, outline, moment, flow_state as s
 ghost use Rattle.tf_book.specs.SessionInvariant.{SessionInvariant};
 ghost use Rattle.tf_book.specs.Turns.{is_entered};
 ghost use Rattle.tf_engines.specs.Asked.{HasDone};
+ghost use Rattle.tf_engines.specs.Failing.{MightRecord};
 ghost use Rattle.tf_engines.specs.Runs.{StandsBetween};
 ghost use Rattle.tf_engines.specs.Working.{HasDoneNext, HasNext, HasOutcome, IsAdded, next_by};
 
@@ -56,6 +57,8 @@ pub(crate) fn begin<K: Desk, P: Performer>(book: &mut Book<K>, hand: u8) -> Next
         → StandsBetween P.gives (Rises asked (K.state book.new.journal.desk).asks) number limit
         (outline book.old) before
         book.new.past book.new.limit }
+    ensures failed { (number : ℕ) → hand < number → MightRecord P.gives number book.old
+        → MightRecord P.gives number book.new }
     ensures added { IsAdded hand book.old.past book.new.past }
     ensures has { HasNext (outline book.old) book.new.past hand result }
     ensures orders { (told : Option (List AnOrder)) (base : List AnOrder) (did : Option (List AnOrder))
@@ -92,6 +95,8 @@ pub(crate) fn end<K: Desk, P: Performer>(book: &mut Book<K>, hand: u8, outcome: 
         → StandsBetween P.gives (Rises asked (K.state book.new.journal.desk).asks) number limit
         (outline book.old) before
         book.new.past book.new.limit }
+    ensures failed { (number : ℕ) → hand < number → MightRecord P.gives number book.old
+        → MightRecord P.gives number book.new }
     ensures added { IsAdded hand book.old.past book.new.past }
     ensures free { IsTrue result → is_free (outline book.old) (moment book.new) hand ≡ true }
     ensures orders { orders (outline book.old) hand book.new.past ≡ orders (outline book.old) hand book.old.past }

@@ -8,8 +8,9 @@ ghost use Rattle.tf_desk.specs.State.{IsUnasked};
 ghost use Rattle.tf_book.specs.Book.{BookValue, flow_state};
 ghost use Rattle.tf_book.specs.Faults.{IsFault};
 ghost use Rattle.tf_book.specs.SessionInvariant.{SessionInvariant, Proceeds};
-ghost use Rattle.tf_book.specs.Recording.{halt_after, past_after};
+ghost use Rattle.tf_book.specs.Recording.{halt_after, failed_after, past_after};
 ghost use Rattle.tf_book.specs.Stopping.{limit_from};
+ghost use Rattle.tf_book.specs.Tried.{HasTried};
 ghost use Rattle.tf_book.specs.Turns.{IsEntering, IsEntered};
 
 use super::Book;
@@ -30,6 +31,7 @@ impl<K: Desk> Book<K> {
           past = past_after (by_hand hand (flow_turns state)) self.old.past result;
           journal = self.new.journal;
           halt = halt_after result;
+          failed = failed_after (by_hand hand (flow_turns state)) self.old.failed result;
         } }
     {
         self.record(Entry {
@@ -46,6 +48,7 @@ impl<K: Desk> Book<K> {
         ensures proceeds { Proceeds K.state self.old self.new }
         ensures entered { OnOk result (IsEntered hand self.old.past self.new.past Entered.Running) }
         ensures cut { OnErr result (IsEntering hand self.old.past self.new.past) }
+        ensures tried { OnErr result (HasTried hand self.new) }
         ensures halt { self.new.halt ≡ halt_after result }
     {
         self.turn_to(hand, FlowState::Running)
@@ -59,6 +62,7 @@ impl<K: Desk> Book<K> {
         ensures proceeds { Proceeds K.state self.old self.new }
         ensures entered { OnOk result (IsEntered hand self.old.past self.new.past Entered.Running) }
         ensures cut { OnErr result (IsEntering hand self.old.past self.new.past) }
+        ensures tried { OnErr result (HasTried hand self.new) }
         ensures halt { self.new.halt ≡ halt_after result }
     {
         self.turn_to(hand, FlowState::Suspended)?;
@@ -73,6 +77,7 @@ impl<K: Desk> Book<K> {
         ensures proceeds { Proceeds K.state self.old self.new }
         ensures entered { OnOk result (IsEntered hand self.old.past self.new.past Entered.Running) }
         ensures cut { OnErr result (IsEntering hand self.old.past self.new.past) }
+        ensures tried { OnErr result (HasTried hand self.new) }
         ensures halt { self.new.halt ≡ halt_after result }
     {
         self.turn_to(hand, FlowState::Resuming)?;
@@ -88,6 +93,7 @@ impl<K: Desk> Book<K> {
         ensures entered { IfOk result (IsEntered hand self.old.past self.new.past) }
         ensures cut { OnErr result (IsEntering hand self.old.past self.new.past) }
         ensures sound { OnOk result (self.new.halt ≡ None) }
+        ensures tried { OnErr result (HasTried hand self.new) }
         ensures halt { IfErr result (λ halt. self.new.halt ≡ Some halt) }
     {
         let state = self.flow();
@@ -135,6 +141,7 @@ impl<K: Desk> Book<K> {
         ensures unasked { IsUnasked (K.state self.old.journal.desk) (K.state self.new.journal.desk) }
         ensures entered { IfOk result (IsEntered hand self.old.past self.new.past) }
         ensures cut { OnErr result (IsEntering hand self.old.past self.new.past) }
+        ensures tried { OnErr result (self.old.halt ≡ None → HasTried hand self.new) }
         ensures sound { OnOk result (self.new.halt ≡ None) }
         ensures fault { IfErr result (IsFault self.old.halt self.new.halt) }
         ensures halted { (cause : Cause) → self.old.halt ≡ Some cause → self.new ≡ self.old }

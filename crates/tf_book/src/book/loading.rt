@@ -54,6 +54,7 @@ impl<K: Desk> Book<K> {
                 draft,
                 quiet: false,
                 halt: None,
+                failed: None,
                 limit: None,
             })),
             Err(fault) => Err((journal.into_desk(), fault)),

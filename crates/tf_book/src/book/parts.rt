@@ -53,6 +53,7 @@ impl<K: Desk> Book<K> {
             draft: _,
             quiet: _,
             halt: _,
+            failed: _,
             limit: _,
         } = self;
         journal.into_desk()

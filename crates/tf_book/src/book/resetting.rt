@@ -7,6 +7,7 @@ ghost use Rattle.tf_numbers.specs.Numbers.{first_below};
 ghost use Rattle.tf_book.specs.Book.{outline, moment, flow_state};
 ghost use Rattle.tf_book.specs.Faults.{IsFault};
 ghost use Rattle.tf_book.specs.SessionInvariant.{Proceeds};
+ghost use Rattle.tf_book.specs.Tried.{HasTriedToReset};
 ghost use Rattle.tf_book.specs.Resetting.{may_reset as may, IsPutBackBy, IsPutBackOn, IsPutBack};
 ghost use Rattle.tf_book.specs.declared.faults.BookFault.{BookFault as Fault};
 ghost use Rattle.tf_book.specs.declared.faults.Halt.{Halt as Cause};
@@ -47,6 +48,7 @@ impl<K: Desk> Book<K> {
         ensures cut { OnErr result (IsPutBackBy (outline self.old) self.old.past self.new.past
             ⊎ (self.new.past ≡ self.old.past)) }
         ensures sound { OnOk result (self.new.halt ≡ None) }
+        ensures tried { OnErr result (HasTriedToReset self.new) }
         ensures halt { IfErr result (λ halt. self.new.halt ≡ Some halt) }
         ensures less { OnOk result (67108864 - self.new.journal.size < 67108864 - self.old.journal.size) }
     {
@@ -67,6 +69,7 @@ impl<K: Desk> Book<K> {
         ensures put_back { OnOk result (IsPutBack (outline self.old) self.old.past self.new.past) }
         ensures cut { OnErr result (IsPutBackOn (outline self.old) self.old.past self.new.past) }
         ensures sound { OnOk result (self.new.halt ≡ None) }
+        ensures tried { OnErr result (HasTriedToReset self.new) }
         ensures halt { IfErr result (λ halt. self.new.halt ≡ Some halt) }
     {
         'putting: loop {
@@ -83,6 +86,7 @@ impl<K: Desk> Book<K> {
         ensures proceeds { Proceeds K.state self.old self.new }
         ensures put_back { OnOk result (IsPutBack (outline self.old) self.old.past self.new.past) }
         ensures cut { OnErr result (IsPutBackOn (outline self.old) self.old.past self.new.past) }
+        ensures tried { OnErr result (self.old.halt ≡ None → HasTriedToReset self.new) }
         ensures sound { OnOk result (self.new.halt ≡ None) }
         ensures refused { (named : State) → result ≡ Err (ResetFault.Forbidden named)
             → (named ≡ flow_state self.old) × (self.new ≡ self.old) × (self.old.halt ≡ None)

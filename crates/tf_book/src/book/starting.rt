@@ -110,6 +110,7 @@ impl<K: Desk> Book<K> {
                 draft,
                 quiet,
                 halt: None,
+                failed: None,
                 limit: None,
             }),
             Err(fault) => Err((journal.into_desk(), fault)),

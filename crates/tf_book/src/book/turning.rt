@@ -15,6 +15,7 @@ ghost use Rattle.tf_book.specs.Faults.{IsFault};
 ghost use Rattle.tf_book.specs.SessionInvariant.{SessionInvariant, Proceeds, TakesTurn};
 ghost use Rattle.tf_book.specs.Recording.{halt_for_memory, halt_after, past_after};
 ghost use Rattle.tf_book.specs.Stopping.{is_to_stop, IsAnswered};
+ghost use Rattle.tf_book.specs.Tried.{HasTried, HasTriedToEnd};
 ghost use Rattle.tf_book.specs.Turns.{RanOn, RanUntilStop, IsForcedBy, IsForcedOn, IsStartedSo, IsStartOf, HasRested, IsClosedOr, HasStopped, IsStoppedOr, IsFinished, IsLessAfterStart, IsTurn, IsHaltedTurn, IsTurnAsked, IsHaltedTurnAsked, is_entered, end_now, suspending_after};
 ghost use Rattle.tf_book.specs.declared.faults.Halt.{Halt as Cause};
 ghost use Rattle.tf_states.specs.declared.record.Entry.{Entry as Record};
@@ -53,6 +54,7 @@ impl<K: Desk> Book<K> {
             ⊎ (self.new.past ≡ self.old.past)) }
         ensures running { OnOk result (flow_state self.new ≡ flow.Running) }
         ensures sound { OnOk result (self.new.halt ≡ None) }
+        ensures tried { OnErr result (HasTried hand self.new) }
         ensures halt { IfErr result (λ halt. self.new.halt ≡ Some halt) }
         ensures no_more { 67108864 - self.new.journal.size ≤ 67108864 - self.old.journal.size }
         ensures less { result ≡ Ok true → 67108864 - self.new.journal.size < 67108864 - self.old.journal.size }
@@ -95,6 +97,7 @@ impl<K: Desk> Book<K> {
         ensures cut { OnErr result
             (IsForcedOn (outline self.old) hand asked self.old.limit self.old.past self.new.past) }
         ensures sound { OnOk result (self.new.halt ≡ None) }
+        ensures tried { OnErr result (HasTried hand self.new) }
         ensures halt { IfErr result (λ halt. self.new.halt ≡ Some halt) }
         ensures no_more { 67108864 - self.new.journal.size ≤ 67108864 - self.old.journal.size }
     {
@@ -121,6 +124,7 @@ impl<K: Desk> Book<K> {
         ensures cut { OnErr result (IsStartedSo (outline self.old) hand self.old.past self.new.past start
             ⊎ (self.new.past ≡ self.old.past)) }
         ensures sound { OnOk result (self.new.halt ≡ None) }
+        ensures tried { OnErr result (HasTried hand self.new) }
         ensures halt { IfErr result (λ halt. self.new.halt ≡ Some halt) }
         ensures less { OnOk result (67108864 - self.new.journal.size < 67108864 - self.old.journal.size) }
     {
@@ -144,6 +148,7 @@ impl<K: Desk> Book<K> {
             × (state ≡ flow.Suspended)) }
         ensures proceeds { Proceeds K.state self.old self.new }
         ensures past { self.new.past ≡ past_after (by_hand hand (flow_turns state)) self.old.past result }
+        ensures tried { OnErr result (HasTried hand self.new) }
         ensures halt { self.new.halt ≡ halt_after result }
     {
         self.record(Entry {
@@ -164,6 +169,7 @@ impl<K: Desk> Book<K> {
         ensures rested { IfOk result (HasRested (outline self.old) hand self.old.past self.new.past) }
         ensures cut { OnErr result (IsClosedOr (outline self.old) hand self.old.past self.new.past) }
         ensures sound { OnOk result (self.new.halt ≡ None) }
+        ensures tried { OnErr result (HasTried hand self.new) }
         ensures halt { IfErr result (λ halt. self.new.halt ≡ Some halt) }
     {
         if !self.is_still() {
@@ -186,6 +192,7 @@ impl<K: Desk> Book<K> {
         ensures rested { IfOk result (HasRested (outline self.old) hand self.old.past self.new.past) }
         ensures cut { OnErr result (IsClosedOr (outline self.old) hand self.old.past self.new.past) }
         ensures sound { OnOk result (self.new.halt ≡ None) }
+        ensures tried { OnErr result (HasTried hand self.new) }
         ensures halt { IfErr result (λ halt. self.new.halt ≡ Some halt) }
     {
         if !self.is_still() {
@@ -211,6 +218,7 @@ impl<K: Desk> Book<K> {
             (IsClosedOr (outline self.old) hand (suspending_after hand self.old.past) self.new.past
             ⊎ (self.new.past ≡ self.old.past)) }
         ensures sound { OnOk result (self.new.halt ≡ None) }
+        ensures tried { OnErr result (HasTried hand self.new) }
         ensures halt { IfErr result (λ halt. self.new.halt ≡ Some halt) }
     {
         self.turn_to(hand, FlowState::Suspending)?;
@@ -237,6 +245,7 @@ impl<K: Desk> Book<K> {
         ensures stopped { IfOk result (HasStopped (outline self.old) hand self.old.past self.new.past) }
         ensures cut { OnErr result (IsStoppedOr (outline self.old) hand self.old.past self.new.past) }
         ensures sound { OnOk result (self.new.halt ≡ None) }
+        ensures tried { OnErr result (HasTried hand self.new) }
         ensures halt { IfErr result (λ halt. self.new.halt ≡ Some halt) }
     {
         let Some(state) = self.end_now() else {
@@ -258,6 +267,7 @@ impl<K: Desk> Book<K> {
         ensures cut { OnErr result
             (IsHaltedTurn (outline self.old) hand asked self.old.limit self.old.past self.new.past) }
         ensures sound { OnOk result (self.new.halt ≡ None) }
+        ensures tried { OnErr result (HasTried hand self.new) }
         ensures halt { IfErr result (λ halt. self.new.halt ≡ Some halt) }
         ensures less { IfOk result (IsLessAfterStart self.old.journal.size self.new.journal.size) }
     {
@@ -281,6 +291,7 @@ impl<K: Desk> Book<K> {
         ensures cut { OnErr result
             (IsHaltedTurn (outline self.old) hand asked self.old.limit self.old.past self.new.past) }
         ensures sound { OnOk result (self.new.halt ≡ None) }
+        ensures tried { OnErr result (HasTried hand self.new) }
         ensures halt { IfErr result (λ halt. self.new.halt ≡ Some halt) }
         ensures less { IfOk result (IsLessAfterStart self.old.journal.size self.new.journal.size) }
     {
@@ -325,6 +336,7 @@ impl<K: Desk> Book<K> {
             (K.state self.old.journal.desk).asks (K.state self.new.journal.desk).asks self.old.past self.new.past) }
         ensures cut { OnErr result (IsHaltedTurnAsked (outline self.old) hand self.old.limit
             (K.state self.old.journal.desk).asks (K.state self.new.journal.desk).asks self.old.past self.new.past) }
+        ensures tried { OnErr result (self.old.halt ≡ None → HasTried hand self.new) }
         ensures sound { OnOk result (self.new.halt ≡ None) }
         ensures fault { IfErr result (IsFault self.old.halt self.new.halt) }
         ensures halted { (cause : Cause) → self.old.halt ≡ Some cause → self.new ≡ self.old }
@@ -349,6 +361,7 @@ impl<K: Desk> Book<K> {
         ensures cut { OnErr result (IsFinished (outline self.old) hand outcome self.old.past self.new.past
             ⊎ (self.new.past ≡ self.old.past)) }
         ensures no_memory { IsErrOf result BookFault.Memory → ⊥ }
+        ensures tried { OnErr result (self.old.halt ≡ None → HasTriedToEnd hand outcome self.old self.new) }
         ensures sound { OnOk result (self.new.halt ≡ None) }
         ensures fault { IfErr result (IsFault self.old.halt self.new.halt) }
         ensures halted { (cause : Cause) → self.old.halt ≡ Some cause → self.new ≡ self.old }

@@ -5,7 +5,7 @@ use Rattle.tf_engines.proofs.many_hands.conclude.Goals as goal
 pub returns-clause-run : goal.returns-clause-run
 returns-clause-run g c =
     concluded g.K.Desk.state g.P.Performer.gives c.args.shared c.into_book-book.result c.halt_for.new.book c.stopped-how.result c.into_book-book.ensures.shared c.into_book-book.ensures.legal c.into_book-book.ensures.book
-    c.halt_for.ensures.keeps c.halt_for.ensures.same c.stopped-how.ensures
+    c.halt_for.ensures.keeps c.halt_for.ensures.same c.halt_for.ensures.memory c.stopped-how.ensures
 
 pub returns-clause-orders : goal.returns-clause-orders
 returns-clause-orders g c = λ told base did asked has.

@@ -1,4 +1,4 @@
-use Rattle.std.proofs.Common.{◌≡◌, true, refl, ap, subst, sym, None, ◌∙◌, ℕ, List, Option}
+use Rattle.std.proofs.Common.{◌≡◌, true, refl, ap, subst, sym, None, ◌∙◌, ℕ, List, Option, arith}
 use Rattle.tf_flow.specs.Plan.{PlanValue}
 use Rattle.tf_model.specs.History.{snapshot}
 use Rattle.tf_model.specs.Plan.{outline_of}
@@ -7,6 +7,9 @@ use Rattle.tf_states.specs.declared.record.Entry.{Entry}
 use Rattle.tf_hands.proofs.FlightLemmas.{order_told}
 use Rattle.tf_book.specs.Book.{BookValue}
 use Rattle.tf_engines.specs.Runs.{IsUnderWay}
+use Rattle.tf_book.specs.Recording.{halt_for_memory}
+use Rattle.tf_book.proofs.TriedLemmas.{none_tried}
+use Rattle.tf_engines.proofs.FailLemmas.{end_failed, unhalted_might}
 use Rattle.tf_engines.proofs.OrderLemmas.{finished_done, finished_or_done, done_next, done_whole, halted_asks}
 use Rattle.tf_engines.proofs.RunLemmas.{goes_session, halts_so, goes_finished, finished_or_not, still_after, runs_after, told_some}
 use Rattle.tf_engines.proofs.one_hand.perform.Goals as goal
@@ -50,3 +53,14 @@ pub returns-clause-stopped : goal.returns-clause-stopped
 returns-clause-stopped g c = λ told base to_do.
     halted_asks told base _ _ _ _ c.halted-in-Err.ensures.cause
     (done_whole told base _ _ (finished_or_done 0 told base _ _ _ _ _ c.in-Err.ensures.cut (done_next told base _ _ _ _ to_do c.in-Ok.ensures.done)))
+
+pub returns-in_default-clause-failed : goal.returns-in_default-clause-failed
+returns-in_default-clause-failed g c =
+    none_tried _ _ _ (ap (λ (b : BookValue _). b.halt) c.halt_for_memory.ensures.same ∙ ap halt_for_memory c.requires.at_work.sound)
+
+pub returns-clause-failed : goal.returns-clause-failed
+returns-clause-failed g c =
+    let e = c.finish.ensures in
+    end_failed g.P.Performer.gives 0 1 (omega arith) c.args.book.now c.finish.new.self c.in-Ok.outcome c.finish.result g.met.P.Performer.reverts_to_nothing c.state-before.ensures.legal
+    record { order = c.args.order; has = c.requires.at_work.has; gave = c.in-Ok.ensures.given } e.proceeds.plan e.sound e.tried e.halted
+    (unhalted_might g.P.Performer.gives 1 c.args.book.now c.requires.at_work.sound)

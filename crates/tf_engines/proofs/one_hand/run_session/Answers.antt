@@ -8,6 +8,7 @@ use Rattle.tf_engines.proofs.StopLemmas.{run_later}
 use Rattle.tf_flow.specs.Plan.{PlanValue}
 use Rattle.tf_model.specs.Plan.{outline_of}
 use Rattle.tf_model.specs.Steps.{LegalPast}
+use Rattle.tf_engines.proofs.FailLemmas.{turn_failed, unhalted_might}
 use Rattle.tf_engines.proofs.OrderLemmas.{entered_done, cut_done, halted_asks}
 use Rattle.tf_engines.proofs.EnterLemmas.{entered_goes, entered_going, ended_before, cut_before}
 use Rattle.tf_engines.proofs.one_hand.run_session.Goals as goal
@@ -51,3 +52,12 @@ returns-in-Ok-Running-clause-stopped g c = λ told base has.
     (c.run.ensures.stopped told base
     (subst (λ (p : PlanValue). HasDone told base did (orders (outline_of p) 0 c.enter.new.self.past)) (sym c.enter.ensures.plan)
     (entered_done 0 told base did (outline_of c.args.book.now.plan) c.args.book.now.past c.enter.new.self.past t has)))
+
+pub returns-in-Ok-Ended-clause-failed : goal.returns-in-Ok-Ended-clause-failed
+returns-in-Ok-Ended-clause-failed g c = λ was. unhalted_might g.P.Performer.gives 1 c.enter.new.self c.in-Ok-Ended.ensures.sound
+
+pub returns-in-Err-clause-failed : goal.returns-in-Err-clause-failed
+returns-in-Err-clause-failed g c = λ was.
+    let e = c.enter.ensures in
+    turn_failed g.P.Performer.gives 0 1 (omega arith) c.args.book.now c.enter.new.self c.enter.result e.sound e.tried e.halted
+    (unhalted_might g.P.Performer.gives 1 c.args.book.now was)

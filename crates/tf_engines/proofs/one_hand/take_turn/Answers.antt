@@ -1,4 +1,4 @@
-use Rattle.std.proofs.Common.{refl, subst, sym, ℕ, List, Option}
+use Rattle.std.proofs.Common.{refl, arith, subst, sym, ℕ, List, Option}
 use Rattle.std.specs.Prelude.{IfSome, IfNone}
 use Rattle.tf_flow.specs.Plan.{PlanValue}
 use Rattle.tf_desk.specs.Counts.{Rises}
@@ -11,6 +11,7 @@ use Rattle.tf_engines.specs.declared.engine.How.{How}
 use Rattle.tf_actions.specs.declared.orders.Order.{Order}
 use Rattle.tf_hands.specs.Hands.{orders}
 use Rattle.tf_engines.specs.Asked.{HasDone, HasToDo, HasDoneBy}
+use Rattle.tf_engines.proofs.FailLemmas.{turn_failed, unhalted_might}
 use Rattle.tf_engines.proofs.OrderLemmas.{started_to_do, ended_done, suspended_done, halted_done, halted_asks}
 use Rattle.tf_engines.proofs.StopLemmas.{some_later}
 use Rattle.tf_engines.proofs.TurnLemmas.{goes_started, has_started, alone_started, runs_started, never_waits, turn_ended, turn_stops, turn_suspended, turn_is_suspended, halted_run}
@@ -117,3 +118,9 @@ returns-in-Ok-Ended-clause-stopped g c = λ told base has.
 pub returns-in-Err-clause-stopped : goal.returns-in-Err-clause-stopped
 returns-in-Err-clause-stopped g c = λ told base has.
     halted_asks told base _ _ _ _ c.halted.ensures.cause (halted_done 0 told base (g.P.Performer.did c.args.hand.now) _ _ _ _ _ _ c.in-Err.ensures.cut has)
+
+pub returns-in-Err-clause-failed : goal.returns-in-Err-clause-failed
+returns-in-Err-clause-failed g c =
+    let e = c.next.ensures in
+    turn_failed g.P.Performer.gives 0 1 (omega arith) c.args.book.now c.next.new.self c.next.result e.sound e.tried e.halted
+    (unhalted_might g.P.Performer.gives 1 c.args.book.now c.requires.going.sound)

@@ -6,6 +6,7 @@ use Rattle.tf_model.specs.Steps.{LegalPast}
 use Rattle.tf_book.specs.Book.{outline}
 use Rattle.tf_engines.specs.Working.{HasNext, HasDoneNext}
 use Rattle.tf_engines.specs.declared.turns.Next.{Next}
+use Rattle.tf_engines.proofs.FailLemmas.{turn_failed}
 use Rattle.tf_engines.proofs.OrderLemmas.{halted_done}
 use Rattle.tf_engines.proofs.NextLemmas.{turn_adds, turn_next, turn_done, halted_adds}
 use Rattle.tf_engines.proofs.SharedLemmas.{turn_leaves, halted_leaves}
@@ -41,3 +42,13 @@ returns-in-Err-clause-added g c = halted_adds c.args.hand _ _ _ _ _ _ c.in-Err.e
 
 pub returns-in-Err-clause-orders : goal.returns-in-Err-clause-orders
 returns-in-Err-clause-orders g c = λ told base did has. halted_done c.args.hand told base did _ _ _ _ _ _ c.in-Err.ensures.cut has
+
+pub returns-in-Ok-clause-failed : goal.returns-in-Ok-clause-failed
+returns-in-Ok-clause-failed g c = λ number below was.
+    let e = c.next.ensures in
+    turn_failed g.P.Performer.gives c.args.hand number below c.args.book.now c.next.new.self c.next.result e.sound e.tried e.halted was
+
+pub returns-in-Err-clause-failed : goal.returns-in-Err-clause-failed
+returns-in-Err-clause-failed g c = λ number below was.
+    let e = c.next.ensures in
+    turn_failed g.P.Performer.gives c.args.hand number below c.args.book.now c.next.new.self c.next.result e.sound e.tried e.halted was

@@ -5,6 +5,7 @@ use Rattle.tf_model.specs.Plan.{outline_of}
 use Rattle.tf_model.specs.Steps.{is_free}
 use Rattle.tf_book.specs.Book.{outline}
 use Rattle.tf_hands.proofs.FlightLemmas.{order_told}
+use Rattle.tf_engines.proofs.FailLemmas.{end_failed}
 use Rattle.tf_engines.proofs.OrderLemmas.{finished_asks, finished_or_asks}
 use Rattle.tf_engines.proofs.NextLemmas.{finished_adds, finished_or_adds, finished_free}
 use Rattle.tf_engines.proofs.RunLemmas.{told_some}
@@ -42,3 +43,15 @@ returns-in-Err-clause-added g c = finished_or_adds c.args.hand _ _ _ _ c.in-Err.
 
 pub returns-in-Err-clause-orders : goal.returns-in-Err-clause-orders
 returns-in-Err-clause-orders g c = finished_or_asks c.args.hand _ _ _ _ c.in-Err.ensures.cut
+
+pub returns-in-Ok-clause-failed : goal.returns-in-Ok-clause-failed
+returns-in-Ok-clause-failed g c = λ number below was.
+    let e = c.finish.ensures in
+    end_failed g.P.Performer.gives c.args.hand number below c.args.book.now c.finish.new.self c.args.outcome c.finish.result g.met.P.Performer.reverts_to_nothing c.state-before.ensures.legal
+    c.requires.has e.proceeds.plan e.sound e.tried e.halted was
+
+pub returns-in-Err-clause-failed : goal.returns-in-Err-clause-failed
+returns-in-Err-clause-failed g c = λ number below was.
+    let e = c.finish.ensures in
+    end_failed g.P.Performer.gives c.args.hand number below c.args.book.now c.finish.new.self c.args.outcome c.finish.result g.met.P.Performer.reverts_to_nothing c.state-before.ensures.legal
+    c.requires.has e.proceeds.plan e.sound e.tried e.halted was

@@ -9,4 +9,4 @@ invariant_of-self g c =
     shared_after g.K.Desk.state g.P.Performer.gives
     record { start = c.self.inside.start.value; now = c.self.inside.book; limit = c.self.inside.limit; number = c.self.inside.hands }
     record { start = c.self.inside.start.value; now = c.end.new.book; limit = c.self.inside.limit; number = c.self.inside.hands }
-    c.args.hand (subst (λ (s : SharedValue _). c.args.hand < s.number) (sym c.self.view_is) c.requires.hand) c.self.invariant refl refl refl e.keeps e.plan e.asks e.stands e.added
+    c.args.hand (subst (λ (s : SharedValue _). c.args.hand < s.number) (sym c.self.view_is) c.requires.hand) c.self.invariant refl refl refl e.keeps e.plan e.asks e.stands e.failed e.added
