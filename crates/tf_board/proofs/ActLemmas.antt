@@ -10,8 +10,10 @@ use Rattle.tf_journal.specs.Path.{IsSet}
 use Rattle.tf_journal.specs.Start.{file_of}
 use Rattle.tf_journal.proofs.PathLemmas.{set_on, path_on, as_read}
 use Rattle.tf_words.specs.declared.asked.Asked.{Asked}
-use Rattle.tf_board.specs.Answers.{Answer, answers, answer_of, acts, disk_fault, board_full, fault_text, fault_status, refusal_text, applied_text}
-use Rattle.tf_board.specs.Board.{BoardValue, board_in, Holds}
+use Rattle.tf_board.specs.Answers.{Answer, answers, answer_of, acts, fault_text, fault_status, refusal_text, applied_text}
+use Rattle.tf_report.specs.Faults.{disk_fault_text, book_full}
+use Rattle.tf_report.specs.declared.statuses.TheConstants.{SUCCEEDED, DISK_FAILED, OUT_OF_MEMORY, FULL, BOARD_REFUSED}
+use Rattle.tf_board.specs.Board.{BoardValue, AreOfBoard, board_in, Holds}
 use Rattle.tf_board.specs.Does.{Reached, Ends, Does, Concludes, HasCauses, answered, unrecorded, disk_failed, filled}
 use Rattle.tf_board.specs.Opening.{IsOpened}
 use Rattle.tf_board.specs.Recording.{FailsToRecord, Records, Acts, fault_of, applied}
@@ -21,18 +23,17 @@ use Rattle.tf_board.specs.declared.faults.BoardFault.{BoardFault}
 use Rattle.tf_board.specs.declared.faults.BoardFault.TheVariants as fault
 use Rattle.tf_board.specs.declared.rules.Refusal.{Refusal}
 use Rattle.tf_board.specs.declared.rules.Refusal.TheVariants as refusal
-use Rattle.tf_board.specs.declared.statuses.TheConstants.{SUCCEEDED, DISK_FAILED, OUT_OF_MEMORY, FULL, BOARD_REFUSED}
 use Rattle.tf_board.proofs.DeskLaws.{KeepsLaws}
 use Rattle.tf_board.proofs.EndLemmas.{opened_reached, causes_so}
 
 -- ---- faults
 
 -- the texts for some faults
-disk_text : fault_text fault.Disk ≡ disk_fault
+disk_text : fault_text fault.Disk ≡ disk_fault_text
 unfolding fault_text
 disk_text = refl
 
-full_text : (size need : ℕ) → fault_text (fault.Full size need) ≡ board_full size need
+full_text : (size need : ℕ) → fault_text (fault.Full size need) ≡ book_full size need
 unfolding fault_text
 full_text size need = refl
 
@@ -132,8 +133,8 @@ module _ {K : Type 0} (state : K → DeskState) (name : List ℕ) (entry : DeskS
       → SaysFault (state new.journal.desk) now why status → (why ≡ fault.Memory → status ≡ OUT_OF_MEMORY) → KeepsLaws state
       → Does asked name entry now status
   recording_failed asked now old new added fault.Disk status o r adds ends stopped laws =
-      disk_failed old.past o.fresh.legal o.found
-      (subst (λ (l : List Command). Ends name old.past l old.past entry now disk_fault DISK_FAILED status) (sym adds)
+      disk_failed old.past o.fresh.legal (subst (λ (l : List Command). AreOfBoard (l ++ old.past)) (sym adds) r.fails.legal) o.found
+      (subst (λ (l : List Command). Ends name old.past l old.past entry now disk_fault_text DISK_FAILED status) (sym adds)
       (subst (λ (m : List ℕ). Ends name old.past (added ∷ []) old.past entry now m DISK_FAILED status) disk_text
       (ends old.past (added ∷ []) old.past (failed_reached o r laws))))
   recording_failed asked now old new added (fault.Full size need) status o r adds ends stopped laws =
@@ -159,7 +160,7 @@ module _ {K : Type 0} (state : K → DeskState) (name : List ℕ) (entry : DeskS
       → SaysFault (state new.journal.desk) now got status → (got ≡ fault.Memory → status ≡ OUT_OF_MEMORY)
       → Does asked name entry now status
   refused_does asked now old new why id got status o same is (inl right) ends stopped =
-      answered old.past o.fresh.legal o.found
+      answered old.past o.fresh.legal (subst (λ (a : Answer). AreOfBoard (a.added ++ old.past)) (sym is) o.fresh.legal) o.found
       (subst (λ (a : Answer). Ends name old.past [] (a.added ++ old.past) entry now a.text a.status status) (sym is)
       (subst (λ (n : ℕ). Ends name old.past [] old.past entry now (refusal_text why id) n status) (refused_status why id)
       (subst (λ (f : BoardFault). Ends name old.past [] old.past entry now (fault_text f) (fault_status f) status) right
@@ -181,7 +182,7 @@ module _ {K : Type 0} (state : K → DeskState) (name : List ℕ) (entry : DeskS
   acted_does asked now old new (Some why) action id owner status o is a ends =
       absurd (⊎_elim (λ no. err_not_ok (Ok tt) tt (fault_of why id) refl no) (λ no. err_not_ok (Ok tt) tt fault.Memory refl no) a.answer)
   acted_does asked now old new None action id owner status o is r ends =
-      answered old.past o.fresh.legal o.found
+      answered old.past o.fresh.legal (subst (λ (a : Answer). AreOfBoard (a.added ++ old.past)) (sym is) r.recorded.legal) o.found
       (subst (λ (a : Answer). Ends name old.past [] (a.added ++ old.past) entry now a.text a.status status) (sym is)
       (ends old.past [] (applied old.past action id owner ∷ old.past) (recorded_reached tt o r)))
 
@@ -204,7 +205,7 @@ module _ {K : Type 0} (state : K → DeskState) (name : List ℕ) (entry : DeskS
       → ((past pending after : List Command) → Reached name past pending after entry (state mid) → Ends name past pending after entry now text SUCCEEDED status)
       → Does asked name entry now status
   said_does asked mid now board text status o back is ends =
-      answered board.past o.fresh.legal o.found
+      answered board.past o.fresh.legal (subst (λ (a : Answer). AreOfBoard (a.added ++ board.past)) (sym is) o.fresh.legal) o.found
       (subst (λ (a : Answer). Ends name board.past [] (a.added ++ board.past) entry now a.text a.status status) (sym is)
       (ends board.past [] board.past (subst (λ (k : K). Reached name board.past [] board.past entry (state k)) (sym back) (opened_reached state name entry board o))))
 

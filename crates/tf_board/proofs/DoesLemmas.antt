@@ -1,13 +1,17 @@
 -- The ways that a command on a board goes: their statuses, and that each is done that isn't refused where nothing fails.
-use Rattle.std.proofs.Common.{◌≡◌, ◌≢◌, ◌⊎◌, ℕ, List, Option, Some, None, refl, sym, ap, ◌∙◌, subst, inl, inr, ⊎_elim}
+use Rattle.std.proofs.Common.{◌≡◌, ◌≢◌, ℕ, List, Option, Some, None, refl, sym, ap, ◌∙◌, subst, inl, inr, ⊎_elim}
 use Rattle.std.specs.Prelude.{IsTrue}
 use Rattle.tf_desk.specs.State.{DeskState}
 use Rattle.tf_journal.specs.Start.{file_of}
 use Rattle.tf_words.specs.declared.asked.Asked.{Asked}
 use Rattle.tf_words.specs.declared.asked.Asked.TheVariants as words
-use Rattle.tf_board.specs.Answers.{answer_of, board_of, acts, tells_owner, disk_fault, board_full}
+use Rattle.tf_board.specs.Answers.{answer_of, board_of, acts, tells_owner}
+use Rattle.tf_report.specs.Faults.{disk_fault_text, book_full}
+use Rattle.tf_report.specs.Closing.{ClosesWithOrStops}
+use Rattle.tf_report.proofs.ClosingLemmas.{ends_status}
+use Rattle.tf_report.specs.declared.statuses.TheConstants.{DISK_FAILED, NO_BOOK, UNSAID, FULL}
 use Rattle.tf_board.specs.Board.{board_in}
-use Rattle.tf_board.specs.Does.{said, cut, ClosesOrStops, Does, IsAllowed, IsBoardComplete, IsBoardStatus, is_done, is_failed, is_no_board, is_unsaid, is_out, is_full, is_refused, unopened_memory, unopened_disk, no_board, answered, unrecorded, disk_failed, filled}
+use Rattle.tf_board.specs.Does.{Does, IsAllowed, IsBoardComplete, IsBoardStatus, is_done, is_failed, is_no_board, is_unsaid, is_out, is_full, is_refused, unopened_memory, unopened_disk, no_board, answered, unrecorded, disk_failed, filled}
 use Rattle.tf_board.specs.Jobs.{refuses_id, owner_of}
 use Rattle.tf_board.specs.declared.commands.Command.{Command}
 use Rattle.tf_board.specs.declared.board.Owner.{Owner}
@@ -15,14 +19,6 @@ use Rattle.tf_board.specs.declared.board.Owner.TheVariants as owned
 use Rattle.tf_board.specs.declared.commands.JobAction.{JobAction}
 use Rattle.tf_board.specs.declared.commands.JobAction.TheVariants as action
 use Rattle.tf_board.specs.declared.rules.Refusal.{Refusal}
-use Rattle.tf_board.specs.declared.statuses.TheConstants.{DISK_FAILED, NO_BOARD, UNSAID, OUT_OF_MEMORY, FULL}
-
--- the status of what closes
-closes_status : (old new : DeskState) (message : List ℕ) (wanted status : ℕ) → ClosesOrStops old message wanted new status
-    → (status ≡ OUT_OF_MEMORY) ⊎ (status ≡ wanted) ⊎ (status ≡ UNSAID)
-closes_status old new message wanted status (inl stopped) = inl stopped.0
-closes_status old new message wanted _ (inr (said same)) = inr (inl refl)
-closes_status old new message wanted _ (inr (cut prefix)) = inr (inr refl)
 
 -- the status of an answer
 acts_status : (refused : Option Refusal) (past : List Command) (action : JobAction) (id owner : List ℕ) → IsBoardStatus (acts refused past action id owner).status
@@ -36,12 +32,12 @@ owner_status owned.Free id = is_done refl
 owner_status (owned.Of name) id = is_done refl
 
 answer_status : (asked : Asked) (past : List Command) → IsBoardStatus (answer_of asked past).status
-answer_status (words.Try file sets defer want) past = is_done refl
-answer_status (words.Run file book sets defer want stop) past = is_done refl
+answer_status (words.Try file sets defer want target) past = is_done refl
+answer_status (words.Run file book sets defer want stop target) past = is_done refl
 answer_status (words.Resume book want stop) past = is_done refl
 answer_status (words.Show book) past = is_done refl
 answer_status (words.Reset book) past = is_done refl
-answer_status (words.Check file sets) past = is_done refl
+answer_status (words.Check file sets target) past = is_done refl
 answer_status (words.Demo seed size book hands) past = is_done refl
 answer_status (words.Worker address sessions) past = is_done refl
 answer_status (words.Post board name priority details) past = is_done refl
@@ -66,34 +62,34 @@ pub complete_so : (asked : Asked) (name : List ℕ) (entry now : DeskState) (sta
     → IsTrue entry.tells → IsAllowed asked (board_in (file_of entry name)) → status ≢ DISK_FAILED → status ≢ UNSAID → IsBoardComplete status
 complete_so asked name entry now status does told allowed no_disk no_out = by does
   where
-    ends : (message : List ℕ) (wanted : ℕ) → ClosesOrStops entry message wanted now status → (status ≡ wanted → IsBoardComplete status) → IsBoardComplete status
+    ends : (message : List ℕ) (wanted : ℕ) → ClosesWithOrStops entry.shown message wanted now.shown status → (status ≡ wanted → IsBoardComplete status) → IsBoardComplete status
     ends message wanted closes right =
         ⊎_elim (λ stopped. inr (inl stopped)) (λ others. ⊎_elim (λ same. right same) (λ unsaid. absurd (no_out unsaid)) others)
-        (closes_status entry now message wanted status closes)
+        (ends_status entry.shown now.shown message wanted status closes)
 
     by : Does asked name entry now status → IsBoardComplete status
     by (unopened_memory is e) = inr (inl is)
-    by (unopened_disk e) = ends disk_fault DISK_FAILED e.closes (λ is. absurd (no_disk is))
+    by (unopened_disk e) = ends disk_fault_text DISK_FAILED e.closes (λ is. absurd (no_disk is))
     by (no_board offset byte is same e) = absurd (allowed.0 offset byte (is told))
-    by (answered past legal has e) = ends (answer_of asked past).text (answer_of asked past).status e.closes (λ is. inl (is ∙ allowed.1 past legal (has told)))
+    by (answered past legal may has e) = ends (answer_of asked past).text (answer_of asked past).status e.closes (λ is. inl (is ∙ allowed.1 past legal (has told)))
     by (unrecorded past legal has is e) = inr (inl is)
-    by (disk_failed past legal has e) = ends disk_fault DISK_FAILED e.closes (λ is. absurd (no_disk is))
-    by (filled past size need legal has full e) = ends (board_full size need) FULL e.closes (λ is. inr (inr is))
+    by (disk_failed past legal may has e) = ends disk_fault_text DISK_FAILED e.closes (λ is. absurd (no_disk is))
+    by (filled past size need legal has full e) = ends (book_full size need) FULL e.closes (λ is. inr (inr is))
 
 -- the statuses of a command on a board
 pub does_status : (asked : Asked) (name : List ℕ) (entry now : DeskState) (status : ℕ) → Does asked name entry now status → IsBoardStatus status
 does_status asked name entry now status does = by does
   where
-    ends : (message : List ℕ) (wanted : ℕ) → ClosesOrStops entry message wanted now status → IsBoardStatus wanted → IsBoardStatus status
+    ends : (message : List ℕ) (wanted : ℕ) → ClosesWithOrStops entry.shown message wanted now.shown status → IsBoardStatus wanted → IsBoardStatus status
     ends message wanted closes right =
         ⊎_elim (λ stopped. is_out stopped) (λ others. ⊎_elim (λ same. subst IsBoardStatus (sym same) right) (λ unsaid. is_unsaid unsaid) others)
-        (closes_status entry now message wanted status closes)
+        (ends_status entry.shown now.shown message wanted status closes)
 
     by : Does asked name entry now status → IsBoardStatus status
     by (unopened_memory is e) = is_out is
-    by (unopened_disk e) = ends disk_fault DISK_FAILED e.closes (is_failed refl)
-    by (no_board offset byte is same e) = ends _ NO_BOARD e.closes (is_no_board refl)
-    by (answered past legal has e) = ends (answer_of asked past).text (answer_of asked past).status e.closes (answer_status asked past)
+    by (unopened_disk e) = ends disk_fault_text DISK_FAILED e.closes (is_failed refl)
+    by (no_board offset byte is same e) = ends _ NO_BOOK e.closes (is_no_board refl)
+    by (answered past legal may has e) = ends (answer_of asked past).text (answer_of asked past).status e.closes (answer_status asked past)
     by (unrecorded past legal has is e) = is_out is
-    by (disk_failed past legal has e) = ends disk_fault DISK_FAILED e.closes (is_failed refl)
-    by (filled past size need legal has full e) = ends (board_full size need) FULL e.closes (is_full refl)
+    by (disk_failed past legal may has e) = ends disk_fault_text DISK_FAILED e.closes (is_failed refl)
+    by (filled past size need legal has full e) = ends (book_full size need) FULL e.closes (is_full refl)

@@ -2,7 +2,7 @@
 use Rattle.std.proofs.Common.{◌≡◌, ◌≢◌, ◌⊎◌, ℕ, List, [], Option, Some, None, refl, sym, ap, ◌∙◌, subst, inl, inr, ⊎_elim, append-nil}
 use Rattle.std.specs.Prelude.{IsTrue, unwrap_or}
 use Rattle.tf_desk.specs.Counts.{Rises}
-use Rattle.tf_desk.specs.Shown.{shown_with, ShowsPrefix}
+use Rattle.tf_desk.specs.Shown.{ShowsPrefix}
 use Rattle.tf_desk.specs.State.{DeskState, anything, OnDisk, Says}
 use Rattle.tf_desk.proofs.StateLemmas.{on_disk_told, on_disk_extends, says_extends, extends_none, extends_on, extends_within}
 use Rattle.tf_journal.specs.Path.{Path}
@@ -12,10 +12,12 @@ use Rattle.tf_journal.specs.declared.faults.LoadFault.TheVariants as load_fault
 use Rattle.tf_journal.proofs.PathLemmas.{path_said, path_widens}
 use Rattle.tf_records.specs.Refusing.{no_journal, bad_body}
 use Rattle.tf_board.specs.Board.{BoardValue, board_in, IsNoBoard}
-use Rattle.tf_board.specs.Does.{Closes, said, cut, HoldsEither, LeavesCommand, Reached, Ends, EndsUnmade, Concludes, HasCauses}
+use Rattle.tf_board.specs.Does.{HoldsEither, LeavesCommand, Reached, Ends, EndsUnmade, Concludes, HasCauses}
+use Rattle.tf_report.specs.Closing.{ClosesWith}
+use Rattle.tf_report.proofs.ClosingLemmas.{closes_from}
+use Rattle.tf_report.specs.declared.statuses.TheConstants.{DISK_FAILED, UNSAID, OUT_OF_MEMORY}
 use Rattle.tf_board.specs.Opening.{IsAsBeforeOrMade, IsOpened, IsUnopened}
 use Rattle.tf_board.specs.declared.commands.Command.{Command}
-use Rattle.tf_board.specs.declared.statuses.TheConstants.{DISK_FAILED, UNSAID, OUT_OF_MEMORY}
 
 -- nothing that is said is a prefix of any text
 nothing_prefix : (shown : Option (List ℕ)) (message text : List ℕ) → shown ≡ Some text → ShowsPrefix shown message (Some text)
@@ -27,11 +29,6 @@ pub no_board_stays : (before now : List ℕ) (offset : ℕ) (byte : Option ℕ) 
 no_board_stays before now offset byte is (inl same) = same
 no_board_stays before now offset byte (no_journal found) (inr made) = let no = sym found ∙ made.0 in absurd (cc)
 no_board_stays before now offset byte (bad_body held found refused) (inr made) = let no = sym found ∙ made.0 in absurd (cc)
-
--- what closes after calls that show nothing closes after them all
-closes_from : {entry mid now : DeskState} {message : List ℕ} {wanted status : ℕ} → mid.shown ≡ entry.shown → Closes mid message wanted now status → Closes entry message wanted now status
-closes_from {entry} {mid} {now} {message} quiet (said same) = said (same ∙ ap (λ (s : Option (List ℕ)). shown_with s message) quiet)
-closes_from {entry} {mid} {now} {message} quiet (cut prefix) = cut (subst (λ (s : Option (List ℕ)). ShowsPrefix s message now.shown) quiet prefix)
 
 -- the file of a name reads as before, where no file changed
 file_stays : (name : List ℕ) (old new : DeskState) → new.content.files ≡ old.content.files → file_of new name ≡ file_of old name
@@ -50,7 +47,7 @@ opened_reached state name entry board o = record {
 
 -- what was reached is said
 pub reached_ends : {name : List ℕ} {past pending after : List Command} {entry mid now : DeskState} {message : List ℕ} {wanted status : ℕ}
-    → Reached name past pending after entry mid → Closes mid message wanted now status → Says message mid now
+    → Reached name past pending after entry mid → ClosesWith mid.shown message wanted now.shown status → Says message mid now
     → Ends name past pending after entry now message wanted status
 reached_ends {name} {past} {pending} {after} {entry} {mid} {now} {message} r closes says = record {
   closes = inr (closes_from r.on_disk.shown closes);
@@ -84,7 +81,7 @@ reached_stops {entry = entry} {message = message} r is = record {
 
 -- why is said
 pub unopened_ends : {name : List ℕ} {fault : LoadFault} {entry mid now : DeskState} {message : List ℕ} {wanted status : ℕ}
-    → IsUnopened name fault entry mid → Closes mid message wanted now status → Says message mid now
+    → IsUnopened name fault entry mid → ClosesWith mid.shown message wanted now.shown status → Says message mid now
     → EndsUnmade name entry now message wanted status
 unopened_ends {name} {fault} {entry} {mid} {now} {message} u closes says = record {
   closes = inr (closes_from u.on_disk.shown closes);

@@ -1,6 +1,8 @@
 pub mod DeskLaws
 pub mod FormLemmas
 pub mod JobLemmas
+pub mod OwnerLemmas
+pub mod StayLemmas
 pub mod KeptLemmas
 pub mod ReadingLemmas
 pub mod BoardLemmas

@@ -1,7 +1,7 @@
 -- What a command on a board comes to: what it records, what it says and its status. Lists of commands have the newest first.
 use Rattle.std.specs.Prelude.{ℕ, ◌+◌, List, [], ◌∷◌, ◌++◌, codes, Option, Some, None}
-use Rattle.std.specs.Fmt.{decimal}
 use Rattle.std.specs.List.{flat_map}
+use Rattle.tf_report.specs.Faults.{disk_fault_text, book_full}
 use Rattle.tf_report.specs.Jobs.{job_line, owner_text}
 use Rattle.tf_words.specs.declared.asked.Asked.{Asked}
 use Rattle.tf_words.specs.declared.asked.Asked.TheVariants as asked
@@ -17,26 +17,9 @@ use Rattle.tf_board.specs.declared.faults.BoardFault.{BoardFault}
 use Rattle.tf_board.specs.declared.faults.BoardFault.TheVariants as fault
 use Rattle.tf_board.specs.declared.rules.Refusal.{Refusal}
 use Rattle.tf_board.specs.declared.rules.Refusal.TheVariants as refusal
-use Rattle.tf_board.specs.declared.statuses.TheConstants.{SUCCEEDED, DISK_FAILED, OUT_OF_MEMORY, FULL, BOARD_REFUSED}
+use Rattle.tf_report.specs.declared.statuses.TheConstants.{SUCCEEDED, DISK_FAILED, OUT_OF_MEMORY, FULL, BOARD_REFUSED}
 
 -- ---- texts
-
--- the message for a fault of the disk
-abbrev pub disk_fault : List ℕ
-disk_fault = codes "taskflow: disk fault\n"
-
--- the byte that shows that a file is no board, or the file's end
-abbrev pub byte_or_end : Option ℕ → List ℕ
-byte_or_end None = codes "end"
-byte_or_end (Some byte) = codes "byte " ++ decimal byte
-
--- the message for a file that is no board: the offset and the byte that show it
-unfoldable pub not_a_board : ℕ → Option ℕ → List ℕ
-not_a_board offset byte = codes "taskflow: not a book: offset " ++ decimal offset ++ codes ", " ++ byte_or_end byte ++ 10 ∷ []
-
--- the message for a board that is full: its size, and how many bytes more were asked for
-unfoldable pub board_full : ℕ → ℕ → List ℕ
-board_full size need = codes "taskflow: book full: " ++ decimal size ++ codes " + " ++ decimal need ++ 10 ∷ []
 
 -- the message for a call that did nothing; none where memory ran out
 unfoldable pub fault_text : BoardFault → List ℕ
@@ -44,8 +27,8 @@ fault_text (fault.NoJob id) = codes "taskflow: no job: " ++ id ++ 10 ∷ []
 fault_text (fault.Gone id) = codes "taskflow: job gone: " ++ id ++ 10 ∷ []
 fault_text (fault.Claimed owner) = codes "taskflow: claimed by " ++ owner ++ 10 ∷ []
 fault_text (fault.NotOwner owner) = codes "taskflow: not the owner: " ++ owner_text owner ++ 10 ∷ []
-fault_text (fault.Full size need) = board_full size need
-fault_text fault.Disk = disk_fault
+fault_text (fault.Full size need) = book_full size need
+fault_text fault.Disk = disk_fault_text
 fault_text fault.Halted = []
 fault_text fault.Memory = []
 

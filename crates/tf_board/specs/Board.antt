@@ -7,7 +7,7 @@ use Rattle.tf_journal.specs.Rest.{IsAtRest, IsOpen}
 use Rattle.tf_journal.specs.declared.faults.LoadFault.{LoadFault}
 use Rattle.tf_journal.specs.declared.title.Title.TheVariants.{Jobs as jobs_title}
 use Rattle.tf_records.specs.Refusing.{IsMalformed, RefusesMalformed}
-use Rattle.tf_board.specs.Commands.{IsCommand, command_bytes}
+use Rattle.tf_board.specs.Commands.{IsCommand, AreCommands, command_bytes}
 use Rattle.tf_board.specs.Jobs.{refuses, LegalJobs}
 use Rattle.tf_board.specs.Kept.{IsTrueTo}
 use Rattle.tf_board.specs.declared.commands.Command.{Command}
@@ -17,6 +17,11 @@ use Rattle.tf_board.specs.declared.kept.Kept.{Kept}
 pub record BoardValue (K : Type 0) : Type 0 where
   pub past : List Command
   pub journal : Held K
+
+-- the commands that a board may hold: each is within its limits, and none was refused after those before it
+pub record AreOfBoard (past : List Command) : Type 0 where
+  pub legal : LegalJobs past
+  pub forms : AreCommands past
 
 -- the bodies of a board's records: one for each command
 abbrev pub bodies_of : List Command → List (List ℕ)

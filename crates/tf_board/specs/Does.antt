@@ -2,31 +2,20 @@
 use Rattle.std.specs.Prelude.{◌≡◌, ◌≢◌, ◌⊎◌, ◌<◌, ℕ, ◌+◌, IsTrue, List, [], ◌∷◌, ◌++◌, length, Option, Some}
 use Rattle.tf_desk.specs.Counts.{Rises}
 use Rattle.tf_desk.specs.Crash.{Pairs}
-use Rattle.tf_desk.specs.Shown.{shown_with, ShowsPrefix}
+use Rattle.tf_desk.specs.Shown.{ShowsPrefix}
 use Rattle.tf_desk.specs.State.{DeskState, anything, OnDisk, Extends, IsUnasked}
 use Rattle.tf_journal.specs.Format.{SIZE_LIMIT, Recovered}
 use Rattle.tf_journal.specs.Path.{Path}
 use Rattle.tf_journal.specs.Start.{file_of, IsStart}
 use Rattle.tf_words.specs.declared.asked.Asked.{Asked}
-use Rattle.tf_board.specs.Answers.{answer_of, disk_fault, not_a_board, board_full}
-use Rattle.tf_board.specs.Board.{board_in, size_of, Holds, Finds, IsNoBoard}
+use Rattle.tf_board.specs.Answers.{answer_of}
+use Rattle.tf_report.specs.Closing.{ClosesWithOrStops}
+use Rattle.tf_report.specs.Faults.{disk_fault_text, not_a_book, book_full}
+use Rattle.tf_report.specs.declared.statuses.TheConstants.{SUCCEEDED, DISK_FAILED, NO_BOOK, UNSAID, OUT_OF_MEMORY, FULL, BOARD_REFUSED}
+use Rattle.tf_board.specs.Board.{AreOfBoard, board_in, size_of, Holds, Finds, IsNoBoard}
 use Rattle.tf_board.specs.Commands.{command_bytes}
-use Rattle.tf_board.specs.Jobs.{LegalJobs}
 use Rattle.tf_board.specs.Opening.{LeavesBoard, IsAsBeforeOrMade}
 use Rattle.tf_board.specs.declared.commands.Command.{Command}
-use Rattle.tf_board.specs.declared.statuses.TheConstants.{SUCCEEDED, DISK_FAILED, NO_BOARD, UNSAID, OUT_OF_MEMORY, FULL, BOARD_REFUSED}
-
--- ---- what is said last
-
--- a command says its message and ends with its status, or with that of a failed output where a prefix of the message was shown
-pub data Closes (old : DeskState) (message : List ℕ) (wanted : ℕ) (new : DeskState) : ℕ → Type 0 where
-  said : new.shown ≡ shown_with old.shown message → Closes old message wanted new wanted
-  cut : ShowsPrefix old.shown message new.shown → Closes old message wanted new UNSAID
-
--- or memory ran out, and nothing was said
-abbrev pub ClosesOrStops : DeskState → List ℕ → ℕ → DeskState → ℕ → Type 0
-ClosesOrStops old message wanted new status =
-    ((status ≡ OUT_OF_MEMORY) × (new.shown ≡ old.shown)) ⊎ Closes old message wanted new status
 
 -- ---- what the file has
 
@@ -89,12 +78,12 @@ HasJobs name entry past = IsTrue entry.tells → Finds past (board_in (file_of e
 -- a command ends with this message and this status, and the file has the commands from after
 pub record Ends (name : List ℕ) (past pending after : List Command) (entry now : DeskState) (message : List ℕ)
     (wanted status : ℕ) : Type 0 where
-  pub closes : ClosesOrStops entry message wanted now status
+  pub closes : ClosesWithOrStops entry.shown message wanted now.shown status
   pub lasts : IsTrue entry.tells → Lasts name past pending after entry now message
 
 -- a command ends with this message and this status, and its file couldn't be opened
 pub record EndsUnmade (name : List ℕ) (entry now : DeskState) (message : List ℕ) (wanted status : ℕ) : Type 0 where
-  pub closes : ClosesOrStops entry message wanted now status
+  pub closes : ClosesWithOrStops entry.shown message wanted now.shown status
   pub stays : IsTrue entry.tells → StaysUnmade name entry now message
 
 -- the ways that a command on a board goes
@@ -102,26 +91,27 @@ pub data Does (asked : Asked) (name : List ℕ) (entry now : DeskState) (status 
   -- memory ran out, or the disk failed, before the board was open
   unopened_memory : status ≡ OUT_OF_MEMORY → EndsUnmade name entry now [] OUT_OF_MEMORY status
       → Does asked name entry now status
-  unopened_disk : EndsUnmade name entry now disk_fault DISK_FAILED status → Does asked name entry now status
+  unopened_disk : EndsUnmade name entry now disk_fault_text DISK_FAILED status → Does asked name entry now status
   -- the file is no board; it isn't changed
   no_board : (offset : ℕ) (byte : Option ℕ)
       → (IsTrue entry.tells → IsNoBoard (board_in (file_of entry name)) offset byte)
       → (IsTrue entry.tells → file_of now name ≡ file_of entry name)
-      → EndsUnmade name entry now (not_a_board offset byte) NO_BOARD status → Does asked name entry now status
-  -- it did what it comes to on the board's commands
-  answered : (past : List Command) → LegalJobs past → HasJobs name entry past
+      → EndsUnmade name entry now (not_a_book offset byte) NO_BOOK status → Does asked name entry now status
+  -- it did what it comes to on the board's commands; a board may hold these, with what it recorded
+  answered : (past : List Command) → AreOfBoard past → AreOfBoard ((answer_of asked past).added ++ past) → HasJobs name entry past
       → Ends name past [] ((answer_of asked past).added ++ past) entry now
       (answer_of asked past).text (answer_of asked past).status status
       → Does asked name entry now status
-  -- its command couldn't be recorded: memory ran out, the disk failed, and then it may be in the file, or the board is full
-  unrecorded : (past : List Command) → LegalJobs past → HasJobs name entry past → status ≡ OUT_OF_MEMORY
+  -- its command couldn't be recorded: memory ran out, the disk failed, and then it may be in the file, as one that a board may hold after the
+  -- others, or the board is full
+  unrecorded : (past : List Command) → AreOfBoard past → HasJobs name entry past → status ≡ OUT_OF_MEMORY
       → Ends name past [] past entry now [] OUT_OF_MEMORY status → Does asked name entry now status
-  disk_failed : (past : List Command) → LegalJobs past → HasJobs name entry past
-      → Ends name past (answer_of asked past).added past entry now disk_fault DISK_FAILED status
+  disk_failed : (past : List Command) → AreOfBoard past → AreOfBoard ((answer_of asked past).added ++ past) → HasJobs name entry past
+      → Ends name past (answer_of asked past).added past entry now disk_fault_text DISK_FAILED status
       → Does asked name entry now status
-  filled : (past : List Command) (size need : ℕ) → LegalJobs past → HasJobs name entry past
+  filled : (past : List Command) (size need : ℕ) → AreOfBoard past → HasJobs name entry past
       → IsBoardFull past (answer_of asked past).added size need
-      → Ends name past [] past entry now (board_full size need) FULL status → Does asked name entry now status
+      → Ends name past [] past entry now (book_full size need) FULL status → Does asked name entry now status
 
 -- ---- when a status comes
 
@@ -148,7 +138,7 @@ IsBoard found = (offset : ℕ) (byte : Option ℕ) → ¬ (IsNoBoard found offse
 -- it is a board on which the command isn't refused
 abbrev pub IsAllowed : Asked → Recovered → Type 0
 IsAllowed asked found =
-    IsBoard found × ((past : List Command) → LegalJobs past → Finds past found → (answer_of asked past).status ≡ SUCCEEDED)
+    IsBoard found × ((past : List Command) → AreOfBoard past → Finds past found → (answer_of asked past).status ≡ SUCCEEDED)
 
 -- where nothing failed, the command is done, or memory runs out, or its record would make the board longer than its limit
 abbrev pub IsBoardComplete : ℕ → Type 0
@@ -158,7 +148,7 @@ IsBoardComplete status = (status ≡ SUCCEEDED) ⊎ (status ≡ OUT_OF_MEMORY) �
 pub data IsBoardStatus (status : ℕ) : Type 0 where
   is_done : status ≡ SUCCEEDED → IsBoardStatus status
   is_failed : status ≡ DISK_FAILED → IsBoardStatus status
-  is_no_board : status ≡ NO_BOARD → IsBoardStatus status
+  is_no_board : status ≡ NO_BOOK → IsBoardStatus status
   is_unsaid : status ≡ UNSAID → IsBoardStatus status
   is_out : status ≡ OUT_OF_MEMORY → IsBoardStatus status
   is_full : status ≡ FULL → IsBoardStatus status

@@ -8,8 +8,7 @@ use Rattle.tf_journal.specs.Rest.{LeavesBirth}
 use Rattle.tf_journal.specs.declared.faults.LoadFault.{LoadFault}
 use Rattle.tf_journal.specs.declared.faults.LoadFault.TheVariants as load_fault
 use Rattle.tf_journal.specs.declared.title.Title.TheVariants.{Jobs as jobs_title}
-use Rattle.tf_board.specs.Board.{BoardValue, board_in, size_of, Holds, Finds, LeavesHeld, RefusesBoard}
-use Rattle.tf_board.specs.Jobs.{LegalJobs}
+use Rattle.tf_board.specs.Board.{BoardValue, AreOfBoard, board_in, size_of, Holds, Finds, LeavesHeld, RefusesBoard}
 
 -- the desk that a load leaves
 abbrev pub desk_loaded : {K F : Type 0} → Result (BoardValue K) (K × F) → K
@@ -21,13 +20,13 @@ desk_loaded (Err back) = back.0
 abbrev pub LeavesLoad : DeskState → Pairs
 LeavesLoad old image text = (board_in (bytes_now old) ≡ unborn) × LeavesBirth (title_of jobs_title) old.shown image text
 
--- a board that nothing stands against: no append found a disk fault, it is kept in a file with its title, its commands are legal, and its size
+-- a board that nothing stands against: no append found a disk fault, it is kept in a file with its title, its commands are those that a board may hold, and its size
 -- is theirs
 pub record IsReadyBoard {K : Type 0} (board : BoardValue K) : Type 0 where
   pub sound : board.journal.halted ≡ false
   pub in_file : board.journal.volatile ≡ false
   pub titled : board.journal.title ≡ jobs_title
-  pub legal : LegalJobs board.past
+  pub legal : AreOfBoard board.past
   pub sized : board.journal.size ≡ size_of board.past
 
 -- the picked file is a board of these commands now, and a crash leaves them; it had them before, or it was unborn and there are none

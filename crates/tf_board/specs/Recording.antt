@@ -4,7 +4,7 @@ use Rattle.tf_desk.specs.Counts.{Rises}
 use Rattle.tf_desk.specs.Crash.{Pairs}
 use Rattle.tf_desk.specs.State.{DeskState, bytes_now, MayLeave, GoesOn}
 use Rattle.tf_journal.specs.Format.{SIZE_LIMIT, Recovered}
-use Rattle.tf_board.specs.Board.{BoardValue, board_in, Holds, LeavesHeld}
+use Rattle.tf_board.specs.Board.{BoardValue, AreOfBoard, board_in, Holds, LeavesHeld}
 use Rattle.tf_board.specs.Commands.{command_bytes}
 use Rattle.tf_board.specs.Jobs.{id_text, jobs_of, place_of}
 use Rattle.tf_board.specs.declared.commands.Command.{Command}
@@ -42,18 +42,20 @@ HoldsMaybe past added found = Holds past found ⊎ Holds (added ∷ past) found
 abbrev pub LeavesRecorded : List Command → Command → DeskState → Pairs
 LeavesRecorded past added old image text = HoldsMaybe past added (board_in image) × (old.shown ≡ Some text)
 
--- the command was recorded: there was room for it, the file has it now, and a crash from now on leaves it
+-- the command was recorded: it may stand after those before it, there was room for it, the file has it now, and a crash from now on leaves it
 pub record IsRecorded {K : Type 0} (state : K → DeskState) (added : Command) (old new : BoardValue K) : Type 0 where
   pub now : new ≡ with_command old new.journal.desk added
+  pub legal : AreOfBoard (added ∷ old.past)
   pub sound : old.journal.halted ≡ false
   pub fits : HasPlace old added
   pub file : IsTrue (state old.journal.desk).tells
       → Holds (added ∷ old.past) (board_in (bytes_now (state new.journal.desk)))
   pub lasts : IsTrue (state old.journal.desk).tells → LeavesHeld (added ∷ old.past) (state new.journal.desk)
 
--- the disk failed, and the count of its faults rose: nothing is recorded from now on
+-- the disk failed, and the count of its faults rose: nothing is recorded from now on; the command may stand after those before it
 pub record IsHalted {K : Type 0} (state : K → DeskState) (added : Command) (old new : BoardValue K) : Type 0 where
   pub now : new ≡ with_fault old new.journal.desk
+  pub legal : AreOfBoard (added ∷ old.past)
   pub sound : old.journal.halted ≡ false
   pub fits : HasPlace old added
   pub rose : Rises (state old.journal.desk).disk_faults (state new.journal.desk).disk_faults

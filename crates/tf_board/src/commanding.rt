@@ -12,19 +12,17 @@ ghost use Rattle.tf_board.specs.Opening.{IsUnopened};
 ghost use Rattle.tf_board.specs.declared.commands.Command.{Command};
 
 use crate::board::{Board, Owner, fault_of};
-use crate::closing::close;
 use crate::commands::JobAction;
 use crate::faults::BoardFault;
 use crate::messages::{
-    DISK_FAULT, applied_line, fault_line, jobs_text, kept_line, not_a_board_text, posted_line,
-    status_of,
+    applied_line, fault_line, jobs_text, kept_line, not_a_book_text, posted_line, status_of,
 };
 use crate::opening::open;
 use crate::rules::Refusal;
-use crate::statuses::{DISK_FAILED, NO_BOARD, OUT_OF_MEMORY, SUCCEEDED, UNSAID};
 use std::alloc::Global;
 use tf_desk::Desk;
 use tf_journal::LoadFault;
+use tf_report::{DISK_FAILED, DISK_FAULT, NO_BOOK, OUT_OF_MEMORY, SUCCEEDED, UNSAID, close};
 use tf_states::Priority;
 use tf_values::{Memory, Name, Text, Val};
 use tf_words::Asked;
@@ -78,8 +76,8 @@ fn refuse<K: Desk>(alloc: Global, desk: K, fault: LoadFault) -> (K, u8)
     match fault {
         LoadFault::Disk => say(desk, DISK_FAULT, DISK_FAILED),
         LoadFault::NotABook { offset, byte } => {
-            let text = not_a_board_text(alloc, offset, byte);
-            say_text(desk, text, NO_BOARD)
+            let text = not_a_book_text(alloc, offset, byte);
+            say_text(desk, text, NO_BOOK)
         }
         LoadFault::Memory => (desk, OUT_OF_MEMORY),
     }

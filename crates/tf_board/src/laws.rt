@@ -1,7 +1,9 @@
 //! What holds of every list of commands. The functions do nothing; their contracts are the laws.
-ghost use Rattle.std.specs.Prelude.{◌≡◌, ◌≤◌, ◌<◌, ◌≢◌, ℕ, List, ◌∷◌, length, Some, None, slice_get};
+ghost use Rattle.std.specs.Prelude.{◌≡◌, ◌≤◌, ◌<◌, ◌≢◌, ℕ, List, ◌∷◌, ◌++◌, length, Some, None, slice_get};
+ghost use Rattle.tf_journal.specs.Format.{Recovered};
+ghost use Rattle.tf_board.specs.Board.{AreOfBoard, Finds};
 ghost use Rattle.tf_board.specs.Commands.{IsCommand, command_bytes};
-ghost use Rattle.tf_board.specs.Jobs.{standing_of, jobs_of, named, LegalJobs};
+ghost use Rattle.tf_board.specs.Jobs.{standing_of, jobs_of, place_of, named, LegalJobs};
 ghost use Rattle.tf_board.specs.declared.commands.Command.{Command};
 ghost use Rattle.tf_board.specs.declared.commands.Command.TheVariants as command;
 ghost use Rattle.tf_board.specs.declared.commands.JobAction.TheVariants as action;
@@ -23,9 +25,30 @@ pub fn a_claim_is_of_a_free_job()
         → standing_of (command.Apply action.Claim job owner ∷ past) job ≡ standing.Held owner }
 {}
 
+/// Between two claims of one job its first claimant gave it up: so no job has two owners, and nobody loses one unasked.
+pub fn a_job_is_given_up_between_claims()
+    ensures { (newer past : List Command) (job : ℕ) (first second : List ℕ)
+        → LegalJobs (command.Apply action.Claim job second
+        ∷ (newer ++ (command.Apply action.Claim job first ∷ past)))
+        → (later : List Command) × (older : List Command)
+        × (newer ≡ later ++ (command.Apply action.Abandon job first ∷ older)) }
+{}
+
 /// An id names the job of least number that has it: it has the id, and each job before it has another.
 pub fn an_id_names_its_first_job()
     ensures { (past : List Command) (id : List ℕ) (job : Job) → named (jobs_of past) id ≡ Some job
         → (job.id ≡ id) × ((other : Job) (place : ℕ) → slice_get (jobs_of past) place ≡ Some other
         → other.number < job.number → other.id ≢ id) }
+{}
+
+/// A file has one list of commands: two lists that a board may hold, and that are found in it, are the same.
+pub fn a_file_has_one_list()
+    ensures { (a b : List Command) (found : Recovered) → AreOfBoard a → AreOfBoard b → Finds a found → Finds b found
+        → a ≡ b }
+{}
+
+/// An id goes on naming the job that it names, whatever commands are added.
+pub fn an_id_goes_on_naming_its_job()
+    ensures { (newer past : List Command) (id : List ℕ) (place : ℕ) → place_of (jobs_of past) id ≡ Some place
+        → place_of (jobs_of (newer ++ past)) id ≡ Some place }
 {}

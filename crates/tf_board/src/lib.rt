@@ -4,7 +4,6 @@
 
 mod board;
 mod bodies;
-mod closing;
 mod commanding;
 mod commands;
 mod faults;
@@ -16,11 +15,13 @@ mod messages;
 mod opening;
 mod recovering;
 mod rules;
-mod statuses;
 
 pub use board::{Board, Owner};
 pub use commanding::board_command;
 pub use commands::{Command, JobAction};
 pub use faults::BoardFault;
 pub use ids::{id_text, job_id};
-pub use laws::{a_claim_is_of_a_free_job, an_id_names_its_first_job, command_has_one_form};
+pub use laws::{
+    a_claim_is_of_a_free_job, a_file_has_one_list, a_job_is_given_up_between_claims,
+    an_id_goes_on_naming_its_job, an_id_names_its_first_job, command_has_one_form,
+};

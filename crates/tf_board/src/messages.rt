@@ -1,7 +1,8 @@
-ghost use Rattle.std.specs.Prelude.{◌≡◌, ◌≢◌, ◌++◌, ◌∷◌, [], codes, OnOk, IfOk, IsErr};
+ghost use Rattle.std.specs.Prelude.{◌≡◌, ◌≢◌, ◌++◌, ◌∷◌, [], codes, IfOk, IsErr};
 ghost use Rattle.std.specs.List.{flat_map};
 ghost use Rattle.tf_report.specs.Jobs.{job_line, owner_text};
-ghost use Rattle.tf_board.specs.Answers.{byte_or_end, not_a_board, board_full, fault_text, fault_status, posted_text, applied_text, kept_text};
+ghost use Rattle.tf_board.specs.Answers.{fault_text, fault_status, posted_text, applied_text, kept_text};
+ghost use Rattle.tf_report.specs.Faults.{not_a_book, book_full};
 ghost use Rattle.tf_board.specs.Jobs.{id_of, listed};
 ghost use Rattle.tf_board.specs.declared.faults.BoardFault.{BoardFault};
 
@@ -9,48 +10,30 @@ use crate::board::Board;
 use crate::commands::JobAction;
 use crate::faults::BoardFault;
 use crate::ids::{id_text, job_id};
-use crate::statuses::{BOARD_REFUSED, DISK_FAILED, FULL, OUT_OF_MEMORY};
 use std::alloc::Global;
 use tf_desk::Desk;
-use tf_report::{append, append_counted, append_pair, jobs};
+use tf_report::{
+    BOARD_REFUSED, DISK_FAILED, DISK_FAULT, FULL, OUT_OF_MEMORY, append, append_book_full,
+    append_not_a_book, append_pair, jobs,
+};
 use tf_values::{Memory, Name};
 use uuid::Uuid;
 
-/// The message for a fault of the disk.
-pub const DISK_FAULT: &[u8] = b"taskflow: disk fault\n";
-
 /// The message for a file that is no board: the offset and the byte that show it, or the file's end.
-#[tactic(auto, unfolding(crate::specs::Answers::not_a_board))]
-pub fn not_a_board_text(alloc: Global, offset: u64, byte: Option<u8>) -> Result<Vec<u8>, Memory>
-    ensures { IfOk result (λ text. text.items ≡ not_a_board offset byte) }
+pub fn not_a_book_text(alloc: Global, offset: u64, byte: Option<u8>) -> Result<Vec<u8>, Memory>
+    ensures { IfOk result (λ text. text.items ≡ not_a_book offset byte) }
 {
     let mut out = Vec::new(alloc);
-    append_counted(b"taskflow: not a book: offset ", offset, &mut out)?;
-    append(b", ", &mut out)?;
-    append_byte(byte, &mut out)?;
-    append(b"\n", &mut out)?;
+    append_not_a_book(offset, byte, &mut out)?;
     Ok(out)
 }
 
-/// Appends a byte of a file, or that there is none.
-fn append_byte(byte: Option<u8>, out: &mut Vec<u8>) -> Result<(), Memory>
-    ensures { OnOk result (out.new.items ≡ out.old.items ++ byte_or_end byte) }
-{
-    match byte {
-        Some(byte) => append_counted(b"byte ", byte, out),
-        None => append(b"end", out),
-    }
-}
-
 /// The message for a board that is full: its size, and how many bytes more were asked for.
-#[tactic(auto, unfolding(crate::specs::Answers::board_full))]
-pub fn board_full_text(alloc: Global, size: u64, need: u64) -> Result<Vec<u8>, Memory>
-    ensures { IfOk result (λ text. text.items ≡ board_full size need) }
+fn book_full_text(alloc: Global, size: u64, need: u64) -> Result<Vec<u8>, Memory>
+    ensures { IfOk result (λ text. text.items ≡ book_full size need) }
 {
     let mut out = Vec::new(alloc);
-    append_counted(b"taskflow: book full: ", size, &mut out)?;
-    append_counted(b" + ", need, &mut out)?;
-    append(b"\n", &mut out)?;
+    append_book_full(size, need, &mut out)?;
     Ok(out)
 }
 
@@ -61,6 +44,15 @@ pub fn line(alloc: Global, head: &[u8], name: &[u8]) -> Result<Vec<u8>, Memory>
     let mut out = Vec::new(alloc);
     append_pair(head, name, &mut out)?;
     append(b"\n", &mut out)?;
+    Ok(out)
+}
+
+/// A text that is always the same.
+fn fixed(alloc: Global, text: &[u8]) -> Result<Vec<u8>, Memory>
+    ensures { IfOk result (λ copy. copy.items ≡ text.now) }
+{
+    let mut out = Vec::new(alloc);
+    append(text, &mut out)?;
     Ok(out)
 }
 
@@ -76,8 +68,8 @@ pub fn fault_line(alloc: Global, fault: BoardFault) -> Result<Vec<u8>, Memory>
         BoardFault::Gone(id) => line(alloc, b"taskflow: job gone: ", id.bytes()),
         BoardFault::Claimed(owner) => line(alloc, b"taskflow: claimed by ", owner.bytes()),
         BoardFault::NotOwner(owner) => owner_line(alloc, b"taskflow: not the owner: ", owner),
-        BoardFault::Full { size, need } => board_full_text(alloc, size, need),
-        BoardFault::Disk => line(alloc, b"taskflow: disk fault", b""),
+        BoardFault::Full { size, need } => book_full_text(alloc, size, need),
+        BoardFault::Disk => fixed(alloc, DISK_FAULT),
         BoardFault::Halted => unreachable!(),
         BoardFault::Memory => Err(Memory),
     }

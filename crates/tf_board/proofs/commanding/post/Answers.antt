@@ -22,7 +22,7 @@ returns-in-Ok-post-clause-does g c = λ board.
     let D = g.K.Desk in
     let o = c.in-Ok.ensures in
     let new = command.Post c.args.name c.args.priority c.args.details in
-    answered c.in-Ok.board.past o.fresh.legal o.found
+    answered c.in-Ok.board.past o.fresh.legal c.in-Ok-post.ensures.records.recorded.legal o.found
     (c.say_text.ensures.reached (posted_text (id_of (posted c.in-Ok.board.past + 1) c.args.name))
     (subst (λ (n : ℕ). IfOk c.posted_line-text.result (λ t. t.items ≡ posted_text (id_of n c.args.name))) c.in-Ok-post.ensures.number c.posted_line-text.ensures)
     c.args.file.now c.in-Ok.board.past [] (new ∷ c.in-Ok.board.past) c.args.desk

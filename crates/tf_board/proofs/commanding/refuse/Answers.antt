@@ -2,7 +2,7 @@ use Rattle.std.proofs.Common.{refl, subst}
 use Rattle.std.specs.Prelude.{IsTrue}
 use Rattle.tf_journal.specs.Start.{file_of}
 use Rattle.tf_journal.specs.declared.faults.LoadFault.{LoadFault}
-use Rattle.tf_board.specs.Answers.{not_a_board}
+use Rattle.tf_report.specs.Faults.{not_a_book}
 use Rattle.tf_board.specs.Board.{board_in, IsNoBoard, RefusesBoard}
 use Rattle.tf_board.specs.Does.{unopened_memory, unopened_disk, no_board}
 use Rattle.tf_board.proofs.EndLemmas.{unopened_stops, no_board_stays, concludes_none}
@@ -16,7 +16,7 @@ returns-in-NotABook-clause-does g c = λ asked name entry u.
     let D = g.K.Desk in
     let bad_is : IsTrue (D.state entry).tells → IsNoBoard (board_in (file_of (D.state entry) name)) c.in-NotABook.offset c.in-NotABook.byte =
     λ told. subst (λ (f : LoadFault). RefusesBoard f (board_in (file_of (D.state entry) name))) c.in-NotABook.is (u.refused told) in
-    let ends = c.say_text.ensures.unopened (not_a_board c.in-NotABook.offset c.in-NotABook.byte) c.not_a_board_text-text.ensures name c.args.fault entry u in
+    let ends = c.say_text.ensures.unopened (not_a_book c.in-NotABook.offset c.in-NotABook.byte) c.not_a_book_text-text.ensures name c.args.fault entry u in
     no_board c.in-NotABook.offset c.in-NotABook.byte bad_is (λ told. no_board_stays _ _ _ _ (bad_is told) (ends.stays told).file) ends
 
 pub returns-in-Memory-clause-does : goal.returns-in-Memory-clause-does
