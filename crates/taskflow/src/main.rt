@@ -5,9 +5,10 @@
 use std::env::Env;
 use std::process::ExitCode;
 use std::{env, io};
-use tf_commands::{LocalCrew, OUT_OF_MEMORY, Outside, taskflow};
+use tf_commands::{LocalCrew, Outside, taskflow};
 use tf_desk::FileDesk;
 use tf_ports::{Folder, SocketDoor};
+use tf_report::OUT_OF_MEMORY;
 use tf_words::Word;
 
 fn main(rt: HostRuntime) -> ExitCode {

@@ -39,7 +39,8 @@ use Rattle.tf_book.proofs.AmongLemmas.{past_entries}
 use Rattle.tf_book.proofs.InvariantLemmas.{history_before}
 use Rattle.tf_commands.specs.Durable.{HoldsHistory}
 use Rattle.tf_commands.proofs.AcceptLemmas.{same_refusal}
-use Rattle.tf_claims.proofs.OnceLemmas.{keeps_limits, same_plan, same_written, never_empty, last_same, same_bodies}
+use Rattle.tf_board.proofs.StayLemmas.{last_same}
+use Rattle.tf_claims.proofs.OnceLemmas.{keeps_limits, same_plan, same_written, never_empty, same_bodies}
 
 -- ---- what keeps its limits is short
 

@@ -24,9 +24,9 @@ use Rattle.tf_commands.specs.Course as course
 use Rattle.tf_commands.specs.Course.{Course, Obeys, IsRunComplete}
 use Rattle.tf_commands.specs.Durable.{book_at, HoldsHistory}
 use Rattle.tf_commands.specs.Run as run
-use Rattle.tf_commands.specs.Run.{spoken_run, HasReached, stop_status, IsLastSaid, ShowsLines}
-use Rattle.tf_commands.specs.Saying.{ClosesWith}
-use Rattle.tf_commands.proofs.CountLemmas.{closes_status}
+use Rattle.tf_commands.specs.Run.{spoken_run, MayRun, HasReached, stop_status, IsLastSaid, ShowsLines}
+use Rattle.tf_report.specs.Closing.{ClosesWith}
+use Rattle.tf_report.proofs.ClosingLemmas.{closes_status}
 use Rattle.tf_commands.proofs.FlowLemmas.{flow_held}
 use Rattle.tf_claims.specs.Life.{Call, IsUnfailing, EndsAsStated, exhausted, filled, ended}
 use Rattle.tf_claims.proofs.BookLemmas.{is_book}
@@ -109,15 +109,15 @@ module _ {gives : Order → Outcome → Type 0} {hands : Want} {stopped : Type 0
           (subst (λ (l : List Entry). HasReached (outline_of other) (p.entries ++ l) last) one.1 (p.ran.end last is))
 
       said_so : (closing : List ℕ) (wanted ends : ℕ) (stop : Option FlowState) → IsRunComplete ends → p.stop ≡ stop → ends ≡ wanted
-          → IsLastSaid other [] (p.entries ++ before) stop closing wanted → EndsAsStated plan past (file_of now name) ends
+          → IsLastSaid (MayRun gives (spoken_run hands None) other) other [] (p.entries ++ before) stop closing wanted → EndsAsStated plan past (file_of now name) ends
       said_so closing wanted ends _ good stops same (run.reported last) =
           subst (EndsAsStated plan past (file_of now name)) (sym same)
           (ended last p.entries (file_then holds held p) (ended_of last (stops_last stops p.ran.steps.session) (subst IsRunComplete same good)) (reached last stops))
-      said_so closing wanted ends _ good stops same (run.disk_failed stop) = never good 5 same (λ n. omega arith) (λ n. omega arith) (λ n. omega arith) (λ n. omega arith) (λ n. omega arith)
+      said_so closing wanted ends _ good stops same (run.disk_failed stop unended) = never good 5 same (λ n. omega arith) (λ n. omega arith) (λ n. omega arith) (λ n. omega arith) (λ n. omega arith)
       said_so closing wanted ends _ good stops same (run.filled stop size need full) = subst (EndsAsStated plan past (file_of now name)) (sym same) filled
 
       by : (closing : List ℕ) (ends : ℕ) → IsRunComplete ends
-          → ShowsLines other false before p.entries entry.shown now.shown (IsLastSaid other [] (p.entries ++ before) p.stop) closing ends
+          → ShowsLines other false before p.entries entry.shown now.shown (IsLastSaid (MayRun gives (spoken_run hands None) other) other [] (p.entries ++ before) p.stop) closing ends
           → EndsAsStated plan past (file_of now name) ends
       by _ ends good (run.closed closing wanted _ last closes) =
           ⊎_elim (λ same. said_so closing wanted ends p.stop good refl same last)

@@ -2,8 +2,12 @@ pub mod OnceLemmas
 pub mod BookLemmas
 pub mod TitleLemmas
 pub mod NameLemmas
+pub mod GivenLemmas
+pub mod WayLemmas
 pub mod StepLemmas
 pub mod LifeLemmas
 pub mod ShownLemmas
 pub mod EndLemmas
+pub mod ClosingLemmas
+pub mod OwnerLemmas
 pub mod DoneLemmas

@@ -28,6 +28,7 @@ use Rattle.tf_book.specs.Forms.{IsForm, AreForms}
 use Rattle.tf_book.specs.Loading.{IsAcceptedPlan}
 use Rattle.tf_commands.specs.Durable.{HoldsHistory}
 use Rattle.tf_commands.proofs.AcceptLemmas.{same_outline}
+use Rattle.tf_board.proofs.StayLemmas.{last_same}
 
 -- ---- lists that two bytes can count are lists
 
@@ -106,24 +107,6 @@ form_one : (a b : Entry) → IsForm a → IsForm b → entry_bytes a ≡ entry_b
 form_one a b good_a good_b same = entry_one (2 ^ 16) (2 ^ 16) a b (is_entry a good_a) (is_entry b good_b) same
 
 -- ---- one list of bodies
-
--- lists with a last item each
-pub last_same : (xs ys : List (List ℕ)) (x y : List ℕ) → xs ++ x ∷ [] ≡ ys ++ y ∷ [] → (xs ≡ ys) × (x ≡ y)
-last_same [] [] x y is = (refl, (let same : x ≡ y = cc in same))
-last_same [] (b ∷ ys) x y is = absurd (none ys (let rest : [] ≡ ys ++ y ∷ [] = cc in rest))
-  where
-    none : (zs : List (List ℕ)) → [] ≡ zs ++ y ∷ [] → ⊥
-    none [] empty = cc
-    none (z ∷ zs) empty = cc
-last_same (a ∷ xs) [] x y is = absurd (none xs (let rest : xs ++ x ∷ [] ≡ [] = cc in rest))
-  where
-    none : (zs : List (List ℕ)) → zs ++ x ∷ [] ≡ [] → ⊥
-    none [] empty = cc
-    none (z ∷ zs) empty = cc
-last_same (a ∷ xs) (b ∷ ys) x y is =
-    let first : a ≡ b = cc in
-    let rest = last_same xs ys x y (let rest : xs ++ x ∷ [] ≡ ys ++ y ∷ [] = cc in rest) in
-    (ap (λ (n : List ℕ). n ∷ xs) first ∙ ap (λ (l : List (List ℕ)). b ∷ l) rest.0, rest.1)
 
 -- a plan's body comes first
 pub never_empty : (p : PlanValue) (h : List Entry) → bodies_of p h ≡ [] → ⊥

@@ -11,7 +11,7 @@ use Rattle.tf_book.specs.SessionInvariant.{said}
 use Rattle.tf_book.proofs.SpokenLemmas.{shown_none, prefix_whole, prefix_further}
 use Rattle.tf_commands.specs.Durable.{book_in, HoldsHistory, IsShownThen, Lasts}
 use Rattle.tf_commands.specs.Run.{ShowsLines, closed, line_cut, stopped}
-use Rattle.tf_commands.specs.Saying.{ClosesWith, said as was_said, cut}
+use Rattle.tf_report.specs.Closing.{ClosesWith, said as was_said, cut}
 use Rattle.tf_claims.specs.Life.{Call, Shown, after_call, at_crash, Life, IsToldBy}
 use Rattle.tf_claims.proofs.LifeLemmas.{life_grows}
 
@@ -37,11 +37,11 @@ shown_after {plan} {quiet} {before} entries {shown} (stopped same) =
 
 module _ {K : Type 0} (state : K → DeskState) (gives : Order → Outcome → Type 0) where
   -- when a call had left the file
-  told_then : (name : List ℕ) (call : Call state gives) (plan : PlanValue) (quiet : Bool) (before entries : List Entry) (last : List ℕ → ℕ → Type 0) (closing : List ℕ)
+  told_then : (may : List Entry → Entry → Type 0) (name : List ℕ) (call : Call state gives) (plan : PlanValue) (quiet : Bool) (before entries : List Entry) (last : List ℕ → ℕ → Type 0) (closing : List ℕ)
       → ShowsLines plan quiet before entries (state call.entry).shown (state call.now).shown last closing call.status
-      → Lasts name plan quiet before entries (state call.entry) (state call.now) closing
+      → Lasts may name plan quiet before entries (state call.entry) (state call.now) closing
       → (file text : List ℕ) → Shown state gives name call file text → IsToldBy plan quiet before entries (state call.entry).shown closing text file
-  told_then name call plan quiet before entries last closing lines l _ text (after_call _ is) = record {
+  told_then may name call plan quiet before entries last closing lines l _ text (after_call _ is) = record {
     kept = entries;
     spoken = shown_after entries (subst (λ (t : Option (List ℕ)). ShowsLines plan quiet before entries (state call.entry).shown t last closing call.status) is lines);
     holds = ⊎_elim
@@ -49,7 +49,7 @@ module _ {K : Type 0} (state : K → DeskState) (gives : Order → Outcome → T
         (λ on. inr (l.pending, on))
         l.file;
   }
-  told_then name call plan quiet before entries last closing lines l _ text (at_crash about moment start image _ is) =
+  told_then may name call plan quiet before entries last closing lines l _ text (at_crash about moment start image _ is) =
       let m = l.crash moment start image text is in
       record {
         kept = m.kept;
@@ -58,13 +58,13 @@ module _ {K : Type 0} (state : K → DeskState) (gives : Order → Outcome → T
       }
 
   -- and at any later point
-  pub told_later : (name : List ℕ) (call : Call state gives) (plan : PlanValue) (quiet : Bool) (before entries : List Entry) (last : List ℕ → ℕ → Type 0) (closing : List ℕ)
+  pub told_later : (may : List Entry → Entry → Type 0) (name : List ℕ) (call : Call state gives) (plan : PlanValue) (quiet : Bool) (before entries : List Entry) (last : List ℕ → ℕ → Type 0) (closing : List ℕ)
       → ShowsLines plan quiet before entries (state call.entry).shown (state call.now).shown last closing call.status
-      → Lasts name plan quiet before entries (state call.entry) (state call.now) closing
+      → Lasts may name plan quiet before entries (state call.entry) (state call.now) closing
       → (mid text : List ℕ) → Shown state gives name call mid text → (file : List ℕ) → Life state gives name mid file
       → IsToldBy plan quiet before entries (state call.entry).shown closing text file
-  told_later name call plan quiet before entries last closing lines l mid text shown file life =
-      let told = told_then name call plan quiet before entries last closing lines l mid text shown in
+  told_later may name call plan quiet before entries last closing lines l mid text shown file life =
+      let told = told_then may name call plan quiet before entries last closing lines l mid text shown in
       record {
         kept = told.kept;
         spoken = told.spoken;

@@ -1,33 +1,40 @@
 -- A life of a file: calls of the program, one after another, each from what the one before it left.
-use Rattle.std.specs.Prelude.{◌≡◌, ◌⊎◌, ℕ, Bool, true, IsTrue, List, [], ◌++◌, Option, Some}
+use Rattle.std.specs.Prelude.{◌≡◌, ◌⊎◌, ◌<◌, ℕ, Bool, true, IsTrue, List, [], ◌∷◌, ◌++◌, Option, Some}
 use Rattle.tf_desk.specs.Shown.{shown_with}
 use Rattle.tf_desk.specs.State.{DeskState}
 use Rattle.tf_flow.specs.Plan.{PlanValue}
 use Rattle.tf_states.specs.declared.record.Entry.{Entry}
 use Rattle.tf_states.specs.declared.state.FlowState.{FlowState}
 use Rattle.tf_ports.specs.Contents.{Contents}
+use Rattle.tf_ports.specs.Wanted.{wanted as number_of}
 use Rattle.tf_ports.specs.declared.crews.Want.{Want}
 use Rattle.tf_actions.specs.declared.orders.Order.{Order}
 use Rattle.tf_actions.specs.declared.outcomes.Outcome.{Outcome}
 use Rattle.tf_journal.specs.Start.{file_of, IsStart}
-use Rattle.tf_model.specs.Plan.{outline_of}
+use Rattle.tf_model.specs.Orders.{IsGiven}
+use Rattle.tf_model.specs.Plan.{Outline, outline_of}
 use Rattle.tf_model.specs.Sessions.{has_ended}
 use Rattle.tf_words.specs.declared.asked.Asked.{Asked}
 use Rattle.tf_words.specs.declared.asked.Asked.TheVariants as asked
 use Rattle.tf_board.specs.Answers.{board_of, answer_of}
-use Rattle.tf_board.specs.Board.{board_in, Holds}
-use Rattle.tf_board.specs.Jobs.{LegalJobs}
+use Rattle.tf_board.specs.Board.{AreOfBoard, board_in, Holds, Finds}
+use Rattle.tf_board.specs.Does.{Does}
+use Rattle.tf_board.specs.Recording.{number_of as job_of}
 use Rattle.tf_board.specs.declared.commands.Command.{Command}
-use Rattle.tf_commands.specs.Asking.{asked_for}
+use Rattle.tf_board.specs.declared.commands.Command.TheVariants as command
+use Rattle.tf_board.specs.declared.commands.JobAction.TheVariants as action
+use Rattle.tf_book.specs.Tried.{IsNextReset}
+use Rattle.tf_commands.specs.Asking.{asked_for, wanted_by}
+use Rattle.tf_commands.specs.Books.{Hires}
 use Rattle.tf_commands.specs.Causes.{WasAsked}
 use Rattle.tf_commands.specs.Course.{Course, MayBeDone, IsComplete}
 use Rattle.tf_commands.specs.Durable.{book_in, HoldsHistory, IsShownThen}
 use Rattle.tf_commands.specs.Run.{HasReached, stop_status}
-use Rattle.tf_commands.specs.declared.statuses.TheConstants.{OUT_OF_MEMORY, FULL}
+use Rattle.tf_report.specs.declared.statuses.TheConstants.{OUT_OF_MEMORY, FULL}
 
 -- the book or the board that a command is about
 abbrev pub file_of_command : Asked → Option (List ℕ)
-file_of_command (asked.Run file book sets defer hands stop) = Some book
+file_of_command (asked.Run file book sets defer hands stop target) = Some book
 file_of_command (asked.Resume book hands stop) = Some book
 file_of_command (asked.Show book) = Some book
 file_of_command (asked.Reset book) = Some book
@@ -62,6 +69,13 @@ module _ {K : Type 0} (state : K → DeskState) (gives : Order → Outcome → T
   abbrev pub IsUnfailing : Call → Type 0
   IsUnfailing call = (command : Asked) → asked_for call.words ≡ Some command → MayBeDone command call.files (state call.entry) → IsComplete command call.status
 
+  -- a hand of this number was hired for a call: its words ask for hands, these were hired, and so many there are
+  pub record IsHired (call : Call) (hand : ℕ) : Type 0 where
+    pub hands : Want
+    pub wanted : wanted_by call.words ≡ Some hands
+    pub hires : Hires hands call.hired call.after_hiring
+    pub among : hand < number_of hands
+
   -- the text that was shown when a call had left the file so
   pub data Shown (name : List ℕ) (call : Call) : List ℕ → List ℕ → Type 0 where
     after_call : (text : List ℕ) → (state call.now).shown ≡ Some text → Shown name call (file_of (state call.now) name) text
@@ -73,6 +87,22 @@ module _ {K : Type 0} (state : K → DeskState) (gives : Order → Outcome → T
     unlived : Life name first first
     lived : {mid last : List ℕ} → Life name first mid → (call : Call) → file_of (state call.entry) name ≡ mid → Leaves name call last
         → Life name first last
+
+  -- a hand of this number was hired for some call of the life
+  abbrev pub HiredIn : {name first last : List ℕ} → Life name first last → ℕ → Type 0
+  HiredIn unlived hand = ⊥
+  HiredIn (lived before call same leaves) hand = HiredIn before hand ⊎ IsHired call hand
+
+-- an entry that was recorded after a history, or may be: where it ends a task, it carries an outcome that the hands' relation gives for the order of
+-- the task's last start; and it is by one of these hands, or by hand 0 to put the flow back
+pub record IsRecorded (gives : Order → Outcome → Type 0) (hired : ℕ → Type 0) (plan : Outline) (past : List Entry) (e : Entry) : Type 0 where
+  pub given : IsGiven gives plan past e.what
+  pub by : hired e.hand ⊎ IsNextReset plan past e
+
+-- so is each of the entries that were recorded after a history, after those before it
+abbrev pub AreRecorded : (Order → Outcome → Type 0) → (ℕ → Type 0) → Outline → List Entry → List Entry → Type 0
+AreRecorded gives hired plan past [] = Unit {0}
+AreRecorded gives hired plan past (e ∷ entries) = IsRecorded gives hired plan (entries ++ past) e × AreRecorded gives hired plan past entries
 
 -- the text that a call showed is told by entries that a file holds behind the history before the call: by the lines of these, and, where
 -- they are all that the call recorded, by a prefix of its closing; where there are none the file may hold no flow
@@ -90,10 +120,31 @@ pub data EndsAsStated (plan : PlanValue) (past : List Entry) (file : List ℕ) :
   ended : (last : FlowState) (entries : List Entry) → HoldsHistory plan (entries ++ past) (book_in file) → has_ended last ≡ true
       → HasReached (outline_of plan) (entries ++ past) last → EndsAsStated plan past file (stop_status last)
 
--- a command on a board was done, and said so: it said what it comes to on legal commands, and the file has these, with what was added by it
--- behind them and perhaps more behind that; where it added nothing, nothing is said of the file
-pub record IsDone (command : Asked) (entry now : DeskState) (file : List ℕ) : Type 0 where
+-- the file is a board of these commands, which a board may hold: each is within its limits, and none was refused after those before it
+abbrev pub IsBoardOf : List Command → List ℕ → Type 0
+IsBoardOf past file = AreOfBoard past × Holds past (board_in file)
+
+-- a command on a board was done, and said so: it said what it comes to on the legal commands that the board had, and the file is a board of these,
+-- with what was added by it behind them and perhaps more behind that; where it added nothing, nothing is said of the file
+pub record IsDone (command : Asked) (name : List ℕ) (entry now : DeskState) (file : List ℕ) : Type 0 where
   pub past : List Command
-  pub legal : LegalJobs past
+  pub legal : AreOfBoard past
+  pub had : Finds past (board_in (file_of entry name))
   pub said : now.shown ≡ shown_with entry.shown (answer_of command past).text
-  pub stands : ((answer_of command past).added ≡ []) ⊎ ((newer : List Command) × Holds (newer ++ ((answer_of command past).added ++ past)) (board_in file))
+  pub stands : ((answer_of command past).added ≡ []) ⊎ ((newer : List Command) × IsBoardOf (newer ++ ((answer_of command past).added ++ past)) file)
+
+-- an owner was told that it has claimed the job which that id names on the board of that name
+pub record WasClaimed (name id owner : List ℕ) (entry now : DeskState) (status : ℕ) : Type 0 where
+  pub done : status ≡ 0
+  pub does : Does (asked.Claim name id owner) name entry now status
+
+-- a board had these commands before, and afterwards its list has the claim of the job that the id names there by one owner, the claim of the same
+-- job by another, and between the two that the first one gave it up
+pub record IsHandedOn (id first second before after : List ℕ) : Type 0 where
+  pub past : List Command
+  pub older : List Command
+  pub later : List Command
+  pub had : Finds past (board_in before)
+  pub stands : IsBoardOf
+      (command.Apply action.Claim (job_of past id) second ∷ (later ++ (command.Apply action.Abandon (job_of past id) first
+      ∷ (older ++ (command.Apply action.Claim (job_of past id) first ∷ past))))) after

@@ -13,12 +13,14 @@ ghost use Rattle.tf_board.specs.declared.commands.Command.{Command};
 ghost use Rattle.tf_book.specs.Loading.{IsNoBook};
 ghost use Rattle.tf_words.specs.declared.asked.Asked.{Asked};
 ghost use Rattle.tf_words.specs.declared.asked.Asked.TheVariants.{Resume};
+ghost use Rattle.tf_model.specs.Plan.{outline_of};
 ghost use Rattle.tf_commands.specs.Asking.{asked_for};
 ghost use Rattle.tf_commands.specs.Books.{Promised, PutsBack};
 ghost use Rattle.tf_commands.specs.Causes.{WasAsked};
 ghost use Rattle.tf_commands.specs.declared.running.Request.{Request};
 ghost use Rattle.tf_commands.specs.Durable.{book_in, book_at, HoldsHistory};
-ghost use Rattle.tf_claims.specs.Life.{Call, IsUnfailing, Shown, Life, IsToldBy, EndsAsStated, IsDone};
+ghost use Rattle.tf_claims.specs.Life.{Call, IsUnfailing, Shown, Life, IsToldBy, EndsAsStated, IsBoardOf, IsDone};
+ghost use Rattle.tf_claims.specs.Life.{HiredIn, AreRecorded, WasClaimed, IsHandedOn};
 
 use tf_desk::Desk;
 use tf_ports::Crew;
@@ -31,23 +33,49 @@ pub fn history_only_grows<K: Desk, W: Crew>()
         → (entries : List Entry) × HoldsHistory plan (entries ++ past) (book_in last) }
 {}
 
-/// What a board's file holds at any later point of its life begins with what it held before: the same commands, with those
-/// that were added since, each behind them. So a job that was posted stays posted, and what its owners did stays done. It is
-/// said of a board with a command; a board without one may be left as a file that isn't made yet.
-pub fn boards_only_grow<K: Desk, W: Crew>()
-    ensures { (name first last : List ℕ) → Life K.state W.Hand.gives name first last
-        → (one : Command) (past : List Command) → Holds (one ∷ past) (board_in first)
-        → (added : List Command) × Holds (added ++ (one ∷ past)) (board_in last) }
+/// Whatever is recorded over a life is a step of the one history: a step that a rule allows after those before it, within
+/// its limits (`HoldsHistory`); by a hand that was hired for a call of the life, or by hand 0 where it puts the flow back;
+/// and where it ends a task, then with an outcome that the hired hands' relation gives for the order of the task's last
+/// start, whose arguments are those that the definition of scopes gives at that moment. So it is also of an entry whose
+/// record a crash, or a fault of the disk, left pending.
+pub fn every_entry_is_a_step<K: Desk, W: Crew>()
+    ensures { (name first last : List ℕ) (life : Life K.state W.Hand.gives name first last)
+        (plan : PlanValue) (past : List Entry) → HoldsHistory plan past (book_in first)
+        → (entries : List Entry) × HoldsHistory plan (entries ++ past) (book_in last)
+        × AreRecorded W.Hand.gives (HiredIn K.state W.Hand.gives life) (outline_of plan) past entries }
 {}
 
-/// What was done on a board stands. A command on it that ended with status 0 said what it comes to on legal commands; and
-/// these, with what it added behind them, are in the file at any later point of its life. That they are those that the
-/// file had before is said by the clause of the call alone (`Does`).
+/// What a board's file holds at any later point of its life begins with what it held before: the same commands, with those
+/// that were added since, each behind them. So a job that was posted stays posted, and what its owners did stays done. It is
+/// said of a board with a command; a board without one may be left as a file that isn't made yet. Where the commands were
+/// such as a board may hold, so are all of them at any later point: none was refused after those before it.
+pub fn boards_only_grow<K: Desk, W: Crew>()
+    ensures grows { (name first last : List ℕ) → Life K.state W.Hand.gives name first last
+        → (one : Command) (past : List Command) → Holds (one ∷ past) (board_in first)
+        → (added : List Command) × Holds (added ++ (one ∷ past)) (board_in last) }
+    ensures legal { (name first last : List ℕ) → Life K.state W.Hand.gives name first last
+        → (one : Command) (past : List Command) → IsBoardOf (one ∷ past) first
+        → (added : List Command) × IsBoardOf (added ++ (one ∷ past)) last }
+{}
+
+/// What was done on a board stands. A command on it that ended with status 0 said what it comes to on the commands that
+/// the board had; and these, with what it added behind them, are in the file at any later point of its life.
 pub fn what_was_done_stands<K: Desk, W: Crew>()
     ensures { (name last : List ℕ) (call : Call K.state W.Hand.gives) (command : Asked) → call.status ≡ 0
         → Life K.state W.Hand.gives name (file_of (K.state call.now) name) last
         → Does command name (K.state call.entry) (K.state call.now) call.status
-        → IsDone command (K.state call.entry) (K.state call.now) last }
+        → IsDone command name (K.state call.entry) (K.state call.now) last }
+{}
+
+/// A job has one owner at a time, over the whole life of its board: where one owner was told that it has claimed the job of
+/// an id, and after it another one was, then the list of the board has both claims of that job, and between them that the
+/// first owner gave it up. A list says of each job who has it, and a file has one list.
+pub fn one_owner<K: Desk, W: Crew>()
+    ensures { (name id first second : List ℕ) (one two : Call K.state W.Hand.gives)
+        → WasClaimed name id first (K.state one.entry) (K.state one.now) one.status
+        → Life K.state W.Hand.gives name (file_of (K.state one.now) name) (file_of (K.state two.entry) name)
+        → WasClaimed name id second (K.state two.entry) (K.state two.now) two.status
+        → IsHandedOn id first second (file_of (K.state one.entry) name) (file_of (K.state two.now) name) }
 {}
 
 /// What a call showed of its entries is never lost: at any later point of the file's life it is told by the history that

@@ -6,6 +6,6 @@
 mod laws;
 
 pub use laws::{
-    boards_only_grow, ends_as_stated, histories_are_not_refused, history_only_grows,
-    nothing_shown_is_lost, what_was_done_stands,
+    boards_only_grow, ends_as_stated, every_entry_is_a_step, histories_are_not_refused,
+    history_only_grows, nothing_shown_is_lost, one_owner, what_was_done_stands,
 };

@@ -8,8 +8,8 @@ use Rattle.tf_journal.specs.Path.{Untouched}
 use Rattle.tf_journal.specs.Start.{file_of}
 use Rattle.tf_book.proofs.SpokenLemmas.{shown_none}
 use Rattle.tf_commands.specs.Books.{Refuses, Stops}
-use Rattle.tf_commands.specs.Saying.{ClosesWith}
-use Rattle.tf_commands.specs.declared.statuses.TheConstants.{OUT_OF_MEMORY}
+use Rattle.tf_report.specs.Closing.{ClosesWith}
+use Rattle.tf_report.specs.declared.statuses.TheConstants.{OUT_OF_MEMORY}
 
 -- a text that stayed shows none of a message more
 quiet_prefix : (shown : Option (List ℕ)) (message text : List ℕ) → shown ≡ Some text → ShowsPrefix shown message (Some text)

@@ -1,5 +1,5 @@
 -- What the status of a command on a board tells, and that it is obeyed.
-use Rattle.std.proofs.Common.{◌≡◌, ◌≢◌, ℕ, List, inl, inr, Option, Some, None, true, refl, sym, subst, arith}
+use Rattle.std.proofs.Common.{◌≡◌, ◌≢◌, ℕ, List, inl, inr, ⊎_elim, Option, Some, None, true, refl, sym, ◌∙◌, subst, arith}
 use Rattle.std.specs.Prelude.{is_some}
 use Rattle.tf_desk.specs.State.{DeskState}
 use Rattle.tf_ports.specs.Contents.{Contents}
@@ -8,6 +8,8 @@ use Rattle.tf_actions.specs.declared.orders.Order.{Order}
 use Rattle.tf_actions.specs.declared.outcomes.Outcome.{Outcome}
 use Rattle.tf_words.specs.declared.asked.Asked.{Asked}
 use Rattle.tf_words.specs.declared.asked.Asked.TheVariants as asked
+use Rattle.tf_report.specs.Closing.{ClosesWithOrStops}
+use Rattle.tf_report.proofs.ClosingLemmas.{ends_status}
 use Rattle.tf_board.specs.Answers.{board_of, answer_of}
 use Rattle.tf_board.specs.Does.{Does, IsBoardStatus, is_done, is_failed, is_no_board, is_unsaid, is_out, is_full, is_refused}
 use Rattle.tf_board.specs.Does as board
@@ -57,12 +59,12 @@ hires_none (asked.Consume board id owner) is = refl
 hires_none (asked.Trash board id owner) is = refl
 hires_none (asked.Owner board id) is = refl
 hires_none (asked.List board) is = refl
-hires_none (asked.Try file sets defer hands) is = absurd (cc)
-hires_none (asked.Run file book sets defer hands stop) is = absurd (cc)
+hires_none (asked.Try file sets defer hands target) is = absurd (cc)
+hires_none (asked.Run file book sets defer hands stop target) is = absurd (cc)
 hires_none (asked.Resume book hands stop) is = absurd (cc)
 hires_none (asked.Show book) is = absurd (cc)
 hires_none (asked.Reset book) is = absurd (cc)
-hires_none (asked.Check file sets) is = absurd (cc)
+hires_none (asked.Check file sets target) is = absurd (cc)
 hires_none (asked.Demo seed size book hands) is = absurd (cc)
 hires_none (asked.Worker address sessions) is = absurd (cc)
 
@@ -76,10 +78,11 @@ board_named None is = absurd (cc)
 board_named (Some name) is = (name, refl)
 
 -- what closes with 15 was to close with it
-board_closes : (old now : DeskState) (message : List ℕ) (wanted status : ℕ) → board.ClosesOrStops old message wanted now status → status ≡ 15 → wanted ≡ 15
-board_closes old now message wanted status (inl stopped) is = absurd (omega (arith, stopped.0, is))
-board_closes old now message wanted _ (inr (board.said same)) is = is
-board_closes old now message wanted _ (inr (board.cut prefix)) is = absurd (omega (arith, is))
+board_closes : (old now : DeskState) (message : List ℕ) (wanted status : ℕ) → ClosesWithOrStops old.shown message wanted now.shown status → status ≡ 15 → wanted ≡ 15
+board_closes old now message wanted status closes is =
+    ⊎_elim (λ stopped. absurd (omega (arith, stopped, is)))
+    (λ others. ⊎_elim (λ same. sym same ∙ is) (λ unsaid. absurd (omega (arith, unsaid, is))) others)
+    (ends_status old.shown now.shown message wanted status closes)
 
 -- status 15 is a refusal
 pub board_refuses : (words : List (List ℕ)) (command : Asked) (name : List ℕ) (entry now : DeskState) (status : ℕ) → asked_for words ≡ Some command → board_of command ≡ Some name
@@ -90,7 +93,7 @@ board_refuses words command name entry now status asks about does is = by does
     by (board.unopened_memory nine e) = absurd (omega (arith, nine, is))
     by (board.unopened_disk e) = absurd (omega (arith, board_closes entry now _ 5 status e.closes is))
     by (board.no_board offset byte isnt same e) = absurd (omega (arith, board_closes entry now _ 6 status e.closes is))
-    by (board.answered past legal has e) = record {
+    by (board.answered past legal may has e) = record {
       command = command;
       name = name;
       past = past;
@@ -101,7 +104,7 @@ board_refuses words command name entry now status asks about does is = by does
       refuses = board_closes entry now (answer_of command past).text (answer_of command past).status status e.closes is;
     }
     by (board.unrecorded past legal has nine e) = absurd (omega (arith, nine, is))
-    by (board.disk_failed past legal has e) = absurd (omega (arith, board_closes entry now _ 5 status e.closes is))
+    by (board.disk_failed past legal may has e) = absurd (omega (arith, board_closes entry now _ 5 status e.closes is))
     by (board.filled past size need legal has full e) = absurd (omega (arith, board_closes entry now _ 13 status e.closes is))
 
 module _ {K : Type 0} (state : K → DeskState) where
@@ -116,11 +119,11 @@ module _ {K : Type 0} (state : K → DeskState) where
   obeys_board gives stopped (asked.Trash board id owner) files hired after_hiring entry now status is does same = (does board refl, same)
   obeys_board gives stopped (asked.Owner board id) files hired after_hiring entry now status is does same = (does board refl, same)
   obeys_board gives stopped (asked.List board) files hired after_hiring entry now status is does same = (does board refl, same)
-  obeys_board gives stopped (asked.Try file sets defer hands) files hired after_hiring entry now status is does same = absurd (cc)
-  obeys_board gives stopped (asked.Run file book sets defer hands stop) files hired after_hiring entry now status is does same = absurd (cc)
+  obeys_board gives stopped (asked.Try file sets defer hands target) files hired after_hiring entry now status is does same = absurd (cc)
+  obeys_board gives stopped (asked.Run file book sets defer hands stop target) files hired after_hiring entry now status is does same = absurd (cc)
   obeys_board gives stopped (asked.Resume book hands stop) files hired after_hiring entry now status is does same = absurd (cc)
   obeys_board gives stopped (asked.Show book) files hired after_hiring entry now status is does same = absurd (cc)
   obeys_board gives stopped (asked.Reset book) files hired after_hiring entry now status is does same = absurd (cc)
-  obeys_board gives stopped (asked.Check file sets) files hired after_hiring entry now status is does same = absurd (cc)
+  obeys_board gives stopped (asked.Check file sets target) files hired after_hiring entry now status is does same = absurd (cc)
   obeys_board gives stopped (asked.Demo seed size book hands) files hired after_hiring entry now status is does same = absurd (cc)
   obeys_board gives stopped (asked.Worker address sessions) files hired after_hiring entry now status is does same = absurd (cc)

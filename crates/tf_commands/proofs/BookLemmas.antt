@@ -24,7 +24,7 @@ use Rattle.tf_commands.specs.Durable.{book_in, HoldsNoFlow, HoldsHistory}
 use Rattle.tf_commands.specs.Messages.{state_forbids, cannot_hire}
 use Rattle.tf_commands.specs.declared.running.Request.{Request}
 use Rattle.tf_commands.specs.Runs.{HoldsBook, GoesFurther, nobody, went_on}
-use Rattle.tf_commands.specs.declared.statuses.TheConstants.{FORBIDDEN, UNHIRED}
+use Rattle.tf_report.specs.declared.statuses.TheConstants.{FORBIDDEN, UNHIRED}
 use Rattle.tf_commands.proofs.AskedLemmas.{promised_more}
 
 -- an equal desk is untouched too

@@ -20,7 +20,7 @@ use Rattle.tf_commands.specs.Saying.{OnlySays}
 use Rattle.tf_commands.specs.declared.reading.Source.{Source}
 use Rattle.tf_commands.proofs.BoardLemmas.{board_apart, board_refuses}
 use Rattle.tf_commands.proofs.EndLemmas.{Ended, works_ended, ended_apart, tries_ended, checks_ended, runs_ended, demonstrates_ended, resumes_ended, shows_ended, resets_ended, ended_unrefused}
-use Rattle.tf_commands.proofs.CountLemmas.{closes_status}
+use Rattle.tf_report.proofs.ClosingLemmas.{closes_status}
 use Rattle.tf_commands.proofs.FileLemmas.{FileStatus, file_status, file_unrefused, file_usage, file_refused}
 use Rattle.tf_commands.proofs.WorkLemmas.{works_one}
 
@@ -49,14 +49,14 @@ status_of_board command files status (by_board about ended) fifteen = about
 module _ {K : Type 0} (state : K → DeskState) where
   asked_status : (gives : Order → Outcome → Type 0) (asked_so : Type 0) (command : Asked) (files : Contents) (hired after_hiring : Option (List Want)) (entry now : K) (status : ℕ)
       → Obeys state gives asked_so command files hired after_hiring entry now status → AskedStatus command files status
-  asked_status gives asked_so (asked.Try file sets defer hands) files hired after_hiring entry now status obeys =
-      by_file (source_so file sets defer) refl (file_status files (source_so file sets defer) _ _ (state entry).shown (state now).shown status
+  asked_status gives asked_so (asked.Try file sets defer hands target) files hired after_hiring entry now status obeys =
+      by_file (source_so file sets defer target) refl (file_status files (source_so file sets defer target) _ _ (state entry).shown (state now).shown status
       (λ plan did. tries_ended hired after_hiring (state entry).shown (state now).shown plan status did) obeys.0)
-  asked_status gives asked_so (asked.Check file sets) files hired after_hiring entry now status obeys =
-      by_file (source_so file sets false) refl (file_status files (source_so file sets false) _ _ (state entry).shown (state now).shown status
+  asked_status gives asked_so (asked.Check file sets target) files hired after_hiring entry now status obeys =
+      by_file (source_so file sets false target) refl (file_status files (source_so file sets false target) _ _ (state entry).shown (state now).shown status
       (λ plan did. checks_ended (state entry).shown (state now).shown _ status did) obeys.0)
-  asked_status gives asked_so (asked.Run file book sets defer hands stop) files hired after_hiring entry now status obeys =
-      by_file (source_so file sets defer) refl (file_status files (source_so file sets defer) _ _ (state entry).shown (state now).shown status
+  asked_status gives asked_so (asked.Run file book sets defer hands stop target) files hired after_hiring entry now status obeys =
+      by_file (source_so file sets defer target) refl (file_status files (source_so file sets defer target) _ _ (state entry).shown (state now).shown status
       (λ plan did. runs_ended book hired after_hiring (state entry) (state now) plan status did) obeys)
   asked_status gives asked_so (asked.Resume book hands stop) files hired after_hiring entry now status obeys =
       by_book (resumes_ended book hired after_hiring (state entry) (state now) status obeys)
@@ -117,12 +117,12 @@ module _ {K : Type 0} (state : K → DeskState) where
       board_refuses words (asked.Owner board id) board (state entry) (state now) status asks refl obeys.0 is
   on_board gives asked_so words (asked.List board) files hired after_hiring entry now status asks about obeys is =
       board_refuses words (asked.List board) board (state entry) (state now) status asks refl obeys.0 is
-  on_board gives asked_so words (asked.Try file sets defer hands) files hired after_hiring entry now status asks about obeys is = absurd (cc)
-  on_board gives asked_so words (asked.Run file book sets defer hands stop) files hired after_hiring entry now status asks about obeys is = absurd (cc)
+  on_board gives asked_so words (asked.Try file sets defer hands target) files hired after_hiring entry now status asks about obeys is = absurd (cc)
+  on_board gives asked_so words (asked.Run file book sets defer hands stop target) files hired after_hiring entry now status asks about obeys is = absurd (cc)
   on_board gives asked_so words (asked.Resume book hands stop) files hired after_hiring entry now status asks about obeys is = absurd (cc)
   on_board gives asked_so words (asked.Show book) files hired after_hiring entry now status asks about obeys is = absurd (cc)
   on_board gives asked_so words (asked.Reset book) files hired after_hiring entry now status asks about obeys is = absurd (cc)
-  on_board gives asked_so words (asked.Check file sets) files hired after_hiring entry now status asks about obeys is = absurd (cc)
+  on_board gives asked_so words (asked.Check file sets target) files hired after_hiring entry now status asks about obeys is = absurd (cc)
   on_board gives asked_so words (asked.Demo seed size book hands) files hired after_hiring entry now status asks about obeys is = absurd (cc)
   on_board gives asked_so words (asked.Worker address sessions) files hired after_hiring entry now status asks about obeys is = absurd (cc)
 

@@ -28,10 +28,10 @@ use Rattle.tf_commands.specs.Course.{Tries, Checks, Course, Obeys, source_so, Ho
 use Rattle.tf_commands.specs.Durable.{book_at, HoldsNoFlow}
 use Rattle.tf_commands.specs.Resets.{IsResetSaid, all_back, disk_failed_back, filled_back}
 use Rattle.tf_commands.specs.declared.running.Request.{Request}
-use Rattle.tf_commands.specs.Run.{spoken_run, heading_of, stop_status, Ran, ShowsLines, closed, line_cut, stopped, IsLastSaid, reported, disk_failed as disk_said, filled}
-use Rattle.tf_commands.specs.Saying.{ClosesWithOrStops}
+use Rattle.tf_commands.specs.Run.{spoken_run, heading_of, stop_status, MayRun, Ran, ShowsLines, closed, line_cut, stopped, IsLastSaid, reported, disk_failed as disk_said, filled}
+use Rattle.tf_report.specs.Closing.{ClosesWithOrStops}
+use Rattle.tf_report.proofs.ClosingLemmas.{closes_status}
 use Rattle.tf_commands.proofs.EndLemmas.{Ended, is_complete, is_failed, is_no_book, is_unsaid, is_unhired, is_forbidden, is_suspended, ran_ended, ran_suspended}
-use Rattle.tf_commands.proofs.CountLemmas.{closes_status}
 use Rattle.tf_commands.proofs.FileLemmas.{accepted_done}
 use Rattle.tf_commands.proofs.FlowLemmas.{no_book_held, flow_held}
 use Rattle.tf_commands.proofs.WorkLemmas.{works_one}
@@ -90,16 +90,16 @@ shows_apart plan quiet before entries shown now last closing status told (closed
 shows_apart plan quiet before entries shown now last closing status told (line_cut front) = (λ is. omega arith, λ is. omega arith, λ is. omega arith)
 shows_apart plan quiet before entries shown now last closing status told (stopped text) = (λ is. omega arith, λ is. omega arith, λ is. omega arith)
 
-said_apart : (plan : PlanValue) (heading : List ℕ) (past : List Entry) (stop : Option FlowState) (text : List ℕ) (wanted : ℕ) → IsLastSaid plan heading past stop text wanted → IsApart wanted
-said_apart plan heading past stop text wanted (reported last) = ran_last last
-said_apart plan heading past stop text wanted (disk_said halted) = (λ is. omega arith, λ is. omega arith, λ is. omega arith)
-said_apart plan heading past stop text wanted (filled halted size need full) = (λ is. omega arith, λ is. omega arith, λ is. omega arith)
+said_apart : (may : List Entry → Entry → Type 0) (plan : PlanValue) (heading : List ℕ) (past : List Entry) (stop : Option FlowState) (text : List ℕ) (wanted : ℕ) → IsLastSaid may plan heading past stop text wanted → IsApart wanted
+said_apart may plan heading past stop text wanted (reported last) = ran_last last
+said_apart may plan heading past stop text wanted (disk_said halted unended) = (λ is. omega arith, λ is. omega arith, λ is. omega arith)
+said_apart may plan heading past stop text wanted (filled halted size need full) = (λ is. omega arith, λ is. omega arith, λ is. omega arith)
 
 ran_apart : {gives : Order → Outcome → Type 0} {request : Request} {asked : Type 0} (plan : PlanValue) (before entries : List Entry) (stop : Option FlowState) (shown now : Option (List ℕ)) (closing : List ℕ) (status : ℕ)
     → Ran gives request asked plan before entries stop shown now closing status → IsApart status
 ran_apart {gives} {request} plan before entries stop shown now closing status r =
-    shows_apart plan request.quiet before entries shown now (IsLastSaid plan (heading_of request (outline_of plan) (entries ++ before)) (entries ++ before) stop) closing status
-    (λ text wanted is. said_apart plan (heading_of request (outline_of plan) (entries ++ before)) (entries ++ before) stop text wanted is) r.text
+    shows_apart plan request.quiet before entries shown now (IsLastSaid (MayRun gives request plan) plan (heading_of request (outline_of plan) (entries ++ before)) (entries ++ before) stop) closing status
+    (λ text wanted is. said_apart (MayRun gives request plan) plan (heading_of request (outline_of plan) (entries ++ before)) (entries ++ before) stop text wanted is) r.text
 
 -- no fault of these kinds came
 record IsUnhurt (status : ℕ) : Type 0 where
@@ -146,7 +146,7 @@ done_or_out status does well (inr did) = well did.0 did.1
 
 reset_said_well : (plan : PlanValue) (past : List Entry) (text : List ℕ) (wanted status : ℕ) → IsUnhurt status → IsResetSaid plan past text wanted → status ≡ wanted → IsResetComplete status
 reset_said_well plan past text wanted status u (all_back pending) same = inl same
-reset_said_well plan past text wanted status u disk_failed_back same = absurd (u.sound same)
+reset_said_well plan past text wanted status u (disk_failed_back e next) same = absurd (u.sound same)
 reset_said_well plan past text wanted status u (filled_back size need full) same = inr (inr same)
 
 reset_well : (plan : PlanValue) (past entries : List Entry) (before after : Option (List ℕ)) (closing : List ℕ) (status : ℕ) → IsUnhurt status
@@ -214,11 +214,11 @@ shows_well name entry now status u told has (nothing_shown none r) = absurd (has
 shows_well name entry now status u told has (shown_whole plan past held r) = ⊎_elim (λ is. inl is) (λ is. absurd (u.sayable is)) (closes_status entry.shown now.shown _ 0 status r.closes)
 
 out_complete : (command : Asked) (status : ℕ) → status ≡ 9 → IsComplete command status
-out_complete (asked.Try file sets defer hands) status is = out_well status is
-out_complete (asked.Run file book sets defer hands stop) status is = out_well_by stop status is
+out_complete (asked.Try file sets defer hands target) status is = out_well status is
+out_complete (asked.Run file book sets defer hands stop target) status is = out_well_by stop status is
 out_complete (asked.Resume book hands stop) status is = out_well_by stop status is
 out_complete (asked.Show book) status is = inr is
-out_complete (asked.Check file sets) status is = inr is
+out_complete (asked.Check file sets target) status is = inr is
 out_complete (asked.Reset book) status is = inr (inl is)
 out_complete (asked.Demo seed size book hands) status is = out_well status is
 out_complete (asked.Worker address sessions) status is = inr is
@@ -233,16 +233,16 @@ out_complete (asked.List board) status is = inr (inl is)
 module _ {K : Type 0} (state : K → DeskState) where
   asked_well : (gives : Order → Outcome → Type 0) (asked_so : Type 0) (command : Asked) (files : Contents) (hired after_hiring : Option (List Want)) (entry now : K) (status : ℕ) → IsUnhurt status → ¬ asked_so
       → MayBeDone command files (state entry) → Obeys state gives asked_so command files hired after_hiring entry now status → IsComplete command status
-  asked_well gives asked_so (asked.Try file sets defer hands) files hired after_hiring entry now status u unasked ready obeys =
+  asked_well gives asked_so (asked.Try file sets defer hands target) files hired after_hiring entry now status u unasked ready obeys =
       well_or_out None status (Tries gives hands asked_so hired after_hiring (state entry).shown (state now).shown) (λ plan did. tries_well hired after_hiring (state entry).shown (state now).shown plan status u unasked did)
-      (accepted_done files (source_so file sets defer) _ _ (state entry).shown (state now).shown status ready u.readable u.sayable obeys.0)
-  asked_well gives asked_so (asked.Check file sets) files hired after_hiring entry now status u unasked ready obeys =
+      (accepted_done files (source_so file sets defer target) _ _ (state entry).shown (state now).shown status ready u.readable u.sayable obeys.0)
+  asked_well gives asked_so (asked.Check file sets target) files hired after_hiring entry now status u unasked ready obeys =
       done_or_out status (Checks (state entry).shown (state now).shown) (λ plan did. checks_well (state entry).shown (state now).shown _ status u did)
-      (accepted_done files (source_so file sets false) _ _ (state entry).shown (state now).shown status ready u.readable u.sayable obeys.0)
-  asked_well gives asked_so (asked.Run file book sets defer hands stop) files hired after_hiring entry now status u unasked ready obeys =
+      (accepted_done files (source_so file sets false target) _ _ (state entry).shown (state now).shown status ready u.readable u.sayable obeys.0)
+  asked_well gives asked_so (asked.Run file book sets defer hands stop target) files hired after_hiring entry now status u unasked ready obeys =
       well_or_out stop status (Runs gives (spoken_run hands stop) asked_so book hired after_hiring (state entry) (state now))
       (λ plan did. runs_well book hired after_hiring (state entry) (state now) plan status u unasked ready.1.0 ready.1.1 did)
-      (accepted_done files (source_so file sets defer) _ _ (state entry).shown (state now).shown status ready.0 u.readable u.sayable obeys)
+      (accepted_done files (source_so file sets defer target) _ _ (state entry).shown (state now).shown status ready.0 u.readable u.sayable obeys)
   asked_well gives asked_so (asked.Resume book hands stop) files hired after_hiring entry now status u unasked ready obeys =
       resumes_well book hired after_hiring (state entry) (state now) status u unasked ready.0 ready.1 obeys
   asked_well gives asked_so (asked.Show book) files hired after_hiring entry now status u unasked ready obeys = shows_well book (state entry) (state now) status u ready.0 ready.1 obeys.0

@@ -7,8 +7,10 @@ use Rattle.tf_journal.specs.Path.{Untouched}
 use Rattle.tf_commands.specs.Books.{Unopened, exhausted, disk_failed, no_book}
 use Rattle.tf_commands.specs.Causes.{HasEachCause, counts_of}
 use Rattle.tf_commands.specs.Runs.{HasEnded}
-use Rattle.tf_commands.specs.Saying.{ClosesWith, said, cut, HasSaid}
-use Rattle.tf_commands.specs.declared.statuses.TheConstants.{UNREAD, DISK_FAILED, NO_BOOK, UNSAID, UNHIRED, OUT_OF_MEMORY, FORBIDDEN}
+use Rattle.tf_commands.specs.Saying.{HasSaid}
+use Rattle.tf_report.specs.Closing.{ClosesWith}
+use Rattle.tf_report.proofs.ClosingLemmas.{closes_status}
+use Rattle.tf_report.specs.declared.statuses.TheConstants.{UNREAD, DISK_FAILED, NO_BOOK, UNSAID, UNHIRED, OUT_OF_MEMORY, FORBIDDEN}
 use Rattle.tf_desk.proofs.CountLemmas.{rises_later}
 
 -- a count that rose and didn't fall since
@@ -53,11 +55,6 @@ said_causes {status} {old} {mid} {now} r s le failed hired = record {
 }
 
 -- ---- which statuses a command on a book can't have
-
--- a message closes a command with its status or that of a failed output
-pub closes_status : (before after : Option (List ℕ)) (message : List ℕ) (wanted status : ℕ) → ClosesWith before message wanted after status → (status ≡ wanted) ⊎ (status ≡ UNSAID)
-closes_status before after message wanted status (said text) = inl refl
-closes_status before after message wanted status (cut prefix) = inr refl
 
 -- a command that was closed with another status isn't one that hired nobody
 closes_hired : (before after : Option (List ℕ)) (message : List ℕ) (wanted status : ℕ) → wanted ≢ UNHIRED → ClosesWith before message wanted after status → status ≢ UNHIRED

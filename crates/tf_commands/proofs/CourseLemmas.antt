@@ -17,28 +17,29 @@ use Rattle.tf_commands.specs.Accepted.{GivesNone, is_want_of_memory, IsReason}
 use Rattle.tf_commands.specs.Course.{BytesRead, exhausted, refused, done, FileRead, unfinished, unread, too_long, read, Undone, Obeys, HiresAsWanted}
 use Rattle.tf_commands.specs.Messages.{refusal, reason_text}
 use Rattle.tf_commands.specs.Opened.{Opened}
-use Rattle.tf_commands.specs.Saying.{ClosesWithOrStops}
+use Rattle.tf_report.specs.Closing.{ClosesWithOrStops}
+use Rattle.tf_report.specs.declared.statuses.TheConstants.{REFUSED, OUT_OF_MEMORY}
 use Rattle.tf_commands.specs.declared.accepting.Refusal.{Refusal}
 use Rattle.tf_commands.specs.declared.accepting.Refusal.TheVariants as reason
 use Rattle.tf_commands.specs.declared.reading.Source.{Source}
-use Rattle.tf_commands.specs.declared.statuses.TheConstants.{REFUSED, OUT_OF_MEMORY}
 use Rattle.tf_commands.proofs.HandLemmas.{HasHands}
 
 -- ---- a file that is refused
 
-refused_by : (source : Source) (bytes : List ℕ) (untouched : Type 0) (why : Refusal) (before after : Option (List ℕ)) (status : ℕ) → untouched → GivesNone source.sets source.defer bytes why
+refused_by : (source : Source) (bytes : List ℕ) (untouched : Type 0) (why : Refusal) (before after : Option (List ℕ)) (status : ℕ) → untouched → GivesNone source.sets source.defer source.target bytes why
     → ClosesWithOrStops before (refusal (reason_text why)) REFUSED after status → BytesRead source bytes untouched Undone before after status
 refused_by source bytes untouched why before after status still none (inl out) = exhausted still out.0 out.1
 refused_by source bytes untouched why before after status still none (inr closes) = refused still why none closes
 
 -- bytes that give no plan, and what became of the message
-pub refused_bytes : (source : Source) (bytes : List ℕ) (untouched : Type 0) (why : Refusal) (before after : Option (List ℕ)) (status : ℕ) → untouched → IsReason source.sets source.defer bytes why
+pub refused_bytes : (source : Source) (bytes : List ℕ) (untouched : Type 0) (why : Refusal) (before after : Option (List ℕ)) (status : ℕ) → untouched → IsReason source.sets source.defer source.target bytes why
     → (is_want_of_memory why ≡ true → (status ≡ OUT_OF_MEMORY) × (after ≡ before)) → (is_want_of_memory why ≡ false → ClosesWithOrStops before (refusal (reason_text why)) REFUSED after status)
     → BytesRead source bytes untouched Undone before after status
 refused_bytes source bytes untouched reason.Memory before after status still none out closes = exhausted still (out refl).0 (out refl).1
 refused_bytes source bytes untouched (reason.File fault) before after status still none out closes = refused_by source bytes untouched (reason.File fault) before after status still none (closes refl)
 refused_bytes source bytes untouched (reason.Compile fault) before after status still none out closes = refused_by source bytes untouched (reason.Compile fault) before after status still none (closes refl)
 refused_bytes source bytes untouched (reason.Scope fault) before after status still none out closes = refused_by source bytes untouched (reason.Scope fault) before after status still none (closes refl)
+refused_bytes source bytes untouched (reason.Target fault) before after status still none out closes = refused_by source bytes untouched (reason.Target fault) before after status still none (closes refl)
 
 -- the bytes of a file that give no plan
 pub closed_file : {T : Type 0} (came : Result T ℕ) (files : Contents) (source : Source) (bytes : List ℕ) (untouched : Type 0) (before after : Option (List ℕ)) → GivesBytes files source.file bytes → length bytes ≤ SOURCE_LIMIT
@@ -129,12 +130,12 @@ pub within_so : (found : Option Asked) (command : Asked) → ((seed size : ℕ) 
 within_so found (asked.Demo seed size book hands) bounds few is =
     let same = done_some found (asked.Demo seed size book hands) is in
     (bounds seed size book hands same, few (asked.Demo seed size book hands) same)
-within_so found (asked.Try file sets defer hands) bounds few is = few (asked.Try file sets defer hands) (done_some found (asked.Try file sets defer hands) is)
-within_so found (asked.Run file book sets defer hands stop) bounds few is = few (asked.Run file book sets defer hands stop) (done_some found (asked.Run file book sets defer hands stop) is)
+within_so found (asked.Try file sets defer hands target) bounds few is = few (asked.Try file sets defer hands target) (done_some found (asked.Try file sets defer hands target) is)
+within_so found (asked.Run file book sets defer hands stop target) bounds few is = few (asked.Run file book sets defer hands stop target) (done_some found (asked.Run file book sets defer hands stop target) is)
 within_so found (asked.Resume book hands stop) bounds few is = few (asked.Resume book hands stop) (done_some found (asked.Resume book hands stop) is)
 within_so found (asked.Show book) bounds few is = tt
 within_so found (asked.Reset book) bounds few is = tt
-within_so found (asked.Check file sets) bounds few is = tt
+within_so found (asked.Check file sets target) bounds few is = tt
 within_so found (asked.Worker address sessions) bounds few is = tt
 within_so found (asked.Post board name priority details) bounds few is = tt
 within_so found (asked.Claim board id owner) bounds few is = tt

@@ -17,9 +17,9 @@ use Rattle.tf_commands.specs.Course as course
 use Rattle.tf_commands.specs.Course.{Tries, IsRunComplete}
 use Rattle.tf_commands.specs.Resets.{IsResetSaid, all_back, disk_failed_back, filled_back}
 use Rattle.tf_commands.specs.declared.running.Request.{Request}
-use Rattle.tf_commands.specs.Run.{heading_of, stop_status, Ran, ShowsLines, closed, line_cut, stopped, IsLastSaid, reported, disk_failed as disk_said, filled}
-use Rattle.tf_commands.specs.Saying.{ClosesWithOrStops}
-use Rattle.tf_commands.proofs.CountLemmas.{closes_status}
+use Rattle.tf_commands.specs.Run.{heading_of, stop_status, MayRun, Ran, ShowsLines, closed, line_cut, stopped, IsLastSaid, reported, disk_failed as disk_said, filled}
+use Rattle.tf_report.specs.Closing.{ClosesWithOrStops}
+use Rattle.tf_report.proofs.ClosingLemmas.{closes_status}
 
 pub data Ended (status : ℕ) : Type 0 where
   is_complete : IsRunComplete status → Ended status
@@ -71,10 +71,10 @@ stopped_with flow.Suspending = is_complete (inr (inr (inl refl)))
 stopped_with flow.Suspended = is_suspended refl
 stopped_with flow.Resuming = is_complete (inr (inr (inl refl)))
 
-pub last_said : (plan : PlanValue) (heading : List ℕ) (past : List Entry) (stop : Option FlowState) (closing : List ℕ) (wanted : ℕ) → IsLastSaid plan heading past stop closing wanted → Ended wanted
-last_said plan heading past stop closing wanted (reported last) = stopped_with last
-last_said plan heading past stop closing wanted (disk_said halted) = is_failed refl
-last_said plan heading past stop closing wanted (filled halted size need full) = is_complete (inr (inr (inr (inr refl))))
+pub last_said : (may : List Entry → Entry → Type 0) (plan : PlanValue) (heading : List ℕ) (past : List Entry) (stop : Option FlowState) (closing : List ℕ) (wanted : ℕ) → IsLastSaid may plan heading past stop closing wanted → Ended wanted
+last_said may plan heading past stop closing wanted (reported last) = stopped_with last
+last_said may plan heading past stop closing wanted (disk_said halted unended) = is_failed refl
+last_said may plan heading past stop closing wanted (filled halted size need full) = is_complete (inr (inr (inr (inr refl))))
 
 -- what records and says its last ends as that tells
 pub shows_last : (plan : PlanValue) (quiet : Bool) (before entries : List Entry) (shown now : Option (List ℕ)) (last : List ℕ → ℕ → Type 0) (closing : List ℕ) (status : ℕ)
@@ -87,8 +87,8 @@ shows_last plan quiet before entries shown now last closing status ends (stopped
 pub ran_ended : {gives : Order → Outcome → Type 0} {request : Request} {asked : Type 0} (plan : PlanValue) (before entries : List Entry) (stop : Option FlowState) (shown now : Option (List ℕ)) (closing : List ℕ) (status : ℕ)
     → Ran gives request asked plan before entries stop shown now closing status → Ended status
 ran_ended {gives} {request} plan before entries stop shown now closing status r =
-    shows_last plan request.quiet before entries shown now (IsLastSaid plan (heading_of request (outline_of plan) (entries ++ before)) (entries ++ before) stop) closing status
-    (λ text wanted is. last_said plan (heading_of request (outline_of plan) (entries ++ before)) (entries ++ before) stop text wanted is) r.text
+    shows_last plan request.quiet before entries shown now (IsLastSaid (MayRun gives request plan) plan (heading_of request (outline_of plan) (entries ++ before)) (entries ++ before) stop) closing status
+    (λ text wanted is. last_said (MayRun gives request plan) plan (heading_of request (outline_of plan) (entries ++ before)) (entries ++ before) stop text wanted is) r.text
 
 -- the status of a suspension comes from one, which was asked for or reached the limit
 suspends_by : (last : FlowState) → stop_status last ≡ 12 → last ≡ flow.Suspended
@@ -101,23 +101,23 @@ suspends_by flow.Failure is = absurd (omega (arith, is))
 suspends_by flow.Suspending is = absurd (omega (arith, is))
 suspends_by flow.Resuming is = absurd (omega (arith, is))
 
-last_suspends : (plan : PlanValue) (heading : List ℕ) (past : List Entry) (stop : Option FlowState) (closing : List ℕ) (wanted : ℕ) → IsLastSaid plan heading past stop closing wanted → wanted ≡ 12
+last_suspends : (may : List Entry → Entry → Type 0) (plan : PlanValue) (heading : List ℕ) (past : List Entry) (stop : Option FlowState) (closing : List ℕ) (wanted : ℕ) → IsLastSaid may plan heading past stop closing wanted → wanted ≡ 12
     → stop ≡ Some flow.Suspended
-last_suspends plan heading past stop closing wanted (reported last) is = ap Some (suspends_by last is)
-last_suspends plan heading past stop closing wanted (disk_said halted) is = absurd (omega (arith, is))
-last_suspends plan heading past stop closing wanted (filled halted size need full) is = absurd (omega (arith, is))
+last_suspends may plan heading past stop closing wanted (reported last) is = ap Some (suspends_by last is)
+last_suspends may plan heading past stop closing wanted (disk_said halted unended) is = absurd (omega (arith, is))
+last_suspends may plan heading past stop closing wanted (filled halted size need full) is = absurd (omega (arith, is))
 
-shows_suspended : (plan : PlanValue) (quiet : Bool) (heading : List ℕ) (before entries past : List Entry) (shown now : Option (List ℕ)) (stop : Option FlowState) (closing : List ℕ) (status : ℕ)
-    → ShowsLines plan quiet before entries shown now (IsLastSaid plan heading past stop) closing status → status ≡ 12 → stop ≡ Some flow.Suspended
-shows_suspended plan quiet heading before entries past shown now stop closing status (closed text wanted ended last closes) is =
-    ⊎_elim (λ same. last_suspends plan heading past stop text wanted last (sym same ∙ is)) (λ seven. absurd (omega (arith, seven, is))) (closes_status _ now text wanted ended closes)
-shows_suspended plan quiet heading before entries past shown now stop closing status (line_cut front) is = absurd (omega (arith, is))
-shows_suspended plan quiet heading before entries past shown now stop closing status (stopped text) is = absurd (omega (arith, is))
+shows_suspended : (may : List Entry → Entry → Type 0) (plan : PlanValue) (quiet : Bool) (heading : List ℕ) (before entries past : List Entry) (shown now : Option (List ℕ)) (stop : Option FlowState) (closing : List ℕ) (status : ℕ)
+    → ShowsLines plan quiet before entries shown now (IsLastSaid may plan heading past stop) closing status → status ≡ 12 → stop ≡ Some flow.Suspended
+shows_suspended may plan quiet heading before entries past shown now stop closing status (closed text wanted ended last closes) is =
+    ⊎_elim (λ same. last_suspends may plan heading past stop text wanted last (sym same ∙ is)) (λ seven. absurd (omega (arith, seven, is))) (closes_status _ now text wanted ended closes)
+shows_suspended may plan quiet heading before entries past shown now stop closing status (line_cut front) is = absurd (omega (arith, is))
+shows_suspended may plan quiet heading before entries past shown now stop closing status (stopped text) is = absurd (omega (arith, is))
 
 pub ran_suspended : {gives : Order → Outcome → Type 0} {request : Request} {asked : Type 0} (plan : PlanValue) (before entries : List Entry) (stop : Option FlowState) (shown now : Option (List ℕ)) (closing : List ℕ) (status : ℕ)
     → Ran gives request asked plan before entries stop shown now closing status → status ≡ 12 → asked ⊎ (is_reached request.limit (length entries) ≡ true)
 ran_suspended {gives} {request} plan before entries stop shown now closing status r is =
-    (r.steps.suspended (shows_suspended plan request.quiet (heading_of request (outline_of plan) (entries ++ before)) before entries (entries ++ before) shown now stop closing status r.text is)).cause
+    (r.steps.suspended (shows_suspended (MayRun gives request plan) plan request.quiet (heading_of request (outline_of plan) (entries ++ before)) before entries (entries ++ before) shown now stop closing status r.text is)).cause
 
 -- ---- trials and checks
 
@@ -180,7 +180,7 @@ resets_ended name entry now status (was_reset plan past held may p) =
   where
     reset_said : (text : List ℕ) (wanted : ℕ) → IsResetSaid plan (p.entries ++ past) text wanted → Ended wanted
     reset_said text wanted (all_back pending) = is_complete (inl refl)
-    reset_said text wanted disk_failed_back = is_failed refl
+    reset_said text wanted (disk_failed_back e next) = is_failed refl
     reset_said text wanted (filled_back size need full) = is_complete (inr (inr (inr (inr refl))))
 
 -- no status of what was done with a flow is a board's refusal

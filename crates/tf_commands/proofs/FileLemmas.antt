@@ -3,7 +3,7 @@ use Rattle.std.proofs.Common.{◌≡◌, ◌⊎◌, ℕ, List, length, Option, S
 use Rattle.tf_flow.specs.Written.{PlanTree}
 use Rattle.tf_ports.specs.Contents.{Contents, GivesBytes, PassesLimit}
 use Rattle.tf_words.specs.declared.asked.Asked.{Asked}
-use Rattle.tf_commands.specs.Accepted.{GivesPlan, GivesNone}
+use Rattle.tf_commands.specs.Accepted.{GivesWhole, GivesNone}
 use Rattle.tf_commands.specs.Asking.{file_asked_for, asked_for}
 use Rattle.tf_commands.specs.Course as course
 use Rattle.tf_commands.specs.Course.{BytesRead, FileRead, IsRefused, passes_limit, gives_none, IsAccepted}
@@ -11,14 +11,14 @@ use Rattle.tf_commands.specs.declared.accepting.Refusal.{Refusal}
 use Rattle.tf_commands.specs.declared.reading.Source.{Source}
 use Rattle.tf_commands.proofs.AcceptLemmas.{gives_one}
 use Rattle.tf_commands.proofs.EndLemmas.{Ended, is_unsaid, out_ends, ended_apart, ended_unrefused}
-use Rattle.tf_commands.proofs.CountLemmas.{closes_status}
+use Rattle.tf_report.proofs.ClosingLemmas.{closes_status}
 
 -- what a status tells of a flow file
 pub data FileStatus (files : Contents) (source : Source) (status : ℕ) : Type 0 where
   done_so : Ended status → FileStatus files source status
   not_read : status ≡ 3 → FileStatus files source status
   not_short : status ≡ 4 → PassesLimit files source.file → FileStatus files source status
-  not_plan : status ≡ 4 → (bytes : List ℕ) (why : Refusal) → GivesBytes files source.file bytes → GivesNone source.sets source.defer bytes why → FileStatus files source status
+  not_plan : status ≡ 4 → (bytes : List ℕ) (why : Refusal) → GivesBytes files source.file bytes → GivesNone source.sets source.defer source.target bytes why → FileStatus files source status
 
 bytes_status : (files : Contents) (source : Source) (bytes : List ℕ) (untouched : Type 0) (does : PlanTree → ℕ → Type 0) (before after : Option (List ℕ)) (status : ℕ) → ((plan : PlanTree) → does plan status → Ended status)
     → GivesBytes files source.file bytes → BytesRead source bytes untouched does before after status → FileStatus files source status
@@ -59,18 +59,18 @@ accepted_done files source untouched does before after status accepted readable 
   where
     by : BytesRead source bytes untouched does before after status → (status ≡ 9) ⊎ ((plan : PlanTree) × does plan status)
     by (course.exhausted still is same) = inl is
-    by (course.refused still why none closes) = absurd (gives_one source.sets source.defer bytes accepted.plan why (gives_here files accepted given) none)
+    by (course.refused still why none closes) = absurd (gives_one source.sets source.defer source.target bytes accepted.plan why (gives_here files accepted given) accepted.target none)
       where
-        gives_here : (f : Contents) (a : IsAccepted source f) → GivesBytes f source.file bytes → GivesPlan source.sets source.defer bytes a.plan
+        gives_here : (f : Contents) (a : IsAccepted source f) → GivesBytes f source.file bytes → GivesWhole source.sets source.defer bytes a.plan
         gives_here f a has = on f a.sources has
           where
-            on : (g : Contents) → g ≡ Some a.told → GivesBytes g source.file bytes → GivesPlan source.sets source.defer bytes a.plan
+            on : (g : Contents) → g ≡ Some a.told → GivesBytes g source.file bytes → GivesWhole source.sets source.defer bytes a.plan
             on None is got = absurd (cc)
             on (Some told) is got =
                 let same : told ≡ a.told = cc in
                 let under : Some bytes ≡ Some a.bytes = sym got ∙ ap (λ (t : List ℕ → Option (List ℕ)). t source.file) same ∙ a.under in
                 let bytes_are : bytes ≡ a.bytes = cc in
-                subst (λ (b : List ℕ). GivesPlan source.sets source.defer b a.plan) (sym bytes_are) a.given
+                subst (λ (b : List ℕ). GivesWhole source.sets source.defer b a.plan) (sym bytes_are) a.given
     by (course.done plan gives did) = inr (plan, did)
 
 pub file_unrefused : (files : Contents) (source : Source) (status : ℕ) → FileStatus files source status → status ≡ 15 → ⊥

@@ -14,16 +14,18 @@ use Rattle.tf_journal.specs.declared.title.Title.TheVariants.{Book as book_title
 use Rattle.tf_book.specs.Book.{BookValue, outline, bodies_of}
 use Rattle.tf_book.specs.SessionInvariant.{SessionInvariant, said, IsSpoken, IsCut, HasCause, LeavesEntries, MayFollow, nothing_more, IsPending, IsExact, IsFullFor}
 use Rattle.tf_book.specs.Loading.{IsHistoryOf}
+use Rattle.tf_book.specs.Tried.{IsTried}
+use Rattle.tf_book.proofs.TriedLemmas.{one_of, follows_so, full_so}
 use Rattle.tf_book.proofs.InvariantLemmas.{history_before, history_on}
 use Rattle.tf_book.specs.declared.faults.Halt.{Halt}
 use Rattle.tf_book.specs.declared.faults.Halt.TheVariants as halt
 use Rattle.tf_book.proofs.SpokenLemmas.{shown_none}
-use Rattle.tf_commands.specs.Messages.{disk_fault_text, book_full}
+use Rattle.tf_report.specs.Faults.{disk_fault_text, book_full}
+use Rattle.tf_report.specs.Closing.{ClosesWith, said as was_said, cut}
+use Rattle.tf_report.specs.declared.statuses.TheConstants.{UNSAID, UNREAD, UNHIRED, DISK_FAILED, FULL}
 use Rattle.tf_commands.specs.Run.{ShowsLines, closed, line_cut, stopped}
 use Rattle.tf_commands.specs.Durable.{book_in, HoldsHistory, IsPendingSo, MayLeave}
 use Rattle.tf_commands.specs.Runs.{SaysHalt, HasMessage, HasSaidHalt, book_desk, LastsFrom, HasEnded}
-use Rattle.tf_commands.specs.Saying.{ClosesWith, said as was_said, cut}
-use Rattle.tf_commands.specs.declared.statuses.TheConstants.{UNSAID, UNREAD, UNHIRED, DISK_FAILED, FULL}
 
 -- nothing was said
 pub says_nothing : {now : DeskState} → Says [] now now
@@ -40,24 +42,25 @@ says_nothing {now} = record {
 }
 
 -- what is shown once a halt was said, where a message for it is among what may be said last
-pub halt_said : (plan : PlanValue) (quiet : Bool) (before entries : List Entry) (start mid now : DeskState) (last : List ℕ → ℕ → Type 0) (why : Halt) (closing : List ℕ) (status : ℕ)
-    → last disk_fault_text DISK_FAILED → ((size need : ℕ) → IsFullFor plan (entries ++ before) size need → last (book_full size need) FULL)
-    → IsSpoken quiet (outline_of plan) before start.shown entries (Some why) mid.shown → HasCause plan (entries ++ before) start mid (Some why)
+pub halt_said : (plan : PlanValue) (quiet : Bool) (before entries : List Entry) (start mid now : DeskState) (last : List ℕ → ℕ → Type 0) (is_so : Entry → Type 0) (entry : Option Entry) (why : Halt) (closing : List ℕ) (status : ℕ)
+    → ((e : Entry) → is_so e → last disk_fault_text DISK_FAILED) → ((size need : ℕ) → IsFullFor is_so plan (entries ++ before) size need → last (book_full size need) FULL)
+    → IsTried is_so (Some why) entry
+    → IsSpoken quiet (outline_of plan) before start.shown entries (Some why) mid.shown → HasCause plan (entries ++ before) start mid entry (Some why)
     → SaysHalt mid.shown now.shown why closing status → ShowsLines plan quiet before entries start.shown now.shown last closing status
-halt_said plan quiet before entries start mid now last halt.Disk closing status failed full spoken cause says =
+halt_said plan quiet before entries start mid now last is_so entry halt.Disk closing status failed full tried spoken cause says =
     subst (λ (c : List ℕ). ShowsLines plan quiet before entries start.shown now.shown last c status) (sym says.0)
-    (closed disk_fault_text DISK_FAILED status failed (subst (λ (t : Option (List ℕ)). ClosesWith t disk_fault_text DISK_FAILED now.shown status) spoken says.1))
-halt_said plan quiet before entries start mid now last halt.Out closing status failed full spoken cause says =
+    (closed disk_fault_text DISK_FAILED status (let one = one_of is_so entry tried in failed one.0 one.1) (subst (λ (t : Option (List ℕ)). ClosesWith t disk_fault_text DISK_FAILED now.shown status) spoken says.1))
+halt_said plan quiet before entries start mid now last is_so entry halt.Out closing status failed full tried spoken cause says =
     subst (λ (c : List ℕ). ShowsLines plan quiet before entries start.shown now.shown last c status) (sym says.0)
     (subst (λ (n : ℕ). ShowsLines plan quiet before entries start.shown now.shown last [] n) (sym says.1)
     (line_cut (subst (λ (t : Option (List ℕ)). IsCut quiet (outline_of plan) before start.shown entries t) (sym says.2) spoken)))
-halt_said plan quiet before entries start mid now last (halt.Full size need) closing status failed full spoken cause (inl out) =
+halt_said plan quiet before entries start mid now last is_so entry (halt.Full size need) closing status failed full tried spoken cause (inl out) =
     subst (λ (c : List ℕ). ShowsLines plan quiet before entries start.shown now.shown last c status) (sym out.0)
     (subst (λ (n : ℕ). ShowsLines plan quiet before entries start.shown now.shown last [] n) (sym out.1) (stopped (out.2 ∙ spoken)))
-halt_said plan quiet before entries start mid now last (halt.Full size need) closing status failed full spoken cause (inr says) =
+halt_said plan quiet before entries start mid now last is_so entry (halt.Full size need) closing status failed full tried spoken cause (inr says) =
     subst (λ (c : List ℕ). ShowsLines plan quiet before entries start.shown now.shown last c status) (sym says.0)
-    (closed (book_full size need) FULL status (full size need cause) (subst (λ (t : Option (List ℕ)). ClosesWith t (book_full size need) FULL now.shown status) spoken says.1))
-halt_said plan quiet before entries start mid now last halt.Memory closing status failed full spoken cause says =
+    (closed (book_full size need) FULL status (full size need (full_so is_so entry tried cause)) (subst (λ (t : Option (List ℕ)). ClosesWith t (book_full size need) FULL now.shown status) spoken says.1))
+halt_said plan quiet before entries start mid now last is_so entry halt.Memory closing status failed full tried spoken cause says =
     subst (λ (c : List ℕ). ShowsLines plan quiet before entries start.shown now.shown last c status) (sym says.0)
     (subst (λ (n : ℕ). ShowsLines plan quiet before entries start.shown now.shown last [] n) (sym says.1) (stopped (says.2 ∙ spoken)))
 
@@ -99,17 +102,17 @@ closing_runs first plan quiet before entries pending more shown closing image te
 }
 
 -- nothing is pending
-pub none_so : (plan : PlanValue) (past pending : List Entry) (old now : DeskState) → pending ≡ [] → IsPendingSo plan past pending old now
-none_so plan past pending old now none = record { few = subst (MayFollow plan past) (sym none) nothing_more; caused = inl none }
+pub none_so : (may : List Entry → Entry → Type 0) (plan : PlanValue) (past pending : List Entry) (old now : DeskState) → pending ≡ [] → IsPendingSo may plan past pending old now
+none_so may plan past pending old now none = record { few = subst (MayFollow (may past) plan past) (sym none) nothing_more; caused = inl none }
 
 -- the pending entry of a halt
-pub pending_so : (halted : Option Halt) (pending : List Entry) (plan : PlanValue) (past recorded : List Entry) (old now : DeskState) → IsPending plan past halted pending → HasCause plan recorded old now halted
-    → IsPendingSo plan past pending old now
-pending_so None pending plan past recorded old now few cause = none_so plan past pending old now few
-pending_so (Some halt.Disk) pending plan past recorded old now few cause = record { few = few; caused = inr cause }
-pending_so (Some halt.Out) pending plan past recorded old now few cause = none_so plan past pending old now few
-pending_so (Some halt.Memory) pending plan past recorded old now few cause = none_so plan past pending old now few
-pending_so (Some (halt.Full size need)) pending plan past recorded old now few cause = none_so plan past pending old now few
+pub pending_so : (may : List Entry → Entry → Type 0) (halted : Option Halt) (entry : Option Entry) (pending : List Entry) (plan : PlanValue) (past recorded : List Entry) (old now : DeskState)
+    → IsTried (may past) halted entry → IsPending plan past halted entry pending → HasCause plan recorded old now entry halted → IsPendingSo may plan past pending old now
+pending_so may None entry pending plan past recorded old now tried few cause = none_so may plan past pending old now few
+pending_so may (Some halt.Disk) entry pending plan past recorded old now tried few cause = record { few = follows_so (may past) entry tried few; caused = inr cause }
+pending_so may (Some halt.Out) entry pending plan past recorded old now tried few cause = none_so may plan past pending old now few
+pending_so may (Some halt.Memory) entry pending plan past recorded old now tried few cause = none_so may plan past pending old now few
+pending_so may (Some (halt.Full size need)) entry pending plan past recorded old now tried few cause = none_so may plan past pending old now few
 
 -- ---- how a halt was said
 
@@ -147,17 +150,18 @@ halt_unspoken why old status ends unsaid failed apart = record {
 
 module _ {K : Type 0} (state : K → DeskState) where
   -- what a crash may leave and leaves of a file, where nothing more is said than a closing, which comes after all lines
-  pub said_lasts : (start book : BookValue K) (closing : List ℕ) (now : DeskState) → Says closing (book_desk state book) now
+  pub said_lasts : (may : List Entry → Entry → Type 0) (start book : BookValue K) (closing : List ℕ) (now : DeskState) → Says closing (book_desk state book) now
       → (¬ (Rises (book_desk state start).disk_faults now.disk_faults) → book.journal.halted ≡ false)
-      → (k : SessionInvariant state start book) → IsHistoryOf start.plan book.past
+      → (k : SessionInvariant state start book) → IsHistoryOf start.plan book.past → IsTried (may book.past) book.halt book.failed
       → ((book_desk state book).shown ≡ shown_with (book_desk state start).shown (said start.quiet (outline start) start.past k.entries))
       ⊎ (IsTrue (book_desk state book).tells → Passes nothing_left (book_desk state book) now)
-      → LastsFrom state start now k.entries closing
-  said_lasts start book closing now says unhurt k history how telling kept at_rest first =
+      → LastsFrom state may start now k.entries closing
+  said_lasts may start book closing now says unhurt k history tried how telling kept at_rest first =
       let d = k.crash telling kept in
       let telling_book : IsTrue (book_desk state book).tells = extends_told k.continues.extends telling in
       let leaves = d.left at_rest in
-      let pending = pending_so book.halt d.pending start.plan (k.entries ++ start.past) book.past (book_desk state start) (book_desk state book) d.few k.cause in
+      let pending = pending_so may book.halt book.failed d.pending start.plan (k.entries ++ start.past) book.past (book_desk state start) (book_desk state book)
+      (subst (λ (p : List Entry). IsTried (may p) book.halt book.failed) k.recorded tried) d.few k.cause in
       let so_far : IsHistoryOf start.plan (k.entries ++ start.past) = subst (IsHistoryOf start.plan) k.recorded history in
       let whole : IsHistoryOf start.plan ((d.pending ++ k.entries) ++ start.past) =
       subst (IsHistoryOf start.plan) (sym (append_assoc d.pending k.entries start.past)) (history_on pending.few so_far) in
@@ -199,8 +203,8 @@ module _ {K : Type 0} (state : K → DeskState) where
           prefix f = subst (λ (t : Option (List ℕ)). ShowsPrefix t closing (Some text)) loud f
 
   -- why the book was halted
-  halt_cause : (start book : BookValue K) (why : Halt) → book.halt ≡ Some why → SessionInvariant state start book → HasCause start.plan book.past (book_desk state start) (book_desk state book) (Some why)
-  halt_cause start book why halted k = subst (λ (h : Option Halt). HasCause start.plan book.past (book_desk state start) (book_desk state book) h) halted k.cause
+  halt_cause : (start book : BookValue K) (why : Halt) → book.halt ≡ Some why → SessionInvariant state start book → HasCause start.plan book.past (book_desk state start) (book_desk state book) book.failed (Some why)
+  halt_cause start book why halted k = subst (λ (h : Option Halt). HasCause start.plan book.past (book_desk state start) (book_desk state book) book.failed h) halted k.cause
 
   -- the text at the halt
   halt_text : (start book : BookValue K) (why : Halt) → book.halt ≡ Some why → (k : SessionInvariant state start book)
@@ -209,13 +213,13 @@ module _ {K : Type 0} (state : K → DeskState) where
       subst (λ (h : Option Halt). IsSpoken start.quiet (outline start) start.past (book_desk state start).shown k.entries h (book_desk state book).shown) halted k.text
 
   -- the same where a book was halted and that was said, or nothing
-  pub halt_lasts : (start book : BookValue K) (why : Halt) (now : DeskState) (status : ℕ) → book.halt ≡ Some why → (book.halt ≢ Some halt.Disk → book.journal.halted ≡ false)
+  pub halt_lasts : (may : List Entry → Entry → Type 0) (start book : BookValue K) (why : Halt) (now : DeskState) (status : ℕ) → book.halt ≡ Some why → (book.halt ≢ Some halt.Disk → book.journal.halted ≡ false)
       → (s : HasSaidHalt why (book_desk state book) now status) → (k : SessionInvariant state start book) → IsHistoryOf start.plan book.past
-      → LastsFrom state start now k.entries s.closing
-  halt_lasts start book why now status halted unhalted s k history =
-      said_lasts start book s.closing now s.says
+      → IsTried (may book.past) book.halt book.failed → LastsFrom state may start now k.entries s.closing
+  halt_lasts may start book why now status halted unhalted s k history tried =
+      said_lasts may start book s.closing now s.says
       (λ unrisen. unhalted (λ is. unrisen (rises_disk (let same : why ≡ halt.Disk = some_same (sym halted ∙ is) in same) (halt_cause start book why halted k))))
-      k history (⊎_elim (λ has. inl (whole_text why has k.entries (halt_text start book why halted k))) (λ still. inr still) s.how)
+      k history tried (⊎_elim (λ has. inl (whole_text why has k.entries (halt_text start book why halted k))) (λ still. inr still) s.how)
     where
       some_same : Some why ≡ Some halt.Disk → why ≡ halt.Disk
       some_same is = cc
@@ -228,10 +232,10 @@ module _ {K : Type 0} (state : K → DeskState) where
       whole_text (halt.Full size need) has entries spoken = spoken
       whole_text halt.Memory has entries spoken = absurd has
 
-      rises_disk : why ≡ halt.Disk → HasCause start.plan book.past (book_desk state start) (book_desk state book) (Some why) → Rises (book_desk state start).disk_faults now.disk_faults
+      rises_disk : why ≡ halt.Disk → HasCause start.plan book.past (book_desk state start) (book_desk state book) book.failed (Some why) → Rises (book_desk state start).disk_faults now.disk_faults
       rises_disk is cause =
           let rose : Rises (book_desk state start).disk_faults (book_desk state book).disk_faults =
-          subst (λ (w : Halt). HasCause start.plan book.past (book_desk state start) (book_desk state book) (Some w)) is cause in
+          subst (λ (w : Halt). HasCause start.plan book.past (book_desk state start) (book_desk state book) book.failed (Some w)) is cause in
           omega (arith, rose, s.says.disk_faults)
 
   -- a halt that was said with the status of a failed output tells of such a fault, and one with that of a failed disk of a fault of the disk
@@ -242,7 +246,7 @@ module _ {K : Type 0} (state : K → DeskState) where
     failed = λ is. disk_rose why (s.failed is) (halt_cause start book why halted k);
   }
     where
-      output_rose : (w : Halt) → (w ≡ halt.Out) ⊎ Rises (book_desk state book).out_faults now.out_faults → HasCause start.plan book.past (book_desk state start) (book_desk state book) (Some w)
+      output_rose : (w : Halt) → (w ≡ halt.Out) ⊎ Rises (book_desk state book).out_faults now.out_faults → HasCause start.plan book.past (book_desk state start) (book_desk state book) book.failed (Some w)
           → Rises (book_desk state start).out_faults now.out_faults
       output_rose w (inr rose) cause = omega (arith, rose, k.continues.extends.out_faults)
       output_rose halt.Out (inl is) cause = omega (arith, cause, s.says.out_faults)
@@ -250,21 +254,24 @@ module _ {K : Type 0} (state : K → DeskState) where
       output_rose halt.Memory (inl is) cause = absurd (cc)
       output_rose (halt.Full size need) (inl is) cause = absurd (cc)
 
-      disk_rose : (w : Halt) → w ≡ halt.Disk → HasCause start.plan book.past (book_desk state start) (book_desk state book) (Some w) → Rises (book_desk state start).disk_faults now.disk_faults
+      disk_rose : (w : Halt) → w ≡ halt.Disk → HasCause start.plan book.past (book_desk state start) (book_desk state book) book.failed (Some w) → Rises (book_desk state start).disk_faults now.disk_faults
       disk_rose halt.Disk is cause = omega (arith, cause, s.says.disk_faults)
       disk_rose halt.Out is cause = absurd (cc)
       disk_rose halt.Memory is cause = absurd (cc)
       disk_rose (halt.Full size need) is cause = absurd (cc)
 
   -- the text once a halt was said
-  pub halt_shows : (start book : BookValue K) (why : Halt) (now : DeskState) (status : ℕ) (last : List ℕ → ℕ → Type 0) → book.halt ≡ Some why
+  pub halt_shows : (start book : BookValue K) (why : Halt) (now : DeskState) (status : ℕ) (last : List ℕ → ℕ → Type 0) (may : List Entry → Entry → Type 0) → book.halt ≡ Some why
       → (s : HasSaidHalt why (book_desk state book) now status) → (k : SessionInvariant state start book)
-      → last disk_fault_text DISK_FAILED → ((size need : ℕ) → IsFullFor start.plan (k.entries ++ start.past) size need → last (book_full size need) FULL)
+      → ((e : Entry) → may (k.entries ++ start.past) e → last disk_fault_text DISK_FAILED)
+      → ((size need : ℕ) → IsFullFor (may (k.entries ++ start.past)) start.plan (k.entries ++ start.past) size need → last (book_full size need) FULL)
+      → IsTried (may book.past) book.halt book.failed
       → ShowsLines start.plan start.quiet start.past k.entries (book_desk state start).shown now.shown last s.closing status
-  halt_shows start book why now status last halted s k failed full =
-      halt_said start.plan start.quiet start.past k.entries (book_desk state start) (book_desk state book) now last why s.closing status failed full
+  halt_shows start book why now status last may halted s k failed full tried =
+      halt_said start.plan start.quiet start.past k.entries (book_desk state start) (book_desk state book) now last (may (k.entries ++ start.past)) book.failed why s.closing status failed full
+      (subst (λ (p : List Entry). IsTried (may p) (Some why) book.failed) k.recorded (subst (λ (h : Option Halt). IsTried (may book.past) h book.failed) halted tried))
       (halt_text start book why halted k)
-      (subst (λ (p : List Entry). HasCause start.plan p (book_desk state start) (book_desk state book) (Some why)) k.recorded (halt_cause start book why halted k))
+      (subst (λ (p : List Entry). HasCause start.plan p (book_desk state start) (book_desk state book) book.failed (Some why)) k.recorded (halt_cause start book why halted k))
       s.ends
 
   -- the text of a book that wasn't halted

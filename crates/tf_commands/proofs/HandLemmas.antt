@@ -5,7 +5,7 @@ use Rattle.tf_ports.specs.declared.crews.Want.TheVariants as want
 use Rattle.tf_values.specs.Name.{is_name}
 use Rattle.tf_words.specs.Addresses.{worker_of, address_of, sessions_in}
 use Rattle.tf_words.specs.Boards.{Applied, id_in, post_of, owner_of, list_of, applied_in, priority_in, details_in}
-use Rattle.tf_words.specs.Commands.{hands_in, deferral_in, stop_in, try_of, run_of, resume_of, show_of, reset_of, check_of, demo_of, asked_by}
+use Rattle.tf_words.specs.Commands.{hands_in, deferral_in, stop_in, target_in, try_of, run_of, resume_of, show_of, reset_of, check_of, demo_of, asked_by}
 use Rattle.tf_words.specs.Numbers.{number_between}
 use Rattle.tf_words.specs.Options.{Said, once}
 use Rattle.tf_words.specs.Pairs.{sets_behind}
@@ -21,8 +21,8 @@ use Rattle.tf_words.proofs.DemoLemmas.{between}
 
 -- the hands that a command wants may run a flow
 abbrev pub HasHands : Asked → Type 0
-HasHands (asked.Try file sets defer hands) = AreHands hands
-HasHands (asked.Run file book sets defer hands stop) = AreHands hands
+HasHands (asked.Try file sets defer hands target) = AreHands hands
+HasHands (asked.Run file book sets defer hands stop target) = AreHands hands
 HasHands (asked.Resume book hands stop) = AreHands hands
 HasHands (asked.Demo seed size book hands) = AreHands (want.Local hands)
 HasHands command = Unit {0}
@@ -60,14 +60,15 @@ hands_within said n is = by (said (codes "hands")) is
 try_hands : (said : Said) (words : List (List ℕ)) → IfSome (try_of said words) HasHands
 try_hands said [] = tt
 try_hands said (file ∷ pairs) =
-    all_then HasHands _ (deferral_in said) (λ defer is. all_then HasHands _ (hands_in said) (λ n is_hands. all_map HasHands _ (sets_behind [] pairs) (λ sets. hands_within said n is_hands)))
+    all_then HasHands _ (deferral_in said) (λ defer is. all_then HasHands _ (hands_in said) (λ n is_hands. all_then HasHands _ (target_in said) (λ target is_target.
+    all_map HasHands _ (sets_behind [] pairs) (λ sets. hands_within said n is_hands))))
 
 run_hands : (said : Said) (words : List (List ℕ)) → IfSome (run_of said words) HasHands
 run_hands said [] = tt
 run_hands said (file ∷ []) = tt
 run_hands said (file ∷ book ∷ pairs) =
     all_then HasHands _ (deferral_in said) (λ defer is. all_then HasHands _ (hands_in said) (λ n is_hands. all_then HasHands _ (stop_in said) (λ stop is_stop.
-    all_map HasHands _ (sets_behind [] pairs) (λ sets. hands_within said n is_hands))))
+    all_then HasHands _ (target_in said) (λ target is_target. all_map HasHands _ (sets_behind [] pairs) (λ sets. hands_within said n is_hands)))))
 
 resume_hands : (said : Said) (words : List (List ℕ)) → IfSome (resume_of said words) HasHands
 resume_hands said [] = tt
@@ -84,9 +85,9 @@ reset_hands [] = tt
 reset_hands (book ∷ []) = tt
 reset_hands (book ∷ more ∷ others) = tt
 
-check_hands : (words : List (List ℕ)) → IfSome (check_of words) HasHands
-check_hands [] = tt
-check_hands (file ∷ pairs) = all_map HasHands _ (sets_behind [] pairs) (λ sets. tt)
+check_hands : (said : Said) (words : List (List ℕ)) → IfSome (check_of said words) HasHands
+check_hands said [] = tt
+check_hands said (file ∷ pairs) = all_then HasHands _ (target_in said) (λ target is. all_map HasHands _ (sets_behind [] pairs) (λ sets. tt))
 
 demo_of_hands : (said : Said) (seed size : ℕ) (book : List ℕ) (o : Option ℕ) → hands_in said ≡ o → IfSome (option_map (λ n. asked.Demo seed size book n) o) HasHands
 demo_of_hands said seed size book None is = tt
@@ -131,7 +132,7 @@ asked_hands verb.Run said = run_hands said (said [])
 asked_hands verb.Resume said = resume_hands said (said [])
 asked_hands verb.Show said = show_hands (said [])
 asked_hands verb.Reset said = reset_hands (said [])
-asked_hands verb.Check said = check_hands (said [])
+asked_hands verb.Check said = check_hands said (said [])
 asked_hands verb.Demo said = demo_hands said (said [])
 asked_hands verb.Worker said = worker_hands said (said [])
 asked_hands verb.Post said = post_hands said (said [])

@@ -1,5 +1,5 @@
 -- How many tasks a plan has, and what a check says of it.
-use Rattle.std.proofs.Common.{◌≡◌, ℕ, suc, ◌+◌, List, [], ◌∷◌, ◌++◌, length, Bool, true, false, Option, sym, ap, ◌∙◌, arith, codes, ◌-◌}
+use Rattle.std.proofs.Common.{◌≡◌, ℕ, suc, ◌+◌, List, [], ◌∷◌, ◌++◌, length, Bool, true, false, sym, ap, ◌∙◌, arith, codes, ◌-◌}
 use Rattle.std.specs.Prelude.{if◌then◌else◌}
 use Rattle.std.specs.Fmt.{decimal}
 use Rattle.std.proofs.lemmas.List.{length-append, append_assoc}
@@ -10,8 +10,7 @@ use Rattle.tf_model.specs.Plan.{Outline, outline_of, count, is_task}
 use Rattle.tf_model.proofs.PlanLemmas.{atoms_counted}
 use Rattle.tf_report.specs.Lines.{flow_name, flow_word}
 use Rattle.tf_states.specs.declared.state.FlowState.{FlowState}
-use Rattle.tf_board.specs.Answers.{byte_or_end}
-use Rattle.tf_commands.specs.Messages.{tasks_below, checked, not_a_book, book_full, state_forbids}
+use Rattle.tf_commands.specs.Messages.{tasks_below, checked, state_forbids}
 use Rattle.tf_report.proofs.LineLemmas.{flows_counted}
 
 -- ---- flows
@@ -44,26 +43,6 @@ by_twos front a b c d e f g h i = search (append_assoc)
 -- four texts, of which the first three were appended at once
 three_at_once : (front a b c d : List ℕ) → (front ++ (a ++ (b ++ c))) ++ d ≡ front ++ (a ++ b ++ c ++ d)
 three_at_once front a b c d = search (append_assoc)
-
--- five texts that were appended by twos
-five_by_twos : (front a b c d e : List ℕ) → ((front ++ (a ++ b)) ++ (c ++ d)) ++ e ≡ front ++ (a ++ b ++ c ++ d ++ e)
-five_by_twos front a b c d e = search (append_assoc)
-
--- what was appended of a book that is full
-pub full_told : (front : List ℕ) (size need : ℕ)
-    → ((front ++ (codes "taskflow: book full: " ++ decimal size)) ++ (codes " + " ++ decimal need)) ++ codes "\n" ≡ front ++ book_full size need
-unfolding book_full
-full_told front size need = five_by_twos front (codes "taskflow: book full: ") (decimal size) (codes " + ") (decimal need) (codes "\n")
-
--- five texts, of which the first two were appended at once
-five_by_one : (front a b c d e : List ℕ) → (((front ++ (a ++ b)) ++ c) ++ d) ++ e ≡ front ++ (a ++ b ++ c ++ d ++ e)
-five_by_one front a b c d e = search (append_assoc)
-
--- what was appended of a file that is no book
-pub no_book_told : (front : List ℕ) (offset : ℕ) (byte : Option ℕ)
-    → (((front ++ (codes "taskflow: not a book: offset " ++ decimal offset)) ++ codes ", ") ++ byte_or_end byte) ++ codes "\n" ≡ front ++ not_a_book offset byte
-unfolding not_a_book
-no_book_told front offset byte = five_by_one front (codes "taskflow: not a book: offset ") (decimal offset) (codes ", ") (byte_or_end byte) (codes "\n")
 
 -- what was appended of a flow whose state forbids a command
 pub forbids_told : (front : List ℕ) (plan : Outline) (state : FlowState)

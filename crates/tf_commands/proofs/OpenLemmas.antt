@@ -14,7 +14,7 @@ use Rattle.tf_book.specs.Showing.{history_text}
 use Rattle.tf_book.specs.declared.book.loading.Loaded.{Loaded}
 use Rattle.tf_commands.specs.Books.{RefusesOrStops, exhausted, ShowsBook, unopened_show, shown_whole}
 use Rattle.tf_commands.specs.Runs.{book_desk, HoldsBook}
-use Rattle.tf_commands.specs.declared.statuses.TheConstants.{SUCCEEDED, DISK_FAILED, UNSAID, UNHIRED, OUT_OF_MEMORY}
+use Rattle.tf_report.specs.declared.statuses.TheConstants.{SUCCEEDED, DISK_FAILED, UNSAID, UNHIRED, OUT_OF_MEMORY}
 
 -- the whole of a book was said, or a part, or nothing for want of memory
 pub whole_apart : (status : ℕ) → (status ≡ SUCCEEDED) ⊎ (status ≡ UNSAID) ⊎ (status ≡ OUT_OF_MEMORY) → (status ≢ DISK_FAILED) × (status ≢ UNHIRED)

@@ -22,12 +22,12 @@ use Rattle.tf_journal.proofs.PathLemmas.{set_start, path_said}
 use Rattle.tf_commands.specs.Begun.{Begins, Unbegun}
 use Rattle.tf_commands.specs.Books.{Promised}
 use Rattle.tf_commands.specs.Durable.{book_in, book_at, HoldsNoFlow, HoldsHistory, FindsHistory, IsFreshFile, MayLeave, Lasts}
-use Rattle.tf_commands.specs.Messages.{disk_fault_text}
+use Rattle.tf_report.specs.Faults.{disk_fault_text}
+use Rattle.tf_report.specs.Closing.{ClosesWith}
+use Rattle.tf_report.specs.declared.statuses.TheConstants.{DISK_FAILED, OUT_OF_MEMORY}
 use Rattle.tf_commands.specs.declared.running.Request.{Request}
-use Rattle.tf_commands.specs.Run.{Ran, RunShows, closed, stopped, disk_failed}
+use Rattle.tf_commands.specs.Run.{MayRun, Ran, RunShows, closed, stopped, disk_failed}
 use Rattle.tf_commands.specs.Runs.{book_desk, HoldsBook, RunLasts, LastsFrom, RunsOn}
-use Rattle.tf_commands.specs.Saying.{ClosesWith}
-use Rattle.tf_commands.specs.declared.statuses.TheConstants.{DISK_FAILED, OUT_OF_MEMORY}
 use Rattle.tf_commands.proofs.AskedLemmas.{ran_more}
 use Rattle.tf_commands.proofs.FlowLemmas.{flow_held}
 use Rattle.tf_commands.proofs.HaltLemmas.{none_so}
@@ -86,7 +86,7 @@ unbegun_promised gives request asked name plan entry mid now closing status u en
       let start_now : IsStart name entry now start.0 = record { more = start.1.more; added = says.marks told_mid ∙ start.1.added; first = start.1.first } in
       record {
         pending = [];
-        few = none_so plan [] [] entry now refl;
+        few = none_so (MayRun gives request plan) plan [] [] entry now refl;
         file = inl (path.still start.0 start_now (file_of now name) read.0);
         exact = λ none short unrisen holds.
             let blank = u.blank (λ rose. unrisen (omega (arith, rose, says.disk_faults))) told in
@@ -98,25 +98,25 @@ unbegun_promised gives request asked name plan entry mid now closing status u en
 }
   where
     text : ((closing ≡ disk_fault_text) × ClosesWith mid.shown disk_fault_text DISK_FAILED now.shown status) ⊎ ((closing ≡ []) × (status ≡ OUT_OF_MEMORY) × (now.shown ≡ mid.shown))
-        → RunShows request plan [] [] entry.shown now.shown None closing status
-    text (inl said) = subst (λ (c : List ℕ). RunShows request plan [] [] entry.shown now.shown None c status) (sym said.0)
-        (closed disk_fault_text DISK_FAILED status (disk_failed None)
+        → RunShows gives request plan [] [] entry.shown now.shown None closing status
+    text (inl said) = subst (λ (c : List ℕ). RunShows gives request plan [] [] entry.shown now.shown None c status) (sym said.0)
+        (closed disk_fault_text DISK_FAILED status (disk_failed None refl)
         (subst (λ (o : Option (List ℕ)). ClosesWith o disk_fault_text DISK_FAILED now.shown status) (u.quiet.shown ∙ sym (shown_none entry.shown)) said.1))
-    text (inr out) = subst (λ (c : List ℕ). RunShows request plan [] [] entry.shown now.shown None c status) (sym out.0)
-        (subst (λ (n : ℕ). RunShows request plan [] [] entry.shown now.shown None [] n) (sym out.1) (stopped (out.2 ∙ u.quiet.shown ∙ sym (shown_none entry.shown))))
+    text (inr out) = subst (λ (c : List ℕ). RunShows gives request plan [] [] entry.shown now.shown None c status) (sym out.0)
+        (subst (λ (n : ℕ). RunShows gives request plan [] [] entry.shown now.shown None [] n) (sym out.1) (stopped (out.2 ∙ u.quiet.shown ∙ sym (shown_none entry.shown))))
 
 module _ {K : Type 0} (state : K → DeskState) where
   -- how the file lasts through a run that went on from one that was set
-  run_lasts : (name : List ℕ) (entry : DeskState) (book : BookValue K) (now : DeskState) (entries : List Entry) (closing : List ℕ) {may : Pairs} {held : List ℕ → Type 0}
+  run_lasts : (may_be : List Entry → Entry → Type 0) (name : List ℕ) (entry : DeskState) (book : BookValue K) (now : DeskState) (entries : List Entry) (closing : List ℕ) {may : Pairs} {held : List ℕ → Type 0}
       → Path name entry (book_desk state book) may held → IsSet name entry (book_desk state book)
       → (book_desk state book).shown ≡ entry.shown → entry.disk_faults ≤ (book_desk state book).disk_faults
       → Continues (book_desk state book) now → IsTrue (book_desk state book).tells
-      → (r : RunLasts state (book_at entry name) book now entries closing)
+      → (r : RunLasts state may_be (book_at entry name) book now entries closing)
       → ((image text : List ℕ) → may image text → MayLeave (book_at entry name) book.plan book.quiet book.past entries r.pending entry.shown closing image text)
       → (IsFreshFile (file_of entry name) → length (file_of entry name) ≤ 18 → IsExact (book_desk state book) book.plan book.past)
       → ReadsPicked name now
-      → Lasts name book.plan book.quiet book.past entries entry now closing
-  run_lasts name entry book now entries closing path set quiet before call told r widens known laws =
+      → Lasts may_be name book.plan book.quiet book.past entries entry now closing
+  run_lasts may_be name entry book now entries closing path set quiet before call told r widens known laws =
       let set_now = set_continues set call told in
       let read = reads_as set_now.picked laws (extends_told call.extends told) in
       let on = path_continues {wider = MayLeave (book_at entry name) book.plan book.quiet book.past entries r.pending entry.shown closing} {holds = λ image. Unit {0}} path set call told r.passes widens
@@ -151,10 +151,10 @@ module _ {K : Type 0} (state : K → DeskState) where
         let at_rest : LeavesBodies (title_of book_title) (book_desk state book) (bodies_of book.plan book.past) =
         (λ image is. ((b.path told).still start.0 start.1 image is).is ∙ ap (λ (p : PlanValue). bodies (bodies_of p [])) (sym b.plan_is) ∙ ap (λ (past : List Entry). bodies (bodies_of book.plan past)) (sym b.past_is)) in
         let l = r.lasts told_book b.kept at_rest (book_at entry name) in
-        subst (λ (q : Bool). Lasts name plan q [] r.entries entry now r.closing) speaks
-        (subst (λ (p : PlanValue). Lasts name p book.quiet [] r.entries entry now r.closing) b.plan_is
-        (subst (λ (past : List Entry). Lasts name book.plan book.quiet past r.entries entry now r.closing) b.past_is
-        (run_lasts name entry book now r.entries r.closing (b.path told) (b.quiet.set told) b.quiet.shown b.quiet.disk r.continues told_book l
+        subst (λ (q : Bool). Lasts (MayRun gives request plan) name plan q [] r.entries entry now r.closing) speaks
+        (subst (λ (p : PlanValue). Lasts (MayRun gives request p) name p book.quiet [] r.entries entry now r.closing) b.plan_is
+        (subst (λ (past : List Entry). Lasts (MayRun gives request book.plan) name book.plan book.quiet past r.entries entry now r.closing) b.past_is
+        (run_lasts (MayRun gives request book.plan) name entry book now r.entries r.closing (b.path told) (b.quiet.set told) b.quiet.shown b.quiet.disk r.continues told_book l
         (λ image text may. found_leaves (book_at entry name) book.plan book.quiet book.past r.entries l.pending entry.shown r.closing image text
         (subst (λ (p : PlanValue). FindsHistory (book_at entry name) p book.past (book_in image)) (sym b.plan_is) (subst (λ (past : List Entry). FindsHistory (book_at entry name) plan past (book_in image)) (sym b.past_is) may.0)) may.1)
         (λ fresh short. b.exact told fresh short ∙ ap (λ (p : PlanValue). journal_bytes (title_of book_title) (bodies_of p [])) (sym b.plan_is)
@@ -163,19 +163,19 @@ module _ {K : Type 0} (state : K → DeskState) where
   }
 
   -- how the file lasts through what went on from the history which the book held
-  pub opened_lasts : (name : List ℕ) (entry : DeskState) (book : BookValue K) (now : DeskState) (entries : List Entry) (closing : List ℕ)
+  pub opened_lasts : (may_be : List Entry → Entry → Type 0) (name : List ℕ) (entry : DeskState) (book : BookValue K) (now : DeskState) (entries : List Entry) (closing : List ℕ)
       → Open name entry (book_desk state book) → book.journal.volatile ≡ false → HoldsBook name entry book
-      → LastsFrom state book now entries closing → Continues (book_desk state book) now → ReadsPicked name now
+      → LastsFrom state may_be book now entries closing → Continues (book_desk state book) now → ReadsPicked name now
       → IsTrue entry.tells
-      → Lasts name book.plan book.quiet book.past entries entry now closing
-  opened_lasts name entry book now entries closing o kept holds lasts call laws told =
+      → Lasts may_be name book.plan book.quiet book.past entries entry now closing
+  opened_lasts may_be name entry book now entries closing o kept holds lasts call laws told =
       let told_book : IsTrue (book_desk state book).tells = subst IsTrue (sym o.untouched.told) told in
       let start = set_start (o.set told) in
       let path = o.untouched.path told in
       let at_rest : LeavesBodies (title_of book_title) (book_desk state book) (bodies_of book.plan book.past) =
       (λ image is. ap book_in (path.still start.0 start.1 image is) ∙ (holds told).is) in
       let l = lasts told_book kept at_rest (book_at entry name) in
-      run_lasts name entry book now entries closing path (o.set told) o.untouched.quiet o.untouched.disk call told_book l
+      run_lasts may_be name entry book now entries closing path (o.set told) o.untouched.quiet o.untouched.disk call told_book l
       (λ image text may. found_leaves (book_at entry name) book.plan book.quiet book.past entries l.pending entry.shown closing image text
       (inl (subst (λ (f : List ℕ). HoldsHistory book.plan book.past (book_in f)) (sym may.0) (holds told))) may.1)
       (λ none short. absurd (flow_held (book_at entry name) book.plan book.past (fresh_holds (file_of entry name) none) (holds told)))
@@ -193,6 +193,6 @@ module _ {K : Type 0} (state : K → DeskState) where
     closing = r.closing;
     ran = subst (λ (t : Option (List ℕ)). Ran gives request asked book.plan book.past r.entries r.stop t now.shown r.closing status) o.untouched.quiet r.ran;
     lasts = λ told.
-        subst (λ (q : Bool). Lasts name book.plan q book.past r.entries entry now r.closing) speaks
-        (opened_lasts name entry book now r.entries r.closing o kept holds r.lasts r.continues laws told);
+        subst (λ (q : Bool). Lasts (MayRun gives request book.plan) name book.plan q book.past r.entries entry now r.closing) speaks
+        (opened_lasts (MayRun gives request book.plan) name entry book now r.entries r.closing o kept holds r.lasts r.continues laws told);
   }

@@ -21,13 +21,14 @@ use Rattle.tf_book.specs.declared.faults.Halt.TheVariants as halt
 use Rattle.tf_book.proofs.SpokenLemmas.{shown_none}
 use Rattle.tf_journal.specs.Path.{Open}
 use Rattle.tf_commands.specs.Books.{Refuses, RefusesOrStops, exhausted, ResetsBook, unopened_reset, reset_forbidden, was_reset}
+use Rattle.tf_book.specs.Tried.{IsTried, IsNextReset, HasTriedToReset}
 use Rattle.tf_commands.specs.Durable.{Lasts}
 use Rattle.tf_commands.specs.Messages.{state_forbids}
 use Rattle.tf_commands.specs.Resets.{PutBack, IsResetSaid, all_back, disk_failed_back, filled_back}
 use Rattle.tf_commands.specs.Run.{ShowsLines, closed}
 use Rattle.tf_commands.specs.Runs.{HoldsBook, HasSaidHalt, book_desk, IsPutBackTo, GoesBack}
-use Rattle.tf_commands.specs.Saying.{said as was_said}
-use Rattle.tf_commands.specs.declared.statuses.TheConstants.{SUCCEEDED, FORBIDDEN}
+use Rattle.tf_report.specs.Closing.{said as was_said}
+use Rattle.tf_report.specs.declared.statuses.TheConstants.{SUCCEEDED, FORBIDDEN}
 use Rattle.tf_commands.proofs.HaltLemmas.{says_nothing, halt_lasts, halt_ended, halt_shows, said_lasts, sound_text}
 use Rattle.tf_commands.proofs.PathLemmas.{ReadsPicked}
 use Rattle.tf_commands.proofs.PromiseLemmas.{opened_lasts}
@@ -48,6 +49,10 @@ put_entries : (plan : PlanValue) (before after entries : List Entry) → IsPutBa
 put_entries plan before after entries put recorded =
     subst (λ (l : List Entry). AreReset (outline_of plan) l before) (append_cancel_right put.entries entries before (sym put.is ∙ recorded)) put.are
 
+-- the entry that couldn't be recorded, by the plan at the start
+pub reset_failed : {K : Type 0} (start now : BookValue K) → now.plan ≡ start.plan → HasTriedToReset now → IsTried (IsNextReset (outline start) now.past) now.halt now.failed
+reset_failed start now plan tried = subst (λ (p : PlanValue). IsTried (IsNextReset (outline_of p) now.past) now.halt now.failed) plan tried
+
 module _ {K : Type 0} (state : K → DeskState) where
   -- why the book was halted was said, or cut, or it says nothing
   pub halts_back : (start book : BookValue K) (why : Halt) (now : DeskState) (status : ℕ) → IsPutBackTo state start book → book.halt ≡ Some why
@@ -59,11 +64,11 @@ module _ {K : Type 0} (state : K → DeskState) where
       record {
         entries = k.entries;
         closing = s.closing;
-        lasts = halt_lasts state start book why now status halted unhalted s k (subst (λ (p : PlanValue). IsHistoryOf p book.past) k.plan history);
+        lasts = halt_lasts state (IsNextReset (outline start)) start book why now status halted unhalted s k (subst (λ (p : PlanValue). IsHistoryOf p book.past) k.plan history) to.failed;
         put_back = record {
           steps = put_entries start.plan start.past book.past k.entries to.put k.recorded;
           text = subst (λ (b : Bool). ShowsLines start.plan b start.past k.entries (book_desk state start).shown now.shown (IsResetSaid start.plan (k.entries ++ start.past)) s.closing status) to.speaks
-              (halt_shows state start book why now status (IsResetSaid start.plan (k.entries ++ start.past)) halted s k disk_failed_back filled_back);
+              (halt_shows state start book why now status (IsResetSaid start.plan (k.entries ++ start.past)) (IsNextReset (outline start)) halted s k disk_failed_back filled_back to.failed);
         };
         continues = continues_on k.continues (says_continues s.says);
         ended = halt_ended state start book why now status halted s k;
@@ -78,7 +83,7 @@ module _ {K : Type 0} (state : K → DeskState) where
       record {
         entries = k.entries;
         closing = [];
-        lasts = said_lasts state start book [] (book_desk state book) says_nothing (λ unrisen. unhalted) k (subst (λ (p : PlanValue). IsHistoryOf p book.past) k.plan history) (inl spoken);
+        lasts = said_lasts state (IsNextReset (outline start)) start book [] (book_desk state book) says_nothing (λ unrisen. unhalted) k (subst (λ (p : PlanValue). IsHistoryOf p book.past) k.plan history) to.failed (inl spoken);
         put_back = record {
           steps = put_entries start.plan start.past book.past k.entries to.put k.recorded;
           text = subst (λ (b : Bool). ShowsLines start.plan b start.past k.entries (book_desk state start).shown (book_desk state book).shown (IsResetSaid start.plan (k.entries ++ start.past)) [] SUCCEEDED) to.speaks
@@ -100,8 +105,8 @@ module _ {K : Type 0} (state : K → DeskState) where
         closing = b.closing;
         put_back = subst (λ (t : Option (List ℕ)). PutBack book.plan book.past b.entries t now.shown b.closing status) o.untouched.quiet b.put_back;
         lasts = λ told.
-            subst (λ (q : Bool). Lasts name book.plan q book.past b.entries entry now b.closing) speaks
-            (opened_lasts state name entry book now b.entries b.closing o kept holds b.lasts b.continues laws told);
+            subst (λ (q : Bool). Lasts (IsNextReset (outline book)) name book.plan q book.past b.entries entry now b.closing) speaks
+            (opened_lasts state (IsNextReset (outline book)) name entry book now b.entries b.closing o kept holds b.lasts b.continues laws told);
       })
 
   -- the flow that a book holds can't be put back, or memory ran out

@@ -12,6 +12,8 @@ use Rattle.tf_book.specs.Book.{BookValue, outline, flow_state}
 use Rattle.tf_book.specs.Loading.{IsHistoryOf}
 use Rattle.tf_book.proofs.InvariantLemmas.{keeps_none}
 use Rattle.tf_commands.specs.declared.running.Request.{Request}
+use Rattle.tf_book.proofs.TriedLemmas.{unhalted_tried}
+use Rattle.tf_commands.specs.Run.{MayRun}
 use Rattle.tf_commands.specs.Runs.{HoldsBook, book_desk, IsRunTo, RunsOn, GoesFurther, went_on}
 use Rattle.tf_journal.specs.Path.{Open}
 use Rattle.tf_commands.proofs.PathLemmas.{ReadsPicked}
@@ -47,6 +49,7 @@ module _ {K : Type 0} (state : K → DeskState) where
     short_before = short;
     short = short;
     speaks = speaks;
+    failed = unhalted_tried (MayRun gives request book.plan book.past) book.halt book.failed sound;
   }
 
   -- such a run, said with its report

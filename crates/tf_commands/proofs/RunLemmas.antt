@@ -30,11 +30,13 @@ use Rattle.tf_book.specs.declared.faults.Halt.{Halt}
 use Rattle.tf_book.specs.declared.faults.Halt.TheVariants as halt
 use Rattle.tf_engines.specs.Runs.{AreGiven, IsSession}
 use Rattle.tf_commands.specs.declared.running.Request.{Request}
-use Rattle.tf_commands.specs.Run.{heading_of, HasSteps, HasReached, stop_status, IsLastSaid, reported, disk_failed, filled, ShowsLines, RunShows, closed, stopped, Ran}
+use Rattle.tf_book.specs.Tried.{IsTried}
+use Rattle.tf_engines.specs.Failing.{MayRecord, MightRecord}
+use Rattle.tf_commands.specs.Run.{heading_of, MayRun, HasSteps, HasReached, stop_status, IsLastSaid, reported, disk_failed, filled, ShowsLines, RunShows, closed, stopped, Ran}
 use Rattle.tf_commands.specs.Durable.{MayLeave}
 use Rattle.tf_commands.specs.Runs.{HasSaidHalt, IsRunTo, book_desk, RunsOn}
-use Rattle.tf_commands.specs.Saying.{ClosesWith}
-use Rattle.tf_commands.specs.declared.statuses.TheConstants.{UNSAID, OUT_OF_MEMORY, DISK_FAILED}
+use Rattle.tf_report.specs.Closing.{ClosesWith}
+use Rattle.tf_report.specs.declared.statuses.TheConstants.{UNSAID, OUT_OF_MEMORY, DISK_FAILED}
 use Rattle.tf_commands.proofs.HaltLemmas.{says_nothing, left_runs, closing_runs, none_so, halt_lasts, halt_ended, halt_shows, said_lasts, sound_text}
 use Rattle.tf_commands.proofs.ReachLemmas.{reached_by}
 use Rattle.tf_commands.proofs.ReportLemmas.{StatusAfter, ClosingFor, report_said, report_ended}
@@ -62,7 +64,7 @@ stop_reached plan before entries stop compiles session last is =
 -- a run of these entries, by what was shown
 pub ran_so : (gives : Order → Outcome → Type 0) (request : Request) (asked : Type 0) (plan : PlanValue) (before after entries : List Entry) (stop : Option FlowState) (shown now : Option (List ℕ)) (closing : List ℕ) (status : ℕ)
     → IsSession gives asked (number_of request.want) request.limit (outline_of plan) before after stop → after ≡ entries ++ before → compile_refusal plan ≡ None → IsWithinLimits (outline_of plan) → AreShort before → AreShort after
-    → RunShows request plan before entries shown now stop closing status → Ran gives request asked plan before entries stop shown now closing status
+    → RunShows gives request plan before entries shown now stop closing status → Ran gives request asked plan before entries stop shown now closing status
 ran_so gives request asked plan before after entries stop shown now closing status session recorded compiles limits short_before short text =
     let parts = same_session gives asked (number_of request.want) request.limit (outline_of plan) before after entries stop session recorded in
     record {
@@ -74,7 +76,7 @@ ran_so gives request asked plan before after entries stop shown now closing stat
     }
 
 -- nothing was recorded, since memory ran out or the disk failed before
-pub unbegun : (gives : Order → Outcome → Type 0) (request : Request) (asked : Type 0) (plan : PlanValue) (shown now : Option (List ℕ)) (closing : List ℕ) (status : ℕ) → RunShows request plan [] [] shown now None closing status
+pub unbegun : (gives : Order → Outcome → Type 0) (request : Request) (asked : Type 0) (plan : PlanValue) (shown now : Option (List ℕ)) (closing : List ℕ) (status : ℕ) → RunShows gives request plan [] [] shown now None closing status
     → Ran gives request asked plan [] [] None shown now closing status
 unbegun gives request asked plan shown now closing status text = record {
   steps = record { session = entered [] (flow_entry flow.Running ∷ []) refl tt; hands = refl; due = tt; within = tt; suspended = λ is. absurd (cc) };
@@ -85,6 +87,13 @@ unbegun gives request asked plan shown now closing status text = record {
 }
 
 -- ---- how a run ends
+
+-- the entry that a run couldn't record, by its request
+pub run_failed : {K : Type 0} (gives : Order → Outcome → Type 0) (request : Request) (start now : BookValue K) (number : ℕ) → number ≡ number_of request.want → now.plan ≡ start.plan
+    → MightRecord gives number now → IsTried (MayRun gives request start.plan now.past) now.halt now.failed
+run_failed gives request start now number all plan failed =
+    subst (λ (p : PlanValue). IsTried (MayRun gives request p now.past) now.halt now.failed) plan
+    (subst (λ (n : ℕ). IsTried (MayRecord gives n (outline_of now.plan) now.past) now.halt now.failed) all failed)
 
 module _ {K : Type 0} (state : K → DeskState) where
   -- the report was said, or cut, or memory ran out
@@ -100,7 +109,7 @@ module _ {K : Type 0} (state : K → DeskState) where
       ∙ ap (λ (p : List Entry). report (outline start) (snapshot (outline start) p)) (sym same ∙ c.recorded) in
       let spoken : IsClosing (shown_with (book_desk state start).shown (said request.quiet (outline start) start.past c.entries)) closing new.halt (book_desk state new).shown =
       subst (λ (b : Bool). IsClosing (shown_with (book_desk state start).shown (said b (outline start) start.past c.entries)) closing new.halt (book_desk state new).shown) to.speaks c.text in
-      let told = report_said request start.plan start.past c.entries (book_desk state start).shown (book_desk state new).shown closing last status new.halt (plain (outline start) (c.entries ++ start.past))
+      let told = report_said gives request start.plan start.past c.entries (book_desk state start).shown (book_desk state new).shown closing last status new.halt (plain (outline start) (c.entries ++ start.past))
       (subst (λ (t : List ℕ). ClosingFor t new.halt closing) report_is closes) spoken is in
       record {
         entries = c.entries;
@@ -108,7 +117,7 @@ module _ {K : Type 0} (state : K → DeskState) where
         closing = closing;
         lasts = λ telling kept at_rest first. record {
           pending = [];
-          few = none_so start.plan (c.entries ++ start.past) [] (book_desk state start) (book_desk state new) refl;
+          few = none_so (MayRun gives request start.plan) start.plan (c.entries ++ start.past) [] (book_desk state start) (book_desk state new) refl;
           history = so_far;
           passes = passes_within (c.crash telling kept) (λ image text is_left. closed_leaves first c.entries so_far image text is_left);
           leaves = λ image now_left. inl (c.left_now telling kept at_rest image now_left);
@@ -119,7 +128,7 @@ module _ {K : Type 0} (state : K → DeskState) where
             to.history.runs.0 to.limits to.short_before to.short told;
         continues = c.continues;
         off_disk = c.off_disk;
-        ended = report_ended last new.halt status (book_desk state start) (book_desk state new) start.plan new.past is c.cause;
+        ended = report_ended last new.halt status (book_desk state start) (book_desk state new) start.plan new.past new.failed is c.cause;
       }
     where
       closed_leaves : (first : Recovered) (entries : List Entry) → IsHistoryOf start.plan (entries ++ start.past) → (image text : List ℕ)
@@ -148,13 +157,13 @@ module _ {K : Type 0} (state : K → DeskState) where
         entries = k.entries;
         stop = Some last;
         closing = closing;
-        lasts = said_lasts state start book closing now says (λ unrisen. unhalted) k to.history (inl spoken);
+        lasts = said_lasts state (MayRun gives request start.plan) start book closing now says (λ unrisen. unhalted) k to.history to.failed (inl spoken);
         ran = ran_so gives request asked start.plan start.past book.past k.entries (Some last) (book_desk state start).shown now.shown closing status to.session k.recorded
             to.history.runs.0 to.limits to.short_before to.short
             (subst (λ (b : Bool). ShowsLines start.plan b start.past k.entries (book_desk state start).shown now.shown
-            (IsLastSaid start.plan (heading_of request (outline start) (k.entries ++ start.past)) (k.entries ++ start.past) (Some last)) closing status) to.speaks
+            (IsLastSaid (MayRun gives request start.plan) start.plan (heading_of request (outline start) (k.entries ++ start.past)) (k.entries ++ start.past) (Some last)) closing status) to.speaks
             (closed closing (stop_status last) status
-            (subst (λ (c : List ℕ). IsLastSaid start.plan (heading_of request (outline start) (k.entries ++ start.past)) (k.entries ++ start.past) (Some last) c (stop_status last)) (sym same) (reported last))
+            (subst (λ (c : List ℕ). IsLastSaid (MayRun gives request start.plan) start.plan (heading_of request (outline start) (k.entries ++ start.past)) (k.entries ++ start.past) (Some last) c (stop_status last)) (sym same) (reported last))
             (subst (λ (t : Option (List ℕ)). ClosesWith t closing (stop_status last) now.shown status) spoken closes)));
         continues = continues_on k.continues (says_continues says);
         off_disk = λ volatile. off_on (k.off_disk volatile) (λ told. extends_told k.continues.extends told) (off_says says);
@@ -175,11 +184,11 @@ module _ {K : Type 0} (state : K → DeskState) where
         entries = k.entries;
         stop = Some last;
         closing = [];
-        lasts = said_lasts state start book [] (book_desk state book) says_nothing (λ unrisen. unhalted) k to.history (inl spoken);
+        lasts = said_lasts state (MayRun gives request start.plan) start book [] (book_desk state book) says_nothing (λ unrisen. unhalted) k to.history to.failed (inl spoken);
         ran = ran_so gives request asked start.plan start.past book.past k.entries (Some last) (book_desk state start).shown (book_desk state book).shown [] OUT_OF_MEMORY to.session k.recorded
             to.history.runs.0 to.limits to.short_before to.short
             (subst (λ (b : Bool). ShowsLines start.plan b start.past k.entries (book_desk state start).shown (book_desk state book).shown
-            (IsLastSaid start.plan (heading_of request (outline start) (k.entries ++ start.past)) (k.entries ++ start.past) (Some last)) [] OUT_OF_MEMORY) to.speaks (stopped spoken));
+            (IsLastSaid (MayRun gives request start.plan) start.plan (heading_of request (outline start) (k.entries ++ start.past)) (k.entries ++ start.past) (Some last)) [] OUT_OF_MEMORY) to.speaks (stopped spoken));
         continues = k.continues;
         off_disk = k.off_disk;
         ended = record { unsaid = λ is. absurd (cc); failed = λ is. absurd (cc) };
@@ -197,13 +206,14 @@ module _ {K : Type 0} (state : K → DeskState) where
         entries = k.entries;
         stop = stop;
         closing = s.closing;
-        lasts = halt_lasts state start book why now status halted unhalted s k to.history;
+        lasts = halt_lasts state (MayRun gives request start.plan) start book why now status halted unhalted s k to.history to.failed;
         ran = ran_so gives request asked start.plan start.past book.past k.entries stop (book_desk state start).shown now.shown s.closing status to.session k.recorded
             to.history.runs.0 to.limits to.short_before to.short
             (subst (λ (b : Bool). ShowsLines start.plan b start.past k.entries (book_desk state start).shown now.shown
-            (IsLastSaid start.plan (heading_of request (outline start) (k.entries ++ start.past)) (k.entries ++ start.past) stop) s.closing status) to.speaks
+            (IsLastSaid (MayRun gives request start.plan) start.plan (heading_of request (outline start) (k.entries ++ start.past)) (k.entries ++ start.past) stop) s.closing status) to.speaks
             (halt_shows state start book why now status
-            (IsLastSaid start.plan (heading_of request (outline start) (k.entries ++ start.past)) (k.entries ++ start.past) stop) halted s k (disk_failed stop) (filled stop)));
+            (IsLastSaid (MayRun gives request start.plan) start.plan (heading_of request (outline start) (k.entries ++ start.past)) (k.entries ++ start.past) stop)
+            (MayRun gives request start.plan) halted s k (λ e may. disk_failed stop may.unended) (filled stop) to.failed));
         continues = continues_on k.continues (says_continues s.says);
         off_disk = λ volatile. off_on (k.off_disk volatile) (λ told. extends_told k.continues.extends told) (off_says s.says);
         ended = halt_ended state start book why now status halted s k;

@@ -13,12 +13,13 @@ use Rattle.tf_commands.specs.Begun.{SaysUnbegun}
 use Rattle.tf_commands.specs.Causes.{HasEachCause, counts_of}
 use Rattle.tf_commands.specs.Course.{Tried}
 use Rattle.tf_commands.specs.Durable.{TouchesNoFile}
-use Rattle.tf_commands.specs.Messages.{disk_fault_text}
+use Rattle.tf_report.specs.Faults.{disk_fault_text}
+use Rattle.tf_report.specs.Closing.{ClosesWith}
+use Rattle.tf_report.specs.declared.statuses.TheConstants.{UNREAD, DISK_FAILED, UNHIRED}
 use Rattle.tf_commands.specs.declared.running.Request.{Request}
 use Rattle.tf_commands.specs.Run.{spoken_run, Ran, RunShows, closed, stopped, disk_failed}
 use Rattle.tf_commands.specs.Runs.{book_desk, RunsOn}
-use Rattle.tf_commands.specs.Saying.{ClosesWith, HasSaid}
-use Rattle.tf_commands.specs.declared.statuses.TheConstants.{UNREAD, DISK_FAILED, UNHIRED}
+use Rattle.tf_commands.specs.Saying.{HasSaid}
 use Rattle.tf_commands.proofs.AskedLemmas.{ran_more}
 use Rattle.tf_commands.proofs.CountLemmas.{reaches_itself, ran_causes}
 use Rattle.tf_commands.proofs.RunLemmas.{unbegun}
@@ -33,7 +34,7 @@ tried_unbegun gives hands asked plan before after status (inl closes) = record {
   stop = None;
   closing = disk_fault_text;
   ran = unbegun gives (spoken_run hands None) asked plan before after disk_fault_text status
-      (closed disk_fault_text DISK_FAILED status (disk_failed None) (subst (λ (o : Option (List ℕ)). ClosesWith o disk_fault_text DISK_FAILED after status) (sym (shown_none before)) closes));
+      (closed disk_fault_text DISK_FAILED status (disk_failed None refl) (subst (λ (o : Option (List ℕ)). ClosesWith o disk_fault_text DISK_FAILED after status) (sym (shown_none before)) closes));
 }
 tried_unbegun gives hands asked plan before after status (inr out) = record {
   plan = plan;
@@ -42,7 +43,7 @@ tried_unbegun gives hands asked plan before after status (inr out) = record {
   stop = None;
   closing = [];
   ran = unbegun gives (spoken_run hands None) asked plan before after [] status
-      (subst (λ (n : ℕ). RunShows (spoken_run hands None) plan [] [] before after None [] n) (sym out.0) (stopped (out.1 ∙ sym (shown_none before))));
+      (subst (λ (n : ℕ). RunShows gives (spoken_run hands None) plan [] [] before after None [] n) (sym out.0) (stopped (out.1 ∙ sym (shown_none before))));
 }
 
 module _ {K : Type 0} (state : K → DeskState) where

@@ -11,8 +11,8 @@ use Rattle.tf_workers.specs.declared.serving.ServeEnd.TheVariants as end
 use Rattle.tf_commands.specs.Messages.{cannot_hire, cannot_listen}
 use Rattle.tf_commands.specs.Saying.{OnlySays}
 use Rattle.tf_commands.specs.Working.{session_line, session_lines, IsOver, SaysSessions, SaysNext, StopsNext, ServesAll, Works, HasStopCause, HasServeCause, exhausted_next, no_next_link, unsaid_next, all_served, exhausted, no_link, cut_short, unbegun, unhired, unopened, worked}
-use Rattle.tf_commands.specs.declared.statuses.TheConstants.{SUCCEEDED, UNHIRED, OUT_OF_MEMORY, UNSAID}
-use Rattle.tf_commands.proofs.CountLemmas.{closes_status}
+use Rattle.tf_report.specs.declared.statuses.TheConstants.{SUCCEEDED, UNHIRED, OUT_OF_MEMORY, UNSAID}
+use Rattle.tf_report.proofs.ClosingLemmas.{closes_status}
 
 -- ---- texts
 

@@ -16,12 +16,12 @@ is_local (want.Remote addresses) = false
 
 -- the program does it: so far with hands of this process
 abbrev pub is_done_here : Asked → Bool
-is_done_here (asked.Try file sets defer hands) = is_local hands
-is_done_here (asked.Run file book sets defer hands stop) = is_local hands
+is_done_here (asked.Try file sets defer hands target) = is_local hands
+is_done_here (asked.Run file book sets defer hands stop target) = is_local hands
 is_done_here (asked.Resume book hands stop) = is_local hands
 is_done_here (asked.Show book) = true
 is_done_here (asked.Reset book) = true
-is_done_here (asked.Check file sets) = true
+is_done_here (asked.Check file sets target) = true
 is_done_here (asked.Demo seed size book hands) = true
 is_done_here (asked.Worker address sessions) = true
 is_done_here (asked.Post board name priority details) = true
@@ -39,16 +39,16 @@ pub record AreHands (hands : Want) : Type 0 where
 
 -- the hands that run a flow, and the numbers of a generated one, are within their bounds
 abbrev pub IsWithin : Asked → Type 0
-IsWithin (asked.Try file sets defer hands) = AreHands hands
-IsWithin (asked.Run file book sets defer hands stop) = AreHands hands
+IsWithin (asked.Try file sets defer hands target) = AreHands hands
+IsWithin (asked.Run file book sets defer hands stop target) = AreHands hands
 IsWithin (asked.Resume book hands stop) = AreHands hands
 IsWithin (asked.Demo seed size book hands) = IsDemo seed size × AreHands (want.Local hands)
 IsWithin command = Unit {0}
 
 -- the hands that a command wants: those of its words, one of this process to work, and else none
 abbrev pub want_of : Asked → Option Want
-want_of (asked.Try file sets defer hands) = Some hands
-want_of (asked.Run file book sets defer hands stop) = Some hands
+want_of (asked.Try file sets defer hands target) = Some hands
+want_of (asked.Run file book sets defer hands stop target) = Some hands
 want_of (asked.Resume book hands stop) = Some hands
 want_of (asked.Demo seed size book hands) = Some (want.Local hands)
 want_of (asked.Worker address sessions) = Some (want.Local 1)
@@ -76,9 +76,9 @@ IsWork command = ⊥
 abbrev pub AsksForWork : List (List ℕ) → Type 0
 AsksForWork words = (command : Asked) × (asked_for words ≡ Some command) × IsWork command
 
--- the flow file that a command is about, with the values that its store gets besides; a check defers no reverts
+-- the flow file that a command is about, with the values that its store gets besides and the target up to which it goes; a check defers no reverts
 abbrev pub file_asked_for : Asked → Option Source
-file_asked_for (asked.Try file sets defer hands) = Some (record { file = file; sets = sets; defer = defer })
-file_asked_for (asked.Run file book sets defer hands stop) = Some (record { file = file; sets = sets; defer = defer })
-file_asked_for (asked.Check file sets) = Some (record { file = file; sets = sets; defer = false })
+file_asked_for (asked.Try file sets defer hands target) = Some (record { file = file; sets = sets; defer = defer; target = target })
+file_asked_for (asked.Run file book sets defer hands stop target) = Some (record { file = file; sets = sets; defer = defer; target = target })
+file_asked_for (asked.Check file sets target) = Some (record { file = file; sets = sets; defer = false; target = target })
 file_asked_for command = None

@@ -14,9 +14,9 @@ use Rattle.tf_book.specs.Starting.{HasNoRecord}
 use Rattle.tf_book.specs.declared.faults.BookFault.{BookFault}
 use Rattle.tf_book.specs.declared.faults.BookFault.TheVariants as book_fault
 use Rattle.tf_commands.specs.Durable.{book_in, book_at, HoldsNoFlow, HoldsHistory, FindsHistory, IsFreshFile}
-use Rattle.tf_commands.specs.Messages.{disk_fault_text}
-use Rattle.tf_commands.specs.Saying.{ClosesWith}
-use Rattle.tf_commands.specs.declared.statuses.TheConstants.{DISK_FAILED, OUT_OF_MEMORY}
+use Rattle.tf_report.specs.Faults.{disk_fault_text}
+use Rattle.tf_report.specs.Closing.{ClosesWith}
+use Rattle.tf_report.specs.declared.statuses.TheConstants.{DISK_FAILED, OUT_OF_MEMORY}
 use Rattle.tf_commands.specs.declared.books.Blank.{Blank}
 use Rattle.tf_commands.specs.declared.books.Blank.TheVariants as blank
 

@@ -15,15 +15,17 @@ use Rattle.tf_model.specs.Plan.{outline_of}
 use Rattle.tf_model.specs.Sessions.{has_ended}
 use Rattle.tf_book.specs.Loading.{IsNoBook, CanRun}
 use Rattle.tf_book.specs.Resetting.{may_reset}
+use Rattle.tf_book.specs.Tried.{IsNextReset}
 use Rattle.tf_book.specs.Showing.{history_text}
 use Rattle.tf_commands.specs.Accepted.{demo_tree}
 use Rattle.tf_commands.specs.Durable.{book_at, HoldsNoFlow, HoldsHistory, StaysAlone, Lasts}
-use Rattle.tf_commands.specs.Messages.{disk_fault_text, not_a_book, no_flow_text, state_forbids, cannot_hire}
+use Rattle.tf_commands.specs.Messages.{no_flow_text, state_forbids, cannot_hire}
+use Rattle.tf_report.specs.Faults.{disk_fault_text, not_a_book}
+use Rattle.tf_report.specs.Closing.{ClosesWith}
+use Rattle.tf_report.specs.declared.statuses.TheConstants.{SUCCEEDED, UNHIRED, OUT_OF_MEMORY, DISK_FAILED, NO_BOOK, FORBIDDEN}
 use Rattle.tf_commands.specs.Resets.{PutBack}
-use Rattle.tf_commands.specs.Run.{unspoken, Ran}
+use Rattle.tf_commands.specs.Run.{unspoken, MayRun, Ran}
 use Rattle.tf_commands.specs.declared.running.Request.{Request}
-use Rattle.tf_commands.specs.Saying.{ClosesWith}
-use Rattle.tf_commands.specs.declared.statuses.TheConstants.{SUCCEEDED, UNHIRED, OUT_OF_MEMORY, DISK_FAILED, NO_BOOK, FORBIDDEN}
 
 -- the hands that were wanted were hired, and nobody else
 abbrev pub Hires : Want → Option (List Want) → Option (List Want) → Type 0
@@ -66,14 +68,14 @@ pub record Promised (gives : Order → Outcome → Type 0) (request : Request) (
   pub stop : Option FlowState
   pub closing : List ℕ
   pub ran : Ran gives request asked plan before entries stop entry.shown now.shown closing status
-  pub lasts : IsTrue entry.tells → Lasts name plan request.quiet before entries entry now closing
+  pub lasts : IsTrue entry.tells → Lasts (MayRun gives request plan) name plan request.quiet before entries entry now closing
 
 -- a flow that was put back from this history on, with what is promised of its file
 pub record PutsBack (name : List ℕ) (plan : PlanValue) (before : List Entry) (entry now : DeskState) (status : ℕ) : Type 0 where
   pub entries : List Entry
   pub closing : List ℕ
   pub put_back : PutBack plan before entries entry.shown now.shown closing status
-  pub lasts : IsTrue entry.tells → Lasts name plan false before entries entry now closing
+  pub lasts : IsTrue entry.tells → Lasts (IsNextReset (outline_of plan)) name plan false before entries entry now closing
 
 -- no hands were hired, and nothing was recorded: memory ran out, or they couldn't be hired
 pub data Unhired (name : List ℕ) (entry now : DeskState) (hired after_hiring : Option (List Want)) (status : ℕ) : Type 0 where

@@ -2,7 +2,7 @@
 use Rattle.std.specs.Prelude.{◌≡◌, ◌⊎◌, ℕ, ◌≤◌}
 use Rattle.tf_desk.specs.Counts.{Rises}
 use Rattle.tf_desk.specs.State.{DeskState}
-use Rattle.tf_commands.specs.declared.statuses.TheConstants.{UNREAD, DISK_FAILED, UNSAID, UNHIRED}
+use Rattle.tf_report.specs.declared.statuses.TheConstants.{UNREAD, DISK_FAILED, UNSAID, UNHIRED}
 
 -- the counts of faults: of the disk, of the output, of the sources and of the crew
 pub record Counts : Type 0 where

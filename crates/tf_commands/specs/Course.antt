@@ -20,36 +20,35 @@ use Rattle.tf_states.specs.declared.state.FlowState.{FlowState}
 use Rattle.tf_words.specs.declared.asked.Asked.{Asked}
 use Rattle.tf_words.specs.declared.asked.Asked.TheVariants as asked
 use Rattle.tf_board.specs.Answers.{answer_of, board_of}
-use Rattle.tf_board.specs.Board.{board_in, Finds}
-use Rattle.tf_board.specs.Jobs.{LegalJobs}
+use Rattle.tf_board.specs.Board.{AreOfBoard, board_in, Finds}
 use Rattle.tf_board.specs.declared.commands.Command.{Command}
-use Rattle.tf_board.specs.declared.statuses.TheConstants.{BOARD_REFUSED}
+use Rattle.tf_report.specs.declared.statuses.TheConstants.{BOARD_REFUSED, SUCCEEDED, NO_COMMAND, UNREAD, REFUSED, UNHIRED, OUT_OF_MEMORY, REVERTED, FAILED, SUSPENDED, FULL}
+use Rattle.tf_report.specs.Closing.{ClosesWith, ClosesWithOrStops}
 use Rattle.tf_board.specs.Does.{Does, IsAllowed, IsBoardComplete}
-use Rattle.tf_commands.specs.Accepted.{outline_in, GivesPlan, GivesNone}
+use Rattle.tf_target.specs.Target.{outline_in}
+use Rattle.tf_commands.specs.Accepted.{GivesPlan, GivesWhole, GivesNone, MayTarget}
 use Rattle.tf_commands.specs.Asking.{file_asked_for, asked_for, wanted_by}
 use Rattle.tf_commands.specs.Books.{Hires, Runs, Demonstrates, Resumes, ShowsBook, ResetsBook}
 use Rattle.tf_journal.specs.Start.{file_of}
 use Rattle.tf_commands.specs.Durable.{NoFileChanges, TouchesNoFile, book_at, HoldsNoFlow, HoldsHistory}
 use Rattle.tf_commands.specs.Messages.{checked, usage, cannot_read, cannot_hire, refusal, reason_text}
 use Rattle.tf_commands.specs.Run.{spoken_run, Ran}
-use Rattle.tf_commands.specs.Saying.{ClosesWith, ClosesWithOrStops}
 use Rattle.tf_commands.specs.Working.{Works}
-use Rattle.tf_commands.specs.declared.statuses.TheConstants.{SUCCEEDED, NO_COMMAND, UNREAD, REFUSED, UNHIRED, OUT_OF_MEMORY, REVERTED, FAILED, SUSPENDED, FULL}
 use Rattle.tf_commands.specs.declared.accepting.Refusal.{Refusal}
 use Rattle.tf_commands.specs.declared.reading.Source.{Source}
 
 -- ---- flow files
 
--- what becomes of the bytes of a flow file, which these values and this deferral go with, where its plan is dealt with so; where they
+-- what becomes of the bytes of a flow file, which these values, this deferral and this target go with, where its plan is dealt with so; where they
 -- give none, all else is untouched
 pub data BytesRead (source : Source) (bytes : List ℕ) (untouched : Type 0) (does : PlanTree → ℕ → Type 0) (before after : Option (List ℕ)) (status : ℕ) : Type 0 where
   -- memory ran out before anything was said or run
   exhausted : untouched → status ≡ OUT_OF_MEMORY → after ≡ before → BytesRead source bytes untouched does before after status
   -- they are refused for the first reason why they give no plan, and that is said
-  refused : untouched → (reason : Refusal) → GivesNone source.sets source.defer bytes reason
+  refused : untouched → (reason : Refusal) → GivesNone source.sets source.defer source.target bytes reason
       → ClosesWith before (refusal (reason_text reason)) REFUSED after status → BytesRead source bytes untouched does before after status
   -- the plan that they give is dealt with
-  done : (plan : PlanTree) → GivesPlan source.sets source.defer bytes plan → does plan status → BytesRead source bytes untouched does before after status
+  done : (plan : PlanTree) → GivesPlan source.sets source.defer source.target bytes plan → does plan status → BytesRead source bytes untouched does before after status
 
 -- what becomes of a flow file, where its plan is dealt with so; where it gives none, all else is untouched
 pub data FileRead (files : Contents) (source : Source) (untouched : Type 0) (does : PlanTree → ℕ → Type 0) (before after : Option (List ℕ)) (status : ℕ) : Type 0 where
@@ -107,9 +106,9 @@ Checks before after plan status = ClosesWithOrStops before (checked (outline_in 
 
 -- ---- all commands
 
--- these values and this deferral of that flow file
-abbrev pub source_so : List ℕ → List Bind → Bool → Source
-source_so file sets defer = record { file = file; sets = sets; defer = defer }
+-- these values, this deferral and this target of that flow file
+abbrev pub source_so : List ℕ → List Bind → Bool → Option (List ℕ) → Source
+source_so file sets defer target = record { file = file; sets = sets; defer = defer; target = target }
 
 -- nobody was hired, and no file changed
 abbrev pub IsUntouched : Option (List Want) → Option (List Want) → DeskState → DeskState → Type 0
@@ -118,14 +117,14 @@ IsUntouched hired after_hiring entry now = (after_hiring ≡ hired) × NoFileCha
 module _ {K : Type 0} (state : K → DeskState) where
   -- what becomes of what the words ask for, where a run may be suspended for a stop that was asked for; a trial changes no file and meets no fault of the disk, and a check changes none
   abbrev pub Obeys : (Order → Outcome → Type 0) → Type 0 → Asked → Contents → Option (List Want) → Option (List Want) → K → K → ℕ → Type 0
-  Obeys gives stopped (asked.Try file sets defer hands) files hired after_hiring entry now status =
-      FileRead files (source_so file sets defer) (IsUntouched hired after_hiring (state entry) (state now))
+  Obeys gives stopped (asked.Try file sets defer hands target) files hired after_hiring entry now status =
+      FileRead files (source_so file sets defer target) (IsUntouched hired after_hiring (state entry) (state now))
       (Tries gives hands stopped hired after_hiring (state entry).shown (state now).shown) (state entry).shown (state now).shown status × TouchesNoFile (state entry) (state now)
-  Obeys gives stopped (asked.Check file sets) files hired after_hiring entry now status =
-      FileRead files (source_so file sets false) (IsUntouched hired after_hiring (state entry) (state now))
+  Obeys gives stopped (asked.Check file sets target) files hired after_hiring entry now status =
+      FileRead files (source_so file sets false target) (IsUntouched hired after_hiring (state entry) (state now))
       (Checks (state entry).shown (state now).shown) (state entry).shown (state now).shown status × IsUntouched hired after_hiring (state entry) (state now)
-  Obeys gives stopped (asked.Run file book sets defer hands stop) files hired after_hiring entry now status =
-      FileRead files (source_so file sets defer) (IsUntouched hired after_hiring (state entry) (state now))
+  Obeys gives stopped (asked.Run file book sets defer hands stop target) files hired after_hiring entry now status =
+      FileRead files (source_so file sets defer target) (IsUntouched hired after_hiring (state entry) (state now))
       (Runs gives (spoken_run hands stop) stopped book hired after_hiring (state entry) (state now)) (state entry).shown (state now).shown status
   Obeys gives stopped (asked.Resume book hands stop) files hired after_hiring entry now status =
       Resumes gives (spoken_run hands stop) stopped book hired after_hiring (state entry) (state now) status
@@ -174,7 +173,7 @@ pub data IsRefused (words : List (List ℕ)) (files : Contents) : Type 0 where
   passes_limit : (command : Asked) (source : Source) → asked_for words ≡ Some command → file_asked_for command ≡ Some source → PassesLimit files source.file
       → IsRefused words files
   gives_none : (command : Asked) (source : Source) (bytes : List ℕ) (reason : Refusal) → asked_for words ≡ Some command → file_asked_for command ≡ Some source
-      → GivesBytes files source.file bytes → GivesNone source.sets source.defer bytes reason → IsRefused words files
+      → GivesBytes files source.file bytes → GivesNone source.sets source.defer source.target bytes reason → IsRefused words files
 
 -- the words are a command on a board which refuses it, by the commands that its file has
 pub record IsBoardRefused (words : List (List ℕ)) (entry : DeskState) : Type 0 where
@@ -183,11 +182,11 @@ pub record IsBoardRefused (words : List (List ℕ)) (entry : DeskState) : Type 0
   pub past : List Command
   pub asks : asked_for words ≡ Some command
   pub about : board_of command ≡ Some name
-  pub legal : LegalJobs past
+  pub legal : AreOfBoard past
   pub found : IsTrue entry.tells → Finds past (board_in (file_of entry name))
   pub refuses : (answer_of command past).status ≡ BOARD_REFUSED
 
--- the sources tell bytes under the name of a flow file that give a plan, and that aren't too long
+-- the sources tell bytes under the name of a flow file that give a plan, against whose target nothing stands, and that aren't too long
 pub record IsAccepted (source : Source) (files : Contents) : Type 0 where
   pub told : List ℕ → Option (List ℕ)
   pub bytes : List ℕ
@@ -195,7 +194,8 @@ pub record IsAccepted (source : Source) (files : Contents) : Type 0 where
   pub sources : files ≡ Some told
   pub under : told source.file ≡ Some bytes
   pub short : length bytes ≤ SOURCE_LIMIT
-  pub given : GivesPlan source.sets source.defer bytes plan
+  pub given : GivesWhole source.sets source.defer bytes plan
+  pub target : MayTarget source.target plan
 
 -- a file is a book
 abbrev pub IsBook : Recovered → Type 0
@@ -238,12 +238,12 @@ HasBoard name entry command = IsTrue entry.tells × IsAllowed command (board_in 
 
 -- nothing stands against what the words ask for: the flow file gives a plan, and the book or the board is as the command wants it
 abbrev pub MayBeDone : Asked → Contents → DeskState → Type 0
-MayBeDone (asked.Try file sets defer hands) files entry = IsAccepted (source_so file sets defer) files
-MayBeDone (asked.Run file book sets defer hands stop) files entry = IsAccepted (source_so file sets defer) files × HasBook book entry HoldsNoFlow
+MayBeDone (asked.Try file sets defer hands target) files entry = IsAccepted (source_so file sets defer target) files
+MayBeDone (asked.Run file book sets defer hands stop target) files entry = IsAccepted (source_so file sets defer target) files × HasBook book entry HoldsNoFlow
 MayBeDone (asked.Resume book hands stop) files entry = HasBook book entry HoldsFlow
 MayBeDone (asked.Show book) files entry = HasBook book entry HoldsFlow
 MayBeDone (asked.Reset book) files entry = HasBook book entry HoldsReverted
-MayBeDone (asked.Check file sets) files entry = IsAccepted (source_so file sets false) files
+MayBeDone (asked.Check file sets target) files entry = IsAccepted (source_so file sets false target) files
 MayBeDone (asked.Demo seed size book hands) files entry = HasBook book entry HoldsNoFlow
 MayBeDone (asked.Worker address sessions) files entry = Unit {0}
 MayBeDone (asked.Post board name priority details) files entry = HasBoard board entry (asked.Post board name priority details)
@@ -256,12 +256,12 @@ MayBeDone (asked.List board) files entry = HasBoard board entry (asked.List boar
 
 -- it ends so, where no count of faults rose
 abbrev pub IsComplete : Asked → ℕ → Type 0
-IsComplete (asked.Try file sets defer hands) status = IsRunComplete status
-IsComplete (asked.Run file book sets defer hands stop) status = IsRunCompleteBy stop status
+IsComplete (asked.Try file sets defer hands target) status = IsRunComplete status
+IsComplete (asked.Run file book sets defer hands stop target) status = IsRunCompleteBy stop status
 IsComplete (asked.Resume book hands stop) status = IsRunCompleteBy stop status
 IsComplete (asked.Show book) status = IsDoneComplete status
 IsComplete (asked.Reset book) status = IsResetComplete status
-IsComplete (asked.Check file sets) status = IsDoneComplete status
+IsComplete (asked.Check file sets target) status = IsDoneComplete status
 IsComplete (asked.Demo seed size book hands) status = IsRunComplete status
 IsComplete (asked.Worker address sessions) status = IsDoneComplete status
 IsComplete (asked.Post board name priority details) status = IsBoardComplete status

@@ -83,16 +83,16 @@ HasFile first plan before entries pending file =
 abbrev pub IsFreshFile : List ℕ → Type 0
 IsFreshFile file = (book_in file ≡ unborn) ⊎ (file ≡ journal_bytes (title_of book_title) [])
 
--- at most one entry is pending behind the history, which it may follow, and only after a fault of the disk
-pub record IsPendingSo (plan : PlanValue) (past pending : List Entry) (old new : DeskState) : Type 0 where
-  pub few : MayFollow plan past pending
+-- at most one entry is pending behind the history, which it may follow as such an entry does, and only after a fault of the disk
+pub record IsPendingSo (may : List Entry → Entry → Type 0) (plan : PlanValue) (past pending : List Entry) (old new : DeskState) : Type 0 where
+  pub few : MayFollow (may past) plan past pending
   pub caused : (pending ≡ []) ⊎ Rises old.disk_faults new.disk_faults
 
--- what is promised of the file and of a crash, where the desk tells its content; of a fresh file of at most 18 bytes that wasn't met by
+-- what is promised of the file and of a crash, where the desk tells its content and such an entry may be recorded; of a fresh file of at most 18 bytes that wasn't met by
 -- a fault of the disk each byte is told
-pub record Lasts (name : List ℕ) (plan : PlanValue) (quiet : Bool) (before entries : List Entry) (entry now : DeskState) (closing : List ℕ) : Type 0 where
+pub record Lasts (may : List Entry → Entry → Type 0) (name : List ℕ) (plan : PlanValue) (quiet : Bool) (before entries : List Entry) (entry now : DeskState) (closing : List ℕ) : Type 0 where
   pub pending : List Entry
-  pub few : IsPendingSo plan (entries ++ before) pending entry now
+  pub few : IsPendingSo may plan (entries ++ before) pending entry now
   pub file : HasFile (book_at entry name) plan before entries pending (file_of now name)
   pub exact : IsFreshFile (file_of entry name) → length (file_of entry name) ≤ 18 → ¬ (Rises entry.disk_faults now.disk_faults)
       → HoldsHistory plan (entries ++ before) (book_at now name)

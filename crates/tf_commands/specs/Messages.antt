@@ -1,5 +1,5 @@
 -- What a command says.
-use Rattle.std.specs.Prelude.{ℕ, ◌-◌, List, [], ◌∷◌, ◌++◌, codes, length, Option}
+use Rattle.std.specs.Prelude.{ℕ, ◌-◌, List, [], ◌∷◌, ◌++◌, codes, length}
 use Rattle.std.specs.Fmt.{decimal}
 use Rattle.std.specs.List.{flat_map}
 use Rattle.tf_flow.specs.declared.faults.Limit.{Limit}
@@ -16,9 +16,10 @@ use Rattle.tf_report.specs.Lines.{flow_name, flow_word}
 use Rattle.tf_states.specs.declared.state.FlowState.{FlowState}
 use Rattle.tf_scopes.specs.declared.faults.ScopeFault.{ScopeFault}
 use Rattle.tf_scopes.specs.declared.faults.ScopeFault.TheVariants as scope_fault
+use Rattle.tf_target.specs.declared.faults.TargetFault.{TargetFault}
+use Rattle.tf_target.specs.declared.faults.TargetFault.TheVariants as target_fault
 use Rattle.tf_commands.specs.declared.accepting.Refusal.{Refusal}
 use Rattle.tf_commands.specs.declared.accepting.Refusal.TheVariants as refused
-use Rattle.tf_board.specs.Answers.{byte_or_end}
 
 -- the word for a limit of a plan
 abbrev pub limit_word : Limit → List ℕ
@@ -73,11 +74,19 @@ abbrev pub scope_fault_text : ScopeFault → List ℕ
 scope_fault_text (scope_fault.Missing atom symbol) = codes "missing " ++ atom ++ 32 ∷ symbol
 scope_fault_text scope_fault.Memory = []
 
+-- why nothing is left of a plan up to a target; want of memory says nothing
+abbrev pub target_fault_text : TargetFault → List ℕ
+target_fault_text target_fault.NotAGraph = codes "not a graph"
+target_fault_text (target_fault.UnknownTarget name) = codes "unknown target " ++ name
+target_fault_text target_fault.Empty = codes "empty"
+target_fault_text target_fault.Memory = []
+
 -- why a flow file is refused; want of memory says nothing
 abbrev pub reason_text : Refusal → List ℕ
 reason_text (refused.File fault) = file_fault_text fault
 reason_text (refused.Compile fault) = compile_fault_text fault
 reason_text (refused.Scope fault) = scope_fault_text fault
+reason_text (refused.Target fault) = target_fault_text fault
 reason_text refused.Memory = []
 
 -- the message for a flow file that is refused
@@ -100,21 +109,9 @@ cannot_hire = codes "taskflow: cannot hire\n"
 abbrev pub cannot_listen : List ℕ
 cannot_listen = codes "taskflow: cannot listen\n"
 
--- the message for a fault of the disk
-abbrev pub disk_fault_text : List ℕ
-disk_fault_text = codes "taskflow: disk fault\n"
-
 -- the message for a book that holds no flow
 abbrev pub no_flow_text : List ℕ
 no_flow_text = codes "taskflow: no flow in the book\n"
-
--- the message for a file that is no book: the offset and the byte that show it
-unfoldable pub not_a_book : ℕ → Option ℕ → List ℕ
-not_a_book offset byte = codes "taskflow: not a book: offset " ++ decimal offset ++ codes ", " ++ byte_or_end byte ++ 10 ∷ []
-
--- the message for a book that is full: its size, and how many bytes more were asked for
-unfoldable pub book_full : ℕ → ℕ → List ℕ
-book_full size need = codes "taskflow: book full: " ++ decimal size ++ codes " + " ++ decimal need ++ 10 ∷ []
 
 -- the message for a flow whose state forbids a command: the name of its root and the state
 unfoldable pub state_forbids : Outline → FlowState → List ℕ

@@ -12,4 +12,4 @@ pub record Opened (files : Contents) (source : Source) (m : MachineValue) : Type
   pub bytes : List ℕ
   pub given : GivesBytes files source.file bytes
   pub short : length bytes ≤ SOURCE_LIMIT
-  pub plan : GivesPlan source.sets source.defer bytes (plan_tree m.plan)
+  pub plan : GivesPlan source.sets source.defer source.target bytes (plan_tree m.plan)

@@ -7,15 +7,16 @@ use Rattle.tf_model.specs.History.{flow_of}
 use Rattle.tf_model.specs.Plan.{outline_of}
 use Rattle.tf_book.specs.SessionInvariant.{IsFullFor}
 use Rattle.tf_book.specs.Resetting.{AreReset}
-use Rattle.tf_commands.specs.Messages.{disk_fault_text, book_full}
+use Rattle.tf_book.specs.Tried.{IsNextReset}
+use Rattle.tf_report.specs.Faults.{disk_fault_text, book_full}
+use Rattle.tf_report.specs.declared.statuses.TheConstants.{SUCCEEDED, DISK_FAILED, FULL}
 use Rattle.tf_commands.specs.Run.{ShowsLines}
-use Rattle.tf_commands.specs.declared.statuses.TheConstants.{SUCCEEDED, DISK_FAILED, FULL}
 
--- what a reset says last, and its status: nothing, where all was put back; or why the book was halted
+-- what a reset says last, and its status: nothing, where all was put back; or why the book was halted, while an entry was left to record
 pub data IsResetSaid (plan : PlanValue) (past : List Entry) : List ℕ → ℕ → Type 0 where
   all_back : flow_of past ≡ flow.Pending → IsResetSaid plan past [] SUCCEEDED
-  disk_failed_back : IsResetSaid plan past disk_fault_text DISK_FAILED
-  filled_back : (size need : ℕ) → IsFullFor plan past size need → IsResetSaid plan past (book_full size need) FULL
+  disk_failed_back : (e : Entry) → IsNextReset (outline_of plan) past e → IsResetSaid plan past disk_fault_text DISK_FAILED
+  filled_back : (size need : ℕ) → IsFullFor (IsNextReset (outline_of plan) past) plan past size need → IsResetSaid plan past (book_full size need) FULL
 
 -- a flow is put back: by hand 0 its REVERTED and IGNORE atoms become PENDING, in tree order, and then the flow does; with status 0 all
 -- of it was recorded, and what was recorded is said

@@ -22,11 +22,13 @@ use Rattle.tf_facts.specs.Facts.{CompletedReversion}
 use Rattle.tf_hands.specs.Hands.{is_of_flow}
 use Rattle.tf_report.specs.Report.{report}
 use Rattle.tf_book.specs.SessionInvariant.{said, IsCut, IsFullFor}
+use Rattle.tf_engines.specs.Failing.{MayRecord}
 use Rattle.tf_engines.specs.Runs.{AreGiven, AreDue, AreWithin, IsSuspended, is_of}
-use Rattle.tf_commands.specs.Messages.{disk_fault_text, book_full, summary}
+use Rattle.tf_commands.specs.Messages.{summary}
+use Rattle.tf_report.specs.Faults.{disk_fault_text, book_full}
+use Rattle.tf_report.specs.Closing.{ClosesWith}
+use Rattle.tf_report.specs.declared.statuses.TheConstants.{SUCCEEDED, DISK_FAILED, UNSAID, OUT_OF_MEMORY, REVERTED, FAILED, SUSPENDED, FULL}
 use Rattle.tf_commands.specs.declared.running.Request.{Request}
-use Rattle.tf_commands.specs.Saying.{ClosesWith}
-use Rattle.tf_commands.specs.declared.statuses.TheConstants.{SUCCEEDED, DISK_FAILED, UNSAID, OUT_OF_MEMORY, REVERTED, FAILED, SUSPENDED, FULL}
 
 -- a run with these hands that says each line, and is suspended after so many entries, if after so many
 abbrev pub spoken_run : Want → Option ℕ → Request
@@ -91,11 +93,16 @@ stop_status _ = FAILED
 abbrev pub heading_of : Request → Outline → List Entry → List ℕ
 heading_of request plan past = if request.quiet then summary plan (length past) else []
 
--- what a run says last, and its status: the report behind its heading, where it stopped in a state; or why it was halted
-pub data IsLastSaid (plan : PlanValue) (heading : List ℕ) (past : List Entry) : Option FlowState → List ℕ → ℕ → Type 0 where
-  reported : (last : FlowState) → IsLastSaid plan heading past (Some last) (heading ++ report (outline_of plan) (snapshot (outline_of plan) past)) (stop_status last)
-  disk_failed : (stop : Option FlowState) → IsLastSaid plan heading past stop disk_fault_text DISK_FAILED
-  filled : (stop : Option FlowState) (size need : ℕ) → IsFullFor plan past size need → IsLastSaid plan heading past stop (book_full size need) FULL
+-- what a run may record after a history: an entry by one of its hands, with an outcome that its order may have, where the flow hasn't ended
+abbrev pub MayRun : (Order → Outcome → Type 0) → Request → PlanValue → List Entry → Entry → Type 0
+MayRun gives request plan = MayRecord gives (number_of request.want) (outline_of plan)
+
+-- what a run says last, and its status: the report behind its heading, where it stopped in a state; or, where the flow hadn't ended, why it
+-- was halted: the disk failed, or the journal is full for the next such entry
+pub data IsLastSaid (may : List Entry → Entry → Type 0) (plan : PlanValue) (heading : List ℕ) (past : List Entry) : Option FlowState → List ℕ → ℕ → Type 0 where
+  reported : (last : FlowState) → IsLastSaid may plan heading past (Some last) (heading ++ report (outline_of plan) (snapshot (outline_of plan) past)) (stop_status last)
+  disk_failed : (stop : Option FlowState) → has_ended (flow_of past) ≡ false → IsLastSaid may plan heading past stop disk_fault_text DISK_FAILED
+  filled : (stop : Option FlowState) (size need : ℕ) → IsFullFor (may past) plan past size need → IsLastSaid may plan heading past stop (book_full size need) FULL
 
 -- the text after a command that records: the one before it, the lines of its entries, and what it says last, which is the closing; where
 -- the output failed it is cut within the line of the newest entry, and no entry was recorded after it, or within the closing
@@ -108,9 +115,9 @@ pub data ShowsLines (plan : PlanValue) (quiet : Bool) (before entries : List Ent
   stopped : now ≡ shown_with shown (said quiet (outline_of plan) before entries) → ShowsLines plan quiet before entries shown now last [] OUT_OF_MEMORY
 
 -- the text after a run that stopped so
-abbrev pub RunShows : Request → PlanValue → (before entries : List Entry) → (shown now : Option (List ℕ)) → Option FlowState → List ℕ → ℕ → Type 0
-RunShows request plan before entries shown now stop =
-    ShowsLines plan request.quiet before entries shown now (IsLastSaid plan (heading_of request (outline_of plan) (entries ++ before)) (entries ++ before) stop)
+abbrev pub RunShows : (Order → Outcome → Type 0) → Request → PlanValue → (before entries : List Entry) → (shown now : Option (List ℕ)) → Option FlowState → List ℕ → ℕ → Type 0
+RunShows gives request plan before entries shown now stop =
+    ShowsLines plan request.quiet before entries shown now (IsLastSaid (MayRun gives request plan) plan (heading_of request (outline_of plan) (entries ++ before)) (entries ++ before) stop)
 
 -- ---- all of it
 
@@ -122,5 +129,5 @@ pub record Ran (gives : Order → Outcome → Type 0) (request : Request) (asked
   pub steps : HasSteps asked (number_of request.want) request.limit (outline_of plan) before entries stop
   pub bound : length entries ≤ entry_bound plan
   pub outcomes : AreGiven gives (outline_of plan) before entries
-  pub text : RunShows request plan before entries shown now stop closing status
+  pub text : RunShows gives request plan before entries shown now stop closing status
   pub end : (last : FlowState) → stop ≡ Some last → HasReached (outline_of plan) (entries ++ before) last

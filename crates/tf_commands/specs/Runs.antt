@@ -14,6 +14,7 @@ use Rattle.tf_book.specs.Loading.{IsHistoryOf}
 use Rattle.tf_book.specs.SessionInvariant.{SessionInvariant, IsExact}
 use Rattle.tf_book.specs.Logging.{StaysOffDisk}
 use Rattle.tf_book.specs.Resetting.{IsPutBackOn}
+use Rattle.tf_book.specs.Tried.{IsTried, IsNextReset}
 use Rattle.tf_bound.specs.Short.{AreShort, IsWithinLimits}
 use Rattle.tf_book.specs.declared.faults.Halt.{Halt}
 use Rattle.tf_book.specs.declared.faults.Halt.TheVariants as halt
@@ -23,12 +24,12 @@ use Rattle.tf_ports.specs.Wanted.{wanted as number_of}
 use Rattle.tf_ports.specs.declared.crews.Want.{Want}
 use Rattle.tf_commands.specs.Books.{Hires, Unhired, Promised}
 use Rattle.tf_commands.specs.Durable.{book_at, HoldsHistory, IsPendingSo, MayLeave}
-use Rattle.tf_commands.specs.Messages.{disk_fault_text, book_full}
+use Rattle.tf_report.specs.Faults.{disk_fault_text, book_full}
+use Rattle.tf_report.specs.Closing.{ClosesWith}
+use Rattle.tf_report.specs.declared.statuses.TheConstants.{UNREAD, DISK_FAILED, UNSAID, UNHIRED, OUT_OF_MEMORY, FULL}
 use Rattle.tf_commands.specs.Resets.{PutBack}
-use Rattle.tf_commands.specs.Run.{Ran}
+use Rattle.tf_commands.specs.Run.{MayRun, Ran}
 use Rattle.tf_commands.specs.declared.running.Request.{Request}
-use Rattle.tf_commands.specs.Saying.{ClosesWith}
-use Rattle.tf_commands.specs.declared.statuses.TheConstants.{UNREAD, DISK_FAILED, UNSAID, UNHIRED, OUT_OF_MEMORY, FULL}
 
 -- what was said of a halt, by why the book was halted, and how the command ends: a message, or nothing where the output failed or memory
 -- ran out
@@ -79,11 +80,12 @@ module _ {K : Type 0} (state : K → DeskState) where
     pub short_before : AreShort start.past
     pub short : AreShort now.past
     pub speaks : start.quiet ≡ request.quiet
+    pub failed : IsTried (MayRun gives request start.plan now.past) now.halt now.failed
 
   -- what a crash since the start may leave and now leaves, of a file that was found so at first, and each byte of a file that was known
-  pub record RunLasts (first : Recovered) (start : BookValue K) (now : DeskState) (entries : List Entry) (closing : List ℕ) : Type 0 where
+  pub record RunLasts (may : List Entry → Entry → Type 0) (first : Recovered) (start : BookValue K) (now : DeskState) (entries : List Entry) (closing : List ℕ) : Type 0 where
     pub pending : List Entry
-    pub few : IsPendingSo start.plan (entries ++ start.past) pending (book_desk start) now
+    pub few : IsPendingSo may start.plan (entries ++ start.past) pending (book_desk start) now
     pub history : IsHistoryOf start.plan (entries ++ start.past)
     pub passes : Passes (MayLeave first start.plan start.quiet start.past entries pending (book_desk start).shown closing) (book_desk start) now
     pub leaves : LeavesEither (title_of book_title) now (bodies_of start.plan (entries ++ start.past)) (bodies_of start.plan (pending ++ (entries ++ start.past)))
@@ -91,18 +93,18 @@ module _ {K : Type 0} (state : K → DeskState) where
         → IsExact now start.plan (entries ++ start.past)
 
   -- so it is where the desk tells, the book is kept in a file, and a crash at the start left just its bodies
-  abbrev pub LastsFrom : BookValue K → DeskState → List Entry → List ℕ → Type 0
-  LastsFrom start now entries closing =
+  abbrev pub LastsFrom : (List Entry → Entry → Type 0) → BookValue K → DeskState → List Entry → List ℕ → Type 0
+  LastsFrom may start now entries closing =
       IsTrue (book_desk start).tells → start.journal.volatile ≡ false
       → LeavesBodies (title_of book_title) (book_desk start) (bodies_of start.plan start.past)
-      → (first : Recovered) → RunLasts first start now entries closing
+      → (first : Recovered) → RunLasts may first start now entries closing
 
   -- from the book on which a run began to the desk that it left
   pub record RunsOn (gives : Order → Outcome → Type 0) (request : Request) (asked : Type 0) (start : BookValue K) (now : DeskState) (status : ℕ) : Type 0 where
     pub entries : List Entry
     pub stop : Option FlowState
     pub closing : List ℕ
-    pub lasts : LastsFrom start now entries closing
+    pub lasts : LastsFrom (MayRun gives request start.plan) start now entries closing
     pub ran : Ran gives request asked start.plan start.past entries stop (book_desk start).shown now.shown closing status
     pub continues : Continues (book_desk start) now
     pub off_disk : start.journal.volatile ≡ true → StaysOffDisk (book_desk start) now
@@ -113,12 +115,13 @@ module _ {K : Type 0} (state : K → DeskState) where
     pub kept : SessionInvariant state start now
     pub put : IsPutBackOn (outline start) start.past now.past
     pub speaks : start.quiet ≡ false
+    pub failed : IsTried (IsNextReset (outline start) now.past) now.halt now.failed
 
   -- from the book whose flow is put back to the desk that it left
   pub record GoesBack (start : BookValue K) (now : DeskState) (status : ℕ) : Type 0 where
     pub entries : List Entry
     pub closing : List ℕ
-    pub lasts : LastsFrom start now entries closing
+    pub lasts : LastsFrom (IsNextReset (outline start)) start now entries closing
     pub put_back : PutBack start.plan start.past entries (book_desk start).shown now.shown closing status
     pub continues : Continues (book_desk start) now
     pub ended : HasEnded (book_desk start) now status

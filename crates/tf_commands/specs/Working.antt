@@ -11,8 +11,8 @@ use Rattle.tf_ports.specs.declared.crews.Want.TheVariants as want
 use Rattle.tf_workers.specs.declared.serving.ServeEnd.{ServeEnd}
 use Rattle.tf_workers.specs.declared.serving.ServeEnd.TheVariants as end
 use Rattle.tf_commands.specs.Messages.{cannot_hire, cannot_listen}
-use Rattle.tf_commands.specs.Saying.{ClosesWith}
-use Rattle.tf_commands.specs.declared.statuses.TheConstants.{SUCCEEDED, UNHIRED, OUT_OF_MEMORY, UNSAID}
+use Rattle.tf_report.specs.Closing.{ClosesWith}
+use Rattle.tf_report.specs.declared.statuses.TheConstants.{SUCCEEDED, UNHIRED, OUT_OF_MEMORY, UNSAID}
 
 -- how a session ended; of one that memory ended nothing is said
 abbrev pub end_word : ServeEnd → List ℕ

@@ -15,14 +15,14 @@ ghost use Rattle.tf_book.specs.Starting.{desk_started};
 ghost use Rattle.tf_commands.specs.Begun.{desk_in, MayBeBorn, IsRecordless, IsBlank, IsFoundBlank, IsExactSoFar, LeavesNoFlow, SaysUnbegun, FailsToBegin, Begins, Unbegun};
 ghost use Rattle.tf_commands.specs.Books.{Promised, Refuses, RefusesOrStops, Unopened};
 ghost use Rattle.tf_commands.specs.Durable.{book_at};
-ghost use Rattle.tf_commands.specs.Messages.{not_a_book, no_flow_text, cannot_hire};
+ghost use Rattle.tf_commands.specs.Messages.{no_flow_text, cannot_hire};
+ghost use Rattle.tf_report.specs.Faults.{not_a_book};
+ghost use Rattle.tf_report.specs.Closing.{ClosesWithOrStops};
 ghost use Rattle.tf_commands.specs.declared.running.Request.{Request};
-ghost use Rattle.tf_commands.specs.Saying.{ClosesWithOrStops, HasSaid};
+ghost use Rattle.tf_commands.specs.Saying.{HasSaid};
 
-use crate::closing::close;
-use crate::messages::{CANNOT_HIRE, DISK_FAULT, NO_FLOW, append_not_a_book};
+use crate::messages::{CANNOT_HIRE, NO_FLOW};
 use crate::running::Over;
-use crate::statuses::{DISK_FAILED, FORBIDDEN, NO_BOOK, OUT_OF_MEMORY, UNHIRED, UNREAD, UNSAID};
 use std::alloc::Global;
 use tf_actions::Performer;
 use tf_book::{Book, BookFault, Loaded};
@@ -30,6 +30,10 @@ use tf_desk::{Desk, DeskFault};
 use tf_journal::{Journal, JournalFault, LoadFault, Title};
 use tf_machine::Machine;
 use tf_ports::PortFault;
+use tf_report::{
+    DISK_FAILED, DISK_FAULT, FORBIDDEN, NO_BOOK, OUT_OF_MEMORY, UNHIRED, UNREAD, UNSAID,
+    append_not_a_book, close,
+};
 use tf_values::Text;
 
 /// Picks the file of that name, and reads it as a book.

@@ -6,16 +6,16 @@ ghost use Rattle.tf_model.specs.Plan.{outline_of};
 ghost use Rattle.tf_commands.specs.Course.{FileRead, Checks};
 ghost use Rattle.tf_commands.specs.Durable.{NoFileChanges};
 ghost use Rattle.tf_commands.specs.Messages.{checked};
-ghost use Rattle.tf_commands.specs.Saying.{ClosesWithOrStops, OnlySays, HasSaid};
+ghost use Rattle.tf_commands.specs.Saying.{OnlySays, HasSaid};
+ghost use Rattle.tf_report.specs.Closing.{ClosesWithOrStops};
 
-use crate::closing::close;
 use crate::messages::append_checked;
 use crate::reading::{Source, open_file};
-use crate::statuses::{DISK_FAILED, OUT_OF_MEMORY, SUCCEEDED, UNHIRED, UNREAD, UNSAID};
 use std::alloc::Global;
 use tf_desk::Desk;
 use tf_flow::Plan;
 use tf_ports::Sources;
+use tf_report::{DISK_FAILED, OUT_OF_MEMORY, SUCCEEDED, UNHIRED, UNREAD, UNSAID, close};
 
 /// Reads the file and says what its flow has.
 pub fn check_file<K: Desk, S: Sources>(

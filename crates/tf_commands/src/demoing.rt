@@ -14,7 +14,6 @@ ghost use Rattle.tf_commands.specs.Course.{HiresAtMost};
 
 use crate::recording::run_plan;
 use crate::running::{Over, Request};
-use crate::statuses::OUT_OF_MEMORY;
 use std::alloc::Global;
 use std::sync::Wait;
 use std::thread::Threads;
@@ -22,6 +21,7 @@ use tf_demo::demo_plan;
 use tf_desk::Desk;
 use tf_machine::{BuildFault, Machine};
 use tf_ports::{Crew, Want};
+use tf_report::OUT_OF_MEMORY;
 use tf_values::{Memory, Text};
 
 /// Generates a flow, opens the book, hires so many hands of this process and runs the flow with them.

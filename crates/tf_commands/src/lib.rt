@@ -6,7 +6,6 @@ mod accepting;
 mod boards;
 mod books;
 mod checking;
-mod closing;
 mod crew;
 mod demoing;
 mod messages;
@@ -16,14 +15,9 @@ mod resetting;
 mod resuming;
 mod running;
 mod showing;
-mod statuses;
 mod top;
 mod trying;
 mod working;
 
 pub use crate::crew::LocalCrew;
-pub use crate::statuses::OUT_OF_MEMORY;
 pub use crate::top::{Ended, Outside, taskflow};
-
-#[cfg(test)]
-mod tests;

@@ -2,8 +2,7 @@ ghost use Rattle.std.specs.Prelude.{◌≡◌, ◌≤◌, [], ◌∷◌, ◌++�
 ghost use Rattle.std.specs.List.{flat_map};
 ghost use Rattle.tf_numbers.specs.Numbers.{which_below};
 ghost use Rattle.tf_model.specs.Plan.{outline_of, count, is_task};
-ghost use Rattle.tf_board.specs.Answers.{byte_or_end};
-ghost use Rattle.tf_commands.specs.Messages.{limit_word as word_of_limit, checked, summary, tasks_below, spaced, plan_fault_text, file_fault_text, compile_fault_text, scope_fault_text, reason_text, refusal, not_a_book, book_full, state_forbids};
+ghost use Rattle.tf_commands.specs.Messages.{limit_word as word_of_limit, checked, summary, tasks_below, spaced, plan_fault_text, file_fault_text, compile_fault_text, scope_fault_text, target_fault_text, reason_text, refusal, state_forbids};
 
 use crate::accepting::Refusal;
 use tf_files::{FileFault, Path};
@@ -14,6 +13,7 @@ use tf_report::{
 };
 use tf_scopes::ScopeFault;
 use tf_states::FlowState;
+use tf_target::TargetFault;
 use tf_values::{Memory, Name};
 
 /// The message for words that are no command.
@@ -31,42 +31,8 @@ pub const CANNOT_LISTEN: &[u8] = b"taskflow: cannot listen\n";
 /// The message for a file that is longer than a flow file may be.
 pub const TOO_LONG: &[u8] = b"taskflow: flow file: too long\n";
 
-/// The message for a fault of the disk.
-pub const DISK_FAULT: &[u8] = b"taskflow: disk fault\n";
-
 /// The message for a book that holds no flow.
 pub const NO_FLOW: &[u8] = b"taskflow: no flow in the book\n";
-
-/// Appends the message for a file that is no book: the offset and the byte that show it, or the file's end.
-#[tactic(auto, unfolding(crate::specs::Messages::not_a_book))]
-pub fn append_not_a_book(offset: u64, byte: Option<u8>, out: &mut Vec<u8>) -> Result<(), Memory>
-    ensures { OnOk result (out.new.items ≡ out.old.items ++ not_a_book offset byte) }
-{
-    append_counted(b"taskflow: not a book: offset ", offset, out)?;
-    append(b", ", out)?;
-    append_byte(byte, out)?;
-    append(b"\n", out)
-}
-
-/// Appends a byte of a file, or that there is none.
-fn append_byte(byte: Option<u8>, out: &mut Vec<u8>) -> Result<(), Memory>
-    ensures { OnOk result (out.new.items ≡ out.old.items ++ byte_or_end byte) }
-{
-    match byte {
-        Some(byte) => append_counted(b"byte ", byte, out),
-        None => append(b"end", out),
-    }
-}
-
-/// Appends the message for a book that is full: its size, and how many bytes more were asked for.
-#[tactic(auto, unfolding(crate::specs::Messages::book_full))]
-pub fn append_book_full(size: u64, need: u64, out: &mut Vec<u8>) -> Result<(), Memory>
-    ensures { OnOk result (out.new.items ≡ out.old.items ++ book_full size need) }
-{
-    append_counted(b"taskflow: book full: ", size, out)?;
-    append_counted(b" + ", need, out)?;
-    append(b"\n", out)
-}
 
 /// Appends the message for a flow whose state forbids a command.
 #[tactic(auto, unfolding(crate::specs::Messages::state_forbids))]
@@ -136,7 +102,19 @@ fn append_reason(reason: &Refusal, out: &mut Vec<u8>) -> Result<(), Memory>
         Refusal::File(fault) => append_file_fault(fault, out),
         Refusal::Compile(fault) => append_compile_fault(fault, out),
         Refusal::Scope(fault) => append_scope_fault(fault, out),
+        Refusal::Target(fault) => append_target_fault(fault, out),
         Refusal::Memory => Ok(()),
+    }
+}
+
+fn append_target_fault(fault: &TargetFault, out: &mut Vec<u8>) -> Result<(), Memory>
+    ensures { OnOk result (out.new.items ≡ out.old.items ++ target_fault_text fault.now) }
+{
+    match fault {
+        TargetFault::NotAGraph => append(b"not a graph", out),
+        TargetFault::UnknownTarget(name) => append_pair(b"unknown target ", name.bytes(), out),
+        TargetFault::Empty => append(b"empty", out),
+        TargetFault::Memory => Ok(()),
     }
 }
 

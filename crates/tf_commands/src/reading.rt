@@ -9,25 +9,27 @@ ghost use Rattle.tf_commands.specs.Messages.{refusal, reason_text};
 ghost use Rattle.tf_commands.specs.Course.{BytesRead, FileRead, Undone};
 ghost use Rattle.tf_commands.specs.Durable.{NoFileChanges};
 ghost use Rattle.tf_commands.specs.Opened.{Opened};
-ghost use Rattle.tf_commands.specs.Saying.{ClosesWithOrStops, OnlySays, HasSaid};
+ghost use Rattle.tf_commands.specs.Saying.{OnlySays, HasSaid};
+ghost use Rattle.tf_report.specs.Closing.{ClosesWithOrStops};
 
 use crate::accepting::{Refusal, accept};
-use crate::closing::close;
 use crate::messages::{CANNOT_READ, TOO_LONG, append_refusal};
-use crate::statuses::{DISK_FAILED, OUT_OF_MEMORY, REFUSED, UNHIRED, UNREAD, UNSAID};
 use std::alloc::Global;
 use tf_desk::Desk;
 use tf_flow::Binds;
 use tf_machine::Machine;
 use tf_ports::{SourceFault, Sources};
-use tf_values::Text;
+use tf_report::{DISK_FAILED, OUT_OF_MEMORY, REFUSED, UNHIRED, UNREAD, UNSAID, close};
+use tf_values::{Name, Text};
 
-/// The flow file that is asked for, the values that its store gets besides, and whether reverts are deferred.
+/// The flow file that is asked for, the values that its store gets besides, whether reverts are deferred, and up to which
+/// target it goes, if to one.
 #[derive(Drop)]
 pub struct Source {
     pub file: Text,
     pub sets: Binds,
     pub defer: bool,
+    pub target: Option<Name>,
 }
 
 /// A machine before a run of the plan that the file gives; or the status, where it can't be read or is
@@ -65,8 +67,8 @@ fn open_bytes<K: Desk>(
     source: Source,
     desk: &mut K,
 ) -> Result<Machine, u8>
-    ensures opened { IfOk result (λ machine. GivesPlan source.sets source.defer bytes.now
-        (plan_tree machine.plan)) }
+    ensures opened { IfOk result (λ machine. GivesPlan source.sets source.defer source.target
+        bytes.now (plan_tree machine.plan)) }
     ensures empty { IfOk result (λ machine. StandsFor machine []) }
     ensures same { OnOk result (desk.new ≡ desk.old) }
     ensures closed { IfErr result (BytesRead source bytes.now
@@ -76,9 +78,14 @@ fn open_bytes<K: Desk>(
     ensures unsaid { result ≡ Err UNSAID → Rises (K.state desk.old).out_faults (K.state desk.new).out_faults }
     ensures apart { (result ≢ Err UNREAD) × (result ≢ Err UNHIRED) × (result ≢ Err DISK_FAILED) }
 {
-    let Source { file, sets, defer } = source;
+    let Source {
+        file,
+        sets,
+        defer,
+        target,
+    } = source;
     drop(file);
-    match accept(alloc, bytes, sets, defer) {
+    match accept(alloc, bytes, sets, defer, target) {
         Ok(machine) => Ok(machine),
         Err(reason) => Err(refuse(alloc, &reason, desk)),
     }

@@ -18,7 +18,6 @@ use crate::books::{Blank, begin, open, refuse_book, say_over, say_unbegun, say_u
 use crate::messages::append_state_forbids;
 use crate::reading::{Source, open_file};
 use crate::running::{Over, Request, run_book};
-use crate::statuses::{FORBIDDEN, OUT_OF_MEMORY, UNSAID};
 use std::alloc::Global;
 use std::sync::Wait;
 use std::thread::Threads;
@@ -27,6 +26,7 @@ use tf_book::{Book, Loaded};
 use tf_desk::Desk;
 use tf_machine::Machine;
 use tf_ports::{Crew, Sources};
+use tf_report::{FORBIDDEN, OUT_OF_MEMORY, UNSAID};
 use tf_values::Text;
 
 /// Reads the file, opens the book, hires the hands that are wanted and runs the file's flow with them.

@@ -10,10 +10,10 @@ ghost use Rattle.tf_journal.specs.Path.{Open};
 use crate::books::{open, refuse_book, say_empty};
 use crate::recording::forbid;
 use crate::running::{Over, say_cause};
-use crate::statuses::{SUCCEEDED, UNHIRED, UNREAD};
 use std::alloc::Global;
 use tf_book::{Book, Loaded, ResetFault};
 use tf_desk::Desk;
+use tf_report::{SUCCEEDED, UNHIRED, UNREAD};
 use tf_values::Text;
 
 /// Opens the book, and puts its flow back, which has to be REVERTED with every atom settled: each REVERTED or IGNORE atom

@@ -8,6 +8,7 @@ ghost use Rattle.tf_ports.specs.Wanted.{wanted as number_of};
 ghost use Rattle.tf_book.specs.Book.{BookValue, outline, moment, flow_state};
 ghost use Rattle.tf_book.specs.SessionInvariant.{SessionInvariant};
 ghost use Rattle.tf_book.specs.declared.faults.Halt.{Halt as Cause};
+ghost use Rattle.tf_engines.specs.Failing.{MightRecord};
 ghost use Rattle.tf_engines.specs.Runs.{HasRun, StandsAs};
 ghost use Rattle.tf_commands.specs.Asking.{AreHands};
 ghost use Rattle.tf_commands.specs.Causes.{WasAsked};
@@ -16,12 +17,7 @@ ghost use Rattle.tf_commands.specs.Run.{stop_status};
 ghost use Rattle.tf_commands.specs.Runs.{HasSaidHalt, IsRunTo, RunsOn};
 ghost use Rattle.tf_commands.specs.declared.running.Request.{Request as ARequest};
 
-use crate::closing::close;
-use crate::messages::{DISK_FAULT, append_book_full, append_summary};
-use crate::statuses::{
-    DISK_FAILED, FAILED, FULL, OUT_OF_MEMORY, REVERTED, SUCCEEDED, SUSPENDED, UNHIRED, UNREAD,
-    UNSAID,
-};
+use crate::messages::append_summary;
 use std::alloc::Global;
 use std::sync::Wait;
 use std::thread::Threads;
@@ -30,6 +26,10 @@ use tf_book::{Book, BookFault, Halt};
 use tf_desk::Desk;
 use tf_engines::{How, RunEnd, parallel, serial};
 use tf_ports::Want;
+use tf_report::{
+    DISK_FAILED, DISK_FAULT, FAILED, FULL, OUT_OF_MEMORY, REVERTED, SUCCEEDED, SUSPENDED, UNHIRED,
+    UNREAD, UNSAID, append_book_full, close,
+};
 use tf_states::FlowState;
 use tf_values::Memory;
 
@@ -91,6 +91,7 @@ fn go_through<K: Desk + Send, P: Performer + Send, R: Threads + Wait + Sync>(
     ensures plan { result.book.plan ≡ book.plan }
     ensures ran { HasRun P.gives (WasAsked (K.state book.journal.desk) (K.state result.book.journal.desk))
         (vec_len hands) limit (outline book) book.past result.book.past result.how }
+    ensures failed { book.halt ≡ None → MightRecord P.gives (vec_len hands) result.book }
     ensures asks { (K.state book.journal.desk).asks ≤ (K.state result.book.journal.desk).asks }
 {
     if hands.len() > 1 {

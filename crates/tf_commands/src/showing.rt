@@ -10,10 +10,10 @@ ghost use Rattle.tf_journal.specs.Path.{Untouched};
 
 use crate::books::{open, refuse_book, say_empty, say_over};
 use crate::running::Over;
-use crate::statuses::{OUT_OF_MEMORY, SUCCEEDED, UNSAID};
 use std::alloc::Global;
 use tf_book::{Book, Loaded};
 use tf_desk::Desk;
+use tf_report::{OUT_OF_MEMORY, SUCCEEDED, UNSAID};
 use tf_values::Text;
 
 /// Opens the book, and says the lines of its whole history and the table. Nothing is recorded.

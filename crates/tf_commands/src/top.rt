@@ -4,12 +4,11 @@ ghost use Rattle.tf_desk.specs.Counts.{Rises};
 ghost use Rattle.tf_commands.specs.Asking.{is_local as wants_local, is_done_here as is_done, asked_for, if_done_here, IsWithin, want_of, IsWork, AsksForWork};
 ghost use Rattle.tf_commands.specs.Causes.{HasCausesOr, HasNoFault, WasAsked, counts_of};
 ghost use Rattle.tf_commands.specs.Course.{Course, HiresAsAsked, HiresAsWanted, Obeys, IsRefused, IsBoardRefused, MayBeDone, IsComplete};
-ghost use Rattle.tf_board.specs.declared.statuses.TheConstants.{BOARD_REFUSED};
+ghost use Rattle.tf_report.specs.declared.statuses.TheConstants.{BOARD_REFUSED};
 ghost use Rattle.tf_words.specs.declared.asked.Asked.{Asked as AnAsked};
 
 use crate::boards::{is_of_board, on_board};
 use crate::checking::check_file;
-use crate::closing::close;
 use crate::demoing::demo_book;
 use crate::messages::USAGE;
 use crate::reading::Source;
@@ -18,7 +17,6 @@ use crate::resetting::reset_book;
 use crate::resuming::resume_book;
 use crate::running::{Over, Request};
 use crate::showing::show_book;
-use crate::statuses::{DISK_FAILED, NO_COMMAND, OUT_OF_MEMORY, REFUSED, UNHIRED, UNREAD, UNSAID};
 use crate::trying::try_file;
 use crate::working::work;
 use std::alloc::Global;
@@ -26,6 +24,7 @@ use std::sync::Wait;
 use std::thread::Threads;
 use tf_desk::Desk;
 use tf_ports::{Crew, Door, Sources, Want};
+use tf_report::{NO_COMMAND, OUT_OF_MEMORY, REFUSED, close};
 use tf_words::{Asked, Word, demo_numbers_are_within, read_words};
 
 /// What a command reaches beside its words: the desk, the sources, the crew that hires hands, and the door at
@@ -63,7 +62,7 @@ pub fn taskflow<K: Desk + Send, S: Sources, W: Crew, L: Door, R: Threads + Wait 
     // Status 2 comes only where the words are no command.
     ensures no_command { result.status ≡ NO_COMMAND → asked_for words.now ≡ None }
 
-    // Status 4 comes only where the file is too long or gives no plan to run.
+    // Status 4 comes only where the file is too long or gives no plan to run, or none up to the target that is named.
     ensures refused { result.status ≡ REFUSED → IsRefused words.now (S.contents outside.sources) }
 
     // Status 15 comes only where the words are a command on a board which refuses it, by the commands that its file has.
@@ -251,8 +250,14 @@ fn obey_flow<K: Desk + Send, S: Sources, W: Crew, L: Door, R: Threads + Wait + S
             sets,
             defer,
             want,
+            target,
         } => {
-            let source = Source { file, sets, defer };
+            let source = Source {
+                file,
+                sets,
+                defer,
+                target,
+            };
             let request = Request {
                 want,
                 quiet: false,
@@ -267,8 +272,14 @@ fn obey_flow<K: Desk + Send, S: Sources, W: Crew, L: Door, R: Threads + Wait + S
             defer,
             want,
             stop_after,
+            target,
         } => {
-            let source = Source { file, sets, defer };
+            let source = Source {
+                file,
+                sets,
+                defer,
+                target,
+            };
             let request = Request {
                 want,
                 quiet: false,
@@ -290,9 +301,13 @@ fn obey_flow<K: Desk + Send, S: Sources, W: Crew, L: Door, R: Threads + Wait + S
         }
         Asked::Show { book } => show_book(alloc, &book, desk),
         Asked::Reset { book } => reset_book(alloc, &book, desk),
-        Asked::Check { file, sets } => {
-            let defer = false;
-            let source = Source { file, sets, defer };
+        Asked::Check { file, sets, target } => {
+            let source = Source {
+                file,
+                sets,
+                defer: false,
+                target,
+            };
             let status = check_file(alloc, source, &mut desk, sources);
             Over { desk, status }
         }

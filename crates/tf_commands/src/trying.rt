@@ -13,7 +13,6 @@ ghost use Rattle.tf_commands.specs.Run.{spoken_run};
 use crate::books::{say_unbegun, say_unhired};
 use crate::reading::{Source, open_file};
 use crate::running::{Over, Request, run_book};
-use crate::statuses::OUT_OF_MEMORY;
 use std::alloc::Global;
 use std::sync::Wait;
 use std::thread::Threads;
@@ -23,6 +22,7 @@ use tf_desk::Desk;
 use tf_journal::Journal;
 use tf_machine::Machine;
 use tf_ports::{Crew, Sources};
+use tf_report::OUT_OF_MEMORY;
 
 /// Reads the file, hires the hands that are wanted, runs the file's flow with them and reports its end. Nothing of it is
 /// kept.

@@ -6,14 +6,12 @@ ghost use Rattle.tf_ports.specs.declared.crews.Want.{Want as AWant};
 ghost use Rattle.tf_commands.specs.Working.{end_word, session_line, SaysNext, StopsNext, HasStopCause, HasServeCause, HiresHere, ServesAll, Works};
 ghost use Rattle.tf_commands.specs.Saying.{OnlySays};
 
-use crate::closing::close;
 use crate::messages::{CANNOT_HIRE, CANNOT_LISTEN};
-use crate::statuses::{OUT_OF_MEMORY, SUCCEEDED, UNHIRED, UNSAID};
 use std::alloc::Global;
 use tf_actions::Performer;
 use tf_desk::Desk;
 use tf_ports::{Address, Crew, Door, PortFault, Want};
-use tf_report::{append, append_counted};
+use tf_report::{OUT_OF_MEMORY, SUCCEEDED, UNHIRED, UNSAID, append, append_counted, close};
 use tf_values::Memory;
 use tf_workers::{ServeEnd, serve};
 

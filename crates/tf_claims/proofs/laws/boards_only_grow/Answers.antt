@@ -1,5 +1,9 @@
 use Rattle.tf_claims.proofs.LifeLemmas.{life_adds}
+use Rattle.tf_claims.proofs.OwnerLemmas.{life_adds_legally}
 use Rattle.tf_claims.proofs.laws.boards_only_grow.Goals as goal
 
-pub returns : goal.returns
-returns g c = life_adds g.K.Desk.state g.W.Hand.Performer.gives
+pub returns-clause-grows : goal.returns-clause-grows
+returns-clause-grows g c = life_adds g.K.Desk.state g.W.Hand.Performer.gives
+
+pub returns-clause-legal : goal.returns-clause-legal
+returns-clause-legal g c = life_adds_legally g.K.Desk.state g.W.Hand.Performer.gives

@@ -2,4 +2,5 @@ use Rattle.tf_claims.proofs.LifeLemmas.{life_grows}
 use Rattle.tf_claims.proofs.laws.history_only_grows.Goals as goal
 
 pub returns : goal.returns
-returns g c = life_grows g.K.Desk.state g.W.Hand.Performer.gives
+returns g c name first last life plan past holds =
+    let grown = life_grows g.K.Desk.state g.W.Hand.Performer.gives name first last life plan past holds in (grown.0, grown.1)

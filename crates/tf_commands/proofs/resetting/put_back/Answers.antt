@@ -3,10 +3,11 @@ use Rattle.tf_book.specs.Book.{BookValue, outline, moment}
 use Rattle.tf_book.specs.Resetting.{may_reset}
 use Rattle.tf_book.specs.declared.faults.Halt.TheVariants as halt
 use Rattle.tf_book.proofs.InvariantLemmas.{keeps_none}
-use Rattle.tf_commands.specs.declared.statuses.TheConstants.{SUCCEEDED}
+use Rattle.tf_book.proofs.TriedLemmas.{unhalted_tried}
+use Rattle.tf_report.specs.declared.statuses.TheConstants.{SUCCEEDED}
 use Rattle.tf_commands.proofs.CountLemmas.{reaches_itself, ran_causes}
 use Rattle.tf_commands.proofs.BookLemmas.{untouched_by}
-use Rattle.tf_commands.proofs.ResetLemmas.{is_so, halts_so, all_goes_back, resets_over, forbidden_back}
+use Rattle.tf_commands.proofs.ResetLemmas.{is_so, halts_so, reset_failed, all_goes_back, resets_over, forbidden_back}
 use Rattle.tf_commands.proofs.resetting.put_back.Goals as goal
 
 pub stop-requires : goal.stop-requires
@@ -30,7 +31,7 @@ returns-in-Ok-clause-goes g c = λ name entry opened holds.
     rw (sym c.close.ensures.desk) at
     (resets_over D.state name (D.state entry) c.args.book (D.state book.journal.desk) _ opened holds c.requires.kept c.requires.speaks may
     (all_goes_back D.state c.args.book book
-    (record { kept = kept; put = c.in-Ok.ensures.put_back.on; speaks = c.requires.speaks }) c.in-Ok.ensures.sound opened_so c.in-Ok.ensures.put_back.pending c.state-pending.ensures.history)
+    (record { kept = kept; put = c.in-Ok.ensures.put_back.on; speaks = c.requires.speaks; failed = unhalted_tried _ _ _ c.in-Ok.ensures.sound }) c.in-Ok.ensures.sound opened_so c.in-Ok.ensures.put_back.pending c.state-pending.ensures.history)
     (record {
       there = λ told picked. g.met.K.Desk.picked_is_there book.journal.desk name told picked;
       reads = λ told bytes is. g.met.K.Desk.reads_left book.journal.desk name bytes told is;
@@ -51,7 +52,12 @@ returns-in-Err-Book-clause-goes g c = λ name entry opened holds.
     let kept = c.reset.ensures.proceeds.keeps c.args.book (keeps_none D.state c.args.book c.requires.sound) in
     let may = is_so (may_reset (outline c.args.book) (moment c.args.book)) (λ never. (let refused = c.reset.ensures.forbidden c.requires.sound never in cc)) in
     resets_over D.state name (D.state entry) c.args.book (D.state now) c.stop.result.status opened holds c.requires.kept c.requires.speaks may
-    (c.stop.ensures.goes c.args.book (record { kept = kept; put = c.in-Err-Book.ensures.cut; speaks = c.requires.speaks }))
+    (c.stop.ensures.goes c.args.book (record {
+      kept = kept;
+      put = c.in-Err-Book.ensures.cut;
+      speaks = c.requires.speaks;
+      failed = reset_failed c.args.book c.reset.new.self c.reset.ensures.proceeds.plan (c.in-Err-Book.ensures.tried c.requires.sound);
+    }))
     (record {
       there = λ told picked. g.met.K.Desk.picked_is_there now name told picked;
       reads = λ told bytes is. g.met.K.Desk.reads_left now name bytes told is;
@@ -60,5 +66,10 @@ returns-in-Err-Book-clause-goes g c = λ name entry opened holds.
 pub returns-in-Err-Book-clause-causes : goal.returns-in-Err-Book-clause-causes
 returns-in-Err-Book-clause-causes g c =
     let kept = c.reset.ensures.proceeds.keeps c.args.book (keeps_none g.K.Desk.state c.args.book c.requires.sound) in
-    let back = c.stop.ensures.goes c.args.book (record { kept = kept; put = c.in-Err-Book.ensures.cut; speaks = c.requires.speaks }) in
+    let back = c.stop.ensures.goes c.args.book (record {
+      kept = kept;
+      put = c.in-Err-Book.ensures.cut;
+      speaks = c.requires.speaks;
+      failed = reset_failed c.args.book c.reset.new.self c.reset.ensures.proceeds.plan (c.in-Err-Book.ensures.tried c.requires.sound);
+    }) in
     ran_causes reaches_itself back.continues back.ended (omega arith) c.stop.ensures.apart

@@ -4,6 +4,7 @@ use Rattle.tf_book.specs.Loading.{IsHistoryOf}
 use Rattle.tf_book.proofs.InvariantLemmas.{keeps_none}
 use Rattle.tf_commands.proofs.AskedLemmas.{session_more}
 use Rattle.tf_commands.proofs.CountLemmas.{rises_until}
+use Rattle.tf_commands.proofs.RunLemmas.{run_failed}
 use Rattle.tf_commands.proofs.running.run_book.Goals as goal
 
 pub returns-in-Ended-clause-runs : goal.returns-in-Ended-clause-runs
@@ -16,6 +17,7 @@ returns-in-Ended-clause-runs g c =
       short_before = c.state-before.ensures.short;
       short = c.state-after.ensures.short;
       speaks = c.requires.speaks;
+      failed = run_failed g.P.Performer.gives c.args.request.now c.args.book c.go_through-book.result.book _ c.requires.all c.go_through-book.ensures.plan (c.go_through-book.ensures.failed c.requires.sound);
     })
 
 pub returns-in-Suspended-clause-runs : goal.returns-in-Suspended-clause-runs
@@ -28,6 +30,7 @@ returns-in-Suspended-clause-runs g c =
       short_before = c.state-before.ensures.short;
       short = c.state-after.ensures.short;
       speaks = c.requires.speaks;
+      failed = run_failed g.P.Performer.gives c.args.request.now c.args.book c.go_through-book.result.book _ c.requires.all c.go_through-book.ensures.plan (c.go_through-book.ensures.failed c.requires.sound);
     })
 
 pub returns-in-Halted-clause-runs : goal.returns-in-Halted-clause-runs
@@ -41,4 +44,5 @@ returns-in-Halted-clause-runs g c =
       short_before = c.state-before.ensures.short;
       short = c.state-after.ensures.short;
       speaks = c.requires.speaks;
+      failed = run_failed g.P.Performer.gives c.args.request.now c.args.book c.go_through-book.result.book _ c.requires.all c.go_through-book.ensures.plan (c.go_through-book.ensures.failed c.requires.sound);
     })

@@ -1,8 +1,8 @@
-use crate::top::{Ended, Outside, taskflow};
 use std::alloc::Global;
 use std::sync::Wait;
 use std::test::Fail;
 use std::thread::Threads;
+use tf_commands::{Ended, Outside, taskflow};
 use tf_desk::MemoryDesk;
 use tf_ports::{MemoryCrew, MemoryDoor, MemoryLink, MemorySource, MemorySources, MemorySpawner};
 use tf_tasks::LocalHand;

@@ -1,0 +1,5 @@
+use Rattle.tf_claims.proofs.OwnerLemmas.{handed_on}
+use Rattle.tf_claims.proofs.laws.one_owner.Goals as goal
+
+pub returns : goal.returns
+returns g c = handed_on g.K.Desk.state g.W.Hand.Performer.gives

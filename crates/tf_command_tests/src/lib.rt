@@ -1,0 +1,5 @@
+//! Tests of the top call over an outside in memory, of which the stated calls fail.
+#![tactic(auto)]
+
+#[cfg(test)]
+mod faults;
