@@ -15,7 +15,7 @@ use Rattle.tf_model.specs.Plan.{Outline, count, is_task}
 use Rattle.tf_model.specs.Snapshot.{Snapshot, is_at_work, state_after}
 use Rattle.tf_model.proofs.PlanLemmas.{task_below}
 use Rattle.tf_hands.specs.Hands.{asked_in}
-use Rattle.tf_order.proofs.TableLemmas.{get_set_same, get_set_other}
+use Rattle.tf_order.proofs.SpreadLemmas.{get_set_same, get_set_other}
 use Rattle.tf_audit.specs.Kept.{KeepsOrders}
 use Rattle.tf_audit.specs.Progress.{AreWhole, orders_with}
 use Rattle.tf_audit.specs.Starts.{TakesNone, IsTakenUp}

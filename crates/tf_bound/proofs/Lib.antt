@@ -4,6 +4,7 @@ pub mod RoomLemmas
 pub mod OwedLemmas
 pub mod BeginLemmas
 pub mod FallLemmas
+pub mod StepFallLemmas
 pub mod PlaceLemmas
 pub mod ShortLemmas
 pub mod AnswerLemmas

@@ -29,7 +29,7 @@ use Rattle.tf_bound.specs.Short.{AreShort, IsWithinLimits}
 use Rattle.tf_bound.proofs.SumLemmas.{sum_at_most}
 use Rattle.tf_bound.proofs.RoomLemmas.{weighed, lives_at_most}
 use Rattle.tf_bound.proofs.BeginLemmas.{owed_capped}
-use Rattle.tf_bound.proofs.FallLemmas.{is_going, active_falls, chosen_falls, ends_falls, step_falls}
+use Rattle.tf_bound.proofs.StepFallLemmas.{is_going, active_falls, chosen_falls, ends_falls, step_falls}
 use Rattle.tf_bound.proofs.ShortLemmas.{both_short, part_of_short}
 use Rattle.tf_bound.proofs.PastLemmas.{past_kept}
 

@@ -10,3 +10,4 @@ pub mod ReadLemmas
 pub mod WrittenLemmas
 pub mod AlikeLemmas
 pub mod ListingLemmas
+pub mod NumberingLemmas

@@ -4,6 +4,7 @@ pub mod CountLawLemmas
 pub mod CycleLawLemmas
 pub mod StandingLawLemmas
 pub mod BitLemmas
+pub mod NumberLemmas
 pub mod LinkLemmas
 pub mod StandingLemmas
 pub mod ReachLemmas

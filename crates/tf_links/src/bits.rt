@@ -46,7 +46,7 @@ impl Bits {
     }
 
     /// Whether the number is in the set.
-    #[tactic(auto, using(crate::proofs::BitLemmas::past_none, crate::proofs::BitLemmas::bit_read))]
+    #[tactic(auto, using(crate::proofs::BitLemmas::past_none, crate::proofs::NumberLemmas::bit_read))]
     pub fn has(&self, number: usize) -> bool
         ensures { result ≡ has self.now number }
     {
@@ -57,7 +57,7 @@ impl Bits {
     }
 
     /// Adds a number below the room.
-    #[tactic(auto, using(crate::proofs::BitLemmas::insert_here))]
+    #[tactic(auto, using(crate::proofs::NumberLemmas::insert_here))]
     pub fn insert(&mut self, number: usize)
         requires { number < room self.old }
         ensures set { (k : ℕ) → has self.new k ≡ (nat_eq number k || has self.old k) }
@@ -67,7 +67,7 @@ impl Bits {
     }
 
     /// Takes a number away.
-    #[tactic(auto, using(crate::proofs::BitLemmas::remove_here, crate::proofs::BitLemmas::past_room))]
+    #[tactic(auto, using(crate::proofs::NumberLemmas::remove_here, crate::proofs::BitLemmas::past_room))]
     pub fn remove(&mut self, number: usize)
         ensures set { (k : ℕ) → has self.new k ≡ (not (nat_eq number k) && has self.old k) }
         ensures room { length self.new ≡ length self.old }
@@ -91,7 +91,7 @@ impl Bits {
     }
 
     /// Adds the numbers of another set of the same room.
-    #[tactic(auto, using(crate::proofs::BitLemmas::joined_here, crate::proofs::BitLemmas::joined_all, crate::proofs::BitLemmas::length_joined))]
+    #[tactic(auto, using(crate::proofs::NumberLemmas::joined_here, crate::proofs::BitLemmas::joined_all, crate::proofs::NumberLemmas::length_joined))]
     pub fn union(&mut self, other: &Bits)
         requires { length self.old ≡ length other.now }
         ensures set { (k : ℕ) → has self.new k ≡ (has self.old k || has other.now k) }
@@ -103,7 +103,7 @@ impl Bits {
     }
 
     /// Whether each number of this set is in the other, which has the same room.
-    #[tactic(auto, using(crate::proofs::BitLemmas::within_here, crate::proofs::BitLemmas::outside_here, crate::proofs::BitLemmas::within_all))]
+    #[tactic(auto, using(crate::proofs::NumberLemmas::within_here, crate::proofs::NumberLemmas::outside_here, crate::proofs::BitLemmas::within_all))]
     pub fn is_within(&self, other: &Bits) -> bool
         requires { length self.now ≡ length other.now }
         ensures { result ≡ is_within self.now other.now }
@@ -117,7 +117,7 @@ impl Bits {
     }
 
     /// The least number that is in both sets, which have the same room.
-    #[tactic(auto, using(crate::proofs::BitLemmas::apart_here, crate::proofs::BitLemmas::common_here, crate::proofs::BitLemmas::apart_all))]
+    #[tactic(auto, using(crate::proofs::NumberLemmas::apart_here, crate::proofs::NumberLemmas::common_here, crate::proofs::BitLemmas::apart_all))]
     pub fn first_common(&self, other: &Bits) -> Option<usize>
         requires { length self.now ≡ length other.now }
         ensures { result ≡ first_below (room self.now) (has_both self.now other.now) }
@@ -140,7 +140,7 @@ impl Bits {
 
     /// Up to before which number, at most `past`, all from this one on are in the set, or all aren't. Whole
     /// words are passed at once.
-    #[tactic(auto, using(crate::proofs::BitLemmas::run_start, crate::proofs::BitLemmas::run_more, crate::proofs::BitLemmas::run_word))]
+    #[tactic(auto, using(crate::proofs::NumberLemmas::run_start, crate::proofs::NumberLemmas::run_more, crate::proofs::NumberLemmas::run_word))]
     pub fn run_end(&self, from: usize, past: usize) -> usize
         requires { from < past }
         ensures begins { from < result }
@@ -162,7 +162,7 @@ impl Bits {
     }
 
     /// Whether a word begins with this number, ends before `past`, and has all its numbers, or none.
-    #[tactic(auto, using(crate::proofs::BitLemmas::word_full, crate::proofs::BitLemmas::word_empty))]
+    #[tactic(auto, using(crate::proofs::NumberLemmas::word_full, crate::proofs::NumberLemmas::word_empty))]
     fn is_word_alike(&self, number: usize, past: usize, on: bool) -> bool
         requires { number < past }
         ensures room { result ≡ true → number + 64 ≤ past }
@@ -179,7 +179,7 @@ impl Bits {
     }
 
     /// The numbers of the set, ascending.
-    #[tactic(auto, using(crate::proofs::BitLemmas::none_of_word))]
+    #[tactic(auto, using(crate::proofs::NumberLemmas::none_of_word))]
     pub fn numbers(&self, alloc: Global) -> Result<Vec<usize>, Memory>
         ensures { IfOk result (λ numbers. numbers.items ≡ which_below (room self.now) (has self.now)) }
     {
@@ -193,7 +193,7 @@ impl Bits {
     }
 
     /// Adds the numbers that word `i` has.
-    #[tactic(auto, using(crate::proofs::BitLemmas::which_next, crate::proofs::BitLemmas::which_pass))]
+    #[tactic(auto, using(crate::proofs::NumberLemmas::which_next, crate::proofs::NumberLemmas::which_pass))]
     fn add_numbers_of_word(&self, i: usize, numbers: &mut Vec<usize>) -> Result<(), Memory>
         requires within { i < length self.now }
         requires few { i < 2 ^ 58 }

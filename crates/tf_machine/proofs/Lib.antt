@@ -18,6 +18,7 @@ pub mod MachineLemmas
 pub mod LeftLemmas
 pub mod Rows
 mod WorkLemmas
+mod ListedLemmas
 mod StretchLemmas
 mod SpanLemmas
 mod ExtentLemmas

@@ -22,7 +22,7 @@ use tf_states::{AtomState, Entry, FlowState, Payload, What};
 use tf_values::Memory;
 
 /// The task that a hand has in flight.
-#[tactic(auto, using(tf_numbers::proofs::BelowLemmas::still_none, crate::proofs::WorkLemmas::none_with))]
+#[tactic(auto, using(tf_numbers::proofs::BelowLemmas::still_none, crate::proofs::ListedLemmas::none_with))]
 pub fn task_of(compiled: &Compiled, tables: &Tables, list: &Worklist, hand: u8) -> Option<u16>
     requires listed { IsListed (outline_of compiled.now) (shown_by tables.now) list.now }
     ensures { result ≡ task_of (outline_of compiled.now) (shown_by tables.now) hand }
@@ -37,7 +37,7 @@ pub fn task_of(compiled: &Compiled, tables: &Tables, list: &Worklist, hand: u8) 
 }
 
 /// Whether a hand has nothing in flight.
-#[tactic(auto, using(crate::proofs::WorkLemmas::none_is_with), unfolding(tf_model::specs::Steps::is_free))]
+#[tactic(auto, using(crate::proofs::ListedLemmas::none_is_with), unfolding(tf_model::specs::Steps::is_free))]
 fn is_free(compiled: &Compiled, tables: &Tables, list: &Worklist, hand: u8) -> bool
     requires listed { IsListed (outline_of compiled.now) (shown_by tables.now) list.now }
     ensures { result ≡ is_free (outline_of compiled.now) (shown_by tables.now) hand }
@@ -52,7 +52,7 @@ fn is_free(compiled: &Compiled, tables: &Tables, list: &Worklist, hand: u8) -> b
 }
 
 /// Whether nothing is in flight.
-#[tactic(auto, using(crate::proofs::WorkLemmas::none_in_flight), unfolding(tf_model::specs::Steps::is_still))]
+#[tactic(auto, using(crate::proofs::ListedLemmas::none_in_flight), unfolding(tf_model::specs::Steps::is_still))]
 pub fn is_still(compiled: &Compiled, tables: &Tables, list: &Worklist) -> bool
     requires listed { IsListed (outline_of compiled.now) (shown_by tables.now) list.now }
     ensures { result ≡ is_still (outline_of compiled.now) (shown_by tables.now) }

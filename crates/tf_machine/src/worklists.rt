@@ -89,7 +89,7 @@ fn begins_attempt(compiled: &Compiled, atom: u16, state: AtomState) -> bool
 
 impl Worklist {
     /// The worklist of a plan before a run. Every atom may have to be looked at.
-    #[tactic(auto, using(crate::proofs::WorkLemmas::put_below, crate::proofs::WorkLemmas::all_put))]
+    #[tactic(auto, using(crate::proofs::ListedLemmas::put_below, crate::proofs::ListedLemmas::all_put))]
     pub fn make(alloc: Global, compiled: &Compiled) -> Result<Worklist, Memory>
         ensures { IfOk result (λ list. (s : Snapshot) → IsListed (outline_of compiled.now) s list) }
     {
@@ -143,7 +143,7 @@ impl Worklist {
     }
 
     /// Lists every atom as it is now.
-    #[tactic(auto, using(crate::proofs::WorkLemmas::none_listed))]
+    #[tactic(auto, using(crate::proofs::ListedLemmas::none_listed))]
     fn list_all(&mut self, compiled: &Compiled, tables: &Tables)
         requires counted { HasCounters (outline_of compiled.now) tables.now }
         requires room { HasRoom (outline_of compiled.now) self.old }
@@ -174,7 +174,7 @@ impl Worklist {
     }
 
     /// Where they may be reached, lists those of these atoms that are. Those side by side are passed in one stretch.
-    #[tactic(auto, using(crate::proofs::WorkLemmas::none_so_far, crate::proofs::WorkLemmas::all_so_far, crate::proofs::WorkLemmas::moved_none))]
+    #[tactic(auto, using(crate::proofs::ListedLemmas::none_so_far, crate::proofs::ListedLemmas::all_so_far, crate::proofs::WorkLemmas::moved_none))]
     fn list_each(
         &mut self,
         compiled: &Compiled,
@@ -297,7 +297,7 @@ fn may_be_forced(compiled: &Compiled, tables: &Tables, atom: u16) -> bool
 }
 
 /// The least number of a set below a count; the count where it has none.
-#[tactic(auto, using(tf_numbers::proofs::BelowLemmas::first_before, crate::proofs::WorkLemmas::nothing_in))]
+#[tactic(auto, using(tf_numbers::proofs::BelowLemmas::first_before, crate::proofs::ListedLemmas::nothing_in))]
 pub fn first_of(set: &Bits, count: u16) -> u16
     ensures within { result ≤ count }
     ensures before { (a : ℕ) → a < result → has set.now a ≡ false }

@@ -17,7 +17,9 @@ pub mod ResolutionLemmas
 pub mod Refusals
 pub mod RowWords
 pub mod RowsOfTasks
+pub mod RowsOfFailures
 pub mod RowsOfRetries
+pub mod RowsOfInnerRetries
 pub mod RowsOfDeciders
 pub mod RowsOfSessions
 pub mod RowsOfPlans

@@ -19,9 +19,11 @@ use Rattle.tf_model.specs.Steps.{is_free, is_still, ends_task, may_suspend, rese
 use Rattle.tf_model.proofs.Refusals.{refuse}
 use Rattle.tf_model.proofs.RowWords.{number, by, to, gives, fails, stays, flow_to, resolves}
 use Rattle.tf_model.proofs.RowsOfDeciders.{depth_all, depth_all_plan, depth_flow, depth_flow_plan, depth_neighbors, depth_neighbors_plan}
-use Rattle.tf_model.proofs.RowsOfRetries.{deferred_revert, deferred_revert_plan, inner_exhausted, inner_exhausted_plan, nested_revert, nested_revert_plan, one_attempt, one_attempt_plan, three_attempts, three_attempts_plan}
+use Rattle.tf_model.proofs.RowsOfRetries.{nested_revert, nested_revert_plan, one_attempt, one_attempt_plan, three_attempts, three_attempts_plan}
+use Rattle.tf_model.proofs.RowsOfInnerRetries.{deferred_revert, deferred_revert_plan, inner_exhausted, inner_exhausted_plan}
 use Rattle.tf_model.proofs.RowsOfSessions.{one_resolution, one_resolution_plan}
-use Rattle.tf_model.proofs.RowsOfTasks.{reverted_in_reverse, reverted_in_reverse_plan, stays_undone, stays_undone_plan, two_echoes, two_echoes_plan}
+use Rattle.tf_model.proofs.RowsOfTasks.{reverted_in_reverse, reverted_in_reverse_plan, two_echoes, two_echoes_plan}
+use Rattle.tf_model.proofs.RowsOfFailures.{stays_undone, stays_undone_plan}
 
 -- another value: an attempt of a retry controller ends with its own value
 pub another_value : Step three_attempts_plan (snapshot three_attempts_plan (reverse (take 2 three_attempts))) (by 0 (gives 0 (number 2))) → ⊥

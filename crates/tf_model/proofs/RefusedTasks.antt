@@ -17,7 +17,8 @@ use Rattle.tf_model.proofs.Refusals.{refuse}
 use Rattle.tf_model.proofs.RowWords.{number, by, to, gives, fails, again}
 use Rattle.tf_model.proofs.RowsOfRetries.{nested_revert, nested_revert_plan, three_attempts, three_attempts_plan}
 use Rattle.tf_model.proofs.RowsOfSessions.{crash_and_restart, one_resolution, one_resolution_plan, stopped_and_resumed, stopped_and_resumed_plan}
-use Rattle.tf_model.proofs.RowsOfTasks.{by_priority, by_priority_plan, left_pending, left_pending_plan, reverted_in_reverse, reverted_in_reverse_plan, stays_undone, stays_undone_plan, two_echoes, two_echoes_plan}
+use Rattle.tf_model.proofs.RowsOfTasks.{by_priority, by_priority_plan, reverted_in_reverse, reverted_in_reverse_plan, two_echoes, two_echoes_plan}
+use Rattle.tf_model.proofs.RowsOfFailures.{left_pending, left_pending_plan, stays_undone, stays_undone_plan}
 
 -- too early: the task before it isn't done
 pub early_start : Step two_echoes_plan (snapshot two_echoes_plan (reverse (take 2 two_echoes))) (by 1 (to 1 atom.Running)) → ⊥

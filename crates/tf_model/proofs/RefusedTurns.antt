@@ -17,7 +17,8 @@ use Rattle.tf_model.proofs.Refusals.{refuse}
 use Rattle.tf_model.proofs.RowWords.{by, to, flow_to}
 use Rattle.tf_model.proofs.RowsOfRetries.{nested_revert, nested_revert_plan, three_attempts, three_attempts_plan}
 use Rattle.tf_model.proofs.RowsOfSessions.{stopped_and_resumed, stopped_and_resumed_plan}
-use Rattle.tf_model.proofs.RowsOfTasks.{put_back_anew, reverted_in_reverse, reverted_in_reverse_plan, stays_undone, stays_undone_plan, two_echoes, two_echoes_plan}
+use Rattle.tf_model.proofs.RowsOfTasks.{put_back_anew, reverted_in_reverse, reverted_in_reverse_plan, two_echoes, two_echoes_plan}
+use Rattle.tf_model.proofs.RowsOfFailures.{stays_undone, stays_undone_plan}
 
 -- work left: a task can run
 pub ends_with_work_left : Step two_echoes_plan (snapshot two_echoes_plan (reverse (take 3 two_echoes))) (by 0 (flow_to flow.Success)) → ⊥

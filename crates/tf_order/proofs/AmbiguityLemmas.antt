@@ -33,7 +33,8 @@ use Rattle.tf_links.proofs.BitLemmas.{index_zero}
 use Rattle.tf_numbers.proofs.EquationLemmas.{ap2}
 use Rattle.tf_links.proofs.StandingLemmas.{listed_within, taking_next}
 use Rattle.tf_order.proofs.SightLemmas.{length_seen}
-use Rattle.tf_order.proofs.LinkingLemmas.{flat_append, needed_append, take_next, take_none, part_seen, one_needed}
+use Rattle.tf_order.proofs.LinkingLemmas.{needed_append, take_next, take_none, part_seen, one_needed}
+use Rattle.tf_order.proofs.TurnLemmas.{flat_append}
 use Rattle.tf_numbers.proofs.ListLemmas.{take_whole, filter_append, nothing_after}
 
 -- ---- one argument

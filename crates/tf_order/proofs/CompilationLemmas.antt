@@ -34,9 +34,10 @@ use Rattle.tf_order.specs.Tables.{plan_seen, atoms_found, AreTables, AreLooked, 
 use Rattle.tf_numbers.proofs.EquationLemmas.{ap2}
 use Rattle.tf_order.proofs.GraphLemmas.{get_first, get_last}
 use Rattle.tf_numbers.proofs.TruthLemmas.{clash, only_first}
-use Rattle.tf_flow.proofs.ListingLemmas.{length_atoms, level_there, level_number_at}
+use Rattle.tf_flow.proofs.ListingLemmas.{length_atoms}
+use Rattle.tf_flow.proofs.NumberingLemmas.{level_there, level_number_at}
 use Rattle.tf_links.proofs.StandingLemmas.{taking_all}
-use Rattle.tf_order.proofs.TableLemmas.{get_set_same, get_set_other}
+use Rattle.tf_order.proofs.SpreadLemmas.{get_set_same, get_set_other}
 use Rattle.tf_numbers.proofs.ListLemmas.{length_more}
 
 -- ---- no flow was looked at

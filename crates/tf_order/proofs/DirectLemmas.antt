@@ -31,7 +31,7 @@ use Rattle.tf_order.specs.Graph.{leads_to, leads_in, leads_by_kind}
 use Rattle.tf_order.specs.Rows.{row_in, row_at}
 use Rattle.tf_order.specs.Tables.{plan_seen, atoms_found, number_if, leads_from}
 use Rattle.tf_order.proofs.GraphLemmas.{listed_number}
-use Rattle.tf_order.proofs.TableLemmas.{row_added, leads_seen}
+use Rattle.tf_order.proofs.SpreadLemmas.{row_added, leads_seen}
 
 -- ---- the rows of tasks
 

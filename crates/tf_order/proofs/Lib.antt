@@ -4,6 +4,7 @@ pub mod WayLemmas
 pub mod ArrangedLemmas
 pub mod SightLemmas
 pub mod LinkingLemmas
+pub mod TurnLemmas
 pub mod ExplicitLemmas
 pub mod StandingAtomLemmas
 pub mod AmbiguityLemmas
@@ -11,5 +12,6 @@ pub mod LookLemmas
 pub mod CompilationLemmas
 pub mod StretchLemmas
 pub mod TableLemmas
+pub mod SpreadLemmas
 pub mod DirectLemmas
 pub mod RootItemLemmas

@@ -7,7 +7,7 @@ use Rattle.tf_model.specs.Before.{Flow, item_before, turn_before, way_before, wa
 use Rattle.tf_model.proofs.Told.{way_in}
 use Rattle.tf_flow.specs.declared.listing.AtomPlace.{AtomPlace}
 use Rattle.tf_flow.specs.Listing.{shown_atoms}
-use Rattle.tf_flow.proofs.ListingLemmas.{atom_there}
+use Rattle.tf_flow.proofs.NumberingLemmas.{atom_there}
 use Rattle.tf_model.specs.Deciders.{last_item}
 use Rattle.tf_flow.specs.declared.ways.Turn.{Turn}
 use Rattle.tf_model.specs.Plan.{last_flow}

@@ -27,7 +27,7 @@ pub struct Found {
 
 /// Adds the links that are inferred to the explicit ones, and tells the items that have an ambiguous
 /// symbol.
-#[tactic(auto, using(crate::proofs::LinkingLemmas::inferred_start, crate::proofs::LinkingLemmas::inferred_more, crate::proofs::LinkingLemmas::inferred_all))]
+#[tactic(auto, using(crate::proofs::TurnLemmas::inferred_start, crate::proofs::TurnLemmas::inferred_more, crate::proofs::TurnLemmas::inferred_all))]
 pub fn infer(
     alloc: Global,
     sight: &Sight<'_, '_>,
@@ -52,7 +52,7 @@ pub fn infer(
 }
 
 /// Adds what an atom's symbols give the item that it stands in.
-#[tactic(auto, using(crate::proofs::LinkingLemmas::turns_start, crate::proofs::LinkingLemmas::turns_more, crate::proofs::LinkingLemmas::turns_all, crate::proofs::SightLemmas::way_seen))]
+#[tactic(auto, using(crate::proofs::TurnLemmas::turns_start, crate::proofs::TurnLemmas::turns_more, crate::proofs::TurnLemmas::turns_all, crate::proofs::SightLemmas::way_seen))]
 fn link_atom(
     alloc: Global,
     sight: &Sight<'_, '_>,
@@ -79,7 +79,7 @@ fn link_atom(
 }
 
 /// Adds what an atom's symbols give the item that a turn takes, where it is an item of the flow.
-#[tactic(auto, using(crate::proofs::LinkingLemmas::turn_other, crate::proofs::LinkingLemmas::turn_retry, crate::proofs::LinkingLemmas::turn_past, crate::proofs::LinkingLemmas::turn_here))]
+#[tactic(auto, using(crate::proofs::TurnLemmas::turn_other, crate::proofs::TurnLemmas::turn_retry, crate::proofs::TurnLemmas::turn_past, crate::proofs::TurnLemmas::turn_here))]
 fn link_turn(
     alloc: Global,
     sight: &Sight<'_, '_>,

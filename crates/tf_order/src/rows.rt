@@ -139,7 +139,7 @@ pub fn row_of(alloc: Global, count: usize, set: &Bits) -> Result<Row, Memory>
 }
 
 /// The same numbers, each of which is below a thousand.
-#[tactic(auto, using(crate::proofs::TableLemmas::listed_below))]
+#[tactic(auto, using(crate::proofs::SpreadLemmas::listed_below))]
 pub fn short_numbers(alloc: Global, numbers: &[usize]) -> Result<Vec<u16>, Memory>
     requires { AllBelow 1000 numbers.now }
     ensures { IfOk result (λ short. short.items ≡ numbers.now) }

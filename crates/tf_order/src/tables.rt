@@ -48,7 +48,7 @@ pub fn tables(
 }
 
 /// For each atom those before it and those after it, ascending.
-#[tactic(auto, using(crate::proofs::TableLemmas::earlier_start, crate::proofs::TableLemmas::earlier_next, crate::proofs::TableLemmas::earlier_all, crate::proofs::TableLemmas::rows_more, crate::proofs::TableLemmas::rows_whole))]
+#[tactic(auto, using(crate::proofs::SpreadLemmas::earlier_start, crate::proofs::SpreadLemmas::earlier_next, crate::proofs::SpreadLemmas::earlier_all, crate::proofs::TableLemmas::rows_more, crate::proofs::TableLemmas::rows_whole))]
 fn order_atoms(
     alloc: Global,
     outline: &Outline<'_>,
@@ -92,7 +92,7 @@ fn all_numbers(alloc: Global, count: usize) -> Result<Vec<u16>, Memory>
 
 /// The atoms after one, ascending; to the row of each it is added. A stretch of atoms that are all after it,
 /// or all not, is taken at once.
-#[tactic(auto, using(crate::proofs::TableLemmas::added_start))]
+#[tactic(auto, using(crate::proofs::SpreadLemmas::added_start))]
 fn add_atom(
     alloc: Global,
     outline: &Outline<'_>,
@@ -126,7 +126,7 @@ fn add_atom(
 }
 
 /// Adds a number to the rows from one up to before the end.
-#[tactic(auto, using(crate::proofs::TableLemmas::spread_start, crate::proofs::TableLemmas::spread_next))]
+#[tactic(auto, using(crate::proofs::SpreadLemmas::spread_start, crate::proofs::SpreadLemmas::spread_next))]
 fn add_to_each(number: usize, from: usize, end: usize, rows: &mut Vec<Row>) -> Result<(), Memory>
     requires number { number < 1000 }
     requires order { from ≤ end }

@@ -1,33 +1,31 @@
 -- A tree and what is kept of it: their atoms, their flows and their roots side by side.
-use Rattle.std.proofs.Common.{◌≡◌, ◌∙◌, ℕ, zero, suc, ◌+◌, ◌-◌, ◌<◌, ◌≤◌, List, [], ◌∷◌, ◌++◌, map, flat_map, length, Bool, true, false, ◌&&◌, ◌||◌, Option, Some, None, filter, refl, sym, ap, subst, inl, inr, ◌⊎◌, arith, eqb-true, slice_get}
+use Rattle.std.proofs.Common.{◌≡◌, ◌∙◌, ℕ, zero, suc, ◌+◌, ◌-◌, ◌<◌, ◌≤◌, List, [], ◌∷◌, ◌++◌, map, flat_map, length, Bool, true, false, Option, Some, None, filter, refl, sym, ap, subst, inl, inr, ◌⊎◌, arith, eqb-true, slice_get}
 use Rattle.std.specs.Prelude.{nat_eq, option_map, if◌then◌else◌}
 use Rattle.std.specs.Option.{option_map_or, option_or, option_to_list}
 use Rattle.std.specs.List.{list_any}
 use Rattle.std.proofs.lemmas.Bool.{cases_lt}
 use Rattle.std.proofs.lemmas.Option.{slice_get_past}
 use Rattle.tf_flow.proofs.ListingLemmas.{length_atoms}
-use Rattle.tf_flow.specs.Conditions.{Connection, connection_of}
+use Rattle.tf_flow.specs.Conditions.{connection_of}
 use Rattle.tf_flow.specs.Names.{same_name, is_among, first_some}
-use Rattle.tf_flow.specs.Outline.{Atom, a_retry, Item, FlowPlace, flow_count, retry_count, retry_number, atom_count, atoms_among_count, retry_atoms, atoms_of, atoms_among, item_of, items_of, flow_place, flows_among}
-use Rattle.tf_flow.specs.Places.{member_of}
+use Rattle.tf_flow.specs.Outline.{Atom, Item, FlowPlace, flow_count, retry_count, retry_number, atom_count, retry_atoms, atoms_of, atoms_among, flow_place, flows_among}
 use Rattle.tf_flow.specs.Rules.{is_graph}
-use Rattle.tf_flow.specs.Tree.{Tree, task, flow, Trees, no_trees, tree, Head}
+use Rattle.tf_flow.specs.Tree.{flow, Trees, Head}
 use Rattle.tf_flow.specs.declared.atoms.Retry.{Retry}
 use Rattle.tf_flow.specs.declared.deciders.Link.{Link}
-use Rattle.tf_flow.specs.declared.nested.FlowKind.{FlowKind}
 use Rattle.tf_flow.specs.declared.nested.FlowKind.TheVariants as kind
 use Rattle.tf_links.specs.Reach.{reached}
 use Rattle.tf_model.specs.Before.{Flow, find_flow, item_before, flow_at}
 use Rattle.tf_model.specs.Compilation.{ambiguity, cycle_of, refusal_of, refusal_among}
-use Rattle.tf_model.specs.Linked.{joins, name_of_item, item_name, is_explicit, linked_pairs, item_order, arrange, arranged, item_standing, standing_of_item}
+use Rattle.tf_model.specs.Linked.{joins, name_of_item, item_name, is_explicit, linked_pairs, arrange, arranged, item_standing, standing_of_item}
 use Rattle.tf_model.proofs.Told.{order_in, way_in}
 use Rattle.tf_numbers.specs.Pairs.{Pair, has_pair}
 use Rattle.tf_numbers.proofs.EquationLemmas.{ap2}
-use Rattle.tf_numbers.proofs.TruthLemmas.{never_true, clash, and_first, and_second, true_both, true_first, true_second}
+use Rattle.tf_numbers.proofs.TruthLemmas.{never_true, and_first, and_second, true_both, true_first}
 use Rattle.tf_target.specs.Kept.{kept_among, joins_kept, kept_head, kept_tree, names_among}
 use Rattle.tf_target.proofs.ImageLemmas.{Image}
 use Rattle.tf_target.proofs.MoveLemmas.{size_of, across, across_below, across_past, across_rises, across_once, moved_end}
-use Rattle.tf_target.proofs.PartLemmas.{item_at, whole_atom, whole_item, Avoids, AtomsMoved, atom_kept, PlacesMoved}
+use Rattle.tf_target.proofs.PartLemmas.{item_at, whole_atom, whole_item, Avoids, AtomsMoved, PlacesMoved}
 use Rattle.tf_target.proofs.TailLemmas.{one, Tail, tail_atoms, tail_places, items_sized, tail_item, tail_found, tail_absent, IsAbsentAt}
 use Rattle.tf_target.proofs.CarriedLemmas.{Carried, OrdersCarried, moved_at, moved_or_left}
 use Rattle.tf_target.proofs.NestedLemmas.{NestedCarried, nested_carried, orders_nested, NoneKept, none_standing, standing_told, item_standing_carried}
@@ -42,48 +40,7 @@ use Rattle.tf_model.specs.Deciders.{decides_on}
 use Rattle.tf_model.specs.Linked.{is_inferred}
 use Rattle.tf_target.proofs.DeciderLemmas.{among_index, deciders_kept, IsRootTaskIn, name_in_part, in_both, task_named, name_itself}
 use Rattle.tf_target.proofs.MemberLemmas.{is_image, filter_images, filter_left, filter_flat}
-
--- the retry controller is the first atom of both
-control_moved : (fl at it : ℕ → ℕ) (r : Option Retry) (xs ys : List Atom) → fl 0 ≡ 0 → ((x : ℕ) → x < 0 + retry_count r → at x ≡ x) → AtomsMoved fl at it (0 + retry_count r) (0 + retry_count r) xs ys
-    → AtomsMoved fl at it 0 0 (retry_atoms 0 r ++ xs) (retry_atoms 0 r ++ ys)
-control_moved fl at it None xs ys root own rest = rest
-control_moved fl at it (Some r) xs ys root own rest =
-    atom_kept 0 0 record { way = record { flow = 0; item = None } ∷ []; part = a_retry r } record { way = record { flow = 0; item = None } ∷ []; part = a_retry r } xs ys (own 0 (omega arith))
-    (ap (λ (g : ℕ). record { way = record { flow = g; item = None } ∷ []; part = a_retry r }) (sym root)) rest
-
-atoms_sized : (ts : Trees) → atoms_among_count ts ≡ size_of atom_count ts
-atoms_sized no_trees = refl
-atoms_sized (tree first others) = ap (λ n. atom_count first + n) (atoms_sized others)
-
--- an item's name is among the names
-item_listed : (ts : Trees) (n a u : ℕ) (p : List ℕ → Bool) → u < length (items_of n a ts) → p (option_map_or name_of_item (slice_get (items_of n a ts) u) []) ≡ true → list_any p (names_among ts) ≡ true
-item_listed no_trees n a u p below is = absurd (omega (arith, below))
-item_listed (tree first others) n a zero p below is = true_first (p (member_of first).name) (list_any p (names_among others)) (sym (ap p (named first n a)) ∙ is)
-  where
-    named : (t : Tree) (n a : ℕ) → (item_of n a t).name ≡ (member_of t).name
-    named (task t) n a = refl
-    named (flow head items) n a = refl
-item_listed (tree first others) n a (suc u) p below is =
-    true_second (p (member_of first).name) (list_any p (names_among others)) (item_listed others (n + flow_count first) (a + atom_count first) u p (omega (arith, below)) is)
-
--- the links that join two names that are kept are kept
-links_kept : (names from to : List ℕ → Bool) (links : List Link) (test : Link → Bool) → ((link : Link) → from link.from && to link.to ≡ true → test link ≡ true)
-    → list_any (λ (l : Connection). from l.from && to l.to) (map connection_of links) ≡ list_any (λ (l : Connection). from l.from && to l.to) (map connection_of (filter test links))
-links_kept names from to [] test each = refl
-links_kept names from to (link ∷ links) test each = either (test link) refl (links_kept names from to links test each)
-  where
-    either : (b : Bool) → test link ≡ b → list_any (λ (l : Connection). from l.from && to l.to) (map connection_of links) ≡ list_any (λ (l : Connection). from l.from && to l.to) (map connection_of (filter test links))
-        → (from link.from && to link.to) || list_any (λ (l : Connection). from l.from && to l.to) (map connection_of links) ≡ list_any (λ (l : Connection). from l.from && to l.to) (map connection_of (if b then link ∷ filter test links else filter test links))
-    either true is rest = ap (λ b. (from link.from && to link.to) || b) rest
-    either false is rest = ap (λ b. b || list_any (λ (l : Connection). from l.from && to l.to) (map connection_of links)) (never_true (from link.from && to link.to) (λ on. clash (test link) (each link on) is)) ∙ rest
-
-not_first : (g : ℕ) → nat_eq 0 (suc g) ≡ false
-not_first g = never_true (nat_eq 0 (suc g)) (λ is. absurd (omega (arith, eqb-true 0 (suc g) is)))
-
-order_of_graph : (how : FlowKind) (n : ℕ) (linked : List Pair) → is_graph how ≡ true → item_order how n linked ≡ reached n linked
-order_of_graph kind.Linear n linked is = absurd (cc)
-order_of_graph kind.Unordered n linked is = absurd (cc)
-order_of_graph kind.Graph n linked is = refl
+use Rattle.tf_target.proofs.ItemLemmas.{control_moved, atoms_sized, item_listed, links_kept, not_first, order_of_graph}
 
 module _ (test : ℕ → Bool) (head : Head) (items : Trees) where
   abbrev kept : Trees

@@ -41,7 +41,7 @@ use Rattle.tf_model.proofs.Told.{connections_in}
 use Rattle.tf_target.specs.Kept.{names_among}
 use Rattle.tf_target.proofs.DeciderLemmas.{IsRootTaskIn, name_in_part, last_moved}
 use Rattle.tf_target.proofs.JoinLemmas.{nested, root_deciders, root_task}
-use Rattle.tf_target.proofs.LimitLemmas.{root_known}
+use Rattle.tf_target.proofs.KeptLimitLemmas.{root_known}
 use Rattle.tf_target.proofs.NestedLemmas.{BothCarried}
 use Rattle.tf_target.specs.Laws.{KeepsOrder}
 use Rattle.tf_target.specs.Target.{target_tree, IsTargetOf}
@@ -49,7 +49,7 @@ use Rattle.tf_target.proofs.OutlineLemmas.{atoms_alike, flows_alike, innermost_a
 use Rattle.tf_target.proofs.CarriedLemmas.{part_carried, way_carried, before_carried, passes_alike, within_whole}
 use Rattle.tf_target.proofs.MemberLemmas.{is_image, image_yes, before_none, visits_kept, map_reverse}
 use Rattle.tf_target.proofs.PartLemmas.{item_in, whole_turn, Avoids}
-use Rattle.tf_target.proofs.RootLemmas.{each_none}
+use Rattle.tf_target.proofs.GiverLemmas.{each_none}
 use Rattle.tf_target.proofs.JoinLemmas.{fl, at, it, whole, part, carried, root, root_part, all, inner, IsClosed, item_named_so, links_beside, orders_beside, refused_beside, flow_stands, item_back}
 
 -- ---- where nothing is refused, no flow is

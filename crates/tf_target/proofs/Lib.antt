@@ -2,6 +2,7 @@ pub mod TestLemmas
 pub mod WithinLemmas
 pub mod KeepingLemmas
 pub mod LimitLemmas
+pub mod KeptLimitLemmas
 pub mod TargetLemmas
 pub mod OutlineLemmas
 pub mod MoveLemmas
@@ -12,8 +13,10 @@ pub mod CarriedLemmas
 pub mod NestedLemmas
 pub mod StandingPartLemmas
 pub mod RootLemmas
+pub mod GiverLemmas
 pub mod MemberLemmas
 pub mod DeciderLemmas
 pub mod JoinLemmas
+pub mod ItemLemmas
 pub mod LawLemmas
 pub mod AlikeLemmas

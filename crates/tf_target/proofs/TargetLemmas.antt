@@ -25,12 +25,12 @@ use Rattle.tf_numbers.proofs.TruthLemmas.{or_either, true_second, never_true, cl
 use Rattle.tf_numbers.specs.Numbers.{first_below, numbers_below}
 use Rattle.tf_order.specs.RootItems.{root_item_before}
 use Rattle.tf_order.proofs.GraphLemmas.{rows_length, row_told}
-use Rattle.tf_order.proofs.TableLemmas.{get_set_same, get_set_other}
+use Rattle.tf_order.proofs.SpreadLemmas.{get_set_same, get_set_other}
 use Rattle.tf_target.specs.Kept.{items_in, names_among, is_name_at, place_of_name, kept_among, keep_first, kept_head, kept_tree, mark_or_none, is_marked}
 use Rattle.tf_target.specs.Target.{is_graph_flow, item_named, is_kept, target_tree, refuse_none, refuse_item, target_refusal, IsTargetAnswer, IsTargetOf, LeavesNoneBefore, plan_fault}
 use Rattle.tf_target.specs.declared.faults.TargetFault.{TargetFault}
 use Rattle.tf_target.specs.declared.faults.TargetFault.TheVariants as fault
-use Rattle.tf_target.proofs.LimitLemmas.{kept_refused, empty_if}
+use Rattle.tf_target.proofs.KeptLimitLemmas.{kept_refused, empty_if}
 
 -- ---- the place of a name
 

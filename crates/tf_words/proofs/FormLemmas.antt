@@ -10,22 +10,17 @@ use Rattle.std.proofs.lemmas.Fmt.{digits_decimal, digits_value-decimal, decimal_
 use Rattle.std.proofs.lemmas.Bool.{cases_lt}
 use Rattle.std.proofs.lemmas.Bool.Decides.{nat_tests}
 use Rattle.std.proofs.lemmas.List.{append-nil}
-use Rattle.tf_numbers.proofs.TruthLemmas.{and_first, and_second, or_true}
+use Rattle.tf_numbers.proofs.TruthLemmas.{or_true}
 use Rattle.tf_values.specs.declared.elements.Scalar.{Scalar}
 use Rattle.tf_values.specs.declared.elements.Scalar.TheVariants as scalar
-use Rattle.tf_values.specs.declared.value.Val.{Val}
-use Rattle.tf_values.specs.declared.value.Val.TheVariants as value
 use Rattle.tf_values.specs.Element.{IsElement}
-use Rattle.tf_values.specs.Scalars.{are_scalars}
-use Rattle.tf_values.specs.TextForm.{hexadecimal, quoted_byte, scalar_text, further_text, scalars_text, text_form}
-use Rattle.tf_values.specs.Value.{IsValue, IsTextOf, value_of}
+use Rattle.tf_values.specs.TextForm.{hexadecimal, quoted_byte, scalar_text, further_text, scalars_text}
 use Rattle.tf_values.proofs.QuoteLemmas.{IsControl, IsPlain, quoted_cases, nibble-hexadecimal, digits_form}
 use Rattle.tf_values.proofs.WordLemmas.{BeginsNumber, number_begins, own_digits}
 use Rattle.tf_words.specs.declared.quotes.Inside.TheVariants as at
 use Rattle.tf_words.specs.declared.spelled.Quoting.TheVariants as quoting
 use Rattle.tf_words.specs.Quotes.{nibble, is_hexadecimal, are_digits, is_plain, emitted, text_from}
-use Rattle.tf_words.specs.Spelled.{same_word, is_digit, is_count, is_integer, scalar_spelled, in_front, scalars_from, scalars_spelled, spelled, is_narrow, is_element, is_value, value_within, value_meant}
-use Rattle.tf_words.proofs.SpelledLemmas.{spelled_bare}
+use Rattle.tf_words.specs.Spelled.{same_word, is_digit, is_count, is_integer, scalar_spelled, in_front, scalars_from, scalars_spelled}
 
 -- ---- texts in quotes
 
@@ -274,7 +269,7 @@ not_closed (scalar.Text text) rest is = refl
 by_first : (bytes : List ℕ) → same_word bytes (codes "]") ≡ false → scalars_spelled bytes ≡ scalars_from [] quoting.Outside bytes
 by_first bytes is = rw (is, scalars_spelled) refl
 
-scalars_read : (scalars : List Scalar) → AllByRecursion IsElement scalars → scalars_spelled (scalars_text scalars ++ 93 ∷ []) ≡ Some scalars
+pub scalars_read : (scalars : List Scalar) → AllByRecursion IsElement scalars → scalars_spelled (scalars_text scalars ++ 93 ∷ []) ≡ Some scalars
 scalars_read [] are = refl
 scalars_read (s ∷ others) are =
     let rest : List ℕ = flat_map further_text others ++ 93 ∷ [] in
@@ -282,70 +277,3 @@ scalars_read (s ∷ others) are =
     ∙ by_first (scalar_text s ++ rest) (not_closed s rest are.0)
     ∙ walk_scalar s rest are.0
     ∙ list_read s others are.0 are.1
-
--- ---- values
-
--- each text form of a value spells this value
-pub form_spelled : (v : Val) → IsValue v → spelled (text_form v) ≡ Some v
-form_spelled value.Nothing is = refl
-form_spelled (value.Truth true) is = refl
-form_spelled (value.Truth false) is = refl
-form_spelled (value.Int z) is =
-    let begins = number_begins z is in
-    let high = begins.high in
-    let bare : (begins.first == 91) ≡ false = grind (arith, nat_tests) in
-    spelled_bare (signed_decimal z) begins.others begins.first begins.is bare ∙ ap (option_map value_of) (scalar_read (scalar.Int z) is)
-form_spelled (value.Text text) is = ap (option_map value_of) (scalar_read (scalar.Text text) is)
-form_spelled (value.List scalars) is = ap (option_map value.List) (scalars_read scalars is.1)
-
-narrow_is : (z : ℤ) → FitsSigned w64 z → is_narrow z ≡ true
-narrow_is (pos n) fits = let small = fits.sfits in grind (arith, nat_tests)
-narrow_is (negsuc n) fits = let small = fits.sfits in grind (arith, nat_tests)
-
-narrow_fits : (z : ℤ) → is_narrow z ≡ true → FitsSigned w64 z
-narrow_fits (pos n) is = record { sfits = grind (arith, nat_tests) }
-narrow_fits (negsuc n) is = record { sfits = grind (arith, nat_tests) }
-
-element_is : (s : Scalar) → IsElement s → is_element s ≡ true
-element_is scalar.Nothing is = refl
-element_is (scalar.Truth truth) is = refl
-element_is (scalar.Int z) is = narrow_is z is
-element_is (scalar.Text text) is = is
-
-element_fits : (s : Scalar) → is_element s ≡ true → IsElement s
-element_fits scalar.Nothing is = tt
-element_fits (scalar.Truth truth) is = tt
-element_fits (scalar.Int z) is = narrow_fits z is
-element_fits (scalar.Text text) is = is
-
-elements_are : (scalars : List Scalar) → AllByRecursion IsElement scalars → list_all is_element scalars ≡ true
-elements_are [] are = refl
-elements_are (s ∷ others) are = rw (element_is s are.0, elements_are others are.1) refl
-
-elements_fit : (scalars : List Scalar) → list_all is_element scalars ≡ true → AllByRecursion IsElement scalars
-elements_fit [] are = tt
-elements_fit (s ∷ others) are = (element_fits s (and_first (is_element s) (list_all is_element others) are), elements_fit others (and_second (is_element s) (list_all is_element others) are))
-
-value_is : (v : Val) → IsValue v → is_value v ≡ true
-value_is value.Nothing is = refl
-value_is (value.Truth truth) is = refl
-value_is (value.Int z) is = narrow_is z is
-value_is (value.Text text) is = is
-value_is (value.List scalars) is = rw (is.0, elements_are scalars is.1) refl
-
-pub value_fits : (v : Val) → is_value v ≡ true → IsValue v
-value_fits value.Nothing is = tt
-value_fits (value.Truth truth) is = tt
-value_fits (value.Int z) is = narrow_fits z is
-value_fits (value.Text text) is = is
-value_fits (value.List scalars) is = (and_first (are_scalars scalars) (list_all is_element scalars) is, elements_fit scalars (and_second (are_scalars scalars) (list_all is_element scalars) is))
-
-pub meant_by : (bytes : List ℕ) (found : Val) → spelled bytes ≡ Some found → value_meant bytes ≡ value_within found
-meant_by [] found is = absurd (cc)
-meant_by (b ∷ bytes) found is = rw (is, value_meant) refl
-
--- a text form stands for its value
-pub form_meant : (bytes : List ℕ) (v : Val) → IsTextOf bytes v → value_meant bytes ≡ Some v
-form_meant bytes v is =
-    let found : spelled bytes ≡ Some v = ap spelled is.form ∙ form_spelled v is.value in
-    meant_by bytes v found ∙ rw (value_is v is.value) refl

@@ -1,6 +1,7 @@
 pub mod PairLemmas
 pub mod SpelledLemmas
 pub mod FormLemmas
+pub mod ValueFormLemmas
 pub mod ReadingLemmas
 pub mod SpelledFormLemmas
 pub mod RuleLemmas

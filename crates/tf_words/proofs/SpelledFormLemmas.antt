@@ -25,7 +25,8 @@ use Rattle.tf_words.specs.declared.spelled.Quoting.{Quoting}
 use Rattle.tf_words.specs.declared.spelled.Quoting.TheVariants as quoting
 use Rattle.tf_words.specs.Quotes.{text_from, text_in_quotes}
 use Rattle.tf_words.specs.Spelled.{same_word, is_digit, is_count, is_integer, scalar_spelled, mark_of, in_front, at_end, scalars_from, scalars_spelled, spelled, quoting_after, is_narrow, is_element, is_value, value_meant}
-use Rattle.tf_words.proofs.FormLemmas.{natural_value, value_fits, meant_by}
+use Rattle.tf_words.proofs.FormLemmas.{natural_value}
+use Rattle.tf_words.proofs.ValueFormLemmas.{value_fits, meant_by}
 use Rattle.tf_words.proofs.ReadingLemmas.{text_goes}
 use Rattle.tf_words.proofs.SpelledLemmas.{by_mark}
 use Rattle.tf_values.proofs.QuoteLemmas.{on_test}

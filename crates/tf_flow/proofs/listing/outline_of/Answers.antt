@@ -1,6 +1,6 @@
 use Rattle.std.proofs.Common.{length}
 use Rattle.tf_flow.specs.Tree.{tree_of}
-use Rattle.tf_flow.proofs.ListingLemmas.{whole_atoms, whole_levels, as_many_atoms, as_many_flows, levels_numbered, few}
+use Rattle.tf_flow.proofs.NumberingLemmas.{whole_atoms, whole_levels, as_many_atoms, as_many_flows, levels_numbered, few}
 use Rattle.tf_flow.proofs.listing.outline_of.Goals as goal
 
 pub returns-clause-atoms : goal.returns-clause-atoms

@@ -3,7 +3,7 @@ use Rattle.tf_model.specs.Plan.{outline_of, count}
 use Rattle.tf_model.specs.Steps.{is_free, is_not_with}
 use Rattle.tf_machine.specs.Tables.{shown_by}
 use Rattle.tf_numbers.proofs.BelowLemmas.{not_each}
-use Rattle.tf_machine.proofs.WorkLemmas.{none_is_with}
+use Rattle.tf_machine.proofs.ListedLemmas.{none_is_with}
 use Rattle.tf_machine.proofs.steps.is_free.Goals as goal
 
 pub returns-then-is_with : goal.returns-then-is_with

@@ -3,7 +3,7 @@ use Rattle.tf_model.specs.Plan.{outline_of, count}
 use Rattle.tf_model.specs.Steps.{is_still, is_idle}
 use Rattle.tf_machine.specs.Tables.{shown_by}
 use Rattle.tf_numbers.proofs.BelowLemmas.{not_each}
-use Rattle.tf_machine.proofs.WorkLemmas.{none_in_flight}
+use Rattle.tf_machine.proofs.ListedLemmas.{none_in_flight}
 use Rattle.tf_machine.proofs.steps.is_still.Goals as goal
 
 pub returns-then-is_some : goal.returns-then-is_some

@@ -3,7 +3,7 @@ use Rattle.tf_model.specs.Plan.{outline_of, count}
 use Rattle.tf_hands.specs.Flight.{is_with}
 use Rattle.tf_machine.specs.Tables.{shown_by}
 use Rattle.tf_numbers.proofs.BelowLemmas.{first_found}
-use Rattle.tf_machine.proofs.WorkLemmas.{none_with}
+use Rattle.tf_machine.proofs.ListedLemmas.{none_with}
 use Rattle.tf_machine.proofs.steps.task_of.Goals as goal
 
 pub returns-then-is_with : goal.returns-then-is_with

@@ -1,5 +1,5 @@
 use Rattle.std.proofs.Common.{arith}
-use Rattle.tf_order.proofs.LinkingLemmas.{inferred_more, inferred_all}
+use Rattle.tf_order.proofs.TurnLemmas.{inferred_more, inferred_all}
 use Rattle.tf_order.proofs.linking.infer.Goals as goal
 
 pub loop-atom-preserved : goal.loop-atom-preserved

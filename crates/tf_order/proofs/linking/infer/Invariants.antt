@@ -1,7 +1,7 @@
 use Rattle.std.proofs.Common.{◌≡◌, length}
 use Rattle.tf_links.specs.Bits.{words_for}
 use Rattle.tf_order.specs.Sight.{count_seen}
-use Rattle.tf_order.proofs.LinkingLemmas.{AtomsSeen}
+use Rattle.tf_order.proofs.TurnLemmas.{AtomsSeen}
 use Rattle.tf_order.proofs.linking.infer.Given as goal
 
 abbrev pub invariant-loop-atom : goal.invariant-loop-atom

@@ -3,7 +3,7 @@ use Rattle.tf_flow.specs.declared.listing.AtomPlace.{AtomPlace}
 use Rattle.tf_order.specs.Sight.{atoms_seen}
 use Rattle.tf_model.specs.Before.{way_at}
 use Rattle.tf_order.proofs.SightLemmas.{way_seen}
-use Rattle.tf_order.proofs.LinkingLemmas.{turns_next, turns_all}
+use Rattle.tf_order.proofs.TurnLemmas.{turns_next, turns_all}
 use Rattle.tf_order.proofs.linking.link_atom.Goals as goal
 
 pub loop-turn-preserved : goal.loop-turn-preserved

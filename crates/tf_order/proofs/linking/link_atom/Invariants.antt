@@ -1,7 +1,7 @@
 use Rattle.std.proofs.Common.{◌≡◌, length, take}
 use Rattle.tf_links.specs.Bits.{words_for}
 use Rattle.tf_order.specs.Sight.{count_seen}
-use Rattle.tf_order.proofs.LinkingLemmas.{TurnsSeen}
+use Rattle.tf_order.proofs.TurnLemmas.{TurnsSeen}
 use Rattle.tf_order.proofs.linking.link_atom.Given as goal
 
 abbrev pub invariant-loop-turn : goal.invariant-loop-turn

@@ -1,4 +1,4 @@
-use Rattle.tf_order.proofs.LinkingLemmas.{turn_here}
+use Rattle.tf_order.proofs.TurnLemmas.{turn_here}
 use Rattle.tf_order.proofs.linking.link_turn.Goals as goal
 
 pub returns-clause-links : goal.returns-clause-links

@@ -1,5 +1,5 @@
 use Rattle.std.proofs.Common.{◌<◌, refl, arith, slice_index_or}
-use Rattle.tf_order.proofs.TableLemmas.{listed_below}
+use Rattle.tf_order.proofs.SpreadLemmas.{listed_below}
 use Rattle.tf_order.proofs.rows.short_numbers.Goals as goal
 
 pub overflow_cast-number : goal.overflow_cast-number

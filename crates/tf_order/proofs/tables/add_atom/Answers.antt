@@ -1,7 +1,8 @@
 use Rattle.std.proofs.Common.{◌≤◌, length, arith}
 use Rattle.tf_model.specs.Plan.{is_before}
 use Rattle.tf_order.specs.Tables.{plan_seen, atoms_found}
-use Rattle.tf_order.proofs.TableLemmas.{numbers_room, passing_stretch, failing_stretch, rows_stretched, rows_passed}
+use Rattle.tf_order.proofs.TableLemmas.{numbers_room}
+use Rattle.tf_order.proofs.SpreadLemmas.{passing_stretch, failing_stretch, rows_stretched, rows_passed}
 use Rattle.tf_order.proofs.tables.add_atom.Goals as goal
 
 pub slice_bounds-extend-end : goal.slice_bounds-extend-end

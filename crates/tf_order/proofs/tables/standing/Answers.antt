@@ -2,7 +2,7 @@ use Rattle.std.proofs.Common.{◌≡◌, Some, arith, slice_get}
 use Rattle.std.proofs.lemmas.Grind.{common_steps}
 use Rattle.std.proofs.lemmas.Option.{gets}
 use Rattle.tf_order.specs.Tables.{plan_seen}
-use Rattle.tf_order.proofs.TableLemmas.{standing_below}
+use Rattle.tf_order.proofs.SpreadLemmas.{standing_below}
 use Rattle.tf_order.proofs.tables.standing.Goals as goal
 
 pub short_numbers-requires : goal.short_numbers-requires

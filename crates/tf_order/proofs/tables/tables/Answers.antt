@@ -1,4 +1,4 @@
-use Rattle.tf_order.proofs.TableLemmas.{tables_are}
+use Rattle.tf_order.proofs.SpreadLemmas.{tables_are}
 use Rattle.tf_order.proofs.tables.tables.Goals as goal
 
 pub returns : goal.returns

@@ -7,7 +7,7 @@ use Rattle.tf_flow.specs.Written.{plan_tree, as_written}
 use Rattle.tf_flow.specs.declared.nested.Flow.{Flow}
 use Rattle.tf_target.specs.Target.{item_named, target_refusal, target_tree, IsTargetAnswer}
 use Rattle.tf_target.proofs.LawLemmas.{target_compiles, target_order, target_complete}
-use Rattle.tf_target.proofs.LimitLemmas.{empty_if}
+use Rattle.tf_target.proofs.KeptLimitLemmas.{empty_if}
 use Rattle.tf_target.proofs.TargetLemmas.{place_within, named_by, is_item_named, root_kept, target_is, refusal_kept, not_refused, refused_so, none_before}
 use Rattle.tf_target.proofs.targeting.target.Goals as goal
 

@@ -1,5 +1,5 @@
 use Rattle.std.proofs.Common.{◌∙◌, sym, ap, Err}
-use Rattle.tf_words.proofs.FormLemmas.{form_meant}
+use Rattle.tf_words.proofs.ValueFormLemmas.{form_meant}
 use Rattle.tf_words.proofs.SpelledFormLemmas.{none_meant}
 use Rattle.tf_words.proofs.spelled.value_meant.Goals as goal
 

@@ -1,5 +1,5 @@
 use Rattle.std.proofs.Common.{◌-◌, ◌<◌, ◌≤◌}
-use Rattle.tf_links.proofs.BitLemmas.{IsRun}
+use Rattle.tf_links.proofs.NumberLemmas.{IsRun}
 use Rattle.tf_links.proofs.bits.Bits.run_end.Given as goal
 
 abbrev pub invariant-loop-end : goal.invariant-loop-end

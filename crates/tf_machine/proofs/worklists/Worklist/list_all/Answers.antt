@@ -1,7 +1,7 @@
 use Rattle.std.proofs.Common.{arith}
 use Rattle.tf_model.specs.Plan.{outline_of}
 use Rattle.tf_machine.specs.Tables.{shown_by}
-use Rattle.tf_machine.proofs.WorkLemmas.{one_listed, whole_listed}
+use Rattle.tf_machine.proofs.ListedLemmas.{one_listed, whole_listed}
 use Rattle.tf_machine.proofs.worklists.Worklist.list_all.Goals as goal
 
 pub loop-atom-preserved : goal.loop-atom-preserved

@@ -1,6 +1,6 @@
 use Rattle.tf_model.specs.Plan.{outline_of}
 use Rattle.tf_machine.specs.Tables.{shown_by}
-use Rattle.tf_machine.proofs.WorkLemmas.{AllListed}
+use Rattle.tf_machine.proofs.ListedLemmas.{AllListed}
 use Rattle.tf_machine.proofs.worklists.Worklist.list_all.Given as goal
 
 abbrev pub invariant-loop-atom : goal.invariant-loop-atom

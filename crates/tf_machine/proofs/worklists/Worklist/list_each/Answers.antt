@@ -2,7 +2,7 @@ use Rattle.std.proofs.Common.{get_or}
 use Rattle.tf_model.specs.Plan.{outline_of, count}
 use Rattle.tf_machine.specs.Tables.{shown_by}
 use Rattle.tf_machine.proofs.StretchLemmas.{left_of, passed, stretch_within}
-use Rattle.tf_machine.proofs.WorkLemmas.{stretch_so_far}
+use Rattle.tf_machine.proofs.ListedLemmas.{stretch_so_far}
 use Rattle.tf_machine.proofs.worklists.Worklist.list_each.Goals as goal
 
 pub list_stretch-requires-clause-within : goal.list_stretch-requires-clause-within

@@ -1,7 +1,7 @@
 use Rattle.std.proofs.Common.{◌-◌, drop, length}
 use Rattle.tf_model.specs.Plan.{outline_of}
 use Rattle.tf_machine.specs.Tables.{shown_by}
-use Rattle.tf_machine.proofs.WorkLemmas.{AreSoFar}
+use Rattle.tf_machine.proofs.ListedLemmas.{AreSoFar}
 use Rattle.tf_machine.proofs.worklists.Worklist.list_each.Given as goal
 
 abbrev pub invariant-loop-start : goal.invariant-loop-start

@@ -1,6 +1,6 @@
 use Rattle.tf_model.specs.Plan.{outline_of}
 use Rattle.tf_machine.specs.Tables.{shown_by}
-use Rattle.tf_machine.proofs.WorkLemmas.{IsListedBelow}
+use Rattle.tf_machine.proofs.ListedLemmas.{IsListedBelow}
 use Rattle.tf_machine.proofs.worklists.Worklist.list_span.Given as goal
 
 abbrev pub invariant-loop-atom : goal.invariant-loop-atom

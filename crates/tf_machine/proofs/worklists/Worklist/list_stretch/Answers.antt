@@ -1,7 +1,7 @@
 use Rattle.std.proofs.Common.{arith}
 use Rattle.tf_model.specs.Plan.{outline_of}
 use Rattle.tf_machine.specs.Tables.{shown_by}
-use Rattle.tf_machine.proofs.WorkLemmas.{none_reached, next_reached}
+use Rattle.tf_machine.proofs.ListedLemmas.{none_reached, next_reached}
 use Rattle.tf_machine.proofs.worklists.Worklist.list_stretch.Goals as goal
 
 pub loop-atom-init : goal.loop-atom-init
