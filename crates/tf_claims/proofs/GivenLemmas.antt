@@ -27,12 +27,12 @@ use Rattle.tf_commands.specs.Resets.{PutBack}
 use Rattle.tf_commands.specs.Run.{MayRun, Ran}
 use Rattle.tf_commands.specs.declared.running.Request.{Request}
 use Rattle.tf_ports.specs.Wanted.{wanted as number_of}
-use Rattle.tf_claims.specs.Life.{IsRecorded, AreRecorded}
+use Rattle.tf_claims.specs.Life.{IsRecordedBy, AreRecorded}
 
 -- each entry that was recorded is such a one, and so is each that may be
 pub record GivesAll (gives : Order → Outcome → Type 0) (hired : ℕ → Type 0) (may : List Entry → Entry → Type 0) (plan : PlanValue) (before entries : List Entry) : Type 0 where
   pub recorded : AreRecorded gives hired (outline_of plan) before entries
-  pub next : (e : Entry) → may (entries ++ before) e → IsRecorded gives hired (outline_of plan) (entries ++ before) e
+  pub next : (e : Entry) → may (entries ++ before) e → IsRecordedBy gives hired (outline_of plan) (entries ++ before) e
 
 module _ (gives : Order → Outcome → Type 0) (hired : ℕ → Type 0) where
   -- entries behind others
@@ -40,7 +40,7 @@ module _ (gives : Order → Outcome → Type 0) (hired : ℕ → Type 0) where
       → AreRecorded gives hired plan past (newer ++ older)
   given_append plan past [] older on before = before
   given_append plan past (e ∷ newer) older on before =
-      (subst (λ (l : List Entry). IsRecorded gives hired plan l e) (sym (append_assoc newer older past)) on.0, given_append plan past newer older on.1 before)
+      (subst (λ (l : List Entry). IsRecordedBy gives hired plan l e) (sym (append_assoc newer older past)) on.0, given_append plan past newer older on.1 before)
 
   -- the older ones of them
   pub given_older : (plan : Outline) (past lost kept : List Entry) → AreRecorded gives hired plan past (lost ++ kept) → AreRecorded gives hired plan past kept
@@ -66,7 +66,7 @@ module _ (gives : Order → Outcome → Type 0) (hired : ℕ → Type 0) where
       let same : Some (put_back_or_rest found) ≡ Some w = (only_if (flow_is_reverted s.flow && all_below (count plan) (is_settled_at s)) (Some (put_back_or_rest found)) w is).1 in
       subst (IsGiven gives plan past) (let one : put_back_or_rest found ≡ w = cc in one) (back_given plan past found)
 
-  put_back_given : (plan : Outline) (past : List Entry) (e : Entry) → IsNextReset plan past e → IsRecorded gives hired plan past e
+  put_back_given : (plan : Outline) (past : List Entry) (e : Entry) → IsNextReset plan past e → IsRecordedBy gives hired plan past e
   put_back_given plan past e next = record { given = reset_given plan past e.what next.is; by = inr next }
 
   resets_given : (plan : Outline) (before entries : List Entry) → AreReset plan entries before → AreRecorded gives hired plan before entries

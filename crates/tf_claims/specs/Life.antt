@@ -95,14 +95,14 @@ module _ {K : Type 0} (state : K → DeskState) (gives : Order → Outcome → T
 
 -- an entry that was recorded after a history, or may be: where it ends a task, it carries an outcome that the hands' relation gives for the order of
 -- the task's last start; and it is by one of these hands, or by hand 0 to put the flow back
-pub record IsRecorded (gives : Order → Outcome → Type 0) (hired : ℕ → Type 0) (plan : Outline) (past : List Entry) (e : Entry) : Type 0 where
+pub record IsRecordedBy (gives : Order → Outcome → Type 0) (hired : ℕ → Type 0) (plan : Outline) (past : List Entry) (e : Entry) : Type 0 where
   pub given : IsGiven gives plan past e.what
   pub by : hired e.hand ⊎ IsNextReset plan past e
 
 -- so is each of the entries that were recorded after a history, after those before it
 abbrev pub AreRecorded : (Order → Outcome → Type 0) → (ℕ → Type 0) → Outline → List Entry → List Entry → Type 0
 AreRecorded gives hired plan past [] = Unit {0}
-AreRecorded gives hired plan past (e ∷ entries) = IsRecorded gives hired plan (entries ++ past) e × AreRecorded gives hired plan past entries
+AreRecorded gives hired plan past (e ∷ entries) = IsRecordedBy gives hired plan (entries ++ past) e × AreRecorded gives hired plan past entries
 
 -- the text that a call showed is told by entries that a file holds behind the history before the call: by the lines of these, and, where
 -- they are all that the call recorded, by a prefix of its closing; where there are none the file may hold no flow
