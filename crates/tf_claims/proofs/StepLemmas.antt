@@ -25,7 +25,7 @@ use Rattle.tf_commands.specs.Course as course
 use Rattle.tf_commands.specs.Course.{Course, Obeys, FileRead, IsUntouched}
 use Rattle.tf_commands.specs.Durable.{NoFileChanges, book_in, book_at, HoldsNoFlow, HoldsHistory}
 use Rattle.tf_commands.proofs.FlowLemmas.{flow_held}
-use Rattle.tf_claims.specs.Life.{file_of_command, IsAbout, Call, Leaves, returned, crashed, IsHired, AreRecorded}
+use Rattle.tf_claims.specs.Life.{file_of_command, IsAbout, Call, Leaves, returned, crashed, elsewhere, IsHired, AreRecorded}
 use Rattle.tf_claims.proofs.NameLemmas.{name_same}
 use Rattle.tf_model.specs.Plan.{Outline, outline_of}
 use Rattle.tf_journal.specs.Format.{Recovered}
@@ -199,6 +199,7 @@ module _ {K : Type 0} (state : K → DeskState) (gives : Order → Outcome → T
   quiet_keeps name call same had _ returned =
       same_file (file_of (state call.entry) name) (file_of (state call.now) name) had (quiet_file name (state call.entry) (state call.now) (same call.tells).0)
   quiet_keeps name call same had _ (crashed one moment start image text is) = absurd (no_start (same call.tells).1 start)
+  quiet_keeps name call same had _ (elsewhere other) = had
 
   -- a call about a file
   way_keeps : (name file : List ℕ) (call : Call state gives) (command : Asked) → asked_for call.words ≡ Some command → file_of_command command ≡ Some file
@@ -213,9 +214,11 @@ module _ {K : Type 0} (state : K → DeskState) (gives : Order → Outcome → T
       by : (name ≡ file) ⊎ (name ≢ file) → (left : List ℕ) → Leaves state gives name call left → has left
       by (inl same) _ returned = (on same).file
       by (inl same) _ (crashed one moment start image text left) = (on same).crash moment start image text left
+      by (inl same) _ (elsewhere other) = had
       by (inr apart) _ returned =
           same_file (file_of (state call.entry) name) (file_of (state call.now) name) had (other_file name (state call.entry) (state call.now) (way_others way name apart))
       by (inr apart) _ (crashed one moment start image text left) = absurd (apart (about_one call.words name command file asks is one))
+      by (inr apart) _ (elsewhere other) = had
 
   goes_keeps : (name : List ℕ) (call : Call state gives) (command : Asked) → asked_for call.words ≡ Some command
       → Goes gives (IsHired state gives call) (file_of_command command) (state call.entry) (state call.now) → has (file_of (state call.entry) name)

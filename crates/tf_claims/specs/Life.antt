@@ -59,11 +59,13 @@ module _ {K : Type 0} (state : K → DeskState) (gives : Order → Outcome → T
     pub tells : IsTrue (state entry).tells
     pub course : Course state gives (WasAsked (state entry) (state now)) words files hired after_hiring entry now status
 
-  -- what a call leaves of the file: what it has when the call returns; or, where the words are about it, what a crash inside the call left
+  -- what a call leaves of the file: what it has when the call returns; or, where the words are about it, what a crash inside the call left; or,
+  -- where they aren't, what it had before the call, since a crash leaves other files as they are
   pub data Leaves (name : List ℕ) (call : Call) : List ℕ → Type 0 where
     returned : Leaves name call (file_of (state call.now) name)
     crashed : IsAbout call.words name → (moment : ℕ) → IsStart name (state call.entry) (state call.now) moment
         → (image text : List ℕ) → (state call.now).crashes moment image text → Leaves name call image
+    elsewhere : ¬ (IsAbout call.words name) → Leaves name call (file_of (state call.entry) name)
 
   -- the top call's clause on completeness, where no count of faults rose and no stop was asked for
   abbrev pub IsUnfailing : Call → Type 0
