@@ -9,7 +9,7 @@ use tf_tasks::LocalHand;
 use tf_values::Text;
 use tf_words::Word;
 
-const TWO_ECHOES: &[u8] = br#"name = "main"
+pub(crate) const TWO_ECHOES: &[u8] = br#"name = "main"
 kind = "linear"
 items = [
     { task = "a", kind = "echo", inject = { value = 1 } },
@@ -18,24 +18,25 @@ items = [
 "#;
 
 /// The calls of the sources, of the crew and of the door that fail.
-struct Faults {
+pub(crate) struct Faults {
     sources: &'static [u64],
     crew: &'static [u64],
     door: &'static [u64],
 }
 
-const NO_FAULTS: Faults = Faults {
+pub(crate) const NO_FAULTS: Faults = Faults {
     sources: &[],
     crew: &[],
     door: &[],
 };
 
-/// Runs the words over a desk, a source of two echoes, a crew of one hand, and a door that gives links of these bytes, the
+/// Runs the words over a desk, a source of this flow, a crew of one hand, and a door that gives links of these bytes, the
 /// last first: the desk, and the status.
-fn ran_over<R: Threads + Wait + Sync>(
+pub(crate) fn ran_over<R: Threads + Wait + Sync>(
     rt: &R,
     alloc: Global,
     desk: MemoryDesk,
+    flow: &[u8],
     words: &[&str],
     faults: &Faults,
     links: &[&[u8]],
@@ -47,7 +48,7 @@ fn ran_over<R: Threads + Wait + Sync>(
     let mut sources = Vec::new(alloc);
     sources.push(MemorySource {
         name: Text::make(alloc, b"flow.toml")?,
-        bytes: Vec::from_slice(alloc, TWO_ECHOES)?,
+        bytes: Vec::from_slice(alloc, flow)?,
     })?;
     let spawner = MemorySpawner::make(Vec::new(alloc), Vec::new(alloc));
     let mut hands = Vec::new(alloc);
@@ -76,7 +77,7 @@ fn links_of(alloc: Global, links: &[&[u8]]) -> Result<Vec<MemoryLink>, Fail> {
 }
 
 /// A desk of whose calls the stated ones fail.
-fn desk(alloc: Global, failing: &[u64]) -> Result<MemoryDesk, Fail> {
+pub(crate) fn desk(alloc: Global, failing: &[u64]) -> Result<MemoryDesk, Fail> {
     let failing = Vec::from_slice(alloc, failing)?;
     let desk = MemoryDesk::make(alloc, 65_536, 1_000, failing, Vec::new(alloc))?;
     Ok(desk)
@@ -92,7 +93,15 @@ fn tries<R: Threads + Wait + Sync>(
     wanted: u8,
 ) -> Result<bool, Fail> {
     let desk = desk(alloc, failing)?;
-    let (desk, status) = ran_over(rt, alloc, desk, &["try", "flow.toml"], faults, &[])?;
+    let (desk, status) = ran_over(
+        rt,
+        alloc,
+        desk,
+        TWO_ECHOES,
+        &["try", "flow.toml"],
+        faults,
+        &[],
+    )?;
     Ok(status == wanted && desk.shown() == says)
 }
 
@@ -147,11 +156,19 @@ fn goes_on<R: Threads + Wait + Sync>(
 ) -> Result<bool, Fail> {
     let desk = desk(alloc, &[call])?;
     let words = ["run", "flow.toml", "B"];
-    let (desk, status) = ran_over(rt, alloc, desk, &words, &NO_FAULTS, &[])?;
+    let (desk, status) = ran_over(rt, alloc, desk, TWO_ECHOES, &words, &NO_FAULTS, &[])?;
     if status != wanted {
         return Ok(false);
     }
-    let (desk, status) = ran_over(rt, alloc, desk, &["resume", "B"], &NO_FAULTS, &[])?;
+    let (desk, status) = ran_over(
+        rt,
+        alloc,
+        desk,
+        TWO_ECHOES,
+        &["resume", "B"],
+        &NO_FAULTS,
+        &[],
+    )?;
     Ok(status == 0 && desk.shown().ends_with(b"end main SUCCESS\n".as_slice()))
 }
 
@@ -179,7 +196,7 @@ fn serves<R: Threads + Wait + Sync>(
 ) -> Result<bool, Fail> {
     let desk = desk(alloc, &[])?;
     let words = ["worker", "unix:w", "--sessions", sessions];
-    let (desk, status) = ran_over(rt, alloc, desk, &words, faults, links)?;
+    let (desk, status) = ran_over(rt, alloc, desk, TWO_ECHOES, &words, faults, links)?;
     Ok(status == wanted && desk.shown() == says)
 }
 
