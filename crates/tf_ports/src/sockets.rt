@@ -2,6 +2,7 @@ ghost use Rattle.std.specs.Prelude.{◌<◌, length, None};
 ghost use Rattle.tf_ports.specs.Sockets.{ReadsSome};
 
 use crate::crews::{Address, PortFault};
+use crate::dialers::Dialer;
 use crate::doors::Door;
 use crate::links::{Came, Link, LinkFault};
 use std::alloc::Global;
@@ -194,6 +195,63 @@ fn next_link<R: Eprint + Copy + Drop>(
         Err(reason) => {
             tell_address_reason(runtime, &address, &reason);
             Err(PortFault::Failed)
+        }
+    }
+}
+
+/// The real dialer: it connects to a Unix socket at a path, or to a port of 127.0.0.1. Where nobody waits there, or
+/// it fails, the system's reason is said on standard error. It tells its count alone.
+#[derive(Drop)]
+pub struct SocketDialer<R> {
+    runtime: R,
+    faults: u64,
+}
+
+impl<R> SocketDialer<R> {
+    /// A dialer with no fault so far.
+    pub fn make(runtime: R) -> SocketDialer<R> {
+        SocketDialer { runtime, faults: 0 }
+    }
+}
+
+impl<R: Net<Listener = TcpListener, Stream = TcpStream> + Files + Eprint + Copy + Drop> Dialer
+    for SocketDialer<R> {
+    type Made = SocketLink<R>;
+
+    ghost faults = { λ dialer. dialer.faults };
+
+    fn dial(&mut self, alloc: Global, address: &Address) -> Result<SocketLink<R>, PortFault> {
+        let Ok(kept) = address.copy(alloc) else {
+            return Err(PortFault::Memory);
+        };
+        match connect(&self.runtime, address) {
+            Ok(stream) => Ok(SocketLink::make(self.runtime, kept, stream)),
+            Err(reason) => {
+                tell_address_reason(&self.runtime, address, &reason);
+                self.faults = self.faults.saturating_add(1);
+                Err(PortFault::Failed)
+            }
+        }
+    }
+}
+
+/// A connection to the socket that waits at the address. What is sent over it isn't held back for more to come.
+fn connect<R: Net<Listener = TcpListener, Stream = TcpStream> + Files>(
+    runtime: &R,
+    address: &Address,
+) -> io::Result<Stream> {
+    match address {
+        Address::Unix(path) => {
+            let Ok(path) = str::from_utf8(path.bytes()) else {
+                return Err(Error::from(ErrorKind::InvalidInput));
+            };
+            Ok(Stream::Unix(UnixStream::connect(runtime, path)?))
+        }
+        Address::Tcp(port) => {
+            let there = SocketAddrV4::new(Ipv4Addr::LOCALHOST, *port);
+            let stream = TcpStream::connect(runtime, there)?;
+            stream.set_nodelay(true)?;
+            Ok(Stream::Tcp(stream))
         }
     }
 }
