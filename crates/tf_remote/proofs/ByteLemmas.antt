@@ -1,0 +1,56 @@
+-- Bytes that come over a link one after the other, and bytes that are sent.
+use Rattle.std.proofs.Common.{◌≡◌, ℕ, ◌≤◌, List, [], ◌++◌, length, take, Option, Some, None, inl, inr, refl, sym, ap, ◌∙◌, subst, arith, append_assoc, append-nil, ◌⊎◌}
+use Rattle.std.proofs.lemmas.List.{take_all}
+use Rattle.tf_desk.specs.Counts.{Rises}
+use Rattle.tf_ports.specs.Links.{sent_with, left_before, SendsFront, IsNothingLeft}
+use Rattle.tf_remote.specs.Received.{Seen, Brings, BringsSome, BringsAny, IsGone}
+
+-- ---- what comes
+
+came_on : (left : Option (List ℕ)) (first second : List ℕ) → left_before first (left_before second left) ≡ left_before (first ++ second) left
+came_on None first second = refl
+came_on (Some bytes) first second = ap Some (sym (append_assoc first second bytes))
+
+-- some bytes came, and then others
+pub brings_more : (first second : List ℕ) (before now after : Seen) → Brings first before now → Brings second now after → Brings (first ++ second) before after
+brings_more first second before now after one two = record {
+  came = one.came ∙ ap (left_before first) two.came ∙ came_on after.left first second;
+  faults = omega (arith, one.faults, two.faults);
+  ends = omega (arith, one.ends, two.ends);
+}
+
+nothing_came : (left : Option (List ℕ)) → left ≡ left_before [] left
+nothing_came None = refl
+nothing_came (Some bytes) = refl
+
+-- nothing came where nothing was taken from the link
+pub brings_none : (before now : Seen) → now.left ≡ before.left → before.faults ≤ now.faults → before.ends ≤ now.ends → Brings [] before now
+brings_none before now same faults ends = record { came = sym same ∙ nothing_came now.left; faults = faults; ends = ends }
+
+-- some bytes came, of which nothing is said
+pub brings_any : (bytes : List ℕ) (before now : Seen) → Brings bytes before now → BringsAny before now
+brings_any bytes before now brings = record { bytes = bytes; brings = brings; is = tt }
+
+-- a link that is gone at last is gone
+pub gone_later : (before now after : Seen) → before.faults ≤ now.faults → before.ends ≤ now.ends → IsGone now after → IsGone before after
+gone_later before now after faults ends gone = elim gone [
+  | inl rose ↦ inl (omega (arith, faults, rose))
+  | inr ended ↦ inr (omega (arith, ends, ended.0), ended.1)
+]
+
+-- ---- what is sent
+
+-- all of the bytes are a front of them
+pub whole_front : (before after : Option (List ℕ)) (bytes : List ℕ) → after ≡ sent_with before bytes → SendsFront before bytes after
+whole_front before after bytes is = record {
+  count = length bytes;
+  front = is ∙ ap (sent_with before) (sym (take_all (length bytes) bytes (omega arith)));
+}
+
+sent_nothing : (sent : Option (List ℕ)) → sent ≡ sent_with sent []
+sent_nothing None = refl
+sent_nothing (Some bytes) = ap Some (sym (append-nil bytes))
+
+-- nothing is a front of any bytes
+pub no_front : (before : Option (List ℕ)) (bytes : List ℕ) → SendsFront before bytes before
+no_front before bytes = record { count = 0; front = sent_nothing before }

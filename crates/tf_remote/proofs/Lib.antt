@@ -1,0 +1,7 @@
+mod OutcomeLemmas
+mod NearLemmas
+mod RequestLemmas
+mod ByteLemmas
+mod FrameLemmas
+mod ReplyLemmas
+mod TakeLemmas

@@ -1,0 +1,14 @@
+use Rattle.std.proofs.Common.{◌≡◌, ◌≤◌, ◌-◌, length}
+use Rattle.tf_remote.specs.Received.{seen, Brings}
+use Rattle.tf_remote.proofs.receiving.receive_bytes.Given as goal
+
+abbrev pub invariant-loop-piece : goal.invariant-loop-piece
+invariant-loop-piece g l = record {
+  brings : Brings l.bytes.items (seen g.L.Link.left g.L.Link.sent g.L.Link.faults g.L.Link.ends l.fn.link) (seen g.L.Link.left g.L.Link.sent g.L.Link.faults g.L.Link.ends l.link);
+  sent : g.L.Link.sent l.link ≡ g.L.Link.sent l.fn.link;
+  within : length l.bytes.items ≤ l.count;
+  size : length l.piece ≡ 8192;
+}
+
+abbrev pub decreases-loop-piece : goal.decreases-loop-piece
+decreases-loop-piece g l = l.count - length l.bytes.items

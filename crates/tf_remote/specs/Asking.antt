@@ -1,0 +1,76 @@
+-- How a remote hand asks its worker.
+use Rattle.std.specs.Prelude.{◌≡◌, ◌↔◌, ℕ, List, ◌++◌, true, Option, Some, Result, IfOk}
+use Rattle.serde_json.specs.Written.{compact_text}
+use Rattle.tf_desk.specs.Counts.{Rises}
+use Rattle.tf_ports.specs.Links.{sent_with, SendsFront}
+use Rattle.tf_states.specs.declared.record.Failure.TheVariants as failure
+use Rattle.tf_actions.specs.Gives.{Gives}
+use Rattle.tf_actions.specs.declared.orders.Order.{Order}
+use Rattle.tf_actions.specs.declared.outcomes.Outcome.{Outcome}
+use Rattle.tf_actions.specs.declared.outcomes.Outcome.TheVariants as outcome
+use Rattle.tf_wire.specs.Messages.{request_data, response_data}
+use Rattle.tf_wire.specs.Reading.{names_differ, AreRequest, AreResponse}
+use Rattle.tf_wire.specs.Stream.{IsFrame}
+use Rattle.tf_wire.specs.declared.messages.Response.{Response}
+use Rattle.tf_wire.specs.declared.messages.Response.TheVariants as response
+use Rattle.tf_wire.specs.Orders.{order_of}
+use Rattle.tf_workers.specs.Dialogue.{Exchange, reply, told}
+use Rattle.tf_remote.specs.Received.{Seen, Brings, IsGone}
+use Rattle.tf_remote.specs.Replies.{IsReply, IsTakenFor}
+use Rattle.tf_remote.specs.Requests.{pairs_asked, request_for, frame_for}
+
+-- what the link was sent: the whole frame of the request, or, where the worker is lost, a front of it
+abbrev pub IsSentFor : List ℕ → Option (List ℕ) → Option (List ℕ) → Outcome → Type 0
+IsSentFor frame before now (outcome.Failed failure.Lost) = SendsFront before frame now
+IsSentFor frame before now came = now ≡ sent_with before frame
+
+-- An order was asked of the worker: the frame of its request was sent, and the outcome is what the bytes are taken for
+-- that the link gave meanwhile.
+pub record Asks (order : Order) (id : ℕ) (before now : Seen) (came : Outcome) : Type 0 where
+  pub bytes : List ℕ
+  pub brings : Brings bytes before now
+  pub taken_for : IsTakenFor order id (IsGone before now) bytes came
+  pub sent : IsSentFor (frame_for order id) before.sent now.sent came
+
+-- memory ran out while an order was asked: a front of the frame was sent
+pub record RunsOut (order : Order) (id : ℕ) (before now : Seen) : Type 0 where
+  pub bytes : List ℕ
+  pub brings : Brings bytes before now
+  pub sent : SendsFront before.sent (frame_for order id) now.sent
+
+-- the bytes of the frame behind its length are the request, where no argument's name stands twice
+unfoldable pub IsReadBack : Order → ℕ → Type 0
+IsReadBack order id = names_differ (pairs_asked order.given) ≡ true → AreRequest (compact_text (request_data (request_for order id))) (request_for order id)
+
+-- whoever performs the order that the request names may give what the order itself may give, and nothing else
+abbrev pub NamesOrder : Order → ℕ → Type 0
+NamesOrder order id = (came : Outcome) → Gives (order_of (request_for order id)) came ↔ Gives order came
+
+-- the link doesn't fail, and what it has left begins with these bytes
+pub record Holds (bytes behind : List ℕ) (before now : Seen) : Type 0 where
+  pub left : before.left ≡ Some (bytes ++ behind)
+  pub works : ¬ (Rises before.faults now.faults)
+
+-- this outcome, or want of memory; and where it is the outcome, exactly these bytes are left
+abbrev pub IsAnswered : {E : Type 0} → List ℕ → Outcome → Seen → Result Outcome E → Type 0
+IsAnswered {E} behind came now result = IfOk result (λ outcome. (outcome ≡ came) × (now.left ≡ Some behind))
+
+-- over a link that doesn't fail and holds a whole reply, the outcome is the reply's
+abbrev pub TakesReply : {E : Type 0} → Order → ℕ → Seen → Seen → Result Outcome E → Type 0
+TakesReply {E} order id before now result = (came : Outcome) (bytes behind : List ℕ) → IsReply order id came bytes → Holds bytes behind before now → IsAnswered behind came now result
+
+-- the response stands in a stream as a frame that is read back as it; so does each that the printer of responses prints
+pub record IsReadable (answer : Response) : Type 0 where
+  pub is_frame : IsFrame (compact_text (response_data answer))
+  pub reads : AreResponse (compact_text (response_data answer)) answer
+
+-- both responses of an exchange are read back
+pub record IsReadableExchange (exchange : Exchange) : Type 0 where
+  pub running : IsReadable (response.Running exchange.request.id)
+  pub outcome : IsReadable (told exchange.request.id exchange.outcome)
+
+-- over a link that doesn't fail and holds the whole reply of a worker that serves, with an outcome that the order may have, the outcome
+-- is the reply's
+abbrev pub TakesServed : {E : Type 0} → Order → ℕ → Seen → Seen → Result Outcome E → Type 0
+TakesServed {E} order id before now result = (exchange : Exchange) (behind : List ℕ) → exchange.request.id ≡ id → IsReadableExchange exchange → Gives order exchange.outcome
+    → Holds (reply exchange) behind before now → IsAnswered behind exchange.outcome now result

@@ -1,0 +1,75 @@
+-- What a link gave.
+use Rattle.std.specs.Prelude.{◌≡◌, ℕ, ◌<◌, ◌≤◌, ◌^◌, List, length, Option, false, ◌⊎◌}
+use Rattle.std.specs.Int.{to_be_bytes, w32}
+use Rattle.tf_desk.specs.Counts.{Rises}
+use Rattle.tf_ports.specs.Links.{left_before, IsNothingLeft}
+use Rattle.tf_wire.specs.Stream.{is_length, IsFrame, framed, BeginsWithFrame, BeginsWithBadLength}
+use Rattle.tf_remote.specs.declared.receiving.Stop.{Stop}
+use Rattle.tf_remote.specs.declared.receiving.Stop.TheVariants as stop
+
+-- what is seen of a link: the bytes that it has left and those that it was sent, where it tells them, and its
+-- counts of faults and ends
+pub record Seen : Type 0 where
+  pub left : Option (List ℕ)
+  pub sent : Option (List ℕ)
+  pub faults : ℕ
+  pub ends : ℕ
+
+abbrev pub seen : {L : Type 0} → (L → Option (List ℕ)) → (L → Option (List ℕ)) → (L → ℕ) → (L → ℕ) → L → Seen
+seen left sent faults ends link = record { left = left link; sent = sent link; faults = faults link; ends = ends link }
+
+-- the link gave exactly these bytes, and no count fell
+pub record Brings (bytes : List ℕ) (before now : Seen) : Type 0 where
+  pub came : before.left ≡ left_before bytes now.left
+  pub faults : before.faults ≤ now.faults
+  pub ends : before.ends ≤ now.ends
+
+-- the link gave some bytes, of which this holds
+pub record BringsSome (what : List ℕ → Type 0) (before now : Seen) : Type 0 where
+  pub bytes : List ℕ
+  pub brings : Brings bytes before now
+  pub is : what bytes
+
+-- some bytes came
+abbrev pub BringsAny : Seen → Seen → Type 0
+BringsAny before now = BringsSome (λ bytes. Unit {0}) before now
+
+-- the link failed, or it ended and had nothing left
+abbrev pub IsGone : Seen → Seen → Type 0
+IsGone before now = Rises before.faults now.faults ⊎ (Rises before.ends now.ends × IsNothingLeft now.left)
+
+-- the four bytes of a length that no frame has
+pub record IsBadLength (bytes : List ℕ) : Type 0 where
+  pub stated : ℕ
+  pub fits : stated < 2 ^ 32
+  pub is_bad : is_length stated ≡ false
+  pub is : bytes ≡ to_be_bytes w32 stated
+
+-- less than a frame, which might become one
+pub record IsPart (bytes : List ℕ) : Type 0 where
+  pub no_frame : ¬ (BeginsWithFrame bytes)
+  pub not_bad : ¬ (BeginsWithBadLength bytes)
+
+-- why nothing was received: what came is refused; the link was gone after a part; or memory ran out
+abbrev pub Stops : (List ℕ → Type 0) → (List ℕ → Type 0) → Seen → Seen → Stop → Type 0
+Stops part refused before now stop.Refused = BringsSome refused before now
+Stops part refused before now stop.Lost = BringsSome part before now × IsGone before now
+Stops part refused before now stop.Memory = BringsAny before now
+
+-- fewer bytes than these
+abbrev pub IsShorter : ℕ → List ℕ → Type 0
+IsShorter count bytes = length bytes < count
+
+-- no bytes are so
+abbrev pub IsNever : List ℕ → Type 0
+IsNever bytes = ⊥
+
+-- so many bytes came
+pub record BringsCount (count : ℕ) (bytes : List ℕ) (before now : Seen) : Type 0 where
+  pub brings : Brings bytes before now
+  pub is_count : length bytes ≡ count
+
+-- a frame came
+pub record BringsFrame (frame : List ℕ) (before now : Seen) : Type 0 where
+  pub brings : Brings (framed frame) before now
+  pub is_frame : IsFrame frame

@@ -1,0 +1,126 @@
+ghost use Rattle.std.specs.Prelude.{◌≡◌, ◌<◌, ◌^◌, true, false, None, IfOk, OnOk, MatchResult};
+ghost use Rattle.tf_actions.specs.Far.{GivesFar, is_sent as goes_far};
+ghost use Rattle.tf_actions.specs.Whole.{IsWhole};
+ghost use Rattle.tf_remote.specs.Asking.{Asks, RunsOut, IsReadBack, NamesOrder, TakesReply, TakesServed};
+ghost use Rattle.tf_remote.specs.FarLaws.{far_looks_up, far_reverts};
+ghost use Rattle.tf_remote.specs.Received.{seen};
+ghost use Rattle.tf_remote.specs.Requests.{next_id, frame_for};
+
+use crate::allowing::is_sent;
+use crate::replies::receive_reply;
+use crate::requests::frame_of;
+use std::alloc::Global;
+use tf_actions::{Order, Outcome, Performer};
+use tf_ports::Link;
+use tf_states::Failure;
+use tf_tasks::value_of;
+use tf_values::Memory;
+
+/// The greatest id of a request: a reader takes numbers of 63 bits.
+const LAST_ID: u64 = 9_223_372_036_854_775_807;
+
+/// A hand that asks a worker at the other end of its link. An order that needs no worker it answers itself: an
+/// execution for which a symbol is missing, and a revert that runs no program. It keeps nothing of what came
+/// over the link, and doesn't keep its orders.
+#[derive(Drop)]
+pub struct RemoteHand<L> {
+    link: L,
+    next: u64,
+    ghost is_id: { next < 2 ^ 63 },
+}
+
+impl<L> RemoteHand<L> {
+    /// A hand that asks over this link. Its requests are counted from 1.
+    pub fn make(link: L) -> RemoteHand<L>
+        ensures link { result.link ≡ link }
+        ensures next { result.next ≡ 1 }
+    {
+        RemoteHand { link, next: 1 }
+    }
+
+    /// The link back.
+    pub fn link(self) -> L
+        ensures { result ≡ self.link }
+    {
+        self.link
+    }
+}
+
+impl<L: Link> RemoteHand<L> {
+    /// The outcome of an order. An order that is asked of the worker is sent as one request, whose id counts the
+    /// hand's requests, and its outcome is the reply's; or `lost`, where the link failed or ended before the whole
+    /// reply came; or `bad-reply N`, where behind N bytes a frame came that no worker sends that serves. Every
+    /// other order leaves the hand as it was.
+    pub fn obey(&mut self, alloc: Global, order: &Order) -> Result<Outcome, Memory>
+        requires whole { IsWhole order.now }
+        ensures gives { IfOk result (λ outcome. GivesFar order.now outcome) }
+        ensures kept { goes_far order.now ≡ false → self.new ≡ self.old }
+        ensures asked { goes_far order.now ≡ true → MatchResult result
+            (Asks order.now self.old.next (seen L.left L.sent L.faults L.ends self.old.link)
+            (seen L.left L.sent L.faults L.ends self.new.link))
+            (λ _. RunsOut order.now self.old.next (seen L.left L.sent L.faults L.ends self.old.link)
+            (seen L.left L.sent L.faults L.ends self.new.link)) }
+        ensures counted { goes_far order.now ≡ true → OnOk result (self.new.next ≡ next_id self.old.next) }
+        ensures names { goes_far order.now ≡ true → NamesOrder order.now self.old.next }
+        ensures read_back { goes_far order.now ≡ true → OnOk result (IsReadBack order.now self.old.next) }
+        ensures replied { goes_far order.now ≡ true → TakesReply order.now self.old.next
+            (seen L.left L.sent L.faults L.ends self.old.link)
+            (seen L.left L.sent L.faults L.ends self.new.link) result }
+        ensures served { goes_far order.now ≡ true → TakesServed order.now self.old.next
+            (seen L.left L.sent L.faults L.ends self.old.link)
+            (seen L.left L.sent L.faults L.ends self.new.link) result }
+    {
+        if !is_sent(order) {
+            return value_of(alloc, order);
+        }
+        let id = self.next;
+        let frame = match frame_of(alloc, id, order) {
+            Ok(frame) => frame,
+            Err(fault) => return Err(fault),
+        };
+        self.next = following(id);
+        ask(alloc, &mut self.link, &frame, id, order)
+    }
+}
+
+/// The id of the next request.
+fn following(id: u64) -> u64
+    ensures { result ≡ next_id id }
+{
+    if id < LAST_ID { id + 1 } else { LAST_ID }
+}
+
+/// Sends the frame of the request of that id, and takes the reply.
+fn ask<L: Link>(
+    alloc: Global,
+    link: &mut L,
+    frame: &[u8],
+    id: u64,
+    order: &Order,
+) -> Result<Outcome, Memory>
+    requires whole { IsWhole order.now }
+    requires frame { frame.now ≡ frame_for order.now id }
+    ensures { MatchResult result (Asks order.now id (seen L.left L.sent L.faults L.ends link.old)
+        (seen L.left L.sent L.faults L.ends link.new))
+        (λ _. RunsOut order.now id (seen L.left L.sent L.faults L.ends link.old)
+        (seen L.left L.sent L.faults L.ends link.new)) }
+{
+    match link.send(frame) {
+        Ok(()) => receive_reply(alloc, link, id, order),
+        Err(_) => Ok(Outcome::Failed(Failure::Lost)),
+    }
+}
+
+impl<L: Link> Performer for RemoteHand<L> {
+    ghost did = { λ _. None };
+
+    ghost gives = { GivesFar };
+
+    ghost looks_up = { far_looks_up };
+
+    ghost reverts_to_nothing = { far_reverts };
+
+    fn perform(&mut self, alloc: Global, order: &Order) -> Result<Outcome, Memory> {
+        self.obey(alloc, order)
+    }
+}

@@ -1,0 +1,11 @@
+//! Remote hands: they ask workers over links.
+#![tactic(auto)]
+
+mod allowing;
+mod equality;
+mod hand;
+mod receiving;
+mod replies;
+mod requests;
+
+pub use hand::RemoteHand;
