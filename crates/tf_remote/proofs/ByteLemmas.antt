@@ -1,9 +1,8 @@
 -- Bytes that come over a link one after the other, and bytes that are sent.
-use Rattle.std.proofs.Common.{◌≡◌, ℕ, ◌≤◌, List, [], ◌++◌, length, take, Option, Some, None, inl, inr, refl, sym, ap, ◌∙◌, subst, arith, append_assoc, append-nil, ◌⊎◌}
+use Rattle.std.proofs.Common.{◌≡◌, ℕ, ◌≤◌, List, [], ◌++◌, length, Option, Some, None, inl, inr, refl, sym, ap, ◌∙◌, arith, append_assoc, append-nil}
 use Rattle.std.proofs.lemmas.List.{take_all}
-use Rattle.tf_desk.specs.Counts.{Rises}
-use Rattle.tf_ports.specs.Links.{sent_with, left_before, SendsFront, IsNothingLeft}
-use Rattle.tf_remote.specs.Received.{Seen, Brings, BringsSome, BringsAny, IsGone}
+use Rattle.tf_ports.specs.Links.{sent_with, left_before, SendsFront}
+use Rattle.tf_remote.specs.Received.{Seen, Brings, BringsAny, IsGone}
 
 -- ---- what comes
 

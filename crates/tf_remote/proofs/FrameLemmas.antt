@@ -1,10 +1,10 @@
 -- Frames that come over a link, in two parts: their length, and what it counts.
-use Rattle.std.proofs.Common.{◌≡◌, ℕ, ◌<◌, ◌^◌, List, [], ◌++◌, length, true, false, Result, Ok, Err, refl, sym, ap, ◌∙◌, subst, arith}
+use Rattle.std.proofs.Common.{◌≡◌, ℕ, ◌<◌, ◌^◌, List, ◌++◌, length, true, false, Result, Ok, Err, sym, ap, ◌∙◌, subst}
 use Rattle.std.specs.Int.{to_be_bytes, w32}
 use Rattle.std.specs.Prelude.{MatchResult}
-use Rattle.tf_wire.specs.Stream.{is_length, IsFrame, framed}
+use Rattle.tf_wire.specs.Stream.{is_length, framed}
 use Rattle.tf_wire.proofs.StreamLemmas.{short_is_no_frame, short_is_no_bad_length, part_is_no_frame, good_is_no_bad_length}
-use Rattle.tf_remote.specs.Received.{Seen, Brings, BringsSome, BringsCount, BringsFrame, IsPart, IsBadLength, IsShorter, IsNever, Stops}
+use Rattle.tf_remote.specs.Received.{Seen, Brings, BringsCount, BringsFrame, IsPart, IsBadLength, IsShorter, IsNever, Stops}
 use Rattle.tf_remote.specs.declared.receiving.Stop.{Stop}
 use Rattle.tf_remote.specs.declared.receiving.Stop.TheVariants as stop
 use Rattle.tf_remote.proofs.ByteLemmas.{brings_more, brings_any, gone_later}

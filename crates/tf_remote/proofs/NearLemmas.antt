@@ -23,7 +23,7 @@ use Rattle.tf_actions.specs.declared.outcomes.Action.{Action}
 use Rattle.tf_actions.specs.declared.outcomes.Action.TheVariants as action
 use Rattle.tf_actions.specs.declared.outcomes.Outcome.{Outcome}
 use Rattle.tf_actions.specs.declared.outcomes.Outcome.TheVariants as outcome
-use Rattle.tf_actions.specs.Built.{joined, text_of, raised, echoed, total, not_summed, fits, number_of, wrong_kind_or, summed, measured, item_or_range, item_at, picked_by, picked, spread_pair, listed, is_below, not_below, not_below_by, compared, demanded, built, plain}
+use Rattle.tf_actions.specs.Built.{joined, text_of, raised, total, not_summed, fits, number_of, wrong_kind_or, measured, item_or_range, item_at, picked_by, picked, spread_pair, listed, is_below, not_below, not_below_by, compared, demanded, built, plain}
 use Rattle.tf_actions.specs.Far.{is_far_failure}
 use Rattle.tf_actions.specs.Gives.{Gives, GivesFor, GivesExecuted, GivesReverted, GivesText, GivesNothing, IsProgramFailure}
 

@@ -1,5 +1,5 @@
 -- Which outcomes an order may have, decided.
-use Rattle.std.proofs.Common.{◌≡◌, ℕ, List, Bool, true, false, Some, refl, sym, subst, ◌∙◌, inl, inr}
+use Rattle.std.proofs.Common.{◌≡◌, ℕ, List, Bool, true, false, Some, sym, subst, ◌∙◌}
 use Rattle.std.specs.Prelude.{◌↔◌, IsTrue}
 use Rattle.tf_flow.specs.declared.atoms.TaskKind.{TaskKind}
 use Rattle.tf_flow.specs.declared.atoms.TaskKind.TheVariants as kind
@@ -14,7 +14,6 @@ use Rattle.tf_actions.specs.declared.outcomes.Action.{Action}
 use Rattle.tf_actions.specs.declared.outcomes.Action.TheVariants as action
 use Rattle.tf_actions.specs.declared.outcomes.Outcome.{Outcome}
 use Rattle.tf_actions.specs.Built.{built}
-use Rattle.tf_actions.specs.Far.{is_far_failure}
 use Rattle.tf_actions.specs.Gives.{Gives, GivesExecuted, GivesText}
 use Rattle.tf_tasks.specs.Program.{is_program}
 use Rattle.tf_remote.specs.Allowed.{EndsProgram}

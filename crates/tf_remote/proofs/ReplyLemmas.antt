@@ -1,5 +1,5 @@
 -- What the bytes of a reply are taken for.
-use Rattle.std.proofs.Common.{◌≡◌, ℕ, ◌≤◌, List, [], ◌++◌, length, true, false, Option, Result, Ok, Err, inl, inr, refl, sym, ap, ◌∙◌, subst, arith, ◌⊎◌}
+use Rattle.std.proofs.Common.{◌≡◌, ℕ, ◌≤◌, List, [], ◌++◌, length, true, false, Option, Result, Ok, Err, inl, inr, refl, sym, ap, ◌∙◌, subst, arith}
 use Rattle.std.specs.Prelude.{IfOk, IfErr, MatchResult}
 use Rattle.tf_desk.specs.Counts.{Rises}
 use Rattle.tf_wire.specs.Reading.{AreResponse}
@@ -8,7 +8,6 @@ use Rattle.tf_wire.specs.declared.messages.Response.TheVariants as response
 use Rattle.tf_workers.specs.Dialogue.{told}
 use Rattle.tf_remote.proofs.FrameLemmas.{short_part}
 use Rattle.tf_ports.specs.Links.{sent_with, SendsFront}
-use Rattle.tf_values.specs.declared.value.Val.{Val}
 use Rattle.tf_states.specs.declared.record.Failure.{Failure}
 use Rattle.tf_states.specs.declared.record.Failure.TheVariants as failure
 use Rattle.tf_actions.specs.declared.orders.Order.{Order}
@@ -17,7 +16,7 @@ use Rattle.tf_actions.specs.declared.outcomes.Outcome.TheVariants as outcome
 use Rattle.tf_actions.specs.Far.{is_sent, is_far_failure, GivesFar}
 use Rattle.tf_wire.specs.Stream.{framed}
 use Rattle.tf_remote.specs.Asking.{IsSentFor, Asks, RunsOut}
-use Rattle.tf_remote.specs.Received.{Seen, Brings, BringsSome, BringsAny, BringsFrame, IsGone, IsPart, Stops}
+use Rattle.tf_remote.specs.Received.{Seen, BringsSome, BringsAny, BringsFrame, IsGone, IsPart, Stops}
 use Rattle.tf_remote.specs.Replies.{TellsRunning, TellsOutcome, TellsAny, IsRefused, RunsAndThen, IsOutcomeFrame, IsReply, IsBadReply, IsCutShort, IsTakenFor, IsFirstFrame, TakesFor}
 use Rattle.tf_remote.specs.Stopped.{IsStopped, IsUnread}
 use Rattle.tf_remote.specs.declared.receiving.Stop.{Stop}

@@ -1,20 +1,15 @@
 -- The request that names an order.
 use Rattle.std.proofs.Common.{◌≡◌, ℕ, ◌<◌, ◌≤◌, ◌^◌, List, [], ◌++◌, length, true, false, refl, ap, ◌∙◌, subst, arith}
 use Rattle.serde_json.specs.Written.{compact_text}
-use Rattle.std.specs.Prelude.{◌↔◌}
 use Rattle.tf_flow.specs.declared.atoms.TaskKind.{TaskKind}
-use Rattle.tf_flow.specs.declared.atoms.TaskKind.TheVariants as kind
 use Rattle.tf_flow.specs.declared.atoms.Undo.{Undo}
 use Rattle.tf_flow.specs.declared.atoms.Undo.TheVariants as undo
 use Rattle.tf_actions.specs.declared.orders.Given.{Given}
 use Rattle.tf_actions.specs.declared.orders.Given.TheVariants as given
 use Rattle.tf_actions.specs.declared.orders.Order.{Order}
-use Rattle.tf_actions.specs.declared.orders.Pair.{Pair}
 use Rattle.tf_actions.specs.declared.outcomes.Action.{Action}
 use Rattle.tf_actions.specs.declared.outcomes.Action.TheVariants as action
-use Rattle.tf_actions.specs.declared.outcomes.Outcome.{Outcome}
 use Rattle.tf_actions.specs.Far.{is_sent}
-use Rattle.tf_actions.specs.Gives.{Gives}
 use Rattle.tf_actions.specs.Whole.{IsWhole}
 use Rattle.tf_tasks.specs.Program.{is_program}
 use Rattle.tf_wire.specs.Orders.{order_of}

@@ -1,26 +1,22 @@
 -- A link that holds a whole reply gives its outcome.
-use Rattle.std.proofs.Common.{◌≡◌, ℕ, ◌<◌, ◌^◌, List, [], ◌++◌, length, true, false, Option, Some, None, Result, Ok, Err, inl, inr, refl, sym, ap, ◌∙◌, subst, arith, append_assoc, append-nil}
-use Rattle.std.specs.Int.{to_be_bytes, w32}
+use Rattle.std.proofs.Common.{◌≡◌, ℕ, List, [], ◌++◌, Option, Some, None, Result, Ok, Err, inl, inr, refl, sym, ap, ◌∙◌, subst, append_assoc, append-nil}
 use Rattle.std.specs.Prelude.{MatchResult}
 use Rattle.serde_json.specs.Written.{compact_text}
 use Rattle.tf_ports.specs.Links.{left_before, IsNothingLeft}
-use Rattle.tf_states.specs.declared.record.Failure.{Failure}
-use Rattle.tf_values.specs.declared.value.Val.{Val}
 use Rattle.tf_actions.specs.Gives.{Gives}
 use Rattle.tf_actions.specs.declared.orders.Order.{Order}
 use Rattle.tf_actions.specs.declared.outcomes.Outcome.{Outcome}
 use Rattle.tf_actions.specs.declared.outcomes.Outcome.TheVariants as outcome
 use Rattle.tf_wire.proofs.MessageLemmas.{one_response}
 use Rattle.tf_wire.proofs.StreamLemmas.{frame_one, frame_is_not_bad}
-use Rattle.tf_wire.specs.Messages.{response_data, frame_of}
+use Rattle.tf_wire.specs.Messages.{response_data}
 use Rattle.tf_wire.specs.Reading.{AreResponse}
-use Rattle.tf_wire.specs.Stream.{IsFrame, framed, BeginsWithFrame, BeginsWithBadLength}
-use Rattle.tf_wire.specs.declared.messages.Response.{Response}
+use Rattle.tf_wire.specs.Stream.{IsFrame, framed}
 use Rattle.tf_wire.specs.declared.messages.Response.TheVariants as response
 use Rattle.tf_workers.specs.Dialogue.{Exchange, spoken, told, running, reply}
-use Rattle.tf_remote.specs.Asking.{Asks, RunsOut, Holds, IsAnswered, TakesReply, TakesServed, IsReadable, IsReadableExchange}
-use Rattle.tf_remote.specs.Received.{Seen, IsGone, IsPart, IsBadLength}
-use Rattle.tf_remote.specs.Replies.{TellsRunning, TellsOutcome, TellsAny, IsOtherFrame, IsRefused, RunsAndThen, IsOutcomeFrame, IsReply, IsBadReply, IsCutShort}
+use Rattle.tf_remote.specs.Asking.{Asks, RunsOut, Holds, TakesReply, TakesServed, IsReadable, IsReadableExchange}
+use Rattle.tf_remote.specs.Received.{Seen, IsGone, IsPart}
+use Rattle.tf_remote.specs.Replies.{TellsRunning, TellsAny, IsRefused, RunsAndThen, IsOutcomeFrame, IsReply}
 use Rattle.tf_remote.proofs.ReplyLemmas.{IsTaken, cases_of}
 use Rattle.tf_remote.proofs.ReplyLemmas.IsTaken.{lost, bad, whole}
 
@@ -37,8 +33,8 @@ refused_clash wanted bytes rest frame behind is_frame good same refused = elim r
     front = ap (λ (front : List ℕ). front ++ rest) short.is;
   }
   | inr other ↦
-    let one = frame_one other.frame frame rest behind other.is_frame is_frame (ap (λ (front : List ℕ). front ++ rest) (sym other.is) ∙ same) in
-    other.other (subst wanted (sym one.0) good)
+      let one = frame_one other.frame frame rest behind other.is_frame is_frame (ap (λ (front : List ℕ). front ++ rest) (sym other.is) ∙ same) in
+      other.other (subst wanted (sym one.0) good)
 ]
 
 -- nor is less than a frame, where nothing follows it
@@ -84,21 +80,21 @@ taken order id gone bytes rest behind x came ended w is = elim is [
   | lost far cut gone_now ↦ absurd (elim cut [
     | inl part ↦ part_clash bytes rest w.is_reply.first (w.is_reply.behind ++ behind) w.is_reply.running.is_frame (ended gone_now) (first_of order id came (bytes ++ rest) behind w) part
     | inr one ↦
-      let more = same_first id (λ n b. IsPart b) bytes rest w.is_reply.first (w.is_reply.behind ++ behind) w.is_reply.running (first_of order id came (bytes ++ rest) behind w) one in
-      part_clash one.behind rest w.is_reply.goes_on.frame behind w.is_reply.goes_on.tells.is_frame (ended gone_now) (more ∙ second_of order id came (bytes ++ rest) behind w) one.goes_on
+        let more = same_first id (λ n b. IsPart b) bytes rest w.is_reply.first (w.is_reply.behind ++ behind) w.is_reply.running (first_of order id came (bytes ++ rest) behind w) one in
+        part_clash one.behind rest w.is_reply.goes_on.frame behind w.is_reply.goes_on.tells.is_frame (ended gone_now) (more ∙ second_of order id came (bytes ++ rest) behind w) one.goes_on
   ])
   | bad far count refused ↦ absurd (elim refused [
     | inl first ↦ refused_clash (TellsRunning id) bytes rest w.is_reply.first (w.is_reply.behind ++ behind) w.is_reply.running.is_frame w.is_reply.running (first_of order id came (bytes ++ rest) behind w) first.1
     | inr one ↦
-      let more = same_first id (λ n b. (count ≡ n) × IsRefused (TellsAny order id) b) bytes rest w.is_reply.first (w.is_reply.behind ++ behind) w.is_reply.running (first_of order id came (bytes ++ rest) behind w) one in
-      refused_clash (TellsAny order id) one.behind rest w.is_reply.goes_on.frame behind w.is_reply.goes_on.tells.is_frame record { came = came; tells = w.is_reply.goes_on.tells } (more ∙ second_of order id came (bytes ++ rest) behind w) one.goes_on.1
+        let more = same_first id (λ n b. (count ≡ n) × IsRefused (TellsAny order id) b) bytes rest w.is_reply.first (w.is_reply.behind ++ behind) w.is_reply.running (first_of order id came (bytes ++ rest) behind w) one in
+        refused_clash (TellsAny order id) one.behind rest w.is_reply.goes_on.frame behind w.is_reply.goes_on.tells.is_frame record { came = came; tells = w.is_reply.goes_on.tells } (more ∙ second_of order id came (bytes ++ rest) behind w) one.goes_on.1
   ])
   | whole one ↦
-    let more = same_first id (λ n b. IsOutcomeFrame order id x b) bytes rest w.is_reply.first (w.is_reply.behind ++ behind) w.is_reply.running (first_of order id came (bytes ++ rest) behind w) one in
-    let same = frame_one one.goes_on.frame w.is_reply.goes_on.frame rest behind one.goes_on.tells.is_frame w.is_reply.goes_on.tells.is_frame
-    (ap (λ (front : List ℕ). front ++ rest) (sym one.goes_on.is) ∙ more ∙ second_of order id came (bytes ++ rest) behind w) in
-    let other : AreResponse w.is_reply.goes_on.frame (told id x) = subst (λ (frame : List ℕ). AreResponse frame (told id x)) same.0 one.goes_on.tells.reads in
-    (outcome_told id x came (one_response w.is_reply.goes_on.frame (told id x) (told id came) other w.is_reply.goes_on.tells.reads), same.1)
+      let more = same_first id (λ n b. IsOutcomeFrame order id x b) bytes rest w.is_reply.first (w.is_reply.behind ++ behind) w.is_reply.running (first_of order id came (bytes ++ rest) behind w) one in
+      let same = frame_one one.goes_on.frame w.is_reply.goes_on.frame rest behind one.goes_on.tells.is_frame w.is_reply.goes_on.tells.is_frame
+      (ap (λ (front : List ℕ). front ++ rest) (sym one.goes_on.is) ∙ more ∙ second_of order id came (bytes ++ rest) behind w) in
+      let other : AreResponse w.is_reply.goes_on.frame (told id x) = subst (λ (frame : List ℕ). AreResponse frame (told id x)) same.0 one.goes_on.tells.reads in
+      (outcome_told id x came (one_response w.is_reply.goes_on.frame (told id x) (told id came) other w.is_reply.goes_on.tells.reads), same.1)
 ]
 
 -- ---- over a link

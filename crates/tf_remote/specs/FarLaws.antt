@@ -1,16 +1,12 @@
 -- The outcome relation of a remote hand keeps the laws of outcomes.
 use Rattle.std.specs.Prelude.{◌≡◌, ℕ, List}
-use Rattle.std.proofs.Common.{inl, inr, subst, true, sym, ◌∙◌}
-use Rattle.tf_values.specs.declared.value.Val.{Val}
-use Rattle.tf_states.specs.declared.record.Failure.TheVariants as failure
+use Rattle.std.proofs.Common.{inl, inr, subst, true}
 use Rattle.tf_actions.specs.declared.orders.Given.{Given}
 use Rattle.tf_actions.specs.declared.orders.Given.TheVariants as given
 use Rattle.tf_actions.specs.declared.orders.Order.{Order}
 use Rattle.tf_actions.specs.declared.outcomes.Action.{Action}
 use Rattle.tf_actions.specs.declared.outcomes.Action.TheVariants as action
-use Rattle.tf_actions.specs.declared.outcomes.Outcome.{Outcome}
-use Rattle.tf_actions.specs.declared.outcomes.Outcome.TheVariants as outcome
-use Rattle.tf_actions.specs.Far.{GivesFar, FailsFar, is_sent_so}
+use Rattle.tf_actions.specs.Far.{GivesFar, is_sent_so}
 use Rattle.tf_actions.specs.Laws.{LooksUp, RevertsToNothing}
 use Rattle.tf_tasks.specs.GivesLaws.{gives_looks_up, gives_reverts}
 
