@@ -3,7 +3,9 @@ pub mod FormLemmas
 pub mod JobLemmas
 pub mod OwnerLemmas
 pub mod StayLemmas
+pub mod ClaimLemmas
 pub mod KeptLemmas
+pub mod SeekingLemmas
 pub mod ReadingLemmas
 pub mod BoardLemmas
 pub mod LoadLemmas

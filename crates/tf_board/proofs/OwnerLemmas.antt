@@ -16,7 +16,7 @@ use Rattle.tf_board.specs.declared.rules.Refusal.TheVariants as refusal
 use Rattle.tf_board.proofs.JobLemmas.{job_told, claim_free}
 
 -- an owner may do with a job what isn't refused where it stands so
-act_allowed : (past : List Command) (number : ℕ) (act : JobAction) (owner : List ℕ) → refused_of (numbered (jobs_of past) number) act owner ≡ None
+pub act_allowed : (past : List Command) (number : ℕ) (act : JobAction) (owner : List ℕ) → refused_of (numbered (jobs_of past) number) act owner ≡ None
     → refused_at (standing_of past number) act owner ≡ None
 act_allowed past zero act owner is = absurd (cc)
 act_allowed past (suc place) act owner is = by (slice_get (jobs_of past) place) refl
@@ -41,7 +41,7 @@ more c (gone is) = gone is
 more c (given_up later older is) = given_up (c ∷ later) older (ap (λ (l : List Command). c ∷ l) is)
 
 -- one who isn't refused what an owner alone may do is the owner
-owner_is : (owner who : List ℕ) (why : Option Refusal) (b : Bool) → same owner who ≡ b → (if b then None else Some (refusal.NotOwner (Some owner))) ≡ None → owner ≡ who
+pub owner_is : (owner who : List ℕ) (why : Option Refusal) (b : Bool) → same owner who ≡ b → (if b then None else Some (refusal.NotOwner (Some owner))) ≡ None → owner ≡ who
 owner_is owner who why true is none = (bytes_decides owner who).0 is
 owner_is owner who why false is none = absurd (cc)
 

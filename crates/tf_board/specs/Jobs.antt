@@ -14,6 +14,7 @@ use Rattle.tf_states.specs.declared.priorities.Priority.{Priority}
 use Rattle.tf_states.specs.declared.priorities.Priority.TheVariants as priority
 use Rattle.tf_states.specs.declared.state.JobState.{JobState}
 use Rattle.tf_states.specs.declared.state.JobState.TheVariants as state
+use Rattle.tf_values.specs.declared.value.Val.{Val}
 use Rattle.tf_board.specs.declared.board.Owner.{Owner}
 use Rattle.tf_board.specs.declared.board.Owner.TheVariants as owned
 use Rattle.tf_board.specs.declared.commands.Command.{Command}
@@ -48,6 +49,16 @@ posted [] = 0
 posted (command.Post name priority details ∷ past) = posted past + 1
 posted (command.Apply action job owner ∷ past) = posted past
 
+-- the details that a command posts a job with, if it posts one
+abbrev pub posted_with : Command → List Val
+posted_with (command.Post name priority details) = details ∷ []
+posted_with (command.Apply action job owner) = []
+
+-- the details that the jobs were posted with, in the order of their numbers
+abbrev pub details_in : List Command → List Val
+details_in [] = []
+details_in (last ∷ past) = details_in past ++ posted_with last
+
 -- where a job stands after what an owner did with it
 abbrev pub standing_after : JobAction → List ℕ → Standing
 standing_after action.Claim owner = standing.Held owner
@@ -75,10 +86,10 @@ jobs_in all (command.Apply action job owner ∷ past) = jobs_in all past
 abbrev pub jobs_of : List Command → List Job
 jobs_of past = jobs_in past past
 
--- the job of a number, of jobs in the order of their numbers
-abbrev pub numbered : List Job → ℕ → Option Job
-numbered jobs zero = None
-numbered jobs (suc place) = slice_get jobs place
+-- the item of a number, of which the first is 1
+abbrev pub numbered : {A : Type 0} → List A → ℕ → Option A
+numbered items zero = None
+numbered items (suc place) = slice_get items place
 
 -- a job has this id
 abbrev pub has_id : List ℕ → Job → Bool
@@ -138,6 +149,13 @@ owner_in (Some job) = owner_at job.standing
 -- who has the job that an id names
 abbrev pub owner_of : List Command → List ℕ → Owner
 owner_of past id = owner_in (named (jobs_of past) id)
+
+-- nobody has a job, and it isn't gone
+abbrev pub is_free : Standing → Bool
+is_free standing.Free = true
+is_free (standing.Held kept) = false
+is_free standing.Consumed = false
+is_free standing.Trashed = false
 
 -- a job is listed unless it is gone
 abbrev pub is_there : Standing → Bool

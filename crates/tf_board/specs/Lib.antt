@@ -4,6 +4,7 @@ pub mod Kept
 pub mod Board
 pub mod Reading
 pub mod Recording
+pub mod Seeking
 pub mod Loading
 pub mod Answers
 pub mod Opening

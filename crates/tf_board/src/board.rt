@@ -11,6 +11,7 @@ mod acting;
 mod listing;
 mod loading;
 mod recording;
+mod seeking;
 
 pub(crate) use acting::fault_of;
 

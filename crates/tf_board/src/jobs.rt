@@ -30,7 +30,7 @@ pub struct Job {
 
 impl Standing {
     ghost use Rattle.std.specs.Prelude.{◌≡◌};
-    ghost use Rattle.tf_board.specs.Jobs.{standing_after, is_there as there, state_of as state_in, holder_of as holder_in};
+    ghost use Rattle.tf_board.specs.Jobs.{standing_after, is_free as free, is_there as there, state_of as state_in, holder_of as holder_in};
 
     /// Where a job stands after what an owner did with it.
     pub fn after(action: JobAction, owner: &Name) -> Standing
@@ -44,8 +44,15 @@ impl Standing {
         }
     }
 
+    /// Whether nobody has the job, and it isn't gone.
+    pub fn is_free(self) -> bool
+        ensures { result ≡ free self }
+    {
+        matches!(self, Standing::Free)
+    }
+
     /// Whether the job isn't gone.
-    fn is_there(self) -> bool
+    pub fn is_there(self) -> bool
         ensures { result ≡ there self }
     {
         matches!(self, Standing::Free | Standing::Held(_))

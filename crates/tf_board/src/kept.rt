@@ -1,6 +1,6 @@
-ghost use Rattle.std.specs.Prelude.{◌≡◌, ◌≢◌, ◌<◌, ◌+◌, ◌∷◌, [], List, length, None, OnOk, IfOk, IfSome, MatchOption, vec_len, vec_capacity};
+ghost use Rattle.std.specs.Prelude.{◌≡◌, ◌≢◌, ◌<◌, ◌+◌, ◌∷◌, ◌++◌, [], List, length, None, OnOk, IfOk, IfSome, MatchOption, vec_len, vec_capacity};
 ghost use Rattle.tf_board.specs.Commands.{IsCommand};
-ghost use Rattle.tf_board.specs.Jobs.{same, posted as count_of, job_at, place_of as place_among, refuses};
+ghost use Rattle.tf_board.specs.Jobs.{same, posted as count_of, job_at, place_of as place_among, posted_with, refuses};
 ghost use Rattle.tf_board.specs.Kept.{past_of, past_in, IsTrueTo, HasRoom, IsChange};
 ghost use Rattle.tf_board.specs.declared.commands.Command.{Command as ACommand};
 
@@ -11,15 +11,16 @@ use crate::rules::refusal_at;
 use std::alloc::{AllocError, Global};
 use std::snapshot::Snapshot;
 use tf_states::Priority;
-use tf_values::{Memory, Name};
+use tf_values::{Memory, Name, Val};
 use uuid::Uuid;
 
-/// What a board keeps in memory: its commands as clauses see them, which take no bytes, and its jobs as they stand,
-/// in the order of their numbers.
+/// What a board keeps in memory: its commands as clauses see them, which take no bytes, and its jobs as they stand
+/// with the details that they were posted with, in the order of their numbers.
 #[derive(Drop)]
 pub struct Kept {
     pub commands: Vec<Snapshot<Command>>,
     pub jobs: Vec<Job>,
+    pub details: Vec<Val>,
 }
 
 /// What a command changes of the jobs: one is added, or the one at a place stands anew.
@@ -37,8 +38,25 @@ fn note(commands: &mut Vec<Snapshot<Command>>, command: &Command)
     let _ = commands.push(Snapshot::of(command));
 }
 
+/// Keeps the details of a job that is posted, for which there is room.
+fn keep_details(details: &mut Vec<Val>, command: Command)
+    requires { vec_len details.old < vec_capacity details.old }
+    ensures { details.new.items ≡ details.old.items ++ posted_with command }
+{
+    match command {
+        Command::Post {
+            name: _,
+            priority: _,
+            details: value,
+        } => {
+            let _ = details.push(value);
+        }
+        Command::Apply { .. } => {}
+    }
+}
+
 /// Whether the two ids are the same.
-fn is_id(a: &Uuid, b: &Uuid) -> bool
+pub fn is_id(a: &Uuid, b: &Uuid) -> bool
     ensures { result ≡ same a.now b.now }
 {
     a.as_bytes().as_slice() == b.as_bytes().as_slice()
@@ -52,7 +70,15 @@ impl Kept {
         Kept {
             commands: Vec::new(alloc),
             jobs: Vec::new(alloc),
+            details: Vec::new(alloc),
         }
+    }
+
+    /// How many commands are kept.
+    pub fn count(&self) -> u64
+        ensures { result ≡ length (past_in self.now) }
+    {
+        self.commands.len() as u64
     }
 
     /// The place of the first job that has the id.
@@ -114,22 +140,25 @@ impl Kept {
     pub fn reserve(&mut self) -> Result<(), AllocError>
         ensures commands { self.new.commands.items ≡ self.old.commands.items }
         ensures jobs { self.new.jobs.items ≡ self.old.jobs.items }
+        ensures details { self.new.details.items ≡ self.old.details.items }
         ensures room { OnOk result (HasRoom self.new) }
     {
         self.commands.reserve(1)?;
-        self.jobs.reserve(1)
+        self.jobs.reserve(1)?;
+        self.details.reserve(1)
     }
 
     /// Keeps a command that isn't refused, for which there is room.
-    pub fn keep(&mut self, command: &Command, change: Change)
+    pub fn keep(&mut self, command: Command, change: Change)
         requires true_to { IsTrueTo self.old (past_in self.old) }
-        requires allowed { refuses (past_in self.old) command.now ≡ None }
-        requires form { IsCommand command.now }
-        requires change { IsChange (past_in self.old) command.now change }
+        requires allowed { refuses (past_in self.old) command ≡ None }
+        requires form { IsCommand command }
+        requires change { IsChange (past_in self.old) command change }
         requires room { HasRoom self.old }
-        ensures { IsTrueTo self.new (command.now ∷ past_in self.old) }
+        ensures { IsTrueTo self.new (command ∷ past_in self.old) }
     {
-        note(&mut self.commands, command);
+        note(&mut self.commands, &command);
+        keep_details(&mut self.details, command);
         match change {
             Change::Posted(job) => {
                 let _ = self.jobs.push(job);

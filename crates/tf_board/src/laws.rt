@@ -1,11 +1,16 @@
 //! What holds of every list of commands. The functions do nothing; their contracts are the laws.
-ghost use Rattle.std.specs.Prelude.{◌≡◌, ◌≤◌, ◌<◌, ◌≢◌, ℕ, List, ◌∷◌, ◌++◌, length, Some, None, slice_get};
+ghost use Rattle.std.specs.Prelude.{◌≡◌, ◌≤◌, ◌<◌, ◌≢◌, ◌==◌, ℕ, List, ◌∷◌, ◌++◌, false, length, Some, None, slice_get};
+ghost use Rattle.std.specs.List.{list_any, AllByRecursion};
 ghost use Rattle.tf_journal.specs.Format.{Recovered};
+ghost use Rattle.tf_values.specs.declared.value.Val.{Val};
 ghost use Rattle.tf_board.specs.Board.{AreOfBoard, Finds};
 ghost use Rattle.tf_board.specs.Commands.{IsCommand, command_bytes};
-ghost use Rattle.tf_board.specs.Jobs.{standing_of, jobs_of, place_of, named, LegalJobs};
+ghost use Rattle.tf_board.specs.Jobs.{standing_of, jobs_of, place_of, named, refuses_id, LegalJobs};
+ghost use Rattle.tf_board.specs.Recording.{number_of, applied};
+ghost use Rattle.tf_board.specs.Seeking.{free_job, id_at, details_at, by_other};
 ghost use Rattle.tf_board.specs.declared.commands.Command.{Command};
 ghost use Rattle.tf_board.specs.declared.commands.Command.TheVariants as command;
+ghost use Rattle.tf_board.specs.declared.commands.JobAction.{JobAction};
 ghost use Rattle.tf_board.specs.declared.commands.JobAction.TheVariants as action;
 ghost use Rattle.tf_board.specs.declared.jobs.Job.{Job};
 ghost use Rattle.tf_board.specs.declared.jobs.Standing.TheVariants as standing;
@@ -51,4 +56,25 @@ pub fn a_file_has_one_list()
 pub fn an_id_goes_on_naming_its_job()
     ensures { (newer past : List Command) (id : List ℕ) (place : ℕ) → place_of (jobs_of past) id ≡ Some place
         → place_of (jobs_of (newer ++ past)) id ≡ Some place }
+{}
+
+/// A job that is found free has an id by which anybody may claim it, and details; its number isn't to be skipped.
+pub fn a_free_job_may_be_claimed()
+    ensures claim { (past : List Command) (skip : List ℕ) (number : ℕ) → free_job past skip ≡ Some number
+        → (id : List ℕ) × (id_at past number ≡ Some id) × (number_of past id ≡ number)
+        × ((owner : List ℕ) → refuses_id past action.Claim id owner ≡ None) }
+    ensures details { (past : List Command) (skip : List ℕ) (number : ℕ) → free_job past skip ≡ Some number
+        → (details : Val) × (details_at past number ≡ Some details) }
+    ensures unskipped { (past : List Command) (skip : List ℕ) (number : ℕ) → free_job past skip ≡ Some number
+        → list_any (λ n. n == number) skip ≡ false }
+{}
+
+/// While others alone do something, who claimed a job by its id may give it back, finish it or throw it away by that id,
+/// which goes on naming it.
+pub fn a_claimant_keeps_its_job()
+    ensures { (newer past : List Command) (id owner : List ℕ) (act : JobAction) → act ≢ action.Claim
+        → LegalJobs (newer ++ (applied past action.Claim id owner ∷ past))
+        → AllByRecursion (by_other owner) newer
+        → (refuses_id (newer ++ (applied past action.Claim id owner ∷ past)) act id owner ≡ None)
+        × (number_of (newer ++ (applied past action.Claim id owner ∷ past)) id ≡ number_of past id) }
 {}

@@ -22,6 +22,7 @@ pub use commands::{Command, JobAction};
 pub use faults::BoardFault;
 pub use ids::{id_text, job_id};
 pub use laws::{
-    a_claim_is_of_a_free_job, a_file_has_one_list, a_job_is_given_up_between_claims,
-    an_id_goes_on_naming_its_job, an_id_names_its_first_job, command_has_one_form,
+    a_claim_is_of_a_free_job, a_claimant_keeps_its_job, a_file_has_one_list,
+    a_free_job_may_be_claimed, a_job_is_given_up_between_claims, an_id_goes_on_naming_its_job,
+    an_id_names_its_first_job, command_has_one_form,
 };

@@ -29,7 +29,7 @@ impl Replay for Kept {
         match self.change_of(alloc, &command) {
             Ok(Some(change)) => {
                 self.reserve()?;
-                self.keep(&command, change);
+                self.keep(command, change);
                 Ok(())
             }
             Ok(None) => Err(MakeFault::No),

@@ -5,9 +5,10 @@ use tf_desk::{Desk, MemoryDesk};
 use tf_report::Priority;
 use tf_values::{Name, Text, Val};
 
-/// A board in memory without a job.
-fn empty_board(alloc: Global) -> Result<Board<MemoryDesk>, Fail> {
-    let mut desk = MemoryDesk::make(alloc, 4096, 100, Vec::new(alloc), Vec::new(alloc))?;
+/// A board in memory without a job, over a desk of whose calls the stated ones fail.
+pub(crate) fn empty_board(alloc: Global, failing: &[u64]) -> Result<Board<MemoryDesk>, Fail> {
+    let failing = Vec::from_slice(alloc, failing)?;
+    let mut desk = MemoryDesk::make(alloc, 4096, 100, failing, Vec::new(alloc))?;
     desk.pick(alloc, &Text::make(alloc, b"B")?)?;
     match Board::load(alloc, desk) {
         Ok(board) => Ok(board),
@@ -16,14 +17,14 @@ fn empty_board(alloc: Global) -> Result<Board<MemoryDesk>, Fail> {
 }
 
 /// The name of these bytes.
-fn named(bytes: &[u8]) -> Result<Name, Fail> {
+pub(crate) fn named(bytes: &[u8]) -> Result<Name, Fail> {
     Ok(Name::make(bytes).ok_or("no name")?)
 }
 
 #[test]
 fn a_job_is_claimed_abandoned_and_consumed(rt: HostRuntime) -> Result<(), Fail> {
     let alloc = rt.alloc();
-    let mut board = empty_board(alloc)?;
+    let mut board = empty_board(alloc, &[])?;
     let build = named(b"build")?;
     let ann = named(b"ann")?;
     let id = job_id(alloc, 1, &build)?;
@@ -44,7 +45,7 @@ fn a_job_is_claimed_abandoned_and_consumed(rt: HostRuntime) -> Result<(), Fail> 
 #[test]
 fn a_claimed_job_is_trashed(rt: HostRuntime) -> Result<(), Fail> {
     let alloc = rt.alloc();
-    let mut board = empty_board(alloc)?;
+    let mut board = empty_board(alloc, &[])?;
     let build = named(b"build")?;
     let ann = named(b"ann")?;
     let id = job_id(alloc, 1, &build)?;
@@ -52,5 +53,30 @@ fn a_claimed_job_is_trashed(rt: HostRuntime) -> Result<(), Fail> {
     assert!(rt; board.claim(&id, &ann).is_ok());
     assert!(rt; board.trash(&id, &ann).is_ok());
     assert_eq!(rt; board.list()?.len(), 0);
+    Ok(())
+}
+
+#[test]
+fn the_first_free_job_of_the_list_is_found(rt: HostRuntime) -> Result<(), Fail> {
+    let alloc = rt.alloc();
+    let mut board = empty_board(alloc, &[])?;
+    let build = named(b"build")?;
+    let ann = named(b"ann")?;
+    assert_eq!(rt; board.free_job(&[]), None);
+    assert!(rt; board.post(build, Priority::Normal, Val::Int(1)).is_ok());
+    assert!(rt; board.post(build, Priority::High, Val::Int(2)).is_ok());
+    assert_eq!(rt; board.free_job(&[]), Some(2));
+    assert_eq!(rt; board.free_job(&[2]), Some(1));
+    let id = job_id(alloc, 2, &build)?;
+    assert_eq!(rt; board.id_of(2), Some(id));
+    assert_eq!(rt; board.id_of(3), None);
+    assert_eq!(rt; board.number_of(&id), Some(2));
+    assert!(rt; board.claim(&id, &ann).is_ok());
+    assert_eq!(rt; board.free_job(&[]), Some(1));
+    assert!(rt; matches!(board.details_of(2), Some(Val::Int(2))));
+    assert!(rt; board.consume(&id, &ann).is_ok());
+    assert!(rt; board.details_of(2).is_none());
+    assert!(rt; board.details_of(0).is_none());
+    assert_eq!(rt; board.count(), 4);
     Ok(())
 }

@@ -52,7 +52,7 @@ impl<K: Desk> Board<K> {
             priority,
             details,
         };
-        match self.record(&command, Change::Posted(job)) {
+        match self.record(command, Change::Posted(job)) {
             Ok(()) => Ok(number),
             Err(fault) => Err(fault),
         }
@@ -93,13 +93,9 @@ impl<K: Desk> Board<K> {
         self.act(JobAction::Trash, id, owner)
     }
 
-    /// Does that with the job that the id names, unless it is refused.
-    pub(crate) fn act(
-        &mut self,
-        action: JobAction,
-        id: &Uuid,
-        owner: &Name,
-    ) -> Result<(), BoardFault>
+    /// Does that with the job that the id names for this owner, unless it is refused: it is `claim`, `abandon`,
+    /// `consume` or `trash`.
+    pub fn act(&mut self, action: JobAction, id: &Uuid, owner: &Name) -> Result<(), BoardFault>
         ensures { Acts K.state (refuses_id self.old.past action id.now owner.now) self.old self.new
             action id.now owner.now result }
     {
@@ -115,7 +111,7 @@ impl<K: Desk> Board<K> {
                     owner: *owner,
                 };
                 let standing = Standing::after(action, owner);
-                self.record(&command, Change::Stands { place, standing })
+                self.record(command, Change::Stands { place, standing })
             }
         }
     }

@@ -11,7 +11,7 @@ use tf_states::Priority;
 use tf_values::Memory;
 
 /// The priorities from the most urgent on.
-static PRIORITIES: [Priority; 5] = [
+pub(super) static PRIORITIES: [Priority; 5] = [
     Priority::VeryHigh,
     Priority::High,
     Priority::Normal,

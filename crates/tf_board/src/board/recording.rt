@@ -13,13 +13,13 @@ use tf_journal::AppendFault;
 
 impl<K: Desk> Board<K> {
     /// Records a command that isn't refused: the room for it is made, it is appended, and then it is kept.
-    pub(super) fn record(&mut self, command: &Command, change: Change) -> Result<(), BoardFault>
-        requires allowed { refuses self.old.past command.now ≡ None }
-        requires change { IsChange self.old.past command.now change }
-        ensures { Records K.state self.old self.new command.now result }
+    pub(super) fn record(&mut self, command: Command, change: Change) -> Result<(), BoardFault>
+        requires allowed { refuses self.old.past command ≡ None }
+        requires change { IsChange self.old.past command change }
+        ensures { Records K.state self.old self.new command result }
     {
         let mut body = Vec::new(self.alloc);
-        let Ok(()) = append_command(command, &mut body) else {
+        let Ok(()) = append_command(&command, &mut body) else {
             return Err(BoardFault::Memory);
         };
         let Ok(()) = self.kept.reserve() else {

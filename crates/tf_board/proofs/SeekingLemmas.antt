@@ -1,0 +1,72 @@
+-- What a board tells those who look for a job.
+use Rattle.std.proofs.Common.{inl, inr, cond, take, zero, append-nil, ◌≡◌, ◌≤◌, ℕ, suc, ◌+◌, Bool, true, false, List, [], ◌∷◌, length, Option, Some, None, refl, sym, ap, ◌∙◌, arith, length-append}
+use Rattle.std.specs.Prelude.{◌&&◌, slice_get}
+use Rattle.std.specs.Option.{option_or}
+use Rattle.std.specs.List.{find, filter, flat_map}
+use Rattle.std.proofs.lemmas.List.Folds.{find-append}
+use Rattle.std.proofs.lemmas.Option.{slice_get_cases}
+use Rattle.tf_board.specs.Board.{size_of}
+use Rattle.tf_board.specs.Jobs.{posted, details_in}
+use Rattle.tf_board.specs.declared.commands.Command.{Command}
+use Rattle.tf_board.specs.declared.commands.Command.TheVariants as command
+
+-- ---- the first of a list's items
+
+module _ {A : Type 0} (p q : A → Bool) where
+  -- the first that meets two tests is the first to meet the second among those that meet the first
+  pub find_among : (xs : List A) → find (λ x. q x && p x) xs ≡ find p (filter q xs)
+  find_among [] = refl
+  find_among (x ∷ xs) = by (q x) (find_among xs)
+    where
+      by : (b : Bool) → find (λ x. q x && p x) xs ≡ find p (filter q xs) → cond (b && p x) (Some x) (find (λ x. q x && p x) xs) ≡ find p (cond b (x ∷ filter q xs) (filter q xs))
+      by true rest = ap (λ (o : Option A). cond (p x) (Some x) o) rest
+      by false rest = rest
+
+-- neither of two is there
+none_both : {A : Type 0} (a b : Option A) → option_or a b ≡ None → (a ≡ None) × (b ≡ None)
+none_both None b is = (refl, is)
+none_both (Some x) b is = absurd (cc)
+
+module _ {A B : Type 0} (p : B → Bool) (f : A → List B) where
+  -- nothing is found in the lists of the items before a place, nor in that of the item there
+  pub seek_none : (xs : List A) (i : ℕ) (x : A) → slice_get xs i ≡ Some x → find p (flat_map f (take i xs)) ≡ None → find p (f x) ≡ None → find p (flat_map f (take (suc i) xs)) ≡ None
+  seek_none [] i x at none here = absurd (cc)
+  seek_none (y ∷ xs) zero x at none here =
+      let same : y ≡ x = cc in
+      find-append p (f y) [] ∙ ap (λ (o : Option B). option_or o None) (ap (λ (z : A). find p (f z)) same ∙ here)
+  seek_none (y ∷ xs) (suc i) x at none here =
+      let both = none_both (find p (f y)) (find p (flat_map f (take i xs))) (sym (find-append p (f y) (flat_map f (take i xs))) ∙ none) in
+      find-append p (f y) (flat_map f (take (suc i) xs))
+      ∙ ap (λ (o : Option B). option_or o (find p (flat_map f (take (suc i) xs)))) both.0
+      ∙ seek_none xs i x at both.1 here
+
+  -- what is found in the list of the item there is the first of all
+  pub seek_found : (xs : List A) (i : ℕ) (x : A) (b : B) → slice_get xs i ≡ Some x → find p (flat_map f (take i xs)) ≡ None → find p (f x) ≡ Some b → find p (flat_map f xs) ≡ Some b
+  seek_found [] i x b at none here = absurd (cc)
+  seek_found (y ∷ xs) zero x b at none here =
+      let same : y ≡ x = cc in
+      find-append p (f y) (flat_map f xs) ∙ ap (λ (o : Option B). option_or o (find p (flat_map f xs))) (ap (λ (z : A). find p (f z)) same ∙ here)
+  seek_found (y ∷ xs) (suc i) x b at none here =
+      let both = none_both (find p (f y)) (find p (flat_map f (take i xs))) (sym (find-append p (f y) (flat_map f (take i xs))) ∙ none) in
+      find-append p (f y) (flat_map f xs) ∙ ap (λ (o : Option B). option_or o (find p (flat_map f xs))) both.0 ∙ seek_found xs i x b at both.1 here
+
+-- ---- details
+
+pub details_long : (past : List Command) → length (details_in past) ≡ posted past
+details_long [] = refl
+details_long (command.Post name p details ∷ past) = length-append (details_in past) (details ∷ []) ∙ ap (λ (n : ℕ). n + 1) (details_long past)
+details_long (command.Apply action job owner ∷ past) = omega (arith, ap length (append-nil (details_in past)), details_long past)
+
+-- there is nothing at a place past the end alone
+pub past_there : {A : Type 0} (xs : List A) (i : ℕ) → slice_get xs i ≡ None → length xs ≤ i
+past_there xs i none =
+    elim (slice_get_cases xs i).1 [
+      | inl there ↦ (let clash : Some there.0 ≡ None = sym there.2 ∙ none in absurd (cc))
+      | inr out ↦ out.0
+    ]
+
+-- ---- how many commands
+
+pub few_commands : (past : List Command) → length past ≤ size_of past
+few_commands [] = omega arith
+few_commands (c ∷ past) = omega (arith, few_commands past)

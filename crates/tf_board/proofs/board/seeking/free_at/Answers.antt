@@ -1,0 +1,8 @@
+use Rattle.std.proofs.Common.{◌∙◌}
+use Rattle.tf_board.specs.Jobs.{is_listed}
+use Rattle.tf_board.specs.Seeking.{is_takable}
+use Rattle.tf_board.proofs.SeekingLemmas.{find_among}
+use Rattle.tf_board.proofs.board.seeking.free_at.Goals as goal
+
+pub returns : goal.returns
+returns c = c.first_free.ensures ∙ find_among (is_takable c.args.jobs.now c.args.skip.now) (is_listed c.args.priority) c.args.jobs.now

@@ -1,0 +1,59 @@
+-- What a board tells those who look for a job. Lists of commands have the newest first.
+use Rattle.std.specs.Prelude.{◌≢◌, ℕ, List, Bool, false, ◌&&◌, ◌==◌, not, if◌then◌else◌, Option, Some, None, option_map}
+use Rattle.std.specs.List.{find, filter, flat_map, list_any}
+use Rattle.tf_values.specs.declared.value.Val.{Val}
+use Rattle.tf_board.specs.Jobs.{details_in, jobs_of, numbered, named, is_free, is_there, is_listed, priorities}
+use Rattle.tf_board.specs.declared.commands.Command.{Command}
+use Rattle.tf_board.specs.declared.commands.Command.TheVariants as command
+use Rattle.tf_board.specs.declared.jobs.Job.{Job}
+
+-- the number of a job
+abbrev pub number_in : Job → ℕ
+number_in job = job.number
+
+-- this is the job of that number, if there is one
+abbrev pub is_numbered : Option Job → ℕ → Bool
+is_numbered None number = false
+is_numbered (Some job) number = job.number == number
+
+-- the id of a job names it, and none of less number
+abbrev pub names_itself : List Job → Job → Bool
+names_itself jobs job = is_numbered (named jobs job.id) job.number
+
+-- nobody has the job, its id names it, and its number isn't among those to skip
+abbrev pub is_takable : List Job → List ℕ → Job → Bool
+is_takable jobs skip job = is_free job.standing && not (list_any (λ n. n == job.number) skip) && names_itself jobs job
+
+-- the jobs that are there, in the order of the list: by priority from the most urgent down, then by number
+abbrev pub jobs_listed : List Job → List Job
+jobs_listed jobs = flat_map (λ p. filter (is_listed p) jobs) priorities
+
+-- the number of the first of the listed jobs that may be taken
+abbrev pub number_among : List Job → List ℕ → Option ℕ
+number_among jobs skip = option_map number_in (find (is_takable jobs skip) (jobs_listed jobs))
+
+-- the number of the first job of a board's list that may be taken
+abbrev pub free_job : List Command → List ℕ → Option ℕ
+free_job past skip = number_among (jobs_of past) skip
+
+-- the id of a job
+abbrev pub id_in : Job → List ℕ
+id_in job = job.id
+
+-- the id of the job of a number, if there is one
+abbrev pub id_at : List Command → ℕ → Option (List ℕ)
+id_at past number = option_map id_in (numbered (jobs_of past) number)
+
+-- details, where there is this job and it isn't gone
+abbrev pub details_for : Option Job → Option Val → Option Val
+details_for None details = None
+details_for (Some job) details = if is_there job.standing then details else None
+
+-- the details of the job of a number, unless there is none or it is gone
+abbrev pub details_at : List Command → ℕ → Option Val
+details_at past number = details_for (numbered (jobs_of past) number) (numbered (details_in past) number)
+
+-- what a command says isn't what this owner did
+abbrev pub by_other : List ℕ → Command → Type 0
+by_other owner (command.Post name priority details) = Unit {0}
+by_other owner (command.Apply action job who) = who ≢ owner
