@@ -1,0 +1,9 @@
+//! Tests of remote hands.
+#![tactic(auto)]
+
+#[cfg(test)]
+mod orders;
+#[cfg(test)]
+mod replies;
+#[cfg(test)]
+mod sockets;
