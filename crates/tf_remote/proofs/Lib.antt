@@ -4,4 +4,5 @@ mod RequestLemmas
 mod ByteLemmas
 mod FrameLemmas
 mod ReplyLemmas
+mod LengthLemmas
 mod TakeLemmas

@@ -17,6 +17,7 @@ use Rattle.tf_workers.specs.Dialogue.{Exchange, spoken, told, running, reply}
 use Rattle.tf_remote.specs.Asking.{Asks, RunsOut, Holds, TakesReply, TakesServed, IsReadable, IsReadableExchange}
 use Rattle.tf_remote.specs.Received.{Seen, IsGone, IsPart}
 use Rattle.tf_remote.specs.Replies.{TellsRunning, TellsAny, IsRefused, RunsAndThen, IsOutcomeFrame, IsReply}
+use Rattle.tf_remote.proofs.LengthLemmas.{response_fits}
 use Rattle.tf_remote.proofs.ReplyLemmas.{IsTaken, cases_of}
 use Rattle.tf_remote.proofs.ReplyLemmas.IsTaken.{lost, bad, whole}
 
@@ -125,7 +126,7 @@ takes_reply {E} order id before now (Err e) out = λ came bytes behind is_reply 
 -- ---- the reply of a worker that serves
 
 tells_running : (id : ℕ) → IsReadable (response.Running id) → TellsRunning id (compact_text (response_data (response.Running id)))
-tells_running id good = record { is_frame = good.is_frame; reads = good.reads }
+tells_running id good = record { is_frame = response_fits (response.Running id) good.part; reads = good.reads }
 
 served_is_reply : (order : Order) (id : ℕ) (exchange : Exchange) → exchange.request.id ≡ id → IsReadableExchange exchange → Gives order exchange.outcome → IsReply order id exchange.outcome (reply exchange)
 unfolding spoken
@@ -137,7 +138,7 @@ served_is_reply order id exchange same good allowed =
       is = refl;
       goes_on = record {
         frame = compact_text (response_data (told exchange.request.id exchange.outcome));
-        tells = record { is_frame = good.outcome.is_frame; reads = good.outcome.reads; allowed = allowed };
+        tells = record { is_frame = response_fits (told exchange.request.id exchange.outcome) good.outcome.part; reads = good.outcome.reads; allowed = allowed };
         is = refl;
       };
     }

@@ -8,9 +8,9 @@ use Rattle.tf_actions.specs.Gives.{Gives}
 use Rattle.tf_actions.specs.declared.orders.Order.{Order}
 use Rattle.tf_actions.specs.declared.outcomes.Outcome.{Outcome}
 use Rattle.tf_actions.specs.declared.outcomes.Outcome.TheVariants as outcome
+use Rattle.tf_wire.specs.Limits.{HasPart}
 use Rattle.tf_wire.specs.Messages.{request_data, response_data}
 use Rattle.tf_wire.specs.Reading.{names_differ, AreRequest, AreResponse}
-use Rattle.tf_wire.specs.Stream.{IsFrame}
 use Rattle.tf_wire.specs.declared.messages.Response.{Response}
 use Rattle.tf_wire.specs.declared.messages.Response.TheVariants as response
 use Rattle.tf_wire.specs.Orders.{order_of}
@@ -59,9 +59,9 @@ IsAnswered {E} behind came now result = IfOk result (λ outcome. (outcome ≡ ca
 abbrev pub TakesReply : {E : Type 0} → Order → ℕ → Seen → Seen → Result Outcome E → Type 0
 TakesReply {E} order id before now result = (came : Outcome) (bytes behind : List ℕ) → IsReply order id came bytes → Holds bytes behind before now → IsAnswered behind came now result
 
--- the response stands in a stream as a frame that is read back as it; so does each that the printer of responses prints
+-- the response keeps the limits of its type, and its text is read back as it, as the printer of responses promises of each that it prints
 pub record IsReadable (answer : Response) : Type 0 where
-  pub is_frame : IsFrame (compact_text (response_data answer))
+  pub part : HasPart answer
   pub reads : AreResponse (compact_text (response_data answer)) answer
 
 -- both responses of an exchange are read back
