@@ -3,3 +3,5 @@
 
 #[cfg(test)]
 mod boards;
+#[cfg(test)]
+mod shares;

@@ -1,0 +1,84 @@
+// A call of a shared board, as it is asked of the board itself.
+ghost use Rattle.std.specs.Prelude.{◌≢◌};
+ghost use Rattle.tf_board.specs.Jobs.{refuses_id};
+ghost use Rattle.tf_board.specs.Recording.{number_of, applied};
+ghost use Rattle.tf_shared_board.specs.Asking.{AsksFor, Asks, Sorts};
+
+use crate::calls::{BoardHalt, JobCall};
+use std::alloc::Global;
+use tf_board::{Board, BoardFault, JobAction};
+use tf_desk::Desk;
+use tf_states::Priority;
+use tf_values::{Name, Val};
+use uuid::Uuid;
+
+/// Posts a job, and answers its number.
+fn post<K: Desk>(
+    alloc: Global,
+    board: &mut Board<K>,
+    name: &Name,
+    priority: Priority,
+    details: &Val,
+) -> Result<u64, BoardFault>
+    ensures { Asks K.state (JobCall.Post name.now priority details.now) board.old board.new result }
+{
+    let Ok(details) = details.copy(alloc) else {
+        return Err(BoardFault::Memory);
+    };
+    board.post(*name, priority, details)
+}
+
+/// Does that with the job that the id names, and answers its number.
+fn act<K: Desk>(
+    board: &mut Board<K>,
+    action: JobAction,
+    id: &Uuid,
+    owner: &Name,
+) -> Result<u64, BoardFault>
+    ensures { AsksFor K.state (refuses_id board.old.past action id.now owner.now) id.now
+        (number_of board.old.past id.now) (applied board.old.past action id.now owner.now) board.old board.new result }
+{
+    let job = board.number_of(id).unwrap_or(0);
+    match board.act(action, id, owner) {
+        Ok(()) => Ok(job),
+        Err(fault) => Err(fault),
+    }
+}
+
+/// Makes the call, and answers the number of its job.
+pub(crate) fn ask<K: Desk>(
+    alloc: Global,
+    board: &mut Board<K>,
+    call: &JobCall,
+) -> Result<u64, BoardFault>
+    ensures { Asks K.state call.now board.old board.new result }
+{
+    match call {
+        JobCall::Post {
+            name,
+            priority,
+            details,
+        } => post(alloc, board, name, *priority, details),
+        JobCall::Claim { id, owner } => act(board, JobAction::Claim, id, owner),
+        JobCall::Abandon { id, owner } => act(board, JobAction::Abandon, id, owner),
+        JobCall::Consume { id, owner } => act(board, JobAction::Consume, id, owner),
+        JobCall::Trash { id, owner } => act(board, JobAction::Trash, id, owner),
+    }
+}
+
+/// The fault by which a call is refused, or else why the board doesn't go on.
+pub(crate) fn sort(fault: BoardFault) -> Result<BoardFault, BoardHalt>
+    requires { fault ≢ BoardFault.Halted }
+    ensures { Sorts fault result }
+{
+    match fault {
+        BoardFault::Disk => Err(BoardHalt::Disk),
+        BoardFault::Full { size, need } => Err(BoardHalt::Full { size, need }),
+        BoardFault::Memory => Err(BoardHalt::Memory),
+        BoardFault::Halted => unreachable!(),
+        BoardFault::NoJob(_)
+        | BoardFault::Gone(_)
+        | BoardFault::Claimed(_)
+        | BoardFault::NotOwner(_) => Ok(fault),
+    }
+}

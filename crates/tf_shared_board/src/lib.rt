@@ -1,0 +1,9 @@
+//! A board that several threads share: who made which call is kept beside it, and the first cause that it can't go on.
+#![tactic(auto)]
+
+mod asking;
+mod calls;
+mod shared;
+
+pub use calls::{BoardHalt, CallFault, JobCall, Made};
+pub use shared::SharedBoard;
