@@ -2,7 +2,7 @@
 use Rattle.std.proofs.Common.{◌≡◌, ℕ, ◌≤◌, List, [], ◌++◌, length, Option, Some, None, inl, inr, refl, sym, ap, ◌∙◌, arith, append_assoc, append-nil}
 use Rattle.std.proofs.lemmas.List.{take_all}
 use Rattle.tf_ports.specs.Links.{sent_with, left_before, SendsFront}
-use Rattle.tf_remote.specs.Received.{Seen, Brings, BringsAny, IsGone}
+use Rattle.tf_remote.specs.Received.{SeenLink, Brings, BringsAny, IsGone}
 
 -- ---- what comes
 
@@ -11,7 +11,7 @@ came_on None first second = refl
 came_on (Some bytes) first second = ap Some (sym (append_assoc first second bytes))
 
 -- some bytes came, and then others
-pub brings_more : (first second : List ℕ) (before now after : Seen) → Brings first before now → Brings second now after → Brings (first ++ second) before after
+pub brings_more : (first second : List ℕ) (before now after : SeenLink) → Brings first before now → Brings second now after → Brings (first ++ second) before after
 brings_more first second before now after one two = record {
   came = one.came ∙ ap (left_before first) two.came ∙ came_on after.left first second;
   faults = omega (arith, one.faults, two.faults);
@@ -23,15 +23,15 @@ nothing_came None = refl
 nothing_came (Some bytes) = refl
 
 -- nothing came where nothing was taken from the link
-pub brings_none : (before now : Seen) → now.left ≡ before.left → before.faults ≤ now.faults → before.ends ≤ now.ends → Brings [] before now
+pub brings_none : (before now : SeenLink) → now.left ≡ before.left → before.faults ≤ now.faults → before.ends ≤ now.ends → Brings [] before now
 brings_none before now same faults ends = record { came = sym same ∙ nothing_came now.left; faults = faults; ends = ends }
 
 -- some bytes came, of which nothing is said
-pub brings_any : (bytes : List ℕ) (before now : Seen) → Brings bytes before now → BringsAny before now
+pub brings_any : (bytes : List ℕ) (before now : SeenLink) → Brings bytes before now → BringsAny before now
 brings_any bytes before now brings = record { bytes = bytes; brings = brings; is = tt }
 
 -- a link that is gone at last is gone
-pub gone_later : (before now after : Seen) → before.faults ≤ now.faults → before.ends ≤ now.ends → IsGone now after → IsGone before after
+pub gone_later : (before now after : SeenLink) → before.faults ≤ now.faults → before.ends ≤ now.ends → IsGone now after → IsGone before after
 gone_later before now after faults ends gone = elim gone [
   | inl rose ↦ inl (omega (arith, faults, rose))
   | inr ended ↦ inr (omega (arith, ends, ended.0), ended.1)

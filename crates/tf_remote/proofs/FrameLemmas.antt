@@ -4,7 +4,7 @@ use Rattle.std.specs.Int.{to_be_bytes, w32}
 use Rattle.std.specs.Prelude.{MatchResult}
 use Rattle.tf_wire.specs.Stream.{is_length, framed}
 use Rattle.tf_wire.proofs.StreamLemmas.{short_is_no_frame, short_is_no_bad_length, part_is_no_frame, good_is_no_bad_length}
-use Rattle.tf_remote.specs.Received.{Seen, Brings, BringsCount, BringsFrame, IsPart, IsBadLength, IsShorter, IsNever, Stops}
+use Rattle.tf_remote.specs.Received.{SeenLink, Brings, BringsCount, BringsFrame, IsPart, IsBadLength, IsShorter, IsNever, StopsFrame}
 use Rattle.tf_remote.specs.declared.receiving.Stop.{Stop}
 use Rattle.tf_remote.specs.declared.receiving.Stop.TheVariants as stop
 use Rattle.tf_remote.proofs.ByteLemmas.{brings_more, brings_any, gone_later}
@@ -20,14 +20,14 @@ long_part front behind len small is good less =
     record { no_frame = part_is_no_frame len behind (front ++ behind) small whole less; not_bad = good_is_no_bad_length len behind (front ++ behind) small whole good }
 
 -- nothing came behind less than a length
-pub front_stops : (before now : Seen) (why : Stop) → Stops (IsShorter 4) IsNever before now why → Stops IsPart IsBadLength before now why
+pub front_stops : (before now : SeenLink) (why : Stop) → StopsFrame (IsShorter 4) IsNever before now why → StopsFrame IsPart IsBadLength before now why
 front_stops before now stop.Refused stops = absurd stops.is
 front_stops before now stop.Lost stops = (record { bytes = stops.0.bytes; brings = stops.0.brings; is = short_part stops.0.bytes stops.0.is }, stops.1)
 front_stops before now stop.Memory stops = stops
 
 -- a length came, and then less than it counts
-pub behind_stops : (front : List ℕ) (len : ℕ) (before now after : Seen) (why : Stop) → len < 2 ^ 32 → front ≡ to_be_bytes w32 len → is_length len ≡ true
-    → Brings front before now → Stops (IsShorter len) IsNever now after why → Stops IsPart IsBadLength before after why
+pub behind_stops : (front : List ℕ) (len : ℕ) (before now after : SeenLink) (why : Stop) → len < 2 ^ 32 → front ≡ to_be_bytes w32 len → is_length len ≡ true
+    → Brings front before now → StopsFrame (IsShorter len) IsNever now after why → StopsFrame IsPart IsBadLength before after why
 behind_stops front len before now after stop.Refused small is good came stops = absurd stops.is
 behind_stops front len before now after stop.Lost small is good came stops = (
   record {
@@ -41,7 +41,7 @@ behind_stops front len before now after stop.Memory small is good came stops =
     brings_any (front ++ stops.bytes) before after (brings_more front stops.bytes before now after came stops.brings)
 
 -- a length came that no frame has
-pub bad_stops : (front : List ℕ) (len : ℕ) (before now : Seen) → len < 2 ^ 32 → front ≡ to_be_bytes w32 len → is_length len ≡ false → Brings front before now → Stops IsPart IsBadLength before now stop.Refused
+pub bad_stops : (front : List ℕ) (len : ℕ) (before now : SeenLink) → len < 2 ^ 32 → front ≡ to_be_bytes w32 len → is_length len ≡ false → Brings front before now → StopsFrame IsPart IsBadLength before now stop.Refused
 bad_stops front len before now small is bad came = record {
   bytes = front;
   brings = came;
@@ -49,7 +49,7 @@ bad_stops front len before now small is bad came = record {
 }
 
 -- a length came, and then all that it counts
-pub frame_comes : (front frame : List ℕ) (len : ℕ) (before now after : Seen) → front ≡ to_be_bytes w32 len → is_length len ≡ true → Brings front before now → BringsCount len frame now after → BringsFrame frame before after
+pub frame_comes : (front frame : List ℕ) (len : ℕ) (before now after : SeenLink) → front ≡ to_be_bytes w32 len → is_length len ≡ true → Brings front before now → BringsCount len frame now after → BringsFrame frame before after
 frame_comes front frame len before now after is good came rest =
     let framing : front ++ frame ≡ framed frame =
     ap (λ (bytes : List ℕ). bytes ++ frame) is ∙ ap (λ (n : ℕ). to_be_bytes w32 n ++ frame) (sym rest.is_count) in record {
@@ -58,7 +58,7 @@ frame_comes front frame len before now after is good came rest =
     }
 
 -- what came behind a length, whole or not
-pub frame_result : {A : Type 0} (result : Result A Stop) (items : A → List ℕ) (front : List ℕ) (len : ℕ) (before now after : Seen) → len < 2 ^ 32 → front ≡ to_be_bytes w32 len → is_length len ≡ true → Brings front before now
-    → MatchResult result (λ bytes. BringsCount len (items bytes) now after) (Stops (IsShorter len) IsNever now after) → MatchResult result (λ frame. BringsFrame (items frame) before after) (Stops IsPart IsBadLength before after)
+pub frame_result : {A : Type 0} (result : Result A Stop) (items : A → List ℕ) (front : List ℕ) (len : ℕ) (before now after : SeenLink) → len < 2 ^ 32 → front ≡ to_be_bytes w32 len → is_length len ≡ true → Brings front before now
+    → MatchResult result (λ bytes. BringsCount len (items bytes) now after) (StopsFrame (IsShorter len) IsNever now after) → MatchResult result (λ frame. BringsFrame (items frame) before after) (StopsFrame IsPart IsBadLength before after)
 frame_result {A} (Ok bytes) items front len before now after small is good came rest = frame_comes front (items bytes) len before now after is good came rest
 frame_result {A} (Err why) items front len before now after small is good came stops = behind_stops front len before now after why small is good came stops

@@ -16,7 +16,7 @@ use Rattle.tf_actions.specs.declared.outcomes.Outcome.{Outcome}
 use Rattle.tf_actions.specs.Built.{built}
 use Rattle.tf_actions.specs.Gives.{Gives, GivesExecuted, GivesText}
 use Rattle.tf_tasks.specs.Program.{is_program}
-use Rattle.tf_remote.specs.Allowed.{EndsProgram}
+use Rattle.tf_remote.specs.Allowed.{GivesProgram}
 
 abbrev order_of_parts : ℕ → Action → TaskKind → List (List ℕ) → Undo → Given → Order
 order_of_parts a how made words un g = record { atom = a; action = how; kind = made; words = words; undo = un; given = g }
@@ -65,7 +65,7 @@ text_of_parts kind.FailBelow pairs x is = absurd (cc)
 text_of_parts kind.FailUnless pairs x is = absurd (cc)
 
 program_of_parts : (a : ℕ) (how : Action) (made : TaskKind) (words : List (List ℕ)) (un : Undo) (g : Given) (x : Outcome) → is_program (order_of_parts a how made words un g) ≡ true
-    → Gives (order_of_parts a how made words un g) x ↔ EndsProgram how x
+    → Gives (order_of_parts a how made words un g) x ↔ GivesProgram how x
 program_of_parts a action.Execute made words un (given.Found pairs) x is = text_of_parts made pairs x is
 program_of_parts a action.Execute made words un (given.Missing symbol) x is = absurd (cc)
 program_of_parts a action.Revert made words undo.Pass (given.Found pairs) x is = absurd (cc)
@@ -73,12 +73,12 @@ program_of_parts a action.Revert made words undo.Fail (given.Found pairs) x is =
 program_of_parts a action.Revert made words (undo.Run run) (given.Found pairs) x is = (λ p. p, λ p. p)
 program_of_parts a action.Revert made words un (given.Missing symbol) x is = absurd (cc)
 
-program_gives : (order : Order) (x : Outcome) → is_program order ≡ true → Gives order x ↔ EndsProgram order.action x
+program_gives : (order : Order) (x : Outcome) → is_program order ≡ true → Gives order x ↔ GivesProgram order.action x
 program_gives order x is = program_of_parts order.atom order.action order.kind order.words order.undo order.given x is
 
 -- ---- the outcomes that are allowed
 
-pub program_allowed : (order : Order) (x : Outcome) (ends : Bool) → is_program order ≡ true → IsTrue ends ↔ EndsProgram order.action x → IsTrue ends ↔ Gives order x
+pub program_allowed : (order : Order) (x : Outcome) (ends : Bool) → is_program order ≡ true → IsTrue ends ↔ GivesProgram order.action x → IsTrue ends ↔ Gives order x
 program_allowed order x ends program told = (λ e. (program_gives order x program).1 (told.0 e), λ g. told.1 ((program_gives order x program).0 g))
 
 pub built_allowed : (order : Order) (y x : Outcome) (same : Bool) → is_program order ≡ false → Gives order y → IsTrue same ↔ (y ≡ x) → IsTrue same ↔ Gives order x

@@ -15,10 +15,10 @@ use Rattle.tf_actions.specs.declared.outcomes.Outcome.{Outcome}
 use Rattle.tf_actions.specs.declared.outcomes.Outcome.TheVariants as outcome
 use Rattle.tf_actions.specs.Far.{is_sent, is_far_failure, GivesFar}
 use Rattle.tf_wire.specs.Stream.{framed}
-use Rattle.tf_remote.specs.Asking.{IsSentFor, Asks, RunsOut}
-use Rattle.tf_remote.specs.Received.{Seen, BringsSome, BringsAny, BringsFrame, IsGone, IsPart, Stops}
-use Rattle.tf_remote.specs.Replies.{TellsRunning, TellsOutcome, TellsAny, IsRefused, RunsAndThen, IsOutcomeFrame, IsReply, IsBadReply, IsCutShort, IsTakenFor, IsFirstFrame, TakesFor}
-use Rattle.tf_remote.specs.Stopped.{IsStopped, IsUnread}
+use Rattle.tf_remote.specs.Asking.{IsSentFor, AsksWorker, RunsOutAsking}
+use Rattle.tf_remote.specs.Received.{SeenLink, BringsSome, BringsAny, BringsFrame, IsGone, IsPart, StopsFrame}
+use Rattle.tf_remote.specs.Replies.{TellsRunning, TellsOutcome, TellsAny, IsFrameRefused, RunsAndThen, IsOutcomeFrame, IsReply, IsBadReply, IsReplyCut, IsTakenFor, IsFirstFrame, TakesFor}
+use Rattle.tf_remote.specs.Stopped.{IsStopTaken, IsUnread}
 use Rattle.tf_remote.specs.declared.receiving.Stop.{Stop}
 use Rattle.tf_remote.specs.declared.receiving.Stop.TheVariants as stop
 use Rattle.tf_remote.specs.Requests.{frame_for}
@@ -49,7 +49,7 @@ reply_taken order id gone bytes (outcome.Failed fault) near reply = fault_taken 
 
 -- what bytes that are taken for an outcome are
 pub data IsTaken (order : Order) (id : ℕ) (gone : Type 0) (bytes : List ℕ) (came : Outcome) : Type 0 where
-  lost : is_far_failure came ≡ true → IsCutShort id bytes → gone → IsTaken order id gone bytes came
+  lost : is_far_failure came ≡ true → IsReplyCut id bytes → gone → IsTaken order id gone bytes came
   bad : is_far_failure came ≡ true → (count : ℕ) → IsBadReply order id count bytes → IsTaken order id gone bytes came
   whole : IsReply order id came bytes → IsTaken order id gone bytes came
 
@@ -74,13 +74,13 @@ cases_of order id gone bytes (outcome.Failed fault) taken = fault_cases order id
 -- ---- a reply is received
 
 -- the first frame stopped
-pub first_stops : (order : Order) (id : ℕ) (before now : Seen) (why : Stop) (came : Outcome) → Stops IsPart (IsRefused (TellsRunning id)) before now why → IsStopped why 0 came → TakesFor order id before now came
+pub first_stops : (order : Order) (id : ℕ) (before now : SeenLink) (why : Stop) (came : Outcome) → StopsFrame IsPart (IsFrameRefused (TellsRunning id)) before now why → IsStopTaken why 0 came → TakesFor order id before now came
 first_stops order id before now stop.Refused came stops is = subst (TakesFor order id before now) (sym is) record { bytes = stops.bytes; brings = stops.brings; taken_for = inl (refl, stops.is) }
 first_stops order id before now stop.Lost came stops is = subst (TakesFor order id before now) (sym is) record { bytes = stops.0.bytes; brings = stops.0.brings; taken_for = (inl stops.0.is, stops.1) }
 first_stops order id before now stop.Memory came stops is = absurd is
 
-pub first_any : (id : ℕ) (before now : Seen) (why : Stop) → why ≡ stop.Memory → Stops IsPart (IsRefused (TellsRunning id)) before now why → BringsAny before now
-first_any id before now why is stops = let P : Stop → Type 0 = λ s. Stops IsPart (IsRefused (TellsRunning id)) before now s in subst P is stops
+pub first_any : (id : ℕ) (before now : SeenLink) (why : Stop) → why ≡ stop.Memory → StopsFrame IsPart (IsFrameRefused (TellsRunning id)) before now why → BringsAny before now
+first_any id before now why is stops = let P : Stop → Type 0 = λ s. StopsFrame IsPart (IsFrameRefused (TellsRunning id)) before now s in subst P is stops
 
 -- the first frame, and something behind it
 goes_on : (id count : ℕ) (first behind : List ℕ) (next : ℕ → List ℕ → Type 0) (one : IsFirstFrame id count first) → next (length (framed one.frame)) behind → RunsAndThen id next (first ++ behind)
@@ -96,12 +96,12 @@ count_of : (id count : ℕ) (first : List ℕ) (one : IsFirstFrame id count firs
 count_of id count first one = one.is_count ∙ ap length one.is
 
 -- the second frame stopped
-pub second_stops : (order : Order) (id count : ℕ) (before now after : Seen) (why : Stop) (came : Outcome) → BringsSome (IsFirstFrame id count) before now → Stops IsPart (IsRefused (TellsAny order id)) now after why
-    → IsStopped why count came → TakesFor order id before after came
+pub second_stops : (order : Order) (id count : ℕ) (before now after : SeenLink) (why : Stop) (came : Outcome) → BringsSome (IsFirstFrame id count) before now → StopsFrame IsPart (IsFrameRefused (TellsAny order id)) now after why
+    → IsStopTaken why count came → TakesFor order id before after came
 second_stops order id count before now after stop.Refused came one stops is = subst (TakesFor order id before after) (sym is) record {
   bytes = one.bytes ++ stops.bytes;
   brings = brings_more one.bytes stops.bytes before now after one.brings stops.brings;
-  taken_for = inr (goes_on id count one.bytes stops.bytes (λ n behind. (count ≡ n) × IsRefused (TellsAny order id) behind) one.is (count_of id count one.bytes one.is, stops.is));
+  taken_for = inr (goes_on id count one.bytes stops.bytes (λ n behind. (count ≡ n) × IsFrameRefused (TellsAny order id) behind) one.is (count_of id count one.bytes one.is, stops.is));
 }
 second_stops order id count before now after stop.Lost came one stops is = subst (TakesFor order id before after) (sym is) record {
   bytes = one.bytes ++ stops.0.bytes;
@@ -110,24 +110,24 @@ second_stops order id count before now after stop.Lost came one stops is = subst
 }
 second_stops order id count before now after stop.Memory came one stops is = absurd is
 
-pub second_any : (order : Order) (id count : ℕ) (before now after : Seen) (why : Stop) → why ≡ stop.Memory → BringsSome (IsFirstFrame id count) before now → Stops IsPart (IsRefused (TellsAny order id)) now after why → BringsAny before after
+pub second_any : (order : Order) (id count : ℕ) (before now after : SeenLink) (why : Stop) → why ≡ stop.Memory → BringsSome (IsFirstFrame id count) before now → StopsFrame IsPart (IsFrameRefused (TellsAny order id)) now after why → BringsAny before after
 second_any order id count before now after why is one stops =
-    let P : Stop → Type 0 = λ s. Stops IsPart (IsRefused (TellsAny order id)) now after s in
+    let P : Stop → Type 0 = λ s. StopsFrame IsPart (IsFrameRefused (TellsAny order id)) now after s in
     let more : BringsAny now after = subst P is stops in brings_any (one.bytes ++ more.bytes) before after (brings_more one.bytes more.bytes before now after one.brings more.brings)
 
 -- what the order comes to whose first frame stopped, and whose second
-pub first_result : {E : Type 0} (result : Result Outcome E) (order : Order) (id : ℕ) (before now : Seen) (why : Stop) → MatchResult result (IsStopped why 0) (λ _. why ≡ stop.Memory)
-    → Stops IsPart (IsRefused (TellsRunning id)) before now why → IfOk result (TakesFor order id before now) × IfErr result (λ _. BringsAny before now)
+pub first_result : {E : Type 0} (result : Result Outcome E) (order : Order) (id : ℕ) (before now : SeenLink) (why : Stop) → MatchResult result (IsStopTaken why 0) (λ _. why ≡ stop.Memory)
+    → StopsFrame IsPart (IsFrameRefused (TellsRunning id)) before now why → IfOk result (TakesFor order id before now) × IfErr result (λ _. BringsAny before now)
 first_result {E} (Ok came) order id before now why is stops = (first_stops order id before now why came stops is, tt)
 first_result {E} (Err e) order id before now why is stops = (tt, first_any id before now why is stops)
 
-pub second_result : {E : Type 0} (result : Result Outcome E) (order : Order) (id count : ℕ) (before now after : Seen) (why : Stop) → MatchResult result (IsStopped why count) (λ _. why ≡ stop.Memory)
-    → BringsSome (IsFirstFrame id count) before now → Stops IsPart (IsRefused (TellsAny order id)) now after why → IfOk result (TakesFor order id before after) × IfErr result (λ _. BringsAny before after)
+pub second_result : {E : Type 0} (result : Result Outcome E) (order : Order) (id count : ℕ) (before now after : SeenLink) (why : Stop) → MatchResult result (IsStopTaken why count) (λ _. why ≡ stop.Memory)
+    → BringsSome (IsFirstFrame id count) before now → StopsFrame IsPart (IsFrameRefused (TellsAny order id)) now after why → IfOk result (TakesFor order id before after) × IfErr result (λ _. BringsAny before after)
 second_result {E} (Ok came) order id count before now after why is one stops = (second_stops order id count before now after why came one stops is, tt)
 second_result {E} (Err e) order id count before now after why is one stops = (tt, second_any order id count before now after why is one stops)
 
 -- both frames came
-pub reply_comes : (order : Order) (id count : ℕ) (before now after : Seen) (came : Outcome) → BringsSome (IsFirstFrame id count) before now → BringsSome (IsOutcomeFrame order id came) now after → TakesFor order id before after came
+pub reply_comes : (order : Order) (id count : ℕ) (before now after : SeenLink) (came : Outcome) → BringsSome (IsFirstFrame id count) before now → BringsSome (IsOutcomeFrame order id came) now after → TakesFor order id before after came
 reply_comes order id count before now after came one two = record {
   bytes = one.bytes ++ two.bytes;
   brings = brings_more one.bytes two.bytes before now after one.brings two.brings;
@@ -174,8 +174,8 @@ taken_later order id gone later bytes (outcome.Gave v) on taken = taken
 taken_later order id gone later bytes (outcome.Failed fault) on taken = fault_later order id gone later bytes fault on taken
 
 -- the frame was sent, and the reply came
-pub asked : (order : Order) (id : ℕ) (frame : List ℕ) (before now after : Seen) (came : Outcome) → frame ≡ frame_for order id → now.sent ≡ sent_with before.sent frame → now.left ≡ before.left
-    → before.faults ≤ now.faults → before.ends ≤ now.ends → after.sent ≡ now.sent → TakesFor order id now after came → Asks order id before after came
+pub asked : (order : Order) (id : ℕ) (frame : List ℕ) (before now after : SeenLink) (came : Outcome) → frame ≡ frame_for order id → now.sent ≡ sent_with before.sent frame → now.left ≡ before.left
+    → before.faults ≤ now.faults → before.ends ≤ now.ends → after.sent ≡ now.sent → TakesFor order id now after came → AsksWorker order id before after came
 asked order id frame before now after came named sent left faults ends same takes = record {
   bytes = takes.bytes;
   brings = brings_more [] takes.bytes before now after (brings_none before now left faults ends) takes.brings;
@@ -184,8 +184,8 @@ asked order id frame before now after came named sent left faults ends same take
 }
 
 -- the frame was sent, and memory ran out
-pub asked_in_vain : (order : Order) (id : ℕ) (frame : List ℕ) (before now after : Seen) → frame ≡ frame_for order id → now.sent ≡ sent_with before.sent frame → now.left ≡ before.left
-    → before.faults ≤ now.faults → before.ends ≤ now.ends → after.sent ≡ now.sent → BringsAny now after → RunsOut order id before after
+pub asked_in_vain : (order : Order) (id : ℕ) (frame : List ℕ) (before now after : SeenLink) → frame ≡ frame_for order id → now.sent ≡ sent_with before.sent frame → now.left ≡ before.left
+    → before.faults ≤ now.faults → before.ends ≤ now.ends → after.sent ≡ now.sent → BringsAny now after → RunsOutAsking order id before after
 asked_in_vain order id frame before now after named sent left faults ends same came = record {
   bytes = came.bytes;
   brings = brings_more [] came.bytes before now after (brings_none before now left faults ends) came.brings;
@@ -193,7 +193,7 @@ asked_in_vain order id frame before now after named sent left faults ends same c
 }
 
 -- an order that was asked has an outcome that it may have
-pub asked_gives : (order : Order) (id : ℕ) (before now : Seen) (came : Outcome) → is_sent order ≡ true → Asks order id before now came → GivesFar order came
+pub asked_gives : (order : Order) (id : ℕ) (before now : SeenLink) (came : Outcome) → is_sent order ≡ true → AsksWorker order id before now came → GivesFar order came
 asked_gives order id before now came sent asks = elim (cases_of order id (IsGone before now) asks.bytes came asks.taken_for) [
   | lost far cut gone ↦ inr record { sent = sent; failed = far }
   | bad far count refused ↦ inr record { sent = sent; failed = far }
@@ -201,23 +201,23 @@ asked_gives order id before now came sent asks = elim (cases_of order id (IsGone
 ]
 
 -- the frame was sent, and this came of it
-pub ask_result : {E : Type 0} (result : Result Outcome E) (order : Order) (id : ℕ) (frame : List ℕ) (before now after : Seen) → frame ≡ frame_for order id → now.sent ≡ sent_with before.sent frame → now.left ≡ before.left
-    → before.faults ≤ now.faults → before.ends ≤ now.ends → after.sent ≡ now.sent → IfOk result (TakesFor order id now after) → IfErr result (λ _. BringsAny now after) → MatchResult result (Asks order id before after) (λ _. RunsOut order id before after)
+pub ask_result : {E : Type 0} (result : Result Outcome E) (order : Order) (id : ℕ) (frame : List ℕ) (before now after : SeenLink) → frame ≡ frame_for order id → now.sent ≡ sent_with before.sent frame → now.left ≡ before.left
+    → before.faults ≤ now.faults → before.ends ≤ now.ends → after.sent ≡ now.sent → IfOk result (TakesFor order id now after) → IfErr result (λ _. BringsAny now after) → MatchResult result (AsksWorker order id before after) (λ _. RunsOutAsking order id before after)
 ask_result {E} (Ok came) order id frame before now after named sent left faults ends same takes any = asked order id frame before now after came named sent left faults ends same takes
 ask_result {E} (Err e) order id frame before now after named sent left faults ends same takes any = asked_in_vain order id frame before now after named sent left faults ends same any
 
 -- an outcome of an order that was asked is one that it may have
-pub gives_result : {E : Type 0} (result : Result Outcome E) (order : Order) (id : ℕ) (before now : Seen) → is_sent order ≡ true → MatchResult result (Asks order id before now) (λ _. RunsOut order id before now) → IfOk result (GivesFar order)
+pub gives_result : {E : Type 0} (result : Result Outcome E) (order : Order) (id : ℕ) (before now : SeenLink) → is_sent order ≡ true → MatchResult result (AsksWorker order id before now) (λ _. RunsOutAsking order id before now) → IfOk result (GivesFar order)
 gives_result {E} (Ok came) order id before now sent asks = asked_gives order id before now came sent asks
 gives_result {E} (Err e) order id before now sent asks = tt
 
 -- nothing was sent, and memory ran out
-pub nothing_asked : (order : Order) (id : ℕ) (before : Seen) → RunsOut order id before before
+pub nothing_asked : (order : Order) (id : ℕ) (before : SeenLink) → RunsOutAsking order id before before
 nothing_asked order id before = record { bytes = []; brings = brings_none before before refl (omega arith) (omega arith); sent = no_front before.sent (frame_for order id) }
 
 -- the link couldn't send
-pub lost_at_once : (order : Order) (id : ℕ) (frame : List ℕ) (before now : Seen) → frame ≡ frame_for order id → SendsFront before.sent frame now.sent → now.left ≡ before.left
-    → before.faults ≤ now.faults → before.ends ≤ now.ends → Rises before.faults now.faults → Asks order id before now (outcome.Failed failure.Lost)
+pub lost_at_once : (order : Order) (id : ℕ) (frame : List ℕ) (before now : SeenLink) → frame ≡ frame_for order id → SendsFront before.sent frame now.sent → now.left ≡ before.left
+    → before.faults ≤ now.faults → before.ends ≤ now.ends → Rises before.faults now.faults → AsksWorker order id before now (outcome.Failed failure.Lost)
 lost_at_once order id frame before now named sent left faults ends rose = record {
   bytes = [];
   brings = brings_none before now left faults ends;
@@ -237,20 +237,20 @@ pub unread_outcome : (order : Order) (id : ℕ) (frame : List ℕ) (why : Stop) 
 unread_outcome order id frame why is = unread_on ((answer : Response) → ¬ (AreResponse frame answer)) (¬ (TellsAny order id frame)) why (λ none any. none (told id any.came) any.tells.reads) is
 
 -- a whole frame that isn't the wanted one stops a reply
-other_stops : (wanted : List ℕ → Type 0) (frame : List ℕ) (before now : Seen) (why : Stop) → BringsFrame frame before now → IsUnread (¬ (wanted frame)) why → Stops IsPart (IsRefused wanted) before now why
+other_stops : (wanted : List ℕ → Type 0) (frame : List ℕ) (before now : SeenLink) (why : Stop) → BringsFrame frame before now → IsUnread (¬ (wanted frame)) why → StopsFrame IsPart (IsFrameRefused wanted) before now why
 other_stops wanted frame before now stop.Refused came is = record { bytes = framed frame; brings = came.brings; is = inr record { frame = frame; is_frame = came.is_frame; is = refl; other = is } }
 other_stops wanted frame before now stop.Lost came is = absurd is
 other_stops wanted frame before now stop.Memory came is = brings_any (framed frame) before now came.brings
 
-pub unread_running : (id : ℕ) (frame items : List ℕ) (before now : Seen) (why : Stop) → frame ≡ items → BringsFrame items before now → IsUnread ((answer : Response) → ¬ (AreResponse frame answer)) why
-    → Stops IsPart (IsRefused (TellsRunning id)) before now why
+pub unread_running : (id : ℕ) (frame items : List ℕ) (before now : SeenLink) (why : Stop) → frame ≡ items → BringsFrame items before now → IsUnread ((answer : Response) → ¬ (AreResponse frame answer)) why
+    → StopsFrame IsPart (IsFrameRefused (TellsRunning id)) before now why
 unread_running id frame items before now why same came is =
     other_stops (TellsRunning id) frame before now why (subst (λ (f : List ℕ). BringsFrame f before now) (sym same) came)
     (unread_on ((answer : Response) → ¬ (AreResponse frame answer)) (¬ (TellsRunning id frame)) why (λ none tells. none (response.Running id) tells.reads) is)
 
 -- what the second frame tells
-pub outcome_result : (result : Result Outcome Stop) (order : Order) (id : ℕ) (frame items : List ℕ) (before now : Seen) → frame ≡ items → BringsFrame items before now
-    → MatchResult result (λ outcome. TellsOutcome order id outcome frame) (IsUnread (¬ (TellsAny order id frame))) → MatchResult result (λ outcome. BringsSome (IsOutcomeFrame order id outcome) before now) (Stops IsPart (IsRefused (TellsAny order id)) before now)
+pub outcome_result : (result : Result Outcome Stop) (order : Order) (id : ℕ) (frame items : List ℕ) (before now : SeenLink) → frame ≡ items → BringsFrame items before now
+    → MatchResult result (λ outcome. TellsOutcome order id outcome frame) (IsUnread (¬ (TellsAny order id frame))) → MatchResult result (λ outcome. BringsSome (IsOutcomeFrame order id outcome) before now) (StopsFrame IsPart (IsFrameRefused (TellsAny order id)) before now)
 outcome_result (Ok came) order id frame items before now same brings tells = record {
   bytes = framed items;
   brings = brings.brings;

@@ -17,7 +17,7 @@ use Rattle.tf_wire.specs.Messages.{request_data, frame_of}
 use Rattle.tf_wire.specs.Reading.{names_differ, IsFitRequest, RevertsByCommand, AreRequest}
 use Rattle.tf_wire.specs.declared.messages.Request.{Request}
 use Rattle.tf_remote.specs.Requests.{pairs_asked, request_for, frame_for}
-use Rattle.tf_remote.specs.Asking.{NamesOrder, IsReadBack}
+use Rattle.tf_remote.specs.Asking.{NamesOrder, IsRequestBack}
 
 abbrev parts : ℕ → Action → TaskKind → List (List ℕ) → Undo → Given → Order
 parts a how made words un g = record { atom = a; action = how; kind = made; words = words; undo = un; given = g }
@@ -100,6 +100,6 @@ Reads : Request → Type 0
 Reads request = request.id < 2 ^ 63 → IsFitRequest request → AreRequest (compact_text (request_data request)) request
 
 pub read_back : (order : Order) (id : ℕ) (request : Request) → request ≡ request_for order id → IsWhole order → is_sent order ≡ true → id < 2 ^ 63
-    → (request.id < 2 ^ 63 → IsFitRequest request → AreRequest (compact_text (request_data request)) request) → IsReadBack order id
-unfolding IsReadBack Reads
+    → (request.id < 2 ^ 63 → IsFitRequest request → AreRequest (compact_text (request_data request)) request) → IsRequestBack order id
+unfolding IsRequestBack Reads
 read_back order id request named whole sent small reads = λ differ. (subst Reads named reads) small (is_fit order id whole sent differ)

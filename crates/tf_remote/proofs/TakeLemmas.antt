@@ -14,9 +14,9 @@ use Rattle.tf_wire.specs.Reading.{AreResponse}
 use Rattle.tf_wire.specs.Stream.{IsFrame, framed}
 use Rattle.tf_wire.specs.declared.messages.Response.TheVariants as response
 use Rattle.tf_workers.specs.Dialogue.{Exchange, spoken, told, running, reply}
-use Rattle.tf_remote.specs.Asking.{Asks, RunsOut, Holds, TakesReply, TakesServed, IsReadable, IsReadableExchange}
-use Rattle.tf_remote.specs.Received.{Seen, IsGone, IsPart}
-use Rattle.tf_remote.specs.Replies.{TellsRunning, TellsAny, IsRefused, RunsAndThen, IsOutcomeFrame, IsReply}
+use Rattle.tf_remote.specs.Asking.{AsksWorker, RunsOutAsking, HoldsReply, TakesReply, TakesServed, IsReadable, IsReadableExchange}
+use Rattle.tf_remote.specs.Received.{SeenLink, IsGone, IsPart}
+use Rattle.tf_remote.specs.Replies.{TellsRunning, TellsAny, IsFrameRefused, RunsAndThen, IsOutcomeFrame, IsReply}
 use Rattle.tf_remote.proofs.LengthLemmas.{response_fits}
 use Rattle.tf_remote.proofs.ReplyLemmas.{IsTaken, cases_of}
 use Rattle.tf_remote.proofs.ReplyLemmas.IsTaken.{lost, bad, whole}
@@ -24,7 +24,7 @@ use Rattle.tf_remote.proofs.ReplyLemmas.IsTaken.{lost, bad, whole}
 -- ---- one frame against another
 
 -- bytes that are refused aren't the front of a stream that begins with a wanted frame
-refused_clash : (wanted : List ℕ → Type 0) (bytes rest frame behind : List ℕ) → IsFrame frame → wanted frame → bytes ++ rest ≡ framed frame ++ behind → IsRefused wanted bytes → ⊥
+refused_clash : (wanted : List ℕ → Type 0) (bytes rest frame behind : List ℕ) → IsFrame frame → wanted frame → bytes ++ rest ≡ framed frame ++ behind → IsFrameRefused wanted bytes → ⊥
 refused_clash wanted bytes rest frame behind is_frame good same refused = elim refused [
   | inl short ↦ frame_is_not_bad frame behind (bytes ++ rest) is_frame same record {
     stated = short.stated;
@@ -87,7 +87,7 @@ taken order id gone bytes rest behind x came ended w is = elim is [
   | bad far count refused ↦ absurd (elim refused [
     | inl first ↦ refused_clash (TellsRunning id) bytes rest w.is_reply.first (w.is_reply.behind ++ behind) w.is_reply.running.is_frame w.is_reply.running (first_of order id came (bytes ++ rest) behind w) first.1
     | inr one ↦
-        let more = same_first id (λ n b. (count ≡ n) × IsRefused (TellsAny order id) b) bytes rest w.is_reply.first (w.is_reply.behind ++ behind) w.is_reply.running (first_of order id came (bytes ++ rest) behind w) one in
+        let more = same_first id (λ n b. (count ≡ n) × IsFrameRefused (TellsAny order id) b) bytes rest w.is_reply.first (w.is_reply.behind ++ behind) w.is_reply.running (first_of order id came (bytes ++ rest) behind w) one in
         refused_clash (TellsAny order id) one.behind rest w.is_reply.goes_on.frame behind w.is_reply.goes_on.tells.is_frame record { came = came; tells = w.is_reply.goes_on.tells } (more ∙ second_of order id came (bytes ++ rest) behind w) one.goes_on.1
   ])
   | whole one ↦
@@ -106,20 +106,20 @@ left_is left None bytes stream came held = absurd (let clash : None ≡ Some str
 left_is left (Some rest) bytes stream came held = let same : Some (bytes ++ rest) ≡ Some stream = sym came ∙ held in (rest, refl, cc)
 
 -- the link is at its end only where nothing is left
-gone_empty : (before now : Seen) (rest bytes behind : List ℕ) → now.left ≡ Some rest → Holds bytes behind before now → IsGone before now → rest ≡ []
+gone_empty : (before now : SeenLink) (rest bytes behind : List ℕ) → now.left ≡ Some rest → HoldsReply bytes behind before now → IsGone before now → rest ≡ []
 gone_empty before now rest bytes behind is holds gone = elim gone [
   | inl rose ↦ absurd (holds.works rose)
   | inr ended ↦ subst IsNothingLeft is ended.1
 ]
 
-answered : (order : Order) (id : ℕ) (before now : Seen) (x came : Outcome) (bytes behind : List ℕ) → Asks order id before now x → IsReply order id came bytes → Holds bytes behind before now → (x ≡ came) × (now.left ≡ Some behind)
+answered : (order : Order) (id : ℕ) (before now : SeenLink) (x came : Outcome) (bytes behind : List ℕ) → AsksWorker order id before now x → IsReply order id came bytes → HoldsReply bytes behind before now → (x ≡ came) × (now.left ≡ Some behind)
 answered order id before now x came bytes behind asks is_reply holds =
     let left = left_is before.left now.left asks.bytes (bytes ++ behind) asks.brings.came holds.left in
     let found = taken order id (IsGone before now) asks.bytes left.0 behind x came (gone_empty before now left.0 bytes behind left.1 holds) record { reply = bytes; is_reply = is_reply; is = left.2 }
     (cases_of order id (IsGone before now) asks.bytes x asks.taken_for) in
     (found.0, left.1 ∙ ap Some found.1)
 
-pub takes_reply : {E : Type 0} (order : Order) (id : ℕ) (before now : Seen) (result : Result Outcome E) → MatchResult result (Asks order id before now) (λ _. RunsOut order id before now) → TakesReply order id before now result
+pub takes_reply : {E : Type 0} (order : Order) (id : ℕ) (before now : SeenLink) (result : Result Outcome E) → MatchResult result (AsksWorker order id before now) (λ _. RunsOutAsking order id before now) → TakesReply order id before now result
 takes_reply {E} order id before now (Ok x) asks = λ came bytes behind is_reply holds. answered order id before now x came bytes behind asks is_reply holds
 takes_reply {E} order id before now (Err e) out = λ came bytes behind is_reply holds. tt
 
@@ -143,6 +143,6 @@ served_is_reply order id exchange same good allowed =
       };
     }
 
-pub takes_served : {E : Type 0} (order : Order) (id : ℕ) (before now : Seen) (result : Result Outcome E) → MatchResult result (Asks order id before now) (λ _. RunsOut order id before now) → TakesServed order id before now result
+pub takes_served : {E : Type 0} (order : Order) (id : ℕ) (before now : SeenLink) (result : Result Outcome E) → MatchResult result (AsksWorker order id before now) (λ _. RunsOutAsking order id before now) → TakesServed order id before now result
 takes_served {E} order id before now result asks = λ exchange behind same good allowed holds.
     takes_reply order id before now result asks exchange.outcome (reply exchange) behind (served_is_reply order id exchange same good allowed) holds

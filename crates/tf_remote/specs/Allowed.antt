@@ -5,6 +5,6 @@ use Rattle.tf_actions.specs.declared.outcomes.Outcome.{Outcome}
 use Rattle.tf_actions.specs.Gives.{GivesText, GivesNothing}
 
 -- what a program may give that is executed, and one that undoes
-abbrev pub EndsProgram : Action → Outcome → Type 0
-EndsProgram action.Execute came = GivesText came
-EndsProgram action.Revert came = GivesNothing came
+abbrev pub GivesProgram : Action → Outcome → Type 0
+GivesProgram action.Execute came = GivesText came
+GivesProgram action.Revert came = GivesNothing came

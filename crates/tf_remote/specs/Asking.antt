@@ -15,7 +15,7 @@ use Rattle.tf_wire.specs.declared.messages.Response.{Response}
 use Rattle.tf_wire.specs.declared.messages.Response.TheVariants as response
 use Rattle.tf_wire.specs.Orders.{order_of}
 use Rattle.tf_workers.specs.Dialogue.{Exchange, reply, told}
-use Rattle.tf_remote.specs.Received.{Seen, Brings, IsGone}
+use Rattle.tf_remote.specs.Received.{SeenLink, Brings, IsGone}
 use Rattle.tf_remote.specs.Replies.{IsReply, IsTakenFor}
 use Rattle.tf_remote.specs.Requests.{pairs_asked, request_for, frame_for}
 
@@ -26,38 +26,38 @@ IsSentFor frame before now came = now ≡ sent_with before frame
 
 -- An order was asked of the worker: the frame of its request was sent, and the outcome is what the bytes are taken for
 -- that the link gave meanwhile.
-pub record Asks (order : Order) (id : ℕ) (before now : Seen) (came : Outcome) : Type 0 where
+pub record AsksWorker (order : Order) (id : ℕ) (before now : SeenLink) (came : Outcome) : Type 0 where
   pub bytes : List ℕ
   pub brings : Brings bytes before now
   pub taken_for : IsTakenFor order id (IsGone before now) bytes came
   pub sent : IsSentFor (frame_for order id) before.sent now.sent came
 
 -- memory ran out while an order was asked: a front of the frame was sent
-pub record RunsOut (order : Order) (id : ℕ) (before now : Seen) : Type 0 where
+pub record RunsOutAsking (order : Order) (id : ℕ) (before now : SeenLink) : Type 0 where
   pub bytes : List ℕ
   pub brings : Brings bytes before now
   pub sent : SendsFront before.sent (frame_for order id) now.sent
 
 -- the bytes of the frame behind its length are the request, where no argument's name stands twice
-unfoldable pub IsReadBack : Order → ℕ → Type 0
-IsReadBack order id = names_differ (pairs_asked order.given) ≡ true → AreRequest (compact_text (request_data (request_for order id))) (request_for order id)
+unfoldable pub IsRequestBack : Order → ℕ → Type 0
+IsRequestBack order id = names_differ (pairs_asked order.given) ≡ true → AreRequest (compact_text (request_data (request_for order id))) (request_for order id)
 
 -- whoever performs the order that the request names may give what the order itself may give, and nothing else
 abbrev pub NamesOrder : Order → ℕ → Type 0
 NamesOrder order id = (came : Outcome) → Gives (order_of (request_for order id)) came ↔ Gives order came
 
 -- the link doesn't fail, and what it has left begins with these bytes
-pub record Holds (bytes behind : List ℕ) (before now : Seen) : Type 0 where
+pub record HoldsReply (bytes behind : List ℕ) (before now : SeenLink) : Type 0 where
   pub left : before.left ≡ Some (bytes ++ behind)
   pub works : ¬ (Rises before.faults now.faults)
 
 -- this outcome, or want of memory; and where it is the outcome, exactly these bytes are left
-abbrev pub IsAnswered : {E : Type 0} → List ℕ → Outcome → Seen → Result Outcome E → Type 0
-IsAnswered {E} behind came now result = IfOk result (λ outcome. (outcome ≡ came) × (now.left ≡ Some behind))
+abbrev pub IsReplied : {E : Type 0} → List ℕ → Outcome → SeenLink → Result Outcome E → Type 0
+IsReplied {E} behind came now result = IfOk result (λ outcome. (outcome ≡ came) × (now.left ≡ Some behind))
 
 -- over a link that doesn't fail and holds a whole reply, the outcome is the reply's
-abbrev pub TakesReply : {E : Type 0} → Order → ℕ → Seen → Seen → Result Outcome E → Type 0
-TakesReply {E} order id before now result = (came : Outcome) (bytes behind : List ℕ) → IsReply order id came bytes → Holds bytes behind before now → IsAnswered behind came now result
+abbrev pub TakesReply : {E : Type 0} → Order → ℕ → SeenLink → SeenLink → Result Outcome E → Type 0
+TakesReply {E} order id before now result = (came : Outcome) (bytes behind : List ℕ) → IsReply order id came bytes → HoldsReply bytes behind before now → IsReplied behind came now result
 
 -- the response keeps the limits of its type, and its text is read back as it, as the printer of responses promises of each that it prints
 pub record IsReadable (answer : Response) : Type 0 where
@@ -71,6 +71,6 @@ pub record IsReadableExchange (exchange : Exchange) : Type 0 where
 
 -- over a link that doesn't fail and holds the whole reply of a worker that serves, with an outcome that the order may have, the outcome
 -- is the reply's
-abbrev pub TakesServed : {E : Type 0} → Order → ℕ → Seen → Seen → Result Outcome E → Type 0
+abbrev pub TakesServed : {E : Type 0} → Order → ℕ → SeenLink → SeenLink → Result Outcome E → Type 0
 TakesServed {E} order id before now result = (exchange : Exchange) (behind : List ℕ) → exchange.request.id ≡ id → IsReadableExchange exchange → Gives order exchange.outcome
-    → Holds (reply exchange) behind before now → IsAnswered behind exchange.outcome now result
+    → HoldsReply (reply exchange) behind before now → IsReplied behind exchange.outcome now result

@@ -9,33 +9,33 @@ use Rattle.tf_remote.specs.declared.receiving.Stop.TheVariants as stop
 
 -- what is seen of a link: the bytes that it has left and those that it was sent, where it tells them, and its
 -- counts of faults and ends
-pub record Seen : Type 0 where
+pub record SeenLink : Type 0 where
   pub left : Option (List ℕ)
   pub sent : Option (List ℕ)
   pub faults : ℕ
   pub ends : ℕ
 
-abbrev pub seen : {L : Type 0} → (L → Option (List ℕ)) → (L → Option (List ℕ)) → (L → ℕ) → (L → ℕ) → L → Seen
+abbrev pub seen : {L : Type 0} → (L → Option (List ℕ)) → (L → Option (List ℕ)) → (L → ℕ) → (L → ℕ) → L → SeenLink
 seen left sent faults ends link = record { left = left link; sent = sent link; faults = faults link; ends = ends link }
 
 -- the link gave exactly these bytes, and no count fell
-pub record Brings (bytes : List ℕ) (before now : Seen) : Type 0 where
+pub record Brings (bytes : List ℕ) (before now : SeenLink) : Type 0 where
   pub came : before.left ≡ left_before bytes now.left
   pub faults : before.faults ≤ now.faults
   pub ends : before.ends ≤ now.ends
 
 -- the link gave some bytes, of which this holds
-pub record BringsSome (what : List ℕ → Type 0) (before now : Seen) : Type 0 where
+pub record BringsSome (what : List ℕ → Type 0) (before now : SeenLink) : Type 0 where
   pub bytes : List ℕ
   pub brings : Brings bytes before now
   pub is : what bytes
 
 -- some bytes came
-abbrev pub BringsAny : Seen → Seen → Type 0
+abbrev pub BringsAny : SeenLink → SeenLink → Type 0
 BringsAny before now = BringsSome (λ bytes. Unit {0}) before now
 
 -- the link failed, or it ended and had nothing left
-abbrev pub IsGone : Seen → Seen → Type 0
+abbrev pub IsGone : SeenLink → SeenLink → Type 0
 IsGone before now = Rises before.faults now.faults ⊎ (Rises before.ends now.ends × IsNothingLeft now.left)
 
 -- the four bytes of a length that no frame has
@@ -51,10 +51,10 @@ pub record IsPart (bytes : List ℕ) : Type 0 where
   pub not_bad : ¬ (BeginsWithBadLength bytes)
 
 -- why nothing was received: what came is refused; the link was gone after a part; or memory ran out
-abbrev pub Stops : (List ℕ → Type 0) → (List ℕ → Type 0) → Seen → Seen → Stop → Type 0
-Stops part refused before now stop.Refused = BringsSome refused before now
-Stops part refused before now stop.Lost = BringsSome part before now × IsGone before now
-Stops part refused before now stop.Memory = BringsAny before now
+abbrev pub StopsFrame : (List ℕ → Type 0) → (List ℕ → Type 0) → SeenLink → SeenLink → Stop → Type 0
+StopsFrame part refused before now stop.Refused = BringsSome refused before now
+StopsFrame part refused before now stop.Lost = BringsSome part before now × IsGone before now
+StopsFrame part refused before now stop.Memory = BringsAny before now
 
 -- fewer bytes than these
 abbrev pub IsShorter : ℕ → List ℕ → Type 0
@@ -65,11 +65,11 @@ abbrev pub IsNever : List ℕ → Type 0
 IsNever bytes = ⊥
 
 -- so many bytes came
-pub record BringsCount (count : ℕ) (bytes : List ℕ) (before now : Seen) : Type 0 where
+pub record BringsCount (count : ℕ) (bytes : List ℕ) (before now : SeenLink) : Type 0 where
   pub brings : Brings bytes before now
   pub is_count : length bytes ≡ count
 
 -- a frame came
-pub record BringsFrame (frame : List ℕ) (before now : Seen) : Type 0 where
+pub record BringsFrame (frame : List ℕ) (before now : SeenLink) : Type 0 where
   pub brings : Brings (framed frame) before now
   pub is_frame : IsFrame frame

@@ -9,7 +9,7 @@ use Rattle.tf_wire.specs.Reading.{AreResponse}
 use Rattle.tf_wire.specs.Stream.{IsFrame, framed}
 use Rattle.tf_wire.specs.declared.messages.Response.TheVariants as response
 use Rattle.tf_workers.specs.Dialogue.{told}
-use Rattle.tf_remote.specs.Received.{Seen, Brings, IsGone, IsBadLength, IsPart}
+use Rattle.tf_remote.specs.Received.{SeenLink, Brings, IsGone, IsBadLength, IsPart}
 
 -- the frame tells that the order of that id runs
 pub record TellsRunning (id : ℕ) (frame : List ℕ) : Type 0 where
@@ -35,8 +35,8 @@ pub record IsOtherFrame (wanted : List ℕ → Type 0) (bytes : List ℕ) : Type
   pub other : ¬ (wanted frame)
 
 -- a reply frame is refused: it has a length that no frame has, or it isn't one of the wanted ones
-abbrev pub IsRefused : (List ℕ → Type 0) → List ℕ → Type 0
-IsRefused wanted bytes = IsBadLength bytes ⊎ IsOtherFrame wanted bytes
+abbrev pub IsFrameRefused : (List ℕ → Type 0) → List ℕ → Type 0
+IsFrameRefused wanted bytes = IsBadLength bytes ⊎ IsOtherFrame wanted bytes
 
 -- the first frame of a reply, and something behind it
 pub record RunsAndThen (id : ℕ) (next : ℕ → List ℕ → Type 0) (bytes : List ℕ) : Type 0 where
@@ -59,16 +59,16 @@ IsReply order id came bytes = RunsAndThen id (λ before behind. IsOutcomeFrame o
 -- a reply of which a frame is refused, behind so many bytes: the first frame or the second
 abbrev pub IsBadReply : Order → ℕ → ℕ → List ℕ → Type 0
 IsBadReply order id count bytes =
-    ((count ≡ 0) × IsRefused (TellsRunning id) bytes) ⊎ RunsAndThen id (λ before behind. (count ≡ before) × IsRefused (TellsAny order id) behind) bytes
+    ((count ≡ 0) × IsFrameRefused (TellsRunning id) bytes) ⊎ RunsAndThen id (λ before behind. (count ≡ before) × IsFrameRefused (TellsAny order id) behind) bytes
 
 -- a reply that isn't whole: it stops before the end of its first frame or of its second
-abbrev pub IsCutShort : ℕ → List ℕ → Type 0
-IsCutShort id bytes = IsPart bytes ⊎ RunsAndThen id (λ before behind. IsPart behind) bytes
+abbrev pub IsReplyCut : ℕ → List ℕ → Type 0
+IsReplyCut id bytes = IsPart bytes ⊎ RunsAndThen id (λ before behind. IsPart behind) bytes
 
 -- What the bytes of a reply are taken for. Lost: they are cut short, and the link is gone. Bad reply: a frame is refused. Every other
 -- outcome is that of the whole reply.
 abbrev pub IsTakenFor : Order → ℕ → Type 0 → List ℕ → Outcome → Type 0
-IsTakenFor order id is_gone bytes (outcome.Failed failure.Lost) = IsCutShort id bytes × is_gone
+IsTakenFor order id is_gone bytes (outcome.Failed failure.Lost) = IsReplyCut id bytes × is_gone
 IsTakenFor order id is_gone bytes (outcome.Failed (failure.BadReply count)) = IsBadReply order id count bytes
 IsTakenFor order id is_gone bytes came = IsReply order id came bytes
 
@@ -82,7 +82,7 @@ pub record IsFirstFrame (id count : ℕ) (bytes : List ℕ) : Type 0 where
   pub is_count : count ≡ length bytes
 
 -- some bytes came, which are taken for this outcome
-pub record TakesFor (order : Order) (id : ℕ) (before now : Seen) (came : Outcome) : Type 0 where
+pub record TakesFor (order : Order) (id : ℕ) (before now : SeenLink) (came : Outcome) : Type 0 where
   pub bytes : List ℕ
   pub brings : Brings bytes before now
   pub taken_for : IsTakenFor order id (IsGone before now) bytes came

@@ -19,14 +19,14 @@ kind_asked action.Execute made = made
 kind_asked action.Revert made = kind.Command
 
 -- the words of the command that undoes
-abbrev pub undo_words : Undo → List (List ℕ)
-undo_words (undo.Run words) = words
-undo_words other = []
+abbrev pub words_to_undo : Undo → List (List ℕ)
+words_to_undo (undo.Run words) = words
+words_to_undo other = []
 
 -- the words that are sent
 abbrev pub words_asked : Action → List (List ℕ) → Undo → List (List ℕ)
 words_asked action.Execute words undoes = words
-words_asked action.Revert words undoes = undo_words undoes
+words_asked action.Revert words undoes = words_to_undo undoes
 
 -- the arguments that are sent
 abbrev pub pairs_asked : Given → List Pair

@@ -7,10 +7,10 @@ use Rattle.tf_remote.specs.declared.receiving.Stop.{Stop}
 use Rattle.tf_remote.specs.declared.receiving.Stop.TheVariants as stop
 
 -- a frame that is refused is told with how many bytes came before it
-abbrev pub IsStopped : Stop → ℕ → Outcome → Type 0
-IsStopped stop.Refused count came = came ≡ outcome.Failed (failure.BadReply count)
-IsStopped stop.Lost count came = came ≡ outcome.Failed failure.Lost
-IsStopped stop.Memory count came = ⊥
+abbrev pub IsStopTaken : Stop → ℕ → Outcome → Type 0
+IsStopTaken stop.Refused count came = came ≡ outcome.Failed (failure.BadReply count)
+IsStopTaken stop.Lost count came = came ≡ outcome.Failed failure.Lost
+IsStopTaken stop.Memory count came = ⊥
 
 -- why a frame tells nothing: this holds, or memory ran out
 abbrev pub IsUnread : Type 0 → Stop → Type 0

@@ -3,7 +3,7 @@ ghost use Rattle.tf_actions.specs.Far.{is_sent as goes_far};
 ghost use Rattle.tf_actions.specs.Gives.{Gives, GivesText, GivesNothing, IsProgramFailure};
 ghost use Rattle.tf_actions.specs.Whole.{IsWhole};
 ghost use Rattle.tf_tasks.specs.Program.{is_program as asks_program};
-ghost use Rattle.tf_remote.specs.Allowed.{EndsProgram};
+ghost use Rattle.tf_remote.specs.Allowed.{GivesProgram};
 
 use crate::equality::same_failure;
 use std::alloc::Global;
@@ -49,7 +49,7 @@ fn is_program(order: &Order) -> bool
 
 /// Whether a program may end so: with a text where it is executed, with nothing where it undoes, or by a failure.
 fn ends_program(action: Action, came: &Outcome) -> bool
-    ensures { IsTrue result ↔ EndsProgram action came.now }
+    ensures { IsTrue result ↔ GivesProgram action came.now }
 {
     match action {
         Action::Execute => gives_text(came),

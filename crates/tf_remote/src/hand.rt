@@ -1,7 +1,7 @@
 ghost use Rattle.std.specs.Prelude.{◌≡◌, ◌<◌, ◌^◌, true, false, None, IfOk, OnOk, MatchResult};
 ghost use Rattle.tf_actions.specs.Far.{GivesFar, is_sent as goes_far};
 ghost use Rattle.tf_actions.specs.Whole.{IsWhole};
-ghost use Rattle.tf_remote.specs.Asking.{Asks, RunsOut, IsReadBack, NamesOrder, TakesReply, TakesServed};
+ghost use Rattle.tf_remote.specs.Asking.{AsksWorker, RunsOutAsking, IsRequestBack, NamesOrder, TakesReply, TakesServed};
 ghost use Rattle.tf_remote.specs.FarLaws.{far_looks_up, far_reverts};
 ghost use Rattle.tf_remote.specs.Received.{seen};
 ghost use Rattle.tf_remote.specs.Requests.{next_id, frame_for};
@@ -56,13 +56,13 @@ impl<L: Link> RemoteHand<L> {
         ensures gives { IfOk result (λ outcome. GivesFar order.now outcome) }
         ensures kept { goes_far order.now ≡ false → self.new ≡ self.old }
         ensures asked { goes_far order.now ≡ true → MatchResult result
-            (Asks order.now self.old.next (seen L.left L.sent L.faults L.ends self.old.link)
+            (AsksWorker order.now self.old.next (seen L.left L.sent L.faults L.ends self.old.link)
             (seen L.left L.sent L.faults L.ends self.new.link))
-            (λ _. RunsOut order.now self.old.next (seen L.left L.sent L.faults L.ends self.old.link)
+            (λ _. RunsOutAsking order.now self.old.next (seen L.left L.sent L.faults L.ends self.old.link)
             (seen L.left L.sent L.faults L.ends self.new.link)) }
         ensures counted { goes_far order.now ≡ true → OnOk result (self.new.next ≡ next_id self.old.next) }
         ensures names { goes_far order.now ≡ true → NamesOrder order.now self.old.next }
-        ensures read_back { goes_far order.now ≡ true → OnOk result (IsReadBack order.now self.old.next) }
+        ensures read_back { goes_far order.now ≡ true → OnOk result (IsRequestBack order.now self.old.next) }
         ensures replied { goes_far order.now ≡ true → TakesReply order.now self.old.next
             (seen L.left L.sent L.faults L.ends self.old.link)
             (seen L.left L.sent L.faults L.ends self.new.link) result }
@@ -100,9 +100,9 @@ fn ask<L: Link>(
 ) -> Result<Outcome, Memory>
     requires whole { IsWhole order.now }
     requires frame { frame.now ≡ frame_for order.now id }
-    ensures { MatchResult result (Asks order.now id (seen L.left L.sent L.faults L.ends link.old)
+    ensures { MatchResult result (AsksWorker order.now id (seen L.left L.sent L.faults L.ends link.old)
         (seen L.left L.sent L.faults L.ends link.new))
-        (λ _. RunsOut order.now id (seen L.left L.sent L.faults L.ends link.old)
+        (λ _. RunsOutAsking order.now id (seen L.left L.sent L.faults L.ends link.old)
         (seen L.left L.sent L.faults L.ends link.new)) }
 {
     match link.send(frame) {

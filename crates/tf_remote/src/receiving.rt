@@ -1,7 +1,7 @@
 ghost use Rattle.std.specs.Prelude.{◌≡◌, ◌<◌, ◌≤◌, ◌^◌, length, true, IfOk, MatchResult};
 ghost use Rattle.std.specs.Int.{to_be_bytes, w32};
 ghost use Rattle.tf_wire.specs.Stream.{is_length};
-ghost use Rattle.tf_remote.specs.Received.{seen, Stops, IsShorter, IsNever, IsPart, IsBadLength, BringsCount, BringsFrame};
+ghost use Rattle.tf_remote.specs.Received.{seen, StopsFrame, IsShorter, IsNever, IsPart, IsBadLength, BringsCount, BringsFrame};
 
 use std::alloc::Global;
 use tf_ports::{Came, Link};
@@ -28,7 +28,7 @@ pub fn receive<L: Link>(alloc: Global, link: &mut L) -> Result<Vec<u8>, Stop>
     ensures came { MatchResult result
         (λ frame. BringsFrame frame.items (seen L.left L.sent L.faults L.ends link.old)
         (seen L.left L.sent L.faults L.ends link.new))
-        (Stops IsPart IsBadLength (seen L.left L.sent L.faults L.ends link.old)
+        (StopsFrame IsPart IsBadLength (seen L.left L.sent L.faults L.ends link.old)
         (seen L.left L.sent L.faults L.ends link.new)) }
     ensures sent { L.sent link.new ≡ L.sent link.old }
 {
@@ -48,7 +48,7 @@ fn receive_bytes<L: Link>(alloc: Global, link: &mut L, count: usize) -> Result<V
     ensures came { MatchResult result
         (λ bytes. BringsCount count bytes.items (seen L.left L.sent L.faults L.ends link.old)
         (seen L.left L.sent L.faults L.ends link.new))
-        (Stops (IsShorter count) IsNever (seen L.left L.sent L.faults L.ends link.old)
+        (StopsFrame (IsShorter count) IsNever (seen L.left L.sent L.faults L.ends link.old)
         (seen L.left L.sent L.faults L.ends link.new)) }
     ensures sent { L.sent link.new ≡ L.sent link.old }
 {

@@ -1,11 +1,11 @@
 ghost use Rattle.std.specs.Prelude.{◌≡◌, IfOk, IfErr, MatchResult};
 ghost use Rattle.tf_actions.specs.Whole.{IsWhole};
-ghost use Rattle.tf_remote.specs.Received.{seen, Stops, BringsSome, BringsAny, IsPart};
-ghost use Rattle.tf_remote.specs.Stopped.{IsStopped, IsUnread};
+ghost use Rattle.tf_remote.specs.Received.{seen, StopsFrame, BringsSome, BringsAny, IsPart};
+ghost use Rattle.tf_remote.specs.Stopped.{IsStopTaken, IsUnread};
 ghost use Rattle.tf_wire.specs.Reading.{AreResponse};
 ghost use Rattle.tf_wire.specs.Stream.{IsFrame};
 ghost use Rattle.tf_wire.specs.declared.messages.Response.{Response as Message};
-ghost use Rattle.tf_remote.specs.Replies.{TellsRunning, TellsOutcome, TellsAny, IsRefused, IsFirstFrame, IsOutcomeFrame, TakesFor};
+ghost use Rattle.tf_remote.specs.Replies.{TellsRunning, TellsOutcome, TellsAny, IsFrameRefused, IsFirstFrame, IsOutcomeFrame, TakesFor};
 
 use crate::allowing::allows;
 use crate::receiving::{Stop, receive};
@@ -42,7 +42,7 @@ pub fn receive_reply<L: Link>(
 
 /// The outcome of an order whose reply stopped behind so many bytes.
 fn taken_for(stop: Stop, count: u32) -> Result<Outcome, Memory>
-    ensures { MatchResult result (IsStopped stop count) (λ _. stop ≡ Stop.Memory) }
+    ensures { MatchResult result (IsStopTaken stop count) (λ _. stop ≡ Stop.Memory) }
 {
     match stop {
         Stop::Refused => Ok(Outcome::Failed(Failure::BadReply(count))),
@@ -56,7 +56,7 @@ fn receive_running<L: Link>(alloc: Global, link: &mut L, id: u64) -> Result<u32,
     ensures came { MatchResult result
         (λ count. BringsSome (IsFirstFrame id count) (seen L.left L.sent L.faults L.ends link.old)
         (seen L.left L.sent L.faults L.ends link.new))
-        (Stops IsPart (IsRefused (TellsRunning id)) (seen L.left L.sent L.faults L.ends link.old)
+        (StopsFrame IsPart (IsFrameRefused (TellsRunning id)) (seen L.left L.sent L.faults L.ends link.old)
         (seen L.left L.sent L.faults L.ends link.new)) }
     ensures sent { L.sent link.new ≡ L.sent link.old }
 {
@@ -82,7 +82,7 @@ fn receive_outcome<L: Link>(
     ensures came { MatchResult result
         (λ outcome. BringsSome (IsOutcomeFrame order.now id outcome) (seen L.left L.sent L.faults L.ends link.old)
         (seen L.left L.sent L.faults L.ends link.new))
-        (Stops IsPart (IsRefused (TellsAny order.now id)) (seen L.left L.sent L.faults L.ends link.old)
+        (StopsFrame IsPart (IsFrameRefused (TellsAny order.now id)) (seen L.left L.sent L.faults L.ends link.old)
         (seen L.left L.sent L.faults L.ends link.new)) }
     ensures sent { L.sent link.new ≡ L.sent link.old }
 {

@@ -1,7 +1,7 @@
 ghost use Rattle.std.specs.Prelude.{◌≡◌, ◌<◌, ◌≤◌, ◌^◌, length, true, IfOk};
 ghost use Rattle.tf_actions.specs.Far.{is_sent};
 ghost use Rattle.tf_actions.specs.Whole.{IsWhole};
-ghost use Rattle.tf_remote.specs.Asking.{IsReadBack};
+ghost use Rattle.tf_remote.specs.Asking.{IsRequestBack};
 ghost use Rattle.tf_remote.specs.Requests.{kind_asked, words_asked, pairs_asked, request_for, frame_for};
 
 use std::alloc::Global;
@@ -16,7 +16,7 @@ pub fn frame_of(alloc: Global, id: u64, order: &Order) -> Result<Vec<u8>, Memory
     requires sent { is_sent order.now ≡ true }
     requires small { id < 2 ^ 63 }
     ensures frame { IfOk result (λ frame. frame.items ≡ frame_for order.now id) }
-    ensures read_back { IfOk result (λ _. IsReadBack order.now id) }
+    ensures read_back { IfOk result (λ _. IsRequestBack order.now id) }
 {
     let request = request_of(alloc, id, order)?;
     let mut frame = Vec::new(alloc);
