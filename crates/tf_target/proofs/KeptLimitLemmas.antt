@@ -26,7 +26,7 @@ use Rattle.tf_flow.specs.declared.nested.Flow.{Flow}
 use Rattle.tf_target.specs.Kept.{names_among, kept_among, joins_kept, kept_head, kept_tree, pick_first, elements_kept}
 use Rattle.tf_target.proofs.KeepingLemmas.{picked_trees}
 use Rattle.tf_target.proofs.WithinLemmas.{Within, within_front, within_map, within_filter, filter_within, still_no_element, still_once}
-use Rattle.tf_target.proofs.LimitLemmas.{places_kept, members_kept, no_deeper, links_good}
+use Rattle.tf_target.proofs.LimitLemmas.{places_kept, members_kept, no_deeper, all_fit, names_once, ends_known, links_good, atoms_good}
 
 -- ---- what is kept of a flow
 

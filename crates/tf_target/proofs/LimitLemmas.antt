@@ -126,7 +126,7 @@ module _ (name : List ℕ) (level less : Level) (order part : List Place)
   still_fits deep flat store limit.Comparisons le none = each_fits limit.Comparisons none
   still_fits deep flat store limit.Plan le none = within_limit 1048576 (capped (plan_len whole store)) (capped (plan_len left store)) (omega (arith, bytes_fewer)) none
 
-  all_fit : (deep flat : ℕ) (store : List Bind) (which : List Limit) → flat ≤ deep → first_some (limit_fault deep whole store) which ≡ None → first_some (limit_fault flat left store) which ≡ None
+  pub all_fit : (deep flat : ℕ) (store : List Bind) (which : List Limit) → flat ≤ deep → first_some (limit_fault deep whole store) which ≡ None → first_some (limit_fault flat left store) which ≡ None
   all_fit deep flat store [] le none = refl
   all_fit deep flat store (first ∷ others) le none =
       let both = neither_there (limit_fault deep whole store first) (first_some (limit_fault deep whole store) others) none in
@@ -135,18 +135,18 @@ module _ (name : List ℕ) (level less : Level) (order part : List Place)
 
   -- ---- rules
 
-  names_once : duplicate whole ≡ None → duplicate left ≡ None
+  pub names_once : duplicate whole ≡ None → duplicate left ≡ None
   names_once none =
       ap (option_map (λ n. fault.Duplicate n)) (still_once same_name (map name_at left) (map name_at whole)
       (subst (λ (n : List ℕ). Within (n ∷ map name_at part) (level.name ∷ map name_at order)) (sym same_name_is) (left_in level.name (map name_at part) (map name_at order) (within_map name_at part order rest)))
       (none_mapped (λ n. fault.Duplicate n) (first_again same_name (map name_at whole)) none))
 
-  ends_known : first_some (stray_end (member_names less.members)) less.links ≡ None → unknown whole ≡ None → unknown left ≡ None
+  pub ends_known : first_some (stray_end (member_names less.members)) less.links ≡ None → unknown whole ≡ None → unknown left ≡ None
   ends_known here none =
       let both = neither_there (unknown_at (at_flow level)) (first_some unknown_at order) (none_mapped (λ n. fault.Unknown n) (first_some unknown_at whole) none) in
       ap (option_map (λ n. fault.Unknown n)) (ap (λ o. option_or o (first_some unknown_at part)) here ∙ still_nothing unknown_at part order rest both.1)
 
-  atoms_good : (store : List Bind) → bad_atom name store whole ≡ None → bad_atom name store left ≡ None
+  pub atoms_good : (store : List Bind) → bad_atom name store whole ≡ None → bad_atom name store left ≡ None
   atoms_good store none = either (has_twice (bind_symbols store)) (none_mapped (λ n. fault.BadAtom n) (if has_twice (bind_symbols store) then Some name else first_some bad_atom_at whole) none)
     where
       either : (b : Bool) → (if b then Some name else first_some bad_atom_at whole) ≡ None → option_map (λ n. fault.BadAtom n) (if b then Some name else first_some bad_atom_at left) ≡ None
