@@ -38,6 +38,7 @@ answer_status (words.Resume book want stop) past = is_done refl
 answer_status (words.Show book) past = is_done refl
 answer_status (words.Reset book) past = is_done refl
 answer_status (words.Check file sets target) past = is_done refl
+answer_status (words.Audit file log sets defer) past = is_done refl
 answer_status (words.Demo seed size book hands) past = is_done refl
 answer_status (words.Worker address sessions) past = is_done refl
 answer_status (words.Post board name priority details) past = is_done refl

@@ -6,7 +6,7 @@ use Rattle.tf_numbers.proofs.TruthLemmas.{and_first, and_second}
 use Rattle.tf_words.specs.Addresses.{worker_of, address_of, sessions_in}
 use Rattle.tf_words.specs.Boards.{id_in, Applied, post_of, owner_of, list_of, applied_in, priority_in, details_in}
 use Rattle.tf_words.specs.Options.{Said}
-use Rattle.tf_words.specs.Commands.{hands_in, deferral_in, stop_in, target_in, try_of, run_of, resume_of, show_of, reset_of, check_of, demo_of, asked_by}
+use Rattle.tf_words.specs.Commands.{hands_in, deferral_in, stop_in, target_in, try_of, run_of, resume_of, show_of, reset_of, check_of, audit_of, demo_of, asked_by}
 use Rattle.tf_values.specs.Name.{is_name}
 use Rattle.tf_words.specs.Demos.{IsDemo}
 use Rattle.tf_words.specs.Numbers.{is_number, number_between}
@@ -93,6 +93,14 @@ check_other said (file ∷ pairs) seed size name hands is =
     let b = map_some _ (sets_behind [] pairs) (asked.Demo seed size name hands) a.2 in
     let other = b.2 in cc
 
+audit_other : (said : Said) (words : List (List ℕ)) (seed size : ℕ) (name : List ℕ) (hands : ℕ) → audit_of said words ≡ Some (asked.Demo seed size name hands) → ⊥
+audit_other said [] seed size name hands is = cc
+audit_other said (file ∷ []) seed size name hands is = cc
+audit_other said (file ∷ log ∷ pairs) seed size name hands is =
+    let a = then_some _ (deferral_in said) (asked.Demo seed size name hands) is in
+    let b = map_some _ (sets_behind [] pairs) (asked.Demo seed size name hands) a.2 in
+    let other = b.2 in cc
+
 show_other : (words : List (List ℕ)) (seed size : ℕ) (name : List ℕ) (hands : ℕ) → show_of words ≡ Some (asked.Demo seed size name hands) → ⊥
 show_other [] seed size name hands is = cc
 show_other (book ∷ []) seed size name hands is = cc
@@ -148,6 +156,7 @@ asked_within verb.Resume said seed size name hands is = absurd (resume_other sai
 asked_within verb.Show said seed size name hands is = absurd (show_other (said []) seed size name hands is)
 asked_within verb.Reset said seed size name hands is = absurd (reset_other (said []) seed size name hands is)
 asked_within verb.Check said seed size name hands is = absurd (check_other said (said []) seed size name hands is)
+asked_within verb.Audit said seed size name hands is = absurd (audit_other said (said []) seed size name hands is)
 asked_within verb.Demo said seed size name hands is = demo_within said (said []) seed size name hands is
 asked_within verb.Worker said seed size name hands is = absurd (worker_other said (said []) seed size name hands is)
 asked_within verb.Post said seed size name hands is = absurd (post_other said (said []) seed size name hands is)

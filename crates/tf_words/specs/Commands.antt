@@ -75,6 +75,14 @@ check_of said (file ∷ pairs) =
     option_map (λ sets. asked.Check file sets target)
     (sets_behind [] pairs)) (target_in said)
 
+-- `audit FILE LOG [NAME=VALUE]...`
+abbrev pub audit_of : Said → List (List ℕ) → Option Asked
+audit_of said (file ∷ log ∷ pairs) =
+    option_and_then (λ defer.
+    option_map (λ sets. asked.Audit file log sets defer)
+    (sets_behind [] pairs)) (deferral_in said)
+audit_of said _ = None
+
 -- `demo SEED SIZE BOOK`
 abbrev pub demo_of : Said → List (List ℕ) → Option Asked
 demo_of said (seed ∷ size ∷ book ∷ []) =
@@ -92,6 +100,7 @@ asked_by verb.Resume said = resume_of said (said [])
 asked_by verb.Show said = show_of (said [])
 asked_by verb.Reset said = reset_of (said [])
 asked_by verb.Check said = check_of said (said [])
+asked_by verb.Audit said = audit_of said (said [])
 asked_by verb.Demo said = demo_of said (said [])
 asked_by verb.Worker said = worker_of said (said [])
 asked_by verb.Post said = post_of said (said [])

@@ -46,6 +46,7 @@ forms_of verb.Resume = hands ∷ stop_after ∷ []
 forms_of verb.Show = []
 forms_of verb.Reset = []
 forms_of verb.Check = target ∷ []
+forms_of verb.Audit = deferral ∷ []
 forms_of verb.Demo = hands ∷ []
 forms_of verb.Worker = sessions ∷ []
 forms_of verb.Post = urgency ∷ details ∷ []
@@ -65,6 +66,7 @@ verb_named word =
     else if same_word word (codes "show") then Some verb.Show
     else if same_word word (codes "reset") then Some verb.Reset
     else if same_word word (codes "check") then Some verb.Check
+    else if same_word word (codes "audit") then Some verb.Audit
     else if same_word word (codes "demo") then Some verb.Demo
     else if same_word word (codes "worker") then Some verb.Worker
     else None

@@ -53,6 +53,13 @@ pub enum Asked {
         sets: Binds,
         target: Option<Name>,
     },
+    /// Say whether a log can be that of runs of the flow of a file with these values, and else what stands against it.
+    Audit {
+        file: Text,
+        log: Text,
+        sets: Binds,
+        defer: bool,
+    },
     /// Run a flow that is made by numbers, and keep its history in a book.
     Demo {
         seed: u32,

@@ -3,7 +3,7 @@ ghost use Rattle.std.specs.List.{All};
 ghost use Rattle.tf_values.specs.Text.{is_text};
 ghost use Rattle.tf_words.specs.Held.{held_by, texts_in};
 ghost use Rattle.tf_words.specs.Commands.{asked_by as asked_in, deferral_in as deferral_said, hands_in as hands_said, stop_in as stop_said, target_in as target_said};
-ghost use Rattle.tf_words.specs.Commands.{try_of as try_said, run_of as run_said, resume_of as resume_said, show_of as show_said, reset_of as reset_said, check_of as check_said, demo_of as demo_said};
+ghost use Rattle.tf_words.specs.Commands.{try_of as try_said, run_of as run_said, resume_of as resume_said, show_of as show_said, reset_of as reset_said, check_of as check_said, audit_of as audit_said, demo_of as demo_said};
 
 use crate::addresses::worker_of;
 use crate::asked::Asked;
@@ -30,6 +30,7 @@ pub fn asked_by(alloc: Global, verb: Verb, given: &Given<'_>) -> Result<Option<A
         Verb::Show => show_of(alloc, words),
         Verb::Reset => reset_of(alloc, words),
         Verb::Check => check_of(alloc, given, words),
+        Verb::Audit => audit_of(alloc, given, words),
         Verb::Demo => demo_of(alloc, given, words),
         Verb::Worker => worker_of(alloc, given, words),
         Verb::Post => post_of(alloc, given, words),
@@ -173,6 +174,30 @@ fn check_of(alloc: Global, given: &Given<'_>, words: &[&str]) -> Result<Option<A
     };
     let file = text_of(alloc, file)?;
     Ok(Some(Asked::Check { file, sets, target }))
+}
+
+/// `audit FILE LOG [NAME=VALUE]...`
+fn audit_of(alloc: Global, given: &Given<'_>, words: &[&str]) -> Result<Option<Asked>, Memory>
+    requires { All (λ word. is_text word.now ≡ true) words.now }
+    ensures { IfOk result (λ asked. asked ≡ audit_said (held_by given.now.matches) (texts_in words.now)) }
+{
+    let [file, log, pairs @ ..] = words else {
+        return Ok(None);
+    };
+    let Some(defer) = deferral_in(given) else {
+        return Ok(None);
+    };
+    let Some(sets) = sets_of(alloc, pairs)? else {
+        return Ok(None);
+    };
+    let file = text_of(alloc, file)?;
+    let log = text_of(alloc, log)?;
+    Ok(Some(Asked::Audit {
+        file,
+        log,
+        sets,
+        defer,
+    }))
 }
 
 /// `demo SEED SIZE BOOK`

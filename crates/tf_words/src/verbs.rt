@@ -13,6 +13,7 @@ pub enum Verb {
     Show,
     Reset,
     Check,
+    Audit,
     Demo,
     Worker,
     Post,
@@ -82,6 +83,8 @@ static RESUME: [Key; 2] = [HANDS, STOP_AFTER];
 
 static CHECK: [Key; 1] = [TARGET];
 
+static AUDIT: [Key; 1] = [DEFER_REVERTS];
+
 static DEMO: [Key; 1] = [HANDS];
 
 static WORKER: [Key; 1] = [SESSIONS];
@@ -100,6 +103,7 @@ pub fn keys_of(verb: Verb) -> &'static [Key]
         Verb::Run => &RUN,
         Verb::Resume => &RESUME,
         Verb::Check => &CHECK,
+        Verb::Audit => &AUDIT,
         Verb::Demo => &DEMO,
         Verb::Worker => &WORKER,
         Verb::Post => &POST,
@@ -183,6 +187,9 @@ fn verb_named(word: &[u8]) -> Option<Verb>
     }
     if word == b"check".as_slice() {
         return Some(Verb::Check);
+    }
+    if word == b"audit".as_slice() {
+        return Some(Verb::Audit);
     }
     if word == b"demo".as_slice() {
         return Some(Verb::Demo);
