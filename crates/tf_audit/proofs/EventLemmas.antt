@@ -112,10 +112,10 @@ pub record ReadsEntered (found : Option ℕ) (word rest : List ℕ) (entered : O
   pub is : (a : ℕ) (s : AtomState) (held : Payload) → found ≡ Some a → word ≡ atom_word s → is_payload_of s held ≡ true → IsPayload held → rest ≡ payload_rest held → entered ≡ Some (what.Atom a s held)
 
 -- the parts of a text with two words behind the first
-two_words : (a b : List ℕ) → (a ++ 32 ∷ b) ++ 10 ∷ [] ≡ a ++ 32 ∷ (b ++ 10 ∷ [])
+pub two_words : (a b : List ℕ) → (a ++ 32 ∷ b) ++ 10 ∷ [] ≡ a ++ 32 ∷ (b ++ 10 ∷ [])
 two_words a b = append_assoc a (32 ∷ b) (10 ∷ [])
 
-three_words : (a b c : List ℕ) → ((a ++ 32 ∷ b) ++ c) ++ 10 ∷ [] ≡ a ++ 32 ∷ (b ++ (c ++ 10 ∷ []))
+pub three_words : (a b c : List ℕ) → ((a ++ 32 ∷ b) ++ c) ++ 10 ∷ [] ≡ a ++ 32 ∷ (b ++ (c ++ 10 ∷ []))
 three_words a b c = append_assoc (a ++ 32 ∷ b) c (10 ∷ []) ∙ append_assoc a (32 ∷ b) (c ++ 10 ∷ [])
 
 atom_read : (plan : PlanValue) (task : Bool) (a : ℕ) (s : AtomState) (held : Payload) (n : List ℕ) → slice_get (numbering.atoms plan) a ≡ Some n → is_name n ≡ true → is_payload_of s held ≡ true → IsPayload held

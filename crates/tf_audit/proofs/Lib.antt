@@ -10,3 +10,8 @@ pub mod FeedLemmas
 pub mod LawLemmas
 pub mod KeepLemmas
 pub mod ProgressLemmas
+pub mod OneLemmas
+pub mod EntryLemmas
+pub mod FaultLemmas
+pub mod LogLineLemmas
+pub mod UniqueLemmas

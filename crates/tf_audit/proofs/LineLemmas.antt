@@ -17,7 +17,7 @@ use Rattle.tf_audit.specs.Words.{IsFirstWord}
 use Rattle.tf_audit.proofs.NumberLemmas.{number_unbroken}
 
 -- the words of a line, one behind another
-line_words : (plan : Outline) (number : ℕ) (e : Entry) (text : List ℕ) → text ≡ line plan number e → text ≡ decimal number ++ 32 ∷ (decimal e.hand ++ 32 ∷ (what_text plan e.what ++ 10 ∷ []))
+pub line_words : (plan : Outline) (number : ℕ) (e : Entry) (text : List ℕ) → text ≡ line plan number e → text ≡ decimal number ++ 32 ∷ (decimal e.hand ++ 32 ∷ (what_text plan e.what ++ 10 ∷ []))
 unfolding line
 line_words plan number e text is =
     is

@@ -8,3 +8,4 @@ pub mod Verdicts
 pub mod Starts
 pub mod Kept
 pub mod Progress
+pub mod Texts

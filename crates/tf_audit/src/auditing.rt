@@ -16,6 +16,13 @@ use tf_flow::Plan;
 use tf_machine::{BuildFault, Machine};
 use tf_values::Memory;
 
+/// A verdict, and the machine that followed the log: it still has the plan.
+#[derive(Drop)]
+pub struct Audited {
+    pub machine: Machine,
+    pub verdict: Verdict,
+}
+
 /// The verdict on a log of the plan's runs, from their first entry on. A plan of which no machine can be made is refused as
 /// it is by the machine.
 pub fn audit(alloc: Global, plan: Plan, log: &[u8]) -> Result<Verdict, BuildFault>
@@ -26,17 +33,19 @@ pub fn audit(alloc: Global, plan: Plan, log: &[u8]) -> Result<Verdict, BuildFaul
 {
     match Machine::make(alloc, plan) {
         Ok(machine) => {
-            let verdict = audit_with(alloc, machine, log)?;
+            let Audited { machine, verdict } = audit_with(alloc, machine, log)?;
+            drop(machine);
             Ok(verdict)
         }
         Err(fault) => Err(fault),
     }
 }
 
-/// The verdict on a log of runs of the machine's plan.
-fn audit_with(alloc: Global, machine: Machine, log: &[u8]) -> Result<Verdict, Memory>
+/// The verdict on a log of runs of the plan of a machine before a run.
+pub fn audit_with(alloc: Global, machine: Machine, log: &[u8]) -> Result<Audited, Memory>
     requires { StandsFor machine [] }
-    ensures { IfOk result (IsVerdict (outline machine) log.now) }
+    ensures verdict { IfOk result (λ audited. IsVerdict (outline machine) log.now audited.verdict) }
+    ensures plan { IfOk result (λ audited. audited.machine.plan ≡ machine.plan) }
 {
     let mut progress = Progress::make(alloc, machine)?;
     let mut rest = log;
@@ -44,9 +53,16 @@ fn audit_with(alloc: Global, machine: Machine, log: &[u8]) -> Result<Verdict, Me
     while let Some((text, behind)) = first_line(rest) {
         line += 1;
         if let Some(why) = progress.follow(alloc, text)? {
-            return Ok(Verdict::Bad { line, why });
+            return Ok(Audited {
+                machine: progress.machine,
+                verdict: Verdict::Bad { line, why },
+            });
         }
         rest = behind;
     }
-    Ok(progress.legal())
+    let verdict = progress.legal();
+    Ok(Audited {
+        machine: progress.machine,
+        verdict,
+    })
 }

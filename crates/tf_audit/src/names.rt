@@ -73,3 +73,14 @@ fn flows_are_named(plan: &Plan)
         plan.flow_name(flow).bytes();
     }
 }
+
+/// The name of the atom of that number, and nothing where there is none.
+#[tactic(auto, using(tf_model::proofs::PlanLemmas::name_told, tf_report::proofs::LineLemmas::atom_past, tf_model::proofs::PlanLemmas::atoms_counted))]
+pub fn name_of_atom(plan: &Plan, atom: u16) -> &[u8]
+    ensures { result.now ≡ atom_name (outline_of plan.now) atom }
+{
+    if atom >= plan.atoms() {
+        return b"";
+    }
+    plan.atom_name(atom).bytes()
+}

@@ -40,6 +40,7 @@ impl Progress {
         ensures ready { IfOk result CanGoOn }
         ensures begun { IfOk result (HasCome (outline machine) []) }
         ensures few { IfOk result (λ progress. progress.entries ≡ 0) }
+        ensures plan { IfOk result (λ progress. progress.machine.plan ≡ machine.plan) }
     {
         let plan = machine.plan();
         names_are_names(plan);
@@ -60,6 +61,7 @@ impl Progress {
         ensures ready { OnOk result (CanGoOn self.new) }
         ensures few { self.new.entries ≤ self.old.entries + 1 }
         ensures follows { IfOk result (TakesLine self.old self.new text.now) }
+        ensures plan { self.new.machine.plan ≡ self.old.machine.plan }
     {
         if is_passed_over(text) {
             return Ok(None);
@@ -75,6 +77,7 @@ impl Progress {
         ensures ready { OnOk result (CanGoOn self.new) }
         ensures few { self.new.entries ≤ self.old.entries + 1 }
         ensures follows { IfOk result (TakesLine self.old self.new text.now) }
+        ensures plan { self.new.machine.plan ≡ self.old.machine.plan }
     {
         let Some(read) = read_line(alloc, self.machine.plan(), &self.flows, text)? else {
             return Ok(Some(Why::Unreadable));
@@ -92,6 +95,7 @@ impl Progress {
         ensures ready { OnOk result (CanGoOn self.new) }
         ensures few { self.new.entries ≤ self.old.entries + 1 }
         ensures takes { IfOk result (TakesEntry self.old self.new entry) }
+        ensures plan { self.new.machine.plan ≡ self.old.machine.plan }
     {
         let asked = order_asked(alloc, &self.machine, &entry.what)?;
         let fits = fits(alloc, &self.machine, self.orders.as_slice(), &entry)?;

@@ -137,6 +137,7 @@ module _ {K : Type 0} (state : K → DeskState) (gives : Order → Outcome → T
       → Obeys state gives stopped command files hired after_hiring entry now status → Goes gives able (file_of_command command) (state entry) (state now)
   obeys_goes stopped (asked.Try file sets defer hands target) files hired after_hiring entry now status allow told obeys = untouched obeys.1.0
   obeys_goes stopped (asked.Check file sets target) files hired after_hiring entry now status allow told obeys = untouched obeys.1.1
+  obeys_goes stopped (asked.Audit file log sets defer) files hired after_hiring entry now status allow told obeys = untouched obeys.1.1
   obeys_goes stopped (asked.Run file book sets defer hands stop target) files hired after_hiring entry now status allow told obeys =
       file_goes book (state entry) (state now) status (λ tree did. runs_way book hired after_hiring (state entry) (state now) tree status (allow hands refl) told did) obeys
   obeys_goes stopped (asked.Resume book hands stop) files hired after_hiring entry now status allow told obeys = about book refl (resumes_way book hired after_hiring (state entry) (state now) status (allow hands refl) told obeys)

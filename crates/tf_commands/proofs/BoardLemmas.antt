@@ -27,6 +27,16 @@ board_apart status (is_out a) = (λ is. omega (arith, a, is), λ is. omega (arit
 board_apart status (is_full a) = (λ is. omega (arith, a, is), λ is. omega (arith, a, is), λ is. omega (arith, a, is), λ is. omega (arith, a, is))
 board_apart status (is_refused a) = (λ is. omega (arith, a, is), λ is. omega (arith, a, is), λ is. omega (arith, a, is), λ is. omega (arith, a, is))
 
+-- nor a log
+pub board_no_log : (status : ℕ) → IsBoardStatus status → status ≢ 17
+board_no_log status (is_done a) = λ is. omega (arith, a, is)
+board_no_log status (is_failed a) = λ is. omega (arith, a, is)
+board_no_log status (is_no_board a) = λ is. omega (arith, a, is)
+board_no_log status (is_unsaid a) = λ is. omega (arith, a, is)
+board_no_log status (is_out a) = λ is. omega (arith, a, is)
+board_no_log status (is_full a) = λ is. omega (arith, a, is)
+board_no_log status (is_refused a) = λ is. omega (arith, a, is)
+
 -- the causes of a command on a board
 pub board_causes : {old now : DeskState} {status : ℕ} → board.HasCauses old now status → IsBoardStatus status → HasEachCause status (counts_of old 0 0) (counts_of now 0 0)
 board_causes {old} {now} {status} causes ended =
@@ -65,6 +75,7 @@ hires_none (asked.Resume book hands stop) is = absurd (cc)
 hires_none (asked.Show book) is = absurd (cc)
 hires_none (asked.Reset book) is = absurd (cc)
 hires_none (asked.Check file sets target) is = absurd (cc)
+hires_none (asked.Audit file log sets defer) is = absurd (cc)
 hires_none (asked.Demo seed size book hands) is = absurd (cc)
 hires_none (asked.Worker address sessions) is = absurd (cc)
 
@@ -125,5 +136,6 @@ module _ {K : Type 0} (state : K → DeskState) where
   obeys_board gives stopped (asked.Show book) files hired after_hiring entry now status is does same = absurd (cc)
   obeys_board gives stopped (asked.Reset book) files hired after_hiring entry now status is does same = absurd (cc)
   obeys_board gives stopped (asked.Check file sets target) files hired after_hiring entry now status is does same = absurd (cc)
+  obeys_board gives stopped (asked.Audit file log sets defer) files hired after_hiring entry now status is does same = absurd (cc)
   obeys_board gives stopped (asked.Demo seed size book hands) files hired after_hiring entry now status is does same = absurd (cc)
   obeys_board gives stopped (asked.Worker address sessions) files hired after_hiring entry now status is does same = absurd (cc)

@@ -18,33 +18,45 @@ use Rattle.tf_commands.specs.Course as course
 use Rattle.tf_commands.specs.Course.{Course, Obeys, source_so, IsRefused, IsBoardRefused}
 use Rattle.tf_commands.specs.Saying.{OnlySays}
 use Rattle.tf_commands.specs.declared.reading.Source.{Source}
-use Rattle.tf_commands.proofs.BoardLemmas.{board_apart, board_refuses}
-use Rattle.tf_commands.proofs.EndLemmas.{Ended, works_ended, ended_apart, tries_ended, checks_ended, runs_ended, demonstrates_ended, resumes_ended, shows_ended, resets_ended, ended_unrefused}
+use Rattle.tf_commands.specs.Auditing.{IsLogRefused, log_asked_for}
+use Rattle.tf_commands.proofs.AuditLemmas.{AuditStatus, audit_status, audit_usage, audit_refused, audit_unrefused, audit_log_refused}
+use Rattle.tf_commands.proofs.BoardLemmas.{board_apart, board_no_log, board_refuses}
+use Rattle.tf_commands.proofs.EndLemmas.{Ended, works_ended, ended_apart, tries_ended, checks_ended, runs_ended, demonstrates_ended, resumes_ended, shows_ended, resets_ended, ended_unrefused, ended_no_log}
 use Rattle.tf_report.proofs.ClosingLemmas.{closes_status}
-use Rattle.tf_commands.proofs.FileLemmas.{FileStatus, file_status, file_unrefused, file_usage, file_refused}
+use Rattle.tf_commands.proofs.FileLemmas.{FileStatus, file_status, file_unrefused, file_usage, file_refused, file_no_log}
 use Rattle.tf_commands.proofs.WorkLemmas.{works_one}
 
 -- ---- what the words ask for
 
 data AskedStatus (command : Asked) (files : Contents) (status : ℕ) : Type 0 where
   by_file : (source : Source) → file_asked_for command ≡ Some source → FileStatus files source status → AskedStatus command files status
+  by_log : (source : Source) (log : List ℕ) → file_asked_for command ≡ Some source → log_asked_for command ≡ Some log → AuditStatus files source log status → AskedStatus command files status
   by_book : Ended status → AskedStatus command files status
   by_board : is_some (board_of command) ≡ true → IsBoardStatus status → AskedStatus command files status
 
 status_usage : (command : Asked) (files : Contents) (status : ℕ) → AskedStatus command files status → status ≡ 2 → ⊥
 status_usage command files status (by_file source about is) two = file_usage files source status is two
+status_usage command files status (by_log source log file about is) two = audit_usage files source log status is two
 status_usage command files status (by_book ended) two = ended_apart status 2 ended two (inl refl)
 status_usage command files status (by_board about ended) two = (board_apart status ended).0 two
 
 status_refused : (words : List (List ℕ)) (files : Contents) (command : Asked) (status : ℕ) → asked_for words ≡ Some command → AskedStatus command files status → status ≡ 4 → IsRefused words files
 status_refused words files command status asks (by_file source about is) four = file_refused words files command source status asks about is four
+status_refused words files command status asks (by_log source log file about is) four = audit_refused words files command source log status asks file is four
 status_refused words files command status asks (by_book ended) four = absurd (ended_apart status 4 ended four (inr (inr refl)))
 status_refused words files command status asks (by_board about ended) four = absurd ((board_apart status ended).2 four)
 
 status_of_board : (command : Asked) (files : Contents) (status : ℕ) → AskedStatus command files status → status ≡ 15 → is_some (board_of command) ≡ true
 status_of_board command files status (by_file source about is) fifteen = absurd (file_unrefused files source status is fifteen)
+status_of_board command files status (by_log source log file about is) fifteen = absurd (audit_unrefused files source log status is fifteen)
 status_of_board command files status (by_book ended) fifteen = absurd (ended_unrefused status ended fifteen)
 status_of_board command files status (by_board about ended) fifteen = about
+
+status_log_refused : (words : List (List ℕ)) (files : Contents) (command : Asked) (status : ℕ) → asked_for words ≡ Some command → AskedStatus command files status → status ≡ 17 → IsLogRefused words files
+status_log_refused words files command status asks (by_file source about is) last = absurd (file_no_log files source status is last)
+status_log_refused words files command status asks (by_log source log file about is) last = audit_log_refused words files command source log status asks file about is last
+status_log_refused words files command status asks (by_book ended) last = absurd (ended_no_log status ended last)
+status_log_refused words files command status asks (by_board about ended) last = absurd (board_no_log status ended last)
 
 module _ {K : Type 0} (state : K → DeskState) where
   asked_status : (gives : Order → Outcome → Type 0) (asked_so : Type 0) (command : Asked) (files : Contents) (hired after_hiring : Option (List Want)) (entry now : K) (status : ℕ)
@@ -55,6 +67,8 @@ module _ {K : Type 0} (state : K → DeskState) where
   asked_status gives asked_so (asked.Check file sets target) files hired after_hiring entry now status obeys =
       by_file (source_so file sets false target) refl (file_status files (source_so file sets false target) _ _ (state entry).shown (state now).shown status
       (λ plan did. checks_ended (state entry).shown (state now).shown _ status did) obeys.0)
+  asked_status gives asked_so (asked.Audit file log sets defer) files hired after_hiring entry now status obeys =
+      by_log (source_so file sets defer None) log refl refl (audit_status files (source_so file sets defer None) log (state entry).shown (state now).shown status _ obeys.0)
   asked_status gives asked_so (asked.Run file book sets defer hands stop target) files hired after_hiring entry now status obeys =
       by_file (source_so file sets defer target) refl (file_status files (source_so file sets defer target) _ _ (state entry).shown (state now).shown status
       (λ plan did. runs_ended book hired after_hiring (state entry) (state now) plan status did) obeys)
@@ -123,6 +137,7 @@ module _ {K : Type 0} (state : K → DeskState) where
   on_board gives asked_so words (asked.Show book) files hired after_hiring entry now status asks about obeys is = absurd (cc)
   on_board gives asked_so words (asked.Reset book) files hired after_hiring entry now status asks about obeys is = absurd (cc)
   on_board gives asked_so words (asked.Check file sets target) files hired after_hiring entry now status asks about obeys is = absurd (cc)
+  on_board gives asked_so words (asked.Audit file log sets defer) files hired after_hiring entry now status asks about obeys is = absurd (cc)
   on_board gives asked_so words (asked.Demo seed size book hands) files hired after_hiring entry now status asks about obeys is = absurd (cc)
   on_board gives asked_so words (asked.Worker address sessions) files hired after_hiring entry now status asks about obeys is = absurd (cc)
 
@@ -134,6 +149,18 @@ module _ {K : Type 0} (state : K → DeskState) where
       absurd (⊎_elim (λ is. omega (arith, is, fifteen)) (λ is. omega (arith, is, fifteen)) (closes_status (state entry).shown (state now).shown _ 2 status closes))
   board_tells {gives} {asked_so} words files hired after_hiring entry now status (course.obeyed command asks obeys) fifteen =
       on_board gives asked_so words command files hired after_hiring entry now status asks (status_of_board command files status (asked_status gives asked_so command files hired after_hiring entry now status obeys) fifteen) obeys fifteen
+
+-- ---- status 17
+
+module _ {K : Type 0} (state : K → DeskState) where
+  -- status 17 comes only where a log is refused
+  pub log_tells : {gives : Order → Outcome → Type 0} {asked_so : Type 0} (words : List (List ℕ)) (files : Contents) (hired after_hiring : Option (List Want)) (entry now : K) (status : ℕ)
+      → Course state gives asked_so words files hired after_hiring entry now status → status ≡ 17 → IsLogRefused words files
+  log_tells words files hired after_hiring entry now status (course.unheard is same still) last = absurd (omega (arith, is, last))
+  log_tells words files hired after_hiring entry now status (course.no_command none closes still) last =
+      absurd (⊎_elim (λ is. omega (arith, is, last)) (λ is. omega (arith, is, last)) (closes_status (state entry).shown (state now).shown _ 2 status closes))
+  log_tells {gives} {asked_so} words files hired after_hiring entry now status (course.obeyed command asks obeys) last =
+      status_log_refused words files command status asks (asked_status state gives asked_so command files hired after_hiring entry now status obeys) last
 
 -- ---- causes
 

@@ -21,6 +21,7 @@ use Rattle.tf_words.specs.declared.asked.Asked.TheVariants as asked
 use Rattle.tf_board.proofs.DoesLemmas.{complete_so}
 use Rattle.tf_commands.specs.Accepted.{demo_tree}
 use Rattle.tf_commands.specs.Asking.{asked_for}
+use Rattle.tf_commands.specs.Auditing.{Audits}
 use Rattle.tf_commands.specs.Books.{Unopened, exhausted, disk_failed, no_book, Unhired, exhausted_hire, unhired, Promised, Runs, unopened, forbidden, unhired_run, ran, Demonstrates, ungenerated, demonstrated, Resumes, unopened_again, empty, unhired_again, resumed, ShowsBook, unopened_show, nothing_shown, shown_whole, ResetsBook, unopened_reset, nothing_put_back, reset_forbidden, was_reset}
 use Rattle.tf_commands.specs.Causes.{Counts, HasEachCause, HasNoFault}
 use Rattle.tf_commands.specs.Course as course
@@ -32,6 +33,7 @@ use Rattle.tf_commands.specs.Run.{spoken_run, heading_of, stop_status, MayRun, R
 use Rattle.tf_report.specs.Closing.{ClosesWithOrStops}
 use Rattle.tf_report.proofs.ClosingLemmas.{closes_status}
 use Rattle.tf_commands.proofs.EndLemmas.{Ended, is_complete, is_failed, is_no_book, is_unsaid, is_unhired, is_forbidden, is_suspended, ran_ended, ran_suspended}
+use Rattle.tf_commands.proofs.AuditLemmas.{audit_status, audits_whole, audits_well}
 use Rattle.tf_commands.proofs.FileLemmas.{accepted_done}
 use Rattle.tf_commands.proofs.FlowLemmas.{no_book_held, flow_held}
 use Rattle.tf_commands.proofs.WorkLemmas.{works_one}
@@ -144,6 +146,10 @@ done_or_out : (status : ℕ) (does : PlanTree → ℕ → Type 0) → ((plan : P
 done_or_out status does well (inl out) = inr out
 done_or_out status does well (inr did) = well did.0 did.1
 
+audited_whole : (status : ℕ) (does : PlanTree → ℕ → Type 0) → ((plan : PlanTree) → does plan status → status ≡ 4 → ⊥) → (status ≡ 9) ⊎ ((plan : PlanTree) × does plan status) → ¬ (status ≡ 4)
+audited_whole status does whole (inl out) four = omega (arith, out, four)
+audited_whole status does whole (inr did) four = whole did.0 did.1 four
+
 reset_said_well : (plan : PlanValue) (past : List Entry) (text : List ℕ) (wanted status : ℕ) → IsUnhurt status → IsResetSaid plan past text wanted → status ≡ wanted → IsResetComplete status
 reset_said_well plan past text wanted status u (all_back pending) same = inl same
 reset_said_well plan past text wanted status u (disk_failed_back e next) same = absurd (u.sound same)
@@ -220,6 +226,7 @@ out_complete (asked.Resume book hands stop) status is = out_well_by stop status 
 out_complete (asked.Show book) status is = inr is
 out_complete (asked.Check file sets target) status is = inr is
 out_complete (asked.Reset book) status is = inr (inl is)
+out_complete (asked.Audit file log sets defer) status is = inr is
 out_complete (asked.Demo seed size book hands) status is = out_well status is
 out_complete (asked.Worker address sessions) status is = inr is
 out_complete (asked.Post board name priority details) status is = inr (inl is)
@@ -239,6 +246,11 @@ module _ {K : Type 0} (state : K → DeskState) where
   asked_well gives asked_so (asked.Check file sets target) files hired after_hiring entry now status u unasked ready obeys =
       done_or_out status (Checks (state entry).shown (state now).shown) (λ plan did. checks_well (state entry).shown (state now).shown _ status u did)
       (accepted_done files (source_so file sets false target) _ _ (state entry).shown (state now).shown status ready u.readable u.sayable obeys.0)
+  asked_well gives asked_so (asked.Audit file log sets defer) files hired after_hiring entry now status u unasked ready obeys =
+      audits_well files (source_so file sets defer None) log status u.readable u.sayable
+      (audited_whole status (Audits files log (state entry).shown (state now).shown) (λ plan did. audits_whole files log (state entry).shown (state now).shown plan status did)
+      (accepted_done files (source_so file sets defer None) _ _ (state entry).shown (state now).shown status ready.0 u.readable u.sayable obeys.0))
+      ready.1 (audit_status files (source_so file sets defer None) log (state entry).shown (state now).shown status _ obeys.0)
   asked_well gives asked_so (asked.Run file book sets defer hands stop target) files hired after_hiring entry now status u unasked ready obeys =
       well_or_out stop status (Runs gives (spoken_run hands stop) asked_so book hired after_hiring (state entry) (state now))
       (λ plan did. runs_well book hired after_hiring (state entry) (state now) plan status u unasked ready.1.0 ready.1.1 did)

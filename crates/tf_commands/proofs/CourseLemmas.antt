@@ -136,6 +136,7 @@ within_so found (asked.Resume book hands stop) bounds few is = few (asked.Resume
 within_so found (asked.Show book) bounds few is = tt
 within_so found (asked.Reset book) bounds few is = tt
 within_so found (asked.Check file sets target) bounds few is = tt
+within_so found (asked.Audit file log sets defer) bounds few is = tt
 within_so found (asked.Worker address sessions) bounds few is = tt
 within_so found (asked.Post board name priority details) bounds few is = tt
 within_so found (asked.Claim board id owner) bounds few is = tt

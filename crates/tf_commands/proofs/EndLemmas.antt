@@ -196,3 +196,17 @@ ended_unrefused status (is_unsaid a) is = omega (arith, a, is)
 ended_unrefused status (is_unhired a) is = omega (arith, a, is)
 ended_unrefused status (is_forbidden a) is = omega (arith, a, is)
 ended_unrefused status (is_suspended a) is = omega (arith, a, is)
+
+-- nor the refusal of a log
+pub ended_no_log : (status : ℕ) → Ended status → status ≡ 17 → ⊥
+ended_no_log status (is_complete (inl a)) is = omega (arith, a, is)
+ended_no_log status (is_complete (inr (inl a))) is = omega (arith, a, is)
+ended_no_log status (is_complete (inr (inr (inl a)))) is = omega (arith, a, is)
+ended_no_log status (is_complete (inr (inr (inr (inl a))))) is = omega (arith, a, is)
+ended_no_log status (is_complete (inr (inr (inr (inr a))))) is = omega (arith, a, is)
+ended_no_log status (is_failed a) is = omega (arith, a, is)
+ended_no_log status (is_no_book a) is = omega (arith, a, is)
+ended_no_log status (is_unsaid a) is = omega (arith, a, is)
+ended_no_log status (is_unhired a) is = omega (arith, a, is)
+ended_no_log status (is_forbidden a) is = omega (arith, a, is)
+ended_no_log status (is_suspended a) is = omega (arith, a, is)

@@ -10,7 +10,7 @@ use Rattle.tf_commands.specs.Course.{BytesRead, FileRead, IsRefused, passes_limi
 use Rattle.tf_commands.specs.declared.accepting.Refusal.{Refusal}
 use Rattle.tf_commands.specs.declared.reading.Source.{Source}
 use Rattle.tf_commands.proofs.AcceptLemmas.{gives_one}
-use Rattle.tf_commands.proofs.EndLemmas.{Ended, is_unsaid, out_ends, ended_apart, ended_unrefused}
+use Rattle.tf_commands.proofs.EndLemmas.{Ended, is_unsaid, out_ends, ended_apart, ended_unrefused, ended_no_log}
 use Rattle.tf_report.proofs.ClosingLemmas.{closes_status}
 
 -- what a status tells of a flow file
@@ -78,6 +78,12 @@ file_unrefused files source status (done_so ended) is = ended_unrefused status e
 file_unrefused files source status (not_read three) is = omega (arith, three, is)
 file_unrefused files source status (not_short four passes) is = omega (arith, four, is)
 file_unrefused files source status (not_plan four bytes why given none) is = omega (arith, four, is)
+
+pub file_no_log : (files : Contents) (source : Source) (status : ℕ) → FileStatus files source status → status ≡ 17 → ⊥
+file_no_log files source status (done_so ended) is = ended_no_log status ended is
+file_no_log files source status (not_read three) is = omega (arith, three, is)
+file_no_log files source status (not_short four passes) is = omega (arith, four, is)
+file_no_log files source status (not_plan four bytes why given none) is = omega (arith, four, is)
 
 pub file_usage : (files : Contents) (source : Source) (status : ℕ) → FileStatus files source status → status ≡ 2 → ⊥
 file_usage files source status (done_so ended) two = ended_apart status 2 ended two (inl refl)

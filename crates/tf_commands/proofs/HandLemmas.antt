@@ -5,7 +5,7 @@ use Rattle.tf_ports.specs.declared.crews.Want.TheVariants as want
 use Rattle.tf_values.specs.Name.{is_name}
 use Rattle.tf_words.specs.Addresses.{worker_of, address_of, sessions_in}
 use Rattle.tf_words.specs.Boards.{Applied, id_in, post_of, owner_of, list_of, applied_in, priority_in, details_in}
-use Rattle.tf_words.specs.Commands.{hands_in, deferral_in, stop_in, target_in, try_of, run_of, resume_of, show_of, reset_of, check_of, demo_of, asked_by}
+use Rattle.tf_words.specs.Commands.{hands_in, deferral_in, stop_in, target_in, try_of, run_of, resume_of, show_of, reset_of, check_of, audit_of, demo_of, asked_by}
 use Rattle.tf_words.specs.Numbers.{number_between}
 use Rattle.tf_words.specs.Options.{Said, once}
 use Rattle.tf_words.specs.Pairs.{sets_behind}
@@ -89,6 +89,11 @@ check_hands : (said : Said) (words : List (List ℕ)) → IfSome (check_of said 
 check_hands said [] = tt
 check_hands said (file ∷ pairs) = all_then HasHands _ (target_in said) (λ target is. all_map HasHands _ (sets_behind [] pairs) (λ sets. tt))
 
+audit_hands : (said : Said) (words : List (List ℕ)) → IfSome (audit_of said words) HasHands
+audit_hands said [] = tt
+audit_hands said (file ∷ []) = tt
+audit_hands said (file ∷ log ∷ pairs) = all_then HasHands _ (deferral_in said) (λ defer is. all_map HasHands _ (sets_behind [] pairs) (λ sets. tt))
+
 demo_of_hands : (said : Said) (seed size : ℕ) (book : List ℕ) (o : Option ℕ) → hands_in said ≡ o → IfSome (option_map (λ n. asked.Demo seed size book n) o) HasHands
 demo_of_hands said seed size book None is = tt
 demo_of_hands said seed size book (Some n) is = hands_within said n is
@@ -133,6 +138,7 @@ asked_hands verb.Resume said = resume_hands said (said [])
 asked_hands verb.Show said = show_hands (said [])
 asked_hands verb.Reset said = reset_hands (said [])
 asked_hands verb.Check said = check_hands said (said [])
+asked_hands verb.Audit said = audit_hands said (said [])
 asked_hands verb.Demo said = demo_hands said (said [])
 asked_hands verb.Worker said = worker_hands said (said [])
 asked_hands verb.Post said = post_hands said (said [])

@@ -14,6 +14,7 @@ pub mod ResetLemmas
 pub mod CourseLemmas
 pub mod EndLemmas
 pub mod FileLemmas
+pub mod AuditLemmas
 pub mod CompleteLemmas
 pub mod CauseLemmas
 pub mod OpenLemmas

@@ -22,6 +22,7 @@ is_done_here (asked.Resume book hands stop) = is_local hands
 is_done_here (asked.Show book) = true
 is_done_here (asked.Reset book) = true
 is_done_here (asked.Check file sets target) = true
+is_done_here (asked.Audit file log sets defer) = true
 is_done_here (asked.Demo seed size book hands) = true
 is_done_here (asked.Worker address sessions) = true
 is_done_here (asked.Post board name priority details) = true
@@ -76,9 +77,11 @@ IsWork command = ⊥
 abbrev pub AsksForWork : List (List ℕ) → Type 0
 AsksForWork words = (command : Asked) × (asked_for words ≡ Some command) × IsWork command
 
--- the flow file that a command is about, with the values that its store gets besides and the target up to which it goes; a check defers no reverts
+-- the flow file that a command is about, with the values that its store gets besides and the target up to which it goes; a check defers no reverts,
+-- and an audit has no target
 abbrev pub file_asked_for : Asked → Option Source
 file_asked_for (asked.Try file sets defer hands target) = Some (record { file = file; sets = sets; defer = defer; target = target })
 file_asked_for (asked.Run file book sets defer hands stop target) = Some (record { file = file; sets = sets; defer = defer; target = target })
 file_asked_for (asked.Check file sets target) = Some (record { file = file; sets = sets; defer = false; target = target })
+file_asked_for (asked.Audit file log sets defer) = Some (record { file = file; sets = sets; defer = defer; target = None })
 file_asked_for command = None

@@ -27,6 +27,7 @@ use Rattle.tf_report.specs.Closing.{ClosesWith, ClosesWithOrStops}
 use Rattle.tf_board.specs.Does.{Does, IsAllowed, IsBoardComplete}
 use Rattle.tf_target.specs.Target.{outline_in}
 use Rattle.tf_commands.specs.Accepted.{GivesPlan, GivesWhole, GivesNone, MayTarget}
+use Rattle.tf_commands.specs.Auditing.{Audits, RefusesLog}
 use Rattle.tf_commands.specs.Asking.{file_asked_for, asked_for, wanted_by}
 use Rattle.tf_commands.specs.Books.{Hires, Runs, Demonstrates, Resumes, ShowsBook, ResetsBook}
 use Rattle.tf_journal.specs.Start.{file_of}
@@ -115,7 +116,8 @@ abbrev pub IsUntouched : Option (List Want) → Option (List Want) → DeskState
 IsUntouched hired after_hiring entry now = (after_hiring ≡ hired) × NoFileChanges entry now
 
 module _ {K : Type 0} (state : K → DeskState) where
-  -- what becomes of what the words ask for, where a run may be suspended for a stop that was asked for; a trial changes no file and meets no fault of the disk, and a check changes none
+  -- what becomes of what the words ask for, where a run may be suspended for a stop that was asked for; a trial changes no file and meets no fault of the disk, and a
+  -- check and an audit change none
   abbrev pub Obeys : (Order → Outcome → Type 0) → Type 0 → Asked → Contents → Option (List Want) → Option (List Want) → K → K → ℕ → Type 0
   Obeys gives stopped (asked.Try file sets defer hands target) files hired after_hiring entry now status =
       FileRead files (source_so file sets defer target) (IsUntouched hired after_hiring (state entry) (state now))
@@ -123,6 +125,9 @@ module _ {K : Type 0} (state : K → DeskState) where
   Obeys gives stopped (asked.Check file sets target) files hired after_hiring entry now status =
       FileRead files (source_so file sets false target) (IsUntouched hired after_hiring (state entry) (state now))
       (Checks (state entry).shown (state now).shown) (state entry).shown (state now).shown status × IsUntouched hired after_hiring (state entry) (state now)
+  Obeys gives stopped (asked.Audit file log sets defer) files hired after_hiring entry now status =
+      FileRead files (source_so file sets defer None) (IsUntouched hired after_hiring (state entry) (state now))
+      (Audits files log (state entry).shown (state now).shown) (state entry).shown (state now).shown status × IsUntouched hired after_hiring (state entry) (state now)
   Obeys gives stopped (asked.Run file book sets defer hands stop target) files hired after_hiring entry now status =
       FileRead files (source_so file sets defer target) (IsUntouched hired after_hiring (state entry) (state now))
       (Runs gives (spoken_run hands stop) stopped book hired after_hiring (state entry) (state now)) (state entry).shown (state now).shown status
@@ -236,7 +241,8 @@ HasBook name entry is = IsTrue entry.tells × is (book_at entry name)
 abbrev pub HasBoard : List ℕ → DeskState → Asked → Type 0
 HasBoard name entry command = IsTrue entry.tells × IsAllowed command (board_in (file_of entry name))
 
--- nothing stands against what the words ask for: the flow file gives a plan, and the book or the board is as the command wants it
+-- nothing stands against what the words ask for: the flow file gives a plan, the book or the board is as the command wants it, and no line of a log
+-- can't be
 abbrev pub MayBeDone : Asked → Contents → DeskState → Type 0
 MayBeDone (asked.Try file sets defer hands target) files entry = IsAccepted (source_so file sets defer target) files
 MayBeDone (asked.Run file book sets defer hands stop target) files entry = IsAccepted (source_so file sets defer target) files × HasBook book entry HoldsNoFlow
@@ -244,6 +250,8 @@ MayBeDone (asked.Resume book hands stop) files entry = HasBook book entry HoldsF
 MayBeDone (asked.Show book) files entry = HasBook book entry HoldsFlow
 MayBeDone (asked.Reset book) files entry = HasBook book entry HoldsReverted
 MayBeDone (asked.Check file sets target) files entry = IsAccepted (source_so file sets false target) files
+MayBeDone (asked.Audit file log sets defer) files entry =
+    IsAccepted (source_so file sets defer None) files × ¬ (RefusesLog files (source_so file sets defer None) log)
 MayBeDone (asked.Demo seed size book hands) files entry = HasBook book entry HoldsNoFlow
 MayBeDone (asked.Worker address sessions) files entry = Unit {0}
 MayBeDone (asked.Post board name priority details) files entry = HasBoard board entry (asked.Post board name priority details)
@@ -262,6 +270,7 @@ IsComplete (asked.Resume book hands stop) status = IsRunCompleteBy stop status
 IsComplete (asked.Show book) status = IsDoneComplete status
 IsComplete (asked.Reset book) status = IsResetComplete status
 IsComplete (asked.Check file sets target) status = IsDoneComplete status
+IsComplete (asked.Audit file log sets defer) status = IsDoneComplete status
 IsComplete (asked.Demo seed size book hands) status = IsRunComplete status
 IsComplete (asked.Worker address sessions) status = IsDoneComplete status
 IsComplete (asked.Post board name priority details) status = IsBoardComplete status

@@ -7,6 +7,7 @@ pub mod Run
 pub mod Resets
 pub mod Durable
 pub mod Books
+pub mod Auditing
 pub mod Course
 pub mod Opened
 pub mod Runs

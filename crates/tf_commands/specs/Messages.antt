@@ -101,6 +101,10 @@ usage = codes "taskflow: usage\n"
 abbrev pub cannot_read : List ℕ
 cannot_read = codes "taskflow: cannot read\n"
 
+-- the message for a log that is longer than one may be
+abbrev pub log_too_long : List ℕ
+log_too_long = codes "taskflow: audit: too long\n"
+
 -- the message where no hand could be hired
 abbrev pub cannot_hire : List ℕ
 cannot_hire = codes "taskflow: cannot hire\n"

@@ -3,6 +3,7 @@
 #![tactic(auto)]
 
 mod accepting;
+mod auditing;
 mod boards;
 mod books;
 mod checking;

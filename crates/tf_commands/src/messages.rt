@@ -31,6 +31,9 @@ pub const CANNOT_LISTEN: &[u8] = b"taskflow: cannot listen\n";
 /// The message for a file that is longer than a flow file may be.
 pub const TOO_LONG: &[u8] = b"taskflow: flow file: too long\n";
 
+/// The message for a log that is longer than a log may be.
+pub const LOG_TOO_LONG: &[u8] = b"taskflow: audit: too long\n";
+
 /// The message for a book that holds no flow.
 pub const NO_FLOW: &[u8] = b"taskflow: no flow in the book\n";
 

@@ -51,6 +51,7 @@ pub fn open_file<K: Desk, S: Sources>(
     ensures unsaid { result ≡ Err UNSAID → Rises (K.state desk.old).out_faults (K.state desk.new).out_faults }
     ensures apart { (result ≢ Err UNHIRED) × (result ≢ Err DISK_FAILED) }
     ensures no_source_fall { S.faults sources.old ≤ S.faults sources.new }
+    ensures same_sources { S.contents sources.new ≡ S.contents sources.old }
 {
     match sources.read_all(alloc, &source.file) {
         Ok(bytes) => open_bytes(alloc, &bytes, source, desk),

@@ -2,11 +2,14 @@ ghost use Rattle.std.specs.Prelude.{◌≡◌, ◌≤◌, true, false, is_some, 
 ghost use Rattle.tf_board.specs.Answers.{board_of};
 ghost use Rattle.tf_desk.specs.Counts.{Rises};
 ghost use Rattle.tf_commands.specs.Asking.{is_local as wants_local, is_done_here as is_done, asked_for, if_done_here, IsWithin, want_of, IsWork, AsksForWork};
+ghost use Rattle.tf_commands.specs.Auditing.{IsLogRefused};
 ghost use Rattle.tf_commands.specs.Causes.{HasCausesOr, HasNoFault, WasAsked, counts_of};
 ghost use Rattle.tf_commands.specs.Course.{Course, HiresAsAsked, HiresAsWanted, Obeys, IsRefused, IsBoardRefused, MayBeDone, IsComplete};
+ghost use Rattle.tf_commands.specs.declared.auditing.TheConstants.{LOG_REFUSED};
 ghost use Rattle.tf_report.specs.declared.statuses.TheConstants.{BOARD_REFUSED};
 ghost use Rattle.tf_words.specs.declared.asked.Asked.{Asked as AnAsked};
 
+use crate::auditing::audit_file;
 use crate::boards::{is_of_board, on_board};
 use crate::checking::check_file;
 use crate::demoing::demo_book;
@@ -68,8 +71,12 @@ pub fn taskflow<K: Desk + Send, S: Sources, W: Crew, L: Door, R: Threads + Wait 
     // Status 15 comes only where the words are a command on a board which refuses it, by the commands that its file has.
     ensures board_refused { result.status ≡ BOARD_REFUSED → IsBoardRefused words.now (K.state outside.desk) }
 
+    // Status 17 comes only where the words are an audit, whose flow file gives a plan, and whose log is too long or has a
+    // line that can't be in a run of that plan.
+    ensures log_refused { result.status ≡ LOG_REFUSED → IsLogRefused words.now (S.contents outside.sources) }
+
     // A file that gives a plan is run to its end, or said to be in order, a book that holds a flow is resumed to its
-    // end, or shown, or put back, and a command is done on a board that doesn't refuse it, unless a count of faults
+    // end, or shown, or put back, a log none of whose lines can't be is said to be legal, and a command is done on a board that doesn't refuse it, unless a count of faults
     // rose (that of the door for a worker alone), a stop was asked for or memory ran out; 13 comes only as the course says, and 12 only where there is a
     // limit of entries.
     ensures complete { (command : AnAsked) → asked_for words.now ≡ Some command
@@ -172,7 +179,7 @@ fn is_done_here(asked: &Asked) -> bool
         Asked::Run { want, .. } => is_local(want),
         Asked::Resume { want, .. } => is_local(want),
         Asked::Show { .. } | Asked::Reset { .. } | Asked::Check { .. } => true,
-        Asked::Demo { .. } | Asked::Worker { .. } => true,
+        Asked::Audit { .. } | Asked::Demo { .. } | Asked::Worker { .. } => true,
         Asked::Post { .. }
         | Asked::Claim { .. }
         | Asked::Abandon { .. }
@@ -309,6 +316,21 @@ fn obey_flow<K: Desk + Send, S: Sources, W: Crew, L: Door, R: Threads + Wait + S
                 target,
             };
             let status = check_file(alloc, source, &mut desk, sources);
+            Over { desk, status }
+        }
+        Asked::Audit {
+            file,
+            log,
+            sets,
+            defer,
+        } => {
+            let source = Source {
+                file,
+                sets,
+                defer,
+                target: None,
+            };
+            let status = audit_file(alloc, source, &log, &mut desk, sources);
             Over { desk, status }
         }
         Asked::Demo {

@@ -35,6 +35,10 @@ pub returns-in-Check-clause-obeys : goal.returns-in-Check-clause-obeys
 returns-in-Check-clause-obeys g c = obeys_so g.K.Desk.state _ _ c.args.asked _ _ _ _ _ _ _ c.in-Check.is
     (quiet_file _ _ _ _ _ _ _ _ (λ still. (refl, still)) c.check_file-status.ensures.checked, (refl, c.check_file-status.ensures.says.files))
 
+pub returns-in-Audit-clause-obeys : goal.returns-in-Audit-clause-obeys
+returns-in-Audit-clause-obeys g c = obeys_so g.K.Desk.state _ _ c.args.asked _ _ _ _ _ _ _ c.in-Audit.is
+    (quiet_file _ _ _ _ _ _ _ _ (λ still. (refl, still)) c.audit_file-status.ensures.audited, (refl, c.audit_file-status.ensures.says.files))
+
 pub returns-in-Demo-clause-obeys : goal.returns-in-Demo-clause-obeys
 returns-in-Demo-clause-obeys g c = obeys_so g.K.Desk.state _ _ c.args.asked _ _ _ _ _ _ _ c.in-Demo.is c.demo_book.ensures.demonstrates
 
@@ -64,6 +68,9 @@ returns-in-Reset-clause-hires g c = hires_so c.args.asked _ _ _ c.in-Reset.is re
 
 pub returns-in-Check-clause-hires : goal.returns-in-Check-clause-hires
 returns-in-Check-clause-hires g c = hires_so c.args.asked _ _ _ c.in-Check.is refl
+
+pub returns-in-Audit-clause-hires : goal.returns-in-Audit-clause-hires
+returns-in-Audit-clause-hires g c = hires_so c.args.asked _ _ _ c.in-Audit.is refl
 
 pub returns-in-Demo-clause-hires : goal.returns-in-Demo-clause-hires
 returns-in-Demo-clause-hires g c = hires_so c.args.asked _ _ _ c.in-Demo.is c.demo_book.ensures.hires
