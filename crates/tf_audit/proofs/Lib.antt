@@ -15,3 +15,4 @@ pub mod EntryLemmas
 pub mod FaultLemmas
 pub mod LogLineLemmas
 pub mod UniqueLemmas
+pub mod TextLemmas

@@ -1,6 +1,6 @@
 //! What is said of a verdict.
 
-ghost use Rattle.std.specs.Prelude.{◌≡◌, ◌++◌, ◌∷◌, [], OnOk};
+ghost use Rattle.std.specs.Prelude.{◌≡◌, ◌≤◌, ◌++◌, ◌∷◌, [], length, drop, OnOk};
 ghost use Rattle.tf_model.specs.Plan.{outline_of, atom_name};
 ghost use Rattle.tf_report.specs.Lines.{what_text};
 ghost use Rattle.tf_audit.specs.Texts.{start_word as word_of_start, why_text, verdict_text};
@@ -65,9 +65,18 @@ fn append_why(alloc: Global, plan: &Plan, why: Why, out: &mut Vec<u8>) -> Result
 fn append_event(alloc: Global, plan: &Plan, what: What, out: &mut Vec<u8>) -> Result<(), Memory>
     ensures { OnOk result (out.new.items ≡ out.old.items ++ (what_text (outline_of plan.now) what ++ 10 ∷ [])) }
 {
+    let entry = Entry { hand: 0, what };
     let mut text = Vec::new(alloc);
-    line(plan, 1, &Entry { hand: 0, what }, &mut text)?;
-    append(&text[NUMBERS..], out)
+    line(plan, 1, &entry, &mut text)?;
+    append(behind_numbers(&text), out)
+}
+
+/// What the line says behind its numbers.
+fn behind_numbers(line: &[u8]) -> &[u8]
+    requires { NUMBERS ≤ length line.now }
+    ensures { result.now ≡ drop NUMBERS line.now }
+{
+    &line[NUMBERS..]
 }
 
 /// Appends which task is to be taken up, with a line feed.
