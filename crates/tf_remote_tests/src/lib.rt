@@ -2,6 +2,8 @@
 #![tactic(auto)]
 
 #[cfg(test)]
+mod dialers;
+#[cfg(test)]
 mod orders;
 #[cfg(test)]
 mod replies;
