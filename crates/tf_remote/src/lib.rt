@@ -4,8 +4,10 @@
 mod allowing;
 mod equality;
 mod hand;
+mod hiring;
 mod receiving;
 mod replies;
 mod requests;
 
 pub use hand::RemoteHand;
+pub use hiring::hire;
