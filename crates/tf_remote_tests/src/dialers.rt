@@ -3,6 +3,7 @@ ghost use Rattle.std.specs.Prelude.{◌<◌};
 use std::alloc::Global;
 use std::test::Fail;
 use tf_ports::{Address, Dialer, MemoryDialer, MemoryLink, PortFault, SocketDialer};
+use tf_remote::hire;
 use tf_values::Text;
 
 /// An address that is a path.
@@ -35,5 +36,28 @@ fn an_address_at_which_nobody_waits_is_not_dialled(rt: HostRuntime) -> Result<()
     let address = address_of(alloc, "nobody.socket")?;
     let mut dialer = SocketDialer::make(rt);
     assert!(rt; matches!(dialer.dial(alloc, &address), Err(PortFault::Failed)));
+    Ok(())
+}
+
+/// Two links that give nothing.
+fn two_links(alloc: Global) -> Result<Vec<MemoryLink>, Fail> {
+    let mut links = Vec::new(alloc);
+    links.push(MemoryLink::make(alloc, Vec::new(alloc), 1, Vec::new(alloc)))?;
+    links.push(MemoryLink::make(alloc, Vec::new(alloc), 1, Vec::new(alloc)))?;
+    Ok(links)
+}
+
+#[test]
+fn one_hand_is_hired_for_each_address(rt: HostRuntime) -> Result<(), Fail> {
+    let alloc = rt.alloc();
+    let addresses = [Address::Tcp(7001), Address::Tcp(7002)];
+    let mut dialer = MemoryDialer::make(two_links(alloc)?, Vec::new(alloc));
+    let hands = hire(alloc, &mut dialer, &addresses);
+    assert_eq!(rt; hands.ok().ok_or("no hands")?.len(), 2);
+    let mut failing = Vec::new(alloc);
+    failing.push(2)?;
+    let mut dialer = MemoryDialer::make(two_links(alloc)?, failing);
+    let hands = hire(alloc, &mut dialer, &addresses);
+    assert!(rt; matches!(hands, Err(PortFault::Failed)));
     Ok(())
 }
