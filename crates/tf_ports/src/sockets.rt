@@ -289,7 +289,8 @@ fn open<R: Net<Listener = TcpListener, Stream = TcpStream> + Files>(
     }
 }
 
-/// The next connection; an interrupted wait goes on.
+/// The next connection; an interrupted wait goes on. What is sent over it isn't held back for more to come, where the
+/// system agrees.
 fn next(listener: &Listener) -> io::Result<Stream> {
     match listener {
         Listener::Unix(listener) => {
@@ -298,6 +299,7 @@ fn next(listener: &Listener) -> io::Result<Stream> {
         }
         Listener::Tcp(listener) => {
             let (stream, _) = listener.accept()?;
+            let _slow = stream.set_nodelay(true);
             Ok(Stream::Tcp(stream))
         }
     }
