@@ -38,8 +38,8 @@ pub struct Made {
     pub call: JobCall,
 }
 
-/// Why a shared board doesn't go on: the disk failed; the board is full, of that size where `need` bytes more were asked
-/// for; or memory ran out.
+/// Why a shared board doesn't go on: the disk failed; the board is full, of that size where `need` bytes more were
+/// asked for; or memory ran out.
 #[derive(Clone, Copy, Debug, PartialEq, Eq)]
 pub enum BoardHalt {
     Disk,
