@@ -1,11 +1,13 @@
 -- How an audit goes, and what its status tells.
-use Rattle.std.proofs.Common.{◌≡◌, ◌≤◌, ◌⊎◌, ℕ, List, length, Option, Some, inl, inr, refl, arith, ⊎_elim}
+use Rattle.std.proofs.Common.{◌≡◌, ◌≤◌, ◌⊎◌, ℕ, List, [], ◌++◌, length, Option, Some, inl, inr, refl, sym, ap, ◌∙◌, subst, arith, ⊎_elim}
+use Rattle.tf_desk.specs.Counts.{Rises}
+use Rattle.tf_desk.specs.State.{DeskState, Says}
 use Rattle.tf_flow.specs.Written.{PlanTree}
 use Rattle.tf_model.specs.Plan.{Outline}
 use Rattle.tf_ports.specs.Contents.{Contents, GivesBytes, PassesLimit}
 use Rattle.tf_ports.specs.declared.reading.TheConstants.{SOURCE_LIMIT}
 use Rattle.tf_target.specs.Target.{outline_in}
-use Rattle.tf_report.specs.Closing.{ClosesWith, ClosesWithOrStops}
+use Rattle.tf_report.specs.Closing.{ClosesWith}
 use Rattle.tf_report.proofs.ClosingLemmas.{closes_status}
 use Rattle.tf_audit.specs.Texts.{verdict_text}
 use Rattle.tf_audit.specs.Verdicts.{IsVerdict}
@@ -17,16 +19,42 @@ use Rattle.tf_commands.specs.Asking.{asked_for, file_asked_for}
 use Rattle.tf_commands.specs.Auditing.{Judges, unjudged, judged, Audits, unfinished_log, unread_log, long_log, audited, log_asked_for, verdict_status, RefusesLog, IsLogRefused}
 use Rattle.tf_commands.specs.Course as course
 use Rattle.tf_commands.specs.Course.{BytesRead, FileRead, IsRefused, passes_limit, gives_none, IsDoneComplete}
+use Rattle.tf_commands.specs.Saying.{HasSaid}
 use Rattle.tf_commands.specs.declared.accepting.Refusal.{Refusal}
 use Rattle.tf_commands.specs.declared.reading.Source.{Source}
+use Rattle.tf_commands.proofs.WorkLemmas.{says_only}
 
 -- ---- the judgement
 
--- a verdict that was found is said, unless memory runs out
-pub judged_so : (plan : Outline) (bytes : List ℕ) (found : Verdict) (before after : Option (List ℕ)) (status : ℕ) → IsVerdict plan bytes found
-    → ClosesWithOrStops before (verdict_text plan found) (verdict_status found) after status → Judges plan bytes before after status
-judged_so plan bytes found before after status is (inl out) = unjudged out.0 out.1
-judged_so plan bytes found before after status is (inr closes) = judged found is closes
+-- a verdict that was found is said, where its text was put into an empty buffer
+pub judged_so : (plan : Outline) (bytes : List ℕ) (found : Verdict) (before after : Option (List ℕ)) (text out fresh : List ℕ) (said : Outline) (wanted status : ℕ) → IsVerdict plan bytes found
+    → said ≡ plan → text ≡ out → out ≡ fresh ++ verdict_text said found → fresh ≡ [] → wanted ≡ verdict_status found → ClosesWith before text wanted after status
+    → Judges plan bytes before after status
+judged_so plan bytes found before after text out fresh said wanted status is same text_is out_is fresh_is wanted_is closes =
+    let text_so : text ≡ verdict_text plan found =
+    text_is ∙ out_is ∙ ap (λ (f : List ℕ). f ++ verdict_text said found) fresh_is ∙ ap (λ (p : Outline). verdict_text p found) same in
+    judged found is (subst (λ (t : List ℕ). ClosesWith before t (verdict_status found) after status) text_so
+    (subst (λ (w : ℕ). ClosesWith before text w after status) wanted_is closes))
+
+-- the status of a verdict is 0 or 17
+status_apart : (found : Verdict) (other : ℕ) → ¬ (other ≡ 0) → ¬ (other ≡ 17) → verdict_status found ≡ other → ⊥
+status_apart (verdict.Legal entries state) other legal bad is = legal (sym is)
+status_apart (verdict.Bad line because) other legal bad is = bad (sym is)
+
+-- a message with the status of a verdict closes with that one or with that of a failed output
+pub closed_apart : (found : Verdict) (wanted status other : ℕ) → wanted ≡ verdict_status found → (¬ (status ≡ 7) → status ≡ wanted) → ¬ (other ≡ 0) → ¬ (other ≡ 17) → ¬ (other ≡ 7)
+    → status ≡ other → ⊥
+closed_apart found wanted status other same told legal bad unsaid is =
+    status_apart found other legal bad (sym same ∙ sym (told (λ seven. unsaid (sym is ∙ seven))) ∙ is)
+
+-- a message with the status of a verdict is the last that a command says
+pub verdict_said : (found : Verdict) (bytes : List ℕ) (old now : DeskState) (wanted status : ℕ) → wanted ≡ verdict_status found → Says bytes old now
+    → (status ≡ 7 → ¬ (wanted ≡ 7) → Rises old.out_faults now.out_faults) → (¬ (status ≡ 7) → status ≡ wanted) → HasSaid old now status
+verdict_said found bytes old now wanted status same says fails told = record {
+  says = says_only says;
+  unsaid = λ is. fails is (λ seven. status_apart found 7 (λ e. omega arith) (λ e. omega arith) (sym same ∙ seven));
+  read = λ is. closed_apart found wanted status 3 same told (λ e. omega arith) (λ e. omega arith) (λ e. omega arith) is;
+}
 
 -- ---- what a status tells
 
