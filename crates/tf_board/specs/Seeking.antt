@@ -1,8 +1,8 @@
 -- What a board tells those who look for a job. Lists of commands have the newest first.
-use Rattle.std.specs.Prelude.{◌≢◌, ℕ, List, Bool, false, ◌&&◌, ◌==◌, not, if◌then◌else◌, Option, Some, None, option_map}
+use Rattle.std.specs.Prelude.{◌≢◌, ℕ, suc, List, Bool, false, ◌&&◌, ◌==◌, not, if◌then◌else◌, Option, Some, None, option_map}
 use Rattle.std.specs.List.{find, filter, flat_map, list_any}
 use Rattle.tf_values.specs.declared.value.Val.{Val}
-use Rattle.tf_board.specs.Jobs.{details_in, jobs_of, numbered, named, is_free, is_there, is_listed, priorities}
+use Rattle.tf_board.specs.Jobs.{details_in, jobs_of, numbered, named, place_of, is_free, is_there, is_listed, priorities}
 use Rattle.tf_board.specs.declared.commands.Command.{Command}
 use Rattle.tf_board.specs.declared.commands.Command.TheVariants as command
 use Rattle.tf_board.specs.declared.jobs.Job.{Job}
@@ -35,6 +35,10 @@ number_among jobs skip = option_map number_in (find (is_takable jobs skip) (jobs
 -- the number of the first job of a board's list that may be taken
 abbrev pub free_job : List Command → List ℕ → Option ℕ
 free_job past skip = number_among (jobs_of past) skip
+
+-- the number of the job that an id names, if there is one
+abbrev pub number_named : List Command → List ℕ → Option ℕ
+number_named past id = option_map (λ place. suc place) (place_of (jobs_of past) id)
 
 -- the id of a job
 abbrev pub id_in : Job → List ℕ

@@ -3,7 +3,7 @@ ghost use Rattle.std.specs.List.{find, filter};
 ghost use Rattle.tf_board.specs.Board.{AreOfBoard};
 ghost use Rattle.tf_board.specs.Jobs.{is_listed as listed, named, numbered};
 ghost use Rattle.tf_board.specs.Recording.{number_of as number_in};
-ghost use Rattle.tf_board.specs.Seeking.{number_among, names_itself as itself, is_takable as takable, free_job as found_free, id_at, details_at};
+ghost use Rattle.tf_board.specs.Seeking.{number_among, names_itself as itself, is_takable as takable, free_job as found_free, number_named, id_at, details_at};
 
 use super::Board;
 use super::listing::PRIORITIES;
@@ -134,7 +134,8 @@ impl<K: Desk> Board<K> {
 
     /// The number of the job that the id names, or none where no job has it.
     pub fn number_of(&self, id: &Uuid) -> Option<u64>
-        ensures { unwrap_or result 0 ≡ number_in self.now.past id.now }
+        ensures named { result ≡ number_named self.now.past id.now }
+        ensures number { unwrap_or result 0 ≡ number_in self.now.past id.now }
     {
         let place = self.kept.place_of(id)?;
         Some(place as u64 + 1)
