@@ -59,11 +59,11 @@ pub printed_first : (plan : Outline) (past : List Entry) (rest : List ℕ) → A
 printed_first plan [] rest named few all = refl
 printed_first plan (e ∷ past) rest named few all =
     let text = line plan (length past + 1) e in
-    let front = said plan (length past + 1) e in
+    let prefix = said plan (length past + 1) e in
     let one : log_lines (text ++ rest) ≡ text ∷ log_lines rest =
     ap (λ (t : List ℕ). log_lines (t ++ rest)) (line_said plan (length past + 1) e)
-    ∙ (ap log_lines (append_assoc front (10 ∷ []) rest)
-    ∙ (line_first front rest (said_unfed plan (length past + 1) e named (omega arith) all.0)
+    ∙ (ap log_lines (append_assoc prefix (10 ∷ []) rest)
+    ∙ (line_first prefix rest (said_unfed plan (length past + 1) e named (omega arith) all.0)
     ∙ ap (λ (t : List ℕ). t ∷ log_lines rest) (sym (line_said plan (length past + 1) e)))) in
     ap log_lines (append_assoc (lines plan past) text rest)
     ∙ (printed_first plan past (text ++ rest) named (omega arith) all.1
@@ -136,8 +136,8 @@ name_unfed plan a named = elim (cases_lt a (count plan)) [
 ]
 
 -- a line, and what follows it
-after_line : (front rest : List ℕ) → is_unfed front ≡ true → log_lines (front ++ 10 ∷ [] ++ rest) ≡ (front ++ 10 ∷ []) ∷ log_lines rest
-after_line front rest is = ap log_lines (append_assoc front (10 ∷ []) rest) ∙ line_first front rest is
+after_line : (prefix rest : List ℕ) → is_unfed prefix ≡ true → log_lines (prefix ++ 10 ∷ [] ++ rest) ≡ (prefix ++ 10 ∷ []) ∷ log_lines rest
+after_line prefix rest is = ap log_lines (append_assoc prefix (10 ∷ []) rest) ∙ line_first prefix rest is
 
 atom_line_first : (plan : Outline) (a : ℕ) (state : AtomState) (held : Payload) (rest : List ℕ) → AreNamed plan → IsPayload held → log_lines (atom_line plan a state held ++ rest) ≡ atom_line plan a state held ∷ log_lines rest
 atom_line_first plan a state held rest named within =

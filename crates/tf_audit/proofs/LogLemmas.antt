@@ -12,11 +12,11 @@ unfed_others : (byte : ℕ) (bytes : List ℕ) → is_unfed (byte ∷ bytes) ≡
 unfed_others byte bytes is = grind (arith, nat_tests)
 
 -- the first line ends at the first line feed
-pub line_first : (front rest : List ℕ) → is_unfed front ≡ true → log_lines (front ++ 10 ∷ rest) ≡ (front ++ 10 ∷ []) ∷ log_lines rest
+pub line_first : (prefix rest : List ℕ) → is_unfed prefix ≡ true → log_lines (prefix ++ 10 ∷ rest) ≡ (prefix ++ 10 ∷ []) ∷ log_lines rest
 line_first [] rest is = refl
-line_first (byte ∷ front) rest is =
-    ap (λ (t : Bool). cond t ((byte ∷ []) ∷ log_lines (front ++ 10 ∷ rest)) (begun_with byte (log_lines (front ++ 10 ∷ rest)))) (unfed_first byte front is)
-    ∙ ap (begun_with byte) (line_first front rest (unfed_others byte front is))
+line_first (byte ∷ prefix) rest is =
+    ap (λ (t : Bool). cond t ((byte ∷ []) ∷ log_lines (prefix ++ 10 ∷ rest)) (begun_with byte (log_lines (prefix ++ 10 ∷ rest)))) (unfed_first byte prefix is)
+    ∙ ap (begun_with byte) (line_first prefix rest (unfed_others byte prefix is))
 
 -- without a line feed there is no line
 pub no_line : (bytes : List ℕ) → is_unfed bytes ≡ true → log_lines bytes ≡ []
@@ -30,11 +30,11 @@ pub line_at : (bytes : List ℕ) (at : ℕ) → slice_get bytes at ≡ Some 10 �
 line_at bytes at feed unfed =
     let within : at < length bytes = slice_get_within bytes at 10 feed in
     let ten : get_or bytes at 10 ≡ 10 = get_or_from_slice_get bytes at 10 10 feed in
-    let front : take (at + 1) bytes ≡ take at bytes ++ 10 ∷ [] = take_more bytes at 10 within ∙ ap (λ (b : ℕ). take at bytes ++ b ∷ []) ten in
+    let prefix : take (at + 1) bytes ≡ take at bytes ++ 10 ∷ [] = take_more bytes at 10 within ∙ ap (λ (b : ℕ). take at bytes ++ b ∷ []) ten in
     let whole : bytes ≡ take at bytes ++ 10 ∷ drop (at + 1) bytes =
-    sym (take-append-drop (at + 1) bytes) ∙ (ap (λ (f : List ℕ). f ++ drop (at + 1) bytes) front ∙ append_assoc (take at bytes) (10 ∷ []) (drop (at + 1) bytes)) in
-    ap log_lines whole ∙ (line_first (take at bytes) (drop (at + 1) bytes) unfed ∙ ap (λ (f : List ℕ). f ∷ log_lines (drop (at + 1) bytes)) (sym front))
+    sym (take-append-drop (at + 1) bytes) ∙ (ap (λ (f : List ℕ). f ++ drop (at + 1) bytes) prefix ∙ append_assoc (take at bytes) (10 ∷ []) (drop (at + 1) bytes)) in
+    ap log_lines whole ∙ (line_first (take at bytes) (drop (at + 1) bytes) unfed ∙ ap (λ (f : List ℕ). f ∷ log_lines (drop (at + 1) bytes)) (sym prefix))
 
-pub line_split : (bytes front back : List ℕ) (at : ℕ) → slice_get bytes at ≡ Some 10 → is_unfed (take at bytes) ≡ true → front ≡ take (at + 1) bytes → back ≡ drop (at + 1) bytes → log_lines bytes ≡ front ∷ log_lines back
-line_split bytes front back at feed unfed is left =
-    line_at bytes at feed unfed ∙ (ap (λ (f : List ℕ). f ∷ log_lines (drop (at + 1) bytes)) (sym is) ∙ ap (λ (b : List ℕ). front ∷ log_lines b) (sym left))
+pub line_split : (bytes prefix back : List ℕ) (at : ℕ) → slice_get bytes at ≡ Some 10 → is_unfed (take at bytes) ≡ true → prefix ≡ take (at + 1) bytes → back ≡ drop (at + 1) bytes → log_lines bytes ≡ prefix ∷ log_lines back
+line_split bytes prefix back at feed unfed is left =
+    line_at bytes at feed unfed ∙ (ap (λ (f : List ℕ). f ∷ log_lines (drop (at + 1) bytes)) (sym is) ∙ ap (λ (b : List ℕ). prefix ∷ log_lines b) (sym left))

@@ -14,17 +14,17 @@ use Rattle.tf_audit.proofs.LogLemmas.{line_first}
 
 -- bytes before a line feed
 record IsLine (text : List ℕ) : Type 0 where
-  front : List ℕ
-  is : text ≡ front ++ 10 ∷ []
-  unfed : is_unfed front ≡ true
+  prefix : List ℕ
+  is : text ≡ prefix ++ 10 ∷ []
+  unfed : is_unfed prefix ≡ true
 
 begun_lines : (byte : ℕ) (texts : List (List ℕ)) → (byte == 10) ≡ false → AllByRecursion IsLine texts → AllByRecursion IsLine (begun_with byte texts)
 begun_lines byte [] other all = tt
 begun_lines byte (first ∷ others) other all =
-    (record { front = byte ∷ all.0.front; is = ap (λ (t : List ℕ). byte ∷ t) all.0.is; unfed = true_both (not (byte == 10)) (is_unfed all.0.front) (ap not other) all.0.unfed }, all.1)
+    (record { prefix = byte ∷ all.0.prefix; is = ap (λ (t : List ℕ). byte ∷ t) all.0.is; unfed = true_both (not (byte == 10)) (is_unfed all.0.prefix) (ap not other) all.0.unfed }, all.1)
 
 more_lines : (byte : ℕ) (texts : List (List ℕ)) (feed : Bool) → (byte == 10) ≡ feed → AllByRecursion IsLine texts → AllByRecursion IsLine (cond feed ((byte ∷ []) ∷ texts) (begun_with byte texts))
-more_lines byte texts true is all = (record { front = []; is = ap (λ (b : ℕ). b ∷ []) (eqb-true byte 10 is); unfed = refl }, all)
+more_lines byte texts true is all = (record { prefix = []; is = ap (λ (b : ℕ). b ∷ []) (eqb-true byte 10 is); unfed = refl }, all)
 more_lines byte texts false is all = begun_lines byte texts is all
 
 -- what a log has are lines
@@ -38,16 +38,16 @@ lines_again [] all = refl
 lines_again (text ∷ texts) all =
     let l = all.0 in
     ap (λ (t : List ℕ). log_lines (t ++ concat texts)) l.is
-    ∙ (ap log_lines (append_assoc l.front (10 ∷ []) (concat texts))
-    ∙ (line_first l.front (concat texts) l.unfed
+    ∙ (ap log_lines (append_assoc l.prefix (10 ∷ []) (concat texts))
+    ∙ (line_first l.prefix (concat texts) l.unfed
     ∙ (ap (λ (t : List ℕ). t ∷ log_lines (concat texts)) (sym l.is)
     ∙ ap (λ (r : List (List ℕ)). text ∷ r) (lines_again texts all.1))))
 
 -- ---- some of the lines
 
-pub all_front : {A : Type 0} (P : A → Type 0) (xs ys : List A) → AllByRecursion P (xs ++ ys) → AllByRecursion P xs
-all_front P [] ys all = tt
-all_front P (x ∷ xs) ys all = (all.0, all_front P xs ys all.1)
+pub all_prefix : {A : Type 0} (P : A → Type 0) (xs ys : List A) → AllByRecursion P (xs ++ ys) → AllByRecursion P xs
+all_prefix P [] ys all = tt
+all_prefix P (x ∷ xs) ys all = (all.0, all_prefix P xs ys all.1)
 
 pub all_back : {A : Type 0} (P : A → Type 0) (xs ys : List A) → AllByRecursion P (xs ++ ys) → AllByRecursion P ys
 all_back P [] ys all = all
@@ -63,10 +63,10 @@ all_kept P test (x ∷ xs) all = kept_more P (test x) x (filter test xs) all.0 (
 
 -- ---- how many bytes they have
 
-concat_front : (xs ys : List (List ℕ)) → length (concat xs) ≤ length (concat (xs ++ ys))
-concat_front [] ys = omega arith
-concat_front (x ∷ xs) ys =
-    let more = concat_front xs ys in
+concat_prefix : (xs ys : List (List ℕ)) → length (concat xs) ≤ length (concat (xs ++ ys))
+concat_prefix [] ys = omega arith
+concat_prefix (x ∷ xs) ys =
+    let more = concat_prefix xs ys in
     omega (arith, more, length-append x (concat xs), length-append x (concat (xs ++ ys)))
 
 concat_more : (b : Bool) (x : List ℕ) (xs : List (List ℕ)) (n : ℕ) → length (concat xs) ≤ n → length (concat (cond b (x ∷ xs) xs)) ≤ length x + n
@@ -98,8 +98,8 @@ lines_long plan [] = omega arith
 lines_long plan (e ∷ past) =
     let before = lines_long plan past in
     let text = line plan (length past + 1) e in
-    let front = said plan (length past + 1) e in
-    let long : length text ≡ length front + 1 = ap length (line_said plan (length past + 1) e) ∙ length-append front (10 ∷ []) in
+    let prefix = said plan (length past + 1) e in
+    let long : length text ≡ length prefix + 1 = ap length (line_said plan (length past + 1) e) ∙ length-append prefix (10 ∷ []) in
     omega (arith, before, long, length-append (lines plan past) text)
 
 -- a history whose lines a log has is no longer than the log
@@ -107,7 +107,7 @@ pub run_short : (plan : Outline) (log : List ℕ) (texts more : List (List ℕ))
 run_short plan log texts more past is run =
     let all : length (concat (log_lines log)) ≡ length (concat (texts ++ more)) = ap (λ (r : List (List ℕ)). length (concat r)) is in
     let said_so : length (concat (filter is_examined texts)) ≡ length (lines plan past) = ap length run.printed in
-    omega (arith, lines_long plan past, said_so, concat_kept is_examined texts, concat_front texts more, all, lines_short log)
+    omega (arith, lines_long plan past, said_so, concat_kept is_examined texts, concat_prefix texts more, all, lines_short log)
 
 -- ---- the lines of a run
 
@@ -115,7 +115,7 @@ run_short plan log texts more past is run =
 pub run_lines : (plan : Outline) (log : List ℕ) (texts more : List (List ℕ)) (past : List Entry) → AreNamed plan → length log < 2 ^ 64 → log_lines log ≡ texts ++ more → AreOfRun plan texts past → filter is_examined texts ≡ printed plan past
 run_lines plan log texts more past named few is run =
     let short = run_short plan log texts more past is run in
-    let are_lines : AllByRecursion IsLine texts = all_front IsLine texts more (subst (λ (r : List (List ℕ)). AllByRecursion IsLine r) is (log_has_lines log)) in
+    let are_lines : AllByRecursion IsLine texts = all_prefix IsLine texts more (subst (λ (r : List (List ℕ)). AllByRecursion IsLine r) is (log_has_lines log)) in
     sym (lines_again (filter is_examined texts) (all_kept IsLine is_examined texts are_lines))
     ∙ (ap log_lines run.printed
     ∙ (ap log_lines (sym (append-nil (lines plan past)))

@@ -6,7 +6,7 @@ ghost use Rattle.tf_audit.specs.Words.{is_blank as is_break, is_unbroken, breaks
 pub fn cut(bytes: &[u8]) -> (&[u8], &[u8])
     ensures { IsFirstWord bytes.now result.0.now result.1.now }
 {
-    let (word, rest) = front(bytes);
+    let (word, rest) = prefix(bytes);
     match rest.split_first() {
         Some((_, behind)) => (word, behind),
         None => (word, rest),
@@ -14,7 +14,7 @@ pub fn cut(bytes: &[u8]) -> (&[u8], &[u8])
 }
 
 /// The bytes before the first space or line feed, and what follows them.
-fn front(bytes: &[u8]) -> (&[u8], &[u8])
+fn prefix(bytes: &[u8]) -> (&[u8], &[u8])
     ensures whole { bytes.now ≡ result.0.now ++ result.1.now }
     ensures word { is_unbroken result.0.now ≡ true }
     ensures end { breaks_here result.1.now ≡ true }

@@ -19,7 +19,7 @@ use Rattle.tf_board.specs.declared.commands.JobAction.TheVariants as action
 
 -- ---- parts
 
--- two fronts of one length
+-- two prefixes of one length
 pub fronts : (a b x y : List ℕ) → length a ≡ length b → a ++ x ≡ b ++ y → (a ≡ b) × (x ≡ y)
 fronts [] [] x y long is = (refl, is)
 fronts [] (n ∷ b) x y long is = absurd (omega (arith, long))
@@ -42,11 +42,11 @@ numbers_one m n x y small_m small_n is =
     let both = fronts (to_be_bytes w64 m) (to_be_bytes w64 n) x y refl is in
     (sym (from_be_bytes-to_be_bytes_8 m small_m) ∙ ap (from_be_bytes w64) both.0 ∙ from_be_bytes-to_be_bytes_8 n small_n, both.1)
 
-pub number_front : (bytes front rest : List ℕ) (n : ℕ) → IsCut 8 bytes front rest → n ≡ from_be_bytes w64 front → (n < 2 ^ 64) × (bytes ≡ to_be_bytes w64 n ++ rest)
-number_front bytes front rest n is n_is =
+pub number_front : (bytes prefix rest : List ℕ) (n : ℕ) → IsCut 8 bytes prefix rest → n ≡ from_be_bytes w64 prefix → (n < 2 ^ 64) × (bytes ≡ to_be_bytes w64 n ++ rest)
+number_front bytes prefix rest n is n_is =
     let fits = is.fits in
     let below : n < 2 ^ 64 = omega (arith, n_is, fits 0, fits 1, fits 2, fits 3, fits 4, fits 5, fits 6, fits 7) in
-    (below, sym is.whole ∙ ap (λ (form : List ℕ). form ++ rest) (sym (be_bytes_8 front n is.sized fits n_is)))
+    (below, sym is.whole ∙ ap (λ (form : List ℕ). form ++ rest) (sym (be_bytes_8 prefix n is.sized fits n_is)))
 
 pub priority_one : (p q : Priority) → priority_byte p ≡ priority_byte q → p ≡ q
 priority_one priority.VeryHigh priority.VeryHigh is = refl

@@ -93,8 +93,8 @@ fn number_at(bytes: &[u8]) -> Option<(u64, &[u8])>
     ensures { MatchOption result (length bytes.now < 8) (λ read. (read.0 < 2 ^ 64)
         × (bytes.now ≡ to_be_bytes w64 read.0 ++ read.1.now)) }
 {
-    let (front, rest) = bytes.split_first_chunk::<8>()?;
-    Some((u64::from_be_bytes(*front), rest))
+    let (prefix, rest) = bytes.split_first_chunk::<8>()?;
+    Some((u64::from_be_bytes(*prefix), rest))
 }
 
 /// The name at the front behind its length, and what stands behind it.
@@ -108,8 +108,8 @@ fn name_at(bytes: &[u8]) -> Option<(Name, &[u8])>
     if rest.len() < len {
         return None;
     }
-    let (front, rest) = rest.split_at(len);
-    let name = Name::make(front)?;
+    let (prefix, rest) = rest.split_at(len);
+    let name = Name::make(prefix)?;
     let _bytes = name.bytes();
     Some((name, rest))
 }

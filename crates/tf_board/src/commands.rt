@@ -34,7 +34,7 @@ pub enum Command {
     },
 }
 
-/// Appends the form of a command. Want of memory leaves a front of it behind what was there.
+/// Appends the form of a command. Want of memory leaves a prefix of it behind what was there.
 pub fn append_command(command: &Command, out: &mut Vec<u8>) -> Result<(), Memory>
     ensures ok { OnOk result (out.new.items ≡ out.old.items ++ form.command_bytes command.now) }
     ensures is { OnOk result (form.IsCommand command.now) }

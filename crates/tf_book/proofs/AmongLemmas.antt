@@ -5,12 +5,12 @@ use Rattle.std.specs.Option.{option_map}
 use Rattle.std.specs.Prelude.{is_none, slice_get, map}
 use Rattle.std.proofs.lemmas.List.{length-map}
 use Rattle.tf_flow.specs.declared.deciders.Depth.{Depth}
-use Rattle.tf_flow.specs.declared.ways.Turn.{Turn}
-use Rattle.tf_flow.specs.Outline.{Atom, atoms_of, way_of, enter_way, flow_ways, flow_ways_among, flow_count, flows_among_count}
+use Rattle.tf_flow.specs.declared.paths.Turn.{Turn}
+use Rattle.tf_flow.specs.Outline.{Atom, atoms_of, atom_path, enter_path, flow_paths, flow_paths_among, flow_count, flows_among_count}
 use Rattle.tf_flow.specs.Plan as numbering
 use Rattle.tf_flow.specs.Plan.{PlanValue}
 use Rattle.tf_flow.specs.Tree.{Tree, Trees, task, flow, no_trees, tree, tree_of}
-use Rattle.tf_flow.proofs.OutlineLemmas.{as_many_ways, as_many_ways_to_flows}
+use Rattle.tf_flow.proofs.OutlineLemmas.{as_many_paths, as_many_paths_to_flows}
 use Rattle.tf_numbers.specs.Numbers.{first_below, is_number}
 use Rattle.tf_numbers.proofs.BelowLemmas.{found_below}
 use Rattle.tf_numbers.proofs.OptionLemmas.{only_if, if_some, is_this_number}
@@ -24,7 +24,7 @@ use Rattle.tf_states.specs.declared.state.AtomState.{AtomState}
 use Rattle.tf_states.specs.declared.state.AtomState.TheVariants as atom
 use Rattle.tf_states.specs.declared.state.FlowState.{FlowState}
 use Rattle.tf_facts.proofs.CaseLemmas.{forced_by}
-use Rattle.tf_model.specs.Plan.{outline_of, count, way, holds}
+use Rattle.tf_model.specs.Plan.{outline_of, count, path, holds}
 use Rattle.tf_model.specs.Snapshot.{Snapshot}
 use Rattle.tf_model.specs.History.{snapshot}
 use Rattle.tf_model.specs.States.{flow_runs, flow_suspends}
@@ -32,10 +32,10 @@ use Rattle.tf_model.specs.Retries.{attempt, ends_with, resolution}
 use Rattle.tf_model.specs.Deciders.{refused}
 use Rattle.tf_model.specs.Forced.{forced, forced_if_running, is_active, is_to_put_back, put_back_or_run, is_to_ignore, ignore_by, ignore_or_self}
 use Rattle.tf_model.specs.Candidates.{choice, candidate_if_running, candidate_entry, taken_up, is_best, end_of}
-use Rattle.tf_model.proofs.Told.{way_in}
+use Rattle.tf_model.proofs.Told.{path_in}
 use Rattle.tf_model.specs.Steps.{Step, LegalPast, Rule, by_force, by_choice, by_end_of_task, by_turn, by_end, by_suspension, by_reset, ends_task, turns_flow, end_entry, reset, put_back_or_rest, is_put_back_at}
 use Rattle.tf_model.proofs.ResolutionLemmas.{resolution_holds}
-use Rattle.tf_model.proofs.WayLemmas.{IsWay, numbers_of, ways_of}
+use Rattle.tf_model.proofs.PathLemmas.{IsPath, numbers_of, paths_of}
 use Rattle.tf_bound.specs.Kept.{IsMarkedWithin}
 use Rattle.tf_bound.specs.Short.{AreShort}
 use Rattle.tf_entries.specs.Entries.{IsAmong}
@@ -45,36 +45,36 @@ use Rattle.tf_book.specs.Loading.{IsEntryOf, AreEntriesOf}
 -- ---- the flows of a plan
 
 mutual
-  ways_long : (t : Tree) (g : ℕ) → length (flow_ways g t) ≡ flow_count t
-  ways_long (task t) g = refl
-  ways_long (flow head items) g = omega (arith, ways_among_long items g 0 (suc g))
+  paths_long : (t : Tree) (g : ℕ) → length (flow_paths g t) ≡ flow_count t
+  paths_long (task t) g = refl
+  paths_long (flow head items) g = omega (arith, paths_among_long items g 0 (suc g))
 
-  ways_among_long : (ts : Trees) (g i n : ℕ) → length (flow_ways_among g i n ts) ≡ flows_among_count ts
-  ways_among_long no_trees g i n = refl
-  ways_among_long (tree first others) g i n =
-      omega (arith, length-append (map (enter_way g i) (flow_ways n first)) (flow_ways_among g (suc i) (n + flow_count first) others), length-map (flow_ways n first) (enter_way g i), ways_long first n, ways_among_long others g (suc i) (n + flow_count first))
+  paths_among_long : (ts : Trees) (g i n : ℕ) → length (flow_paths_among g i n ts) ≡ flows_among_count ts
+  paths_among_long no_trees g i n = refl
+  paths_among_long (tree first others) g i n =
+      omega (arith, length-append (map (enter_path g i) (flow_paths n first)) (flow_paths_among g (suc i) (n + flow_count first) others), length-map (flow_paths n first) (enter_path g i), paths_long first n, paths_among_long others g (suc i) (n + flow_count first))
 
 -- how many flows a plan has
 abbrev flows_in : PlanValue → ℕ
 flows_in plan = flow_count (tree_of plan.root)
 
 flows_told : (plan : PlanValue) → flows_in plan ≡ length (numbering.flows plan)
-flows_told plan = sym (ways_long (tree_of plan.root) 0) ∙ as_many_ways_to_flows plan
+flows_told plan = sym (paths_long (tree_of plan.root) 0) ∙ as_many_paths_to_flows plan
 
 pub atoms_told : (plan : PlanValue) → count (outline_of plan) ≡ length (numbering.atoms plan)
-atoms_told plan = sym (length-map (atoms_of 0 (tree_of plan.root)) way_of) ∙ as_many_ways plan
+atoms_told plan = sym (length-map (atoms_of 0 (tree_of plan.root)) atom_path) ∙ as_many_paths plan
 
--- the way of an atom has the property of all ways
-way_has : (P : List Turn → Type 0) (xs : List Atom) (k : ℕ) → AllByRecursion (λ atom. P atom.way) xs → k < length xs → P (way_in (slice_get xs k))
-way_has P [] k all below = absurd (omega arith)
-way_has P (x ∷ xs) zero all below = all.0
-way_has P (x ∷ xs) (suc k) all below = way_has P xs k all.1 (omega arith)
+-- the path of an atom has the property of all paths
+path_has : (P : List Turn → Type 0) (xs : List Atom) (k : ℕ) → AllByRecursion (λ atom. P atom.path) xs → k < length xs → P (path_in (slice_get xs k))
+path_has P [] k all below = absurd (omega arith)
+path_has P (x ∷ xs) zero all below = all.0
+path_has P (x ∷ xs) (suc k) all below = path_has P xs k all.1 (omega arith)
 
 -- what an atom's failure is resolved to is a flow of the plan
 resolved_below : (plan : PlanValue) (s : Snapshot) (a : ℕ) → a < count (outline_of plan) → (resolution (outline_of plan) s a).flow < flows_in plan
 unfolding holds
 resolved_below plan s a below =
-    let within = numbers_of (tree_of plan.root) 0 (resolution (outline_of plan) s a).flow (way (outline_of plan) a) (way_has (IsWay 0 (tree_of plan.root)) (atoms_of 0 (tree_of plan.root)) a (ways_of (tree_of plan.root) 0) below) (resolution_holds plan s a below) in
+    let within = numbers_of (tree_of plan.root) 0 (resolution (outline_of plan) s a).flow (path (outline_of plan) a) (path_has (IsPath 0 (tree_of plan.root)) (atoms_of 0 (tree_of plan.root)) a (paths_of (tree_of plan.root) 0) below) (resolution_holds plan s a below) in
     omega (arith, within.1)
 
 -- ---- the rules

@@ -29,7 +29,7 @@ use Rattle.tf_numbers.proofs.TruthLemmas.{clash, neither_first}
 use Rattle.tf_bound.specs.Costs.{tries_of, HasAttempts}
 use Rattle.tf_bound.specs.Short.{AreShortBinds, IsShortControl, IsShortTree, AreShortTrees, IsWithinLimits}
 use Rattle.tf_bound.proofs.CostLemmas.{IsTried}
-use Rattle.tf_model.proofs.WayLemmas.{all_both}
+use Rattle.tf_model.proofs.PathLemmas.{all_both}
 use Rattle.tf_numbers.proofs.OptionLemmas.{neither_there, none_if, none_mapped}
 
 -- ---- no atom is bad

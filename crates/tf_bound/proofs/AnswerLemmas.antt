@@ -11,8 +11,8 @@ use Rattle.tf_actions.specs.declared.orders.Given.TheVariants as given
 use Rattle.tf_actions.specs.declared.outcomes.Action.TheVariants as action
 use Rattle.tf_states.specs.declared.record.Kind.{Kind}
 use Rattle.tf_states.specs.declared.record.Kind.TheVariants as kind
-use Rattle.tf_flow.specs.declared.ways.Turn.{Turn}
-use Rattle.tf_model.specs.Plan.{Outline, way, retry_of}
+use Rattle.tf_flow.specs.declared.paths.Turn.{Turn}
+use Rattle.tf_model.specs.Plan.{Outline, path, retry_of}
 use Rattle.tf_model.specs.Snapshot.{Resolve, Snapshot, is_again}
 use Rattle.tf_model.specs.Scope.{given_for}
 use Rattle.tf_model.specs.Retries.{argument_named, give_up, try_again, answer_by_values, answer_by_given, answer_by, answer_of, answer, retry_kind, Controlled, controlled, controlled_on, enclosing, resolved, resolution_by, resolution, is_outermost, is_revert}
@@ -112,4 +112,4 @@ all_control plan a (turn ∷ turns) = both_control plan (controlled_on plan a tu
 
 pub resolution_answered : (plan : Outline) (s : Snapshot) (a : ℕ) → is_again (resolution plan s a).kind ≡ true → Answered plan s (resolution plan s a).flow
 unfolding resolution
-resolution_answered plan s a = by_answers plan s (enclosing plan a) (all_control plan a (way plan a))
+resolution_answered plan s a = by_answers plan s (enclosing plan a) (all_control plan a (path plan a))

@@ -3,12 +3,12 @@ use Rattle.std.proofs.Common.{◌≡◌, ℕ, zero, suc, ◌+◌, ◌-◌, ◌*�
 use Rattle.std.specs.List.{AllByRecursion}
 use Rattle.tf_flow.specs.declared.atoms.Retry.{Retry}
 use Rattle.tf_flow.specs.Tree.{Tree, Trees, task, flow, no_trees, tree}
-use Rattle.tf_flow.specs.declared.ways.Turn.{Turn}
+use Rattle.tf_flow.specs.declared.paths.Turn.{Turn}
 use Rattle.tf_flow.specs.Outline.{Part, Atom, atoms_of, atoms_among, enter, retry_atoms, flow_count}
 use Rattle.tf_model.specs.Retries.{kind_of_part}
 use Rattle.tf_model.proofs.Told.{kind_in}
 use Rattle.tf_model.specs.Bound.{tries, tries_by, cost, costs}
-use Rattle.tf_model.proofs.WayLemmas.{turn_to}
+use Rattle.tf_model.proofs.PathLemmas.{turn_to}
 use Rattle.tf_bound.specs.Costs.{tries_of, retry_costs, attempt_costs, attempt_costs_among, where_passes}
 
 -- ---- atoms with what an attempt of theirs costs
@@ -24,11 +24,11 @@ Match [] (c ∷ cs) = ⊥
 Match (x ∷ xs) [] = ⊥
 Match (x ∷ xs) (c ∷ cs) = Match xs cs
 
--- the sum of the lives of the atoms whose ways pass the test
+-- the sum of the lives of the atoms whose paths pass the test
 abbrev pub sum_of : (List Turn → Bool) → List Atom → List ℕ → ℕ
 sum_of test [] costs = 0
 sum_of test (x ∷ xs) [] = 0
-sum_of test (x ∷ xs) (c ∷ cs) = where_passes (test x.way) (life x.part c) + sum_of test xs cs
+sum_of test (x ∷ xs) (c ∷ cs) = where_passes (test x.path) (life x.part c) + sum_of test xs cs
 
 -- a property of each atom with its cost
 abbrev pub AllPairs : (Atom → ℕ → Type 0) → List Atom → List ℕ → Type 0
@@ -76,17 +76,17 @@ sum_both test (x ∷ xs) ys (c ∷ cs) ds is =
 pub sum_entered : (test : List Turn → Bool) (g i : ℕ) (xs : List Atom) (cs : List ℕ) → sum_of test (map (enter g i) xs) cs ≡ sum_of (λ w. test (turn_to g (Some i) ∷ w)) xs cs
 sum_entered test g i [] cs = refl
 sum_entered test g i (x ∷ xs) [] = refl
-sum_entered test g i (x ∷ xs) (c ∷ cs) = ap (λ (rest : ℕ). where_passes (test (turn_to g (Some i) ∷ x.way)) (life x.part c) + rest) (sum_entered test g i xs cs)
+sum_entered test g i (x ∷ xs) (c ∷ cs) = ap (λ (rest : ℕ). where_passes (test (turn_to g (Some i) ∷ x.path)) (life x.part c) + rest) (sum_entered test g i xs cs)
 
 where_none : (b : Bool) (x : ℕ) → b ≡ false → where_passes b x ≡ 0
 where_none true x is = absurd (cc)
 where_none false x is = refl
 
-pub sum_none : (test : List Turn → Bool) (xs : List Atom) (cs : List ℕ) → AllByRecursion (λ x. test x.way ≡ false) xs → sum_of test xs cs ≡ 0
+pub sum_none : (test : List Turn → Bool) (xs : List Atom) (cs : List ℕ) → AllByRecursion (λ x. test x.path ≡ false) xs → sum_of test xs cs ≡ 0
 sum_none test [] cs none = refl
 sum_none test (x ∷ xs) [] none = refl
 sum_none test (x ∷ xs) (c ∷ cs) none =
-    let here : where_passes (test x.way) (life x.part c) ≡ 0 = where_none (test x.way) (life x.part c) none.0 in
+    let here : where_passes (test x.path) (life x.part c) ≡ 0 = where_none (test x.path) (life x.part c) none.0 in
     let rest : sum_of test xs cs ≡ 0 = sum_none test xs cs none.1 in omega (arith, here, rest)
 
 -- ---- each atom has an attempt

@@ -4,13 +4,13 @@ use Rattle.std.specs.List.{AllByRecursion}
 use Rattle.tf_flow.specs.declared.atoms.Retry.{Retry}
 use Rattle.tf_flow.specs.Plan.{PlanValue}
 use Rattle.tf_flow.specs.Tree.{Tree, Trees, task, flow, no_trees, tree, tree_of}
-use Rattle.tf_flow.specs.declared.ways.Turn.{Turn}
+use Rattle.tf_flow.specs.declared.paths.Turn.{Turn}
 use Rattle.tf_flow.specs.Outline.{Atom, FlowPlace, atoms_of, atoms_among, enter, retry_atoms, flows_of, flows_among, flow_count, atom_count, atoms_among_count, retry_count, retry_number}
 use Rattle.tf_flow.proofs.ListingLemmas.{length_retry}
 use Rattle.tf_model.specs.Before.{Flow, find_flow, has_flow_number}
 use Rattle.tf_model.specs.Linked.{arrange, arranged}
 use Rattle.tf_model.specs.Plan.{Outline, outline_of, is_retry, is_before, retry_of, own_flow, last_flow}
-use Rattle.tf_model.proofs.Told.{way_in, is_retry_in, retry_in}
+use Rattle.tf_model.proofs.Told.{path_in, is_retry_in, retry_in}
 use Rattle.tf_model.proofs.BeforeLemmas.{never_before_itself, before_chain}
 use Rattle.tf_facts.proofs.LayoutLemmas.{IsLaidOut, own_holds}
 use Rattle.tf_numbers.proofs.TruthLemmas.{clash}
@@ -23,23 +23,23 @@ get_right [] ys n k is = let same : n ≡ k = omega (arith, is) in ap (slice_get
 get_right (x ∷ xs) ys zero k is = absurd (omega (arith, is))
 get_right (x ∷ xs) ys (suc n) k is = get_right xs ys n k (omega (arith, is))
 
--- a retry controller whose way ends in flow g
+-- a retry controller whose path ends in flow g
 record IsControl (g : ℕ) (o : Option Atom) : Type 0 where
   retry : is_retry_in o ≡ true
-  own : last_flow (way_in o) ≡ Some g
+  own : last_flow (path_in o) ≡ Some g
 
 get_left : (xs ys : List Atom) (k g : ℕ) → IsControl g (slice_get xs k) → IsControl g (slice_get (xs ++ ys) k)
 get_left [] ys k g is = absurd (let no = is.retry in cc)
 get_left (x ∷ xs) ys zero g is = record { retry = is.retry; own = is.own }
 get_left (x ∷ xs) ys (suc k) g is = get_left xs ys k g is
 
-longer_way : (turn : Turn) (w : List Turn) (g : ℕ) → last_flow w ≡ Some g → last_flow (turn ∷ w) ≡ Some g
-longer_way turn [] g is = absurd (cc)
-longer_way turn (x ∷ xs) g is = is
+longer_path : (turn : Turn) (w : List Turn) (g : ℕ) → last_flow w ≡ Some g → last_flow (turn ∷ w) ≡ Some g
+longer_path turn [] g is = absurd (cc)
+longer_path turn (x ∷ xs) g is = is
 
 get_entered : (n i : ℕ) (xs : List Atom) (k g : ℕ) → IsControl g (slice_get xs k) → IsControl g (slice_get (map (enter n i) xs) k)
 get_entered n i [] k g is = absurd (let no = is.retry in cc)
-get_entered n i (x ∷ xs) zero g is = record { retry = is.retry; own = longer_way (record { flow = n; item = Some i }) x.way g is.own }
+get_entered n i (x ∷ xs) zero g is = record { retry = is.retry; own = longer_path (record { flow = n; item = Some i }) x.path g is.own }
 get_entered n i (x ∷ xs) (suc k) g is = get_entered n i xs k g is
 
 length_both : (xs ys : List Atom) → length (xs ++ ys) ≡ length xs + length ys
@@ -149,7 +149,7 @@ controller_stands plan g r is =
     let same : r ≡ found.place = let at : r ≡ 0 + found.place = found.is in omega (arith, at) in
     record {
       retry = ap (λ (k : ℕ). is_retry_in (slice_get atoms k)) same ∙ found.control.retry;
-      own = ap (λ (k : ℕ). last_flow (way_in (slice_get atoms k))) same ∙ found.control.own;
+      own = ap (λ (k : ℕ). last_flow (path_in (slice_get atoms k))) same ∙ found.control.own;
     }
 
 -- a flow has one retry controller

@@ -6,29 +6,29 @@ use Rattle.std.proofs.lemmas.Bool.{ne_eqb}
 use Rattle.tf_flow.specs.declared.atoms.Retry.{Retry}
 use Rattle.tf_flow.specs.Plan.{PlanValue}
 use Rattle.tf_flow.specs.Tree.{Tree, Trees, task, flow, no_trees, tree, tree_of}
-use Rattle.tf_flow.specs.declared.ways.Turn.{Turn}
+use Rattle.tf_flow.specs.declared.paths.Turn.{Turn}
 use Rattle.tf_flow.specs.Outline.{Atom, atoms_of, atoms_among, enter, retry_atoms, flow_count}
 use Rattle.tf_model.specs.Before.{passes_flow}
 use Rattle.tf_model.specs.Plan.{Outline, outline_of, count, holds, is_retry, last_flow, own_flow}
 use Rattle.tf_flow.specs.Outline.{is_retry_part}
-use Rattle.tf_model.proofs.Told.{way_in, is_retry_in, kind_in}
+use Rattle.tf_model.proofs.Told.{path_in, is_retry_in, kind_in}
 use Rattle.tf_model.specs.Bound.{tries, tries_by, cost, costs}
 use Rattle.tf_model.specs.Forced.{holds_with, is_of_its_flow}
-use Rattle.tf_model.proofs.WayLemmas.{turn_to, IsWay, IsWayAmong, ways_of, ways_among, all_both, apart}
+use Rattle.tf_model.proofs.PathLemmas.{turn_to, IsPath, IsPathAmong, paths_of, paths_among, all_both, apart}
 use Rattle.tf_model.proofs.RetryLemmas.{passes_last, ends_below}
 use Rattle.tf_facts.proofs.LayoutLemmas.{own_holds}
 use Rattle.tf_bound.specs.Costs.{tries_of, tries_at, retry_costs, attempt_costs, attempt_costs_among, each, most_with, most, sum_below, where_passes, lives_beside, HasAttempts}
 use Rattle.tf_bound.proofs.SumLemmas.{sum_from_first, sum_falls}
 use Rattle.tf_bound.proofs.CostLemmas.{life, Match, sum_of, AllPairs, IsTried, sum_both, sum_entered, sum_none, match_of, match_entered, match_retry, all_first, all_second, tried_entered, all_tried, all_attempts, sum_of_tree}
 
--- ---- the way of a retry controller isn't bare
+-- ---- the path of a retry controller isn't bare
 
 abbrev is_bare : List Turn → Bool
 is_bare [] = true
 is_bare (turn ∷ turns) = false
 
 abbrev NotBare : Atom → Type 0
-NotBare x = is_retry_part x.part ≡ true → is_bare x.way ≡ false
+NotBare x = is_retry_part x.part ≡ true → is_bare x.path ≡ false
 
 entered_not_bare : (g i : ℕ) (xs : List Atom) → AllByRecursion NotBare (map (enter g i) xs)
 entered_not_bare g i [] = tt
@@ -83,7 +83,7 @@ sum_same : (p q : List Turn → Bool) (xs : List Atom) (cs : List ℕ) → ((w :
 sum_same p q [] cs same = refl
 sum_same p q (x ∷ xs) [] same = refl
 sum_same p q (x ∷ xs) (c ∷ cs) same =
-    let here : where_passes (p x.way) (life x.part c) ≡ where_passes (q x.way) (life x.part c) = ap (λ (b : Bool). where_passes b (life x.part c)) (same x.way) in
+    let here : where_passes (p x.path) (life x.part c) ≡ where_passes (q x.path) (life x.part c) = ap (λ (b : Bool). where_passes b (life x.part c)) (same x.path) in
     let rest : sum_of p xs cs ≡ sum_of q xs cs = sum_same p q xs cs same in
     omega (arith, here, rest)
 
@@ -91,11 +91,11 @@ sum_same p q (x ∷ xs) (c ∷ cs) same =
 
 -- where the atom is the retry controller of flow F, a sum leaves room beside 6 in its life and one attempt
 abbrev Room : ℕ → ℕ → Atom → ℕ → Type 0
-Room F total x c = is_retry_part x.part ≡ true → last_flow x.way ≡ Some F → total + 6 ≤ life x.part c + c
+Room F total x c = is_retry_part x.part ≡ true → last_flow x.path ≡ Some F → total + 6 ≤ life x.part c + c
 
 -- the same, and F isn't flow g
 abbrev RoomBelow : ℕ → ℕ → ℕ → Atom → ℕ → Type 0
-RoomBelow g F total x c = is_retry_part x.part ≡ true → last_flow x.way ≡ Some F → (g ≢ F) × (total + 6 ≤ life x.part c + c)
+RoomBelow g F total x c = is_retry_part x.part ≡ true → last_flow x.path ≡ Some F → (g ≢ F) × (total + 6 ≤ life x.part c + c)
 
 -- the sum of the lives of the atoms among items that F holds
 abbrev through_among : ℕ → ℕ → ℕ → ℕ → Trees → ℕ
@@ -111,25 +111,25 @@ other_turn g F item w other = ap (λ (b : Bool). b || passes_flow F w) (ne_eqb g
 -- what is known of an atom of an item
 record Known (F total : ℕ) (t : Tree) (n : ℕ) (x : Atom) (c : ℕ) : Type 0 where
   room : Room F total x c
-  way : IsWay n t x.way
+  path : IsPath n t x.path
   bare : NotBare x
 
 known_of : (t : Tree) (n F total : ℕ) → AllPairs (Room F total) (atoms_of n t) (attempt_costs t) → AllPairs (Known F total t n) (atoms_of n t) (attempt_costs t)
 known_of t n F total all =
-    pairs_with (λ x. IsWay n t x.way) (λ x c. NotBare x × Room F total x c) (Known F total t n) (atoms_of n t) (attempt_costs t) (ways_of t n)
+    pairs_with (λ x. IsPath n t x.path) (λ x c. NotBare x × Room F total x c) (Known F total t n) (atoms_of n t) (attempt_costs t) (paths_of t n)
     (pairs_with NotBare (Room F total) (λ x c. NotBare x × Room F total x c) (atoms_of n t) (attempt_costs t) (not_bare_of t n) all (λ x c bare room. (bare, room)))
-    (λ x c way both. record { room = both.1; way = way; bare = both.0 })
+    (λ x c path both. record { room = both.1; path = path; bare = both.0 })
 
 -- in the first item: the later ones aren't in its flows
 first_room : (first : Tree) (others : Trees) (g i n F : ℕ) (x : Atom) (c : ℕ) → g < n → Known F (sum_of (passes_flow F) (atoms_of n first) (attempt_costs first)) first n x c
     → RoomBelow g F (through_among F g i n (tree first others)) (enter g i x) c
 first_room first others g i n F x c below known is last =
-    let own : last_flow x.way ≡ Some F = sym (last_behind (turn_to g (Some i)) x.way (known.bare is)) ∙ last in
-    let other : g ≢ F = ends_below first g n F x.way below known.way own in
+    let own : last_flow x.path ≡ Some F = sym (last_behind (turn_to g (Some i)) x.path (known.bare is)) ∙ last in
+    let other : g ≢ F = ends_below first g n F x.path below known.path own in
     let none : sum_of (passes_flow F) (atoms_among g (suc i) (n + flow_count first) others) (attempt_costs_among others) ≡ 0
     = sum_none (passes_flow F) (atoms_among g (suc i) (n + flow_count first) others) (attempt_costs_among others)
-    (all_mapped (λ y. IsWayAmong g (suc i) (n + flow_count first) others y.way) (λ y. passes_flow F y.way ≡ false) (atoms_among g (suc i) (n + flow_count first) others) (ways_among others g (suc i) (n + flow_count first))
-    (λ y way. not_through (passes_flow F y.way) (λ on. apart first others g i n F x.way y.way known.way way other (passes_last F x.way own) on))) in
+    (all_mapped (λ y. IsPathAmong g (suc i) (n + flow_count first) others y.path) (λ y. passes_flow F y.path ≡ false) (atoms_among g (suc i) (n + flow_count first) others) (paths_among others g (suc i) (n + flow_count first))
+    (λ y path. not_through (passes_flow F y.path) (λ on. apart first others g i n F x.path y.path known.path path other (passes_last F x.path own) on))) in
     let parts : through_among F g i n (tree first others) ≡ sum_of (passes_flow F) (map (enter g i) (atoms_of n first)) (attempt_costs first) + sum_of (passes_flow F) (atoms_among g (suc i) (n + flow_count first) others) (attempt_costs_among others)
     = sum_both (passes_flow F) (map (enter g i) (atoms_of n first)) (atoms_among g (suc i) (n + flow_count first) others) (attempt_costs first) (attempt_costs_among others)
     (match_entered g i (atoms_of n first) (attempt_costs first) (match_of first n)) in
@@ -141,15 +141,15 @@ first_room first others g i n F x c below known is last =
     (other, omega (arith, none, parts, entered, same, room))
 
 -- in a later item: the first isn't in its flows
-later_room : (first : Tree) (others : Trees) (g i n F : ℕ) (x : Atom) (c : ℕ) → IsWayAmong g (suc i) (n + flow_count first) others x.way → RoomBelow g F (through_among F g (suc i) (n + flow_count first) others) x c
+later_room : (first : Tree) (others : Trees) (g i n F : ℕ) (x : Atom) (c : ℕ) → IsPathAmong g (suc i) (n + flow_count first) others x.path → RoomBelow g F (through_among F g (suc i) (n + flow_count first) others) x c
     → RoomBelow g F (through_among F g i n (tree first others)) x c
-later_room first others g i n F x c way known is last =
+later_room first others g i n F x c path known is last =
     let found = known is last in
     let none : sum_of (passes_flow F) (map (enter g i) (atoms_of n first)) (attempt_costs first) ≡ 0
     = sum_none (passes_flow F) (map (enter g i) (atoms_of n first)) (attempt_costs first)
-    (all_entered (λ y. IsWay n first y.way) (λ y. passes_flow F y.way ≡ false) g i (atoms_of n first) (ways_of first n)
-    (λ y first_way. other_turn g F (Some i) y.way found.0
-    ∙ not_through (passes_flow F y.way) (λ on. apart first others g i n F y.way x.way first_way way found.0 on (passes_last F x.way last)))) in
+    (all_entered (λ y. IsPath n first y.path) (λ y. passes_flow F y.path ≡ false) g i (atoms_of n first) (paths_of first n)
+    (λ y first_path. other_turn g F (Some i) y.path found.0
+    ∙ not_through (passes_flow F y.path) (λ on. apart first others g i n F y.path x.path first_path path found.0 on (passes_last F x.path last)))) in
     let parts : through_among F g i n (tree first others) ≡ sum_of (passes_flow F) (map (enter g i) (atoms_of n first)) (attempt_costs first) + through_among F g (suc i) (n + flow_count first) others
     = sum_both (passes_flow F) (map (enter g i) (atoms_of n first)) (atoms_among g (suc i) (n + flow_count first) others) (attempt_costs first) (attempt_costs_among others)
     (match_entered g i (atoms_of n first) (attempt_costs first) (match_of first n)) in
@@ -167,7 +167,7 @@ item_room g F control items x c known is last =
     = sum_none (passes_flow F) (retry_atoms g control) (retry_costs control (6 + costs items)) (none_through control found.0) in
     omega (arith, none, parts, found.1)
   where
-    none_through : (control : Option Retry) → g ≢ F → AllByRecursion (λ y. passes_flow F y.way ≡ false) (retry_atoms g control)
+    none_through : (control : Option Retry) → g ≢ F → AllByRecursion (λ y. passes_flow F y.path ≡ false) (retry_atoms g control)
     none_through None other = tt
     none_through (Some r) other = (other_turn g F None [] other, tt)
 
@@ -192,9 +192,9 @@ mutual
       pairs_both (Room F total) (retry_atoms g head.retry) (atoms_among g 0 (suc g) items) (retry_costs head.retry (6 + costs items)) (attempt_costs_among items) (match_retry g head.retry (6 + costs items))
       (own_room g F head.retry (costs items) total (all_first IsTried (retry_atoms g head.retry) (atoms_among g 0 (suc g) items) tried)
       (λ r is. subst (λ (o : Option Retry). total ≤ tries o * (6 + costs items)) is whole))
-      (pairs_with (λ x. IsWayAmong g 0 (suc g) items x.way) (RoomBelow g F (through_among F g 0 (suc g) items)) (Room F total) (atoms_among g 0 (suc g) items) (attempt_costs_among items) (ways_among items g 0 (suc g))
+      (pairs_with (λ x. IsPathAmong g 0 (suc g) items x.path) (RoomBelow g F (through_among F g 0 (suc g) items)) (Room F total) (atoms_among g 0 (suc g) items) (attempt_costs_among items) (paths_among items g 0 (suc g))
       (room_among items g 0 (suc g) F (omega arith) (all_second IsTried (retry_atoms g head.retry) (atoms_among g 0 (suc g) items) tried))
-      (λ x c way known. item_room g F head.retry items x c known))
+      (λ x c path known. item_room g F head.retry items x c known))
 
   room_among : (ts : Trees) (g i n F : ℕ) → g < n → AllByRecursion IsTried (atoms_among g i n ts) → AllPairs (RoomBelow g F (through_among F g i n ts)) (atoms_among g i n ts) (attempt_costs_among ts)
   room_among no_trees g i n F below tried = tt
@@ -206,10 +206,10 @@ mutual
       (pairs_entered (Known F (sum_of (passes_flow F) (atoms_of n first) (attempt_costs first)) first n) (RoomBelow g F (through_among F g i n (tree first others))) g i (atoms_of n first) (attempt_costs first)
       (known_of first n F (sum_of (passes_flow F) (atoms_of n first) (attempt_costs first)) (room_of first n F (tried_entered g i (atoms_of n first) here_all)))
       (λ x c known. first_room first others g i n F x c below known))
-      (pairs_with (λ x. IsWayAmong g (suc i) (n + flow_count first) others x.way) (RoomBelow g F (through_among F g (suc i) (n + flow_count first) others)) (RoomBelow g F (through_among F g i n (tree first others)))
-      (atoms_among g (suc i) (n + flow_count first) others) (attempt_costs_among others) (ways_among others g (suc i) (n + flow_count first))
+      (pairs_with (λ x. IsPathAmong g (suc i) (n + flow_count first) others x.path) (RoomBelow g F (through_among F g (suc i) (n + flow_count first) others)) (RoomBelow g F (through_among F g i n (tree first others)))
+      (atoms_among g (suc i) (n + flow_count first) others) (attempt_costs_among others) (paths_among others g (suc i) (n + flow_count first))
       (room_among others g (suc i) (n + flow_count first) F (omega (arith, below)) there_all)
-      (λ x c way known. later_room first others g i n F x c way known))
+      (λ x c path known. later_room first others g i n F x c path known))
 
 -- ---- by the numbers of the atoms
 
@@ -217,21 +217,21 @@ mutual
 abbrev life_at : List Atom → List ℕ → ℕ → ℕ
 life_at xs cs k = (tries_of (kind_in (slice_get xs k)) - 1) * slice_index cs k + 6
 
-sum_by_number : (test : List Turn → Bool) (xs : List Atom) (cs : List ℕ) → Match xs cs → sum_below (length xs) (λ k. where_passes (test (way_in (slice_get xs k))) (life_at xs cs k)) ≡ sum_of test xs cs
+sum_by_number : (test : List Turn → Bool) (xs : List Atom) (cs : List ℕ) → Match xs cs → sum_below (length xs) (λ k. where_passes (test (path_in (slice_get xs k))) (life_at xs cs k)) ≡ sum_of test xs cs
 sum_by_number test [] cs is = refl
 sum_by_number test (x ∷ xs) [] is = absurd is
 sum_by_number test (x ∷ xs) (c ∷ cs) is =
-    sum_from_first (length xs) (λ k. where_passes (test (way_in (slice_get (x ∷ xs) k))) (life_at (x ∷ xs) (c ∷ cs) k))
-    ∙ ap (λ (rest : ℕ). where_passes (test x.way) (life x.part c) + rest) (sum_by_number test xs cs is)
+    sum_from_first (length xs) (λ k. where_passes (test (path_in (slice_get (x ∷ xs) k))) (life_at (x ∷ xs) (c ∷ cs) k))
+    ∙ ap (λ (rest : ℕ). where_passes (test x.path) (life x.part c) + rest) (sum_by_number test xs cs is)
 
-room_by_number : (F total : ℕ) (xs : List Atom) (cs : List ℕ) (k : ℕ) → AllPairs (Room F total) xs cs → is_retry_in (slice_get xs k) ≡ true → last_flow (way_in (slice_get xs k)) ≡ Some F
+room_by_number : (F total : ℕ) (xs : List Atom) (cs : List ℕ) (k : ℕ) → AllPairs (Room F total) xs cs → is_retry_in (slice_get xs k) ≡ true → last_flow (path_in (slice_get xs k)) ≡ Some F
     → total + 6 ≤ life_at xs cs k + slice_index cs k
 room_by_number F total [] cs k all is last = absurd (cc)
 room_by_number F total (x ∷ xs) [] k all is last = absurd all
 room_by_number F total (x ∷ xs) (c ∷ cs) zero all is last = all.0 is last
 room_by_number F total (x ∷ xs) (c ∷ cs) (suc k) all is last = room_by_number F total xs cs k all.1 is last
 
-bare_by_number : (xs : List Atom) (k : ℕ) → AllByRecursion NotBare xs → is_retry_in (slice_get xs k) ≡ true → is_bare (way_in (slice_get xs k)) ≡ false
+bare_by_number : (xs : List Atom) (k : ℕ) → AllByRecursion NotBare xs → is_retry_in (slice_get xs k) ≡ true → is_bare (path_in (slice_get xs k)) ≡ false
 bare_by_number [] k all is = absurd (cc)
 bare_by_number (x ∷ xs) zero all is = all.0 is
 bare_by_number (x ∷ xs) (suc k) all is = bare_by_number xs k all.1 is
@@ -283,7 +283,7 @@ weighed plan tried = record {
   where
     by : (r : ℕ) → is_retry (outline_of plan) r ≡ true → r < count (outline_of plan) → (o : Option ℕ) → own_flow (outline_of plan) r ≡ o
         → sum_below (count (outline_of plan)) (λ a. where_passes (is_of_its_flow (outline_of plan) r a) (most plan a)) + 6 ≤ each plan r
-    by r is below None own = absurd (not_bare_last (way_in (slice_get (atoms_of 0 (tree_of plan.root)) r)) (bare_by_number (atoms_of 0 (tree_of plan.root)) r (not_bare_of (tree_of plan.root) 0) is) own)
+    by r is below None own = absurd (not_bare_last (path_in (slice_get (atoms_of 0 (tree_of plan.root)) r)) (bare_by_number (atoms_of 0 (tree_of plan.root)) r (not_bare_of (tree_of plan.root) 0) is) own)
     by r is below (Some F) own =
         let total : sum_below (count (outline_of plan)) (λ a. where_passes (holds (outline_of plan) F a) (most plan a)) ≡ sum_of (passes_flow F) (atoms_of 0 (tree_of plan.root)) (attempt_costs (tree_of plan.root))
         = sum_by_number (passes_flow F) (atoms_of 0 (tree_of plan.root)) (attempt_costs (tree_of plan.root)) (match_of (tree_of plan.root) 0) in

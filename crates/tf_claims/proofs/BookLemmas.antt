@@ -111,9 +111,9 @@ record StandsThere (plan : PlanValue) (past : List Entry) (before : List (List �
   before_is : bodies_of plan older ≡ before
   form : entry_bytes entry ≡ body
 
-stands_there : (plan other : PlanValue) (past front : List Entry) (body : List ℕ) (after : List (List ℕ)) → bodies_of plan past ≡ bodies_of other front ++ body ∷ after
-    → StandsThere plan past (bodies_of other front) body
-stands_there plan other [] front body after is = absurd (two (bodies_of other front) (λ none. never_empty other front none) is)
+stands_there : (plan other : PlanValue) (past prefix : List Entry) (body : List ℕ) (after : List (List ℕ)) → bodies_of plan past ≡ bodies_of other prefix ++ body ∷ after
+    → StandsThere plan past (bodies_of other prefix) body
+stands_there plan other [] prefix body after is = absurd (two (bodies_of other prefix) (λ none. never_empty other prefix none) is)
   where
     two : (xs : List (List ℕ)) → (xs ≡ [] → ⊥) → (plan_bytes plan ∷ []) ≡ xs ++ body ∷ after → ⊥
     two [] some same = some refl
@@ -122,14 +122,14 @@ stands_there plan other [] front body after is = absurd (two (bodies_of other fr
         none : (zs : List (List ℕ)) → [] ≡ zs ++ body ∷ after → ⊥
         none [] empty = cc
         none (z ∷ zs) empty = cc
-stands_there plan other (e ∷ past) front body [] is =
-    let both = last_same (bodies_of plan past) (bodies_of other front) (entry_bytes e) body is in
+stands_there plan other (e ∷ past) prefix body [] is =
+    let both = last_same (bodies_of plan past) (bodies_of other prefix) (entry_bytes e) body is in
     record { newer = []; entry = e; older = past; splits = refl; before_is = both.0; form = both.1 }
-stands_there plan other (e ∷ past) front body (y ∷ ys) is =
+stands_there plan other (e ∷ past) prefix body (y ∷ ys) is =
     let view = last_of y ys in
-    let moved : bodies_of plan past ++ entry_bytes e ∷ [] ≡ (bodies_of other front ++ body ∷ view.0) ++ view.1 ∷ [] =
-    is ∙ ap (λ (l : List (List ℕ)). bodies_of other front ++ body ∷ l) view.2 ∙ sym (append_one (bodies_of other front) view.0 body view.1) in
-    let rest = stands_there plan other past front body view.0 (last_same (bodies_of plan past) (bodies_of other front ++ body ∷ view.0) (entry_bytes e) view.1 moved).0 in
+    let moved : bodies_of plan past ++ entry_bytes e ∷ [] ≡ (bodies_of other prefix ++ body ∷ view.0) ++ view.1 ∷ [] =
+    is ∙ ap (λ (l : List (List ℕ)). bodies_of other prefix ++ body ∷ l) view.2 ∙ sym (append_one (bodies_of other prefix) view.0 body view.1) in
+    let rest = stands_there plan other past prefix body view.0 (last_same (bodies_of plan past) (bodies_of other prefix ++ body ∷ view.0) (entry_bytes e) view.1 moved).0 in
     record { newer = e ∷ rest.newer; entry = rest.entry; older = rest.older; splits = ap (λ (l : List Entry). e ∷ l) rest.splits; before_is = rest.before_is; form = rest.form }
 
 -- the first body is the plan's
@@ -157,15 +157,15 @@ body_never : {plan : PlanValue} {past : List Entry} (before : List (List ℕ)) (
     → bodies_of plan past ≡ before ++ body ∷ after → CannotFollow before body → ⊥
 body_never {plan} {past} before body after h is (first none no_plan) =
     no_plan_never body h (first_body plan past body after (is ∙ ap (λ (b : List (List ℕ)). b ++ body ∷ after) none)) no_plan
-body_never {plan} {past} before body after h is (later other front good same no_step) =
-    let at = stands_there plan other past front body after (is ∙ ap (λ (b : List (List ℕ)). b ++ body ∷ after) same) in
+body_never {plan} {past} before body after h is (later other prefix good same no_step) =
+    let at = stands_there plan other past prefix body after (is ∙ ap (λ (b : List (List ℕ)). b ++ body ∷ after) same) in
     let here = history_before at.newer (at.entry ∷ at.older) (subst (IsHistoryOf plan) at.splits h) in
-    let one = same_bodies plan other at.older front here.forms.1 good.forms at.before_is in
+    let one = same_bodies plan other at.older prefix here.forms.1 good.forms at.before_is in
     let outlines : outline_of plan ≡ outline_of other = same_plan plan other h.accepted h.limits good.accepted good.limits one.0 in
-    let step : Step (outline_of other) (snapshot (outline_of other) front) at.entry =
+    let step : Step (outline_of other) (snapshot (outline_of other) prefix) at.entry =
     subst (λ (p : List Entry). Step (outline_of other) (snapshot (outline_of other) p) at.entry) one.1
     (subst (λ (o : Outline). Step o (snapshot o at.older) at.entry) outlines here.legal.0) in
-    let there : IsHistoryOf other (at.entry ∷ front) = record {
+    let there : IsHistoryOf other (at.entry ∷ prefix) = record {
       accepted = good.accepted;
       limits = good.limits;
       runs = good.runs;

@@ -123,7 +123,7 @@ module _ {gives : Order → Outcome → Type 0} {hands : Want} {stopped : Type 0
           ⊎_elim (λ same. said_so closing wanted ends p.stop good refl same last)
           (λ is. never good 7 is (λ n. omega arith) (λ n. omega arith) (λ n. omega arith) (λ n. omega arith) (λ n. omega arith))
           (closes_status _ now.shown closing wanted ends closes)
-      by _ _ good (run.line_cut front) = never good 7 refl (λ n. omega arith) (λ n. omega arith) (λ n. omega arith) (λ n. omega arith) (λ n. omega arith)
+      by _ _ good (run.line_cut prefix) = never good 7 refl (λ n. omega arith) (λ n. omega arith) (λ n. omega arith) (λ n. omega arith) (λ n. omega arith)
       by _ _ good (run.stopped same) = exhausted
 
   resume_ends : {plan : PlanValue} {past : List Entry} {hired after_hiring : Option (List Want)} → HoldsHistory plan past (book_at entry name)

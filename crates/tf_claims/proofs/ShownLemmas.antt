@@ -30,8 +30,8 @@ shown_after : {plan : PlanValue} {quiet : Bool} {before : List Entry} (entries :
     → ShowsLines plan quiet before entries shown (Some text) last closing status → IsShownThen plan quiet before entries entries shown closing text
 shown_after entries (closed closing wanted status is closes) = inr ([], refl, closes_prefix closes)
 shown_after [] (line_cut never) = absurd never
-shown_after {plan} {quiet} {before} (e ∷ entries) {shown} {last} {closing} {text} (line_cut front) =
-    inl (prefix_further shown (shown_with shown (said quiet (outline_of plan) before entries)) (said quiet (outline_of plan) before entries) _ text refl front)
+shown_after {plan} {quiet} {before} (e ∷ entries) {shown} {last} {closing} {text} (line_cut prefix) =
+    inl (prefix_further shown (shown_with shown (said quiet (outline_of plan) before entries)) (said quiet (outline_of plan) before entries) _ text refl prefix)
 shown_after {plan} {quiet} {before} entries {shown} (stopped same) =
     inr ([], refl, record { count = 0; prefix = same ∙ sym (shown_none (shown_with shown (said quiet (outline_of plan) before entries))) })
 

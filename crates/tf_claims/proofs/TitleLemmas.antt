@@ -13,8 +13,8 @@ letter_off : (z byte : ℕ) (letters rest : List ℕ) (offset : ℕ) → (z == b
 letter_off z byte letters rest offset is = rw is refl
 
 -- a title that agrees up to a letter disagrees with one that has another letter there
-other_title : (front : List ℕ) (x y : ℕ) (a b rest : List ℕ) (offset : ℕ) → (x == y) ≡ false → title_fault (front ++ x ∷ a) rest offset ≡ None
-    → (fault : ℕ × Option ℕ) × (title_fault (front ++ y ∷ b) rest offset ≡ Some fault)
+other_title : (prefix : List ℕ) (x y : ℕ) (a b rest : List ℕ) (offset : ℕ) → (x == y) ≡ false → title_fault (prefix ++ x ∷ a) rest offset ≡ None
+    → (fault : ℕ × Option ℕ) × (title_fault (prefix ++ y ∷ b) rest offset ≡ Some fault)
 other_title [] x y a b [] offset apart none = ((offset, None), refl)
 other_title [] x y a b (byte ∷ rest) offset apart none = by (x == byte) (y == byte) refl refl
   where
@@ -22,16 +22,16 @@ other_title [] x y a b (byte ∷ rest) offset apart none = by (x == byte) (y == 
     by s false is isnt = ((offset, Some byte), letter_off y byte b rest offset isnt)
     by false true is isnt = let fault = letter_off x byte a rest offset is in absurd (cc)
     by true true is isnt = absurd (not_from_Decides (x == y) (Decides-eqb x y) apart (eqb-true x byte is ∙ sym (eqb-true y byte isnt)))
-other_title (z ∷ front) x y a b [] offset apart none = ((offset, None), refl)
-other_title (z ∷ front) x y a b (byte ∷ rest) offset apart none = by (z == byte) refl (λ later. other_title front x y a b rest (offset + 1) apart later)
+other_title (z ∷ prefix) x y a b [] offset apart none = ((offset, None), refl)
+other_title (z ∷ prefix) x y a b (byte ∷ rest) offset apart none = by (z == byte) refl (λ later. other_title prefix x y a b rest (offset + 1) apart later)
   where
     by : (t : Bool) → (z == byte) ≡ t
-        → (title_fault (front ++ x ∷ a) rest (offset + 1) ≡ None → (fault : ℕ × Option ℕ) × (title_fault (front ++ y ∷ b) rest (offset + 1) ≡ Some fault))
-        → (fault : ℕ × Option ℕ) × (title_fault (z ∷ (front ++ y ∷ b)) (byte ∷ rest) offset ≡ Some fault)
+        → (title_fault (prefix ++ x ∷ a) rest (offset + 1) ≡ None → (fault : ℕ × Option ℕ) × (title_fault (prefix ++ y ∷ b) rest (offset + 1) ≡ Some fault))
+        → (fault : ℕ × Option ℕ) × (title_fault (z ∷ (prefix ++ y ∷ b)) (byte ∷ rest) offset ≡ Some fault)
     by true is later =
-        let on = later (sym (letter_on z byte (front ++ x ∷ a) rest offset is) ∙ none) in
-        (on.0, letter_on z byte (front ++ y ∷ b) rest offset is ∙ on.1)
-    by false is later = let fault = letter_off z byte (front ++ x ∷ a) rest offset is in absurd (cc)
+        let on = later (sym (letter_on z byte (prefix ++ x ∷ a) rest offset is) ∙ none) in
+        (on.0, letter_on z byte (prefix ++ y ∷ b) rest offset is ∙ on.1)
+    by false is later = let fault = letter_off z byte (prefix ++ x ∷ a) rest offset is in absurd (cc)
 
 -- the title of boards isn't that of a book
 jobs_apart : (rest : List ℕ) → title_fault (title_of book_title) rest 1 ≡ None → (fault : ℕ × Option ℕ) × (title_fault (title_of jobs_title) rest 1 ≡ Some fault)

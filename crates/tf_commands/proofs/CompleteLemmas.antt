@@ -89,7 +89,7 @@ shows_apart plan quiet before entries shown now last closing status told (closed
     (λ same. let apart = told text wanted is in (λ e. apart.0 (sym same ∙ e), λ e. apart.1 (sym same ∙ e), λ e. apart.2 (sym same ∙ e)))
     (λ seven. (λ e. omega arith, λ e. omega arith, λ e. omega arith))
     (closes_status _ now text wanted ended closes)
-shows_apart plan quiet before entries shown now last closing status told (line_cut front) = (λ is. omega arith, λ is. omega arith, λ is. omega arith)
+shows_apart plan quiet before entries shown now last closing status told (line_cut prefix) = (λ is. omega arith, λ is. omega arith, λ is. omega arith)
 shows_apart plan quiet before entries shown now last closing status told (stopped text) = (λ is. omega arith, λ is. omega arith, λ is. omega arith)
 
 said_apart : (may : List Entry → Entry → Type 0) (plan : PlanValue) (heading : List ℕ) (past : List Entry) (stop : Option FlowState) (text : List ℕ) (wanted : ℕ) → IsLastSaid may plan heading past stop text wanted → IsApart wanted
@@ -159,7 +159,7 @@ reset_well : (plan : PlanValue) (past entries : List Entry) (before after : Opti
     → ShowsLines plan false past entries before after (IsResetSaid plan (entries ++ past)) closing status → IsResetComplete status
 reset_well plan past entries before after closing status u (closed text wanted ended is closes) =
     ⊎_elim (λ same. reset_said_well plan (entries ++ past) text wanted status u is same) (λ seven. absurd (u.sayable seven)) (closes_status _ after text wanted status closes)
-reset_well plan past entries before after closing status u (line_cut front) = absurd (u.sayable refl)
+reset_well plan past entries before after closing status u (line_cut prefix) = absurd (u.sayable refl)
 reset_well plan past entries before after closing status u (stopped text) = inr (inl refl)
 
 -- ---- what met no fault is done

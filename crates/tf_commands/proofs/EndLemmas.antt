@@ -81,7 +81,7 @@ pub shows_last : (plan : PlanValue) (quiet : Bool) (before entries : List Entry)
     → ((text : List ℕ) (wanted : ℕ) → last text wanted → Ended wanted) → ShowsLines plan quiet before entries shown now last closing status → Ended status
 shows_last plan quiet before entries shown now last closing status ends (closed text wanted ended is closes) =
     ⊎_elim (λ same. subst Ended (sym same) (ends text wanted is)) (λ seven. is_unsaid seven) (closes_status _ now text wanted ended closes)
-shows_last plan quiet before entries shown now last closing status ends (line_cut front) = is_unsaid refl
+shows_last plan quiet before entries shown now last closing status ends (line_cut prefix) = is_unsaid refl
 shows_last plan quiet before entries shown now last closing status ends (stopped text) = out_ends 9 refl
 
 pub ran_ended : {gives : Order → Outcome → Type 0} {request : Request} {asked : Type 0} (plan : PlanValue) (before entries : List Entry) (stop : Option FlowState) (shown now : Option (List ℕ)) (closing : List ℕ) (status : ℕ)
@@ -111,7 +111,7 @@ shows_suspended : (may : List Entry → Entry → Type 0) (plan : PlanValue) (qu
     → ShowsLines plan quiet before entries shown now (IsLastSaid may plan heading past stop) closing status → status ≡ 12 → stop ≡ Some flow.Suspended
 shows_suspended may plan quiet heading before entries past shown now stop closing status (closed text wanted ended last closes) is =
     ⊎_elim (λ same. last_suspends may plan heading past stop text wanted last (sym same ∙ is)) (λ seven. absurd (omega (arith, seven, is))) (closes_status _ now text wanted ended closes)
-shows_suspended may plan quiet heading before entries past shown now stop closing status (line_cut front) is = absurd (omega (arith, is))
+shows_suspended may plan quiet heading before entries past shown now stop closing status (line_cut prefix) is = absurd (omega (arith, is))
 shows_suspended may plan quiet heading before entries past shown now stop closing status (stopped text) is = absurd (omega (arith, is))
 
 pub ran_suspended : {gives : Order → Outcome → Type 0} {request : Request} {asked : Type 0} (plan : PlanValue) (before entries : List Entry) (stop : Option FlowState) (shown now : Option (List ℕ)) (closing : List ℕ) (status : ℕ)

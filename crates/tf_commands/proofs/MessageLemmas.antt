@@ -37,29 +37,29 @@ counted_other plan a tasks is counted =
 -- ---- what a check says
 
 -- nine texts that were appended by twos
-by_twos : (front a b c d e f g h i : List ℕ) → ((((front ++ (a ++ b)) ++ (c ++ d)) ++ (e ++ f)) ++ (g ++ h)) ++ i ≡ front ++ (a ++ b ++ c ++ d ++ e ++ f ++ g ++ h ++ i)
-by_twos front a b c d e f g h i = search (append_assoc)
+by_twos : (prefix a b c d e f g h i : List ℕ) → ((((prefix ++ (a ++ b)) ++ (c ++ d)) ++ (e ++ f)) ++ (g ++ h)) ++ i ≡ prefix ++ (a ++ b ++ c ++ d ++ e ++ f ++ g ++ h ++ i)
+by_twos prefix a b c d e f g h i = search (append_assoc)
 
 -- four texts, of which the first three were appended at once
-three_at_once : (front a b c d : List ℕ) → (front ++ (a ++ (b ++ c))) ++ d ≡ front ++ (a ++ b ++ c ++ d)
-three_at_once front a b c d = search (append_assoc)
+three_at_once : (prefix a b c d : List ℕ) → (prefix ++ (a ++ (b ++ c))) ++ d ≡ prefix ++ (a ++ b ++ c ++ d)
+three_at_once prefix a b c d = search (append_assoc)
 
 -- what was appended of a flow whose state forbids a command
-pub forbids_told : (front : List ℕ) (plan : Outline) (state : FlowState)
-    → (front ++ (codes "taskflow: state forbids: " ++ (flow_name plan 0 ++ 32 ∷ flow_word state))) ++ codes "\n" ≡ front ++ state_forbids plan state
+pub forbids_told : (prefix : List ℕ) (plan : Outline) (state : FlowState)
+    → (prefix ++ (codes "taskflow: state forbids: " ++ (flow_name plan 0 ++ 32 ∷ flow_word state))) ++ codes "\n" ≡ prefix ++ state_forbids plan state
 unfolding state_forbids
-forbids_told front plan state = three_at_once front (codes "taskflow: state forbids: ") (flow_name plan 0) (32 ∷ flow_word state) (codes "\n")
+forbids_told prefix plan state = three_at_once prefix (codes "taskflow: state forbids: ") (flow_name plan 0) (32 ∷ flow_word state) (codes "\n")
 
 -- what was appended of a plan
-pub checked_told : (plan : PlanValue) (front : List ℕ) (tasks atoms flows : ℕ) → tasks ≡ tasks_below (outline_of plan) (count (outline_of plan)) → atoms ≡ length (numbering.atoms plan) → flows ≡ length (numbering.flows plan)
-    → ((((front ++ (codes "ok " ++ flow_name (outline_of plan) 0)) ++ (codes ": " ++ decimal tasks)) ++ (codes " tasks, " ++ decimal (atoms - tasks))) ++ (codes " retries, " ++ decimal flows)) ++ codes " flows\n"
-    ≡ front ++ checked (outline_of plan)
+pub checked_told : (plan : PlanValue) (prefix : List ℕ) (tasks atoms flows : ℕ) → tasks ≡ tasks_below (outline_of plan) (count (outline_of plan)) → atoms ≡ length (numbering.atoms plan) → flows ≡ length (numbering.flows plan)
+    → ((((prefix ++ (codes "ok " ++ flow_name (outline_of plan) 0)) ++ (codes ": " ++ decimal tasks)) ++ (codes " tasks, " ++ decimal (atoms - tasks))) ++ (codes " retries, " ++ decimal flows)) ++ codes " flows\n"
+    ≡ prefix ++ checked (outline_of plan)
 unfolding checked
-checked_told plan front tasks atoms flows counted all flowing =
+checked_told plan prefix tasks atoms flows counted all flowing =
     let outline : Outline = outline_of plan in
     let number : atoms ≡ count outline = all ∙ atoms_counted plan in
     let flow_number : flows ≡ length outline.flows = flowing ∙ flows_counted plan in
-    by_twos front (codes "ok ") (flow_name outline 0) (codes ": ") (decimal tasks) (codes " tasks, ") (decimal (atoms - tasks)) (codes " retries, ") (decimal flows) (codes " flows\n")
-    ∙ (ap (λ (n : ℕ). front ++ (codes "ok " ++ flow_name outline 0 ++ codes ": " ++ decimal n ++ codes " tasks, " ++ decimal (atoms - n) ++ codes " retries, " ++ decimal flows ++ codes " flows\n")) counted
-    ∙ (ap (λ (n : ℕ). front ++ (codes "ok " ++ flow_name outline 0 ++ codes ": " ++ decimal (tasks_below outline (count outline)) ++ codes " tasks, " ++ decimal (n - tasks_below outline (count outline)) ++ codes " retries, " ++ decimal flows ++ codes " flows\n")) number
-    ∙ ap (λ (n : ℕ). front ++ (codes "ok " ++ flow_name outline 0 ++ codes ": " ++ decimal (tasks_below outline (count outline)) ++ codes " tasks, " ++ decimal (count outline - tasks_below outline (count outline)) ++ codes " retries, " ++ decimal n ++ codes " flows\n")) flow_number))
+    by_twos prefix (codes "ok ") (flow_name outline 0) (codes ": ") (decimal tasks) (codes " tasks, ") (decimal (atoms - tasks)) (codes " retries, ") (decimal flows) (codes " flows\n")
+    ∙ (ap (λ (n : ℕ). prefix ++ (codes "ok " ++ flow_name outline 0 ++ codes ": " ++ decimal n ++ codes " tasks, " ++ decimal (atoms - n) ++ codes " retries, " ++ decimal flows ++ codes " flows\n")) counted
+    ∙ (ap (λ (n : ℕ). prefix ++ (codes "ok " ++ flow_name outline 0 ++ codes ": " ++ decimal (tasks_below outline (count outline)) ++ codes " tasks, " ++ decimal (n - tasks_below outline (count outline)) ++ codes " retries, " ++ decimal flows ++ codes " flows\n")) number
+    ∙ ap (λ (n : ℕ). prefix ++ (codes "ok " ++ flow_name outline 0 ++ codes ": " ++ decimal (tasks_below outline (count outline)) ++ codes " tasks, " ++ decimal (count outline - tasks_below outline (count outline)) ++ codes " retries, " ++ decimal n ++ codes " flows\n")) flow_number))

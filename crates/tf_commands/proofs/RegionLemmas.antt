@@ -4,7 +4,7 @@ use Rattle.std.specs.Prelude.{if◌then◌else◌, option_map, is_none, find}
 use Rattle.std.specs.List.{list_all}
 use Rattle.std.specs.Option.{option_or}
 use Rattle.tf_flow.specs.Plan.{PlanValue}
-use Rattle.tf_flow.specs.declared.ways.Turn.{Turn}
+use Rattle.tf_flow.specs.declared.paths.Turn.{Turn}
 use Rattle.tf_flow.specs.declared.deciders.Depth.{Depth}
 use Rattle.tf_states.specs.declared.record.Entry.{Entry}
 use Rattle.tf_states.specs.declared.record.Kind.{Kind}
@@ -25,7 +25,7 @@ use Rattle.tf_model.specs.Candidates.{taken_up, end_of}
 use Rattle.tf_model.specs.Deciders.{refused}
 use Rattle.tf_model.specs.Forced.{forced, forced_if_running, is_active, first_entry, forced_attempt, is_attempting, attempt_entry, forced_again, is_beginning_again, again_entry, is_to_put_back, put_back_or_run, forced_reverted, is_undone_retry, reverted_entry, forced_resolution, is_unresolved, resolution_entry, forced_retrying, is_to_begin_again, retrying_entry, forced_revert, is_retry_to_revert, reverting_entry, forced_ignore, is_refused, is_to_ignore, ignore_or_self, ignore_by, ignore_entry, forced_run, is_retry_to_run, running_entry}
 use Rattle.tf_model.specs.History.{snapshot, mark_of, state_of}
-use Rattle.tf_model.specs.Plan.{Outline, outline_of, count, holds, is_retry, own_flow, way, retry_of}
+use Rattle.tf_model.specs.Plan.{Outline, outline_of, count, holds, is_retry, own_flow, path, retry_of}
 use Rattle.tf_model.specs.Readiness.{is_region, is_marked_from, marks_from}
 use Rattle.tf_model.specs.Retries.{attempt, ends_with, Controlled, controlled, controlled_on, resolution_by, resolution}
 use Rattle.tf_model.proofs.Told.{retry_in}
@@ -67,7 +67,7 @@ none_on plan a (turn ∷ turns) none =
 
 root_resolved : (plan : Outline) (s : Snapshot) (a : ℕ) → has_no_retries plan ≡ true → (resolution plan s a).flow ≡ 0
 unfolding resolution
-root_resolved plan s a none = ap (λ (cs : List Controlled). (resolution_by plan s cs).flow) (none_on plan a (way plan a) none)
+root_resolved plan s a none = ap (λ (cs : List Controlled). (resolution_by plan s cs).flow) (none_on plan a (path plan a) none)
 
 -- ---- what is recorded resolves the root, where it resolves a flow
 

@@ -42,9 +42,9 @@ use Rattle.tf_commands.proofs.ReachLemmas.{reached_by}
 use Rattle.tf_commands.proofs.ReportLemmas.{StatusAfter, ClosingFor, report_said, report_ended}
 
 -- the newer of short entries are short
-front_short : (newer past : List Entry) → AreShort (newer ++ past) → AreShort newer
-front_short [] past short = tt
-front_short (e ∷ newer) past short = (short.0, front_short newer past short.1)
+prefix_short : (newer past : List Entry) → AreShort (newer ++ past) → AreShort newer
+prefix_short [] past short = tt
+prefix_short (e ∷ newer) past short = (short.0, prefix_short newer past short.1)
 
 -- a session of these entries
 same_session : (gives : Order → Outcome → Type 0) (asked : Type 0) (number : ℕ) (limit : Option ℕ) (plan : Outline) (before after entries : List Entry) (stop : Option FlowState) → IsSession gives asked number limit plan before after stop → after ≡ entries ++ before
@@ -69,7 +69,7 @@ ran_so gives request asked plan before after entries stop shown now closing stat
     let parts = same_session gives asked (number_of request.want) request.limit (outline_of plan) before after entries stop session recorded in
     record {
       steps = parts.0;
-      bound = session_at_most plan before entries stop compiles limits short_before (front_short entries before (subst AreShort recorded short)) parts.0.session;
+      bound = session_at_most plan before entries stop compiles limits short_before (prefix_short entries before (subst AreShort recorded short)) parts.0.session;
       outcomes = parts.1;
       text = text;
       end = stop_reached plan before entries stop compiles parts.0.session;

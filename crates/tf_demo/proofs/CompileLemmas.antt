@@ -13,7 +13,7 @@ use Rattle.tf_model.specs.Before.{Flow, has_flow_number, passes_item}
 use Rattle.tf_model.specs.Compilation.{CompileRefusal, compile_refusal, tree_refusal, refusal_at, refusal_among, refusal_of, ambiguity, ambiguity_at, is_ambiguous, cycle_of, is_back, first_cycle, least, refuse_symbol}
 use Rattle.tf_model.specs.Linked.{arrange, arranged, linked_pairs, is_linked, is_explicit, is_inferred, is_inferred_by, givers, other_provides, item_provides, gives_inside, is_served, needs, joins, item_name}
 use Rattle.tf_model.specs.Plan.{outline_of_tree}
-use Rattle.tf_model.proofs.Told.{way_in, part_lists, listed_by}
+use Rattle.tf_model.proofs.Told.{path_in, part_lists, listed_by}
 use Rattle.tf_numbers.specs.Numbers.{numbers_below, which_below}
 use Rattle.tf_numbers.specs.Pairs.{Pair, pairs_below}
 use Rattle.tf_numbers.proofs.BelowLemmas.{never_any, never_first}
@@ -27,9 +27,9 @@ use Rattle.tf_demo.proofs.PlaceLemmas.{by_draw}
 
 -- an atom provides no symbol where it stands in an item of another flow than the root
 abbrev pub IsQuiet : Atom → Type 0
-IsQuiet atom = (g u : ℕ) (symbol : List ℕ) → 0 < g → passes_item g (Some u) atom.way && part_lists atom.part symbol ≡ false
+IsQuiet atom = (g u : ℕ) (symbol : List ℕ) → 0 < g → passes_item g (Some u) atom.path && part_lists atom.part symbol ≡ false
 
-quiet_at : (atoms : List Atom) (a g u : ℕ) (symbol : List ℕ) → AllByRecursion IsQuiet atoms → 0 < g → passes_item g (Some u) (way_in (slice_get atoms a)) && listed_by (slice_get atoms a) symbol ≡ false
+quiet_at : (atoms : List Atom) (a g u : ℕ) (symbol : List ℕ) → AllByRecursion IsQuiet atoms → 0 < g → passes_item g (Some u) (path_in (slice_get atoms a)) && listed_by (slice_get atoms a) symbol ≡ false
 quiet_at [] a g u symbol quiet below_root = refl
 quiet_at (atom ∷ atoms) zero g u symbol quiet below_root = quiet.0 g u symbol below_root
 quiet_at (atom ∷ atoms) (suc a) g u symbol quiet below_root = quiet_at atoms a g u symbol quiet.1 below_root

@@ -9,7 +9,7 @@ use Rattle.std.proofs.lemmas.List.Sums.{take_while-cons}
 use Rattle.tf_flow.specs.declared.atoms.Bind.{Bind}
 use Rattle.tf_flow.specs.declared.atoms.Task.{Task}
 use Rattle.tf_flow.specs.declared.nested.FlowKind.TheVariants as pattern
-use Rattle.tf_flow.specs.declared.ways.Turn.{Turn}
+use Rattle.tf_flow.specs.declared.paths.Turn.{Turn}
 use Rattle.tf_flow.specs.Names.{same_name, is_among, first_some}
 use Rattle.tf_flow.specs.Rules.{bind_symbols}
 use Rattle.tf_links.specs.Standing.{standing_items}
@@ -19,8 +19,8 @@ use Rattle.tf_flow.specs.Plan.{PlanValue}
 use Rattle.tf_flow.specs.Tree.{Tree, Trees, Head, trees_of, tree_of}
 use Rattle.tf_model.specs.Before.{Flow, find_flow}
 use Rattle.tf_model.specs.Linked.{arrange, arranged, linked_pairs, standing_of_item}
-use Rattle.tf_model.specs.Plan.{Outline, outline_of, outline_of_tree, count, way, injects, is_before}
-use Rattle.tf_model.proofs.Told.{way_in, standing_in, arguments_in, injects_in}
+use Rattle.tf_model.specs.Plan.{Outline, outline_of, outline_of_tree, count, path, injects, is_before}
+use Rattle.tf_model.proofs.Told.{path_in, standing_in, arguments_in, injects_in}
 use Rattle.tf_model.specs.Scope.{members, members_in, is_elsewhere, is_earlier, lists_symbol, has_source, missing_argument, missing_of, missing_symbol}
 use Rattle.tf_numbers.specs.Numbers.{numbers_below}
 use Rattle.tf_numbers.proofs.TruthLemmas.{true_first, true_second, second_false}
@@ -35,18 +35,18 @@ itself name = (bytes_decides name name).1 refl
 
 -- ---- the scope of a task
 
--- the way to an item of an item of the root, and to the retry controller of this
-abbrev way_to_task : ℕ → ℕ → ℕ → List Turn
-way_to_task item g k = record { flow = 0; item = Some item } ∷ record { flow = g; item = Some k } ∷ []
+-- the path to an item of an item of the root, and to the retry controller of this
+abbrev path_to_task : ℕ → ℕ → ℕ → List Turn
+path_to_task item g k = record { flow = 0; item = Some item } ∷ record { flow = g; item = Some k } ∷ []
 
-abbrev way_to_retry : ℕ → ℕ → List Turn
-way_to_retry item g = record { flow = 0; item = Some item } ∷ record { flow = g; item = None } ∷ []
+abbrev path_to_retry : ℕ → ℕ → List Turn
+path_to_retry item g = record { flow = 0; item = Some item } ∷ record { flow = g; item = None } ∷ []
 
 -- a task y of a group whose retry controller is r
 record IsInGroup (plan : Outline) (group item g k y r : ℕ) (t : Task) : Type 0 where
   below_root : 0 < g
-  task_there : slice_get plan.atoms y ≡ Some (record { way = way_to_task item g k; part = a_task t })
-  retry_there : slice_get plan.atoms r ≡ Some (record { way = way_to_retry item g; part = a_retry (retry_of group) })
+  task_there : slice_get plan.atoms y ≡ Some (record { path = path_to_task item g k; part = a_task t })
+  retry_there : slice_get plan.atoms r ≡ Some (record { path = path_to_retry item g; part = a_retry (retry_of group) })
   rest : List ℕ
   stands : standing_in (find_flow plan.flows g) ≡ r ∷ rest
 
@@ -79,7 +79,7 @@ found_in_group plan group item g k y r t is =
     ap (λ (zs : List ℕ). list_any lists (filter (is_earlier plan y) (reverse (take_while (is_elsewhere plan turn) zs)))) is.stands
     ∙ (ap (λ (zs : List ℕ). list_any lists (filter (is_earlier plan y) (reverse zs))) (taken_first (is_elsewhere plan turn) r is.rest (retry_elsewhere plan group item g k y r t is))
     ∙ found_last (is_earlier plan y) lists r (take_while (is_elsewhere plan turn) is.rest) (retry_before plan group item g k y r t is) (retry_lists plan group item g k y r t is)) in
-    ap (λ (w : List Turn). list_any lists (flat_map (members_in plan y) (reverse w))) (ap way_in is.task_there)
+    ap (λ (w : List Turn). list_any lists (flat_map (members_in plan y) (reverse w))) (ap path_in is.task_there)
     ∙ (list_any-append lists (members_in plan y turn) (flat_map (members_in plan y) (around ∷ []))
     ∙ true_first (list_any lists (members_in plan y turn)) (list_any lists (flat_map (members_in plan y) (around ∷ []))) here)
 
@@ -157,7 +157,7 @@ record IsTaskAt (atoms : List Atom) (p group item n : ℕ) : Type 0 where
   place : ℕ
   number : ℕ
   draw : ℕ
-  is : slice_get atoms p ≡ Some (record { way = way_to_task item n place; part = a_task (task_drawn group number draw) })
+  is : slice_get atoms p ≡ Some (record { path = path_to_task item n place; part = a_task (task_drawn group number draw) })
 
 task_at : (item n place m group left number state : ℕ) (more : List Atom) (p : ℕ) → p < left → IsTaskAt (task_atoms item n place m (tasks_of group left number state) ++ more) p group item n
 task_at item n place m group zero number state more p within = absurd (omega (arith, within))
@@ -209,8 +209,8 @@ record HasLeft (plan : Outline) (a n item : ℕ) (left : Trees) : Type 0 where
 no_atom : (plan : Outline) (y : ℕ) → slice_get plan.atoms y ≡ None → missing_of plan y ≡ None
 no_atom plan y is = ap (first_some (missing_argument plan y)) (ap arguments_in is)
 
-a_retry_there : (plan : Outline) (y group : ℕ) (way : List Turn) → slice_get plan.atoms y ≡ Some (record { way = way; part = a_retry (retry_of group) }) → missing_of plan y ≡ None
-a_retry_there plan y group way is = ap (first_some (missing_argument plan y)) (ap arguments_in is)
+a_retry_there : (plan : Outline) (y group : ℕ) (path : List Turn) → slice_get plan.atoms y ≡ Some (record { path = path; part = a_retry (retry_of group) }) → missing_of plan y ≡ None
+a_retry_there plan y group path is = ap (first_some (missing_argument plan y)) (ap arguments_in is)
 
 -- a group and what is left behind it
 abbrev groups_of : ℕ → ℕ → ℕ → ℕ → Trees
@@ -276,7 +276,7 @@ groups_complete plan size (suc left) group state a n item has y from =
     elim (cases_lt a y) [
       | inr last ↦
           let same : a ≡ y = omega (arith, from, last) in
-          a_retry_there plan y group (way_to_retry item n) (sym (from_place plan.atoms a y 0 (omega (arith, same))) ∙ ap (λ (atoms : List Atom). slice_get atoms 0) has.atoms_left)
+          a_retry_there plan y group (path_to_retry item n) (sym (from_place plan.atoms a y 0 (omega (arith, same))) ∙ ap (λ (atoms : List Atom). slice_get atoms 0) has.atoms_left)
       | inl past ↦ elim (cases_lt (y - suc a) (group_size size group)) [
         | inl within ↦
             let same : suc (a + (y - suc a)) ≡ y = omega (arith, past) in

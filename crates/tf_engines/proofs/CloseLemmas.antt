@@ -29,14 +29,14 @@ there (x ∷ xs) zero below = x
 there (x ∷ xs) (suc i) below = there xs i (omega arith)
 
 -- of two lists joined, the first where the second is empty
-pub front_all : {X : Type 0} (xs ys zs : List X) → ys ≡ [] → xs ++ ys ≡ zs → xs ≡ zs
-front_all {X} xs ys zs none is = sym (append-nil xs) ∙ ap (λ (l : List X). xs ++ l) (sym none) ∙ is
+pub prefix_all : {X : Type 0} (xs ys zs : List X) → ys ≡ [] → xs ++ ys ≡ zs → xs ≡ zs
+prefix_all {X} xs ys zs none is = sym (append-nil xs) ∙ ap (λ (l : List X). xs ++ l) (sym none) ∙ is
 
 -- what was there before more came
-pub take_front : {X : Type 0} (xs zs : List X) → take (length xs) (xs ++ zs) ≡ xs
-take_front [] [] = refl
-take_front [] (z ∷ zs) = refl
-take_front (x ∷ xs) zs = ap (λ l. x ∷ l) (take_front xs zs)
+pub take_prefix : {X : Type 0} (xs zs : List X) → take (length xs) (xs ++ zs) ≡ xs
+take_prefix [] [] = refl
+take_prefix [] (z ∷ zs) = refl
+take_prefix (x ∷ xs) zs = ap (λ l. x ∷ l) (take_prefix xs zs)
 
 -- one more worker that didn't fail
 one_right : {W : Type 0} (failed_of : W → Bool) (x : W) → failed_of x ≡ false → (k : ℕ) (d : W) → k < 1 → failed_of (slice_index_or (x ∷ []) k d) ≡ false

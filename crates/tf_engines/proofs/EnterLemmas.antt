@@ -53,8 +53,8 @@ entering_turns flow.Success = refl
 entering_turns flow.Failure = refl
 entering_turns flow.Reverted = refl
 
-all_front : (p : Entry → Bool) (some others : List Entry) → list_all p (some ++ others) ≡ true → list_all p some ≡ true
-all_front p some others all = and_first (list_all p some) (list_all p others) (sym (list_all-append p some others) ∙ all)
+all_prefix : (p : Entry → Bool) (some others : List Entry) → list_all p (some ++ others) ≡ true → list_all p some ≡ true
+all_prefix p some others all = and_first (list_all p some) (list_all p others) (sym (list_all-append p some others) ∙ all)
 
 all_reverse : (p : Entry → Bool) (xs : List Entry) → list_all p xs ≡ true → list_all p (reverse xs) ≡ true
 all_reverse p [] all = refl
@@ -89,10 +89,10 @@ entering_goes : (gives : Order → Outcome → Type 0) (number : ℕ) (plan : Ou
     → AreGiven gives plan past (reverse (entering f)) × (list_all (is_of number) (reverse (entering f)) ≡ true) × (list_all is_unsuspended (reverse (entering f)) ≡ true)
 entering_goes gives number plan past f some = turning_goes gives number plan past (reverse (entering f)) some (all_reverse is_turning (entering f) (entering_turns f))
 
-given_front : (gives : Order → Outcome → Type 0) (number : ℕ) (plan : Outline) (past : List Entry) (f : FlowState) (some others : List Entry) → nat_lt 0 number ≡ true → entering f ≡ some ++ others
+given_prefix : (gives : Order → Outcome → Type 0) (number : ℕ) (plan : Outline) (past : List Entry) (f : FlowState) (some others : List Entry) → nat_lt 0 number ≡ true → entering f ≡ some ++ others
     → AreGiven gives plan past (reverse some) × (list_all (is_of number) (reverse some) ≡ true) × (list_all is_unsuspended (reverse some) ≡ true)
-given_front gives number plan past f some others any front =
-    turning_goes gives number plan past (reverse some) any (all_reverse is_turning some (all_front is_turning some others (ap (list_all is_turning) (sym front) ∙ entering_turns f)))
+given_prefix gives number plan past f some others any prefix =
+    turning_goes gives number plan past (reverse some) any (all_reverse is_turning some (all_prefix is_turning some others (ap (list_all is_turning) (sym prefix) ∙ entering_turns f)))
 
 -- all entries are among those with which the session was entered
 entered_within : (plan : Outline) (limit : Option ℕ) (first : ℕ) (entries : List Entry) → length entries ≤ first → AreWithin plan limit first entries
@@ -151,16 +151,16 @@ ended_before gives asked number limit plan past after state legal is = subst (λ
 pub cut_before : (gives : Order → Outcome → Type 0) (asked : Type 0) (number : ℕ) (limit : Option ℕ) (plan : Outline) (past after : List Entry) (cause : Option Halt) (answer : How) → nat_lt 0 number ≡ true → HaltsAs cause answer → LegalPast plan after
     → IsEntering 0 past after → HasRun gives asked number limit plan past after answer
 cut_before gives asked number limit plan past after cause answer any halts legal is =
-    let front : entering (flow_of past) ≡ is.some ++ is.others = sym (same_entering (flow_of past)) ∙ is.prefix in
-    let goes = given_front gives number plan past (flow_of past) is.some is.others any front in
+    let prefix : entering (flow_of past) ≡ is.some ++ is.others = sym (same_entering (flow_of past)) ∙ is.prefix in
+    let goes = given_prefix gives number plan past (flow_of past) is.some is.others any prefix in
     halts_so gives asked number limit plan past after cause answer halts None (record {
       entries = reverse is.some;
       recorded = is.is;
-      session = entered is.some is.others front (subst (LegalPast plan) is.is legal);
+      session = entered is.some is.others prefix (subst (LegalPast plan) is.is legal);
       given = goes.0;
       hands = goes.1;
       due = due_none asked limit (reverse is.some) goes.2;
       within = entered_within plan limit (length (entering (flow_of past))) (reverse is.some)
-          (omega (arith, length-reverse is.some, ap (λ (l : List Entry). length l) front, length-append is.some is.others));
+          (omega (arith, length-reverse is.some, ap (λ (l : List Entry). length l) prefix, length-append is.some is.others));
       suspended = λ stops. none_last flow.Suspended (IsSuspended asked limit (reverse is.some)) stops;
     })

@@ -129,15 +129,15 @@ was_sound {K} old new sound kept = by old.halt refl
 
 -- ---- how long a run is
 
-short_front : (newer past : List Entry) → AreShort (newer ++ past) → AreShort newer
-short_front [] past are = tt
-short_front (e ∷ newer) past are = (are.0, short_front newer past are.1)
+short_prefix : (newer past : List Entry) → AreShort (newer ++ past) → AreShort newer
+short_prefix [] past are = tt
+short_prefix (e ∷ newer) past are = (are.0, short_prefix newer past are.1)
 
 session_bounded : (gives : Order → Outcome → Type 0) (asked : Type 0) (number : ℕ) (limit : Option ℕ) (plan : PlanValue) (before after : List Entry) (stop : Option FlowState)
     → ((entries : List Entry) (last : Option FlowState) → AreShort entries → Session (outline_of plan) before entries last → length entries ≤ entry_bound plan)
     → AreShort after → IsSession gives asked number limit (outline_of plan) before after stop → length after ≤ length before + entry_bound plan
 session_bounded gives asked number limit plan before after stop bound short is =
-    omega (arith, bound is.entries stop (short_front is.entries before (subst (λ (l : List Entry). AreShort l) is.recorded short)) is.session, ap length is.recorded, length-append is.entries before)
+    omega (arith, bound is.entries stop (short_prefix is.entries before (subst (λ (l : List Entry). AreShort l) is.recorded short)) is.session, ap length is.recorded, length-append is.entries before)
 
 -- a run records at most as many entries as any session of its plan may
 pub ran_bounded : (gives : Order → Outcome → Type 0) (asked : Type 0) (number : ℕ) (limit : Option ℕ) (plan : PlanValue) (before after : List Entry) (h : How)

@@ -12,7 +12,7 @@ use Rattle.tf_flow.proofs.atoms.Task.TheSendSync as task
 use Rattle.tf_flow.proofs.atoms.Retry.TheSendSync as retry
 use Rattle.tf_flow.proofs.atoms.Binds.TheSendSync as binds
 use Rattle.tf_flow.proofs.deciders.Depth.TheSendSync as depth_of
-use Rattle.tf_flow.proofs.ways.Way.TheSendSync as way
+use Rattle.tf_flow.proofs.paths.Path.TheSendSync as path
 use Rattle.tf_flow.proofs.nested.Item.TheLaws.TheKnot.{send-Flow}
 use Rattle.tf_flow.proofs.deciders.Test.TheLaws.TheKnot.{send-Test}
 use Rattle.tf_flow.specs.contracts.deciders.Test as test
@@ -62,7 +62,7 @@ flow_send : IsSend (flow.the_field).row
 flow_send = search (sendable, crosses, send-Flow, links_send, name.the_send, task.the_field_send, retry.the_send) depth 20
 
 plan_send : IsSend plan.the_row
-plan_send = search (sendable, crosses, heap.the_send, flow_send, name.the_send, binds.the_send, way.the_send, index_set.the_send, hasher.the_send) depth 14
+plan_send = search (sendable, crosses, heap.the_send, flow_send, name.the_send, binds.the_send, path.the_send, index_set.the_send, hasher.the_send) depth 14
 
 compiled_send : IsSend compiled.the_row
 compiled_send = search (sendable, Vec-send, plan_send, graph.the_send, providers.the_send, span.the_send) depth 22

@@ -39,7 +39,7 @@ arg_read = record {
       let s = began name_read (λ symbol after. Some (record { name = n.first; symbol = symbol }, after)) n.behind a rest n.goes in
       let made : Arg = record { name = n.first; symbol = s.first } in
       let same = same_read made a s.behind rest s.goes in
-      subst (λ x. IsArg x × (bytes ≡ arg_bytes x ++ rest)) same.0 ((n.good, s.good), n.front ∙ ap (λ more. name_bytes n.first ++ more) (s.front ∙ ap (λ more. name_bytes s.first ++ more) same.1) ∙ sym (append_assoc (name_bytes n.first) (name_bytes s.first) rest));
+      subst (λ x. IsArg x × (bytes ≡ arg_bytes x ++ rest)) same.0 ((n.good, s.good), n.prefix ∙ ap (λ more. name_bytes n.first ++ more) (s.prefix ∙ ap (λ more. name_bytes s.first ++ more) same.1) ∙ sym (append_assoc (name_bytes n.first) (name_bytes s.first) rest));
 }
 
 bind_read : Reads bind_bytes IsBind read_bind
@@ -52,7 +52,7 @@ bind_read = record {
       let v = began value_read (λ value after. Some (record { symbol = s.first; value = value }, after)) s.behind b rest s.goes in
       let made : Bind = record { symbol = s.first; value = v.first } in
       let same = same_read made b v.behind rest v.goes in
-      subst (λ x. IsBind x × (bytes ≡ bind_bytes x ++ rest)) same.0 ((s.good, v.good), s.front ∙ ap (λ more. name_bytes s.first ++ more) (v.front ∙ ap (λ more. byte_form v.first ++ more) same.1) ∙ sym (append_assoc (name_bytes s.first) (byte_form v.first) rest));
+      subst (λ x. IsBind x × (bytes ≡ bind_bytes x ++ rest)) same.0 ((s.good, v.good), s.prefix ∙ ap (λ more. name_bytes s.first ++ more) (v.prefix ∙ ap (λ more. byte_form v.first ++ more) same.1) ∙ sym (append_assoc (name_bytes s.first) (byte_form v.first) rest));
 }
 
 words_read : Reads (listed text_bytes) (AreFew IsText) read_words
@@ -210,14 +210,14 @@ task_sound bytes t rest is =
     let same = same_read made t u.behind rest u.goes in
     subst (λ x. IsTask x × (bytes ≡ task_bytes x ++ rest)) same.0 (
       record { name = n.good; words = w.good; args = a.good; inject = i.good; provides = p.good; priority = r.good; undo = u.good },
-      joined bytes (name_bytes n.first) n.behind (task_kind_byte k.first ∷ from_words made) rest n.front
-          (joined n.behind (task_kind_byte k.first ∷ []) k.behind (from_words made) rest k.front
-          (joined k.behind (listed text_bytes w.first) w.behind (from_args made) rest w.front
-          (joined w.behind (listed arg_bytes a.first) a.behind (from_inject made) rest a.front
-          (joined a.behind (listed bind_bytes i.first) i.behind (from_provides made) rest i.front
-          (joined i.behind (provides_bytes p.first) p.behind (from_priority made) rest p.front
-          (joined p.behind (to_be_bytes w32 (cast_unsigned w32 r.first)) r.behind (undo_bytes u.first) rest r.front
-          (ends_with r.behind (undo_bytes u.first) u.behind rest u.front same.1))))))),
+      joined bytes (name_bytes n.first) n.behind (task_kind_byte k.first ∷ from_words made) rest n.prefix
+          (joined n.behind (task_kind_byte k.first ∷ []) k.behind (from_words made) rest k.prefix
+          (joined k.behind (listed text_bytes w.first) w.behind (from_args made) rest w.prefix
+          (joined w.behind (listed arg_bytes a.first) a.behind (from_inject made) rest a.prefix
+          (joined a.behind (listed bind_bytes i.first) i.behind (from_provides made) rest i.prefix
+          (joined i.behind (provides_bytes p.first) p.behind (from_priority made) rest p.prefix
+          (joined p.behind (to_be_bytes w32 (cast_unsigned w32 r.first)) r.behind (undo_bytes u.first) rest r.prefix
+          (ends_with r.behind (undo_bytes u.first) u.behind rest u.prefix same.1))))))),
     )
 
 pub task_read : Reads task_bytes IsTask read_task
@@ -245,7 +245,7 @@ values_read = record {
   sound = λ bytes values rest is.
       let v = began value_read scalars_in bytes values rest is in
       let found = in_list v.first v.behind rest values v.goes in
-      (subst IsValue found.0 v.good, v.front ∙ ap (λ u. byte_form u ++ v.behind) found.0 ∙ ap (λ more. list_bytes values ++ more) found.1);
+      (subst IsValue found.0 v.good, v.prefix ∙ ap (λ u. byte_form u ++ v.behind) found.0 ∙ ap (λ more. list_bytes values ++ more) found.1);
 }
 
 retry_kind_again : (k : RetryKind) (rest : List ℕ) → IsRetryKind k → read_retry_kind (retry_kind_bytes k ++ rest) ≡ Some (k, rest)
@@ -267,7 +267,7 @@ times_sound bytes k rest is =
     let same = same_read (retry.Times n.first b.first) k b.behind rest b.goes in
     subst (λ x. IsRetryKindAt 2 bytes x rest) same.0 (
       n.good,
-      ap (λ more. 2 ∷ more) (joined bytes (to_be_bytes w16 n.first) n.behind (truth_byte b.first ∷ []) rest n.front (ends_with n.behind (truth_byte b.first ∷ []) b.behind rest b.front same.1)),
+      ap (λ more. 2 ∷ more) (joined bytes (to_be_bytes w16 n.first) n.behind (truth_byte b.first ∷ []) rest n.prefix (ends_with n.behind (truth_byte b.first ∷ []) b.behind rest b.prefix same.1)),
     )
 
 for_each_sound : (bytes : List ℕ) (k : RetryKind) (rest : List ℕ) → read_for_each bytes ≡ Some (k, rest) → IsRetryKindAt 3 bytes k rest
@@ -277,7 +277,7 @@ for_each_sound bytes k rest is =
     let same = same_read (retry.ForEach v.first b.first) k b.behind rest b.goes in
     subst (λ x. IsRetryKindAt 3 bytes x rest) same.0 (
       v.good,
-      ap (λ more. 3 ∷ more) (joined bytes (list_bytes v.first) v.behind (truth_byte b.first ∷ []) rest v.front (ends_with v.behind (truth_byte b.first ∷ []) b.behind rest b.front same.1)),
+      ap (λ more. 3 ∷ more) (joined bytes (list_bytes v.first) v.behind (truth_byte b.first ∷ []) rest v.prefix (ends_with v.behind (truth_byte b.first ∷ []) b.behind rest b.prefix same.1)),
     )
 
 at_retry_tag : (tag k : ℕ) (bytes : List ℕ) (r : RetryKind) (rest : List ℕ) → tag ≡ k → IsRetryKindAt k bytes r rest → IsRetryKindAt tag bytes r rest
@@ -338,11 +338,11 @@ retry_sound bytes r rest is =
     let same = same_read made r p.behind rest p.goes in
     subst (λ x. IsRetry x × (bytes ≡ retry_bytes x ++ rest)) same.0 (
       record { name = n.good; kind = k.good; args = a.good; inject = i.good; provides = p.good },
-      joined bytes (name_bytes n.first) n.behind (retry_kind_bytes k.first ++ from_retry_args made) rest n.front
-          (joined n.behind (retry_kind_bytes k.first) k.behind (from_retry_args made) rest k.front
-          (joined k.behind (listed arg_bytes a.first) a.behind (from_retry_inject made) rest a.front
-          (joined a.behind (listed bind_bytes i.first) i.behind (provides_bytes p.first) rest i.front
-          (ends_with i.behind (provides_bytes p.first) p.behind rest p.front same.1)))),
+      joined bytes (name_bytes n.first) n.behind (retry_kind_bytes k.first ++ from_retry_args made) rest n.prefix
+          (joined n.behind (retry_kind_bytes k.first) k.behind (from_retry_args made) rest k.prefix
+          (joined k.behind (listed arg_bytes a.first) a.behind (from_retry_inject made) rest a.prefix
+          (joined a.behind (listed bind_bytes i.first) i.behind (provides_bytes p.first) rest i.prefix
+          (ends_with i.behind (provides_bytes p.first) p.behind rest p.prefix same.1)))),
     )
 
 pub retry_read : Reads retry_bytes IsRetry read_retry

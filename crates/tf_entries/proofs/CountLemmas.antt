@@ -37,8 +37,8 @@ record Small (order : List Place) : Type 0 where
   links : sum_by link_count order ≤ 4000
   size : length order ≤ 1500
 
-small_front : (xs ys : List Place) → Small (xs ++ ys) → Small xs
-small_front xs ys small =
+small_prefix : (xs ys : List Place) → Small (xs ++ ys) → Small xs
+small_prefix xs ys small =
     let links = small.links in
     let size = small.size in
     record {
@@ -125,9 +125,9 @@ mutual
   tree_few : (t : Tree) → Small (places t) → TreeWithin AnyCount (as_written t) → IsTree (as_written t)
   tree_few (task t) small good = task_few t small good
   tree_few (flow head items) small good =
-      let here = small_front (at_flow (level_of head items) ∷ []) (retry_places head.retry ++ places_among items) small in
+      let here = small_prefix (at_flow (level_of head items) ∷ []) (retry_places head.retry ++ places_among items) small in
       let inside = small_rest (at_flow (level_of head items) ∷ []) (retry_places head.retry ++ places_among items) small in
-      let retry = small_front (retry_places head.retry) (places_among items) inside in
+      let retry = small_prefix (retry_places head.retry) (places_among items) inside in
       let below = small_rest (retry_places head.retry) (places_among items) inside in
       let links = here.links in
       let size = below.size in
@@ -140,7 +140,7 @@ mutual
   trees_few : (ts : Trees) → Small (places_among ts) → TreesWithin AnyCount (all_as_written ts) → AreTrees (all_as_written ts)
   trees_few no_trees small good = tt
   trees_few (tree first others) small good =
-      (tree_few first (small_front (places first) (places_among others) small) good.0, trees_few others (small_rest (places first) (places_among others) small) good.1)
+      (tree_few first (small_prefix (places first) (places_among others) small) good.0, trees_few others (small_rest (places first) (places_among others) small) good.1)
 
 -- ---- plans
 

@@ -155,7 +155,7 @@ result_read = record {
   sound = λ bytes p rest is.
       let b = began value_read (λ u after. Some (payload.Value u, after)) bytes p rest is in
       let same = same_read (payload.Value b.first) p b.behind rest b.goes in
-      subst (λ q. IsHeld atom.Success q × (bytes ≡ payload_bytes q ++ rest)) same.0 ((refl, b.good), b.front ∙ ap (λ more. payload_bytes (payload.Value b.first) ++ more) same.1);
+      subst (λ q. IsHeld atom.Success q × (bytes ≡ payload_bytes q ++ rest)) same.0 ((refl, b.good), b.prefix ∙ ap (λ more. payload_bytes (payload.Value b.first) ++ more) same.1);
 }
 
 module _ (s : AtomState) (none : is_payload_of s payload.Empty ≡ false) (no_value : (v : _) → is_payload_of s (payload.Value v) ≡ false) (fault : (f : Failure) → is_payload_of s (payload.Fault f) ≡ true) where
@@ -170,7 +170,7 @@ module _ (s : AtomState) (none : is_payload_of s payload.Empty ≡ false) (no_va
     sound = λ bytes p rest is.
         let b = began failure_read (λ g after. Some (payload.Fault g, after)) bytes p rest is in
         let same = same_read (payload.Fault b.first) p b.behind rest b.goes in
-        subst (λ q. IsHeld s q × (bytes ≡ payload_bytes q ++ rest)) same.0 ((fault b.first, b.good), b.front ∙ ap (λ more. payload_bytes (payload.Fault b.first) ++ more) same.1);
+        subst (λ q. IsHeld s q × (bytes ≡ payload_bytes q ++ rest)) same.0 ((fault b.first, b.good), b.prefix ∙ ap (λ more. payload_bytes (payload.Fault b.first) ++ more) same.1);
   }
 
 module _ (s : AtomState) (empty : is_payload_of s payload.Empty ≡ true) (no_value : (v : _) → is_payload_of s (payload.Value v) ≡ false) (no_fault : (f : Failure) → is_payload_of s (payload.Fault f) ≡ false) where
@@ -211,7 +211,7 @@ below_read count = record {
       let b = began number_16 (λ m after. where_true (nat_lt m count) (Some (m, after))) bytes n rest is in
       let both = kept (nat_lt b.first count) (Some (b.first, b.behind)) (n, rest) b.goes in
       let same = same_read b.first n b.behind rest both.1 in
-      subst (λ m. IsBelow count m × (bytes ≡ to_be_bytes w16 m ++ rest)) same.0 ((ltb-true b.first count both.0, b.good), b.front ∙ ap (λ more. to_be_bytes w16 b.first ++ more) same.1);
+      subst (λ m. IsBelow count m × (bytes ≡ to_be_bytes w16 m ++ rest)) same.0 ((ltb-true b.first count both.0, b.good), b.prefix ∙ ap (λ more. to_be_bytes w16 b.first ++ more) same.1);
 }
 
 -- what was recorded, in a plan of so many atoms and flows
@@ -259,7 +259,7 @@ module _ (atoms flows : ℕ) where
       let same = same_read (what.Atom n.first s.first p.first) w p.behind rest p.goes in
       subst (λ v. IsWhatAt 1 bytes v rest) same.0 (
         (n.good.0, (n.good.1, p.good.0, p.good.1)),
-        ap (λ more. 1 ∷ more) (n.front ∙ ap (λ more. to_be_bytes w16 n.first ++ more) (s.front ∙ ap (λ more. atom_state_byte s.first ∷ more) (p.front ∙ ap (λ more. payload_bytes p.first ++ more) same.1))
+        ap (λ more. 1 ∷ more) (n.prefix ∙ ap (λ more. to_be_bytes w16 n.first ++ more) (s.prefix ∙ ap (λ more. atom_state_byte s.first ∷ more) (p.prefix ∙ ap (λ more. payload_bytes p.first ++ more) same.1))
             ∙ sym (append_assoc (to_be_bytes w16 n.first) (atom_state_byte s.first ∷ payload_bytes p.first) rest)),
       )
 
@@ -270,7 +270,7 @@ module _ (atoms flows : ℕ) where
       let same = same_read (what.Resolve n.first k.first) w k.behind rest k.goes in
       subst (λ v. IsWhatAt 3 bytes v rest) same.0 (
         (n.good.0, n.good.1),
-        ap (λ more. 3 ∷ more) (n.front ∙ ap (λ more. to_be_bytes w16 n.first ++ more) (k.front ∙ ap (λ more. kind_byte k.first ∷ more) same.1)
+        ap (λ more. 3 ∷ more) (n.prefix ∙ ap (λ more. to_be_bytes w16 n.first ++ more) (k.prefix ∙ ap (λ more. kind_byte k.first ∷ more) same.1)
             ∙ sym (append_assoc (to_be_bytes w16 n.first) (kind_byte k.first ∷ []) rest)),
       )
 
@@ -308,7 +308,7 @@ module _ (atoms flows : ℕ) where
       let made : Entry = record { hand = hand; what = b.first } in
       let same = same_read made e b.behind rest b.goes in
       subst (λ x. IsEntry atoms flows x × (hand ∷ bytes ≡ entry_bytes x ++ rest)) same.0
-      (record { hand = ltb-true hand 64 both.0; among = b.good.0; payload = b.good.1 }, ap (λ more. hand ∷ more) (b.front ∙ ap (λ more. what_bytes b.first ++ more) same.1))
+      (record { hand = ltb-true hand 64 both.0; among = b.good.0; payload = b.good.1 }, ap (λ more. hand ∷ more) (b.prefix ∙ ap (λ more. what_bytes b.first ++ more) same.1))
 
   pub entry_read : Reads entry_bytes (IsEntry atoms flows) (read_entry atoms flows)
   entry_read = record { again = entry_again; sound = entry_sound }

@@ -52,6 +52,6 @@ list_read {X} {form} {Good} {read} code = record {
       let b = began number_16 (λ count more. read_many read count more) bytes xs rest is in
       let many = many_sound code b.first b.behind xs rest b.goes in (
         (subst (λ (n : ℕ). n < 2 ^ 16) (sym many.counted) b.good, many.good),
-        b.front ∙ ap (λ (n : ℕ). to_be_bytes w16 n ++ b.behind) (sym many.counted) ∙ ap (λ more. to_be_bytes w16 (length xs) ++ more) many.front ∙ sym (append_assoc (to_be_bytes w16 (length xs)) (flat_map form xs) rest),
+        b.prefix ∙ ap (λ (n : ℕ). to_be_bytes w16 n ++ b.behind) (sym many.counted) ∙ ap (λ more. to_be_bytes w16 (length xs) ++ more) many.prefix ∙ sym (append_assoc (to_be_bytes w16 (length xs)) (flat_map form xs) rest),
       );
 }

@@ -47,7 +47,7 @@ number_of : (w : Width) (limit : ℕ) → IsWidth w limit → Reads (to_be_bytes
 number_of w limit is = record {
   again = λ n rest below.
       keeps (has_number w (to_be_bytes w n ++ rest)) _ (stands w limit is n rest)
-      ∙ ap (λ front. Some (from_be_bytes w front, drop (byte_len w) (to_be_bytes w n ++ rest))) (take_at (to_be_bytes w n) rest (byte_len w) (is.sized n))
+      ∙ ap (λ prefix. Some (from_be_bytes w prefix, drop (byte_len w) (to_be_bytes w n ++ rest))) (take_at (to_be_bytes w n) rest (byte_len w) (is.sized n))
       ∙ ap (λ after. Some (from_be_bytes w (to_be_bytes w n), after)) (drop_at (to_be_bytes w n) rest (byte_len w) (is.sized n))
       ∙ ap (λ (m : ℕ). Some (m, rest)) (is.forth n below);
   sound = λ bytes n rest found.
@@ -57,7 +57,7 @@ number_of w limit is = record {
       let fit = are_bytes (take (byte_len w) bytes) (and_second (nat_le (byte_len w) (length bytes)) (list_all is_byte (take (byte_len w) bytes)) both.0) in
       let same = same_read (from_be_bytes w (take (byte_len w) bytes)) n (drop (byte_len w) bytes) rest both.1 in (
         subst (λ m. m < limit) same.0 (is.below (take (byte_len w) bytes) sized fit),
-        sym (take-append-drop (byte_len w) bytes) ∙ ap (λ front. front ++ drop (byte_len w) bytes) (sym (is.back (take (byte_len w) bytes) sized fit) ∙ ap (to_be_bytes w) same.0) ∙ ap (λ after. to_be_bytes w n ++ after) same.1,
+        sym (take-append-drop (byte_len w) bytes) ∙ ap (λ prefix. prefix ++ drop (byte_len w) bytes) (sym (is.back (take (byte_len w) bytes) sized fit) ∙ ap (to_be_bytes w) same.0) ∙ ap (λ after. to_be_bytes w n ++ after) same.1,
       );
 }
 
@@ -90,25 +90,25 @@ number_64 = number_of w64 (2 ^ 64) (record {
 
 -- ---- the front of a slice
 
-pub cut_2 : (bytes front rest : List ℕ) (n : ℕ) → IsCut 2 bytes front rest → n ≡ from_be_bytes w16 front → read_number w16 bytes ≡ Some (n, rest)
-cut_2 bytes front rest n is n_is = let found = front_2 bytes front rest n is n_is in ap (read_number w16) found.1 ∙ number_16.again n rest found.0
+pub cut_2 : (bytes prefix rest : List ℕ) (n : ℕ) → IsCut 2 bytes prefix rest → n ≡ from_be_bytes w16 prefix → read_number w16 bytes ≡ Some (n, rest)
+cut_2 bytes prefix rest n is n_is = let found = front_2 bytes prefix rest n is n_is in ap (read_number w16) found.1 ∙ number_16.again n rest found.0
 
-pub cut_4 : (bytes front rest : List ℕ) (n : ℕ) → IsCut 4 bytes front rest → n ≡ from_be_bytes w32 front → read_number w32 bytes ≡ Some (n, rest)
-cut_4 bytes front rest n is n_is = let found = front_4 bytes front rest n is n_is in ap (read_number w32) found.1 ∙ number_32.again n rest found.0
+pub cut_4 : (bytes prefix rest : List ℕ) (n : ℕ) → IsCut 4 bytes prefix rest → n ≡ from_be_bytes w32 prefix → read_number w32 bytes ≡ Some (n, rest)
+cut_4 bytes prefix rest n is n_is = let found = front_4 bytes prefix rest n is n_is in ap (read_number w32) found.1 ∙ number_32.again n rest found.0
 
-pub signed_cut_4 : (bytes front rest : List ℕ) (z : ℤ) → IsCut 4 bytes front rest → z ≡ cast_signed w32 (from_be_bytes w32 front) → read_signed w32 bytes ≡ Some (cast_signed w32 (cast_unsigned w32 z), rest)
-signed_cut_4 bytes front rest z is z_is =
-    ap (λ o. chain o (λ n after. Some (cast_signed w32 n, after))) (cut_4 bytes front rest (from_be_bytes w32 front) is refl)
-    ∙ ap (λ (y : ℤ). Some (y, rest)) (sym z_is ∙ sym (to_z-of_z w32 z (subst (FitsSigned w32) (sym z_is) (read_sfits w32 (from_be_bytes w32 front)))))
+pub signed_cut_4 : (bytes prefix rest : List ℕ) (z : ℤ) → IsCut 4 bytes prefix rest → z ≡ cast_signed w32 (from_be_bytes w32 prefix) → read_signed w32 bytes ≡ Some (cast_signed w32 (cast_unsigned w32 z), rest)
+signed_cut_4 bytes prefix rest z is z_is =
+    ap (λ o. chain o (λ n after. Some (cast_signed w32 n, after))) (cut_4 bytes prefix rest (from_be_bytes w32 prefix) is refl)
+    ∙ ap (λ (y : ℤ). Some (y, rest)) (sym z_is ∙ sym (to_z-of_z w32 z (subst (FitsSigned w32) (sym z_is) (read_sfits w32 (from_be_bytes w32 prefix)))))
 
-pub signed_cut_8 : (bytes front rest : List ℕ) (z : ℤ) → IsCut 8 bytes front rest → z ≡ cast_signed w64 (from_be_bytes w64 front) → read_signed w64 bytes ≡ Some (cast_signed w64 (cast_unsigned w64 z), rest)
-signed_cut_8 bytes front rest z is z_is =
+pub signed_cut_8 : (bytes prefix rest : List ℕ) (z : ℤ) → IsCut 8 bytes prefix rest → z ≡ cast_signed w64 (from_be_bytes w64 prefix) → read_signed w64 bytes ≡ Some (cast_signed w64 (cast_unsigned w64 z), rest)
+signed_cut_8 bytes prefix rest z is z_is =
     let fits = is.fits in
-    let below : from_be_bytes w64 front < 2 ^ 64 = omega (arith, fits 0, fits 1, fits 2, fits 3, fits 4, fits 5, fits 6, fits 7) in
-    let found : bytes ≡ to_be_bytes w64 (from_be_bytes w64 front) ++ rest = sym is.whole ∙ ap (λ form. form ++ rest) (sym (be_bytes_8 front (from_be_bytes w64 front) is.sized fits refl)) in
+    let below : from_be_bytes w64 prefix < 2 ^ 64 = omega (arith, fits 0, fits 1, fits 2, fits 3, fits 4, fits 5, fits 6, fits 7) in
+    let found : bytes ≡ to_be_bytes w64 (from_be_bytes w64 prefix) ++ rest = sym is.whole ∙ ap (λ form. form ++ rest) (sym (be_bytes_8 prefix (from_be_bytes w64 prefix) is.sized fits refl)) in
     ap (read_signed w64) found
-    ∙ ap (λ o. chain o (λ n after. Some (cast_signed w64 n, after))) (number_64.again (from_be_bytes w64 front) rest below)
-    ∙ ap (λ (y : ℤ). Some (y, rest)) (sym z_is ∙ sym (to_z-of_z w64 z (subst (FitsSigned w64) (sym z_is) (read_sfits w64 (from_be_bytes w64 front)))))
+    ∙ ap (λ o. chain o (λ n after. Some (cast_signed w64 n, after))) (number_64.again (from_be_bytes w64 prefix) rest below)
+    ∙ ap (λ (y : ℤ). Some (y, rest)) (sym z_is ∙ sym (to_z-of_z w64 z (subst (FitsSigned w64) (sym z_is) (read_sfits w64 (from_be_bytes w64 prefix)))))
 
 -- ---- numbers with a sign
 
@@ -130,14 +130,14 @@ bytes_again test xs rest is =
     let both = length_both xs rest in
     keeps (nat_le (length xs) (length (xs ++ rest)) && test (take (length xs) (xs ++ rest))) _
     (true_both (nat_le (length xs) (length (xs ++ rest))) (test (take (length xs) (xs ++ rest))) (le-leb (length xs) (length (xs ++ rest)) (omega arith)) (ap test (take_at xs rest (length xs) refl) ∙ is))
-    ∙ ap (λ front. Some (front, drop (length xs) (xs ++ rest))) (take_at xs rest (length xs) refl)
+    ∙ ap (λ prefix. Some (prefix, drop (length xs) (xs ++ rest))) (take_at xs rest (length xs) refl)
     ∙ ap (λ after. Some (xs, after)) (drop_at xs rest (length xs) refl)
 
 -- so many bytes that pass a test
 record Passes (test : List ℕ → Bool) (len : ℕ) (bytes xs rest : List ℕ) : Type 0 where
   passes : test xs ≡ true
   sized : length xs ≡ len
-  front : bytes ≡ xs ++ rest
+  prefix : bytes ≡ xs ++ rest
 
 bytes_sound : (test : List ℕ → Bool) (len : ℕ) (bytes xs rest : List ℕ) → read_bytes test len bytes ≡ Some (xs, rest) → Passes test len bytes xs rest
 bytes_sound test len bytes xs rest is =
@@ -148,14 +148,14 @@ bytes_sound test len bytes xs rest is =
     record {
       passes = ap test (sym same.0) ∙ and_second (nat_le len (length bytes)) (test (take len bytes)) both.0;
       sized = ap length (sym same.0) ∙ cut;
-      front = sym (take-append-drop len bytes) ∙ ap (λ front. front ++ drop len bytes) same.0 ∙ ap (λ after. xs ++ after) same.1;
+      prefix = sym (take-append-drop len bytes) ∙ ap (λ prefix. prefix ++ drop len bytes) same.0 ∙ ap (λ after. xs ++ after) same.1;
     }
 
 name_sound : (bytes name rest : List ℕ) → read_name bytes ≡ Some (name, rest) → (is_name name ≡ true) × (bytes ≡ name_bytes name ++ rest)
 name_sound [] name rest is = absurd (cc)
 name_sound (len ∷ bytes) name rest is =
     let p = bytes_sound is_name len bytes name rest is in
-    (p.passes, ap (λ (n : ℕ). n ∷ bytes) (sym p.sized) ∙ ap (λ more. length name ∷ more) p.front)
+    (p.passes, ap (λ (n : ℕ). n ∷ bytes) (sym p.sized) ∙ ap (λ more. length name ∷ more) p.prefix)
 
 pub name_read : Reads name_bytes (λ name. is_name name ≡ true) read_name
 name_read = record { again = bytes_again is_name; sound = name_sound }
@@ -169,5 +169,5 @@ text_read = record {
   sound = λ bytes text rest is.
       let b = began number_32 (λ len more. read_bytes is_text len more) bytes text rest is in
       let p = bytes_sound is_text b.first b.behind text rest b.goes in
-      (p.passes, b.front ∙ ap (λ (n : ℕ). to_be_bytes w32 n ++ b.behind) (sym p.sized) ∙ ap (λ more. to_be_bytes w32 (length text) ++ more) p.front ∙ sym (append_assoc (to_be_bytes w32 (length text)) text rest));
+      (p.passes, b.prefix ∙ ap (λ (n : ℕ). to_be_bytes w32 n ++ b.behind) (sym p.sized) ∙ ap (λ more. to_be_bytes w32 (length text) ++ more) p.prefix ∙ sym (append_assoc (to_be_bytes w32 (length text)) text rest));
 }

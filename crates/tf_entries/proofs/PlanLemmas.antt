@@ -172,8 +172,8 @@ module _ (left : ℕ) (inside : Reads tree_bytes (IsFlowWithin left) (read_flow 
   IsItemAt tag bytes item rest = IsWithin left item × (tag ∷ bytes ≡ marked_bytes item ++ rest)
 
   nested_item : (bytes : List ℕ) (item : WrittenTree) (rest : List ℕ) → IsFlowWithin left item → bytes ≡ tree_bytes item ++ rest → IsItemAt 1 bytes item rest
-  nested_item bytes (written_task t) rest good front = absurd good.0
-  nested_item bytes (written_flow head items) rest good front = (good.1, ap (λ more. 1 ∷ more) front)
+  nested_item bytes (written_task t) rest good prefix = absurd good.0
+  nested_item bytes (written_flow head items) rest good prefix = (good.1, ap (λ more. 1 ∷ more) prefix)
 
   task_within : (t : _) → IsTask t → IsWithin left (written_task t)
   task_within t good = record { good = good; low = omega arith; shallow = tt }
@@ -229,11 +229,11 @@ module _ (left : ℕ) (inside : Reads tree_bytes (IsFlowWithin left) (read_flow 
             shallow = (shallow_links l.first l.good.1, are.shallow);
           },
         ),
-        joined bytes (name_bytes n.first) n.behind (flow_kind_byte k.first ∷ (control_bytes r.first ++ (listed marked_bytes i.first ++ listed connection_bytes l.first))) rest n.front
-            (joined n.behind (flow_kind_byte k.first ∷ []) k.behind (control_bytes r.first ++ (listed marked_bytes i.first ++ listed connection_bytes l.first)) rest k.front
-            (joined k.behind (control_bytes r.first) r.behind (listed marked_bytes i.first ++ listed connection_bytes l.first) rest r.front
-            (joined r.behind (listed marked_bytes i.first) i.behind (listed connection_bytes l.first) rest i.front
-            (ends_with i.behind (listed connection_bytes l.first) l.behind rest l.front same.1))))
+        joined bytes (name_bytes n.first) n.behind (flow_kind_byte k.first ∷ (control_bytes r.first ++ (listed marked_bytes i.first ++ listed connection_bytes l.first))) rest n.prefix
+            (joined n.behind (flow_kind_byte k.first ∷ []) k.behind (control_bytes r.first ++ (listed marked_bytes i.first ++ listed connection_bytes l.first)) rest k.prefix
+            (joined k.behind (control_bytes r.first) r.behind (listed marked_bytes i.first ++ listed connection_bytes l.first) rest r.prefix
+            (joined r.behind (listed marked_bytes i.first) i.behind (listed connection_bytes l.first) rest i.prefix
+            (ends_with i.behind (listed connection_bytes l.first) l.behind rest l.prefix same.1))))
             ∙ ap (λ items. (name_bytes n.first ++ (flow_kind_byte k.first ∷ (control_bytes r.first ++ (items ++ listed connection_bytes l.first)))) ++ rest) (sym form),
       )
 
@@ -280,9 +280,9 @@ plan_read = record {
       let same = same_read made plan d.behind rest d.goes in
       subst (λ x. IsWrittenPlan x × (bytes ≡ written_bytes x ++ rest)) same.0 (
         record { flow = r.good.0; root = r.good.1; store = s.good },
-        joined bytes (tree_bytes r.first) r.behind (listed bind_bytes s.first ++ (truth_byte d.first ∷ [])) rest r.front
-            (joined r.behind (listed bind_bytes s.first) s.behind (truth_byte d.first ∷ []) rest s.front
-            (ends_with s.behind (truth_byte d.first ∷ []) d.behind rest d.front same.1)),
+        joined bytes (tree_bytes r.first) r.behind (listed bind_bytes s.first ++ (truth_byte d.first ∷ [])) rest r.prefix
+            (joined r.behind (listed bind_bytes s.first) s.behind (truth_byte d.first ∷ []) rest s.prefix
+            (ends_with s.behind (truth_byte d.first ∷ []) d.behind rest d.prefix same.1)),
       );
 }
 

@@ -19,7 +19,7 @@ pub record Began {X Y : Type 0} (form : X → List ℕ) (Good : X → Type 0) (n
   pub first : X
   pub behind : List ℕ
   pub good : Good first
-  pub front : bytes ≡ form first ++ behind
+  pub prefix : bytes ≡ form first ++ behind
   pub goes : next first behind ≡ Some (y, rest)
 
 -- what was read is what was read
@@ -37,7 +37,7 @@ module _ {X : Type 0} {form : X → List ℕ} {Good : X → Type 0} {read : List
   began next bytes y rest is =
       let p = opened (read bytes) next (y, rest) is in
       let found = code.sound bytes p.0.0 p.0.1 p.1 in
-      record { first = p.0.0; behind = p.0.1; good = found.0; front = found.1; goes = p.2 }
+      record { first = p.0.0; behind = p.0.1; good = found.0; prefix = found.1; goes = p.2 }
 
   -- past what stands at the front
   pub went_on : {Y : Type 0} (next : X → List ℕ → Option (Y × List ℕ)) (x : X) (rest : List ℕ) → Good x → chain (read (form x ++ rest)) next ≡ next x rest
@@ -55,7 +55,7 @@ module _ {X : Type 0} {form : X → List ℕ} {Good : X → Type 0} {read : List
     sound = λ bytes y rest is.
         let b = began (λ x after. Some (to x, after)) bytes y rest is in
         let same = same_read (to b.first) y b.behind rest b.goes in
-        (subst H same.0 (there b.first b.good).0, b.front ∙ ap (λ x. form x ++ b.behind) (sym (there b.first b.good).1 ∙ ap from same.0) ∙ ap (λ more. form (from y) ++ more) same.1);
+        (subst H same.0 (there b.first b.good).0, b.prefix ∙ ap (λ x. form x ++ b.behind) (sym (there b.first b.good).1 ∙ ap from same.0) ∙ ap (λ more. form (from y) ++ more) same.1);
   }
 
 -- ---- tags
@@ -77,7 +77,7 @@ pub bare : {Y : Type 0} (form : Y → List ℕ) (H : Y → Type 0) (y : Y) (k : 
     → H z × (tag ∷ bytes ≡ form z ++ rest)
 bare form H y k good is tag bytes z rest tagged found =
     let same = same_read y z bytes rest found in
-    (subst H same.0 good, ap (λ n. n ∷ bytes) tagged ∙ ap (λ more. k ∷ more) same.1 ∙ ap (λ front. front ++ rest) (sym is ∙ ap form same.0))
+    (subst H same.0 good, ap (λ n. n ∷ bytes) tagged ∙ ap (λ more. k ∷ more) same.1 ∙ ap (λ prefix. prefix ++ rest) (sym is ∙ ap form same.0))
 
 -- a tagged form with a part behind its tag
 pub with_part : {X Y : Type 0} {part : X → List ℕ} {Good : X → Type 0} {read : List ℕ → Option (X × List ℕ)} → Reads part Good read
@@ -88,7 +88,7 @@ with_part {part = part} code form H to k good is tag bytes z rest tagged found =
     let b = began code (λ x after. Some (to x, after)) bytes z rest found in
     let same = same_read (to b.first) z b.behind rest b.goes in (
       subst H same.0 (good b.first b.good),
-      ap (λ n. n ∷ bytes) tagged ∙ ap (λ more. k ∷ more) (b.front ∙ ap (λ more. part b.first ++ more) same.1) ∙ ap (λ front. front ++ rest) (sym (is b.first) ∙ ap form same.0),
+      ap (λ n. n ∷ bytes) tagged ∙ ap (λ more. k ∷ more) (b.prefix ∙ ap (λ more. part b.first ++ more) same.1) ∙ ap (λ prefix. prefix ++ rest) (sym (is b.first) ∙ ap form same.0),
     )
 
 -- ---- conditions
@@ -114,12 +114,12 @@ module _ {X : Type 0} {form : X → List ℕ} {Good : X → Type 0} {read : List
   pub record AreRead (count : ℕ) (bytes : List ℕ) (xs : List X) (rest : List ℕ) : Type 0 where
     pub good : AllByRecursion Good xs
     pub counted : length xs ≡ count
-    pub front : bytes ≡ flat_map form xs ++ rest
+    pub prefix : bytes ≡ flat_map form xs ++ rest
 
   pub many_sound : (count : ℕ) (bytes : List ℕ) (xs : List X) (rest : List ℕ) → read_many read count bytes ≡ Some (xs, rest) → AreRead count bytes xs rest
   many_sound zero bytes xs rest is =
       let same = same_read [] xs bytes rest is in
-      subst (λ ys. AreRead zero bytes ys rest) same.0 (record { good = tt; counted = refl; front = same.1 })
+      subst (λ ys. AreRead zero bytes ys rest) same.0 (record { good = tt; counted = refl; prefix = same.1 })
   many_sound (suc count) bytes xs rest is =
       let b = began code (λ x more. chain (read_many read count more) (λ ys after. Some (x ∷ ys, after))) bytes xs rest is in
       let others = opened (read_many read count b.behind) (λ ys after. Some (b.first ∷ ys, after)) (xs, rest) b.goes in
@@ -128,7 +128,7 @@ module _ {X : Type 0} {form : X → List ℕ} {Good : X → Type 0} {read : List
       subst (λ ys. AreRead (suc count) bytes ys rest) made.0 (record {
         good = (b.good, tail.good);
         counted = ap suc tail.counted;
-        front = b.front ∙ ap (λ more. form b.first ++ more) (tail.front ∙ ap (λ more. flat_map form others.0.0 ++ more) made.1) ∙ sym (append_assoc (form b.first) (flat_map form others.0.0) rest);
+        prefix = b.prefix ∙ ap (λ more. form b.first ++ more) (tail.prefix ∙ ap (λ more. flat_map form others.0.0 ++ more) made.1) ∙ sym (append_assoc (form b.first) (flat_map form others.0.0) rest);
       })
 
 -- ---- the whole of the bytes
@@ -139,7 +139,7 @@ ended p x (next ∷ others) is = absurd (cc)
 
 pub whole_is : {X : Type 0} (o : Option (X × List ℕ)) (x : X) → whole o ≡ Some x → o ≡ Some (x, [])
 whole_is None x is = absurd (cc)
-whole_is (Some p) x is = let end = ended p.0 x p.1 is in let front : p.0 ≡ x = end.0 in let after : p.1 ≡ [] = end.1 in rw (← front, ← after) refl
+whole_is (Some p) x is = let end = ended p.0 x p.1 is in let prefix : p.0 ≡ x = end.0 in let after : p.1 ≡ [] = end.1 in rw (← prefix, ← after) refl
 
 pub whole_of : {X : Type 0} (o : Option (X × List ℕ)) (x : X) → o ≡ Some (x, []) → whole o ≡ Some x
 whole_of o x is = ap whole is
@@ -155,11 +155,11 @@ refuses part other fault.Memory same refused = refused
 
 -- a part in front of those that are read behind it
 pub joined : (bytes part behind more rest : List ℕ) → bytes ≡ part ++ behind → behind ≡ more ++ rest → bytes ≡ (part ++ more) ++ rest
-joined bytes part behind more rest front others = front ∙ ap (λ after. part ++ after) others ∙ sym (append_assoc part more rest)
+joined bytes part behind more rest prefix others = prefix ∙ ap (λ after. part ++ after) others ∙ sym (append_assoc part more rest)
 
 -- the last part
 pub ends_with : (bytes part behind rest : List ℕ) → bytes ≡ part ++ behind → behind ≡ rest → bytes ≡ part ++ rest
-ends_with bytes part behind rest front after = front ∙ ap (λ more. part ++ more) after
+ends_with bytes part behind rest prefix after = prefix ∙ ap (λ more. part ++ more) after
 
 -- ---- several, one turn after another
 

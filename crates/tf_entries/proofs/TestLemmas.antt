@@ -123,7 +123,7 @@ same_sound left bytes test rest is =
     let same = same_read (is_same n.first v.first) test v.behind rest v.goes in
     subst (λ t. IsTestAt (suc left) 0 bytes t rest) same.0 (
       ((n.good, v.good), omega arith),
-      ap (λ more. 0 ∷ more) (joined bytes (name_bytes n.first) n.behind (byte_form v.first) rest n.front (ends_with n.behind (byte_form v.first) v.behind rest v.front same.1)),
+      ap (λ more. 0 ∷ more) (joined bytes (name_bytes n.first) n.behind (byte_form v.first) rest n.prefix (ends_with n.behind (byte_form v.first) v.behind rest v.prefix same.1)),
     )
 
 below_sound : (left : ℕ) (bytes : List ℕ) (test : Condition) (rest : List ℕ) → read_below bytes ≡ Some (test, rest) → IsTestAt (suc left) 1 bytes test rest
@@ -133,7 +133,7 @@ below_sound left bytes test rest is =
     let same = same_read (is_below n.first v.first) test v.behind rest v.goes in
     subst (λ t. IsTestAt (suc left) 1 bytes t rest) same.0 (
       ((n.good, v.good), omega arith),
-      ap (λ more. 1 ∷ more) (joined bytes (name_bytes n.first) n.behind (to_be_bytes w64 (cast_unsigned w64 v.first)) rest n.front (ends_with n.behind (to_be_bytes w64 (cast_unsigned w64 v.first)) v.behind rest v.front same.1)),
+      ap (λ more. 1 ∷ more) (joined bytes (name_bytes n.first) n.behind (to_be_bytes w64 (cast_unsigned w64 v.first)) rest n.prefix (ends_with n.behind (to_be_bytes w64 (cast_unsigned w64 v.first)) v.behind rest v.prefix same.1)),
     )
 
 above_sound : (left : ℕ) (bytes : List ℕ) (test : Condition) (rest : List ℕ) → read_above bytes ≡ Some (test, rest) → IsTestAt (suc left) 2 bytes test rest
@@ -143,7 +143,7 @@ above_sound left bytes test rest is =
     let same = same_read (is_above n.first v.first) test v.behind rest v.goes in
     subst (λ t. IsTestAt (suc left) 2 bytes t rest) same.0 (
       ((n.good, v.good), omega arith),
-      ap (λ more. 2 ∷ more) (joined bytes (name_bytes n.first) n.behind (to_be_bytes w64 (cast_unsigned w64 v.first)) rest n.front (ends_with n.behind (to_be_bytes w64 (cast_unsigned w64 v.first)) v.behind rest v.front same.1)),
+      ap (λ more. 2 ∷ more) (joined bytes (name_bytes n.first) n.behind (to_be_bytes w64 (cast_unsigned w64 v.first)) rest n.prefix (ends_with n.behind (to_be_bytes w64 (cast_unsigned w64 v.first)) v.behind rest v.prefix same.1)),
     )
 
 module _ (left : ℕ) (inside : Reads condition_bytes (IsTest left) (read_test left)) where
@@ -174,7 +174,7 @@ module _ (left : ℕ) (inside : Reads condition_bytes (IsTest left) (read_test l
       let same = same_read (all_of (conditions_of b.first)) test b.behind rest b.goes in
       subst (λ t. IsTestAt (suc left) 4 bytes t rest) same.0 (
         ((are.few, are.good), omega arith),
-        ap (λ more. 4 ∷ more) (ends_with bytes (listed condition_bytes b.first) b.behind rest b.front same.1 ∙ ap (λ form. form ++ rest) (sym are.form)),
+        ap (λ more. 4 ∷ more) (ends_with bytes (listed condition_bytes b.first) b.behind rest b.prefix same.1 ∙ ap (λ form. form ++ rest) (sym are.form)),
       )
 
   any_sound : (bytes : List ℕ) (test : Condition) (rest : List ℕ) → read_any (read_test left) bytes ≡ Some (test, rest) → IsTestAt (suc left) 5 bytes test rest
@@ -185,7 +185,7 @@ module _ (left : ℕ) (inside : Reads condition_bytes (IsTest left) (read_test l
       let same = same_read (any_of (conditions_of b.first)) test b.behind rest b.goes in
       subst (λ t. IsTestAt (suc left) 5 bytes t rest) same.0 (
         ((are.few, are.good), omega arith),
-        ap (λ more. 5 ∷ more) (ends_with bytes (listed condition_bytes b.first) b.behind rest b.front same.1 ∙ ap (λ form. form ++ rest) (sym are.form)),
+        ap (λ more. 5 ∷ more) (ends_with bytes (listed condition_bytes b.first) b.behind rest b.prefix same.1 ∙ ap (λ form. form ++ rest) (sym are.form)),
       )
 
   at_test_tag : (tag k : ℕ) (bytes : List ℕ) (test : Condition) (rest : List ℕ) → tag ≡ k → IsTestAt (suc left) k bytes test rest → IsTestAt (suc left) tag bytes test rest
@@ -260,7 +260,7 @@ decided_sound bytes d rest is =
     let same = same_read (Some made) d t.behind rest t.goes in
     subst (λ x. IsDecidedAt 1 bytes x rest) same.0 (
       (t.good.0, t.good.1),
-      ap (λ more. 1 ∷ more) (joined bytes (depth_byte k.first ∷ []) k.behind (condition_bytes t.first) rest k.front (ends_with k.behind (condition_bytes t.first) t.behind rest t.front same.1)),
+      ap (λ more. 1 ∷ more) (joined bytes (depth_byte k.first ∷ []) k.behind (condition_bytes t.first) rest k.prefix (ends_with k.behind (condition_bytes t.first) t.behind rest t.prefix same.1)),
     )
 
 decision_of_sound : (tag : ℕ) (bytes : List ℕ) (d : Option Decision) (rest : List ℕ) → read_decision_of tag bytes ≡ Some (d, rest) → IsDecidedAt tag bytes d rest
@@ -300,9 +300,9 @@ link_read = record {
       let same = same_read made link d.behind rest d.goes in
       subst (λ x. IsLink x × (bytes ≡ connection_bytes x ++ rest)) same.0 (
         (record { from = f.good; to = t.good; decision = d.good.0 }, d.good.1),
-        joined bytes (name_bytes f.first) f.behind (name_bytes t.first ++ decision_bytes d.first) rest f.front
-            (joined f.behind (name_bytes t.first) t.behind (decision_bytes d.first) rest t.front
-            (ends_with t.behind (decision_bytes d.first) d.behind rest d.front same.1)),
+        joined bytes (name_bytes f.first) f.behind (name_bytes t.first ++ decision_bytes d.first) rest f.prefix
+            (joined f.behind (name_bytes t.first) t.behind (decision_bytes d.first) rest t.prefix
+            (ends_with t.behind (decision_bytes d.first) d.behind rest d.prefix same.1)),
       );
 }
 

@@ -76,7 +76,7 @@ scalars_sound bytes scalars rest is =
     let same = same_read o.0.0 scalars o.0.1 rest both.1 in
     subst (λ found. AreScalars found × (bytes ≡ counted_scalars found ++ rest)) same.0 (
       (both.0, many.good),
-      b.front ∙ ap (λ (n : ℕ). to_be_bytes w16 n ++ b.behind) (sym many.counted) ∙ ap (λ more. to_be_bytes w16 (length o.0.0) ++ more) (many.front ∙ ap (λ after. flat_map scalar_bytes o.0.0 ++ after) same.1)
+      b.prefix ∙ ap (λ (n : ℕ). to_be_bytes w16 n ++ b.behind) (sym many.counted) ∙ ap (λ more. to_be_bytes w16 (length o.0.0) ++ more) (many.prefix ∙ ap (λ after. flat_map scalar_bytes o.0.0 ++ after) same.1)
           ∙ sym (append_assoc (to_be_bytes w16 (length o.0.0)) (flat_map scalar_bytes o.0.0) rest),
     )
 
@@ -98,10 +98,10 @@ abbrev IsValueAt : List ℕ → Val → List ℕ → Type 0
 IsValueAt bytes v rest = IsValue v × (bytes ≡ byte_form v ++ rest)
 
 of_scalar : (s : Scalar) (bytes rest : List ℕ) → IsElement s → bytes ≡ scalar_bytes s ++ rest → IsValueAt bytes (value_of s) rest
-of_scalar scalar.Nothing bytes rest good front = (good, front)
-of_scalar (scalar.Truth truth) bytes rest good front = (good, front)
-of_scalar (scalar.Int number) bytes rest good front = (good, front)
-of_scalar (scalar.Text text) bytes rest good front = (good, front)
+of_scalar scalar.Nothing bytes rest good prefix = (good, prefix)
+of_scalar (scalar.Truth truth) bytes rest good prefix = (good, prefix)
+of_scalar (scalar.Int number) bytes rest good prefix = (good, prefix)
+of_scalar (scalar.Text text) bytes rest good prefix = (good, prefix)
 
 value_of_sound : (tag : ℕ) (bytes : List ℕ) (v : Val) (rest : List ℕ) → read_value_of tag bytes ≡ Some (v, rest) → IsValueAt (tag ∷ bytes) v rest
 value_of_sound tag bytes v rest is =
@@ -124,7 +124,7 @@ value_read = record { again = value_again; sound = value_sound }
 
 pub value_begins : (bytes : List ℕ) (v : Val) (len : ℕ) → BeginsWith bytes v len → read_value bytes ≡ Some (v, drop len bytes)
 value_begins bytes v len is =
-    ap read_value (sym (take-append-drop len bytes) ∙ ap (λ front. front ++ drop len bytes) is.form) ∙ value_again v (drop len bytes) is.value
+    ap read_value (sym (take-append-drop len bytes) ∙ ap (λ prefix. prefix ++ drop len bytes) is.form) ∙ value_again v (drop len bytes) is.value
 
 begun : (bytes : List ℕ) (o : Option (Val × List ℕ)) → read_value bytes ≡ o → ((v : Val) (len : ℕ) → ¬ (BeginsWith bytes v len)) → o ≡ None
 begun bytes None is none = refl

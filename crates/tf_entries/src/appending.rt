@@ -3,7 +3,7 @@ ghost use Rattle.std.specs.List.{flat_map};
 ghost use Rattle.std.specs.Int.{to_be_bytes, cast_unsigned, w16, w32, w64};
 ghost use Rattle.tf_values.specs.declared.elements.Scalar.{Scalar};
 ghost use Rattle.tf_values.specs.ByteForm.{scalar_bytes, list_bytes, text_bytes};
-ghost use Rattle.tf_values.specs.Growth.{KeepsFront};
+ghost use Rattle.tf_values.specs.Growth.{KeepsPrefix};
 ghost use Rattle.tf_values.specs.Name.{is_name};
 ghost use Rattle.tf_values.specs.Scalars.{are_scalars};
 ghost use Rattle.tf_values.specs.Text.{is_text};
@@ -12,11 +12,11 @@ ghost use Rattle.tf_entries.specs.Fields.{name_bytes};
 
 use tf_values::{Memory, Name, Scalar, Text, Val};
 
-/// Appends bytes. Want of memory leaves a front of them behind what was there, and comes only where
+/// Appends bytes. Want of memory leaves a prefix of them behind what was there, and comes only where
 /// there was no room for them all.
 pub fn append(bytes: &[u8], out: &mut Vec<u8>) -> Result<(), Memory>
     ensures ok { OnOk result (out.new.items ≡ out.old.items ++ bytes.now) }
-    ensures err { OnErr result (KeepsFront out.old.items out.new.items) }
+    ensures err { OnErr result (KeepsPrefix out.old.items out.new.items) }
     ensures full { OnErr result (vec_capacity out.old < length out.old.items + length bytes.now) }
     ensures room { vec_capacity out.old ≤ vec_capacity out.new }
 {
@@ -28,7 +28,7 @@ pub fn append(bytes: &[u8], out: &mut Vec<u8>) -> Result<(), Memory>
 #[tactic(auto, using(tf_values::proofs::GrowthLemmas::keeps_shorter))]
 pub fn append_name(name: &Name, out: &mut Vec<u8>) -> Result<(), Memory>
     ensures ok { OnOk result (out.new.items ≡ out.old.items ++ name_bytes name.now) }
-    ensures err { OnErr result (KeepsFront out.old.items out.new.items) }
+    ensures err { OnErr result (KeepsPrefix out.old.items out.new.items) }
     ensures full { OnErr result (vec_capacity out.old < length out.old.items + length (name_bytes name.now)) }
     ensures room { vec_capacity out.old ≤ vec_capacity out.new }
     ensures name { is_name name.now ≡ true }
@@ -42,7 +42,7 @@ pub fn append_name(name: &Name, out: &mut Vec<u8>) -> Result<(), Memory>
 #[tactic(auto, using(tf_values::proofs::GrowthLemmas::keeps_shorter))]
 pub fn append_tagged_name(tag: u8, name: &Name, out: &mut Vec<u8>) -> Result<(), Memory>
     ensures ok { OnOk result (out.new.items ≡ out.old.items ++ tag ∷ name_bytes name.now) }
-    ensures err { OnErr result (KeepsFront out.old.items out.new.items) }
+    ensures err { OnErr result (KeepsPrefix out.old.items out.new.items) }
     ensures full { OnErr result (vec_capacity out.old < length out.old.items + 66) }
     ensures room { vec_capacity out.old ≤ vec_capacity out.new }
     ensures name { is_name name.now ≡ true }
@@ -57,7 +57,7 @@ pub fn append_tagged_name(tag: u8, name: &Name, out: &mut Vec<u8>) -> Result<(),
 pub fn append_text(text: &[u8], out: &mut Vec<u8>) -> Result<(), Memory>
     requires { is_text text.now ≡ true }
     ensures ok { OnOk result (out.new.items ≡ out.old.items ++ text_bytes text.now) }
-    ensures err { OnErr result (KeepsFront out.old.items out.new.items) }
+    ensures err { OnErr result (KeepsPrefix out.old.items out.new.items) }
     ensures full { OnErr result (vec_capacity out.old < length out.old.items + length (text_bytes text.now)) }
     ensures room { vec_capacity out.old ≤ vec_capacity out.new }
 {
@@ -70,7 +70,7 @@ pub fn append_text(text: &[u8], out: &mut Vec<u8>) -> Result<(), Memory>
 pub fn append_tagged_text(tag: u8, text: &[u8], out: &mut Vec<u8>) -> Result<(), Memory>
     requires { is_text text.now ≡ true }
     ensures ok { OnOk result (out.new.items ≡ out.old.items ++ tag ∷ text_bytes text.now) }
-    ensures err { OnErr result (KeepsFront out.old.items out.new.items) }
+    ensures err { OnErr result (KeepsPrefix out.old.items out.new.items) }
     ensures full { OnErr result (vec_capacity out.old < length out.old.items + (1 + length (text_bytes text.now))) }
     ensures room { vec_capacity out.old ≤ vec_capacity out.new }
 {
@@ -82,7 +82,7 @@ pub fn append_tagged_text(tag: u8, text: &[u8], out: &mut Vec<u8>) -> Result<(),
 #[tactic(auto, using(tf_values::proofs::GrowthLemmas::keeps_shorter))]
 pub fn append_value(value: &Val, out: &mut Vec<u8>) -> Result<(), Memory>
     ensures ok { OnOk result (out.new.items ≡ out.old.items ++ byte_form value.now) }
-    ensures err { OnErr result (KeepsFront out.old.items out.new.items) }
+    ensures err { OnErr result (KeepsPrefix out.old.items out.new.items) }
     ensures full { OnErr result (vec_capacity out.old < length out.old.items + length (byte_form value.now)) }
     ensures room { vec_capacity out.old ≤ vec_capacity out.new }
     ensures value { IsValue value.now }
@@ -101,7 +101,7 @@ pub fn append_value(value: &Val, out: &mut Vec<u8>) -> Result<(), Memory>
 pub fn append_list(scalars: &[Scalar], out: &mut Vec<u8>) -> Result<(), Memory>
     requires { are_scalars scalars.now ≡ true }
     ensures ok { OnOk result (out.new.items ≡ out.old.items ++ list_bytes scalars.now) }
-    ensures err { OnErr result (KeepsFront out.old.items out.new.items) }
+    ensures err { OnErr result (KeepsPrefix out.old.items out.new.items) }
     ensures full { OnErr result (vec_capacity out.old < length out.old.items + length (list_bytes scalars.now)) }
     ensures room { vec_capacity out.old ≤ vec_capacity out.new }
 {
@@ -113,7 +113,7 @@ pub fn append_list(scalars: &[Scalar], out: &mut Vec<u8>) -> Result<(), Memory>
 #[tactic(auto, using(tf_values::proofs::GrowthLemmas::keeps_shorter))]
 fn append_scalars(scalars: &[Scalar], out: &mut Vec<u8>) -> Result<(), Memory>
     ensures ok { OnOk result (out.new.items ≡ out.old.items ++ flat_map scalar_bytes scalars.now) }
-    ensures err { OnErr result (KeepsFront out.old.items out.new.items) }
+    ensures err { OnErr result (KeepsPrefix out.old.items out.new.items) }
     ensures full { OnErr result (vec_capacity out.old
         < length out.old.items + length (flat_map scalar_bytes scalars.now)) }
     ensures room { vec_capacity out.old ≤ vec_capacity out.new }
@@ -127,7 +127,7 @@ fn append_scalars(scalars: &[Scalar], out: &mut Vec<u8>) -> Result<(), Memory>
 #[tactic(auto, using(tf_values::proofs::GrowthLemmas::keeps_shorter))]
 fn append_scalar(scalar: &Scalar, out: &mut Vec<u8>) -> Result<(), Memory>
     ensures ok { OnOk result (out.new.items ≡ out.old.items ++ scalar_bytes scalar.now) }
-    ensures err { OnErr result (KeepsFront out.old.items out.new.items) }
+    ensures err { OnErr result (KeepsPrefix out.old.items out.new.items) }
     ensures full { OnErr result (vec_capacity out.old < length out.old.items + length (scalar_bytes scalar.now)) }
     ensures room { vec_capacity out.old ≤ vec_capacity out.new }
 {
@@ -143,7 +143,7 @@ fn append_scalar(scalar: &Scalar, out: &mut Vec<u8>) -> Result<(), Memory>
 #[tactic(auto, using(tf_values::proofs::GrowthLemmas::keeps_shorter))]
 fn append_int(number: i64, out: &mut Vec<u8>) -> Result<(), Memory>
     ensures ok { OnOk result (out.new.items ≡ out.old.items ++ 3 ∷ to_be_bytes w64 (cast_unsigned w64 number)) }
-    ensures err { OnErr result (KeepsFront out.old.items out.new.items) }
+    ensures err { OnErr result (KeepsPrefix out.old.items out.new.items) }
     ensures full { OnErr result (vec_capacity out.old < length out.old.items + 9) }
     ensures room { vec_capacity out.old ≤ vec_capacity out.new }
 {

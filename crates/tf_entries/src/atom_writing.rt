@@ -1,7 +1,7 @@
 ghost use Rattle.std.specs.Prelude.{◌≡◌, ◌++◌, ◌∷◌, [], ◌<◌, ◌^◌, ℕ, List, OnOk, OnErr};
 ghost use Rattle.std.specs.Int.{to_be_bytes, cast_unsigned, w16, w32};
 ghost use Rattle.std.specs.List.{flat_map, AllByRecursion};
-ghost use Rattle.tf_values.specs.Growth.{KeepsFront};
+ghost use Rattle.tf_values.specs.Growth.{KeepsPrefix};
 ghost use Rattle.tf_values.specs.ByteForm.{text_bytes};
 ghost use Rattle.tf_entries.specs.Atoms as form;
 ghost use Rattle.tf_entries.specs.Fields.{name_bytes, truth_byte as byte_of_truth, listed, AreFew};
@@ -21,7 +21,7 @@ pub trait Form: Sized {
     fn put(&self, out: &mut Vec<u8>) -> Result<(), Memory>
         ensures ok { OnOk result (out.new.items ≡ out.old.items ++ form self.now) }
         ensures good { OnOk result (is_good self.now) }
-        ensures err { OnErr result (KeepsFront out.old.items out.new.items) };
+        ensures err { OnErr result (KeepsPrefix out.old.items out.new.items) };
 }
 
 impl Form for Name {
@@ -70,7 +70,7 @@ impl Form for Bind {
 pub fn append_count(count: usize, out: &mut Vec<u8>) -> Result<(), Memory>
     ensures ok { OnOk result (out.new.items ≡ out.old.items ++ to_be_bytes w16 count) }
     ensures good { OnOk result (count < 2 ^ 16) }
-    ensures err { OnErr result (KeepsFront out.old.items out.new.items) }
+    ensures err { OnErr result (KeepsPrefix out.old.items out.new.items) }
 {
     match u16::try_from(count) {
         Ok(count) => append(&count.to_be_bytes(), out),
@@ -83,7 +83,7 @@ pub fn append_count(count: usize, out: &mut Vec<u8>) -> Result<(), Memory>
 pub fn append_listed<T: Form>(items: &[T], out: &mut Vec<u8>) -> Result<(), Memory>
     ensures ok { OnOk result (out.new.items ≡ out.old.items ++ listed T.form items.now) }
     ensures good { OnOk result (AreFew T.is_good items.now) }
-    ensures err { OnErr result (KeepsFront out.old.items out.new.items) }
+    ensures err { OnErr result (KeepsPrefix out.old.items out.new.items) }
 {
     append_count(items.len(), out)?;
     append_items(items, out)
@@ -93,7 +93,7 @@ pub fn append_listed<T: Form>(items: &[T], out: &mut Vec<u8>) -> Result<(), Memo
 fn append_items<T: Form>(items: &[T], out: &mut Vec<u8>) -> Result<(), Memory>
     ensures ok { OnOk result (out.new.items ≡ out.old.items ++ flat_map T.form items.now) }
     ensures good { OnOk result (AllByRecursion T.is_good items.now) }
-    ensures err { OnErr result (KeepsFront out.old.items out.new.items) }
+    ensures err { OnErr result (KeepsPrefix out.old.items out.new.items) }
 {
     for item in items {
         item.put(out)?;
@@ -106,7 +106,7 @@ fn append_items<T: Form>(items: &[T], out: &mut Vec<u8>) -> Result<(), Memory>
 pub fn append_task(task: &Task, out: &mut Vec<u8>) -> Result<(), Memory>
     ensures ok { OnOk result (out.new.items ≡ out.old.items ++ form.task_bytes task.now) }
     ensures good { OnOk result (form.IsTask task.now) }
-    ensures err { OnErr result (KeepsFront out.old.items out.new.items) }
+    ensures err { OnErr result (KeepsPrefix out.old.items out.new.items) }
 {
     append_work(&task.name, task.kind, task.words.items(), out)?;
     append_signature(task.args.items(), task.inject.items(), &task.provides, out)?;
@@ -121,7 +121,7 @@ fn append_work(name: &Name, kind: TaskKind, words: &[Text], out: &mut Vec<u8>) -
         ++ (name_bytes name.now ++ (form.task_kind_byte kind ∷ listed text_bytes words.now))) }
     ensures name { OnOk result (form.IsName name.now) }
     ensures words { OnOk result (AreFew form.IsText words.now) }
-    ensures err { OnErr result (KeepsFront out.old.items out.new.items) }
+    ensures err { OnErr result (KeepsPrefix out.old.items out.new.items) }
 {
     append_name(name, out)?;
     append(&[task_kind_byte(kind)], out)?;
@@ -133,7 +133,7 @@ fn append_work(name: &Name, kind: TaskKind, words: &[Text], out: &mut Vec<u8>) -
 pub fn append_retry(retry: &Retry, out: &mut Vec<u8>) -> Result<(), Memory>
     ensures ok { OnOk result (out.new.items ≡ out.old.items ++ form.retry_bytes retry.now) }
     ensures good { OnOk result (form.IsRetry retry.now) }
-    ensures err { OnErr result (KeepsFront out.old.items out.new.items) }
+    ensures err { OnErr result (KeepsPrefix out.old.items out.new.items) }
 {
     append_name(&retry.name, out)?;
     append_retry_kind(&retry.kind, out)?;
@@ -158,7 +158,7 @@ fn append_signature(
     ensures args { OnOk result (AreFew form.IsArg args.now) }
     ensures inject { OnOk result (AreFew form.IsBind inject.now) }
     ensures provides { OnOk result (form.IsProvides provides.now) }
-    ensures err { OnErr result (KeepsFront out.old.items out.new.items) }
+    ensures err { OnErr result (KeepsPrefix out.old.items out.new.items) }
 {
     append_listed(args, out)?;
     append_listed(inject, out)?;
@@ -169,7 +169,7 @@ fn append_signature(
 fn append_provides(provides: &Provides, out: &mut Vec<u8>) -> Result<(), Memory>
     ensures ok { OnOk result (out.new.items ≡ out.old.items ++ form.provides_bytes provides.now) }
     ensures good { OnOk result (form.IsProvides provides.now) }
-    ensures err { OnErr result (KeepsFront out.old.items out.new.items) }
+    ensures err { OnErr result (KeepsPrefix out.old.items out.new.items) }
 {
     match provides {
         Provides::Nothing => append(&[0], out),
@@ -185,7 +185,7 @@ fn append_provides(provides: &Provides, out: &mut Vec<u8>) -> Result<(), Memory>
 fn append_undo(undo: &Undo, out: &mut Vec<u8>) -> Result<(), Memory>
     ensures ok { OnOk result (out.new.items ≡ out.old.items ++ form.undo_bytes undo.now) }
     ensures good { OnOk result (form.IsUndo undo.now) }
-    ensures err { OnErr result (KeepsFront out.old.items out.new.items) }
+    ensures err { OnErr result (KeepsPrefix out.old.items out.new.items) }
 {
     match undo {
         Undo::Pass => append(&[0], out),
@@ -201,7 +201,7 @@ fn append_undo(undo: &Undo, out: &mut Vec<u8>) -> Result<(), Memory>
 fn append_retry_kind(kind: &RetryKind, out: &mut Vec<u8>) -> Result<(), Memory>
     ensures ok { OnOk result (out.new.items ≡ out.old.items ++ form.retry_kind_bytes kind.now) }
     ensures good { OnOk result (form.IsRetryKind kind.now) }
-    ensures err { OnErr result (KeepsFront out.old.items out.new.items) }
+    ensures err { OnErr result (KeepsPrefix out.old.items out.new.items) }
 {
     match kind {
         RetryKind::AlwaysRevert => append(&[0], out),

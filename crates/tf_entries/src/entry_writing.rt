@@ -1,7 +1,7 @@
 ghost use Rattle.std.specs.Int.{to_be_bytes, w16};
 ghost use Rattle.std.specs.Prelude.{◌≡◌, ◌<◌, ◌≤◌, ◌+◌, ◌++◌, ◌∷◌, ℕ, length, true, IsOk, OnOk, OnErr, vec_capacity};
 ghost use Rattle.tf_states.specs.declared.record.Failure.{Failure};
-ghost use Rattle.tf_values.specs.Growth.{KeepsFront};
+ghost use Rattle.tf_values.specs.Growth.{KeepsPrefix};
 ghost use Rattle.tf_entries.specs.Entries as form;
 
 use crate::appending::{append, append_tagged_name, append_tagged_text, append_value};
@@ -39,7 +39,7 @@ fn append_entry(entry: &Entry, out: &mut Vec<u8>) -> Result<(), Memory>
     requires { form.has_its_payload entry.now.what ≡ true }
     ensures ok { OnOk result (out.new.items ≡ out.old.items ++ form.entry_bytes entry.now) }
     ensures within { OnOk result (form.HasItsPayload entry.now.what) }
-    ensures err { OnErr result (KeepsFront out.old.items out.new.items) }
+    ensures err { OnErr result (KeepsPrefix out.old.items out.new.items) }
     ensures full { OnErr result (vec_capacity out.old < length out.old.items + 131200) }
     ensures room { vec_capacity out.old ≤ vec_capacity out.new }
 {
@@ -52,7 +52,7 @@ fn append_what(what: &What, out: &mut Vec<u8>) -> Result<(), Memory>
     requires { form.has_its_payload what.now ≡ true }
     ensures ok { OnOk result (out.new.items ≡ out.old.items ++ form.what_bytes what.now) }
     ensures within { OnOk result (form.HasItsPayload what.now) }
-    ensures err { OnErr result (KeepsFront out.old.items out.new.items) }
+    ensures err { OnErr result (KeepsPrefix out.old.items out.new.items) }
     ensures full { OnErr result (vec_capacity out.old < length out.old.items + 131076) }
     ensures room { vec_capacity out.old ≤ vec_capacity out.new }
 {
@@ -79,7 +79,7 @@ fn append_what(what: &What, out: &mut Vec<u8>) -> Result<(), Memory>
 #[tactic(auto, using(tf_values::proofs::GrowthLemmas::keeps_shorter))]
 fn append_tagged_number(tag: u8, number: u16, out: &mut Vec<u8>) -> Result<(), Memory>
     ensures ok { OnOk result (out.new.items ≡ out.old.items ++ tag ∷ to_be_bytes w16 number) }
-    ensures err { OnErr result (KeepsFront out.old.items out.new.items) }
+    ensures err { OnErr result (KeepsPrefix out.old.items out.new.items) }
     ensures full { OnErr result (vec_capacity out.old < length out.old.items + 3) }
     ensures room { vec_capacity out.old ≤ vec_capacity out.new }
 {
@@ -90,7 +90,7 @@ fn append_tagged_number(tag: u8, number: u16, out: &mut Vec<u8>) -> Result<(), M
 fn append_payload(payload: &Payload, out: &mut Vec<u8>) -> Result<(), Memory>
     ensures ok { OnOk result (out.new.items ≡ out.old.items ++ form.payload_bytes payload.now) }
     ensures within { form.IsPayload payload.now }
-    ensures err { OnErr result (KeepsFront out.old.items out.new.items) }
+    ensures err { OnErr result (KeepsPrefix out.old.items out.new.items) }
     ensures full { OnErr result (vec_capacity out.old < length out.old.items + 131072) }
     ensures room { vec_capacity out.old ≤ vec_capacity out.new }
 {
@@ -104,7 +104,7 @@ fn append_payload(payload: &Payload, out: &mut Vec<u8>) -> Result<(), Memory>
 fn append_failure(failure: &Failure, out: &mut Vec<u8>) -> Result<(), Memory>
     ensures ok { OnOk result (out.new.items ≡ out.old.items ++ form.failure_bytes failure.now) }
     ensures within { form.IsFailure failure.now }
-    ensures err { OnErr result (KeepsFront out.old.items out.new.items) }
+    ensures err { OnErr result (KeepsPrefix out.old.items out.new.items) }
     ensures full { OnErr result (vec_capacity out.old < length out.old.items + 131072) }
     ensures room { vec_capacity out.old ≤ vec_capacity out.new }
 {
@@ -128,7 +128,7 @@ fn append_failure(failure: &Failure, out: &mut Vec<u8>) -> Result<(), Memory>
 #[tactic(auto, using(tf_values::proofs::GrowthLemmas::keeps_shorter))]
 fn append_exit(status: i32, out: &mut Vec<u8>) -> Result<(), Memory>
     ensures ok { OnOk result (out.new.items ≡ out.old.items ++ form.failure_bytes (Failure.Exit status)) }
-    ensures err { OnErr result (KeepsFront out.old.items out.new.items) }
+    ensures err { OnErr result (KeepsPrefix out.old.items out.new.items) }
     ensures full { OnErr result (vec_capacity out.old < length out.old.items + 5) }
     ensures room { vec_capacity out.old ≤ vec_capacity out.new }
 {
@@ -140,7 +140,7 @@ fn append_exit(status: i32, out: &mut Vec<u8>) -> Result<(), Memory>
 #[tactic(auto, using(tf_values::proofs::GrowthLemmas::keeps_shorter))]
 fn append_bad_reply(place: u32, out: &mut Vec<u8>) -> Result<(), Memory>
     ensures ok { OnOk result (out.new.items ≡ out.old.items ++ form.failure_bytes (Failure.BadReply place)) }
-    ensures err { OnErr result (KeepsFront out.old.items out.new.items) }
+    ensures err { OnErr result (KeepsPrefix out.old.items out.new.items) }
     ensures full { OnErr result (vec_capacity out.old < length out.old.items + 5) }
     ensures room { vec_capacity out.old ≤ vec_capacity out.new }
 {

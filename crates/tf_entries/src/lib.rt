@@ -1,4 +1,4 @@
-//! Plans and entries as bytes, exact both ways.
+//! Plans and entries as bytes, exact both paths.
 #![tactic(auto)]
 
 mod appending;

@@ -2,7 +2,7 @@ ghost use Rattle.std.specs.Prelude.{◌≡◌, ◌++◌, ◌∷◌, [], OnOk, On
 ghost use Rattle.std.specs.Int.{to_be_bytes, cast_unsigned, w64};
 ghost use Rattle.std.specs.List.{flat_map, AllByRecursion};
 ghost use Rattle.tf_flow.specs.Conditions.{condition_of, decision_of, connection_of};
-ghost use Rattle.tf_values.specs.Growth.{KeepsFront};
+ghost use Rattle.tf_values.specs.Growth.{KeepsPrefix};
 ghost use Rattle.tf_values.specs.Value.{byte_form, IsValue};
 ghost use Rattle.tf_entries.specs.Fields.{name_bytes, listed, AreFew};
 ghost use Rattle.tf_entries.specs.Atoms.{IsName};
@@ -31,7 +31,7 @@ impl Form for Link {
 fn append_decider(decider: &Option<Decider>, out: &mut Vec<u8>) -> Result<(), Memory>
     ensures ok { OnOk result (out.new.items ≡ out.old.items ++ form.decision_bytes (decision_of decider.now)) }
     ensures good { OnOk result (form.IsDecision (decision_of decider.now)) }
-    ensures err { OnErr result (KeepsFront out.old.items out.new.items) }
+    ensures err { OnErr result (KeepsPrefix out.old.items out.new.items) }
 {
     match decider {
         None => append(&[0], out),
@@ -59,7 +59,7 @@ fn depth_byte(depth: Depth) -> u8
 fn append_test(test: &Test, out: &mut Vec<u8>) -> Result<(), Memory>
     ensures ok { OnOk result (out.new.items ≡ out.old.items ++ test_bytes test.now) }
     ensures good { OnOk result (IsTest test.now) }
-    ensures err { OnErr result (KeepsFront out.old.items out.new.items) }
+    ensures err { OnErr result (KeepsPrefix out.old.items out.new.items) }
 {
     match test {
         Test::Is(name, wanted) => append_same(name, wanted, out),
@@ -80,7 +80,7 @@ fn append_test(test: &Test, out: &mut Vec<u8>) -> Result<(), Memory>
 fn append_tests(tag: u8, tests: &[Test], out: &mut Vec<u8>) -> Result<(), Memory>
     ensures ok { OnOk result (out.new.items ≡ out.old.items ++ tag ∷ listed test_bytes tests.now) }
     ensures good { OnOk result (AreFew IsTest tests.now) }
-    ensures err { OnErr result (KeepsFront out.old.items out.new.items) }
+    ensures err { OnErr result (KeepsPrefix out.old.items out.new.items) }
 {
     append(&[tag], out)?;
     append_count(tests.len(), out)?;
@@ -92,7 +92,7 @@ fn append_tests(tag: u8, tests: &[Test], out: &mut Vec<u8>) -> Result<(), Memory
 fn each_test(tests: &[Test], out: &mut Vec<u8>) -> Result<(), Memory>
     ensures ok { OnOk result (out.new.items ≡ out.old.items ++ flat_map test_bytes tests.now) }
     ensures good { OnOk result (AllByRecursion IsTest tests.now) }
-    ensures err { OnErr result (KeepsFront out.old.items out.new.items) }
+    ensures err { OnErr result (KeepsPrefix out.old.items out.new.items) }
 {
     for test in tests {
         append_test(test, out)?;
@@ -106,7 +106,7 @@ fn append_same(name: &Name, wanted: &Val, out: &mut Vec<u8>) -> Result<(), Memor
     ensures ok { OnOk result (out.new.items ≡ out.old.items ++ 0 ∷ (name_bytes name.now ++ byte_form wanted.now)) }
     ensures name { OnOk result (IsName name.now) }
     ensures wanted { OnOk result (IsValue wanted.now) }
-    ensures err { OnErr result (KeepsFront out.old.items out.new.items) }
+    ensures err { OnErr result (KeepsPrefix out.old.items out.new.items) }
 {
     append(&[0], out)?;
     append_name(name, out)?;
@@ -120,7 +120,7 @@ fn append_limit(tag: u8, name: &Name, limit: i64, out: &mut Vec<u8>) -> Result<(
         ≡ out.old.items ++ tag ∷ (name_bytes name.now ++ to_be_bytes w64 (cast_unsigned w64 limit))) }
     ensures name { OnOk result (IsName name.now) }
     ensures limit { OnOk result (FitsSigned w64 limit) }
-    ensures err { OnErr result (KeepsFront out.old.items out.new.items) }
+    ensures err { OnErr result (KeepsPrefix out.old.items out.new.items) }
 {
     append(&[tag], out)?;
     append_name(name, out)?;

@@ -2,7 +2,7 @@ ghost use Rattle.std.specs.Prelude.{◌≡◌, ◌≤◌, ◌++◌, ◌∷◌, [
 ghost use Rattle.std.specs.List.{flat_map, AllByRecursion};
 ghost use Rattle.tf_flow.specs.Tree.{tree_of};
 ghost use Rattle.tf_flow.specs.Written.{as_written};
-ghost use Rattle.tf_values.specs.Growth.{KeepsFront};
+ghost use Rattle.tf_values.specs.Growth.{KeepsPrefix};
 ghost use Rattle.tf_entries.specs.Atoms.{IsName};
 ghost use Rattle.tf_entries.specs.Fields.{name_bytes, listed, AreFew};
 ghost use Rattle.tf_entries.specs.Plans as form;
@@ -38,7 +38,7 @@ fn append_plan(plan: &Plan, out: &mut Vec<u8>) -> Result<(), Memory>
     ensures is_plan { OnOk result (form.IsPlan plan.now) }
     ensures long { OnOk result ((1 ≤ length (form.plan_bytes plan.now))
         × (length (form.plan_bytes plan.now) ≤ 1048576)) }
-    ensures err { OnErr result (KeepsFront out.old.items out.new.items) }
+    ensures err { OnErr result (KeepsPrefix out.old.items out.new.items) }
 {
     append_flow(plan.root(), out)?;
     append_listed(plan.store().items(), out)?;
@@ -51,7 +51,7 @@ fn append_plan(plan: &Plan, out: &mut Vec<u8>) -> Result<(), Memory>
 fn append_flow(flow: &Flow, out: &mut Vec<u8>) -> Result<(), Memory>
     ensures ok { OnOk result (out.new.items ≡ out.old.items ++ form.tree_bytes (as_written (tree_of flow.now))) }
     ensures good { OnOk result (form.IsTree (as_written (tree_of flow.now))) }
-    ensures err { OnErr result (KeepsFront out.old.items out.new.items) }
+    ensures err { OnErr result (KeepsPrefix out.old.items out.new.items) }
 {
     append_head(&flow.name, flow.kind, &flow.retry, out)?;
     append_items(flow.items.items(), out)?;
@@ -64,7 +64,7 @@ fn append_flow(flow: &Flow, out: &mut Vec<u8>) -> Result<(), Memory>
 fn append_items(items: &[Item], out: &mut Vec<u8>) -> Result<(), Memory>
     ensures ok { OnOk result (out.new.items ≡ out.old.items ++ listed item_bytes items.now) }
     ensures good { OnOk result (AreFew IsItem items.now) }
-    ensures err { OnErr result (KeepsFront out.old.items out.new.items) }
+    ensures err { OnErr result (KeepsPrefix out.old.items out.new.items) }
 {
     append_count(items.len(), out)?;
     each_item(items, out)
@@ -75,7 +75,7 @@ fn append_items(items: &[Item], out: &mut Vec<u8>) -> Result<(), Memory>
 fn each_item(items: &[Item], out: &mut Vec<u8>) -> Result<(), Memory>
     ensures ok { OnOk result (out.new.items ≡ out.old.items ++ flat_map item_bytes items.now) }
     ensures good { OnOk result (AllByRecursion IsItem items.now) }
-    ensures err { OnErr result (KeepsFront out.old.items out.new.items) }
+    ensures err { OnErr result (KeepsPrefix out.old.items out.new.items) }
 {
     for item in items {
         append_item(item, out)?;
@@ -89,7 +89,7 @@ fn each_item(items: &[Item], out: &mut Vec<u8>) -> Result<(), Memory>
 fn append_item(item: &Item, out: &mut Vec<u8>) -> Result<(), Memory>
     ensures ok { OnOk result (out.new.items ≡ out.old.items ++ item_bytes item.now) }
     ensures good { OnOk result (IsItem item.now) }
-    ensures err { OnErr result (KeepsFront out.old.items out.new.items) }
+    ensures err { OnErr result (KeepsPrefix out.old.items out.new.items) }
 {
     match item {
         Item::Task(task) => {
@@ -115,7 +115,7 @@ fn append_head(
         ++ (name_bytes name.now ++ (form.flow_kind_byte kind ∷ form.control_bytes retry.now))) }
     ensures name { OnOk result (IsName name.now) }
     ensures control { OnOk result (form.IsControl retry.now) }
-    ensures err { OnErr result (KeepsFront out.old.items out.new.items) }
+    ensures err { OnErr result (KeepsPrefix out.old.items out.new.items) }
 {
     append_name(name, out)?;
     append(&[flow_kind_byte(kind)], out)?;

@@ -109,9 +109,9 @@ impl Reader<'_> {
         if self.bytes.len() < len {
             return Err(MakeFault::No);
         }
-        let (front, rest) = self.bytes.split_at(len);
+        let (prefix, rest) = self.bytes.split_at(len);
         self.bytes = rest;
-        match Name::make(front) {
+        match Name::make(prefix) {
             Some(name) => Ok(name),
             None => Err(MakeFault::No),
         }
@@ -126,9 +126,9 @@ impl Reader<'_> {
         if self.bytes.len() < len {
             return Err(MakeFault::No);
         }
-        let (front, rest) = self.bytes.split_at(len);
+        let (prefix, rest) = self.bytes.split_at(len);
         self.bytes = rest;
-        Text::make(alloc, front)
+        Text::make(alloc, prefix)
     }
 
     /// A value.
@@ -147,8 +147,8 @@ fn u16_at(bytes: &[u8]) -> Option<(u16, &[u8])>
     ensures { MatchOption result (read_number w16 bytes.now ≡ None)
         (λ read. read_number w16 bytes.now ≡ Some (read.0, read.1.now)) }
 {
-    let (front, rest) = bytes.split_first_chunk::<2>()?;
-    Some((u16::from_be_bytes(*front), rest))
+    let (prefix, rest) = bytes.split_first_chunk::<2>()?;
+    Some((u16::from_be_bytes(*prefix), rest))
 }
 
 /// That of four bytes.
@@ -156,8 +156,8 @@ fn u32_at(bytes: &[u8]) -> Option<(u32, &[u8])>
     ensures { MatchOption result (read_number w32 bytes.now ≡ None)
         (λ read. read_number w32 bytes.now ≡ Some (read.0, read.1.now)) }
 {
-    let (front, rest) = bytes.split_first_chunk::<4>()?;
-    Some((u32::from_be_bytes(*front), rest))
+    let (prefix, rest) = bytes.split_first_chunk::<4>()?;
+    Some((u32::from_be_bytes(*prefix), rest))
 }
 
 /// That of four bytes with a sign.
@@ -165,8 +165,8 @@ fn i32_at(bytes: &[u8]) -> Option<(i32, &[u8])>
     ensures { MatchOption result (read_signed w32 bytes.now ≡ None)
         (λ read. read_signed w32 bytes.now ≡ Some (read.0, read.1.now)) }
 {
-    let (front, rest) = bytes.split_first_chunk::<4>()?;
-    Some((i32::from_be_bytes(*front), rest))
+    let (prefix, rest) = bytes.split_first_chunk::<4>()?;
+    Some((i32::from_be_bytes(*prefix), rest))
 }
 
 /// That of eight bytes with a sign.
@@ -174,6 +174,6 @@ fn i64_at(bytes: &[u8]) -> Option<(i64, &[u8])>
     ensures { MatchOption result (read_signed w64 bytes.now ≡ None)
         (λ read. read_signed w64 bytes.now ≡ Some (read.0, read.1.now)) }
 {
-    let (front, rest) = bytes.split_first_chunk::<8>()?;
-    Some((i64::from_be_bytes(*front), rest))
+    let (prefix, rest) = bytes.split_first_chunk::<8>()?;
+    Some((i64::from_be_bytes(*prefix), rest))
 }

@@ -26,7 +26,7 @@ abbrev mutual
 
 abbrev mutual
   written_atoms : ℕ → WrittenTree → List Atom
-  written_atoms g (written_task t) = record { way = []; part = a_task t } ∷ []
+  written_atoms g (written_task t) = record { path = []; part = a_task t } ∷ []
   written_atoms g (written_flow head items) = retry_atoms g head.retry ++ all_atoms g 0 (suc g) items
 
   all_atoms : ℕ → ℕ → ℕ → WrittenTrees → List Atom
@@ -98,7 +98,7 @@ mutual
   all_atoms_told : (g i n : ℕ) (ts : Trees) → atoms_among g i n ts ≡ all_atoms g i n (all_as_written ts)
   all_atoms_told g i n no_trees = refl
   all_atoms_told g i n (tree first others) =
-      ap (λ front. map (enter g i) front ++ atoms_among g (suc i) (n + flow_count first) others) (atoms_told n first)
+      ap (λ prefix. map (enter g i) prefix ++ atoms_among g (suc i) (n + flow_count first) others) (atoms_told n first)
       ∙ ap (λ count. map (enter g i) (written_atoms n (as_written first)) ++ atoms_among g (suc i) (n + count) others) (flows_counted first)
       ∙ ap (λ rest. map (enter g i) (written_atoms n (as_written first)) ++ rest) (all_atoms_told g (suc i) (n + written_flow_count (as_written first)) others)
 
@@ -127,7 +127,7 @@ mutual
   all_flows_told : (n a : ℕ) (ts : Trees) → flows_among n a ts ≡ all_flows n a (all_as_written ts)
   all_flows_told n a no_trees = refl
   all_flows_told n a (tree first others) =
-      ap (λ front. front ++ flows_among (n + flow_count first) (a + atom_count first) others) (flows_told n a first)
+      ap (λ prefix. prefix ++ flows_among (n + flow_count first) (a + atom_count first) others) (flows_told n a first)
       ∙ ap (λ count. written_flows n a (as_written first) ++ flows_among (n + count) (a + atom_count first) others) (flows_counted first)
       ∙ ap (λ count. written_flows n a (as_written first) ++ flows_among (n + written_flow_count (as_written first)) (a + count) others) (atoms_counted first)
       ∙ ap (λ rest. written_flows n a (as_written first) ++ rest) (all_flows_told (n + written_flow_count (as_written first)) (a + written_atom_count (as_written first)) others)
@@ -135,12 +135,12 @@ mutual
 mutual
   innermost_told : (g : ℕ) (t : Tree) → innermost_first g t ≡ written_innermost g (as_written t)
   innermost_told g (task t) = refl
-  innermost_told g (flow head items) = ap (λ front. front ++ g ∷ []) (all_innermost_told (suc g) items)
+  innermost_told g (flow head items) = ap (λ prefix. prefix ++ g ∷ []) (all_innermost_told (suc g) items)
 
   all_innermost_told : (n : ℕ) (ts : Trees) → innermost_among n ts ≡ all_innermost n (all_as_written ts)
   all_innermost_told n no_trees = refl
   all_innermost_told n (tree first others) =
-      ap (λ front. front ++ innermost_among (n + flow_count first) others) (innermost_told n first)
+      ap (λ prefix. prefix ++ innermost_among (n + flow_count first) others) (innermost_told n first)
       ∙ ap (λ count. written_innermost n (as_written first) ++ innermost_among (n + count) others) (flows_counted first)
       ∙ ap (λ rest. written_innermost n (as_written first) ++ rest) (all_innermost_told (n + written_flow_count (as_written first)) others)
 

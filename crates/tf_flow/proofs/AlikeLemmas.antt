@@ -299,14 +299,14 @@ mutual
       ap (λ ms. level_written record { name = head.name; kind = head.kind; links = map connection_of head.links; members = ms } ∷ map place_as_written (retry_places head.retry ++ places_among items)) (members_told items)
       ∙ ap (λ rest. level_written (written_level (head_as_written head) (all_as_written items)) ∷ rest)
       (map-append place_as_written (retry_places head.retry) (places_among items)
-      ∙ ap (λ front. front ++ map place_as_written (places_among items)) (retry_told head.retry)
+      ∙ ap (λ prefix. prefix ++ map place_as_written (places_among items)) (retry_told head.retry)
       ∙ ap (λ rest. written_retry head.retry ++ rest) (among_told items))
 
   among_told : (ts : Trees) → map place_as_written (places_among ts) ≡ places_written (all_as_written ts)
   among_told no_trees = refl
   among_told (tree first others) =
       map-append place_as_written (places first) (places_among others)
-      ∙ ap (λ front. front ++ map place_as_written (places_among others)) (places_told first)
+      ∙ ap (λ prefix. prefix ++ map place_as_written (places_among others)) (places_told first)
       ∙ ap (λ rest. written_places (as_written first) ++ rest) (among_told others)
 
 abbrev written_name : WrittenTree → List ℕ

@@ -4,7 +4,7 @@ pub mod MeasureLemmas
 pub mod NameLemmas
 pub mod LinkLemmas
 pub mod ConditionLemmas
-pub mod WayLemmas
+pub mod PathLemmas
 pub mod OutlineLemmas
 pub mod ReadLemmas
 pub mod WrittenLemmas

@@ -44,15 +44,15 @@ nested_push_task (first ∷ ms) m is =
     [ true ↦ ap (λ (names : List (List ℕ)). first.name ∷ names) (nested_push_task ms m is) | false ↦ nested_push_task ms m is ]
 
 -- the front of the items, and the item after it
-front : (items : List Item) (i : ℕ) (item : Item) → i < length items → item ≡ get_or items i item → members (take (i + 1) items) ≡ members (take i items) ++ member_of (item_tree item) ∷ []
-front items i item within is =
+prefix : (items : List Item) (i : ℕ) (item : Item) → i < length items → item ≡ get_or items i item → members (take (i + 1) items) ≡ members (take i items) ++ member_of (item_tree item) ∷ []
+prefix items i item within is =
     ap members (take_more items i item within ∙ ap (λ (x : Item). take i items ++ x ∷ []) (sym is)) ∙ members_push (take i items) item
 
 pub names_more : (items : List Item) (i : ℕ) (item : Item) → i < length items → item ≡ get_or items i item → member_names (members (take (i + 1) items)) ≡ member_names (members (take i items)) ++ (member_of (item_tree item)).name ∷ []
-names_more items i item within is = ap member_names (front items i item within is) ∙ names_push (members (take i items)) (member_of (item_tree item))
+names_more items i item within is = ap member_names (prefix items i item within is) ∙ names_push (members (take i items)) (member_of (item_tree item))
 
 pub nested_more_flow : (items : List Item) (i : ℕ) (item : Item) → i < length items → item ≡ get_or items i item → not (member_of (item_tree item)).is_task ≡ true → nested_names (members (take (i + 1) items)) ≡ nested_names (members (take i items)) ++ (member_of (item_tree item)).name ∷ []
-nested_more_flow items i item within is nested = ap nested_names (front items i item within is) ∙ nested_push_flow (members (take i items)) (member_of (item_tree item)) nested
+nested_more_flow items i item within is nested = ap nested_names (prefix items i item within is) ∙ nested_push_flow (members (take i items)) (member_of (item_tree item)) nested
 
 pub nested_more_task : (items : List Item) (i : ℕ) (item : Item) → i < length items → item ≡ get_or items i item → not (member_of (item_tree item)).is_task ≡ false → nested_names (members (take (i + 1) items)) ≡ nested_names (members (take i items))
-nested_more_task items i item within is nested = ap nested_names (front items i item within is) ∙ nested_push_task (members (take i items)) (member_of (item_tree item)) nested
+nested_more_task items i item within is nested = ap nested_names (prefix items i item within is) ∙ nested_push_task (members (take i items)) (member_of (item_tree item)) nested

@@ -7,7 +7,7 @@ use Rattle.tf_flow.specs.declared.nested.Item.{Item}
 use Rattle.tf_flow.proofs.TreeLemmas.{tree_of-flow}
 use Rattle.tf_flow.specs.Tree.{Tree, Trees, task, flow, no_trees, tree, tree_of, item_tree, trees_of, Head}
 use Rattle.tf_flow.specs.Outline.{Atom, Item as PlacedItem, FlowPlace, atoms_of, atoms_among, retry_atoms, enter, flows_of, flows_among, flow_place, flow_count, flows_among_count, atom_count, atoms_among_count, retry_count, retry_number, item_of, items_of, innermost_first, innermost_among}
-use Rattle.tf_flow.specs.declared.ways.Turn.{Turn}
+use Rattle.tf_flow.specs.declared.paths.Turn.{Turn}
 use Rattle.tf_flow.specs.Plan.{atoms}
 use Rattle.tf_flow.specs.declared.listing.AtomPlace.{AtomPlace}
 use Rattle.tf_flow.specs.declared.listing.ItemPlace.{ItemPlace}
@@ -53,12 +53,12 @@ length_flows g a t = length_flows_at t g a
 -- ---- what one item adds
 
 -- so many atoms more
-more_atoms : (way : List Turn) (n : ℕ) (t : Tree) (old new : List AtomPlace) → shown_atoms new ≡ shown_atoms old ++ map (under way) (atoms_of n t) → length new ≡ length old + atom_count t
-more_atoms way n t old new is =
+more_atoms : (path : List Turn) (n : ℕ) (t : Tree) (old new : List AtomPlace) → shown_atoms new ≡ shown_atoms old ++ map (under path) (atoms_of n t) → length new ≡ length old + atom_count t
+more_atoms path n t old new is =
     sym (length-map new shown_atom)
     ∙ (ap length is
-    ∙ (length_both (shown_atoms old) (map (under way) (atoms_of n t))
-    ∙ ap2 ◌+◌ (length-map old shown_atom) (length-map (atoms_of n t) (under way) ∙ length_atoms n t)))
+    ∙ (length_both (shown_atoms old) (map (under path) (atoms_of n t))
+    ∙ ap2 ◌+◌ (length-map old shown_atom) (length-map (atoms_of n t) (under path) ∙ length_atoms n t)))
 
 more_flows : (n a : ℕ) (t : Tree) (old new : List Level) → shown_levels new ≡ shown_levels old ++ flows_of n a t → length new ≡ length old + flow_count t
 more_flows n a t old new is =
@@ -67,16 +67,16 @@ more_flows n a t old new is =
     ∙ (length_both (shown_levels old) (flows_of n a t)
     ∙ ap2 ◌+◌ (length-map old shown_level) (length_flows n a t)))
 
-longer_way : (way : List Turn) (g i : ℕ) (xs : List Atom) → map (under way) (map (enter g i) xs) ≡ map (under (way ++ record { flow = g; item = Some i } ∷ [])) xs
-longer_way way g i [] = refl
-longer_way way g i (x ∷ xs) = ap2 (λ (w : List Turn) (ys : List Atom). record { way = w; part = x.part } ∷ ys)
-    (sym (append_chain way (record { flow = g; item = Some i } ∷ []) x.way)) (longer_way way g i xs)
+longer_path : (path : List Turn) (g i : ℕ) (xs : List Atom) → map (under path) (map (enter g i) xs) ≡ map (under (path ++ record { flow = g; item = Some i } ∷ [])) xs
+longer_path path g i [] = refl
+longer_path path g i (x ∷ xs) = ap2 (λ (w : List Turn) (ys : List Atom). record { path = w; part = x.part } ∷ ys)
+    (sym (append_chain path (record { flow = g; item = Some i } ∷ []) x.path)) (longer_path path g i xs)
 
-among_under : (way : List Turn) (g i n : ℕ) (t : Tree) (ts : Trees)
-    → map (under way) (atoms_among g i n (tree t ts)) ≡ map (under (way ++ record { flow = g; item = Some i } ∷ [])) (atoms_of n t) ++ map (under way) (atoms_among g (suc i) (n + flow_count t) ts)
-among_under way g i n t ts =
-    map_append (under way) (map (enter g i) (atoms_of n t)) (atoms_among g (suc i) (n + flow_count t) ts)
-    ∙ ap (λ (ys : List Atom). ys ++ map (under way) (atoms_among g (suc i) (n + flow_count t) ts)) (longer_way way g i (atoms_of n t))
+among_under : (path : List Turn) (g i n : ℕ) (t : Tree) (ts : Trees)
+    → map (under path) (atoms_among g i n (tree t ts)) ≡ map (under (path ++ record { flow = g; item = Some i } ∷ [])) (atoms_of n t) ++ map (under path) (atoms_among g (suc i) (n + flow_count t) ts)
+among_under path g i n t ts =
+    map_append (under path) (map (enter g i) (atoms_of n t)) (atoms_among g (suc i) (n + flow_count t) ts)
+    ∙ ap (λ (ys : List Atom). ys ++ map (under path) (atoms_among g (suc i) (n + flow_count t) ts)) (longer_path path g i (atoms_of n t))
 
 -- ---- the items of a flow, one after another
 
@@ -86,33 +86,33 @@ trees items = trees_of (map item_tree items)
 
 -- where the walk over the items of flow g stands: what is there, followed by what the other items add,
 -- is the whole
-pub record Walked (way : List Turn) (g i : ℕ) (rest : List Item) (atoms : List AtomPlace) (levels : List Level) (inner : List ℕ) (items : List ItemPlace)
+pub record Walked (path : List Turn) (g i : ℕ) (rest : List Item) (atoms : List AtomPlace) (levels : List Level) (inner : List ℕ) (items : List ItemPlace)
     (all_atoms : List Atom) (all_levels : List FlowPlace) (all_inner : List ℕ) (all_items : List PlacedItem) : Type 0 where
-  pub atoms_so : shown_atoms atoms ++ map (under way) (atoms_among g i (length levels) (trees rest)) ≡ all_atoms
+  pub atoms_so : shown_atoms atoms ++ map (under path) (atoms_among g i (length levels) (trees rest)) ≡ all_atoms
   pub levels_so : shown_levels levels ++ flows_among (length levels) (length atoms) (trees rest) ≡ all_levels
   pub inner_so : inner ++ innermost_among (length levels) (trees rest) ≡ all_inner
   pub items_so : map shown_item items ++ items_of (length levels) (length atoms) (trees rest) ≡ all_items
   pub room : g < length levels
 
-next_walked : (way : List Turn) (g i : ℕ) (first : Item) (rest : List Item) (atoms new_atoms : List AtomPlace) (levels new_levels : List Level) (inner new_inner : List ℕ) (items : List ItemPlace) (item : ItemPlace)
+next_walked : (path : List Turn) (g i : ℕ) (first : Item) (rest : List Item) (atoms new_atoms : List AtomPlace) (levels new_levels : List Level) (inner new_inner : List ℕ) (items : List ItemPlace) (item : ItemPlace)
     (all_atoms : List Atom) (all_levels : List FlowPlace) (all_inner : List ℕ) (all_items : List PlacedItem)
-    → Walked way g i (first ∷ rest) atoms levels inner items all_atoms all_levels all_inner all_items
+    → Walked path g i (first ∷ rest) atoms levels inner items all_atoms all_levels all_inner all_items
     → shown_item item ≡ item_of (length levels) (length atoms) (item_tree first)
-    → shown_atoms new_atoms ≡ shown_atoms atoms ++ map (under (way ++ record { flow = g; item = Some i } ∷ [])) (atoms_of (length levels) (item_tree first))
+    → shown_atoms new_atoms ≡ shown_atoms atoms ++ map (under (path ++ record { flow = g; item = Some i } ∷ [])) (atoms_of (length levels) (item_tree first))
     → shown_levels new_levels ≡ shown_levels levels ++ flows_of (length levels) (length atoms) (item_tree first)
     → new_inner ≡ inner ++ innermost_first (length levels) (item_tree first)
-    → Walked way g (suc i) rest new_atoms new_levels new_inner (items ++ item ∷ []) all_atoms all_levels all_inner all_items
-next_walked way g i first rest atoms new_atoms levels new_levels inner new_inner items item all_atoms all_levels all_inner all_items is item_is atoms_are levels_are inner_is =
+    → Walked path g (suc i) rest new_atoms new_levels new_inner (items ++ item ∷ []) all_atoms all_levels all_inner all_items
+next_walked path g i first rest atoms new_atoms levels new_levels inner new_inner items item all_atoms all_levels all_inner all_items is item_is atoms_are levels_are inner_is =
     let n = length levels in
     let a = length atoms in
     let t = item_tree first in
     let flows_more : length new_levels ≡ n + flow_count t = more_flows n a t levels new_levels levels_are in
-    let atoms_more : length new_atoms ≡ a + atom_count t = more_atoms (way ++ record { flow = g; item = Some i } ∷ []) n t atoms new_atoms atoms_are in
+    let atoms_more : length new_atoms ≡ a + atom_count t = more_atoms (path ++ record { flow = g; item = Some i } ∷ []) n t atoms new_atoms atoms_are in
     record {
       atoms_so =
-          ap2 (λ (xs : List Atom) (m : ℕ). xs ++ map (under way) (atoms_among g (suc i) m (trees rest))) atoms_are flows_more
-          ∙ (append_chain (shown_atoms atoms) (map (under (way ++ record { flow = g; item = Some i } ∷ [])) (atoms_of n t)) (map (under way) (atoms_among g (suc i) (n + flow_count t) (trees rest)))
-          ∙ (ap (λ (ys : List Atom). shown_atoms atoms ++ ys) (sym (among_under way g i n t (trees rest)))
+          ap2 (λ (xs : List Atom) (m : ℕ). xs ++ map (under path) (atoms_among g (suc i) m (trees rest))) atoms_are flows_more
+          ∙ (append_chain (shown_atoms atoms) (map (under (path ++ record { flow = g; item = Some i } ∷ [])) (atoms_of n t)) (map (under path) (atoms_among g (suc i) (n + flow_count t) (trees rest)))
+          ∙ (ap (λ (ys : List Atom). shown_atoms atoms ++ ys) (sym (among_under path g i n t (trees rest)))
           ∙ is.atoms_so));
       levels_so =
           ap2 (λ (xs : List FlowPlace) (m : ℕ). xs ++ flows_among m (length new_atoms) (trees rest)) levels_are flows_more
@@ -131,20 +131,20 @@ next_walked way g i first rest atoms new_atoms levels new_levels inner new_inner
       room = omega (arith, is.room, flows_more);
     }
 
-walk_more : (way : List Turn) (g i : ℕ) (whole : List Item) (first : Item) (atoms new_atoms : List AtomPlace) (levels new_levels : List Level) (inner new_inner : List ℕ) (items : List ItemPlace) (item : ItemPlace)
+walk_more : (path : List Turn) (g i : ℕ) (whole : List Item) (first : Item) (atoms new_atoms : List AtomPlace) (levels new_levels : List Level) (inner new_inner : List ℕ) (items : List ItemPlace) (item : ItemPlace)
     (all_atoms : List Atom) (all_levels : List FlowPlace) (all_inner : List ℕ) (all_items : List PlacedItem)
-    → Walked way g i (drop i whole) atoms levels inner items all_atoms all_levels all_inner all_items
+    → Walked path g i (drop i whole) atoms levels inner items all_atoms all_levels all_inner all_items
     → i < length whole → first ≡ get_or whole i first
     → shown_item item ≡ item_of (length levels) (length atoms) (item_tree first)
-    → shown_atoms new_atoms ≡ shown_atoms atoms ++ map (under (way ++ record { flow = g; item = Some i } ∷ [])) (atoms_of (length levels) (item_tree first))
+    → shown_atoms new_atoms ≡ shown_atoms atoms ++ map (under (path ++ record { flow = g; item = Some i } ∷ [])) (atoms_of (length levels) (item_tree first))
     → shown_levels new_levels ≡ shown_levels levels ++ flows_of (length levels) (length atoms) (item_tree first)
     → new_inner ≡ inner ++ innermost_first (length levels) (item_tree first)
-    → Walked way g (i + 1) (drop (i + 1) whole) new_atoms new_levels new_inner (items ++ item ∷ []) all_atoms all_levels all_inner all_items
-walk_more way g i whole first atoms new_atoms levels new_levels inner new_inner items item all_atoms all_levels all_inner all_items is below read item_is atoms_are levels_are inner_is =
+    → Walked path g (i + 1) (drop (i + 1) whole) new_atoms new_levels new_inner (items ++ item ∷ []) all_atoms all_levels all_inner all_items
+walk_more path g i whole first atoms new_atoms levels new_levels inner new_inner items item all_atoms all_levels all_inner all_items is below read item_is atoms_are levels_are inner_is =
     let next : drop i whole ≡ first ∷ drop (suc i) whole = drop_first whole i first below ∙ ap (λ (x : Item). x ∷ drop (suc i) whole) (sym read) in
     rw (add-one i)
-    (next_walked way g i first (drop (suc i) whole) atoms new_atoms levels new_levels inner new_inner items item all_atoms all_levels all_inner all_items
-    (subst (λ (rest : List Item). Walked way g i rest atoms levels inner items all_atoms all_levels all_inner all_items) next is)
+    (next_walked path g i first (drop (suc i) whole) atoms new_atoms levels new_levels inner new_inner items item all_atoms all_levels all_inner all_items
+    (subst (λ (rest : List Item). Walked path g i rest atoms levels inner items all_atoms all_levels all_inner all_items) next is)
     item_is atoms_are levels_are inner_is)
 
 -- ---- the beginning and the end of a flow
@@ -170,9 +170,9 @@ head_of f = record { name = f.name; kind = f.kind; retry = f.retry; links = f.li
 
 -- where the walk over a flow stands, after so many of its items
 abbrev pub WalkedFlow : List Turn → FlowValue → ℕ → List AtomPlace → List Level → List ℕ → ℕ → List AtomPlace → List Level → List ℕ → List ItemPlace → Type 0
-WalkedFlow way f g old_atoms old_levels old_inner i atoms levels inner items =
-    Walked way g i (drop i f.items.items.items) atoms levels inner items
-    (shown_atoms old_atoms ++ map (under way) (atoms_of g (tree_of f)))
+WalkedFlow path f g old_atoms old_levels old_inner i atoms levels inner items =
+    Walked path g i (drop i f.items.items.items) atoms levels inner items
+    (shown_atoms old_atoms ++ map (under path) (atoms_of g (tree_of f)))
     (shown_levels old_levels ++ bare_place g (length old_atoms) (head_of f) ∷ flows_among (suc g) (length old_atoms + retry_count f.retry) (trees f.items.items.items))
     (old_inner ++ innermost_among (suc g) (trees f.items.items.items))
     (items_of (suc g) (length old_atoms + retry_count f.retry) (trees f.items.items.items))
@@ -180,8 +180,8 @@ WalkedFlow way f g old_atoms old_levels old_inner i atoms levels inner items =
 pub all_read : (read items : List Item) (i : ℕ) → read ≡ items → length read ≤ i → length items ≤ i
 all_read read items i same whole = subst (λ (xs : List Item). length xs ≤ i) same whole
 
-module _ (way : List Turn) (f : FlowValue) (g : ℕ) (old_atoms atoms : List AtomPlace) (old_levels levels : List Level) (old_inner inner : List ℕ) (items : List ItemPlace) (i : ℕ)
-    (is : WalkedFlow way f g old_atoms old_levels old_inner i atoms levels inner items) (whole : length f.items.items.items ≤ i) (g_is : g ≡ length old_levels) where
+module _ (path : List Turn) (f : FlowValue) (g : ℕ) (old_atoms atoms : List AtomPlace) (old_levels levels : List Level) (old_inner inner : List ℕ) (items : List ItemPlace) (i : ℕ)
+    (is : WalkedFlow path f g old_atoms old_levels old_inner i atoms levels inner items) (whole : length f.items.items.items ≤ i) (g_is : g ≡ length old_levels) where
   rest_none : drop i f.items.items.items ≡ []
   rest_none = drop_whole f.items.items.items i whole
 
@@ -222,7 +222,7 @@ module _ (way : List Turn) (f : FlowValue) (g : ℕ) (old_atoms atoms : List Ato
       ∙ (ap (λ (t : Tree). old_inner ++ innermost_first g t) (sym (tree_of-flow f))
       ∙ ap (λ (n : ℕ). old_inner ++ innermost_first n (tree_of f)) g_is)))
 
--- the step with what the code has: a longer way, and the items as they are read
+-- the step with what the code has: a longer path, and the items as they are read
 pub walk_next : (turns more : List Turn) (f : FlowValue) (g i : ℕ) (first : Item) (read : List Item) (old_atoms atoms new_atoms : List AtomPlace) (old_levels levels new_levels : List Level) (old_inner inner new_inner : List ℕ) (items new_items : List ItemPlace) (item : ItemPlace)
     → WalkedFlow turns f g old_atoms old_levels old_inner i atoms levels inner items
     → read ≡ f.items.items.items → i < length read → first ≡ get_or read i first

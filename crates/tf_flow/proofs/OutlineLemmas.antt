@@ -3,9 +3,9 @@ use Rattle.std.proofs.Common.{◌≡◌, ℕ, suc, ◌+◌, List, [], ◌∷◌,
 use Rattle.tf_flow.specs.declared.atoms.Task.{Task}
 use Rattle.tf_flow.specs.declared.atoms.Retry.{Retry}
 use Rattle.tf_flow.specs.Places.{Place, at_retry, at_task, places, places_among, retry_places, is_atom, is_flow, is_retry_place, name_at}
-use Rattle.tf_flow.specs.Plan.{PlanValue, atoms, retries, flows, ways, ways_to_flows}
+use Rattle.tf_flow.specs.Plan.{PlanValue, atoms, retries, flows, paths, paths_to_flows}
 use Rattle.tf_flow.specs.Tree.{Tree, Trees, task, flow, no_trees, tree, tree_of}
-use Rattle.tf_flow.specs.Outline.{Part, a_task, a_retry, Atom, FlowPlace, atoms_of, atoms_among, retry_atoms, enter, flows_of, flows_among, flow_count, atom_count, retry_count, name_of, is_retry_part, name_of_atom, is_retry_atom, way_of, enter_way, flow_ways, flow_ways_among}
+use Rattle.tf_flow.specs.Outline.{Part, a_task, a_retry, Atom, FlowPlace, atoms_of, atoms_among, retry_atoms, enter, flows_of, flows_among, flow_count, atom_count, retry_count, name_of, is_retry_part, name_of_atom, is_retry_atom, atom_path, enter_path, flow_paths, flow_paths_among}
 use Rattle.std.proofs.lemmas.List.{length-map}
 use Rattle.tf_numbers.proofs.EquationLemmas.{ap2}
 use Rattle.tf_numbers.proofs.ListLemmas.{map_append, filter_append, length_both}
@@ -78,26 +78,26 @@ same_atoms plan = atoms_told name_of name_at (λ t. refl) (λ r. refl) (tree_of 
 pub same_retries : (plan : PlanValue) → map is_retry_atom (atoms_of 0 (tree_of plan.root)) ≡ retries plan
 same_retries plan = atoms_told is_retry_part is_retry_place (λ t. refl) (λ r. refl) (tree_of plan.root) 0
 
--- there are as many ways as atoms
-pub as_many_ways : (plan : PlanValue) → length (ways plan) ≡ length (atoms plan)
-as_many_ways plan =
-    length-map (atoms_of 0 (tree_of plan.root)) way_of
+-- there are as many paths as atoms
+pub as_many_paths : (plan : PlanValue) → length (paths plan) ≡ length (atoms plan)
+as_many_paths plan =
+    length-map (atoms_of 0 (tree_of plan.root)) atom_path
     ∙ (sym (length-map (atoms_of 0 (tree_of plan.root)) name_of_atom) ∙ ap length (same_atoms plan))
 
 -- and as many as flows
 mutual
-  ways_counted : (t : Tree) (g a : ℕ) → length (flow_ways g t) ≡ length (flows_of g a t)
-  ways_counted (task t) g a = refl
-  ways_counted (flow head items) g a = ap suc (ways_among_counted items g 0 (suc g) (a + retry_count head.retry))
+  paths_counted : (t : Tree) (g a : ℕ) → length (flow_paths g t) ≡ length (flows_of g a t)
+  paths_counted (task t) g a = refl
+  paths_counted (flow head items) g a = ap suc (paths_among_counted items g 0 (suc g) (a + retry_count head.retry))
 
-  ways_among_counted : (ts : Trees) (g i n a : ℕ) → length (flow_ways_among g i n ts) ≡ length (flows_among n a ts)
-  ways_among_counted no_trees g i n a = refl
-  ways_among_counted (tree first others) g i n a =
-      length_both (map (enter_way g i) (flow_ways n first)) (flow_ways_among g (suc i) (n + flow_count first) others)
-      ∙ (ap2 ◌+◌ (length-map (flow_ways n first) (enter_way g i) ∙ ways_counted first n a) (ways_among_counted others g (suc i) (n + flow_count first) (a + atom_count first))
+  paths_among_counted : (ts : Trees) (g i n a : ℕ) → length (flow_paths_among g i n ts) ≡ length (flows_among n a ts)
+  paths_among_counted no_trees g i n a = refl
+  paths_among_counted (tree first others) g i n a =
+      length_both (map (enter_path g i) (flow_paths n first)) (flow_paths_among g (suc i) (n + flow_count first) others)
+      ∙ (ap2 ◌+◌ (length-map (flow_paths n first) (enter_path g i) ∙ paths_counted first n a) (paths_among_counted others g (suc i) (n + flow_count first) (a + atom_count first))
       ∙ sym (length_both (flows_of n a first) (flows_among (n + flow_count first) (a + atom_count first) others)))
 
-pub as_many_ways_to_flows : (plan : PlanValue) → length (ways_to_flows plan) ≡ length (flows plan)
-as_many_ways_to_flows plan =
-    ways_counted (tree_of plan.root) 0 0
+pub as_many_paths_to_flows : (plan : PlanValue) → length (paths_to_flows plan) ≡ length (flows plan)
+as_many_paths_to_flows plan =
+    paths_counted (tree_of plan.root) 0 0
     ∙ (sym (length-map (flows_of 0 0 (tree_of plan.root)) place_name) ∙ ap length (flows_told (tree_of plan.root) 0 0))

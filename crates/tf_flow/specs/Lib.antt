@@ -11,5 +11,5 @@ pub mod Items
 pub mod Conditions
 pub mod Written
 pub mod Outline
-pub mod Ways
+pub mod Paths
 pub mod Listing

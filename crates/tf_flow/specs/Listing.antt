@@ -1,18 +1,18 @@
 -- What the code's records of a plan's atoms and flows show.
 use Rattle.std.specs.Prelude.{ℕ, zero, suc, List, [], ◌∷◌, ◌++◌, map}
 use Rattle.tf_flow.specs.Conditions.{connection_of}
-use Rattle.tf_flow.specs.declared.ways.Turn.{Turn}
+use Rattle.tf_flow.specs.declared.paths.Turn.{Turn}
 use Rattle.tf_flow.specs.Outline as model
 use Rattle.tf_flow.specs.declared.listing.AtomPlace.{AtomPlace}
 use Rattle.tf_flow.specs.declared.listing.ItemPlace.{ItemPlace}
 use Rattle.tf_flow.specs.declared.listing.Level.{Level}
-use Rattle.tf_flow.specs.Ways.{shown_part}
+use Rattle.tf_flow.specs.Paths.{shown_part}
 use Rattle.tf_flow.specs.declared.listing.Standing.{Standing}
 use Rattle.tf_flow.specs.declared.listing.Standing.TheVariants as standing
 
--- an atom with its way
+-- an atom with its path
 abbrev pub shown_atom : AtomPlace → model.Atom
-shown_atom atom = record { way = atom.way; part = shown_part atom.part }
+shown_atom atom = record { path = atom.path; part = shown_part atom.part }
 
 abbrev pub shown_atoms : List AtomPlace → List model.Atom
 shown_atoms = map shown_atom
@@ -44,9 +44,9 @@ shown_levels = map shown_level
 abbrev pub level_number : Level → ℕ
 level_number level = level.number
 
--- an atom, seen from the end of a way that leads on to it
+-- an atom, seen from the end of a path that leads on to it
 abbrev pub under : List Turn → model.Atom → model.Atom
-under way atom = record { way = way ++ atom.way; part = atom.part }
+under path atom = record { path = path ++ atom.path; part = atom.part }
 
 -- a flow with other items
 abbrev pub with_items : List model.Item → model.FlowPlace → model.FlowPlace

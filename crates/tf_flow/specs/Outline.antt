@@ -6,7 +6,7 @@ use Rattle.tf_flow.specs.declared.atoms.Provides.{Provides}
 use Rattle.tf_flow.specs.declared.atoms.Retry.{Retry}
 use Rattle.tf_flow.specs.declared.atoms.Task.{Task}
 use Rattle.tf_flow.specs.declared.nested.FlowKind.{FlowKind}
-use Rattle.tf_flow.specs.declared.ways.Turn.{Turn}
+use Rattle.tf_flow.specs.declared.paths.Turn.{Turn}
 use Rattle.tf_flow.specs.Tree.{Tree, Trees, task, flow, no_trees, tree, Head}
 use Rattle.tf_flow.specs.Conditions.{Connection, connection_of}
 
@@ -15,9 +15,9 @@ pub data Part : Type 0 where
   a_task : Task → Part
   a_retry : Retry → Part
 
--- an atom and its way from the root
+-- an atom and its path from the root
 pub record Atom : Type 0 where
-  pub way : List Turn
+  pub path : List Turn
   pub part : Part
 
 -- what stands at one place of a flow: a task by its number among the atoms, or a flow by its number
@@ -68,18 +68,18 @@ abbrev mutual
 
 -- an atom of an item, seen from the flow around it
 abbrev pub enter : ℕ → ℕ → Atom → Atom
-enter g i atom = record { way = record { flow = g; item = Some i } ∷ atom.way; part = atom.part }
+enter g i atom = record { path = record { flow = g; item = Some i } ∷ atom.path; part = atom.part }
 
 -- the retry controller of flow g, where it has one
 abbrev pub retry_atoms : ℕ → Option Retry → List Atom
 retry_atoms g None = []
-retry_atoms g (Some r) = record { way = record { flow = g; item = None } ∷ []; part = a_retry r } ∷ []
+retry_atoms g (Some r) = record { path = record { flow = g; item = None } ∷ []; part = a_retry r } ∷ []
 
 -- the atoms of a tree in tree order: a flow's retry controller, then its items as they stand, a nested
 -- flow in its place; the flows in it are numbered from g on
 abbrev mutual
   pub atoms_of : ℕ → Tree → List Atom
-  atoms_of g (task t) = record { way = []; part = a_task t } ∷ []
+  atoms_of g (task t) = record { path = []; part = a_task t } ∷ []
   atoms_of g (flow head items) = retry_atoms g head.retry ++ atoms_among g 0 (suc g) items
 
   -- those of the items of flow g from item i on, in which flows are numbered from n on
@@ -159,24 +159,24 @@ abbrev pub priority_of : Part → ℤ
 priority_of (a_task t) = t.priority
 priority_of (a_retry r) = pos 0
 
--- the way of an atom
-abbrev pub way_of : Atom → List Turn
-way_of atom = atom.way
+-- the path of an atom
+abbrev pub atom_path : Atom → List Turn
+atom_path atom = atom.path
 
--- a way that begins with the turn into flow g, to item i
-abbrev pub enter_way : ℕ → ℕ → List Turn → List Turn
-enter_way g i way = record { flow = g; item = Some i } ∷ way
+-- a path that begins with the turn into flow g, to item i
+abbrev pub enter_path : ℕ → ℕ → List Turn → List Turn
+enter_path g i path = record { flow = g; item = Some i } ∷ path
 
--- the ways to the flows of a tree, in tree order; the flows in it are numbered from g on
+-- the paths to the flows of a tree, in tree order; the flows in it are numbered from g on
 abbrev mutual
-  pub flow_ways : ℕ → Tree → List (List Turn)
-  flow_ways g (task t) = []
-  flow_ways g (flow head items) = [] ∷ flow_ways_among g 0 (suc g) items
+  pub flow_paths : ℕ → Tree → List (List Turn)
+  flow_paths g (task t) = []
+  flow_paths g (flow head items) = [] ∷ flow_paths_among g 0 (suc g) items
 
   -- those in the items of flow g from item i on, in which flows are numbered from n on
-  pub flow_ways_among : ℕ → ℕ → ℕ → Trees → List (List Turn)
-  flow_ways_among g i n no_trees = []
-  flow_ways_among g i n (tree first others) = map (enter_way g i) (flow_ways n first) ++ flow_ways_among g (suc i) (n + flow_count first) others
+  pub flow_paths_among : ℕ → ℕ → ℕ → Trees → List (List Turn)
+  flow_paths_among g i n no_trees = []
+  flow_paths_among g i n (tree first others) = map (enter_path g i) (flow_paths n first) ++ flow_paths_among g (suc i) (n + flow_count first) others
 
 -- the flows of a tree in tree order, each with what stands in it
 abbrev mutual

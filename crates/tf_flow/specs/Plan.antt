@@ -5,8 +5,8 @@ use Rattle.tf_flow.specs.declared.nested.Flow.{Flow}
 use Rattle.tf_flow.specs.Places.{tree_order, atom_names, retry_marks, flow_names}
 use Rattle.tf_flow.specs.Refusal.{first_refusal}
 use Rattle.tf_flow.specs.Tree.{Tree, tree_of}
-use Rattle.tf_flow.specs.Outline.{Part, atoms_of, way_of, part_of, flow_ways, flow_trees}
-use Rattle.tf_flow.specs.declared.ways.Turn.{Turn}
+use Rattle.tf_flow.specs.Outline.{Part, atoms_of, atom_path, part_of, flow_paths, flow_trees}
+use Rattle.tf_flow.specs.declared.paths.Turn.{Turn}
 
 -- what a plan stands for: a root flow, the values of the store, and whether a retry leaves its answer
 -- to the one around it
@@ -25,12 +25,12 @@ retries plan = retry_marks (tree_order plan.root)
 abbrev pub flows : PlanValue → List (List ℕ)
 flows plan = flow_names (tree_order plan.root)
 
--- the ways from the root to a plan's atoms, and to its flows, by number
-abbrev pub ways : PlanValue → List (List Turn)
-ways plan = map way_of (atoms_of 0 (tree_of plan.root))
+-- the paths from the root to a plan's atoms, and to its flows, by number
+abbrev pub paths : PlanValue → List (List Turn)
+paths plan = map atom_path (atoms_of 0 (tree_of plan.root))
 
-abbrev pub ways_to_flows : PlanValue → List (List Turn)
-ways_to_flows plan = flow_ways 0 (tree_of plan.root)
+abbrev pub paths_to_flows : PlanValue → List (List Turn)
+paths_to_flows plan = flow_paths 0 (tree_of plan.root)
 
 -- the atom of a number
 abbrev pub part : PlanValue → ℕ → Option Part
@@ -45,6 +45,6 @@ pub record IsNumbered (root : Flow) (store : List Bind) (names : List (List ℕ)
   pub atoms_named : names ≡ atom_names (tree_order root)
   pub retries_marked : marks ≡ retry_marks (tree_order root)
   pub flows_named : levels ≡ flow_names (tree_order root)
-  pub atoms_reached : to_atoms ≡ map way_of (atoms_of 0 (tree_of root))
-  pub flows_reached : to_flows ≡ flow_ways 0 (tree_of root)
+  pub atoms_reached : to_atoms ≡ map atom_path (atoms_of 0 (tree_of root))
+  pub flows_reached : to_flows ≡ flow_paths 0 (tree_of root)
   pub accepted : first_refusal root store ≡ None

@@ -6,16 +6,16 @@ ghost use Rattle.tf_flow.specs.Listing.{shown_atoms, shown_level, shown_levels, 
 
 use crate::atoms::Retry;
 use crate::nested::{Flow, Item};
+use crate::paths::{Part, Path, Turn};
 use crate::plans::Plan;
-use crate::ways::{Part, Turn, Way};
 use std::alloc::Global;
 use tf_values::{Memory, Name};
 
-/// An atom and its way from the root.
+/// An atom and its path from the root.
 #[derive(Drop)]
 pub struct AtomPlace<'a> {
     pub part: Part<'a>,
-    pub way: Way,
+    pub path: Path,
 }
 
 /// What an item is: a task by its number among the atoms, or a flow by its number among the flows.
@@ -75,18 +75,18 @@ pub fn outline_of<'a>(alloc: Global, plan: &'a Plan) -> Result<Outline<'a>, Memo
 fn add_flow<'a>(
     alloc: Global,
     flow: &'a Flow,
-    way: &[Turn],
+    path: &[Turn],
     outline: &mut Outline<'a>,
 ) -> Result<(), Memory>
     ensures atoms { OnOk result (shown_atoms outline.new.atoms.items ≡ shown_atoms outline.old.atoms.items
-        ++ map (under way.now) (model.atoms_of (length outline.old.levels.items) (tree_of flow.now))) }
+        ++ map (under path.now) (model.atoms_of (length outline.old.levels.items) (tree_of flow.now))) }
     ensures levels { OnOk result (shown_levels outline.new.levels.items ≡ shown_levels outline.old.levels.items
         ++ model.flows_of (length outline.old.levels.items) (length outline.old.atoms.items) (tree_of flow.now)) }
     ensures inner { OnOk result (outline.new.inner_first.items ≡ outline.old.inner_first.items
         ++ model.innermost_first (length outline.old.levels.items) (tree_of flow.now)) }
 {
     let number = outline.levels.len();
-    let retry = add_retry(alloc, &flow.retry, way, number, &mut outline.atoms)?;
+    let retry = add_retry(alloc, &flow.retry, path, number, &mut outline.atoms)?;
     outline.levels.push(Level {
         flow,
         retry,
@@ -99,7 +99,7 @@ fn add_flow<'a>(
             flow: number,
             item: Some(place),
         };
-        let below = longer(alloc, way, turn)?;
+        let below = longer(alloc, path, turn)?;
         items.push(add_item(alloc, item, &below, outline)?)?;
     }
     put_items(&mut outline.levels, number, items);
@@ -113,13 +113,13 @@ fn add_flow<'a>(
 fn add_item<'a>(
     alloc: Global,
     item: &'a Item,
-    way: &[Turn],
+    path: &[Turn],
     outline: &mut Outline<'a>,
 ) -> Result<ItemPlace, Memory>
     ensures item { IfOk result (λ place. shown_item place
         ≡ model.item_of (length outline.old.levels.items) (length outline.old.atoms.items) (item_tree item.now)) }
     ensures atoms { OnOk result (shown_atoms outline.new.atoms.items ≡ shown_atoms outline.old.atoms.items
-        ++ map (under way.now) (model.atoms_of (length outline.old.levels.items) (item_tree item.now))) }
+        ++ map (under path.now) (model.atoms_of (length outline.old.levels.items) (item_tree item.now))) }
     ensures levels { OnOk result (shown_levels outline.new.levels.items ≡ shown_levels outline.old.levels.items
         ++ model.flows_of (length outline.old.levels.items) (length outline.old.atoms.items) (item_tree item.now)) }
     ensures inner { OnOk result (outline.new.inner_first.items ≡ outline.old.inner_first.items
@@ -128,9 +128,9 @@ fn add_item<'a>(
     match item {
         Item::Task(task) => {
             let number = outline.atoms.len();
-            let way = Way::make(way.to_vec(alloc)?);
+            let path = Path::make(path.to_vec(alloc)?);
             let part = Part::Task(task);
-            outline.atoms.push(AtomPlace { part, way })?;
+            outline.atoms.push(AtomPlace { part, path })?;
             Ok(ItemPlace {
                 name: task.name,
                 standing: Standing::Task(number),
@@ -138,7 +138,7 @@ fn add_item<'a>(
         }
         Item::Flow(flow) => {
             let number = outline.levels.len();
-            add_flow(alloc, flow, way, outline)?;
+            add_flow(alloc, flow, path, outline)?;
             Ok(ItemPlace {
                 name: flow.name,
                 standing: Standing::Flow(number),
@@ -151,32 +151,32 @@ fn add_item<'a>(
 fn add_retry<'a>(
     alloc: Global,
     retry: &'a Option<Retry>,
-    way: &[Turn],
+    path: &[Turn],
     flow: usize,
     atoms: &mut Vec<AtomPlace<'a>>,
 ) -> Result<Option<usize>, Memory>
     ensures number { IfOk result (λ number. number ≡ model.retry_number (length atoms.old.items) retry.now) }
     ensures atoms { OnOk result (shown_atoms atoms.new.items ≡ shown_atoms atoms.old.items
-        ++ map (under way.now) (model.retry_atoms flow retry.now)) }
+        ++ map (under path.now) (model.retry_atoms flow retry.now)) }
 {
     match retry {
         None => Ok(None),
         Some(retry) => {
             let number = atoms.len();
             let turn = Turn { flow, item: None };
-            let way = Way::make(longer(alloc, way, turn)?);
+            let path = Path::make(longer(alloc, path, turn)?);
             let part = Part::Retry(retry);
-            atoms.push(AtomPlace { part, way })?;
+            atoms.push(AtomPlace { part, path })?;
             Ok(Some(number))
         }
     }
 }
 
-/// A way with one turn more.
-fn longer(alloc: Global, way: &[Turn], turn: Turn) -> Result<Vec<Turn>, Memory>
-    ensures { IfOk result (λ turns. turns.items ≡ way.now ++ turn ∷ []) }
+/// A path with one turn more.
+fn longer(alloc: Global, path: &[Turn], turn: Turn) -> Result<Vec<Turn>, Memory>
+    ensures { IfOk result (λ turns. turns.items ≡ path.now ++ turn ∷ []) }
 {
-    let mut turns = way.to_vec(alloc)?;
+    let mut turns = path.to_vec(alloc)?;
     turns.push(turn)?;
     Ok(turns)
 }

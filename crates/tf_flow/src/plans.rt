@@ -5,15 +5,15 @@ ghost use Rattle.tf_flow.specs.Plan as numbering;
 ghost use Rattle.tf_flow.specs.Refusal.{first_refusal, IsAnswer};
 ghost use Rattle.tf_flow.specs.Shown.{shown_places};
 ghost use Rattle.tf_flow.specs.Tree.{tree_of};
-ghost use Rattle.tf_flow.specs.Ways.{shown_part};
+ghost use Rattle.tf_flow.specs.Paths.{shown_part};
 
 use crate::atoms::Binds;
 use crate::faults::PlanFault;
 use crate::nested::Flow;
 use crate::outline::{Place, add_flow};
+use crate::paths::{Part, Path, Paths, Turn, flow_in, part_in, paths_of};
 use crate::refusals::first_refusal;
 use crate::repeats::indexed;
-use crate::ways::{Part, Turn, Way, Ways, flow_in, part_in, ways_of};
 use indexmap::IndexSet;
 use std::alloc::Global;
 use std::marker::Model;
@@ -30,8 +30,8 @@ pub struct Plan {
     atoms: IndexSet<Name>,
     retries: Vec<bool>,
     flows: Vec<Name>,
-    ways: Vec<Way>,
-    ways_to_flows: Vec<Way>,
+    paths: Vec<Path>,
+    paths_to_flows: Vec<Path>,
 }
 
 impl Model for Plan {
@@ -46,7 +46,7 @@ impl Model for Plan {
     ghost view = { λ plan. record { root = plan.root; store = plan.store; defer = plan.defer } };
 
     ghost invariant = { λ plan. IsNumbered plan.root plan.store plan.atoms.keys plan.retries.items plan.flows.items
-        plan.ways.items plan.ways_to_flows.items };
+        plan.paths.items plan.paths_to_flows.items };
 }
 
 impl Plan {
@@ -66,8 +66,8 @@ impl Plan {
             atoms: numbers.atoms,
             retries: numbers.retries,
             flows: numbers.flows,
-            ways: numbers.ways.atoms,
-            ways_to_flows: numbers.ways.flows,
+            paths: numbers.paths.atoms,
+            paths_to_flows: numbers.paths.flows,
         })
     }
 
@@ -135,13 +135,13 @@ impl Plan {
         &self.flows[flow as usize]
     }
 
-    /// The way of an atom from the root.
-    #[tactic(auto, using(crate::proofs::OutlineLemmas::as_many_ways))]
-    pub fn way(&self, atom: u16) -> &[Turn]
+    /// The path of an atom from the root.
+    #[tactic(auto, using(crate::proofs::OutlineLemmas::as_many_paths))]
+    pub fn path(&self, atom: u16) -> &[Turn]
         requires { atom < length (numbering.atoms self.now) }
-        ensures { slice_get (numbering.ways self.now) atom ≡ Some result.now }
+        ensures { slice_get (numbering.paths self.now) atom ≡ Some result.now }
     {
-        way_at(&self.ways, atom as usize)
+        path_at(&self.paths, atom as usize)
     }
 
     /// The atom of a number. It takes as many steps as flows stand around the atom.
@@ -150,16 +150,16 @@ impl Plan {
         requires { atom < length (numbering.atoms self.now) }
         ensures { numbering.part self.now atom ≡ Some (shown_part result) }
     {
-        part_in(self.root(), self.way(atom)).unwrap()
+        part_in(self.root(), self.path(atom)).unwrap()
     }
 
-    /// The way of a flow from the root.
-    #[tactic(auto, using(crate::proofs::OutlineLemmas::as_many_ways_to_flows))]
-    pub fn way_to_flow(&self, flow: u16) -> &[Turn]
+    /// The path of a flow from the root.
+    #[tactic(auto, using(crate::proofs::OutlineLemmas::as_many_paths_to_flows))]
+    pub fn path_to_flow(&self, flow: u16) -> &[Turn]
         requires { flow < length (numbering.flows self.now) }
-        ensures { slice_get (numbering.ways_to_flows self.now) flow ≡ Some result.now }
+        ensures { slice_get (numbering.paths_to_flows self.now) flow ≡ Some result.now }
     {
-        way_at(&self.ways_to_flows, flow as usize)
+        path_at(&self.paths_to_flows, flow as usize)
     }
 
     /// The flow of a number. It takes as many steps as flows stand around it.
@@ -168,7 +168,7 @@ impl Plan {
         requires { flow < length (numbering.flows self.now) }
         ensures { numbering.flow self.now flow ≡ Some (tree_of result.now) }
     {
-        flow_in(&self.root, self.way_to_flow(flow)).unwrap()
+        flow_in(&self.root, self.path_to_flow(flow)).unwrap()
     }
 
     /// The number of the atom of this name; none where no atom has it.
@@ -184,13 +184,13 @@ impl Plan {
     }
 }
 
-/// The way of a number.
-#[tactic(auto, using(crate::proofs::WayLemmas::way_read))]
-fn way_at(ways: &[Way], number: usize) -> &[Turn]
-    requires { number < length ways.now }
-    ensures { slice_get ways.now number ≡ Some result.now }
+/// The path of a number.
+#[tactic(auto, using(crate::proofs::PathLemmas::path_read))]
+fn path_at(paths: &[Path], number: usize) -> &[Turn]
+    requires { number < length paths.now }
+    ensures { slice_get paths.now number ≡ Some result.now }
 {
-    ways[number].turns()
+    paths[number].turns()
 }
 
 /// What a plan keeps beside its flows.
@@ -199,14 +199,14 @@ struct Numbers {
     atoms: IndexSet<Name>,
     retries: Vec<bool>,
     flows: Vec<Name>,
-    ways: Ways,
+    paths: Paths,
 }
 
 /// The numbers of a plan, or its first refusal.
 fn numbered(alloc: Global, root: &Flow, store: &Binds) -> Result<Numbers, PlanFault>
     ensures numbers { IfOk result
         (λ found. numbering.IsNumbered root.now store.now found.atoms.keys found.retries.items found.flows.items
-        found.ways.atoms.items found.ways.flows.items) }
+        found.paths.atoms.items found.paths.flows.items) }
     ensures refused { IfErr result (IsAnswer (first_refusal root.now store.now)) }
 {
     let mut order = Vec::new(alloc);
@@ -218,7 +218,7 @@ fn numbered(alloc: Global, root: &Flow, store: &Binds) -> Result<Numbers, PlanFa
         atoms: atom_index(alloc, &order)?,
         retries: retry_marks(alloc, &order)?,
         flows: flow_names(alloc, &order)?,
-        ways: ways_of(alloc, root)?,
+        paths: paths_of(alloc, root)?,
     })
 }
 

@@ -63,11 +63,11 @@ at_last n pairs v u is =
 from_last : (n : ℕ) (pairs : List Pair) → AreBelow n pairs → (v u : ℕ) → has_pair pairs u v ≡ true → has_number (reaching n pairs v 1) u ≡ true
 from_last n pairs below v u is = link_to n pairs below v 0 u v is (true_first (nat_eq v v) false (eq-eqb v v refl))
 
-way_is_reaching : (n : ℕ) (pairs : List Pair) → AreBelow n pairs → (v : ℕ) (way : List ℕ) (u : ℕ) → leads_through pairs u way v ≡ true → has_number (reaching n pairs v (suc (length way))) u ≡ true
-way_is_reaching n pairs below v [] u is = from_last n pairs below v u is
-way_is_reaching n pairs below v (w ∷ way) u is =
-    link_to n pairs below v (suc (length way)) u w (and_first (has_pair pairs u w) (leads_through pairs w way v) is)
-    (way_is_reaching n pairs below v way w (and_second (has_pair pairs u w) (leads_through pairs w way v) is))
+path_is_reaching : (n : ℕ) (pairs : List Pair) → AreBelow n pairs → (v : ℕ) (path : List ℕ) (u : ℕ) → leads_through pairs u path v ≡ true → has_number (reaching n pairs v (suc (length path))) u ≡ true
+path_is_reaching n pairs below v [] u is = from_last n pairs below v u is
+path_is_reaching n pairs below v (w ∷ path) u is =
+    link_to n pairs below v (suc (length path)) u w (and_first (has_pair pairs u w) (leads_through pairs w path v) is)
+    (path_is_reaching n pairs below v path w (and_second (has_pair pairs u w) (leads_through pairs w path v) is))
 
 -- ---- the walk
 
@@ -110,47 +110,47 @@ walk_is n pairs below v (suc k) u on =
     let first = first_of n pairs below v (suc k) u link.next link.leads link.on in
     walk_more pairs v k u first.next (first_below n (goes_on_by n pairs v (suc k) u)) (walk_to n pairs v k) first.is first.leads (walk_is n pairs below v k first.next first.on)
 
--- ---- a way without a number twice
+-- ---- a path without a number twice
 
--- a way from u to v, and u and the numbers on the way are each there once
+-- a path from u to v, and u and the numbers on the path are each there once
 record Apart (pairs : List Pair) (u v : ℕ) : Type 0 where
-  way : List ℕ
-  leads : leads_through pairs u way v ≡ true
-  once : apart (u ∷ way) ≡ true
+  path : List ℕ
+  leads : leads_through pairs u path v ≡ true
+  once : apart (u ∷ path) ≡ true
 
--- from a number on the way on
-cut_at : (pairs : List Pair) (u v w : ℕ) (way : List ℕ) → leads_through pairs w way v ≡ true → apart (w ∷ way) ≡ true → has_number (w ∷ way) u ≡ true → Apart pairs u v
+-- from a number on the path on
+cut_at : (pairs : List Pair) (u v w : ℕ) (path : List ℕ) → leads_through pairs w path v ≡ true → apart (w ∷ path) ≡ true → has_number (w ∷ path) u ≡ true → Apart pairs u v
 cut_at pairs u v w [] leads once on =
     let same : u ≡ w = eqb-true u w (only_first (nat_eq u w) on) in
-    record { way = []; leads = ap (λ (k : ℕ). has_pair pairs k v) same ∙ leads; once = refl }
-cut_at pairs u v w (x ∷ way) leads once on = elim (or_either (nat_eq u w) (has_number (x ∷ way) u) on) [
+    record { path = []; leads = ap (λ (k : ℕ). has_pair pairs k v) same ∙ leads; once = refl }
+cut_at pairs u v w (x ∷ path) leads once on = elim (or_either (nat_eq u w) (has_number (x ∷ path) u) on) [
   | inl here ↦ let same : u ≡ w = eqb-true u w here in
-      record { way = x ∷ way; leads = ap (λ (k : ℕ). leads_through pairs k (x ∷ way) v) same ∙ leads; once = ap (λ (k : ℕ). apart (k ∷ x ∷ way)) same ∙ once }
-  | inr there ↦ cut_at pairs u v x way (and_second (has_pair pairs w x) (leads_through pairs x way v) leads) (and_second (not (has_number (x ∷ way) w)) (apart (x ∷ way)) once) there
+      record { path = x ∷ path; leads = ap (λ (k : ℕ). leads_through pairs k (x ∷ path) v) same ∙ leads; once = ap (λ (k : ℕ). apart (k ∷ x ∷ path)) same ∙ once }
+  | inr there ↦ cut_at pairs u v x path (and_second (has_pair pairs w x) (leads_through pairs x path v) leads) (and_second (not (has_number (x ∷ path) w)) (apart (x ∷ path)) once) there
 ]
 
-put_before : (pairs : List Pair) (u v w : ℕ) (way : List ℕ) → has_pair pairs u w ≡ true → leads_through pairs w way v ≡ true → apart (w ∷ way) ≡ true → has_number (w ∷ way) u ≡ false → Apart pairs u v
-put_before pairs u v w way first leads once off = record {
-  way = w ∷ way;
-  leads = true_both (has_pair pairs u w) (leads_through pairs w way v) first leads;
-  once = true_both (not (has_number (w ∷ way) u)) (apart (w ∷ way)) (ap not off) once;
+put_before : (pairs : List Pair) (u v w : ℕ) (path : List ℕ) → has_pair pairs u w ≡ true → leads_through pairs w path v ≡ true → apart (w ∷ path) ≡ true → has_number (w ∷ path) u ≡ false → Apart pairs u v
+put_before pairs u v w path first leads once off = record {
+  path = w ∷ path;
+  leads = true_both (has_pair pairs u w) (leads_through pairs w path v) first leads;
+  once = true_both (not (has_number (w ∷ path) u)) (apart (w ∷ path)) (ap not off) once;
 }
 
-way_apart : (pairs : List Pair) (v : ℕ) (way : List ℕ) (u : ℕ) → leads_through pairs u way v ≡ true → Apart pairs u v
-way_apart pairs v [] u leads = record { way = []; leads = leads; once = refl }
-way_apart pairs v (w ∷ way) u leads =
-    let after = way_apart pairs v way w (and_second (has_pair pairs u w) (leads_through pairs w way v) leads) in
-    elim (either_way (has_number (w ∷ after.way) u)) [
-      | inl on ↦ cut_at pairs u v w after.way after.leads after.once on
-      | inr off ↦ put_before pairs u v w after.way (and_first (has_pair pairs u w) (leads_through pairs w way v) leads) after.leads after.once off
+path_apart : (pairs : List Pair) (v : ℕ) (path : List ℕ) (u : ℕ) → leads_through pairs u path v ≡ true → Apart pairs u v
+path_apart pairs v [] u leads = record { path = []; leads = leads; once = refl }
+path_apart pairs v (w ∷ path) u leads =
+    let after = path_apart pairs v path w (and_second (has_pair pairs u w) (leads_through pairs w path v) leads) in
+    elim (either_way (has_number (w ∷ after.path) u)) [
+      | inl on ↦ cut_at pairs u v w after.path after.leads after.once on
+      | inr off ↦ put_before pairs u v w after.path (and_first (has_pair pairs u w) (leads_through pairs w path v) leads) after.leads after.once off
     ]
 
--- all numbers from which a way leads on are below n
-way_below : (n : ℕ) (pairs : List Pair) → AreBelow n pairs → (v : ℕ) (way : List ℕ) (u : ℕ) → leads_through pairs u way v ≡ true → (k : ℕ) → has_number (u ∷ way) k ≡ true → k < n
-way_below n pairs below v [] u leads k on = let same : k ≡ u = eqb-true k u (only_first (nat_eq k u) on) in let less : u < n = below.first u v leads in omega (arith, same, less)
-way_below n pairs below v (w ∷ way) u leads k on = elim (or_either (nat_eq k u) (has_number (w ∷ way) k) on) [
-  | inl here ↦ let same : k ≡ u = eqb-true k u here in let less : u < n = below.first u w (and_first (has_pair pairs u w) (leads_through pairs w way v) leads) in omega (arith, same, less)
-  | inr there ↦ way_below n pairs below v way w (and_second (has_pair pairs u w) (leads_through pairs w way v) leads) k there
+-- all numbers from which a path leads on are below n
+path_below : (n : ℕ) (pairs : List Pair) → AreBelow n pairs → (v : ℕ) (path : List ℕ) (u : ℕ) → leads_through pairs u path v ≡ true → (k : ℕ) → has_number (u ∷ path) k ≡ true → k < n
+path_below n pairs below v [] u leads k on = let same : k ≡ u = eqb-true k u (only_first (nat_eq k u) on) in let less : u < n = below.first u v leads in omega (arith, same, less)
+path_below n pairs below v (w ∷ path) u leads k on = elim (or_either (nat_eq k u) (has_number (w ∷ path) k) on) [
+  | inl here ↦ let same : k ≡ u = eqb-true k u here in let less : u < n = below.first u w (and_first (has_pair pairs u w) (leads_through pairs w path v) leads) in omega (arith, same, less)
+  | inr there ↦ path_below n pairs below v path w (and_second (has_pair pairs u w) (leads_through pairs w path v) leads) k there
 ]
 
 -- ---- where the item comes back to itself
@@ -164,12 +164,12 @@ back_from : (n : ℕ) (pairs : List Pair) (v : ℕ) (o : Option ℕ) → first_b
 back_from n pairs v None is some_is = absurd (cc)
 back_from n pairs v (Some k) is some_is = record { links = k; is = is; on = found_passes n (comes_back n pairs v) k is }
 
-comes_back_by : (n : ℕ) (pairs : List Pair) → AreBelow n pairs → (v : ℕ) (way : List ℕ) → leads_through pairs v way v ≡ true → Back n pairs v
-comes_back_by n pairs below v way leads =
-    let short = way_apart pairs v way v leads in
-    let few : suc (length short.way) ≤ n = length_apart n (v ∷ short.way) short.once (way_below n pairs below v short.way v short.leads) in
+comes_back_by : (n : ℕ) (pairs : List Pair) → AreBelow n pairs → (v : ℕ) (path : List ℕ) → leads_through pairs v path v ≡ true → Back n pairs v
+comes_back_by n pairs below v path leads =
+    let short = path_apart pairs v path v leads in
+    let few : suc (length short.path) ≤ n = length_apart n (v ∷ short.path) short.once (path_below n pairs below v short.path v short.leads) in
     back_from n pairs v (first_below n (comes_back n pairs v)) refl
-    (first_there n (comes_back n pairs v) (length short.way) (omega (arith, few)) (way_is_reaching n pairs below v short.way v short.leads))
+    (first_there n (comes_back n pairs v) (length short.path) (omega (arith, few)) (path_is_reaching n pairs below v short.path v short.leads))
 
 walk_of : (n : ℕ) (pairs : List Pair) (v k : ℕ) → first_below n (comes_back n pairs v) ≡ Some k → shortest_cycle n pairs v ≡ walk_to n pairs v k v
 walk_of n pairs v k is = ap (walk_back n pairs v) is
@@ -177,19 +177,19 @@ walk_of n pairs v k is = ap (walk_back n pairs v) is
 -- where a chain leads from the item back to it, a cycle is told
 pub cycle_told : (n : ℕ) (pairs : List Pair) → AreBelow n pairs → (v : ℕ) → Chain pairs v v → IsCycle pairs v (shortest_cycle n pairs v)
 cycle_told n pairs below v chain =
-    let back = comes_back_by n pairs below v chain.way chain.leads in
+    let back = comes_back_by n pairs below v chain.path chain.leads in
     let walk = walk_is n pairs below v back.links v back.on in
     record { rest = walk.rest; begins = walk_of n pairs v back.links back.is ∙ walk.begins; leads = walk.leads }
 
 -- where none does, nothing is told
 pub nothing_told : (n : ℕ) (pairs : List Pair) → AreBelow n pairs → (v : ℕ) → (Chain pairs v v → ⊥) → shortest_cycle n pairs v ≡ []
 nothing_told n pairs below v never = ap (walk_back n pairs v) (first_none n (comes_back n pairs v) (λ k inside.
-    never_true (comes_back n pairs v k) (λ on. let walk = walk_is n pairs below v k v on in never (record { way = walk.rest; leads = walk.leads }))))
+    never_true (comes_back n pairs v k) (λ on. let walk = walk_is n pairs below v k v on in never (record { path = walk.rest; leads = walk.leads }))))
 
--- the least number of links is at most that of any way
-least_links : (n : ℕ) (pairs : List Pair) → AreBelow n pairs → (v : ℕ) (way : List ℕ) → leads_through pairs v way v ≡ true → (k : ℕ) → first_below n (comes_back n pairs v) ≡ Some k → k ≤ length way
-least_links n pairs below v way leads k is = elim (cases_lt (length way) k) [
-  | inl less ↦ absurd (clash (comes_back n pairs v (length way)) (way_is_reaching n pairs below v way v leads) (first_before n (comes_back n pairs v) k (length way) is less))
+-- the least number of links is at most that of any path
+least_links : (n : ℕ) (pairs : List Pair) → AreBelow n pairs → (v : ℕ) (path : List ℕ) → leads_through pairs v path v ≡ true → (k : ℕ) → first_below n (comes_back n pairs v) ≡ Some k → k ≤ length path
+least_links n pairs below v path leads k is = elim (cases_lt (length path) k) [
+  | inl less ↦ absurd (clash (comes_back n pairs v (length path)) (path_is_reaching n pairs below v path v leads) (first_before n (comes_back n pairs v) k (length path) is less))
   | inr enough ↦ enough
 ]
 
@@ -223,27 +223,27 @@ same_first x xs ys isnt = neither (nat_lt x x) (nat_eq x x && comes_before xs ys
     second true b is = is
     second false b is = refl
 
-walk_first : (n : ℕ) (pairs : List Pair) → AreBelow n pairs → (v k : ℕ) (way : List ℕ) (u : ℕ) → leads_through pairs u way v ≡ true → length way ≡ k → comes_before (u ∷ way) (walk_to n pairs v k u) ≡ false
+walk_first : (n : ℕ) (pairs : List Pair) → AreBelow n pairs → (v k : ℕ) (path : List ℕ) (u : ℕ) → leads_through pairs u path v ≡ true → length path ≡ k → comes_before (u ∷ path) (walk_to n pairs v k u) ≡ false
 walk_first n pairs below v zero [] u leads long = same_first u [] [] refl
-walk_first n pairs below v zero (w ∷ way) u leads long = absurd (omega arith)
+walk_first n pairs below v zero (w ∷ path) u leads long = absurd (omega arith)
 walk_first n pairs below v (suc k) [] u leads long = absurd (omega arith)
-walk_first n pairs below v (suc k) (w ∷ way) u leads long =
-    let linked : has_pair pairs u w ≡ true = and_first (has_pair pairs u w) (leads_through pairs w way v) leads in
-    let goes : leads_through pairs w way v ≡ true = and_second (has_pair pairs u w) (leads_through pairs w way v) leads in
-    let same_length : length way ≡ k = omega (arith, long) in
-    let on : has_number (reaching n pairs v (suc k)) w ≡ true = ap (λ (j : ℕ). has_number (reaching n pairs v (suc j)) w) (sym same_length) ∙ way_is_reaching n pairs below v way w goes in
+walk_first n pairs below v (suc k) (w ∷ path) u leads long =
+    let linked : has_pair pairs u w ≡ true = and_first (has_pair pairs u w) (leads_through pairs w path v) leads in
+    let goes : leads_through pairs w path v ≡ true = and_second (has_pair pairs u w) (leads_through pairs w path v) leads in
+    let same_length : length path ≡ k = omega (arith, long) in
+    let on : has_number (reaching n pairs v (suc k)) w ≡ true = ap (λ (j : ℕ). has_number (reaching n pairs v (suc j)) w) (sym same_length) ∙ path_is_reaching n pairs below v path w goes in
     let first = first_of n pairs below v (suc k) u w linked on in
-    same_first u (w ∷ way) (go_on (first_below n (goes_on_by n pairs v (suc k) u)) (walk_to n pairs v k))
-    (ap (λ (o : Option ℕ). comes_before (w ∷ way) (go_on o (walk_to n pairs v k))) first.is
-    ∙ by_order first.next (walk_is n pairs below v k first.next first.on) linked on (walk_first n pairs below v k way w goes same_length) first.is)
+    same_first u (w ∷ path) (go_on (first_below n (goes_on_by n pairs v (suc k) u)) (walk_to n pairs v k))
+    (ap (λ (o : Option ℕ). comes_before (w ∷ path) (go_on o (walk_to n pairs v k))) first.is
+    ∙ by_order first.next (walk_is n pairs below v k first.next first.on) linked on (walk_first n pairs below v k path w goes same_length) first.is)
   where
-    by_order : (next : ℕ) → IsWalk pairs v k next (walk_to n pairs v k next) → has_pair pairs u w ≡ true → has_number (reaching n pairs v (suc k)) w ≡ true → comes_before (w ∷ way) (walk_to n pairs v k w) ≡ false
-        → first_below n (goes_on_by n pairs v (suc k) u) ≡ Some next → comes_before (w ∷ way) (walk_to n pairs v k next) ≡ false
+    by_order : (next : ℕ) → IsWalk pairs v k next (walk_to n pairs v k next) → has_pair pairs u w ≡ true → has_number (reaching n pairs v (suc k)) w ≡ true → comes_before (w ∷ path) (walk_to n pairs v k w) ≡ false
+        → first_below n (goes_on_by n pairs v (suc k) u) ≡ Some next → comes_before (w ∷ path) (walk_to n pairs v k next) ≡ false
     by_order next walk linked on same_start is = elim (cases_lt w next) [
       | inl less ↦ absurd (clash (goes_on_by n pairs v (suc k) u w) (true_both (has_pair pairs u w) (has_number (reaching n pairs v (suc k)) w) linked on) (first_before n (goes_on_by n pairs v (suc k) u) next w is less))
       | inr enough ↦ elim (cases_lt next w) [
-        | inl more ↦ ap (λ (xs : List ℕ). comes_before (w ∷ way) xs) walk.begins ∙ greater_first w next way walk.rest more
-        | inr from ↦ let same : next ≡ w = omega (arith, enough, from) in ap (λ (j : ℕ). comes_before (w ∷ way) (walk_to n pairs v k j)) same ∙ same_start
+        | inl more ↦ ap (λ (xs : List ℕ). comes_before (w ∷ path) xs) walk.begins ∙ greater_first w next path walk.rest more
+        | inr from ↦ let same : next ≡ w = omega (arith, enough, from) in ap (λ (j : ℕ). comes_before (w ∷ path) (walk_to n pairs v k j)) same ∙ same_start
       ]
     ]
 

@@ -12,7 +12,7 @@ use Rattle.tf_numbers.proofs.PairLemmas.{pair_passes}
 use Rattle.tf_links.proofs.BitLemmas.{past_none}
 use Rattle.tf_links.proofs.ReachedLemmas.{reached_chain, reached_keeps}
 use Rattle.tf_links.specs.Bits.{has, room, words_for}
-use Rattle.tf_links.specs.Links.{leads, IsSquare, LinksValue, AreLinks, leads_by_way, AreReached, ArePivots}
+use Rattle.tf_links.specs.Links.{leads, IsSquare, LinksValue, AreLinks, leads_by_path, AreReached, ArePivots}
 use Rattle.tf_numbers.proofs.EquationLemmas.{ap2}
 use Rattle.tf_links.proofs.LinkLemmas.{past_row, row_zero, row_read, set_row}
 use Rattle.tf_links.proofs.StandingLemmas.{number_more, taking_next, taking_none, taking_all, next_within}
@@ -116,52 +116,52 @@ pub record IsClosed (R : ℕ → ℕ → Bool) : Type 0 where
   pub chain : (u v w : ℕ) → R u v ≡ true → R v w ≡ true → R u w ≡ true
 
 -- what leads by way of pivots leads in each closed relation that the links are in
-least_way : (test R : ℕ → ℕ → Bool) (pivots : List ℕ) → IsClosed R → ((u v : ℕ) → test u v ≡ true → R u v ≡ true) → (u v : ℕ) → leads_by_way test pivots u v ≡ true → R u v ≡ true
-least_way test R [] closed within u v is = within u v is
-least_way test R (k ∷ ks) closed within u v is = elim (or_either (leads_by_way test ks u v) (leads_by_way test ks u k && leads_by_way test ks k v) is) [
-  | inl at_once ↦ least_way test R ks closed within u v at_once
-  | inr by ↦ closed.chain u k v (least_way test R ks closed within u k (and_first (leads_by_way test ks u k) (leads_by_way test ks k v) by)) (least_way test R ks closed within k v (and_second (leads_by_way test ks u k) (leads_by_way test ks k v) by))
+least_path : (test R : ℕ → ℕ → Bool) (pivots : List ℕ) → IsClosed R → ((u v : ℕ) → test u v ≡ true → R u v ≡ true) → (u v : ℕ) → leads_by_path test pivots u v ≡ true → R u v ≡ true
+least_path test R [] closed within u v is = within u v is
+least_path test R (k ∷ ks) closed within u v is = elim (or_either (leads_by_path test ks u v) (leads_by_path test ks u k && leads_by_path test ks k v) is) [
+  | inl at_once ↦ least_path test R ks closed within u v at_once
+  | inr by ↦ closed.chain u k v (least_path test R ks closed within u k (and_first (leads_by_path test ks u k) (leads_by_path test ks k v) by)) (least_path test R ks closed within k v (and_second (leads_by_path test ks u k) (leads_by_path test ks k v) by))
 ]
 
 -- what leads at once leads by way of pivots
-way_keeps : (test : ℕ → ℕ → Bool) (pivots : List ℕ) (u v : ℕ) → test u v ≡ true → leads_by_way test pivots u v ≡ true
-way_keeps test [] u v is = is
-way_keeps test (k ∷ ks) u v is = true_first (leads_by_way test ks u v) _ (way_keeps test ks u v is)
+path_keeps : (test : ℕ → ℕ → Bool) (pivots : List ℕ) (u v : ℕ) → test u v ≡ true → leads_by_path test pivots u v ≡ true
+path_keeps test [] u v is = is
+path_keeps test (k ∷ ks) u v is = true_first (leads_by_path test ks u v) _ (path_keeps test ks u v is)
 
-way_on : (test : ℕ → ℕ → Bool) (ks : List ℕ) (k w u v : ℕ) → ((a b : ℕ) → leads_by_way test ks a w ≡ true → leads_by_way test ks w b ≡ true → leads_by_way test ks a b ≡ true)
-    → (leads_by_way test ks u w ≡ true) ⊎ ((leads_by_way test ks u k && leads_by_way test ks k w) ≡ true) → (leads_by_way test ks w v ≡ true) ⊎ ((leads_by_way test ks w k && leads_by_way test ks k v) ≡ true) → leads_by_way test (k ∷ ks) u v ≡ true
-way_on test ks k w u v closed (inl uw) (inl wv) = true_first (leads_by_way test ks u v) _ (closed u v uw wv)
-way_on test ks k w u v closed (inl uw) (inr wkv) = true_second (leads_by_way test ks u v) _ (true_both (leads_by_way test ks u k) (leads_by_way test ks k v)
-    (closed u k uw (and_first (leads_by_way test ks w k) (leads_by_way test ks k v) wkv)) (and_second (leads_by_way test ks w k) (leads_by_way test ks k v) wkv))
-way_on test ks k w u v closed (inr ukw) (inl wv) = true_second (leads_by_way test ks u v) _ (true_both (leads_by_way test ks u k) (leads_by_way test ks k v)
-    (and_first (leads_by_way test ks u k) (leads_by_way test ks k w) ukw) (closed k v (and_second (leads_by_way test ks u k) (leads_by_way test ks k w) ukw) wv))
-way_on test ks k w u v closed (inr ukw) (inr wkv) = true_second (leads_by_way test ks u v) _ (true_both (leads_by_way test ks u k) (leads_by_way test ks k v)
-    (and_first (leads_by_way test ks u k) (leads_by_way test ks k w) ukw) (and_second (leads_by_way test ks w k) (leads_by_way test ks k v) wkv))
+path_on : (test : ℕ → ℕ → Bool) (ks : List ℕ) (k w u v : ℕ) → ((a b : ℕ) → leads_by_path test ks a w ≡ true → leads_by_path test ks w b ≡ true → leads_by_path test ks a b ≡ true)
+    → (leads_by_path test ks u w ≡ true) ⊎ ((leads_by_path test ks u k && leads_by_path test ks k w) ≡ true) → (leads_by_path test ks w v ≡ true) ⊎ ((leads_by_path test ks w k && leads_by_path test ks k v) ≡ true) → leads_by_path test (k ∷ ks) u v ≡ true
+path_on test ks k w u v closed (inl uw) (inl wv) = true_first (leads_by_path test ks u v) _ (closed u v uw wv)
+path_on test ks k w u v closed (inl uw) (inr wkv) = true_second (leads_by_path test ks u v) _ (true_both (leads_by_path test ks u k) (leads_by_path test ks k v)
+    (closed u k uw (and_first (leads_by_path test ks w k) (leads_by_path test ks k v) wkv)) (and_second (leads_by_path test ks w k) (leads_by_path test ks k v) wkv))
+path_on test ks k w u v closed (inr ukw) (inl wv) = true_second (leads_by_path test ks u v) _ (true_both (leads_by_path test ks u k) (leads_by_path test ks k v)
+    (and_first (leads_by_path test ks u k) (leads_by_path test ks k w) ukw) (closed k v (and_second (leads_by_path test ks u k) (leads_by_path test ks k w) ukw) wv))
+path_on test ks k w u v closed (inr ukw) (inr wkv) = true_second (leads_by_path test ks u v) _ (true_both (leads_by_path test ks u k) (leads_by_path test ks k v)
+    (and_first (leads_by_path test ks u k) (leads_by_path test ks k w) ukw) (and_second (leads_by_path test ks w k) (leads_by_path test ks k v) wkv))
 
-to_pivot : (test : ℕ → ℕ → Bool) (ks : List ℕ) (k u : ℕ) → leads_by_way test (k ∷ ks) u k ≡ true → leads_by_way test ks u k ≡ true
-to_pivot test ks k u is = elim (or_either (leads_by_way test ks u k) (leads_by_way test ks u k && leads_by_way test ks k k) is) [ inl at_once ↦ at_once | inr by ↦ and_first (leads_by_way test ks u k) (leads_by_way test ks k k) by ]
+to_pivot : (test : ℕ → ℕ → Bool) (ks : List ℕ) (k u : ℕ) → leads_by_path test (k ∷ ks) u k ≡ true → leads_by_path test ks u k ≡ true
+to_pivot test ks k u is = elim (or_either (leads_by_path test ks u k) (leads_by_path test ks u k && leads_by_path test ks k k) is) [ inl at_once ↦ at_once | inr by ↦ and_first (leads_by_path test ks u k) (leads_by_path test ks k k) by ]
 
-from_pivot : (test : ℕ → ℕ → Bool) (ks : List ℕ) (k v : ℕ) → leads_by_way test (k ∷ ks) k v ≡ true → leads_by_way test ks k v ≡ true
-from_pivot test ks k v is = elim (or_either (leads_by_way test ks k v) (leads_by_way test ks k k && leads_by_way test ks k v) is) [ inl at_once ↦ at_once | inr by ↦ and_second (leads_by_way test ks k k) (leads_by_way test ks k v) by ]
+from_pivot : (test : ℕ → ℕ → Bool) (ks : List ℕ) (k v : ℕ) → leads_by_path test (k ∷ ks) k v ≡ true → leads_by_path test ks k v ≡ true
+from_pivot test ks k v is = elim (or_either (leads_by_path test ks k v) (leads_by_path test ks k k && leads_by_path test ks k v) is) [ inl at_once ↦ at_once | inr by ↦ and_second (leads_by_path test ks k k) (leads_by_path test ks k v) by ]
 
 -- it is closed at each pivot
-way_closed : (test : ℕ → ℕ → Bool) (pivots : List ℕ) (w : ℕ) → has_number pivots w ≡ true → (u v : ℕ) → leads_by_way test pivots u w ≡ true → leads_by_way test pivots w v ≡ true → leads_by_way test pivots u v ≡ true
-way_closed test [] w on u v first second = absurd (cc)
-way_closed test (k ∷ ks) w on u v first second = elim (or_either (nat_eq w k) (has_number ks w) on) [
+path_closed : (test : ℕ → ℕ → Bool) (pivots : List ℕ) (w : ℕ) → has_number pivots w ≡ true → (u v : ℕ) → leads_by_path test pivots u w ≡ true → leads_by_path test pivots w v ≡ true → leads_by_path test pivots u v ≡ true
+path_closed test [] w on u v first second = absurd (cc)
+path_closed test (k ∷ ks) w on u v first second = elim (or_either (nat_eq w k) (has_number ks w) on) [
   | inl here ↦ let same : w ≡ k = eqb-true w k here in
-      true_second (leads_by_way test ks u v) (leads_by_way test ks u k && leads_by_way test ks k v)
-      (true_both (leads_by_way test ks u k) (leads_by_way test ks k v)
-      (to_pivot test ks k u (ap (λ (m : ℕ). leads_by_way test (k ∷ ks) u m) (sym same) ∙ first)) (from_pivot test ks k v (ap (λ (m : ℕ). leads_by_way test (k ∷ ks) m v) (sym same) ∙ second)))
-  | inr among ↦ way_on test ks k w u v (λ a b. way_closed test ks w among a b)
-      (or_either (leads_by_way test ks u w) (leads_by_way test ks u k && leads_by_way test ks k w) first) (or_either (leads_by_way test ks w v) (leads_by_way test ks w k && leads_by_way test ks k v) second)
+      true_second (leads_by_path test ks u v) (leads_by_path test ks u k && leads_by_path test ks k v)
+      (true_both (leads_by_path test ks u k) (leads_by_path test ks k v)
+      (to_pivot test ks k u (ap (λ (m : ℕ). leads_by_path test (k ∷ ks) u m) (sym same) ∙ first)) (from_pivot test ks k v (ap (λ (m : ℕ). leads_by_path test (k ∷ ks) m v) (sym same) ∙ second)))
+  | inr among ↦ path_on test ks k w u v (λ a b. path_closed test ks w among a b)
+      (or_either (leads_by_path test ks u w) (leads_by_path test ks u k && leads_by_path test ks k w) first) (or_either (leads_by_path test ks w v) (leads_by_path test ks w k && leads_by_path test ks k v) second)
 ]
 
 -- what leads by way of pivots leads to a number below the count, where each link does
-way_within : (test : ℕ → ℕ → Bool) (pivots : List ℕ) (count : ℕ) → ((u v : ℕ) → test u v ≡ true → v < count) → (u v : ℕ) → leads_by_way test pivots u v ≡ true → v < count
-way_within test [] count within u v is = within u v is
-way_within test (k ∷ ks) count within u v is = elim (or_either (leads_by_way test ks u v) (leads_by_way test ks u k && leads_by_way test ks k v) is) [
-  | inl at_once ↦ way_within test ks count within u v at_once
-  | inr by ↦ way_within test ks count within k v (and_second (leads_by_way test ks u k) (leads_by_way test ks k v) by)
+path_within : (test : ℕ → ℕ → Bool) (pivots : List ℕ) (count : ℕ) → ((u v : ℕ) → test u v ≡ true → v < count) → (u v : ℕ) → leads_by_path test pivots u v ≡ true → v < count
+path_within test [] count within u v is = within u v is
+path_within test (k ∷ ks) count within u v is = elim (or_either (leads_by_path test ks u v) (leads_by_path test ks u k && leads_by_path test ks k v) is) [
+  | inl at_once ↦ path_within test ks count within u v at_once
+  | inr by ↦ path_within test ks count within k v (and_second (leads_by_path test ks u k) (leads_by_path test ks k v) by)
 ]
 
 -- what is reached leads in each closed relation that the pairs are in
@@ -176,16 +176,16 @@ least_reached n pairs R (suc k) closed within u v is =
           (least_reached n pairs R k closed within k v (and_second (has_pair (reached_by n pairs k) u k) (has_pair (reached_by n pairs k) k v) by))
     ]
 
-pub way_reached : (links : LinksValue) (pairs : List Pair) (pivots : List ℕ) → AreLinks links pairs → ((k : ℕ) → k < links.count → has_number pivots k ≡ true) → (u v : ℕ)
-    → leads_by_way (leads links.rows) pivots u v ≡ has_pair (reached links.count pairs) u v
-way_reached links pairs pivots are all u v =
+pub path_reached : (links : LinksValue) (pairs : List Pair) (pivots : List ℕ) → AreLinks links pairs → ((k : ℕ) → k < links.count → has_number pivots k ≡ true) → (u v : ℕ)
+    → leads_by_path (leads links.rows) pivots u v ≡ has_pair (reached links.count pairs) u v
+path_reached links pairs pivots are all u v =
     let within : (a b : ℕ) → leads links.rows a b ≡ true → b < links.count = λ a b on. are.second a b (sym (are.same a b) ∙ on) in
-    same_truth (leads_by_way (leads links.rows) pivots u v) (has_pair (reached links.count pairs) u v)
-    (λ is. least_way (leads links.rows) (has_pair (reached links.count pairs)) pivots (record { chain = λ a b d. reached_chain links.count pairs are.second a b d })
+    same_truth (leads_by_path (leads links.rows) pivots u v) (has_pair (reached links.count pairs) u v)
+    (λ is. least_path (leads links.rows) (has_pair (reached links.count pairs)) pivots (record { chain = λ a b d. reached_chain links.count pairs are.second a b d })
     (λ a b on. let pair_on : has_pair pairs a b ≡ true = sym (are.same a b) ∙ on in reached_keeps links.count pairs links.count a b (are.first a b pair_on) (are.second a b pair_on) pair_on) u v is)
-    (λ is. least_reached links.count pairs (leads_by_way (leads links.rows) pivots) links.count
-    (record { chain = λ a b d first second. way_closed (leads links.rows) pivots b (all b (way_within (leads links.rows) pivots links.count within a b first)) a d first second })
-    (λ a b on. way_keeps (leads links.rows) pivots a b (are.same a b ∙ on)) u v is)
+    (λ is. least_reached links.count pairs (leads_by_path (leads links.rows) pivots) links.count
+    (record { chain = λ a b d first second. path_closed (leads links.rows) pivots b (all b (path_within (leads links.rows) pivots links.count within a b first)) a d first second })
+    (λ a b on. path_keeps (leads links.rows) pivots a b (are.same a b ∙ on)) u v is)
 
 has_both_lists : (xs ys : List ℕ) (k : ℕ) → has_number (xs ++ ys) k ≡ (has_number xs k || has_number ys k)
 has_both_lists [] ys k = refl
@@ -203,10 +203,10 @@ reversed_next xs i below = ap reverse (ap (λ (n : ℕ). take n xs) (add-one i) 
 -- the rows tell what leads by way of these pivots, the last one first
 pub record Reaching (links : LinksValue) (rows : List (List ℕ)) (pivots : List ℕ) : Type 0 where
   pub square : IsSquare links.count rows
-  pub told : (u v : ℕ) → leads rows u v ≡ leads_by_way (leads links.rows) pivots u v
+  pub told : (u v : ℕ) → leads rows u v ≡ leads_by_path (leads links.rows) pivots u v
 
 pub reaching_start : (links : LinksValue) (rows : List (List ℕ)) (pivots : List ℕ) → rows ≡ links.rows → IsSquare links.count links.rows → Reaching links rows (reverse (take 0 pivots))
-reaching_start links rows pivots same square = record { square = subst (IsSquare links.count) (sym same) square; told = λ u v. ap (λ (rs : List (List ℕ)). leads rs u v) same ∙ ap (λ (ps : List ℕ). leads_by_way (leads links.rows) (reverse ps) u v) (sym (taking_none pivots)) }
+reaching_start links rows pivots same square = record { square = subst (IsSquare links.count) (sym same) square; told = λ u v. ap (λ (rs : List (List ℕ)). leads rs u v) same ∙ ap (λ (ps : List ℕ). leads_by_path (leads links.rows) (reverse ps) u v) (sym (taking_none pivots)) }
 
 pub reaching_more : (links : LinksValue) (rows rows_new : List (List ℕ)) (pivots : List ℕ) (i : ℕ) (through : List ℕ) → Reaching links rows (reverse (take i pivots)) → i < length pivots → slice_index_or pivots i 0 < links.count
     → through ≡ slice_index_or rows (slice_index_or pivots i 0) through → IsSquare links.count rows_new
@@ -215,15 +215,15 @@ reaching_more links rows rows_new pivots i through is below within read square m
   square = square;
   told = λ u v. more u v ∙ (ap (λ (b : Bool). leads rows u v || (leads rows u (slice_index_or pivots i 0) && b)) (row_read rows (slice_index_or pivots i 0) v through (omega (arith, is.square.height, within)) read)
       ∙ (ap2 (λ (a b : Bool). a || b) (is.told u v) (ap2 (λ (a b : Bool). a && b) (is.told u (slice_index_or pivots i 0)) (is.told (slice_index_or pivots i 0) v))
-      ∙ ap (λ (ps : List ℕ). leads_by_way (leads links.rows) ps u v) (sym (reversed_next pivots i below))));
+      ∙ ap (λ (ps : List ℕ). leads_by_path (leads links.rows) ps u v) (sym (reversed_next pivots i below))));
 }
 
 pub reaching_all : (links : LinksValue) (rows : List (List ℕ)) (pivots : List ℕ) (i : ℕ) → Reaching links rows (reverse (take i pivots)) → length pivots ≤ i → ((k : ℕ) → k < links.count → has_number pivots k ≡ true)
     → (pairs : List Pair) → AreLinks links pairs → AreReached links.count (reached links.count pairs) rows
 reaching_all links rows pivots i is whole all pairs are = record {
   square = is.square;
-  same = λ u v. is.told u v ∙ (ap (λ (ps : List ℕ). leads_by_way (leads links.rows) (reverse ps) u v) (taking_all pivots i whole)
-      ∙ way_reached links pairs (reverse pivots) are (λ k below. reversed_has pivots k ∙ all k below) u v);
+  same = λ u v. is.told u v ∙ (ap (λ (ps : List ℕ). leads_by_path (leads links.rows) (reverse ps) u v) (taking_all pivots i whole)
+      ∙ path_reached links pairs (reverse pivots) are (λ k below. reversed_has pivots k ∙ all k below) u v);
 }
 
 pub pivot_within : (pivots : List ℕ) (count i : ℕ) → ((k : ℕ) → has_number pivots k ≡ true → k < count) → i < length pivots → slice_index_or pivots i 0 < count

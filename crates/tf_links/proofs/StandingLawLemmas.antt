@@ -93,7 +93,7 @@ place (y ∷ ys) x (b ∷ before) v after is =
     let rest : ys ++ x ∷ [] ≡ before ++ v ∷ after = cc in
     elim (place ys x before v after rest) [
       | inl earlier ↦ inl (record { after = earlier.after; is = cc (earlier.is, same) })
-      | inr last ↦ let front : before ≡ ys = last.0 in inr (cc (front, same), last.1)
+      | inr last ↦ let prefix : before ≡ ys = last.0 in inr (cc (prefix, same), last.1)
     ]
 
 next_more : (n : ℕ) (linked : List Pair) (taken : List ℕ) (o : Option ℕ) → first_below n (is_next linked taken) ≡ o
@@ -103,9 +103,9 @@ next_more n linked taken None found so_far before v after is = so_far before v a
 next_more n linked taken (Some x) found so_far before v after is = elim (place taken x before v after is) [
   | inl earlier ↦ so_far before v earlier.after earlier.is
   | inr last ↦
-      let front : before ≡ taken = last.0 in
+      let prefix : before ≡ taken = last.0 in
       let same : v ≡ x = last.1 in
-      found_next n linked before v (ap (λ (xs : List ℕ). first_below n (is_next linked xs)) front ∙ (found ∙ ap (λ (k : ℕ). Some k) (sym same)))
+      found_next n linked before v (ap (λ (xs : List ℕ). first_below n (is_next linked xs)) prefix ∙ (found ∙ ap (λ (k : ℕ). Some k) (sym same)))
 ]
 
 next_after : (n : ℕ) (linked : List Pair) (k : ℕ) (before : List ℕ) (v : ℕ) (after : List ℕ) → take_items n k linked ≡ before ++ v ∷ after → IsNextOf n linked before v

@@ -1,4 +1,4 @@
--- The shortest way by links from an item back to itself.
+-- The shortest path by links from an item back to itself.
 use Rattle.std.specs.Prelude.{ℕ, zero, suc, List, [], ◌∷◌, Bool, ◌&&◌, Option, Some, None}
 use Rattle.std.specs.List.{list_any}
 use Rattle.tf_numbers.specs.Numbers.{first_below, which_below, has_number}
@@ -22,7 +22,7 @@ abbrev pub go_on : Option ℕ → (ℕ → List ℕ) → List ℕ
 go_on None walk = []
 go_on (Some w) walk = walk w
 
--- the items on the way from u to v in exactly so many links and one, the first in item order at each turn;
+-- the items on the path from u to v in exactly so many links and one, the first in item order at each turn;
 -- v isn't told again
 abbrev pub walk_to : ℕ → List Pair → ℕ → ℕ → ℕ → List ℕ
 walk_to n linked v zero u = u ∷ []
@@ -37,6 +37,6 @@ abbrev pub walk_back : ℕ → List Pair → ℕ → Option ℕ → List ℕ
 walk_back n linked v None = []
 walk_back n linked v (Some k) = walk_to n linked v k v
 
--- the shortest way from v back to itself, the first in item order among several
+-- the shortest path from v back to itself, the first in item order among several
 abbrev pub shortest_cycle : ℕ → List Pair → ℕ → List ℕ
 shortest_cycle n linked v = walk_back n linked v (first_below n (comes_back n linked v))

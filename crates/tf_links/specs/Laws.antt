@@ -8,15 +8,15 @@ pub record AreBelow (n : ℕ) (pairs : List Pair) : Type 0 where
   pub first : (u v : ℕ) → has_pair pairs u v ≡ true → u < n
   pub second : (u v : ℕ) → has_pair pairs u v ≡ true → v < n
 
--- u is linked to the first number on the way, each of these to the next, and the last to v; at once where none is on the way
+-- u is linked to the first number on the path, each of these to the next, and the last to v; at once where none is on the path
 abbrev pub leads_through : List Pair → ℕ → List ℕ → ℕ → Bool
 leads_through pairs u [] v = has_pair pairs u v
-leads_through pairs u (w ∷ way) v = has_pair pairs u w && leads_through pairs w way v
+leads_through pairs u (w ∷ path) v = has_pair pairs u w && leads_through pairs w path v
 
 -- a chain of pairs leads from u to v
 pub record Chain (pairs : List Pair) (u v : ℕ) : Type 0 where
-  pub way : List ℕ
-  pub leads : leads_through pairs u way v ≡ true
+  pub path : List ℕ
+  pub leads : leads_through pairs u path v ≡ true
 
 -- w waits: a number leads to it that doesn't stand before
 pub record Waits (pairs : List Pair) (before : List ℕ) (w : ℕ) : Type 0 where

@@ -26,9 +26,9 @@ pub record AreLinks (links : LinksValue) (pairs : List Pair) : Type 0 where
   pub second : (u v : ℕ) → has_pair pairs u v ≡ true → v < links.count
 
 -- which number leads to which by way of some: the last one of these is the first here
-abbrev pub leads_by_way : (ℕ → ℕ → Bool) → List ℕ → ℕ → ℕ → Bool
-leads_by_way test [] u v = test u v
-leads_by_way test (k ∷ ks) u v = leads_by_way test ks u v || (leads_by_way test ks u k && leads_by_way test ks k v)
+abbrev pub leads_by_path : (ℕ → ℕ → Bool) → List ℕ → ℕ → ℕ → Bool
+leads_by_path test [] u v = test u v
+leads_by_path test (k ∷ ks) u v = leads_by_path test ks u v || (leads_by_path test ks u k && leads_by_path test ks k v)
 
 -- the rows tell which of so many items reaches which by these links
 pub record AreReached (count : ℕ) (pairs : List Pair) (rows : List (List ℕ)) : Type 0 where

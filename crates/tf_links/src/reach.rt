@@ -3,7 +3,7 @@ ghost use Rattle.tf_numbers.specs.Pairs.{Pair, has_pair};
 ghost use Rattle.tf_numbers.specs.Numbers.{has_number};
 ghost use Rattle.tf_links.specs.Reach.{reached};
 ghost use Rattle.tf_links.specs.Bits.{has, words_for};
-ghost use Rattle.tf_links.specs.Links.{leads, IsSquare, AreLinks, leads_by_way, AreReached, ArePivots};
+ghost use Rattle.tf_links.specs.Links.{leads, IsSquare, AreLinks, leads_by_path, AreReached, ArePivots};
 
 use crate::bits::Bits;
 use crate::links::{Links, copy_rows, has_in};

@@ -5,7 +5,7 @@ use Rattle.std.proofs.Math.ListN.{set}
 use Rattle.std.proofs.lemmas.List.Folds.{list_any_more}
 use Rattle.tf_flow.specs.declared.atoms.RetryKind.{RetryKind}
 use Rattle.tf_flow.specs.declared.deciders.Depth.{Depth}
-use Rattle.tf_flow.specs.declared.ways.Turn.{Turn}
+use Rattle.tf_flow.specs.declared.paths.Turn.{Turn}
 use Rattle.tf_actions.specs.declared.orders.Given.{Given}
 use Rattle.tf_actions.specs.declared.outcomes.Action.TheVariants as action
 use Rattle.tf_states.specs.declared.record.AtomView.{AtomView}
@@ -18,7 +18,7 @@ use Rattle.tf_numbers.specs.Numbers.{first_below}
 use Rattle.tf_numbers.proofs.ListLemmas.{take_whole}
 use Rattle.tf_numbers.proofs.TruthLemmas.{or_either, clash}
 use Rattle.tf_model.specs.Before.{leads_into, passes_flow}
-use Rattle.tf_model.specs.Plan.{Outline, outline_of, count, holds, retry_of, way}
+use Rattle.tf_model.specs.Plan.{Outline, outline_of, count, holds, retry_of, path}
 use Rattle.tf_model.specs.Snapshot.{Snapshot}
 use Rattle.tf_model.specs.Deciders.{refused}
 use Rattle.tf_model.specs.Retries.{retry_kind, attempt_by, attempt_of, attempt, answer_by, answer_of, answer, resolution}
@@ -127,7 +127,7 @@ asked_more plan s turns k d answers retry given asked within some below is_answe
         let one : retry ≡ r = cc in
         absurd (clash (nat_eq retry r) (eq-eqb retry r one) apart)
 
-pub asked_all : (plan : Outline) (s : Snapshot) (turns : List Turn) (k a : ℕ) (answers : List Kind) → AreAsked plan s (take k turns) answers → length turns ≤ k → turns ≡ way plan a → HasAnswers answers plan s a
+pub asked_all : (plan : Outline) (s : Snapshot) (turns : List Turn) (k a : ℕ) (answers : List Kind) → AreAsked plan s (take k turns) answers → length turns ≤ k → turns ≡ path plan a → HasAnswers answers plan s a
 unfolding holds
 asked_all plan s turns k a answers asked whole is = record {
   at = λ flow r held of. asked.at flow r (ap (passes_flow flow) (take_whole turns k whole ∙ is) ∙ held) of;

@@ -8,17 +8,17 @@ use Rattle.std.proofs.lemmas.Option.{slice_get-map, slice_get_past}
 use Rattle.tf_flow.specs.declared.atoms.Task.{Task}
 use Rattle.tf_flow.specs.Plan.{PlanValue}
 use Rattle.tf_flow.specs.Plan as numbering
-use Rattle.tf_flow.specs.declared.ways.Part.{Part as CodePart}
-use Rattle.tf_flow.specs.Ways.{shown_part}
+use Rattle.tf_flow.specs.declared.paths.Part.{Part as CodePart}
+use Rattle.tf_flow.specs.Paths.{shown_part}
 use Rattle.tf_flow.specs.Outline.{Part, a_task, Atom, part_of, priority_of}
-use Rattle.tf_flow.specs.declared.ways.Turn.{Turn}
+use Rattle.tf_flow.specs.declared.paths.Turn.{Turn}
 use Rattle.tf_model.specs.Before.{passes_flow}
 use Rattle.tf_model.specs.Plan.{Outline, outline_of, count, holds, own_flow, last_flow}
 use Rattle.tf_model.specs.Candidates.{priority}
 use Rattle.tf_machine.specs.Compiled.{priority_at, AreNoGreater}
 use Rattle.tf_model.specs.Orders.{task_part, task_at}
-use Rattle.tf_model.proofs.PlanLemmas.{way_told, atoms_counted}
-use Rattle.tf_model.proofs.Told.{way_in, priority_in, task_in}
+use Rattle.tf_model.proofs.PlanLemmas.{path_told, atoms_counted}
+use Rattle.tf_model.proofs.Told.{path_in, priority_in, task_in}
 use Rattle.tf_numbers.proofs.ListLemmas.{take_whole}
 use Rattle.tf_numbers.proofs.TruthLemmas.{not_true}
 
@@ -30,23 +30,23 @@ task_read plan a t is = by (slice_get (outline_of plan).atoms a) is
     by None told = absurd (cc)
     by (Some x) told = let same : x.part ≡ a_task t = cc in ap task_part same
 
--- ---- ways
+-- ---- paths
 
--- a flow holds an atom where the atom's way passes it
-pub holds_told : (plan : PlanValue) (g a : ℕ) (w : List Turn) → slice_get (numbering.ways plan) a ≡ Some w → passes_flow g w ≡ holds (outline_of plan) g a
+-- a flow holds an atom where the atom's path passes it
+pub holds_told : (plan : PlanValue) (g a : ℕ) (w : List Turn) → slice_get (numbering.paths plan) a ≡ Some w → passes_flow g w ≡ holds (outline_of plan) g a
 unfolding holds
-holds_told plan g a w is = ap (passes_flow g) (way_told plan a w is)
+holds_told plan g a w is = ap (passes_flow g) (path_told plan a w is)
 
-pub own_flow_told : (plan : PlanValue) (a : ℕ) (w : List Turn) → slice_get (numbering.ways plan) a ≡ Some w → last_flow w ≡ own_flow (outline_of plan) a
-own_flow_told plan a w is = ap last_flow (way_told plan a w is)
+pub own_flow_told : (plan : PlanValue) (a : ℕ) (w : List Turn) → slice_get (numbering.paths plan) a ≡ Some w → last_flow w ≡ own_flow (outline_of plan) a
+own_flow_told plan a w is = ap last_flow (path_told plan a w is)
 
 -- a number past the last atom's stands in no flow
 pub never_held : (plan : Outline) (g a : ℕ) → count plan ≤ a → holds plan g a ≡ false
 unfolding holds
-never_held plan g a past = ap (λ (o : Option Atom). passes_flow g (way_in o)) (slice_get_past plan.atoms a past)
+never_held plan g a past = ap (λ (o : Option Atom). passes_flow g (path_in o)) (slice_get_past plan.atoms a past)
 
 pub no_own_flow : (plan : Outline) (a : ℕ) → count plan ≤ a → own_flow plan a ≡ None
-no_own_flow plan a past = ap (λ (o : Option Atom). last_flow (way_in o)) (slice_get_past plan.atoms a past)
+no_own_flow plan a past = ap (λ (o : Option Atom). last_flow (path_in o)) (slice_get_past plan.atoms a past)
 
 -- ---- priorities
 

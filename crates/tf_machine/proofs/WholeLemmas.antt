@@ -36,7 +36,7 @@ use Rattle.tf_model.specs.Orders.{task_part, task_at, order_with, order_of}
 use Rattle.tf_model.proofs.Told.{arguments_in, task_in}
 use Rattle.tf_model.specs.Scope.{symbol_value, or_missing, given_arguments, argument_to_revert, given_for}
 use Rattle.tf_model.specs.Snapshot.{Snapshot}
-use Rattle.tf_model.proofs.WayLemmas.{all_both}
+use Rattle.tf_model.proofs.PathLemmas.{all_both}
 use Rattle.tf_numbers.proofs.TruthLemmas.{clash, neither_first, neither_second}
 use Rattle.tf_numbers.proofs.OptionLemmas.{none_mapped, neither_there, none_if}
 

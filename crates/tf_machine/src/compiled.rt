@@ -10,7 +10,7 @@ ghost use Rattle.tf_model.specs.Retries.{retry_kind};
 ghost use Rattle.tf_model.specs.Snapshot.{Snapshot};
 ghost use Rattle.tf_model.specs.Views.{Shows};
 ghost use Rattle.tf_model.specs.Before.{passes_flow};
-ghost use Rattle.tf_model.specs.Plan.{outline_of, count, is_task, is_retry, holds, own_flow, last_flow, retry_of, way};
+ghost use Rattle.tf_model.specs.Plan.{outline_of, count, is_task, is_retry, holds, own_flow, last_flow, retry_of, path};
 ghost use Rattle.tf_model.specs.Candidates.{priority};
 ghost use Rattle.tf_machine.specs.Answers.{IsBuildRefusal};
 ghost use Rattle.tf_machine.specs.Compiled.{priority_at, AreDecided, AreNoGreater, AreSpans, IsSpanAround, IsSpanOf};
@@ -177,12 +177,12 @@ impl Compiled {
         retry_of(&self.plan, flow)
     }
 
-    /// The way of an atom from the root: the flows around it, each with the place in it.
-    pub fn way(&self, atom: u16) -> &[Turn]
+    /// The path of an atom from the root: the flows around it, each with the place in it.
+    pub fn path(&self, atom: u16) -> &[Turn]
         requires { atom < count (outline_of self.now) }
-        ensures { result.now ≡ way (outline_of self.now) atom }
+        ensures { result.now ≡ path (outline_of self.now) atom }
     {
-        self.plan.way(atom)
+        self.plan.path(atom)
     }
 
     /// Whether a link with a decider leads to an atom. Where none does, nothing refuses it.
@@ -236,7 +236,7 @@ impl Compiled {
         if atom >= self.plan.atoms() {
             return None;
         }
-        last_flow(self.plan.way(atom))
+        last_flow(self.plan.path(atom))
     }
 
     /// Atoms side by side among which are all that a flow holds.
@@ -312,14 +312,14 @@ fn holds(plan: &Plan, flow: usize, atom: u16) -> bool
     if atom >= plan.atoms() {
         return false;
     }
-    passes_flow(plan.way(atom), flow)
+    passes_flow(plan.path(atom), flow)
 }
 
-/// Whether a way leads into a flow.
-fn passes_flow(way: &[Turn], flow: usize) -> bool
-    ensures { result ≡ passes_flow flow way.now }
+/// Whether a path leads into a flow.
+fn passes_flow(path: &[Turn], flow: usize) -> bool
+    ensures { result ≡ passes_flow flow path.now }
 {
-    for turn in way {
+    for turn in path {
         if turn.flow == flow {
             return true;
         }
@@ -327,12 +327,12 @@ fn passes_flow(way: &[Turn], flow: usize) -> bool
     false
 }
 
-/// The flow into which the last turn of a way leads.
-#[tactic(auto, using(tf_order::proofs::WayLemmas::last_turn_flow))]
-fn last_flow(way: &[Turn]) -> Option<usize>
-    ensures { result ≡ last_flow way.now }
+/// The flow into which the last turn of a path leads.
+#[tactic(auto, using(tf_order::proofs::PathLemmas::last_turn_flow))]
+fn last_flow(path: &[Turn]) -> Option<usize>
+    ensures { result ≡ last_flow path.now }
 {
-    match way.last() {
+    match path.last() {
         Some(turn) => Some(turn.flow),
         None => None,
     }

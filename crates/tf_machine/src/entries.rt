@@ -165,7 +165,7 @@ fn ask_around(
     requires room { count (outline_of compiled.now) ≤ length answers.old }
     ensures { OnOk result (HasAnswers answers.new (outline_of compiled.now) (shown_by tables.now) atom) }
 {
-    for turn in compiled.way(atom) {
+    for turn in compiled.path(atom) {
         if let Some(retry) = compiled.retry_of(turn.flow) {
             answers[retry as usize] = answer(alloc, compiled, tables, retry)?;
         }

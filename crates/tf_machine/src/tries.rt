@@ -1,5 +1,5 @@
 ghost use Rattle.std.specs.Prelude.{◌≡◌};
-ghost use Rattle.tf_flow.specs.Ways.{shown_part};
+ghost use Rattle.tf_flow.specs.Paths.{shown_part};
 ghost use Rattle.tf_model.specs.Plan.{outline_of};
 ghost use Rattle.tf_model.specs.Retries.{kind_of_part};
 ghost use Rattle.tf_model.specs.Bound as bound;

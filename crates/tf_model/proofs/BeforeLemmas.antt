@@ -2,9 +2,9 @@
 use Rattle.std.proofs.Common.{◌≡◌, ℕ, List, [], ◌∷◌, ◌++◌, Bool, true, false, Option, Some, None, refl, sym, ap, ◌∙◌, eqb-true, eq-eqb}
 use Rattle.std.specs.Prelude.{if◌then◌else◌, nat_eq, reverse, filter, flat_map, cond}
 use Rattle.std.specs.List.{list_all}
-use Rattle.tf_flow.specs.declared.ways.Turn.{Turn}
-use Rattle.tf_model.specs.Before.{Flow, item_before, turn_before, way_before}
-use Rattle.tf_model.specs.Plan.{Outline, is_before, way}
+use Rattle.tf_flow.specs.declared.paths.Turn.{Turn}
+use Rattle.tf_model.specs.Before.{Flow, item_before, turn_before, path_before}
+use Rattle.tf_model.specs.Plan.{Outline, is_before, path}
 use Rattle.tf_model.specs.Scope.{members, members_in, is_earlier}
 use Rattle.tf_model.specs.Laws.{AreOrdered}
 use Rattle.tf_numbers.proofs.TruthLemmas.{and_first, and_second, true_both, second_false}
@@ -15,13 +15,13 @@ turn_itself : (flows : List Flow) (g : ℕ) (item : Option ℕ) (below : Bool) �
 turn_itself flows g None below is = refl
 turn_itself flows g (Some u) below is = rw (eq-eqb u u refl) is
 
-pub way_itself : (flows : List Flow) (w : List Turn) → way_before flows w w ≡ false
-way_itself flows [] = refl
-way_itself flows (x ∷ xs) = second_false (nat_eq x.flow x.flow) _ (turn_itself flows x.flow x.item (way_before flows xs xs) (way_itself flows xs))
+pub path_itself : (flows : List Flow) (w : List Turn) → path_before flows w w ≡ false
+path_itself flows [] = refl
+path_itself flows (x ∷ xs) = second_false (nat_eq x.flow x.flow) _ (turn_itself flows x.flow x.item (path_before flows xs xs) (path_itself flows xs))
 
 pub never_before_itself : (plan : Outline) (a : ℕ) → is_before plan a a ≡ false
 unfolding is_before
-never_before_itself plan a = way_itself plan.flows (way plan a)
+never_before_itself plan a = path_itself plan.flows (path plan a)
 
 -- ---- what is before an atom is before all that this is before
 
@@ -54,21 +54,21 @@ turn_chain flows ordered g (Some u) (Some v) None xy yz xz below first second = 
 turn_chain flows ordered g (Some u) (Some v) (Some w) xy yz xz below first second =
     turn_chain_items flows ordered g u v w xy yz xz below (nat_eq u v) refl (nat_eq v w) refl (nat_eq u w) refl first second
 
-pub way_chain : (flows : List Flow) → AreOrdered flows → (xs ys zs : List Turn) → way_before flows xs ys ≡ true → way_before flows ys zs ≡ true → way_before flows xs zs ≡ true
-way_chain flows ordered [] ys zs first second = absurd (cc)
-way_chain flows ordered (x ∷ xs) [] zs first second = absurd (cc)
-way_chain flows ordered (x ∷ xs) (y ∷ ys) [] first second = absurd (cc)
-way_chain flows ordered (x ∷ xs) (y ∷ ys) (z ∷ zs) first second =
+pub path_chain : (flows : List Flow) → AreOrdered flows → (xs ys zs : List Turn) → path_before flows xs ys ≡ true → path_before flows ys zs ≡ true → path_before flows xs zs ≡ true
+path_chain flows ordered [] ys zs first second = absurd (cc)
+path_chain flows ordered (x ∷ xs) [] zs first second = absurd (cc)
+path_chain flows ordered (x ∷ xs) (y ∷ ys) [] first second = absurd (cc)
+path_chain flows ordered (x ∷ xs) (y ∷ ys) (z ∷ zs) first second =
     let xy : x.flow ≡ y.flow = eqb-true x.flow y.flow (and_first (nat_eq x.flow y.flow) _ first) in
     let yz : y.flow ≡ z.flow = eqb-true y.flow z.flow (and_first (nat_eq y.flow z.flow) _ second) in
     true_both (nat_eq x.flow z.flow) _ (eq-eqb x.flow z.flow (xy ∙ yz))
-    (turn_chain flows ordered x.flow x.item y.item z.item (way_before flows xs ys) (way_before flows ys zs) (way_before flows xs zs) (way_chain flows ordered xs ys zs)
+    (turn_chain flows ordered x.flow x.item y.item z.item (path_before flows xs ys) (path_before flows ys zs) (path_before flows xs zs) (path_chain flows ordered xs ys zs)
     (and_second (nat_eq x.flow y.flow) _ first)
-    (ap (λ (g : ℕ). turn_before flows g y.item z.item (way_before flows ys zs)) xy ∙ and_second (nat_eq y.flow z.flow) _ second))
+    (ap (λ (g : ℕ). turn_before flows g y.item z.item (path_before flows ys zs)) xy ∙ and_second (nat_eq y.flow z.flow) _ second))
 
 pub before_chain : (plan : Outline) → AreOrdered plan.flows → (a b c : ℕ) → is_before plan a b ≡ true → is_before plan b c ≡ true → is_before plan a c ≡ true
 unfolding is_before
-before_chain plan ordered a b c first second = way_chain plan.flows ordered (way plan a) (way plan b) (way plan c) first second
+before_chain plan ordered a b c first second = path_chain plan.flows ordered (path plan a) (path plan b) (path plan c) first second
 
 -- ---- the members of an atom are before it
 
@@ -90,4 +90,4 @@ all_members plan y (turn ∷ turns) = all_of_both (is_earlier plan y) (members_i
 
 pub members_before : (plan : Outline) (y : ℕ) → list_all (is_earlier plan y) (members plan y) ≡ true
 unfolding members
-members_before plan y = all_members plan y (reverse (way plan y))
+members_before plan y = all_members plan y (reverse (path plan y))

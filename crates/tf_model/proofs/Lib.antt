@@ -8,7 +8,7 @@ pub mod SessionLemmas
 pub mod BeforeLemmas
 pub mod OrderLemmas
 pub mod EndLemmas
-pub mod WayLemmas
+pub mod PathLemmas
 pub mod NestingLemmas
 pub mod RetryLemmas
 pub mod IgnoredLemmas

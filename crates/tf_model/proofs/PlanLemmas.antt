@@ -7,14 +7,14 @@ use Rattle.std.proofs.lemmas.Option.{slice_get-map, slice_get_past}
 use Rattle.std.proofs.lemmas.Bool.{cases_lt}
 use Rattle.tf_numbers.proofs.TruthLemmas.{clash}
 use Rattle.tf_flow.specs.declared.atoms.Provides.TheVariants as provides
-use Rattle.tf_flow.specs.declared.ways.Turn.{Turn}
+use Rattle.tf_flow.specs.declared.paths.Turn.{Turn}
 use Rattle.tf_flow.specs.Plan.{PlanValue}
 use Rattle.tf_flow.specs.Plan as numbering
-use Rattle.tf_flow.specs.Outline.{Part, a_task, a_retry, Atom, is_task_part, is_retry_part, is_retry_atom, name_of, name_of_atom, arguments_of, injected_in, way_of}
+use Rattle.tf_flow.specs.Outline.{Part, a_task, a_retry, Atom, is_task_part, is_retry_part, is_retry_atom, name_of, name_of_atom, arguments_of, injected_in, atom_path}
 use Rattle.tf_flow.proofs.OutlineLemmas.{same_atoms, same_retries}
-use Rattle.tf_model.specs.Plan.{Outline, outline_of, count, way, is_task, is_retry, arguments, injects, atom_name}
+use Rattle.tf_model.specs.Plan.{Outline, outline_of, count, path, is_task, is_retry, arguments, injects, atom_name}
 use Rattle.tf_model.specs.Retries.{kind_of_part, retry_kind}
-use Rattle.tf_model.proofs.Told.{is_task_in, is_retry_in, name_in, way_in}
+use Rattle.tf_model.proofs.Told.{is_task_in, is_retry_in, name_in, path_in}
 
 -- a plan has as many atoms as its outline
 pub atoms_counted : (plan : PlanValue) → length (numbering.atoms plan) ≡ count (outline_of plan)
@@ -60,7 +60,7 @@ pub task_told : (plan : PlanValue) (a : ℕ) (b : Bool) → slice_get (numbering
 task_told plan a b is = task_by (slice_get (outline_of plan).atoms a) b
     (sym (slice_get-map is_retry_atom (outline_of plan).atoms a) ∙ (ap (λ (marks : List Bool). slice_get marks a) (same_retries plan) ∙ is))
 
--- ---- by the lists of names and of ways
+-- ---- by the lists of names and of paths
 
 name_by : (o : Option Atom) (name : List ℕ) → option_map name_of_atom o ≡ Some name → name_in o ≡ name
 name_by None name is = absurd (cc)
@@ -71,12 +71,12 @@ name_told plan a name is =
     sym (name_by (slice_get (outline_of plan).atoms a) name
     (sym (slice_get-map name_of_atom (outline_of plan).atoms a) ∙ (ap (λ (names : List (List ℕ)). slice_get names a) (same_atoms plan) ∙ is)))
 
-way_by : (o : Option Atom) (w : List Turn) → option_map way_of o ≡ Some w → way_in o ≡ w
-way_by None w is = absurd (cc)
-way_by (Some atom) w is = let same : atom.way ≡ w = cc in same
+path_by : (o : Option Atom) (w : List Turn) → option_map atom_path o ≡ Some w → path_in o ≡ w
+path_by None w is = absurd (cc)
+path_by (Some atom) w is = let same : atom.path ≡ w = cc in same
 
-pub way_told : (plan : PlanValue) (a : ℕ) (w : List Turn) → slice_get (numbering.ways plan) a ≡ Some w → w ≡ way (outline_of plan) a
-way_told plan a w is = sym (way_by (slice_get (outline_of plan).atoms a) w (sym (slice_get-map way_of (outline_of plan).atoms a) ∙ is))
+pub path_told : (plan : PlanValue) (a : ℕ) (w : List Turn) → slice_get (numbering.paths plan) a ≡ Some w → w ≡ path (outline_of plan) a
+path_told plan a w is = sym (path_by (slice_get (outline_of plan).atoms a) w (sym (slice_get-map atom_path (outline_of plan).atoms a) ∙ is))
 
 -- ---- numbers past the last atom's
 

@@ -56,8 +56,8 @@ alike None event = false
 alike (Some other) event = pointwise ◌==◌ (event_numbers other) (event_numbers event)
 
 -- the rules by which the entry seems to be allowed; failures of one kind are taken to be alike
-abbrev ways : Outline → Snapshot → Entry → List Bool
-ways plan s e =
+abbrev paths : Outline → Snapshot → Entry → List Bool
+paths plan s e =
     alike (forced plan s) e.what
     ∷ (alike (choice plan s) e.what && is_free plan s e.hand)
     ∷ ends_task s e.hand e.what
@@ -73,7 +73,7 @@ one_is_true (b ∷ bs) = b || one_is_true bs
 
 -- a test that every step passes
 abbrev pub seems_step : Outline → Snapshot → Entry → Bool
-seems_step plan s e = is_hand e.hand && one_is_true (ways plan s e)
+seems_step plan s e = is_hand e.hand && one_is_true (paths plan s e)
 
 same_numbers : (xs : List ℕ) → pointwise ◌==◌ xs xs ≡ true
 same_numbers [] = refl
@@ -90,20 +90,20 @@ there zero (b ∷ bs) is = rw is
 there (suc n) (true ∷ bs) is = refl
 there (suc n) (false ∷ bs) is = there n bs is
 
-passes : (plan : Outline) (s : Snapshot) (e : Entry) → Rule plan s e → one_is_true (ways plan s e) ≡ true
-passes plan s e (by_force is) = there 0 (ways plan s e) (is_alike (forced plan s) e.what is)
-passes plan s e (by_choice is free) = there 1 (ways plan s e) (true_both (alike (choice plan s) e.what) (is_free plan s e.hand) (is_alike (choice plan s) e.what is) free)
-passes plan s e (by_end_of_task is) = there 2 (ways plan s e) is
-passes plan s e (by_turn is) = there 3 (ways plan s e) is
-passes plan s e (by_end is still) = there 4 (ways plan s e) (true_both (alike (end_entry plan s) e.what) (is_still plan s) (is_alike (end_entry plan s) e.what is) still)
+passes : (plan : Outline) (s : Snapshot) (e : Entry) → Rule plan s e → one_is_true (paths plan s e) ≡ true
+passes plan s e (by_force is) = there 0 (paths plan s e) (is_alike (forced plan s) e.what is)
+passes plan s e (by_choice is free) = there 1 (paths plan s e) (true_both (alike (choice plan s) e.what) (is_free plan s e.hand) (is_alike (choice plan s) e.what is) free)
+passes plan s e (by_end_of_task is) = there 2 (paths plan s e) is
+passes plan s e (by_turn is) = there 3 (paths plan s e) is
+passes plan s e (by_end is still) = there 4 (paths plan s e) (true_both (alike (end_entry plan s) e.what) (is_still plan s) (is_alike (end_entry plan s) e.what is) still)
 passes plan s e (by_suspension is event) =
-    there 5 (ways plan s e)
+    there 5 (paths plan s e)
     (true_both (may_suspend plan s) (alike (Some (what.Flow flow.Suspended)) e.what) is (is_alike (Some (what.Flow flow.Suspended)) e.what (ap (λ (w : What). Some w) (sym event))))
-passes plan s e (by_reset is) = there 6 (ways plan s e) (is_alike (reset plan s) e.what is)
+passes plan s e (by_reset is) = there 6 (paths plan s e) (is_alike (reset plan s) e.what is)
 
 -- what doesn't pass the test may not follow
 pub refuse : {plan : Outline} {s : Snapshot} {e : Entry} → seems_step plan s e ≡ false → Step plan s e → ⊥
 refuse {plan} {s} {e} fails step =
-    let passed : seems_step plan s e ≡ true = true_both (is_hand e.hand) (one_is_true (ways plan s e)) step.hand (passes plan s e step.rule) in
+    let passed : seems_step plan s e ≡ true = true_both (is_hand e.hand) (one_is_true (paths plan s e)) step.hand (passes plan s e step.rule) in
     let no : false ≡ true = sym fails ∙ passed in
     cc

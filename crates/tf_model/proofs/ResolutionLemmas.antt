@@ -8,15 +8,15 @@ use Rattle.tf_flow.specs.Plan.{PlanValue}
 use Rattle.tf_flow.specs.Tree.{Tree, Trees, flow, Head, tree_of, trees_of, item_tree}
 use Rattle.tf_flow.proofs.TreeLemmas.{tree_of-flow}
 use Rattle.tf_flow.specs.Outline.{Atom, atoms_of}
-use Rattle.tf_flow.specs.declared.ways.Turn.{Turn}
+use Rattle.tf_flow.specs.declared.paths.Turn.{Turn}
 use Rattle.tf_model.specs.Before.{passes_flow}
-use Rattle.tf_model.specs.Plan.{Outline, outline_of, holds, way, count, retry_of}
+use Rattle.tf_model.specs.Plan.{Outline, outline_of, holds, path, count, retry_of}
 use Rattle.tf_model.specs.Snapshot.{Resolve, Snapshot}
 use Rattle.tf_model.specs.Retries.{Controlled, controlled, controlled_on, enclosing, resolved, resolution_by, resolution, answer, is_outermost, is_revert}
-use Rattle.tf_model.proofs.Told.{way_in}
+use Rattle.tf_model.proofs.Told.{path_in}
 use Rattle.tf_numbers.proofs.TruthLemmas.{or_either, and_first, and_second, true_first, true_second, true_both}
 use Rattle.tf_numbers.proofs.PairLemmas.{any_in_both}
-use Rattle.tf_model.proofs.WayLemmas.{IsWay, begins, ways_of}
+use Rattle.tf_model.proofs.PathLemmas.{IsPath, begins, paths_of}
 
 abbrev is_of_flow : ℕ → Controlled → Bool
 is_of_flow g c = nat_eq c.flow g
@@ -54,37 +54,37 @@ one_controlled a g F (Some r) is = by (nat_eq r a) is
     by true is = absurd (cc)
     by false is = elim (or_either (nat_eq g F) false is) [ inl here ↦ here | inr none ↦ absurd (cc) ]
 
-on_way : (plan : Outline) (a F : ℕ) (turns : List Turn) → list_any (is_of_flow F) (controlled_on plan a turns) ≡ true → passes_flow F turns ≡ true
-on_way plan a F [] is = absurd (cc)
-on_way plan a F (turn ∷ turns) is = elim (any_in_both (is_of_flow F) (controlled_on plan a turns) (controlled a turn.flow (retry_of plan turn.flow)) is) [
-  | inl below ↦ true_second (nat_eq turn.flow F) _ (on_way plan a F turns below)
+on_path : (plan : Outline) (a F : ℕ) (turns : List Turn) → list_any (is_of_flow F) (controlled_on plan a turns) ≡ true → passes_flow F turns ≡ true
+on_path plan a F [] is = absurd (cc)
+on_path plan a F (turn ∷ turns) is = elim (any_in_both (is_of_flow F) (controlled_on plan a turns) (controlled a turn.flow (retry_of plan turn.flow)) is) [
+  | inl below ↦ true_second (nat_eq turn.flow F) _ (on_path plan a F turns below)
   | inr here ↦ true_first (nat_eq turn.flow F) _ (one_controlled a turn.flow F (retry_of plan turn.flow) here)
 ]
 
 -- the root holds each atom
-there_is : (P : List Turn → Type 0) (xs : List Atom) (k : ℕ) → AllByRecursion (λ atom. P atom.way) xs → k < length xs → P (way_in (slice_get xs k))
+there_is : (P : List Turn → Type 0) (xs : List Atom) (k : ℕ) → AllByRecursion (λ atom. P atom.path) xs → k < length xs → P (path_in (slice_get xs k))
 there_is P [] k all below = absurd (omega arith)
 there_is P (x ∷ xs) zero all below = all.0
 there_is P (x ∷ xs) (suc k) all below = there_is P xs k all.1 (omega arith)
 
-root_on_way : (head : Head) (items : Trees) (w : List Turn) → IsWay 0 (flow head items) w → passes_flow 0 w ≡ true
-root_on_way head items w is = let first = begins head items 0 w is in ap (passes_flow 0) first.is ∙ true_first (nat_eq first.turn.flow 0) _ (eq-eqb first.turn.flow 0 first.flow)
+root_on_path : (head : Head) (items : Trees) (w : List Turn) → IsPath 0 (flow head items) w → passes_flow 0 w ≡ true
+root_on_path head items w is = let first = begins head items 0 w is in ap (passes_flow 0) first.is ∙ true_first (nat_eq first.turn.flow 0) _ (eq-eqb first.turn.flow 0 first.flow)
 
-root_holds_in : (t : Tree) (head : Head) (items : Trees) → t ≡ flow head items → (w : List Turn) → IsWay 0 t w → passes_flow 0 w ≡ true
-root_holds_in t head items is w on = root_on_way head items w (subst (λ (u : Tree). IsWay 0 u w) is on)
+root_holds_in : (t : Tree) (head : Head) (items : Trees) → t ≡ flow head items → (w : List Turn) → IsPath 0 t w → passes_flow 0 w ≡ true
+root_holds_in t head items is w on = root_on_path head items w (subst (λ (u : Tree). IsPath 0 u w) is on)
 
 pub root_holds : (plan : PlanValue) (a : ℕ) → a < count (outline_of plan) → holds (outline_of plan) 0 a ≡ true
 unfolding holds
 root_holds plan a below =
     root_holds_in (tree_of plan.root) (record { name = plan.root.name; kind = plan.root.kind; retry = plan.root.retry; links = plan.root.links }) (trees_of (map item_tree plan.root.items.items.items)) (tree_of-flow plan.root)
-    (way (outline_of plan) a) (there_is (IsWay 0 (tree_of plan.root)) (atoms_of 0 (tree_of plan.root)) a (ways_of (tree_of plan.root) 0) below)
+    (path (outline_of plan) a) (there_is (IsPath 0 (tree_of plan.root)) (atoms_of 0 (tree_of plan.root)) a (paths_of (tree_of plan.root) 0) below)
 
 -- what a failure is resolved to holds it
 pub resolution_holds : (plan : PlanValue) (s : Snapshot) (a : ℕ) → a < count (outline_of plan) → holds (outline_of plan) (resolution (outline_of plan) s a).flow a ≡ true
 unfolding holds resolution
 resolution_holds plan s a below = elim (resolution_among (outline_of plan) s (enclosing (outline_of plan) a)) [
-  | inl root ↦ ap (λ (g : ℕ). passes_flow g (way (outline_of plan) a)) root ∙ root_holds plan a below
-  | inr there ↦ on_way (outline_of plan) a (resolution (outline_of plan) s a).flow (way (outline_of plan) a) there
+  | inl root ↦ ap (λ (g : ℕ). passes_flow g (path (outline_of plan) a)) root ∙ root_holds plan a below
+  | inr there ↦ on_path (outline_of plan) a (resolution (outline_of plan) s a).flow (path (outline_of plan) a) there
 ]
 
 -- ---- a flow that is to run again has a retry controller
@@ -133,4 +133,4 @@ all_controlled plan a (turn ∷ turns) =
 
 pub resolution_is_controlled : (plan : Outline) (s : Snapshot) (a : ℕ) → (resolution plan s a).kind ≡ kind.Retry → is_some (retry_of plan (resolution plan s a).flow) ≡ true
 unfolding resolution
-resolution_is_controlled plan s a = resolution_runs plan s (enclosing plan a) (all_controlled plan a (way plan a))
+resolution_is_controlled plan s a = resolution_runs plan s (enclosing plan a) (all_controlled plan a (path plan a))

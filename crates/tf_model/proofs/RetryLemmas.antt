@@ -7,21 +7,21 @@ use Rattle.tf_flow.specs.declared.atoms.Task.{Task}
 use Rattle.tf_flow.specs.Plan.{PlanValue}
 use Rattle.tf_flow.specs.Tree.{Tree, Trees, task, flow, no_trees, tree, tree_of}
 use Rattle.tf_flow.specs.Outline.{a_task, Atom, atoms_of, atoms_among, enter, retry_atoms, flow_count, is_retry_part}
-use Rattle.tf_flow.specs.declared.ways.Turn.{Turn}
-use Rattle.tf_model.specs.Before.{Flow, way_before, item_before, passes_flow}
-use Rattle.tf_model.specs.Plan.{outline_of, is_before, holds, way, is_retry, own_flow, last_flow}
-use Rattle.tf_model.proofs.Told.{way_in, is_retry_in}
+use Rattle.tf_flow.specs.declared.paths.Turn.{Turn}
+use Rattle.tf_model.specs.Before.{Flow, path_before, item_before, passes_flow}
+use Rattle.tf_model.specs.Plan.{outline_of, is_before, holds, path, is_retry, own_flow, last_flow}
+use Rattle.tf_model.proofs.Told.{path_in, is_retry_in}
 use Rattle.tf_numbers.proofs.TruthLemmas.{true_first, true_second, true_both}
-use Rattle.tf_model.proofs.WayLemmas.{turn_to, IsWay, IsWayAmong, numbers_of, apart, goes_past, all_both, ways_of, ways_among, way_of_each}
+use Rattle.tf_model.proofs.PathLemmas.{turn_to, IsPath, IsPathAmong, numbers_of, apart, goes_past, all_both, paths_of, paths_among, path_of_each}
 
--- the last turn of the way is to a retry controller
+-- the last turn of the path is to a retry controller
 abbrev EndsAtRetry : List Turn → Type 0
 EndsAtRetry [] = ⊥
 EndsAtRetry (x ∷ []) = x.item ≡ None
 EndsAtRetry (x ∷ y ∷ ys) = EndsAtRetry (y ∷ ys)
 
 abbrev IsFine : Atom → Type 0
-IsFine atom = is_retry_part atom.part ≡ true → EndsAtRetry atom.way
+IsFine atom = is_retry_part atom.part ≡ true → EndsAtRetry atom.path
 
 enter_ends : (turn : Turn) (w : List Turn) → EndsAtRetry w → EndsAtRetry (turn ∷ w)
 enter_ends turn [] is = absurd is
@@ -29,7 +29,7 @@ enter_ends turn (x ∷ xs) is = is
 
 fine_entered : (g i : ℕ) (xs : List Atom) → AllByRecursion IsFine xs → AllByRecursion IsFine (map (enter g i) xs)
 fine_entered g i [] all = tt
-fine_entered g i (x ∷ xs) all = ((λ is. enter_ends (turn_to g (Some i)) x.way (all.0 is)), fine_entered g i xs all.1)
+fine_entered g i (x ∷ xs) all = ((λ is. enter_ends (turn_to g (Some i)) x.path (all.0 is)), fine_entered g i xs all.1)
 
 fine_retry : (g : ℕ) (control : Option Retry) → AllByRecursion IsFine (retry_atoms g control)
 fine_retry g None = tt
@@ -48,19 +48,19 @@ mutual
   fine_among (tree first others) g i n =
       all_both IsFine (map (enter g i) (atoms_of n first)) (atoms_among g (suc i) (n + flow_count first) others) (fine_entered g i (atoms_of n first) (fine_of first n)) (fine_among others g (suc i) (n + flow_count first))
 
-fine_at : (xs : List Atom) (k : ℕ) → AllByRecursion IsFine xs → is_retry_in (slice_get xs k) ≡ true → EndsAtRetry (way_in (slice_get xs k))
+fine_at : (xs : List Atom) (k : ℕ) → AllByRecursion IsFine xs → is_retry_in (slice_get xs k) ≡ true → EndsAtRetry (path_in (slice_get xs k))
 fine_at [] k all is = absurd (cc)
 fine_at (x ∷ xs) zero all is = all.0 is
 fine_at (x ∷ xs) (suc k) all is = fine_at xs k all.1 is
 
--- ---- a way that ends in F leads into F
+-- ---- a path that ends in F leads into F
 
 pub passes_last : (F : ℕ) (w : List Turn) → last_flow w ≡ Some F → passes_flow F w ≡ true
 passes_last F [] is = absurd (cc)
 passes_last F (x ∷ []) is = let same : x.flow ≡ F = cc in true_first (nat_eq x.flow F) _ (eq-eqb x.flow F same)
 passes_last F (x ∷ y ∷ ys) is = true_second (nat_eq x.flow F) _ (passes_last F (y ∷ ys) is)
 
--- the rest of a way that ends at a retry controller, behind a turn to an item
+-- the rest of a path that ends at a retry controller, behind a turn to an item
 ends_rest : (g i : ℕ) (w rest : List Turn) → w ≡ turn_to g (Some i) ∷ rest → EndsAtRetry w → EndsAtRetry rest
 ends_rest g i w rest is ends = behind rest (subst EndsAtRetry is ends)
   where
@@ -75,34 +75,34 @@ last_rest turn w rest is ends = ap last_flow is ∙ behind rest ends
     behind [] ends = absurd ends
     behind (y ∷ ys) ends = refl
 
--- ---- the controller's way is before each other way into its flow
+-- ---- the controller's path is before each other path into its flow
 
 abbrev FirstOrSame : List Flow → List Turn → List Turn → Type 0
-FirstOrSame flows c b = (c ≡ b) ⊎ (way_before flows c b ≡ true)
+FirstOrSame flows c b = (c ≡ b) ⊎ (path_before flows c b ≡ true)
 
 go_on_both : (flows : List Flow) (g i : ℕ) (c b xs ys : List Turn) → c ≡ turn_to g (Some i) ∷ xs → b ≡ turn_to g (Some i) ∷ ys → FirstOrSame flows xs ys → FirstOrSame flows c b
 go_on_both flows g i c b xs ys c_is b_is is = elim is [
   | inl same ↦ inl (c_is ∙ (ap (λ (zs : List Turn). turn_to g (Some i) ∷ zs) same ∙ sym b_is))
-  | inr before ↦ inr (ap (λ (w : List Turn). way_before flows w b) c_is ∙ (ap (λ (w : List Turn). way_before flows (turn_to g (Some i) ∷ xs) w) b_is
-      ∙ true_both (nat_eq g g) _ (eq-eqb g g refl) (one_item (nat_eq i i) (way_before flows xs ys) (item_before flows g i i) (eq-eqb i i refl) before)))
+  | inr before ↦ inr (ap (λ (w : List Turn). path_before flows w b) c_is ∙ (ap (λ (w : List Turn). path_before flows (turn_to g (Some i) ∷ xs) w) b_is
+      ∙ true_both (nat_eq g g) _ (eq-eqb g g refl) (one_item (nat_eq i i) (path_before flows xs ys) (item_before flows g i i) (eq-eqb i i refl) before)))
 ]
   where
     one_item : (b below other : Bool) → b ≡ true → below ≡ true → (if b then below else other) ≡ true
     one_item true below other is more = more
     one_item false below other is more = absurd (cc)
 
-before_items : (flows : List Flow) (ts : Trees) (g i n : ℕ) (c b : List Turn) → c ≡ turn_to g None ∷ [] → IsWayAmong g i n ts b → way_before flows c b ≡ true
+before_items : (flows : List Flow) (ts : Trees) (g i n : ℕ) (c b : List Turn) → c ≡ turn_to g None ∷ [] → IsPathAmong g i n ts b → path_before flows c b ≡ true
 before_items flows no_trees g i n c b c_is among = absurd among
 before_items flows (tree first others) g i n c b c_is among = elim among [
-  | inl here ↦ ap (λ (w : List Turn). way_before flows w b) c_is ∙ (ap (λ (w : List Turn). way_before flows (turn_to g None ∷ []) w) here.is ∙ true_both (nat_eq g g) true (eq-eqb g g refl) refl)
+  | inl here ↦ ap (λ (w : List Turn). path_before flows w b) c_is ∙ (ap (λ (w : List Turn). path_before flows (turn_to g None ∷ []) w) here.is ∙ true_both (nat_eq g g) true (eq-eqb g g refl) refl)
   | inr later ↦ before_items flows others g (suc i) (n + flow_count first) c b c_is later
 ]
 
--- the flow in which a way that goes on to an item ends isn't the one that it begins in
-pub ends_below : (first : Tree) (g n F : ℕ) (rest : List Turn) → g < n → IsWay n first rest → last_flow rest ≡ Some F → g ≢ F
+-- the flow in which a path that goes on to an item ends isn't the one that it begins in
+pub ends_below : (first : Tree) (g n F : ℕ) (rest : List Turn) → g < n → IsPath n first rest → last_flow rest ≡ Some F → g ≢ F
 ends_below first g n F rest below is last same = let from = numbers_of first n F rest is (passes_last F rest last) in omega (arith, from.0, same, below)
 
-ends_among : (ts : Trees) (g i n F : ℕ) (c : List Turn) → g < n → IsWayAmong g i n ts c → EndsAtRetry c → last_flow c ≡ Some F → g ≢ F
+ends_among : (ts : Trees) (g i n F : ℕ) (c : List Turn) → g < n → IsPathAmong g i n ts c → EndsAtRetry c → last_flow c ≡ Some F → g ≢ F
 ends_among no_trees g i n F c below is ends last = absurd is
 ends_among (tree first others) g i n F c below is ends last = elim is [
   | inl here ↦ let rest_ends = ends_rest g i c here.rest here.is ends in
@@ -111,7 +111,7 @@ ends_among (tree first others) g i n F c below is ends last = elim is [
 ]
 
 mutual
-  first_in : (flows : List Flow) (t : Tree) (g F : ℕ) (c b : List Turn) → IsWay g t c → EndsAtRetry c → last_flow c ≡ Some F → IsWay g t b → passes_flow F b ≡ true → FirstOrSame flows c b
+  first_in : (flows : List Flow) (t : Tree) (g F : ℕ) (c b : List Turn) → IsPath g t c → EndsAtRetry c → last_flow c ≡ Some F → IsPath g t b → passes_flow F b ≡ true → FirstOrSame flows c b
   first_in flows (task t) g F c b c_is ends last b_is on = let no : false ≡ true = ap (passes_flow F) (sym b_is) ∙ on in absurd (cc)
   first_in flows (flow head items) g F c b c_is ends last b_is on = elim c_is [
     | inl own ↦ elim b_is [
@@ -121,9 +121,9 @@ mutual
     | inr c_among ↦ first_under flows items g 0 (suc g) F c b (omega arith) c_among ends last b_is on
   ]
 
-  -- the same where c goes on to one of these items, and b is any way of the flow that leads into F
-  first_under : (flows : List Flow) (ts : Trees) (g i n F : ℕ) (c b : List Turn) → g < n → IsWayAmong g i n ts c → EndsAtRetry c → last_flow c ≡ Some F
-      → (b ≡ turn_to g None ∷ []) ⊎ IsWayAmong g i n ts b → passes_flow F b ≡ true → FirstOrSame flows c b
+  -- the same where c goes on to one of these items, and b is any path of the flow that leads into F
+  first_under : (flows : List Flow) (ts : Trees) (g i n F : ℕ) (c b : List Turn) → g < n → IsPathAmong g i n ts c → EndsAtRetry c → last_flow c ≡ Some F
+      → (b ≡ turn_to g None ∷ []) ⊎ IsPathAmong g i n ts b → passes_flow F b ≡ true → FirstOrSame flows c b
   first_under flows no_trees g i n F c b below c_is ends last b_is on = absurd c_is
   first_under flows (tree first others) g i n F c b below c_is ends last b_is on = elim c_is [
     | inl c_here ↦
@@ -148,26 +148,26 @@ mutual
     ]
   ]
 
--- ---- no two atoms have one way
+-- ---- no two atoms have one path
 
 abbrev pub AreDistinct : List Atom → Type 0
 AreDistinct [] = Unit {0}
-AreDistinct (x ∷ xs) = AllByRecursion (λ y. x.way ≢ y.way) xs × AreDistinct xs
+AreDistinct (x ∷ xs) = AllByRecursion (λ y. x.path ≢ y.path) xs × AreDistinct xs
 
-each_apart : (P : Atom → Type 0) (x : Atom) (ys : List Atom) → AllByRecursion P ys → ((y : Atom) → P y → x.way ≢ y.way) → AllByRecursion (λ y. x.way ≢ y.way) ys
+each_apart : (P : Atom → Type 0) (x : Atom) (ys : List Atom) → AllByRecursion P ys → ((y : Atom) → P y → x.path ≢ y.path) → AllByRecursion (λ y. x.path ≢ y.path) ys
 each_apart P x [] all differ = tt
 each_apart P x (y ∷ ys) all differ = (differ y all.0, each_apart P x ys all.1 differ)
 
-distinct_both : (P Q : Atom → Type 0) (xs ys : List Atom) → AllByRecursion P xs → AllByRecursion Q ys → ((x y : Atom) → P x → Q y → x.way ≢ y.way) → AreDistinct xs → AreDistinct ys → AreDistinct (xs ++ ys)
+distinct_both : (P Q : Atom → Type 0) (xs ys : List Atom) → AllByRecursion P xs → AllByRecursion Q ys → ((x y : Atom) → P x → Q y → x.path ≢ y.path) → AreDistinct xs → AreDistinct ys → AreDistinct (xs ++ ys)
 distinct_both P Q [] ys first second differ one other = other
 distinct_both P Q (x ∷ xs) ys first second differ one other =
-    (all_both (λ y. x.way ≢ y.way) xs ys one.0 (each_apart Q x ys second (λ y is. differ x y first.0 is)), distinct_both P Q xs ys first.1 second differ one.1 other)
+    (all_both (λ y. x.path ≢ y.path) xs ys one.0 (each_apart Q x ys second (λ y is. differ x y first.0 is)), distinct_both P Q xs ys first.1 second differ one.1 other)
 
 rest_of : List Turn → List Turn
 rest_of [] = []
 rest_of (x ∷ xs) = xs
 
-apart_entered : (g i : ℕ) (x : Atom) (ys : List Atom) → AllByRecursion (λ y. x.way ≢ y.way) ys → AllByRecursion (λ y. (enter g i x).way ≢ y.way) (map (enter g i) ys)
+apart_entered : (g i : ℕ) (x : Atom) (ys : List Atom) → AllByRecursion (λ y. x.path ≢ y.path) ys → AllByRecursion (λ y. (enter g i x).path ≢ y.path) (map (enter g i) ys)
 unfolding rest_of
 apart_entered g i x [] all = tt
 apart_entered g i x (y ∷ ys) all = ((λ same. all.0 (ap rest_of same)), apart_entered g i x ys all.1)
@@ -176,18 +176,18 @@ distinct_entered : (g i : ℕ) (xs : List Atom) → AreDistinct xs → AreDistin
 distinct_entered g i [] is = tt
 distinct_entered g i (x ∷ xs) is = (apart_entered g i x xs is.0, distinct_entered g i xs is.1)
 
--- the place to which the first turn of a way leads
+-- the place to which the first turn of a path leads
 first_item : List Turn → Option ℕ
 first_item [] = None
 first_item (x ∷ xs) = x.item
 
--- a way among items from i on leads to one of them first
+-- a path among items from i on leads to one of them first
 record LeadsFrom (i : ℕ) (w : List Turn) : Type 0 where
   place : ℕ
   from : i ≤ place
   is : first_item w ≡ Some place
 
-leads_from : (ts : Trees) (g i n : ℕ) (w : List Turn) → IsWayAmong g i n ts w → LeadsFrom i w
+leads_from : (ts : Trees) (g i n : ℕ) (w : List Turn) → IsPathAmong g i n ts w → LeadsFrom i w
 unfolding first_item
 leads_from no_trees g i n w is = absurd is
 leads_from (tree first others) g i n w is = elim is [
@@ -195,51 +195,51 @@ leads_from (tree first others) g i n w is = elim is [
   | inr later ↦ let found = leads_from others g (suc i) (n + flow_count first) w later in record { place = found.place; from = omega (arith, found.from); is = found.is }
 ]
 
-entered_items : (g i : ℕ) (xs : List Atom) → AllByRecursion (λ x. first_item x.way ≡ Some i) (map (enter g i) xs)
+entered_items : (g i : ℕ) (xs : List Atom) → AllByRecursion (λ x. first_item x.path ≡ Some i) (map (enter g i) xs)
 unfolding first_item
 entered_items g i [] = tt
 entered_items g i (x ∷ xs) = (refl, entered_items g i xs)
 
-retry_items : (g : ℕ) (control : Option Retry) → AllByRecursion (λ x. first_item x.way ≡ None) (retry_atoms g control) × AreDistinct (retry_atoms g control)
+retry_items : (g : ℕ) (control : Option Retry) → AllByRecursion (λ x. first_item x.path ≡ None) (retry_atoms g control) × AreDistinct (retry_atoms g control)
 unfolding first_item
 retry_items g None = (tt, tt)
 retry_items g (Some r) = ((refl, tt), (tt, tt))
 
-differ_items : (i j : ℕ) (x y : Atom) → first_item x.way ≡ Some i → first_item y.way ≡ Some j → i < j → x.way ≢ y.way
+differ_items : (i j : ℕ) (x y : Atom) → first_item x.path ≡ Some i → first_item y.path ≡ Some j → i < j → x.path ≢ y.path
 differ_items i j x y one other less same = let equal : Some i ≡ Some j = sym one ∙ (ap first_item same ∙ other) in let no : i ≡ j = cc in omega (arith, no, less)
 
 mutual
   pub distinct_of : (t : Tree) (g : ℕ) → AreDistinct (atoms_of g t)
   distinct_of (task t) g = (tt, tt)
   distinct_of (flow head items) g =
-      distinct_both (λ x. first_item x.way ≡ None) (λ y. IsWayAmong g 0 (suc g) items y.way) (retry_atoms g head.retry) (atoms_among g 0 (suc g) items)
-      (retry_items g head.retry).0 (ways_among items g 0 (suc g))
-      (λ x y none among same. let found = leads_from items g 0 (suc g) y.way among in let no : None ≡ Some found.place = sym none ∙ (ap first_item same ∙ found.is) in cc)
+      distinct_both (λ x. first_item x.path ≡ None) (λ y. IsPathAmong g 0 (suc g) items y.path) (retry_atoms g head.retry) (atoms_among g 0 (suc g) items)
+      (retry_items g head.retry).0 (paths_among items g 0 (suc g))
+      (λ x y none among same. let found = leads_from items g 0 (suc g) y.path among in let no : None ≡ Some found.place = sym none ∙ (ap first_item same ∙ found.is) in cc)
       (retry_items g head.retry).1 (distinct_among items g 0 (suc g))
 
   distinct_among : (ts : Trees) (g i n : ℕ) → AreDistinct (atoms_among g i n ts)
   distinct_among no_trees g i n = tt
   distinct_among (tree first others) g i n =
-      distinct_both (λ x. first_item x.way ≡ Some i) (λ y. IsWayAmong g (suc i) (n + flow_count first) others y.way) (map (enter g i) (atoms_of n first)) (atoms_among g (suc i) (n + flow_count first) others)
-      (entered_items g i (atoms_of n first)) (ways_among others g (suc i) (n + flow_count first))
-      (λ x y here among. let found = leads_from others g (suc i) (n + flow_count first) y.way among in differ_items i found.place x y here found.is (omega (arith, found.from)))
+      distinct_both (λ x. first_item x.path ≡ Some i) (λ y. IsPathAmong g (suc i) (n + flow_count first) others y.path) (map (enter g i) (atoms_of n first)) (atoms_among g (suc i) (n + flow_count first) others)
+      (entered_items g i (atoms_of n first)) (paths_among others g (suc i) (n + flow_count first))
+      (λ x y here among. let found = leads_from others g (suc i) (n + flow_count first) y.path among in differ_items i found.place x y here found.is (omega (arith, found.from)))
       (distinct_entered g i (atoms_of n first) (distinct_of first n)) (distinct_among others g (suc i) (n + flow_count first))
 
--- the atom of a number has another way than those of a list, where each of the list has
-apart_at : (x : Atom) (ys : List Atom) (k : ℕ) → AllByRecursion (λ y. x.way ≢ y.way) ys → k < length ys → x.way ≢ way_in (slice_get ys k)
+-- the atom of a number has another path than those of a list, where each of the list has
+apart_at : (x : Atom) (ys : List Atom) (k : ℕ) → AllByRecursion (λ y. x.path ≢ y.path) ys → k < length ys → x.path ≢ path_in (slice_get ys k)
 apart_at x [] k all below = absurd (omega arith)
 apart_at x (y ∷ ys) zero all below = all.0
 apart_at x (y ∷ ys) (suc k) all below = apart_at x ys k all.1 (omega arith)
 
-pub one_number : (xs : List Atom) (i j : ℕ) → AreDistinct xs → i < length xs → j < length xs → way_in (slice_get xs i) ≡ way_in (slice_get xs j) → i ≡ j
+pub one_number : (xs : List Atom) (i j : ℕ) → AreDistinct xs → i < length xs → j < length xs → path_in (slice_get xs i) ≡ path_in (slice_get xs j) → i ≡ j
 one_number [] i j is one other same = absurd (omega arith)
 one_number (x ∷ xs) zero zero is one other same = refl
 one_number (x ∷ xs) zero (suc j) is one other same = absurd (apart_at x xs j is.0 (omega arith) same)
 one_number (x ∷ xs) (suc i) zero is one other same = absurd (apart_at x xs i is.0 (omega arith) (sym same))
 one_number (x ∷ xs) (suc i) (suc j) is one other same = ap suc (one_number xs i j is.1 (omega arith) (omega arith) same)
 
--- a number whose atom has a way is below the count
-numbered : (xs : List Atom) (k F : ℕ) → passes_flow F (way_in (slice_get xs k)) ≡ true → k < length xs
+-- a number whose atom has a path is below the count
+numbered : (xs : List Atom) (k F : ℕ) → passes_flow F (path_in (slice_get xs k)) ≡ true → k < length xs
 numbered [] k F on = absurd (cc)
 numbered (x ∷ xs) zero F on = omega arith
 numbered (x ∷ xs) (suc k) F on = let below : k < length xs = numbered xs k F on in omega (arith, below)
@@ -249,11 +249,11 @@ pub retry_first : (plan : PlanValue) (r F b : ℕ) → is_retry (outline_of plan
     → is_before (outline_of plan) r b ≡ true
 unfolding holds is_before
 retry_first plan r F b is own on other =
-    let passes : passes_flow F (way_in (slice_get (atoms_of 0 (tree_of plan.root)) r)) ≡ true = passes_last F (way_in (slice_get (atoms_of 0 (tree_of plan.root)) r)) own in
-    elim (first_in (outline_of plan).flows (tree_of plan.root) 0 F (way (outline_of plan) r) (way (outline_of plan) b)
-    (way_of_each (IsWay 0 (tree_of plan.root)) (atoms_of 0 (tree_of plan.root)) r F (ways_of (tree_of plan.root) 0) passes)
+    let passes : passes_flow F (path_in (slice_get (atoms_of 0 (tree_of plan.root)) r)) ≡ true = passes_last F (path_in (slice_get (atoms_of 0 (tree_of plan.root)) r)) own in
+    elim (first_in (outline_of plan).flows (tree_of plan.root) 0 F (path (outline_of plan) r) (path (outline_of plan) b)
+    (path_of_each (IsPath 0 (tree_of plan.root)) (atoms_of 0 (tree_of plan.root)) r F (paths_of (tree_of plan.root) 0) passes)
     (fine_at (atoms_of 0 (tree_of plan.root)) r (fine_of (tree_of plan.root) 0) is) own
-    (way_of_each (IsWay 0 (tree_of plan.root)) (atoms_of 0 (tree_of plan.root)) b F (ways_of (tree_of plan.root) 0) on) on) [
+    (path_of_each (IsPath 0 (tree_of plan.root)) (atoms_of 0 (tree_of plan.root)) b F (paths_of (tree_of plan.root) 0) on) on) [
       | inl same ↦ absurd (other (one_number (atoms_of 0 (tree_of plan.root)) r b (distinct_of (tree_of plan.root) 0) (numbered (atoms_of 0 (tree_of plan.root)) r F passes) (numbered (atoms_of 0 (tree_of plan.root)) b F on) same))
       | inr before ↦ before
     ]

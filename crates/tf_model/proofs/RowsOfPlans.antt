@@ -10,7 +10,7 @@ use Rattle.tf_flow.specs.declared.nested.FlowKind.TheVariants as kind
 use Rattle.tf_numbers.specs.Pairs.{pair, pairs_below}
 use Rattle.tf_numbers.specs.Numbers.{which_below}
 use Rattle.tf_model.specs.Before.{find_flow}
-use Rattle.tf_model.specs.Plan.{Outline, is_before, holds, way}
+use Rattle.tf_model.specs.Plan.{Outline, is_before, holds, path}
 use Rattle.tf_model.specs.Compilation.{ambiguous, cycle, tree_refusal}
 use Rattle.tf_model.specs.Scope.{members, missing_symbol}
 use Rattle.tf_model.specs.Deciders.{ignores}
@@ -27,8 +27,8 @@ nested_tree =
     ∷ flow_of_items kind.Linear (codes "n") (controller (codes "s") retry.AlwaysRevert [] [] provides.Nothing) (echo_of (codes "b") (codes "k") ∷ [])
     ∷ [])
 
-pub nested_way : way (plan_of nested_tree) 3 ≡ record { flow = 0; item = Some 1 } ∷ record { flow = 1; item = Some 0 } ∷ []
-nested_way = refl
+pub nested_path : path (plan_of nested_tree) 3 ≡ record { flow = 0; item = Some 1 } ∷ record { flow = 1; item = Some 0 } ∷ []
+nested_path = refl
 
 pub nested_before : pairs_below 4 (is_before (plan_of nested_tree)) ≡ pair 0 1 ∷ pair 0 2 ∷ pair 0 3 ∷ pair 1 2 ∷ pair 1 3 ∷ pair 2 3 ∷ []
 unfolding is_before

@@ -7,10 +7,10 @@ use Rattle.tf_flow.specs.declared.atoms.Provides.{Provides}
 use Rattle.tf_flow.specs.declared.atoms.Provides.TheVariants as provides
 use Rattle.tf_flow.specs.declared.atoms.RetryKind.{RetryKind}
 use Rattle.tf_flow.specs.declared.atoms.Task.{Task}
-use Rattle.tf_flow.specs.declared.ways.Turn.{Turn}
+use Rattle.tf_flow.specs.declared.paths.Turn.{Turn}
 use Rattle.tf_flow.specs.Conditions.{Connection}
 use Rattle.tf_flow.specs.Names.{is_among}
-use Rattle.tf_flow.specs.Outline.{Part, Atom, Item, is_retry_part, is_task_part, arguments_of, injected_in, provided_by, name_of, priority_of, part_of, way_of}
+use Rattle.tf_flow.specs.Outline.{Part, Atom, Item, is_retry_part, is_task_part, arguments_of, injected_in, provided_by, name_of, priority_of, part_of, atom_path}
 use Rattle.tf_numbers.specs.Pairs.{Pair}
 use Rattle.tf_model.specs.Before.{Flow, find_flow, no_flow}
 use Rattle.tf_model.specs.Linked.{taken_symbols, listed, name_of_item, item_standing}
@@ -54,9 +54,9 @@ name_in o = option_map_or name_of (option_map part_of o) []
 abbrev pub priority_in : Option Atom → ℤ
 priority_in o = option_map_or priority_of (option_map part_of o) (pos 0)
 
--- its way from the root
-abbrev pub way_in : Option Atom → List Turn
-way_in o = option_map_or way_of o []
+-- its path from the root
+abbrev pub path_in : Option Atom → List Turn
+path_in o = option_map_or atom_path o []
 
 -- the symbols that it takes from others
 abbrev pub taken_by : Option Atom → List (List ℕ)

@@ -3,9 +3,9 @@ use Rattle.std.specs.Prelude.{ℕ, List, [], ◌∷◌, Bool, true, false, ◌&&
 use Rattle.std.specs.Option.{option_map_or, unwrap_or}
 use Rattle.std.specs.List.{list_any}
 use Rattle.tf_numbers.specs.Pairs.{Pair, has_pair}
-use Rattle.tf_flow.specs.Outline.{Part, Atom, FlowPlace, part_of, way_of}
+use Rattle.tf_flow.specs.Outline.{Part, Atom, FlowPlace, part_of, atom_path}
 use Rattle.tf_flow.specs.declared.nested.FlowKind.TheVariants as kind
-use Rattle.tf_flow.specs.declared.ways.Turn.{Turn}
+use Rattle.tf_flow.specs.declared.paths.Turn.{Turn}
 
 -- a flow with what its kind and its links mean: which item is linked to which; which item comes before
 -- which; and the numbers of its atoms in standing order
@@ -40,7 +40,7 @@ flow_at flows g = unwrap_or (find_flow flows g) no_flow
 abbrev pub item_before : List Flow → ℕ → ℕ → ℕ → Bool
 item_before flows g u v = has_pair (flow_at flows g).order u v
 
--- two ways into one flow: its retry controller is before its items; of two items the order of the flow
+-- two paths into one flow: its retry controller is before its items; of two items the order of the flow
 -- decides; and in one item it is decided below
 abbrev pub turn_before : List Flow → ℕ → Option ℕ → Option ℕ → Bool → Bool
 turn_before flows g None None below = false
@@ -48,27 +48,27 @@ turn_before flows g None (Some v) below = true
 turn_before flows g (Some u) None below = false
 turn_before flows g (Some u) (Some v) below = if nat_eq u v then below else item_before flows g u v
 
--- an atom with the first way is before one with the second: it is decided in the lowest flow that holds both
-abbrev pub way_before : List Flow → List Turn → List Turn → Bool
-way_before flows [] other = false
-way_before flows (x ∷ xs) [] = false
-way_before flows (x ∷ xs) (y ∷ ys) = nat_eq x.flow y.flow && turn_before flows x.flow x.item y.item (way_before flows xs ys)
+-- an atom with the first path is before one with the second: it is decided in the lowest flow that holds both
+abbrev pub path_before : List Flow → List Turn → List Turn → Bool
+path_before flows [] other = false
+path_before flows (x ∷ xs) [] = false
+path_before flows (x ∷ xs) (y ∷ ys) = nat_eq x.flow y.flow && turn_before flows x.flow x.item y.item (path_before flows xs ys)
 
 -- what stands at a number: a task, a retry controller, or nothing
 abbrev pub part_at : List Atom → ℕ → Option Part
 part_at atoms a = option_map part_of (slice_get atoms a)
 
--- the way of the atom of a number; a number that no atom has, has none
-abbrev pub way_at : List Atom → ℕ → List Turn
-way_at atoms a = option_map_or way_of (slice_get atoms a) []
+-- the path of the atom of a number; a number that no atom has, has none
+abbrev pub path_at : List Atom → ℕ → List Turn
+path_at atoms a = option_map_or atom_path (slice_get atoms a) []
 
--- the way leads into flow g
+-- the path leads into flow g
 abbrev pub leads_into : ℕ → Turn → Bool
 leads_into g turn = nat_eq turn.flow g
 
--- the way leads into flow g, at any turn
+-- the path leads into flow g, at any turn
 abbrev pub passes_flow : ℕ → List Turn → Bool
-passes_flow g way = list_any (leads_into g) way
+passes_flow g path = list_any (leads_into g) path
 
 -- the two places are the same: that of one item, or of the retry controller
 abbrev pub same_place : Option ℕ → Option ℕ → Bool
@@ -81,6 +81,6 @@ same_place (Some u) (Some v) = nat_eq u v
 abbrev pub takes_item : ℕ → Option ℕ → Turn → Bool
 takes_item g item turn = nat_eq turn.flow g && same_place turn.item item
 
--- the way leads through this item of flow g
+-- the path leads through this item of flow g
 abbrev pub passes_item : ℕ → Option ℕ → List Turn → Bool
-passes_item g item way = list_any (takes_item g item) way
+passes_item g item path = list_any (takes_item g item) path

@@ -13,9 +13,9 @@ use Rattle.tf_states.specs.declared.record.Payload.TheVariants as payload
 use Rattle.tf_numbers.specs.Numbers.{first_below, is_number}
 use Rattle.tf_numbers.specs.Pairs.{Pair, has_pair}
 use Rattle.tf_flow.specs.Conditions.{Condition, is_same, is_below, is_above, negated, all_of, any_of, Conditions, no_conditions, condition, Decision, Connection}
-use Rattle.tf_flow.specs.declared.ways.Turn.{Turn}
+use Rattle.tf_flow.specs.declared.paths.Turn.{Turn}
 use Rattle.tf_model.specs.Before.{Flow, find_flow, no_flow}
-use Rattle.tf_model.specs.Plan.{Outline, count, way, is_before, is_task, own_flow, atom_name}
+use Rattle.tf_model.specs.Plan.{Outline, count, path, is_before, is_task, own_flow, atom_name}
 use Rattle.tf_model.specs.Snapshot.{Snapshot}
 use Rattle.tf_model.specs.States.{is_success, is_ignored}
 
@@ -166,7 +166,7 @@ linked_places linked (Some u) (Some w) = has_pair linked u w
 
 -- a link of v's own flow leads from v to a
 abbrev pub is_neighbor : Outline → ℕ → ℕ → Bool
-is_neighbor plan v a = is_sibling plan v a && linked_places (home plan v).linked (last_item (way plan v)) (last_item (way plan a))
+is_neighbor plan v a = is_sibling plan v a && linked_places (home plan v).linked (last_item (path plan v)) (last_item (path plan a))
 
 -- what a refused v ignores besides itself: all atoms after it; the tasks of its own flow that are after
 -- it; the tasks that a link leads to from it; or nothing

@@ -13,7 +13,7 @@ use Rattle.tf_states.specs.declared.state.FlowState.{FlowState}
 use Rattle.tf_states.specs.declared.state.FlowState.TheVariants as flow
 use Rattle.tf_states.specs.Transitions.{task_may, retry_may, flow_may}
 use Rattle.tf_model.specs.Before.{Flow, item_before}
-use Rattle.tf_model.specs.Plan.{Outline, way, holds, is_retry, is_task, own_flow}
+use Rattle.tf_model.specs.Plan.{Outline, path, holds, is_retry, is_task, own_flow}
 use Rattle.tf_model.specs.Deciders.{home, last_item}
 use Rattle.tf_numbers.specs.Pairs.{has_pair}
 use Rattle.tf_links.specs.Cycles.{shortest_cycle}
@@ -149,8 +149,8 @@ pub record IsLinkedTask (plan : Outline) (v a : ℕ) : Type 0 where
   pub to : ℕ
   pub task : is_task plan a ≡ true
   pub same_flow : own_flow plan a ≡ own_flow plan v
-  pub stands : last_item (way plan v) ≡ Some from
-  pub led_to : last_item (way plan a) ≡ Some to
+  pub stands : last_item (path plan v) ≡ Some from
+  pub led_to : last_item (path plan a) ≡ Some to
   pub linked : has_pair (home plan v).linked from to ≡ true
 
 -- the names are those of the shortest cycle through an item that lies on one, and no item before it lies on one

@@ -15,7 +15,7 @@ use Rattle.tf_links.specs.Reach.{reached}
 use Rattle.tf_links.specs.Standing.{standing_items}
 use Rattle.tf_flow.specs.Conditions.{Connection}
 use Rattle.tf_flow.specs.Outline.{Part, Atom, Standing, stands_task, stands_flow, Item, FlowPlace, arguments_of, injected_in, provided_by}
-use Rattle.tf_model.specs.Before.{Flow, flow_at, part_at, way_before, way_at, passes_item}
+use Rattle.tf_model.specs.Before.{Flow, flow_at, part_at, path_before, path_at, passes_item}
 
 -- the symbol of an argument
 abbrev pub arg_symbol : Arg → List ℕ
@@ -43,12 +43,12 @@ provides_at atoms symbol a = is_among (option_map_or listed (part_at atoms a) []
 
 -- the atom of a number stands in this item of flow g
 abbrev pub is_inside : List Atom → ℕ → ℕ → ℕ → Bool
-is_inside atoms g v a = passes_item g (Some v) (way_at atoms a)
+is_inside atoms g v a = passes_item g (Some v) (path_at atoms a)
 
 -- b, which stands in the item too, provides the symbol and is before a
 abbrev pub serves_inside : List Atom → List Flow → ℕ → ℕ → List ℕ → ℕ → ℕ → Bool
 serves_inside atoms inner g v symbol a b =
-    is_inside atoms g v b && (provides_at atoms symbol b && way_before inner (way_at atoms b) (way_at atoms a))
+    is_inside atoms g v b && (provides_at atoms symbol b && path_before inner (path_at atoms b) (path_at atoms a))
 
 -- no atom before a in the item provides the symbol
 abbrev pub is_unserved : List Atom → List Flow → ℕ → ℕ → ℕ → List ℕ → Bool

@@ -8,8 +8,8 @@ use Rattle.tf_flow.specs.declared.atoms.Provides.TheVariants as provides
 use Rattle.tf_flow.specs.Plan.{PlanValue}
 use Rattle.tf_flow.specs.Tree.{Tree, tree_of}
 use Rattle.tf_flow.specs.Outline.{is_task_part, is_retry_part, Atom, FlowPlace, atoms_of, flows_of, name_of, arguments_of, injected_in, provided_by}
-use Rattle.tf_flow.specs.declared.ways.Turn.{Turn}
-use Rattle.tf_model.specs.Before.{Flow, flow_at, part_at, way_before, way_at, passes_flow}
+use Rattle.tf_flow.specs.declared.paths.Turn.{Turn}
+use Rattle.tf_model.specs.Before.{Flow, flow_at, part_at, path_before, path_at, passes_flow}
 use Rattle.tf_model.specs.Linked.{arranged}
 
 -- the atoms and the flows in tree order, the values of the store, and whether reverts are deferred
@@ -35,17 +35,17 @@ outline_of plan = outline_of_tree (tree_of plan.root) plan.store plan.defer
 abbrev pub count : Outline → ℕ
 count plan = length plan.atoms
 
--- the way of atom a from the root
-abbrev pub way : Outline → ℕ → List Turn
-way plan a = way_at plan.atoms a
+-- the path of atom a from the root
+abbrev pub path : Outline → ℕ → List Turn
+path plan a = path_at plan.atoms a
 
 -- a is before b
 unfoldable pub is_before : Outline → ℕ → ℕ → Bool
-is_before plan a b = way_before plan.flows (way plan a) (way plan b)
+is_before plan a b = path_before plan.flows (path plan a) (path plan b)
 
 -- flow g holds a, at any depth; it holds its own retry controller
 unfoldable pub holds : Outline → ℕ → ℕ → Bool
-holds plan g a = passes_flow g (way plan a)
+holds plan g a = passes_flow g (path plan a)
 
 -- a is a retry controller
 abbrev pub is_retry : Outline → ℕ → Bool
@@ -55,7 +55,7 @@ is_retry plan a = option_map_or is_retry_part (part_at plan.atoms a) false
 abbrev pub is_task : Outline → ℕ → Bool
 is_task plan a = option_map_or is_task_part (part_at plan.atoms a) false
 
--- the flow into which the last turn of a way leads
+-- the flow into which the last turn of a path leads
 abbrev pub last_flow : List Turn → Option ℕ
 last_flow [] = None
 last_flow (turn ∷ []) = Some turn.flow
@@ -63,7 +63,7 @@ last_flow (turn ∷ next ∷ turns) = last_flow (next ∷ turns)
 
 -- the flow in which a stands itself, as its retry controller or as an item
 abbrev pub own_flow : Outline → ℕ → Option ℕ
-own_flow plan a = last_flow (way plan a)
+own_flow plan a = last_flow (path plan a)
 
 -- the retry controller of flow g, where it has one
 abbrev pub retry_of : Outline → ℕ → Option ℕ

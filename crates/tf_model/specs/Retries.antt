@@ -19,9 +19,9 @@ use Rattle.tf_states.specs.declared.record.What.{What}
 use Rattle.tf_states.specs.declared.record.What.TheVariants as what
 use Rattle.tf_states.specs.declared.state.AtomState.TheVariants as atom
 use Rattle.tf_flow.specs.Outline.{Part, a_task, a_retry}
-use Rattle.tf_flow.specs.declared.ways.Turn.{Turn}
+use Rattle.tf_flow.specs.declared.paths.Turn.{Turn}
 use Rattle.tf_model.specs.Before.{part_at}
-use Rattle.tf_model.specs.Plan.{Outline, way, retry_of}
+use Rattle.tf_model.specs.Plan.{Outline, path, retry_of}
 use Rattle.tf_model.specs.Snapshot.{Resolve, Snapshot}
 use Rattle.tf_model.specs.Scope.{item_value, given_for}
 
@@ -122,14 +122,14 @@ abbrev pub controlled : ℕ → ℕ → Option ℕ → List Controlled
 controlled a g None = []
 controlled a g (Some r) = if nat_eq r a then [] else record { flow = g; retry = r } ∷ []
 
--- the flows on a way that have a retry controller other than a, the innermost first
+-- the flows on a path that have a retry controller other than a, the innermost first
 abbrev pub controlled_on : Outline → ℕ → List Turn → List Controlled
 controlled_on plan a [] = []
 controlled_on plan a (turn ∷ turns) = controlled_on plan a turns ++ controlled a turn.flow (retry_of plan turn.flow)
 
 -- the flows around a that have a retry controller other than a, the innermost first
 abbrev pub enclosing : Outline → ℕ → List Controlled
-enclosing plan a = controlled_on plan a (way plan a)
+enclosing plan a = controlled_on plan a (path plan a)
 
 -- the kind is REVERT
 abbrev pub is_revert : Kind → Bool

@@ -20,16 +20,16 @@ use Rattle.tf_actions.specs.declared.outcomes.Action.TheVariants as action
 use Rattle.tf_states.specs.declared.record.Payload.{Payload}
 use Rattle.tf_states.specs.declared.record.Payload.TheVariants as payload
 use Rattle.tf_numbers.specs.Numbers.{numbers_below}
-use Rattle.tf_flow.specs.declared.ways.Turn.{Turn}
+use Rattle.tf_flow.specs.declared.paths.Turn.{Turn}
 use Rattle.tf_model.specs.Before.{flow_at, passes_item}
 use Rattle.tf_model.specs.Linked.{provides_at}
-use Rattle.tf_model.specs.Plan.{Outline, count, way, is_before, arguments, injects, provides_of, atom_name}
+use Rattle.tf_model.specs.Plan.{Outline, count, path, is_before, arguments, injects, provides_of, atom_name}
 use Rattle.tf_model.specs.Snapshot.{Snapshot}
 use Rattle.tf_model.specs.States.{is_success}
 
 -- a isn't in the item that the turn takes
 abbrev pub is_elsewhere : Outline → Turn → ℕ → Bool
-is_elsewhere plan turn a = not (passes_item turn.flow turn.item (way plan a))
+is_elsewhere plan turn a = not (passes_item turn.flow turn.item (path plan a))
 
 -- a is before y
 abbrev pub is_earlier : Outline → ℕ → ℕ → Bool
@@ -43,7 +43,7 @@ members_in plan y turn =
 
 -- the members of y's scope: those of its own flow, then those of the flow around that, up to the root
 unfoldable pub members : Outline → ℕ → List ℕ
-members plan y = flat_map (members_in plan y) (reverse (way plan y))
+members plan y = flat_map (members_in plan y) (reverse (path plan y))
 
 -- b lists the symbol among those that it provides
 abbrev pub lists_symbol : Outline → List ℕ → ℕ → Bool

@@ -1,5 +1,5 @@
 -- The symbols that make an item ambiguous, and the cycle of a flow.
-use Rattle.tf_flow.specs.Ways.{shown_part}
+use Rattle.tf_flow.specs.Paths.{shown_part}
 use Rattle.std.proofs.Common.{◌≡◌, ◌≢◌, ℕ, zero, suc, ◌+◌, ◌<◌, ◌≤◌, min, List, [], ◌∷◌, ◌++◌, length, take, drop, map, filter, flat_map, Bool, true, false, not, Some, None, refl, sym, ap, ◌∙◌, add-one, append_assoc, inl, inr, arith, eqb-true, eq-eqb, slice_index_or, slice_get, cond}
 use Rattle.std.specs.Prelude.{nat_eq, nat_lt, if◌then◌else◌}
 use Rattle.std.specs.Option.{option_map}
@@ -13,8 +13,8 @@ use Rattle.tf_numbers.specs.Numbers.{which_below, has_number}
 use Rattle.tf_numbers.specs.Pairs.{Pair}
 use Rattle.tf_links.specs.Reach.{reached}
 use Rattle.tf_flow.specs.Outline.{Part, injected_in, arguments_of}
-use Rattle.tf_flow.specs.declared.ways.Turn.{Turn}
-use Rattle.tf_model.specs.Before.{Flow, way_at, passes_item}
+use Rattle.tf_flow.specs.declared.paths.Turn.{Turn}
+use Rattle.tf_model.specs.Before.{Flow, path_at, passes_item}
 use Rattle.tf_model.specs.Linked.{arg_symbol, is_unserved, is_inside, needs_of_atom, needs, givers, item_name}
 use Rattle.tf_model.proofs.Told.{item_name_in}
 use Rattle.tf_model.specs.Compilation.{ambiguous, cycle, name_less, least, are_several, is_ambiguous, refuse_givers, refuse_symbol, ambiguity_at, is_back, cycle_through, first_cycle}
@@ -98,13 +98,13 @@ part_all sight item atom part old symbols args i is whole are inner shows = is i
 
 -- ---- one atom
 
-pub atom_outside : (sight : Sight) (inner : List Flow) (item atom : ℕ) (place : AtomPlace) (symbols : List (List ℕ)) (way : List Turn) → way ≡ way_at (atoms_seen sight) atom → passes_item (place_seen sight).number (Some item) way ≡ false → symbols ≡ symbols ++ ambiguities_inside sight inner item atom
-atom_outside sight inner item atom place symbols way is off = nothing_more symbols (ambiguities_inside sight inner item atom)
+pub atom_outside : (sight : Sight) (inner : List Flow) (item atom : ℕ) (place : AtomPlace) (symbols : List (List ℕ)) (path : List Turn) → path ≡ path_at (atoms_seen sight) atom → passes_item (place_seen sight).number (Some item) path ≡ false → symbols ≡ symbols ++ ambiguities_inside sight inner item atom
+atom_outside sight inner item atom place symbols path is off = nothing_more symbols (ambiguities_inside sight inner item atom)
     (ap (λ (b : Bool). if b then ambiguous_of sight item (needed_at sight inner atom item) else []) (ap (passes_item (place_seen sight).number (Some item)) (sym is) ∙ off))
 
-pub atom_inside : (sight : Sight) (item atom : ℕ) (place : AtomPlace) (old symbols : List (List ℕ)) (way : List Turn) → way ≡ way_at (atoms_seen sight) atom → passes_item (place_seen sight).number (Some item) way ≡ true → atom < length sight.atoms.now → place ≡ slice_index_or sight.atoms.now atom place
+pub atom_inside : (sight : Sight) (item atom : ℕ) (place : AtomPlace) (old symbols : List (List ℕ)) (path : List Turn) → path ≡ path_at (atoms_seen sight) atom → passes_item (place_seen sight).number (Some item) path ≡ true → atom < length sight.atoms.now → place ≡ slice_index_or sight.atoms.now atom place
     → AmbiguitiesSeen sight item atom (shown_part place.part) old symbols (arguments_of (shown_part place.part)) → (inner : List Flow) → ShowsFlows sight.table.now inner → symbols ≡ old ++ ambiguities_inside sight inner item atom
-atom_inside sight item atom place old symbols way is on within read seen inner shows = seen inner shows
+atom_inside sight item atom place old symbols path is on within read seen inner shows = seen inner shows
     ∙ ap (λ (xs : List (List ℕ)). old ++ xs)
     (ap (λ (xs : List (List ℕ)). ambiguous_of sight item (filter (is_unserved (atoms_seen sight) inner (place_seen sight).number item atom) xs)) (sym (part_seen sight.atoms.now atom place within read))
     ∙ sym (ap (λ (b : Bool). if b then ambiguous_of sight item (needed_at sight inner atom item) else []) (ap (passes_item (place_seen sight).number (Some item)) (sym is) ∙ on)))

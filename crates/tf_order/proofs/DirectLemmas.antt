@@ -6,9 +6,9 @@ use Rattle.std.proofs.lemmas.Bool.{cases_lt}
 use Rattle.std.proofs.lemmas.Option.{slice_get_past}
 use Rattle.tf_flow.specs.declared.nested.FlowKind.{FlowKind}
 use Rattle.tf_flow.specs.declared.nested.FlowKind.TheVariants as kind
-use Rattle.tf_flow.specs.declared.ways.Turn.{Turn}
+use Rattle.tf_flow.specs.declared.paths.Turn.{Turn}
 use Rattle.tf_flow.specs.Outline.{is_task_part}
-use Rattle.tf_flow.specs.Ways.{shown_part}
+use Rattle.tf_flow.specs.Paths.{shown_part}
 use Rattle.tf_links.specs.Bits.{has, room}
 use Rattle.tf_links.specs.Links.{leads}
 use Rattle.tf_links.proofs.BitLemmas.{past_none}
@@ -244,7 +244,7 @@ row_past rows v k on = elim (cases_lt v (length rows)) [
 
 -- the set has the tasks that the atom leads to
 pub found_all : (outline : Outline) (a : ℕ) (from : Turn) (from_atom : AtomPlace) (rows : List (List ℕ)) (items set row : List ℕ) → a < atoms_found outline → from_atom ≡ slice_index_or outline.atoms.items a from_atom
-    → last_flow from_atom.way ≡ Some from.flow → last_item from_atom.way ≡ from.item → AreTasksByItem outline (atoms_found outline) rows
+    → last_flow from_atom.path ≡ Some from.flow → last_item from_atom.path ≡ from.item → AreTasksByItem outline (atoms_found outline) rows
     → ((v : ℕ) → v < length rows → has_number items v ≡ leads_in (flow_at (plan_seen outline).flows from.flow) from.item (Some v)) → ((k : ℕ) → has set k ≡ is_at_one outline from.flow rows items k)
     → row ≡ which_below (atoms_found outline) (has set) → row ≡ which_below (atoms_found outline) (leads_to (plan_seen outline) a)
 found_all outline a from from_atom rows items set row a_below from_read flow_is item_is are led found is =
@@ -253,9 +253,9 @@ found_all outline a from from_atom rows items set row a_below from_read flow_is 
     each : (k : ℕ) → k < atoms_found outline → (atom : AtomPlace) × (slice_get outline.atoms.items k ≡ Some atom) × (atom ≡ slice_index_or outline.atoms.items k atom) → has set k ≡ leads_to (plan_seen outline) a k
     each k below (atom, got, read) =
         found k
-        ∙ (any_same (λ (v : ℕ). has_number (row_at rows v) k && is_own outline from.flow k) (λ (v : ℕ). is_number (task_item atom) v && is_number (last_flow atom.way) from.flow) items (λ v.
+        ∙ (any_same (λ (v : ℕ). has_number (row_at rows v) k && is_own outline from.flow k) (λ (v : ℕ). is_number (task_item atom) v && is_number (last_flow atom.path) from.flow) items (λ v.
         ap2 ◌&&◌ (in_row v) (ap (λ (o : Option AtomPlace). is_in_own from.flow o) got))
-        ∙ (led_by (is_task_part (shown_part atom.part)) (last_item atom.way) (last_flow atom.way) from.flow (flow_at (plan_seen outline).flows from.flow) from.item items (λ v some. led v (row_past rows v k (in_row v ∙ (ap (λ (o : Option ℕ). is_number o v) some ∙ eq-eqb v v refl))))
+        ∙ (led_by (is_task_part (shown_part atom.part)) (last_item atom.path) (last_flow atom.path) from.flow (flow_at (plan_seen outline).flows from.flow) from.item items (λ v some. led v (row_past rows v k (in_row v ∙ (ap (λ (o : Option ℕ). is_number o v) some ∙ eq-eqb v v refl))))
         ∙ leads_seen outline a k (Some from) atom from_atom (leads_from (plan_seen outline).flows (Some from) atom) a_below below from_read read flow_is item_is refl))
       where
         in_row : (v : ℕ) → has_number (row_at rows v) k ≡ is_number (task_item atom) v
@@ -265,7 +265,7 @@ found_all outline a from from_atom rows items set row a_below from_read flow_is 
             ∙ ap (λ (o : Option AtomPlace). is_at_item v o) got)
 
 -- where the atom has no place, it leads to none
-pub nothing_found : (outline : Outline) (a : ℕ) (from_atom : AtomPlace) (row : List ℕ) → a < atoms_found outline → from_atom ≡ slice_index_or outline.atoms.items a from_atom → last_flow from_atom.way ≡ None → last_item from_atom.way ≡ None → row ≡ []
+pub nothing_found : (outline : Outline) (a : ℕ) (from_atom : AtomPlace) (row : List ℕ) → a < atoms_found outline → from_atom ≡ slice_index_or outline.atoms.items a from_atom → last_flow from_atom.path ≡ None → last_item from_atom.path ≡ None → row ≡ []
     → row ≡ which_below (atoms_found outline) (leads_to (plan_seen outline) a)
 nothing_found outline a from_atom row a_below from_read flow_is item_is is =
     is ∙ sym (none_of (atoms_found outline) (leads_to (plan_seen outline) a) (λ k below. none k below (there_is outline.atoms.items k below)))
@@ -280,7 +280,7 @@ nothing_found outline a from_atom row a_below from_read flow_is item_is is =
     none : (k : ℕ) → k < atoms_found outline → (atom : AtomPlace) × (slice_get outline.atoms.items k ≡ Some atom) × (atom ≡ slice_index_or outline.atoms.items k atom) → leads_to (plan_seen outline) a k ≡ false
     none k below (atom, got, read) =
         sym (leads_seen outline a k None atom from_atom (leads_from (plan_seen outline).flows None atom) a_below below from_read read flow_is item_is refl)
-        ∙ no_flow (last_flow atom.way) (is_task_part (shown_part atom.part))
+        ∙ no_flow (last_flow atom.path) (is_task_part (shown_part atom.part))
 
 -- those that stand at one of the items are atoms
 pub found_within : (outline : Outline) (g : ℕ) (rows : List (List ℕ)) (items set : List ℕ) → AreTasksByItem outline (atoms_found outline) rows → ((k : ℕ) → has set k ≡ is_at_one outline g rows items k) → (k : ℕ) → has set k ≡ true → k < atoms_found outline

@@ -5,12 +5,12 @@ use Rattle.std.proofs.lemmas.Bool.{cases_lt, lt-ltb}
 use Rattle.tf_flow.specs.Plan.{PlanValue}
 use Rattle.tf_numbers.specs.Numbers.{which_below, numbers_below, has_number}
 use Rattle.tf_flow.specs.Outline.{Atom}
-use Rattle.tf_flow.specs.declared.ways.Turn.{Turn}
+use Rattle.tf_flow.specs.declared.paths.Turn.{Turn}
 use Rattle.std.specs.Option.{unwrap_or}
-use Rattle.tf_model.specs.Before.{Flow, no_flow, way_before}
-use Rattle.tf_model.specs.Plan.{Outline, outline_of, count, way, is_before, is_task, last_flow}
+use Rattle.tf_model.specs.Before.{Flow, no_flow, path_before}
+use Rattle.tf_model.specs.Plan.{Outline, outline_of, count, path, is_before, is_task, last_flow}
 use Rattle.tf_model.specs.Deciders.{same_flow, last_item}
-use Rattle.tf_model.proofs.Told.{way_in, flow_in}
+use Rattle.tf_model.proofs.Told.{path_in, flow_in}
 use Rattle.tf_model.specs.Scope.{is_earlier}
 use Rattle.tf_order.specs.Graph.{GraphValue, IsGraphOf, predecessors_of, successors_of, direct_tasks_of, leads_to, leads_in}
 use Rattle.tf_order.specs.Rows.{row_in, row_at, is_in_row}
@@ -65,26 +65,26 @@ none_which : (n : ℕ) (test : ℕ → Bool) → ((k : ℕ) → test k ≡ false
 none_which zero test each = refl
 none_which (suc n) test each = ap (λ (rest : List ℕ). rest ++ (if test n then n ∷ [] else [])) (none_which n test each) ∙ ap (λ (b : Bool). if b then n ∷ [] else []) (each n)
 
-no_way : (plan : Outline) (a : ℕ) → count plan ≤ a → way plan a ≡ []
-no_way plan a past = ap (λ (o : Option Atom). way_in o) (slice_get_past plan.atoms a past)
+no_way : (plan : Outline) (a : ℕ) → count plan ≤ a → path plan a ≡ []
+no_way plan a past = ap (λ (o : Option Atom). path_in o) (slice_get_past plan.atoms a past)
 
-before_none : (flows : List Flow) (w : List Turn) → way_before flows w [] ≡ false
+before_none : (flows : List Flow) (w : List Turn) → path_before flows w [] ≡ false
 before_none flows [] = refl
 before_none flows (x ∷ xs) = refl
 
 no_earlier : (plan : Outline) (a b : ℕ) → count plan ≤ a → is_earlier plan a b ≡ false
 unfolding is_before
-no_earlier plan a b past = ap (way_before plan.flows (way plan b)) (no_way plan a past) ∙ before_none plan.flows (way plan b)
+no_earlier plan a b past = ap (path_before plan.flows (path plan b)) (no_way plan a past) ∙ before_none plan.flows (path plan b)
 
 no_later : (plan : Outline) (a b : ℕ) → count plan ≤ a → is_before plan a b ≡ false
 unfolding is_before
-no_later plan a b past = ap (λ (w : List Turn). way_before plan.flows w (way plan b)) (no_way plan a past)
+no_later plan a b past = ap (λ (w : List Turn). path_before plan.flows w (path plan b)) (no_way plan a past)
 
 -- an atom that isn't there is no task
 no_place : (plan : Outline) (a b : ℕ) → count plan ≤ a → leads_to plan a b ≡ false
 no_place plan a b past =
-    ap (λ (w : List Turn). (is_task plan b && same_flow (last_flow (way plan b)) (last_flow w)) && leads_in (unwrap_or (flow_in plan (last_flow w)) no_flow) (last_item w) (last_item (way plan b))) (no_way plan a past)
-    ∙ nothing (is_task plan b) (last_flow (way plan b))
+    ap (λ (w : List Turn). (is_task plan b && same_flow (last_flow (path plan b)) (last_flow w)) && leads_in (unwrap_or (flow_in plan (last_flow w)) no_flow) (last_item w) (last_item (path plan b))) (no_way plan a past)
+    ∙ nothing (is_task plan b) (last_flow (path plan b))
   where
     nothing : (b : Bool) (g : Option ℕ) → (b && same_flow g None) && false ≡ false
     nothing true None = refl

@@ -1,6 +1,6 @@
 pub mod GraphLemmas
 pub mod IndexLemmas
-pub mod WayLemmas
+pub mod PathLemmas
 pub mod ArrangedLemmas
 pub mod SightLemmas
 pub mod LinkingLemmas

@@ -10,8 +10,8 @@ use Rattle.tf_flow.specs.Rules.{bind_symbols}
 use Rattle.tf_numbers.specs.Numbers.{any_below, which_below, has_number}
 use Rattle.tf_numbers.specs.Pairs.{has_pair}
 use Rattle.tf_links.specs.Reach.{reached}
-use Rattle.tf_flow.specs.declared.ways.Turn.{Turn}
-use Rattle.tf_model.specs.Before.{Flow, takes_item, same_place, passes_item, way_before, way_at}
+use Rattle.tf_flow.specs.declared.paths.Turn.{Turn}
+use Rattle.tf_model.specs.Before.{Flow, takes_item, same_place, passes_item, path_before, path_at}
 use Rattle.tf_model.specs.Linked.{provides_at, is_inside, serves_inside, is_unserved, gives_inside, item_provides, retry_provides, explicit, reaches_with, is_served, other_provides, givers}
 use Rattle.tf_numbers.proofs.TruthLemmas.{and_first, and_second, or_either, true_first, true_second, true_both, same_truth, never_true, or_chain, or_false, and_true, and_false, second_false, or_nothing, neither, neither_second, neither_first, or_spread, and_spread}
 use Rattle.tf_numbers.proofs.PairLemmas.{which_passes, passes_which}
@@ -29,10 +29,10 @@ use Rattle.tf_links.proofs.StandingLemmas.{listed_within, taking_next, taking_no
 
 -- ---- an atom by its number
 
-pub way_seen : (atoms : List AtomPlace) (k : ℕ) (atom : AtomPlace) → k < length atoms → atom ≡ slice_index_or atoms k atom → way_at (shown_atoms atoms) k ≡ atom.way
-way_seen [] k atom within is = absurd (omega arith)
-way_seen (x ∷ xs) zero atom within is = ap (λ (a : AtomPlace). a.way) (sym is)
-way_seen (x ∷ xs) (suc k) atom within is = way_seen xs k atom (omega arith) is
+pub path_seen : (atoms : List AtomPlace) (k : ℕ) (atom : AtomPlace) → k < length atoms → atom ≡ slice_index_or atoms k atom → path_at (shown_atoms atoms) k ≡ atom.path
+path_seen [] k atom within is = absurd (omega arith)
+path_seen (x ∷ xs) zero atom within is = ap (λ (a : AtomPlace). a.path) (sym is)
+path_seen (x ∷ xs) (suc k) atom within is = path_seen xs k atom (omega arith) is
 
 pub provider_within : (sight : Sight) (symbol : List ℕ) (xs : List ℕ) (i : ℕ) → HasProviders sight → xs ≡ told sight.providers.now symbol → i < length xs → slice_index_or xs i 0 < length sight.atoms.now
 provider_within sight symbol xs i providers is within =
@@ -106,7 +106,7 @@ served_by : (sight : Sight) (inner : List Flow) (item atom : ℕ) (symbol : List
 served_by sight inner item atom symbol xs providers is =
     ap not (ap (λ (n : ℕ). any_below n (serves_inside (atoms_seen sight) inner (place_seen sight).number item symbol atom)) (length_shown sight.atoms.now)
     ∙ (any_which (length sight.atoms.now) (serves_in (atoms_seen sight) inner (place_seen sight).number item atom) (provides_at (atoms_seen sight) symbol) (serves_inside (atoms_seen sight) inner (place_seen sight).number item symbol atom)
-    (λ b. swap (is_inside (atoms_seen sight) (place_seen sight).number item b) (provides_at (atoms_seen sight) symbol b) (way_before inner (way_at (atoms_seen sight) b) (way_at (atoms_seen sight) atom)))
+    (λ b. swap (is_inside (atoms_seen sight) (place_seen sight).number item b) (provides_at (atoms_seen sight) symbol b) (path_before inner (path_at (atoms_seen sight) b) (path_at (atoms_seen sight) atom)))
     ∙ ap (list_any (serves_in (atoms_seen sight) inner (place_seen sight).number item atom)) (sym (is ∙ providers symbol))))
   where
     swap : (a b c : Bool) → a && (b && c) ≡ (a && c) && b
@@ -163,15 +163,15 @@ pub record MarkedBy (old set : List ℕ) (flow count : ℕ) (turns : List Turn) 
   pub width : length set ≡ words_for count
   pub told : (u : ℕ) → has set u ≡ (has old u || marks flow count turns u)
 
-pub marks_start : (old : List ℕ) (flow count : ℕ) (way : List Turn) → length old ≡ words_for count → MarkedBy old old flow count (take 0 way)
-marks_start old flow count way wide = record { width = wide; told = λ u. or_nothing (has old u) _ (second_false (nat_lt u count) _ (none way u)) }
+pub marks_start : (old : List ℕ) (flow count : ℕ) (path : List Turn) → length old ≡ words_for count → MarkedBy old old flow count (take 0 path)
+marks_start old flow count path wide = record { width = wide; told = λ u. or_nothing (has old u) _ (second_false (nat_lt u count) _ (none path u)) }
   where
-    none : (way : List Turn) (u : ℕ) → passes_item flow (Some u) (take 0 way) ≡ false
+    none : (path : List Turn) (u : ℕ) → passes_item flow (Some u) (take 0 path) ≡ false
     none [] u = refl
     none (x ∷ xs) u = refl
 
-passes_next : (flow u : ℕ) (way : List Turn) (i : ℕ) (turn : Turn) → i < length way → turn ≡ slice_index_or way i turn
-    → passes_item flow (Some u) (take (suc i) way) ≡ (passes_item flow (Some u) (take i way) || takes_item flow (Some u) turn)
+passes_next : (flow u : ℕ) (path : List Turn) (i : ℕ) (turn : Turn) → i < length path → turn ≡ slice_index_or path i turn
+    → passes_item flow (Some u) (take (suc i) path) ≡ (passes_item flow (Some u) (take i path) || takes_item flow (Some u) turn)
 passes_next flow u [] i turn within is = absurd (omega arith)
 passes_next flow u (x ∷ xs) zero turn within is = ap (λ (t : Turn). takes_item flow (Some u) t || passes_item flow (Some u) (take 0 xs)) (sym is) ∙ last (takes_item flow (Some u) turn) xs
   where
@@ -182,17 +182,17 @@ passes_next flow u (x ∷ xs) zero turn within is = ap (λ (t : Turn). takes_ite
 passes_next flow u (x ∷ xs) (suc i) turn within is = ap (λ (b : Bool). takes_item flow (Some u) x || b) (passes_next flow u xs i turn (omega arith) is)
     ∙ or_chain (takes_item flow (Some u) x) (passes_item flow (Some u) (take i xs)) (takes_item flow (Some u) turn)
 
-pub marks_more : (old set new : List ℕ) (flow count : ℕ) (way : List Turn) (i : ℕ) (turn : Turn) → MarkedBy old set flow count (take i way) → i < length way → turn ≡ slice_index_or way i turn → length new ≡ words_for count
-    → ((u : ℕ) → has new u ≡ (has set u || marks_turn flow count turn u)) → MarkedBy old new flow count (take (i + 1) way)
-marks_more old set new flow count way i turn before within is wide put = record {
+pub marks_more : (old set new : List ℕ) (flow count : ℕ) (path : List Turn) (i : ℕ) (turn : Turn) → MarkedBy old set flow count (take i path) → i < length path → turn ≡ slice_index_or path i turn → length new ≡ words_for count
+    → ((u : ℕ) → has new u ≡ (has set u || marks_turn flow count turn u)) → MarkedBy old new flow count (take (i + 1) path)
+marks_more old set new flow count path i turn before within is wide put = record {
   width = wide;
   told = λ u. put u ∙ (ap (λ (b : Bool). b || marks_turn flow count turn u) (before.told u)
-      ∙ (or_spread (has old u) (nat_lt u count) (passes_item flow (Some u) (take i way)) (takes_item flow (Some u) turn)
-      ∙ ap (λ (b : Bool). has old u || (nat_lt u count && b)) (sym (ap (λ (n : ℕ). passes_item flow (Some u) (take n way)) (add-one i) ∙ passes_next flow u way i turn within is))));
+      ∙ (or_spread (has old u) (nat_lt u count) (passes_item flow (Some u) (take i path)) (takes_item flow (Some u) turn)
+      ∙ ap (λ (b : Bool). has old u || (nat_lt u count && b)) (sym (ap (λ (n : ℕ). passes_item flow (Some u) (take n path)) (add-one i) ∙ passes_next flow u path i turn within is))));
 }
 
-pub marks_all : (old set : List ℕ) (flow count : ℕ) (way : List Turn) (i : ℕ) → MarkedBy old set flow count (take i way) → length way ≤ i → (u : ℕ) → has set u ≡ (has old u || marks flow count way u)
-marks_all old set flow count way i is whole u = is.told u ∙ ap (λ (ts : List Turn). has old u || marks flow count ts u) (whole_taken way i whole)
+pub marks_all : (old set : List ℕ) (flow count : ℕ) (path : List Turn) (i : ℕ) → MarkedBy old set flow count (take i path) → length path ≤ i → (u : ℕ) → has set u ≡ (has old u || marks flow count path u)
+marks_all old set flow count path i is whole u = is.told u ∙ ap (λ (ts : List Turn). has old u || marks flow count ts u) (whole_taken path i whole)
   where
     whole_taken : (ts : List Turn) (i : ℕ) → length ts ≤ i → take i ts ≡ ts
     whole_taken [] zero past = refl
@@ -214,9 +214,9 @@ pub record ItemsOf (sight : Sight) (set atoms : List ℕ) : Type 0 where
 pub marked_start : (sight : Sight) (set xs : List ℕ) → length set ≡ words_for (count_seen sight) → ((u : ℕ) → has set u ≡ false) → ItemsOf sight set (take 0 xs)
 marked_start sight set xs wide none = record { width = wide; told = λ u. none u ∙ sym (second_false (nat_lt u (count_seen sight)) _ (ap (list_any (is_inside (atoms_seen sight) (place_seen sight).number u)) (taking_none xs))) }
 
-pub marked_more : (sight : Sight) (set new xs : List ℕ) (i : ℕ) (way : List Turn) → ItemsOf sight set (take i xs) → i < length xs → way ≡ way_at (atoms_seen sight) (slice_index_or xs i 0) → length new ≡ words_for (count_seen sight)
-    → ((u : ℕ) → has new u ≡ (has set u || marks (place_seen sight).number (count_seen sight) way u)) → ItemsOf sight new (take (i + 1) xs)
-marked_more sight set new xs i way before within is wide put = record {
+pub marked_more : (sight : Sight) (set new xs : List ℕ) (i : ℕ) (path : List Turn) → ItemsOf sight set (take i xs) → i < length xs → path ≡ path_at (atoms_seen sight) (slice_index_or xs i 0) → length new ≡ words_for (count_seen sight)
+    → ((u : ℕ) → has new u ≡ (has set u || marks (place_seen sight).number (count_seen sight) path u)) → ItemsOf sight new (take (i + 1) xs)
+marked_more sight set new xs i path before within is wide put = record {
   width = wide;
   told = λ u. put u ∙ (ap2 (λ (a b : Bool). a || b) (before.told u) (ap (λ (w : List Turn). marks (place_seen sight).number (count_seen sight) w u) is)
       ∙ (and_spread (nat_lt u (count_seen sight)) (list_any (is_inside (atoms_seen sight) (place_seen sight).number u) (take i xs)) (is_inside (atoms_seen sight) (place_seen sight).number u (slice_index_or xs i 0))
@@ -298,10 +298,10 @@ bound_here [] i bind symbol within is on = absurd (omega arith)
 bound_here (x ∷ xs) zero bind symbol within is on = sym (true_first (same_name symbol x.symbol) (is_among (bind_symbols xs) symbol) (ap (λ (b : Bind). same_name symbol b.symbol) (sym is) ∙ on))
 bound_here (x ∷ xs) (suc i) bind symbol within is on = sym (true_second (same_name symbol x.symbol) (is_among (bind_symbols xs) symbol) (sym (bound_here xs i bind symbol (omega arith) is on)))
 
-pub marked_next : (sight : Sight) (set new xs : List ℕ) (i : ℕ) (way : List Turn) (count : ℕ) → count ≡ count_seen sight → ItemsOf sight set (take i xs) → i < length xs → way ≡ way_at (atoms_seen sight) (slice_index_or xs i 0) → length new ≡ words_for count
-    → ((u : ℕ) → has new u ≡ (has set u || marks (place_seen sight).number count way u)) → ItemsOf sight new (take (i + 1) xs)
-marked_next sight set new xs i way count same before within is wide put = marked_more sight set new xs i way before within is (wide ∙ ap words_for same)
-    (λ u. put u ∙ ap (λ (n : ℕ). has set u || marks (place_seen sight).number n way u) same)
+pub marked_next : (sight : Sight) (set new xs : List ℕ) (i : ℕ) (path : List Turn) (count : ℕ) → count ≡ count_seen sight → ItemsOf sight set (take i xs) → i < length xs → path ≡ path_at (atoms_seen sight) (slice_index_or xs i 0) → length new ≡ words_for count
+    → ((u : ℕ) → has new u ≡ (has set u || marks (place_seen sight).number count path u)) → ItemsOf sight new (take (i + 1) xs)
+marked_next sight set new xs i path count same before within is wide put = marked_more sight set new xs i path before within is (wide ∙ ap words_for same)
+    (λ u. put u ∙ ap (λ (n : ℕ). has set u || marks (place_seen sight).number n path u) same)
 
 -- ---- the items that give a symbol are items of the flow
 

@@ -1,14 +1,14 @@
 -- Rows that grow by stretches of numbers, and what tables tell of a plan.
-use Rattle.tf_flow.specs.Ways.{shown_part}
+use Rattle.tf_flow.specs.Paths.{shown_part}
 use Rattle.std.proofs.Common.{◌≡◌, ◌≢◌, ℕ, zero, suc, ◌+◌, ◌<◌, ◌≤◌, ◌-◌, ◌⊎◌, List, [], ◌∷◌, ◌++◌, length, take, drop, map, Bool, true, false, ◌&&◌, Option, Some, None, refl, sym, ap, subst, ◌∙◌, add-one, inl, inr, arith, eqb-true, eq-eqb, slice_set, slice_get, slice_index_or}
 use Rattle.std.specs.Prelude.{nat_eq, nat_le, nat_lt, slice_range, if◌then◌else◌}
 use Rattle.std.proofs.lemmas.Bool.{cases_lt, lt-ltb, ltb-true, le-leb, leb-true}
 use Rattle.std.proofs.lemmas.List.{length-set, length-map}
 use Rattle.std.specs.Option.{unwrap_or}
-use Rattle.tf_model.specs.Before.{Flow, find_flow, no_flow, way_at}
+use Rattle.tf_model.specs.Before.{Flow, find_flow, no_flow, path_at}
 use Rattle.tf_numbers.specs.Numbers.{numbers_below, which_below}
 use Rattle.tf_flow.specs.Outline.{Atom, is_task_part}
-use Rattle.tf_flow.specs.declared.ways.Turn.{Turn}
+use Rattle.tf_flow.specs.declared.paths.Turn.{Turn}
 use Rattle.tf_model.specs.Plan.{Outline as PlanOutline, is_before, last_flow, count}
 use Rattle.tf_model.specs.Deciders.{last_item, same_flow}
 use Rattle.tf_model.proofs.Told.{standing_in, is_task_in, flow_in}
@@ -22,12 +22,12 @@ use Rattle.tf_flow.specs.Listing.{shown_atom, shown_atoms}
 use Rattle.tf_order.specs.Rows.{row_in, row_at}
 use Rattle.tf_order.specs.Stretches.{TellsTheSame}
 use Rattle.tf_order.specs.Tables.{plan_seen, atoms_found, number_if, RowAdded, RowsAdded, AreRows, AreTables, AllBelow, leads_from, flow_in_flows}
-use Rattle.tf_order.specs.Ways.{flow_of_turn, item_of_turn}
+use Rattle.tf_order.specs.Paths.{flow_of_turn, item_of_turn}
 use Rattle.tf_numbers.proofs.BelowLemmas.{which_more}
 use Rattle.tf_numbers.proofs.EquationLemmas.{ap2}
 use Rattle.tf_order.proofs.GraphLemmas.{row_told, rows_length}
 use Rattle.tf_flow.proofs.NumberingLemmas.{atom_there}
-use Rattle.tf_order.proofs.WayLemmas.{way_there}
+use Rattle.tf_order.proofs.PathLemmas.{path_there}
 use Rattle.tf_numbers.proofs.TruthLemmas.{same_truth, never_true, clash, and_false, and_second, and_first}
 use Rattle.tf_links.proofs.StandingLemmas.{listed_within, taking_none, taking_next}
 use Rattle.tf_numbers.proofs.ListLemmas.{nothing_after}
@@ -210,15 +210,15 @@ listed_below most numbers i number each below is = let within : slice_index_or n
 -- ---- the tasks that an atom leads to
 
 pub leads_seen : (outline : Outline) (a b : ℕ) (from : Option Turn) (atom from_atom : AtomPlace) (on : Bool) → a < atoms_found outline → b < atoms_found outline → from_atom ≡ slice_index_or outline.atoms.items a from_atom → atom ≡ slice_index_or outline.atoms.items b atom
-    → last_flow from_atom.way ≡ flow_of_turn from → last_item from_atom.way ≡ item_of_turn from → on ≡ leads_from (plan_seen outline).flows from atom → on ≡ leads_to (plan_seen outline) a b
+    → last_flow from_atom.path ≡ flow_of_turn from → last_item from_atom.path ≡ item_of_turn from → on ≡ leads_from (plan_seen outline).flows from atom → on ≡ leads_to (plan_seen outline) a b
 unfolding plan_seen
 leads_seen outline a b from atom from_atom on a_below b_below from_read read flow_is item_is is =
     is
-    ∙ (ap2 (λ (g : Option ℕ) (i : Option ℕ). (is_task_part (shown_part atom.part) && same_flow (last_flow atom.way) g) && leads_in (flow_in_flows (plan_seen outline).flows g) i (last_item atom.way)) (sym flow_is) (sym item_is)
-    ∙ (ap (λ (w : List Turn). (is_task_part (shown_part atom.part) && same_flow (last_flow atom.way) (last_flow w)) && leads_in (flow_in_flows (plan_seen outline).flows (last_flow w)) (last_item w) (last_item atom.way)) (way_there outline.atoms.items a from_atom a_below from_read)
-    ∙ (ap (λ (w : List Turn). (is_task_part (shown_part atom.part) && same_flow (last_flow w) (last_flow (way_at (shown_atoms outline.atoms.items) a))) && leads_in (flow_in_flows (plan_seen outline).flows (last_flow (way_at (shown_atoms outline.atoms.items) a))) (last_item (way_at (shown_atoms outline.atoms.items) a)) (last_item w)) (way_there outline.atoms.items b atom b_below read)
-    ∙ (ap (λ (o : Option Atom). (is_task_in o && same_flow (last_flow (way_at (shown_atoms outline.atoms.items) b)) (last_flow (way_at (shown_atoms outline.atoms.items) a))) && leads_in (flow_in_flows (plan_seen outline).flows (last_flow (way_at (shown_atoms outline.atoms.items) a))) (last_item (way_at (shown_atoms outline.atoms.items) a)) (last_item (way_at (shown_atoms outline.atoms.items) b))) (sym (atom_there outline.atoms.items b atom b_below read))
-    ∙ same_home (plan_seen outline) (last_flow (way_at (shown_atoms outline.atoms.items) a)) (is_task_in (slice_get (shown_atoms outline.atoms.items) b) && same_flow (last_flow (way_at (shown_atoms outline.atoms.items) b)) (last_flow (way_at (shown_atoms outline.atoms.items) a))) (last_item (way_at (shown_atoms outline.atoms.items) a)) (last_item (way_at (shown_atoms outline.atoms.items) b))))))
+    ∙ (ap2 (λ (g : Option ℕ) (i : Option ℕ). (is_task_part (shown_part atom.part) && same_flow (last_flow atom.path) g) && leads_in (flow_in_flows (plan_seen outline).flows g) i (last_item atom.path)) (sym flow_is) (sym item_is)
+    ∙ (ap (λ (w : List Turn). (is_task_part (shown_part atom.part) && same_flow (last_flow atom.path) (last_flow w)) && leads_in (flow_in_flows (plan_seen outline).flows (last_flow w)) (last_item w) (last_item atom.path)) (path_there outline.atoms.items a from_atom a_below from_read)
+    ∙ (ap (λ (w : List Turn). (is_task_part (shown_part atom.part) && same_flow (last_flow w) (last_flow (path_at (shown_atoms outline.atoms.items) a))) && leads_in (flow_in_flows (plan_seen outline).flows (last_flow (path_at (shown_atoms outline.atoms.items) a))) (last_item (path_at (shown_atoms outline.atoms.items) a)) (last_item w)) (path_there outline.atoms.items b atom b_below read)
+    ∙ (ap (λ (o : Option Atom). (is_task_in o && same_flow (last_flow (path_at (shown_atoms outline.atoms.items) b)) (last_flow (path_at (shown_atoms outline.atoms.items) a))) && leads_in (flow_in_flows (plan_seen outline).flows (last_flow (path_at (shown_atoms outline.atoms.items) a))) (last_item (path_at (shown_atoms outline.atoms.items) a)) (last_item (path_at (shown_atoms outline.atoms.items) b))) (sym (atom_there outline.atoms.items b atom b_below read))
+    ∙ same_home (plan_seen outline) (last_flow (path_at (shown_atoms outline.atoms.items) a)) (is_task_in (slice_get (shown_atoms outline.atoms.items) b) && same_flow (last_flow (path_at (shown_atoms outline.atoms.items) b)) (last_flow (path_at (shown_atoms outline.atoms.items) a))) (last_item (path_at (shown_atoms outline.atoms.items) a)) (last_item (path_at (shown_atoms outline.atoms.items) b))))))
   where
     same_home : (plan : PlanOutline) (g : Option ℕ) (first : Bool) (i j : Option ℕ) → (first && leads_in (flow_in_flows plan.flows g) i j) ≡ (first && leads_in (unwrap_or (flow_in plan g) no_flow) i j)
     same_home plan None first i j = refl

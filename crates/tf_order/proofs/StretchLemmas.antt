@@ -1,55 +1,55 @@
--- The ways of atoms ascend, and atoms that stand side by side are alike.
+-- The paths of atoms ascend, and atoms that stand side by side are alike.
 use Rattle.std.proofs.Common.{◌≡◌, ℕ, zero, suc, ◌+◌, ◌<◌, ◌≤◌, List, [], ◌∷◌, ◌++◌, length, map, Bool, true, ◌&&◌, ◌⊎◌, Option, Some, None, refl, sym, ap, subst, ◌∙◌, add-one, inl, inr, arith, eqb-true, eq-eqb, slice_get, slice_index_or}
 use Rattle.std.specs.Prelude.{IfSome, nat_eq, if◌then◌else◌}
 use Rattle.std.proofs.lemmas.Bool.{cases_lt}
 use Rattle.std.proofs.lemmas.List.{length-map}
 use Rattle.tf_flow.specs.declared.atoms.Retry.{Retry}
-use Rattle.tf_flow.specs.declared.ways.Turn.{Turn}
+use Rattle.tf_flow.specs.declared.paths.Turn.{Turn}
 use Rattle.tf_flow.specs.Outline.{Atom, atoms_of, atoms_among, retry_atoms, enter, flow_count}
 use Rattle.tf_flow.specs.Tree.{Tree, Trees, task, flow, no_trees, tree}
-use Rattle.tf_model.specs.Before.{Flow, item_before, turn_before, way_before, way_at, same_place}
-use Rattle.tf_model.specs.Plan.{is_before, way}
+use Rattle.tf_model.specs.Before.{Flow, item_before, turn_before, path_before, path_at, same_place}
+use Rattle.tf_model.specs.Plan.{is_before, path}
 use Rattle.tf_numbers.proofs.EquationLemmas.{ap2}
 use Rattle.tf_flow.specs.declared.listing.Outline.{Outline}
 use Rattle.tf_flow.specs.Listing.{shown_atom, shown_atoms}
-use Rattle.tf_order.specs.Stretches.{IsEarlierPlace, IsWayUpTo, IsAscending, Agree, IsUpToItem, GoesAlong, IsSteady, IsAlike, TellsTheSame}
+use Rattle.tf_order.specs.Stretches.{IsEarlierPlace, IsPathUpTo, IsAscending, Agree, IsUpToItem, GoesAlong, IsSteady, IsAlike, TellsTheSame}
 use Rattle.tf_order.specs.Tables.{plan_seen, atoms_found}
 
--- ---- the ways of a tree's atoms ascend
+-- ---- the paths of a tree's atoms ascend
 
-pub up_to_itself : (way : List Turn) → IsWayUpTo way way
+pub up_to_itself : (path : List Turn) → IsPathUpTo path path
 up_to_itself [] = tt
 up_to_itself (x ∷ xs) = (refl, inr (refl, up_to_itself xs))
 
--- a way comes up to those of all these atoms
+-- a path comes up to those of all these atoms
 abbrev IsUpToAll : List Turn → List Atom → Type 0
-IsUpToAll way [] = Unit {0}
-IsUpToAll way (x ∷ xs) = IsWayUpTo way x.way × IsUpToAll way xs
+IsUpToAll path [] = Unit {0}
+IsUpToAll path (x ∷ xs) = IsPathUpTo path x.path × IsUpToAll path xs
 
 -- each comes up to all that follow
 abbrev Ascend : List Atom → Type 0
 Ascend [] = Unit {0}
-Ascend (x ∷ xs) = IsUpToAll x.way xs × Ascend xs
+Ascend (x ∷ xs) = IsUpToAll x.path xs × Ascend xs
 
 abbrev EachUpToAll : List Atom → List Atom → Type 0
 EachUpToAll [] ys = Unit {0}
-EachUpToAll (x ∷ xs) ys = IsUpToAll x.way ys × EachUpToAll xs ys
+EachUpToAll (x ∷ xs) ys = IsUpToAll x.path ys × EachUpToAll xs ys
 
-up_to_both : (way : List Turn) (xs ys : List Atom) → IsUpToAll way xs → IsUpToAll way ys → IsUpToAll way (xs ++ ys)
-up_to_both way [] ys first second = second
-up_to_both way (x ∷ xs) ys first second = (first.0, up_to_both way xs ys first.1 second)
+up_to_both : (path : List Turn) (xs ys : List Atom) → IsUpToAll path xs → IsUpToAll path ys → IsUpToAll path (xs ++ ys)
+up_to_both path [] ys first second = second
+up_to_both path (x ∷ xs) ys first second = (first.0, up_to_both path xs ys first.1 second)
 
 ascend_both : (xs ys : List Atom) → Ascend xs → Ascend ys → EachUpToAll xs ys → Ascend (xs ++ ys)
 ascend_both [] ys first second each = second
-ascend_both (x ∷ xs) ys first second each = (up_to_both x.way xs ys first.0 each.0, ascend_both xs ys first.1 second each.1)
+ascend_both (x ∷ xs) ys first second each = (up_to_both x.path xs ys first.0 each.0, ascend_both xs ys first.1 second each.1)
 
-up_to_entered : (g i : ℕ) (way : List Turn) (xs : List Atom) → IsUpToAll way xs → IsUpToAll (record { flow = g; item = Some i } ∷ way) (map (enter g i) xs)
-up_to_entered g i way [] is = tt
-up_to_entered g i way (x ∷ xs) is = ((refl, inr (refl, is.0)), up_to_entered g i way xs is.1)
+up_to_entered : (g i : ℕ) (path : List Turn) (xs : List Atom) → IsUpToAll path xs → IsUpToAll (record { flow = g; item = Some i } ∷ path) (map (enter g i) xs)
+up_to_entered g i path [] is = tt
+up_to_entered g i path (x ∷ xs) is = ((refl, inr (refl, is.0)), up_to_entered g i path xs is.1)
 
 ascend_entered : (g i : ℕ) (xs : List Atom) → Ascend xs → Ascend (map (enter g i) xs)
 ascend_entered g i [] is = tt
-ascend_entered g i (x ∷ xs) is = (up_to_entered g i x.way xs is.0, ascend_entered g i xs is.1)
+ascend_entered g i (x ∷ xs) is = (up_to_entered g i x.path xs is.0, ascend_entered g i xs is.1)
 
 earlier_still : (p : Option ℕ) (j : ℕ) → IsEarlierPlace p (Some j) → IsEarlierPlace p (Some (suc j))
 earlier_still None j is = tt
@@ -68,7 +68,7 @@ up_to_items (tree first others) g j n p rest earlier =
 
 each_up_to_items : (ts : Trees) (g i n : ℕ) (xs : List Atom) → EachUpToAll (map (enter g i) xs) (atoms_among g (suc i) n ts)
 each_up_to_items ts g i n [] = tt
-each_up_to_items ts g i n (x ∷ xs) = (up_to_items ts g (suc i) n (Some i) x.way (omega arith), each_up_to_items ts g i n xs)
+each_up_to_items ts g i n (x ∷ xs) = (up_to_items ts g (suc i) n (Some i) x.path (omega arith), each_up_to_items ts g i n xs)
 
 after_retry : (control : Option Retry) (g : ℕ) (xs : List Atom) → IsUpToAll (record { flow = g; item = None } ∷ []) xs → Ascend xs → Ascend (retry_atoms g control ++ xs)
 after_retry None g xs first rest = rest
@@ -87,24 +87,24 @@ mutual
       (ascend_among others g (suc i) (n + flow_count first))
       (each_up_to_items others g i (n + flow_count first) (atoms_of n first))
 
-up_to_at : (way : List Turn) (xs : List Atom) (j : ℕ) → IsUpToAll way xs → j < length xs → IsWayUpTo way (way_at xs j)
-up_to_at way [] j is below = absurd (omega arith)
-up_to_at way (x ∷ xs) zero is below = is.0
-up_to_at way (x ∷ xs) (suc j) is below = up_to_at way xs j is.1 (omega arith)
+up_to_at : (path : List Turn) (xs : List Atom) (j : ℕ) → IsUpToAll path xs → j < length xs → IsPathUpTo path (path_at xs j)
+up_to_at path [] j is below = absurd (omega arith)
+up_to_at path (x ∷ xs) zero is below = is.0
+up_to_at path (x ∷ xs) (suc j) is below = up_to_at path xs j is.1 (omega arith)
 
-ascend_to : (xs : List Atom) (i j : ℕ) → Ascend xs → i ≤ j → j < length xs → IsWayUpTo (way_at xs i) (way_at xs j)
+ascend_to : (xs : List Atom) (i j : ℕ) → Ascend xs → i ≤ j → j < length xs → IsPathUpTo (path_at xs i) (path_at xs j)
 ascend_to [] i j is from below = absurd (omega arith)
-ascend_to (x ∷ xs) zero zero is from below = up_to_itself x.way
-ascend_to (x ∷ xs) zero (suc j) is from below = up_to_at x.way xs j is.0 (omega arith)
+ascend_to (x ∷ xs) zero zero is from below = up_to_itself x.path
+ascend_to (x ∷ xs) zero (suc j) is from below = up_to_at x.path xs j is.0 (omega arith)
 ascend_to (x ∷ xs) (suc i) zero is from below = absurd (omega arith)
 ascend_to (x ∷ xs) (suc i) (suc j) is from below = ascend_to xs i j is.1 (omega arith) (omega arith)
 
--- the ways of a plan's atoms ascend
-pub ways_ascend : (t : Tree) (outline : Outline) → shown_atoms outline.atoms.items ≡ atoms_of 0 t → IsAscending (plan_seen outline)
+-- the paths of a plan's atoms ascend
+pub paths_ascend : (t : Tree) (outline : Outline) → shown_atoms outline.atoms.items ≡ atoms_of 0 t → IsAscending (plan_seen outline)
 unfolding plan_seen
-ways_ascend t outline atoms_are i j from below = ascend_to (shown_atoms outline.atoms.items) i j (subst Ascend (sym atoms_are) (ascend_at t 0)) from below
+paths_ascend t outline atoms_are i j from below = ascend_to (shown_atoms outline.atoms.items) i j (subst Ascend (sym atoms_are) (ascend_at t 0)) from below
 
--- ---- ways that go along with another
+-- ---- paths that go along with another
 
 down_to : (most : ℕ) (p q : Option ℕ) → IsEarlierPlace p q → IsUpToItem most q → IsUpToItem most p
 down_to most None q earlier within = tt
@@ -127,7 +127,7 @@ pinched p q (inl there) (inl back) = absurd (never_back p q there back)
 pinched p q (inl there) (inr same) = sym (same.0)
 pinched p q (inr same) back = same
 
--- ways that part at no earlier place go on below
+-- paths that part at no earlier place go on below
 below_same : {X : Type 0} (p q : Option ℕ) → p ≡ q → IsEarlierPlace p q ⊎ ((p ≡ q) × X) → X
 below_same p q same (inl earlier) = absurd (never_earlier q (subst (λ (r : Option ℕ). IsEarlierPlace r q) same earlier))
 below_same p q same (inr both) = both.1
@@ -140,14 +140,14 @@ upper : {X : Type 0} (most : ℕ) (p q : Option ℕ) → IsEarlierPlace p q ⊎ 
 upper most p q (inl earlier) within = down_to most p q earlier within
 upper most p q (inr both) within = subst (IsUpToItem most) (sym both.0) within
 
--- what stands between two ways that go along goes along too
-pub along_between : (turns most : ℕ) (first middle last : List Turn) → IsWayUpTo first middle → IsWayUpTo middle last → GoesAlong turns most first last → GoesAlong turns most first middle
+-- what stands between two paths that go along goes along too
+pub along_between : (turns most : ℕ) (first middle last : List Turn) → IsPathUpTo first middle → IsPathUpTo middle last → GoesAlong turns most first last → GoesAlong turns most first middle
 along_between turns most [] middle last to on along = absurd along
 along_between turns most (x ∷ xs) [] last to on along = absurd to
 along_between turns most (x ∷ xs) (y ∷ ys) [] to on along = absurd on
 along_between zero most (x ∷ xs) (y ∷ ys) (z ∷ zs) to on along = (to.0, upper most y.item z.item on.1 along.1)
 along_between (suc turns) most (x ∷ xs) (y ∷ ys) (z ∷ zs) to on along =
-    let back : IsEarlierPlace y.item x.item ⊎ ((y.item ≡ x.item) × IsWayUpTo ys zs) = subst (λ (r : Option ℕ). IsEarlierPlace y.item r ⊎ ((y.item ≡ r) × IsWayUpTo ys zs)) (sym along.1) on.1 in
+    let back : IsEarlierPlace y.item x.item ⊎ ((y.item ≡ x.item) × IsPathUpTo ys zs) = subst (λ (r : Option ℕ). IsEarlierPlace y.item r ⊎ ((y.item ≡ r) × IsPathUpTo ys zs)) (sym along.1) on.1 in
     let same : x.item ≡ y.item = pinched x.item y.item (place_kept x.item y.item to.1) back in
     (to.0, same, along_between turns most xs ys zs (below_same x.item y.item same to.1) (below_same y.item z.item (sym same ∙ along.1) on.1) along.2)
 
@@ -158,7 +158,7 @@ abbrev IsSteadyAt : List Flow → ℕ → Option ℕ → Option ℕ → ℕ → 
 IsSteadyAt flows g p q most = (other : Option ℕ) → IsEarlierPlace q other ⊎ (q ≡ other) → IsUpToItem most other → (a b : Bool) → turn_before flows g p other a ≡ turn_before flows g p q b
 
 alike_by : (flows : List Flow) (turns most : ℕ) (first second other : List Turn) (x y : Turn) → Agree turns first second → slice_get first turns ≡ Some x → slice_get second turns ≡ Some y → x.flow ≡ y.flow
-    → IsSteadyAt flows x.flow x.item y.item most → IsWayUpTo second other → GoesAlong turns most second other → way_before flows first other ≡ way_before flows first second
+    → IsSteadyAt flows x.flow x.item y.item most → IsPathUpTo second other → GoesAlong turns most second other → path_before flows first other ≡ path_before flows first second
 alike_by flows turns most first [] other x y agree x_is y_is same steady to along = absurd along
 alike_by flows turns most first (v ∷ vs) [] x y agree x_is y_is same steady to along = absurd along
 alike_by flows zero most [] (v ∷ vs) (w ∷ ws) x y agree x_is y_is same steady to along = absurd (cc)
@@ -168,7 +168,7 @@ alike_by flows zero most (u ∷ us) (v ∷ vs) (w ∷ ws) x y agree x_is y_is sa
     let flow_v : u.flow ≡ v.flow = ap (λ (t : Turn). t.flow) u_is ∙ (same ∙ ap (λ (t : Turn). t.flow) (sym v_is)) in
     let steady_v : IsSteadyAt flows u.flow u.item v.item most = subst (λ (t : Turn). IsSteadyAt flows u.flow u.item t.item most) (sym v_is) (subst (λ (t : Turn). IsSteadyAt flows t.flow t.item y.item most) (sym u_is) steady) in
     ap2 ◌&&◌ (eq-eqb u.flow w.flow (flow_v ∙ along.0) ∙ sym (eq-eqb u.flow v.flow flow_v))
-    (steady_v w.item (place_kept v.item w.item to.1) along.1 (way_before flows us ws) (way_before flows us vs))
+    (steady_v w.item (place_kept v.item w.item to.1) along.1 (path_before flows us ws) (path_before flows us vs))
 alike_by flows (suc turns) most [] (v ∷ vs) (w ∷ ws) x y agree x_is y_is same steady to along = absurd agree
 alike_by flows (suc turns) most (u ∷ us) (v ∷ vs) (w ∷ ws) x y agree x_is y_is same steady to along =
     ap2 ◌&&◌ (ap (nat_eq u.flow) (sym along.0))
@@ -215,7 +215,7 @@ pub each_some : {P Q : ℕ → Type 0} (o : Option ℕ) → IfSome o P → ((k :
 each_some None is more = tt
 each_some (Some k) is more = more k is
 
--- ---- turns that two ways share
+-- ---- turns that two paths share
 
 pub agree_next : (first second : List Turn) (i : ℕ) (d e : Turn) → Agree i first second → i < length first → i < length second
     → ((slice_index_or first i d).flow ≡ (slice_index_or second i e).flow) × ((slice_index_or first i d).item ≡ (slice_index_or second i e).item) → Agree (i + 1) first second
@@ -243,7 +243,7 @@ goes_on zero most (u ∷ us) (v ∷ vs) x y agree x_is y_is same up =
     (ap (λ (t : Turn). t.flow) u_is ∙ (same ∙ ap (λ (t : Turn). t.flow) (sym v_is)), subst (λ (t : Turn). IsUpToItem most t.item) (sym v_is) up)
 goes_on (suc turns) most (u ∷ us) (v ∷ vs) x y agree x_is y_is same up = (agree.0, agree.1, goes_on turns most us vs x y agree.2 x_is y_is same up)
 
--- ways that share more turns than these, and go on in one flow, go along
+-- paths that share more turns than these, and go on in one flow, go along
 pub along_seen : (shared turns most : ℕ) (xs ys : List Turn) (x y : Turn) → Agree shared xs ys → turns ≤ shared → slice_get xs turns ≡ Some x → slice_get ys turns ≡ Some y → x.flow ≡ y.flow → IsUpToItem most y.item → GoesAlong turns most xs ys
 along_seen shared turns most xs ys x y agree few x_is y_is same up = goes_on turns most xs ys x y (agree_fewer shared turns xs ys agree few) x_is y_is same up
 
@@ -264,17 +264,17 @@ turns_same x y on same is place = (same, place_same x.item y.item (sym is ∙ pl
 
 -- the atoms after b and before the end go along with it
 abbrev pub AllAlong : Outline → ℕ → ℕ → ℕ → ℕ → Type 0
-AllAlong outline b turns most end = (k : ℕ) → b < k → k < end → GoesAlong turns most (way_at (shown_atoms outline.atoms.items) b) (way_at (shown_atoms outline.atoms.items) k)
+AllAlong outline b turns most end = (k : ℕ) → b < k → k < end → GoesAlong turns most (path_at (shown_atoms outline.atoms.items) b) (path_at (shown_atoms outline.atoms.items) k)
 
 pub along_start : (outline : Outline) (b turns most end : ℕ) → end ≡ b + 1 → AllAlong outline b turns most end
 along_start outline b turns most end is k above below = absurd (omega (arith, is, above, below))
 
 pub along_more : (outline : Outline) (b turns most end middle : ℕ) → IsAscending (plan_seen outline) → AllAlong outline b turns most end → b < end → end ≤ middle → middle < atoms_found outline
-    → GoesAlong turns most (way_at (shown_atoms outline.atoms.items) b) (way_at (shown_atoms outline.atoms.items) middle) → AllAlong outline b turns most (middle + 1)
+    → GoesAlong turns most (path_at (shown_atoms outline.atoms.items) b) (path_at (shown_atoms outline.atoms.items) middle) → AllAlong outline b turns most (middle + 1)
 unfolding plan_seen
 along_more outline b turns most end middle ascending before behind over within along k above below =
     let room : middle < length (shown_atoms outline.atoms.items) = subst (λ (n : ℕ). middle < n) (sym (length-map outline.atoms.items shown_atom)) within in
-    along_between turns most (way_at (shown_atoms outline.atoms.items) b) (way_at (shown_atoms outline.atoms.items) k) (way_at (shown_atoms outline.atoms.items) middle)
+    along_between turns most (path_at (shown_atoms outline.atoms.items) b) (path_at (shown_atoms outline.atoms.items) k) (path_at (shown_atoms outline.atoms.items) middle)
     (ascending b k (omega (arith, above)) (omega (arith, below, room)))
     (ascending k middle (omega (arith, below)) room)
     along
@@ -284,20 +284,20 @@ along_more outline b turns most end middle ascending before behind over within a
 pub stretch_alone : (test : ℕ → Bool) (on : Bool) (b end : ℕ) → on ≡ test b → end ≡ b + 1 → TellsTheSame test on b end
 stretch_alone test on b end is ends k from to = let here : k ≡ b = omega (arith, ends, from, to) in ap test here ∙ sym is
 
-pub before_seen : (outline : Outline) (a b : ℕ) (v w : List Turn) (on : Bool) → v ≡ way_at (shown_atoms outline.atoms.items) a → w ≡ way_at (shown_atoms outline.atoms.items) b → on ≡ way_before (plan_seen outline).flows v w → on ≡ is_before (plan_seen outline) a b
+pub before_seen : (outline : Outline) (a b : ℕ) (v w : List Turn) (on : Bool) → v ≡ path_at (shown_atoms outline.atoms.items) a → w ≡ path_at (shown_atoms outline.atoms.items) b → on ≡ path_before (plan_seen outline).flows v w → on ≡ is_before (plan_seen outline) a b
 unfolding is_before plan_seen
-before_seen outline a b v w on v_is w_is is = is ∙ ap2 (way_before (plan_seen outline).flows) v_is w_is
+before_seen outline a b v w on v_is w_is is = is ∙ ap2 (path_before (plan_seen outline).flows) v_is w_is
 
 pub stretch_along : (outline : Outline) (a b turns most end : ℕ) (on : Bool) (v w : List Turn) → IsAscending (plan_seen outline) → AllAlong outline b turns most end → end ≤ atoms_found outline
-    → on ≡ is_before (plan_seen outline) a b → v ≡ way_at (shown_atoms outline.atoms.items) a → w ≡ way_at (shown_atoms outline.atoms.items) b → IsAlike (plan_seen outline).flows turns v w most
+    → on ≡ is_before (plan_seen outline) a b → v ≡ path_at (shown_atoms outline.atoms.items) a → w ≡ path_at (shown_atoms outline.atoms.items) b → IsAlike (plan_seen outline).flows turns v w most
     → TellsTheSame (is_before (plan_seen outline) a) on b end
 unfolding plan_seen is_before
 stretch_along outline a b turns most end on v w ascending along ends is v_is w_is alike k from to =
-    let alike_there : IsAlike (plan_seen outline).flows turns (way_at (shown_atoms outline.atoms.items) a) (way_at (shown_atoms outline.atoms.items) b) most =
-    subst (λ (x : List Turn). IsAlike (plan_seen outline).flows turns x (way_at (shown_atoms outline.atoms.items) b) most) v_is (subst (λ (y : List Turn). IsAlike (plan_seen outline).flows turns v y most) w_is alike) in
+    let alike_there : IsAlike (plan_seen outline).flows turns (path_at (shown_atoms outline.atoms.items) a) (path_at (shown_atoms outline.atoms.items) b) most =
+    subst (λ (x : List Turn). IsAlike (plan_seen outline).flows turns x (path_at (shown_atoms outline.atoms.items) b) most) v_is (subst (λ (y : List Turn). IsAlike (plan_seen outline).flows turns v y most) w_is alike) in
     elim (cases_lt b k) [
       | inl above ↦
           let room : k < length (shown_atoms outline.atoms.items) = subst (λ (n : ℕ). k < n) (sym (length-map outline.atoms.items shown_atom)) (omega (arith, to, ends)) in
-          alike_there (way_at (shown_atoms outline.atoms.items) k) (ascending b k from room) (along k above to) ∙ sym is
+          alike_there (path_at (shown_atoms outline.atoms.items) k) (ascending b k from room) (along k above to) ∙ sym is
       | inr below ↦ let here : k ≡ b = omega (arith, below, from) in ap (λ (n : ℕ). is_before (plan_seen outline) a n) here ∙ sym is
     ]

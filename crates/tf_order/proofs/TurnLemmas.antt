@@ -1,11 +1,11 @@
--- How links and ambiguities grow along the way to an atom, and over all atoms.
+-- How links and ambiguities grow along the path to an atom, and over all atoms.
 use Rattle.std.proofs.Common.{◌≡◌, ◌≢◌, ℕ, zero, suc, ◌+◌, ◌<◌, ◌≤◌, List, [], ◌∷◌, ◌++◌, length, take, flat_map, Bool, true, false, ◌&&◌, ◌||◌, Option, Some, None, refl, sym, ap, ◌∙◌, add-one, append_assoc, arith, eqb-true, eq-eqb, slice_index_or}
 use Rattle.std.specs.Prelude.{nat_eq, nat_lt, if◌then◌else◌}
 use Rattle.std.specs.List.{list_any}
 use Rattle.std.proofs.lemmas.Bool.{ltb-true}
 use Rattle.tf_numbers.specs.Numbers.{which_below}
-use Rattle.tf_flow.specs.declared.ways.Turn.{Turn}
-use Rattle.tf_model.specs.Before.{Flow, takes_item, same_place, passes_item, way_at}
+use Rattle.tf_flow.specs.declared.paths.Turn.{Turn}
+use Rattle.tf_model.specs.Before.{Flow, takes_item, same_place, passes_item, path_at}
 use Rattle.tf_model.specs.Linked.{is_inside, needs_of_atom, needs, is_inferred_by}
 use Rattle.tf_model.specs.Compilation.{is_ambiguous}
 use Rattle.tf_numbers.proofs.TruthLemmas.{true_both, never_true, or_chain, or_false, second_false, or_nothing}
@@ -18,7 +18,7 @@ use Rattle.tf_order.proofs.SightLemmas.{length_seen}
 use Rattle.tf_numbers.proofs.ListLemmas.{nothing_after, take_whole}
 use Rattle.tf_order.proofs.LinkingLemmas.{links_then, links_none, links_as, any_append, take_next, take_none}
 
--- ---- the turns of an atom's way
+-- ---- the turns of an atom's path
 
 abbrev pub TurnSeen : Sight → ℕ → Turn → LinksValue → List ℕ → LinksValue → List ℕ → Type 0
 TurnSeen sight atom turn s0 d0 s d = (inner : List Flow) → ShowsFlows sight.table.now inner → LinksBy sight (taken_at sight inner atom turn) s0 d0 s d
@@ -91,9 +91,9 @@ turns_more sight atom s0 s1 s2 d0 d1 d2 turns i turn before within is one inner 
     (λ v p. if_both (passes_item (place_seen sight).number (Some v) (take i turns)) (takes_item (place_seen sight).number (Some v) turn) (passes_item (place_seen sight).number (Some v) (take (i + 1) turns)) (needed_at sight inner atom v) p
     (ap (λ (ts : List Turn). passes_item (place_seen sight).number (Some v) ts) (ap (λ (n : ℕ). take n turns) (add-one i) ∙ take_next turns i turn within is) ∙ passes_more (place_seen sight).number v (take i turns) turn))
 
-pub turns_all : (sight : Sight) (atom : ℕ) (s0 s : LinksValue) (d0 d : List ℕ) (turns : List Turn) (i : ℕ) (way : List Turn) → TurnsSeen sight atom s0 d0 s d (take i turns) → length turns ≤ i → turns ≡ way
-    → (inner : List Flow) → ShowsFlows sight.table.now inner → LinksBy sight (passed_at sight inner atom way) s0 d0 s d
-turns_all sight atom s0 s d0 d turns i way seen whole is inner shows = links_as sight (passed_at sight inner atom (take i turns)) (passed_at sight inner atom way) s0 s d0 d (seen inner shows)
+pub turns_all : (sight : Sight) (atom : ℕ) (s0 s : LinksValue) (d0 d : List ℕ) (turns : List Turn) (i : ℕ) (path : List Turn) → TurnsSeen sight atom s0 d0 s d (take i turns) → length turns ≤ i → turns ≡ path
+    → (inner : List Flow) → ShowsFlows sight.table.now inner → LinksBy sight (passed_at sight inner atom path) s0 d0 s d
+turns_all sight atom s0 s d0 d turns i path seen whole is inner shows = links_as sight (passed_at sight inner atom (take i turns)) (passed_at sight inner atom path) s0 s d0 d (seen inner shows)
     (λ v. ap (λ (w : List Turn). passed_at sight inner atom w v) (take_whole turns i whole ∙ is))
 
 -- ---- all atoms
@@ -109,9 +109,9 @@ flat_append f [] ys = refl
 flat_append {Y = Y} f (x ∷ xs) ys = ap (λ (zs : List Y). f x ++ zs) (flat_append f xs ys) ∙ sym (append_assoc (f x) (flat_map f xs) (flat_map f ys))
 
 pub inferred_more : (sight : Sight) (s0 s1 s2 : LinksValue) (d0 d1 d2 : List ℕ) (atom : ℕ) → AtomsSeen sight s0 d0 s1 d1 atom
-    → ((inner : List Flow) → ShowsFlows sight.table.now inner → LinksBy sight (passed_at sight inner atom (way_at (atoms_seen sight) atom)) s1 d1 s2 d2) → AtomsSeen sight s0 d0 s2 d2 (atom + 1)
+    → ((inner : List Flow) → ShowsFlows sight.table.now inner → LinksBy sight (passed_at sight inner atom (path_at (atoms_seen sight) atom)) s1 d1 s2 d2) → AtomsSeen sight s0 d0 s2 d2 (atom + 1)
 inferred_more sight s0 s1 s2 d0 d1 d2 atom before one inner shows =
-    links_then sight (needed_below sight inner atom) (passed_at sight inner atom (way_at (atoms_seen sight) atom)) (needed_below sight inner (atom + 1)) s0 s1 s2 d0 d1 d2 (before inner shows) (one inner shows)
+    links_then sight (needed_below sight inner atom) (passed_at sight inner atom (path_at (atoms_seen sight) atom)) (needed_below sight inner (atom + 1)) s0 s1 s2 d0 d1 d2 (before inner shows) (one inner shows)
     (λ v p. ap (λ (n : ℕ). list_any p (needed_below sight inner n v)) (add-one atom)
     ∙ (ap (list_any p) (flat_append (needs_of_atom (atoms_seen sight) inner (place_seen sight).number v) (which_below atom (is_inside (atoms_seen sight) (place_seen sight).number v)) (if is_inside (atoms_seen sight) (place_seen sight).number v atom then atom ∷ [] else []))
     ∙ (any_append p (needed_below sight inner atom v) (flat_map (needs_of_atom (atoms_seen sight) inner (place_seen sight).number v) (if is_inside (atoms_seen sight) (place_seen sight).number v atom then atom ∷ [] else []))

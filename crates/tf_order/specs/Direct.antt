@@ -2,7 +2,7 @@
 use Rattle.std.specs.Prelude.{◌≡◌, ℕ, List, Bool, ◌&&◌, Option, None, Some, slice_get, if◌then◌else◌}
 use Rattle.std.specs.List.{list_any}
 use Rattle.tf_flow.specs.Outline.{is_task_part}
-use Rattle.tf_flow.specs.Ways.{shown_part}
+use Rattle.tf_flow.specs.Paths.{shown_part}
 use Rattle.tf_model.specs.Deciders.{last_item}
 use Rattle.tf_model.specs.Plan.{last_flow}
 use Rattle.tf_numbers.specs.Numbers.{which_below, is_number, has_number}
@@ -12,7 +12,7 @@ use Rattle.tf_order.specs.Rows.{row_at}
 
 -- the item of its own flow at which an atom stands, where it is a task
 abbrev pub task_item : AtomPlace → Option ℕ
-task_item atom = if is_task_part (shown_part atom.part) then last_item atom.way else None
+task_item atom = if is_task_part (shown_part atom.part) then last_item atom.path else None
 
 -- an atom is a task that stands at this item of its own flow
 abbrev pub is_at_item : ℕ → Option AtomPlace → Bool
@@ -30,7 +30,7 @@ AreTasksByItem outline count rows = (item : ℕ) → row_at rows item ≡ which_
 -- an atom stands in flow g itself
 abbrev pub is_in_own : ℕ → Option AtomPlace → Bool
 is_in_own g None = is_number None g
-is_in_own g (Some atom) = is_number (last_flow atom.way) g
+is_in_own g (Some atom) = is_number (last_flow atom.path) g
 
 -- the same of the atom of a number
 abbrev pub is_own : Outline → ℕ → ℕ → Bool

@@ -6,7 +6,7 @@ use Rattle.tf_flow.specs.declared.nested.FlowKind.TheVariants as kind
 use Rattle.tf_numbers.specs.Numbers.{which_below, numbers_below}
 use Rattle.tf_numbers.specs.Pairs.{Pair}
 use Rattle.tf_model.specs.Before.{Flow, flow_at}
-use Rattle.tf_model.specs.Plan.{Outline, outline_of, count, way, is_before}
+use Rattle.tf_model.specs.Plan.{Outline, outline_of, count, path, is_before}
 use Rattle.tf_model.specs.Scope.{is_earlier}
 use Rattle.tf_model.specs.Deciders.{is_sibling, last_item, home, linked_places}
 use Rattle.tf_model.specs.Compilation.{compile_refusal}
@@ -38,7 +38,7 @@ leads_in f from to = leads_by_kind f.place.kind f.linked from to
 
 -- b is a task of a's own flow, and a's place leads to its place
 abbrev pub leads_to : Outline → ℕ → ℕ → Bool
-leads_to plan a b = is_sibling plan a b && leads_in (home plan a) (last_item (way plan a)) (last_item (way plan b))
+leads_to plan a b = is_sibling plan a b && leads_in (home plan a) (last_item (path plan a)) (last_item (path plan b))
 
 -- the tasks that a link or the next place leads to from a, ascending
 abbrev pub direct_tasks_of : Outline → ℕ → List ℕ

@@ -2,7 +2,7 @@ pub mod Graph
 pub mod Rows
 pub mod Refusals
 pub mod Index
-pub mod Ways
+pub mod Paths
 pub mod Arranged
 pub mod Marks
 pub mod Sight

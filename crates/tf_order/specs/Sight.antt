@@ -5,7 +5,7 @@ use Rattle.tf_flow.specs.declared.atoms.Arg.{Arg}
 use Rattle.tf_numbers.specs.Numbers.{which_below}
 use Rattle.tf_links.specs.Reach.{reached}
 use Rattle.tf_flow.specs.Outline.{Part, Atom, FlowPlace}
-use Rattle.tf_flow.specs.declared.ways.Turn.{Turn}
+use Rattle.tf_flow.specs.declared.paths.Turn.{Turn}
 use Rattle.tf_model.specs.Before.{Flow, takes_item, passes_item}
 use Rattle.tf_model.specs.Linked.{provides_at, is_inferred_by, is_unserved, is_taken, is_inside, needs_of_atom, arg_symbol, explicit}
 use Rattle.tf_model.specs.Compilation.{is_ambiguous}
@@ -57,9 +57,9 @@ needed_at sight inner a v = needs_of_atom (atoms_seen sight) inner (place_seen s
 abbrev pub taken_at : Sight → List Flow → ℕ → Turn → ℕ → List (List ℕ)
 taken_at sight inner a turn v = if takes_item (place_seen sight).number (Some v) turn then needed_at sight inner a v else []
 
--- the same for each item that a way leads through
+-- the same for each item that a path leads through
 abbrev pub passed_at : Sight → List Flow → ℕ → List Turn → ℕ → List (List ℕ)
-passed_at sight inner a way v = if passes_item (place_seen sight).number (Some v) way then needed_at sight inner a v else []
+passed_at sight inner a path v = if passes_item (place_seen sight).number (Some v) path then needed_at sight inner a v else []
 
 -- what the atoms below a number need of the items around them, where they stand in item v
 abbrev pub needed_below : Sight → List Flow → ℕ → ℕ → List (List ℕ)

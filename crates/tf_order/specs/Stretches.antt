@@ -1,8 +1,8 @@
 -- Atoms that stand side by side in tree order, and are all after another or all not.
 use Rattle.std.specs.Prelude.{◌≡◌, ℕ, zero, suc, ◌<◌, ◌≤◌, List, [], ◌∷◌, Bool, false, ◌&&◌, ◌⊎◌, Option, None, Some, nat_eq, nat_lt}
-use Rattle.tf_flow.specs.declared.ways.Turn.{Turn}
-use Rattle.tf_model.specs.Before.{Flow, way_before}
-use Rattle.tf_model.specs.Plan.{Outline, count, way}
+use Rattle.tf_flow.specs.declared.paths.Turn.{Turn}
+use Rattle.tf_model.specs.Before.{Flow, path_before}
+use Rattle.tf_model.specs.Plan.{Outline, count, path}
 
 -- in a flow the first place stands earlier than the second: the retry controller's before the items'
 abbrev pub IsEarlierPlace : Option ℕ → Option ℕ → Type 0
@@ -11,18 +11,18 @@ IsEarlierPlace None (Some v) = Unit {0}
 IsEarlierPlace (Some u) None = ⊥
 IsEarlierPlace (Some u) (Some v) = u < v
 
--- the first way is the second, or they part in a flow where the first goes on to an earlier place
-abbrev pub IsWayUpTo : List Turn → List Turn → Type 0
-IsWayUpTo [] [] = Unit {0}
-IsWayUpTo [] (y ∷ ys) = ⊥
-IsWayUpTo (x ∷ xs) [] = ⊥
-IsWayUpTo (x ∷ xs) (y ∷ ys) = (x.flow ≡ y.flow) × (IsEarlierPlace x.item y.item ⊎ ((x.item ≡ y.item) × IsWayUpTo xs ys))
+-- the first path is the second, or they part in a flow where the first goes on to an earlier place
+abbrev pub IsPathUpTo : List Turn → List Turn → Type 0
+IsPathUpTo [] [] = Unit {0}
+IsPathUpTo [] (y ∷ ys) = ⊥
+IsPathUpTo (x ∷ xs) [] = ⊥
+IsPathUpTo (x ∷ xs) (y ∷ ys) = (x.flow ≡ y.flow) × (IsEarlierPlace x.item y.item ⊎ ((x.item ≡ y.item) × IsPathUpTo xs ys))
 
--- the ways of the atoms come in this order
+-- the paths of the atoms come in this order
 abbrev pub IsAscending : Outline → Type 0
-IsAscending plan = (i j : ℕ) → i ≤ j → j < count plan → IsWayUpTo (way plan i) (way plan j)
+IsAscending plan = (i j : ℕ) → i ≤ j → j < count plan → IsPathUpTo (path plan i) (path plan j)
 
--- two ways have the same first so many turns
+-- two paths have the same first so many turns
 abbrev pub Agree : ℕ → List Turn → List Turn → Type 0
 Agree zero xs ys = Unit {0}
 Agree (suc turns) [] ys = ⊥
@@ -34,7 +34,7 @@ abbrev pub IsUpToItem : ℕ → Option ℕ → Type 0
 IsUpToItem most None = Unit {0}
 IsUpToItem most (Some v) = v ≤ most
 
--- two ways have the same first so many turns, and go on in one flow, the second to an item up to this one
+-- two paths have the same first so many turns, and go on in one flow, the second to an item up to this one
 abbrev pub GoesAlong : ℕ → ℕ → List Turn → List Turn → Type 0
 GoesAlong turns most [] ys = ⊥
 GoesAlong turns most (x ∷ xs) [] = ⊥
@@ -49,11 +49,11 @@ IsSteady u test v last = (w : ℕ) → v ≤ w → w ≤ last → (nat_eq u w �
 abbrev pub stands_later : ℕ → ℕ → ℕ → Bool
 stands_later items u w = nat_lt u w && nat_lt w items
 
--- an atom with the first way is before all that stand from the second way on and go along with it up to this
+-- an atom with the first path is before all that stand from the second path on and go along with it up to this
 -- item, or before none of them
 abbrev pub IsAlike : List Flow → ℕ → List Turn → List Turn → ℕ → Type 0
-IsAlike flows turns first second most = (other : List Turn) → IsWayUpTo second other → GoesAlong turns most second other
-    → way_before flows first other ≡ way_before flows first second
+IsAlike flows turns first second most = (other : List Turn) → IsPathUpTo second other → GoesAlong turns most second other
+    → path_before flows first other ≡ path_before flows first second
 
 -- the test tells the same of all numbers from one on up to before the end
 abbrev pub TellsTheSame : (ℕ → Bool) → Bool → ℕ → ℕ → Type 0

@@ -1,5 +1,5 @@
 -- What is found of a plan while it is compiled: its flows as they are arranged, their faults, and rows of numbers.
-use Rattle.tf_flow.specs.Ways.{shown_part}
+use Rattle.tf_flow.specs.Paths.{shown_part}
 use Rattle.std.specs.Prelude.{◌≡◌, ℕ, ◌+◌, ◌<◌, List, [], ◌∷◌, ◌++◌, Bool, true, false, ◌&&◌, Option, Some, None, length, drop, map, nat_eq, nat_lt, slice_get, if◌then◌else◌}
 use Rattle.tf_flow.specs.declared.nested.FlowKind.{FlowKind}
 use Rattle.tf_flow.specs.declared.nested.FlowKind.TheVariants as kind
@@ -15,7 +15,7 @@ use Rattle.tf_order.specs.declared.faults.CompileFault.{CompileFault}
 use Rattle.tf_order.specs.declared.index.NameIndex.{NameIndex}
 use Rattle.tf_flow.specs.declared.listing.AtomPlace.{AtomPlace}
 use Rattle.tf_flow.specs.declared.listing.Outline.{Outline}
-use Rattle.tf_flow.specs.declared.ways.Turn.{Turn}
+use Rattle.tf_flow.specs.declared.paths.Turn.{Turn}
 use Rattle.tf_order.specs.Arranged.{ShowsFlows}
 use Rattle.tf_order.specs.Graph.{GraphValue, leads_in, predecessors_of, successors_of, direct_tasks_of, standing_of_plan}
 use Rattle.tf_order.specs.Index.{told}
@@ -23,7 +23,7 @@ use Rattle.tf_links.specs.Links.{leads}
 use Rattle.tf_order.specs.Looked.{told_in}
 use Rattle.tf_flow.specs.Listing.{shown_atoms, shown_levels}
 use Rattle.tf_order.specs.Rows.{row_at}
-use Rattle.tf_order.specs.Ways.{flow_of_turn, item_of_turn}
+use Rattle.tf_order.specs.Paths.{flow_of_turn, item_of_turn}
 
 -- the fault at a place, where there is such a place
 abbrev pub fault_in : Option (Option CompileFault) → Option CompileFault
@@ -64,8 +64,8 @@ flow_in_flows flows (Some g) = flow_at flows g
 -- the atom is a task of the flow into which the turn leads, and the turn's place leads to its place
 abbrev pub leads_from : List Flow → Option Turn → AtomPlace → Bool
 leads_from flows from atom =
-    (is_task_part (shown_part atom.part) && same_flow (last_flow atom.way) (flow_of_turn from))
-    && leads_in (flow_in_flows flows (flow_of_turn from)) (item_of_turn from) (last_item atom.way)
+    (is_task_part (shown_part atom.part) && same_flow (last_flow atom.path) (flow_of_turn from))
+    && leads_in (flow_in_flows flows (flow_of_turn from)) (item_of_turn from) (last_item atom.path)
 
 -- each number of the list is below another
 abbrev pub AllBelow : ℕ → List ℕ → Type 0

@@ -1,4 +1,4 @@
-ghost use Rattle.tf_flow.specs.Ways.{shown_part};
+ghost use Rattle.tf_flow.specs.Paths.{shown_part};
 ghost use Rattle.std.specs.Prelude.{◌≡◌, ◌++◌, ◌∷◌, [], ℕ, ◌<◌, List, Option, None, Some, true, filter, map, drop, length, IfOk, OnOk, option_copied};
 ghost use Rattle.tf_flow.specs.Names.{is_among};
 ghost use Rattle.tf_flow.specs.Rules.{bind_symbols};
@@ -19,8 +19,8 @@ ghost use Rattle.tf_order.specs.Sight.{HasProviders, HasReach, atoms_seen, place
 
 use crate::faults::CompileFault;
 use crate::linking::binds;
+use crate::paths::passes_item;
 use crate::sight::{Sight, givers, is_unserved};
-use crate::ways::passes_item;
 use std::alloc::Global;
 use tf_flow::{Arg, Part};
 use tf_links::{Bits, Links, has_in};
@@ -123,7 +123,7 @@ fn ambiguous_symbols(
 }
 
 /// Adds the ambiguous symbols of an atom, where it stands in the item.
-#[tactic(auto, using(crate::proofs::AmbiguityLemmas::atom_outside, crate::proofs::AmbiguityLemmas::atom_inside, crate::proofs::SightLemmas::way_seen))]
+#[tactic(auto, using(crate::proofs::AmbiguityLemmas::atom_outside, crate::proofs::AmbiguityLemmas::atom_inside, crate::proofs::SightLemmas::path_seen))]
 fn add_of_atom(
     alloc: Global,
     sight: &Sight<'_, '_>,
@@ -139,7 +139,7 @@ fn add_of_atom(
         → symbols.new.items ≡ symbols.old.items ++ ambiguities_inside sight.now inner item atom) }
 {
     let place = &sight.atoms[atom];
-    if !passes_item(place.way.turns(), sight.level.number, item) {
+    if !passes_item(place.path.turns(), sight.level.number, item) {
         return Ok(());
     }
     add_of_part(alloc, sight, reach, item, atom, place.part, symbols)?;

@@ -5,7 +5,7 @@ ghost use Rattle.tf_order.specs.Arranged.{comes_before, ShowsFlows};
 ghost use Rattle.tf_links.specs.Links.{leads};
 ghost use Rattle.tf_order.specs.Stretches.{IsSteady, stands_later};
 
-use crate::ways::{Meeting, meeting_of};
+use crate::paths::{Meeting, meeting_of};
 use tf_flow::{FlowKind, Turn};
 use tf_links::{Bits, Links, has_in};
 
@@ -107,10 +107,10 @@ pub fn item_before(table: &[Option<Arranged>], flow: usize, u: usize, v: usize) 
     }
 }
 
-/// Whether an atom with the first way is before one with the second.
-#[tactic(auto, using(crate::proofs::WayLemmas::way_before_met))]
-pub fn is_way_before(table: &[Option<Arranged>], a: &[Turn], b: &[Turn]) -> bool
-    ensures { (flows : List Flow) → ShowsFlows table.now flows → result ≡ before.way_before flows a.now b.now }
+/// Whether an atom with the first path is before one with the second.
+#[tactic(auto, using(crate::proofs::PathLemmas::path_before_met))]
+pub fn is_path_before(table: &[Option<Arranged>], a: &[Turn], b: &[Turn]) -> bool
+    ensures { (flows : List Flow) → ShowsFlows table.now flows → result ≡ before.path_before flows a.now b.now }
 {
     match meeting_of(a, b) {
         Meeting::Apart => false,

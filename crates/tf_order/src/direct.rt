@@ -10,8 +10,8 @@ ghost use Rattle.tf_order.specs.Rows.{row_at};
 ghost use Rattle.tf_order.specs.Tables.{plan_seen, atoms_found, number_if, item_leads};
 
 use crate::arranged::Arranged;
+use crate::paths::last_turn;
 use crate::rows::{Row, row_at, row_of};
-use crate::ways::last_turn;
 use std::alloc::Global;
 use tf_flow::{AtomPlace, FlowKind, Outline, Turn};
 use tf_links::Bits;
@@ -78,7 +78,7 @@ fn task_item(atom: &AtomPlace<'_>) -> Option<usize>
     if !atom.part.is_task() {
         return None;
     }
-    last_turn(atom.way.turns())?.item
+    last_turn(atom.path.turns())?.item
 }
 
 /// Adds rows without a number until there is one of this number.
@@ -107,7 +107,7 @@ fn direct_row(
     requires atom { a < atoms_found outline.now }
     ensures { IfOk result (λ row. row ≡ which_below (atoms_found outline.now) (leads_to (plan_seen outline.now) a)) }
 {
-    let Some(from) = last_turn(outline.atoms[a].way.turns()) else {
+    let Some(from) = last_turn(outline.atoms[a].path.turns()) else {
         return Ok(Row::new(alloc));
     };
     let items = items_led_to(alloc, table, from, tasks.len())?;
@@ -222,7 +222,7 @@ fn is_own(outline: &Outline<'_>, flow: usize, atom: usize) -> bool
     requires { atom < atoms_found outline.now }
     ensures { result ≡ is_own outline.now flow atom }
 {
-    match last_turn(outline.atoms[atom].way.turns()) {
+    match last_turn(outline.atoms[atom].path.turns()) {
         None => false,
         Some(turn) => turn.flow == flow,
     }

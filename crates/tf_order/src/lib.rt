@@ -10,13 +10,13 @@ mod graph;
 mod index;
 mod linking;
 mod looking;
+mod paths;
 mod root_items;
 mod rows;
 mod sight;
 mod standing_atoms;
 mod stretches;
 mod tables;
-mod ways;
 
 pub use compilation::compile;
 pub use faults::CompileFault;

@@ -1,7 +1,7 @@
-ghost use Rattle.tf_flow.specs.Ways.{shown_part};
+ghost use Rattle.tf_flow.specs.Paths.{shown_part};
 ghost use Rattle.std.specs.Prelude.{◌≡◌, ℕ, ◌<◌, List, [], ◌∷◌, true, ◌&&◌, ◌||◌, nat_eq, length, if◌then◌else◌, flat_map, OnOk, IfOk};
 ghost use Rattle.tf_numbers.specs.Numbers.{has_number};
-ghost use Rattle.tf_model.specs.Before.{Flow, way_at};
+ghost use Rattle.tf_model.specs.Before.{Flow, path_at};
 ghost use Rattle.tf_model.specs.Linked as model;
 ghost use Rattle.tf_flow.specs.Names.{is_among};
 ghost use Rattle.tf_flow.specs.Rules.{bind_symbols};
@@ -52,7 +52,7 @@ pub fn infer(
 }
 
 /// Adds what an atom's symbols give the item that it stands in.
-#[tactic(auto, using(crate::proofs::TurnLemmas::turns_start, crate::proofs::TurnLemmas::turns_more, crate::proofs::TurnLemmas::turns_all, crate::proofs::SightLemmas::way_seen))]
+#[tactic(auto, using(crate::proofs::TurnLemmas::turns_start, crate::proofs::TurnLemmas::turns_more, crate::proofs::TurnLemmas::turns_all, crate::proofs::SightLemmas::path_seen))]
 fn link_atom(
     alloc: Global,
     sight: &Sight<'_, '_>,
@@ -69,10 +69,10 @@ fn link_atom(
     ensures wide { OnOk result (length found.new.ambiguities ≡ words_for (count_seen sight.now)) }
     ensures links { OnOk result ((inner : List Flow) → ShowsFlows sight.now.table.now inner
         → LinksBy sight.now (passed_at sight.now inner atom
-        (way_at (atoms_seen sight.now) atom))
+        (path_at (atoms_seen sight.now) atom))
         found.old.links found.old.ambiguities found.new.links found.new.ambiguities) }
 {
-    for turn in sight.atoms[atom].way.turns() {
+    for turn in sight.atoms[atom].path.turns() {
         link_turn(alloc, sight, reach, atom, *turn, found)?;
     }
     Ok(())

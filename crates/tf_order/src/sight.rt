@@ -11,9 +11,9 @@ ghost use Rattle.tf_links.specs.Links.{leads};
 ghost use Rattle.tf_order.specs.Marks.{marks, marks_turn, serves_in, leads_to_item, is_other};
 ghost use Rattle.tf_order.specs.Sight.{atoms_seen, place_seen, count_seen, HasProviders, HasReach};
 
-use crate::arranged::{Arranged, is_way_before};
+use crate::arranged::{Arranged, is_path_before};
 use crate::index::NameIndex;
-use crate::ways::passes_item;
+use crate::paths::passes_item;
 use std::alloc::Global;
 use tf_flow::{AtomPlace, Level, Provides, Retry, Turn};
 use tf_links::{Bits, has_in};
@@ -46,20 +46,20 @@ pub fn is_unserved(sight: &Sight<'_, '_>, item: usize, atom: usize, symbol: &Nam
 }
 
 /// Whether another atom stands in the item too and is before this one.
-#[tactic(auto, using(crate::proofs::SightLemmas::way_seen))]
+#[tactic(auto, using(crate::proofs::SightLemmas::path_seen))]
 fn serves(sight: &Sight<'_, '_>, item: usize, atom: usize, other: usize) -> bool
     requires atom { atom < length sight.now.atoms.now }
     requires other { other < length sight.now.atoms.now }
     ensures { (inner : List Flow) → ShowsFlows sight.now.table.now inner
         → result ≡ serves_in (atoms_seen sight.now) inner (place_seen sight.now).number item atom other }
 {
-    let way = sight.atoms[other].way.turns();
-    passes_item(way, sight.level.number, item)
-        && is_way_before(sight.table, way, sight.atoms[atom].way.turns())
+    let path = sight.atoms[other].path.turns();
+    passes_item(path, sight.level.number, item)
+        && is_path_before(sight.table, path, sight.atoms[atom].path.turns())
 }
 
 /// The items that provide a symbol, ascending.
-#[tactic(auto, using(crate::proofs::SightLemmas::marked_start, crate::proofs::SightLemmas::marked_more, crate::proofs::SightLemmas::marked_all, crate::proofs::SightLemmas::provider_within, crate::proofs::SightLemmas::way_seen))]
+#[tactic(auto, using(crate::proofs::SightLemmas::marked_start, crate::proofs::SightLemmas::marked_more, crate::proofs::SightLemmas::marked_all, crate::proofs::SightLemmas::provider_within, crate::proofs::SightLemmas::path_seen))]
 pub fn providing_items(
     alloc: Global,
     sight: &Sight<'_, '_>,
@@ -72,21 +72,21 @@ pub fn providing_items(
     let count = sight.level.items.len();
     let mut set = Bits::new(alloc, count)?;
     for atom in sight.providers.numbers(symbol) {
-        let way = sight.atoms[*atom].way.turns();
-        mark_items(way, sight.level.number, count, &mut set);
+        let path = sight.atoms[*atom].path.turns();
+        mark_items(path, sight.level.number, count, &mut set);
     }
     let items = set.numbers(alloc)?;
     Ok(items)
 }
 
-/// Adds the items of a flow, below the count, that a way leads through.
+/// Adds the items of a flow, below the count, that a path leads through.
 #[tactic(auto, using(crate::proofs::SightLemmas::marks_start, crate::proofs::SightLemmas::marks_more, crate::proofs::SightLemmas::marks_all))]
-fn mark_items(way: &[Turn], flow: usize, count: usize, set: &mut Bits)
+fn mark_items(path: &[Turn], flow: usize, count: usize, set: &mut Bits)
     requires wide { length set.old ≡ words_for count }
     ensures wide { length set.new ≡ words_for count }
-    ensures set { (u : ℕ) → has set.new u ≡ (has set.old u || marks flow count way.now u) }
+    ensures set { (u : ℕ) → has set.new u ≡ (has set.old u || marks flow count path.now u) }
 {
-    for turn in way {
+    for turn in path {
         mark_item(*turn, flow, count, set);
     }
 }

@@ -1,12 +1,12 @@
 ghost use Rattle.std.specs.Prelude.{◌≡◌, ℕ, ◌<◌, ◌≤◌, List, true, false, nat_eq, length, IfSome};
-ghost use Rattle.tf_model.specs.Before.{Flow, same_place, way_at};
+ghost use Rattle.tf_model.specs.Before.{Flow, same_place, path_at};
 ghost use Rattle.tf_model.specs.Plan.{is_before};
 ghost use Rattle.tf_order.specs.Arranged.{ShowsFlows};
 ghost use Rattle.tf_flow.specs.Listing.{shown_atoms};
 ghost use Rattle.tf_order.specs.Stretches.{IsAscending, Agree, IsUpToItem, GoesAlong, IsAlike, TellsTheSame};
 ghost use Rattle.tf_order.specs.Tables.{plan_seen, atoms_found};
 
-use crate::arranged::{Arranged, is_way_before, last_item_alike};
+use crate::arranged::{Arranged, is_path_before, last_item_alike};
 use tf_flow::{Outline, Turn};
 
 /// Atoms that stand side by side, from one up to before the end, and whether another is before all of
@@ -18,7 +18,7 @@ pub struct Stretch {
 }
 
 /// The atoms from `b` on that are after `a` if `b` is, and aren't if it isn't, as far as they are found
-/// without looking at each. The ways of atoms ascend, so the end is found by halving.
+/// without looking at each. The paths of atoms ascend, so the end is found by halving.
 #[tactic(auto, using(crate::proofs::StretchLemmas::stretch_alone, crate::proofs::StretchLemmas::stretch_along))]
 pub fn stretch_from(
     outline: &Outline<'_>,
@@ -35,9 +35,9 @@ pub fn stretch_from(
     ensures ends { result.end ≤ atoms_found outline.now }
     ensures same { TellsTheSame (is_before (plan_seen outline.now) a) result.is_after b result.end }
 {
-    let first = outline.atoms[a].way.turns();
-    let second = outline.atoms[b].way.turns();
-    let is_after = is_way_before(table, first, second);
+    let first = outline.atoms[a].path.turns();
+    let second = outline.atoms[b].path.turns();
+    let is_after = is_path_before(table, first, second);
     let turns = turns_shared(first, second);
     match last_alike(table, first, second, turns) {
         None => Stretch {
@@ -51,7 +51,7 @@ pub fn stretch_from(
     }
 }
 
-/// In how many first turns two ways agree.
+/// In how many first turns two paths agree.
 #[tactic(auto, using(crate::proofs::StretchLemmas::agree_next))]
 fn turns_shared(first: &[Turn], second: &[Turn]) -> usize
     ensures { Agree result first.now second.now }
@@ -84,8 +84,8 @@ fn is_same_place(u: Option<usize>, v: Option<usize>) -> bool
     }
 }
 
-/// Up to which item those that go along with the second way, after the turns that it shares with the
-/// first, are alike, if any besides those with the second way itself.
+/// Up to which item those that go along with the second path, after the turns that it shares with the
+/// first, are alike, if any besides those with the second path itself.
 #[tactic(auto, using(crate::proofs::StretchLemmas::alike_retry, crate::proofs::StretchLemmas::alike_items))]
 fn last_alike(
     table: &[Option<Arranged>],
@@ -110,7 +110,7 @@ fn last_alike(
     }
 }
 
-/// The end of the atoms from `b` on whose ways go along with that of `b`, after so many turns, up to an
+/// The end of the atoms from `b` on whose paths go along with that of `b`, after so many turns, up to an
 /// item.
 #[tactic(auto, using(crate::proofs::StretchLemmas::along_start, crate::proofs::StretchLemmas::along_more))]
 fn end_along(outline: &Outline<'_>, b: usize, turns: usize, most: usize) -> usize
@@ -120,8 +120,8 @@ fn end_along(outline: &Outline<'_>, b: usize, turns: usize, most: usize) -> usiz
     ensures begins { b < result }
     ensures ends { result ≤ atoms_found outline.now }
     ensures along { (k : ℕ) → b < k → k < result
-        → GoesAlong turns most (way_at (shown_atoms outline.now.atoms.items) b)
-        (way_at (shown_atoms outline.now.atoms.items) k) }
+        → GoesAlong turns most (path_at (shown_atoms outline.now.atoms.items) b)
+        (path_at (shown_atoms outline.now.atoms.items) k) }
 {
     let mut end = b + 1;
     let mut past = outline.atoms.len();
@@ -136,21 +136,21 @@ fn end_along(outline: &Outline<'_>, b: usize, turns: usize, most: usize) -> usiz
     end
 }
 
-/// Whether the way of an atom goes along with that of `b`.
+/// Whether the path of an atom goes along with that of `b`.
 #[tactic(auto, using(crate::proofs::StretchLemmas::along_seen))]
 fn goes_along(outline: &Outline<'_>, b: usize, turns: usize, most: usize, atom: usize) -> bool
     requires first { b < atoms_found outline.now }
     requires second { atom < atoms_found outline.now }
     ensures { result ≡ true
-        → GoesAlong turns most (way_at (shown_atoms outline.now.atoms.items) b)
-        (way_at (shown_atoms outline.now.atoms.items) atom) }
+        → GoesAlong turns most (path_at (shown_atoms outline.now.atoms.items) b)
+        (path_at (shown_atoms outline.now.atoms.items) atom) }
 {
-    let way = outline.atoms[b].way.turns();
-    let other = outline.atoms[atom].way.turns();
-    if turns_shared(way, other) < turns {
+    let path = outline.atoms[b].path.turns();
+    let other = outline.atoms[atom].path.turns();
+    if turns_shared(path, other) < turns {
         return false;
     }
-    match (way.get(turns), other.get(turns)) {
+    match (path.get(turns), other.get(turns)) {
         (Some(x), Some(y)) => x.flow == y.flow && is_up_to(most, y.item),
         _ => false,
     }

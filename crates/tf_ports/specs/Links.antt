@@ -7,10 +7,10 @@ use Rattle.tf_ports.specs.declared.links.Came.TheVariants as came
 abbrev pub sent_with : Option (List ℕ) → List ℕ → Option (List ℕ)
 sent_with sent bytes = option_map (λ before. before ++ bytes) sent
 
--- some front of the bytes was sent: none of them, a part, or all
-pub record SendsFront (before : Option (List ℕ)) (bytes : List ℕ) (after : Option (List ℕ)) : Type 0 where
+-- some prefix of the bytes was sent: none of them, a part, or all
+pub record SendsPrefix (before : Option (List ℕ)) (bytes : List ℕ) (after : Option (List ℕ)) : Type 0 where
   pub count : ℕ
-  pub front : after ≡ sent_with before (take count bytes)
+  pub prefix : after ≡ sent_with before (take count bytes)
 
 -- what was left before these bytes were taken from its front; None, which tells nothing, stays None
 abbrev pub left_before : List ℕ → Option (List ℕ) → Option (List ℕ)

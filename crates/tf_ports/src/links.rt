@@ -1,6 +1,6 @@
 ghost use Rattle.std.specs.Prelude.{◌≡◌, ℕ, ◌<◌, ◌≤◌, List, Option, length, OnOk, OnErr};
 ghost use Rattle.tf_desk.specs.Counts.{Rises};
-ghost use Rattle.tf_ports.specs.Links.{sent_with, SendsFront, Comes};
+ghost use Rattle.tf_ports.specs.Links.{sent_with, SendsPrefix, Comes};
 
 /// What a link gave: so many bytes, at the front of the buffer; its end, after which nothing comes; or
 /// nothing, as it failed.
@@ -30,10 +30,10 @@ pub trait Link: Drop {
     /// greatest u64.
     ghost ends: { Self → ℕ };
 
-    /// Sends the bytes. Where it fails, a front of the bytes was sent, and the count of faults rose.
+    /// Sends the bytes. Where it fails, a prefix of the bytes was sent, and the count of faults rose.
     fn send(&mut self, bytes: &[u8]) -> Result<(), LinkFault>
         ensures added { OnOk result (sent self.new ≡ sent_with (sent self.old) bytes.now) }
-        ensures cut { OnErr result (SendsFront (sent self.old) bytes.now (sent self.new)) }
+        ensures cut { OnErr result (SendsPrefix (sent self.old) bytes.now (sent self.new)) }
         ensures keeps { left self.new ≡ left self.old }
         ensures cause { OnErr result (Rises (faults self.old) (faults self.new)) }
         ensures no_fall { (faults self.old ≤ faults self.new) × (ends self.old ≤ ends self.new) };

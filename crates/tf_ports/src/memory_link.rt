@@ -1,6 +1,6 @@
 ghost use Rattle.std.specs.Prelude.{◌≡◌, ◌<◌, ◌≤◌, [], ◌++◌, drop, take, length, vec_len, Some, OnOk, OnErr};
 ghost use Rattle.tf_desk.specs.Counts.{Rises};
-ghost use Rattle.tf_ports.specs.Links.{SendsFront};
+ghost use Rattle.tf_ports.specs.Links.{SendsPrefix};
 
 use crate::links::{Came, Link, LinkFault};
 use std::alloc::Global;
@@ -117,14 +117,14 @@ impl Link for MemoryLink {
             self.ends = self.ends.saturating_add(1);
             return Came::End;
         }
-        let count = copy_front(rest, buf, self.piece);
+        let count = copy_prefix(rest, buf, self.piece);
         self.given += count;
         Came::Bytes(count)
     }
 }
 
 /// Copies the front of the bytes into the buffer: as many as it holds, and at most so many.
-fn copy_front(bytes: &[u8], buf: &mut [u8], most: usize) -> usize
+fn copy_prefix(bytes: &[u8], buf: &mut [u8], most: usize) -> usize
     requires some { 0 < length bytes.now }
     requires room { 0 < length buf.old }
     requires most { 0 < most }

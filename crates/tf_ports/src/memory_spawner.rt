@@ -106,12 +106,12 @@ fn kept(bytes: &[u8]) -> &[u8]
     ensures kept { result.now ≡ kept_of bytes.now }
     ensures short { length result.now ≤ OUTPUT_LIMIT }
 {
-    front(bytes, OUTPUT_LIMIT)
+    prefix(bytes, OUTPUT_LIMIT)
 }
 
 /// The first bytes, at most so many.
-fn front(bytes: &[u8], limit: usize) -> &[u8]
-    ensures front { result.now ≡ take limit bytes.now }
+fn prefix(bytes: &[u8], limit: usize) -> &[u8]
+    ensures prefix { result.now ≡ take limit bytes.now }
     ensures short { length result.now ≤ limit }
 {
     if bytes.len() <= limit {

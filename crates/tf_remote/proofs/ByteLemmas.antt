@@ -1,7 +1,7 @@
 -- Bytes that come over a link one after the other, and bytes that are sent.
 use Rattle.std.proofs.Common.{◌≡◌, ℕ, ◌≤◌, List, [], ◌++◌, length, Option, Some, None, inl, inr, refl, sym, ap, ◌∙◌, arith, append_assoc, append-nil}
 use Rattle.std.proofs.lemmas.List.{take_all}
-use Rattle.tf_ports.specs.Links.{sent_with, left_before, SendsFront}
+use Rattle.tf_ports.specs.Links.{sent_with, left_before, SendsPrefix}
 use Rattle.tf_remote.specs.Received.{SeenLink, Brings, BringsAny, IsGone}
 
 -- ---- what comes
@@ -39,17 +39,17 @@ gone_later before now after faults ends gone = elim gone [
 
 -- ---- what is sent
 
--- all of the bytes are a front of them
-pub whole_front : (before after : Option (List ℕ)) (bytes : List ℕ) → after ≡ sent_with before bytes → SendsFront before bytes after
-whole_front before after bytes is = record {
+-- all of the bytes are a prefix of them
+pub whole_prefix : (before after : Option (List ℕ)) (bytes : List ℕ) → after ≡ sent_with before bytes → SendsPrefix before bytes after
+whole_prefix before after bytes is = record {
   count = length bytes;
-  front = is ∙ ap (sent_with before) (sym (take_all (length bytes) bytes (omega arith)));
+  prefix = is ∙ ap (sent_with before) (sym (take_all (length bytes) bytes (omega arith)));
 }
 
 sent_nothing : (sent : Option (List ℕ)) → sent ≡ sent_with sent []
 sent_nothing None = refl
 sent_nothing (Some bytes) = ap Some (sym (append-nil bytes))
 
--- nothing is a front of any bytes
-pub no_front : (before : Option (List ℕ)) (bytes : List ℕ) → SendsFront before bytes before
-no_front before bytes = record { count = 0; front = sent_nothing before }
+-- nothing is a prefix of any bytes
+pub no_prefix : (before : Option (List ℕ)) (bytes : List ℕ) → SendsPrefix before bytes before
+no_prefix before bytes = record { count = 0; prefix = sent_nothing before }

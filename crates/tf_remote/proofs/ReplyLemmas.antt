@@ -7,7 +7,7 @@ use Rattle.tf_wire.specs.declared.messages.Response.{Response}
 use Rattle.tf_wire.specs.declared.messages.Response.TheVariants as response
 use Rattle.tf_workers.specs.Dialogue.{told}
 use Rattle.tf_remote.proofs.FrameLemmas.{short_part}
-use Rattle.tf_ports.specs.Links.{sent_with, SendsFront}
+use Rattle.tf_ports.specs.Links.{sent_with, SendsPrefix}
 use Rattle.tf_states.specs.declared.record.Failure.{Failure}
 use Rattle.tf_states.specs.declared.record.Failure.TheVariants as failure
 use Rattle.tf_actions.specs.declared.orders.Order.{Order}
@@ -22,7 +22,7 @@ use Rattle.tf_remote.specs.Stopped.{IsStopTaken, IsUnread}
 use Rattle.tf_remote.specs.declared.receiving.Stop.{Stop}
 use Rattle.tf_remote.specs.declared.receiving.Stop.TheVariants as stop
 use Rattle.tf_remote.specs.Requests.{frame_for}
-use Rattle.tf_remote.proofs.ByteLemmas.{brings_more, brings_none, brings_any, gone_later, whole_front, no_front}
+use Rattle.tf_remote.proofs.ByteLemmas.{brings_more, brings_none, brings_any, gone_later, whole_prefix, no_prefix}
 use Rattle.tf_remote.proofs.NearLemmas.{near_is_not_far}
 
 -- ---- the cases of an outcome
@@ -147,7 +147,7 @@ fault_sent frame before now (failure.Lookup name) is = is
 fault_sent frame before now (failure.Exit status) is = is
 fault_sent frame before now failure.Spawn is = is
 fault_sent frame before now failure.NotText is = is
-fault_sent frame before now failure.Lost is = whole_front before now frame is
+fault_sent frame before now failure.Lost is = whole_prefix before now frame is
 fault_sent frame before now (failure.BadReply count) is = is
 fault_sent frame before now failure.Exhausted is = is
 
@@ -189,7 +189,7 @@ pub asked_in_vain : (order : Order) (id : ℕ) (frame : List ℕ) (before now af
 asked_in_vain order id frame before now after named sent left faults ends same came = record {
   bytes = came.bytes;
   brings = brings_more [] came.bytes before now after (brings_none before now left faults ends) came.brings;
-  sent = whole_front before.sent after.sent (frame_for order id) (same ∙ sent ∙ ap (sent_with before.sent) named);
+  sent = whole_prefix before.sent after.sent (frame_for order id) (same ∙ sent ∙ ap (sent_with before.sent) named);
 }
 
 -- an order that was asked has an outcome that it may have
@@ -213,16 +213,16 @@ gives_result {E} (Err e) order id before now sent asks = tt
 
 -- nothing was sent, and memory ran out
 pub nothing_asked : (order : Order) (id : ℕ) (before : SeenLink) → RunsOutAsking order id before before
-nothing_asked order id before = record { bytes = []; brings = brings_none before before refl (omega arith) (omega arith); sent = no_front before.sent (frame_for order id) }
+nothing_asked order id before = record { bytes = []; brings = brings_none before before refl (omega arith) (omega arith); sent = no_prefix before.sent (frame_for order id) }
 
 -- the link couldn't send
-pub lost_at_once : (order : Order) (id : ℕ) (frame : List ℕ) (before now : SeenLink) → frame ≡ frame_for order id → SendsFront before.sent frame now.sent → now.left ≡ before.left
+pub lost_at_once : (order : Order) (id : ℕ) (frame : List ℕ) (before now : SeenLink) → frame ≡ frame_for order id → SendsPrefix before.sent frame now.sent → now.left ≡ before.left
     → before.faults ≤ now.faults → before.ends ≤ now.ends → Rises before.faults now.faults → AsksWorker order id before now (outcome.Failed failure.Lost)
 lost_at_once order id frame before now named sent left faults ends rose = record {
   bytes = [];
   brings = brings_none before now left faults ends;
   taken_for = (inl (short_part [] (omega arith)), inl rose);
-  sent = subst (λ (whole_frame : List ℕ). SendsFront before.sent whole_frame now.sent) named sent;
+  sent = subst (λ (whole_frame : List ℕ). SendsPrefix before.sent whole_frame now.sent) named sent;
 }
 
 -- ---- what a frame tells

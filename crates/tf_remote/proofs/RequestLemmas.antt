@@ -93,7 +93,7 @@ unsent_is_no_program order sent = unsent_of_parts order.atom order.action order.
 pub printed : (order : Order) (id : ℕ) (request : Request) (old out : List ℕ) → request ≡ request_for order id → old ≡ [] → out ≡ old ++ frame_of (request_data request) → out ≡ frame_for order id
 unfolding frame_for
 printed order id request old out named none is =
-    is ∙ ap (λ (front : List ℕ). front ++ frame_of (request_data request)) none ∙ ap (λ (r : Request). frame_of (request_data r)) named
+    is ∙ ap (λ (prefix : List ℕ). prefix ++ frame_of (request_data request)) none ∙ ap (λ (r : Request). frame_of (request_data r)) named
 
 -- a request that is allowed is read back from its text
 Reads : Request → Type 0

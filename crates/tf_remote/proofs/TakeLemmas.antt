@@ -31,17 +31,17 @@ refused_clash wanted bytes rest frame behind is_frame good same refused = elim r
     behind = rest;
     fits = short.fits;
     is_bad = short.is_bad;
-    front = ap (λ (front : List ℕ). front ++ rest) short.is;
+    prefix = ap (λ (prefix : List ℕ). prefix ++ rest) short.is;
   }
   | inr other ↦
-      let one = frame_one other.frame frame rest behind other.is_frame is_frame (ap (λ (front : List ℕ). front ++ rest) (sym other.is) ∙ same) in
+      let one = frame_one other.frame frame rest behind other.is_frame is_frame (ap (λ (prefix : List ℕ). prefix ++ rest) (sym other.is) ∙ same) in
       other.other (subst wanted (sym one.0) good)
 ]
 
 -- nor is less than a frame, where nothing follows it
 part_clash : (bytes rest frame behind : List ℕ) → IsFrame frame → rest ≡ [] → bytes ++ rest ≡ framed frame ++ behind → IsPart bytes → ⊥
 part_clash bytes rest frame behind is_frame none same part =
-    part.no_frame record { frame = frame; behind = behind; is_frame = is_frame; front = sym (append-nil bytes) ∙ ap (λ (more : List ℕ). bytes ++ more) (sym none) ∙ same }
+    part.no_frame record { frame = frame; behind = behind; is_frame = is_frame; prefix = sym (append-nil bytes) ∙ ap (λ (more : List ℕ). bytes ++ more) (sym none) ∙ same }
 
 -- ---- the first frame and what follows, against a reply
 
@@ -50,7 +50,7 @@ same_first : (id : ℕ) (next : ℕ → List ℕ → Type 0) (bytes rest first b
     → one.behind ++ rest ≡ behind
 same_first id next bytes rest first behind running same one =
     let spread : framed one.first ++ (one.behind ++ rest) ≡ framed first ++ behind =
-    sym (append_assoc (framed one.first) one.behind rest) ∙ ap (λ (front : List ℕ). front ++ rest) (sym one.is) ∙ same in
+    sym (append_assoc (framed one.first) one.behind rest) ∙ ap (λ (prefix : List ℕ). prefix ++ rest) (sym one.is) ∙ same in
     (frame_one one.first first (one.behind ++ rest) behind one.running.is_frame running.is_frame spread).1
 
 -- a response tells one outcome
@@ -70,10 +70,10 @@ record Whole (order : Order) (id : ℕ) (came : Outcome) (stream behind : List �
 
 -- the stream, as its two frames and what follows
 first_of : (order : Order) (id : ℕ) (came : Outcome) (stream behind : List ℕ) (w : Whole order id came stream behind) → stream ≡ framed w.is_reply.first ++ (w.is_reply.behind ++ behind)
-first_of order id came stream behind w = w.is ∙ ap (λ (front : List ℕ). front ++ behind) w.is_reply.is ∙ append_assoc (framed w.is_reply.first) w.is_reply.behind behind
+first_of order id came stream behind w = w.is ∙ ap (λ (prefix : List ℕ). prefix ++ behind) w.is_reply.is ∙ append_assoc (framed w.is_reply.first) w.is_reply.behind behind
 
 second_of : (order : Order) (id : ℕ) (came : Outcome) (stream behind : List ℕ) (w : Whole order id came stream behind) → w.is_reply.behind ++ behind ≡ framed w.is_reply.goes_on.frame ++ behind
-second_of order id came stream behind w = ap (λ (front : List ℕ). front ++ behind) w.is_reply.goes_on.is
+second_of order id came stream behind w = ap (λ (prefix : List ℕ). prefix ++ behind) w.is_reply.goes_on.is
 
 -- a link that gave these bytes had the reply before it: the outcome is the reply's, and what follows is left
 taken : (order : Order) (id : ℕ) (gone : Type 0) (bytes rest behind : List ℕ) (x came : Outcome) → (gone → rest ≡ []) → Whole order id came (bytes ++ rest) behind → IsTaken order id gone bytes x → (x ≡ came) × (rest ≡ behind)
@@ -93,7 +93,7 @@ taken order id gone bytes rest behind x came ended w is = elim is [
   | whole one ↦
       let more = same_first id (λ n b. IsOutcomeFrame order id x b) bytes rest w.is_reply.first (w.is_reply.behind ++ behind) w.is_reply.running (first_of order id came (bytes ++ rest) behind w) one in
       let same = frame_one one.goes_on.frame w.is_reply.goes_on.frame rest behind one.goes_on.tells.is_frame w.is_reply.goes_on.tells.is_frame
-      (ap (λ (front : List ℕ). front ++ rest) (sym one.goes_on.is) ∙ more ∙ second_of order id came (bytes ++ rest) behind w) in
+      (ap (λ (prefix : List ℕ). prefix ++ rest) (sym one.goes_on.is) ∙ more ∙ second_of order id came (bytes ++ rest) behind w) in
       let other : AreResponse w.is_reply.goes_on.frame (told id x) = subst (λ (frame : List ℕ). AreResponse frame (told id x)) same.0 one.goes_on.tells.reads in
       (outcome_told id x came (one_response w.is_reply.goes_on.frame (told id x) (told id came) other w.is_reply.goes_on.tells.reads), same.1)
 ]

@@ -2,7 +2,7 @@
 use Rattle.std.specs.Prelude.{◌≡◌, ◌↔◌, ℕ, List, ◌++◌, true, Option, Some, Result, IfOk}
 use Rattle.serde_json.specs.Written.{compact_text}
 use Rattle.tf_desk.specs.Counts.{Rises}
-use Rattle.tf_ports.specs.Links.{sent_with, SendsFront}
+use Rattle.tf_ports.specs.Links.{sent_with, SendsPrefix}
 use Rattle.tf_states.specs.declared.record.Failure.TheVariants as failure
 use Rattle.tf_actions.specs.Gives.{Gives}
 use Rattle.tf_actions.specs.declared.orders.Order.{Order}
@@ -19,9 +19,9 @@ use Rattle.tf_remote.specs.Received.{SeenLink, Brings, IsGone}
 use Rattle.tf_remote.specs.Replies.{IsReply, IsTakenFor}
 use Rattle.tf_remote.specs.Requests.{pairs_asked, request_for, frame_for}
 
--- what the link was sent: the whole frame of the request, or, where the worker is lost, a front of it
+-- what the link was sent: the whole frame of the request, or, where the worker is lost, a prefix of it
 abbrev pub IsSentFor : List ℕ → Option (List ℕ) → Option (List ℕ) → Outcome → Type 0
-IsSentFor frame before now (outcome.Failed failure.Lost) = SendsFront before frame now
+IsSentFor frame before now (outcome.Failed failure.Lost) = SendsPrefix before frame now
 IsSentFor frame before now came = now ≡ sent_with before frame
 
 -- An order was asked of the worker: the frame of its request was sent, and the outcome is what the bytes are taken for
@@ -32,11 +32,11 @@ pub record AsksWorker (order : Order) (id : ℕ) (before now : SeenLink) (came :
   pub taken_for : IsTakenFor order id (IsGone before now) bytes came
   pub sent : IsSentFor (frame_for order id) before.sent now.sent came
 
--- memory ran out while an order was asked: a front of the frame was sent
+-- memory ran out while an order was asked: a prefix of the frame was sent
 pub record RunsOutAsking (order : Order) (id : ℕ) (before now : SeenLink) : Type 0 where
   pub bytes : List ℕ
   pub brings : Brings bytes before now
-  pub sent : SendsFront before.sent (frame_for order id) now.sent
+  pub sent : SendsPrefix before.sent (frame_for order id) now.sent
 
 -- the bytes of the frame behind its length are the request, where no argument's name stands twice
 unfoldable pub IsRequestBack : Order → ℕ → Type 0

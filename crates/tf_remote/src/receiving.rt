@@ -32,11 +32,11 @@ pub fn receive<L: Link>(alloc: Global, link: &mut L) -> Result<Vec<u8>, Stop>
         (seen L.left L.sent L.faults L.ends link.new)) }
     ensures sent { L.sent link.new ≡ L.sent link.old }
 {
-    let front = match receive_bytes(alloc, link, 4) {
-        Ok(front) => front,
+    let prefix = match receive_bytes(alloc, link, 4) {
+        Ok(prefix) => prefix,
         Err(stop) => return Err(stop),
     };
-    let len = length_in(&front);
+    let len = length_in(&prefix);
     if !is_frame_length(len) {
         return Err(Stop::Refused);
     }
@@ -75,10 +75,10 @@ fn length_in(bytes: &[u8]) -> u32
     ensures small { result < 2 ^ 32 }
     ensures is { bytes.now ≡ to_be_bytes w32 result }
 {
-    let Some((front, _)) = bytes.split_first_chunk::<4>() else {
+    let Some((prefix, _)) = bytes.split_first_chunk::<4>() else {
         unreachable!();
     };
-    u32::from_be_bytes(*front)
+    u32::from_be_bytes(*prefix)
 }
 
 /// Whether a frame may have this length.

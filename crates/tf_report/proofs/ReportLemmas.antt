@@ -15,16 +15,16 @@ use Rattle.tf_report.specs.Lines.{payload_text}
 use Rattle.tf_report.specs.Report.{failed, state_shown, payload_shown, report_shown, report}
 use Rattle.tf_report.specs.Table.{table_shown, table}
 
-by_four : (front a b c d : List ℕ) → (((front ++ a) ++ b) ++ c) ++ d ≡ front ++ (a ++ b ++ c ++ d)
-by_four front a b c d = simp append_assoc
+by_four : (prefix a b c d : List ℕ) → (((prefix ++ a) ++ b) ++ c) ++ d ≡ prefix ++ (a ++ b ++ c ++ d)
+by_four prefix a b c d = simp append_assoc
 
 -- the four texts of a failed reversion's line
-pub failed_told : (plan : Outline) (a : ℕ) (held : Payload) (front one two three name : List ℕ) → one ≡ front ++ codes "unreverted " → two ≡ one ++ name → name ≡ atom_name plan a → three ≡ two ++ payload_text held
-    → three ++ 10 ∷ [] ≡ front ++ failed plan a held
-failed_told plan a held front one two three name begun named is carried =
+pub failed_told : (plan : Outline) (a : ℕ) (held : Payload) (prefix one two three name : List ℕ) → one ≡ prefix ++ codes "unreverted " → two ≡ one ++ name → name ≡ atom_name plan a → three ≡ two ++ payload_text held
+    → three ++ 10 ∷ [] ≡ prefix ++ failed plan a held
+failed_told plan a held prefix one two three name begun named is carried =
     ap (λ (text : List ℕ). text ++ 10 ∷ [])
-    (carried ∙ ap (λ (text : List ℕ). text ++ payload_text held) (named ∙ (ap (λ (text : List ℕ). text ++ name) begun ∙ ap (λ (text : List ℕ). (front ++ codes "unreverted ") ++ text) is)))
-    ∙ by_four front (codes "unreverted ") (atom_name plan a) (payload_text held) (10 ∷ [])
+    (carried ∙ ap (λ (text : List ℕ). text ++ payload_text held) (named ∙ (ap (λ (text : List ℕ). text ++ name) begun ∙ ap (λ (text : List ℕ). (prefix ++ codes "unreverted ") ++ text) is)))
+    ∙ by_four prefix (codes "unreverted ") (atom_name plan a) (payload_text held) (10 ∷ [])
 
 pub on_err_always : {T E P : Type 0} (r : Result T E) → P → OnErr r P
 on_err_always (Ok x) p = tt

@@ -1,13 +1,13 @@
 ghost use Rattle.std.specs.Prelude.{◌≡◌, ◌<◌, ◌≤◌, ◌+◌, ◌++◌, ◌∷◌, length, OnOk, OnErr, vec_capacity};
-ghost use Rattle.tf_values.specs.Growth.{KeepsFront};
+ghost use Rattle.tf_values.specs.Growth.{KeepsPrefix};
 
 use itoa::{Buffer, Integer};
 use tf_values::Memory;
 
-/// Appends bytes. Want of memory leaves a front of them behind what was there.
+/// Appends bytes. Want of memory leaves a prefix of them behind what was there.
 pub fn append(bytes: &[u8], out: &mut Vec<u8>) -> Result<(), Memory>
     ensures ok { OnOk result (out.new.items ≡ out.old.items ++ bytes.now) }
-    ensures err { OnErr result (KeepsFront out.old.items out.new.items) }
+    ensures err { OnErr result (KeepsPrefix out.old.items out.new.items) }
     ensures full { OnErr result (vec_capacity out.old < length out.old.items + length bytes.now) }
     ensures capacity { vec_capacity out.old ≤ vec_capacity out.new }
 {
@@ -15,10 +15,10 @@ pub fn append(bytes: &[u8], out: &mut Vec<u8>) -> Result<(), Memory>
     Ok(())
 }
 
-/// Appends a number in decimal digits. Want of memory leaves a front of them behind what was there.
+/// Appends a number in decimal digits. Want of memory leaves a prefix of them behind what was there.
 pub fn append_number<I: Integer + Drop>(number: I, out: &mut Vec<u8>) -> Result<(), Memory>
     ensures ok { OnOk result (out.new.items ≡ out.old.items ++ I.text number) }
-    ensures err { OnErr result (KeepsFront out.old.items out.new.items) }
+    ensures err { OnErr result (KeepsPrefix out.old.items out.new.items) }
     ensures full { OnErr result (vec_capacity out.old < length out.old.items + length (I.text number)) }
     ensures capacity { vec_capacity out.old ≤ vec_capacity out.new }
     ensures short { length (I.text number) ≤ 40 }
@@ -27,7 +27,7 @@ pub fn append_number<I: Integer + Drop>(number: I, out: &mut Vec<u8>) -> Result<
     append(buffer.format(number).as_bytes(), out)
 }
 
-/// Appends a head and a number. Want of memory leaves a front of both behind what was there.
+/// Appends a head and a number. Want of memory leaves a prefix of both behind what was there.
 #[tactic(auto, using(tf_values::proofs::GrowthLemmas::keeps_shorter))]
 pub fn append_counted<I: Integer + Drop>(
     head: &[u8],
@@ -35,7 +35,7 @@ pub fn append_counted<I: Integer + Drop>(
     out: &mut Vec<u8>,
 ) -> Result<(), Memory>
     ensures ok { OnOk result (out.new.items ≡ out.old.items ++ (head.now ++ I.text number)) }
-    ensures err { OnErr result (KeepsFront out.old.items out.new.items) }
+    ensures err { OnErr result (KeepsPrefix out.old.items out.new.items) }
     ensures full { OnErr result (vec_capacity out.old < length out.old.items + (length head.now + 40)) }
     ensures capacity { vec_capacity out.old ≤ vec_capacity out.new }
     ensures short { OnOk result (length (I.text number) ≤ 40) }
@@ -44,11 +44,11 @@ pub fn append_counted<I: Integer + Drop>(
     append_number(number, out)
 }
 
-/// Appends a head and a name. Want of memory leaves a front of both behind what was there.
+/// Appends a head and a name. Want of memory leaves a prefix of both behind what was there.
 #[tactic(auto, using(tf_values::proofs::GrowthLemmas::keeps_shorter))]
 pub fn append_pair(head: &[u8], name: &[u8], out: &mut Vec<u8>) -> Result<(), Memory>
     ensures ok { OnOk result (out.new.items ≡ out.old.items ++ (head.now ++ name.now)) }
-    ensures err { OnErr result (KeepsFront out.old.items out.new.items) }
+    ensures err { OnErr result (KeepsPrefix out.old.items out.new.items) }
     ensures full { OnErr result (vec_capacity out.old < length out.old.items + (length head.now + length name.now)) }
     ensures capacity { vec_capacity out.old ≤ vec_capacity out.new }
 {
@@ -60,7 +60,7 @@ pub fn append_pair(head: &[u8], name: &[u8], out: &mut Vec<u8>) -> Result<(), Me
 #[tactic(auto, using(tf_values::proofs::GrowthLemmas::keeps_shorter))]
 pub fn append_named(head: &[u8], name: &[u8], word: &str, out: &mut Vec<u8>) -> Result<(), Memory>
     ensures ok { OnOk result (out.new.items ≡ out.old.items ++ (head.now ++ name.now ++ 32 ∷ word.now)) }
-    ensures err { OnErr result (KeepsFront out.old.items out.new.items) }
+    ensures err { OnErr result (KeepsPrefix out.old.items out.new.items) }
     ensures full { OnErr result (vec_capacity out.old
         < length out.old.items + (length head.now + length name.now + 1 + length word.now)) }
     ensures capacity { vec_capacity out.old ≤ vec_capacity out.new }

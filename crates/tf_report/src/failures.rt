@@ -1,5 +1,5 @@
 ghost use Rattle.std.specs.Prelude.{◌≡◌, ◌<◌, ◌≤◌, ◌+◌, ◌++◌, length, OnOk, OnErr, vec_capacity};
-ghost use Rattle.tf_values.specs.Growth.{KeepsFront};
+ghost use Rattle.tf_values.specs.Growth.{KeepsPrefix};
 ghost use Rattle.tf_report.specs.Lines.{failure_text, payload_text};
 
 use crate::appending::{append, append_counted, append_pair};
@@ -10,7 +10,7 @@ use tf_values::Memory;
 #[tactic(auto, using(tf_values::proofs::GrowthLemmas::keeps_shorter))]
 pub fn append_payload(payload: &Payload, out: &mut Vec<u8>) -> Result<(), Memory>
     ensures ok { OnOk result (out.new.items ≡ out.old.items ++ payload_text payload.now) }
-    ensures err { OnErr result (KeepsFront out.old.items out.new.items) }
+    ensures err { OnErr result (KeepsPrefix out.old.items out.new.items) }
     ensures full { OnErr result (vec_capacity out.old < length out.old.items + 800000) }
     ensures capacity { vec_capacity out.old ≤ vec_capacity out.new }
     ensures grown { OnOk result (length out.new.items ≤ length out.old.items + 800000) }
@@ -31,7 +31,7 @@ pub fn append_payload(payload: &Payload, out: &mut Vec<u8>) -> Result<(), Memory
 #[tactic(auto, using(tf_values::proofs::GrowthLemmas::keeps_shorter))]
 fn append_failure(failure: &Failure, out: &mut Vec<u8>) -> Result<(), Memory>
     ensures ok { OnOk result (out.new.items ≡ out.old.items ++ failure_text failure.now) }
-    ensures err { OnErr result (KeepsFront out.old.items out.new.items) }
+    ensures err { OnErr result (KeepsPrefix out.old.items out.new.items) }
     ensures full { OnErr result (vec_capacity out.old < length out.old.items + 400000) }
     ensures capacity { vec_capacity out.old ≤ vec_capacity out.new }
     ensures grown { OnOk result (length out.new.items ≤ length out.old.items + 400000) }

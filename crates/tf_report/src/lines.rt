@@ -1,5 +1,5 @@
 ghost use Rattle.std.specs.Prelude.{◌≡◌, ◌<◌, ◌≤◌, ◌+◌, ◌++◌, length, IsOk, OnOk, OnErr, vec_capacity};
-ghost use Rattle.tf_values.specs.Growth.{KeepsFront};
+ghost use Rattle.tf_values.specs.Growth.{KeepsPrefix};
 ghost use Rattle.tf_model.specs.Plan.{outline_of};
 ghost use Rattle.tf_report.specs.Lines.{what_text, line as line_of};
 
@@ -33,7 +33,7 @@ pub fn line(plan: &Plan, number: u64, entry: &Entry, out: &mut Vec<u8>) -> Resul
 #[tactic(auto, using(tf_values::proofs::GrowthLemmas::keeps_shorter), unfolding(crate::specs::Lines::line))]
 fn append_line(plan: &Plan, number: u64, entry: &Entry, out: &mut Vec<u8>) -> Result<(), Memory>
     ensures ok { OnOk result (out.new.items ≡ out.old.items ++ line_of (outline_of plan.now) number entry.now) }
-    ensures err { OnErr result (KeepsFront out.old.items out.new.items) }
+    ensures err { OnErr result (KeepsPrefix out.old.items out.new.items) }
     ensures full { OnErr result (vec_capacity out.old < length out.old.items + 1048576) }
     ensures capacity { vec_capacity out.old ≤ vec_capacity out.new }
     ensures grown { OnOk result (length out.new.items ≤ length out.old.items + 1048576) }
@@ -49,7 +49,7 @@ fn append_line(plan: &Plan, number: u64, entry: &Entry, out: &mut Vec<u8>) -> Re
 #[tactic(auto, using(tf_values::proofs::GrowthLemmas::keeps_shorter))]
 fn append_what(plan: &Plan, what: &What, out: &mut Vec<u8>) -> Result<(), Memory>
     ensures ok { OnOk result (out.new.items ≡ out.old.items ++ what_text (outline_of plan.now) what.now) }
-    ensures err { OnErr result (KeepsFront out.old.items out.new.items) }
+    ensures err { OnErr result (KeepsPrefix out.old.items out.new.items) }
     ensures full { OnErr result (vec_capacity out.old < length out.old.items + 900000) }
     ensures capacity { vec_capacity out.old ≤ vec_capacity out.new }
     ensures grown { OnOk result (length out.new.items ≤ length out.old.items + 900000) }

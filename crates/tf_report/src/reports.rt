@@ -1,5 +1,5 @@
 ghost use Rattle.std.specs.Prelude.{◌≡◌, ◌<◌, ◌++◌, OnOk, OnErr, length, slice_get};
-ghost use Rattle.tf_values.specs.Growth.{KeepsFront};
+ghost use Rattle.tf_values.specs.Growth.{KeepsPrefix};
 ghost use Rattle.tf_model.specs.Plan.{outline_of, count};
 ghost use Rattle.tf_model.specs.Snapshot.{Snapshot};
 ghost use Rattle.tf_model.specs.States.{is_revert_failure as reversion_failed};
@@ -45,7 +45,7 @@ fn append_report(
 ) -> Result<(), Memory>
     ensures ok { OnOk result (out.new.items ≡ out.old.items
         ++ report_shown (outline_of plan.now) state (state_shown views.now) (payload_shown views.now)) }
-    ensures err { OnErr result (KeepsFront out.old.items out.new.items) }
+    ensures err { OnErr result (KeepsPrefix out.old.items out.new.items) }
 {
     append_ending(plan, state, out)?;
     match state {
@@ -58,7 +58,7 @@ fn append_report(
 #[tactic(auto, using(tf_values::proofs::GrowthLemmas::keeps_shorter))]
 fn append_ending(plan: &Plan, state: FlowState, out: &mut Vec<u8>) -> Result<(), Memory>
     ensures ok { OnOk result (out.new.items ≡ out.old.items ++ ending (outline_of plan.now) state) }
-    ensures err { OnErr result (KeepsFront out.old.items out.new.items) }
+    ensures err { OnErr result (KeepsPrefix out.old.items out.new.items) }
 {
     append_named(b"end ", flow_name(plan, 0), flow_word(state), out)?;
     append(b"\n", out)
@@ -69,7 +69,7 @@ fn append_ending(plan: &Plan, state: FlowState, out: &mut Vec<u8>) -> Result<(),
 fn append_unreverted(plan: &Plan, views: &[AtomView], out: &mut Vec<u8>) -> Result<(), Memory>
     ensures ok { OnOk result (out.new.items ≡ out.old.items
         ++ unreverted_below (outline_of plan.now) (state_shown views.now) (payload_shown views.now) (count (outline_of plan.now))) }
-    ensures err { OnErr result (KeepsFront out.old.items out.new.items) }
+    ensures err { OnErr result (KeepsPrefix out.old.items out.new.items) }
 {
     for atom in 0..plan.atoms() {
         append_atom(plan, atom, views, out)?;
@@ -82,7 +82,7 @@ fn append_unreverted(plan: &Plan, views: &[AtomView], out: &mut Vec<u8>) -> Resu
 fn append_atom(plan: &Plan, atom: u16, views: &[AtomView], out: &mut Vec<u8>) -> Result<(), Memory>
     ensures ok { OnOk result (out.new.items ≡ out.old.items
         ++ unreverted (outline_of plan.now) atom (state_shown views.now atom) (payload_shown views.now atom)) }
-    ensures err { OnErr result (KeepsFront out.old.items out.new.items) }
+    ensures err { OnErr result (KeepsPrefix out.old.items out.new.items) }
 {
     let Some(view) = views.get(atom as usize) else {
         return Ok(());
@@ -96,7 +96,7 @@ fn append_atom(plan: &Plan, atom: u16, views: &[AtomView], out: &mut Vec<u8>) ->
 #[tactic(auto, using(tf_values::proofs::GrowthLemmas::keeps_shorter))]
 fn append_failed(plan: &Plan, atom: u16, held: &Payload, out: &mut Vec<u8>) -> Result<(), Memory>
     ensures ok { OnOk result (out.new.items ≡ out.old.items ++ failed (outline_of plan.now) atom held.now) }
-    ensures err { OnErr result (KeepsFront out.old.items out.new.items) }
+    ensures err { OnErr result (KeepsPrefix out.old.items out.new.items) }
 {
     append(b"unreverted ", out)?;
     append(atom_name(plan, atom), out)?;

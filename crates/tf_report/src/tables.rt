@@ -1,5 +1,5 @@
 ghost use Rattle.std.specs.Prelude.{◌≡◌, ◌++◌, OnOk, OnErr};
-ghost use Rattle.tf_values.specs.Growth.{KeepsFront};
+ghost use Rattle.tf_values.specs.Growth.{KeepsPrefix};
 ghost use Rattle.tf_model.specs.Plan.{outline_of, count};
 ghost use Rattle.tf_model.specs.Snapshot.{Snapshot};
 ghost use Rattle.tf_model.specs.Views.{Shows};
@@ -45,7 +45,7 @@ fn append_table(
 ) -> Result<(), Memory>
     ensures ok { OnOk result (out.new.items ≡ out.old.items
         ++ table_shown (outline_of plan.now) state (state_shown views.now) (payload_shown views.now)) }
-    ensures err { OnErr result (KeepsFront out.old.items out.new.items) }
+    ensures err { OnErr result (KeepsPrefix out.old.items out.new.items) }
 {
     append_flow(plan, state, out)?;
     append_atoms(plan, views, out)
@@ -55,7 +55,7 @@ fn append_table(
 #[tactic(auto, using(tf_values::proofs::GrowthLemmas::keeps_shorter))]
 fn append_flow(plan: &Plan, state: FlowState, out: &mut Vec<u8>) -> Result<(), Memory>
     ensures ok { OnOk result (out.new.items ≡ out.old.items ++ flow_line (outline_of plan.now) state) }
-    ensures err { OnErr result (KeepsFront out.old.items out.new.items) }
+    ensures err { OnErr result (KeepsPrefix out.old.items out.new.items) }
 {
     append_named(b"state ", flow_name(plan, 0), flow_word(state), out)?;
     append(b"\n", out)
@@ -66,7 +66,7 @@ fn append_flow(plan: &Plan, state: FlowState, out: &mut Vec<u8>) -> Result<(), M
 fn append_atoms(plan: &Plan, views: &[AtomView], out: &mut Vec<u8>) -> Result<(), Memory>
     ensures ok { OnOk result (out.new.items ≡ out.old.items
         ++ atom_lines_below (outline_of plan.now) (state_shown views.now) (payload_shown views.now) (count (outline_of plan.now))) }
-    ensures err { OnErr result (KeepsFront out.old.items out.new.items) }
+    ensures err { OnErr result (KeepsPrefix out.old.items out.new.items) }
 {
     for atom in 0..plan.atoms() {
         append_atom(plan, atom, views, out)?;
@@ -79,7 +79,7 @@ fn append_atoms(plan: &Plan, views: &[AtomView], out: &mut Vec<u8>) -> Result<()
 fn append_atom(plan: &Plan, atom: u16, views: &[AtomView], out: &mut Vec<u8>) -> Result<(), Memory>
     ensures ok { OnOk result (out.new.items ≡ out.old.items
         ++ atom_line (outline_of plan.now) atom (state_shown views.now atom) (payload_shown views.now atom)) }
-    ensures err { OnErr result (KeepsFront out.old.items out.new.items) }
+    ensures err { OnErr result (KeepsPrefix out.old.items out.new.items) }
 {
     match views.get(atom as usize) {
         Some(view) => append_view(plan, atom, view.state, &view.payload, out),
@@ -96,7 +96,7 @@ fn append_view(
     out: &mut Vec<u8>,
 ) -> Result<(), Memory>
     ensures ok { OnOk result (out.new.items ≡ out.old.items ++ atom_line (outline_of plan.now) atom state held.now) }
-    ensures err { OnErr result (KeepsFront out.old.items out.new.items) }
+    ensures err { OnErr result (KeepsPrefix out.old.items out.new.items) }
 {
     append_named(b"atom ", atom_name(plan, atom), atom_word(state), out)?;
     append_payload(held, out)?;

@@ -243,7 +243,7 @@ stands_in plan g f control is some =
 
 retry_by : (o : Option Atom) (control : Retry) → option_map part_of o ≡ Some (a_retry control) → is_retry_in o ≡ true
 retry_by None control is = absurd (cc)
-retry_by (Some atom) control is = let same : atom.part ≡ a_retry control = cc in ap (λ (p : Part). is_retry_in (Some (record { way = atom.way; part = p }))) same
+retry_by (Some atom) control is = let same : atom.part ≡ a_retry control = cc in ap (λ (p : Part). is_retry_in (Some (record { path = atom.path; part = p }))) same
 
 pub stands_retry : (plan : PlanValue) (r : ℕ) (control : Retry) → slice_get (parts_of plan) r ≡ Some (a_retry control) → is_retry (outline_of plan) r ≡ true
 stands_retry plan r control there = retry_by (slice_get (outline_of plan).atoms r) control (sym (slice_get-map part_of (outline_of plan).atoms r) ∙ there)

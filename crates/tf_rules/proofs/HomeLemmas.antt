@@ -1,7 +1,7 @@
 -- The flow in which an atom stands itself.
 use Rattle.std.proofs.Common.{◌≡◌, ℕ, List, [], map, Option, Some, None, refl, sym, ap, ◌∙◌}
 use Rattle.tf_flow.specs.declared.nested.Flow.{Flow as FlowValue}
-use Rattle.tf_flow.specs.declared.ways.Turn.{Turn}
+use Rattle.tf_flow.specs.declared.paths.Turn.{Turn}
 use Rattle.tf_flow.specs.Conditions.{connection_of}
 use Rattle.tf_flow.specs.Plan.{PlanValue}
 use Rattle.tf_flow.specs.Plan as numbering
@@ -10,21 +10,21 @@ use Rattle.tf_flow.specs.Tree.{Tree, tree_of}
 use Rattle.tf_model.specs.Before.{Flow, no_flow}
 use Rattle.tf_model.specs.Plan.{outline_of, own_flow, last_flow}
 use Rattle.tf_model.proofs.Told.{flow_in, found_home, connections_in}
-use Rattle.tf_order.specs.Ways.{flow_of_turn}
-use Rattle.tf_order.proofs.WayLemmas.{last_turn_flow}
+use Rattle.tf_order.specs.Paths.{flow_of_turn}
+use Rattle.tf_order.proofs.PathLemmas.{last_turn_flow}
 use Rattle.std.specs.Prelude.{slice_get, length, ◌-◌, Bool, false}
 use Rattle.std.specs.Option.{unwrap_or}
 use Rattle.tf_rules.specs.Flows.{tree_at, home_tree}
 use Rattle.tf_rules.proofs.FlowLemmas.{Fits, flow_there, flow_nowhere, links_of_flow, kind_of_flow, parts_of}
-use Rattle.tf_model.proofs.PlanLemmas.{way_told}
+use Rattle.tf_model.proofs.PlanLemmas.{path_told}
 
 -- whether a flow that may be there is a graph
 abbrev pub is_graph_in : Option Flow → Bool
 is_graph_in o = is_graph (unwrap_or o no_flow).place.kind
 
--- the last turn of an atom's way leads into its own flow
-pub own_told : (plan : PlanValue) (a : ℕ) (w : List Turn) (found : Option Turn) → slice_get (numbering.ways plan) a ≡ Some w → found ≡ slice_get w (length w - 1) → flow_of_turn found ≡ own_flow (outline_of plan) a
-own_told plan a w found is told = sym (last_turn_flow w found told) ∙ ap last_flow (way_told plan a w is)
+-- the last turn of an atom's path leads into its own flow
+pub own_told : (plan : PlanValue) (a : ℕ) (w : List Turn) (found : Option Turn) → slice_get (numbering.paths plan) a ≡ Some w → found ≡ slice_get w (length w - 1) → flow_of_turn found ≡ own_flow (outline_of plan) a
+own_told plan a w found is told = sym (last_turn_flow w found told) ∙ ap last_flow (path_told plan a w is)
 
 nowhere_by : (plan : PlanValue) (o : Option ℕ) → tree_at plan o ≡ None → flow_in (outline_of plan) o ≡ None
 nowhere_by plan None is = refl

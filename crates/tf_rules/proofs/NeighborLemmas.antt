@@ -14,7 +14,7 @@ use Rattle.tf_flow.specs.Rules.{is_graph}
 use Rattle.tf_flow.specs.Tree.{tree_of}
 use Rattle.tf_model.specs.Before.{Flow}
 use Rattle.tf_model.specs.Deciders.{home, is_sibling, is_neighbor, linked_places, last_item, ignores, ignores_other}
-use Rattle.tf_model.specs.Plan.{Outline, outline_of, count, own_flow, way}
+use Rattle.tf_model.specs.Plan.{Outline, outline_of, count, own_flow, path}
 use Rattle.tf_model.proofs.Told.{flow_in, found_home, linked_in}
 use Rattle.tf_model.proofs.OrderLemmas.{each_arranged}
 use Rattle.tf_order.specs.Graph.{leads_in, leads_by_kind, leads_to, direct_tasks_of}
@@ -51,7 +51,7 @@ unlinked plan (Some g) (Some f) is other = ap linked_in is ∙ (each_arranged (a
 pub no_neighbor : (plan : PlanValue) (v a : ℕ) → is_graph_in (found_home (outline_of plan) v) ≡ false → false ≡ is_neighbor (outline_of plan) v a
 no_neighbor plan v a other =
     sym (second_false (is_sibling (outline_of plan) v a) _
-    (unlinked_by (linked_in (found_home (outline_of plan) v)) (last_item (way (outline_of plan) v)) (last_item (way (outline_of plan) a))
+    (unlinked_by (linked_in (found_home (outline_of plan) v)) (last_item (path (outline_of plan) v)) (last_item (path (outline_of plan) a))
     (unlinked plan (own_flow (outline_of plan) v) (found_home (outline_of plan) v) refl other)))
 
 leads_by_link : (f : Flow) (from to : Option ℕ) → is_graph f.place.kind ≡ true → leads_in f from to ≡ linked_places f.linked from to
@@ -64,7 +64,7 @@ leads_by_link f from to is = by f.place.kind is
 
 -- in a graph flow the place leads where a link leads
 leads_neighbor : (plan : Outline) (v a : ℕ) → is_graph_in (found_home plan v) ≡ true → leads_to plan v a ≡ is_neighbor plan v a
-leads_neighbor plan v a is = ap (λ (b : Bool). is_sibling plan v a && b) (leads_by_link (home plan v) (last_item (way plan v)) (last_item (way plan a)) is)
+leads_neighbor plan v a is = ap (λ (b : Bool). is_sibling plan v a && b) (leads_by_link (home plan v) (last_item (path plan v)) (last_item (path plan a)) is)
 
 listed : (n : ℕ) (test : ℕ → Bool) (a : ℕ) → a < n → list_any (λ y. nat_eq y a) (which_below n test) ≡ test a
 listed n test a below = same_truth (list_any (λ y. nat_eq y a) (which_below n test)) (test a)

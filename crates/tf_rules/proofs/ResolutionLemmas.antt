@@ -3,10 +3,10 @@ use Rattle.std.proofs.Common.{◌≡◌, ℕ, ◌+◌, ◌<◌, ◌≤◌, List,
 use Rattle.std.proofs.lemmas.Bool.{eq-eqb}
 use Rattle.std.proofs.lemmas.List.{take_more}
 use Rattle.std.proofs.lemmas.List.Folds.{list_any_at}
-use Rattle.tf_flow.specs.declared.ways.Turn.{Turn}
+use Rattle.tf_flow.specs.declared.paths.Turn.{Turn}
 use Rattle.tf_states.specs.declared.record.Kind.{Kind}
 use Rattle.tf_model.specs.Before.{leads_into, passes_flow}
-use Rattle.tf_model.specs.Plan.{Outline, way, holds, retry_of}
+use Rattle.tf_model.specs.Plan.{Outline, path, holds, retry_of}
 use Rattle.tf_model.specs.Retries.{Controlled, controlled, controlled_on, resolution_by, resolved, is_outermost, answer, resolution}
 use Rattle.tf_model.specs.Snapshot.{Snapshot}
 use Rattle.tf_numbers.proofs.ListLemmas.{nothing_after, append_chain, take_whole}
@@ -21,8 +21,8 @@ one_turn_more plan a (x ∷ xs) turn =
     ap (λ (list : List Controlled). list ++ controlled a x.flow (retry_of plan x.flow)) (one_turn_more plan a xs turn)
     ∙ append_chain (controlled a turn.flow (retry_of plan turn.flow)) (controlled_on plan a xs) (controlled a x.flow (retry_of plan x.flow))
 
--- the flow into which a turn of its way leads holds an atom
-turn_held : (plan : Outline) (a : ℕ) (turns : List Turn) (k : ℕ) (d : Turn) → turns ≡ way plan a → k < length turns → holds plan (get_or turns k d).flow a ≡ true
+-- the flow into which a turn of its path leads holds an atom
+turn_held : (plan : Outline) (a : ℕ) (turns : List Turn) (k : ℕ) (d : Turn) → turns ≡ path plan a → k < length turns → holds plan (get_or turns k d).flow a ≡ true
 unfolding holds
 turn_held plan a turns k d is within =
     ap (passes_flow (get_or turns k d).flow) (sym is) ∙ list_any_at (leads_into (get_or turns k d).flow) turns k d within (eq-eqb (get_or turns k d).flow (get_or turns k d).flow refl)
@@ -44,7 +44,7 @@ walked_past plan answers a turns k d found outermost walked within none =
 
 pub walked_more : (plan : Outline) (answers : List Kind) (a : ℕ) (turns : List Turn) (k : ℕ) (d : Turn) (old new : Resolution) (outermost : Bool) (here : Controller) (given : Kind)
     → Walked plan answers a (take k turns) old outermost → k < length turns
-    → turns ≡ way plan a → controllers_in (Some here) ≡ controlled a (get_or turns k d).flow (retry_of plan (get_or turns k d).flow)
+    → turns ≡ path plan a → controllers_in (Some here) ≡ controlled a (get_or turns k d).flow (retry_of plan (get_or turns k d).flow)
     → retry_of plan (get_or turns k d).flow ≡ Some here.retry
     → ((how : Kind) → slice_get answers here.retry ≡ Some how → given ≡ how)
     → ((others : List Controlled) → outermost ≡ is_outermost others → shown_resolution new ≡ resolved plan.defer (shown_controller here) others (shown_resolution old) given)
@@ -61,7 +61,7 @@ walked_more plan answers a turns k d old new outermost here given walked within 
           ∙ ap (resolution_by plan s) same));
     }
 
-pub walked_all : (plan : Outline) (answers : List Kind) (a : ℕ) (turns : List Turn) (k : ℕ) (found : Resolution) (outermost : Bool) → Walked plan answers a (take k turns) found outermost → length turns ≤ k → turns ≡ way plan a
+pub walked_all : (plan : Outline) (answers : List Kind) (a : ℕ) (turns : List Turn) (k : ℕ) (found : Resolution) (outermost : Bool) → Walked plan answers a (take k turns) found outermost → length turns ≤ k → turns ≡ path plan a
     → (s : Snapshot) → HasAnswers answers plan s a → shown_resolution found ≡ resolution plan s a
 unfolding resolution
 walked_all plan answers a turns k found outermost walked whole is s has =

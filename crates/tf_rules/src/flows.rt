@@ -41,7 +41,7 @@ pub fn own_flow(plan: &Plan, atom: u16) -> Option<usize>
     requires { atom < count (outline_of plan.now) }
     ensures { result ≡ own_flow (outline_of plan.now) atom }
 {
-    let last = plan.way(atom).last()?;
+    let last = plan.path(atom).last()?;
     Some(last.flow)
 }
 

@@ -36,7 +36,7 @@ pub fn resolve(plan: &Plan, answers: &[Kind], atom: u16) -> Resolution
 {
     let mut found = REVERT_ALL;
     let mut is_outermost = true;
-    for turn in plan.way(atom) {
+    for turn in plan.path(atom) {
         if let Some(here) = controller_of(plan, turn.flow, atom) {
             let answer = answer_of(answers, here.retry);
             found = resolved(plan.defer(), here, is_outermost, found, answer);

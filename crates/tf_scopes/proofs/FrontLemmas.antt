@@ -5,12 +5,12 @@ use Rattle.std.specs.List.{list_any}
 use Rattle.std.proofs.lemmas.Bool.{ne_eqb}
 use Rattle.std.proofs.lemmas.List.{reverse-append}
 use Rattle.std.proofs.lemmas.List.Sums.{take_while-cons}
-use Rattle.tf_flow.specs.declared.ways.Turn.{Turn}
+use Rattle.tf_flow.specs.declared.paths.Turn.{Turn}
 use Rattle.tf_model.specs.Before.{find_flow, passes_flow, passes_item, takes_item, same_place}
 use Rattle.tf_model.specs.Plan.{Outline}
 use Rattle.tf_model.proofs.Told.{standing_in}
 use Rattle.tf_model.specs.Scope.{is_elsewhere, is_earlier, members_in}
-use Rattle.tf_model.proofs.WayLemmas.{turn_to}
+use Rattle.tf_model.proofs.PathLemmas.{turn_to}
 use Rattle.tf_numbers.specs.Numbers.{has_number}
 use Rattle.tf_numbers.proofs.EquationLemmas.{ap2}
 use Rattle.tf_numbers.proofs.ListLemmas.{nothing_after, append_chain, filter_append}
@@ -19,9 +19,9 @@ use Rattle.tf_numbers.proofs.PairLemmas.{any_right, any_flat}
 use Rattle.tf_numbers.proofs.TruthLemmas.{or_either, true_first, true_second, clash, or_false, neither_first, neither_second}
 use Rattle.tf_scopes.specs.Standing.{is_other}
 
--- ---- the fronts of the flows on a way
+-- ---- the fronts of the flows on a path
 
--- what stands in front of the items that a way takes, from the root on
+-- what stands in front of the items that a path takes, from the root on
 abbrev pub front : Outline → List Turn → List ℕ
 front plan [] = []
 front plan (turn ∷ turns) = take_while (is_elsewhere plan turn) (standing_in (find_flow plan.flows turn.flow)) ++ front plan turns
@@ -114,7 +114,7 @@ any_of p (x ∷ xs) v listed on = elim (or_either (nat_eq v x) (has_number xs v)
 pub flow_has : (y v : ℕ) (f : ℕ → List ℕ) (order first : List ℕ) → has_number order v ≡ true → has_number (f v) y ≡ true → has_number (first ++ flat_map f order) y ≡ true
 flow_has y v f order first listed here = any_right (nat_eq y) first (flat_map f order) (any_flat (nat_eq y) f order ∙ any_of (λ u. has_number (f u) y) order v listed here)
 
--- ---- ways through an item
+-- ---- paths through an item
 
 off_item : (g : ℕ) (item : Option ℕ) (w : List Turn) → passes_flow g w ≡ false → passes_item g item w ≡ false
 off_item g item [] off = refl

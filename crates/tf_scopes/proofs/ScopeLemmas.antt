@@ -13,8 +13,8 @@ use Rattle.tf_model.specs.Before.{Flow, find_flow, item_before}
 use Rattle.tf_model.specs.Compilation.{compile_refusal}
 use Rattle.tf_model.specs.Laws.{AreOrdered}
 use Rattle.tf_model.specs.Linked.{standing_at, standing_of_item, linked_pairs, is_linked, arrange, arranged}
-use Rattle.tf_model.specs.Plan.{Outline, outline_of, outline_of_tree, count, way}
-use Rattle.tf_model.proofs.Told.{order_in, way_in, standing_in, standing_of}
+use Rattle.tf_model.specs.Plan.{Outline, outline_of, outline_of_tree, count, path}
+use Rattle.tf_model.proofs.Told.{order_in, path_in, standing_in, standing_of}
 use Rattle.tf_model.specs.Scope.{members, is_earlier}
 use Rattle.tf_model.proofs.OrderLemmas.{IsArranged, each_arranged, plan_ordered}
 use Rattle.tf_links.specs.Standing.{standing_items}
@@ -148,17 +148,17 @@ all_stand atoms plan (place ∷ places) n ordered numbered same = (
 
 -- ---- the atoms of a plan
 
-reached_each : (plan : Outline) (xs : List Atom) (a : ℕ) → ((k : ℕ) (x : Atom) → slice_get xs k ≡ Some x → way plan (a + k) ≡ x.way) → Each (Reached plan []) a xs
+reached_each : (plan : Outline) (xs : List Atom) (a : ℕ) → ((k : ℕ) (x : Atom) → slice_get xs k ≡ Some x → path plan (a + k) ≡ x.path) → Each (Reached plan []) a xs
 reached_each plan [] a told = tt
 reached_each plan (x ∷ xs) a told = (
-  (let e : a + 0 ≡ a = omega arith in ap (way plan) (sym e) ∙ told 0 x refl),
-  reached_each plan xs (suc a) (λ k y is. (let e : suc a + k ≡ a + suc k = omega arith in ap (way plan) e ∙ told (suc k) y is)),
+  (let e : a + 0 ≡ a = omega arith in ap (path plan) (sym e) ∙ told 0 x refl),
+  reached_each plan xs (suc a) (λ k y is. (let e : suc a + k ≡ a + suc k = omega arith in ap (path plan) e ∙ told (suc k) y is)),
 )
 
 reached_all : (plan : Outline) → Each (Reached plan []) 0 plan.atoms
-reached_all plan = reached_each plan plan.atoms 0 (λ k x is. let e : 0 + k ≡ k = omega arith in ap (way plan) e ∙ ap way_in is)
+reached_all plan = reached_each plan plan.atoms 0 (λ k x is. let e : 0 + k ≡ k = omega arith in ap (path plan) e ∙ ap path_in is)
 
-each_at : (plan : Outline) (standing : List ℕ) (xs : List Atom) (a k : ℕ) → Each (Fronted plan standing) a xs → k < length xs → front plan (way_in (slice_get xs k)) ≡ take_while (is_other (a + k)) standing
+each_at : (plan : Outline) (standing : List ℕ) (xs : List Atom) (a k : ℕ) → Each (Fronted plan standing) a xs → k < length xs → front plan (path_in (slice_get xs k)) ≡ take_while (is_other (a + k)) standing
 each_at plan standing [] a k each below = absurd (omega arith)
 each_at plan standing (x ∷ xs) a zero each below = each.0.is ∙ (let e : a ≡ a + 0 = omega arith in ap (λ (y : ℕ). take_while (is_other y) standing) e)
 each_at plan standing (x ∷ xs) a (suc k) each below = each_at plan standing xs (suc a) k each.1 (omega arith) ∙ (let e : suc a + k ≡ a + suc k = omega arith in ap (λ (y : ℕ). take_while (is_other y) standing) e)
@@ -172,7 +172,7 @@ members_by head items store defer y ordered below =
     let all = all_stand (atoms_of 0 root) plan (flows_of 0 0 root) 0 ordered (tree_numbered root 0 0) (λ g from. refl) in
     let fronted = tree_fronted root plan [] 0 0 (λ F no. absurd (cc)) (reached_all plan) all in
     let zero_on : 0 + y ≡ y = omega arith in
-    members_front plan y (way plan y)
+    members_front plan y (path plan y)
     ∙ ap (λ (xs : List ℕ). filter (is_earlier plan y) (reverse xs))
     (each_at plan (standing_in (find_flow plan.flows 0)) (atoms_of 0 root) 0 y fronted below ∙ ap (λ (z : ℕ). take_while (is_other z) (standing_in (find_flow plan.flows 0))) zero_on)
 

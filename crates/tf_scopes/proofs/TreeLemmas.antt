@@ -5,15 +5,15 @@ use Rattle.std.specs.Prelude.{cond, nat_eq, flat_map, take_while}
 use Rattle.std.specs.List.{list_any}
 use Rattle.std.proofs.lemmas.List.Sums.{take_while-cons}
 use Rattle.tf_flow.specs.declared.atoms.Retry.{Retry}
-use Rattle.tf_flow.specs.declared.ways.Turn.{Turn}
+use Rattle.tf_flow.specs.declared.paths.Turn.{Turn}
 use Rattle.tf_flow.specs.Tree.{Tree, Trees, task, flow, no_trees, tree, Head}
 use Rattle.tf_flow.specs.Outline.{Atom, FlowPlace, Item, atoms_of, atoms_among, retry_atoms, enter, flows_of, flows_among, flow_count, atom_count, retry_count, retry_number, item_of, items_of}
 use Rattle.tf_model.specs.Before.{find_flow, passes_flow, passes_item}
 use Rattle.tf_model.specs.Linked.{standing_at}
-use Rattle.tf_model.specs.Plan.{Outline, way}
+use Rattle.tf_model.specs.Plan.{Outline, path}
 use Rattle.tf_model.proofs.Told.{standing_in, standing_of}
 use Rattle.tf_model.specs.Scope.{is_elsewhere}
-use Rattle.tf_model.proofs.WayLemmas.{turn_to}
+use Rattle.tf_model.proofs.PathLemmas.{turn_to}
 use Rattle.tf_numbers.specs.Numbers.{has_number}
 use Rattle.tf_numbers.proofs.EquationLemmas.{ap2}
 use Rattle.tf_numbers.proofs.ListLemmas.{append_chain, nothing_after}
@@ -81,16 +81,16 @@ each_left : (P Q : ℕ → Atom → Type 0) (g i a : ℕ) (xs : List Atom) → (
 each_left P Q g i a [] weaker each = tt
 each_left P Q g i a (x ∷ xs) weaker each = (weaker a x each.0, each_left P Q g i (suc a) xs weaker each.1)
 
--- the plan's way to the atom is this way, and then the atom's own
+-- the plan's path to the atom is this path, and then the atom's own
 abbrev pub Reached : Outline → List Turn → ℕ → Atom → Type 0
-Reached plan w y x = way plan y ≡ w ++ x.way
+Reached plan w y x = path plan y ≡ w ++ x.path
 
--- the way to the atoms of item i of flow g
+-- the path to the atoms of item i of flow g
 abbrev below : List Turn → ℕ → ℕ → List Turn
 below w g i = w ++ turn_to g (Some i) ∷ []
 
 reached_below : (plan : Outline) (w : List Turn) (g i y : ℕ) (x : Atom) → Reached plan w y (enter g i x) → Reached plan (below w g i) y x
-reached_below plan w g i y x is = is ∙ sym (append_chain w (turn_to g (Some i) ∷ []) x.way)
+reached_below plan w g i y x is = is ∙ sym (append_chain w (turn_to g (Some i) ∷ []) x.path)
 
 into_item : (plan : Outline) (w : List Turn) (g i a : ℕ) (xs rest : List Atom) → Each (Reached plan w) a (map (enter g i) xs ++ rest) → Each (Reached plan (below w g i)) a xs
 into_item plan w g i a xs rest each =
@@ -113,26 +113,26 @@ past_retry plan w g a control rest each =
     moved (Reached plan w) (a + length (retry_atoms g control)) (a + retry_count control) rest (ap (λ (k : ℕ). a + k) (length_retry g control))
     (each_second (Reached plan w) a (retry_atoms g control) rest each)
 
--- ---- the ways of what stands in a tree
+-- ---- the paths of what stands in a tree
 
--- the plan's way to b is this way, and then leads into flows from g on alone
+-- the plan's path to b is this path, and then leads into flows from g on alone
 pub record Within (plan : Outline) (w : List Turn) (g b : ℕ) : Type 0 where
   pub rest : List Turn
-  pub is : way plan b ≡ w ++ rest
+  pub is : path plan b ≡ w ++ rest
   pub from : (F : ℕ) → passes_flow F rest ≡ true → g ≤ F
 
 -- the same through an item of flow g
 pub record Through (plan : Outline) (w : List Turn) (g i n b : ℕ) : Type 0 where
   pub rest : List Turn
-  pub is : way plan b ≡ w ++ turn_to g (Some i) ∷ rest
+  pub is : path plan b ≡ w ++ turn_to g (Some i) ∷ rest
   pub from : (F : ℕ) → passes_flow F rest ≡ true → n ≤ F
 
 through_first : (plan : Outline) (w : List Turn) (g i n b : ℕ) → Within plan (below w g i) n b → Through plan w g i n b
 through_first plan w g i n b inside = record { rest = inside.rest; is = inside.is ∙ append_chain w (turn_to g (Some i) ∷ []) inside.rest; from = inside.from }
 
-within_retry : (plan : Outline) (w : List Turn) (g a b : ℕ) (control : Option Retry) (rest : List Atom) → Each (Reached plan w) a (retry_atoms g control ++ rest) → has_number (option_to_list (retry_number a control)) b ≡ true → (way plan b ≡ w ++ turn_to g None ∷ [])
+within_retry : (plan : Outline) (w : List Turn) (g a b : ℕ) (control : Option Retry) (rest : List Atom) → Each (Reached plan w) a (retry_atoms g control ++ rest) → has_number (option_to_list (retry_number a control)) b ≡ true → (path plan b ≡ w ++ turn_to g None ∷ [])
 within_retry plan w g a b None rest each on = absurd (cc)
-within_retry plan w g a b (Some r) rest each on = ap (way plan) (eqb-true b a (only_first (nat_eq b a) on)) ∙ each.0
+within_retry plan w g a b (Some r) rest each on = ap (path plan) (eqb-true b a (only_first (nat_eq b a) on)) ∙ each.0
 
 from_turn : (g F : ℕ) (item : Option ℕ) (rest : List Turn) → ((G : ℕ) → passes_flow G rest ≡ true → g ≤ G) → passes_flow F (turn_to g item ∷ rest) ≡ true → g ≤ F
 from_turn g F item rest from on = elim (or_either (nat_eq g F) (passes_flow F rest) on) [
@@ -151,7 +151,7 @@ among f (u ∷ us) b on = elim (or_either (has_number (f u) b) _ on) [ inl here 
 
 mutual
   pub tree_within : (t : Tree) (plan : Outline) (w : List Turn) (g a : ℕ) → Each (Reached plan w) a (atoms_of g t) → AllStand plan (flows_of g a t) → (b : ℕ) → has_number (stands_in_tree plan g a t) b ≡ true → Within plan w g b
-  tree_within (task t) plan w g a each all b on = record { rest = []; is = ap (way plan) (eqb-true b a (only_first (nat_eq b a) on)) ∙ each.0; from = λ F no. absurd (cc) }
+  tree_within (task t) plan w g a each all b on = record { rest = []; is = ap (path plan) (eqb-true b a (only_first (nat_eq b a) on)) ∙ each.0; from = λ F no. absurd (cc) }
   tree_within (flow head items) plan w g a each all b on =
       elim (any_in_both (nat_eq b) (option_to_list (retry_number a head.retry)) (flat_map (stands plan (items_of (suc g) (a + retry_count head.retry) items)) all.0.order) (ap (λ (xs : List ℕ). has_number xs b) (sym all.0.standing) ∙ on)) [
         | inl retry ↦ record { rest = turn_to g None ∷ []; is = within_retry plan w g a b head.retry (atoms_among g 0 (suc g) items) each retry; from = λ F passes. from_turn g F None [] (λ G no. absurd (cc)) passes }
@@ -179,18 +179,18 @@ mutual
 -- the atom stands there, and the fronts of the flows on its way are all that stands before it
 pub record Fronted (plan : Outline) (standing : List ℕ) (y : ℕ) (x : Atom) : Type 0 where
   pub here : has_number standing y ≡ true
-  pub is : front plan x.way ≡ take_while (is_other y) standing
+  pub is : front plan x.path ≡ take_while (is_other y) standing
 
--- the same of the item of flow g through which the atom's way goes
+-- the same of the item of flow g through which the atom's path goes
 pub record FrontedIn (plan : Outline) (g i : ℕ) (items : List Item) (y : ℕ) (x : Atom) : Type 0 where
   pub number : ℕ
   pub below : number < length items
   pub rest : List Turn
-  pub way : x.way ≡ turn_to g (Some (i + number)) ∷ rest
+  pub path : x.path ≡ turn_to g (Some (i + number)) ∷ rest
   pub here : has_number (stands plan items number) y ≡ true
   pub is : front plan rest ≡ take_while (is_other y) (stands plan items number)
 
--- no flow on the way has this number or a later one
+-- no flow on the path has this number or a later one
 abbrev pub EndsBefore : ℕ → List Turn → Type 0
 EndsBefore g w = (F : ℕ) → passes_flow F w ≡ true → F < g
 
@@ -214,10 +214,10 @@ one_there : (y : ℕ) → has_number (y ∷ []) y ≡ true
 one_there y = true_first (nat_eq y y) false (eq-eqb y y refl)
 
 -- a retry controller stands first in its flow
-retry_front : (plan : Outline) (w : List Turn) (g a : ℕ) (rest : List ℕ) → EndsBefore g w → way plan a ≡ w ++ turn_to g None ∷ [] → standing_in (find_flow plan.flows g) ≡ a ∷ rest
+retry_front : (plan : Outline) (w : List Turn) (g a : ℕ) (rest : List ℕ) → EndsBefore g w → path plan a ≡ w ++ turn_to g None ∷ [] → standing_in (find_flow plan.flows g) ≡ a ∷ rest
     → front plan (turn_to g None ∷ []) ≡ take_while (is_other a) (a ∷ rest)
 retry_front plan w g a rest ends is standing =
-    let inside : passes_item g None (way plan a) ≡ true = ap (passes_item g None) is ∙ (at_item g None None w [] (not_yet g w ends) refl ∙ true_both (nat_eq g g) true (eq-eqb g g refl) refl) in
+    let inside : passes_item g None (path plan a) ≡ true = ap (passes_item g None) is ∙ (at_item g None None w [] (not_yet g w ends) refl ∙ true_both (nat_eq g g) true (eq-eqb g g refl) refl) in
     nothing_after (take_while (is_elsewhere plan (turn_to g None)) (standing_in (find_flow plan.flows g)))
     ∙ (ap (take_while (is_elsewhere plan (turn_to g None))) standing
     ∙ (take_while-cons (is_elsewhere plan (turn_to g None)) a rest
@@ -257,7 +257,7 @@ flow_each plan w g a head items ends each all y x is =
     let zero_on : 0 + is.number ≡ is.number = omega arith in
     record {
       here = ap (λ (xs : List ℕ). has_number xs y) all.0.standing ∙ flow_has y is.number (stands plan placed) order (option_to_list (retry_number a head.retry)) listed is.here;
-      is = ap (front plan) is.way
+      is = ap (front plan) is.path
           ∙ (ap (λ (k : ℕ). front plan (turn_to g (Some k) ∷ is.rest)) zero_on
           ∙ (ap2 (λ (xs ys : List ℕ). take_while (is_elsewhere plan (turn_to g (Some is.number))) xs ++ ys) all.0.standing is.is
           ∙ (flow_front y is.number (is_elsewhere plan (turn_to g (Some is.number))) (stands plan placed) order (option_to_list (retry_number a head.retry)) listed is.here
@@ -272,12 +272,12 @@ flow_each plan w g a head items ends each all y x is =
 later_item : (plan : Outline) (g i : ℕ) (first : Item) (items : List Item) (y : ℕ) (x : Atom) → FrontedIn plan g (suc i) items y x → FrontedIn plan g i (first ∷ items) y x
 later_item plan g i first items y x is =
     let e : suc i + is.number ≡ i + suc is.number = omega arith in
-    record { number = suc is.number; below = let less = is.below in omega (arith, less); rest = is.rest; way = is.way ∙ ap (λ (k : ℕ). turn_to g (Some k) ∷ is.rest) e; here = is.here; is = is.is }
+    record { number = suc is.number; below = let less = is.below in omega (arith, less); rest = is.rest; path = is.path ∙ ap (λ (k : ℕ). turn_to g (Some k) ∷ is.rest) e; here = is.here; is = is.is }
 
 first_item : (plan : Outline) (g i n a : ℕ) (first : Tree) (items : List Item) (y : ℕ) (x : Atom) → Fronted plan (stands_in_tree plan n a first) y x → FrontedIn plan g i (item_of n a first ∷ items) y (enter g i x)
 first_item plan g i n a first items y x is =
     let e : i ≡ i + 0 = omega arith in
-    record { number = 0; below = omega arith; rest = x.way; way = ap (λ (k : ℕ). turn_to g (Some k) ∷ x.way) e; here = is.here; is = is.is }
+    record { number = 0; below = omega arith; rest = x.path; path = ap (λ (k : ℕ). turn_to g (Some k) ∷ x.path) e; here = is.here; is = is.is }
 
 mutual
   pub tree_fronted : (t : Tree) (plan : Outline) (w : List Turn) (g a : ℕ) → EndsBefore g w → Each (Reached plan w) a (atoms_of g t) → AllStand plan (flows_of g a t) → Each (Fronted plan (stands_in_tree plan g a t)) a (atoms_of g t)

@@ -5,12 +5,12 @@ use Rattle.std.specs.Option.{option_map_or}
 use Rattle.std.proofs.Math.Path.{fun_ext}
 use Rattle.std.proofs.lemmas.Bool.{cases_lt}
 use Rattle.std.proofs.lemmas.Option.{slice_get_past}
-use Rattle.tf_flow.specs.Outline.{Part, Atom, way_of, part_of}
-use Rattle.tf_flow.specs.declared.ways.Turn.{Turn}
-use Rattle.tf_model.specs.Before.{Flow, item_before, turn_before, way_before, part_at, way_at, same_place, takes_item, passes_item}
+use Rattle.tf_flow.specs.Outline.{Part, Atom, atom_path, part_of}
+use Rattle.tf_flow.specs.declared.paths.Turn.{Turn}
+use Rattle.tf_model.specs.Before.{Flow, item_before, turn_before, path_before, part_at, path_at, same_place, takes_item, passes_item}
 use Rattle.tf_flow.specs.Names.{is_among}
 use Rattle.tf_model.specs.Linked.{taken_symbols, listed, provides_at, is_inside, serves_inside, needs_of_atom, needs, gives_inside, item_provides}
-use Rattle.tf_model.proofs.Told.{way_in}
+use Rattle.tf_model.proofs.Told.{path_in}
 use Rattle.tf_numbers.specs.Numbers.{any_below, which_below}
 use Rattle.tf_numbers.proofs.EquationLemmas.{ap2}
 use Rattle.tf_numbers.proofs.TruthLemmas.{same_truth, clash, and_first}
@@ -25,7 +25,7 @@ pub record Carried (fl at it : ℕ → ℕ) (part whole : List Atom) : Type 0 wh
   pub item_once : (u v : ℕ) → it u ≡ it v → u ≡ v
   pub rises : (a b : ℕ) → a < b → at a < at b
   pub atoms : (a : ℕ) → slice_get whole (at a) ≡ option_map (whole_atom fl it) (slice_get part a)
-  pub kept : (a : ℕ) → Image at (length part) a ⊎ Avoids fl it (way_in (slice_get whole a))
+  pub kept : (a : ℕ) → Image at (length part) a ⊎ Avoids fl it (path_in (slice_get whole a))
 
 -- ---- from one atom to the next
 
@@ -52,7 +52,7 @@ moved_at fl at it _ _ _ _ (atom_left a b y xs ys avoids rest) k below =
     (omega (arith, low), get_later y ys (at (a + k)) b low ∙ later.1)
 
 pub moved_or_left : (fl at it : ℕ → ℕ) (a b : ℕ) (xs ys : List Atom) → AtomsMoved fl at it a b xs ys → (k : ℕ) → k < length ys
-    → ((j : ℕ) × (j < length xs) × (at (a + j) ≡ b + k)) ⊎ Avoids fl it (way_in (slice_get ys k))
+    → ((j : ℕ) × (j < length xs) × (at (a + j) ≡ b + k)) ⊎ Avoids fl it (path_in (slice_get ys k))
 moved_or_left fl at it _ _ _ _ (all_moved a b) k below = absurd (omega (arith, below))
 moved_or_left fl at it _ _ _ _ (atom_kept a b x y xs ys is same rest) zero below = inl (0, omega arith, ap at (omega arith) ∙ (is ∙ omega arith))
 moved_or_left fl at it _ _ _ _ (atom_kept a b x y xs ys is same rest) (suc k) below = elim (moved_or_left fl at it (suc a) (suc b) xs ys rest k (omega (arith, below))) [
@@ -75,10 +75,10 @@ module _ (fl at it : ℕ → ℕ) (part whole : List Atom) (c : Carried fl at it
       told None = refl
       told (Some x) = refl
 
-  pub way_carried : (a : ℕ) → way_at whole (at a) ≡ map (whole_turn fl it) (way_at part a)
-  way_carried a = ap (λ (o : Option Atom). option_map_or way_of o []) (c.atoms a) ∙ told (slice_get part a)
+  pub path_carried : (a : ℕ) → path_at whole (at a) ≡ map (whole_turn fl it) (path_at part a)
+  path_carried a = ap (λ (o : Option Atom). option_map_or atom_path o []) (c.atoms a) ∙ told (slice_get part a)
     where
-      told : (o : Option Atom) → option_map_or way_of (option_map (whole_atom fl it) o) [] ≡ map (whole_turn fl it) (option_map_or way_of o [])
+      told : (o : Option Atom) → option_map_or atom_path (option_map (whole_atom fl it) o) [] ≡ map (whole_turn fl it) (option_map_or atom_path o [])
       told None = refl
       told (Some x) = refl
 
@@ -110,7 +110,7 @@ module _ (fl at it : ℕ → ℕ) (part whole : List Atom) (c : Carried fl at it
   passes_carried g v w = passes_alike g (Some v) w
 
   pub inside_carried : (g v a : ℕ) → is_inside whole (fl g) (item_at it g v) (at a) ≡ is_inside part g v a
-  inside_carried g v a = ap (passes_item (fl g) (Some (item_at it g v))) (way_carried a) ∙ passes_carried g v (way_at part a)
+  inside_carried g v a = ap (passes_item (fl g) (Some (item_at it g v))) (path_carried a) ∙ passes_carried g v (path_at part a)
 
   -- ---- tests of numbers
 
@@ -171,13 +171,13 @@ module _ (fl at it : ℕ → ℕ) (part whole : List Atom) (c : Carried fl at it
       ap (λ b. if b then under else item_before all (fl g) (item_at it g u) (item_at it g v)) (items_same g u v)
       ∙ ap2 (λ x y. if nat_eq u v then x else y) same (orders g u v)
 
-  pub before_carried : (inner all : List Flow) → OrdersCarried inner all → (v w : List Turn) → way_before all (map (whole_turn fl it) v) (map (whole_turn fl it) w) ≡ way_before inner v w
+  pub before_carried : (inner all : List Flow) → OrdersCarried inner all → (v w : List Turn) → path_before all (map (whole_turn fl it) v) (map (whole_turn fl it) w) ≡ path_before inner v w
   before_carried inner all orders [] w = refl
   before_carried inner all orders (x ∷ xs) [] = refl
   before_carried inner all orders (x ∷ xs) (y ∷ ys) =
-      let rest : way_before all (map (whole_turn fl it) xs) (map (whole_turn fl it) ys) ≡ way_before inner xs ys = before_carried inner all orders xs ys in
-      ap (λ b. b && turn_before all (fl x.flow) (item_in it x.flow x.item) (item_in it y.flow y.item) (way_before all (map (whole_turn fl it) xs) (map (whole_turn fl it) ys))) (flows_same x.flow y.flow)
-      ∙ by_flow inner all orders x y (way_before inner xs ys) (way_before all (map (whole_turn fl it) xs) (map (whole_turn fl it) ys)) rest (nat_eq x.flow y.flow) refl
+      let rest : path_before all (map (whole_turn fl it) xs) (map (whole_turn fl it) ys) ≡ path_before inner xs ys = before_carried inner all orders xs ys in
+      ap (λ b. b && turn_before all (fl x.flow) (item_in it x.flow x.item) (item_in it y.flow y.item) (path_before all (map (whole_turn fl it) xs) (map (whole_turn fl it) ys))) (flows_same x.flow y.flow)
+      ∙ by_flow inner all orders x y (path_before inner xs ys) (path_before all (map (whole_turn fl it) xs) (map (whole_turn fl it) ys)) rest (nat_eq x.flow y.flow) refl
     where
       by_flow : (inner all : List Flow) → OrdersCarried inner all → (x y : Turn) (below under : Bool) → under ≡ below → (b : Bool) → nat_eq x.flow y.flow ≡ b
           → b && turn_before all (fl x.flow) (item_in it x.flow x.item) (item_in it y.flow y.item) under ≡ b && turn_before inner x.flow x.item y.item below
@@ -188,13 +188,13 @@ module _ (fl at it : ℕ → ℕ) (part whole : List Atom) (c : Carried fl at it
   serves_carried : (inner all : List Flow) → OrdersCarried inner all → (g v : ℕ) (symbol : List ℕ) (a b : ℕ) → serves_inside whole all (fl g) (item_at it g v) symbol (at a) (at b) ≡ serves_inside part inner g v symbol a b
   serves_carried inner all orders g v symbol a b =
       ap2 (λ x y. x && y) (inside_carried g v b) (ap2 (λ x y. x && y) (provides_carried symbol b)
-      (ap2 (way_before all) (way_carried b) (way_carried a) ∙ before_carried inner all orders (way_at part b) (way_at part a)))
+      (ap2 (path_before all) (path_carried b) (path_carried a) ∙ before_carried inner all orders (path_at part b) (path_at part a)))
 
   needs_of_carried : (inner all : List Flow) → OrdersCarried inner all → (g v a : ℕ) → needs_of_atom whole all (fl g) (item_at it g v) (at a) ≡ needs_of_atom part inner g v a
   needs_of_carried inner all orders g v a =
       ap2 (λ (test : List ℕ → Bool) (o : Option Part). filter test (option_map_or taken_symbols o []))
       (fun_ext (λ symbol. ap not (any_carried (serves_inside part inner g v symbol a) (serves_inside whole all (fl g) (item_at it g v) symbol (at a)) (serves_carried inner all orders g v symbol a)
-      (λ b is. inside_kept g v b (and_first (is_inside whole (fl g) (item_at it g v) b) (provides_at whole symbol b && way_before all (way_at whole b) (way_at whole (at a))) is)))))
+      (λ b is. inside_kept g v b (and_first (is_inside whole (fl g) (item_at it g v) b) (provides_at whole symbol b && path_before all (path_at whole b) (path_at whole (at a))) is)))))
       (part_carried a)
 
   flat_moved : {X : Type 0} (f h : ℕ → List X) → ((a : ℕ) → f (at a) ≡ h a) → (xs : List ℕ) → flat_map f (map at xs) ≡ flat_map h xs

@@ -11,7 +11,7 @@ use Rattle.tf_flow.specs.Rules.{stray_end}
 use Rattle.tf_flow.specs.Tree.{Tree, task, flow, Trees, no_trees, tree}
 use Rattle.tf_flow.specs.declared.atoms.Retry.{Retry}
 use Rattle.tf_flow.specs.declared.deciders.Link.{Link}
-use Rattle.tf_flow.specs.declared.ways.Turn.{Turn}
+use Rattle.tf_flow.specs.declared.paths.Turn.{Turn}
 use Rattle.tf_model.specs.Deciders.{decides_on}
 use Rattle.tf_model.specs.Linked.{joins, name_of_item}
 use Rattle.tf_model.specs.Plan.{last_flow}
@@ -62,49 +62,49 @@ deciders_kept names name kept whole each itself (link ∷ links) none within =
 
 -- ---- the item of a task of the root
 
--- a way that isn't empty, in flows from one number on, doesn't end in the root
+-- a path that isn't empty, in flows from one number on, doesn't end in the root
 ends_later : (low high : ℕ) (w : List Turn) → 0 < low → Between low high w → last_flow w ≡ Some 0 → ⊥
 ends_later low high [] some each is = absurd (cc)
 ends_later low high (x ∷ []) some each is = let e : x.flow ≡ 0 = cc in absurd (omega (arith, some, each.0, e))
 ends_later low high (x ∷ y ∷ xs) some each is = ends_later low high (y ∷ xs) some each.2 is
 
-abbrev HasWay : List Turn → Type 0
-HasWay [] = ⊥
-HasWay (x ∷ xs) = Unit {0}
+abbrev HasPath : List Turn → Type 0
+HasPath [] = ⊥
+HasPath (x ∷ xs) = Unit {0}
 
-abbrev AllHaveWays : List Atom → Type 0
-AllHaveWays [] = Unit {0}
-AllHaveWays (x ∷ xs) = HasWay x.way × AllHaveWays xs
+abbrev AllHavePaths : List Atom → Type 0
+AllHavePaths [] = Unit {0}
+AllHavePaths (x ∷ xs) = HasPath x.path × AllHavePaths xs
 
-ways_both : (xs ys : List Atom) → AllHaveWays xs → AllHaveWays ys → AllHaveWays (xs ++ ys)
-ways_both [] ys first second = second
-ways_both (x ∷ xs) ys first second = (first.0, ways_both xs ys first.1 second)
+paths_both : (xs ys : List Atom) → AllHavePaths xs → AllHavePaths ys → AllHavePaths (xs ++ ys)
+paths_both [] ys first second = second
+paths_both (x ∷ xs) ys first second = (first.0, paths_both xs ys first.1 second)
 
-ways_entered : (g i : ℕ) (xs : List Atom) → AllHaveWays (map (enter g i) xs)
-ways_entered g i [] = tt
-ways_entered g i (x ∷ xs) = (tt, ways_entered g i xs)
+paths_entered : (g i : ℕ) (xs : List Atom) → AllHavePaths (map (enter g i) xs)
+paths_entered g i [] = tt
+paths_entered g i (x ∷ xs) = (tt, paths_entered g i xs)
 
-ways_among : (ts : Trees) (g i n : ℕ) → AllHaveWays (atoms_among g i n ts)
-ways_among no_trees g i n = tt
-ways_among (tree first others) g i n = ways_both (map (enter g i) (atoms_of n first)) (atoms_among g (suc i) (n + flow_count first) others) (ways_entered g i (atoms_of n first)) (ways_among others g (suc i) (n + flow_count first))
+paths_among : (ts : Trees) (g i n : ℕ) → AllHavePaths (atoms_among g i n ts)
+paths_among no_trees g i n = tt
+paths_among (tree first others) g i n = paths_both (map (enter g i) (atoms_of n first)) (atoms_among g (suc i) (n + flow_count first) others) (paths_entered g i (atoms_of n first)) (paths_among others g (suc i) (n + flow_count first))
 
 -- the atom is a task of the root itself
 pub record IsRootTask (atom : Atom) : Type 0 where
-  pub ends : last_flow atom.way ≡ Some 0
+  pub ends : last_flow atom.path ≡ Some 0
   pub tasked : is_task_part atom.part ≡ true
 
 abbrev pub IsRootTaskIn : Option Atom → Type 0
 IsRootTaskIn None = ⊥
 IsRootTaskIn (Some atom) = IsRootTask atom
 
-none_nested : (low high i : ℕ) (xs : List Atom) → 0 < low → AllBetween low high xs → AllHaveWays xs → (k : ℕ) → IsRootTaskIn (slice_get (map (enter 0 i) xs) k) → ⊥
-none_nested low high i [] some each ways k is = is
-none_nested low high i (x ∷ xs) some each ways zero is = by_way x.way ways.0 each.0 is.ends
+none_nested : (low high i : ℕ) (xs : List Atom) → 0 < low → AllBetween low high xs → AllHavePaths xs → (k : ℕ) → IsRootTaskIn (slice_get (map (enter 0 i) xs) k) → ⊥
+none_nested low high i [] some each paths k is = is
+none_nested low high i (x ∷ xs) some each paths zero is = by_path x.path paths.0 each.0 is.ends
   where
-    by_way : (w : List Turn) → HasWay w → Between low high w → last_flow (record { flow = 0; item = Some i } ∷ w) ≡ Some 0 → ⊥
-    by_way [] has between is = has
-    by_way (y ∷ ys) has between is = ends_later low high (y ∷ ys) some between is
-none_nested low high i (x ∷ xs) some each ways (suc k) is = none_nested low high i xs some each.1 ways.1 k is
+    by_path : (w : List Turn) → HasPath w → Between low high w → last_flow (record { flow = 0; item = Some i } ∷ w) ≡ Some 0 → ⊥
+    by_path [] has between is = has
+    by_path (y ∷ ys) has between is = ends_later low high (y ∷ ys) some between is
+none_nested low high i (x ∷ xs) some each paths (suc k) is = none_nested low high i xs some each.1 paths.1 k is
 
 abbrev pub name_in_part : Option Atom → List ℕ
 name_in_part o = option_map_or (λ (atom : Atom). name_of atom.part) o []
@@ -131,13 +131,13 @@ task_named (tree (flow head items) others) i n a k is =
     in_both (λ o. IsRootTaskIn o → (v : ℕ) × (v < length (items_of (suc n) a (tree (flow head items) others))) × (name_in_part o ≡ option_map_or name_of_item (slice_get (items_of (suc n) a (tree (flow head items) others)) v) []))
     (map (enter 0 i) (atoms_of (suc n) (flow head items))) (atoms_among 0 (suc i) (suc n + flow_count (flow head items)) others)
     (λ no_task. absurd no_task)
-    (λ j there. absurd (none_nested (suc n) (suc n + flow_count (flow head items)) i (atoms_of (suc n) (flow head items)) (omega arith) (flows_between (flow head items) (suc n)) (ways_of_flow head.retry) j there))
+    (λ j there. absurd (none_nested (suc n) (suc n + flow_count (flow head items)) i (atoms_of (suc n) (flow head items)) (omega arith) (flows_between (flow head items) (suc n)) (paths_of_flow head.retry) j there))
     (behind (n + flow_count (flow head items)) (suc n + flow_count (flow head items)) (omega arith) (λ j there. task_named others (suc i) (n + flow_count (flow head items)) (a + atom_count (flow head items)) j there))
     k is
   where
-    ways_of_flow : (r : Option Retry) → AllHaveWays (retry_atoms (suc n) r ++ atoms_among (suc n) 0 (suc (suc n)) items)
-    ways_of_flow None = ways_among items (suc n) 0 (suc (suc n))
-    ways_of_flow (Some r) = (tt, ways_among items (suc n) 0 (suc (suc n)))
+    paths_of_flow : (r : Option Retry) → AllHavePaths (retry_atoms (suc n) r ++ atoms_among (suc n) 0 (suc (suc n)) items)
+    paths_of_flow None = paths_among items (suc n) 0 (suc (suc n))
+    paths_of_flow (Some r) = (tt, paths_among items (suc n) 0 (suc (suc n)))
 
     behind : (m m' : ℕ) → suc m ≡ m' → ((j : ℕ) → IsRootTaskIn (slice_get (atoms_among 0 (suc i) (suc m) others) j)
         → (v : ℕ) × (v < length (items_of (suc m) (a + atom_count (flow head items)) others)) × (name_in_part (slice_get (atoms_among 0 (suc i) (suc m) others) j) ≡ option_map_or name_of_item (slice_get (items_of (suc m) (a + atom_count (flow head items)) others) v) []))

@@ -30,42 +30,42 @@ record BackChain (it : ℕ → ℕ) (few : ℕ) (pairs : List Pair) (u v : ℕ) 
 module _ (it : ℕ → ℕ) (few many : ℕ) (pairs' pairs : List Pair) (below' : AreBelow few pairs') (below : AreBelow many pairs)
     (same : (u v : ℕ) → u < few → v < few → has_pair pairs (it u) (it v) ≡ has_pair pairs' u v)
     (back : (u v : ℕ) → v < few → has_pair pairs u (it v) ≡ true → Image it few u) where
-  goes_forward : (u : ℕ) (way : List ℕ) (v : ℕ) → leads_through pairs' u way v ≡ true → leads_through pairs (it u) (map it way) (it v) ≡ true
+  goes_forward : (u : ℕ) (path : List ℕ) (v : ℕ) → leads_through pairs' u path v ≡ true → leads_through pairs (it u) (map it path) (it v) ≡ true
   goes_forward u [] v is = same u v (below'.first u v is) (below'.second u v is) ∙ is
-  goes_forward u (w ∷ way) v is =
-      let step : has_pair pairs' u w ≡ true = and_first (has_pair pairs' u w) (leads_through pairs' w way v) is in
-      true_both (has_pair pairs (it u) (it w)) (leads_through pairs (it w) (map it way) (it v)) (same u w (below'.first u w step) (below'.second u w step) ∙ step)
-      (goes_forward w way v (and_second (has_pair pairs' u w) (leads_through pairs' w way v) is))
+  goes_forward u (w ∷ path) v is =
+      let step : has_pair pairs' u w ≡ true = and_first (has_pair pairs' u w) (leads_through pairs' w path v) is in
+      true_both (has_pair pairs (it u) (it w)) (leads_through pairs (it w) (map it path) (it v)) (same u w (below'.first u w step) (below'.second u w step) ∙ step)
+      (goes_forward w path v (and_second (has_pair pairs' u w) (leads_through pairs' w path v) is))
 
-  goes_back : (u : ℕ) (way : List ℕ) (v : ℕ) → v < few → leads_through pairs u way (it v) ≡ true → BackChain it few pairs' u v
+  goes_back : (u : ℕ) (path : List ℕ) (v : ℕ) → v < few → leads_through pairs u path (it v) ≡ true → BackChain it few pairs' u v
   goes_back u [] v less is =
       let image = back u v less is in
-      record { number = image.number; below = image.below; is = image.is; chain = record { way = []; leads = sym (same image.number v image.below less) ∙ (ap (λ (n : ℕ). has_pair pairs n (it v)) image.is ∙ is) } }
-  goes_back u (w ∷ way) v less is =
-      let step : has_pair pairs u w ≡ true = and_first (has_pair pairs u w) (leads_through pairs w way (it v)) is in
-      let rest = goes_back w way v less (and_second (has_pair pairs u w) (leads_through pairs w way (it v)) is) in
+      record { number = image.number; below = image.below; is = image.is; chain = record { path = []; leads = sym (same image.number v image.below less) ∙ (ap (λ (n : ℕ). has_pair pairs n (it v)) image.is ∙ is) } }
+  goes_back u (w ∷ path) v less is =
+      let step : has_pair pairs u w ≡ true = and_first (has_pair pairs u w) (leads_through pairs w path (it v)) is in
+      let rest = goes_back w path v less (and_second (has_pair pairs u w) (leads_through pairs w path (it v)) is) in
       let step_to : has_pair pairs u (it rest.number) ≡ true = ap (has_pair pairs u) rest.is ∙ step in
       let image = back u rest.number rest.below step_to in
       let first : has_pair pairs' image.number rest.number ≡ true = sym (same image.number rest.number image.below rest.below) ∙ (ap (λ (n : ℕ). has_pair pairs n (it rest.number)) image.is ∙ step_to) in
-      record { number = image.number; below = image.below; is = image.is; chain = record { way = rest.number ∷ rest.chain.way; leads = true_both (has_pair pairs' image.number rest.number) (leads_through pairs' rest.number rest.chain.way v) first rest.chain.leads } }
+      record { number = image.number; below = image.below; is = image.is; chain = record { path = rest.number ∷ rest.chain.path; leads = true_both (has_pair pairs' image.number rest.number) (leads_through pairs' rest.number rest.chain.path v) first rest.chain.leads } }
 
   -- what reaches an item of the part is one of the part
   pub reached_back : (u v : ℕ) → v < few → has_pair (reached many pairs) u (it v) ≡ true → Image it few u
   reached_back u v less is =
       let chain = chain_of many pairs u (it v) is in
-      let found = goes_back u chain.way v less chain.leads in
+      let found = goes_back u chain.path v less chain.leads in
       record { number = found.number; below = found.below; is = found.is }
 
   pub reached_same : ((u v : ℕ) → it u ≡ it v → u ≡ v) → (u v : ℕ) → v < few → has_pair (reached many pairs) (it u) (it v) ≡ has_pair (reached few pairs') u v
   reached_same once u v less = same_truth (has_pair (reached many pairs) (it u) (it v)) (has_pair (reached few pairs') u v)
       (λ is.
       let chain = chain_of many pairs (it u) (it v) is in
-      let found = goes_back (it u) chain.way v less chain.leads in
+      let found = goes_back (it u) chain.path v less chain.leads in
       let e : found.number ≡ u = once found.number u found.is in
       chain_reaches few pairs' below' u v (subst (λ (n : ℕ). Chain pairs' n v) e found.chain))
       (λ is.
       let chain = chain_of few pairs' u v is in
-      chain_reaches many pairs below (it u) (it v) record { way = map it chain.way; leads = goes_forward u chain.way v chain.leads })
+      chain_reaches many pairs below (it u) (it v) record { path = map it chain.path; leads = goes_forward u chain.path v chain.leads })
 
 -- pairs of numbers below a count
 pub pairs_are_below : (n : ℕ) (test : ℕ → ℕ → Bool) → AreBelow n (pairs_below n test)

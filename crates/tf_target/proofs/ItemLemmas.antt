@@ -25,8 +25,8 @@ pub control_moved : (fl at it : ℕ → ℕ) (r : Option Retry) (xs ys : List At
     → AtomsMoved fl at it 0 0 (retry_atoms 0 r ++ xs) (retry_atoms 0 r ++ ys)
 control_moved fl at it None xs ys root own rest = rest
 control_moved fl at it (Some r) xs ys root own rest =
-    atom_kept 0 0 record { way = record { flow = 0; item = None } ∷ []; part = a_retry r } record { way = record { flow = 0; item = None } ∷ []; part = a_retry r } xs ys (own 0 (omega arith))
-    (ap (λ (g : ℕ). record { way = record { flow = g; item = None } ∷ []; part = a_retry r }) (sym root)) rest
+    atom_kept 0 0 record { path = record { flow = 0; item = None } ∷ []; part = a_retry r } record { path = record { flow = 0; item = None } ∷ []; part = a_retry r } xs ys (own 0 (omega arith))
+    (ap (λ (g : ℕ). record { path = record { flow = g; item = None } ∷ []; part = a_retry r }) (sym root)) rest
 
 pub atoms_sized : (ts : Trees) → atoms_among_count ts ≡ size_of atom_count ts
 atoms_sized no_trees = refl

@@ -18,7 +18,7 @@ use Rattle.tf_links.specs.Reach.{reached}
 use Rattle.tf_model.specs.Before.{Flow, find_flow, item_before, flow_at}
 use Rattle.tf_model.specs.Compilation.{ambiguity, cycle_of, refusal_of, refusal_among}
 use Rattle.tf_model.specs.Linked.{joins, name_of_item, item_name, is_explicit, linked_pairs, arrange, arranged, item_standing, standing_of_item}
-use Rattle.tf_model.proofs.Told.{order_in, way_in}
+use Rattle.tf_model.proofs.Told.{order_in, path_in}
 use Rattle.tf_numbers.specs.Pairs.{Pair, has_pair}
 use Rattle.tf_numbers.proofs.EquationLemmas.{ap2}
 use Rattle.tf_numbers.proofs.TruthLemmas.{never_true, and_first, and_second, true_both, true_first}
@@ -105,13 +105,13 @@ module _ (test : ℕ → Bool) (head : Head) (items : Trees) where
       zero_plus : (a : ℕ) → 0 + a ≡ a
       zero_plus a = omega arith
 
-  atom_found : (a : ℕ) → Image at (length part) a ⊎ Avoids fl it (way_in (slice_get whole a))
+  atom_found : (a : ℕ) → Image at (length part) a ⊎ Avoids fl it (path_in (slice_get whole a))
   atom_found a = elim (cases_lt a (length whole)) [
     | inl below ↦ elim (moved_or_left fl at it 0 0 part whole moved_whole a below) [
       | inl found ↦ inl record { number = found.0; below = found.1; is = ap at (zero_plus found.0) ∙ (found.2 ∙ omega arith) }
       | inr avoids ↦ inr avoids
     ]
-    | inr from ↦ inr (subst (λ (o : Option Atom). Avoids fl it (way_in o)) (sym (slice_get_past whole a from)) (λ g v. refl))
+    | inr from ↦ inr (subst (λ (o : Option Atom). Avoids fl it (path_in o)) (sym (slice_get_past whole a from)) (λ g v. refl))
   ]
     where
       zero_plus : (a : ℕ) → a ≡ 0 + a

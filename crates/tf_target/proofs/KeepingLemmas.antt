@@ -37,16 +37,16 @@ picked_push test (y ∷ ys) x = either (test 0) (picked_push (λ u. test (suc u)
     either false rest = rest
 
 -- the front of the items elements_kept, and one item more
-picked_front : (test : ℕ → Bool) (items : List Item) (i : ℕ) (item : Item) → i < length items → item ≡ get_or items i item
+picked_prefix : (test : ℕ → Bool) (items : List Item) (i : ℕ) (item : Item) → i < length items → item ≡ get_or items i item
     → elements_kept test (take (i + 1) items) ≡ elements_kept test (take i items) ++ (if test i then item ∷ [] else [])
-picked_front test items i item within is =
+picked_prefix test items i item within is =
     let count : length (take i items) ≡ i = omega (arith, length-take i items, within) in
     ap (elements_kept test) (take_more items i item within ∙ ap (λ (x : Item). take i items ++ x ∷ []) (sym is))
     ∙ (picked_push test (take i items) item ∙ ap (λ (n : ℕ). elements_kept test (take i items) ++ (if test n then item ∷ [] else [])) count)
 
-filter_front : (test : Link → Bool) (links : List Link) (i : ℕ) (link : Link) → i < length links → link ≡ get_or links i link
+filter_prefix : (test : Link → Bool) (links : List Link) (i : ℕ) (link : Link) → i < length links → link ≡ get_or links i link
     → filter test (take (i + 1) links) ≡ filter test (take i links) ++ (if test link then link ∷ [] else [])
-filter_front test links i link within is =
+filter_prefix test links i link within is =
     ap (filter test) (take_more links i link within ∙ ap (λ (x : Link). take i links ++ x ∷ []) (sym is)) ∙ filter_append test (take i links) (link ∷ [])
 
 pub picked_yes : (test : ℕ → Bool) (items : List Item) (i : ℕ) (item copy : Item) (old new : List Item) → i < length items → item ≡ get_or items i item → test i ≡ true
@@ -56,14 +56,14 @@ picked_yes test items i item copy old new within is passes before copied pushed 
     ap (map item_as_written) pushed
     ∙ (map-append item_as_written old (copy ∷ [])
     ∙ (ap2 (λ (xs ys : List WrittenTree). xs ++ ys) before (ap (λ (w : WrittenTree). w ∷ []) copied)
-    ∙ sym (ap (map item_as_written) (picked_front test items i item within is ∙ ap (λ (b : Bool). elements_kept test (take i items) ++ (if b then item ∷ [] else [])) passes)
+    ∙ sym (ap (map item_as_written) (picked_prefix test items i item within is ∙ ap (λ (b : Bool). elements_kept test (take i items) ++ (if b then item ∷ [] else [])) passes)
     ∙ map-append item_as_written (elements_kept test (take i items)) (item ∷ []))))
 
 pub picked_no : (test : ℕ → Bool) (items : List Item) (i : ℕ) (item : Item) (old : List Item) → i < length items → item ≡ get_or items i item → test i ≡ false
     → map item_as_written old ≡ map item_as_written (elements_kept test (take i items)) → map item_as_written old ≡ map item_as_written (elements_kept test (take (i + 1) items))
 picked_no test items i item old within is fails before =
     before
-    ∙ sym (ap (map item_as_written) (picked_front test items i item within is ∙ (ap (λ (b : Bool). elements_kept test (take i items) ++ (if b then item ∷ [] else [])) fails ∙ nothing_after (elements_kept test (take i items)))))
+    ∙ sym (ap (map item_as_written) (picked_prefix test items i item within is ∙ (ap (λ (b : Bool). elements_kept test (take i items) ++ (if b then item ∷ [] else [])) fails ∙ nothing_after (elements_kept test (take i items)))))
 
 -- ---- links
 
@@ -74,14 +74,14 @@ filter_yes test links i link copy old new within is passes before copied pushed 
     ap (map connection_of) pushed
     ∙ (map-append connection_of old (copy ∷ [])
     ∙ (ap2 (λ (xs ys : List Connection). xs ++ ys) before (ap (λ (w : Connection). w ∷ []) copied)
-    ∙ sym (ap (map connection_of) (filter_front test links i link within is ∙ ap (λ (b : Bool). filter test (take i links) ++ (if b then link ∷ [] else [])) passes)
+    ∙ sym (ap (map connection_of) (filter_prefix test links i link within is ∙ ap (λ (b : Bool). filter test (take i links) ++ (if b then link ∷ [] else [])) passes)
     ∙ map-append connection_of (filter test (take i links)) (link ∷ []))))
 
 pub filter_no : (test : Link → Bool) (links : List Link) (i : ℕ) (link : Link) (old : List Link) → i < length links → link ≡ get_or links i link → test link ≡ false
     → map connection_of old ≡ map connection_of (filter test (take i links)) → map connection_of old ≡ map connection_of (filter test (take (i + 1) links))
 filter_no test links i link old within is fails before =
     before
-    ∙ sym (ap (map connection_of) (filter_front test links i link within is ∙ (ap (λ (b : Bool). filter test (take i links) ++ (if b then link ∷ [] else [])) fails ∙ nothing_after (filter test (take i links)))))
+    ∙ sym (ap (map connection_of) (filter_prefix test links i link within is ∙ (ap (λ (b : Bool). filter test (take i links) ++ (if b then link ∷ [] else [])) fails ∙ nothing_after (filter test (take i links)))))
 
 -- ---- the flow
 

@@ -25,7 +25,7 @@ use Rattle.tf_flow.specs.Written.{as_written}
 use Rattle.tf_flow.specs.declared.nested.Flow.{Flow}
 use Rattle.tf_target.specs.Kept.{names_among, kept_among, joins_kept, kept_head, kept_tree, pick_first, elements_kept}
 use Rattle.tf_target.proofs.KeepingLemmas.{picked_trees}
-use Rattle.tf_target.proofs.WithinLemmas.{Within, within_front, within_map, within_filter, filter_within, still_no_element, still_once}
+use Rattle.tf_target.proofs.WithinLemmas.{Within, within_prefix, within_map, within_filter, filter_within, still_no_element, still_once}
 use Rattle.tf_target.proofs.LimitLemmas.{places_kept, members_kept, no_deeper, all_fit, names_once, ends_known, links_good, atoms_good}
 
 -- ---- what is kept of a flow
@@ -118,7 +118,7 @@ kept_fault test head items store graph none =
     let part : List Place = retry_places head.retry ++ places_among kept in
     let linked : Within less.links level.links = filter_within (joins_kept names) head.links in
     let among : Within less.members level.members = members_kept test items in
-    let rest : Within part order = within_front (retry_places head.retry) (places_among kept) (places_among items) (places_kept test items) in
+    let rest : Within part order = within_prefix (retry_places head.retry) (places_among kept) (places_among items) (places_kept test items) in
     let deep : ℕ = nesting (flow head items) in
     let flat : ℕ = nesting (kept_tree test (flow head items)) in
     let flatter : capped flat ≤ capped deep = omega (arith, no_deeper test items) in

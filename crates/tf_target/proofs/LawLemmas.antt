@@ -12,12 +12,12 @@ use Rattle.tf_flow.specs.Written.{plan_tree, as_written}
 use Rattle.tf_flow.specs.declared.atoms.Bind.{Bind}
 use Rattle.tf_flow.specs.declared.nested.Flow.{Flow as FlowValue}
 use Rattle.tf_flow.proofs.TreeLemmas.{tree_of-flow}
-use Rattle.tf_model.specs.Before.{item_before, way_before, way_at, part_at, passes_item, flow_at}
+use Rattle.tf_model.specs.Before.{item_before, path_before, path_at, part_at, passes_item, flow_at}
 use Rattle.tf_model.specs.Compilation.{ambiguity, cycle_of, refusal_of, refusal_among, refusal_at, tree_refusal, compile_refusal}
 use Rattle.tf_model.specs.Laws.{AreOrdered}
 use Rattle.tf_model.specs.Scope.{members, members_in, is_earlier, is_elsewhere, lists_symbol, has_source, Missing, missing_of, missing_symbol}
 use Rattle.tf_flow.specs.declared.atoms.Arg.{Arg}
-use Rattle.tf_flow.specs.declared.ways.Turn.{Turn}
+use Rattle.tf_flow.specs.declared.paths.Turn.{Turn}
 use Rattle.std.proofs.Math.Path.{fun_ext}
 use Rattle.tf_model.specs.Linked.{arrange, arranged, listed}
 use Rattle.tf_model.specs.Plan.{Outline, outline_with, outline_of_tree, outline_of, is_before, count}
@@ -33,7 +33,7 @@ use Rattle.std.specs.Option.{unwrap_or, option_and_then}
 use Rattle.tf_flow.specs.Conditions.{Connection}
 use Rattle.tf_flow.specs.Refusal.{first_refusal}
 use Rattle.tf_flow.specs.Rules.{stray_end}
-use Rattle.tf_flow.specs.Outline.{is_task_part, part_of, way_of}
+use Rattle.tf_flow.specs.Outline.{is_task_part, part_of, atom_path}
 use Rattle.tf_model.specs.Before.{Flow, find_flow, no_flow}
 use Rattle.tf_model.specs.Deciders.{decides_on, decider_links}
 use Rattle.tf_model.specs.Plan.{is_task, atom_name, last_flow}
@@ -46,7 +46,7 @@ use Rattle.tf_target.proofs.NestedLemmas.{BothCarried}
 use Rattle.tf_target.specs.Laws.{KeepsOrder}
 use Rattle.tf_target.specs.Target.{target_tree, IsTargetOf}
 use Rattle.tf_target.proofs.OutlineLemmas.{atoms_alike, flows_alike, innermost_alike}
-use Rattle.tf_target.proofs.CarriedLemmas.{part_carried, way_carried, before_carried, passes_alike, within_whole}
+use Rattle.tf_target.proofs.CarriedLemmas.{part_carried, path_carried, before_carried, passes_alike, within_whole}
 use Rattle.tf_target.proofs.MemberLemmas.{is_image, image_yes, before_none, visits_kept, map_reverse}
 use Rattle.tf_target.proofs.PartLemmas.{item_in, whole_turn, Avoids}
 use Rattle.tf_target.proofs.GiverLemmas.{each_none}
@@ -137,15 +137,15 @@ module _ (head : Head) (items : Trees) (store : List Bind) (defer : Bool) (item 
   before_kept : (a b : ℕ) → is_before left a b ≡ is_before plan (at test head items a) (at test head items b)
   unfolding is_before
   before_kept a b =
-      sym (ap2 (λ v w. way_before plan.flows v w) (way_carried (fl test head items) (at test head items) (it test head items) (part test head items) (whole test head items) (carried test head items) a)
-      (way_carried (fl test head items) (at test head items) (it test head items) (part test head items) (whole test head items) (carried test head items) b)
+      sym (ap2 (λ v w. path_before plan.flows v w) (path_carried (fl test head items) (at test head items) (it test head items) (part test head items) (whole test head items) (carried test head items) a)
+      (path_carried (fl test head items) (at test head items) (it test head items) (part test head items) (whole test head items) (carried test head items) b)
       ∙ before_carried (fl test head items) (at test head items) (it test head items) (part test head items) (whole test head items) (carried test head items)
       (arrange (part test head items) (inner test head items) (root_part test head items) ∷ inner test head items) (arrange (whole test head items) (all test head items) (root test head items) ∷ all test head items)
-      (orders_beside test head items graph closed_root clear_root) (way_at (part test head items) a) (way_at (part test head items) b))
+      (orders_beside test head items graph closed_root clear_root) (path_at (part test head items) a) (path_at (part test head items) b))
 
   -- ---- scopes
 
-  left_avoids : (b : ℕ) → is_image (at test head items) b ≡ false → Avoids (fl test head items) (it test head items) (way_at (whole test head items) b)
+  left_avoids : (b : ℕ) → is_image (at test head items) b ≡ false → Avoids (fl test head items) (it test head items) (path_at (whole test head items) b)
   left_avoids b off = elim ((carried test head items).kept b) [
     | inl image ↦ absurd (clash (is_image (at test head items) b) (ap (is_image (at test head items)) (sym image.is) ∙ image_yes (at test head items) (carried test head items).rises image.number) off)
     | inr avoids ↦ avoids
@@ -154,8 +154,8 @@ module _ (head : Head) (items : Trees) (store : List Bind) (defer : Bool) (item 
   left_not_before : (a b : ℕ) → is_image (at test head items) b ≡ false → is_before plan b (at test head items a) ≡ false
   unfolding is_before
   left_not_before a b off =
-      ap (way_before plan.flows (way_at (whole test head items) b)) (way_carried (fl test head items) (at test head items) (it test head items) (part test head items) (whole test head items) (carried test head items) a)
-      ∙ before_none (fl test head items) (it test head items) plan.flows (item_back test head items graph closed_root clear_root) (way_at (whole test head items) b) (way_at (part test head items) a) (left_avoids b off)
+      ap (path_before plan.flows (path_at (whole test head items) b)) (path_carried (fl test head items) (at test head items) (it test head items) (part test head items) (whole test head items) (carried test head items) a)
+      ∙ before_none (fl test head items) (it test head items) plan.flows (item_back test head items graph closed_root clear_root) (path_at (whole test head items) b) (path_at (part test head items) a) (left_avoids b off)
 
   visits : (a : ℕ) (x : Turn) → members_in plan (at test head items a) (whole_turn (fl test head items) (it test head items) x) ≡ map (at test head items) (members_in left a x)
   visits a x =
@@ -165,8 +165,8 @@ module _ (head : Head) (items : Trees) (store : List Bind) (defer : Bool) (item 
       (left_not_before a)
       (λ b off. ap not (left_avoids b off x.flow x.item))
       (λ b. sym (before_kept b a))
-      (λ b. ap not (ap (passes_item (fl test head items x.flow) (item_in (it test head items) x.flow x.item)) (way_carried (fl test head items) (at test head items) (it test head items) (part test head items) (whole test head items) (carried test head items) b)
-      ∙ passes_alike (fl test head items) (at test head items) (it test head items) (part test head items) (whole test head items) (carried test head items) x.flow x.item (way_at (part test head items) b)))
+      (λ b. ap not (ap (passes_item (fl test head items x.flow) (item_in (it test head items) x.flow x.item)) (path_carried (fl test head items) (at test head items) (it test head items) (part test head items) (whole test head items) (carried test head items) b)
+      ∙ passes_alike (fl test head items) (at test head items) (it test head items) (part test head items) (whole test head items) (carried test head items) x.flow x.item (path_at (part test head items) b)))
 
   all_visits : (a : ℕ) (xs : List Turn) → flat_map (members_in plan (at test head items a)) (map (whole_turn (fl test head items) (it test head items)) xs) ≡ map (at test head items) (flat_map (members_in left a) xs)
   all_visits a [] = refl
@@ -175,9 +175,9 @@ module _ (head : Head) (items : Trees) (store : List Bind) (defer : Bool) (item 
   pub members_kept : (a : ℕ) → map (at test head items) (members left a) ≡ members plan (at test head items a)
   unfolding members
   members_kept a =
-      sym (ap (λ (w : List Turn). flat_map (members_in plan (at test head items a)) (reverse w)) (way_carried (fl test head items) (at test head items) (it test head items) (part test head items) (whole test head items) (carried test head items) a)
-      ∙ (ap (flat_map (members_in plan (at test head items a))) (sym (map_reverse (whole_turn (fl test head items) (it test head items)) (way_at (part test head items) a)))
-      ∙ all_visits a (reverse (way_at (part test head items) a))))
+      sym (ap (λ (w : List Turn). flat_map (members_in plan (at test head items a)) (reverse w)) (path_carried (fl test head items) (at test head items) (it test head items) (part test head items) (whole test head items) (carried test head items) a)
+      ∙ (ap (flat_map (members_in plan (at test head items a))) (sym (map_reverse (whole_turn (fl test head items) (it test head items)) (path_at (part test head items) a)))
+      ∙ all_visits a (reverse (path_at (part test head items) a))))
 
   -- ---- symbols
 
@@ -227,10 +227,10 @@ module _ (head : Head) (items : Trees) (store : List Bind) (defer : Bool) (item 
   links_told (Some f) None both = absurd both
   links_told (Some f) (Some f') both = ap (λ (p : FlowPlace). p.links) both.place
 
-  root_atom : (a : ℕ) → last_flow (way_at (part test head items) a) ≡ Some 0 → is_task left a ≡ true → IsRootTaskIn (slice_get (part test head items) a)
+  root_atom : (a : ℕ) → last_flow (path_at (part test head items) a) ≡ Some 0 → is_task left a ≡ true → IsRootTaskIn (slice_get (part test head items) a)
   root_atom a ends tasked = by_atom (slice_get (part test head items) a) ends tasked
     where
-      by_atom : (o : Option Atom) → last_flow (option_map_or way_of o []) ≡ Some 0 → option_map_or is_task_part (option_map part_of o) false ≡ true → IsRootTaskIn o
+      by_atom : (o : Option Atom) → last_flow (option_map_or atom_path o []) ≡ Some 0 → option_map_or is_task_part (option_map part_of o) false ≡ true → IsRootTaskIn o
       by_atom None ends tasked = absurd (cc)
       by_atom (Some x) ends tasked = record { ends = ends; tasked = tasked }
 
@@ -244,7 +244,7 @@ module _ (head : Head) (items : Trees) (store : List Bind) (defer : Bool) (item 
   name_same : (a : ℕ) → atom_name plan (at test head items a) ≡ atom_name left a
   name_same a = ap (λ (o : Option Part). option_map_or name_of o []) (part_same a)
 
-  links_at : first_some (stray_end (names_among items)) head.links ≡ None → (a : ℕ) → is_task left a ≡ true → (o : Option ℕ) → last_flow (way_at (part test head items) a) ≡ o
+  links_at : first_some (stray_end (names_among items)) head.links ≡ None → (a : ℕ) → is_task left a ≡ true → (o : Option ℕ) → last_flow (path_at (part test head items) a) ≡ o
       → filter (decides_on (atom_name left a)) (home_links left.flows o) ≡ filter (decides_on (atom_name left a)) (home_links plan.flows (option_map (fl test head items) o))
   links_at known a tasked None is = refl
   links_at known a tasked (Some zero) is =
@@ -262,9 +262,9 @@ module _ (head : Head) (items : Trees) (store : List Bind) (defer : Bool) (item 
 
   deciders_same : first_some (stray_end (names_among items)) head.links ≡ None → (a : ℕ) → is_task left a ≡ true → decider_links left a ≡ decider_links plan (at test head items a)
   deciders_same known a tasked =
-      links_at known a tasked (last_flow (way_at (part test head items) a)) refl
+      links_at known a tasked (last_flow (path_at (part test head items) a)) refl
       ∙ sym (ap2 (λ (name : List ℕ) (o : Option ℕ). filter (decides_on name) (home_links plan.flows o)) (name_same a)
-      (ap last_flow (way_carried (fl test head items) (at test head items) (it test head items) (part test head items) (whole test head items) (carried test head items) a) ∙ last_moved (fl test head items) (it test head items) (way_at (part test head items) a)))
+      (ap last_flow (path_carried (fl test head items) (at test head items) (it test head items) (part test head items) (whole test head items) (carried test head items) a) ∙ last_moved (fl test head items) (it test head items) (path_at (part test head items) a)))
 
   pub kept_order : first_some (stray_end (names_among items)) head.links ≡ None → KeepsOrder plan left
   kept_order known = record {

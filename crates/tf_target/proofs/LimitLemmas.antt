@@ -19,7 +19,7 @@ use Rattle.tf_flow.specs.declared.faults.PlanFault.TheVariants as fault
 use Rattle.tf_numbers.proofs.OptionLemmas.{neither_there, none_mapped, none_if}
 use Rattle.tf_numbers.proofs.TruthLemmas.{never_true, clash}
 use Rattle.tf_target.specs.Kept.{keep_first, kept_among}
-use Rattle.tf_target.proofs.WithinLemmas.{Within, none_left, left_in, left_out, within_front, within_behind, within_map, within_filter, shorter, lesser_sum, still_nothing, still_once}
+use Rattle.tf_target.proofs.WithinLemmas.{Within, none_left, left_in, left_out, within_prefix, within_behind, within_map, within_filter, shorter, lesser_sum, still_nothing, still_once}
 
 -- ---- what is kept among items
 
@@ -29,7 +29,7 @@ places_kept test (tree first others) = either (test 0) (places_kept (λ u. test 
   where
     either : (b : Bool) → Within (places_among (kept_among (λ u. test (suc u)) others)) (places_among others)
         → Within (places_among (keep_first b first (kept_among (λ u. test (suc u)) others))) (places first ++ places_among others)
-    either true rest = within_front (places first) (places_among (kept_among (λ u. test (suc u)) others)) (places_among others) rest
+    either true rest = within_prefix (places first) (places_among (kept_among (λ u. test (suc u)) others)) (places_among others) rest
     either false rest = within_behind (places first) (places_among (kept_among (λ u. test (suc u)) others)) (places_among others) rest
 
 pub members_kept : (test : ℕ → Bool) (items : Trees) → Within (members_of (kept_among test items)) (members_of items)

@@ -4,8 +4,8 @@ use Rattle.std.specs.Prelude.{nat_eq, reverse, take_while, if◌then◌else◌}
 use Rattle.std.proofs.Math.Path.{fun_ext}
 use Rattle.std.proofs.lemmas.List.{reverse-append}
 use Rattle.std.proofs.lemmas.List.Sums.{take_while-cons}
-use Rattle.tf_flow.specs.declared.ways.Turn.{Turn}
-use Rattle.tf_model.specs.Before.{Flow, item_before, turn_before, way_before, same_place, takes_item, passes_item}
+use Rattle.tf_flow.specs.declared.paths.Turn.{Turn}
+use Rattle.tf_model.specs.Before.{Flow, item_before, turn_before, path_before, same_place, takes_item, passes_item}
 use Rattle.tf_numbers.specs.Numbers.{any_below}
 use Rattle.tf_numbers.proofs.BelowLemmas.{any_of, never_any}
 use Rattle.tf_numbers.proofs.EquationLemmas.{ap2}
@@ -119,12 +119,12 @@ module _ (fl it : ℕ → ℕ) (flows : List Flow) (back : (g v u : ℕ) → ite
         meets x xs g (Some found.0) same (ap (λ (q : Option ℕ). same_place q (Some (item_at it g found.0))) is ∙ eq-eqb v (item_at it g found.0) (sym found.1)) avoids
   ]
 
-  pub before_none : (v w : List Turn) → Avoids fl it v → way_before flows v (map (whole_turn fl it) w) ≡ false
+  pub before_none : (v w : List Turn) → Avoids fl it v → path_before flows v (map (whole_turn fl it) w) ≡ false
   before_none [] w avoids = refl
   before_none (x ∷ xs) [] avoids = refl
   before_none (x ∷ xs) (y ∷ ys) avoids =
-      never_true (way_before flows (x ∷ xs) (map (whole_turn fl it) (y ∷ ys))) (λ is.
-      let below : Bool = way_before flows xs (map (whole_turn fl it) ys) in
+      never_true (path_before flows (x ∷ xs) (map (whole_turn fl it) (y ∷ ys))) (λ is.
+      let below : Bool = path_before flows xs (map (whole_turn fl it) ys) in
       let same : x.flow ≡ fl y.flow = eqb-true x.flow (fl y.flow) (and_first (nat_eq x.flow (fl y.flow)) (turn_before flows x.flow x.item (item_in it y.flow y.item) below) is) in
       no_turn x xs y.flow x.item y.item below refl same avoids
       (ap (λ (g : ℕ). turn_before flows g x.item (item_in it y.flow y.item) below) (sym same) ∙ and_second (nat_eq x.flow (fl y.flow)) (turn_before flows x.flow x.item (item_in it y.flow y.item) below) is))

@@ -5,13 +5,13 @@ use Rattle.tf_flow.specs.Outline.{Atom, Standing, stands_task, stands_flow, Item
 use Rattle.tf_flow.specs.Conditions.{connection_of}
 use Rattle.tf_flow.specs.Tree.{Tree, task, flow, Trees, no_trees, tree, Head}
 use Rattle.tf_flow.specs.declared.atoms.Retry.{Retry}
-use Rattle.tf_flow.specs.declared.ways.Turn.{Turn}
+use Rattle.tf_flow.specs.declared.paths.Turn.{Turn}
 use Rattle.tf_model.specs.Before.{same_place, takes_item, passes_item}
 use Rattle.tf_numbers.proofs.EquationLemmas.{ap2}
 use Rattle.tf_numbers.proofs.ListLemmas.{map_append}
 use Rattle.tf_numbers.proofs.TruthLemmas.{never_true, neither, and_first, and_second, second_false}
 
--- ---- the whole's numbers in ways and flows
+-- ---- the whole's numbers in paths and flows
 
 -- the item of a turn: those of the root alone have other numbers
 abbrev pub item_at : (ℕ → ℕ) → ℕ → ℕ → ℕ
@@ -25,7 +25,7 @@ abbrev pub whole_turn : (fl it : ℕ → ℕ) → Turn → Turn
 whole_turn fl it x = record { flow = fl x.flow; item = item_in it x.flow x.item }
 
 abbrev pub whole_atom : (fl it : ℕ → ℕ) → Atom → Atom
-whole_atom fl it atom = record { way = map (whole_turn fl it) atom.way; part = atom.part }
+whole_atom fl it atom = record { path = map (whole_turn fl it) atom.path; part = atom.part }
 
 abbrev pub whole_standing : (fl at : ℕ → ℕ) → Standing → Standing
 whole_standing fl at (stands_task a) = stands_task (at a)
@@ -44,8 +44,8 @@ Shifts f new old count = (x : ℕ) → x < count → f (new + x) ≡ old + x
 shift_first : (f : ℕ → ℕ) (new old count : ℕ) → 0 < count → Shifts f new old count → f new ≡ old
 shift_first f new old count some shifts = ap f (omega arith) ∙ (shifts 0 some ∙ omega arith)
 
-shift_front : (f : ℕ → ℕ) (new old n m : ℕ) → Shifts f new old (n + m) → Shifts f new old n
-shift_front f new old n m shifts x below = shifts x (omega (arith, below))
+shift_prefix : (f : ℕ → ℕ) (new old n m : ℕ) → Shifts f new old (n + m) → Shifts f new old n
+shift_prefix f new old n m shifts x below = shifts x (omega (arith, below))
 
 shift_back : (f : ℕ → ℕ) (new old n m : ℕ) → Shifts f new old (n + m) → Shifts f (new + n) (old + n) m
 shift_back f new old n m shifts x below = ap f (omega arith) ∙ (shifts (n + x) (omega (arith, below)) ∙ omega arith)
@@ -80,7 +80,7 @@ mutual
   atoms_whole_among fl it no_trees g i new old shifts = refl
   atoms_whole_among fl it (tree first others) g i new old shifts =
       ap2 (λ (xs ys : List Atom). xs ++ ys)
-      (ap (map (enter (fl (suc g)) i)) (atoms_whole fl it first new old (shift_front fl (suc new) old (flow_count first) (flows_among_count others) shifts)) ∙ enter_whole fl it g i (atoms_of (suc new) first))
+      (ap (map (enter (fl (suc g)) i)) (atoms_whole fl it first new old (shift_prefix fl (suc new) old (flow_count first) (flows_among_count others) shifts)) ∙ enter_whole fl it g i (atoms_of (suc new) first))
       (atoms_whole_among fl it others g (suc i) (new + flow_count first) (old + flow_count first) (λ x below. ap fl (omega arith) ∙ shift_back fl (suc new) old (flow_count first) (flows_among_count others) shifts x below)
       ∙ ap (λ (n : ℕ). map (whole_atom fl it) (atoms_among (suc g) (suc i) n others)) (omega arith))
       ∙ sym (map_append (whole_atom fl it) (map (enter (suc g) i) (atoms_of (suc new) first)) (atoms_among (suc g) (suc i) (suc new + flow_count first) others))
@@ -93,7 +93,7 @@ items_whole : (fl at : ℕ → ℕ) (ts : Trees) (new old a b : ℕ) → Shifts 
 items_whole fl at no_trees new old a b flows atoms = refl
 items_whole fl at (tree first others) new old a b flows atoms =
     ap2 (λ (x : Item) (xs : List Item). x ∷ xs)
-    (item_whole fl at first new old a b (shift_front fl new old (flow_count first) (flows_among_count others) flows) (shift_front at a b (atom_count first) (atoms_among_count others) atoms))
+    (item_whole fl at first new old a b (shift_prefix fl new old (flow_count first) (flows_among_count others) flows) (shift_prefix at a b (atom_count first) (atoms_among_count others) atoms))
     (items_whole fl at others (new + flow_count first) (old + flow_count first) (a + atom_count first) (b + atom_count first)
     (shift_back fl new old (flow_count first) (flows_among_count others) flows) (shift_back at a b (atom_count first) (atoms_among_count others) atoms))
 
@@ -124,7 +124,7 @@ mutual
   flows_whole_among fl at no_trees new old a b flows atoms = refl
   flows_whole_among fl at (tree first others) new old a b flows atoms =
       ap2 (λ (xs ys : List FlowPlace). xs ++ ys)
-      (flows_whole fl at first new old a b (shift_front fl new old (flow_count first) (flows_among_count others) flows) (shift_front at a b (atom_count first) (atoms_among_count others) atoms))
+      (flows_whole fl at first new old a b (shift_prefix fl new old (flow_count first) (flows_among_count others) flows) (shift_prefix at a b (atom_count first) (atoms_among_count others) atoms))
       (flows_whole_among fl at others (new + flow_count first) (old + flow_count first) (a + atom_count first) (b + atom_count first)
       (shift_back fl new old (flow_count first) (flows_among_count others) flows) (shift_back at a b (atom_count first) (atoms_among_count others) atoms))
       ∙ sym (map_append (whole_place fl at) (flows_of new a first) (flows_among (new + flow_count first) (a + atom_count first) others))
@@ -137,7 +137,7 @@ Between low high (x ∷ xs) = (low ≤ x.flow) × (x.flow < high) × Between low
 
 abbrev pub AllBetween : ℕ → ℕ → List Atom → Type 0
 AllBetween low high [] = Unit {0}
-AllBetween low high (x ∷ xs) = Between low high x.way × AllBetween low high xs
+AllBetween low high (x ∷ xs) = Between low high x.path × AllBetween low high xs
 
 between_wider : (low high less more : ℕ) (w : List Turn) → less ≤ low → high ≤ more → Between low high w → Between less more w
 between_wider low high less more [] a b each = tt
@@ -145,7 +145,7 @@ between_wider low high less more (x ∷ xs) a b each = (omega (arith, a, each.0)
 
 all_wider : (low high less more : ℕ) (xs : List Atom) → less ≤ low → high ≤ more → AllBetween low high xs → AllBetween less more xs
 all_wider low high less more [] a b each = tt
-all_wider low high less more (x ∷ xs) a b each = (between_wider low high less more x.way a b each.0, all_wider low high less more xs a b each.1)
+all_wider low high less more (x ∷ xs) a b each = (between_wider low high less more x.path a b each.0, all_wider low high less more xs a b each.1)
 
 all_both : (low high : ℕ) (xs ys : List Atom) → AllBetween low high xs → AllBetween low high ys → AllBetween low high (xs ++ ys)
 all_both low high [] ys first second = second
@@ -175,15 +175,15 @@ mutual
 
 -- ---- atoms that are kept, and those that are left out
 
--- the way leads through no item of the whole that is kept
+-- the path leads through no item of the whole that is kept
 abbrev pub Avoids : (fl it : ℕ → ℕ) → List Turn → Type 0
-Avoids fl it way = (g : ℕ) (o : Option ℕ) → passes_item (fl g) (item_in it g o) way ≡ false
+Avoids fl it path = (g : ℕ) (o : Option ℕ) → passes_item (fl g) (item_in it g o) path ≡ false
 
 -- the atoms from one number on of what is kept are those of the whole from another on, of which some are left out
 pub data AtomsMoved (fl at it : ℕ → ℕ) : ℕ → ℕ → List Atom → List Atom → Type 0 where
   all_moved : (a b : ℕ) → AtomsMoved fl at it a b [] []
   atom_kept : (a b : ℕ) (x : Atom) (y : Atom) (xs ys : List Atom) → at a ≡ b → y ≡ whole_atom fl it x → AtomsMoved fl at it (suc a) (suc b) xs ys → AtomsMoved fl at it a b (x ∷ xs) (y ∷ ys)
-  atom_left : (a b : ℕ) (y : Atom) (xs ys : List Atom) → Avoids fl it y.way → AtomsMoved fl at it a (suc b) xs ys → AtomsMoved fl at it a b xs (y ∷ ys)
+  atom_left : (a b : ℕ) (y : Atom) (xs ys : List Atom) → Avoids fl it y.path → AtomsMoved fl at it a (suc b) xs ys → AtomsMoved fl at it a b xs (y ∷ ys)
 
 -- several that are kept before the others
 pub kept_before : (fl at it : ℕ → ℕ) (xs : List Atom) (a b : ℕ) (left whole : List Atom) → Shifts at a b (length xs) → AtomsMoved fl at it (a + length xs) (b + length xs) left whole
@@ -197,7 +197,7 @@ kept_before fl at it (x ∷ xs) a b left whole shifts rest =
 -- several that are left out before the others
 abbrev AllAvoid : (fl it : ℕ → ℕ) → List Atom → Type 0
 AllAvoid fl it [] = Unit {0}
-AllAvoid fl it (x ∷ xs) = Avoids fl it x.way × AllAvoid fl it xs
+AllAvoid fl it (x ∷ xs) = Avoids fl it x.path × AllAvoid fl it xs
 
 pub left_before : (fl at it : ℕ → ℕ) (ys : List Atom) (a b : ℕ) (left whole : List Atom) → AllAvoid fl it ys → AtomsMoved fl at it a (b + length ys) left whole → AtomsMoved fl at it a b left (ys ++ whole)
 left_before fl at it [] a b left whole each rest = subst (λ (n : ℕ). AtomsMoved fl at it a n left whole) (omega arith) rest
@@ -205,7 +205,7 @@ left_before fl at it (y ∷ ys) a b left whole each rest =
     atom_left a b y left (ys ++ whole) each.0
     (left_before fl at it ys a (suc b) left whole each.1 (subst (λ (n : ℕ). AtomsMoved fl at it a n left whole) (omega arith) rest))
 
--- a way through flows of which none is kept
+-- a path through flows of which none is kept
 avoids_between : (fl it : ℕ → ℕ) (low high : ℕ) (w : List Turn) → ((g : ℕ) → (fl g < low) ⊎ (high ≤ fl g)) → Between low high w → (g : ℕ) (o : Option ℕ) → passes_item (fl g) (item_in it g o) w ≡ false
 avoids_between fl it low high [] apart each g o = refl
 avoids_between fl it low high (x ∷ xs) apart each g o =
@@ -221,7 +221,7 @@ avoids_between fl it low high (x ∷ xs) apart each g o =
 pub entered_avoid : (fl it : ℕ → ℕ) (low high i : ℕ) (xs : List Atom) → fl 0 ≡ 0 → ((g : ℕ) → 0 < g → 0 < fl g) → ((v : ℕ) → it v ≢ i) → ((g : ℕ) → (fl g < low) ⊎ (high ≤ fl g)) → AllBetween low high xs → AllAvoid fl it (map (enter 0 i) xs)
 entered_avoid fl it low high i [] root nested other apart each = tt
 entered_avoid fl it low high i (x ∷ xs) root nested other apart each = (
-  (λ g o. neither (takes_item (fl g) (item_in it g o) record { flow = 0; item = Some i }) (passes_item (fl g) (item_in it g o) x.way) (first g o) (avoids_between fl it low high x.way apart each.0 g o)),
+  (λ g o. neither (takes_item (fl g) (item_in it g o) record { flow = 0; item = Some i }) (passes_item (fl g) (item_in it g o) x.path) (first g o) (avoids_between fl it low high x.path apart each.0 g o)),
   entered_avoid fl it low high i xs root nested other apart each.1,
 )
   where

@@ -22,9 +22,9 @@ pub within_nothing : {X : Type 0} (ys : List X) → Within [] ys
 within_nothing [] = none_left
 within_nothing (y ∷ ys) = left_out y [] ys (within_nothing ys)
 
-pub within_front : {X : Type 0} (zs xs ys : List X) → Within xs ys → Within (zs ++ xs) (zs ++ ys)
-within_front [] xs ys within = within
-within_front (z ∷ zs) xs ys within = left_in z (zs ++ xs) (zs ++ ys) (within_front zs xs ys within)
+pub within_prefix : {X : Type 0} (zs xs ys : List X) → Within xs ys → Within (zs ++ xs) (zs ++ ys)
+within_prefix [] xs ys within = within
+within_prefix (z ∷ zs) xs ys within = left_in z (zs ++ xs) (zs ++ ys) (within_prefix zs xs ys within)
 
 pub within_behind : {X : Type 0} (zs xs ys : List X) → Within xs ys → Within xs (zs ++ ys)
 within_behind [] xs ys within = within

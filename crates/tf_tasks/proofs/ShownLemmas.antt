@@ -26,6 +26,6 @@ below_is_text a b a_fits b_fits =
     let second = length_signed_le 19 b (omega (arith, b_fits.sfits)) b_fits.sfits in
     let bytes = signed_decimal a ++ codes " below " ++ signed_decimal b in
     let whole = length-append (signed_decimal a ++ codes " below ") (signed_decimal b) in
-    let front = length-append (signed_decimal a) (codes " below ") in
+    let prefix = length-append (signed_decimal a) (codes " below ") in
     let short : length bytes ≤ 65536 = omega arith in
     short_utf8 bytes short (IsUtf8-from_ascii bytes (IsAscii-append (signed_decimal a ++ codes " below ") (signed_decimal b) (IsAscii-append (signed_decimal a) (codes " below ") (IsAscii-signed a a_fits.sfits) below_ascii) (IsAscii-signed b b_fits.sfits)))

@@ -18,37 +18,37 @@ bytes-take n bytes fits i =
     ]
 
 -- the front of the bytes, so many of them, and the rest
-pub record IsCut (size : ℕ) (bytes front rest : List ℕ) : Type 0 where
-  pub whole : front ++ rest ≡ bytes
-  pub sized : length front ≡ size
-  pub fits : IsBytes front
+pub record IsCut (size : ℕ) (bytes prefix rest : List ℕ) : Type 0 where
+  pub whole : prefix ++ rest ≡ bytes
+  pub sized : length prefix ≡ size
+  pub fits : IsBytes prefix
 
-pub cut : (size : ℕ) (bytes front rest : List ℕ) → IsBytes bytes → front ≡ take size bytes → rest ≡ drop size bytes → length rest + size ≡ length bytes → IsCut size bytes front rest
-cut size bytes front rest fits front_is rest_is lens = record {
+pub cut : (size : ℕ) (bytes prefix rest : List ℕ) → IsBytes bytes → prefix ≡ take size bytes → rest ≡ drop size bytes → length rest + size ≡ length bytes → IsCut size bytes prefix rest
+cut size bytes prefix rest fits front_is rest_is lens = record {
   whole = rw (front_is, rest_is) (take-append-drop size bytes);
   sized = rw front_is (omega (arith, length-take size bytes));
   fits = rw front_is (bytes-take size bytes fits);
 }
 
-pub front_2 : (bytes front rest : List ℕ) (n : ℕ) → IsCut 2 bytes front rest → n ≡ from_be_bytes w16 front → (n < 2 ^ 16) × (bytes ≡ to_be_bytes w16 n ++ rest)
-front_2 bytes front rest n is n_is =
+pub front_2 : (bytes prefix rest : List ℕ) (n : ℕ) → IsCut 2 bytes prefix rest → n ≡ from_be_bytes w16 prefix → (n < 2 ^ 16) × (bytes ≡ to_be_bytes w16 n ++ rest)
+front_2 bytes prefix rest n is n_is =
     let fits = is.fits in
     let below : n < 2 ^ 16 = omega (arith, n_is, fits 0, fits 1) in
-    (below, sym is.whole ∙ ap (λ (form : List ℕ). form ++ rest) (sym (be_bytes_2 front n is.sized fits n_is)))
+    (below, sym is.whole ∙ ap (λ (form : List ℕ). form ++ rest) (sym (be_bytes_2 prefix n is.sized fits n_is)))
 
-pub front_4 : (bytes front rest : List ℕ) (n : ℕ) → IsCut 4 bytes front rest → n ≡ from_be_bytes w32 front → (n < 2 ^ 32) × (bytes ≡ to_be_bytes w32 n ++ rest)
-front_4 bytes front rest n is n_is =
+pub front_4 : (bytes prefix rest : List ℕ) (n : ℕ) → IsCut 4 bytes prefix rest → n ≡ from_be_bytes w32 prefix → (n < 2 ^ 32) × (bytes ≡ to_be_bytes w32 n ++ rest)
+front_4 bytes prefix rest n is n_is =
     let fits = is.fits in
     let below : n < 2 ^ 32 = omega (arith, n_is, fits 0, fits 1, fits 2, fits 3) in
-    (below, sym is.whole ∙ ap (λ (form : List ℕ). form ++ rest) (sym (be_bytes_4 front n is.sized fits n_is)))
+    (below, sym is.whole ∙ ap (λ (form : List ℕ). form ++ rest) (sym (be_bytes_4 prefix n is.sized fits n_is)))
 
 abbrev SignedFront : List ℕ → List ℕ → ℤ → Type 0
 SignedFront bytes rest z = FitsSigned w64 z × (bytes ≡ to_be_bytes w64 (cast_unsigned w64 z) ++ rest)
 
-pub front_8 : (bytes front rest : List ℕ) (z : ℤ) → IsCut 8 bytes front rest → FitsSigned w64 z → z ≡ cast_signed w64 (from_be_bytes w64 front) → SignedFront bytes rest (cast_signed w64 (cast_unsigned w64 z))
-front_8 bytes front rest z is signed z_is =
+pub front_8 : (bytes prefix rest : List ℕ) (z : ℤ) → IsCut 8 bytes prefix rest → FitsSigned w64 z → z ≡ cast_signed w64 (from_be_bytes w64 prefix) → SignedFront bytes rest (cast_signed w64 (cast_unsigned w64 z))
+front_8 bytes prefix rest z is signed z_is =
     let fits = is.fits in
-    let below : from_be_bytes w64 front < 2 ^ 64 = omega (arith, fits 0, fits 1, fits 2, fits 3, fits 4, fits 5, fits 6, fits 7) in
-    let unsigned : cast_unsigned w64 z ≡ from_be_bytes w64 front = ap (cast_unsigned w64) z_is ∙ of_z-to_z w64 (from_be_bytes w64 front) below in
-    let found : SignedFront bytes rest z = (signed, sym is.whole ∙ ap (λ (form : List ℕ). form ++ rest) (sym (be_bytes_8 front (cast_unsigned w64 z) is.sized fits unsigned))) in
+    let below : from_be_bytes w64 prefix < 2 ^ 64 = omega (arith, fits 0, fits 1, fits 2, fits 3, fits 4, fits 5, fits 6, fits 7) in
+    let unsigned : cast_unsigned w64 z ≡ from_be_bytes w64 prefix = ap (cast_unsigned w64) z_is ∙ of_z-to_z w64 (from_be_bytes w64 prefix) below in
+    let found : SignedFront bytes rest z = (signed, sym is.whole ∙ ap (λ (form : List ℕ). form ++ rest) (sym (be_bytes_8 prefix (cast_unsigned w64 z) is.sized fits unsigned))) in
     subst (SignedFront bytes rest) (sym (to_z-of_z w64 z signed)) found

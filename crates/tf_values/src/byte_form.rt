@@ -5,7 +5,7 @@ ghost use Rattle.tf_values.specs.ByteForm.{scalar_bytes, list_bytes, text_bytes}
 ghost use Rattle.tf_values.specs.Scalars.{are_scalars};
 ghost use Rattle.tf_values.specs.Text.{is_text};
 ghost use Rattle.tf_values.specs.Value.{byte_form, IsValue};
-ghost use Rattle.tf_values.specs.Growth.{KeepsFront};
+ghost use Rattle.tf_values.specs.Growth.{KeepsPrefix};
 
 use crate::elements::{Scalar, forms_len};
 use crate::faults::Memory;
@@ -51,7 +51,7 @@ impl Val {
 #[tactic(auto, using(crate::proofs::GrowthLemmas::keeps_shorter))]
 fn append_value(value: &Val, out: &mut Vec<u8>) -> Result<(), AllocError>
     ensures ok { OnOk result (out.new.items ≡ out.old.items ++ byte_form value.now) }
-    ensures err { OnErr result (KeepsFront out.old.items out.new.items) }
+    ensures err { OnErr result (KeepsPrefix out.old.items out.new.items) }
     ensures full { OnErr result (vec_capacity out.old < length out.old.items + length (byte_form value.now)) }
     ensures capacity { vec_capacity out.old ≤ vec_capacity out.new }
     ensures value { IsValue value.now }
@@ -69,7 +69,7 @@ fn append_value(value: &Val, out: &mut Vec<u8>) -> Result<(), AllocError>
 fn append_list(scalars: &[Scalar], out: &mut Vec<u8>) -> Result<(), AllocError>
     requires { are_scalars scalars.now ≡ true }
     ensures ok { OnOk result (out.new.items ≡ out.old.items ++ list_bytes scalars.now) }
-    ensures err { OnErr result (KeepsFront out.old.items out.new.items) }
+    ensures err { OnErr result (KeepsPrefix out.old.items out.new.items) }
     ensures full { OnErr result (vec_capacity out.old < length out.old.items + length (list_bytes scalars.now)) }
     ensures capacity { vec_capacity out.old ≤ vec_capacity out.new }
 {
@@ -82,7 +82,7 @@ fn append_list(scalars: &[Scalar], out: &mut Vec<u8>) -> Result<(), AllocError>
 #[tactic(auto, using(crate::proofs::GrowthLemmas::keeps_shorter))]
 fn append_scalars(scalars: &[Scalar], out: &mut Vec<u8>) -> Result<(), AllocError>
     ensures ok { OnOk result (out.new.items ≡ out.old.items ++ flat_map scalar_bytes scalars.now) }
-    ensures err { OnErr result (KeepsFront out.old.items out.new.items) }
+    ensures err { OnErr result (KeepsPrefix out.old.items out.new.items) }
     ensures full { OnErr result (vec_capacity out.old
         < length out.old.items + length (flat_map scalar_bytes scalars.now)) }
     ensures capacity { vec_capacity out.old ≤ vec_capacity out.new }
@@ -96,7 +96,7 @@ fn append_scalars(scalars: &[Scalar], out: &mut Vec<u8>) -> Result<(), AllocErro
 #[tactic(auto, using(crate::proofs::GrowthLemmas::keeps_shorter))]
 fn append_scalar(scalar: &Scalar, out: &mut Vec<u8>) -> Result<(), AllocError>
     ensures ok { OnOk result (out.new.items ≡ out.old.items ++ scalar_bytes scalar.now) }
-    ensures err { OnErr result (KeepsFront out.old.items out.new.items) }
+    ensures err { OnErr result (KeepsPrefix out.old.items out.new.items) }
     ensures full { OnErr result (vec_capacity out.old < length out.old.items + length (scalar_bytes scalar.now)) }
     ensures capacity { vec_capacity out.old ≤ vec_capacity out.new }
 {
@@ -112,7 +112,7 @@ fn append_scalar(scalar: &Scalar, out: &mut Vec<u8>) -> Result<(), AllocError>
 fn append_int(number: i64, out: &mut Vec<u8>) -> Result<(), AllocError>
     ensures ok { OnOk result (out.new.items
         ≡ out.old.items ++ 3 ∷ to_be_bytes w64 (cast_unsigned w64 number)) }
-    ensures err { OnErr result (KeepsFront out.old.items out.new.items) }
+    ensures err { OnErr result (KeepsPrefix out.old.items out.new.items) }
     ensures full { OnErr result (vec_capacity out.old < length out.old.items + 9) }
     ensures capacity { vec_capacity out.old ≤ vec_capacity out.new }
 {
@@ -124,7 +124,7 @@ fn append_int(number: i64, out: &mut Vec<u8>) -> Result<(), AllocError>
 fn append_text(text: &[u8], out: &mut Vec<u8>) -> Result<(), AllocError>
     requires { is_text text.now ≡ true }
     ensures ok { OnOk result (out.new.items ≡ out.old.items ++ 4 ∷ text_bytes text.now) }
-    ensures err { OnErr result (KeepsFront out.old.items out.new.items) }
+    ensures err { OnErr result (KeepsPrefix out.old.items out.new.items) }
     ensures full { OnErr result (vec_capacity out.old < length out.old.items + (5 + length text.now)) }
     ensures capacity { vec_capacity out.old ≤ vec_capacity out.new }
 {

@@ -146,8 +146,8 @@ fn int_at(bytes: &[u8]) -> Option<(i64, &[u8])>
     ensures { MatchOption result (length bytes.now < 8) (λ read. FitsSigned w64 read.0
         × (bytes.now ≡ to_be_bytes w64 (cast_unsigned w64 read.0) ++ read.1.now)) }
 {
-    let (front, rest) = bytes.split_first_chunk::<8>()?;
-    Some((i64::from_be_bytes(*front), rest))
+    let (prefix, rest) = bytes.split_first_chunk::<8>()?;
+    Some((i64::from_be_bytes(*prefix), rest))
 }
 
 /// The length at the front.
@@ -155,8 +155,8 @@ fn len_at(bytes: &[u8]) -> Option<(u32, &[u8])>
     ensures { MatchOption result (length bytes.now < 4) (λ read. (read.0 < 2 ^ 32)
         × (bytes.now ≡ to_be_bytes w32 read.0 ++ read.1.now)) }
 {
-    let (front, rest) = bytes.split_first_chunk::<4>()?;
-    Some((u32::from_be_bytes(*front), rest))
+    let (prefix, rest) = bytes.split_first_chunk::<4>()?;
+    Some((u32::from_be_bytes(*prefix), rest))
 }
 
 /// The number at the front of how many scalars follow.
@@ -164,6 +164,6 @@ fn count_at(bytes: &[u8]) -> Option<(u16, &[u8])>
     ensures { MatchOption result (length bytes.now < 2) (λ read. (read.0 < 2 ^ 16)
         × (bytes.now ≡ to_be_bytes w16 read.0 ++ read.1.now)) }
 {
-    let (front, rest) = bytes.split_first_chunk::<2>()?;
-    Some((u16::from_be_bytes(*front), rest))
+    let (prefix, rest) = bytes.split_first_chunk::<2>()?;
+    Some((u16::from_be_bytes(*prefix), rest))
 }

@@ -3,7 +3,7 @@ ghost use Rattle.std.specs.Fmt.{signed_decimal};
 ghost use Rattle.std.specs.List.{flat_map};
 ghost use Rattle.tf_values.specs.TextForm.{hexadecimal, quoted_byte, quoted, truth_text, scalar_text, further_text, scalars_text, text_form};
 ghost use Rattle.tf_values.specs.Value.{IsValue};
-ghost use Rattle.tf_values.specs.Growth.{KeepsFront};
+ghost use Rattle.tf_values.specs.Growth.{KeepsPrefix};
 
 use crate::elements::Scalar;
 use crate::faults::Memory;
@@ -68,7 +68,7 @@ pub fn quote(bytes: &[u8], out: &mut Vec<u8>) -> Result<(), Memory>
 #[tactic(auto, using(crate::proofs::GrowthLemmas::keeps_shorter))]
 fn append_value(value: &Val, out: &mut Vec<u8>) -> Result<(), AllocError>
     ensures ok { OnOk result (out.new.items ≡ out.old.items ++ text_form value.now) }
-    ensures err { OnErr result (KeepsFront out.old.items out.new.items) }
+    ensures err { OnErr result (KeepsPrefix out.old.items out.new.items) }
     ensures full { OnErr result (vec_capacity out.old < length out.old.items + length (text_form value.now)) }
     ensures capacity { vec_capacity out.old ≤ vec_capacity out.new }
     ensures value { IsValue value.now }
@@ -85,7 +85,7 @@ fn append_value(value: &Val, out: &mut Vec<u8>) -> Result<(), AllocError>
 #[tactic(auto, using(crate::proofs::GrowthLemmas::keeps_shorter))]
 fn append_list(scalars: &[Scalar], out: &mut Vec<u8>) -> Result<(), AllocError>
     ensures ok { OnOk result (out.new.items ≡ out.old.items ++ 91 ∷ scalars_text scalars.now ++ 93 ∷ []) }
-    ensures err { OnErr result (KeepsFront out.old.items out.new.items) }
+    ensures err { OnErr result (KeepsPrefix out.old.items out.new.items) }
     ensures full { OnErr result (vec_capacity out.old
         < length out.old.items + (2 + length (scalars_text scalars.now))) }
     ensures capacity { vec_capacity out.old ≤ vec_capacity out.new }
@@ -98,7 +98,7 @@ fn append_list(scalars: &[Scalar], out: &mut Vec<u8>) -> Result<(), AllocError>
 #[tactic(auto, using(crate::proofs::GrowthLemmas::keeps_shorter))]
 fn append_scalars(scalars: &[Scalar], out: &mut Vec<u8>) -> Result<(), AllocError>
     ensures ok { OnOk result (out.new.items ≡ out.old.items ++ scalars_text scalars.now) }
-    ensures err { OnErr result (KeepsFront out.old.items out.new.items) }
+    ensures err { OnErr result (KeepsPrefix out.old.items out.new.items) }
     ensures full { OnErr result (vec_capacity out.old < length out.old.items + length (scalars_text scalars.now)) }
     ensures capacity { vec_capacity out.old ≤ vec_capacity out.new }
 {
@@ -115,7 +115,7 @@ fn append_scalars(scalars: &[Scalar], out: &mut Vec<u8>) -> Result<(), AllocErro
 #[tactic(auto, using(crate::proofs::GrowthLemmas::keeps_shorter))]
 fn append_further(scalar: &Scalar, out: &mut Vec<u8>) -> Result<(), AllocError>
     ensures ok { OnOk result (out.new.items ≡ out.old.items ++ further_text scalar.now) }
-    ensures err { OnErr result (KeepsFront out.old.items out.new.items) }
+    ensures err { OnErr result (KeepsPrefix out.old.items out.new.items) }
     ensures full { OnErr result (vec_capacity out.old < length out.old.items + length (further_text scalar.now)) }
     ensures capacity { vec_capacity out.old ≤ vec_capacity out.new }
 {
@@ -126,7 +126,7 @@ fn append_further(scalar: &Scalar, out: &mut Vec<u8>) -> Result<(), AllocError>
 #[tactic(auto, using(crate::proofs::GrowthLemmas::keeps_shorter))]
 fn append_scalar(scalar: &Scalar, out: &mut Vec<u8>) -> Result<(), AllocError>
     ensures ok { OnOk result (out.new.items ≡ out.old.items ++ scalar_text scalar.now) }
-    ensures err { OnErr result (KeepsFront out.old.items out.new.items) }
+    ensures err { OnErr result (KeepsPrefix out.old.items out.new.items) }
     ensures full { OnErr result (vec_capacity out.old < length out.old.items + length (scalar_text scalar.now)) }
     ensures capacity { vec_capacity out.old ≤ vec_capacity out.new }
 {
@@ -141,7 +141,7 @@ fn append_scalar(scalar: &Scalar, out: &mut Vec<u8>) -> Result<(), AllocError>
 #[tactic(auto, using(crate::proofs::GrowthLemmas::keeps_shorter))]
 fn append_truth(truth: bool, out: &mut Vec<u8>) -> Result<(), AllocError>
     ensures ok { OnOk result (out.new.items ≡ out.old.items ++ truth_text truth) }
-    ensures err { OnErr result (KeepsFront out.old.items out.new.items) }
+    ensures err { OnErr result (KeepsPrefix out.old.items out.new.items) }
     ensures full { OnErr result (vec_capacity out.old < length out.old.items + length (truth_text truth)) }
     ensures capacity { vec_capacity out.old ≤ vec_capacity out.new }
 {
@@ -155,7 +155,7 @@ fn append_truth(truth: bool, out: &mut Vec<u8>) -> Result<(), AllocError>
 #[tactic(auto, using(crate::proofs::GrowthLemmas::keeps_shorter))]
 fn append_int(number: i64, out: &mut Vec<u8>) -> Result<(), AllocError>
     ensures ok { OnOk result (out.new.items ≡ out.old.items ++ signed_decimal number) }
-    ensures err { OnErr result (KeepsFront out.old.items out.new.items) }
+    ensures err { OnErr result (KeepsPrefix out.old.items out.new.items) }
     ensures full { OnErr result (vec_capacity out.old < length out.old.items + length (signed_decimal number)) }
     ensures capacity { vec_capacity out.old ≤ vec_capacity out.new }
 {
@@ -166,7 +166,7 @@ fn append_int(number: i64, out: &mut Vec<u8>) -> Result<(), AllocError>
 #[tactic(auto, using(crate::proofs::GrowthLemmas::keeps_shorter))]
 fn append_quoted(text: &[u8], out: &mut Vec<u8>) -> Result<(), AllocError>
     ensures ok { OnOk result (out.new.items ≡ out.old.items ++ quoted text.now) }
-    ensures err { OnErr result (KeepsFront out.old.items out.new.items) }
+    ensures err { OnErr result (KeepsPrefix out.old.items out.new.items) }
     ensures full { OnErr result (vec_capacity out.old < length out.old.items + length (quoted text.now)) }
     ensures capacity { vec_capacity out.old ≤ vec_capacity out.new }
 {
@@ -178,7 +178,7 @@ fn append_quoted(text: &[u8], out: &mut Vec<u8>) -> Result<(), AllocError>
 #[tactic(auto, using(crate::proofs::GrowthLemmas::keeps_shorter))]
 fn append_quoted_bytes(text: &[u8], out: &mut Vec<u8>) -> Result<(), AllocError>
     ensures ok { OnOk result (out.new.items ≡ out.old.items ++ flat_map quoted_byte text.now) }
-    ensures err { OnErr result (KeepsFront out.old.items out.new.items) }
+    ensures err { OnErr result (KeepsPrefix out.old.items out.new.items) }
     ensures full { OnErr result (vec_capacity out.old < length out.old.items + length (flat_map quoted_byte text.now)) }
     ensures capacity { vec_capacity out.old ≤ vec_capacity out.new }
 {
@@ -191,7 +191,7 @@ fn append_quoted_bytes(text: &[u8], out: &mut Vec<u8>) -> Result<(), AllocError>
 #[tactic(auto, using(crate::proofs::GrowthLemmas::keeps_shorter))]
 fn append_quoted_byte(byte: u8, out: &mut Vec<u8>) -> Result<(), AllocError>
     ensures ok { OnOk result (out.new.items ≡ out.old.items ++ quoted_byte byte) }
-    ensures err { OnErr result (KeepsFront out.old.items out.new.items) }
+    ensures err { OnErr result (KeepsPrefix out.old.items out.new.items) }
     ensures full { OnErr result (vec_capacity out.old < length out.old.items + length (quoted_byte byte)) }
     ensures capacity { vec_capacity out.old ≤ vec_capacity out.new }
 {

@@ -1,7 +1,7 @@
 -- How far the answer to a frame came.
 use Rattle.std.proofs.Common.{◌≡◌, ◌≢◌, ℕ, List, [], ◌∷◌, Option, refl, ap, ◌∙◌, subst, arith}
 use Rattle.tf_desk.specs.Counts.{Rises}
-use Rattle.tf_ports.specs.Links.{sent_with, SendsFront}
+use Rattle.tf_ports.specs.Links.{sent_with, SendsPrefix}
 use Rattle.tf_actions.specs.Told.{told_with}
 use Rattle.tf_actions.specs.declared.orders.Order.{Order}
 use Rattle.tf_actions.specs.declared.outcomes.Outcome.{Outcome}
@@ -12,7 +12,7 @@ use Rattle.tf_workers.specs.Progress.{TakesNothing, HasComeTo, StopsFor}
 use Rattle.tf_workers.specs.Progress.HasComeTo.{performed}
 use Rattle.tf_workers.specs.declared.answering.Stop.{Stop}
 use Rattle.tf_workers.specs.declared.answering.Stop.TheVariants as stop
-use Rattle.tf_workers.proofs.ListLemmas.{front_more}
+use Rattle.tf_workers.proofs.ListLemmas.{prefix_more_sent}
 
 -- some way was gone, and then the link failed or memory ran out
 pub stopped : (gives : Order → Outcome → Type 0) (frame : List ℕ) (before now : Seen) (why : Stop) → TakesNothing before now → HasComeTo gives frame before now → why ≢ stop.Bad → (why ≡ stop.Lost → Rises before.faults now.faults) → StopsFor gives frame before now why
@@ -31,8 +31,8 @@ given_for gives order exchange is given = subst (λ (asked : Order). gives asked
 pub done_for : (before now : Option (List Order)) (order : Order) (exchange : Exchange) → order ≡ order_asked exchange → now ≡ told_with before order → now ≡ did_with before (order_asked exchange ∷ [])
 done_for before now order exchange is done = done ∙ ap (λ (asked : Order). did_with before (asked ∷ [])) is
 
--- the order was performed, and a front of its outcome was said
-pub said_front : (gives : Order → Outcome → Type 0) (frame : List ℕ) (before now : Seen) (exchange : Exchange) (between : Option (List ℕ)) → AreRequest frame exchange.request → MayBeGiven gives exchange
-    → now.did ≡ did_with before.did (order_asked exchange ∷ []) → between ≡ sent_with before.sent (running exchange.request) → SendsFront between (spoken (told exchange.request.id exchange.outcome)) now.sent → HasComeTo gives frame before now
-said_front gives frame before now exchange between read gave did first second =
-    performed exchange read gave did (front_more before.sent between now.sent (running exchange.request) (spoken (told exchange.request.id exchange.outcome)) first second)
+-- the order was performed, and a prefix of its outcome was said
+pub said_prefix : (gives : Order → Outcome → Type 0) (frame : List ℕ) (before now : Seen) (exchange : Exchange) (between : Option (List ℕ)) → AreRequest frame exchange.request → MayBeGiven gives exchange
+    → now.did ≡ did_with before.did (order_asked exchange ∷ []) → between ≡ sent_with before.sent (running exchange.request) → SendsPrefix between (spoken (told exchange.request.id exchange.outcome)) now.sent → HasComeTo gives frame before now
+said_prefix gives frame before now exchange between read gave did first second =
+    performed exchange read gave did (prefix_more_sent before.sent between now.sent (running exchange.request) (spoken (told exchange.request.id exchange.outcome)) first second)

@@ -4,7 +4,7 @@ use Rattle.std.specs.List.{AllByRecursion}
 use Rattle.std.proofs.lemmas.Grind.{flat_map-append}
 use Rattle.std.proofs.lemmas.List.{take_all}
 use Rattle.std.proofs.Math.Seq.{take-append-add}
-use Rattle.tf_ports.specs.Links.{sent_with, left_before, SendsFront}
+use Rattle.tf_ports.specs.Links.{sent_with, left_before, SendsPrefix}
 use Rattle.tf_actions.specs.declared.orders.Order.{Order}
 use Rattle.tf_wire.specs.Messages.{response_data, frame_of}
 use Rattle.tf_wire.specs.Reading.{AreRequest}
@@ -13,9 +13,9 @@ use Rattle.tf_wire.specs.declared.messages.Response.{Response}
 use Rattle.tf_workers.specs.Dialogue.{Exchange, order_asked, spoken, reply, dialogue}
 use Rattle.tf_workers.specs.Session.{did_with, AreRead}
 
-pub all_front : {A : Type 0} (P : A → Type 0) (xs ys : List A) → AllByRecursion P (xs ++ ys) → AllByRecursion P xs
-all_front P [] ys all = tt
-all_front P (x ∷ xs) ys all = (all.0, all_front P xs ys all.1)
+pub all_prefix : {A : Type 0} (P : A → Type 0) (xs ys : List A) → AllByRecursion P (xs ++ ys) → AllByRecursion P xs
+all_prefix P [] ys all = tt
+all_prefix P (x ∷ xs) ys all = (all.0, all_prefix P xs ys all.1)
 
 pub all_behind : {A : Type 0} (P : A → Type 0) (xs ys : List A) → AllByRecursion P (xs ++ ys) → AllByRecursion P ys
 all_behind P [] ys all = all
@@ -59,27 +59,27 @@ sent_on (Some bytes) first second = ap Some (append_assoc bytes first second)
 pub sent_more : (before now after : Option (List ℕ)) (first second : List ℕ) → now ≡ sent_with before first → after ≡ sent_with now second → after ≡ sent_with before (first ++ second)
 sent_more before now after first second is more = more ∙ ap (λ (sent : Option (List ℕ)). sent_with sent second) is ∙ sent_on before first second
 
--- some bytes, and then a front of others
-pub front_more : (before now after : Option (List ℕ)) (first second : List ℕ) → now ≡ sent_with before first → SendsFront now second after → SendsFront before (first ++ second) after
-front_more before now after first second is more = record {
+-- some bytes, and then a prefix of others
+pub prefix_more_sent : (before now after : Option (List ℕ)) (first second : List ℕ) → now ≡ sent_with before first → SendsPrefix now second after → SendsPrefix before (first ++ second) after
+prefix_more_sent before now after first second is more = record {
   count = length first + more.count;
-  front = sent_more before now after first (take more.count second) is more.front ∙ ap (sent_with before) (sym (take-append-add first second more.count));
+  prefix = sent_more before now after first (take more.count second) is more.prefix ∙ ap (sent_with before) (sym (take-append-add first second more.count));
 }
 
--- all of the bytes are a front of them
-pub whole_front : (before after : Option (List ℕ)) (bytes : List ℕ) → after ≡ sent_with before bytes → SendsFront before bytes after
-whole_front before after bytes is = record {
+-- all of the bytes are a prefix of them
+pub whole_prefix : (before after : Option (List ℕ)) (bytes : List ℕ) → after ≡ sent_with before bytes → SendsPrefix before bytes after
+whole_prefix before after bytes is = record {
   count = length bytes;
-  front = is ∙ ap (sent_with before) (sym (take_all (length bytes) bytes (omega arith)));
+  prefix = is ∙ ap (sent_with before) (sym (take_all (length bytes) bytes (omega arith)));
 }
 
 sent_nothing : (sent : Option (List ℕ)) → sent ≡ sent_with sent []
 sent_nothing None = refl
 sent_nothing (Some bytes) = ap Some (sym (append-nil bytes))
 
--- nothing is a front of any bytes
-pub no_front : (before after : Option (List ℕ)) (bytes : List ℕ) → after ≡ before → SendsFront before bytes after
-no_front before after bytes same = record { count = 0; front = same ∙ sent_nothing before }
+-- nothing is a prefix of any bytes
+pub no_prefix : (before after : Option (List ℕ)) (bytes : List ℕ) → after ≡ before → SendsPrefix before bytes after
+no_prefix before after bytes same = record { count = 0; prefix = same ∙ sent_nothing before }
 
 came_on : (left : Option (List ℕ)) (first second : List ℕ) → left_before first (left_before second left) ≡ left_before (first ++ second) left
 came_on None first second = refl
@@ -108,4 +108,4 @@ sent_none sent = sent_nothing sent
 -- what is printed of a response is its frame
 pub printed : (answer : Response) (bytes out empty : List ℕ) → bytes ≡ out → out ≡ empty ++ frame_of (response_data answer) → empty ≡ [] → bytes ≡ spoken answer
 unfolding spoken
-printed answer bytes out empty same is none = same ∙ is ∙ ap (λ (front : List ℕ). front ++ frame_of (response_data answer)) none
+printed answer bytes out empty same is none = same ∙ is ∙ ap (λ (prefix : List ℕ). prefix ++ frame_of (response_data answer)) none

@@ -5,7 +5,7 @@ use Rattle.std.specs.Prelude.{MatchResult}
 use Rattle.std.proofs.lemmas.Grind.{flat_map-append}
 use Rattle.std.proofs.lemmas.List.{append_cancel_left}
 use Rattle.tf_desk.specs.Counts.{Rises}
-use Rattle.tf_ports.specs.Links.{sent_with, left_before, SendsFront}
+use Rattle.tf_ports.specs.Links.{sent_with, left_before, SendsPrefix}
 use Rattle.tf_actions.specs.declared.orders.Order.{Order}
 use Rattle.tf_actions.specs.declared.outcomes.Outcome.{Outcome}
 use Rattle.tf_wire.specs.Keeping.{KeptFrames, counted, KeepsStream, IsHere, IsPieceAnswer}
@@ -21,7 +21,7 @@ use Rattle.tf_workers.specs.declared.answering.Stop.TheVariants as stop
 use Rattle.tf_workers.specs.declared.incoming.Incoming.{Incoming}
 use Rattle.tf_workers.specs.declared.serving.ServeEnd.{ServeEnd}
 use Rattle.tf_workers.specs.declared.serving.ServeEnd.TheVariants as end
-use Rattle.tf_workers.proofs.ListLemmas.{all_front, all_behind, all_more, joined_more, dialogue_more, read_more, did_more, sent_more, front_more, whole_front, came_more, came_none, did_none, sent_none}
+use Rattle.tf_workers.proofs.ListLemmas.{all_prefix, all_behind, all_more, joined_more, dialogue_more, read_more, did_more, sent_more, prefix_more_sent, whole_prefix, came_more, came_none, did_none, sent_none}
 use Rattle.tf_wire.proofs.KeepingLemmas.{framed_length}
 use Rattle.tf_workers.proofs.ProgressLemmas.{rises_on, le_on, behind_of, cut_of, cut_rest, cut_bad, so_far_on, session_of}
 

@@ -5,7 +5,7 @@ use Rattle.std.specs.Prelude.{MatchResult}
 use Rattle.std.proofs.lemmas.Grind.{flat_map-append}
 use Rattle.std.proofs.lemmas.List.{append_cancel_left}
 use Rattle.tf_desk.specs.Counts.{Rises}
-use Rattle.tf_ports.specs.Links.{sent_with, left_before, SendsFront}
+use Rattle.tf_ports.specs.Links.{sent_with, left_before, SendsPrefix}
 use Rattle.tf_actions.specs.declared.orders.Order.{Order}
 use Rattle.tf_actions.specs.declared.outcomes.Outcome.{Outcome}
 use Rattle.tf_wire.specs.Keeping.{KeptFrames, counted, KeepsStream, IsHere, IsPieceAnswer}
@@ -21,7 +21,7 @@ use Rattle.tf_workers.specs.declared.answering.Stop.TheVariants as stop
 use Rattle.tf_workers.specs.declared.incoming.Incoming.{Incoming}
 use Rattle.tf_workers.specs.declared.serving.ServeEnd.{ServeEnd}
 use Rattle.tf_workers.specs.declared.serving.ServeEnd.TheVariants as end
-use Rattle.tf_workers.proofs.ListLemmas.{all_front, all_behind, all_more, joined_more, dialogue_more, read_more, did_more, sent_more, front_more, whole_front, came_more, came_none, did_none, sent_none}
+use Rattle.tf_workers.proofs.ListLemmas.{all_prefix, all_behind, all_more, joined_more, dialogue_more, read_more, did_more, sent_more, prefix_more_sent, whole_prefix, came_more, came_none, did_none, sent_none}
 use Rattle.tf_wire.proofs.KeepingLemmas.{framed_length}
 
 -- ---- counts
@@ -40,8 +40,8 @@ behind_of kept given taken keeps = joined kept.waiting ++ (kept.rest ++ keeps.dr
 
 pub cut_of : (kept : KeptFrames) (given : List ℕ) (taken : List (List ℕ)) (keeps : KeepsStream kept given taken) → SplitsInto given taken (behind_of kept given taken keeps)
 cut_of kept given taken keeps = record {
-  is = keeps.cut.is ∙ ap (λ (front : List ℕ). front ++ (kept.rest ++ keeps.dropped)) (flat_map-append framed taken kept.waiting) ∙ append_assoc (joined taken) (joined kept.waiting) (kept.rest ++ keeps.dropped);
-  are_frames = all_front IsFrame taken kept.waiting keeps.cut.are_frames;
+  is = keeps.cut.is ∙ ap (λ (prefix : List ℕ). prefix ++ (kept.rest ++ keeps.dropped)) (flat_map-append framed taken kept.waiting) ∙ append_assoc (joined taken) (joined kept.waiting) (kept.rest ++ keeps.dropped);
+  are_frames = all_prefix IsFrame taken kept.waiting keeps.cut.are_frames;
 }
 
 -- where no frame waits, and nothing was dropped
@@ -84,7 +84,7 @@ session_of gives before now given frames exchanges behind far cut = record {
   did = far.did;
   begun = None;
   is_begun = tt;
-  sent = whole_front before.sent now.sent (dialogue exchanges ++ []) (far.sent ∙ ap (sent_with before.sent) (sym (append-nil (dialogue exchanges))));
+  sent = whole_prefix before.sent now.sent (dialogue exchanges ++ []) (far.sent ∙ ap (sent_with before.sent) (sym (append-nil (dialogue exchanges))));
 }
 
 -- ---- a frame is taken
@@ -166,8 +166,8 @@ reached gives before now after new frame given taken exchanges far next keeps no
   gave = far.gave;
   did = did ∙ far.did;
   begun = Some request;
-  is_begun = record { frame = frame; behind = next.behind; is_frame = next.is_frame; front = refl; spells = spells };
-  sent = front_more before.sent now.sent after.sent (dialogue exchanges) (running request) far.sent sent;
+  is_begun = record { frame = frame; behind = next.behind; is_frame = next.is_frame; prefix = refl; spells = spells };
+  sent = prefix_more_sent before.sent now.sent after.sent (dialogue exchanges) (running request) far.sent sent;
 }
 reached gives before now after new frame given taken exchanges far next keeps none (performed exchange spells gave did sent) = record {
   given = given;
@@ -181,8 +181,8 @@ reached gives before now after new frame given taken exchanges far next keeps no
   did = did_more before.did now.did after.did exchanges exchange far.did did;
   begun = None;
   is_begun = tt;
-  sent = subst (λ (bytes : List ℕ). SendsFront before.sent bytes after.sent) (sym (append-nil (dialogue (exchanges ++ exchange ∷ [])) ∙ dialogue_more exchanges exchange))
-      (front_more before.sent now.sent after.sent (dialogue exchanges) (reply exchange) far.sent sent);
+  sent = subst (λ (bytes : List ℕ). SendsPrefix before.sent bytes after.sent) (sym (append-nil (dialogue (exchanges ++ exchange ∷ [])) ∙ dialogue_more exchanges exchange))
+      (prefix_more_sent before.sent now.sent after.sent (dialogue exchanges) (reply exchange) far.sent sent);
 }
 
 session_at : (gives : Order → Outcome → Type 0) (before now after : Seen) (old new : KeptFrames) (place : ℕ) (refused : Option ℕ) (frame : List ℕ)
@@ -217,7 +217,7 @@ stopped_bad gives before now after old new place refused frame taking why on =
       ends_as = (
         record { none_begun = refl; sent = far.sent },
         on.is_place,
-        inl record { frame = frame; behind = next.behind; is_frame = next.is_frame; front = refl; spells_none = why.1.spells_none },
+        inl record { frame = frame; behind = next.behind; is_frame = next.is_frame; prefix = refl; spells_none = why.1.spells_none },
       );
       faults = far.faults;
       ends = far.ends;

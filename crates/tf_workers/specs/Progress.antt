@@ -2,7 +2,7 @@
 use Rattle.std.specs.Prelude.{◌≡◌, ◌≢◌, ◌⊎◌, ℕ, ◌≤◌, List, [], ◌∷◌, ◌++◌, map, length, Option, Some, None}
 use Rattle.std.specs.List.{AllByRecursion}
 use Rattle.tf_desk.specs.Counts.{Rises}
-use Rattle.tf_ports.specs.Links.{sent_with, left_before, SendsFront, IsNothingLeft}
+use Rattle.tf_ports.specs.Links.{sent_with, left_before, SendsPrefix, IsNothingLeft}
 use Rattle.tf_actions.specs.declared.orders.Order.{Order}
 use Rattle.tf_actions.specs.declared.outcomes.Outcome.{Outcome}
 use Rattle.tf_wire.specs.Keeping.{KeptFrames, counted, KeepsStream}
@@ -89,8 +89,8 @@ pub record Answers (gives : Order → Outcome → Type 0) (frame : List ℕ) (be
 -- how far the answer to a frame came: nothing was said; it was begun; or the order was performed
 pub data HasComeTo (gives : Order → Outcome → Type 0) (frame : List ℕ) (before now : Seen) : Type 0 where
   nothing : now.did ≡ before.did → now.sent ≡ before.sent → HasComeTo gives frame before now
-  begun : (request : Request) → AreRequest frame request → now.did ≡ before.did → SendsFront before.sent (running request) now.sent → HasComeTo gives frame before now
-  performed : (exchange : Exchange) → AreRequest frame exchange.request → MayBeGiven gives exchange → now.did ≡ did_with before.did (order_asked exchange ∷ []) → SendsFront before.sent (reply exchange) now.sent → HasComeTo gives frame before now
+  begun : (request : Request) → AreRequest frame request → now.did ≡ before.did → SendsPrefix before.sent (running request) now.sent → HasComeTo gives frame before now
+  performed : (exchange : Exchange) → AreRequest frame exchange.request → MayBeGiven gives exchange → now.did ≡ did_with before.did (order_asked exchange ∷ []) → SendsPrefix before.sent (reply exchange) now.sent → HasComeTo gives frame before now
 
 -- a frame that spells no request
 pub record IsNoRequest (frame : List ℕ) (before now : Seen) : Type 0 where

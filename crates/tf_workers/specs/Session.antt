@@ -2,7 +2,7 @@
 use Rattle.std.specs.Prelude.{◌≡◌, ◌≢◌, ℕ, ◌≤◌, List, [], ◌∷◌, ◌++◌, map, length, Option, Some, None, option_map, ◌⊎◌}
 use Rattle.std.specs.List.{AllByRecursion}
 use Rattle.tf_desk.specs.Counts.{Rises}
-use Rattle.tf_ports.specs.Links.{sent_with, left_before, SendsFront, IsNothingLeft}
+use Rattle.tf_ports.specs.Links.{sent_with, left_before, SendsPrefix, IsNothingLeft}
 use Rattle.tf_actions.specs.declared.orders.Order.{Order}
 use Rattle.tf_actions.specs.declared.outcomes.Outcome.{Outcome}
 use Rattle.tf_wire.specs.Keeping.{counted}
@@ -45,7 +45,7 @@ pub record BeginsWithRequest (bytes : List ℕ) (request : Request) : Type 0 whe
   pub frame : List ℕ
   pub behind : List ℕ
   pub is_frame : IsFrame frame
-  pub front : bytes ≡ framed frame ++ behind
+  pub prefix : bytes ≡ framed frame ++ behind
   pub spells : AreRequest frame request
 
 -- a whole frame that spells no request stands at the front
@@ -53,7 +53,7 @@ pub record BeginsWithNoRequest (bytes : List ℕ) : Type 0 where
   pub frame : List ℕ
   pub behind : List ℕ
   pub is_frame : IsFrame frame
-  pub front : bytes ≡ framed frame ++ behind
+  pub prefix : bytes ≡ framed frame ++ behind
   pub spells_none : (request : Request) → ¬ (AreRequest frame request)
 
 -- the request at the front was begun, or none was
@@ -68,7 +68,7 @@ begun_reply (Some request) = running request
 
 -- The link gave some bytes. Of the frames at their front some were read as requests, and the hand was asked for
 -- the orders that these name, each once and in order. At most one request behind them was read besides, to
--- which no outcome came. The link was sent a front of the dialogue.
+-- which no outcome came. The link was sent a prefix of the dialogue.
 pub record WorkerSession (gives : Order → Outcome → Type 0) (before now : Seen) : Type 0 where
   pub given : List ℕ
   pub came : before.left ≡ left_before given now.left
@@ -81,7 +81,7 @@ pub record WorkerSession (gives : Order → Outcome → Type 0) (before now : Se
   pub did : now.did ≡ did_with before.did (map order_asked exchanges)
   pub begun : Option Request
   pub is_begun : IsBegun behind begun
-  pub sent : SendsFront before.sent (dialogue exchanges ++ begun_reply begun) now.sent
+  pub sent : SendsPrefix before.sent (dialogue exchanges ++ begun_reply begun) now.sent
 
 -- no request was begun without an outcome, and the whole dialogue was sent
 pub record IsFullyAnswered {gives : Order → Outcome → Type 0} {before now : Seen} (session : WorkerSession gives before now) : Type 0 where

@@ -1,6 +1,6 @@
 ghost use Rattle.std.specs.Prelude.{◌≡◌, ◌≢◌, ◌≤◌, Err, OnOk, OnErr, IfErr, IsErrOf};
 ghost use Rattle.tf_desk.specs.Counts.{Rises};
-ghost use Rattle.tf_ports.specs.Links.{sent_with, SendsFront};
+ghost use Rattle.tf_ports.specs.Links.{sent_with, SendsPrefix};
 ghost use Rattle.tf_workers.specs.Dialogue.{spoken, told as told_by};
 ghost use Rattle.tf_workers.specs.Progress.{Answers, StopsFor};
 ghost use Rattle.tf_workers.specs.Session.{seen};
@@ -70,7 +70,7 @@ fn told(id: u64, outcome: Outcome) -> Response
 /// Sends a response as its frame.
 fn say<L: Link>(alloc: Global, response: &Response, link: &mut L) -> Result<(), Stop>
     ensures said { OnOk result (L.sent link.new ≡ sent_with (L.sent link.old) (spoken response.now)) }
-    ensures cut { OnErr result (SendsFront (L.sent link.old) (spoken response.now) (L.sent link.new)) }
+    ensures cut { OnErr result (SendsPrefix (L.sent link.old) (spoken response.now) (L.sent link.new)) }
     ensures lost { IsErrOf result Stop.Lost → Rises (L.faults link.old) (L.faults link.new) }
     ensures not_bad { result ≢ Err Stop.Bad }
     ensures left { L.left link.new ≡ L.left link.old }

@@ -4,7 +4,7 @@ use Rattle.tf_hands.specs.Hands.{orders}
 use Rattle.tf_book.specs.Book.{outline}
 use Rattle.tf_engines.specs.Working.{HasDoneSo}
 use Rattle.tf_engines.specs.declared.hand_loop.Worker.{Worker}
-use Rattle.tf_engines.proofs.CloseLemmas.{front_all, all_made, all_ready, all_back, all_last, all_done}
+use Rattle.tf_engines.proofs.CloseLemmas.{prefix_all, all_made, all_ready, all_back, all_last, all_done}
 use Rattle.tf_engines.proofs.many_hands.run_hands.Goals as goal
 
 pub work_through-done-requires-clause-each : goal.work_through-done-requires-clause-each
@@ -39,7 +39,7 @@ returns-clause-orders g c = λ i d below.
     let done = all_done t (λ (w : Worker g.row.K.Denot g.row.P.Denot). w.pass) (λ (w : Worker g.row.K.Denot g.row.P.Denot). w.hand) g.P.Performer.did (λ (w : Worker g.row.K.Denot g.row.P.Denot). w.failed) c.hire-hired.result.items c.work_through-done.result.items c.work_through-done.ensures.count
     c.work_through-done.ensures.worked c.dismiss-failed.new.passes.items c.dismiss-failed.ensures.passes c.close-shared.result c.close-shared.ensures.history
     g.K.Desk.state g.P.Performer.gives r.fresh c.close-shared.ensures.origin c.known.ensures.shared c.dismiss-failed.result c.dismiss-failed.ensures.failed
-    c.args.hands.now.items c.dismiss-failed.new.hands.items (front_all _ c.hire-hired.new.hands.items _ h.empty h.hands) c.dismiss-failed.ensures.hands
+    c.args.hands.now.items c.dismiss-failed.new.hands.items (prefix_all _ c.hire-hired.new.hands.items _ h.empty h.hands) c.dismiss-failed.ensures.hands
     (all_made t (λ (w : Worker g.row.K.Denot g.row.P.Denot). w.pass) c.hire-hired.result.items c.args.passes.items h.passes r.passes.1) i d here in
     c.conclude.ensures.orders _ _ _ _
     (subst (λ (l : List Entry). HasDoneSo c.dismiss-failed.result (g.P.Performer.did (slice_index_or c.args.hands.now.items i d)) (orders (outline t.start.start) i t.start.start.past) (g.P.Performer.did (slice_index_or c.dismiss-failed.new.hands.items i d)) (orders (outline t.start.start) i l))

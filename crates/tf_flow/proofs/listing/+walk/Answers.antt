@@ -4,7 +4,7 @@ use Rattle.tf_flow.proofs.listing.+walk.Goals as goal
 
 pub add_flow-loop-place-preserved : goal.add_flow-loop-place-preserved
 add_flow-loop-place-preserved t c =
-    walk_next c.args.way.now c.deref.result.now c.args.flow.now c.len-number.result c.loop-place.place c.item-item.result c.items-item-items.result.now
+    walk_next c.args.path.now c.deref.result.now c.args.flow.now c.len-number.result c.loop-place.place c.item-item.result c.items-item-items.result.now
     c.args.outline.now.atoms.items c.loop-place.outline.atoms.items c.add_item.new.outline.atoms.items
     c.args.outline.now.levels.items c.loop-place.outline.levels.items c.add_item.new.outline.levels.items
     c.args.outline.now.inner_first.items c.loop-place.outline.inner_first.items c.add_item.new.outline.inner_first.items
@@ -16,7 +16,7 @@ add_flow-loop-place-preserved t c =
 pub add_flow-returns-clause-levels : goal.add_flow-returns-clause-levels
 add_flow-returns-clause-levels t c =
     let g_is : c.len-number.result ≡ length c.args.outline.now.levels.items = omega arith in
-    walk_levels c.args.way.now c.args.flow.now c.len-number.result c.args.outline.now.atoms.items c.loop-place.outline.atoms.items c.args.outline.now.levels.items c.loop-place.outline.levels.items
+    walk_levels c.args.path.now c.args.flow.now c.len-number.result c.args.outline.now.atoms.items c.loop-place.outline.atoms.items c.args.outline.now.levels.items c.loop-place.outline.levels.items
     c.args.outline.now.inner_first.items c.loop-place.outline.inner_first.items c.loop-place.items.items c.loop-place.place
     c.loop-place.invariant (all_read c.items-item-items.result.now c.args.flow.now.items.items.items c.loop-place.place c.items-item-items.ensures c.loop-place-test.false) g_is
     c.put_items.new.levels.items c.put_items.ensures
@@ -24,7 +24,7 @@ add_flow-returns-clause-levels t c =
 pub add_flow-returns-clause-inner : goal.add_flow-returns-clause-inner
 add_flow-returns-clause-inner t c =
     let g_is : c.len-number.result ≡ length c.args.outline.now.levels.items = omega arith in
-    walk_inner c.args.way.now c.args.flow.now c.len-number.result c.args.outline.now.atoms.items c.loop-place.outline.atoms.items c.args.outline.now.levels.items c.loop-place.outline.levels.items
+    walk_inner c.args.path.now c.args.flow.now c.len-number.result c.args.outline.now.atoms.items c.loop-place.outline.atoms.items c.args.outline.now.levels.items c.loop-place.outline.levels.items
     c.args.outline.now.inner_first.items c.loop-place.outline.inner_first.items c.loop-place.items.items c.loop-place.place
     c.loop-place.invariant (all_read c.items-item-items.result.now c.args.flow.now.items.items.items c.loop-place.place c.items-item-items.ensures c.loop-place-test.false) g_is
     c.push-2.new.self.items c.in_ok-push-3.ensures.items

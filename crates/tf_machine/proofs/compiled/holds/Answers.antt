@@ -10,4 +10,4 @@ returns-then-atom-atoms c =
     sym (never_held (outline_of c.args.plan.now) c.args.flow c.args.atom past)
 
 pub returns : goal.returns
-returns c = c.passes_flow.ensures ∙ holds_told c.args.plan.now c.args.flow c.args.atom c.way.result.now c.way.ensures
+returns c = c.passes_flow.ensures ∙ holds_told c.args.plan.now c.args.flow c.args.atom c.path.result.now c.path.ensures

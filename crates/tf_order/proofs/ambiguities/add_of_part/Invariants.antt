@@ -1,4 +1,4 @@
-use Rattle.tf_flow.specs.Ways.{shown_part}
+use Rattle.tf_flow.specs.Paths.{shown_part}
 use Rattle.std.proofs.Common.{take}
 use Rattle.tf_order.proofs.AmbiguityLemmas.{AmbiguitiesSeen}
 use Rattle.tf_order.proofs.ambiguities.add_of_part.Given as goal

@@ -5,7 +5,7 @@ use Rattle.tf_order.specs.Arranged.{ShowsFlows}
 use Rattle.tf_order.specs.Refusals.{IsRefusedBy}
 use Rattle.tf_order.specs.Tables.{told_at, plan_seen}
 use Rattle.tf_order.proofs.CompilationLemmas.{refusal_told, shows_plan, standing_fits, graph_is}
-use Rattle.tf_order.proofs.StretchLemmas.{ways_ascend}
+use Rattle.tf_order.proofs.StretchLemmas.{paths_ascend}
 use Rattle.tf_order.proofs.compilation.compile.Goals as goal
 
 pub returns-in-Some-clause-refused : goal.returns-in-Some-clause-refused
@@ -19,7 +19,7 @@ tables-requires-clause-shows c = subst (λ table. ShowsFlows table (plan_seen c.
     (shows_plan c.in_ok-outline.outline c.in_ok-found.found.table.items c.in_ok-found.found.faults.items c.in_ok-found.ensures)
 
 pub tables-requires-clause-ascending : goal.tables-requires-clause-ascending
-tables-requires-clause-ascending c = ways_ascend (tree_of c.args.plan.now.root) c.in_ok-outline.outline c.in_ok-outline.ensures.atoms
+tables-requires-clause-ascending c = paths_ascend (tree_of c.args.plan.now.root) c.in_ok-outline.outline c.in_ok-outline.ensures.atoms
 
 pub tables-requires-clause-standing : goal.tables-requires-clause-standing
 tables-requires-clause-standing c = standing_fits (tree_of c.args.plan.now.root) c.in_ok-outline.outline c.in_ok-outline.ensures.atoms c.in_ok-outline.ensures.levels c.in_ok-outline.ensures.few_atoms

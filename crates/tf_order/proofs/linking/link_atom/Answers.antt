@@ -1,8 +1,8 @@
 use Rattle.std.proofs.Common.{◌∙◌, sym, ap, None}
 use Rattle.tf_flow.specs.declared.listing.AtomPlace.{AtomPlace}
 use Rattle.tf_order.specs.Sight.{atoms_seen}
-use Rattle.tf_model.specs.Before.{way_at}
-use Rattle.tf_order.proofs.SightLemmas.{way_seen}
+use Rattle.tf_model.specs.Before.{path_at}
+use Rattle.tf_order.proofs.SightLemmas.{path_seen}
 use Rattle.tf_order.proofs.TurnLemmas.{turns_next, turns_all}
 use Rattle.tf_order.proofs.linking.link_atom.Goals as goal
 
@@ -15,6 +15,6 @@ loop-turn-preserved c = record {
 }
 
 pub returns-clause-links : goal.returns-clause-links
-returns-clause-links c = turns_all c.args.sight.now c.args.atom c.args.found.now.links c.loop-turn.found.links c.args.found.now.ambiguities c.loop-turn.found.ambiguities c.turns-turn-items.result.now c.loop-turn.turn-index (way_at (atoms_seen c.args.sight.now) c.args.atom)
+returns-clause-links c = turns_all c.args.sight.now c.args.atom c.args.found.now.links c.loop-turn.found.links c.args.found.now.ambiguities c.loop-turn.found.ambiguities c.turns-turn-items.result.now c.loop-turn.turn-index (path_at (atoms_seen c.args.sight.now) c.args.atom)
     c.loop-turn.invariant.seen c.loop-turn-test.false
-    (c.turns-turn-items.ensures ∙ (ap (λ (a : AtomPlace). a.way) (sym c.index-sight-atom.is) ∙ sym (way_seen c.args.sight.now.atoms.now c.args.atom c.index-sight-atom.result c.requires.atom c.index-sight-atom.is)))
+    (c.turns-turn-items.ensures ∙ (ap (λ (a : AtomPlace). a.path) (sym c.index-sight-atom.is) ∙ sym (path_seen c.args.sight.now.atoms.now c.args.atom c.index-sight-atom.result c.requires.atom c.index-sight-atom.is)))

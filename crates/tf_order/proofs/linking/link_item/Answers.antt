@@ -1,4 +1,4 @@
-use Rattle.tf_flow.specs.Ways.{shown_part}
+use Rattle.tf_flow.specs.Paths.{shown_part}
 use Rattle.std.proofs.Common.{ap, slice_index_or}
 use Rattle.tf_order.proofs.LinkingLemmas.{args_more, args_all}
 use Rattle.tf_order.proofs.linking.link_item.Goals as goal

@@ -1,4 +1,4 @@
-use Rattle.tf_flow.specs.Ways.{shown_part}
+use Rattle.tf_flow.specs.Paths.{shown_part}
 use Rattle.std.proofs.Common.{◌≡◌, length, take}
 use Rattle.tf_links.specs.Bits.{words_for}
 use Rattle.tf_order.specs.Sight.{count_seen}

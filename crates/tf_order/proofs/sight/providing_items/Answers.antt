@@ -2,15 +2,15 @@ use Rattle.std.proofs.Common.{◌≡◌, ◌∙◌, sym, ap, slice_index_or, ari
 use Rattle.std.proofs.lemmas.Grind.{common_steps}
 use Rattle.tf_order.specs.Sight.{count_seen}
 use Rattle.tf_flow.specs.declared.listing.AtomPlace.{AtomPlace}
-use Rattle.tf_order.proofs.SightLemmas.{marked_next, marked_all, provider_within, way_seen}
+use Rattle.tf_order.proofs.SightLemmas.{marked_next, marked_all, provider_within, path_seen}
 use Rattle.tf_order.proofs.sight.providing_items.Goals as goal
 
 pub loop-atom-preserved : goal.loop-atom-preserved
 loop-atom-preserved c =
     let same : c.len-count.result ≡ count_seen c.args.sight.now = grind (arith, common_steps) in
-    marked_next c.args.sight.now c.loop-atom.set c.mark_items.new.set c.numbers-atom-items.result.now c.loop-atom.atom-index c.turns-way.result.now c.len-count.result same c.loop-atom.invariant c.loop-atom-test.true
-    (c.turns-way.ensures ∙ (ap (λ (a : AtomPlace). a.way) (sym c.index-sight-atom.is)
-    ∙ sym (way_seen c.args.sight.now.atoms.now (slice_index_or c.numbers-atom-items.result.now c.loop-atom.atom-index 0) c.index-sight-atom.result
+    marked_next c.args.sight.now c.loop-atom.set c.mark_items.new.set c.numbers-atom-items.result.now c.loop-atom.atom-index c.turns-path.result.now c.len-count.result same c.loop-atom.invariant c.loop-atom-test.true
+    (c.turns-path.ensures ∙ (ap (λ (a : AtomPlace). a.path) (sym c.index-sight-atom.is)
+    ∙ sym (path_seen c.args.sight.now.atoms.now (slice_index_or c.numbers-atom-items.result.now c.loop-atom.atom-index 0) c.index-sight-atom.result
     (provider_within c.args.sight.now c.args.symbol.now c.numbers-atom-items.result.now c.loop-atom.atom-index c.requires.providers c.numbers-atom-items.ensures c.loop-atom-test.true) c.index-sight-atom.is)))
     c.mark_items.ensures.wide c.mark_items.ensures.set
 

@@ -1,5 +1,5 @@
 use Rattle.std.proofs.Common.{◌≡◌, ◌∙◌, ◌++◌, ap, subst, List, ℕ, arith}
-use Rattle.tf_values.specs.Growth.{KeepsFront}
+use Rattle.tf_values.specs.Growth.{KeepsPrefix}
 use Rattle.tf_values.proofs.GrowthLemmas.{keeps_shorter}
 use Rattle.tf_model.specs.Plan.{outline_of, count}
 use Rattle.tf_report.specs.Report.{unreverted, unreverted_below, state_shown, payload_shown}
@@ -22,5 +22,5 @@ returns-clause-ok c =
 pub returns-in_err-append_atom-clause-err : goal.returns-in_err-append_atom-clause-err
 returns-in_err-append_atom-clause-err c =
     let more : List ℕ = unreverted_below (outline_of c.args.plan.now) (state_shown c.args.views.now) (payload_shown c.args.views.now) c.loop-atom.atom in
-    let kept : KeepsFront (c.args.out.now.items ++ more) c.append_atom.new.out.items = subst (λ (old : List ℕ). KeepsFront old c.append_atom.new.out.items) c.loop-atom.invariant c.in_err-append_atom.ensures.err in
+    let kept : KeepsPrefix (c.args.out.now.items ++ more) c.append_atom.new.out.items = subst (λ (old : List ℕ). KeepsPrefix old c.append_atom.new.out.items) c.loop-atom.invariant c.in_err-append_atom.ensures.err in
     on_err_always c.from_residual.result (keeps_shorter c.args.out.now.items more c.append_atom.new.out.items kept)

@@ -1,7 +1,7 @@
 use Rattle.std.proofs.Common.{Some, sym, ap, ◌∙◌}
 use Rattle.tf_flow.specs.Outline.{a_task, a_retry}
-use Rattle.tf_flow.specs.Ways.{shown_part}
-use Rattle.tf_flow.specs.declared.ways.Part.{Part}
+use Rattle.tf_flow.specs.Paths.{shown_part}
+use Rattle.tf_flow.specs.declared.paths.Part.{Part}
 use Rattle.tf_model.proofs.PlanLemmas.{kind_told}
 use Rattle.tf_rules.proofs.attempts.retry_at.Goals as goal
 

@@ -6,7 +6,7 @@ use Rattle.tf_model.specs.Scope.{given_by}
 use Rattle.tf_scopes.specs.Sources.{bound_at}
 use Rattle.tf_scopes.specs.declared.sources.Source.TheVariants as source
 use Rattle.tf_flow.specs.declared.atoms.Bind.{Bind}
-use Rattle.tf_flow.specs.Ways.{shown_part}
+use Rattle.tf_flow.specs.Paths.{shown_part}
 use Rattle.tf_model.proofs.PlanLemmas.{injects_are}
 use Rattle.tf_scopes.proofs.ValueLemmas.{says_of, given_is_atom}
 use Rattle.tf_scopes.proofs.found.found_in.Goals as goal

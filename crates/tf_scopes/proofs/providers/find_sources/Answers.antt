@@ -1,4 +1,4 @@
-use Rattle.tf_flow.specs.Ways.{shown_part}
+use Rattle.tf_flow.specs.Paths.{shown_part}
 use Rattle.tf_model.specs.Plan.{outline_of}
 use Rattle.tf_scopes.proofs.TableLemmas.{arg_read, missing_here, present_here, source_more}
 use Rattle.tf_scopes.proofs.providers.find_sources.Goals as goal

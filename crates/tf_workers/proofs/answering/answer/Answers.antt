@@ -1,12 +1,12 @@
 use Rattle.std.proofs.Common.{◌++◌, ap, ◌∙◌, refl, subst, Err}
-use Rattle.tf_ports.specs.Links.{sent_with, SendsFront}
+use Rattle.tf_ports.specs.Links.{sent_with, SendsPrefix}
 use Rattle.tf_wire.specs.declared.messages.Response.{Response}
 use Rattle.tf_workers.specs.Dialogue.{Exchange, spoken, running}
 use Rattle.tf_workers.specs.Progress.{TakesNothing, HasComeTo}
 use Rattle.tf_workers.specs.Progress.HasComeTo.{begun}
 use Rattle.tf_workers.specs.Session.{Seen, seen}
-use Rattle.tf_workers.proofs.AnswerLemmas.{stopped, said_front, takes_on, given_for, done_for}
-use Rattle.tf_workers.proofs.ListLemmas.{sent_more, whole_front}
+use Rattle.tf_workers.proofs.AnswerLemmas.{stopped, said_prefix, takes_on, given_for, done_for}
+use Rattle.tf_workers.proofs.ListLemmas.{sent_more, whole_prefix}
 use Rattle.tf_workers.proofs.answering.answer.Goals as goal
 use Rattle.tf_desk.proofs.CountLemmas.{rises_later}
 
@@ -22,14 +22,14 @@ pub returns-in_default-order-clause-stopped : goal.returns-in_default-order-clau
 returns-in_default-order-clause-stopped g c =
     let sent = g.L.Link.sent in (
       record { left = c.in_default.ensures.left; faults = c.in_default.ensures.no_fall.0; ends = c.in_default.ensures.no_fall.1 },
-      begun c.in-Ok.request c.in-Ok.ensures.ok (refl {a = g.P.Performer.did c.args.hand.now}) (whole_front (sent c.args.link.now) (sent c.say.new.link) (running c.in-Ok.request) c.in_default.ensures.said),
+      begun c.in-Ok.request c.in-Ok.ensures.ok (refl {a = g.P.Performer.did c.args.hand.now}) (whole_prefix (sent c.args.link.now) (sent c.say.new.link) (running c.in-Ok.request) c.in_default.ensures.said),
     )
 
 pub returns-in_default-perform-clause-stopped : goal.returns-in_default-perform-clause-stopped
 returns-in_default-perform-clause-stopped g c =
     let sent = g.L.Link.sent in (
       record { left = c.in_default.ensures.left; faults = c.in_default.ensures.no_fall.0; ends = c.in_default.ensures.no_fall.1 },
-      begun c.in-Ok.request c.in-Ok.ensures.ok c.in_default-perform.ensures.not_done (whole_front (sent c.args.link.now) (sent c.say.new.link) (running c.in-Ok.request) c.in_default.ensures.said),
+      begun c.in-Ok.request c.in-Ok.ensures.ok c.in_default-perform.ensures.not_done (whole_prefix (sent c.args.link.now) (sent c.say.new.link) (running c.in-Ok.request) c.in_default.ensures.said),
     )
 
 pub returns-in-Err-say-clause-stopped : goal.returns-in-Err-say-clause-stopped
@@ -40,12 +40,12 @@ returns-in-Err-say-clause-stopped g c =
     let first : TakesNothing before between = record { left = c.in_default.ensures.left; faults = c.in_default.ensures.no_fall.0; ends = c.in_default.ensures.no_fall.1 } in
     let second : TakesNothing between now = record { left = c.in-Err-say.ensures.left; faults = c.in-Err-say.ensures.no_fall.0; ends = c.in-Err-say.ensures.no_fall.1 } in
     let exchange : Exchange = record { request = c.in-Ok.request; outcome = c.in-Ok-perform.outcome } in
-    let cut : SendsFront between.sent (spoken c.told.result) now.sent = c.in-Err-say.ensures.cut in
+    let cut : SendsPrefix between.sent (spoken c.told.result) now.sent = c.in-Err-say.ensures.cut in
     let reaches : HasComeTo g.P.Performer.gives c.args.frame.now before now =
-    said_front g.P.Performer.gives c.args.frame.now before now exchange between.sent c.in-Ok.ensures.ok
+    said_prefix g.P.Performer.gives c.args.frame.now before now exchange between.sent c.in-Ok.ensures.ok
     (given_for g.P.Performer.gives c.in-Ok-order.order exchange c.in-Ok-order.ensures c.in-Ok-perform.ensures.given)
     (done_for before.did now.did c.in-Ok-order.order exchange c.in-Ok-order.ensures c.in-Ok-perform.ensures.done)
-    c.in_default.ensures.said (subst (λ (answer : Response). SendsFront between.sent (spoken answer) now.sent) c.told.ensures cut) in
+    c.in_default.ensures.said (subst (λ (answer : Response). SendsPrefix between.sent (spoken answer) now.sent) c.told.ensures cut) in
     stopped g.P.Performer.gives c.args.frame.now before now c.in-Err-say.stop (takes_on before between now first second) reaches (λ is. c.in-Err-say.ensures.not_bad (ap Err is)) (λ is. rises_later before.faults between.faults now.faults first.faults (c.in-Err-say.ensures.lost (ap Err is)))
 
 pub returns-clause-answered : goal.returns-clause-answered

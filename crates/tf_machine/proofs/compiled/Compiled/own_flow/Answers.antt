@@ -13,4 +13,4 @@ returns-then-atom-atoms c =
 pub returns : goal.returns
 returns c =
     c.last_flow.ensures
-    ∙ (own_flow_told c.self.inside.plan c.args.atom c.way.result.now c.way.ensures ∙ ap (λ (plan : PlanValue). own_flow (outline_of plan) c.args.atom) c.self.view_is)
+    ∙ (own_flow_told c.self.inside.plan c.args.atom c.path.result.now c.path.ensures ∙ ap (λ (plan : PlanValue). own_flow (outline_of plan) c.args.atom) c.self.view_is)

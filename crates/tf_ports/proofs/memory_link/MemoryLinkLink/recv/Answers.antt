@@ -11,7 +11,7 @@ returns-clause-came c =
     let rest = take (length c.deref.result.now - place) (drop place c.deref.result.now) in
     let given : rest ≡ drop place bytes = take_all (length c.deref.result.now - place) (drop place c.deref.result.now) (omega (arith, length-drop place c.deref.result.now)) ∙ ap (drop place) c.deref.ensures.value in
     let left : c.args.self.now.left ≡ drop place bytes = ap (λ (held : HeldByLink). held.left) (sym c.fails.ensures.same ∙ sym c.self.view_is) in (
-      c.copy_front-count.ensures.some,
-      c.copy_front-count.ensures.fits,
-      ap Some (left ∙ given_first bytes rest c.copy_front-count.new.buf place c.copy_front-count.result given c.copy_front-count.ensures.copied),
+      c.copy_prefix-count.ensures.some,
+      c.copy_prefix-count.ensures.fits,
+      ap Some (left ∙ given_first bytes rest c.copy_prefix-count.new.buf place c.copy_prefix-count.result given c.copy_prefix-count.ensures.copied),
     )

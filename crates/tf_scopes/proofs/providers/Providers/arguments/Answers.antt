@@ -1,5 +1,5 @@
 use Rattle.std.proofs.Common.{sym, ◌∙◌}
-use Rattle.tf_flow.specs.Ways.{shown_part}
+use Rattle.tf_flow.specs.Paths.{shown_part}
 use Rattle.tf_model.specs.Plan.{outline_of}
 use Rattle.tf_scopes.specs.Found.{shown_in}
 use Rattle.tf_scopes.proofs.GivenLemmas.{given_stop, given_next}

@@ -1,5 +1,5 @@
 use Rattle.std.proofs.Common.{◌≡◌, ◌∙◌, ◌<◌, List, Some, length, sym, ap, arith, slice_index_or}
-use Rattle.tf_flow.specs.Ways.{shown_part}
+use Rattle.tf_flow.specs.Paths.{shown_part}
 use Rattle.tf_flow.specs.declared.atoms.Arg.{Arg}
 use Rattle.tf_model.specs.Plan.{outline_of, count, arguments}
 use Rattle.tf_model.specs.Scope.{symbol_value}

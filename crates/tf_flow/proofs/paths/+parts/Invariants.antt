@@ -1,8 +1,8 @@
 use Rattle.std.proofs.Common.{◌+◌, ◌*◌, length}
-use Rattle.tf_flow.proofs.ways.+parts.Given as goal
+use Rattle.tf_flow.proofs.paths.+parts.Given as goal
 
 abbrev pub decreases-part_in : goal.decreases-part_in
-decreases-part_in l = 2 * length l.way.now
+decreases-part_in l = 2 * length l.path.now
 
 abbrev pub decreases-part_below : goal.decreases-part_below
-decreases-part_below l = 2 * length l.way.now + 1
+decreases-part_below l = 2 * length l.path.now + 1

@@ -1,21 +1,21 @@
--- Where two ways from the root part.
+-- Where two paths from the root part.
 use Rattle.std.proofs.Common.{◌≡◌, ℕ, zero, suc, ◌-◌, ◌≤◌, List, [], ◌∷◌, drop, length, Bool, true, false, ◌&&◌, Option, Some, None, refl, sym, ap, ◌∙◌, inl, inr, min, arith, slice_get}
 use Rattle.std.specs.Prelude.{nat_eq, if◌then◌else◌, ◌<◌}
 use Rattle.std.proofs.Common.{get_or}
 use Rattle.std.proofs.lemmas.Bool.{cases_lt}
-use Rattle.tf_model.specs.Before.{Flow, item_before, turn_before, way_before, way_at}
-use Rattle.tf_model.proofs.Told.{way_in}
+use Rattle.tf_model.specs.Before.{Flow, item_before, turn_before, path_before, path_at}
+use Rattle.tf_model.proofs.Told.{path_in}
 use Rattle.tf_flow.specs.declared.listing.AtomPlace.{AtomPlace}
 use Rattle.tf_flow.specs.Listing.{shown_atoms}
 use Rattle.tf_flow.proofs.NumberingLemmas.{atom_there}
 use Rattle.tf_model.specs.Deciders.{last_item}
-use Rattle.tf_flow.specs.declared.ways.Turn.{Turn}
+use Rattle.tf_flow.specs.declared.paths.Turn.{Turn}
 use Rattle.tf_model.specs.Plan.{last_flow}
-use Rattle.tf_order.specs.declared.ways.Meeting.{Meeting}
-use Rattle.tf_order.specs.declared.ways.Meeting.TheVariants as meet
-use Rattle.tf_order.specs.Ways.{parted, parting, here_or_below, meeting, decides, flow_of_turn, item_of_turn}
+use Rattle.tf_order.specs.declared.paths.Meeting.{Meeting}
+use Rattle.tf_order.specs.declared.paths.Meeting.TheVariants as meet
+use Rattle.tf_order.specs.Paths.{parted, parting, here_or_below, meeting, decides, flow_of_turn, item_of_turn}
 
--- ---- what the model says by turns, by where ways part
+-- ---- what the model says by turns, by where paths part
 
 decided_turn : (flows : List Flow) (g : ℕ) (x y : Option ℕ) (below : Meeting) → turn_before flows g x y (decides flows below) ≡ decides flows (here_or_below (parted g x y) below)
 decided_turn flows g None None below = refl
@@ -34,12 +34,12 @@ decided_here flows x y below = by_flow (nat_eq x.flow y.flow)
     by_flow true = decided_turn flows x.flow x.item y.item below
     by_flow false = refl
 
--- where two ways part decides which is before the other
-pub way_before_met : (flows : List Flow) (a b : List Turn) → way_before flows a b ≡ decides flows (meeting a b)
-way_before_met flows [] b = refl
-way_before_met flows (x ∷ xs) [] = refl
-way_before_met flows (x ∷ xs) (y ∷ ys) =
-    ap (λ (below : Bool). nat_eq x.flow y.flow && turn_before flows x.flow x.item y.item below) (way_before_met flows xs ys)
+-- where two paths part decides which is before the other
+pub path_before_met : (flows : List Flow) (a b : List Turn) → path_before flows a b ≡ decides flows (meeting a b)
+path_before_met flows [] b = refl
+path_before_met flows (x ∷ xs) [] = refl
+path_before_met flows (x ∷ xs) (y ∷ ys) =
+    ap (λ (below : Bool). nat_eq x.flow y.flow && turn_before flows x.flow x.item y.item below) (path_before_met flows xs ys)
     ∙ decided_here flows x y (meeting xs ys)
 
 -- ---- the last turn
@@ -60,32 +60,32 @@ last_item_told [] = refl
 last_item_told (turn ∷ []) = refl
 last_item_told (turn ∷ next ∷ turns) = last_item_told (next ∷ turns) ∙ ap item_of_turn (one_later turn next turns)
 
-pub last_turn_flow : (way : List Turn) (found : Option Turn) → found ≡ slice_get way (length way - 1) → last_flow way ≡ flow_of_turn found
-last_turn_flow way found is = last_flow_told way ∙ ap flow_of_turn (sym is)
+pub last_turn_flow : (path : List Turn) (found : Option Turn) → found ≡ slice_get path (length path - 1) → last_flow path ≡ flow_of_turn found
+last_turn_flow path found is = last_flow_told path ∙ ap flow_of_turn (sym is)
 
-pub last_turn_item : (way : List Turn) (found : Option Turn) → found ≡ slice_get way (length way - 1) → last_item way ≡ item_of_turn found
-last_turn_item way found is = last_item_told way ∙ ap item_of_turn (sym is)
+pub last_turn_item : (path : List Turn) (found : Option Turn) → found ≡ slice_get path (length path - 1) → last_item path ≡ item_of_turn found
+last_turn_item path found is = last_item_told path ∙ ap item_of_turn (sym is)
 
--- ---- the end of a way
+-- ---- the end of a path
 
-nothing_left : (way : List Turn) (i : ℕ) → length way ≤ i → drop i way ≡ []
+nothing_left : (path : List Turn) (i : ℕ) → length path ≤ i → drop i path ≡ []
 nothing_left [] zero whole = refl
 nothing_left [] (suc i) whole = refl
-nothing_left (x ∷ way) zero whole = absurd (omega arith)
-nothing_left (x ∷ way) (suc i) whole = nothing_left way i (omega arith)
+nothing_left (x ∷ path) zero whole = absurd (omega arith)
+nothing_left (x ∷ path) (suc i) whole = nothing_left path i (omega arith)
 
 no_second : (xs : List Turn) → meeting xs [] ≡ meet.Apart
 no_second [] = refl
 no_second (x ∷ xs) = refl
 
--- one of the ways ends here
+-- one of the paths ends here
 pub meeting_over : (a b : List Turn) (i : ℕ) → min (length a) (length b) ≤ i → meet.Apart ≡ meeting (drop i a) (drop i b)
 meeting_over a b i over = elim (cases_lt i (length a)) [
   | inl below ↦ sym (ap (λ (ys : List Turn). meeting (drop i a) ys) (nothing_left b i (omega (arith, over, below))) ∙ no_second (drop i a))
   | inr past ↦ sym (ap (λ (xs : List Turn). meeting xs (drop i b)) (nothing_left a i past))
 ]
 
--- ---- the way of the atom of a number
+-- ---- the path of the atom of a number
 
-pub way_there : (found : List AtomPlace) (k : ℕ) (atom : AtomPlace) → k < length found → atom ≡ get_or found k atom → atom.way ≡ way_at (shown_atoms found) k
-way_there found k atom below is = ap way_in (sym (atom_there found k atom below is))
+pub path_there : (found : List AtomPlace) (k : ℕ) (atom : AtomPlace) → k < length found → atom ≡ get_or found k atom → atom.path ≡ path_at (shown_atoms found) k
+path_there found k atom below is = ap path_in (sym (atom_there found k atom below is))

@@ -1,9 +1,9 @@
--- What a way through a tree leads to.
+-- What a path through a tree leads to.
 use Rattle.std.specs.Prelude.{ℕ, zero, suc, List, [], ◌∷◌, Option, Some, None, option_map}
 use Rattle.tf_flow.specs.declared.atoms.Retry.{Retry}
-use Rattle.tf_flow.specs.declared.ways.Part.{Part as CodePart}
-use Rattle.tf_flow.specs.declared.ways.Part.TheVariants as code
-use Rattle.tf_flow.specs.declared.ways.Turn.{Turn}
+use Rattle.tf_flow.specs.declared.paths.Part.{Part as CodePart}
+use Rattle.tf_flow.specs.declared.paths.Part.TheVariants as code
+use Rattle.tf_flow.specs.declared.paths.Turn.{Turn}
 use Rattle.tf_flow.specs.Outline.{Part, a_task, a_retry}
 use Rattle.tf_flow.specs.Tree.{Tree, Trees, task, flow, no_trees, tree}
 
@@ -23,29 +23,29 @@ abbrev pub part_by : Option Retry → Option ℕ → (ℕ → Option Part) → O
 part_by retry None below = option_map a_retry retry
 part_by retry (Some i) below = below i
 
--- the atom to which a way leads from a tree, where there is one: a task at once, and in a flow what its turn takes
+-- the atom to which a path leads from a tree, where there is one: a task at once, and in a flow what its turn takes
 abbrev pub part_on : Option Tree → List Turn → Option Part
-part_on None way = None
-part_on (Some (task t)) way = Some (a_task t)
+part_on None path = None
+part_on (Some (task t)) path = Some (a_task t)
 part_on (Some (flow head items)) [] = None
-part_on (Some (flow head items)) (turn ∷ way) = part_by head.retry turn.item (λ i. part_on (tree_in items i) way)
+part_on (Some (flow head items)) (turn ∷ path) = part_by head.retry turn.item (λ i. part_on (tree_in items i) path)
 
--- the atom to which a way leads
+-- the atom to which a path leads
 abbrev pub part_at : Tree → List Turn → Option Part
-part_at t way = part_on (Some t) way
+part_at t path = part_on (Some t) path
 
 -- what is found below the item that a turn takes, where it takes one
 abbrev pub flow_by : Option ℕ → (ℕ → Option Tree) → Option Tree
 flow_by None below = None
 flow_by (Some i) below = below i
 
--- the flow to which a way leads from a tree, where there is one
+-- the flow to which a path leads from a tree, where there is one
 abbrev pub flow_on : Option Tree → List Turn → Option Tree
-flow_on None way = None
-flow_on (Some (task t)) way = None
+flow_on None path = None
+flow_on (Some (task t)) path = None
 flow_on (Some (flow head items)) [] = Some (flow head items)
-flow_on (Some (flow head items)) (turn ∷ way) = flow_by turn.item (λ i. flow_on (tree_in items i) way)
+flow_on (Some (flow head items)) (turn ∷ path) = flow_by turn.item (λ i. flow_on (tree_in items i) path)
 
--- the flow to which a way leads
+-- the flow to which a path leads
 abbrev pub flow_at_end : Tree → List Turn → Option Tree
-flow_at_end t way = flow_on (Some t) way
+flow_at_end t path = flow_on (Some t) path

@@ -2,11 +2,11 @@ ghost use Rattle.std.specs.Prelude.{◌≡◌, Some};
 ghost use Rattle.tf_model.specs.Before as before;
 ghost use Rattle.tf_model.specs.Deciders.{last_item};
 ghost use Rattle.tf_model.specs.Plan.{last_flow};
-ghost use Rattle.tf_order.specs.Ways as ways;
+ghost use Rattle.tf_order.specs.Paths as paths;
 
 use tf_flow::Turn;
 
-/// Where two ways part.
+/// Where two paths part.
 #[derive(Clone, Copy)]
 pub enum Meeting {
     /// They don't both go on in one flow, or the second doesn't go to an item of it.
@@ -21,11 +21,11 @@ pub enum Meeting {
     },
 }
 
-/// Whether a way leads through this item of a flow.
-pub fn passes_item(way: &[Turn], flow: usize, item: usize) -> bool
-    ensures { result ≡ before.passes_item flow (Some item) way.now }
+/// Whether a path leads through this item of a flow.
+pub fn passes_item(path: &[Turn], flow: usize, item: usize) -> bool
+    ensures { result ≡ before.passes_item flow (Some item) path.now }
 {
-    for turn in way {
+    for turn in path {
         if takes_item(turn, flow, item) {
             return true;
         }
@@ -43,18 +43,18 @@ fn takes_item(turn: &Turn, flow: usize, item: usize) -> bool
     }
 }
 
-/// The last turn of a way, where it has one.
-#[tactic(auto, using(crate::proofs::WayLemmas::last_turn_flow, crate::proofs::WayLemmas::last_turn_item))]
-pub fn last_turn(way: &[Turn]) -> Option<Turn>
-    ensures flow { last_flow way.now ≡ ways.flow_of_turn result }
-    ensures item { last_item way.now ≡ ways.item_of_turn result }
+/// The last turn of a path, where it has one.
+#[tactic(auto, using(crate::proofs::PathLemmas::last_turn_flow, crate::proofs::PathLemmas::last_turn_item))]
+pub fn last_turn(path: &[Turn]) -> Option<Turn>
+    ensures flow { last_flow path.now ≡ paths.flow_of_turn result }
+    ensures item { last_item path.now ≡ paths.item_of_turn result }
 {
-    way.last().copied()
+    path.last().copied()
 }
 
-/// Where two ways part.
+/// Where two paths part.
 pub fn meeting_of(a: &[Turn], b: &[Turn]) -> Meeting
-    ensures { result ≡ ways.meeting a.now b.now }
+    ensures { result ≡ paths.meeting a.now b.now }
 {
     for place in 0..a.len().min(b.len()) {
         if let Some(meeting) = parting(&a[place], &b[place]) {
@@ -64,9 +64,9 @@ pub fn meeting_of(a: &[Turn], b: &[Turn]) -> Meeting
     Meeting::Apart
 }
 
-/// Where two ways part at these turns, if they do.
+/// Where two paths part at these turns, if they do.
 fn parting(x: &Turn, y: &Turn) -> Option<Meeting>
-    ensures { result ≡ ways.parting x.now y.now }
+    ensures { result ≡ paths.parting x.now y.now }
 {
     if x.flow != y.flow {
         return Some(Meeting::Apart);
@@ -78,9 +78,9 @@ fn parting(x: &Turn, y: &Turn) -> Option<Meeting>
     }
 }
 
-/// Where two ways part that go to these items of a flow, if they do.
+/// Where two paths part that go to these items of a flow, if they do.
 fn parted(flow: usize, first: usize, second: usize) -> Option<Meeting>
-    ensures { result ≡ ways.parted flow (Some first) (Some second) }
+    ensures { result ≡ paths.parted flow (Some first) (Some second) }
 {
     if first == second {
         return None;

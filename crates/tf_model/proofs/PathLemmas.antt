@@ -1,4 +1,4 @@
--- The ways of a plan's atoms: two that lead into one flow are the same up to it.
+-- The paths of a plan's atoms: two that lead into one flow are the same up to it.
 use Rattle.std.proofs.Common.{◌≡◌, ◌≢◌, ℕ, zero, suc, ◌+◌, ◌<◌, ◌≤◌, List, [], ◌∷◌, ◌++◌, map, Bool, true, false, ◌&&◌, Option, Some, None, refl, sym, ap, ◌∙◌, ◌⊎◌, inl, inr, eqb-true, eq-eqb, arith, slice_get}
 use Rattle.std.specs.Prelude.{nat_eq}
 use Rattle.std.specs.List.{AllByRecursion}
@@ -8,33 +8,33 @@ use Rattle.tf_flow.specs.declared.atoms.Retry.{Retry}
 use Rattle.tf_flow.specs.Tree.{Tree, Trees, task, flow, no_trees, tree, Head, tree_of}
 use Rattle.tf_flow.specs.Plan.{PlanValue}
 use Rattle.tf_flow.specs.Outline.{Atom, atoms_of, atoms_among, enter, retry_atoms, flow_count, flows_among_count}
-use Rattle.tf_flow.specs.declared.ways.Turn.{Turn}
-use Rattle.tf_model.specs.Before.{Flow, way_before, turn_before, passes_flow}
-use Rattle.tf_model.specs.Plan.{outline_of, outline_of_tree, holds, is_before, way}
-use Rattle.tf_model.proofs.Told.{way_in}
+use Rattle.tf_flow.specs.declared.paths.Turn.{Turn}
+use Rattle.tf_model.specs.Before.{Flow, path_before, turn_before, passes_flow}
+use Rattle.tf_model.specs.Plan.{outline_of, outline_of_tree, holds, is_before, path}
+use Rattle.tf_model.proofs.Told.{path_in}
 use Rattle.tf_numbers.proofs.TruthLemmas.{or_either, true_first, neither_second}
 use Rattle.tf_numbers.proofs.NumberLemmas.{same_or_other}
 
 abbrev pub turn_to : ℕ → Option ℕ → Turn
 turn_to g item = record { flow = g; item = item }
 
--- the way goes on by this turn, and then as the others say
+-- the path goes on by this turn, and then as the others say
 pub record GoesBy (turn : Turn) (On : List Turn → Type 0) (w : List Turn) : Type 0 where
   pub rest : List Turn
   pub is : w ≡ turn ∷ rest
   pub on : On rest
 
--- the ways of the atoms of a tree in which flows are numbered from g on
+-- the paths of the atoms of a tree in which flows are numbered from g on
 abbrev mutual
-  pub IsWay : ℕ → Tree → List Turn → Type 0
-  IsWay g (task t) w = w ≡ []
-  IsWay g (flow head items) w = (w ≡ turn_to g None ∷ []) ⊎ IsWayAmong g 0 (suc g) items w
+  pub IsPath : ℕ → Tree → List Turn → Type 0
+  IsPath g (task t) w = w ≡ []
+  IsPath g (flow head items) w = (w ≡ turn_to g None ∷ []) ⊎ IsPathAmong g 0 (suc g) items w
 
-  pub IsWayAmong : ℕ → ℕ → ℕ → Trees → List Turn → Type 0
-  IsWayAmong g i n no_trees w = ⊥
-  IsWayAmong g i n (tree first others) w = GoesBy (turn_to g (Some i)) (IsWay n first) w ⊎ IsWayAmong g (suc i) (n + flow_count first) others w
+  pub IsPathAmong : ℕ → ℕ → ℕ → Trees → List Turn → Type 0
+  IsPathAmong g i n no_trees w = ⊥
+  IsPathAmong g i n (tree first others) w = GoesBy (turn_to g (Some i)) (IsPath n first) w ⊎ IsPathAmong g (suc i) (n + flow_count first) others w
 
--- ---- each atom's way is one of them
+-- ---- each atom's path is one of them
 
 pub all_both : (P : Atom → Type 0) (xs ys : List Atom) → AllByRecursion P xs → AllByRecursion P ys → AllByRecursion P (xs ++ ys)
 all_both P [] ys first second = second
@@ -48,26 +48,26 @@ all_weaker : (P Q : Atom → Type 0) (xs : List Atom) → ((x : Atom) → P x �
 all_weaker P Q [] each all = tt
 all_weaker P Q (x ∷ xs) each all = (each x all.0, all_weaker P Q xs each all.1)
 
-retry_ways : (g : ℕ) (control : Option Retry) (Q : List Turn → Type 0) → AllByRecursion (λ atom. (atom.way ≡ turn_to g None ∷ []) ⊎ Q atom.way) (retry_atoms g control)
-retry_ways g None Q = tt
-retry_ways g (Some r) Q = (inl refl, tt)
+retry_paths : (g : ℕ) (control : Option Retry) (Q : List Turn → Type 0) → AllByRecursion (λ atom. (atom.path ≡ turn_to g None ∷ []) ⊎ Q atom.path) (retry_atoms g control)
+retry_paths g None Q = tt
+retry_paths g (Some r) Q = (inl refl, tt)
 
 mutual
-  pub ways_of : (t : Tree) (g : ℕ) → AllByRecursion (λ atom. IsWay g t atom.way) (atoms_of g t)
-  ways_of (task t) g = (refl, tt)
-  ways_of (flow head items) g =
-      all_both (λ atom. (atom.way ≡ turn_to g None ∷ []) ⊎ IsWayAmong g 0 (suc g) items atom.way) (retry_atoms g head.retry) (atoms_among g 0 (suc g) items)
-      (retry_ways g head.retry (IsWayAmong g 0 (suc g) items))
-      (all_weaker (λ atom. IsWayAmong g 0 (suc g) items atom.way) (λ atom. (atom.way ≡ turn_to g None ∷ []) ⊎ IsWayAmong g 0 (suc g) items atom.way) (atoms_among g 0 (suc g) items) (λ x is. inr is) (ways_among items g 0 (suc g)))
+  pub paths_of : (t : Tree) (g : ℕ) → AllByRecursion (λ atom. IsPath g t atom.path) (atoms_of g t)
+  paths_of (task t) g = (refl, tt)
+  paths_of (flow head items) g =
+      all_both (λ atom. (atom.path ≡ turn_to g None ∷ []) ⊎ IsPathAmong g 0 (suc g) items atom.path) (retry_atoms g head.retry) (atoms_among g 0 (suc g) items)
+      (retry_paths g head.retry (IsPathAmong g 0 (suc g) items))
+      (all_weaker (λ atom. IsPathAmong g 0 (suc g) items atom.path) (λ atom. (atom.path ≡ turn_to g None ∷ []) ⊎ IsPathAmong g 0 (suc g) items atom.path) (atoms_among g 0 (suc g) items) (λ x is. inr is) (paths_among items g 0 (suc g)))
 
-  pub ways_among : (ts : Trees) (g i n : ℕ) → AllByRecursion (λ atom. IsWayAmong g i n ts atom.way) (atoms_among g i n ts)
-  ways_among no_trees g i n = tt
-  ways_among (tree first others) g i n =
-      all_both (λ atom. IsWayAmong g i n (tree first others) atom.way) (map (enter g i) (atoms_of n first)) (atoms_among g (suc i) (n + flow_count first) others)
-      (all_entered (λ atom. IsWay n first atom.way) (λ atom. IsWayAmong g i n (tree first others) atom.way) g i (atoms_of n first) (λ x is. inl (record { rest = x.way; is = refl; on = is })) (ways_of first n))
-      (all_weaker (λ atom. IsWayAmong g (suc i) (n + flow_count first) others atom.way) (λ atom. IsWayAmong g i n (tree first others) atom.way) (atoms_among g (suc i) (n + flow_count first) others) (λ x is. inr is) (ways_among others g (suc i) (n + flow_count first)))
+  pub paths_among : (ts : Trees) (g i n : ℕ) → AllByRecursion (λ atom. IsPathAmong g i n ts atom.path) (atoms_among g i n ts)
+  paths_among no_trees g i n = tt
+  paths_among (tree first others) g i n =
+      all_both (λ atom. IsPathAmong g i n (tree first others) atom.path) (map (enter g i) (atoms_of n first)) (atoms_among g (suc i) (n + flow_count first) others)
+      (all_entered (λ atom. IsPath n first atom.path) (λ atom. IsPathAmong g i n (tree first others) atom.path) g i (atoms_of n first) (λ x is. inl (record { rest = x.path; is = refl; on = is })) (paths_of first n))
+      (all_weaker (λ atom. IsPathAmong g (suc i) (n + flow_count first) others atom.path) (λ atom. IsPathAmong g i n (tree first others) atom.path) (atoms_among g (suc i) (n + flow_count first) others) (λ x is. inr is) (paths_among others g (suc i) (n + flow_count first)))
 
--- ---- the flows on a way have the numbers of its tree
+-- ---- the flows on a path have the numbers of its tree
 
 pub passes_head : (F : ℕ) (turn : Turn) (w : List Turn) (rest : List Turn) → w ≡ turn ∷ rest → passes_flow F w ≡ true → (turn.flow ≡ F) ⊎ (passes_flow F rest ≡ true)
 passes_head F turn w rest is on =
@@ -78,7 +78,7 @@ abbrev IsFrom : ℕ → ℕ → ℕ → Type 0
 IsFrom n count F = (n ≤ F) × (F < n + count)
 
 mutual
-  pub numbers_of : (t : Tree) (g F : ℕ) (w : List Turn) → IsWay g t w → passes_flow F w ≡ true → IsFrom g (flow_count t) F
+  pub numbers_of : (t : Tree) (g F : ℕ) (w : List Turn) → IsPath g t w → passes_flow F w ≡ true → IsFrom g (flow_count t) F
   numbers_of (task t) g F w is on = let no : false ≡ true = ap (passes_flow F) (sym is) ∙ on in absurd (cc)
   numbers_of (flow head items) g F w is on = elim is [
     | inl retry ↦ elim (passes_head F (turn_to g None) w [] retry on) [ inl same ↦ (omega (arith, same), omega (arith, same)) | inr there ↦ absurd (cc) ]
@@ -88,7 +88,7 @@ mutual
     ]
   ]
 
-  numbers_among : (ts : Trees) (g i n F : ℕ) (w : List Turn) → IsWayAmong g i n ts w → passes_flow F w ≡ true → (g ≡ F) ⊎ IsFrom n (flows_among_count ts) F
+  numbers_among : (ts : Trees) (g i n F : ℕ) (w : List Turn) → IsPathAmong g i n ts w → passes_flow F w ≡ true → (g ≡ F) ⊎ IsFrom n (flows_among_count ts) F
   numbers_among no_trees g i n F w is on = absurd is
   numbers_among (tree first others) g i n F w is on = elim is [
     | inl here ↦ elim (passes_head F (turn_to g (Some i)) w here.rest here.is on) [
@@ -101,7 +101,7 @@ mutual
     ]
   ]
 
--- ---- two ways into one flow are the same up to it
+-- ---- two paths into one flow are the same up to it
 
 abbrev pub AreTogether : ℕ → List Turn → List Turn → Type 0
 AreTogether F [] other = ⊥
@@ -114,21 +114,21 @@ by_one_turn F turn a b xs ys a_is b_is on = rw (a_is, b_is) (inr (refl, on))
 into_flow : (F : ℕ) (x y : Turn) (a b xs ys : List Turn) → a ≡ x ∷ xs → b ≡ y ∷ ys → x.flow ≡ F → y.flow ≡ F → AreTogether F a b
 into_flow F x y a b xs ys a_is b_is first second = rw (a_is, b_is) (inl (first, second))
 
--- the first turn of a way among the items of flow g leads into g
+-- the first turn of a path among the items of flow g leads into g
 pub record BeginsIn (g : ℕ) (w : List Turn) : Type 0 where
   pub turn : Turn
   pub rest : List Turn
   pub is : w ≡ turn ∷ rest
   pub flow : turn.flow ≡ g
 
-pub begins_among : (ts : Trees) (g i n : ℕ) (w : List Turn) → IsWayAmong g i n ts w → BeginsIn g w
+pub begins_among : (ts : Trees) (g i n : ℕ) (w : List Turn) → IsPathAmong g i n ts w → BeginsIn g w
 begins_among no_trees g i n w is = absurd is
 begins_among (tree first others) g i n w is = elim is [
   | inl here ↦ record { turn = turn_to g (Some i); rest = here.rest; is = here.is; flow = refl }
   | inr later ↦ begins_among others g (suc i) (n + flow_count first) w later
 ]
 
-pub begins : (head : Head) (items : Trees) (g : ℕ) (w : List Turn) → IsWay g (flow head items) w → BeginsIn g w
+pub begins : (head : Head) (items : Trees) (g : ℕ) (w : List Turn) → IsPath g (flow head items) w → BeginsIn g w
 begins head items g w is = elim is [
   | inl retry ↦ record { turn = turn_to g None; rest = []; is = retry; flow = refl }
   | inr among ↦ begins_among items g 0 (suc g) w among
@@ -138,14 +138,14 @@ begins head items g w is = elim is [
 pub goes_past : (F : ℕ) (turn : Turn) (w rest : List Turn) → w ≡ turn ∷ rest → (turn.flow ≢ F) → passes_flow F w ≡ true → passes_flow F rest ≡ true
 goes_past F turn w rest is other on = elim (passes_head F turn w rest is on) [ inl same ↦ absurd (other same) | inr there ↦ there ]
 
--- a way in the first item and one in a later item lead into no flow both
-pub apart : (first : Tree) (others : Trees) (g i n F : ℕ) (a b : List Turn) → IsWay n first a → IsWayAmong g (suc i) (n + flow_count first) others b → (g ≢ F) → passes_flow F a ≡ true → passes_flow F b ≡ true → ⊥
+-- a path in the first item and one in a later item lead into no flow both
+pub apart : (first : Tree) (others : Trees) (g i n F : ℕ) (a b : List Turn) → IsPath n first a → IsPathAmong g (suc i) (n + flow_count first) others b → (g ≢ F) → passes_flow F a ≡ true → passes_flow F b ≡ true → ⊥
 apart first others g i n F a b a_is b_is other on too =
     let one = numbers_of first n F a a_is on in
     elim (numbers_among others g (suc i) (n + flow_count first) F b b_is too) [ inl same ↦ other same | inr from ↦ omega (arith, one.1, from.0) ]
 
 mutual
-  pub together : (t : Tree) (g F : ℕ) (a b : List Turn) → IsWay g t a → IsWay g t b → passes_flow F a ≡ true → passes_flow F b ≡ true → AreTogether F a b
+  pub together : (t : Tree) (g F : ℕ) (a b : List Turn) → IsPath g t a → IsPath g t b → passes_flow F a ≡ true → passes_flow F b ≡ true → AreTogether F a b
   together (task t) g F a b a_is b_is on too = let no : false ≡ true = ap (passes_flow F) (sym a_is) ∙ on in absurd (cc)
   together (flow head items) g F a b a_is b_is on too = elim (same_or_other g F) [
     | inl same ↦ let first = begins head items g a a_is in let second = begins head items g b b_is in
@@ -159,7 +159,7 @@ mutual
     ]
   ]
 
-  together_among : (ts : Trees) (g i n F : ℕ) (a b : List Turn) → (g ≢ F) → IsWayAmong g i n ts a → IsWayAmong g i n ts b → passes_flow F a ≡ true → passes_flow F b ≡ true → AreTogether F a b
+  together_among : (ts : Trees) (g i n F : ℕ) (a b : List Turn) → (g ≢ F) → IsPathAmong g i n ts a → IsPathAmong g i n ts b → passes_flow F a ≡ true → passes_flow F b ≡ true → AreTogether F a b
   together_among no_trees g i n F a b other a_is b_is on too = absurd a_is
   together_among (tree first others) g i n F a b other a_is b_is on too = elim a_is [
     | inl a_here ↦ elim b_is [
@@ -181,7 +181,7 @@ alike_turn flows x z one other is = ap (λ (b : Bool). nat_eq z.flow x.flow && t
 alike_turn_from : (flows : List Flow) (x z : Turn) (one other : Bool) → one ≡ other → (nat_eq x.flow z.flow && turn_before flows x.flow x.item z.item one) ≡ (nat_eq x.flow z.flow && turn_before flows x.flow x.item z.item other)
 alike_turn_from flows x z one other is = ap (λ (b : Bool). nat_eq x.flow z.flow && turn_before flows x.flow x.item z.item b) is
 
--- the ways lead into flows of other numbers
+-- the paths lead into flows of other numbers
 differ_first : (x z : ℕ) (b : Bool) → nat_eq z x ≡ false → nat_eq z x && b ≡ false
 differ_first x z b is = ap (λ (c : Bool). c && b) is
 
@@ -194,24 +194,24 @@ elsewhere F z zs g is off =
 off_rest : (F : ℕ) (z : Turn) (zs : List Turn) → passes_flow F (z ∷ zs) ≡ false → passes_flow F zs ≡ false
 off_rest F z zs off = neither_second (nat_eq z.flow F) (passes_flow F zs) off
 
-pub alike_ways : (flows : List Flow) (F : ℕ) (a b x : List Turn) → AreTogether F a b → passes_flow F x ≡ false
-    → (way_before flows x a ≡ way_before flows x b) × (way_before flows a x ≡ way_before flows b x)
-alike_ways flows F [] b x same off = absurd same
-alike_ways flows F (p ∷ ps) [] x same off = absurd same
-alike_ways flows F (p ∷ ps) (q ∷ qs) [] same off = (refl, refl)
-alike_ways flows F (p ∷ ps) (q ∷ qs) (z ∷ zs) same off = elim same [
+pub alike_paths : (flows : List Flow) (F : ℕ) (a b x : List Turn) → AreTogether F a b → passes_flow F x ≡ false
+    → (path_before flows x a ≡ path_before flows x b) × (path_before flows a x ≡ path_before flows b x)
+alike_paths flows F [] b x same off = absurd same
+alike_paths flows F (p ∷ ps) [] x same off = absurd same
+alike_paths flows F (p ∷ ps) (q ∷ qs) [] same off = (refl, refl)
+alike_paths flows F (p ∷ ps) (q ∷ qs) (z ∷ zs) same off = elim same [
   | inl both ↦ let one = elsewhere F z zs p.flow both.0 off in let two = elsewhere F z zs q.flow both.1 off in
       (differ_first p.flow z.flow _ one.0 ∙ sym (differ_first q.flow z.flow _ two.0), differ_first z.flow p.flow _ one.1 ∙ sym (differ_first z.flow q.flow _ two.1))
-  | inr turn ↦ let below = alike_ways flows F ps qs zs turn.1 (off_rest F z zs off) in (
-    alike_turn flows p z (way_before flows zs ps) (way_before flows zs qs) below.0 ∙ ap (λ (t : Turn). nat_eq z.flow t.flow && turn_before flows z.flow z.item t.item (way_before flows zs qs)) turn.0,
-    alike_turn_from flows p z (way_before flows ps zs) (way_before flows qs zs) below.1 ∙ ap (λ (t : Turn). nat_eq t.flow z.flow && turn_before flows t.flow t.item z.item (way_before flows qs zs)) turn.0,
+  | inr turn ↦ let below = alike_paths flows F ps qs zs turn.1 (off_rest F z zs off) in (
+    alike_turn flows p z (path_before flows zs ps) (path_before flows zs qs) below.0 ∙ ap (λ (t : Turn). nat_eq z.flow t.flow && turn_before flows z.flow z.item t.item (path_before flows zs qs)) turn.0,
+    alike_turn_from flows p z (path_before flows ps zs) (path_before flows qs zs) below.1 ∙ ap (λ (t : Turn). nat_eq t.flow z.flow && turn_before flows t.flow t.item z.item (path_before flows qs zs)) turn.0,
   )
 ]
 
-pub way_of_each : (P : List Turn → Type 0) (xs : List Atom) (k : ℕ) (F : ℕ) → AllByRecursion (λ atom. P atom.way) xs → passes_flow F (way_in (slice_get xs k)) ≡ true → P (way_in (slice_get xs k))
-way_of_each P [] k F all on = absurd (cc)
-way_of_each P (x ∷ xs) zero F all on = all.0
-way_of_each P (x ∷ xs) (suc k) F all on = way_of_each P xs k F all.1 on
+pub path_of_each : (P : List Turn → Type 0) (xs : List Atom) (k : ℕ) (F : ℕ) → AllByRecursion (λ atom. P atom.path) xs → passes_flow F (path_in (slice_get xs k)) ≡ true → P (path_in (slice_get xs k))
+path_of_each P [] k F all on = absurd (cc)
+path_of_each P (x ∷ xs) zero F all on = all.0
+path_of_each P (x ∷ xs) (suc k) F all on = path_of_each P xs k F all.1 on
 
 -- to an atom outside a flow all atoms that the flow holds are alike
 pub alike_outside : (root : Tree) (store : List Bind) (defer : Bool) (F a b x : ℕ) → holds (outline_of_tree root store defer) F a ≡ true → holds (outline_of_tree root store defer) F b ≡ true
@@ -220,9 +220,9 @@ pub alike_outside : (root : Tree) (store : List Bind) (defer : Bool) (F a b x : 
     × (is_before (outline_of_tree root store defer) a x ≡ is_before (outline_of_tree root store defer) b x)
 unfolding holds is_before
 alike_outside root store defer F a b x on too off =
-    alike_ways (outline_of_tree root store defer).flows F (way (outline_of_tree root store defer) a) (way (outline_of_tree root store defer) b) (way (outline_of_tree root store defer) x)
-    (together root 0 F (way (outline_of_tree root store defer) a) (way (outline_of_tree root store defer) b)
-    (way_of_each (IsWay 0 root) (atoms_of 0 root) a F (ways_of root 0) on) (way_of_each (IsWay 0 root) (atoms_of 0 root) b F (ways_of root 0) too) on too) off
+    alike_paths (outline_of_tree root store defer).flows F (path (outline_of_tree root store defer) a) (path (outline_of_tree root store defer) b) (path (outline_of_tree root store defer) x)
+    (together root 0 F (path (outline_of_tree root store defer) a) (path (outline_of_tree root store defer) b)
+    (path_of_each (IsPath 0 root) (atoms_of 0 root) a F (paths_of root 0) on) (path_of_each (IsPath 0 root) (atoms_of 0 root) b F (paths_of root 0) too) on too) off
 
 pub alike_in : (plan : PlanValue) (F a b x : ℕ) → holds (outline_of plan) F a ≡ true → holds (outline_of plan) F b ≡ true → holds (outline_of plan) F x ≡ false
     → (is_before (outline_of plan) x a ≡ is_before (outline_of plan) x b) × (is_before (outline_of plan) a x ≡ is_before (outline_of plan) b x)

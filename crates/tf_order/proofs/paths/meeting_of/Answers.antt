@@ -1,6 +1,6 @@
 use Rattle.std.proofs.Common.{◌≤◌, ◌∙◌, min, length, arith}
-use Rattle.tf_order.proofs.WayLemmas.{meeting_over}
-use Rattle.tf_order.proofs.ways.meeting_of.Goals as goal
+use Rattle.tf_order.proofs.PathLemmas.{meeting_over}
+use Rattle.tf_order.proofs.paths.meeting_of.Goals as goal
 
 pub returns : goal.returns
 returns c =
