@@ -8,12 +8,11 @@ use Rattle.tf_values.specs.declared.value.Val.{Val}
 use Rattle.tf_values.specs.declared.value.Val.TheVariants as value
 use Rattle.tf_values.specs.Scalars.{are_scalars}
 use Rattle.tf_values.specs.Text.{is_text}
-use Rattle.tf_values.specs.TextForm.{text_form}
-use Rattle.tf_values.specs.Value.{value_of}
+use Rattle.tf_values.specs.Value.{text_form, value_of}
 use Rattle.tf_states.specs.declared.record.Failure.TheVariants as failure
 use Rattle.tf_flow.specs.declared.atoms.TaskKind.{TaskKind}
 use Rattle.tf_flow.specs.declared.atoms.TaskKind.TheVariants as kind
-use Rattle.tf_flow.specs.Names.{first_some}
+use Rattle.tf_flow.specs.Tree.{first_some}
 use Rattle.tf_actions.specs.declared.orders.Pair.{Pair}
 use Rattle.tf_actions.specs.declared.outcomes.Outcome.{Outcome}
 use Rattle.tf_actions.specs.declared.outcomes.Outcome.TheVariants as outcome

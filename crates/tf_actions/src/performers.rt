@@ -2,8 +2,7 @@ ghost use Rattle.std.specs.Prelude.{◌≡◌, List, Option, IfOk, OnOk, OnErr};
 ghost use Rattle.tf_actions.specs.declared.orders.Order.{Order as AnOrder};
 ghost use Rattle.tf_actions.specs.declared.outcomes.Outcome.{Outcome as AnOutcome};
 ghost use Rattle.tf_actions.specs.Laws.{LooksUp, RevertsToNothing};
-ghost use Rattle.tf_actions.specs.Told.{told_with};
-ghost use Rattle.tf_actions.specs.Whole.{IsWhole};
+ghost use Rattle.tf_actions.specs.Gives.{told_with, IsWhole};
 
 use crate::orders::Order;
 use crate::outcomes::Outcome;

@@ -10,13 +10,10 @@ use Rattle.tf_states.specs.declared.record.What.TheVariants as what
 use Rattle.tf_states.specs.declared.state.AtomState.{AtomState}
 use Rattle.tf_states.specs.declared.state.AtomState.TheVariants as atom
 use Rattle.tf_actions.specs.declared.orders.Order.{Order}
-use Rattle.tf_actions.specs.Far.{GivesFar}
-use Rattle.tf_model.specs.History.{snapshot, state_of, flow_of, hand_of}
-use Rattle.tf_model.specs.Orders.{task_part, task_at, order_with, order_of, order_at, before_start, IsGiven, Allows}
+use Rattle.tf_actions.specs.Gives.{GivesFar}
+use Rattle.tf_model.specs.History.{snapshot, state_of, flow_of, hand_of, Snapshot, is_at_work, flow_runs, flow_suspends}
+use Rattle.tf_model.specs.Scope.{task_part, task_at, order_with, order_of, order_at, before_start, IsGiven, Allows, given_for}
 use Rattle.tf_model.specs.Plan.{Outline, is_task}
-use Rattle.tf_model.specs.Scope.{given_for}
-use Rattle.tf_model.specs.Snapshot.{Snapshot, is_at_work}
-use Rattle.tf_model.specs.States.{flow_runs, flow_suspends}
 use Rattle.tf_model.specs.Steps.{Step, LegalPast, ends_task, ends_as}
 use Rattle.tf_model.proofs.Told.{is_task_in, task_in}
 use Rattle.tf_flow.specs.Outline.{Part, a_task, a_retry, Atom, is_task_part}

@@ -4,10 +4,10 @@ use Rattle.std.specs.Prelude.{codes, ◌||◌, if◌then◌else◌}
 use Rattle.std.specs.Str.{bytes_eq}
 use Rattle.std.specs.Fmt.{decimal}
 use Rattle.std.proofs.lemmas.Fmt.{decimal_injective}
-use Rattle.tf_flow.specs.Names.{same_name}
+use Rattle.tf_flow.specs.Tree.{same_name}
 use Rattle.tf_flow.specs.Plan as numbering
 use Rattle.tf_flow.specs.Plan.{PlanValue}
-use Rattle.tf_flow.specs.Refusal.{first_refusal}
+use Rattle.tf_flow.specs.Rules.{first_refusal}
 use Rattle.tf_states.specs.declared.record.Entry.{Entry}
 use Rattle.tf_states.specs.declared.record.Kind.{Kind}
 use Rattle.tf_states.specs.declared.record.Payload.{Payload}
@@ -19,7 +19,7 @@ use Rattle.tf_model.specs.Plan.{Outline, outline_of, count, is_task, atom_name}
 use Rattle.tf_entries.specs.Entries.{is_payload_of, IsAmong, HasItsPayload}
 use Rattle.tf_report.specs.Lines.{what_text, part_word, atom_word, flow_word, kind_word, flow_name, payload_text}
 use Rattle.tf_audit.specs.Names.{AreNamed}
-use Rattle.tf_audit.specs.Reading.{IsLineOf}
+use Rattle.tf_audit.specs.Verdicts.{IsLineOf}
 use Rattle.tf_audit.specs.Words.{is_unbroken, atom_state_named, flow_state_named, resolution_named}
 use Rattle.tf_audit.proofs.EventLemmas.{two_words, three_words}
 use Rattle.tf_audit.proofs.LineLemmas.{line_words}

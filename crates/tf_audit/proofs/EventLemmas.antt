@@ -3,9 +3,8 @@ use Rattle.std.proofs.Common.{◌≡◌, ℕ, ℤ, ◌<◌, ◌^◌, List, [], �
 use Rattle.std.specs.Prelude.{option_map, codes, FitsSigned}
 use Rattle.std.specs.Int.{w32}
 use Rattle.std.specs.Fmt.{decimal, signed_decimal}
-use Rattle.tf_values.specs.Name.{is_name}
-use Rattle.tf_values.specs.Text.{is_text}
-use Rattle.tf_values.specs.TextForm.{quoted}
+use Rattle.tf_values.specs.Text.{is_name, is_text}
+use Rattle.tf_values.specs.Value.{quoted}
 use Rattle.tf_flow.specs.Plan.{PlanValue}
 use Rattle.tf_flow.specs.Plan as numbering
 use Rattle.tf_states.specs.declared.record.Failure.{Failure}

@@ -2,22 +2,19 @@
 use Rattle.std.proofs.Common.{◌≡◌, ◌≢◌, ℕ, ◌+◌, List, length, Bool, true, false, ◌&&◌, Option, Some, None, refl, sym, ap, subst, ◌∙◌}
 use Rattle.std.specs.Prelude.{is_none, if◌then◌else◌}
 use Rattle.tf_flow.specs.Plan.{PlanValue}
-use Rattle.tf_flow.specs.Refusal.{first_refusal}
+use Rattle.tf_flow.specs.Rules.{first_refusal}
 use Rattle.tf_states.specs.declared.record.Entry.{Entry}
 use Rattle.tf_states.specs.declared.record.What.{What}
 use Rattle.tf_states.specs.declared.record.What.TheVariants as what
 use Rattle.tf_actions.specs.declared.outcomes.Action.{Action}
-use Rattle.tf_model.specs.Candidates.{choice, candidate_if_running}
-use Rattle.tf_model.specs.Forced.{forced, enters, is_active}
-use Rattle.tf_model.specs.History.{snapshot}
+use Rattle.tf_model.specs.Forced.{choice, candidate_if_running, forced, enters, is_active}
+use Rattle.tf_model.specs.History.{snapshot, Snapshot}
 use Rattle.tf_model.specs.Plan.{Outline, outline_of}
-use Rattle.tf_model.specs.Snapshot.{Snapshot}
 use Rattle.tf_model.specs.Steps.{Step}
-use Rattle.tf_hands.specs.Flight.{start_entry, begun, action_in}
+use Rattle.tf_hands.specs.Hands.{start_entry, begun, action_in}
 use Rattle.tf_hands.specs.declared.starts.Start.{Start}
 use Rattle.tf_audit.specs.Names.{AreNamed}
-use Rattle.tf_audit.specs.Reading.{IsLineOf}
-use Rattle.tf_audit.specs.Verdicts.{IsFaulty}
+use Rattle.tf_audit.specs.Verdicts.{IsLineOf, IsFaulty}
 use Rattle.tf_audit.specs.declared.verdicts.Why.{Why}
 use Rattle.tf_audit.specs.declared.verdicts.Why.TheVariants as why
 use Rattle.tf_audit.proofs.EntryLemmas.{line_one}

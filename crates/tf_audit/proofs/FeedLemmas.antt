@@ -10,9 +10,8 @@ use Rattle.tf_values.specs.declared.elements.Scalar.{Scalar}
 use Rattle.tf_values.specs.declared.elements.Scalar.TheVariants as scalar
 use Rattle.tf_values.specs.declared.value.Val.{Val}
 use Rattle.tf_values.specs.declared.value.Val.TheVariants as value
-use Rattle.tf_values.specs.Element.{IsElement}
-use Rattle.tf_values.specs.TextForm.{hexadecimal, quoted_byte, quoted, truth_text, scalar_text, further_text, scalars_text, text_form}
-use Rattle.tf_values.specs.Value.{IsValue}
+use Rattle.tf_values.specs.Scalars.{IsElement}
+use Rattle.tf_values.specs.Value.{hexadecimal, quoted_byte, quoted, truth_text, scalar_text, further_text, scalars_text, text_form, IsValue}
 use Rattle.tf_values.proofs.QuoteLemmas.{IsControl, IsPlain, digits_form, quoted_cases}
 use Rattle.tf_states.specs.declared.record.Entry.{Entry}
 use Rattle.tf_states.specs.declared.record.Failure.{Failure}
@@ -25,11 +24,10 @@ use Rattle.tf_model.specs.Plan.{Outline, count, is_task, atom_name}
 use Rattle.tf_entries.specs.Entries.{IsFailure, IsPayload, IsAmong, HasItsPayload}
 use Rattle.tf_report.specs.Lines.{failure_text, payload_text, what_text, part_word, atom_word, flow_word, kind_word, flow_name, line}
 use Rattle.tf_audit.specs.Names.{AreNamed}
-use Rattle.tf_audit.specs.Reading.{IsPlanEntry}
+use Rattle.tf_audit.specs.Verdicts.{IsPlanEntry, is_unfed}
 use Rattle.tf_audit.specs.Words.{is_blank, is_unbroken}
 use Rattle.tf_audit.proofs.WordLemmas.{name_unbroken, atom_word_unbroken, flow_word_unbroken, kind_word_unbroken}
 use Rattle.tf_audit.proofs.NumberLemmas.{number_unbroken, signed_unbroken, status_unbroken}
-use Rattle.tf_audit.specs.LogLines.{is_unfed}
 
 unbroken_byte : (byte : ℕ) → not (is_blank byte) ≡ true → not (byte == 10) ≡ true
 unbroken_byte byte is = grind (arith, nat_tests)

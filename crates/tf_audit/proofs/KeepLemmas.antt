@@ -8,11 +8,10 @@ use Rattle.tf_states.specs.declared.record.What.{What}
 use Rattle.tf_states.specs.declared.record.What.TheVariants as what
 use Rattle.tf_states.specs.declared.state.AtomState.{AtomState}
 use Rattle.tf_actions.specs.declared.orders.Order.{Order}
-use Rattle.tf_actions.specs.Whole.{IsWhole}
-use Rattle.tf_model.specs.History.{snapshot, state_of}
-use Rattle.tf_model.specs.Orders.{order_of, order_at, takes_up, before_start}
+use Rattle.tf_actions.specs.Gives.{IsWhole}
+use Rattle.tf_model.specs.History.{snapshot, state_of, Snapshot, is_at_work, state_after}
+use Rattle.tf_model.specs.Scope.{order_of, order_at, takes_up, before_start}
 use Rattle.tf_model.specs.Plan.{Outline, count, is_task}
-use Rattle.tf_model.specs.Snapshot.{Snapshot, is_at_work, state_after}
 use Rattle.tf_model.proofs.PlanLemmas.{task_below}
 use Rattle.tf_hands.specs.Hands.{asked_in}
 use Rattle.tf_order.proofs.SpreadLemmas.{get_set_same, get_set_other}

@@ -18,20 +18,16 @@ use Rattle.tf_states.specs.declared.state.AtomState.{AtomState}
 use Rattle.tf_states.specs.declared.state.AtomState.TheVariants as atom
 use Rattle.tf_states.specs.declared.state.FlowState.{FlowState}
 use Rattle.tf_values.proofs.WordLemmas.{own_digits}
-use Rattle.tf_model.specs.History.{snapshot, state_of, flow_of, payload_of}
+use Rattle.tf_model.specs.History.{snapshot, state_of, flow_of, payload_of, held_after, payload_after}
 use Rattle.tf_model.specs.Plan.{Outline, count, atom_name}
-use Rattle.tf_model.specs.Snapshot.{held_after, payload_after}
 use Rattle.tf_entries.specs.Entries.{IsPayload, HasItsPayload}
 use Rattle.tf_model.proofs.Told.{name_in}
-use Rattle.tf_report.specs.Lines.{line, lines, what_text, flow_name, flow_word, atom_word, payload_text}
-use Rattle.tf_report.specs.Table.{atom_line, atom_lines_below, table_shown, table}
-use Rattle.tf_audit.specs.LogLines.{log_lines, is_unfed, is_passed_over, is_examined}
+use Rattle.tf_report.specs.Lines.{line, lines, what_text, flow_name, flow_word, atom_word, payload_text, atom_line, atom_lines_below, table_shown, table}
+use Rattle.tf_audit.specs.Verdicts.{log_lines, is_unfed, is_passed_over, is_examined, IsPlanEntry, IsLegalLog}
 use Rattle.tf_audit.specs.Names.{AreNamed}
-use Rattle.tf_actions.specs.Far.{GivesFar}
-use Rattle.tf_model.specs.Orders.{HasOutcomes}
+use Rattle.tf_actions.specs.Gives.{GivesFar}
+use Rattle.tf_model.specs.Scope.{HasOutcomes}
 use Rattle.tf_model.specs.Steps.{LegalPast}
-use Rattle.tf_audit.specs.Reading.{IsPlanEntry}
-use Rattle.tf_audit.specs.Verdicts.{IsLegalLog}
 use Rattle.tf_audit.proofs.FeedLemmas.{said, line_said, said_unfed, unfed_both, unbroken_unfed, payload_unfed}
 use Rattle.tf_audit.proofs.LogLemmas.{line_first}
 use Rattle.tf_audit.proofs.WordLemmas.{name_unbroken, flow_word_unbroken, atom_word_unbroken}

@@ -12,7 +12,7 @@ use Rattle.tf_model.proofs.PlanLemmas.{atoms_counted}
 use Rattle.tf_entries.specs.Entries.{IsEntry, IsAmong, HasItsPayload}
 use Rattle.tf_report.specs.Lines.{line, what_text}
 use Rattle.tf_report.proofs.LineLemmas.{flows_counted}
-use Rattle.tf_audit.specs.Reading.{IsPlanEntry, IsLineOf, numbered_with}
+use Rattle.tf_audit.specs.Verdicts.{IsPlanEntry, IsLineOf, numbered_with}
 use Rattle.tf_audit.specs.Words.{IsFirstWord}
 use Rattle.tf_audit.proofs.NumberLemmas.{number_unbroken}
 

@@ -3,7 +3,7 @@ use Rattle.std.proofs.Common.{◌≡◌, ℕ, ◌+◌, ◌<◌, List, [], ◌∷
 use Rattle.std.proofs.lemmas.List.{take_more, take-append-drop}
 use Rattle.std.proofs.lemmas.Option.{slice_get_within, get_or_from_slice_get}
 use Rattle.std.proofs.lemmas.Bool.Decides.{nat_tests}
-use Rattle.tf_audit.specs.LogLines.{begun_with, log_lines, is_unfed}
+use Rattle.tf_audit.specs.Verdicts.{begun_with, log_lines, is_unfed}
 
 unfed_first : (byte : ℕ) (bytes : List ℕ) → is_unfed (byte ∷ bytes) ≡ true → (byte == 10) ≡ false
 unfed_first byte bytes is = grind (arith, nat_tests)

@@ -5,9 +5,8 @@ use Rattle.tf_numbers.proofs.TruthLemmas.{true_both}
 use Rattle.tf_states.specs.declared.record.Entry.{Entry}
 use Rattle.tf_model.specs.Plan.{Outline}
 use Rattle.tf_report.specs.Lines.{line, lines}
-use Rattle.tf_audit.specs.LogLines.{begun_with, log_lines, is_unfed, is_examined}
+use Rattle.tf_audit.specs.Verdicts.{begun_with, log_lines, is_unfed, is_examined, AreOfRun}
 use Rattle.tf_audit.specs.Names.{AreNamed}
-use Rattle.tf_audit.specs.Verdicts.{AreOfRun}
 use Rattle.tf_audit.proofs.FeedLemmas.{said, line_said}
 use Rattle.tf_audit.proofs.LawLemmas.{printed, printed_first}
 use Rattle.tf_audit.proofs.LogLemmas.{line_first}

@@ -10,14 +10,12 @@ use Rattle.std.proofs.lemmas.Bool.{false≢true}
 use Rattle.std.proofs.lemmas.List.{take_more}
 use Rattle.std.proofs.lemmas.Option.{slice_get-get_or, slice_get_within, get_or_from_slice_get}
 use Rattle.tf_numbers.proofs.TruthLemmas.{true_first, true_second, neither_first, neither_second}
-use Rattle.tf_values.specs.Name.{is_name}
+use Rattle.tf_values.specs.Text.{is_name}
 use Rattle.tf_flow.specs.declared.faults.PlanFault.TheVariants as fault
 use Rattle.tf_flow.specs.Limits.{capped, too_large}
-use Rattle.tf_flow.specs.Names.{same_name, is_among, first_again, first_again_after}
-use Rattle.tf_flow.specs.Places.{Place, name_at, is_atom, is_flow, tree_order}
+use Rattle.tf_flow.specs.Tree.{same_name, is_among, first_again, first_again_after, Place, name_at, is_atom, is_flow, tree_order, tree_of, nesting}
 use Rattle.tf_flow.specs.Plan.{PlanValue, atoms, flows}
-use Rattle.tf_flow.specs.Refusal.{first_refusal, duplicate, empty, broken_rule}
-use Rattle.tf_flow.specs.Tree.{tree_of, nesting}
+use Rattle.tf_flow.specs.Rules.{first_refusal, duplicate, empty, broken_rule}
 use Rattle.tf_model.specs.Plan.{outline_of, count, atom_name}
 use Rattle.tf_model.proofs.PlanLemmas.{atoms_counted, name_told}
 use Rattle.tf_report.specs.Lines.{flow_name}

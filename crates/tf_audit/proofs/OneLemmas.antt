@@ -6,9 +6,8 @@ use Rattle.std.specs.Str.{bytes_eq}
 use Rattle.std.specs.Fmt.{decimal, signed_decimal}
 use Rattle.std.proofs.lemmas.Fmt.{decimal_injective, signed_decimal_injective}
 use lib.Signed.{mag}
-use Rattle.tf_values.specs.Name.{is_name}
-use Rattle.tf_values.specs.Text.{is_text}
-use Rattle.tf_values.specs.TextForm.{quoted, text_form}
+use Rattle.tf_values.specs.Text.{is_name, is_text}
+use Rattle.tf_values.specs.Value.{quoted, text_form}
 use Rattle.tf_values.specs.declared.value.Val.{Val}
 use Rattle.tf_values.specs.declared.value.Val.TheVariants as value
 use Rattle.tf_values.proofs.ValueLemmas.{value_text_one}

@@ -14,8 +14,7 @@ use Rattle.tf_actions.specs.declared.outcomes.Action.{Action}
 use Rattle.tf_actions.specs.declared.outcomes.Action.TheVariants as action
 use Rattle.tf_actions.specs.declared.outcomes.Outcome.{Outcome}
 use Rattle.tf_actions.specs.Built.{built}
-use Rattle.tf_actions.specs.Far.{GivesFar, FailsFar}
-use Rattle.tf_actions.specs.Gives.{Gives, GivesExecuted, GivesText}
+use Rattle.tf_actions.specs.Gives.{GivesFar, FailsFar, Gives, GivesExecuted, GivesText}
 use Rattle.tf_tasks.specs.Program.{is_program}
 use Rattle.tf_audit.specs.Outcomes.{EndsProgram}
 

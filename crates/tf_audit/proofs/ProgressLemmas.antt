@@ -9,12 +9,11 @@ use Rattle.tf_flow.specs.Plan as numbering
 use Rattle.tf_states.specs.declared.record.Entry.{Entry}
 use Rattle.tf_states.specs.declared.state.FlowState.{FlowState}
 use Rattle.tf_actions.specs.declared.orders.Order.{Order}
-use Rattle.tf_actions.specs.Far.{GivesFar}
-use Rattle.tf_model.specs.History.{snapshot, flow_of}
-use Rattle.tf_model.specs.Orders.{IsGiven}
+use Rattle.tf_actions.specs.Gives.{GivesFar}
+use Rattle.tf_model.specs.History.{snapshot, flow_of, Snapshot}
+use Rattle.tf_model.specs.Scope.{IsGiven}
 use Rattle.tf_model.specs.Plan.{Outline, outline_of, count}
 use Rattle.tf_model.proofs.PlanLemmas.{atoms_counted}
-use Rattle.tf_model.specs.Snapshot.{Snapshot}
 use Rattle.tf_model.specs.Steps.{Step}
 use Rattle.tf_machine.specs.Machine.{outline, shown, StandsFor}
 use Rattle.tf_report.specs.Lines.{lines}
@@ -24,12 +23,10 @@ use Rattle.tf_audit.specs.declared.verdicts.Verdict.TheVariants as verdict
 use Rattle.tf_audit.specs.declared.verdicts.Why.{Why}
 use Rattle.tf_audit.specs.declared.verdicts.Why.TheVariants as why
 use Rattle.tf_audit.specs.Kept.{KeepsOrders, Follows as MayFollow}
-use Rattle.tf_audit.specs.LogLines.{log_lines, is_passed_over, is_examined}
+use Rattle.tf_audit.specs.Verdicts.{log_lines, is_passed_over, is_examined, IsLineOf, IsUnreadable, AreOfRun, IsExpected, MayNot, IsFaulty, IsVerdict}
 use Rattle.tf_audit.specs.Names.{AreNamed}
 use Rattle.tf_audit.specs.Progress.{CanGoOn, AreWhole, orders_with, IsKeptOf, HasTaken, TakesEntry, HasCome, CannotBe, TakesLine, HasFollowed, IsLegalSoFar}
-use Rattle.tf_audit.specs.Reading.{IsLineOf, IsUnreadable}
 use Rattle.tf_audit.specs.Starts.{TakesNone, IsTakenUp}
-use Rattle.tf_audit.specs.Verdicts.{AreOfRun, IsExpected, MayNot, IsFaulty, IsVerdict}
 use Rattle.tf_audit.proofs.KeepLemmas.{keeps_with, keeps_none, whole_with, asked_below, asked_whole, length_with}
 
 -- ---- one line more of a run

@@ -3,22 +3,19 @@ use Rattle.std.proofs.Common.{◌≡◌, ◌≢◌, ℕ, ◌+◌, ◌-◌, ◌<�
 use Rattle.std.specs.List.{AllByRecursion}
 use Rattle.std.proofs.lemmas.List.Elements.{filter-append}
 use Rattle.tf_flow.specs.Plan.{PlanValue}
-use Rattle.tf_flow.specs.Refusal.{first_refusal}
+use Rattle.tf_flow.specs.Rules.{first_refusal}
 use Rattle.tf_states.specs.declared.record.Entry.{Entry}
 use Rattle.tf_states.specs.declared.record.What.{What}
 use Rattle.tf_states.specs.declared.state.FlowState.{FlowState}
-use Rattle.tf_actions.specs.Far.{GivesFar}
-use Rattle.tf_model.specs.Candidates.{choice}
-use Rattle.tf_model.specs.Forced.{forced}
+use Rattle.tf_actions.specs.Gives.{GivesFar}
+use Rattle.tf_model.specs.Forced.{choice, forced}
 use Rattle.tf_model.specs.History.{snapshot, flow_of}
-use Rattle.tf_model.specs.Orders.{IsGiven, HasOutcomes}
+use Rattle.tf_model.specs.Scope.{IsGiven, HasOutcomes}
 use Rattle.tf_model.specs.Plan.{Outline, outline_of}
 use Rattle.tf_model.specs.Steps.{Step, LegalPast}
 use Rattle.tf_report.specs.Lines.{line}
-use Rattle.tf_audit.specs.LogLines.{log_lines, is_examined}
+use Rattle.tf_audit.specs.Verdicts.{log_lines, is_examined, IsPlanEntry, IsLineOf, AreOfRun, IsFaulty, IsLegalLog, IsBadLog, IsVerdict}
 use Rattle.tf_audit.specs.Names.{AreNamed}
-use Rattle.tf_audit.specs.Reading.{IsPlanEntry, IsLineOf}
-use Rattle.tf_audit.specs.Verdicts.{AreOfRun, IsFaulty, IsLegalLog, IsBadLog, IsVerdict}
 use Rattle.tf_audit.specs.declared.verdicts.Verdict.{Verdict}
 use Rattle.tf_audit.specs.declared.verdicts.Verdict.TheVariants as verdict
 use Rattle.tf_audit.specs.declared.verdicts.Why.{Why}

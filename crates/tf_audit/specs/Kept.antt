@@ -2,10 +2,9 @@
 use Rattle.std.specs.Prelude.{◌≡◌, ℕ, List, true, Option, Some, slice_get}
 use Rattle.tf_states.specs.declared.record.Entry.{Entry}
 use Rattle.tf_actions.specs.declared.orders.Order.{Order}
-use Rattle.tf_model.specs.History.{state_of}
-use Rattle.tf_model.specs.Orders.{order_at}
+use Rattle.tf_model.specs.History.{state_of, is_at_work}
+use Rattle.tf_model.specs.Scope.{order_at}
 use Rattle.tf_model.specs.Plan.{Outline, is_task}
-use Rattle.tf_model.specs.Snapshot.{is_at_work}
 use Rattle.tf_hands.specs.Hands.{asked_in}
 use Rattle.tf_model.specs.Steps.{Step}
 use Rattle.tf_machine.specs.Machine.{MachineValue, StandsFor, outline, shown}

@@ -1,11 +1,8 @@
 pub mod Words
 pub mod Events
 pub mod Names
-pub mod Reading
-pub mod LogLines
-pub mod Outcomes
 pub mod Verdicts
+pub mod Outcomes
 pub mod Starts
 pub mod Kept
 pub mod Progress
-pub mod Texts

@@ -1,6 +1,6 @@
 -- The names of a plan's atoms and flows.
 use Rattle.std.specs.Prelude.{◌≡◌, ℕ, ◌<◌, length, true}
-use Rattle.tf_values.specs.Name.{is_name}
+use Rattle.tf_values.specs.Text.{is_name}
 use Rattle.tf_model.specs.Plan.{Outline, count, atom_name}
 use Rattle.tf_report.specs.Lines.{flow_name}
 

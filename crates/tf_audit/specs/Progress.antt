@@ -4,10 +4,9 @@ use Rattle.tf_flow.specs.Plan as numbering
 use Rattle.tf_states.specs.declared.record.Entry.{Entry}
 use Rattle.tf_states.specs.declared.state.FlowState.{FlowState}
 use Rattle.tf_actions.specs.declared.orders.Order.{Order}
-use Rattle.tf_actions.specs.Far.{GivesFar}
-use Rattle.tf_actions.specs.Whole.{IsWhole}
+use Rattle.tf_actions.specs.Gives.{GivesFar, IsWhole}
 use Rattle.tf_model.specs.History.{snapshot, flow_of}
-use Rattle.tf_model.specs.Orders.{IsGiven}
+use Rattle.tf_model.specs.Scope.{IsGiven}
 use Rattle.tf_model.specs.Plan.{Outline, count}
 use Rattle.tf_model.specs.Steps.{Step}
 use Rattle.tf_machine.specs.Machine.{outline, StandsFor}
@@ -16,9 +15,8 @@ use Rattle.tf_audit.specs.declared.verdicts.Verdict.{Verdict}
 use Rattle.tf_audit.specs.declared.verdicts.Verdict.TheVariants as verdict
 use Rattle.tf_audit.specs.declared.verdicts.Why.{Why}
 use Rattle.tf_audit.specs.Kept.{KeepsOrders}
-use Rattle.tf_audit.specs.LogLines.{log_lines, is_examined}
+use Rattle.tf_audit.specs.Verdicts.{log_lines, is_examined, AreOfRun, MayNot, IsFaulty}
 use Rattle.tf_audit.specs.Names.{AreNamed}
-use Rattle.tf_audit.specs.Verdicts.{AreOfRun, MayNot, IsFaulty}
 
 -- the orders that are kept are those that a performer can be asked for
 abbrev pub AreWhole : List (Option Order) → Type 0

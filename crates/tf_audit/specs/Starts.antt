@@ -2,10 +2,10 @@
 use Rattle.std.specs.Prelude.{◌≡◌, ℕ, Some, true, false}
 use Rattle.tf_states.specs.declared.record.What.{What}
 use Rattle.tf_actions.specs.declared.orders.Order.{Order}
-use Rattle.tf_actions.specs.Whole.{IsWhole}
-use Rattle.tf_model.specs.Orders.{order_of, takes_up}
+use Rattle.tf_actions.specs.Gives.{IsWhole}
+use Rattle.tf_model.specs.Scope.{order_of, takes_up}
 use Rattle.tf_model.specs.Plan.{Outline, is_task}
-use Rattle.tf_model.specs.Snapshot.{Snapshot, state_after}
+use Rattle.tf_model.specs.History.{Snapshot, state_after}
 use Rattle.tf_hands.specs.Hands.{asked_in}
 use Rattle.tf_hands.specs.declared.starts.Start.{Start}
 

@@ -1,8 +1,7 @@
 //! The verdict on a log.
 
 ghost use Rattle.std.specs.Prelude.{◌≡◌, [], None, IfOk, OnOk, IfErr};
-ghost use Rattle.tf_model.specs.Compilation.{compile_refusal};
-ghost use Rattle.tf_model.specs.Plan.{outline_of};
+ghost use Rattle.tf_model.specs.Plan.{compile_refusal, outline_of};
 ghost use Rattle.tf_model.specs.Scope.{missing_symbol};
 ghost use Rattle.tf_machine.specs.Answers.{IsBuildRefusal};
 ghost use Rattle.tf_machine.specs.Machine.{outline, StandsFor};

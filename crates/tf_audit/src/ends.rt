@@ -2,9 +2,8 @@ ghost use Rattle.std.specs.Prelude.{◌≡◌, ◌↔◌, IsTrue, ℕ, List, Som
 ghost use Rattle.tf_states.specs.declared.record.Entry.{Entry as Record};
 ghost use Rattle.tf_states.specs.declared.record.What.TheVariants as event;
 ghost use Rattle.tf_actions.specs.declared.orders.Order.{Order as Asked};
-ghost use Rattle.tf_actions.specs.Far.{GivesFar};
-ghost use Rattle.tf_actions.specs.Whole.{IsWhole};
-ghost use Rattle.tf_model.specs.Orders.{IsGiven};
+ghost use Rattle.tf_actions.specs.Gives.{GivesFar, IsWhole};
+ghost use Rattle.tf_model.specs.Scope.{IsGiven};
 ghost use Rattle.tf_hands.specs.Hands.{is_over as has_ended};
 ghost use Rattle.tf_machine.specs.Machine.{outline};
 ghost use Rattle.tf_audit.specs.Kept.{Follows};

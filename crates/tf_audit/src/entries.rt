@@ -10,7 +10,7 @@ ghost use Rattle.tf_entries.specs.Entries.{IsAmong, HasItsPayload, IsPayload, is
 ghost use Rattle.tf_report.specs.Lines.{what_text, atom_word};
 ghost use Rattle.tf_audit.specs.Events.{event_with as event_of_parts, resolve_with, payload_rest};
 ghost use Rattle.tf_audit.specs.Names.{AreNamed};
-ghost use Rattle.tf_audit.specs.Reading.{IsLineOf, IsReading, numbered_with};
+ghost use Rattle.tf_audit.specs.Verdicts.{IsLineOf, IsReading, numbered_with};
 ghost use Rattle.tf_audit.specs.Words.{resolution_named};
 
 use crate::limits::is_of_plan;

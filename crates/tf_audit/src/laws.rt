@@ -3,18 +3,16 @@
 ghost use Rattle.std.specs.Prelude.{◌≡◌, ◌<◌, ◌^◌, ◌-◌, ◌++◌, ℕ, List, length};
 ghost use Rattle.std.specs.List.{AllByRecursion};
 ghost use Rattle.tf_states.specs.declared.record.Entry.{Entry};
-ghost use Rattle.tf_actions.specs.Far.{GivesFar};
+ghost use Rattle.tf_actions.specs.Gives.{GivesFar};
 ghost use Rattle.tf_model.specs.History.{snapshot, flow_of};
-ghost use Rattle.tf_model.specs.Orders.{HasOutcomes};
+ghost use Rattle.tf_model.specs.Scope.{HasOutcomes};
 ghost use Rattle.tf_model.specs.Plan.{Outline, outline_of};
 ghost use Rattle.tf_model.specs.Steps.{LegalPast};
-ghost use Rattle.tf_report.specs.Lines.{lines};
-ghost use Rattle.tf_report.specs.Table.{table};
+ghost use Rattle.tf_report.specs.Lines.{lines, table};
 ghost use Rattle.tf_audit.specs.declared.verdicts.Verdict.{Verdict};
 ghost use Rattle.tf_audit.specs.declared.verdicts.Verdict.TheVariants as verdict;
 ghost use Rattle.tf_audit.specs.Names.{AreNamed};
-ghost use Rattle.tf_audit.specs.Reading.{IsPlanEntry};
-ghost use Rattle.tf_audit.specs.Verdicts.{IsVerdict};
+ghost use Rattle.tf_audit.specs.Verdicts.{IsPlanEntry, IsVerdict};
 
 use crate::names::names_are_names;
 use tf_flow::Plan;

@@ -1,7 +1,7 @@
 ghost use Rattle.std.specs.Prelude.{◌≡◌, ◌↔◌, IsTrue};
 ghost use Rattle.tf_model.specs.Plan.{outline_of};
 ghost use Rattle.tf_entries.specs.Entries.{IsEntry, IsAmong, HasItsPayload, IsPayload, IsFailure, is_payload_of};
-ghost use Rattle.tf_audit.specs.Reading.{IsPlanEntry};
+ghost use Rattle.tf_audit.specs.Verdicts.{IsPlanEntry};
 
 use tf_flow::Plan;
 use tf_states::{AtomState, Entry, Failure, Payload, What};

@@ -1,5 +1,5 @@
 ghost use Rattle.std.specs.Prelude.{◌≡◌, ◌∷◌, [], ◌<◌, true, Some, length, take, slice_get, MatchOption};
-ghost use Rattle.tf_audit.specs.LogLines.{log_lines, is_unfed, is_passed_over as is_no_entry};
+ghost use Rattle.tf_audit.specs.Verdicts.{log_lines, is_unfed, is_passed_over as is_no_entry};
 
 /// The first line with its line feed, and what stands behind it; none where there is no line feed.
 pub fn first_line(bytes: &[u8]) -> Option<(&[u8], &[u8])>

@@ -1,6 +1,6 @@
 ghost use Rattle.std.specs.Prelude.{◌≡◌, ◌<◌, ℕ, Some, IfOk, true, length, slice_get};
 ghost use Rattle.tf_flow.specs.Plan as numbering;
-ghost use Rattle.tf_values.specs.Name.{is_name};
+ghost use Rattle.tf_values.specs.Text.{is_name};
 ghost use Rattle.tf_model.specs.Plan.{outline_of, atom_name};
 ghost use Rattle.tf_report.specs.Lines.{flow_name};
 ghost use Rattle.tf_audit.specs.Names.{AreNamed};

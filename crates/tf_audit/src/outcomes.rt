@@ -1,9 +1,7 @@
 ghost use Rattle.std.specs.Prelude.{◌≡◌, ◌↔◌, IsTrue, IfOk};
 ghost use Rattle.tf_states.specs.declared.record.Failure.{Failure as Fault};
 ghost use Rattle.tf_actions.specs.declared.outcomes.Outcome.TheVariants as came;
-ghost use Rattle.tf_actions.specs.Far.{GivesFar, FailsFar, is_sent as goes_far, is_far_failure as is_far};
-ghost use Rattle.tf_actions.specs.Gives.{GivesText, GivesNothing, IsProgramFailure};
-ghost use Rattle.tf_actions.specs.Whole.{IsWhole};
+ghost use Rattle.tf_actions.specs.Gives.{GivesFar, FailsFar, is_sent as goes_far, is_far_failure as is_far, GivesText, GivesNothing, IsProgramFailure, IsWhole};
 ghost use Rattle.tf_tasks.specs.Program.{is_program as asks_program};
 ghost use Rattle.tf_audit.specs.Outcomes.{outcome_in, EndsProgram};
 

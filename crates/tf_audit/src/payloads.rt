@@ -1,7 +1,6 @@
 ghost use Rattle.std.specs.Prelude.{◌≡◌, ◌++◌, ◌∷◌, [], true, Some, IfOk};
 ghost use Rattle.tf_values.specs.declared.value.Val.{Val as Value};
-ghost use Rattle.tf_values.specs.TextForm.{text_form};
-ghost use Rattle.tf_values.specs.Value.{IsValue};
+ghost use Rattle.tf_values.specs.Value.{text_form, IsValue};
 ghost use Rattle.tf_states.specs.declared.record.Failure.{Failure as Fault};
 ghost use Rattle.tf_states.specs.declared.record.Payload.{Payload as Held};
 ghost use Rattle.tf_states.specs.declared.record.Payload.TheVariants as held;

@@ -6,9 +6,8 @@ ghost use Rattle.tf_model.specs.Plan.{Outline};
 ghost use Rattle.tf_machine.specs.Answers.{IsBack};
 ghost use Rattle.tf_machine.specs.Machine.{outline, shown, StandsFor};
 ghost use Rattle.tf_machine.specs.declared.faults.ApplyFault.TheVariants.{NotAStep as refuses};
-ghost use Rattle.tf_audit.specs.LogLines.{is_examined};
+ghost use Rattle.tf_audit.specs.Verdicts.{is_examined, IsExpected};
 ghost use Rattle.tf_audit.specs.Progress.{AreWhole, CanGoOn, HasCome, TakesEntry, TakesLine, IsLegalSoFar, orders_with};
-ghost use Rattle.tf_audit.specs.Verdicts.{IsExpected};
 
 use crate::ends::fits;
 use crate::entries::read_line;

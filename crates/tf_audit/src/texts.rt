@@ -3,7 +3,7 @@
 ghost use Rattle.std.specs.Prelude.{◌≡◌, ◌≤◌, ◌++◌, ◌∷◌, [], length, drop, OnOk};
 ghost use Rattle.tf_model.specs.Plan.{outline_of, atom_name};
 ghost use Rattle.tf_report.specs.Lines.{what_text};
-ghost use Rattle.tf_audit.specs.Texts.{start_word as word_of_start, why_text, verdict_text};
+ghost use Rattle.tf_audit.specs.Verdicts.{start_word as word_of_start, why_text, verdict_text};
 
 use crate::names::name_of_atom;
 use crate::verdicts::{Verdict, Why};
@@ -18,7 +18,7 @@ use tf_values::Memory;
 const NUMBERS: usize = 4;
 
 /// Appends the text of a verdict on a log of the plan's runs.
-#[tactic(auto, unfolding(crate::specs::Texts::verdict_text))]
+#[tactic(auto, unfolding(crate::specs::Verdicts::verdict_text))]
 pub fn append_verdict(
     alloc: Global,
     plan: &Plan,

@@ -1,8 +1,7 @@
 ghost use Rattle.std.specs.Prelude.{◌≡◌, ◌++◌, ◌∷◌, [], ℕ, List, true, Some, IfOk};
 ghost use Rattle.tf_values.specs.declared.value.Val.{Val as Value};
 ghost use Rattle.tf_values.specs.Text.{is_text};
-ghost use Rattle.tf_values.specs.TextForm.{text_form, quoted};
-ghost use Rattle.tf_values.specs.Value.{IsValue};
+ghost use Rattle.tf_values.specs.Value.{text_form, quoted, IsValue};
 ghost use Rattle.tf_audit.specs.Events.{text_within};
 
 use std::alloc::Global;

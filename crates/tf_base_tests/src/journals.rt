@@ -1,6 +1,6 @@
 ghost use Rattle.std.specs.Prelude.{◌≡◌, [], IfOk, length};
 ghost use Rattle.tf_desk.specs.Acts.{content_after};
-ghost use Rattle.tf_desk.specs.Content.{bytes_of};
+ghost use Rattle.tf_desk.specs.Crash.{bytes_of};
 
 use std::alloc::Global;
 use std::process::Abort;

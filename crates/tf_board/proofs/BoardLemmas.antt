@@ -4,16 +4,14 @@ use Rattle.std.specs.Prelude.{slice_get}
 use Rattle.std.proofs.lemmas.Option.{slice_get-get_or}
 use Rattle.tf_desk.specs.State.{DeskState, bytes_now, MayLeave, GoesOn}
 use Rattle.tf_desk.proofs.StateLemmas.{goes_none}
-use Rattle.tf_journal.specs.Held.{Held}
-use Rattle.tf_journal.specs.Rest.{IsAtRest}
-use Rattle.tf_journal.specs.Format.{title_of, recovered, bodies}
+use Rattle.tf_journal.specs.Format.{Held, IsAtRest, title_of, recovered, bodies}
 use Rattle.tf_journal.specs.declared.title.Title.{Title}
 use Rattle.tf_journal.specs.declared.title.Title.TheVariants.{Jobs as jobs_title}
 use Rattle.tf_journal.proofs.HeaderLemmas.{sixteen}
 use Rattle.tf_journal.proofs.LieLemmas.{recovered_lies}
 use Rattle.tf_board.specs.Board.{BoardValue, board_in, bodies_of, Holds, LeavesHeld, IsSound}
 use Rattle.tf_board.specs.Jobs.{refused_at, refused_of, refuses_id, jobs_of, numbered, place_of, named, owner_in, owner_of}
-use Rattle.tf_board.specs.Recording.{LeavesRecorded, FailsToRecord, Records, fault_of, number_at, applied, Acts}
+use Rattle.tf_board.specs.Answers.{LeavesRecorded, FailsToRecord, Records, fault_of, number_at, applied, Acts}
 use Rattle.tf_board.specs.declared.board.Owner.TheVariants as owned
 use Rattle.tf_board.specs.declared.commands.Command.{Command}
 use Rattle.tf_board.specs.declared.commands.Command.TheVariants as command

@@ -6,8 +6,7 @@ use Rattle.tf_journal.specs.Start.{file_of}
 use Rattle.tf_words.specs.declared.asked.Asked.{Asked}
 use Rattle.tf_words.specs.declared.asked.Asked.TheVariants as words
 use Rattle.tf_board.specs.Answers.{answer_of, board_of, acts, tells_owner}
-use Rattle.tf_report.specs.Faults.{disk_fault_text, book_full}
-use Rattle.tf_report.specs.Closing.{ClosesWithOrStops}
+use Rattle.tf_report.specs.Closing.{disk_fault_text, book_full, ClosesWithOrStops}
 use Rattle.tf_report.proofs.ClosingLemmas.{ends_status}
 use Rattle.tf_report.specs.declared.statuses.TheConstants.{DISK_FAILED, NO_BOOK, UNSAID, FULL}
 use Rattle.tf_board.specs.Board.{board_in}

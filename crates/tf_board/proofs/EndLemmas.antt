@@ -1,22 +1,19 @@
 -- How a command on a board ends: from what was reached, and from a board that couldn't be opened.
 use Rattle.std.proofs.Common.{◌≡◌, ◌≢◌, ◌⊎◌, ℕ, List, [], Option, Some, None, refl, sym, ap, ◌∙◌, subst, inl, inr, ⊎_elim, append-nil}
 use Rattle.std.specs.Prelude.{IsTrue, unwrap_or}
-use Rattle.tf_desk.specs.Counts.{Rises}
-use Rattle.tf_desk.specs.Shown.{ShowsPrefix}
+use Rattle.tf_desk.specs.Crash.{Rises, ShowsPrefix}
 use Rattle.tf_desk.specs.State.{DeskState, anything, OnDisk, Says}
 use Rattle.tf_desk.proofs.StateLemmas.{on_disk_told, on_disk_extends, says_extends, extends_none, extends_on, extends_within}
-use Rattle.tf_journal.specs.Path.{Path}
-use Rattle.tf_journal.specs.Start.{file_of}
+use Rattle.tf_journal.specs.Start.{Path, file_of}
 use Rattle.tf_journal.specs.declared.faults.LoadFault.{LoadFault}
 use Rattle.tf_journal.specs.declared.faults.LoadFault.TheVariants as load_fault
 use Rattle.tf_journal.proofs.PathLemmas.{path_said, path_widens}
 use Rattle.tf_records.specs.Refusing.{no_journal, bad_body}
-use Rattle.tf_board.specs.Board.{BoardValue, board_in, IsNoBoard}
+use Rattle.tf_board.specs.Board.{BoardValue, board_in, IsNoBoard, IsAsBeforeOrMade, IsOpened, IsUnopened}
 use Rattle.tf_board.specs.Does.{HoldsEither, LeavesCommand, Reached, Ends, EndsUnmade, Concludes, HasCauses}
 use Rattle.tf_report.specs.Closing.{ClosesWith}
 use Rattle.tf_report.proofs.ClosingLemmas.{closes_from}
 use Rattle.tf_report.specs.declared.statuses.TheConstants.{DISK_FAILED, UNSAID, OUT_OF_MEMORY}
-use Rattle.tf_board.specs.Opening.{IsAsBeforeOrMade, IsOpened, IsUnopened}
 use Rattle.tf_board.specs.declared.commands.Command.{Command}
 
 -- nothing that is said is a prefix of any text

@@ -4,14 +4,14 @@ use Rattle.std.specs.Int.{to_be_bytes, from_be_bytes}
 use Rattle.std.proofs.lemmas.Nat.{be_bytes_8, from_be_bytes-to_be_bytes_8}
 use Rattle.tf_states.specs.declared.priorities.Priority.{Priority}
 use Rattle.tf_states.specs.declared.priorities.Priority.TheVariants as priority
-use Rattle.tf_values.specs.Name.{is_name}
+use Rattle.tf_values.specs.Text.{is_name}
 use Rattle.tf_values.specs.Value.{IsValue, byte_form, BeginsWith}
 use Rattle.tf_values.specs.declared.value.Val.{Val}
 use Rattle.tf_values.proofs.NameLemmas.{length-is_name}
 use Rattle.tf_values.proofs.NumberLemmas.{IsCut}
 use Rattle.tf_values.proofs.RoomLemmas.{byte_form_is_short}
 use Rattle.tf_values.proofs.ValueLemmas.{value_byte_one}
-use Rattle.tf_board.specs.Commands.{name_bytes, priority_byte, action_byte, command_bytes, IsCommand}
+use Rattle.tf_board.specs.Jobs.{name_bytes, priority_byte, action_byte, command_bytes, IsCommand}
 use Rattle.tf_board.specs.declared.commands.Command.{Command}
 use Rattle.tf_board.specs.declared.commands.Command.TheVariants as command
 use Rattle.tf_board.specs.declared.commands.JobAction.{JobAction}

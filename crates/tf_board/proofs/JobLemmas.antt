@@ -19,7 +19,7 @@ use Rattle.tf_board.specs.declared.commands.JobAction.TheVariants as action
 use Rattle.tf_board.specs.declared.jobs.Job.{Job}
 use Rattle.tf_board.specs.declared.jobs.Standing.{Standing}
 use Rattle.tf_board.specs.declared.jobs.Standing.TheVariants as standing
-use Rattle.tf_board.specs.Kept.{IsChange}
+use Rattle.tf_board.specs.Board.{IsChange}
 use Rattle.tf_board.specs.declared.kept.Change.{Change}
 use Rattle.tf_board.specs.declared.kept.Change.TheVariants as change
 use Rattle.tf_board.specs.declared.rules.Refusal.TheVariants as refusal

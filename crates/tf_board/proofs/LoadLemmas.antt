@@ -4,16 +4,13 @@ use Rattle.std.specs.Prelude.{IsTrue, IfOk, IfErr}
 use Rattle.tf_desk.specs.State.{DeskState, bytes_now, Rests, GoesOn}
 use Rattle.tf_desk.proofs.CountLemmas.{rises_later}
 use Rattle.tf_desk.proofs.StateLemmas.{on_disk_told, goes_within, rests_then_goes}
-use Rattle.tf_journal.specs.Format.{bodies, unborn, title_of}
-use Rattle.tf_journal.specs.Held.{Held}
-use Rattle.tf_journal.specs.Rest.{IsAtRest, LeavesBirth}
+use Rattle.tf_journal.specs.Format.{bodies, unborn, title_of, Held, IsAtRest, LeavesBirth}
 use Rattle.tf_journal.specs.declared.faults.LoadFault.{LoadFault}
 use Rattle.tf_journal.specs.declared.faults.LoadFault.TheVariants as load_fault
 use Rattle.tf_journal.specs.declared.title.Title.TheVariants.{Jobs as jobs_title}
 use Rattle.tf_records.specs.Replaying.{FailsToReadBack}
 use Rattle.tf_records.proofs.ReplayLemmas.{unread}
-use Rattle.tf_board.specs.Board.{BoardValue, board_in, bodies_of, IsRefusedCommand}
-use Rattle.tf_board.specs.Loading.{IsReadyBoard, IsLoadedBoard, FailsToMake, FailsToLoad, LeavesLoad}
+use Rattle.tf_board.specs.Board.{BoardValue, board_in, bodies_of, IsRefusedCommand, IsReadyBoard, IsLoadedBoard, FailsToMake, FailsToLoad, LeavesLoad}
 use Rattle.tf_board.specs.declared.commands.Command.{Command}
 use Rattle.tf_board.proofs.BoardLemmas.{rest_holds, rest_leaves_held}
 

@@ -2,24 +2,19 @@
 use Rattle.std.proofs.Common.{◌≡◌, ℕ, List, [], Option, Some, Result, Ok, Err, refl, sym, ap, ◌∙◌, subst, inl, inr, ⊎_elim}
 use Rattle.std.specs.Prelude.{IsTrue, IfOk, IfErr}
 use Rattle.tf_desk.specs.ActLaws.{bytes_of-picked}
-use Rattle.tf_desk.specs.Counts.{Rises}
-use Rattle.tf_desk.specs.Crash.{Pairs}
+use Rattle.tf_desk.specs.Crash.{Rises, Pairs}
 use Rattle.tf_desk.specs.State.{DeskState, anything, bytes_now, MayLeave, OnDisk, Rests, GoesOn}
 use Rattle.tf_desk.proofs.CountLemmas.{rises_later}
 use Rattle.tf_desk.proofs.StateLemmas.{on_disk_told, on_disk_on, rests_on}
-use Rattle.tf_journal.specs.Format.{unborn, title_of}
-use Rattle.tf_journal.specs.Path.{IsSet, Untouched, Open}
-use Rattle.tf_journal.specs.Rest.{LeavesBirth, HasSynced, IsSynced}
-use Rattle.tf_journal.specs.Start.{file_of}
+use Rattle.tf_journal.specs.Format.{unborn, title_of, LeavesBirth, HasSynced, IsSynced}
+use Rattle.tf_journal.specs.Start.{IsSet, Untouched, Open, file_of}
 use Rattle.tf_journal.specs.declared.faults.LoadFault.{LoadFault}
 use Rattle.tf_journal.specs.declared.title.Title.TheVariants.{Jobs as jobs_title}
 use Rattle.tf_journal.specs.declared.faults.LoadFault.TheVariants as load_fault
 use Rattle.tf_journal.proofs.CrashLemmas.{synced_on}
 use Rattle.tf_journal.proofs.OpenLemmas.{picked_bytes, opened, open_set}
 use Rattle.tf_journal.proofs.PathLemmas.{set_on, set_start, path_on, path_widens, left_then, as_read}
-use Rattle.tf_board.specs.Board.{BoardValue, board_in, Holds, Finds, RefusesBoard}
-use Rattle.tf_board.specs.Loading.{desk_loaded, IsLoadedBoard, FailsToLoad}
-use Rattle.tf_board.specs.Opening.{IsAsBeforeOrMade, IsPicked, IsOpened, IsUnopened, Opens}
+use Rattle.tf_board.specs.Board.{BoardValue, board_in, Holds, Finds, RefusesBoard, desk_loaded, IsLoadedBoard, FailsToLoad, IsAsBeforeOrMade, IsPicked, IsOpened, IsUnopened, Opens}
 use Rattle.tf_board.specs.declared.commands.Command.{Command}
 use Rattle.tf_board.proofs.DeskLaws.{KeepsLaws}
 

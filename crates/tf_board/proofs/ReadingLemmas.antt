@@ -2,15 +2,13 @@
 use Rattle.std.proofs.Common.{◌≡◌, ℕ, ◌+◌, List, [], ◌∷◌, length, refl, sym, ◌∙◌, ap, subst, arith, length-append}
 use Rattle.std.specs.List.{flat_map}
 use Rattle.tf_desk.specs.State.{DeskState}
-use Rattle.tf_journal.specs.Format.{OPEN, record_of, prefix_of, title_of}
-use Rattle.tf_journal.specs.Held.{Held}
+use Rattle.tf_journal.specs.Format.{OPEN, record_of, prefix_of, title_of, Held}
 use Rattle.tf_journal.specs.declared.title.Title.{Title}
 use Rattle.tf_journal.specs.declared.title.Title.TheVariants.{Jobs as jobs_title}
 use Rattle.tf_journal.proofs.ReachLemmas.{flat_map-push, length-record_of}
 use Rattle.tf_records.specs.Replaying.{HasReadAll}
-use Rattle.tf_board.specs.Board.{bodies_of, size_of}
-use Rattle.tf_board.specs.Commands.{command_bytes}
-use Rattle.tf_board.specs.Kept.{past_in, IsTrueTo}
+use Rattle.tf_board.specs.Board.{bodies_of, size_of, past_in, IsTrueTo}
+use Rattle.tf_board.specs.Jobs.{command_bytes}
 use Rattle.tf_board.specs.Reading.{HasReadCommands, HasReadBoard}
 use Rattle.tf_board.specs.declared.commands.Command.{Command}
 use Rattle.tf_board.specs.declared.kept.Kept.{Kept}

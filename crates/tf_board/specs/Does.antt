@@ -1,20 +1,15 @@
 -- What becomes of a command on a board. Lists of commands have the newest first.
 use Rattle.std.specs.Prelude.{◌≡◌, ◌≢◌, ◌⊎◌, ◌<◌, ℕ, ◌+◌, IsTrue, List, [], ◌∷◌, ◌++◌, length, Option, Some}
-use Rattle.tf_desk.specs.Counts.{Rises}
-use Rattle.tf_desk.specs.Crash.{Pairs}
-use Rattle.tf_desk.specs.Shown.{ShowsPrefix}
+use Rattle.tf_desk.specs.Crash.{Rises, Pairs, ShowsPrefix}
 use Rattle.tf_desk.specs.State.{DeskState, anything, OnDisk, Extends, IsUnasked}
 use Rattle.tf_journal.specs.Format.{SIZE_LIMIT, Recovered}
-use Rattle.tf_journal.specs.Path.{Path}
-use Rattle.tf_journal.specs.Start.{file_of, IsStart}
+use Rattle.tf_journal.specs.Start.{Path, file_of, IsStart}
 use Rattle.tf_words.specs.declared.asked.Asked.{Asked}
 use Rattle.tf_board.specs.Answers.{answer_of}
-use Rattle.tf_report.specs.Closing.{ClosesWithOrStops}
-use Rattle.tf_report.specs.Faults.{disk_fault_text, not_a_book, book_full}
+use Rattle.tf_report.specs.Closing.{ClosesWithOrStops, disk_fault_text, not_a_book, book_full}
 use Rattle.tf_report.specs.declared.statuses.TheConstants.{SUCCEEDED, DISK_FAILED, NO_BOOK, UNSAID, OUT_OF_MEMORY, FULL, BOARD_REFUSED}
-use Rattle.tf_board.specs.Board.{AreOfBoard, board_in, size_of, Holds, Finds, IsNoBoard}
-use Rattle.tf_board.specs.Commands.{command_bytes}
-use Rattle.tf_board.specs.Opening.{LeavesBoard, IsAsBeforeOrMade}
+use Rattle.tf_board.specs.Board.{AreOfBoard, board_in, size_of, Holds, Finds, IsNoBoard, LeavesBoard, IsAsBeforeOrMade}
+use Rattle.tf_board.specs.Jobs.{command_bytes}
 use Rattle.tf_board.specs.declared.commands.Command.{Command}
 
 -- ---- what the file has

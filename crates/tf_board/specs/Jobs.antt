@@ -1,8 +1,8 @@
--- What the commands of a board mean: its jobs, who has them, and which commands are refused. Lists of commands have the newest first.
-use Rattle.std.specs.Prelude.{◌≡◌, ℕ, zero, suc, ◌+◌, List, [], ◌∷◌, ◌++◌, Bool, true, false, ◌&&◌, nat_eq, ◌==◌, if◌then◌else◌, Option, Some, None, map, take, slice_get}
+-- What the commands of a board mean, and their byte form. Lists of commands have the newest first.
+use Rattle.std.specs.Prelude.{◌≡◌, ℕ, zero, suc, ◌+◌, List, [], ◌∷◌, ◌++◌, Bool, true, false, ◌&&◌, nat_eq, ◌==◌, if◌then◌else◌, Option, Some, None, map, take, slice_get, ◌<◌, ◌^◌, length}
 use Rattle.std.specs.Cmp.Lexicographic.{pointwise}
 use Rattle.std.specs.Fmt.{decimal}
-use Rattle.std.specs.List.{find, filter, flat_map, position}
+use Rattle.std.specs.List.{find, filter, flat_map, position, AllByRecursion}
 use Rattle.sha1.specs.Sha1.{sha1}
 use Rattle.uuid.specs.Parts.{with_version, with_variant}
 use Rattle.uuid.specs.Text.{hyphenated_text, lower}
@@ -26,6 +26,12 @@ use Rattle.tf_board.specs.declared.jobs.Standing.{Standing}
 use Rattle.tf_board.specs.declared.jobs.Standing.TheVariants as standing
 use Rattle.tf_board.specs.declared.rules.Refusal.{Refusal}
 use Rattle.tf_board.specs.declared.rules.Refusal.TheVariants as refusal
+use Rattle.std.specs.Int.{to_be_bytes, w64}
+use Rattle.tf_values.specs.Text.{is_name}
+use Rattle.tf_values.specs.Value.{IsValue, byte_form}
+
+-- ---- what the commands of a board mean: its jobs, who has them, and which commands are refused
+-- Lists of commands have the newest first.
 
 -- ---- ids
 
@@ -206,3 +212,39 @@ priorities = priority.VeryHigh ∷ priority.High ∷ priority.Normal ∷ priorit
 -- the list of a board: the jobs that are there, by priority from the most urgent down, then by number
 abbrev pub listed : List Command → List JobLine
 listed past = flat_map (listed_at (jobs_of past)) priorities
+
+-- ---- the byte form of what a board records
+-- Numbers are big-endian.
+
+-- a name behind its length
+abbrev pub name_bytes : List ℕ → List ℕ
+name_bytes name = length name ∷ name
+
+-- the byte of a priority
+abbrev pub priority_byte : Priority → ℕ
+priority_byte priority.VeryHigh = 0
+priority_byte priority.High = 1
+priority_byte priority.Normal = 2
+priority_byte priority.Low = 3
+priority_byte priority.VeryLow = 4
+
+-- the byte of what an owner does with a job
+abbrev pub action_byte : JobAction → ℕ
+action_byte action.Claim = 2
+action_byte action.Abandon = 3
+action_byte action.Consume = 4
+action_byte action.Trash = 5
+
+-- a posted job has its name, its priority and its details behind a tag, and what an owner did the job's number and the owner's name
+abbrev pub command_bytes : Command → List ℕ
+command_bytes (command.Post name priority details) = 1 ∷ name_bytes name ++ (priority_byte priority ∷ byte_form details)
+command_bytes (command.Apply action job owner) = action_byte action ∷ to_be_bytes w64 job ++ name_bytes owner
+
+-- a command within the limits: its names are names, its number has 64 bits and its details are a value
+abbrev pub IsCommand : Command → Type 0
+IsCommand (command.Post name priority details) = (is_name name ≡ true) × IsValue details
+IsCommand (command.Apply action job owner) = (job < 2 ^ 64) × (is_name owner ≡ true)
+
+-- the same of all commands
+abbrev pub AreCommands : List Command → Type 0
+AreCommands commands = AllByRecursion IsCommand commands

@@ -1,11 +1,6 @@
-pub mod Commands
 pub mod Jobs
-pub mod Kept
 pub mod Board
 pub mod Reading
-pub mod Recording
-pub mod Seeking
-pub mod Loading
 pub mod Answers
-pub mod Opening
+pub mod Seeking
 pub mod Does

@@ -1,11 +1,9 @@
 -- How commands are read from a journal, one after another.
 use Rattle.std.specs.Prelude.{◌≡◌, ◌≤◌, ℕ, IsTrue, List}
 use Rattle.tf_desk.specs.State.{DeskState}
-use Rattle.tf_journal.specs.Format.{SIZE_LIMIT}
-use Rattle.tf_journal.specs.Held.{Held}
+use Rattle.tf_journal.specs.Format.{SIZE_LIMIT, Held}
 use Rattle.tf_journal.specs.Reading.{HasBodies}
-use Rattle.tf_board.specs.Board.{bodies_of, size_of}
-use Rattle.tf_board.specs.Kept.{past_in, IsTrueTo}
+use Rattle.tf_board.specs.Board.{bodies_of, size_of, past_in, IsTrueTo}
 use Rattle.tf_board.specs.declared.kept.Kept.{Kept}
 
 -- just these bodies were read: they are the forms of the commands that are kept

@@ -34,8 +34,7 @@ pub struct Board<K: Desk> {
 }
 
 impl<K: Desk> Model for Board<K> {
-    ghost use Rattle.tf_board.specs.Board.{BoardValue, IsSound};
-    ghost use Rattle.tf_board.specs.Kept.{past_in};
+    ghost use Rattle.tf_board.specs.Board.{BoardValue, IsSound, past_in};
 
     ghost Value = { BoardValue K };
 

@@ -1,13 +1,13 @@
 //! How a command is read from the body of a record.
 ghost use Rattle.std.specs.Prelude.{◌≡◌, ◌≢◌, ◌<◌, ◌^◌, ◌++◌, ◌∷◌, ℕ, List, length, true, IfOk, IsErrOf, MatchOption};
 ghost use Rattle.std.specs.Int.{to_be_bytes, w64};
-ghost use Rattle.tf_values.specs.Name.{is_name};
+ghost use Rattle.tf_values.specs.Text.{is_name};
 ghost use Rattle.tf_values.specs.Value.{IsValue, byte_form};
 ghost use Rattle.tf_states.specs.declared.priorities.Priority.{Priority as APriority};
 ghost use Rattle.tf_values.specs.declared.value.Val.{Val as AValue};
 ghost use Rattle.tf_board.specs.declared.commands.Command.{Command as ACommand};
 ghost use Rattle.tf_board.specs.declared.commands.JobAction.{JobAction as AnAction};
-ghost use Rattle.tf_board.specs.Commands as form;
+ghost use Rattle.tf_board.specs.Jobs as form;
 
 use crate::commands::{Command, JobAction};
 use std::alloc::Global;

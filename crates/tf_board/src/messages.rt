@@ -1,8 +1,8 @@
 ghost use Rattle.std.specs.Prelude.{◌≡◌, ◌≢◌, ◌++◌, ◌∷◌, [], codes, IfOk, IsErr};
 ghost use Rattle.std.specs.List.{flat_map};
-ghost use Rattle.tf_report.specs.Jobs.{job_line, owner_text};
+ghost use Rattle.tf_report.specs.Lines.{job_line, owner_text};
 ghost use Rattle.tf_board.specs.Answers.{fault_text, fault_status, posted_text, applied_text, kept_text};
-ghost use Rattle.tf_report.specs.Faults.{not_a_book, book_full};
+ghost use Rattle.tf_report.specs.Closing.{not_a_book, book_full};
 ghost use Rattle.tf_board.specs.Jobs.{id_of, listed};
 ghost use Rattle.tf_board.specs.declared.faults.BoardFault.{BoardFault};
 

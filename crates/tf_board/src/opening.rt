@@ -1,5 +1,5 @@
 //! How a command on a board opens it.
-ghost use Rattle.tf_board.specs.Opening.{Opens};
+ghost use Rattle.tf_board.specs.Board.{Opens};
 
 use crate::board::Board;
 use std::alloc::Global;

@@ -25,13 +25,10 @@ use Rattle.tf_states.specs.declared.state.AtomState.TheVariants as atom
 use Rattle.tf_states.specs.declared.state.FlowState.{FlowState}
 use Rattle.tf_facts.proofs.CaseLemmas.{forced_by}
 use Rattle.tf_model.specs.Plan.{outline_of, count, path, holds}
-use Rattle.tf_model.specs.Snapshot.{Snapshot}
-use Rattle.tf_model.specs.History.{snapshot}
-use Rattle.tf_model.specs.States.{flow_runs, flow_suspends}
+use Rattle.tf_model.specs.History.{Snapshot, snapshot, flow_runs, flow_suspends}
 use Rattle.tf_model.specs.Retries.{attempt, ends_with, resolution}
-use Rattle.tf_model.specs.Deciders.{refused}
-use Rattle.tf_model.specs.Forced.{forced, forced_if_running, is_active, is_to_put_back, put_back_or_run, is_to_ignore, ignore_by, ignore_or_self}
-use Rattle.tf_model.specs.Candidates.{choice, candidate_if_running, candidate_entry, taken_up, is_best, end_of}
+use Rattle.tf_model.specs.Readiness.{refused}
+use Rattle.tf_model.specs.Forced.{forced, forced_if_running, is_active, is_to_put_back, put_back_or_run, is_to_ignore, ignore_by, ignore_or_self, choice, candidate_if_running, candidate_entry, taken_up, is_best, end_of}
 use Rattle.tf_model.proofs.Told.{path_in}
 use Rattle.tf_model.specs.Steps.{Step, LegalPast, Rule, by_force, by_choice, by_end_of_task, by_turn, by_end, by_suspension, by_reset, ends_task, turns_flow, end_entry, reset, put_back_or_rest, is_put_back_at}
 use Rattle.tf_model.proofs.ResolutionLemmas.{resolution_holds}
@@ -39,8 +36,7 @@ use Rattle.tf_model.proofs.PathLemmas.{IsPath, numbers_of, paths_of}
 use Rattle.tf_bound.specs.Kept.{IsMarkedWithin}
 use Rattle.tf_bound.specs.Short.{AreShort}
 use Rattle.tf_entries.specs.Entries.{IsAmong}
-use Rattle.tf_book.specs.Forms.{IsForm, AreForms}
-use Rattle.tf_book.specs.Loading.{IsEntryOf, AreEntriesOf}
+use Rattle.tf_book.specs.Book.{IsForm, AreForms, IsEntryOf, AreEntriesOf}
 
 -- ---- the flows of a plan
 

@@ -1,10 +1,10 @@
 -- What stays true of a book when its limit is kept, and when its desk is asked for a stop.
 use Rattle.std.proofs.Common.{◌≡◌, ℕ, Bool, false, List, Option, Some, None, refl, sym, ◌∙◌, ap, subst, arith}
-use Rattle.tf_desk.specs.Counts.{Rises}
+use Rattle.tf_desk.specs.Crash.{Rises}
 use Rattle.tf_desk.specs.State.{DeskState, Asks}
 use Rattle.tf_desk.proofs.StateLemmas.{bytes_stay, left_stays, passes_then, extends_told, continues_on, asks_continues}
 use Rattle.tf_flow.specs.Plan.{PlanValue}
-use Rattle.tf_journal.specs.Held.{Held}
+use Rattle.tf_journal.specs.Format.{Held}
 use Rattle.tf_machine.specs.Machine.{MachineValue}
 use Rattle.tf_model.specs.Plan.{Outline, outline_of}
 use Rattle.tf_states.specs.declared.record.Entry.{Entry}
@@ -12,8 +12,7 @@ use Rattle.tf_states.specs.declared.state.FlowState.TheVariants as flow
 use Rattle.tf_book.specs.Book.{BookValue, flow_state, outline}
 use Rattle.tf_book.specs.SessionInvariant.{IsSpoken, HasCause, SessionInvariant, Proceeds, TakesTurn}
 use Rattle.tf_book.specs.Sound.{IsSoundBook}
-use Rattle.tf_book.specs.Stopping.{IsAnswered}
-use Rattle.tf_book.specs.Turns.{IsTurn, IsHaltedTurn, forcing, IsTurnAsked, IsHaltedTurnAsked}
+use Rattle.tf_book.specs.Turns.{IsAnswered, IsTurn, IsHaltedTurn, forcing, IsTurnAsked, IsHaltedTurnAsked}
 use Rattle.tf_book.specs.declared.faults.Halt.{Halt}
 use Rattle.tf_book.specs.declared.faults.Halt.TheVariants as halt
 use Rattle.tf_book.specs.declared.turn.Turn.{Turn}

@@ -1,29 +1,23 @@
 -- How what closes a run is said.
 use Rattle.std.proofs.Common.{◌≡◌, inl, inr, ⊎_elim, ℕ, ◌≤◌, false, List, ◌++◌, Option, Some, None, refl, sym, ◌∙◌, ap, subst}
 use Rattle.std.specs.Prelude.{IsTrue, Result, Ok, Err}
-use Rattle.tf_desk.specs.Counts.{Rises}
-use Rattle.tf_desk.specs.Shown.{shown_with, ShowsPrefix}
+use Rattle.tf_desk.specs.Crash.{Rises, shown_with, ShowsPrefix}
 use Rattle.tf_desk.specs.State.{DeskState, SaysPrefix, FilesStay, Says, Continues, Passes, passes_none, passes_on, passes_within}
 use Rattle.tf_desk.proofs.CountLemmas.{rises_later}
 use Rattle.tf_desk.proofs.StateLemmas.{files_none, bytes_stay, left_stays, extends_told, continues_none, continues_on, says_continues}
 use Rattle.tf_flow.specs.Plan.{PlanValue}
 use Rattle.tf_states.specs.declared.record.AtomView.{AtomView}
 use Rattle.tf_states.specs.declared.record.Entry.{Entry}
-use Rattle.tf_journal.specs.Format.{SIZE_LIMIT, bodies, recovered, title_of}
-use Rattle.tf_journal.specs.Held.{Held}
-use Rattle.tf_journal.specs.Rest.{IsAtRest, IsOpen}
+use Rattle.tf_journal.specs.Format.{SIZE_LIMIT, bodies, recovered, title_of, Held, IsAtRest, IsOpen}
 use Rattle.tf_journal.specs.declared.title.Title.{Title}
 use Rattle.tf_journal.specs.declared.title.Title.TheVariants.{Book as book_title}
 use Rattle.tf_journal.proofs.AppendLemmas.{rest_leaves}
 use Rattle.tf_machine.specs.Machine.{MachineValue, shown as machine_shows, outline as machine_outline, StandsFor}
-use Rattle.tf_model.specs.History.{snapshot}
+use Rattle.tf_model.specs.History.{snapshot, Snapshot, Shows}
 use Rattle.tf_model.specs.Plan.{Outline, outline_of}
-use Rattle.tf_model.specs.Snapshot.{Snapshot}
-use Rattle.tf_model.specs.Views.{Shows}
 use Rattle.tf_book.specs.Book.{BookValue, outline, bodies_of}
-use Rattle.tf_book.specs.SessionInvariant.{said, LeavesEntries, IsSpoken, HasCause, SessionInvariant}
+use Rattle.tf_book.specs.SessionInvariant.{said, LeavesEntries, IsSpoken, HasCause, SessionInvariant, IsSaid, StaysOffDisk}
 use Rattle.tf_book.specs.Closed.{IsClosing, LeavesClosing, LeavesClosed, Closed}
-use Rattle.tf_book.specs.Logging.{IsSaid, StaysOffDisk}
 use Rattle.tf_book.specs.Recording.{halt_after}
 use Rattle.tf_book.specs.Sound.{IsSoundBook}
 use Rattle.tf_book.proofs.LogLemmas.{OutAlone, said_at_rest, off_none, off_on, off_says}

@@ -4,10 +4,10 @@ use Rattle.std.proofs.lemmas.Bool.{lt-ltb}
 use Rattle.std.specs.Prelude.{option_map, is_none, Result, Ok, Err, OnErr, IfOk}
 use Rattle.tf_hands.specs.declared.starts.Start.{Start}
 use Rattle.tf_hands.proofs.LeaveLemmas.{forced_free}
-use Rattle.tf_book.specs.Logging.{is_logged}
+use Rattle.tf_book.specs.SessionInvariant.{is_logged}
 use Rattle.tf_book.specs.Recording.{past_after}
 use Rattle.tf_book.specs.declared.faults.Halt.{Halt}
-use Rattle.tf_model.specs.States.{flow_suspends}
+use Rattle.tf_model.specs.History.{flow_suspends, flow_of, snapshot, Snapshot}
 use Rattle.tf_states.specs.declared.record.Entry.{Entry}
 use Rattle.tf_states.specs.declared.record.What.{What}
 use Rattle.tf_states.specs.declared.record.What.TheVariants as what
@@ -15,16 +15,12 @@ use Rattle.tf_states.specs.declared.state.FlowState.{FlowState}
 use Rattle.tf_states.specs.declared.state.FlowState.TheVariants as flow
 use Rattle.tf_hands.specs.Hands.{by_hand, is_of_flow}
 use Rattle.tf_hands.proofs.ForcedLemmas.{forced_within}
-use Rattle.tf_model.specs.Forced.{forced}
-use Rattle.tf_model.specs.History.{flow_of, snapshot}
+use Rattle.tf_model.specs.Forced.{forced, choice, end_of}
 use Rattle.tf_model.specs.Plan.{Outline}
-use Rattle.tf_model.specs.Snapshot.{Snapshot}
-use Rattle.tf_model.specs.Candidates.{choice, end_of}
 use Rattle.tf_model.specs.Steps.{Step, by_force, by_end, by_suspension, LegalPast, is_free, is_still, may_suspend}
-use Rattle.tf_book.specs.Stopping.{is_to_stop}
+use Rattle.tf_book.specs.Turns.{is_to_stop, AreForced, IsForcedBy, IsForcedOn, IsStartedSo, RanOn, RanUntilStop, HasRested, IsClosedOr, stays, ended, suspended, end_now, suspending_after, HasStopped, IsStoppedOr, HandRests, nothing_to_take, at_end, to_suspend, suspending, HandRestsAs, IsLessAfterStart, IsTurn, IsHaltedTurn, starting, forcing, resting}
 use Rattle.tf_book.specs.declared.turn.Turn.{Turn}
 use Rattle.tf_book.specs.declared.turn.Turn.TheVariants as turn
-use Rattle.tf_book.specs.Turns.{AreForced, IsForcedBy, IsForcedOn, IsStartedSo, RanOn, RanUntilStop, HasRested, IsClosedOr, stays, ended, suspended, end_now, suspending_after, HasStopped, IsStoppedOr, HandRests, nothing_to_take, at_end, to_suspend, suspending, HandRestsAs, IsLessAfterStart, IsTurn, IsHaltedTurn, starting, forcing, resting}
 use Rattle.tf_bound.proofs.SessionLemmas.{flow_shown}
 
 -- what is forced may follow, by any hand

@@ -8,9 +8,8 @@ use Rattle.tf_states.specs.declared.record.Entry.{Entry}
 use Rattle.tf_entries.specs.Entries.{entry_bytes}
 use Rattle.tf_book.specs.Book.{book_size}
 use Rattle.tf_journal.specs.Format.{length_bytes}
-use Rattle.tf_book.specs.History.{entry_shown, past_shown, framed_bodies, HasEntryRoom, HasAllRoom}
+use Rattle.tf_book.specs.SessionInvariant.{entry_shown, past_shown, framed_bodies, HasEntryRoom, HasAllRoom, is_logged}
 use Rattle.tf_book.specs.declared.history.History.{History}
-use Rattle.tf_book.specs.Logging.{is_logged}
 use Rattle.tf_book.specs.Recording.{past_after}
 use Rattle.tf_book.specs.declared.faults.Halt.{Halt}
 

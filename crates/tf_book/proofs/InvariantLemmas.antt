@@ -1,7 +1,7 @@
 -- What stays true of a book when one more entry was to be recorded.
 use Rattle.std.proofs.Common.{◌≡◌, ◌≢◌, ◌<◌, inl, inr, ⊎_elim, ℕ, ◌+◌, Bool, true, false, List, [], ◌∷◌, ◌++◌, length, Option, Some, None, refl, sym, ◌∙◌, ap, subst}
 use Rattle.std.specs.Prelude.{IsTrue, Result, Ok, Err}
-use Rattle.tf_desk.specs.Shown.{shown_with}
+use Rattle.tf_desk.specs.Crash.{shown_with}
 use Rattle.tf_desk.specs.State.{DeskState, bytes_now, Passes, passes_none, passes_on}
 use Rattle.tf_desk.proofs.CountLemmas.{rises_later}
 use Rattle.tf_desk.proofs.StateLemmas.{extends_told, continues_none, continues_on}
@@ -9,9 +9,7 @@ use Rattle.tf_flow.specs.Plan.{PlanValue}
 use Rattle.tf_states.specs.declared.record.Entry.{Entry}
 use Rattle.tf_states.specs.declared.record.What.TheVariants as event
 use Rattle.tf_entries.specs.Entries.{entry_bytes}
-use Rattle.tf_journal.specs.Format.{SIZE_LIMIT, bodies, journal_bytes, recovered, title_of}
-use Rattle.tf_journal.specs.Held.{Held}
-use Rattle.tf_journal.specs.Rest.{IsAtRest, IsOpen, LeavesBodies, LeavesEither}
+use Rattle.tf_journal.specs.Format.{SIZE_LIMIT, bodies, journal_bytes, recovered, title_of, Held, IsAtRest, IsOpen, LeavesBodies, LeavesEither}
 use Rattle.tf_journal.proofs.AppendLemmas.{rest_leaves}
 use Rattle.tf_journal.specs.declared.title.Title.{Title}
 use Rattle.tf_journal.specs.declared.title.Title.TheVariants.{Book as book_title}
@@ -20,11 +18,8 @@ use Rattle.tf_model.specs.History.{snapshot}
 use Rattle.tf_model.specs.Plan.{outline_of}
 use Rattle.tf_model.specs.Steps.{Step, LegalPast}
 use Rattle.tf_report.specs.Lines.{line}
-use Rattle.tf_book.specs.Book.{BookValue, outline, moment, bodies_of, book_size}
-use Rattle.tf_book.specs.Forms.{IsForm}
-use Rattle.tf_book.specs.Loading.{IsAcceptedPlan, CanRun, IsHistoryOf}
-use Rattle.tf_book.specs.Logging.{said_of, is_logged, StaysOffDisk, Logged}
-use Rattle.tf_book.specs.SessionInvariant.{said, IsSpoken, LeavesEntries, MayFollow, nothing_more, one_more, HasFailed, IsPending, IsExact, IsFullFor, HasCause, SessionInvariant, Proceeds}
+use Rattle.tf_book.specs.Book.{BookValue, outline, moment, bodies_of, book_size, IsForm, IsAcceptedPlan, CanRun, IsHistoryOf}
+use Rattle.tf_book.specs.SessionInvariant.{said_of, is_logged, StaysOffDisk, Logged, said, IsSpoken, LeavesEntries, MayFollow, nothing_more, one_more, HasFailed, IsPending, IsExact, IsFullFor, HasCause, SessionInvariant, Proceeds}
 use Rattle.tf_book.specs.Recording.{halt_after, failed_after, past_after}
 use Rattle.tf_book.specs.Sound.{IsSoundBook}
 use Rattle.tf_book.specs.declared.faults.Halt.{Halt}

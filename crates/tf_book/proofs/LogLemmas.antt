@@ -1,16 +1,13 @@
 -- How an append and a line that is said after it go together.
 use Rattle.std.proofs.Common.{◌≡◌, inl, inr, ⊎_elim, ℕ, ◌+◌, ◌≤◌, Bool, List, [], length, Option, Some, None, refl, sym, ◌∙◌, ap, subst, append-nil, arith}
 use Rattle.std.specs.Prelude.{IsTrue, true, Result, Ok, Err, IfErr}
-use Rattle.tf_desk.specs.Counts.{Rises}
-use Rattle.tf_desk.specs.Shown.{shown_with, ShowsPrefix}
+use Rattle.tf_desk.specs.Crash.{Rises, shown_with, ShowsPrefix}
 use Rattle.tf_desk.specs.State.{DeskState, anything, FilesStay, GoesOn, Says, Asks, passes_none, passes_on}
 use Rattle.tf_desk.proofs.StateLemmas.{files_none, bytes_stay, left_stays, on_disk_told, continues_on, goes_continues, says_continues}
 use Rattle.tf_journal.specs.Adding.{Adds, AddsAtMost, Grows}
-use Rattle.tf_journal.specs.Format.{SIZE_LIMIT, recovered, title_of}
-use Rattle.tf_journal.specs.Held.{Held}
-use Rattle.tf_journal.specs.Rest.{IsAtRest, AtRest, LeavesBeforeOrAfter}
+use Rattle.tf_journal.specs.Format.{SIZE_LIMIT, recovered, title_of, Held, IsAtRest, AtRest, LeavesBeforeOrAfter}
 use Rattle.tf_journal.proofs.CrashLemmas.{at_rest_on}
-use Rattle.tf_book.specs.Logging.{said_of, journal_after, IsSaid, IsCaused, FailsToSay, LeavesLogged, StaysOffDisk, Logged}
+use Rattle.tf_book.specs.SessionInvariant.{said_of, journal_after, IsSaid, IsCaused, FailsToSay, LeavesLogged, StaysOffDisk, Logged}
 use Rattle.tf_book.specs.declared.faults.Halt.{Halt}
 use Rattle.tf_book.specs.declared.faults.Halt.TheVariants as halt
 

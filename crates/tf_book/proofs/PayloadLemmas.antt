@@ -24,13 +24,11 @@ use Rattle.tf_states.specs.declared.state.AtomState.TheVariants as atom
 use Rattle.tf_states.specs.declared.state.FlowState.{FlowState}
 use Rattle.tf_facts.proofs.CaseLemmas.{forced_by}
 use Rattle.tf_model.specs.Plan.{Outline, count, is_retry}
-use Rattle.tf_model.specs.Snapshot.{Snapshot}
-use Rattle.tf_model.specs.States.{flow_runs, flow_suspends, is_running}
+use Rattle.tf_model.specs.History.{Snapshot, flow_runs, flow_suspends, is_running}
 use Rattle.tf_model.specs.Retries.{kind_of_part, item_or_exhausted, item_of_values, item_of_given, attempt_by, attempt_of, attempt, ends_with}
 use Rattle.tf_model.specs.Scope.{item_value}
-use Rattle.tf_model.specs.Deciders.{refused}
-use Rattle.tf_model.specs.Forced.{forced, forced_if_running, is_active, is_to_put_back, put_back_or_run, is_to_ignore, ignore_by, ignore_or_self}
-use Rattle.tf_model.specs.Candidates.{choice, candidate_if_running, candidate_entry, taken_up, is_best, end_of}
+use Rattle.tf_model.specs.Readiness.{refused}
+use Rattle.tf_model.specs.Forced.{forced, forced_if_running, is_active, is_to_put_back, put_back_or_run, is_to_ignore, ignore_by, ignore_or_self, choice, candidate_if_running, candidate_entry, taken_up, is_best, end_of}
 use Rattle.tf_model.proofs.Told.{is_retry_in, kind_in}
 use Rattle.tf_model.specs.Steps.{Step, Rule, by_force, by_choice, by_end_of_task, by_turn, by_end, by_suspension, by_reset, ends_task, ends_as, turns_flow, end_entry, reset, put_back_or_rest, is_put_back_at}
 use Rattle.tf_entries.specs.Entries.{is_payload_of, has_its_payload}

@@ -6,7 +6,7 @@ use Rattle.tf_scopes.specs.declared.faults.ScopeFault.TheVariants as scope_fault
 use Rattle.tf_machine.specs.Answers.{IsBuildRefusal}
 use Rattle.tf_machine.specs.declared.faults.BuildFault.{BuildFault}
 use Rattle.tf_machine.specs.declared.faults.BuildFault.TheVariants as build_fault
-use Rattle.tf_book.specs.Loading.{CanRun}
+use Rattle.tf_book.specs.Book.{CanRun}
 
 -- a plan of which no machine is made can't run
 pub refused_plan : (plan : PlanValue) (fault : BuildFault) → fault ≢ build_fault.Memory → IsBuildRefusal plan fault → ¬ (CanRun plan)

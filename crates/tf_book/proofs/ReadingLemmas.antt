@@ -7,17 +7,15 @@ use Rattle.tf_flow.specs.Plan.{PlanValue}
 use Rattle.tf_states.specs.declared.record.Entry.{Entry}
 use Rattle.tf_entries.specs.Entries.{entry_bytes}
 use Rattle.tf_entries.specs.Plans.{IsPlan, plan_bytes}
-use Rattle.tf_journal.specs.Format.{OPEN, record_of, prefix_of, title_of}
-use Rattle.tf_journal.specs.Held.{Held}
+use Rattle.tf_journal.specs.Format.{OPEN, record_of, prefix_of, title_of, Held}
 use Rattle.tf_journal.specs.Reading.{HasBodies}
 use Rattle.tf_journal.specs.declared.title.Title.{Title}
 use Rattle.tf_journal.specs.declared.title.Title.TheVariants.{Book as book_title}
 use Rattle.tf_journal.proofs.ReachLemmas.{flat_map-push, length-record_of, records_long}
 use Rattle.tf_records.specs.Replaying.{HasReadAll}
 use Rattle.tf_machine.specs.Machine.{MachineValue, StandsFor}
-use Rattle.tf_book.specs.Book.{bodies_of, book_size}
-use Rattle.tf_book.specs.History.{past_shown}
-use Rattle.tf_book.specs.Loading.{IsAcceptedPlan, CanRun, IsHistoryOf, IsNoStep, CannotFollow, later}
+use Rattle.tf_book.specs.Book.{bodies_of, book_size, IsAcceptedPlan, CanRun, IsHistoryOf, IsNoStep, CannotFollow, later}
+use Rattle.tf_book.specs.SessionInvariant.{past_shown}
 use Rattle.tf_book.specs.Reading.{IsReadBack, HasReadRun, HasReplayed, HasReadBook}
 use Rattle.tf_book.specs.declared.history.History.{History}
 use Rattle.tf_book.specs.declared.recovering.ReadBack.{ReadBack}

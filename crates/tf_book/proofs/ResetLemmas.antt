@@ -9,13 +9,11 @@ use Rattle.tf_states.specs.declared.state.FlowState.TheVariants as flow
 use Rattle.tf_numbers.proofs.BelowLemmas.{all_at, all_of}
 use Rattle.tf_numbers.proofs.TruthLemmas.{true_both, and_first, and_second}
 use Rattle.tf_hands.specs.Hands.{by_hand, is_of_flow}
-use Rattle.tf_model.specs.History.{flow_of, snapshot, state_of}
+use Rattle.tf_model.specs.History.{flow_of, snapshot, state_of, Snapshot, flow_is_reverted, is_settled}
 use Rattle.tf_model.specs.Plan.{Outline, count}
-use Rattle.tf_model.specs.Snapshot.{Snapshot}
-use Rattle.tf_model.specs.States.{flow_is_reverted, is_settled}
 use Rattle.tf_model.specs.Forced.{enters}
 use Rattle.tf_model.specs.Steps.{Step, by_reset, reset, put_back_or_rest, is_settled_at}
-use Rattle.tf_book.specs.Resetting.{may_reset, IsPutBackOn, IsPutBackBy}
+use Rattle.tf_book.specs.Turns.{may_reset, IsPutBackOn, IsPutBackBy}
 
 -- what puts the flow back may follow, by hand 0
 pub reset_step : (plan : Outline) (s : Snapshot) (w : What) → reset plan s ≡ Some w → Step plan s (by_hand 0 w)

@@ -9,10 +9,8 @@ use Rattle.tf_journal.specs.Format.{length_bytes, length_at}
 use Rattle.tf_journal.proofs.FoundLemmas.{length_read}
 use Rattle.tf_model.specs.Plan.{outline_of}
 use Rattle.tf_report.specs.Lines.{line}
-use Rattle.tf_book.specs.History.{framed_bodies}
-use Rattle.tf_book.specs.SessionInvariant.{said}
-use Rattle.tf_book.specs.Loading.{IsEntryOf, AreEntriesOf}
-use Rattle.tf_book.specs.Showing.{BeginsWithBody, HasLines}
+use Rattle.tf_book.specs.SessionInvariant.{framed_bodies, said, BeginsWithBody, HasLines}
+use Rattle.tf_book.specs.Book.{IsEntryOf, AreEntriesOf}
 
 -- an entry's body behind its length
 abbrev frame : Entry → List ℕ

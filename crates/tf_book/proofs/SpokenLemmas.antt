@@ -1,7 +1,7 @@
 -- What is said of entries, and what a crash leaves of them, when one more is recorded.
 use Rattle.std.proofs.Common.{◌≡◌, ⊎_elim, ℕ, ◌+◌, Bool, List, [], ◌∷◌, ◌++◌, length, take, Option, Some, None, refl, sym, ◌∙◌, ap, subst, append_assoc, append-nil}
 use Rattle.std.proofs.Math.Seq.{take-append-add, take-length}
-use Rattle.tf_desk.specs.Shown.{shown_with, ShowsPrefix}
+use Rattle.tf_desk.specs.Crash.{shown_with, ShowsPrefix}
 use Rattle.tf_flow.specs.Plan.{PlanValue}
 use Rattle.tf_states.specs.declared.record.Entry.{Entry}
 use Rattle.tf_entries.specs.Entries.{entry_bytes}
@@ -10,8 +10,7 @@ use Rattle.tf_journal.specs.declared.title.Title.TheVariants.{Book as book_title
 use Rattle.tf_model.specs.Plan.{Outline, outline_of}
 use Rattle.tf_report.specs.Lines.{line}
 use Rattle.tf_book.specs.Book.{bodies_of}
-use Rattle.tf_book.specs.Logging.{said_of, LeavesLogged}
-use Rattle.tf_book.specs.SessionInvariant.{said, IsCut, LeavesEntries, IsPending}
+use Rattle.tf_book.specs.SessionInvariant.{said_of, LeavesLogged, said, IsCut, LeavesEntries, IsPending}
 use Rattle.tf_book.specs.declared.faults.Halt.{Halt}
 
 -- ---- the shown text

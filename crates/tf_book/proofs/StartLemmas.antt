@@ -1,15 +1,13 @@
 -- What a crash in a book's start leaves, and why it fails.
 use Rattle.std.proofs.Common.{◌≡◌, ℕ, List, [], Option, ap, ◌∙◌, sym, subst}
-use Rattle.tf_desk.specs.Counts.{Rises}
+use Rattle.tf_desk.specs.Crash.{Rises}
 use Rattle.tf_desk.specs.State.{DeskState, Passes}
 use Rattle.tf_entries.specs.Plans.{IsPlan, plan_bytes}
 use Rattle.tf_flow.specs.Plan.{PlanValue}
-use Rattle.tf_journal.specs.Format.{title_of}
-use Rattle.tf_journal.specs.Held.{Held}
-use Rattle.tf_journal.specs.Rest.{LeavesBeforeOrAfter}
+use Rattle.tf_journal.specs.Format.{title_of, Held, LeavesBeforeOrAfter}
 use Rattle.tf_journal.specs.declared.title.Title.{Title}
 use Rattle.tf_journal.specs.declared.title.Title.TheVariants.{Book as book_title}
-use Rattle.tf_book.specs.Loading.{IsHistoryOf}
+use Rattle.tf_book.specs.Book.{IsHistoryOf}
 use Rattle.tf_book.specs.Starting.{LeavesPlan, FailsToAppendPlan, FailsToStart}
 use Rattle.tf_book.specs.declared.faults.BookFault.{BookFault}
 use Rattle.tf_book.specs.declared.faults.BookFault.TheVariants as fault

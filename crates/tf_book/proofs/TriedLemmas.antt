@@ -9,22 +9,18 @@ use Rattle.tf_states.specs.declared.state.FlowState.{FlowState}
 use Rattle.tf_states.specs.declared.state.FlowState.TheVariants as flow
 use Rattle.tf_numbers.proofs.OptionLemmas.{only_if}
 use Rattle.tf_numbers.proofs.TruthLemmas.{and_first}
-use Rattle.tf_hands.specs.Flight.{start_entry}
-use Rattle.tf_hands.specs.Hands.{by_hand}
+use Rattle.tf_hands.specs.Hands.{start_entry, by_hand}
 use Rattle.tf_hands.specs.declared.starts.Start.{Start}
 use Rattle.tf_hands.proofs.ForcedLemmas.{forced_no_end}
 use Rattle.tf_hands.proofs.ChoiceLemmas.{start_no_end}
 use Rattle.tf_model.proofs.StepLemmas.{end_is}
-use Rattle.tf_model.specs.Candidates.{choice, candidate_if_running, end_of}
-use Rattle.tf_model.specs.Forced.{forced, is_active, is_unhurt}
-use Rattle.tf_model.specs.History.{flow_of, snapshot}
+use Rattle.tf_model.specs.Forced.{choice, candidate_if_running, end_of, forced, is_active, is_unhurt}
+use Rattle.tf_model.specs.History.{flow_of, snapshot, Snapshot, flow_runs, flow_suspends}
 use Rattle.tf_model.specs.Plan.{Outline}
-use Rattle.tf_model.specs.Sessions.{has_ended}
-use Rattle.tf_model.specs.Snapshot.{Snapshot}
-use Rattle.tf_model.specs.States.{flow_runs, flow_suspends}
+use Rattle.tf_model.specs.Steps.{has_ended}
 use Rattle.tf_book.specs.Book.{BookValue, outline}
 use Rattle.tf_book.specs.Recording.{halt_after, failed_after, past_after}
-use Rattle.tf_book.specs.Tried.{HasOne, IsTried, IsNoEndBy}
+use Rattle.tf_book.specs.Turns.{HasOne, IsTried, IsNoEndBy}
 use Rattle.tf_book.specs.SessionInvariant.{MayFollow, nothing_more, one_more, HasFailed, IsFullFor}
 use Rattle.tf_book.specs.declared.faults.Halt.{Halt}
 use Rattle.tf_book.specs.declared.faults.Halt.TheVariants as halt

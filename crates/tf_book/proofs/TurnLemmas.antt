@@ -9,13 +9,12 @@ use Rattle.tf_states.specs.declared.state.FlowState.TheVariants as flow
 use Rattle.tf_hands.specs.Hands.{by_hand}
 use Rattle.tf_model.specs.History.{flow_of, snapshot}
 use Rattle.tf_model.specs.Plan.{Outline}
-use Rattle.tf_model.specs.Steps.{Step, may_turn, by_turn}
-use Rattle.tf_book.specs.Logging.{is_logged}
+use Rattle.tf_model.specs.Steps.{Step, may_turn, by_turn, has_ended}
+use Rattle.tf_book.specs.SessionInvariant.{is_logged}
 use Rattle.tf_book.specs.Recording.{past_after}
 use Rattle.tf_book.specs.Turns.{entering_by, IsEntering, IsEntered}
 use Rattle.tf_book.specs.declared.faults.Halt.{Halt}
 use Rattle.tf_book.specs.declared.turn.Entered.TheVariants as entered
-use Rattle.tf_model.specs.Sessions.{has_ended}
 
 -- a turn of the flow that nothing but its state allows may follow
 pub turn_step : (plan : Outline) (past : List Entry) (hand : ℕ) (state : FlowState) → hand < 64 → may_turn (flow_of past) state ≡ true

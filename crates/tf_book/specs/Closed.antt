@@ -1,17 +1,14 @@
 -- What is true of a book that said its report: what was kept since the start of a session, and what was said last.
 use Rattle.std.specs.Prelude.{◌≡◌, ◌⊎◌, ℕ, Bool, true, false, IsTrue, List, ◌++◌, Option, Some, None}
-use Rattle.tf_desk.specs.Crash.{Pairs}
-use Rattle.tf_desk.specs.Shown.{shown_with, ShowsPrefix}
+use Rattle.tf_desk.specs.Crash.{Pairs, shown_with, ShowsPrefix}
 use Rattle.tf_desk.specs.State.{DeskState, Passes, Continues}
 use Rattle.tf_flow.specs.Plan.{PlanValue}
 use Rattle.tf_states.specs.declared.record.Entry.{Entry}
-use Rattle.tf_journal.specs.Format.{bodies, recovered, title_of}
-use Rattle.tf_journal.specs.Rest.{LeavesBodies}
+use Rattle.tf_journal.specs.Format.{bodies, recovered, title_of, LeavesBodies}
 use Rattle.tf_journal.specs.declared.title.Title.TheVariants.{Book as book_title}
 use Rattle.tf_model.specs.Plan.{outline_of}
 use Rattle.tf_book.specs.Book.{BookValue, bodies_of}
-use Rattle.tf_book.specs.Logging.{StaysOffDisk}
-use Rattle.tf_book.specs.SessionInvariant.{said, LeavesEntries, IsExact, HasCause}
+use Rattle.tf_book.specs.SessionInvariant.{StaysOffDisk, said, LeavesEntries, IsExact, HasCause}
 use Rattle.tf_book.specs.declared.faults.Halt.{Halt}
 use Rattle.tf_book.specs.declared.faults.Halt.TheVariants as halt
 

@@ -1,11 +1,9 @@
 -- What a load answers of a file.
 use Rattle.std.specs.Prelude.{◌≡◌, ℕ, false, IsTrue, List, [], None, Result, Ok, Err}
 use Rattle.tf_desk.specs.State.{DeskState}
-use Rattle.tf_journal.specs.Format.{Recovered, unborn, bodies}
-use Rattle.tf_journal.specs.Rest.{IsAtRest}
+use Rattle.tf_journal.specs.Format.{Recovered, unborn, bodies, IsAtRest}
 use Rattle.tf_journal.specs.declared.title.Title.TheVariants.{Book as book_title}
-use Rattle.tf_book.specs.Book.{bodies_of}
-use Rattle.tf_book.specs.Loading.{IsHistoryOf}
+use Rattle.tf_book.specs.Book.{bodies_of, IsHistoryOf}
 use Rattle.tf_book.specs.declared.book.loading.Loaded.{Loaded}
 use Rattle.tf_book.specs.declared.book.loading.Loaded.TheVariants as loaded
 

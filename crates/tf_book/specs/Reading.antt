@@ -5,14 +5,11 @@ use Rattle.tf_states.specs.declared.record.Entry.{Entry}
 use Rattle.tf_bound.specs.Short.{IsShortEntry, AreShort}
 use Rattle.tf_entries.specs.Entries.{entry_bytes}
 use Rattle.tf_entries.specs.Plans.{IsPlan}
-use Rattle.tf_journal.specs.Format.{SIZE_LIMIT, length_bytes}
-use Rattle.tf_journal.specs.Held.{Held}
+use Rattle.tf_journal.specs.Format.{SIZE_LIMIT, length_bytes, Held}
 use Rattle.tf_journal.specs.Reading.{HasBodies}
 use Rattle.tf_machine.specs.Machine.{MachineValue, StandsFor}
-use Rattle.tf_book.specs.Book.{bodies_of, book_size}
-use Rattle.tf_book.specs.Forms.{AreForms}
-use Rattle.tf_book.specs.History.{past_shown, framed_bodies, HasAllRoom}
-use Rattle.tf_book.specs.Loading.{IsAcceptedPlan, CanRun, IsEntryOf}
+use Rattle.tf_book.specs.Book.{bodies_of, book_size, AreForms, IsAcceptedPlan, CanRun, IsEntryOf}
+use Rattle.tf_book.specs.SessionInvariant.{past_shown, framed_bodies, HasAllRoom}
 use Rattle.tf_book.specs.declared.history.History.{History}
 use Rattle.tf_book.specs.declared.recovering.ReadBack.{ReadBack}
 use Rattle.tf_book.specs.declared.recovering.Replayed.{Replayed}

@@ -4,16 +4,15 @@ use Rattle.tf_states.specs.declared.record.Entry.{Entry}
 use Rattle.tf_entries.specs.Entries.{entry_bytes}
 use Rattle.tf_journal.specs.Format.{length_bytes}
 use Rattle.tf_machine.specs.Machine.{MachineValue, StandsFor}
-use Rattle.tf_book.specs.Forms.{IsForm}
-use Rattle.tf_book.specs.History.{past_shown}
-use Rattle.tf_book.specs.Logging.{is_logged}
+use Rattle.tf_book.specs.Book.{IsForm}
+use Rattle.tf_book.specs.SessionInvariant.{past_shown, is_logged}
 use Rattle.tf_book.specs.declared.faults.Halt.{Halt}
 use Rattle.tf_book.specs.declared.faults.Halt.TheVariants as halt
 use Rattle.tf_book.specs.declared.history.History.{History}
 
 -- the book is halted with the fault, if there is one
-abbrev pub halt_after : Result (Unit {0}) Halt → Option Halt
-halt_after (Ok u) = None
+abbrev pub halt_after : {X : Type 0} → Result X Halt → Option Halt
+halt_after (Ok x) = None
 halt_after (Err halt) = Some halt
 
 -- the history has the entry, where it was recorded

@@ -1,24 +1,98 @@
--- What stays true of a book from the start of a session on: what is recorded since, what is shown, what a crash may leave, and why the book was halted.
-use Rattle.std.specs.Prelude.{◌≡◌, ◌≢◌, ◌<◌, ◌≤◌, ℕ, ◌+◌, Bool, true, false, IsTrue, List, [], ◌∷◌, ◌++◌, length, Option, Some, None}
-use Rattle.tf_desk.specs.Counts.{Rises}
-use Rattle.tf_desk.specs.Shown.{shown_with, ShowsPrefix}
+-- What stays true of a book from the start of a session on, and how an entry is logged.
+use Rattle.std.specs.Prelude.{IsTrue, ◌≡◌, ◌⊎◌, ◌<◌, ◌≤◌, ℕ, ◌+◌, Bool, true, false, List, [], ◌∷◌, ◌++◌, Option, Some, Result, Ok, Err, if◌then◌else◌, length, ◌≢◌, None, reverse, map, vec_len, vec_capacity}
+use Rattle.tf_desk.specs.Crash.{Rises, Pairs, shown_with, ShowsPrefix}
 use Rattle.tf_desk.specs.State.{DeskState, bytes_now, Passes, Continues, IsUnasked}
+use Rattle.tf_journal.specs.Format.{SIZE_LIMIT, bodies, journal_bytes, recovered, title_of, Held, IsAtRest, AtRest, LeavesEither, LeavesBodies, length_bytes, IsBody}
+use Rattle.tf_book.specs.declared.faults.Halt.{Halt}
+use Rattle.tf_book.specs.declared.faults.Halt.TheVariants as halt
 use Rattle.tf_flow.specs.Plan.{PlanValue}
 use Rattle.tf_states.specs.declared.record.Entry.{Entry}
 use Rattle.tf_states.specs.declared.state.FlowState.TheVariants as flow
 use Rattle.tf_entries.specs.Entries.{entry_bytes}
-use Rattle.tf_journal.specs.Format.{SIZE_LIMIT, bodies, journal_bytes, recovered, title_of}
-use Rattle.tf_journal.specs.Rest.{LeavesBodies, LeavesEither}
 use Rattle.tf_journal.specs.declared.title.Title.TheVariants.{Book as book_title}
 use Rattle.tf_model.specs.History.{snapshot}
 use Rattle.tf_model.specs.Plan.{Outline, outline_of}
 use Rattle.tf_model.specs.Steps.{Step}
-use Rattle.tf_report.specs.Lines.{line}
-use Rattle.tf_book.specs.Book.{BookValue, flow_state, bodies_of, book_size}
-use Rattle.tf_book.specs.Forms.{IsForm}
-use Rattle.tf_book.specs.Logging.{said_of, StaysOffDisk}
-use Rattle.tf_book.specs.declared.faults.Halt.{Halt}
-use Rattle.tf_book.specs.declared.faults.Halt.TheVariants as halt
+use Rattle.tf_report.specs.Lines.{line, table}
+use Rattle.tf_book.specs.Book.{BookValue, flow_state, bodies_of, book_size, IsForm}
+use Rattle.std.specs.declared.snapshot.Snapshot.{Snapshot}
+use Rattle.tf_book.specs.declared.history.History.{History}
+use Rattle.tf_book.specs.declared.writing.Draft.{Draft}
+
+-- ---- how one body is appended, and its line is said once no crash can take the body away
+
+-- what is said of a line: nothing where the book is quiet
+abbrev pub said_of : Bool → List ℕ → List ℕ
+said_of quiet line = if quiet then [] else line
+
+-- the body was appended, whether its line was said or was cut
+abbrev pub is_logged : Result (Unit {0}) Halt → Bool
+is_logged (Ok u) = true
+is_logged (Err halt.Out) = true
+is_logged (Err other) = false
+
+-- the journal after a body of that length was to be appended, with the desk as it is then
+abbrev pub journal_after : {K : Type 0} → Held K → K → ℕ → Result (Unit {0}) Halt → Held K
+journal_after old desk n (Ok u) = record old { desk = desk; size = old.size + 5 + n }
+journal_after old desk n (Err halt.Out) = record old { desk = desk; size = old.size + 5 + n }
+journal_after old desk n (Err halt.Disk) = record old { desk = desk; halted = true }
+journal_after old desk n (Err (halt.Full size need)) = old
+journal_after old desk n (Err halt.Memory) = old
+
+-- the line was said; or a prefix of it, where the output failed; or nothing, where the body wasn't appended
+abbrev pub IsSaid : Option (List ℕ) → List ℕ → Option (List ℕ) → Result (Unit {0}) Halt → Type 0
+IsSaid before line after (Ok u) = after ≡ shown_with before line
+IsSaid before line after (Err halt.Out) = ShowsPrefix before line after
+IsSaid before line after (Err other) = after ≡ before
+
+-- a fault of the disk or of the output comes only where its count rose, and Full only where the size and what is needed pass the limit; want of
+-- memory never comes
+abbrev pub IsCaused : DeskState → DeskState → (size n : ℕ) → Result (Unit {0}) Halt → Type 0
+IsCaused old new size n (Ok u) = Unit {0}
+IsCaused old new size n (Err halt.Disk) = Rises old.disk_faults new.disk_faults
+IsCaused old new size n (Err halt.Out) = Rises old.out_faults new.out_faults
+IsCaused old new size n (Err (halt.Full now need)) = (now ≡ size) × (need ≡ 5 + n) × (SIZE_LIMIT < now + need)
+IsCaused old new size n (Err halt.Memory) = ⊥
+
+-- why a line wasn't said to its end: the output failed, so that its count rose
+abbrev pub FailsToSay : Halt → DeskState → DeskState → Type 0
+FailsToSay why old new = (why ≡ halt.Out) × Rises old.out_faults new.out_faults
+
+-- a crash inside leaves the bodies from before and nothing more shown, or the new one too and a prefix of its line shown
+abbrev pub LeavesLogged : List ℕ → List (List ℕ) → List ℕ → List ℕ → Option (List ℕ) → Pairs
+LeavesLogged title held new line shown image text =
+    ((recovered title image ≡ bodies held) × (shown ≡ Some text))
+    ⊎ ((recovered title image ≡ bodies (held ++ new ∷ [])) × ShowsPrefix shown line (Some text))
+
+-- the file has the body, and is at rest; a file of just the bodies before has just it more
+pub record Logs {K : Type 0} (state : K → DeskState) (body : List ℕ) (old new : Held K) (held : List (List ℕ)) : Type 0 where
+  pub rest : IsAtRest state new (held ++ body ∷ [])
+  pub exact : bytes_now (state old.desk) ≡ journal_bytes (title_of old.title) held
+      → bytes_now (state new.desk) ≡ journal_bytes (title_of old.title) (held ++ body ∷ [])
+
+-- a crash inside or after it leaves the bodies from before, with the new one or without, and shows the line only with the new one
+pub record LogsAtMost {K : Type 0} (state : K → DeskState) (body line : List ℕ) (old new : Held K) (held : List (List ℕ)) : Type 0 where
+  pub crash : Passes (LeavesLogged (title_of old.title) held body line (state old.desk).shown) (state old.desk) (state new.desk)
+  pub leaves : LeavesEither (title_of old.title) (state new.desk) held (held ++ body ∷ [])
+
+-- no file changed, none was picked or synced, and the disk had no fault
+pub record StaysOffDisk (old new : DeskState) : Type 0 where
+  pub files : IsTrue old.tells → (new.content.files ≡ old.content.files) × (new.content.marks ≡ old.content.marks)
+  pub disk_faults : new.disk_faults ≡ old.disk_faults
+
+-- a body was to be appended, and its line said after it; nothing else was done
+pub record Logged {K : Type 0} (state : K → DeskState) (body line : List ℕ) (old new : Held K) (result : Result (Unit {0}) Halt) : Type 0 where
+  pub journal : new ≡ journal_after old new.desk (length body) result
+  pub text : IsSaid (state old.desk).shown line (state new.desk).shown result
+  pub cause : IsCaused (state old.desk) (state new.desk) old.size (length body) result
+  pub limit : is_logged result ≡ true → new.size ≤ SIZE_LIMIT
+  pub continues : Continues (state old.desk) (state new.desk)
+  pub unasked : IsUnasked (state old.desk) (state new.desk)
+  pub off_disk : old.volatile ≡ true → StaysOffDisk (state old.desk) (state new.desk)
+  pub records : is_logged result ≡ true → AtRest state old (Logs state body old new)
+  pub at_most : AtRest state old (LogsAtMost state body line old new)
+
+-- ---- what stays true of a book from the start of a session on: what is recorded since, what is shown, what a crash may leave, and why the book was halted
 
 -- what is said of the entries recorded after a history, the oldest first; entries are numbered from 1
 abbrev pub said : Bool → Outline → List Entry → List Entry → List ℕ
@@ -124,3 +198,62 @@ module _ {K : Type 0} (state : K → DeskState) where
     pub turned : old.halt ≡ None → flow_state old ≡ flow.Running → Rises (state old.journal.desk).turns (state new.journal.desk).turns
     pub unasked : flow_state old ≢ flow.Running → IsUnasked (state old.journal.desk) (state new.journal.desk)
     pub keeps : (start : BookValue K) → SessionInvariant start old → SessionInvariant start new
+
+-- ---- how a book keeps its history in memory
+
+-- the entry that a snapshot shows
+abbrev pub entry_shown : Snapshot Entry → Entry
+entry_shown s = s.value
+
+-- the history that snapshots show, the newest entry first
+abbrev pub past_shown : List (Snapshot Entry) → List Entry
+past_shown snapshots = reverse (map entry_shown snapshots)
+
+-- the bodies of a history, each behind its length
+abbrev pub framed_bodies : List Entry → List ℕ
+framed_bodies [] = []
+framed_bodies (e ∷ past) = framed_bodies past ++ (length_bytes (length (entry_bytes e)) ++ entry_bytes e)
+
+-- there is room for an entry with a body of that length
+pub record HasEntryRoom (history : History) (len : ℕ) : Type 0 where
+  pub entry : vec_len history.entries < vec_capacity history.entries
+  pub body : vec_len history.bodies + 4 + len ≤ vec_capacity history.bodies
+
+-- there is room for every history that a journal can hold
+pub record HasAllRoom (history : History) : Type 0 where
+  pub entries : 67108864 ≤ vec_capacity history.entries
+  pub bodies : 67108864 ≤ vec_capacity history.bodies
+
+-- there is room for the body and the line of every entry
+pub record HasDraftRoom (draft : Draft) : Type 0 where
+  pub body : 131200 ≤ vec_capacity draft.body
+  pub line : 1048576 ≤ vec_capacity draft.line
+
+-- there is room for one more entry of a journal of that size, whatever it is: in the history, and for its body and its line
+pub record HasWriteRoom (size : ℕ) (history : History) (draft : Draft) : Type 0 where
+  pub few : length history.entries.items ≤ 67108864
+  pub fewer : length history.entries.items ≤ size
+  pub fits : length history.bodies.items ≤ size
+  pub all_room : HasAllRoom history
+  pub draft_room : HasDraftRoom draft
+
+-- ---- how the lines of a history are made from its bodies in memory
+
+-- the lines of a whole history, numbered from 1, and the table of this moment
+abbrev pub history_text : Outline → List Entry → List ℕ
+history_text plan past = said false plan [] past ++ table plan (snapshot plan past)
+
+-- these bytes begin with a body behind its length
+pub record BeginsWithBody (bytes body : List ℕ) : Type 0 where
+  pub rest : List ℕ
+  pub is : bytes ≡ length_bytes (length body) ++ (body ++ rest)
+  pub is_body : IsBody body
+
+-- the lines of the oldest entries were made, and the bodies of the others are still to come
+pub record HasLines (plan : PlanValue) (past : List Entry) (before made : List ℕ) (at number : ℕ) : Type 0 where
+  pub newer : List Entry
+  pub older : List Entry
+  pub splits : past ≡ newer ++ older
+  pub place : at ≡ length (framed_bodies older)
+  pub counted : number ≡ length older
+  pub lines : made ≡ before ++ said false (outline_of plan) [] older

@@ -3,13 +3,11 @@ use Rattle.std.specs.Prelude.{◌≡◌, ◌≢◌, ◌≤◌, false, Some, ℕ,
 use Rattle.tf_desk.specs.State.{DeskState}
 use Rattle.tf_bound.specs.Short.{AreShort}
 use Rattle.tf_entries.specs.Plans.{IsPlan}
-use Rattle.tf_journal.specs.Format.{SIZE_LIMIT}
-use Rattle.tf_journal.specs.Rest.{IsAtRest, IsOpen}
+use Rattle.tf_journal.specs.Format.{SIZE_LIMIT, IsAtRest, IsOpen}
 use Rattle.tf_journal.specs.declared.title.Title.TheVariants.{Book as book_title}
 use Rattle.tf_machine.specs.Machine.{MachineValue, StandsFor}
-use Rattle.tf_book.specs.Book.{BookValue, bodies_of, book_size}
-use Rattle.tf_book.specs.Forms.{AreForms}
-use Rattle.tf_book.specs.History.{framed_bodies}
+use Rattle.tf_book.specs.Book.{BookValue, bodies_of, book_size, AreForms}
+use Rattle.tf_book.specs.SessionInvariant.{framed_bodies}
 use Rattle.tf_book.specs.declared.faults.Halt.TheVariants as halt
 
 -- the machine stands for the history, whose bodies are in memory; the plan has a form that can be read again; unless the book was halted by the disk, no append found a

@@ -1,16 +1,12 @@
 -- What a book's start answers, and what a crash leaves of it.
 use Rattle.std.specs.Prelude.{◌≡◌, List, [], ℕ, Option, Result, Ok, Err, Bool, false, None}
-use Rattle.tf_desk.specs.Counts.{Rises}
-use Rattle.tf_desk.specs.Crash.{Pairs}
+use Rattle.tf_desk.specs.Crash.{Rises, Pairs}
 use Rattle.tf_desk.specs.State.{DeskState}
-use Rattle.tf_journal.specs.Format.{title_of}
-use Rattle.tf_journal.specs.Held.{Held}
-use Rattle.tf_journal.specs.Rest.{IsAtRest, IsOpen, LeavesBeforeOrAfter}
+use Rattle.tf_journal.specs.Format.{title_of, Held, IsAtRest, IsOpen, LeavesBeforeOrAfter}
 use Rattle.tf_journal.specs.declared.title.Title.TheVariants.{Book as book_title}
 use Rattle.tf_flow.specs.Plan.{PlanValue}
 use Rattle.tf_entries.specs.Plans.{IsPlan, plan_bytes}
-use Rattle.tf_book.specs.Book.{BookValue, book_size}
-use Rattle.tf_book.specs.Loading.{IsHistoryOf}
+use Rattle.tf_book.specs.Book.{BookValue, book_size, IsHistoryOf}
 use Rattle.tf_book.specs.declared.faults.BookFault.{BookFault}
 use Rattle.tf_book.specs.declared.faults.BookFault.TheVariants as fault
 

@@ -1,6 +1,7 @@
 -- What the calls of a book record, and what they answer. Histories have the newest entry first.
-use Rattle.std.specs.Prelude.{◌≡◌, ◌⊎◌, ◌<◌, ◌-◌, ℕ, Bool, true, false, List, [], ◌∷◌, ◌++◌, length, Option, Some, None, map, reverse, is_some, if◌then◌else◌}
-use Rattle.tf_actions.specs.Whole.{IsWhole}
+use Rattle.std.specs.Prelude.{◌≡◌, ℕ, ◌+◌, Bool, true, false, ◌||◌, nat_le, Option, Some, None, ◌⊎◌, ◌<◌, ◌-◌, List, [], ◌∷◌, ◌++◌, length, map, reverse, is_some, if◌then◌else◌, ◌&&◌}
+use Rattle.tf_desk.specs.Crash.{Rises}
+use Rattle.tf_actions.specs.Gives.{IsWhole}
 use Rattle.tf_actions.specs.declared.orders.Order.{Order}
 use Rattle.tf_actions.specs.declared.outcomes.Outcome.{Outcome}
 use Rattle.tf_states.specs.declared.record.Entry.{Entry}
@@ -8,22 +9,45 @@ use Rattle.tf_states.specs.declared.record.What.{What}
 use Rattle.tf_states.specs.declared.record.What.TheVariants as what
 use Rattle.tf_states.specs.declared.state.FlowState.{FlowState}
 use Rattle.tf_states.specs.declared.state.FlowState.TheVariants as flow
-use Rattle.tf_hands.specs.Flight.{start_entry, action_in, task_of, end_by}
+use Rattle.tf_hands.specs.Hands.{start_entry, action_in, task_of, end_by, by_hand, is_no_end}
 use Rattle.tf_hands.specs.declared.starts.Start.{Start}
-use Rattle.tf_hands.specs.Hands.{by_hand}
-use Rattle.tf_model.specs.Candidates.{choice, end_of}
-use Rattle.tf_model.specs.Forced.{forced}
-use Rattle.tf_model.specs.History.{flow_of, snapshot}
-use Rattle.tf_model.specs.Orders.{order_of}
-use Rattle.tf_model.specs.Plan.{Outline}
-use Rattle.tf_model.specs.Snapshot.{Snapshot}
-use Rattle.tf_model.specs.Sessions.{entering, has_ended, is_last}
-use Rattle.tf_model.specs.Steps.{is_still}
-use Rattle.tf_book.specs.Stopping.{is_to_stop, IsAnswered}
+use Rattle.tf_model.specs.Forced.{choice, end_of, forced}
+use Rattle.tf_model.specs.History.{flow_of, snapshot, Snapshot, flow_is_reverted}
+use Rattle.tf_model.specs.Scope.{order_of}
+use Rattle.tf_model.specs.Plan.{Outline, count}
+use Rattle.tf_model.specs.Steps.{entering, has_ended, is_last, is_still, reset, is_settled_at}
 use Rattle.tf_book.specs.declared.turn.Entered.{Entered}
 use Rattle.tf_book.specs.declared.turn.Entered.TheVariants as entered
 use Rattle.tf_book.specs.declared.turn.Turn.{Turn}
 use Rattle.tf_book.specs.declared.turn.Turn.TheVariants as turn
+use Rattle.tf_book.specs.Book.{BookValue, outline}
+use Rattle.tf_book.specs.declared.faults.Halt.{Halt}
+use Rattle.tf_book.specs.declared.faults.Halt.TheVariants as halt
+use Rattle.tf_numbers.specs.Numbers.{all_below}
+
+-- ---- when a session is to stop: a stop was asked for, or its limit of entries is reached
+
+-- the length of the history at which a session is to stop that began at that length, and has this limit of entries
+abbrev pub limit_from : Option ℕ → ℕ → Option ℕ
+limit_from None begun = None
+limit_from (Some limit) begun = Some (begun + limit)
+
+-- so many entries reach the limit
+abbrev pub is_reached : Option ℕ → ℕ → Bool
+is_reached None count = false
+is_reached (Some limit) count = nat_le limit count
+
+-- a session is to stop, at a history of that length: a stop was asked for, or its limit is reached
+abbrev pub is_to_stop : Bool → Option ℕ → ℕ → Bool
+is_to_stop asked limit count = asked || is_reached limit count
+
+-- the count of stops tells whether one was asked for: it rose, or it stayed
+abbrev pub IsAnswered : Bool → ℕ → ℕ → Type 0
+IsAnswered true before after = Rises before after
+IsAnswered false before after = after ≡ before
+
+-- ---- what the calls of a book record, and what they answer
+-- Histories have the newest entry first.
 
 -- ---- entering
 
@@ -224,3 +248,68 @@ pub record IsFinished (plan : Outline) (hand : ℕ) (came : Outcome) (past after
 abbrev pub IsLessAfterStart : ℕ → ℕ → Turn → Type 0
 IsLessAfterStart old new (turn.Start order) = 67108864 - new < 67108864 - old
 IsLessAfterStart old new other = Unit {0}
+
+-- ---- which entry was tried where the disk or a full journal halted a book
+
+-- there is an entry, and it is so
+abbrev pub HasOne : (Entry → Type 0) → Option Entry → Type 0
+HasOne is_so None = ⊥
+HasOne is_so (Some e) = is_so e
+
+-- where the disk or a full journal halted the book, there is an entry that couldn't be recorded, and it is so
+abbrev pub IsTried : (Entry → Type 0) → Option Halt → Option Entry → Type 0
+IsTried is_so (Some halt.Disk) failed = HasOne is_so failed
+IsTried is_so (Some (halt.Full size need)) failed = HasOne is_so failed
+IsTried is_so other failed = Unit {0}
+
+-- it is the hand's, it ends no task, and the flow hadn't ended
+pub record IsNoEndBy (hand : ℕ) (plan : Outline) (past : List Entry) (e : Entry) : Type 0 where
+  pub by : e.hand ≡ hand
+  pub no_end : is_no_end plan e.what ≡ true
+  pub unended : has_ended (flow_of past) ≡ false
+
+-- it is the next entry that puts the flow back, by hand 0
+pub record IsNextReset (plan : Outline) (past : List Entry) (e : Entry) : Type 0 where
+  pub by : e.hand ≡ 0
+  pub is : reset plan (snapshot plan past) ≡ Some e.what
+
+module _ {K : Type 0} where
+  -- the entry that halted the book was the hand's, and no end of a task
+  abbrev pub HasTried : ℕ → BookValue K → Type 0
+  HasTried hand b = IsTried (IsNoEndBy hand (outline b) b.past) b.halt b.failed
+
+  -- it was the end of the hand's task, with this outcome, after the history before the call
+  abbrev pub HasTriedToEnd : ℕ → Outcome → BookValue K → BookValue K → Type 0
+  HasTriedToEnd hand came old new = IsTried (λ e. IsFinished (outline old) hand came old.past (e ∷ new.past)) new.halt new.failed
+
+  -- it was to put the flow back
+  abbrev pub HasTriedToReset : BookValue K → Type 0
+  HasTriedToReset b = IsTried (IsNextReset (outline b) b.past) b.halt b.failed
+
+-- ---- how a reverted flow is put back
+
+-- a flow may be put back: it is REVERTED, and every atom is settled
+abbrev pub may_reset : Outline → Snapshot → Bool
+may_reset plan s = flow_is_reverted s.flow && all_below (count plan) (is_settled_at s)
+
+-- each of these entries after a history is what a reset records at its place, by hand 0
+abbrev pub AreReset : Outline → List Entry → List Entry → Type 0
+AreReset plan [] past = Unit {0}
+AreReset plan (e ∷ entries) past = (e.hand ≡ 0) × (reset plan (snapshot plan (entries ++ past)) ≡ Some e.what) × AreReset plan entries past
+
+-- such entries were recorded, one after another
+pub record IsPutBackOn (plan : Outline) (past after : List Entry) : Type 0 where
+  pub entries : List Entry
+  pub are : AreReset plan entries past
+  pub is : after ≡ entries ++ past
+
+-- they were recorded until the flow was PENDING
+pub record IsPutBack (plan : Outline) (past after : List Entry) : Type 0 where
+  pub on : IsPutBackOn plan past after
+  pub pending : flow_of after ≡ flow.Pending
+
+-- one such entry was recorded
+pub record IsPutBackBy (plan : Outline) (past after : List Entry) : Type 0 where
+  pub event : What
+  pub is_reset : reset plan (snapshot plan past) ≡ Some event
+  pub is : after ≡ by_hand 0 event ∷ past

@@ -45,7 +45,7 @@ impl<K: Desk> Model for Book<K> {
     ghost use Rattle.std.specs.Coded.{codes};
     ghost use Rattle.tf_flow.specs.contracts.nested.Flow as flow;
     ghost use Rattle.tf_book.specs.Book.{BookValue};
-    ghost use Rattle.tf_book.specs.History.{past_shown, HasAllRoom, HasDraftRoom};
+    ghost use Rattle.tf_book.specs.SessionInvariant.{past_shown, HasAllRoom, HasDraftRoom};
     ghost use Rattle.tf_book.specs.Sound.{IsSoundBook};
 
     ghost Value = { BookValue K };

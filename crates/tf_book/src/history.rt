@@ -1,7 +1,6 @@
 ghost use Rattle.std.specs.Prelude.{◌≡◌, ◌≤◌, ◌<◌, ◌+◌, ◌++◌, ◌∷◌, [], List, ℕ, length, vec_len, vec_capacity, OnOk, IfOk};
-ghost use Rattle.tf_journal.specs.Format.{length_bytes};
-ghost use Rattle.tf_journal.specs.Rest.{IsBody};
-ghost use Rattle.tf_book.specs.History.{past_shown, HasEntryRoom, HasAllRoom};
+ghost use Rattle.tf_journal.specs.Format.{length_bytes, IsBody};
+ghost use Rattle.tf_book.specs.SessionInvariant.{past_shown, HasEntryRoom, HasAllRoom};
 
 use std::alloc::{AllocError, Global};
 use std::snapshot::Snapshot;

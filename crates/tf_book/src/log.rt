@@ -1,8 +1,8 @@
 ghost use Rattle.std.specs.Prelude.{◌≡◌, false, IfErr};
 ghost use Rattle.tf_desk.specs.State.{Says, Asks};
-ghost use Rattle.tf_journal.specs.Rest.{IsBody, IsReady};
-ghost use Rattle.tf_book.specs.Stopping.{IsAnswered};
-ghost use Rattle.tf_book.specs.Logging.{said_of, IsSaid, FailsToSay, Logged};
+ghost use Rattle.tf_journal.specs.Format.{IsBody, IsReady};
+ghost use Rattle.tf_book.specs.Turns.{IsAnswered};
+ghost use Rattle.tf_book.specs.SessionInvariant.{said_of, IsSaid, FailsToSay, Logged};
 
 use crate::faults::Halt;
 use tf_desk::Desk;

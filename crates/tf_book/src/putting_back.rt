@@ -3,10 +3,10 @@ ghost use Rattle.std.specs.Prelude.{◌≡◌, Some, true};
 ghost use Rattle.tf_machine.specs.Machine.{outline, shown};
 ghost use Rattle.tf_hands.specs.Hands.{is_of_flow as of_flow};
 ghost use Rattle.tf_model.specs.Plan.{count};
-ghost use Rattle.tf_model.specs.States.{is_settled as settled, is_put_back as put_back};
+ghost use Rattle.tf_model.specs.History.{is_settled as settled, is_put_back as put_back};
 ghost use Rattle.tf_model.specs.Steps.{is_settled_at, is_put_back_at, put_back_or_rest, reset};
 ghost use Rattle.tf_numbers.specs.Numbers.{all_below, first_below};
-ghost use Rattle.tf_book.specs.Resetting.{may_reset as may};
+ghost use Rattle.tf_book.specs.Turns.{may_reset as may};
 
 use tf_machine::Machine;
 use tf_states::{AtomState, FlowState, Payload, What};

@@ -9,8 +9,8 @@ ghost use Rattle.tf_flow.specs.Plan.{PlanValue};
 ghost use Rattle.tf_machine.specs.Answers.{IsBuildRefusal, IsBack};
 ghost use Rattle.tf_machine.specs.Machine.{StandsFor};
 ghost use Rattle.tf_machine.specs.declared.faults.ApplyFault.TheVariants.{NotAStep as refuses};
-ghost use Rattle.tf_book.specs.History.{HasAllRoom};
-ghost use Rattle.tf_book.specs.Loading.{IsHistoryOf, CanRun, IsNoPlan, IsNoStep, CannotFollow};
+ghost use Rattle.tf_book.specs.SessionInvariant.{HasAllRoom};
+ghost use Rattle.tf_book.specs.Book.{IsHistoryOf, CanRun, IsNoPlan, IsNoStep, CannotFollow};
 ghost use Rattle.tf_book.specs.Reading.{HasReadEntry, HasReadRun, HasReplayed, HasReadBook};
 
 use crate::history::History;
@@ -121,7 +121,7 @@ fn read_first(alloc: Global, body: &[u8]) -> Result<ReadBack, MakeFault>
 }
 
 impl Replay for Replayed {
-    ghost use Rattle.tf_book.specs.Loading.{CannotFollow};
+    ghost use Rattle.tf_book.specs.Book.{CannotFollow};
     ghost use Rattle.tf_book.specs.Reading.{HasReplayed};
 
     ghost replayed = { HasReplayed };

@@ -4,10 +4,8 @@ ghost use Rattle.tf_states.specs.declared.record.Entry.{Entry as Record};
 ghost use Rattle.tf_entries.specs.Entries.{entry_bytes};
 ghost use Rattle.tf_model.specs.Plan.{outline_of};
 ghost use Rattle.tf_report.specs.Lines.{line as line_of};
-ghost use Rattle.tf_book.specs.History.{past_shown, framed_bodies};
-ghost use Rattle.tf_book.specs.SessionInvariant.{said};
-ghost use Rattle.tf_book.specs.Loading.{IsEntryOf, AreEntriesOf};
-ghost use Rattle.tf_book.specs.Showing.{BeginsWithBody};
+ghost use Rattle.tf_book.specs.SessionInvariant.{past_shown, framed_bodies, said, BeginsWithBody};
+ghost use Rattle.tf_book.specs.Book.{IsEntryOf, AreEntriesOf};
 
 use crate::history::History;
 use std::alloc::Global;

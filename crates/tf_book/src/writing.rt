@@ -1,6 +1,5 @@
 ghost use Rattle.std.specs.Prelude.{◌≡◌, ◌<◌, ◌+◌, ◌++◌, ◌∷◌, List, true, false, length, IfOk};
-ghost use Rattle.tf_journal.specs.Format.{length_bytes};
-ghost use Rattle.tf_journal.specs.Rest.{IsBody, IsReady};
+ghost use Rattle.tf_journal.specs.Format.{length_bytes, IsBody, IsReady};
 ghost use Rattle.tf_states.specs.declared.record.Entry.{Entry as Record};
 ghost use Rattle.tf_bound.specs.Short.{IsShortEvent};
 ghost use Rattle.tf_entries.specs.Entries.{entry_bytes, has_its_payload, HasItsPayload};
@@ -8,9 +7,8 @@ ghost use Rattle.tf_machine.specs.Machine.{outline, shown, StandsFor};
 ghost use Rattle.tf_model.specs.Steps.{Step};
 ghost use Rattle.tf_report.specs.Lines.{line as line_of};
 ghost use Rattle.tf_model.specs.Plan.{outline_of};
-ghost use Rattle.tf_book.specs.Forms.{IsForm};
-ghost use Rattle.tf_book.specs.History.{past_shown, HasEntryRoom, HasAllRoom, HasDraftRoom, HasWriteRoom};
-ghost use Rattle.tf_book.specs.Logging.{said_of, is_logged, Logged};
+ghost use Rattle.tf_book.specs.Book.{IsForm};
+ghost use Rattle.tf_book.specs.SessionInvariant.{past_shown, HasEntryRoom, HasAllRoom, HasDraftRoom, HasWriteRoom, said_of, is_logged, Logged};
 ghost use Rattle.tf_book.specs.Recording.{KeepsEntry, KeepsNothing, failed_after};
 
 use crate::faults::Halt;
@@ -115,8 +113,7 @@ pub fn write<K: Desk>(
     ensures unrecorded { is_logged result ≡ false
         → KeepsNothing machine.old machine.new history.old history.new }
     ensures failed { failed.new ≡ failed_after entry failed.old result }
-    ensures short { IsShortEvent entry.what }
-    ensures form { IsForm entry }
+    ensures form { IsShortEvent entry.what × IsForm entry }
 {
     event_is_short(&entry.what);
     let number = history.entries.len() as u64 + 1;

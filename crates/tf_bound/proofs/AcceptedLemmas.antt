@@ -15,12 +15,9 @@ use Rattle.tf_flow.specs.declared.nested.Flow.{Flow}
 use Rattle.tf_flow.specs.declared.nested.Item.{Item}
 use Rattle.tf_flow.specs.Limits.{too_large, capped}
 use Rattle.tf_flow.specs.Items.{item_list}
-use Rattle.tf_flow.specs.Names.{first_some, has_twice}
-use Rattle.tf_flow.specs.Places.{Place, name_at, places, places_among, retry_places, tree_order}
+use Rattle.tf_flow.specs.Tree.{first_some, has_twice, Place, name_at, places, places_among, retry_places, tree_order, Tree, Trees, task, flow, no_trees, tree, tree_of, trees_of, item_tree, nesting}
 use Rattle.tf_flow.specs.Plan.{PlanValue}
-use Rattle.tf_flow.specs.Refusal.{empty, duplicate, unknown, bad_link, bad_atom, broken_rule, first_refusal}
-use Rattle.tf_flow.specs.Rules.{is_bad_retry_kind, is_bad_atom, bad_atom_at, bind_symbols, repeats_itself}
-use Rattle.tf_flow.specs.Tree.{Tree, Trees, task, flow, no_trees, tree, tree_of, trees_of, item_tree, nesting}
+use Rattle.tf_flow.specs.Rules.{empty, duplicate, unknown, bad_link, bad_atom, broken_rule, first_refusal, is_bad_retry_kind, is_bad_atom, bad_atom_at, bind_symbols, repeats_itself}
 use Rattle.tf_flow.proofs.TreeLemmas.{tree_of-flow}
 use Rattle.tf_flow.specs.Outline.{Atom, atoms_of, atoms_among, retry_atoms, enter, flow_count, injected_in}
 use Rattle.tf_model.specs.Plan.{outline_of}

@@ -13,7 +13,7 @@ use Rattle.tf_states.specs.declared.record.Kind.{Kind}
 use Rattle.tf_states.specs.declared.record.Kind.TheVariants as kind
 use Rattle.tf_flow.specs.declared.paths.Turn.{Turn}
 use Rattle.tf_model.specs.Plan.{Outline, path, retry_of}
-use Rattle.tf_model.specs.Snapshot.{Resolve, Snapshot, is_again}
+use Rattle.tf_model.specs.History.{Resolve, Snapshot, is_again}
 use Rattle.tf_model.specs.Scope.{given_for}
 use Rattle.tf_model.specs.Retries.{argument_named, give_up, try_again, answer_by_values, answer_by_given, answer_by, answer_of, answer, retry_kind, Controlled, controlled, controlled_on, enclosing, resolved, resolution_by, resolution, is_outermost, is_revert}
 use Rattle.tf_bound.specs.Costs.{tries_of, tries_at}

@@ -5,11 +5,9 @@ use Rattle.std.proofs.Math.Nat.{mul-le-mul_right}
 use Rattle.tf_states.specs.declared.state.AtomState.{AtomState}
 use Rattle.tf_states.specs.declared.state.AtomState.TheVariants as atom
 use Rattle.tf_model.specs.Plan.{Outline, count, is_retry, is_task, own_flow}
-use Rattle.tf_model.specs.Snapshot.{Snapshot, is_at_work}
-use Rattle.tf_model.specs.States.{is_pending, is_success, is_retrying, is_settled}
+use Rattle.tf_model.specs.History.{Snapshot, is_at_work, is_pending, is_success, is_retrying, is_settled}
 use Rattle.tf_model.specs.Readiness.{is_unmarked}
-use Rattle.tf_model.specs.Forced.{holds_with, is_of_its_flow}
-use Rattle.tf_model.specs.Candidates.{is_interrupted}
+use Rattle.tf_model.specs.Forced.{holds_with, is_of_its_flow, is_interrupted}
 use Rattle.tf_numbers.proofs.TruthLemmas.{and_second, clash, not_true}
 use Rattle.tf_numbers.proofs.NumberLemmas.{same_or_other}
 use Rattle.tf_bound.specs.Costs.{tries_at, most_with, sum_below, where_passes}

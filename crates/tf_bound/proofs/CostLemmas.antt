@@ -7,7 +7,7 @@ use Rattle.tf_flow.specs.declared.paths.Turn.{Turn}
 use Rattle.tf_flow.specs.Outline.{Part, Atom, atoms_of, atoms_among, enter, retry_atoms, flow_count}
 use Rattle.tf_model.specs.Retries.{kind_of_part}
 use Rattle.tf_model.proofs.Told.{kind_in}
-use Rattle.tf_model.specs.Bound.{tries, tries_by, cost, costs}
+use Rattle.tf_model.specs.Plan.{tries, tries_by, cost, costs}
 use Rattle.tf_model.proofs.PathLemmas.{turn_to}
 use Rattle.tf_bound.specs.Costs.{tries_of, retry_costs, attempt_costs, attempt_costs_among, where_passes}
 

@@ -14,12 +14,10 @@ use Rattle.tf_flow.specs.declared.deciders.Depth.{Depth}
 use Rattle.tf_numbers.specs.Numbers.{first_below, is_number}
 use Rattle.tf_flow.specs.Outline.{Atom}
 use Rattle.tf_model.specs.Plan.{Outline, count, is_retry, retry_of, own_flow}
-use Rattle.tf_model.specs.Snapshot.{Snapshot, is_again}
-use Rattle.tf_model.specs.States.{is_running, is_success, flow_runs, flow_suspends}
-use Rattle.tf_model.specs.Deciders.{refused}
+use Rattle.tf_model.specs.History.{Snapshot, is_again, is_running, is_success, flow_runs, flow_suspends}
+use Rattle.tf_model.specs.Readiness.{refused}
 use Rattle.tf_model.specs.Retries.{attempt, ends_with, resolution}
-use Rattle.tf_model.specs.Forced.{put_back_or_run, is_to_put_back, is_attempting, is_marked_again, is_to_begin_again, ignore_by, ignore_or_self, is_to_ignore, forced, forced_if_running, is_active}
-use Rattle.tf_model.specs.Candidates.{candidate_if_running, choice, candidate_entry, taken_up, is_best, end_of}
+use Rattle.tf_model.specs.Forced.{put_back_or_run, is_to_put_back, is_attempting, is_marked_again, is_to_begin_again, ignore_by, ignore_or_self, is_to_ignore, forced, forced_if_running, is_active, candidate_if_running, choice, candidate_entry, taken_up, is_best, end_of}
 use Rattle.tf_model.proofs.Told.{is_retry_in}
 use Rattle.tf_model.specs.Steps.{Rule, by_force, by_choice, by_end_of_task, by_turn, by_end, by_suspension, by_reset, ends_task, ends_as, turns_flow, end_entry, reset, put_back_or_rest, is_put_back_at}
 use Rattle.tf_numbers.proofs.TruthLemmas.{and_first, and_second, clash, either_way, true_both}

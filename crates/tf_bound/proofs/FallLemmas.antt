@@ -12,12 +12,10 @@ use Rattle.tf_states.specs.declared.state.FlowState.{FlowState}
 use Rattle.tf_states.specs.declared.state.FlowState.TheVariants as flow
 use Rattle.tf_numbers.specs.Numbers.{first_below}
 use Rattle.tf_model.specs.Plan.{Outline, count, holds, is_retry, is_task, own_flow}
-use Rattle.tf_model.specs.Snapshot.{Resolve, Snapshot, later, mark_after, hand_after, begun_again, is_again, is_retry_of, is_at_work}
-use Rattle.tf_model.specs.States.{is_pending, is_running, is_failure, is_done, is_settled, is_executed, is_retrying}
+use Rattle.tf_model.specs.History.{Resolve, Snapshot, later, mark_after, hand_after, begun_again, is_again, is_retry_of, is_at_work, is_pending, is_running, is_failure, is_done, is_settled, is_executed, is_retrying}
 use Rattle.tf_model.specs.Readiness.{can_revert, is_unmarked}
 use Rattle.tf_model.specs.Retries.{attempt, ends_with}
-use Rattle.tf_model.specs.Forced.{holds_with, is_of_its_flow, is_to_put_back, put_back_or_run, is_beginning_again, ignored_entry}
-use Rattle.tf_model.specs.Candidates.{is_interrupted}
+use Rattle.tf_model.specs.Forced.{holds_with, is_of_its_flow, is_to_put_back, put_back_or_run, is_beginning_again, ignored_entry, is_interrupted}
 use Rattle.tf_model.proofs.StepLemmas.{revert_executed}
 use Rattle.tf_numbers.proofs.TruthLemmas.{and_first, and_second, clash, either_way, true_both}
 use Rattle.tf_numbers.proofs.BelowLemmas.{found_passes, found_below}

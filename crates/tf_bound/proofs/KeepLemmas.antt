@@ -13,8 +13,7 @@ use Rattle.tf_flow.specs.Outline.{Atom}
 use Rattle.tf_numbers.specs.Numbers.{is_number}
 use Rattle.tf_model.specs.Plan.{Outline, count, holds, is_retry, is_task, own_flow}
 use Rattle.tf_model.proofs.Told.{is_task_in}
-use Rattle.tf_model.specs.Snapshot.{Resolve, Snapshot, later, mark_after, hand_after, attempts_in, begun_again, is_again, is_retry_of, is_at_work}
-use Rattle.tf_model.specs.States.{is_running, is_success, is_retrying}
+use Rattle.tf_model.specs.History.{Resolve, Snapshot, later, mark_after, hand_after, attempts_in, begun_again, is_again, is_retry_of, is_at_work, is_running, is_success, is_retrying}
 use Rattle.tf_model.specs.Forced.{is_marked_again}
 use Rattle.tf_numbers.proofs.TruthLemmas.{and_first, and_second, clash}
 use Rattle.tf_numbers.proofs.NumberLemmas.{same_or_other}

@@ -8,11 +8,9 @@ use Rattle.tf_states.specs.declared.record.What.TheVariants as what
 use Rattle.tf_states.specs.declared.state.AtomState.{AtomState}
 use Rattle.tf_states.specs.declared.state.AtomState.TheVariants as atom
 use Rattle.tf_model.specs.Plan.{Outline, count, is_retry, is_task}
-use Rattle.tf_model.specs.Snapshot.{Snapshot, later, is_at_work, attempts_in}
-use Rattle.tf_model.specs.States.{is_failure, is_retrying, is_done, is_settled, is_put_back}
+use Rattle.tf_model.specs.History.{Snapshot, later, is_at_work, attempts_in, is_failure, is_retrying, is_done, is_settled, is_put_back}
 use Rattle.tf_model.specs.Readiness.{is_unmarked}
-use Rattle.tf_model.specs.Forced.{is_of_its_flow, is_beginning_again}
-use Rattle.tf_model.specs.Candidates.{is_interrupted}
+use Rattle.tf_model.specs.Forced.{is_of_its_flow, is_beginning_again, is_interrupted}
 use Rattle.tf_numbers.proofs.TruthLemmas.{and_first, and_second, clash, either_way, true_both}
 use Rattle.tf_numbers.proofs.NumberLemmas.{same_or_other}
 use Rattle.tf_numbers.proofs.BelowLemmas.{any_at, any_of}

@@ -2,11 +2,8 @@
 use Rattle.std.proofs.Common.{◌≡◌, ℕ, List, [], ◌∷◌, true, false, Option, Some, None, refl, sym, ap, ◌∙◌, inl, inr, subst}
 use Rattle.tf_states.specs.declared.record.Entry.{Entry}
 use Rattle.tf_flow.specs.Plan.{PlanValue}
-use Rattle.tf_model.specs.Plan.{Outline, outline_of, holds, own_flow}
-use Rattle.tf_model.specs.Compilation.{compile_refusal}
-use Rattle.tf_model.specs.Snapshot.{Snapshot, later}
-use Rattle.tf_model.specs.History.{snapshot}
-use Rattle.tf_model.specs.States.{is_done, is_settled}
+use Rattle.tf_model.specs.Plan.{Outline, outline_of, holds, own_flow, compile_refusal}
+use Rattle.tf_model.specs.History.{Snapshot, later, snapshot, is_done, is_settled}
 use Rattle.tf_model.specs.Forced.{holds_with}
 use Rattle.tf_model.specs.Steps.{Step, LegalPast}
 use Rattle.tf_numbers.proofs.TruthLemmas.{and_first, clash, either_way}

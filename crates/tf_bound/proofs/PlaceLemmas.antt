@@ -7,8 +7,7 @@ use Rattle.tf_flow.specs.Tree.{Tree, Trees, task, flow, no_trees, tree, tree_of}
 use Rattle.tf_flow.specs.declared.paths.Turn.{Turn}
 use Rattle.tf_flow.specs.Outline.{Atom, FlowPlace, atoms_of, atoms_among, enter, retry_atoms, flows_of, flows_among, flow_count, atom_count, atoms_among_count, retry_count, retry_number}
 use Rattle.tf_flow.proofs.ListingLemmas.{length_retry}
-use Rattle.tf_model.specs.Before.{Flow, find_flow, has_flow_number}
-use Rattle.tf_model.specs.Linked.{arrange, arranged}
+use Rattle.tf_model.specs.Before.{Flow, find_flow, has_flow_number, arrange, arranged}
 use Rattle.tf_model.specs.Plan.{Outline, outline_of, is_retry, is_before, retry_of, own_flow, last_flow}
 use Rattle.tf_model.proofs.Told.{path_in, is_retry_in, retry_in}
 use Rattle.tf_model.proofs.BeforeLemmas.{never_before_itself, before_chain}

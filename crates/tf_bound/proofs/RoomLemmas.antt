@@ -7,12 +7,10 @@ use Rattle.tf_flow.specs.declared.atoms.Retry.{Retry}
 use Rattle.tf_flow.specs.Plan.{PlanValue}
 use Rattle.tf_flow.specs.Tree.{Tree, Trees, task, flow, no_trees, tree, tree_of}
 use Rattle.tf_flow.specs.declared.paths.Turn.{Turn}
-use Rattle.tf_flow.specs.Outline.{Atom, atoms_of, atoms_among, enter, retry_atoms, flow_count}
+use Rattle.tf_flow.specs.Outline.{Atom, atoms_of, atoms_among, enter, retry_atoms, flow_count, is_retry_part}
 use Rattle.tf_model.specs.Before.{passes_flow}
-use Rattle.tf_model.specs.Plan.{Outline, outline_of, count, holds, is_retry, last_flow, own_flow}
-use Rattle.tf_flow.specs.Outline.{is_retry_part}
+use Rattle.tf_model.specs.Plan.{Outline, outline_of, count, holds, is_retry, last_flow, own_flow, tries, tries_by, cost, costs}
 use Rattle.tf_model.proofs.Told.{path_in, is_retry_in, kind_in}
-use Rattle.tf_model.specs.Bound.{tries, tries_by, cost, costs}
 use Rattle.tf_model.specs.Forced.{holds_with, is_of_its_flow}
 use Rattle.tf_model.proofs.PathLemmas.{turn_to, IsPath, IsPathAmong, paths_of, paths_among, all_both, apart}
 use Rattle.tf_model.proofs.RetryLemmas.{passes_last, ends_below}

@@ -5,10 +5,8 @@ use Rattle.tf_flow.specs.declared.atoms.RetryKind.TheVariants as retry
 use Rattle.tf_flow.specs.declared.nested.FlowKind.TheVariants as kind
 use Rattle.tf_flow.specs.Tree.{Tree}
 use Rattle.tf_states.specs.declared.record.Entry.{Entry}
-use Rattle.tf_model.specs.Plan.{holds}
-use Rattle.tf_model.specs.Snapshot.{mark_after}
-use Rattle.tf_model.specs.History.{snapshot}
-use Rattle.tf_model.specs.Bound.{tree_bound}
+use Rattle.tf_model.specs.Plan.{holds, tree_bound}
+use Rattle.tf_model.specs.History.{mark_after, snapshot}
 use Rattle.tf_model.proofs.RowWords.{number, echo, fail_below, controller, flow_of_items, plan_of}
 use Rattle.tf_model.proofs.RowsOfTasks.{two_echoes}
 use Rattle.tf_model.proofs.RowsOfRetries.{three_attempts}

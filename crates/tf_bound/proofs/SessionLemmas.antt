@@ -10,15 +10,10 @@ use Rattle.tf_states.specs.declared.state.FlowState.{FlowState}
 use Rattle.tf_states.specs.declared.state.FlowState.TheVariants as flow
 use Rattle.tf_flow.specs.Plan.{PlanValue}
 use Rattle.tf_flow.specs.Tree.{tree_of}
-use Rattle.tf_model.specs.Plan.{Outline, outline_of, count}
-use Rattle.tf_model.specs.Compilation.{compile_refusal}
-use Rattle.tf_model.specs.Snapshot.{Snapshot, later, flow_after}
-use Rattle.tf_model.specs.History.{snapshot, flow_of}
-use Rattle.tf_model.specs.Forced.{forced}
-use Rattle.tf_model.specs.Candidates.{choice}
-use Rattle.tf_model.specs.Steps.{Step, LegalPast, ends_task}
-use Rattle.tf_model.specs.Sessions.{Session, already_ended, entered, halted, whole, entering, has_ended, is_last, is_inner, is_inner_entry}
-use Rattle.tf_model.specs.Bound.{cost, entry_bound}
+use Rattle.tf_model.specs.Plan.{Outline, outline_of, count, compile_refusal, cost, entry_bound}
+use Rattle.tf_model.specs.History.{Snapshot, later, flow_after, snapshot, flow_of}
+use Rattle.tf_model.specs.Forced.{forced, choice}
+use Rattle.tf_model.specs.Steps.{Step, LegalPast, ends_task, Session, already_ended, entered, halted, whole, entering, has_ended, is_last, is_inner, is_inner_entry}
 use Rattle.tf_numbers.proofs.TruthLemmas.{and_first, and_second}
 use Rattle.tf_model.proofs.HistoryLemmas.{one_more, legal_before}
 use Rattle.tf_model.proofs.ResolutionLemmas.{resolution_holds}

@@ -13,7 +13,7 @@ use Rattle.tf_flow.specs.declared.atoms.Arg.{Arg}
 use Rattle.tf_flow.specs.declared.atoms.Bind.{Bind}
 use Rattle.tf_flow.specs.declared.atoms.Provides.{Provides}
 use Rattle.tf_flow.specs.declared.atoms.Provides.TheVariants as provides
-use Rattle.tf_flow.specs.Names.{same_name, first_some}
+use Rattle.tf_flow.specs.Tree.{same_name, first_some}
 use Rattle.tf_actions.specs.declared.orders.Given.{Given}
 use Rattle.tf_actions.specs.declared.orders.Given.TheVariants as given
 use Rattle.tf_actions.specs.declared.orders.Pair.{Pair}
@@ -26,9 +26,7 @@ use Rattle.tf_states.specs.declared.record.What.TheVariants as what
 use Rattle.tf_states.specs.declared.state.AtomState.{AtomState}
 use Rattle.tf_states.specs.declared.state.AtomState.TheVariants as atom
 use Rattle.tf_model.specs.Plan.{Outline, injects, arguments, provides_of}
-use Rattle.tf_model.specs.Snapshot.{Snapshot, later, held_after, payload_after}
-use Rattle.tf_model.specs.History.{snapshot, state_of, payload_of}
-use Rattle.tf_model.specs.States.{is_success}
+use Rattle.tf_model.specs.History.{Snapshot, later, held_after, payload_after, snapshot, state_of, payload_of, is_success}
 use Rattle.tf_model.specs.Scope.{bound, item_at, part_given, given_by_result, given_by_payload, given_by, symbol_value, members, with_argument, or_missing, given_arguments, given_for}
 use Rattle.tf_model.specs.Retries.{argument_named}
 use Rattle.tf_bound.specs.Short.{IsShortValue, IsShortPayload, IsShortEvent, AreShort, AreShortBinds, ShowsShort, IsWithinLimits}

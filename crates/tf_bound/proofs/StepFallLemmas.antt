@@ -14,15 +14,11 @@ use Rattle.tf_states.specs.declared.state.FlowState.TheVariants as flow
 use Rattle.tf_flow.specs.declared.deciders.Depth.{Depth}
 use Rattle.tf_numbers.specs.Numbers.{first_below, is_number}
 use Rattle.tf_model.specs.Plan.{Outline, count, holds, is_retry, is_task}
-use Rattle.tf_model.specs.Snapshot.{Resolve, Snapshot, later, is_at_work}
-use Rattle.tf_model.specs.States.{is_pending, is_success, is_failure, is_executed, flow_runs, flow_suspends, flow_is_reverted}
-use Rattle.tf_model.specs.Readiness.{can_run, can_revert}
-use Rattle.tf_model.specs.Deciders.{refused}
+use Rattle.tf_model.specs.History.{Resolve, Snapshot, later, is_at_work, is_pending, is_success, is_failure, is_executed, flow_runs, flow_suspends, flow_is_reverted}
+use Rattle.tf_model.specs.Readiness.{can_run, can_revert, refused}
 use Rattle.tf_model.specs.Retries.{attempt, resolution}
-use Rattle.tf_model.specs.Forced.{is_to_put_back, is_beginning_again, is_to_ignore, ignore_by, ignore_or_self, forced, forced_if_running, is_active}
-use Rattle.tf_model.specs.Candidates.{candidate_if_running, choice, candidate_entry, taken_up, is_best, is_candidate, is_interrupted, end_of}
-use Rattle.tf_model.specs.Steps.{Rule, by_force, by_choice, by_end_of_task, by_turn, by_end, by_suspension, by_reset, ends_task, ends_as, turns_flow, may_turn, end_entry, may_suspend, reset, put_back_or_rest, is_put_back_at}
-use Rattle.tf_model.specs.Sessions.{has_ended}
+use Rattle.tf_model.specs.Forced.{is_to_put_back, is_beginning_again, is_to_ignore, ignore_by, ignore_or_self, forced, forced_if_running, is_active, candidate_if_running, choice, candidate_entry, taken_up, is_best, is_candidate, is_interrupted, end_of}
+use Rattle.tf_model.specs.Steps.{Rule, by_force, by_choice, by_end_of_task, by_turn, by_end, by_suspension, by_reset, ends_task, ends_as, turns_flow, may_turn, end_entry, may_suspend, reset, put_back_or_rest, is_put_back_at, has_ended}
 use Rattle.tf_model.proofs.StepLemmas.{revert_executed, run_pending, end_is}
 use Rattle.tf_numbers.proofs.TruthLemmas.{and_first, and_second, or_either, clash}
 use Rattle.tf_numbers.proofs.BelowLemmas.{found_passes, found_below}

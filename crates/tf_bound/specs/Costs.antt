@@ -4,10 +4,9 @@ use Rattle.tf_flow.specs.declared.atoms.Retry.{Retry}
 use Rattle.tf_flow.specs.declared.atoms.RetryKind.{RetryKind}
 use Rattle.tf_flow.specs.Tree.{Tree, Trees, task, flow, no_trees, tree, tree_of}
 use Rattle.tf_flow.specs.Plan.{PlanValue}
-use Rattle.tf_model.specs.Plan.{Outline, outline_of, count}
+use Rattle.tf_model.specs.Plan.{Outline, outline_of, count, tries_by, costs}
 use Rattle.tf_model.specs.Forced.{is_of_its_flow}
 use Rattle.tf_model.specs.Retries.{retry_kind}
-use Rattle.tf_model.specs.Bound.{tries_by, costs}
 
 -- how often a retry controller of this kind may try its flow; a task has no kind, and counts as one try
 abbrev pub tries_of : Option RetryKind → ℕ

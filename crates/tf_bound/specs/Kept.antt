@@ -1,8 +1,7 @@
 -- What holds at every moment of a run, and makes what is owed fall.
 use Rattle.std.specs.Prelude.{◌≡◌, ◌<◌, ◌≤◌, ℕ, true, false, Some}
 use Rattle.tf_model.specs.Plan.{Outline, count, holds, is_retry, own_flow}
-use Rattle.tf_model.specs.Snapshot.{Resolve, Snapshot}
-use Rattle.tf_model.specs.States.{is_success, is_running, is_retrying, is_done, is_settled}
+use Rattle.tf_model.specs.History.{Resolve, Snapshot, is_success, is_running, is_retrying, is_done, is_settled}
 use Rattle.tf_model.specs.Forced.{is_of_its_flow, is_marked_again}
 use Rattle.tf_bound.specs.Costs.{tries_at}
 use Rattle.tf_bound.specs.Short.{ShowsShort, IsWithinLimits}

@@ -8,10 +8,9 @@ use Rattle.tf_states.specs.declared.state.FlowState.TheVariants as flow
 use Rattle.tf_flow.specs.Plan.{PlanValue}
 use Rattle.tf_numbers.specs.Numbers.{any_below}
 use Rattle.tf_model.specs.Plan.{Outline, outline_of, count}
-use Rattle.tf_model.specs.Snapshot.{Snapshot, later}
+use Rattle.tf_model.specs.History.{Snapshot, later}
 use Rattle.tf_model.specs.Readiness.{is_unmarked}
-use Rattle.tf_model.specs.Forced.{is_beginning_again, is_of_its_flow}
-use Rattle.tf_model.specs.Candidates.{is_interrupted}
+use Rattle.tf_model.specs.Forced.{is_beginning_again, is_of_its_flow, is_interrupted}
 use Rattle.tf_bound.specs.Costs.{tries_at, each, sum_below}
 
 -- r is a retry controller in RETRYING, and a another atom of its flow

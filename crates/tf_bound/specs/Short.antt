@@ -12,7 +12,7 @@ use Rattle.tf_states.specs.declared.record.Payload.TheVariants as payload
 use Rattle.tf_states.specs.declared.record.What.{What}
 use Rattle.tf_states.specs.declared.record.What.TheVariants as what
 use Rattle.tf_model.specs.Plan.{Outline, injects}
-use Rattle.tf_model.specs.Snapshot.{Snapshot}
+use Rattle.tf_model.specs.History.{Snapshot}
 use Rattle.tf_bound.specs.Costs.{HasAttempts}
 
 -- a value that is a list has at most 1,024 items

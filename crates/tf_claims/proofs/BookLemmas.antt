@@ -4,13 +4,12 @@ use Rattle.std.proofs.lemmas.Bool.Decides.{leb_tells}
 use Rattle.std.specs.List.{AllByRecursion}
 use Rattle.std.specs.Prelude.{nat_le}
 use Rattle.tf_numbers.proofs.TruthLemmas.{and_first}
-use Rattle.tf_values.specs.ByteForm.{list_bytes}
+use Rattle.tf_values.specs.Scalars.{list_bytes}
 use Rattle.tf_values.specs.Value.{IsValue}
 use Rattle.tf_values.specs.declared.value.Val.{Val}
 use Rattle.tf_values.specs.declared.value.Val.TheVariants as value
-use Rattle.tf_flow.specs.Plan.{PlanValue}
+use Rattle.tf_flow.specs.Plan.{PlanValue, as_written, all_as_written, plan_tree}
 use Rattle.tf_flow.specs.Tree.{Tree, Trees, task, flow, no_trees, tree, tree_of}
-use Rattle.tf_flow.specs.Written.{as_written, all_as_written, plan_tree}
 use Rattle.tf_flow.specs.declared.atoms.Bind.{Bind}
 use Rattle.tf_flow.specs.declared.atoms.Retry.{Retry}
 use Rattle.tf_states.specs.declared.record.Entry.{Entry}
@@ -18,10 +17,8 @@ use Rattle.tf_states.specs.declared.record.Payload.{Payload}
 use Rattle.tf_states.specs.declared.record.Payload.TheVariants as payload
 use Rattle.tf_states.specs.declared.record.What.{What}
 use Rattle.tf_states.specs.declared.record.What.TheVariants as what
-use Rattle.tf_entries.specs.Atoms.{IsBind}
+use Rattle.tf_entries.specs.Plans.{IsBind, InTwoBytes, ControlWithin, IsTree, AreTrees, plan_bytes}
 use Rattle.tf_entries.specs.Entries.{HasItsPayload, IsPayload, entry_bytes}
-use Rattle.tf_entries.specs.Fields.{InTwoBytes}
-use Rattle.tf_entries.specs.Plans.{ControlWithin, IsTree, AreTrees, plan_bytes}
 use Rattle.tf_journal.specs.Format.{Recovered, bodies, not_a_book}
 use Rattle.tf_records.specs.Refusing.{no_journal, bad_body}
 use Rattle.tf_model.specs.History.{snapshot}
@@ -31,13 +28,10 @@ use Rattle.tf_model.specs.Steps.{Step}
 use Rattle.tf_bound.specs.Short.{IsShortValue, IsShortPayload, IsShortEvent, AreShort, AreShortBinds, IsShortControl, IsShortTree, AreShortTrees, IsWithinLimits}
 use Rattle.tf_bound.proofs.AcceptedLemmas.{accepted_within}
 use Rattle.tf_bound.proofs.PastLemmas.{past_kept}
-use Rattle.tf_records.specs.Refusing.{no_journal, bad_body}
-use Rattle.tf_book.specs.Book.{bodies_of}
-use Rattle.tf_book.specs.Forms.{AreForms}
-use Rattle.tf_book.specs.Loading.{AreEntriesOf, IsHistoryOf, IsNoPlan, no_form, no_run, CannotFollow, first, later, IsNoBook}
+use Rattle.tf_book.specs.Book.{bodies_of, AreForms, AreEntriesOf, IsHistoryOf, IsNoPlan, no_form, no_run, CannotFollow, first, later, IsNoBook}
 use Rattle.tf_book.proofs.AmongLemmas.{past_entries}
 use Rattle.tf_book.proofs.InvariantLemmas.{history_before}
-use Rattle.tf_commands.specs.Durable.{HoldsHistory}
+use Rattle.tf_commands.specs.Run.{HoldsHistory}
 use Rattle.tf_commands.proofs.AcceptLemmas.{same_refusal}
 use Rattle.tf_board.proofs.StayLemmas.{last_same}
 use Rattle.tf_claims.proofs.OnceLemmas.{keeps_limits, same_plan, same_written, never_empty, same_bodies}

@@ -1,6 +1,6 @@
 -- What a command on a board that ended with 0 said.
 use Rattle.std.proofs.Common.{◌≡◌, ◌≢◌, ℕ, List, Option, [], sym, ◌∙◌, inl, inr, arith}
-use Rattle.tf_desk.specs.Shown.{shown_with}
+use Rattle.tf_desk.specs.Crash.{shown_with}
 use Rattle.tf_board.specs.Board.{board_in, Holds}
 use Rattle.tf_board.specs.Does.{HoldsEither}
 use Rattle.tf_report.specs.Closing.{ClosesWithOrStops, said, cut}

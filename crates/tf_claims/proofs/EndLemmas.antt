@@ -1,7 +1,7 @@
 -- A call that resumes a flow, and that nothing fails, ends it as stated.
 use Rattle.std.proofs.Common.{◌≡◌, ◌≢◌, ◌⊎◌, ℕ, List, [], ◌++◌, true, false, Option, Some, None, refl, sym, ◌∙◌, ap, subst, inl, inr, ⊎_elim, arith}
 use Rattle.std.specs.Prelude.{IsTrue}
-use Rattle.tf_desk.specs.Counts.{Rises}
+use Rattle.tf_desk.specs.Crash.{Rises}
 use Rattle.tf_desk.specs.State.{DeskState}
 use Rattle.tf_flow.specs.Plan.{PlanValue}
 use Rattle.tf_states.specs.declared.record.Entry.{Entry}
@@ -13,18 +13,16 @@ use Rattle.tf_actions.specs.declared.outcomes.Outcome.{Outcome}
 use Rattle.tf_journal.specs.Start.{file_of}
 use Rattle.tf_model.specs.History.{flow_of}
 use Rattle.tf_model.specs.Plan.{Outline, outline_of}
-use Rattle.tf_model.specs.Sessions.{Session, already_ended, entered, halted, whole, has_ended, is_last}
+use Rattle.tf_model.specs.Steps.{Session, already_ended, entered, halted, whole, has_ended, is_last}
 use Rattle.tf_words.specs.declared.asked.Asked.{Asked}
 use Rattle.tf_words.specs.declared.asked.Asked.TheVariants as asked
-use Rattle.tf_commands.specs.Asking.{asked_for}
+use Rattle.tf_commands.specs.Asking.{asked_for, WasAsked}
 use Rattle.tf_commands.specs.Books as books
 use Rattle.tf_commands.specs.Books.{Promised, Resumes}
-use Rattle.tf_commands.specs.Causes.{WasAsked}
 use Rattle.tf_commands.specs.Course as course
 use Rattle.tf_commands.specs.Course.{Course, Obeys, IsRunComplete}
-use Rattle.tf_commands.specs.Durable.{book_at, HoldsHistory}
+use Rattle.tf_commands.specs.Run.{book_at, HoldsHistory, spoken_run, MayRun, HasReached, stop_status, IsLastSaid, ShowsLines}
 use Rattle.tf_commands.specs.Run as run
-use Rattle.tf_commands.specs.Run.{spoken_run, MayRun, HasReached, stop_status, IsLastSaid, ShowsLines}
 use Rattle.tf_report.specs.Closing.{ClosesWith}
 use Rattle.tf_report.proofs.ClosingLemmas.{closes_status}
 use Rattle.tf_commands.proofs.FlowLemmas.{flow_held}

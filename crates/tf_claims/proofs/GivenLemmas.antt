@@ -12,21 +12,16 @@ use Rattle.tf_states.specs.declared.state.FlowState.{FlowState}
 use Rattle.tf_states.specs.declared.state.FlowState.TheVariants as flow
 use Rattle.tf_numbers.specs.Numbers.{all_below, first_below}
 use Rattle.tf_numbers.proofs.OptionLemmas.{only_if}
-use Rattle.tf_model.specs.History.{snapshot, flow_of}
-use Rattle.tf_model.specs.Orders.{IsGiven}
+use Rattle.tf_model.specs.History.{snapshot, flow_of, Snapshot, flow_is_reverted}
+use Rattle.tf_model.specs.Scope.{IsGiven}
 use Rattle.tf_model.specs.Plan.{Outline, outline_of, count}
-use Rattle.tf_model.specs.Sessions.{Session, already_ended, entered, halted, whole, entering, has_ended}
-use Rattle.tf_model.specs.Snapshot.{Snapshot}
-use Rattle.tf_model.specs.States.{flow_is_reverted}
-use Rattle.tf_model.specs.Steps.{is_settled_at, is_put_back_at, put_back_or_rest, reset}
-use Rattle.tf_book.specs.Resetting.{AreReset}
+use Rattle.tf_model.specs.Steps.{Session, already_ended, entered, halted, whole, entering, has_ended, is_settled_at, is_put_back_at, put_back_or_rest, reset}
+use Rattle.tf_book.specs.Turns.{AreReset, IsNextReset}
 use Rattle.tf_book.specs.SessionInvariant.{MayFollow, nothing_more, one_more}
-use Rattle.tf_book.specs.Tried.{IsNextReset}
 use Rattle.tf_engines.specs.Runs.{AreGiven, is_of}
-use Rattle.tf_commands.specs.Resets.{PutBack}
-use Rattle.tf_commands.specs.Run.{MayRun, Ran}
+use Rattle.tf_commands.specs.Run.{PutBack, MayRun, Ran}
 use Rattle.tf_commands.specs.declared.running.Request.{Request}
-use Rattle.tf_ports.specs.Wanted.{wanted as number_of}
+use Rattle.tf_ports.specs.Ports.{wanted as number_of}
 use Rattle.tf_claims.specs.Life.{IsRecordedBy, AreRecorded}
 
 -- each entry that was recorded is such a one, and so is each that may be

@@ -1,9 +1,8 @@
 -- A file holds one history, and one plan as far as a run goes.
 use Rattle.std.proofs.Common.{◌≡◌, ℕ, ◌^◌, List, [], ◌∷◌, ◌++◌, Option, Some, None, refl, sym, ap, ◌∙◌, subst}
 use Rattle.std.specs.Prelude.{Bool}
-use Rattle.tf_flow.specs.Plan.{PlanValue}
+use Rattle.tf_flow.specs.Plan.{PlanValue, WrittenTree, written_task, written_flow, WrittenTrees, nothing_written, written, WrittenHead, as_written, plan_tree, plan_as_written}
 use Rattle.tf_flow.specs.Tree.{tree_of}
-use Rattle.tf_flow.specs.Written.{WrittenTree, written_task, written_flow, WrittenTrees, nothing_written, written, WrittenHead, as_written, plan_tree, plan_as_written}
 use Rattle.tf_flow.specs.declared.atoms.Bind.{Bind}
 use Rattle.tf_flow.specs.declared.atoms.Provides.{Provides}
 use Rattle.tf_flow.specs.declared.atoms.Provides.TheVariants as provides
@@ -14,19 +13,15 @@ use Rattle.tf_flow.specs.declared.atoms.Undo.TheVariants as undo
 use Rattle.tf_states.specs.declared.record.Entry.{Entry}
 use Rattle.tf_states.specs.declared.record.What.{What}
 use Rattle.tf_states.specs.declared.record.What.TheVariants as what
-use Rattle.tf_entries.specs.Atoms.{ProvidesWithin, UndoWithin, TaskWithin}
+use Rattle.tf_entries.specs.Plans.{ProvidesWithin, UndoWithin, TaskWithin, InTwoBytes, AnyCount, ControlWithin, HeadWithin, TreeWithin, TreesWithin, IsPlan, KeepsLimits, plan_bytes}
 use Rattle.tf_entries.specs.Entries.{HasItsPayload, IsAmong, IsEntry, entry_bytes}
-use Rattle.tf_entries.specs.Fields.{InTwoBytes, AnyCount}
-use Rattle.tf_entries.specs.Plans.{ControlWithin, HeadWithin, TreeWithin, TreesWithin, IsPlan, KeepsLimits, plan_bytes}
 use Rattle.tf_entries.proofs.DecodingLemmas.{plan_one}
 use Rattle.tf_entries.proofs.EntryLemmas.{entry_one}
 use Rattle.tf_journal.specs.Format.{Recovered, bodies}
 use Rattle.tf_model.specs.Plan.{Outline, outline_of}
 use Rattle.tf_model.specs.Steps.{LegalPast}
-use Rattle.tf_book.specs.Book.{bodies_of}
-use Rattle.tf_book.specs.Forms.{IsForm, AreForms}
-use Rattle.tf_book.specs.Loading.{IsAcceptedPlan}
-use Rattle.tf_commands.specs.Durable.{HoldsHistory}
+use Rattle.tf_book.specs.Book.{bodies_of, IsForm, AreForms, IsAcceptedPlan}
+use Rattle.tf_commands.specs.Run.{HoldsHistory}
 use Rattle.tf_commands.proofs.AcceptLemmas.{same_outline}
 use Rattle.tf_board.proofs.StayLemmas.{last_same}
 

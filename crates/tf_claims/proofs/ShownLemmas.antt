@@ -1,6 +1,6 @@
 -- What a call showed is told by what the file holds, then and later.
 use Rattle.std.proofs.Common.{◌≡◌, ℕ, List, [], ◌∷◌, ◌++◌, Bool, Option, Some, refl, sym, ◌∙◌, subst, inl, inr, ⊎_elim, append_assoc}
-use Rattle.tf_desk.specs.Shown.{shown_with, ShowsPrefix}
+use Rattle.tf_desk.specs.Crash.{shown_with, ShowsPrefix}
 use Rattle.tf_desk.specs.State.{DeskState}
 use Rattle.tf_flow.specs.Plan.{PlanValue}
 use Rattle.tf_states.specs.declared.record.Entry.{Entry}
@@ -9,8 +9,7 @@ use Rattle.tf_actions.specs.declared.outcomes.Outcome.{Outcome}
 use Rattle.tf_model.specs.Plan.{outline_of}
 use Rattle.tf_book.specs.SessionInvariant.{said}
 use Rattle.tf_book.proofs.SpokenLemmas.{shown_none, prefix_whole, prefix_further}
-use Rattle.tf_commands.specs.Durable.{book_in, HoldsHistory, IsShownThen, Lasts}
-use Rattle.tf_commands.specs.Run.{ShowsLines, closed, line_cut, stopped}
+use Rattle.tf_commands.specs.Run.{book_in, HoldsHistory, IsShownThen, Lasts, ShowsLines, closed, line_cut, stopped}
 use Rattle.tf_report.specs.Closing.{ClosesWith, said as was_said, cut}
 use Rattle.tf_claims.specs.Life.{Call, Shown, after_call, at_crash, Life, IsToldBy}
 use Rattle.tf_claims.proofs.LifeLemmas.{life_grows}

@@ -4,7 +4,7 @@ use Rattle.std.proofs.Common.{◌≡◌, ◌≢◌, ◌⊎◌, ℕ, List, [], �
 use Rattle.std.proofs.lemmas.List.{append_cancel_left}
 use Rattle.std.specs.Prelude.{unwrap_or}
 use Rattle.std.specs.Option.{option_and_then}
-use Rattle.tf_desk.specs.Content.{Mark}
+use Rattle.tf_desk.specs.Crash.{Mark}
 use Rattle.tf_desk.specs.State.{DeskState}
 use Rattle.tf_flow.specs.Plan.{PlanValue}
 use Rattle.tf_states.specs.declared.record.Entry.{Entry}
@@ -12,23 +12,20 @@ use Rattle.tf_actions.specs.declared.orders.Order.{Order}
 use Rattle.tf_actions.specs.declared.outcomes.Outcome.{Outcome}
 use Rattle.tf_journal.specs.Start.{file_of, first_pick, first_sync, IsFirm, IsStart}
 use Rattle.tf_words.specs.declared.asked.Asked.{Asked}
-use Rattle.tf_board.specs.Board.{bodies_of as commands_bodies, board_in, Holds, Finds}
-use Rattle.tf_board.specs.Commands.{command_bytes}
+use Rattle.tf_board.specs.Board.{bodies_of as commands_bodies, board_in, Holds, Finds, IsAsBeforeOrMade}
+use Rattle.tf_board.specs.Jobs.{command_bytes}
 use Rattle.tf_board.specs.Does.{HoldsEither}
-use Rattle.tf_board.specs.Opening.{IsAsBeforeOrMade}
 use Rattle.tf_board.specs.declared.commands.Command.{Command}
-use Rattle.tf_journal.specs.Format.{bodies}
+use Rattle.tf_journal.specs.Format.{bodies, Recovered}
 use Rattle.tf_book.specs.Book.{bodies_of}
-use Rattle.tf_commands.specs.Asking.{asked_for, want_of}
-use Rattle.tf_commands.specs.Causes.{WasAsked}
+use Rattle.tf_commands.specs.Asking.{asked_for, want_of, WasAsked}
 use Rattle.tf_commands.specs.Course as course
 use Rattle.tf_commands.specs.Course.{Course, Obeys, FileRead, IsUntouched}
-use Rattle.tf_commands.specs.Durable.{NoFileChanges, book_in, book_at, HoldsNoFlow, HoldsHistory}
+use Rattle.tf_commands.specs.Run.{NoFileChanges, book_in, book_at, HoldsNoFlow, HoldsHistory}
 use Rattle.tf_commands.proofs.FlowLemmas.{flow_held}
 use Rattle.tf_claims.specs.Life.{file_of_command, IsAbout, Call, Leaves, returned, crashed, elsewhere, IsHired, AreRecorded}
 use Rattle.tf_claims.proofs.NameLemmas.{name_same}
 use Rattle.tf_model.specs.Plan.{Outline, outline_of}
-use Rattle.tf_journal.specs.Format.{Recovered}
 use Rattle.tf_claims.proofs.GivenLemmas.{pending_given, given_older}
 use Rattle.tf_claims.proofs.OnceLemmas.{once, grows_so}
 use Rattle.tf_claims.proofs.WayLemmas.{Way, alone, recorded, began, unmade, jobs, way_others, Goes, untouched, about, itself, obeys_goes}

@@ -2,11 +2,9 @@
 use Rattle.std.proofs.Common.{◌≡◌, ◌≢◌, ◌<◌, ℕ, List, [], ◌++◌, Option, Some, refl, sym, subst, ⊎_elim}
 use Rattle.std.specs.Prelude.{Bool, IsTrue}
 use Rattle.tf_desk.specs.State.{DeskState}
-use Rattle.tf_flow.specs.Plan.{PlanValue}
-use Rattle.tf_flow.specs.Written.{PlanTree}
+use Rattle.tf_flow.specs.Plan.{PlanValue, PlanTree}
 use Rattle.tf_states.specs.declared.record.Entry.{Entry}
-use Rattle.tf_ports.specs.Contents.{Contents}
-use Rattle.tf_ports.specs.Wanted.{wanted as number_of}
+use Rattle.tf_ports.specs.Ports.{Contents, wanted as number_of}
 use Rattle.tf_ports.specs.declared.crews.Want.{Want}
 use Rattle.tf_actions.specs.declared.orders.Order.{Order}
 use Rattle.tf_actions.specs.declared.outcomes.Outcome.{Outcome}
@@ -23,7 +21,7 @@ use Rattle.tf_commands.specs.Books as books
 use Rattle.tf_commands.specs.Books.{Hires, Unopened, Unhired, Runs, Demonstrates, Resumes, ShowsBook, ResetsBook}
 use Rattle.tf_commands.specs.Course as course
 use Rattle.tf_commands.specs.Course.{Course, Obeys, FileRead, IsUntouched}
-use Rattle.tf_commands.specs.Durable.{NoFileChanges, book_at, HoldsNoFlow, HoldsHistory, StaysAlone, Lasts}
+use Rattle.tf_commands.specs.Run.{NoFileChanges, book_at, HoldsNoFlow, HoldsHistory, StaysAlone, Lasts}
 use Rattle.tf_commands.specs.declared.reading.Source.{Source}
 use Rattle.tf_commands.specs.declared.running.Request.{Request}
 use Rattle.tf_claims.specs.Life.{file_of_command}

@@ -1,35 +1,31 @@
 -- A life of a file: calls of the program, one after another, each from what the one before it left.
 use Rattle.std.specs.Prelude.{◌≡◌, ◌⊎◌, ◌<◌, ℕ, Bool, true, IsTrue, List, [], ◌∷◌, ◌++◌, Option, Some}
-use Rattle.tf_desk.specs.Shown.{shown_with}
+use Rattle.tf_desk.specs.Crash.{shown_with}
 use Rattle.tf_desk.specs.State.{DeskState}
 use Rattle.tf_flow.specs.Plan.{PlanValue}
 use Rattle.tf_states.specs.declared.record.Entry.{Entry}
 use Rattle.tf_states.specs.declared.state.FlowState.{FlowState}
-use Rattle.tf_ports.specs.Contents.{Contents}
-use Rattle.tf_ports.specs.Wanted.{wanted as number_of}
+use Rattle.tf_ports.specs.Ports.{Contents, wanted as number_of}
 use Rattle.tf_ports.specs.declared.crews.Want.{Want}
 use Rattle.tf_actions.specs.declared.orders.Order.{Order}
 use Rattle.tf_actions.specs.declared.outcomes.Outcome.{Outcome}
 use Rattle.tf_journal.specs.Start.{file_of, IsStart}
-use Rattle.tf_model.specs.Orders.{IsGiven}
+use Rattle.tf_model.specs.Scope.{IsGiven}
 use Rattle.tf_model.specs.Plan.{Outline, outline_of}
-use Rattle.tf_model.specs.Sessions.{has_ended}
+use Rattle.tf_model.specs.Steps.{has_ended}
 use Rattle.tf_words.specs.declared.asked.Asked.{Asked}
 use Rattle.tf_words.specs.declared.asked.Asked.TheVariants as asked
-use Rattle.tf_board.specs.Answers.{board_of, answer_of}
+use Rattle.tf_board.specs.Answers.{board_of, answer_of, number_of as job_of}
 use Rattle.tf_board.specs.Board.{AreOfBoard, board_in, Holds, Finds}
 use Rattle.tf_board.specs.Does.{Does}
-use Rattle.tf_board.specs.Recording.{number_of as job_of}
 use Rattle.tf_board.specs.declared.commands.Command.{Command}
 use Rattle.tf_board.specs.declared.commands.Command.TheVariants as command
 use Rattle.tf_board.specs.declared.commands.JobAction.TheVariants as action
-use Rattle.tf_book.specs.Tried.{IsNextReset}
-use Rattle.tf_commands.specs.Asking.{asked_for, wanted_by}
+use Rattle.tf_book.specs.Turns.{IsNextReset}
+use Rattle.tf_commands.specs.Asking.{asked_for, wanted_by, WasAsked}
 use Rattle.tf_commands.specs.Books.{Hires}
-use Rattle.tf_commands.specs.Causes.{WasAsked}
 use Rattle.tf_commands.specs.Course.{Course, MayBeDone, IsComplete}
-use Rattle.tf_commands.specs.Durable.{book_in, HoldsHistory, IsShownThen}
-use Rattle.tf_commands.specs.Run.{HasReached, stop_status}
+use Rattle.tf_commands.specs.Run.{book_in, HoldsHistory, IsShownThen, HasReached, stop_status}
 use Rattle.tf_report.specs.declared.statuses.TheConstants.{OUT_OF_MEMORY, FULL}
 
 -- the book or the board that a command is about

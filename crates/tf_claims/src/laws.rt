@@ -1,7 +1,7 @@
 //! The laws of a life.
 
 ghost use Rattle.std.specs.Prelude.{◌≡◌, ◌∷◌, ◌++◌, false, ℕ, List, Option, Some, None};
-ghost use Rattle.tf_desk.specs.Counts.{Rises};
+ghost use Rattle.tf_desk.specs.Crash.{Rises};
 ghost use Rattle.tf_flow.specs.Plan.{PlanValue};
 ghost use Rattle.tf_states.specs.declared.record.Entry.{Entry};
 ghost use Rattle.tf_ports.specs.declared.crews.Want.{Want as AWant};
@@ -10,17 +10,15 @@ ghost use Rattle.tf_journal.specs.Start.{file_of};
 ghost use Rattle.tf_board.specs.Board.{board_in, Holds};
 ghost use Rattle.tf_board.specs.Does.{Does};
 ghost use Rattle.tf_board.specs.declared.commands.Command.{Command};
-ghost use Rattle.tf_book.specs.Loading.{IsNoBook};
+ghost use Rattle.tf_book.specs.Book.{IsNoBook};
 ghost use Rattle.tf_words.specs.declared.asked.Asked.{Asked};
 ghost use Rattle.tf_words.specs.declared.asked.Asked.TheVariants.{Resume};
 ghost use Rattle.tf_model.specs.Plan.{outline_of};
-ghost use Rattle.tf_commands.specs.Asking.{asked_for};
+ghost use Rattle.tf_commands.specs.Asking.{asked_for, WasAsked};
 ghost use Rattle.tf_commands.specs.Books.{Promised, PutsBack};
-ghost use Rattle.tf_commands.specs.Causes.{WasAsked};
 ghost use Rattle.tf_commands.specs.declared.running.Request.{Request};
-ghost use Rattle.tf_commands.specs.Durable.{book_in, book_at, HoldsHistory};
-ghost use Rattle.tf_claims.specs.Life.{Call, IsUnfailing, Shown, Life, IsToldBy, EndsAsStated, IsBoardOf, IsDone};
-ghost use Rattle.tf_claims.specs.Life.{HiredIn, AreRecorded, WasClaimed, IsHandedOn};
+ghost use Rattle.tf_commands.specs.Run.{book_in, book_at, HoldsHistory};
+ghost use Rattle.tf_claims.specs.Life.{Call, IsUnfailing, Shown, Life, IsToldBy, EndsAsStated, IsBoardOf, IsDone, HiredIn, AreRecorded, WasClaimed, IsHandedOn};
 
 use tf_desk::Desk;
 use tf_ports::Crew;

@@ -5,15 +5,13 @@ use Rattle.tf_files.specs.document.Reading.{is_memory as is_memory_fault}
 use Rattle.tf_files.specs.declared.document.faults.FileFault.{FileFault}
 use Rattle.tf_files.proofs.OutlineLemmas.{atoms_alike, flows_alike, innermost_alike}
 use Rattle.tf_files.specs.FlowFile.{flow_of, IsBroken, IsFirstReason, unspelled, broken, no_memory}
-use Rattle.tf_flow.specs.Written.{PlanTree, plan_tree, WrittenPlan, plan_as_written, as_written}
+use Rattle.tf_flow.specs.Plan.{PlanTree, plan_tree, WrittenPlan, plan_as_written, as_written, PlanValue}
 use Rattle.tf_flow.specs.Outline.{Atom, FlowPlace, atoms_of, flows_of}
-use Rattle.tf_flow.specs.Plan.{PlanValue}
 use Rattle.tf_flow.specs.declared.atoms.Bind.{Bind}
-use Rattle.tf_model.specs.Compilation.{ambiguous, cycle, tree_refusal, compile_refusal, refusal_at}
-use Rattle.tf_model.specs.Plan.{Outline, outline_of, outline_with}
+use Rattle.tf_model.specs.Plan.{ambiguous, cycle, tree_refusal, compile_refusal, refusal_at, Outline, outline_of, outline_with}
 use Rattle.tf_model.specs.Scope.{missing_symbol}
 use Rattle.tf_machine.specs.Machine.{MachineValue}
-use Rattle.tf_flow.specs.Names.{first_some}
+use Rattle.tf_flow.specs.Tree.{first_some}
 use Rattle.tf_order.specs.Refusals.{IsRefusedBy}
 use Rattle.tf_order.specs.declared.faults.CompileFault.{CompileFault}
 use Rattle.tf_order.specs.declared.faults.CompileFault.TheVariants as compile_fault
@@ -24,7 +22,7 @@ use Rattle.tf_target.specs.Target.{outline_in, target_refusal, IsTargetAnswer}
 use Rattle.tf_target.proofs.AlikeLemmas.{same_target}
 use Rattle.tf_target.specs.declared.faults.TargetFault.{TargetFault}
 use Rattle.tf_target.specs.declared.faults.TargetFault.TheVariants as target_fault
-use Rattle.tf_commands.specs.Accepted.{Spells, GivesWhole, IsUpTo, GivesPlan, all_of_it, up_to, MayTarget, GivesNone, IsReason, misspelled, uncompiled, unprovided, untargeted, target_reason}
+use Rattle.tf_commands.specs.Asking.{Spells, GivesWhole, IsUpTo, GivesPlan, all_of_it, up_to, MayTarget, GivesNone, IsReason, misspelled, uncompiled, unprovided, untargeted, target_reason}
 use Rattle.tf_commands.specs.declared.accepting.Refusal.{Refusal}
 use Rattle.tf_commands.specs.declared.accepting.Refusal.TheVariants as refusal
 

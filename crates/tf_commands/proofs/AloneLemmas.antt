@@ -1,11 +1,10 @@
 -- A command that did nothing but say its last: its file and the others stay as they were.
 use Rattle.std.proofs.Common.{◌≡◌, ℕ, List, [], Option, Some, sym, ap, ◌∙◌, subst}
 use Rattle.std.specs.Prelude.{IsTrue, unwrap_or}
-use Rattle.tf_desk.specs.Shown.{ShowsPrefix}
+use Rattle.tf_desk.specs.Crash.{ShowsPrefix}
 use Rattle.tf_desk.specs.State.{DeskState, Says}
 use Rattle.tf_journal.proofs.PathLemmas.{path_said}
-use Rattle.tf_journal.specs.Path.{Untouched}
-use Rattle.tf_journal.specs.Start.{file_of}
+use Rattle.tf_journal.specs.Start.{Untouched, file_of}
 use Rattle.tf_book.proofs.SpokenLemmas.{shown_none}
 use Rattle.tf_commands.specs.Books.{Refuses, Stops}
 use Rattle.tf_report.specs.Closing.{ClosesWith}

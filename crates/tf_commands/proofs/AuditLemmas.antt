@@ -1,25 +1,23 @@
 -- How an audit goes, and what its status tells.
 use Rattle.std.proofs.Common.{◌≡◌, ◌≤◌, ◌⊎◌, ℕ, List, [], ◌++◌, length, Option, Some, inl, inr, refl, sym, ap, ◌∙◌, subst, arith, ⊎_elim}
-use Rattle.tf_desk.specs.Counts.{Rises}
+use Rattle.tf_desk.specs.Crash.{Rises}
 use Rattle.tf_desk.specs.State.{DeskState, Says}
-use Rattle.tf_flow.specs.Written.{PlanTree}
+use Rattle.tf_flow.specs.Plan.{PlanTree}
 use Rattle.tf_model.specs.Plan.{Outline}
-use Rattle.tf_ports.specs.Contents.{Contents, GivesBytes, PassesLimit}
+use Rattle.tf_ports.specs.Ports.{Contents, GivesBytes, PassesLimit}
 use Rattle.tf_ports.specs.declared.reading.TheConstants.{SOURCE_LIMIT}
 use Rattle.tf_target.specs.Target.{outline_in}
 use Rattle.tf_report.specs.Closing.{ClosesWith}
 use Rattle.tf_report.proofs.ClosingLemmas.{closes_status}
-use Rattle.tf_audit.specs.Texts.{verdict_text}
-use Rattle.tf_audit.specs.Verdicts.{IsVerdict}
+use Rattle.tf_audit.specs.Verdicts.{verdict_text, IsVerdict}
 use Rattle.tf_audit.specs.declared.verdicts.Verdict.{Verdict}
 use Rattle.tf_audit.specs.declared.verdicts.Verdict.TheVariants as verdict
 use Rattle.tf_words.specs.declared.asked.Asked.{Asked}
-use Rattle.tf_commands.specs.Accepted.{GivesPlan, GivesNone}
-use Rattle.tf_commands.specs.Asking.{asked_for, file_asked_for}
-use Rattle.tf_commands.specs.Auditing.{Judges, unjudged, judged, Audits, unfinished_log, unread_log, long_log, audited, log_asked_for, verdict_status, RefusesLog, IsLogRefused}
+use Rattle.tf_commands.specs.Asking.{GivesPlan, GivesNone, asked_for, file_asked_for}
+use Rattle.tf_commands.specs.Messages.{Judges, unjudged, judged, Audits, unfinished_log, unread_log, long_log, audited, log_asked_for, verdict_status, RefusesLog, IsLogRefused}
 use Rattle.tf_commands.specs.Course as course
 use Rattle.tf_commands.specs.Course.{BytesRead, FileRead, IsRefused, passes_limit, gives_none, IsDoneComplete}
-use Rattle.tf_commands.specs.Saying.{HasSaid}
+use Rattle.tf_commands.specs.Run.{HasSaid}
 use Rattle.tf_commands.specs.declared.accepting.Refusal.{Refusal}
 use Rattle.tf_commands.specs.declared.reading.Source.{Source}
 use Rattle.tf_commands.proofs.WorkLemmas.{says_only}

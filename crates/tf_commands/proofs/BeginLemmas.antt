@@ -2,22 +2,17 @@
 use Rattle.std.proofs.Common.{◌≡◌, ◌≢◌, ◌⊎◌, ℕ, ◌≤◌, List, [], length, false, Option, Some, None, refl, sym, ap, ◌∙◌, subst, inl, inr, ⊎_elim, arith}
 use Rattle.std.specs.Prelude.{IsTrue, is_some, Result, Ok, Err, IfOk, IfErr}
 use Rattle.tf_desk.proofs.StateLemmas.{on_disk_told, goes_continues}
-use Rattle.tf_desk.specs.Counts.{Rises}
-use Rattle.tf_desk.specs.Crash.{Pairs}
+use Rattle.tf_desk.specs.Crash.{Rises, Pairs}
 use Rattle.tf_desk.specs.State.{DeskState, LeftNow, MayLeave as MayLeaveNow, bytes_now, anything, GoesOn, Passes}
 use Rattle.tf_flow.specs.Plan.{PlanValue}
 use Rattle.tf_states.specs.declared.record.Entry.{Entry}
 use Rattle.tf_journal.proofs.AppendLemmas.{rest_leaves}
 use Rattle.tf_journal.proofs.PathLemmas.{set_start, path_widens, left_then}
-use Rattle.tf_journal.specs.Format.{Recovered, unborn, bodies, recovered, journal_bytes, title_of}
-use Rattle.tf_journal.specs.Held.{Held}
-use Rattle.tf_journal.specs.Path.{Open}
-use Rattle.tf_journal.specs.Rest.{IsAtRest, LeavesBirth, LeavesBodies}
-use Rattle.tf_journal.specs.Start.{file_of}
+use Rattle.tf_journal.specs.Format.{Recovered, unborn, bodies, recovered, journal_bytes, title_of, Held, IsAtRest, LeavesBirth, LeavesBodies}
+use Rattle.tf_journal.specs.Start.{Open, file_of}
 use Rattle.tf_journal.specs.declared.title.Title.{Title}
 use Rattle.tf_journal.specs.declared.title.Title.TheVariants.{Book as book_title}
-use Rattle.tf_book.specs.Book.{BookValue, bodies_of}
-use Rattle.tf_book.specs.Loading.{IsHistoryOf}
+use Rattle.tf_book.specs.Book.{BookValue, bodies_of, IsHistoryOf}
 use Rattle.tf_book.specs.Starting.{LeavesPlan, FailsToStart}
 use Rattle.tf_book.specs.declared.faults.BookFault.{BookFault}
 use Rattle.tf_book.specs.declared.faults.BookFault.TheVariants as book_fault
@@ -25,7 +20,7 @@ use Rattle.tf_book.specs.declared.faults.Halt.{Halt}
 use Rattle.tf_book.specs.declared.faults.Halt.TheVariants as halt
 use Rattle.tf_commands.specs.Begun.{desk_in, IsRecordless, IsFoundAs, IsFoundBlank, MayBegin, IsExactSoFar, LeavesNoFlow, IsQuiet, FailsToBegin, Begins, Unbegun}
 use Rattle.tf_commands.specs.Books.{IsFile}
-use Rattle.tf_commands.specs.Durable.{book_in, book_at, HoldsNoFlow, FindsHistory, IsFreshFile}
+use Rattle.tf_commands.specs.Run.{book_in, book_at, HoldsNoFlow, FindsHistory, IsFreshFile}
 use Rattle.tf_commands.specs.Runs.{book_desk}
 use Rattle.tf_commands.specs.declared.books.Blank.{Blank}
 use Rattle.tf_commands.specs.declared.books.Blank.TheVariants as blank

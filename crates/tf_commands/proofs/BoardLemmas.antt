@@ -2,7 +2,7 @@
 use Rattle.std.proofs.Common.{◌≡◌, ◌≢◌, ℕ, List, inl, inr, ⊎_elim, Option, Some, None, true, refl, sym, ◌∙◌, subst, arith}
 use Rattle.std.specs.Prelude.{is_some}
 use Rattle.tf_desk.specs.State.{DeskState}
-use Rattle.tf_ports.specs.Contents.{Contents}
+use Rattle.tf_ports.specs.Ports.{Contents}
 use Rattle.tf_ports.specs.declared.crews.Want.{Want}
 use Rattle.tf_actions.specs.declared.orders.Order.{Order}
 use Rattle.tf_actions.specs.declared.outcomes.Outcome.{Outcome}
@@ -13,8 +13,7 @@ use Rattle.tf_report.proofs.ClosingLemmas.{ends_status}
 use Rattle.tf_board.specs.Answers.{board_of, answer_of}
 use Rattle.tf_board.specs.Does.{Does, IsBoardStatus, is_done, is_failed, is_no_board, is_unsaid, is_out, is_full, is_refused}
 use Rattle.tf_board.specs.Does as board
-use Rattle.tf_commands.specs.Causes.{HasEachCause, HasCausesOr, counts_of}
-use Rattle.tf_commands.specs.Asking.{asked_for, want_of}
+use Rattle.tf_commands.specs.Asking.{HasEachCause, HasCausesOr, counts_of, asked_for, want_of}
 use Rattle.tf_commands.specs.Course.{Obeys, HiresAsWanted, IsBoardRefused}
 
 -- no words, no file and no hand are why a command on a board fails

@@ -3,11 +3,9 @@ use Rattle.std.proofs.Common.{◌≡◌, ◌⊎◌, ℕ, List, [], Option, refl,
 use Rattle.std.specs.Prelude.{IsTrue}
 use Rattle.tf_desk.specs.ActLaws.{bytes_of-picked}
 use Rattle.tf_desk.specs.State.{DeskState, bytes_now}
-use Rattle.tf_flow.specs.Plan.{PlanValue}
-use Rattle.tf_flow.specs.Written.{PlanTree, plan_tree}
+use Rattle.tf_flow.specs.Plan.{PlanValue, PlanTree, plan_tree}
 use Rattle.tf_journal.specs.Format.{unborn, title_of}
-use Rattle.tf_journal.specs.Path.{Untouched, Open}
-use Rattle.tf_journal.specs.Start.{file_of}
+use Rattle.tf_journal.specs.Start.{Untouched, Open, file_of}
 use Rattle.tf_journal.specs.declared.title.Title.TheVariants.{Book as book_title}
 use Rattle.tf_journal.proofs.UnbornLemmas.{unborn_found}
 use Rattle.tf_model.specs.History.{flow_of}
@@ -16,11 +14,10 @@ use Rattle.tf_ports.specs.declared.crews.Want.{Want}
 use Rattle.tf_actions.specs.declared.orders.Order.{Order}
 use Rattle.tf_actions.specs.declared.outcomes.Outcome.{Outcome}
 use Rattle.tf_states.specs.declared.record.Entry.{Entry}
-use Rattle.tf_book.specs.Book.{BookValue}
-use Rattle.tf_book.specs.Loading.{CanRun}
+use Rattle.tf_book.specs.Book.{BookValue, CanRun}
 use Rattle.tf_commands.specs.Begun.{MayBeBorn}
 use Rattle.tf_commands.specs.Books.{Hires, IsFile, RefusesOrStops, exhausted, Promised, Unhired, exhausted_hire, unhired, Runs, unopened, forbidden, unhired_run, ran, Resumes, unhired_again, resumed}
-use Rattle.tf_commands.specs.Durable.{book_in, HoldsNoFlow, HoldsHistory}
+use Rattle.tf_commands.specs.Run.{book_in, HoldsNoFlow, HoldsHistory}
 use Rattle.tf_commands.specs.Messages.{state_forbids, cannot_hire}
 use Rattle.tf_commands.specs.declared.running.Request.{Request}
 use Rattle.tf_commands.specs.Runs.{HoldsBook, GoesFurther, nobody, went_on}

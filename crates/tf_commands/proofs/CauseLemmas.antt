@@ -1,9 +1,9 @@
 -- What a status tells of the way that a command went.
 use Rattle.std.proofs.Common.{◌≡◌, ◌⊎◌, ℕ, ◌≤◌, List, Option, Some, None, true, false, inl, inr, refl, subst, arith, ⊎_elim}
 use Rattle.std.specs.Prelude.{is_some}
-use Rattle.tf_desk.specs.Counts.{Rises}
+use Rattle.tf_desk.specs.Crash.{Rises}
 use Rattle.tf_desk.specs.State.{DeskState}
-use Rattle.tf_ports.specs.Contents.{Contents}
+use Rattle.tf_ports.specs.Ports.{Contents}
 use Rattle.tf_ports.specs.declared.crews.Want.{Want}
 use Rattle.tf_actions.specs.declared.orders.Order.{Order}
 use Rattle.tf_actions.specs.declared.outcomes.Outcome.{Outcome}
@@ -12,13 +12,12 @@ use Rattle.tf_words.specs.declared.asked.Asked.TheVariants as asked
 use Rattle.tf_board.specs.Answers.{board_of}
 use Rattle.tf_board.specs.Does.{IsBoardStatus}
 use Rattle.tf_board.proofs.DoesLemmas.{does_status}
-use Rattle.tf_commands.specs.Asking.{file_asked_for, asked_for, IsWork}
-use Rattle.tf_commands.specs.Causes.{Counts, HasEachCause, HasCausesOr, counts_of}
+use Rattle.tf_commands.specs.Asking.{file_asked_for, asked_for, IsWork, Counts, HasEachCause, HasCausesOr, counts_of}
 use Rattle.tf_commands.specs.Course as course
 use Rattle.tf_commands.specs.Course.{Course, Obeys, source_so, IsRefused, IsBoardRefused}
-use Rattle.tf_commands.specs.Saying.{OnlySays}
+use Rattle.tf_commands.specs.Run.{OnlySays}
 use Rattle.tf_commands.specs.declared.reading.Source.{Source}
-use Rattle.tf_commands.specs.Auditing.{IsLogRefused, log_asked_for}
+use Rattle.tf_commands.specs.Messages.{IsLogRefused, log_asked_for}
 use Rattle.tf_commands.proofs.AuditLemmas.{AuditStatus, audit_status, audit_usage, audit_refused, audit_unrefused, audit_log_refused}
 use Rattle.tf_commands.proofs.BoardLemmas.{board_apart, board_no_log, board_refuses}
 use Rattle.tf_commands.proofs.EndLemmas.{Ended, works_ended, ended_apart, tries_ended, checks_ended, runs_ended, demonstrates_ended, resumes_ended, shows_ended, resets_ended, ended_unrefused, ended_no_log}

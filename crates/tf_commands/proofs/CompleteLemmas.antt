@@ -2,9 +2,8 @@
 use Rattle.std.proofs.Common.{◌≡◌, ◌⊎◌, ℕ, List, [], ◌++◌, length, Option, Some, None, Bool, true, false, inl, inr, refl, ◌∙◌, sym, subst, arith, ⊎_elim}
 use Rattle.std.specs.Prelude.{IsTrue}
 use Rattle.tf_desk.specs.State.{DeskState}
-use Rattle.tf_flow.specs.Plan.{PlanValue}
-use Rattle.tf_flow.specs.Written.{PlanTree}
-use Rattle.tf_ports.specs.Contents.{Contents}
+use Rattle.tf_flow.specs.Plan.{PlanValue, PlanTree}
+use Rattle.tf_ports.specs.Ports.{Contents}
 use Rattle.tf_ports.specs.declared.crews.Want.{Want}
 use Rattle.tf_actions.specs.declared.orders.Order.{Order}
 use Rattle.tf_actions.specs.declared.outcomes.Outcome.{Outcome}
@@ -13,23 +12,18 @@ use Rattle.tf_states.specs.declared.state.FlowState.{FlowState}
 use Rattle.tf_states.specs.declared.state.FlowState.TheVariants as flow
 use Rattle.tf_model.specs.History.{snapshot}
 use Rattle.tf_model.specs.Plan.{outline_of}
-use Rattle.tf_book.specs.Loading.{IsNoBook}
-use Rattle.tf_book.specs.Resetting.{may_reset}
-use Rattle.tf_book.specs.Stopping.{is_reached}
+use Rattle.tf_book.specs.Book.{IsNoBook}
+use Rattle.tf_book.specs.Turns.{may_reset, is_reached}
 use Rattle.tf_words.specs.declared.asked.Asked.{Asked}
 use Rattle.tf_words.specs.declared.asked.Asked.TheVariants as asked
 use Rattle.tf_board.proofs.DoesLemmas.{complete_so}
-use Rattle.tf_commands.specs.Accepted.{demo_tree}
-use Rattle.tf_commands.specs.Asking.{asked_for}
-use Rattle.tf_commands.specs.Auditing.{Audits}
+use Rattle.tf_commands.specs.Asking.{demo_tree, asked_for, Counts, HasEachCause, HasNoFault}
+use Rattle.tf_commands.specs.Messages.{Audits}
 use Rattle.tf_commands.specs.Books.{Unopened, exhausted, disk_failed, no_book, Unhired, exhausted_hire, unhired, Promised, Runs, unopened, forbidden, unhired_run, ran, Demonstrates, ungenerated, demonstrated, Resumes, unopened_again, empty, unhired_again, resumed, ShowsBook, unopened_show, nothing_shown, shown_whole, ResetsBook, unopened_reset, nothing_put_back, reset_forbidden, was_reset}
-use Rattle.tf_commands.specs.Causes.{Counts, HasEachCause, HasNoFault}
 use Rattle.tf_commands.specs.Course as course
 use Rattle.tf_commands.specs.Course.{Tries, Checks, Course, Obeys, source_so, HoldsFlow, HoldsReverted, IsRunComplete, IsRunCompleteBy, IsDoneComplete, IsResetComplete, MayBeDone, IsComplete}
-use Rattle.tf_commands.specs.Durable.{book_at, HoldsNoFlow}
-use Rattle.tf_commands.specs.Resets.{IsResetSaid, all_back, disk_failed_back, filled_back}
+use Rattle.tf_commands.specs.Run.{book_at, HoldsNoFlow, IsResetSaid, all_back, disk_failed_back, filled_back, spoken_run, heading_of, stop_status, MayRun, Ran, ShowsLines, closed, line_cut, stopped, IsLastSaid, reported, disk_failed as disk_said, filled}
 use Rattle.tf_commands.specs.declared.running.Request.{Request}
-use Rattle.tf_commands.specs.Run.{spoken_run, heading_of, stop_status, MayRun, Ran, ShowsLines, closed, line_cut, stopped, IsLastSaid, reported, disk_failed as disk_said, filled}
 use Rattle.tf_report.specs.Closing.{ClosesWithOrStops}
 use Rattle.tf_report.proofs.ClosingLemmas.{closes_status}
 use Rattle.tf_commands.proofs.EndLemmas.{Ended, is_complete, is_failed, is_no_book, is_unsaid, is_unhired, is_forbidden, is_suspended, ran_ended, ran_suspended}

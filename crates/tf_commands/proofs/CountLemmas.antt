@@ -1,13 +1,12 @@
 -- The counts of faults on the way through a command on a book.
 use Rattle.std.proofs.Common.{◌≡◌, ◌≢◌, ◌⊎◌, ℕ, ◌≤◌, List, Option, sym, ◌∙◌, inl, inr, ⊎_elim, refl, arith}
-use Rattle.tf_desk.specs.Counts.{Rises}
-use Rattle.tf_desk.specs.Crash.{Pairs}
+use Rattle.tf_desk.specs.Crash.{Rises, Pairs}
 use Rattle.tf_desk.specs.State.{DeskState, GoesOn, Continues}
-use Rattle.tf_journal.specs.Path.{Untouched}
+use Rattle.tf_journal.specs.Start.{Untouched}
 use Rattle.tf_commands.specs.Books.{Unopened, exhausted, disk_failed, no_book}
-use Rattle.tf_commands.specs.Causes.{HasEachCause, counts_of}
+use Rattle.tf_commands.specs.Asking.{HasEachCause, counts_of}
 use Rattle.tf_commands.specs.Runs.{HasEnded}
-use Rattle.tf_commands.specs.Saying.{HasSaid}
+use Rattle.tf_commands.specs.Run.{HasSaid}
 use Rattle.tf_report.specs.Closing.{ClosesWith}
 use Rattle.tf_report.proofs.ClosingLemmas.{closes_status}
 use Rattle.tf_report.specs.declared.statuses.TheConstants.{UNREAD, DISK_FAILED, NO_BOOK, UNSAID, UNHIRED, OUT_OF_MEMORY, FORBIDDEN}

@@ -1,19 +1,18 @@
 -- The way that a command went, put together from its parts.
 use Rattle.std.proofs.Common.{◌≡◌, ◌≤◌, ℕ, length, List, Option, Some, None, Bool, true, false, refl, sym, inl, inr, subst}
 use Rattle.std.specs.Prelude.{Result, Ok, Err, IfErr, option_and_then, if◌then◌else◌}
-use Rattle.tf_flow.specs.Written.{PlanTree, plan_tree}
-use Rattle.tf_ports.specs.Contents.{Contents, GivesBytes}
+use Rattle.tf_flow.specs.Plan.{PlanTree, plan_tree}
+use Rattle.tf_ports.specs.Ports.{Contents, GivesBytes}
 use Rattle.tf_ports.specs.declared.reading.TheConstants.{SOURCE_LIMIT}
 use Rattle.tf_desk.specs.State.{DeskState}
 use Rattle.tf_ports.specs.declared.crews.Want.{Want}
 use Rattle.tf_actions.specs.declared.orders.Order.{Order}
 use Rattle.tf_actions.specs.declared.outcomes.Outcome.{Outcome}
 use Rattle.tf_machine.specs.Machine.{MachineValue}
-use Rattle.tf_words.specs.Demos.{IsDemo}
+use Rattle.tf_words.specs.Words.{IsDemo}
 use Rattle.tf_words.specs.declared.asked.Asked.{Asked}
 use Rattle.tf_words.specs.declared.asked.Asked.TheVariants as asked
-use Rattle.tf_commands.specs.Asking.{is_done_here, if_done_here, IsWithin, want_of, wanted_by, asked_for}
-use Rattle.tf_commands.specs.Accepted.{GivesNone, is_want_of_memory, IsReason}
+use Rattle.tf_commands.specs.Asking.{is_done_here, if_done_here, IsWithin, want_of, wanted_by, asked_for, GivesNone, is_want_of_memory, IsReason}
 use Rattle.tf_commands.specs.Course.{BytesRead, exhausted, refused, done, FileRead, unfinished, unread, too_long, read, Undone, Obeys, HiresAsWanted}
 use Rattle.tf_commands.specs.Messages.{refusal, reason_text}
 use Rattle.tf_commands.specs.Opened.{Opened}

@@ -1,8 +1,7 @@
 -- How what was done ends: the statuses that it may have.
 use Rattle.std.proofs.Common.{◌≡◌, ◌⊎◌, ℕ, List, [], ◌++◌, length, Option, Some, Bool, true, false, inl, inr, refl, ◌∙◌, sym, ap, subst, arith, ⊎_elim}
 use Rattle.tf_desk.specs.State.{DeskState}
-use Rattle.tf_flow.specs.Plan.{PlanValue}
-use Rattle.tf_flow.specs.Written.{PlanTree}
+use Rattle.tf_flow.specs.Plan.{PlanValue, PlanTree}
 use Rattle.tf_ports.specs.declared.crews.Want.{Want}
 use Rattle.tf_actions.specs.declared.orders.Order.{Order}
 use Rattle.tf_actions.specs.declared.outcomes.Outcome.{Outcome}
@@ -10,14 +9,13 @@ use Rattle.tf_states.specs.declared.record.Entry.{Entry}
 use Rattle.tf_states.specs.declared.state.FlowState.{FlowState}
 use Rattle.tf_states.specs.declared.state.FlowState.TheVariants as flow
 use Rattle.tf_model.specs.Plan.{outline_of}
-use Rattle.tf_book.specs.Stopping.{is_reached}
-use Rattle.tf_commands.specs.Accepted.{demo_tree}
+use Rattle.tf_book.specs.Turns.{is_reached}
+use Rattle.tf_commands.specs.Asking.{demo_tree}
 use Rattle.tf_commands.specs.Books.{Unopened, exhausted, disk_failed, no_book, Refuses, Unhired, exhausted_hire, unhired, Promised, Runs, unopened, forbidden, unhired_run, ran, Demonstrates, ungenerated, demonstrated, Resumes, unopened_again, empty, unhired_again, resumed, ShowsBook, unopened_show, nothing_shown, shown_whole, ResetsBook, unopened_reset, nothing_put_back, reset_forbidden, was_reset}
 use Rattle.tf_commands.specs.Course as course
 use Rattle.tf_commands.specs.Course.{Tries, IsRunComplete}
-use Rattle.tf_commands.specs.Resets.{IsResetSaid, all_back, disk_failed_back, filled_back}
+use Rattle.tf_commands.specs.Run.{IsResetSaid, all_back, disk_failed_back, filled_back, heading_of, stop_status, MayRun, Ran, ShowsLines, closed, line_cut, stopped, IsLastSaid, reported, disk_failed as disk_said, filled}
 use Rattle.tf_commands.specs.declared.running.Request.{Request}
-use Rattle.tf_commands.specs.Run.{heading_of, stop_status, MayRun, Ran, ShowsLines, closed, line_cut, stopped, IsLastSaid, reported, disk_failed as disk_said, filled}
 use Rattle.tf_report.specs.Closing.{ClosesWithOrStops}
 use Rattle.tf_report.proofs.ClosingLemmas.{closes_status}
 

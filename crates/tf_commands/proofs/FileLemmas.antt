@@ -1,10 +1,9 @@
 -- What a status tells of a flow file.
 use Rattle.std.proofs.Common.{◌≡◌, ◌⊎◌, ℕ, List, length, Option, Some, None, inl, inr, refl, ◌∙◌, sym, ap, subst, arith, ⊎_elim}
-use Rattle.tf_flow.specs.Written.{PlanTree}
-use Rattle.tf_ports.specs.Contents.{Contents, GivesBytes, PassesLimit}
+use Rattle.tf_flow.specs.Plan.{PlanTree}
+use Rattle.tf_ports.specs.Ports.{Contents, GivesBytes, PassesLimit}
 use Rattle.tf_words.specs.declared.asked.Asked.{Asked}
-use Rattle.tf_commands.specs.Accepted.{GivesWhole, GivesNone}
-use Rattle.tf_commands.specs.Asking.{file_asked_for, asked_for}
+use Rattle.tf_commands.specs.Asking.{GivesWhole, GivesNone, file_asked_for, asked_for}
 use Rattle.tf_commands.specs.Course as course
 use Rattle.tf_commands.specs.Course.{BytesRead, FileRead, IsRefused, passes_limit, gives_none, IsAccepted}
 use Rattle.tf_commands.specs.declared.accepting.Refusal.{Refusal}

@@ -2,29 +2,24 @@
 use Rattle.std.proofs.Common.{◌≡◌, ◌≢◌, ◌⊎◌, ℕ, List, [], ◌++◌, Bool, false, Option, Some, None, refl, sym, ap, ◌∙◌, subst, inl, inr, ⊎_elim, append_assoc, arith}
 use Rattle.std.specs.Prelude.{IsTrue}
 use Rattle.tf_desk.proofs.StateLemmas.{bytes_stay, left_stays, files_none, extends_told, passes_then}
-use Rattle.tf_desk.specs.Counts.{Rises}
-use Rattle.tf_desk.specs.Shown.{shown_with, ShowsPrefix}
+use Rattle.tf_desk.specs.Crash.{Rises, shown_with, ShowsPrefix}
 use Rattle.tf_desk.specs.State.{DeskState, Passes, Says, SaysPrefix, nothing_left, passes_none, passes_on, passes_within}
 use Rattle.tf_flow.specs.Plan.{PlanValue}
 use Rattle.tf_states.specs.declared.record.Entry.{Entry}
 use Rattle.tf_model.specs.Plan.{outline_of}
-use Rattle.tf_journal.specs.Format.{Recovered, bodies, title_of}
-use Rattle.tf_journal.specs.Rest.{LeavesEither}
+use Rattle.tf_journal.specs.Format.{Recovered, bodies, title_of, LeavesEither}
 use Rattle.tf_journal.specs.declared.title.Title.TheVariants.{Book as book_title}
-use Rattle.tf_book.specs.Book.{BookValue, outline, bodies_of}
+use Rattle.tf_book.specs.Book.{BookValue, outline, bodies_of, IsHistoryOf}
 use Rattle.tf_book.specs.SessionInvariant.{SessionInvariant, said, IsSpoken, IsCut, HasCause, LeavesEntries, MayFollow, nothing_more, IsPending, IsExact, IsFullFor}
-use Rattle.tf_book.specs.Loading.{IsHistoryOf}
-use Rattle.tf_book.specs.Tried.{IsTried}
+use Rattle.tf_book.specs.Turns.{IsTried}
 use Rattle.tf_book.proofs.TriedLemmas.{one_of, follows_so, full_so}
 use Rattle.tf_book.proofs.InvariantLemmas.{history_before, history_on}
 use Rattle.tf_book.specs.declared.faults.Halt.{Halt}
 use Rattle.tf_book.specs.declared.faults.Halt.TheVariants as halt
 use Rattle.tf_book.proofs.SpokenLemmas.{shown_none}
-use Rattle.tf_report.specs.Faults.{disk_fault_text, book_full}
-use Rattle.tf_report.specs.Closing.{ClosesWith, said as was_said, cut}
+use Rattle.tf_report.specs.Closing.{disk_fault_text, book_full, ClosesWith, said as was_said, cut}
 use Rattle.tf_report.specs.declared.statuses.TheConstants.{UNSAID, UNREAD, UNHIRED, DISK_FAILED, FULL}
-use Rattle.tf_commands.specs.Run.{ShowsLines, closed, line_cut, stopped}
-use Rattle.tf_commands.specs.Durable.{book_in, HoldsHistory, IsPendingSo, MayLeave}
+use Rattle.tf_commands.specs.Run.{ShowsLines, closed, line_cut, stopped, book_in, HoldsHistory, IsPendingSo, MayLeave}
 use Rattle.tf_commands.specs.Runs.{SaysHalt, HasMessage, HasSaidHalt, book_desk, LastsFrom, HasEnded}
 
 -- nothing was said

@@ -2,16 +2,10 @@
 use Rattle.std.proofs.Common.{◌≡◌, ℕ, List, [], ◌∷◌, Bool, true, false, Option, Some, None, refl, subst, arith}
 use Rattle.std.specs.Prelude.{IfSome, codes, option_map, option_and_then, if◌then◌else◌}
 use Rattle.tf_ports.specs.declared.crews.Want.TheVariants as want
-use Rattle.tf_values.specs.Name.{is_name}
-use Rattle.tf_words.specs.Addresses.{worker_of, address_of, sessions_in}
-use Rattle.tf_words.specs.Boards.{Applied, id_in, post_of, owner_of, list_of, applied_in, priority_in, details_in}
-use Rattle.tf_words.specs.Commands.{hands_in, deferral_in, stop_in, target_in, try_of, run_of, resume_of, show_of, reset_of, check_of, audit_of, demo_of, asked_by}
-use Rattle.tf_words.specs.Numbers.{number_between}
-use Rattle.tf_words.specs.Options.{Said, once}
-use Rattle.tf_words.specs.Pairs.{sets_behind}
-use Rattle.tf_words.specs.Pieces.{are_filled, said_by}
-use Rattle.tf_words.specs.Verbs.{Choice, choice_of, forms_of}
-use Rattle.tf_words.specs.Words.{asked_of, command_of}
+use Rattle.tf_values.specs.Text.{is_name}
+use Rattle.tf_words.specs.Words.{worker_of, address_of, sessions_in, Applied, id_in, post_of, owner_of, list_of, applied_in, priority_in, details_in, hands_in, deferral_in, stop_in, target_in, try_of, run_of, resume_of, show_of, reset_of, check_of, audit_of, demo_of, asked_by, asked_of, command_of}
+use Rattle.tf_words.specs.Spelled.{number_between, sets_behind}
+use Rattle.tf_words.specs.Verbs.{Said, once, are_filled, said_by, Choice, choice_of, forms_of}
 use Rattle.tf_words.specs.declared.asked.Asked.{Asked}
 use Rattle.tf_words.specs.declared.asked.Asked.TheVariants as asked
 use Rattle.tf_words.specs.declared.verbs.Verb.{Verb}

@@ -4,13 +4,13 @@ use Rattle.std.specs.Prelude.{IsTrue, Result, Ok, Err, IfOk, IfErr}
 use Rattle.tf_desk.specs.Crash.{Pairs}
 use Rattle.tf_desk.specs.State.{DeskState, OnDisk, Picks, Rests}
 use Rattle.tf_journal.proofs.OpenLemmas.{open_set}
-use Rattle.tf_journal.specs.Path.{Untouched, Open}
-use Rattle.tf_journal.specs.Rest.{HasSynced}
+use Rattle.tf_journal.specs.Start.{Untouched, Open}
+use Rattle.tf_journal.specs.Format.{HasSynced}
 use Rattle.tf_journal.specs.declared.faults.LoadFault.{LoadFault}
 use Rattle.tf_journal.specs.declared.faults.LoadFault.TheVariants as load_fault
 use Rattle.tf_book.specs.Book.{BookValue, outline}
 use Rattle.tf_book.specs.Loaded.{desk_of, desk_after_load}
-use Rattle.tf_book.specs.Showing.{history_text}
+use Rattle.tf_book.specs.SessionInvariant.{history_text}
 use Rattle.tf_book.specs.declared.book.loading.Loaded.{Loaded}
 use Rattle.tf_commands.specs.Books.{RefusesOrStops, exhausted, ShowsBook, unopened_show, shown_whole}
 use Rattle.tf_commands.specs.Runs.{book_desk, HoldsBook}

@@ -3,8 +3,7 @@ use Rattle.std.proofs.Common.{◌≡◌, ℕ, List, Some}
 use Rattle.std.specs.Prelude.{IsTrue}
 use Rattle.tf_desk.specs.Crash.{Pairs}
 use Rattle.tf_desk.specs.State.{DeskState, MayLeave, Continues, Passes, bytes_now}
-use Rattle.tf_journal.specs.Path.{Path, IsSet}
-use Rattle.tf_journal.specs.Start.{file_of}
+use Rattle.tf_journal.specs.Start.{Path, IsSet, file_of}
 use Rattle.tf_journal.proofs.PathLemmas.{set_on, path_on, as_read}
 
 -- what the desk's laws say of the file of a name: where it is picked it is there, and what it reads as is among what a crash now leaves

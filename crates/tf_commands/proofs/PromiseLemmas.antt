@@ -2,14 +2,11 @@
 use Rattle.std.proofs.Common.{◌≡◌, ◌⊎◌, ℕ, ◌≤◌, List, [], ◌++◌, length, Bool, Option, Some, None, refl, sym, ap, ◌∙◌, subst, inl, inr, ⊎_elim, append-nil, arith}
 use Rattle.std.specs.Prelude.{IsTrue, false, unwrap_or}
 use Rattle.tf_desk.proofs.StateLemmas.{extends_told}
-use Rattle.tf_desk.specs.Crash.{Pairs}
-use Rattle.tf_desk.specs.Shown.{ShowsPrefix}
+use Rattle.tf_desk.specs.Crash.{Pairs, ShowsPrefix}
 use Rattle.tf_desk.specs.State.{DeskState, Continues, Says}
 use Rattle.tf_flow.specs.Plan.{PlanValue}
-use Rattle.tf_journal.specs.Format.{Recovered, bodies, journal_bytes, title_of}
-use Rattle.tf_journal.specs.Path.{Path, IsSet, Open}
-use Rattle.tf_journal.specs.Rest.{LeavesBodies}
-use Rattle.tf_journal.specs.Start.{file_of, IsStart}
+use Rattle.tf_journal.specs.Format.{Recovered, bodies, journal_bytes, title_of, LeavesBodies}
+use Rattle.tf_journal.specs.Start.{Path, IsSet, Open, file_of, IsStart}
 use Rattle.tf_journal.specs.declared.title.Title.TheVariants.{Book as book_title}
 use Rattle.tf_actions.specs.declared.orders.Order.{Order}
 use Rattle.tf_actions.specs.declared.outcomes.Outcome.{Outcome}
@@ -21,12 +18,10 @@ use Rattle.tf_book.proofs.SpokenLemmas.{shown_none}
 use Rattle.tf_journal.proofs.PathLemmas.{set_start, path_said}
 use Rattle.tf_commands.specs.Begun.{Begins, Unbegun}
 use Rattle.tf_commands.specs.Books.{Promised}
-use Rattle.tf_commands.specs.Durable.{book_in, book_at, HoldsNoFlow, HoldsHistory, FindsHistory, IsFreshFile, MayLeave, Lasts}
-use Rattle.tf_report.specs.Faults.{disk_fault_text}
-use Rattle.tf_report.specs.Closing.{ClosesWith}
+use Rattle.tf_commands.specs.Run.{book_in, book_at, HoldsNoFlow, HoldsHistory, FindsHistory, IsFreshFile, MayLeave, Lasts, MayRun, Ran, RunShows, closed, stopped, disk_failed}
+use Rattle.tf_report.specs.Closing.{disk_fault_text, ClosesWith}
 use Rattle.tf_report.specs.declared.statuses.TheConstants.{DISK_FAILED, OUT_OF_MEMORY}
 use Rattle.tf_commands.specs.declared.running.Request.{Request}
-use Rattle.tf_commands.specs.Run.{MayRun, Ran, RunShows, closed, stopped, disk_failed}
 use Rattle.tf_commands.specs.Runs.{book_desk, HoldsBook, RunLasts, LastsFrom, RunsOn}
 use Rattle.tf_commands.proofs.AskedLemmas.{ran_more}
 use Rattle.tf_commands.proofs.FlowLemmas.{flow_held}

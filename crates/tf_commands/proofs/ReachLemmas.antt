@@ -13,14 +13,10 @@ use Rattle.tf_states.specs.declared.state.FlowState.TheVariants as flow
 use Rattle.tf_numbers.proofs.OptionLemmas.{only_if}
 use Rattle.tf_numbers.proofs.TruthLemmas.{true_both, clash}
 use Rattle.tf_numbers.specs.Numbers.{all_below, first_below}
-use Rattle.tf_model.specs.Candidates.{choice, end_of, taken_up}
-use Rattle.tf_model.specs.Compilation.{compile_refusal}
-use Rattle.tf_model.specs.History.{flow_of, snapshot}
-use Rattle.tf_model.specs.Plan.{Outline, outline_of, count}
-use Rattle.tf_model.specs.Sessions.{has_ended}
-use Rattle.tf_model.specs.Snapshot.{Snapshot, flow_after}
-use Rattle.tf_model.specs.States.{flow_is_reverted}
-use Rattle.tf_model.specs.Steps.{Rule, by_force, by_choice, by_end_of_task, by_turn, by_end, by_suspension, by_reset, LegalPast, ends_task, may_turn, reset, put_back_or_rest, is_put_back_at, is_settled_at}
+use Rattle.tf_model.specs.Forced.{choice, end_of, taken_up}
+use Rattle.tf_model.specs.Plan.{compile_refusal, Outline, outline_of, count}
+use Rattle.tf_model.specs.History.{flow_of, snapshot, Snapshot, flow_after, flow_is_reverted}
+use Rattle.tf_model.specs.Steps.{has_ended, Rule, by_force, by_choice, by_end_of_task, by_turn, by_end, by_suspension, by_reset, LegalPast, ends_task, may_turn, reset, put_back_or_rest, is_put_back_at, is_settled_at}
 use Rattle.tf_facts.proofs.PastLemmas.{reversion_completed}
 use Rattle.tf_hands.specs.Hands.{is_of_flow}
 use Rattle.tf_hands.proofs.ForcedLemmas.{forced_within}

@@ -21,16 +21,12 @@ use Rattle.tf_numbers.proofs.BelowLemmas.{any_at}
 use Rattle.tf_numbers.proofs.TruthLemmas.{and_first, and_second}
 use Rattle.tf_numbers.specs.Numbers.{all_below, first_below}
 use Rattle.tf_model.specs.Before.{Flow, find_flow, has_flow_number}
-use Rattle.tf_model.specs.Candidates.{taken_up, end_of}
-use Rattle.tf_model.specs.Deciders.{refused}
-use Rattle.tf_model.specs.Forced.{forced, forced_if_running, is_active, first_entry, forced_attempt, is_attempting, attempt_entry, forced_again, is_beginning_again, again_entry, is_to_put_back, put_back_or_run, forced_reverted, is_undone_retry, reverted_entry, forced_resolution, is_unresolved, resolution_entry, forced_retrying, is_to_begin_again, retrying_entry, forced_revert, is_retry_to_revert, reverting_entry, forced_ignore, is_refused, is_to_ignore, ignore_or_self, ignore_by, ignore_entry, forced_run, is_retry_to_run, running_entry}
-use Rattle.tf_model.specs.History.{snapshot, mark_of, state_of}
+use Rattle.tf_model.specs.Forced.{taken_up, end_of, forced, forced_if_running, is_active, first_entry, forced_attempt, is_attempting, attempt_entry, forced_again, is_beginning_again, again_entry, is_to_put_back, put_back_or_run, forced_reverted, is_undone_retry, reverted_entry, forced_resolution, is_unresolved, resolution_entry, forced_retrying, is_to_begin_again, retrying_entry, forced_revert, is_retry_to_revert, reverting_entry, forced_ignore, is_refused, is_to_ignore, ignore_or_self, ignore_by, ignore_entry, forced_run, is_retry_to_run, running_entry}
+use Rattle.tf_model.specs.Readiness.{refused, is_region, is_marked_from, marks_from}
+use Rattle.tf_model.specs.History.{snapshot, mark_of, state_of, Resolve, Snapshot, mark_after, begun_again, is_retry_of, is_settled, flow_is_reverted}
 use Rattle.tf_model.specs.Plan.{Outline, outline_of, count, holds, is_retry, own_flow, path, retry_of}
-use Rattle.tf_model.specs.Readiness.{is_region, is_marked_from, marks_from}
 use Rattle.tf_model.specs.Retries.{attempt, ends_with, Controlled, controlled, controlled_on, resolution_by, resolution}
 use Rattle.tf_model.proofs.Told.{retry_in}
-use Rattle.tf_model.specs.Snapshot.{Resolve, Snapshot, mark_after, begun_again, is_retry_of}
-use Rattle.tf_model.specs.States.{is_settled, flow_is_reverted}
 use Rattle.tf_model.specs.Steps.{Rule, by_force, by_choice, by_end_of_task, by_turn, by_end, by_suspension, by_reset, LegalPast, ends_task, turns_flow, reset, put_back_or_rest, is_put_back_at, is_settled_at}
 use Rattle.tf_model.proofs.ResolutionLemmas.{root_holds}
 use Rattle.tf_hands.proofs.TakenLemmas.{taken_of}

@@ -1,7 +1,6 @@
 -- What a run says last: its report, or nothing where the output failed or memory ran out before.
 use Rattle.std.proofs.Common.{◌≡◌, ◌≢◌, ℕ, List, [], ◌++◌, Option, Some, None, refl, sym, ap, ◌∙◌, subst, arith}
-use Rattle.tf_desk.specs.Counts.{Rises}
-use Rattle.tf_desk.specs.Shown.{shown_with, ShowsPrefix}
+use Rattle.tf_desk.specs.Crash.{Rises, shown_with, ShowsPrefix}
 use Rattle.tf_desk.specs.State.{DeskState}
 use Rattle.tf_flow.specs.Plan.{PlanValue}
 use Rattle.tf_states.specs.declared.record.Entry.{Entry}
@@ -11,7 +10,7 @@ use Rattle.tf_states.specs.declared.state.FlowState.{FlowState}
 use Rattle.tf_states.specs.declared.state.FlowState.TheVariants as flow
 use Rattle.tf_model.specs.History.{snapshot}
 use Rattle.tf_model.specs.Plan.{outline_of}
-use Rattle.tf_report.specs.Report.{report}
+use Rattle.tf_report.specs.Lines.{report}
 use Rattle.tf_book.specs.Closed.{IsClosing}
 use Rattle.tf_book.specs.SessionInvariant.{said, HasCause}
 use Rattle.tf_book.specs.Faults.{IsHaltedBy, IsFault}

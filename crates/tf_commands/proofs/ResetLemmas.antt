@@ -3,29 +3,25 @@ use Rattle.std.proofs.Common.{◌≡◌, ◌≢◌, ℕ, List, [], ◌++◌, Boo
 use Rattle.std.proofs.lemmas.List.{append_cancel_right}
 use Rattle.std.specs.Prelude.{IsSome}
 use Rattle.tf_desk.proofs.StateLemmas.{continues_on, says_continues}
-use Rattle.tf_desk.specs.Shown.{shown_with}
+use Rattle.tf_desk.specs.Crash.{shown_with}
 use Rattle.tf_desk.specs.State.{DeskState}
 use Rattle.tf_flow.specs.Plan.{PlanValue}
 use Rattle.tf_states.specs.declared.record.Entry.{Entry}
 use Rattle.tf_states.specs.declared.state.FlowState.TheVariants as flow
 use Rattle.tf_model.specs.History.{flow_of}
 use Rattle.tf_model.specs.Plan.{outline_of}
-use Rattle.tf_book.specs.Book.{BookValue, outline, moment, flow_state}
+use Rattle.tf_book.specs.Book.{BookValue, outline, moment, flow_state, IsHistoryOf}
 use Rattle.tf_book.specs.SessionInvariant.{said}
-use Rattle.tf_book.specs.Loading.{IsHistoryOf}
-use Rattle.tf_book.specs.Resetting.{may_reset, AreReset, IsPutBackOn}
+use Rattle.tf_book.specs.Turns.{may_reset, AreReset, IsPutBackOn, IsTried, IsNextReset, HasTriedToReset}
 use Rattle.tf_book.specs.Faults.{IsFault}
 use Rattle.tf_book.specs.declared.faults.BookFault.{BookFault}
 use Rattle.tf_book.specs.declared.faults.Halt.{Halt}
 use Rattle.tf_book.specs.declared.faults.Halt.TheVariants as halt
 use Rattle.tf_book.proofs.SpokenLemmas.{shown_none}
-use Rattle.tf_journal.specs.Path.{Open}
+use Rattle.tf_journal.specs.Start.{Open}
 use Rattle.tf_commands.specs.Books.{Refuses, RefusesOrStops, exhausted, ResetsBook, unopened_reset, reset_forbidden, was_reset}
-use Rattle.tf_book.specs.Tried.{IsTried, IsNextReset, HasTriedToReset}
-use Rattle.tf_commands.specs.Durable.{Lasts}
+use Rattle.tf_commands.specs.Run.{Lasts, PutBack, IsResetSaid, all_back, disk_failed_back, filled_back, ShowsLines, closed}
 use Rattle.tf_commands.specs.Messages.{state_forbids}
-use Rattle.tf_commands.specs.Resets.{PutBack, IsResetSaid, all_back, disk_failed_back, filled_back}
-use Rattle.tf_commands.specs.Run.{ShowsLines, closed}
 use Rattle.tf_commands.specs.Runs.{HoldsBook, HasSaidHalt, book_desk, IsPutBackTo, GoesBack}
 use Rattle.tf_report.specs.Closing.{said as was_said}
 use Rattle.tf_report.specs.declared.statuses.TheConstants.{SUCCEEDED, FORBIDDEN}

@@ -6,16 +6,15 @@ use Rattle.tf_actions.specs.declared.orders.Order.{Order}
 use Rattle.tf_actions.specs.declared.outcomes.Outcome.{Outcome}
 use Rattle.tf_states.specs.declared.state.FlowState.{FlowState}
 use Rattle.tf_states.specs.declared.state.FlowState.TheVariants as flow
-use Rattle.tf_model.specs.Sessions.{already_ended, has_ended}
+use Rattle.tf_model.specs.Steps.{already_ended, has_ended}
 use Rattle.tf_bound.specs.Short.{AreShort, IsWithinLimits}
-use Rattle.tf_book.specs.Book.{BookValue, outline, flow_state}
-use Rattle.tf_book.specs.Loading.{IsHistoryOf}
+use Rattle.tf_book.specs.Book.{BookValue, outline, flow_state, IsHistoryOf}
 use Rattle.tf_book.proofs.InvariantLemmas.{keeps_none}
 use Rattle.tf_commands.specs.declared.running.Request.{Request}
 use Rattle.tf_book.proofs.TriedLemmas.{unhalted_tried}
 use Rattle.tf_commands.specs.Run.{MayRun}
 use Rattle.tf_commands.specs.Runs.{HoldsBook, book_desk, IsRunTo, RunsOn, GoesFurther, went_on}
-use Rattle.tf_journal.specs.Path.{Open}
+use Rattle.tf_journal.specs.Start.{Open}
 use Rattle.tf_commands.proofs.PathLemmas.{ReadsPicked}
 use Rattle.tf_commands.proofs.PromiseLemmas.{resumed_promised}
 

@@ -2,38 +2,33 @@
 use Rattle.std.proofs.Common.{◌≡◌, ◌≢◌, ℕ, List, [], ◌∷◌, ◌++◌, Bool, false, Option, Some, None, refl, sym, ap, ◌∙◌, subst, inl, inr, arith}
 use Rattle.std.proofs.lemmas.List.{append_cancel_right}
 use Rattle.tf_desk.proofs.StateLemmas.{continues_on, says_continues, extends_told}
-use Rattle.tf_desk.specs.Counts.{Rises}
-use Rattle.tf_desk.specs.Shown.{shown_with}
+use Rattle.tf_desk.specs.Crash.{Rises, shown_with}
 use Rattle.tf_desk.specs.State.{DeskState, Says, passes_within}
 use Rattle.tf_flow.specs.Plan.{PlanValue}
 use Rattle.tf_states.specs.declared.record.Entry.{Entry}
 use Rattle.tf_states.specs.declared.state.FlowState.{FlowState}
 use Rattle.tf_states.specs.declared.state.FlowState.TheVariants as flow
-use Rattle.tf_ports.specs.Wanted.{wanted as number_of}
+use Rattle.tf_ports.specs.Ports.{wanted as number_of}
 use Rattle.tf_actions.specs.declared.orders.Order.{Order}
 use Rattle.tf_actions.specs.declared.outcomes.Outcome.{Outcome}
 use Rattle.tf_model.proofs.HistoryLemmas.{session_legal, session_state}
-use Rattle.tf_model.specs.Compilation.{compile_refusal}
+use Rattle.tf_model.specs.Plan.{compile_refusal, Outline, outline_of}
 use Rattle.tf_model.specs.History.{snapshot}
-use Rattle.tf_model.specs.Plan.{Outline, outline_of}
-use Rattle.tf_model.specs.Sessions.{Session, entered, flow_entry}
+use Rattle.tf_model.specs.Steps.{Session, entered, flow_entry}
 use Rattle.tf_journal.specs.Format.{Recovered}
 use Rattle.tf_bound.specs.Short.{AreShort, IsWithinLimits}
 use Rattle.tf_bound.proofs.SessionLemmas.{session_at_most}
-use Rattle.tf_report.specs.Report.{report}
-use Rattle.tf_book.specs.Book.{BookValue, outline, moment}
+use Rattle.tf_report.specs.Lines.{report}
+use Rattle.tf_book.specs.Book.{BookValue, outline, moment, IsHistoryOf}
 use Rattle.tf_book.specs.Closed.{Closed, IsClosing, LeavesClosed}
-use Rattle.tf_book.specs.Loading.{IsHistoryOf}
 use Rattle.tf_book.specs.SessionInvariant.{said, IsExact}
 use Rattle.tf_book.proofs.LogLemmas.{off_on, off_says}
 use Rattle.tf_book.specs.declared.faults.Halt.{Halt}
 use Rattle.tf_book.specs.declared.faults.Halt.TheVariants as halt
-use Rattle.tf_engines.specs.Runs.{AreGiven, IsSession}
+use Rattle.tf_engines.specs.Runs.{AreGiven, IsSession, MayRecord, MightRecord}
 use Rattle.tf_commands.specs.declared.running.Request.{Request}
-use Rattle.tf_book.specs.Tried.{IsTried}
-use Rattle.tf_engines.specs.Failing.{MayRecord, MightRecord}
-use Rattle.tf_commands.specs.Run.{heading_of, MayRun, HasSteps, HasReached, stop_status, IsLastSaid, reported, disk_failed, filled, ShowsLines, RunShows, closed, stopped, Ran}
-use Rattle.tf_commands.specs.Durable.{MayLeave}
+use Rattle.tf_book.specs.Turns.{IsTried}
+use Rattle.tf_commands.specs.Run.{heading_of, MayRun, HasSteps, HasReached, stop_status, IsLastSaid, reported, disk_failed, filled, ShowsLines, RunShows, closed, stopped, Ran, MayLeave}
 use Rattle.tf_commands.specs.Runs.{HasSaidHalt, IsRunTo, book_desk, RunsOn}
 use Rattle.tf_report.specs.Closing.{ClosesWith}
 use Rattle.tf_report.specs.declared.statuses.TheConstants.{UNSAID, OUT_OF_MEMORY, DISK_FAILED}

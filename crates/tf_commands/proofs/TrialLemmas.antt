@@ -1,8 +1,7 @@
 -- A trial, put together from the run of a book that keeps nothing.
 use Rattle.std.proofs.Common.{◌≡◌, ◌≢◌, true, ℕ, List, [], Option, None, refl, sym, ap, ◌∙◌, subst, inl, inr, arith}
 use Rattle.tf_desk.specs.State.{DeskState}
-use Rattle.tf_flow.specs.Written.{plan_tree}
-use Rattle.tf_flow.specs.Plan.{PlanValue}
+use Rattle.tf_flow.specs.Plan.{plan_tree, PlanValue}
 use Rattle.tf_states.specs.declared.record.Entry.{Entry}
 use Rattle.tf_ports.specs.declared.crews.Want.{Want}
 use Rattle.tf_actions.specs.declared.orders.Order.{Order}
@@ -10,16 +9,13 @@ use Rattle.tf_actions.specs.declared.outcomes.Outcome.{Outcome}
 use Rattle.tf_book.specs.Book.{BookValue}
 use Rattle.tf_book.proofs.SpokenLemmas.{shown_none}
 use Rattle.tf_commands.specs.Begun.{SaysUnbegun}
-use Rattle.tf_commands.specs.Causes.{HasEachCause, counts_of}
+use Rattle.tf_commands.specs.Asking.{HasEachCause, counts_of}
 use Rattle.tf_commands.specs.Course.{Tried}
-use Rattle.tf_commands.specs.Durable.{TouchesNoFile}
-use Rattle.tf_report.specs.Faults.{disk_fault_text}
-use Rattle.tf_report.specs.Closing.{ClosesWith}
+use Rattle.tf_commands.specs.Run.{TouchesNoFile, spoken_run, Ran, RunShows, closed, stopped, disk_failed, HasSaid}
+use Rattle.tf_report.specs.Closing.{disk_fault_text, ClosesWith}
 use Rattle.tf_report.specs.declared.statuses.TheConstants.{UNREAD, DISK_FAILED, UNHIRED}
 use Rattle.tf_commands.specs.declared.running.Request.{Request}
-use Rattle.tf_commands.specs.Run.{spoken_run, Ran, RunShows, closed, stopped, disk_failed}
 use Rattle.tf_commands.specs.Runs.{book_desk, RunsOn}
-use Rattle.tf_commands.specs.Saying.{HasSaid}
 use Rattle.tf_commands.proofs.AskedLemmas.{ran_more}
 use Rattle.tf_commands.proofs.CountLemmas.{reaches_itself, ran_causes}
 use Rattle.tf_commands.proofs.RunLemmas.{unbegun}

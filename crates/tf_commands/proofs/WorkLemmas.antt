@@ -4,13 +4,12 @@ use Rattle.std.specs.Prelude.{◌⊎◌, IsTrue}
 use Rattle.std.specs.List.{AllByRecursion}
 use Rattle.std.proofs.Math.Seq.{take-append-add}
 use Rattle.tf_ports.specs.declared.crews.Want.{Want}
-use Rattle.tf_desk.specs.Shown.{shown_with, ShowsPrefix}
+use Rattle.tf_desk.specs.Crash.{shown_with, ShowsPrefix}
 use Rattle.tf_desk.specs.State.{DeskState, Says}
 use Rattle.tf_workers.specs.declared.serving.ServeEnd.{ServeEnd}
 use Rattle.tf_workers.specs.declared.serving.ServeEnd.TheVariants as end
-use Rattle.tf_commands.specs.Messages.{cannot_hire, cannot_listen}
-use Rattle.tf_commands.specs.Saying.{OnlySays}
-use Rattle.tf_commands.specs.Working.{session_line, session_lines, IsOver, SaysSessions, SaysNext, StopsNext, ServesAll, Works, HasStopCause, HasServeCause, exhausted_next, no_next_link, unsaid_next, all_served, exhausted, no_link, cut_short, unbegun, unhired, unopened, worked}
+use Rattle.tf_commands.specs.Messages.{cannot_hire, cannot_listen, session_line, session_lines, IsOver, SaysSessions, SaysNext, StopsNext, ServesAll, Works, HasStopCause, HasServeCause, exhausted_next, no_next_link, unsaid_next, all_served, exhausted, no_link, cut_short, unbegun, unhired, unopened, worked}
+use Rattle.tf_commands.specs.Run.{OnlySays}
 use Rattle.tf_report.specs.declared.statuses.TheConstants.{SUCCEEDED, UNHIRED, OUT_OF_MEMORY, UNSAID}
 use Rattle.tf_report.proofs.ClosingLemmas.{closes_status}
 

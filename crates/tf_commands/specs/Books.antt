@@ -1,30 +1,25 @@
 -- What becomes of the commands on a book.
 use Rattle.std.specs.Prelude.{◌≡◌, ◌⊎◌, ℕ, true, false, IsTrue, List, [], Option}
 use Rattle.tf_desk.specs.State.{DeskState}
-use Rattle.tf_flow.specs.Plan.{PlanValue}
-use Rattle.tf_flow.specs.Written.{PlanTree, plan_tree}
+use Rattle.tf_flow.specs.Plan.{PlanValue, PlanTree, plan_tree}
 use Rattle.tf_states.specs.declared.record.Entry.{Entry}
 use Rattle.tf_states.specs.declared.state.FlowState.{FlowState}
-use Rattle.tf_actions.specs.Told.{told_with}
+use Rattle.tf_actions.specs.Gives.{told_with}
 use Rattle.tf_ports.specs.declared.crews.Want.{Want}
 use Rattle.tf_actions.specs.declared.orders.Order.{Order}
 use Rattle.tf_actions.specs.declared.outcomes.Outcome.{Outcome}
 use Rattle.tf_journal.specs.Format.{Recovered}
 use Rattle.tf_model.specs.History.{flow_of, snapshot}
 use Rattle.tf_model.specs.Plan.{outline_of}
-use Rattle.tf_model.specs.Sessions.{has_ended}
-use Rattle.tf_book.specs.Loading.{IsNoBook, CanRun}
-use Rattle.tf_book.specs.Resetting.{may_reset}
-use Rattle.tf_book.specs.Tried.{IsNextReset}
-use Rattle.tf_book.specs.Showing.{history_text}
-use Rattle.tf_commands.specs.Accepted.{demo_tree}
-use Rattle.tf_commands.specs.Durable.{book_at, HoldsNoFlow, HoldsHistory, StaysAlone, Lasts}
+use Rattle.tf_model.specs.Steps.{has_ended}
+use Rattle.tf_book.specs.Book.{IsNoBook, CanRun}
+use Rattle.tf_book.specs.Turns.{may_reset, IsNextReset}
+use Rattle.tf_book.specs.SessionInvariant.{history_text}
+use Rattle.tf_commands.specs.Asking.{demo_tree}
+use Rattle.tf_commands.specs.Run.{book_at, HoldsNoFlow, HoldsHistory, StaysAlone, Lasts, PutBack, unspoken, MayRun, Ran}
 use Rattle.tf_commands.specs.Messages.{no_flow_text, state_forbids, cannot_hire}
-use Rattle.tf_report.specs.Faults.{disk_fault_text, not_a_book}
-use Rattle.tf_report.specs.Closing.{ClosesWith}
+use Rattle.tf_report.specs.Closing.{disk_fault_text, not_a_book, ClosesWith}
 use Rattle.tf_report.specs.declared.statuses.TheConstants.{SUCCEEDED, UNHIRED, OUT_OF_MEMORY, DISK_FAILED, NO_BOOK, FORBIDDEN}
-use Rattle.tf_commands.specs.Resets.{PutBack}
-use Rattle.tf_commands.specs.Run.{unspoken, MayRun, Ran}
 use Rattle.tf_commands.specs.declared.running.Request.{Request}
 
 -- the hands that were wanted were hired, and nobody else

@@ -2,17 +2,16 @@
 use Rattle.std.specs.Prelude.{◌≡◌, ◌≤◌, ◌⊎◌, ℕ, List, [], length, codes, true, false, IsTrue, Bool, Option, Some, None}
 use Rattle.tf_desk.specs.State.{DeskState}
 use Rattle.tf_flow.specs.declared.atoms.Bind.{Bind}
-use Rattle.tf_ports.specs.Contents.{Contents, GivesBytes, PassesLimit}
+use Rattle.tf_ports.specs.Ports.{Contents, GivesBytes, PassesLimit}
 use Rattle.tf_ports.specs.declared.crews.Want.{Want}
 use Rattle.tf_ports.specs.declared.crews.Want.TheVariants as want
 use Rattle.tf_actions.specs.declared.orders.Order.{Order}
 use Rattle.tf_actions.specs.declared.outcomes.Outcome.{Outcome}
 use Rattle.tf_ports.specs.declared.reading.TheConstants.{SOURCE_LIMIT}
-use Rattle.tf_flow.specs.Plan.{PlanValue}
-use Rattle.tf_flow.specs.Written.{PlanTree, plan_tree}
+use Rattle.tf_flow.specs.Plan.{PlanValue, PlanTree, plan_tree}
 use Rattle.tf_journal.specs.Format.{Recovered}
-use Rattle.tf_book.specs.Loading.{IsNoBook}
-use Rattle.tf_book.specs.Resetting.{may_reset}
+use Rattle.tf_book.specs.Book.{IsNoBook}
+use Rattle.tf_book.specs.Turns.{may_reset}
 use Rattle.tf_model.specs.History.{snapshot}
 use Rattle.tf_model.specs.Plan.{outline_of}
 use Rattle.tf_states.specs.declared.record.Entry.{Entry}
@@ -26,15 +25,11 @@ use Rattle.tf_report.specs.declared.statuses.TheConstants.{BOARD_REFUSED, SUCCEE
 use Rattle.tf_report.specs.Closing.{ClosesWith, ClosesWithOrStops}
 use Rattle.tf_board.specs.Does.{Does, IsAllowed, IsBoardComplete}
 use Rattle.tf_target.specs.Target.{outline_in}
-use Rattle.tf_commands.specs.Accepted.{GivesPlan, GivesWhole, GivesNone, MayTarget}
-use Rattle.tf_commands.specs.Auditing.{Audits, RefusesLog}
-use Rattle.tf_commands.specs.Asking.{file_asked_for, asked_for, wanted_by}
+use Rattle.tf_commands.specs.Asking.{GivesPlan, GivesWhole, GivesNone, MayTarget, file_asked_for, asked_for, wanted_by}
+use Rattle.tf_commands.specs.Messages.{Audits, RefusesLog, checked, usage, cannot_read, cannot_hire, refusal, reason_text, Works}
 use Rattle.tf_commands.specs.Books.{Hires, Runs, Demonstrates, Resumes, ShowsBook, ResetsBook}
 use Rattle.tf_journal.specs.Start.{file_of}
-use Rattle.tf_commands.specs.Durable.{NoFileChanges, TouchesNoFile, book_at, HoldsNoFlow, HoldsHistory}
-use Rattle.tf_commands.specs.Messages.{checked, usage, cannot_read, cannot_hire, refusal, reason_text}
-use Rattle.tf_commands.specs.Run.{spoken_run, Ran}
-use Rattle.tf_commands.specs.Working.{Works}
+use Rattle.tf_commands.specs.Run.{NoFileChanges, TouchesNoFile, book_at, HoldsNoFlow, HoldsHistory, spoken_run, Ran}
 use Rattle.tf_commands.specs.declared.accepting.Refusal.{Refusal}
 use Rattle.tf_commands.specs.declared.reading.Source.{Source}
 

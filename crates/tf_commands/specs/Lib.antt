@@ -1,15 +1,8 @@
 pub mod Asking
-pub mod Accepted
 pub mod Messages
-pub mod Saying
-pub mod Causes
 pub mod Run
-pub mod Resets
-pub mod Durable
 pub mod Books
-pub mod Auditing
 pub mod Course
 pub mod Opened
 pub mod Runs
 pub mod Begun
-pub mod Working

@@ -1,7 +1,7 @@
--- What a command says.
-use Rattle.std.specs.Prelude.{ℕ, ◌-◌, List, [], ◌∷◌, ◌++◌, codes, length}
+-- What a command says: of a refusal, of an audit, and of the sessions of a worker.
+use Rattle.std.specs.Prelude.{ℕ, ◌-◌, List, [], ◌∷◌, ◌++◌, codes, length, ◌≡◌, ◌≤◌, ◌⊎◌, Option, Some, None, ◌+◌, ◌<◌}
 use Rattle.std.specs.Fmt.{decimal}
-use Rattle.std.specs.List.{flat_map}
+use Rattle.std.specs.List.{flat_map, AllByRecursion}
 use Rattle.tf_flow.specs.declared.faults.Limit.{Limit}
 use Rattle.tf_flow.specs.declared.faults.Limit.TheVariants as limit
 use Rattle.tf_flow.specs.declared.faults.PlanFault.{PlanFault}
@@ -20,6 +20,30 @@ use Rattle.tf_target.specs.declared.faults.TargetFault.{TargetFault}
 use Rattle.tf_target.specs.declared.faults.TargetFault.TheVariants as target_fault
 use Rattle.tf_commands.specs.declared.accepting.Refusal.{Refusal}
 use Rattle.tf_commands.specs.declared.accepting.Refusal.TheVariants as refused
+use Rattle.tf_ports.specs.Ports.{Contents, GivesBytes, PassesLimit}
+use Rattle.tf_ports.specs.declared.reading.TheConstants.{SOURCE_LIMIT}
+use Rattle.tf_flow.specs.Plan.{PlanTree}
+use Rattle.tf_target.specs.Target.{outline_in}
+use Rattle.tf_audit.specs.Verdicts.{verdict_text, IsVerdict, IsBadLog}
+use Rattle.tf_audit.specs.declared.verdicts.Verdict.{Verdict}
+use Rattle.tf_audit.specs.declared.verdicts.Verdict.TheVariants as verdict
+use Rattle.tf_audit.specs.declared.verdicts.Why.{Why}
+use Rattle.tf_report.specs.Closing.{ClosesWith}
+use Rattle.tf_report.specs.declared.statuses.TheConstants.{SUCCEEDED, UNREAD, OUT_OF_MEMORY, UNHIRED, UNSAID}
+use Rattle.tf_words.specs.declared.asked.Asked.{Asked}
+use Rattle.tf_words.specs.declared.asked.Asked.TheVariants as asked
+use Rattle.tf_commands.specs.Asking.{GivesPlan, asked_for, file_asked_for}
+use Rattle.tf_commands.specs.declared.auditing.TheConstants.{LOG_REFUSED}
+use Rattle.tf_commands.specs.declared.reading.Source.{Source}
+use Rattle.tf_desk.specs.Crash.{Rises, shown_with, ShowsPrefix}
+use Rattle.tf_desk.specs.State.{DeskState}
+use Rattle.tf_actions.specs.Gives.{told_with}
+use Rattle.tf_ports.specs.declared.crews.Want.{Want}
+use Rattle.tf_ports.specs.declared.crews.Want.TheVariants as want
+use Rattle.tf_workers.specs.declared.serving.ServeEnd.{ServeEnd}
+use Rattle.tf_workers.specs.declared.serving.ServeEnd.TheVariants as end
+
+-- ---- what a command says
 
 -- the word for a limit of a plan
 abbrev pub limit_word : Limit → List ℕ
@@ -134,3 +158,143 @@ unfoldable pub checked : Outline → List ℕ
 checked plan =
     codes "ok " ++ flow_name plan 0 ++ codes ": " ++ decimal (tasks_below plan (count plan)) ++ codes " tasks, "
     ++ decimal (count plan - tasks_below plan (count plan)) ++ codes " retries, " ++ decimal (length plan.flows) ++ codes " flows\n"
+
+-- ---- what becomes of an audit: whether a log can be that of runs of the plan that a flow file gives
+
+-- the status that tells a verdict
+abbrev pub verdict_status : Verdict → ℕ
+verdict_status (verdict.Legal entries state) = SUCCEEDED
+verdict_status (verdict.Bad line because) = LOG_REFUSED
+
+-- to judge a log of a plan's runs is to say the verdict on its bytes
+pub data Judges (plan : Outline) (bytes : List ℕ) (before after : Option (List ℕ)) (status : ℕ) : Type 0 where
+  -- memory ran out and nothing was said
+  unjudged : status ≡ OUT_OF_MEMORY → after ≡ before → Judges plan bytes before after status
+  -- this is the verdict, and it is said
+  judged : (found : Verdict) → IsVerdict plan bytes found → ClosesWith before (verdict_text plan found) (verdict_status found) after status
+      → Judges plan bytes before after status
+
+-- to audit a log of a plan's runs is to read it and to judge it
+pub data Audits (files : Contents) (log : List ℕ) (before after : Option (List ℕ)) (plan : PlanTree) (status : ℕ) : Type 0 where
+  -- memory ran out as it was read
+  unfinished_log : status ≡ OUT_OF_MEMORY → after ≡ before → Audits files log before after plan status
+  -- it can't be read
+  unread_log : ClosesWith before cannot_read UNREAD after status → Audits files log before after plan status
+  -- it is longer than a log may be
+  long_log : PassesLimit files log → ClosesWith before log_too_long LOG_REFUSED after status → Audits files log before after plan status
+  -- its bytes are those that the sources have under its name, and not longer than a log may be
+  audited : (bytes : List ℕ) → GivesBytes files log bytes → length bytes ≤ SOURCE_LIMIT → Judges (outline_in plan) bytes before after status
+      → Audits files log before after plan status
+
+-- the log that a command is about
+abbrev pub log_asked_for : Asked → Option (List ℕ)
+log_asked_for (asked.Audit file log sets defer) = Some log
+log_asked_for command = None
+
+-- the bytes of a log aren't too many, and one of its lines can't be in a run of the plan
+pub record HasBadLine (files : Contents) (log : List ℕ) (plan : PlanTree) : Type 0 where
+  pub bytes : List ℕ
+  pub line : ℕ
+  pub because : Why
+  pub given : GivesBytes files log bytes
+  pub short : length bytes ≤ SOURCE_LIMIT
+  pub bad : IsBadLog (outline_in plan) bytes line because
+
+-- a flow file gives a plan, and the log is longer than one may be, or has a line that can't be in a run of the plan
+pub record RefusesLog (files : Contents) (source : Source) (log : List ℕ) : Type 0 where
+  pub bytes : List ℕ
+  pub plan : PlanTree
+  pub given : GivesBytes files source.file bytes
+  pub gives : GivesPlan source.sets source.defer source.target bytes plan
+  pub refuses : PassesLimit files log ⊎ HasBadLine files log plan
+
+-- the words ask for the audit of a log that is refused so
+pub record IsLogRefused (words : List (List ℕ)) (files : Contents) : Type 0 where
+  pub command : Asked
+  pub source : Source
+  pub log : List ℕ
+  pub asks : asked_for words ≡ Some command
+  pub file : file_asked_for command ≡ Some source
+  pub about : log_asked_for command ≡ Some log
+  pub refused : RefusesLog files source log
+
+-- ---- what a worker says of its sessions, and how it ends
+
+-- how a session ended; of one that memory ended nothing is said
+abbrev pub end_word : ServeEnd → List ℕ
+end_word end.Ended = codes " ended\n"
+end_word end.Lost = codes " lost\n"
+end_word (end.Bad at) = codes " bad " ++ decimal at ++ codes "\n"
+end_word end.Memory = []
+
+-- the line of a session of this number
+unfoldable pub session_line : ℕ → ServeEnd → List ℕ
+session_line number how = codes "session " ++ decimal number ++ end_word how
+
+-- the lines of sessions in order, the first of which has this number
+abbrev pub session_lines : ℕ → List ServeEnd → List ℕ
+session_lines number [] = []
+session_lines number (how ∷ others) = session_line number how ++ session_lines (number + 1) others
+
+-- the session ended otherwise than for want of memory
+abbrev pub IsOver : ServeEnd → Type 0
+IsOver end.Ended = Unit {0}
+IsOver end.Lost = Unit {0}
+IsOver (end.Bad at) = Unit {0}
+IsOver end.Memory = ⊥
+
+-- sessions that ended so, one line said for each, in order
+pub record SaysSessions (before now : Option (List ℕ)) (ends : List ServeEnd) : Type 0 where
+  pub over : AllByRecursion IsOver ends
+  pub said : now ≡ shown_with before (session_lines 1 ends)
+
+-- the next session, of this number, ended, and its line was said
+pub record SaysNext (before now : Option (List ℕ)) (number : ℕ) : Type 0 where
+  pub how : ServeEnd
+  pub over : IsOver how
+  pub said : now ≡ shown_with before (session_line number how)
+
+-- why there is no next session: memory ran out, no link came, or its line couldn't be said
+pub data StopsNext (before now : Option (List ℕ)) (number : ℕ) (status : ℕ) : Type 0 where
+  exhausted_next : status ≡ OUT_OF_MEMORY → now ≡ before → StopsNext before now number status
+  no_next_link : ClosesWith before cannot_listen UNHIRED now status → StopsNext before now number status
+  unsaid_next : status ≡ UNSAID → (how : ServeEnd) → IsOver how → ShowsPrefix before (session_line number how) now → StopsNext before now number status
+
+-- what a status tells that ends the serving: the door or the output had a fault, or memory ran out
+pub record HasStopCause (old new : DeskState) (door_then door_now status : ℕ) : Type 0 where
+  pub unlinked : status ≡ UNHIRED → Rises door_then door_now
+  pub unsaid : status ≡ UNSAID → Rises old.out_faults new.out_faults
+  pub one : (status ≡ OUT_OF_MEMORY) ⊎ (status ≡ UNHIRED) ⊎ (status ≡ UNSAID)
+
+-- the same, or all went well
+pub record HasServeCause (old new : DeskState) (door_then door_now status : ℕ) : Type 0 where
+  pub unlinked : status ≡ UNHIRED → Rises door_then door_now
+  pub unsaid : status ≡ UNSAID → Rises old.out_faults new.out_faults
+  pub one : (status ≡ SUCCEEDED) ⊎ (status ≡ OUT_OF_MEMORY) ⊎ (status ≡ UNHIRED) ⊎ (status ≡ UNSAID)
+
+-- so many sessions are served, one after the other
+pub data ServesAll (before now : Option (List ℕ)) (sessions : ℕ) (status : ℕ) : Type 0 where
+  -- all were served, and the line of each was said
+  all_served : status ≡ SUCCEEDED → (ends : List ServeEnd) → length ends ≡ sessions → SaysSessions before now ends → ServesAll before now sessions status
+  -- memory ran out in the next one, or before it
+  exhausted : status ≡ OUT_OF_MEMORY → (ends : List ServeEnd) → length ends < sessions → SaysSessions before now ends → ServesAll before now sessions status
+  -- no link came for the next one, and that is said
+  no_link : (ends : List ServeEnd) (between : Option (List ℕ)) → length ends < sessions → SaysSessions before between ends → ClosesWith between cannot_listen UNHIRED now status
+      → ServesAll before now sessions status
+  -- a line couldn't be said, and a prefix of the lines was
+  cut_short : status ≡ UNSAID → (ends : List ServeEnd) → length ends ≤ sessions → AllByRecursion IsOver ends → ShowsPrefix before (session_lines 1 ends) now → ServesAll before now sessions status
+
+-- one hand of this process was hired
+abbrev pub HiresHere : Option (List Want) → Option (List Want) → Type 0
+HiresHere hired after_hiring = after_hiring ≡ told_with hired (want.Local 1)
+
+-- to work is to hire one hand of this process, to listen, and to serve so many sessions
+pub data Works (hired after_hiring : Option (List Want)) (before now : Option (List ℕ)) (sessions : ℕ) (status : ℕ) : Type 0 where
+  -- memory ran out before the first session, and nothing was said
+  unbegun : status ≡ OUT_OF_MEMORY → now ≡ before → Works hired after_hiring before now sessions status
+  -- no hand could be hired, and that is said
+  unhired : after_hiring ≡ hired → ClosesWith before cannot_hire UNHIRED now status → Works hired after_hiring before now sessions status
+  -- the door couldn't be opened, and that is said
+  unopened : HiresHere hired after_hiring → ClosesWith before cannot_listen UNHIRED now status → Works hired after_hiring before now sessions status
+  -- the hand served
+  worked : HiresHere hired after_hiring → ServesAll before now sessions status → Works hired after_hiring before now sessions status

@@ -1,10 +1,10 @@
 -- What opening a file keeps.
 use Rattle.std.specs.Prelude.{ℕ, ◌≤◌, List, length}
-use Rattle.tf_ports.specs.Contents.{Contents, GivesBytes}
+use Rattle.tf_ports.specs.Ports.{Contents, GivesBytes}
 use Rattle.tf_ports.specs.declared.reading.TheConstants.{SOURCE_LIMIT}
-use Rattle.tf_flow.specs.Written.{plan_tree}
+use Rattle.tf_flow.specs.Plan.{plan_tree}
 use Rattle.tf_machine.specs.Machine.{MachineValue}
-use Rattle.tf_commands.specs.Accepted.{GivesPlan}
+use Rattle.tf_commands.specs.Asking.{GivesPlan}
 use Rattle.tf_commands.specs.declared.reading.Source.{Source}
 
 -- the machine's plan is the one that the file gives

@@ -1,34 +1,27 @@
 -- What a run of a book keeps, from the book on which it began to the desk that it left; no clause of the top call cites it.
 use Rattle.std.specs.Prelude.{◌≡◌, ◌≢◌, ◌⊎◌, ℕ, true, false, IsTrue, List, [], ◌++◌, Option}
-use Rattle.tf_desk.specs.Counts.{Rises}
+use Rattle.tf_desk.specs.Crash.{Rises}
 use Rattle.tf_desk.specs.State.{DeskState, Continues, Passes, Says, nothing_left}
 use Rattle.tf_actions.specs.declared.orders.Order.{Order}
 use Rattle.tf_actions.specs.declared.outcomes.Outcome.{Outcome}
 use Rattle.tf_states.specs.declared.record.Entry.{Entry}
 use Rattle.tf_states.specs.declared.state.FlowState.{FlowState}
-use Rattle.tf_journal.specs.Format.{Recovered, title_of}
-use Rattle.tf_journal.specs.Rest.{LeavesBodies, LeavesEither}
+use Rattle.tf_journal.specs.Format.{Recovered, title_of, LeavesBodies, LeavesEither}
 use Rattle.tf_journal.specs.declared.title.Title.TheVariants.{Book as book_title}
-use Rattle.tf_book.specs.Book.{BookValue, outline, bodies_of, flow_state}
-use Rattle.tf_book.specs.Loading.{IsHistoryOf}
-use Rattle.tf_book.specs.SessionInvariant.{SessionInvariant, IsExact}
-use Rattle.tf_book.specs.Logging.{StaysOffDisk}
-use Rattle.tf_book.specs.Resetting.{IsPutBackOn}
-use Rattle.tf_book.specs.Tried.{IsTried, IsNextReset}
+use Rattle.tf_book.specs.Book.{BookValue, outline, bodies_of, flow_state, IsHistoryOf}
+use Rattle.tf_book.specs.SessionInvariant.{SessionInvariant, IsExact, StaysOffDisk}
+use Rattle.tf_book.specs.Turns.{IsPutBackOn, IsTried, IsNextReset}
 use Rattle.tf_bound.specs.Short.{AreShort, IsWithinLimits}
 use Rattle.tf_book.specs.declared.faults.Halt.{Halt}
 use Rattle.tf_book.specs.declared.faults.Halt.TheVariants as halt
 use Rattle.tf_engines.specs.Runs.{IsSession}
-use Rattle.tf_model.specs.Sessions.{has_ended}
-use Rattle.tf_ports.specs.Wanted.{wanted as number_of}
+use Rattle.tf_model.specs.Steps.{has_ended}
+use Rattle.tf_ports.specs.Ports.{wanted as number_of}
 use Rattle.tf_ports.specs.declared.crews.Want.{Want}
 use Rattle.tf_commands.specs.Books.{Hires, Unhired, Promised}
-use Rattle.tf_commands.specs.Durable.{book_at, HoldsHistory, IsPendingSo, MayLeave}
-use Rattle.tf_report.specs.Faults.{disk_fault_text, book_full}
-use Rattle.tf_report.specs.Closing.{ClosesWith}
+use Rattle.tf_commands.specs.Run.{book_at, HoldsHistory, IsPendingSo, MayLeave, PutBack, MayRun, Ran}
+use Rattle.tf_report.specs.Closing.{disk_fault_text, book_full, ClosesWith}
 use Rattle.tf_report.specs.declared.statuses.TheConstants.{UNREAD, DISK_FAILED, UNSAID, UNHIRED, OUT_OF_MEMORY, FULL}
-use Rattle.tf_commands.specs.Resets.{PutBack}
-use Rattle.tf_commands.specs.Run.{MayRun, Ran}
 use Rattle.tf_commands.specs.declared.running.Request.{Request}
 
 -- what was said of a halt, by why the book was halted, and how the command ends: a message, or nothing where the output failed or memory

@@ -1,12 +1,11 @@
 ghost use Rattle.std.specs.Prelude.{◌≡◌, [], ℕ, List, Bool, Option, None, Some, IfOk, IfErr};
-ghost use Rattle.tf_flow.specs.Written.{plan_tree};
+ghost use Rattle.tf_flow.specs.Plan.{plan_tree};
 ghost use Rattle.tf_flow.specs.declared.atoms.Bind.{Bind};
-ghost use Rattle.tf_model.specs.Compilation.{compile_refusal};
-ghost use Rattle.tf_model.specs.Plan.{outline_of};
+ghost use Rattle.tf_model.specs.Plan.{compile_refusal, outline_of};
 ghost use Rattle.tf_model.specs.Scope.{missing_symbol};
 ghost use Rattle.tf_machine.specs.Answers.{IsBuildRefusal};
 ghost use Rattle.tf_machine.specs.Machine.{StandsFor};
-ghost use Rattle.tf_commands.specs.Accepted.{GivesPlan, GivesWhole, IsUpTo, Spells, IsReason, target_reason};
+ghost use Rattle.tf_commands.specs.Asking.{GivesPlan, GivesWhole, IsUpTo, Spells, IsReason, target_reason};
 
 use std::alloc::Global;
 use tf_files::{FileFault, read_flow};
@@ -33,7 +32,7 @@ pub enum Refusal {
 }
 
 impl Refusal {
-    ghost use Rattle.tf_commands.specs.Accepted.{is_want_of_memory};
+    ghost use Rattle.tf_commands.specs.Asking.{is_want_of_memory};
 
     /// Whether memory ran out.
     pub fn is_memory(&self) -> bool

@@ -3,7 +3,7 @@ ghost use Rattle.std.specs.Prelude.{◌≡◌, ◌≤◌, ℕ, List, true, is_so
 ghost use Rattle.tf_words.specs.declared.asked.Asked.{Asked};
 ghost use Rattle.tf_board.specs.Answers.{board_of};
 ghost use Rattle.tf_board.specs.Does.{Does};
-ghost use Rattle.tf_commands.specs.Causes.{HasEachCause, counts_of};
+ghost use Rattle.tf_commands.specs.Asking.{HasEachCause, counts_of};
 
 use crate::running::Over;
 use std::alloc::Global;

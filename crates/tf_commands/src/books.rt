@@ -1,25 +1,22 @@
 //! Books on the desk: how one is opened, why it isn't, and how a run begins in a file that holds no flow.
 
 ghost use Rattle.std.specs.Prelude.{◌≡◌, ◌≢◌, ◌≤◌, ◌⊎◌, ℕ, List, [], IsTrue, None, IfOk, IfErr};
-ghost use Rattle.tf_desk.specs.Counts.{Rises};
+ghost use Rattle.tf_desk.specs.Crash.{Rises};
 ghost use Rattle.tf_desk.specs.State.{bytes_now, anything, GoesOn};
 ghost use Rattle.tf_flow.specs.Plan.{PlanValue};
-ghost use Rattle.tf_journal.specs.Format.{journal_bytes, title_of};
-ghost use Rattle.tf_journal.specs.Path.{Untouched, Open};
-ghost use Rattle.tf_journal.specs.Rest.{desk_after};
+ghost use Rattle.tf_journal.specs.Format.{journal_bytes, title_of, desk_after};
+ghost use Rattle.tf_journal.specs.Start.{Untouched, Open};
 ghost use Rattle.tf_journal.specs.declared.title.Title.TheVariants.{Book as book_title};
 ghost use Rattle.tf_machine.specs.Machine.{StandsFor};
 ghost use Rattle.tf_book.specs.Loaded.{desk_of, desk_after_load, IsLoaded, IsMade};
-ghost use Rattle.tf_book.specs.Loading.{RefusesBook};
+ghost use Rattle.tf_book.specs.Book.{RefusesBook};
 ghost use Rattle.tf_book.specs.Starting.{desk_started};
 ghost use Rattle.tf_commands.specs.Begun.{desk_in, MayBeBorn, IsRecordless, IsBlank, IsFoundBlank, IsExactSoFar, LeavesNoFlow, SaysUnbegun, FailsToBegin, Begins, Unbegun};
 ghost use Rattle.tf_commands.specs.Books.{Promised, Refuses, RefusesOrStops, Unopened};
-ghost use Rattle.tf_commands.specs.Durable.{book_at};
+ghost use Rattle.tf_commands.specs.Run.{book_at, HasSaid};
 ghost use Rattle.tf_commands.specs.Messages.{no_flow_text, cannot_hire};
-ghost use Rattle.tf_report.specs.Faults.{not_a_book};
-ghost use Rattle.tf_report.specs.Closing.{ClosesWithOrStops};
+ghost use Rattle.tf_report.specs.Closing.{not_a_book, ClosesWithOrStops};
 ghost use Rattle.tf_commands.specs.declared.running.Request.{Request};
-ghost use Rattle.tf_commands.specs.Saying.{HasSaid};
 
 use crate::messages::{CANNOT_HIRE, NO_FLOW};
 use crate::running::Over;

@@ -2,14 +2,12 @@
 //! entry.
 
 ghost use Rattle.std.specs.Prelude.{◌≡◌, ◌≤◌, [], IfOk};
-ghost use Rattle.tf_flow.specs.Written.{plan_tree};
+ghost use Rattle.tf_flow.specs.Plan.{plan_tree};
 ghost use Rattle.tf_machine.specs.Machine.{StandsFor};
-ghost use Rattle.tf_words.specs.Demos.{IsDemo};
-ghost use Rattle.tf_commands.specs.Accepted.{demo_tree};
+ghost use Rattle.tf_words.specs.Words.{IsDemo};
+ghost use Rattle.tf_commands.specs.Asking.{demo_tree, AreHands, HasEachCause, WasAsked, counts_of};
 ghost use Rattle.tf_ports.specs.declared.crews.Want.TheVariants as want;
-ghost use Rattle.tf_commands.specs.Asking.{AreHands};
 ghost use Rattle.tf_commands.specs.Books.{Demonstrates};
-ghost use Rattle.tf_commands.specs.Causes.{HasEachCause, WasAsked, counts_of};
 ghost use Rattle.tf_commands.specs.Course.{HiresAtMost};
 
 use crate::recording::run_plan;

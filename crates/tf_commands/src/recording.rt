@@ -1,18 +1,17 @@
 //! A run that is recorded in a book: it begins in a file that holds no flow.
 
 ghost use Rattle.std.specs.Prelude.{◌≡◌, ◌≤◌, ◌⊎◌, ℕ, List, [], vec_len};
-ghost use Rattle.tf_flow.specs.Written.{plan_tree};
-ghost use Rattle.tf_ports.specs.Wanted.{wanted as number_of};
+ghost use Rattle.tf_flow.specs.Plan.{plan_tree};
+ghost use Rattle.tf_ports.specs.Ports.{wanted as number_of};
 ghost use Rattle.tf_machine.specs.Machine.{StandsFor};
 ghost use Rattle.tf_book.specs.Book.{outline, flow_state};
-ghost use Rattle.tf_commands.specs.Asking.{AreHands};
+ghost use Rattle.tf_commands.specs.Asking.{AreHands, HasEachCause, WasAsked, counts_of};
 ghost use Rattle.tf_commands.specs.Begun.{desk_in, IsBlank, IsFoundBlank};
 ghost use Rattle.tf_commands.specs.Books.{Hires, RefusesOrStops, Unhired, Promised, Runs};
-ghost use Rattle.tf_commands.specs.Causes.{HasEachCause, WasAsked, counts_of};
 ghost use Rattle.tf_commands.specs.Course.{FileRead, IsUntouched, HiresAtMost};
 ghost use Rattle.tf_commands.specs.Messages.{state_forbids};
-ghost use Rattle.tf_commands.specs.Saying.{HasSaid};
-ghost use Rattle.tf_journal.specs.Path.{Untouched, Open};
+ghost use Rattle.tf_commands.specs.Run.{HasSaid};
+ghost use Rattle.tf_journal.specs.Start.{Untouched, Open};
 
 use crate::books::{Blank, begin, open, refuse_book, say_over, say_unbegun, say_unhired};
 use crate::messages::append_state_forbids;

@@ -3,9 +3,9 @@
 ghost use Rattle.std.specs.Prelude.{◌≡◌, ◌≢◌, ◌≤◌, ℕ, List, None, Some, false, IsSome};
 ghost use Rattle.tf_book.specs.Book.{BookValue};
 ghost use Rattle.tf_commands.specs.Books.{ResetsBook};
-ghost use Rattle.tf_commands.specs.Causes.{HasEachCause, counts_of};
+ghost use Rattle.tf_commands.specs.Asking.{HasEachCause, counts_of};
 ghost use Rattle.tf_commands.specs.Runs.{HoldsBook, IsPutBackTo, GoesBack};
-ghost use Rattle.tf_journal.specs.Path.{Open};
+ghost use Rattle.tf_journal.specs.Start.{Open};
 
 use crate::books::{open, refuse_book, say_empty};
 use crate::recording::forbid;

@@ -2,13 +2,12 @@
 
 ghost use Rattle.std.specs.Prelude.{◌≡◌, ◌≤◌, ℕ, List, false, None};
 ghost use Rattle.tf_book.specs.Book.{flow_state};
-ghost use Rattle.tf_model.specs.Sessions.{has_ended};
-ghost use Rattle.tf_commands.specs.Asking.{AreHands};
+ghost use Rattle.tf_model.specs.Steps.{has_ended};
+ghost use Rattle.tf_commands.specs.Asking.{AreHands, HasEachCause, WasAsked, counts_of};
 ghost use Rattle.tf_commands.specs.Books.{Resumes};
-ghost use Rattle.tf_commands.specs.Causes.{HasEachCause, WasAsked, counts_of};
 ghost use Rattle.tf_commands.specs.Course.{HiresAtMost};
 ghost use Rattle.tf_commands.specs.Runs.{HoldsBook, GoesFurther};
-ghost use Rattle.tf_journal.specs.Path.{Open};
+ghost use Rattle.tf_journal.specs.Start.{Open};
 
 use crate::books::{open, refuse_book, say_empty, say_unhired};
 use crate::running::{Over, Request, report_end, run_book};

@@ -2,16 +2,14 @@
 
 ghost use Rattle.std.specs.Prelude.{◌≡◌, ◌≢◌, ◌≤◌, ◌++◌, ℕ, List, length, vec_len, true, false, None, Some, Option, IfOk};
 ghost use Rattle.tf_states.specs.declared.state.FlowState.{FlowState as AFlowState};
-ghost use Rattle.tf_report.specs.Report.{report};
+ghost use Rattle.tf_report.specs.Lines.{report};
 ghost use Rattle.tf_states.specs.declared.record.Entry.{Entry as Record};
-ghost use Rattle.tf_ports.specs.Wanted.{wanted as number_of};
+ghost use Rattle.tf_ports.specs.Ports.{wanted as number_of};
 ghost use Rattle.tf_book.specs.Book.{BookValue, outline, moment, flow_state};
 ghost use Rattle.tf_book.specs.SessionInvariant.{SessionInvariant};
 ghost use Rattle.tf_book.specs.declared.faults.Halt.{Halt as Cause};
-ghost use Rattle.tf_engines.specs.Failing.{MightRecord};
-ghost use Rattle.tf_engines.specs.Runs.{HasRun, StandsAs};
-ghost use Rattle.tf_commands.specs.Asking.{AreHands};
-ghost use Rattle.tf_commands.specs.Causes.{WasAsked};
+ghost use Rattle.tf_engines.specs.Runs.{MightRecord, HasRun, StandsAs};
+ghost use Rattle.tf_commands.specs.Asking.{AreHands, WasAsked};
 ghost use Rattle.tf_commands.specs.Messages.{summary};
 ghost use Rattle.tf_commands.specs.Run.{stop_status};
 ghost use Rattle.tf_commands.specs.Runs.{HasSaidHalt, IsRunTo, RunsOn};

@@ -1,9 +1,8 @@
 ghost use Rattle.std.specs.Prelude.{◌≡◌, ◌≤◌, true, false, is_some, None, Some, IfSome};
 ghost use Rattle.tf_board.specs.Answers.{board_of};
-ghost use Rattle.tf_desk.specs.Counts.{Rises};
-ghost use Rattle.tf_commands.specs.Asking.{is_local as wants_local, is_done_here as is_done, asked_for, if_done_here, IsWithin, want_of, IsWork, AsksForWork};
-ghost use Rattle.tf_commands.specs.Auditing.{IsLogRefused};
-ghost use Rattle.tf_commands.specs.Causes.{HasCausesOr, HasNoFault, WasAsked, counts_of};
+ghost use Rattle.tf_desk.specs.Crash.{Rises};
+ghost use Rattle.tf_commands.specs.Asking.{is_local as wants_local, is_done_here as is_done, asked_for, if_done_here, IsWithin, want_of, IsWork, AsksForWork, HasCausesOr, HasNoFault, WasAsked, counts_of};
+ghost use Rattle.tf_commands.specs.Messages.{IsLogRefused};
 ghost use Rattle.tf_commands.specs.Course.{Course, HiresAsAsked, HiresAsWanted, Obeys, IsRefused, IsBoardRefused, MayBeDone, IsComplete};
 ghost use Rattle.tf_commands.specs.declared.auditing.TheConstants.{LOG_REFUSED};
 ghost use Rattle.tf_report.specs.declared.statuses.TheConstants.{BOARD_REFUSED};

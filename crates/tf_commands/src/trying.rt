@@ -1,14 +1,12 @@
 //! A trial: a run of a flow file's plan of which nothing is kept.
 
 ghost use Rattle.std.specs.Prelude.{◌≡◌, ◌≤◌, [], None, vec_len};
-ghost use Rattle.tf_flow.specs.Written.{plan_tree};
-ghost use Rattle.tf_ports.specs.Wanted.{wanted as number_of};
+ghost use Rattle.tf_flow.specs.Plan.{plan_tree};
+ghost use Rattle.tf_ports.specs.Ports.{wanted as number_of};
 ghost use Rattle.tf_machine.specs.Machine.{StandsFor};
-ghost use Rattle.tf_commands.specs.Asking.{AreHands};
-ghost use Rattle.tf_commands.specs.Causes.{HasEachCause, WasAsked, counts_of};
+ghost use Rattle.tf_commands.specs.Asking.{AreHands, HasEachCause, WasAsked, counts_of};
 ghost use Rattle.tf_commands.specs.Course.{FileRead, IsUntouched, Tries, Tried, HiresAtMost};
-ghost use Rattle.tf_commands.specs.Durable.{TouchesNoFile};
-ghost use Rattle.tf_commands.specs.Run.{spoken_run};
+ghost use Rattle.tf_commands.specs.Run.{TouchesNoFile, spoken_run};
 
 use crate::books::{say_unbegun, say_unhired};
 use crate::reading::{Source, open_file};

@@ -1,10 +1,10 @@
 //! A worker: it serves the requests of remote hands that come to an address, one session after the other.
 
 ghost use Rattle.std.specs.Prelude.{◌≡◌, ◌≤◌, ◌+◌, ◌++◌, ◌⊎◌, ℕ, List, Option, OnOk, IfErr};
-ghost use Rattle.tf_desk.specs.Counts.{Rises};
+ghost use Rattle.tf_desk.specs.Crash.{Rises};
 ghost use Rattle.tf_ports.specs.declared.crews.Want.{Want as AWant};
-ghost use Rattle.tf_commands.specs.Working.{end_word, session_line, SaysNext, StopsNext, HasStopCause, HasServeCause, HiresHere, ServesAll, Works};
-ghost use Rattle.tf_commands.specs.Saying.{OnlySays};
+ghost use Rattle.tf_commands.specs.Messages.{end_word, session_line, SaysNext, StopsNext, HasStopCause, HasServeCause, HiresHere, ServesAll, Works};
+ghost use Rattle.tf_commands.specs.Run.{OnlySays};
 
 use crate::messages::{CANNOT_HIRE, CANNOT_LISTEN};
 use std::alloc::Global;
@@ -140,7 +140,7 @@ fn say_end<K: Desk>(alloc: Global, number: u32, end: ServeEnd, desk: &mut K) -> 
 }
 
 /// Appends the line of a session of this number.
-#[tactic(auto, unfolding(crate::specs::Working::session_line))]
+#[tactic(auto, unfolding(crate::specs::Messages::session_line))]
 fn append_line(number: u64, end: ServeEnd, out: &mut Vec<u8>) -> Result<(), Memory>
     ensures { OnOk result (out.new.items ≡ out.old.items ++ session_line number end) }
 {

@@ -8,18 +8,14 @@ use Rattle.tf_flow.specs.Outline.{Atom, FlowPlace, a_task, a_retry, atoms_of, at
 use Rattle.tf_flow.specs.Plan.{PlanValue}
 use Rattle.tf_flow.specs.Rules.{is_graph}
 use Rattle.tf_flow.specs.Tree.{Tree, trees_of, tree_of}
-use Rattle.tf_links.specs.Reach.{reached_by, leads_by}
-use Rattle.tf_model.specs.Before.{Flow, has_flow_number, passes_item}
-use Rattle.tf_model.specs.Compilation.{CompileRefusal, compile_refusal, tree_refusal, refusal_at, refusal_among, refusal_of, ambiguity, ambiguity_at, is_ambiguous, cycle_of, is_back, first_cycle, least, refuse_symbol}
-use Rattle.tf_model.specs.Linked.{arrange, arranged, linked_pairs, is_linked, is_explicit, is_inferred, is_inferred_by, givers, other_provides, item_provides, gives_inside, is_served, needs, joins, item_name}
-use Rattle.tf_model.specs.Plan.{outline_of_tree}
+use Rattle.tf_links.specs.Graphs.{reached_by, leads_by}
+use Rattle.tf_model.specs.Before.{Flow, has_flow_number, passes_item, arrange, arranged, linked_pairs, is_linked, is_explicit, is_inferred, is_inferred_by, givers, other_provides, item_provides, gives_inside, is_served, needs, joins, item_name}
+use Rattle.tf_model.specs.Plan.{CompileRefusal, compile_refusal, tree_refusal, refusal_at, refusal_among, refusal_of, ambiguity, ambiguity_at, is_ambiguous, cycle_of, is_back, first_cycle, least, refuse_symbol, outline_of_tree}
 use Rattle.tf_model.proofs.Told.{path_in, part_lists, listed_by}
-use Rattle.tf_numbers.specs.Numbers.{numbers_below, which_below}
-use Rattle.tf_numbers.specs.Pairs.{Pair, pairs_below}
+use Rattle.tf_numbers.specs.Numbers.{numbers_below, which_below, Pair, pairs_below}
 use Rattle.tf_numbers.proofs.BelowLemmas.{never_any, never_first}
 use Rattle.tf_numbers.proofs.TruthLemmas.{first_false, second_false, neither}
-use Rattle.tf_demo.specs.Draws.{drawn, after}
-use Rattle.tf_demo.specs.Demo.{task_drawn, tasks_from, retry_of, group_size, group_flow, groups_from, group_count, demo_flow}
+use Rattle.tf_demo.specs.Demo.{drawn, after, task_drawn, tasks_from, retry_of, group_size, group_flow, groups_from, group_count, demo_flow}
 use Rattle.tf_demo.proofs.ListLemmas.{none_of_two, none_given, never_passes, nothing_kept, no_number, no_pair, all_of_both}
 use Rattle.tf_demo.proofs.PlaceLemmas.{by_draw}
 

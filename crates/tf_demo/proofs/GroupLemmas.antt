@@ -8,8 +8,7 @@ use Rattle.tf_flow.specs.declared.nested.Item.TheVariants.{Task, Flow}
 use Rattle.tf_flow.specs.Tree.{Tree, task, tree_of, item_tree}
 use Rattle.tf_flow.proofs.TreeLemmas.{item_tree-task, item_tree-flow}
 use Rattle.tf_numbers.proofs.ListLemmas.{nothing_after, append_chain, map_append}
-use Rattle.tf_demo.specs.Draws.{drawn, after}
-use Rattle.tf_demo.specs.Demo.{task_drawn, tasks_from, group_size, group_flow, groups_from}
+use Rattle.tf_demo.specs.Demo.{drawn, after, task_drawn, tasks_from, group_size, group_flow, groups_from}
 
 -- one more at the end is the first of what comes
 one_more : (items : List Item) (item : Item) (first : Tree) (later whole : List Tree) → item_tree item ≡ first → map item_tree items ++ first ∷ later ≡ whole → map item_tree (items ++ item ∷ []) ++ later ≡ whole

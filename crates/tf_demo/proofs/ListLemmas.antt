@@ -5,9 +5,8 @@ use Rattle.std.specs.List.{list_any, AllByRecursion}
 use Rattle.std.specs.Option.{option_or}
 use Rattle.std.proofs.lemmas.List.Folds.{list_any-append}
 use Rattle.std.proofs.lemmas.List.{reverse-append}
-use Rattle.tf_flow.specs.Names.{first_some}
-use Rattle.tf_numbers.specs.Numbers.{which_below, numbers_below}
-use Rattle.tf_numbers.specs.Pairs.{pair, pairs_from, pairs_below}
+use Rattle.tf_flow.specs.Tree.{first_some}
+use Rattle.tf_numbers.specs.Numbers.{which_below, numbers_below, pair, pairs_from, pairs_below}
 use Rattle.tf_numbers.proofs.ListLemmas.{filter_append}
 use Rattle.tf_numbers.proofs.TruthLemmas.{true_second}
 

@@ -7,9 +7,9 @@ use Rattle.std.specs.Cmp.Lexicographic.{bytes_decides}
 use Rattle.std.proofs.lemmas.Fmt.{digits_decimal, length-decimal-le, decimal_injective}
 use Rattle.std.proofs.lemmas.Bool.Decides.{nat_tests}
 use Rattle.std.proofs.lemmas.Grind.{common_steps}
-use Rattle.tf_flow.specs.Names.{same_name}
+use Rattle.tf_flow.specs.Tree.{same_name}
 use Rattle.tf_numbers.proofs.TruthLemmas.{never_true}
-use Rattle.tf_values.specs.Name.{is_name, begins_name, stands_in_name}
+use Rattle.tf_values.specs.Text.{is_name, begins_name, stands_in_name}
 use Rattle.tf_values.proofs.ListLemmas.{tails}
 use Rattle.tf_values.proofs.WordLemmas.{own_digits}
 

@@ -5,13 +5,11 @@ use Rattle.std.proofs.lemmas.Bool.{cases_lt}
 use Rattle.tf_flow.specs.declared.atoms.Task.{Task}
 use Rattle.tf_flow.specs.declared.nested.FlowKind.{FlowKind}
 use Rattle.tf_flow.specs.declared.nested.FlowKind.TheVariants as pattern
-use Rattle.tf_flow.specs.Places.{Place, at_flow, at_retry, at_task, places, places_among}
-use Rattle.tf_flow.specs.Tree.{trees_of}
+use Rattle.tf_flow.specs.Tree.{Place, at_flow, at_retry, at_task, places, places_among, trees_of}
 use Rattle.tf_numbers.specs.Numbers.{numbers_below}
 use Rattle.tf_numbers.proofs.EquationLemmas.{ap2}
 use Rattle.tf_numbers.proofs.ListLemmas.{nothing_after, map_append}
-use Rattle.tf_demo.specs.Draws.{drawn, after}
-use Rattle.tf_demo.specs.Demo.{task_drawn, tasks_from, pattern_drawn, group_size, groups_from, group_count, demo_flow}
+use Rattle.tf_demo.specs.Demo.{drawn, after, task_drawn, tasks_from, pattern_drawn, group_size, groups_from, group_count, demo_flow}
 use Rattle.tf_demo.specs.Order.{tasks_in, kinds_in, task_of_number, kind_of_number}
 
 -- ---- numbers from one on

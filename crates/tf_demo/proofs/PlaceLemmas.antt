@@ -7,14 +7,11 @@ use Rattle.tf_flow.specs.declared.atoms.Task.{Task}
 use Rattle.tf_flow.specs.declared.faults.Limit.TheVariants as limit
 use Rattle.tf_flow.specs.declared.nested.FlowKind.{FlowKind}
 use Rattle.tf_flow.specs.declared.nested.FlowKind.TheVariants as pattern
-use Rattle.tf_flow.specs.ByteLength.{place_len}
-use Rattle.tf_flow.specs.Limits.{passing_at, link_count}
-use Rattle.tf_flow.specs.Places.{Place, at_flow, at_retry, at_task, Member, members_of, places, places_among, is_atom, is_flow}
+use Rattle.tf_flow.specs.Limits.{place_len, passing_at, link_count}
+use Rattle.tf_flow.specs.Tree.{Place, at_flow, at_retry, at_task, Member, members_of, places, places_among, is_atom, is_flow, trees_of, nesting, deepest}
 use Rattle.tf_flow.specs.Rules.{unknown_at, bad_link_at, bad_atom_at}
-use Rattle.tf_flow.specs.Tree.{trees_of, nesting, deepest}
 use Rattle.tf_numbers.proofs.ListLemmas.{filter_append, length_both}
-use Rattle.tf_demo.specs.Draws.{drawn, after}
-use Rattle.tf_demo.specs.Demo.{echo_task, fail_below_task, sum_task, concat_task, task_drawn, tasks_from, retry_of, pattern_drawn, group_name, group_size, group_flow, groups_from}
+use Rattle.tf_demo.specs.Demo.{drawn, after, echo_task, fail_below_task, sum_task, concat_task, task_drawn, tasks_from, retry_of, pattern_drawn, group_name, group_size, group_flow, groups_from}
 use Rattle.tf_demo.proofs.ListLemmas.{all_of_both}
 use Rattle.tf_demo.proofs.NameLemmas.{three_digits}
 

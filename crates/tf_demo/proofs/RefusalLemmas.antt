@@ -11,15 +11,10 @@ use Rattle.tf_flow.specs.declared.faults.PlanFault.{PlanFault}
 use Rattle.tf_flow.specs.declared.faults.PlanFault.TheVariants as fault
 use Rattle.tf_flow.specs.declared.nested.Flow.{Flow}
 use Rattle.tf_flow.specs.declared.nested.FlowKind.TheVariants as pattern
-use Rattle.tf_flow.specs.ByteLength.{place_len, plan_len}
-use Rattle.tf_flow.specs.Limits.{passing, capped, passed, passing_at, limit_fault, limits, too_large, link_count}
-use Rattle.tf_flow.specs.Names.{same_name, first_some, first_again, first_again_after}
-use Rattle.tf_flow.specs.Places.{Place, at_flow, places, places_among, members_of, name_at, is_atom, is_flow}
-use Rattle.tf_flow.specs.Refusal.{first_refusal, broken_rule, empty, duplicate, unknown, bad_link}
-use Rattle.tf_flow.specs.Rules.{unknown_at, bad_link_at, bad_atom_at, has_none}
-use Rattle.tf_flow.specs.Tree.{Tree, trees_of, nesting, tree_of}
-use Rattle.tf_demo.specs.Draws.{drawn, after}
-use Rattle.tf_demo.specs.Demo.{group_name, retry_name, task_name, task_drawn, tasks_from, group_size, groups_from, group_count, demo_flow}
+use Rattle.tf_flow.specs.Limits.{place_len, plan_len, passing, capped, passed, passing_at, limit_fault, limits, too_large, link_count}
+use Rattle.tf_flow.specs.Tree.{same_name, first_some, first_again, first_again_after, Place, at_flow, places, places_among, members_of, name_at, is_atom, is_flow, Tree, trees_of, nesting, tree_of}
+use Rattle.tf_flow.specs.Rules.{first_refusal, broken_rule, empty, duplicate, unknown, bad_link, unknown_at, bad_link_at, bad_atom_at, has_none}
+use Rattle.tf_demo.specs.Demo.{drawn, after, group_name, retry_name, task_name, task_drawn, tasks_from, group_size, groups_from, group_count, demo_flow}
 use Rattle.tf_demo.proofs.ListLemmas.{none_of_two, all_of_both}
 use Rattle.tf_demo.proofs.NameLemmas.{other_number}
 use Rattle.tf_demo.proofs.PlaceLemmas.{by_draw, IsFine, level_fine, groups_fine, groups_atoms, groups_flows, groups_deep, groups_bytes, groups_members, small_group}

@@ -10,22 +10,19 @@ use Rattle.tf_flow.specs.declared.atoms.Bind.{Bind}
 use Rattle.tf_flow.specs.declared.atoms.Task.{Task}
 use Rattle.tf_flow.specs.declared.nested.FlowKind.TheVariants as pattern
 use Rattle.tf_flow.specs.declared.paths.Turn.{Turn}
-use Rattle.tf_flow.specs.Names.{same_name, is_among, first_some}
+use Rattle.tf_flow.specs.Tree.{same_name, is_among, first_some, Tree, Trees, Head, trees_of, tree_of}
 use Rattle.tf_flow.specs.Rules.{bind_symbols}
-use Rattle.tf_links.specs.Standing.{standing_items}
+use Rattle.tf_links.specs.Graphs.{standing_items}
 use Rattle.tf_values.specs.declared.value.Val.{Val}
 use Rattle.tf_flow.specs.Outline.{Atom, FlowPlace, a_task, a_retry, atoms_of, atoms_among, atoms_among_count, enter, flows_among, flows_among_count, flow_place, flow_count, atom_count}
 use Rattle.tf_flow.specs.Plan.{PlanValue}
-use Rattle.tf_flow.specs.Tree.{Tree, Trees, Head, trees_of, tree_of}
-use Rattle.tf_model.specs.Before.{Flow, find_flow}
-use Rattle.tf_model.specs.Linked.{arrange, arranged, linked_pairs, standing_of_item}
+use Rattle.tf_model.specs.Before.{Flow, find_flow, arrange, arranged, linked_pairs, standing_of_item}
 use Rattle.tf_model.specs.Plan.{Outline, outline_of, outline_of_tree, count, path, injects, is_before}
 use Rattle.tf_model.proofs.Told.{path_in, standing_in, arguments_in, injects_in}
 use Rattle.tf_model.specs.Scope.{members, members_in, is_elsewhere, is_earlier, lists_symbol, has_source, missing_argument, missing_of, missing_symbol}
 use Rattle.tf_numbers.specs.Numbers.{numbers_below}
 use Rattle.tf_numbers.proofs.TruthLemmas.{true_first, true_second, second_false}
-use Rattle.tf_demo.specs.Draws.{drawn, after}
-use Rattle.tf_demo.specs.Demo.{attempt_name, group_name, pattern_drawn, argument, echo_task, fail_below_task, sum_task, concat_task, task_drawn, tasks_from, retry_of, group_size, group_flow, groups_from, group_count, demo_flow}
+use Rattle.tf_demo.specs.Demo.{drawn, after, attempt_name, group_name, pattern_drawn, argument, echo_task, fail_below_task, sum_task, concat_task, task_drawn, tasks_from, retry_of, group_size, group_flow, groups_from, group_count, demo_flow}
 use Rattle.tf_demo.proofs.ListLemmas.{none_of_two, none_given, found_last}
 use Rattle.tf_demo.proofs.CompileLemmas.{above_zero}
 use Rattle.tf_demo.proofs.PlaceLemmas.{by_draw}

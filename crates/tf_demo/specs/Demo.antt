@@ -1,5 +1,5 @@
 -- The flow that is generated from a seed and a size.
-use Rattle.std.specs.Prelude.{ℕ, pos, zero, suc, ◌+◌, ◌*◌, ◌-◌, ◌/◌, ◌%◌, min, List, [], ◌∷◌, ◌++◌, codes, map, false, Some, None, nat_eq, if◌then◌else◌}
+use Rattle.std.specs.Prelude.{ℕ, zero, suc, ◌+◌, ◌*◌, ◌%◌, pos, ◌-◌, ◌/◌, min, List, [], ◌∷◌, ◌++◌, codes, map, false, Some, None, nat_eq, if◌then◌else◌}
 use Rattle.std.specs.Fmt.{decimal}
 use Rattle.tf_values.specs.declared.value.Val.{Val}
 use Rattle.tf_values.specs.declared.value.Val.TheVariants as value
@@ -14,7 +14,19 @@ use Rattle.tf_flow.specs.declared.atoms.Undo.TheVariants as undo
 use Rattle.tf_flow.specs.declared.nested.FlowKind.{FlowKind}
 use Rattle.tf_flow.specs.declared.nested.FlowKind.TheVariants as pattern
 use Rattle.tf_flow.specs.Tree.{Tree, task, flow, trees_of}
-use Rattle.tf_demo.specs.Draws.{drawn, after}
+
+-- ---- the numbers that are drawn for the generated flow
+
+-- the state after a draw: 75 times the state and 74 more, modulo 65,537; the draw of n gives it modulo n
+abbrev pub drawn : ℕ → ℕ
+drawn state = (75 * state + 74) % 65537
+
+-- the state after so many draws
+abbrev pub after : ℕ → ℕ → ℕ
+after zero state = state
+after (suc draws) state = after draws (drawn state)
+
+-- ---- the flow that is generated from a seed and a size
 
 -- ---- names: a letter and a number in decimal digits
 

@@ -2,9 +2,8 @@
 use Rattle.std.specs.Prelude.{ℕ, ◌+◌, ◌*◌, ◌/◌, ◌%◌, List, [], ◌∷◌}
 use Rattle.tf_flow.specs.declared.atoms.Task.{Task}
 use Rattle.tf_flow.specs.declared.nested.FlowKind.{FlowKind}
-use Rattle.tf_flow.specs.Places.{Place, at_flow, at_retry, at_task}
-use Rattle.tf_demo.specs.Draws.{after}
-use Rattle.tf_demo.specs.Demo.{task_drawn, pattern_drawn}
+use Rattle.tf_flow.specs.Tree.{Place, at_flow, at_retry, at_task}
+use Rattle.tf_demo.specs.Demo.{after, task_drawn, pattern_drawn}
 
 -- the tasks among what stands in a flow, in order
 abbrev pub tasks_in : List Place → List Task

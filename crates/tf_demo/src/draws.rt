@@ -1,5 +1,5 @@
 ghost use Rattle.std.specs.Prelude.{◌≡◌, ◌≤◌, ◌<◌, ◌%◌};
-ghost use Rattle.tf_demo.specs.Draws.{drawn};
+ghost use Rattle.tf_demo.specs.Demo.{drawn};
 
 /// Draws a number below `bound`, and leaves the next state.
 pub fn draw(state: &mut u32, bound: u32) -> u32

@@ -1,7 +1,6 @@
 ghost use Rattle.std.specs.Prelude.{◌≡◌, ◌≤◌, ◌+◌, ◌*◌, ◌++◌, map, IfOk, OnOk};
 ghost use Rattle.tf_flow.specs.Tree.{tree_of, item_tree};
-ghost use Rattle.tf_demo.specs.Draws.{after};
-ghost use Rattle.tf_demo.specs.Demo.{retry_of as retry_said, pattern_drawn as pattern_said, group_flow as group_said, group_size as size_of_group, group_count as groups_of, groups_from, tasks_from};
+ghost use Rattle.tf_demo.specs.Demo.{after, retry_of as retry_said, pattern_drawn as pattern_said, group_flow as group_said, group_size as size_of_group, group_count as groups_of, groups_from, tasks_from};
 
 use crate::draws::draw;
 use crate::names::numbered;

@@ -1,12 +1,10 @@
 //! What holds of every generated flow. The functions do nothing; their contracts are the laws.
 
 ghost use Rattle.std.specs.Prelude.{◌≡◌, ◌∷◌, ℕ, None, map};
-ghost use Rattle.tf_flow.specs.Places.{places};
+ghost use Rattle.tf_flow.specs.Tree.{places, tree_of};
 ghost use Rattle.tf_flow.specs.Plan.{PlanValue};
-ghost use Rattle.tf_flow.specs.Tree.{tree_of};
 ghost use Rattle.tf_flow.specs.declared.nested.FlowKind.TheVariants.{Linear as as_they_stand};
-ghost use Rattle.tf_model.specs.Compilation.{compile_refusal};
-ghost use Rattle.tf_model.specs.Plan.{outline_of};
+ghost use Rattle.tf_model.specs.Plan.{compile_refusal, outline_of};
 ghost use Rattle.tf_model.specs.Scope.{missing_symbol};
 ghost use Rattle.tf_demo.specs.Demo.{demo_flow, group_count};
 ghost use Rattle.tf_demo.specs.Order.{tasks_in, kinds_in, task_of_number, kind_of_number};

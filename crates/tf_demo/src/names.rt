@@ -1,6 +1,6 @@
 ghost use Rattle.std.specs.Prelude.{◌≡◌, ◌∷◌, ◌<◌, true, IfOk};
 ghost use Rattle.std.specs.Fmt.{decimal};
-ghost use Rattle.tf_values.specs.Name.{begins_name};
+ghost use Rattle.tf_values.specs.Text.{begins_name};
 
 use itoa::Buffer;
 use std::alloc::Global;

@@ -1,8 +1,7 @@
 ghost use Rattle.std.specs.Prelude.{◌≡◌, ◌≤◌, [], false, None, IfOk};
-ghost use Rattle.tf_flow.specs.Refusal.{first_refusal};
+ghost use Rattle.tf_flow.specs.Rules.{first_refusal};
 ghost use Rattle.tf_flow.specs.Tree.{tree_of};
-ghost use Rattle.tf_model.specs.Compilation.{compile_refusal};
-ghost use Rattle.tf_model.specs.Plan.{outline_of};
+ghost use Rattle.tf_model.specs.Plan.{compile_refusal, outline_of};
 ghost use Rattle.tf_model.specs.Scope.{missing_symbol};
 ghost use Rattle.tf_demo.specs.Demo.{demo_flow as flow_said};
 

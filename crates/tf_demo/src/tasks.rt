@@ -1,6 +1,5 @@
 ghost use Rattle.std.specs.Prelude.{◌≡◌, ◌∷◌, ◌++◌, [], codes, map, true, IfOk};
-ghost use Rattle.tf_values.specs.Name.{is_name};
-ghost use Rattle.tf_values.specs.Text.{is_text};
+ghost use Rattle.tf_values.specs.Text.{is_name, is_text};
 ghost use Rattle.tf_values.specs.declared.value.Val.TheVariants.{Text as as_text};
 ghost use Rattle.tf_demo.specs.Demo.{task_drawn as task_said, plain_task as task_with, argument as argument_of};
 

@@ -1,8 +1,7 @@
 -- What an act does, beyond what it says at once.
 use Rattle.std.proofs.Common.{◌≡◌, ◌≢◌, ◌⊎◌, ℕ, ◌+◌, ◌-◌, ◌≤◌, Bool, true, false, MatchBool, IsSome, List, [], ◌∷◌, length, take, drop, Option, Some, None, unwrap_or, inl, inr, refl, sym, ◌∙◌, ap, subst, arith}
 use Rattle.std.proofs.lemmas.List.{take_all, drop-drop}
-use Rattle.tf_desk.specs.Content.{at_pick, at_sync, bytes_of, written, Torn}
-use Rattle.tf_desk.specs.Crash.{LeavesNoMore}
+use Rattle.tf_desk.specs.Crash.{at_pick, at_sync, bytes_of, written, Torn, LeavesNoMore}
 use Rattle.tf_desk.specs.MemoryDesk.{Held, state_of}
 use Rattle.tf_desk.specs.State.{LeftNow, Tears, Rests, OnDisk, nothing_left}
 use Rattle.tf_desk.specs.Acts.{Act, wrote, synced, picked, names, picked_after, files_after, content_after, left_after, leaves_now, crashes_after}

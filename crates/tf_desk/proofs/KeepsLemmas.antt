@@ -5,7 +5,7 @@ use Rattle.std.proofs.lemmas.List.{reverse-append, drop_at, take_at}
 use Rattle.tf_desk.specs.declared.past.MemoryFile.{MemoryFile}
 use Rattle.tf_desk.specs.declared.past.Noted.{Noted}
 use Rattle.tf_desk.specs.declared.past.Noted.TheVariants.{Picked, Wrote}
-use Rattle.tf_desk.specs.Content.{written, bytes_of}
+use Rattle.tf_desk.specs.Crash.{written, bytes_of}
 use Rattle.tf_desk.specs.Acts.{Act, picked, wrote, names, picked_after, files_after, content_after}
 use Rattle.tf_desk.specs.MemoryDesk.{acts_of, file_at, IsFirst, IsPlace}
 use Rattle.tf_desk.specs.ActLaws.{bytes_of-picked}

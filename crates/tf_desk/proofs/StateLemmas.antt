@@ -2,8 +2,7 @@
 use Rattle.std.proofs.Common.{◌≡◌, ℕ, IsTrue, List, [], ◌++◌, Option, Some, None, refl, sym, ◌∙◌, ap, subst, arith, unwrap_or}
 use Rattle.std.proofs.lemmas.List.{append_assoc, append-nil}
 use Rattle.std.specs.Option.{option_and_then}
-use Rattle.tf_desk.specs.Content.{Mark, Content, bytes_of}
-use Rattle.tf_desk.specs.Crash.{Pairs, Images, IsLeft, LeavesNoMore}
+use Rattle.tf_desk.specs.Crash.{Mark, Content, bytes_of, Pairs, Images, IsLeft, LeavesNoMore}
 use Rattle.tf_desk.specs.State.{DeskState, nothing_left, anything, Continues, bytes_now, MayLeave, IsDurable, SaysPrefix, Passes, OnDisk, Extends, FilesStay, OthersStay, Rests, GoesOn, Says, Asks, passes_none, passes_on, passes_within}
 
 -- ---- marks

@@ -5,7 +5,7 @@ use Rattle.std.proofs.lemmas.List.{take_all, drop_all, take_at, drop_at, append_
 use Rattle.std.proofs.lemmas.Bool.{cases_lt}
 use Rattle.std.specs.Option.{option_and_then}
 use Rattle.std.specs.Cmp.Lexicographic.{pointwise, bytes_decides}
-use Rattle.tf_desk.specs.Content.{Content, written, Torn, bytes_of}
+use Rattle.tf_desk.specs.Crash.{Content, written, Torn, bytes_of}
 use Rattle.tf_desk.specs.Acts.{Act, picked, wrote, synced, said, names, picked_after, files_after, content_after, left_after, leaves_now, crashes_after}
 
 -- ---- a crash at a moment since another

@@ -1,9 +1,7 @@
 -- What a desk in memory has done, newest first, and what follows from it.
 use Rattle.std.specs.Prelude.{◌≡◌, ◌⊎◌, ℕ, ◌+◌, ◌≤◌, Bool, false, if◌then◌else◌, MatchBool, List, [], ◌∷◌, ◌++◌, length, Option, Some, None, unwrap_or, ◌==◌}
 use Rattle.std.specs.Cmp.Lexicographic.{pointwise}
-use Rattle.tf_desk.specs.Content.{Mark, at_pick, at_sync, Content, written, Torn}
-use Rattle.tf_desk.specs.Crash.{IsLeft, IsLeftNow}
-use Rattle.tf_desk.specs.Shown.{ShowsPrefix}
+use Rattle.tf_desk.specs.Crash.{Mark, at_pick, at_sync, Content, written, Torn, IsLeft, IsLeftNow, ShowsPrefix}
 
 -- what changed the desk: a pick of a name, bytes written at an offset, a sync, bytes said
 pub data Act : Type 0 where

@@ -1,6 +1,3 @@
-pub mod Counts
-pub mod Shown
-pub mod Content
 pub mod Crash
 pub mod State
 pub mod Acts

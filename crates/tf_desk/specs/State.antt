@@ -1,10 +1,7 @@
 -- What a desk tells, as one state, and what a call does to it. Each fact of the files, the marks or the crashes holds where the desk tells.
 use Rattle.std.specs.Prelude.{◌≡◌, ◌≢◌, ◌⊎◌, ℕ, ◌≤◌, Bool, IsTrue, List, [], ◌∷◌, ◌++◌, Option, Some, None, unwrap_or}
 use Rattle.std.proofs.Common.{inl, inr, ⊎_elim, arith}
-use Rattle.tf_desk.specs.Content.{Mark, at_pick, at_sync, Content, Torn, bytes_of}
-use Rattle.tf_desk.specs.Counts.{Rises}
-use Rattle.tf_desk.specs.Crash.{Pairs, Images, Crashes, IsLeft, IsLeftNow, LeavesNoMore}
-use Rattle.tf_desk.specs.Shown.{ShowsPrefix}
+use Rattle.tf_desk.specs.Crash.{Mark, at_pick, at_sync, Content, Torn, bytes_of, Rises, Pairs, Images, Crashes, IsLeft, IsLeftNow, LeavesNoMore, ShowsPrefix}
 use Rattle.tf_desk.specs.declared.device.DeskFault.{DeskFault}
 use Rattle.tf_desk.specs.declared.device.DeskFault.TheVariants.{Disk, Out, Memory}
 

@@ -1,7 +1,5 @@
 ghost use Rattle.std.specs.Prelude.{◌≡◌, ℕ, ◌≤◌, true, false, IsTrue, List, length, Some, None, is_some, OnOk, OnErr, IfOk, IfErr};
-ghost use Rattle.tf_desk.specs.Content.{written, Reads};
-ghost use Rattle.tf_desk.specs.Counts.{Rises};
-ghost use Rattle.tf_desk.specs.Shown.{shown_with};
+ghost use Rattle.tf_desk.specs.Crash.{written, Reads, Rises, shown_with};
 ghost use Rattle.tf_desk.specs.State.{DeskState, bytes_now, LeftNow, OnDisk, Unmarked, Rests, GoesOn, Tears, Syncs, Says, Asks, Picks, PicksNone, LeavesMade, FailsOnDisk, FailsOnOutput, FailsToPick};
 
 use std::alloc::Global;

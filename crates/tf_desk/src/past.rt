@@ -1,5 +1,5 @@
 ghost use Rattle.std.specs.Prelude.{◌≡◌, ◌≤◌, ◌<◌, ◌++◌, ◌∷◌, [], true, false, length, is_ok, IsSome, IfOk, IfSome, IfNone, OnOk, OnErr, if◌then◌else◌};
-ghost use Rattle.tf_desk.specs.Content.{written, bytes_of, Reads};
+ghost use Rattle.tf_desk.specs.Crash.{written, bytes_of, Reads};
 ghost use Rattle.tf_desk.specs.Acts.{picked, wrote, synced, said, content_after, picked_after, shown_after};
 ghost use Rattle.tf_desk.specs.MemoryDesk.{file_at, IsFirst};
 

@@ -1,6 +1,6 @@
 ghost use Rattle.std.specs.Prelude.{◌≡◌, ◌<◌, true, IsSome};
 ghost use Rattle.tf_book.specs.Book.{moment, outline};
-ghost use Rattle.tf_hands.specs.Flight.{task_of};
+ghost use Rattle.tf_hands.specs.Hands.{task_of};
 
 use crate::books::{RETRIED, begun, desk, plan};
 use std::alloc::Global;

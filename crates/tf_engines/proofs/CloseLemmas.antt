@@ -12,7 +12,7 @@ use Rattle.tf_hands.proofs.OtherLemmas.{orders_through}
 use Rattle.tf_hands.proofs.FlightLemmas.{still_free}
 use Rattle.tf_model.specs.History.{flow_of, snapshot}
 use Rattle.tf_model.specs.Plan.{Outline}
-use Rattle.tf_model.specs.Sessions.{is_last}
+use Rattle.tf_model.specs.Steps.{is_last}
 use Rattle.tf_book.specs.Book.{BookValue, outline}
 use Rattle.tf_turnstile.specs.Numbered.{IsLater}
 use Rattle.tf_turnstile.specs.Passes.{TurnstileValue, PassValue, IsIdle, AreAll, AreNew, HasGrown, new_pass}

@@ -16,12 +16,10 @@ use Rattle.tf_numbers.proofs.TruthLemmas.{true_both, and_first, and_second}
 use Rattle.tf_hands.specs.Hands.{is_of_flow}
 use Rattle.tf_hands.proofs.RestLemmas.{entered_still}
 use Rattle.tf_model.specs.History.{flow_of, snapshot}
-use Rattle.tf_model.specs.Orders.{IsGiven}
+use Rattle.tf_model.specs.Scope.{IsGiven}
 use Rattle.tf_model.specs.Plan.{Outline}
-use Rattle.tf_model.specs.Sessions.{already_ended, entered, entering, has_ended}
-use Rattle.tf_model.specs.Steps.{LegalPast, is_still}
-use Rattle.tf_book.specs.Stopping.{limit_from}
-use Rattle.tf_book.specs.Turns.{entering_by, IsEntering}
+use Rattle.tf_model.specs.Steps.{already_ended, entered, entering, has_ended, LegalPast, is_still}
+use Rattle.tf_book.specs.Turns.{limit_from, entering_by, IsEntering}
 use Rattle.tf_book.specs.declared.faults.Halt.{Halt}
 use Rattle.tf_engines.specs.declared.engine.How.{How}
 use Rattle.tf_engines.specs.Runs.{AreGiven, is_of, is_unsuspended, AreWithin, IsSuspended, IsSession, HasRun, HaltsAs, IsUnderWay, IsBetweenTurns}

@@ -12,20 +12,16 @@ use Rattle.tf_hands.proofs.EndLemmas.{end_given}
 use Rattle.tf_hands.proofs.FactLemmas.{past_facts}
 use Rattle.tf_hands.proofs.FlightLemmas.{task_held}
 use Rattle.tf_hands.proofs.GivenLemmas.{no_end_given}
-use Rattle.tf_hands.specs.Flight.{task_of, end_by}
-use Rattle.tf_model.specs.History.{flow_of, snapshot}
+use Rattle.tf_hands.specs.Hands.{task_of, end_by}
+use Rattle.tf_model.specs.History.{flow_of, snapshot, flow_runs, flow_suspends}
 use Rattle.tf_model.specs.Plan.{Outline, outline_of}
-use Rattle.tf_model.specs.Sessions.{has_ended}
-use Rattle.tf_model.specs.States.{flow_runs, flow_suspends}
-use Rattle.tf_model.specs.Steps.{LegalPast}
+use Rattle.tf_model.specs.Steps.{has_ended, LegalPast}
 use Rattle.tf_book.specs.Book.{BookValue, outline}
-use Rattle.tf_book.specs.Tried.{IsTried, IsNoEndBy, HasTried, HasTriedToEnd}
-use Rattle.tf_book.specs.Turns.{IsFinished}
+use Rattle.tf_book.specs.Turns.{IsTried, IsNoEndBy, HasTried, HasTriedToEnd, IsFinished}
 use Rattle.tf_book.specs.declared.faults.Halt.{Halt}
 use Rattle.tf_book.specs.declared.faults.Halt.TheVariants as halt
 use Rattle.tf_book.proofs.TriedLemmas.{unhalted_tried, none_tried, tried_so}
-use Rattle.tf_engines.specs.Failing.{MayRecord, MightRecord}
-use Rattle.tf_engines.specs.Runs.{is_of}
+use Rattle.tf_engines.specs.Runs.{MayRecord, MightRecord, is_of}
 use Rattle.tf_engines.specs.Working.{HasOutcome}
 
 goes_open : (f : FlowState) → flow_runs f || flow_suspends f ≡ true → has_ended f ≡ false

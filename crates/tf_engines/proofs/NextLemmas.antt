@@ -11,9 +11,8 @@ use Rattle.tf_states.specs.declared.record.What.{What}
 use Rattle.tf_states.specs.declared.record.What.TheVariants as what
 use Rattle.tf_states.specs.declared.state.FlowState.{FlowState}
 use Rattle.tf_states.specs.declared.state.FlowState.TheVariants as flow
-use Rattle.tf_hands.specs.Flight.{start_entry, ended_from}
+use Rattle.tf_hands.specs.Hands.{start_entry, ended_from, by_hand, is_resuming, orders}
 use Rattle.tf_hands.specs.declared.starts.Start.{Start}
-use Rattle.tf_hands.specs.Hands.{by_hand, is_resuming, orders}
 use Rattle.tf_hands.proofs.EntryLemmas.{within_resumes}
 use Rattle.tf_hands.proofs.ForcedLemmas.{forced_within}
 use Rattle.tf_hands.proofs.ChoiceLemmas.{start_within}
@@ -22,8 +21,7 @@ use Rattle.tf_hands.proofs.FlightLemmas.{free_at}
 use Rattle.tf_model.proofs.StepLemmas.{end_is}
 use Rattle.tf_model.specs.History.{flow_of, snapshot}
 use Rattle.tf_model.specs.Plan.{Outline, count}
-use Rattle.tf_model.specs.Sessions.{has_ended, is_last}
-use Rattle.tf_model.specs.Steps.{LegalPast, is_idle, is_still, is_free}
+use Rattle.tf_model.specs.Steps.{has_ended, is_last, LegalPast, is_idle, is_still, is_free}
 use Rattle.tf_book.specs.Turns.{AreForced, IsForcedOn, TakesUp, IsEndOf, IsSuspensionOf, IsClosedOr, stays, ended, suspended, HandRests, nothing_to_take, at_end, to_suspend, suspending, IsTurn, IsHaltedTurn, forcing, starting, resting, IsTurnAsked, IsHaltedTurnAsked, IsFinished}
 use Rattle.tf_book.specs.declared.turn.Turn.{Turn}
 use Rattle.tf_book.specs.declared.turn.Turn.TheVariants as turn

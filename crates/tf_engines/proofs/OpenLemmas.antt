@@ -3,24 +3,21 @@ use Rattle.std.proofs.Common.{◌≡◌, ◌≤◌, ℕ, true, false, List, [], 
 use Rattle.std.specs.Prelude.{reverse}
 use Rattle.std.proofs.lemmas.Bool.{lt-ltb}
 use Rattle.tf_desk.specs.State.{DeskState}
-use Rattle.tf_desk.specs.Counts.{Rises}
+use Rattle.tf_desk.specs.Crash.{Rises}
 use Rattle.tf_actions.specs.declared.orders.Order.{Order}
 use Rattle.tf_actions.specs.declared.outcomes.Outcome.{Outcome}
 use Rattle.tf_states.specs.declared.record.Entry.{Entry}
 use Rattle.tf_states.specs.declared.state.FlowState.{FlowState}
 use Rattle.tf_model.specs.History.{flow_of}
 use Rattle.tf_model.specs.Plan.{outline_of}
-use Rattle.tf_model.specs.Sessions.{has_ended}
-use Rattle.tf_model.specs.Steps.{LegalPast}
+use Rattle.tf_model.specs.Steps.{has_ended, LegalPast}
 use Rattle.tf_flow.specs.Plan.{PlanValue}
 use Rattle.tf_book.specs.Book.{BookValue, outline}
 use Rattle.tf_book.specs.SessionInvariant.{SessionInvariant}
-use Rattle.tf_book.specs.Turns.{entering_by, IsEntering}
-use Rattle.tf_book.specs.Stopping.{limit_from}
+use Rattle.tf_book.specs.Turns.{entering_by, IsEntering, limit_from}
 use Rattle.tf_engines.specs.declared.engine.How.{How}
 use Rattle.tf_engines.specs.declared.engine.How.TheVariants as how
-use Rattle.tf_engines.specs.Runs.{HaltsAs, StandsAs, going_on}
-use Rattle.tf_engines.specs.Failing.{MightRecord}
+use Rattle.tf_engines.specs.Runs.{HaltsAs, StandsAs, going_on, MightRecord}
 use Rattle.tf_engines.specs.Shared.{SharedValue, IsJustEntered, IsShared}
 use Rattle.tf_engines.proofs.FailLemmas.{unhalted_might}
 use Rattle.tf_engines.specs.Working.{IsRun}

@@ -9,7 +9,7 @@ use Rattle.tf_book.specs.declared.faults.Halt.{Halt}
 use Rattle.tf_engines.specs.Runs.{HaltsAs, StandsAs}
 use Rattle.tf_engines.specs.Shared.{entered_past}
 use Rattle.tf_engines.specs.declared.engine.How.{How}
-use Rattle.tf_actions.specs.Told.{told_with}
+use Rattle.tf_actions.specs.Gives.{told_with}
 use Rattle.tf_actions.specs.declared.orders.Order.{Order}
 use Rattle.tf_actions.specs.declared.outcomes.Outcome.{Outcome}
 use Rattle.tf_states.specs.declared.record.Entry.{Entry}
@@ -24,7 +24,7 @@ use Rattle.tf_hands.proofs.EndLemmas.{end_orders}
 use Rattle.tf_hands.proofs.EntryLemmas.{no_orders}
 use Rattle.tf_model.specs.History.{flow_of, snapshot}
 use Rattle.tf_model.specs.Plan.{Outline}
-use Rattle.tf_model.specs.Sessions.{entering, has_ended}
+use Rattle.tf_model.specs.Steps.{entering, has_ended}
 use Rattle.tf_book.specs.Turns.{AreForced, IsForcedOn, TakesUp, IsStarted, IsClosedOr, stays, ended, suspended, HandRests, nothing_to_take, at_end, to_suspend, suspending, HandRestsAs, IsHaltedTurn, forcing, starting, resting, IsTurnAsked, IsHaltedTurnAsked, IsFinished, IsEntering, entering_by}
 use Rattle.tf_book.specs.declared.turn.Turn.TheVariants as turn
 use Rattle.tf_engines.specs.Asked.{told_all, HasDone, HasDoneAllButOne, HasToDo, HasDoneBy}

@@ -11,21 +11,17 @@ use Rattle.tf_states.specs.declared.record.What.{What}
 use Rattle.tf_states.specs.declared.record.What.TheVariants as what
 use Rattle.tf_states.specs.declared.state.FlowState.{FlowState}
 use Rattle.tf_states.specs.declared.state.FlowState.TheVariants as flow
-use Rattle.tf_hands.specs.Flight.{end_by, ended_from}
-use Rattle.tf_hands.specs.Hands.{by_hand, is_of_flow, HasOrder, IsAlone}
+use Rattle.tf_hands.specs.Hands.{end_by, ended_from, by_hand, is_of_flow, HasOrder, IsAlone}
 use Rattle.tf_hands.proofs.EndLemmas.{ended_within, ended_inner, end_ends, end_frees, end_given}
 use Rattle.tf_hands.proofs.RestLemmas.{alone_still, own_alone}
 use Rattle.tf_bound.specs.Short.{AreShort}
-use Rattle.tf_model.specs.Bound.{entry_bound}
+use Rattle.tf_model.specs.Plan.{entry_bound, Outline, outline_of}
 use Rattle.tf_model.specs.History.{flow_of, snapshot}
-use Rattle.tf_model.specs.Orders.{IsGiven}
-use Rattle.tf_model.specs.Plan.{Outline, outline_of}
-use Rattle.tf_model.specs.Sessions.{Session, halted, entering, is_inner_entry, is_inner}
-use Rattle.tf_model.specs.Steps.{LegalPast, is_still}
+use Rattle.tf_model.specs.Scope.{IsGiven}
+use Rattle.tf_model.specs.Steps.{Session, halted, entering, is_inner_entry, is_inner, LegalPast, is_still}
 use Rattle.tf_numbers.proofs.TruthLemmas.{true_both}
 use Rattle.tf_book.specs.Book.{BookValue}
-use Rattle.tf_book.specs.Stopping.{is_reached}
-use Rattle.tf_book.specs.Turns.{IsFinished}
+use Rattle.tf_book.specs.Turns.{is_reached, IsFinished}
 use Rattle.tf_book.proofs.ForceLemmas.{flow_stays}
 use Rattle.tf_book.specs.declared.faults.Halt.{Halt}
 use Rattle.tf_engines.specs.declared.engine.How.{How}

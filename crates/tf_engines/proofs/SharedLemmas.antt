@@ -6,7 +6,7 @@ use Rattle.std.proofs.lemmas.Bool.{lt-ltb}
 use Rattle.std.proofs.lemmas.List.Folds.{list_all-append}
 use Rattle.tf_numbers.proofs.TruthLemmas.{clash, true_both, and_first, and_second}
 use Rattle.tf_desk.specs.State.{DeskState}
-use Rattle.tf_desk.specs.Counts.{Rises}
+use Rattle.tf_desk.specs.Crash.{Rises}
 use Rattle.tf_actions.specs.Laws.{RevertsToNothing}
 use Rattle.tf_actions.specs.declared.orders.Order.{Order}
 use Rattle.tf_actions.specs.declared.outcomes.Outcome.{Outcome}
@@ -18,8 +18,7 @@ use Rattle.tf_states.specs.declared.state.FlowState.TheVariants as flow
 use Rattle.tf_hands.specs.Hands.{is_resuming}
 use Rattle.tf_model.specs.History.{flow_of}
 use Rattle.tf_model.specs.Plan.{Outline, outline_of}
-use Rattle.tf_model.specs.Sessions.{has_ended, is_inner, is_inner_entry, is_last}
-use Rattle.tf_model.specs.Steps.{LegalPast}
+use Rattle.tf_model.specs.Steps.{has_ended, is_inner, is_inner_entry, is_last, LegalPast}
 use Rattle.tf_book.specs.Book.{BookValue, outline}
 use Rattle.tf_book.specs.SessionInvariant.{SessionInvariant}
 use Rattle.tf_book.specs.Turns.{is_entered, IsTurnAsked, IsHaltedTurnAsked, IsFinished}
@@ -28,10 +27,9 @@ use Rattle.tf_book.specs.declared.turn.Turn.{Turn}
 use Rattle.tf_flow.specs.Plan.{PlanValue}
 use Rattle.tf_engines.specs.declared.engine.How.{How}
 use Rattle.tf_engines.specs.declared.engine.How.TheVariants as how
-use Rattle.tf_engines.specs.Runs.{IsSession, HasRun, StandsAs, StandsBetween, going_on, winding, stopped}
+use Rattle.tf_engines.specs.Runs.{IsSession, HasRun, StandsAs, StandsBetween, going_on, winding, stopped, MightRecord}
 use Rattle.tf_engines.specs.Shared.{SharedValue, entered_past, is_unresumed, IsInside, IsShared}
 use Rattle.tf_book.specs.declared.faults.Halt.TheVariants as halts
-use Rattle.tf_engines.specs.Failing.{MightRecord}
 use Rattle.tf_engines.proofs.FailLemmas.{memory_might}
 use Rattle.tf_engines.specs.Working.{is_by, IsAdded, HasOutcome, IsRun}
 use Rattle.tf_engines.proofs.EnterLemmas.{entering_runs}

@@ -9,20 +9,16 @@ use Rattle.tf_states.specs.declared.record.Entry.{Entry}
 use Rattle.tf_states.specs.declared.record.What.{What}
 use Rattle.tf_states.specs.declared.state.FlowState.{FlowState}
 use Rattle.tf_states.specs.declared.state.FlowState.TheVariants as flow
-use Rattle.tf_hands.specs.Flight.{ended_from}
-use Rattle.tf_hands.specs.Hands.{by_hand, is_of_flow, HasOrder}
+use Rattle.tf_hands.specs.Hands.{ended_from, by_hand, is_of_flow, HasOrder}
 use Rattle.tf_hands.proofs.EndLemmas.{ended_within, ended_inner, end_ends, end_given}
 use Rattle.tf_hands.proofs.FlightLemmas.{still_no_order}
 use Rattle.tf_hands.proofs.RestLemmas.{away_still}
-use Rattle.tf_model.specs.History.{flow_of, snapshot}
-use Rattle.tf_model.specs.Orders.{IsGiven}
+use Rattle.tf_model.specs.History.{flow_of, snapshot, flow_runs, flow_suspends}
+use Rattle.tf_model.specs.Scope.{IsGiven}
 use Rattle.tf_model.specs.Plan.{Outline}
-use Rattle.tf_model.specs.Sessions.{halted, entering, is_inner_entry, is_inner, is_last}
-use Rattle.tf_model.specs.States.{flow_runs, flow_suspends}
-use Rattle.tf_model.specs.Steps.{LegalPast}
+use Rattle.tf_model.specs.Steps.{halted, entering, is_inner_entry, is_inner, is_last, LegalPast}
 use Rattle.tf_numbers.proofs.TruthLemmas.{clash, not_true, true_both}
-use Rattle.tf_book.specs.Stopping.{is_reached}
-use Rattle.tf_book.specs.Turns.{IsFinished}
+use Rattle.tf_book.specs.Turns.{is_reached, IsFinished}
 use Rattle.tf_book.proofs.ForceLemmas.{flow_stays}
 use Rattle.tf_engines.specs.Runs.{is_of, suspends, winds_up, IsSuspended, IsSession, IsUnderWay, Winds, StandsBetween, going_on, winding, stopped}
 use Rattle.tf_engines.proofs.StopLemmas.{reached_more, due_none, due_later, session_later, end_winds}

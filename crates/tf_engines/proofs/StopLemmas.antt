@@ -3,7 +3,7 @@ use Rattle.std.proofs.Common.{◌≡◌, inl, inr, ◌⊎◌, ⊎_elim, ℕ, ◌
 use Rattle.std.specs.Prelude.{suc, not, nat_le, IfSome}
 use Rattle.std.proofs.lemmas.Bool.Decides.{nat_tests}
 use Rattle.std.specs.List.{list_all}
-use Rattle.tf_desk.specs.Counts.{Rises}
+use Rattle.tf_desk.specs.Crash.{Rises}
 use Rattle.tf_hands.specs.Hands.{is_over, is_no_end}
 use Rattle.tf_model.specs.Plan.{Outline, is_task}
 use Rattle.tf_numbers.proofs.TruthLemmas.{clash, not_true, and_first, and_second, neither_second, or_either}
@@ -14,7 +14,7 @@ use Rattle.tf_states.specs.declared.record.What.{What}
 use Rattle.tf_states.specs.declared.record.What.TheVariants as what
 use Rattle.tf_states.specs.declared.state.FlowState.{FlowState}
 use Rattle.tf_states.specs.declared.state.FlowState.TheVariants as flow
-use Rattle.tf_book.specs.Stopping.{limit_from, is_reached, is_to_stop, IsAnswered}
+use Rattle.tf_book.specs.Turns.{limit_from, is_reached, is_to_stop, IsAnswered}
 use Rattle.tf_engines.specs.declared.engine.How.{How}
 use Rattle.tf_engines.specs.declared.engine.How.TheVariants as how
 use Rattle.tf_engines.specs.Runs.{suspends, is_unsuspended, winds_up, AreDue, IsSession, HasRun}

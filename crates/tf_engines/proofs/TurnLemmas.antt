@@ -2,7 +2,7 @@
 use Rattle.std.proofs.Common.{◌≡◌, ◌≢◌, inl, inr, ◌⊎◌, ⊎_elim, ℕ, Bool, true, false, List, [], ◌∷◌, ◌++◌, length, Option, Some, refl, ap, ◌∙◌, sym, subst, append_assoc}
 use Rattle.std.specs.Prelude.{not, nat_lt, reverse}
 use Rattle.std.specs.List.{list_all}
-use Rattle.tf_desk.specs.Counts.{Rises}
+use Rattle.tf_desk.specs.Crash.{Rises}
 use Rattle.tf_actions.specs.declared.orders.Order.{Order}
 use Rattle.tf_actions.specs.declared.outcomes.Outcome.{Outcome}
 use Rattle.tf_states.specs.declared.record.Entry.{Entry}
@@ -10,11 +10,10 @@ use Rattle.tf_states.specs.declared.record.What.{What}
 use Rattle.tf_states.specs.declared.record.What.TheVariants as what
 use Rattle.tf_states.specs.declared.state.FlowState.{FlowState}
 use Rattle.tf_states.specs.declared.state.FlowState.TheVariants as flow
-use Rattle.tf_hands.specs.Flight.{start_entry}
+use Rattle.tf_hands.specs.Hands.{start_entry, by_hand, HasOrder, IsAlone}
 use Rattle.tf_hands.specs.declared.starts.Start.{Start}
 use Rattle.tf_numbers.proofs.OptionLemmas.{only_if}
 use Rattle.tf_numbers.proofs.TruthLemmas.{clash, not_true, true_both, true_second, and_first}
-use Rattle.tf_hands.specs.Hands.{by_hand, HasOrder, IsAlone}
 use Rattle.tf_hands.proofs.ForcedLemmas.{forced_no_end, forced_within, forced_inner}
 use Rattle.tf_hands.proofs.ChoiceLemmas.{start_no_end, start_within, start_inner, choice_order}
 use Rattle.tf_hands.proofs.FlightLemmas.{still_free}
@@ -23,14 +22,10 @@ use Rattle.tf_hands.proofs.OtherLemmas.{idle_free}
 use Rattle.tf_hands.proofs.RestLemmas.{alone_still, own_alone, still_alone}
 use Rattle.tf_model.proofs.StepLemmas.{end_is}
 use Rattle.tf_model.specs.Forced.{forced, forced_if_running, is_active, is_unhurt}
-use Rattle.tf_model.specs.History.{flow_of, snapshot}
+use Rattle.tf_model.specs.History.{flow_of, snapshot, Snapshot, flow_runs, flow_suspends}
 use Rattle.tf_model.specs.Plan.{Outline}
-use Rattle.tf_model.specs.Sessions.{whole, entering, has_ended, is_last}
-use Rattle.tf_model.specs.Snapshot.{Snapshot}
-use Rattle.tf_model.specs.States.{flow_runs, flow_suspends}
-use Rattle.tf_model.specs.Steps.{LegalPast, is_still, is_free}
-use Rattle.tf_book.specs.Stopping.{is_reached, is_to_stop}
-use Rattle.tf_book.specs.Turns.{AreForced, IsForcedOn, TakesUp, IsStarted, IsEndOf, IsSuspensionOf, IsClosedOr, stays, ended, suspended, suspending_after, HandRests, nothing_to_take, at_end, to_suspend, suspending, HandRestsAs, WasOver, IsTurn, IsHaltedTurn, forcing, starting, resting, IsTurnAsked, IsHaltedTurnAsked}
+use Rattle.tf_model.specs.Steps.{whole, entering, has_ended, is_last, LegalPast, is_still, is_free}
+use Rattle.tf_book.specs.Turns.{is_reached, is_to_stop, AreForced, IsForcedOn, TakesUp, IsStarted, IsEndOf, IsSuspensionOf, IsClosedOr, stays, ended, suspended, suspending_after, HandRests, nothing_to_take, at_end, to_suspend, suspending, HandRestsAs, WasOver, IsTurn, IsHaltedTurn, forcing, starting, resting, IsTurnAsked, IsHaltedTurnAsked}
 use Rattle.tf_book.specs.declared.turn.Turn.{Turn}
 use Rattle.tf_book.specs.declared.turn.Turn.TheVariants as turn
 use Rattle.tf_book.proofs.ForceLemmas.{flow_stays, forced_stays, free_forced}

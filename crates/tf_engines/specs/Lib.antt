@@ -1,5 +1,4 @@
 pub mod Runs
-pub mod Failing
 pub mod Asked
 pub mod Shared
 pub mod Working

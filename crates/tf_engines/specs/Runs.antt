@@ -1,25 +1,27 @@
--- What a run by a number of hands records, from the history that it began with to the one that it leaves. Histories have the newest entry first.
+-- What a run by a number of hands records, and which entry it could not record. Histories have the newest entry first.
 use Rattle.std.specs.Prelude.{◌≡◌, ◌⊎◌, ℕ, ◌≤◌, Bool, true, false, ◌&&◌, ◌||◌, List, [], ◌∷◌, ◌++◌, length, nat_lt, not, Option, Some, None, reverse}
 use Rattle.std.specs.List.{list_all}
 use Rattle.tf_actions.specs.declared.orders.Order.{Order}
 use Rattle.tf_actions.specs.declared.outcomes.Outcome.{Outcome}
-use Rattle.tf_actions.specs.Whole.{IsWhole}
+use Rattle.tf_actions.specs.Gives.{IsWhole}
 use Rattle.tf_states.specs.declared.record.Entry.{Entry}
 use Rattle.tf_states.specs.declared.record.What.{What}
 use Rattle.tf_states.specs.declared.record.What.TheVariants as what
 use Rattle.tf_states.specs.declared.state.FlowState.{FlowState}
 use Rattle.tf_states.specs.declared.state.FlowState.TheVariants as flow
-use Rattle.tf_model.specs.History.{flow_of, snapshot}
-use Rattle.tf_model.specs.Steps.{is_still}
-use Rattle.tf_model.specs.Orders.{IsGiven}
+use Rattle.tf_model.specs.History.{flow_of, snapshot, flow_suspends}
+use Rattle.tf_model.specs.Steps.{is_still, Session, entering, has_ended, is_inner_entry, is_last}
+use Rattle.tf_model.specs.Scope.{IsGiven}
 use Rattle.tf_hands.specs.Hands.{by_hand, is_over, HasOrder, IsAlone}
 use Rattle.tf_model.specs.Plan.{Outline, is_task}
-use Rattle.tf_model.specs.Sessions.{Session, entering, has_ended, is_inner_entry, is_last}
-use Rattle.tf_model.specs.States.{flow_suspends}
-use Rattle.tf_book.specs.Stopping.{limit_from, is_reached}
+use Rattle.tf_book.specs.Turns.{limit_from, is_reached, IsTried}
 use Rattle.tf_book.specs.declared.faults.Halt.{Halt}
 use Rattle.tf_engines.specs.declared.engine.How.{How}
 use Rattle.tf_engines.specs.declared.engine.How.TheVariants as how
+use Rattle.tf_book.specs.Book.{BookValue, outline}
+
+-- ---- what a run by a number of hands records, from the history that it began with to the one that it leaves
+-- Histories have the newest entry first.
 
 -- each end among the entries recorded after a history carries an outcome that the order of its start may have
 abbrev pub AreGiven : (Order → Outcome → Type 0) → Outline → List Entry → List Entry → Type 0
@@ -140,3 +142,16 @@ pub record IsPerforming (plan : Outline) (past : List Entry) (halted : Option Ha
   pub has : HasOrder plan past 0 order
   pub alone : IsAlone plan past 0
   pub whole : IsWhole order
+
+-- ---- which entry a session couldn't record
+
+-- a session of so many hands may record the entry after the history: one of them does, with an outcome that its order may have, and the flow
+-- hasn't ended
+pub record MayRecord (gives : Order → Outcome → Type 0) (number : ℕ) (plan : Outline) (past : List Entry) (e : Entry) : Type 0 where
+  pub given : IsGiven gives plan past e.what
+  pub hand : is_of number e ≡ true
+  pub unended : has_ended (flow_of past) ≡ false
+
+-- where the disk or a full journal halted the book, the entry that couldn't be recorded was such a one
+abbrev pub MightRecord : {K : Type 0} → (Order → Outcome → Type 0) → ℕ → BookValue K → Type 0
+MightRecord gives number b = IsTried (MayRecord gives number (outline b) b.past) b.halt b.failed

@@ -2,19 +2,17 @@
 use Rattle.std.specs.Prelude.{◌≡◌, ℕ, ◌≤◌, Bool, true, false, List, [], ◌∷◌, ◌++◌, not, reverse, Option}
 use Rattle.std.specs.List.{list_all}
 use Rattle.tf_desk.specs.State.{DeskState}
-use Rattle.tf_desk.specs.Counts.{Rises}
+use Rattle.tf_desk.specs.Crash.{Rises}
 use Rattle.tf_actions.specs.declared.orders.Order.{Order}
 use Rattle.tf_actions.specs.declared.outcomes.Outcome.{Outcome}
 use Rattle.tf_states.specs.declared.record.Entry.{Entry}
 use Rattle.tf_hands.specs.Hands.{is_resuming}
 use Rattle.tf_model.specs.History.{flow_of, snapshot}
-use Rattle.tf_model.specs.Sessions.{entering, has_ended}
-use Rattle.tf_model.specs.Steps.{is_still}
+use Rattle.tf_model.specs.Steps.{entering, has_ended, is_still}
 use Rattle.tf_book.specs.Book.{BookValue, outline}
 use Rattle.tf_book.specs.SessionInvariant.{SessionInvariant}
 use Rattle.tf_turnstile.specs.Passes.{TurnstileValue, PassValue}
-use Rattle.tf_engines.specs.Failing.{MightRecord}
-use Rattle.tf_engines.specs.Runs.{StandsBetween}
+use Rattle.tf_engines.specs.Runs.{MightRecord, StandsBetween}
 
 -- the book before it was entered, and the book now; the session's limit of entries, if it has one; and how many hands there are
 pub record SharedValue (K : Type 0) : Type 0 where

@@ -2,16 +2,15 @@
 use Rattle.std.specs.Prelude.{◌≡◌, ◌≢◌, ℕ, ◌<◌, ◌≤◌, ◌++◌, ◌&&◌, Bool, true, false, List, Option, Some, None, not, nat_eq}
 use Rattle.std.specs.List.{list_all}
 use Rattle.tf_desk.specs.State.{DeskState}
-use Rattle.tf_desk.specs.Counts.{Rises}
-use Rattle.tf_actions.specs.Whole.{IsWhole}
+use Rattle.tf_desk.specs.Crash.{Rises}
+use Rattle.tf_actions.specs.Gives.{IsWhole}
 use Rattle.tf_actions.specs.declared.orders.Order.{Order}
 use Rattle.tf_actions.specs.declared.outcomes.Outcome.{Outcome}
 use Rattle.tf_states.specs.declared.record.Entry.{Entry}
 use Rattle.tf_hands.specs.Hands.{HasOrder, is_resuming, orders}
 use Rattle.tf_model.specs.History.{flow_of, snapshot, hand_of}
 use Rattle.tf_model.specs.Plan.{Outline, count}
-use Rattle.tf_model.specs.Sessions.{is_last}
-use Rattle.tf_model.specs.Steps.{is_free}
+use Rattle.tf_model.specs.Steps.{is_last, is_free}
 use Rattle.tf_book.specs.Book.{BookValue, outline}
 use Rattle.tf_book.specs.SessionInvariant.{SessionInvariant}
 use Rattle.tf_book.specs.declared.turn.Turn.{Turn}
@@ -21,8 +20,7 @@ use Rattle.tf_engines.specs.declared.engine.How.{How}
 use Rattle.tf_engines.specs.declared.turns.Next.{Next}
 use Rattle.tf_engines.specs.declared.turns.Next.TheVariants as next
 use Rattle.tf_engines.specs.Asked.{HasDone, HasDoneAllButOne, HasToDo}
-use Rattle.tf_engines.specs.Failing.{MightRecord}
-use Rattle.tf_engines.specs.Runs.{HasRun, StandsAs}
+use Rattle.tf_engines.specs.Runs.{MightRecord, HasRun, StandsAs}
 use Rattle.tf_engines.specs.Shared.{SharedValue, IsJustEntered, seen_past}
 
 -- ---- one turn

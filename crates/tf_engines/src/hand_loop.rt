@@ -2,9 +2,8 @@
 ghost use Rattle.std.specs.Prelude.{◌≡◌, ◌<◌, ℕ, true, false, List, Option, IfNone, IfSome, IsTrue, MatchBool};
 ghost use Rattle.tf_hands.specs.Hands.{HasOrder, orders};
 ghost use Rattle.tf_model.specs.History.{flow_of, snapshot};
-ghost use Rattle.tf_model.specs.Sessions.{is_last};
-ghost use Rattle.tf_model.specs.Steps.{is_free};
-ghost use Rattle.tf_actions.specs.Whole.{IsWhole};
+ghost use Rattle.tf_model.specs.Steps.{is_last, is_free};
+ghost use Rattle.tf_actions.specs.Gives.{IsWhole};
 ghost use Rattle.tf_actions.specs.declared.orders.Order.{Order as AnOrder};
 ghost use Rattle.tf_book.specs.Book.{outline};
 ghost use Rattle.tf_turnstile.specs.Passes.{IsIdle};

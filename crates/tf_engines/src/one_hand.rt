@@ -1,16 +1,15 @@
 ghost use Rattle.std.specs.Prelude.{◌≡◌, ◌<◌, ◌≤◌, ◌+◌, ◌-◌, ℕ, None, Some, true, List, Option, length, IfSome, IfNone, IsSome};
-ghost use Rattle.tf_desk.specs.Counts.{Rises};
+ghost use Rattle.tf_desk.specs.Crash.{Rises};
 ghost use Rattle.tf_states.specs.declared.record.Entry.{Entry as Record};
 ghost use Rattle.tf_states.specs.declared.state.FlowState.TheVariants as flow;
 ghost use Rattle.tf_hands.specs.Hands.{orders};
-ghost use Rattle.tf_model.specs.Bound.{entry_bound};
+ghost use Rattle.tf_model.specs.Plan.{entry_bound};
 ghost use Rattle.tf_model.specs.Steps.{LegalPast};
 ghost use Rattle.tf_actions.specs.declared.orders.Order.{Order as AnOrder};
 ghost use Rattle.tf_book.specs.Book.{BookValue, outline, moment, flow_state as state_of};
 ghost use Rattle.tf_book.specs.SessionInvariant.{SessionInvariant};
 ghost use Rattle.tf_engines.specs.Asked.{HasDone, HasToDo, HasDoneBy};
-ghost use Rattle.tf_engines.specs.Failing.{MightRecord};
-ghost use Rattle.tf_engines.specs.Runs.{IsUnderWay, HasRun, HaltsAs, StandsAs, IsBetweenTurns, IsPerforming};
+ghost use Rattle.tf_engines.specs.Runs.{MightRecord, IsUnderWay, HasRun, HaltsAs, StandsAs, IsBetweenTurns, IsPerforming};
 
 use crate::engine::{How, RunEnd};
 use std::alloc::Global;

@@ -1,6 +1,6 @@
 // One turn of a hand at a book that several hands share.
 ghost use Rattle.std.specs.Prelude.{◌≡◌, ◌<◌, ◌≤◌, ℕ, true, List, Option, IsTrue};
-ghost use Rattle.tf_desk.specs.Counts.{Rises};
+ghost use Rattle.tf_desk.specs.Crash.{Rises};
 ghost use Rattle.tf_states.specs.declared.record.Entry.{Entry as Record};
 ghost use Rattle.tf_hands.specs.Hands.{orders};
 ghost use Rattle.tf_model.specs.Steps.{is_free};
@@ -9,8 +9,7 @@ ghost use Rattle.tf_book.specs.Book.{BookValue, outline, moment, flow_state as s
 ghost use Rattle.tf_book.specs.SessionInvariant.{SessionInvariant};
 ghost use Rattle.tf_book.specs.Turns.{is_entered};
 ghost use Rattle.tf_engines.specs.Asked.{HasDone};
-ghost use Rattle.tf_engines.specs.Failing.{MightRecord};
-ghost use Rattle.tf_engines.specs.Runs.{StandsBetween};
+ghost use Rattle.tf_engines.specs.Runs.{MightRecord, StandsBetween};
 ghost use Rattle.tf_engines.specs.Working.{HasDoneNext, HasNext, HasOutcome, IsAdded, next_by};
 
 use tf_actions::{Order, Outcome, Performer};

@@ -1,7 +1,7 @@
 -- Tasks and retry controllers are read where they stand, and only where they stand.
 use Rattle.std.proofs.Common.{◌≡◌, ℕ, ℤ, List, [], ◌∷◌, ◌++◌, Option, Some, refl, sym, ap, subst, ◌∙◌, append_assoc, w16, w32}
 use Rattle.std.specs.Int.{to_be_bytes, cast_unsigned}
-use Rattle.tf_values.specs.ByteForm.{text_bytes, list_bytes}
+use Rattle.tf_values.specs.Scalars.{text_bytes, list_bytes}
 use Rattle.tf_values.specs.Value.{IsValue, byte_form}
 use Rattle.tf_values.specs.declared.elements.Scalar.{Scalar}
 use Rattle.tf_values.specs.declared.value.Val.{Val}
@@ -18,9 +18,8 @@ use Rattle.tf_flow.specs.declared.atoms.TaskKind.{TaskKind}
 use Rattle.tf_flow.specs.declared.atoms.TaskKind.TheVariants as kind
 use Rattle.tf_flow.specs.declared.atoms.Undo.{Undo}
 use Rattle.tf_flow.specs.declared.atoms.Undo.TheVariants as undo
-use Rattle.tf_entries.specs.Atoms.{arg_bytes, bind_bytes, provides_bytes, undo_bytes, task_kind_byte, task_bytes, retry_kind_bytes, retry_bytes, IsName, IsText, IsArg, IsBind, IsProvides, IsUndo, IsTask, IsRetryKind, IsRetry}
+use Rattle.tf_entries.specs.Plans.{arg_bytes, bind_bytes, provides_bytes, undo_bytes, task_kind_byte, task_bytes, retry_kind_bytes, retry_bytes, IsName, IsText, IsArg, IsBind, IsProvides, IsUndo, IsTask, IsRetryKind, IsRetry, name_bytes, truth_byte, listed, AreFew}
 use Rattle.tf_entries.specs.AtomReading.{read_truth, read_arg, read_bind, read_words, read_names, read_args, read_binds, read_provides_of, read_provides, read_undo_of, read_undo, task_kind_of, read_task_kind, read_task, read_times, scalars_in, read_values, read_for_each, read_retry_kind_of, read_retry_kind, read_retry}
-use Rattle.tf_entries.specs.Fields.{name_bytes, truth_byte, listed, AreFew}
 use Rattle.tf_entries.specs.Reading.{chain, read_signed, read_name, read_value}
 use Rattle.tf_entries.proofs.FieldLemmas.{number_read, found_at, truth_read, list_read}
 use Rattle.tf_entries.proofs.NumberLemmas.{number_16, signed_32, name_read, text_read}

@@ -3,12 +3,10 @@ use Rattle.std.proofs.Common.{◌≡◌, ◌+◌, ◌<◌, ◌≤◌, ◌^◌, L
 use Rattle.std.specs.List.{sum_by}
 use Rattle.std.proofs.lemmas.List.{length-map}
 use Rattle.std.proofs.lemmas.List.Sums.{sum_by-cons, sum_by-append}
-use Rattle.tf_flow.specs.Conditions.{connection_of}
+use Rattle.tf_flow.specs.Outline.{connection_of}
 use Rattle.tf_flow.specs.Limits.{capped, passing, provided, undo_words, passing_at, link_count}
-use Rattle.tf_flow.specs.Names.{first_some}
-use Rattle.tf_flow.specs.Places.{Place, at_flow, at_retry, at_task, level_of, retry_places, places, places_among, tree_order, is_atom, is_flow}
-use Rattle.tf_flow.specs.Refusal.{first_refusal}
-use Rattle.tf_flow.specs.Tree.{Tree, task, flow, Trees, no_trees, tree, tree_of}
+use Rattle.tf_flow.specs.Tree.{first_some, Place, at_flow, at_retry, at_task, level_of, retry_places, places, places_among, tree_order, is_atom, is_flow, Tree, task, flow, Trees, no_trees, tree, tree_of}
+use Rattle.tf_flow.specs.Rules.{first_refusal}
 use Rattle.tf_flow.specs.declared.atoms.Bind.{Bind}
 use Rattle.tf_flow.specs.declared.atoms.Provides.{Provides}
 use Rattle.tf_flow.specs.declared.atoms.Provides.TheVariants as provides
@@ -18,11 +16,8 @@ use Rattle.tf_flow.specs.declared.atoms.Undo.{Undo}
 use Rattle.tf_flow.specs.declared.atoms.Undo.TheVariants as undo
 use Rattle.tf_flow.specs.declared.faults.Limit.TheVariants as limit
 use Rattle.tf_flow.specs.declared.nested.Flow.{Flow}
-use Rattle.tf_flow.specs.Plan.{PlanValue}
-use Rattle.tf_flow.specs.Written.{as_written, all_as_written}
-use Rattle.tf_entries.specs.Atoms.{ProvidesWithin, UndoWithin, TaskWithin, RetryWithin, IsProvides, IsUndo, IsTask, IsRetry}
-use Rattle.tf_entries.specs.Fields.{AnyCount}
-use Rattle.tf_entries.specs.Plans.{item_count, ControlWithin, TreeWithin, TreesWithin, IsControl, IsTree, AreTrees, IsPlan, KeepsLimits}
+use Rattle.tf_flow.specs.Plan.{PlanValue, as_written, all_as_written}
+use Rattle.tf_entries.specs.Plans.{ProvidesWithin, UndoWithin, TaskWithin, RetryWithin, IsProvides, IsUndo, IsTask, IsRetry, AnyCount, item_count, ControlWithin, TreeWithin, TreesWithin, IsControl, IsTree, AreTrees, IsPlan, KeepsLimits}
 use Rattle.tf_entries.proofs.DepthLemmas.{none_first, none_passing, none_passed}
 use Rattle.tf_numbers.proofs.OptionLemmas.{neither_there}
 

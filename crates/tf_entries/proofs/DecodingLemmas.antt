@@ -1,14 +1,13 @@
 -- The plan of bytes, and bytes that are no plan's.
 use Rattle.std.proofs.Common.{◌≡◌, ℕ, List, Bool, Some, None, Err, sym, ap, subst, ◌∙◌}
 use Rattle.std.specs.Prelude.{IsErrOf}
-use Rattle.tf_flow.specs.Plan.{PlanValue}
-use Rattle.tf_flow.specs.Refusal.{first_refusal, IsAnswer}
+use Rattle.tf_flow.specs.Plan.{PlanValue, as_written}
+use Rattle.tf_flow.specs.Rules.{first_refusal, IsAnswer}
 use Rattle.tf_flow.specs.Tree.{tree_of}
 use Rattle.tf_flow.specs.declared.atoms.Bind.{Bind}
 use Rattle.tf_flow.specs.declared.faults.PlanFault.{PlanFault}
 use Rattle.tf_flow.specs.declared.faults.PlanFault.TheVariants as plan_fault
 use Rattle.tf_flow.specs.declared.nested.Flow.{Flow}
-use Rattle.tf_flow.specs.Written.{as_written}
 use Rattle.tf_flow.proofs.AlikeLemmas.{refused_alike}
 use Rattle.tf_flow.proofs.WrittenLemmas.{flow_written}
 use Rattle.tf_values.specs.declared.faults.MakeFault.{MakeFault}

@@ -4,13 +4,10 @@ use Rattle.std.specs.List.{AllByRecursion}
 use Rattle.std.specs.Option.{option_or}
 use Rattle.std.specs.Prelude.{if◌then◌else◌, nat_lt}
 use Rattle.std.proofs.lemmas.Bool.{ltb-false}
-use Rattle.tf_flow.specs.ByteLength.{measure, plan_len}
-use Rattle.tf_flow.specs.Conditions.{Condition, is_same, is_below, is_above, negated, all_of, any_of, Conditions, no_conditions, condition, condition_of, decision_of, connection_of}
-use Rattle.tf_flow.specs.Limits.{capped, passing, deep_test, passing_nesting, passing_at, passed, limit_fault, too_large, limits}
-use Rattle.tf_flow.specs.Names.{first_some}
-use Rattle.tf_flow.specs.Places.{at_flow, level_of, retry_places, places, places_among, tree_order}
-use Rattle.tf_flow.specs.Refusal.{first_refusal, broken_rule}
-use Rattle.tf_flow.specs.Tree.{Tree, task, flow, Trees, no_trees, tree, tree_of, nesting}
+use Rattle.tf_flow.specs.Limits.{measure, plan_len, capped, passing, deep_test, passing_nesting, passing_at, passed, limit_fault, too_large, limits}
+use Rattle.tf_flow.specs.Outline.{Condition, is_same, is_below, is_above, negated, all_of, any_of, Conditions, no_conditions, condition, condition_of, decision_of, connection_of}
+use Rattle.tf_flow.specs.Tree.{first_some, at_flow, level_of, retry_places, places, places_among, tree_order, Tree, task, flow, Trees, no_trees, tree, tree_of, nesting}
+use Rattle.tf_flow.specs.Rules.{first_refusal, broken_rule}
 use Rattle.tf_flow.specs.declared.atoms.Bind.{Bind}
 use Rattle.tf_flow.specs.declared.deciders.Decider.{Decider}
 use Rattle.tf_flow.specs.declared.deciders.Link.{Link}
@@ -18,7 +15,7 @@ use Rattle.tf_flow.specs.declared.faults.Limit.{Limit}
 use Rattle.tf_flow.specs.declared.faults.Limit.TheVariants as limit
 use Rattle.tf_flow.specs.declared.faults.PlanFault.TheVariants as fault
 use Rattle.tf_flow.specs.declared.nested.Flow.{Flow}
-use Rattle.tf_flow.specs.Written.{as_written, all_as_written}
+use Rattle.tf_flow.specs.Plan.{as_written, all_as_written}
 use Rattle.tf_flow.proofs.AlikeLemmas.{nesting_told}
 use Rattle.tf_flow.proofs.MeasureLemmas.{condition_measure, conditions_measure, told}
 use Rattle.tf_entries.specs.Plans.{IsTree}

@@ -4,7 +4,7 @@ use Rattle.std.proofs.Common.{◌≡◌, ℕ, ◌<◌, ◌^◌, List, [], ◌∷
 use Rattle.std.specs.Int.{to_be_bytes}
 use Rattle.std.specs.List.{flat_map}
 use Rattle.tf_entries.specs.AtomReading.{truth_of, read_truth}
-use Rattle.tf_entries.specs.Fields.{truth_byte, listed, AreFew}
+use Rattle.tf_entries.specs.Plans.{truth_byte, listed, AreFew}
 use Rattle.tf_entries.specs.Reading.{numbered, read_many, read_list}
 use Rattle.tf_entries.proofs.NumberLemmas.{number_16}
 use Rattle.tf_entries.proofs.ReadingLemmas.{Reads, same_read, began, went_past, on_tag, no_tag, many_again, many_sound}

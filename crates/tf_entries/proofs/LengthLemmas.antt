@@ -3,12 +3,11 @@ use Rattle.std.proofs.Common.{◌≡◌, ℕ, ◌+◌, ◌≤◌, List, [], ◌�
 use Rattle.std.specs.Int.{to_be_bytes, cast_unsigned}
 use Rattle.std.specs.List.{flat_map, sum_by}
 use Rattle.std.proofs.lemmas.List.Sums.{sum_by-cons, sum_by-append}
-use Rattle.tf_flow.specs.ByteLength.{name_len, text_len, arg_len, bind_len, provides_len, undo_len, task_len, retry_kind_len, retry_len, measure, decider_len, link_len, place_len, plan_len}
-use Rattle.tf_flow.specs.Conditions.{Condition, is_same, is_below, is_above, negated, all_of, any_of, Conditions, no_conditions, condition, condition_of, decision_of, connection_of}
-use Rattle.tf_flow.specs.Places.{Place, at_flow, at_retry, at_task, members_of, level_of, retry_places, places, places_among, tree_order}
-use Rattle.tf_flow.specs.Plan.{PlanValue}
-use Rattle.tf_flow.specs.Refusal.{first_refusal}
-use Rattle.tf_flow.specs.Tree.{Tree, task, flow, Trees, no_trees, tree, tree_of}
+use Rattle.tf_flow.specs.Limits.{name_len, text_len, arg_len, bind_len, provides_len, undo_len, task_len, retry_kind_len, retry_len, measure, decider_len, link_len, place_len, plan_len}
+use Rattle.tf_flow.specs.Outline.{Condition, is_same, is_below, is_above, negated, all_of, any_of, Conditions, no_conditions, condition, condition_of, decision_of, connection_of}
+use Rattle.tf_flow.specs.Tree.{Place, at_flow, at_retry, at_task, members_of, level_of, retry_places, places, places_among, tree_order, Tree, task, flow, Trees, no_trees, tree, tree_of}
+use Rattle.tf_flow.specs.Plan.{PlanValue, as_written, all_as_written}
+use Rattle.tf_flow.specs.Rules.{first_refusal}
 use Rattle.tf_flow.specs.declared.atoms.Arg.{Arg}
 use Rattle.tf_flow.specs.declared.atoms.Bind.{Bind}
 use Rattle.tf_flow.specs.declared.atoms.Provides.{Provides}
@@ -21,14 +20,10 @@ use Rattle.tf_flow.specs.declared.atoms.Undo.{Undo}
 use Rattle.tf_flow.specs.declared.atoms.Undo.TheVariants as undo
 use Rattle.tf_flow.specs.declared.deciders.Decider.{Decider}
 use Rattle.tf_flow.specs.declared.deciders.Link.{Link}
-use Rattle.tf_flow.specs.Written.{as_written, all_as_written}
 use Rattle.tf_flow.proofs.MeasureLemmas.{condition_measure, conditions_measure, told}
-use Rattle.tf_values.specs.ByteForm.{text_bytes, list_bytes}
+use Rattle.tf_values.specs.Scalars.{text_bytes, list_bytes}
 use Rattle.tf_values.specs.Value.{byte_form}
-use Rattle.tf_entries.specs.Atoms.{arg_bytes, bind_bytes, provides_bytes, undo_bytes, task_kind_byte, task_bytes, retry_kind_bytes, retry_bytes}
-use Rattle.tf_entries.specs.Fields.{name_bytes, truth_byte, listed}
-use Rattle.tf_entries.specs.Plans.{item_count, flow_kind_byte, control_bytes, item_mark, tree_bytes, items_bytes, plan_bytes}
-use Rattle.tf_entries.specs.Tests.{condition_bytes, conditions_bytes, decision_bytes, connection_bytes}
+use Rattle.tf_entries.specs.Plans.{arg_bytes, bind_bytes, provides_bytes, undo_bytes, task_kind_byte, task_bytes, retry_kind_bytes, retry_bytes, name_bytes, truth_byte, listed, item_count, flow_kind_byte, control_bytes, item_mark, tree_bytes, items_bytes, plan_bytes, condition_bytes, conditions_bytes, decision_bytes, connection_bytes}
 use Rattle.tf_entries.proofs.DepthLemmas.{short_plan}
 
 -- ---- parts

@@ -13,10 +13,9 @@ use borrow.Author.Gap.{read_sfits}
 use Rattle.tf_numbers.proofs.ListLemmas.{length_both}
 use Rattle.tf_numbers.proofs.TruthLemmas.{and_first, and_second, true_both}
 use Rattle.tf_values.proofs.NumberLemmas.{IsBytes, IsCut, front_2, front_4}
-use Rattle.tf_values.specs.ByteForm.{text_bytes}
-use Rattle.tf_values.specs.Name.{is_name}
-use Rattle.tf_values.specs.Text.{is_text}
-use Rattle.tf_entries.specs.Fields.{name_bytes}
+use Rattle.tf_values.specs.Scalars.{text_bytes}
+use Rattle.tf_values.specs.Text.{is_name, is_text}
+use Rattle.tf_entries.specs.Plans.{name_bytes}
 use Rattle.tf_entries.specs.Reading.{chain, is_byte, has_number, read_number, read_signed, read_bytes, read_name, read_text}
 use Rattle.tf_entries.proofs.ReadingLemmas.{Reads, same_read, began, went_past, made_of, kept, keeps}
 

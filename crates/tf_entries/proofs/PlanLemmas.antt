@@ -2,20 +2,17 @@
 use Rattle.std.proofs.Common.{◌≡◌, ◌≢◌, ℕ, zero, suc, ◌-◌, ◌<◌, ◌≤◌, ◌^◌, List, [], ◌∷◌, ◌++◌, length, Option, Some, None, refl, sym, ap, subst, ◌∙◌, append-nil, arith, w16}
 use Rattle.std.specs.Int.{to_be_bytes}
 use Rattle.std.specs.List.{flat_map, AllByRecursion}
-use Rattle.tf_flow.specs.Conditions.{Connection}
+use Rattle.tf_flow.specs.Outline.{Connection}
 use Rattle.tf_flow.specs.declared.atoms.Bind.{Bind}
 use Rattle.tf_flow.specs.declared.atoms.Retry.{Retry}
 use Rattle.tf_flow.specs.declared.nested.FlowKind.{FlowKind}
 use Rattle.tf_flow.specs.declared.nested.FlowKind.TheVariants as pattern
-use Rattle.tf_flow.specs.Written.{WrittenHead, WrittenTree, written_task, written_flow, WrittenTrees, nothing_written, written, written_trees}
+use Rattle.tf_flow.specs.Plan.{WrittenHead, WrittenTree, written_task, written_flow, WrittenTrees, nothing_written, written, written_trees}
 use Rattle.tf_flow.proofs.AlikeLemmas.{written_nesting, deepest_written}
 use Rattle.tf_entries.specs.AtomReading.{read_truth, read_binds}
-use Rattle.tf_entries.specs.Atoms.{bind_bytes, IsBind, IsTask}
-use Rattle.tf_entries.specs.Fields.{name_bytes, truth_byte, listed, AreFew}
+use Rattle.tf_entries.specs.Plans.{bind_bytes, IsBind, IsTask, name_bytes, truth_byte, listed, AreFew, item_count, flow_kind_byte, control_bytes, item_mark, tree_bytes, items_bytes, IsControl, IsTree, AreTrees, connection_bytes, IsConnection}
 use Rattle.tf_entries.specs.PlanReading.{read_links, flow_kind_of, read_flow_kind, read_control_of, read_control, read_item_of, read_item, read_flow, PlanAsWritten, read_plan}
-use Rattle.tf_entries.specs.Plans.{item_count, flow_kind_byte, control_bytes, item_mark, tree_bytes, items_bytes, IsControl, IsTree, AreTrees}
 use Rattle.tf_entries.specs.Reading.{chain, read_list, whole}
-use Rattle.tf_entries.specs.Tests.{connection_bytes, IsConnection}
 use Rattle.tf_entries.proofs.AtomLemmas.{binds_read, task_read, retry_read}
 use Rattle.tf_entries.proofs.FieldLemmas.{number_read, found_at, truth_read, list_read}
 use Rattle.tf_entries.proofs.NumberLemmas.{name_read}

@@ -4,20 +4,17 @@ use Rattle.std.specs.Int.{to_be_bytes}
 use Rattle.std.specs.List.{flat_map, AllByRecursion}
 use Rattle.std.proofs.lemmas.List.{length-map}
 use Rattle.tf_flow.proofs.ConditionLemmas.{condition_of-all, condition_of-any}
-use Rattle.tf_flow.specs.Conditions.{Condition, conditions_of, condition_of, connection_of}
+use Rattle.tf_flow.specs.Outline.{Condition, conditions_of, condition_of, connection_of}
 use Rattle.tf_flow.specs.declared.deciders.Test.{Test}
 use Rattle.tf_flow.specs.declared.deciders.Test.TheVariants as test
 use Rattle.tf_flow.specs.declared.deciders.Tests.{Tests}
 use Rattle.tf_flow.specs.declared.nested.Flow.{Flow}
 use Rattle.tf_flow.specs.declared.nested.Item.{Item}
 use Rattle.tf_flow.specs.Tree.{tree_of}
-use Rattle.tf_flow.specs.Written.{WrittenTree, written_trees, as_written, item_as_written}
+use Rattle.tf_flow.specs.Plan.{WrittenTree, written_trees, as_written, item_as_written}
 use Rattle.tf_flow.proofs.WrittenLemmas.{flow_written}
-use Rattle.tf_entries.specs.Atoms.{IsName}
-use Rattle.tf_entries.specs.Fields.{name_bytes, listed, AreFew}
-use Rattle.tf_entries.specs.Plans.{item_count, flow_kind_byte, control_bytes, tree_bytes, IsControl, IsTree, AreTrees}
+use Rattle.tf_entries.specs.Plans.{IsName, name_bytes, listed, AreFew, item_count, flow_kind_byte, control_bytes, tree_bytes, IsControl, IsTree, AreTrees, condition_count, condition_bytes, connection_bytes, IsCondition, AreConditions, IsConnection}
 use Rattle.tf_entries.specs.Shown.{test_bytes, IsTest, link_bytes, IsLink, item_bytes, IsItem}
-use Rattle.tf_entries.specs.Tests.{condition_count, condition_bytes, connection_bytes, IsCondition, AreConditions, IsConnection}
 use Rattle.tf_entries.proofs.PlanLemmas.{marked_bytes, counted_items, items_back, items_count, items_listed}
 use Rattle.tf_entries.proofs.TestLemmas.{list_count, list_back, counted_tests, counted_list}
 

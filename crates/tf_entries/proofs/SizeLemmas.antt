@@ -2,8 +2,7 @@
 use Rattle.std.proofs.Common.{◌≡◌, ℕ, ◌≤◌, List, length, true, false, arith}
 use Rattle.std.proofs.lemmas.Grind.{common_steps}
 use Rattle.tf_values.proofs.NameLemmas.{length-is_name}
-use Rattle.tf_values.specs.ByteForm.{list_bytes, text_bytes}
-use Rattle.tf_values.specs.Scalars.{are_scalars}
+use Rattle.tf_values.specs.Scalars.{list_bytes, text_bytes, are_scalars}
 use Rattle.tf_values.specs.Text.{is_text}
 use Rattle.tf_values.specs.Value.{IsValue, byte_form}
 use Rattle.tf_values.specs.declared.value.Val.{Val}

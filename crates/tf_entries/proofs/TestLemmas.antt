@@ -3,14 +3,13 @@ use Rattle.std.proofs.Common.{◌≡◌, ◌≢◌, ℕ, zero, suc, ◌+◌, ◌
 use Rattle.std.specs.Int.{to_be_bytes, cast_unsigned}
 use Rattle.std.specs.List.{flat_map, AllByRecursion}
 use Rattle.tf_flow.proofs.ConditionLemmas.{condition_of-is, condition_of-below, condition_of-above, condition_of-not, condition_of-all, condition_of-any}
-use Rattle.tf_flow.specs.Conditions.{Condition, is_same, is_below, is_above, negated, all_of, any_of, Conditions, no_conditions, condition, conditions_of, Decision, Connection}
+use Rattle.tf_flow.specs.Outline.{Condition, is_same, is_below, is_above, negated, all_of, any_of, Conditions, no_conditions, condition, conditions_of, Decision, Connection}
 use Rattle.tf_flow.specs.declared.deciders.Depth.{Depth}
 use Rattle.tf_flow.specs.declared.deciders.Depth.TheVariants as depth
 use Rattle.tf_values.specs.Value.{byte_form}
-use Rattle.tf_entries.specs.Fields.{name_bytes, listed, AreFew}
+use Rattle.tf_entries.specs.Plans.{name_bytes, listed, AreFew, condition_count, condition_bytes, conditions_bytes, depth_byte, decision_bytes, connection_bytes, IsCondition, AreConditions, IsDecision, IsConnection}
 use Rattle.tf_entries.specs.PlanReading.{read_same, read_below, read_above, read_all, read_any, read_test_of, read_test, depth_of, read_depth, read_decided, read_decision_of, read_decision, read_link, read_links}
 use Rattle.tf_entries.specs.Reading.{chain, read_signed, read_name, read_value}
-use Rattle.tf_entries.specs.Tests.{condition_count, condition_bytes, conditions_bytes, depth_byte, decision_bytes, connection_bytes, IsCondition, AreConditions, IsDecision, IsConnection}
 use Rattle.tf_entries.proofs.FieldLemmas.{number_read, found_at, list_read}
 use Rattle.tf_entries.proofs.NumberLemmas.{signed_64, name_read}
 use Rattle.tf_entries.proofs.ReadingLemmas.{Reads, same_read, began, went_on, went_past, on_tag, no_tag, bare, with_part, joined, ends_with}

@@ -5,9 +5,7 @@ use Rattle.std.specs.Int.{to_be_bytes}
 use Rattle.std.specs.List.{flat_map, AllByRecursion}
 use Rattle.std.proofs.lemmas.List.{take_at, take-append-drop}
 use Rattle.tf_values.proofs.ByteLemmas.{list_is_short}
-use Rattle.tf_values.specs.ByteForm.{scalar_bytes}
-use Rattle.tf_values.specs.Element.{IsElement}
-use Rattle.tf_values.specs.Scalars.{are_scalars}
+use Rattle.tf_values.specs.Scalars.{scalar_bytes, IsElement, are_scalars}
 use Rattle.tf_values.specs.Value.{value_of, byte_form, IsValue, BeginsWith}
 use Rattle.tf_values.specs.declared.elements.Scalar.{Scalar}
 use Rattle.tf_values.specs.declared.elements.Scalar.TheVariants as scalar

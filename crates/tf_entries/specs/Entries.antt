@@ -1,11 +1,10 @@
 -- The byte form of an entry: the hand, and what it recorded behind a tag. Numbers are big-endian.
 use Rattle.std.specs.Prelude.{◌≡◌, ℕ, ◌<◌, ◌^◌, List, [], ◌∷◌, ◌++◌, Bool, true, false, FitsSigned}
 use Rattle.std.specs.Int.{to_be_bytes, cast_unsigned, w16, w32}
-use Rattle.tf_values.specs.ByteForm.{text_bytes}
-use Rattle.tf_values.specs.Name.{is_name}
-use Rattle.tf_values.specs.Text.{is_text}
+use Rattle.tf_values.specs.Scalars.{text_bytes}
+use Rattle.tf_values.specs.Text.{is_name, is_text}
 use Rattle.tf_values.specs.Value.{IsValue, byte_form}
-use Rattle.tf_entries.specs.Fields.{name_bytes}
+use Rattle.tf_entries.specs.Plans.{name_bytes}
 use Rattle.tf_states.specs.declared.record.Entry.{Entry}
 use Rattle.tf_states.specs.declared.record.Failure.{Failure}
 use Rattle.tf_states.specs.declared.record.Failure.TheVariants as failure

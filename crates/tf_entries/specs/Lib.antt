@@ -1,10 +1,7 @@
-pub mod Fields
+pub mod Plans
 pub mod Entries
 pub mod Reading
 pub mod EntryReading
-pub mod Atoms
-pub mod Tests
-pub mod Plans
 pub mod AtomReading
 pub mod PlanReading
 pub mod Shown

@@ -1,7 +1,7 @@
 -- How links, flows and plans are read.
 use Rattle.std.specs.Prelude.{ℕ, zero, suc, ◌==◌, List, [], ◌∷◌, Bool, Option, Some, None, if◌then◌else◌}
 use Rattle.std.specs.Int.{w64}
-use Rattle.tf_flow.specs.Conditions.{Condition, is_same, is_below, is_above, negated, all_of, any_of, conditions_of, Decision, Connection}
+use Rattle.tf_flow.specs.Outline.{Condition, is_same, is_below, is_above, negated, all_of, any_of, conditions_of, Decision, Connection}
 use Rattle.tf_flow.specs.Tree.{tree_of}
 use Rattle.tf_flow.specs.declared.atoms.Bind.{Bind}
 use Rattle.tf_flow.specs.declared.atoms.Retry.{Retry}
@@ -12,7 +12,7 @@ use Rattle.tf_flow.specs.declared.faults.PlanFault.TheVariants as plan_fault
 use Rattle.tf_flow.specs.declared.nested.Flow.{Flow}
 use Rattle.tf_flow.specs.declared.nested.FlowKind.{FlowKind}
 use Rattle.tf_flow.specs.declared.nested.FlowKind.TheVariants as pattern
-use Rattle.tf_flow.specs.Written.{WrittenTree, written_task, written_flow, written_trees, as_written}
+use Rattle.tf_flow.specs.Plan.{WrittenTree, written_task, written_flow, written_trees, as_written}
 use Rattle.tf_values.specs.declared.faults.MakeFault.{MakeFault}
 use Rattle.tf_values.specs.declared.faults.MakeFault.TheVariants as fault
 use Rattle.tf_entries.specs.AtomReading.{read_truth, read_binds, read_task, read_retry}

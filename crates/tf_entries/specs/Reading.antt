@@ -3,9 +3,8 @@
 use Rattle.std.specs.Prelude.{◌≡◌, ℕ, ℤ, zero, suc, ◌==◌, List, [], ◌∷◌, length, take, drop, Bool, ◌&&◌, nat_le, nat_lt, true, false, Option, Some, None, if◌then◌else◌}
 use Rattle.std.specs.Int.{Width, from_be_bytes, cast_signed, byte_len, w16, w32, w64}
 use Rattle.std.specs.List.{list_all}
-use Rattle.tf_values.specs.Name.{is_name}
+use Rattle.tf_values.specs.Text.{is_name, is_text}
 use Rattle.tf_values.specs.Scalars.{are_scalars}
-use Rattle.tf_values.specs.Text.{is_text}
 use Rattle.tf_values.specs.Value.{value_of}
 use Rattle.tf_values.specs.declared.elements.Scalar.{Scalar}
 use Rattle.tf_values.specs.declared.elements.Scalar.TheVariants as scalar

@@ -1,12 +1,11 @@
 -- What the code's tests, links and items are written as.
 use Rattle.std.specs.Prelude.{ℕ, List, ◌∷◌}
-use Rattle.tf_flow.specs.Conditions.{condition_of, connection_of}
+use Rattle.tf_flow.specs.Outline.{condition_of, connection_of}
 use Rattle.tf_flow.specs.declared.deciders.Link.{Link}
 use Rattle.tf_flow.specs.declared.deciders.Test.{Test}
 use Rattle.tf_flow.specs.declared.nested.Item.{Item}
-use Rattle.tf_flow.specs.Written.{item_as_written}
-use Rattle.tf_entries.specs.Plans.{item_mark, tree_bytes, IsTree}
-use Rattle.tf_entries.specs.Tests.{condition_bytes, connection_bytes, IsCondition, IsConnection}
+use Rattle.tf_flow.specs.Plan.{item_as_written}
+use Rattle.tf_entries.specs.Plans.{item_mark, tree_bytes, IsTree, condition_bytes, connection_bytes, IsCondition, IsConnection}
 
 -- the bytes of a test, and whether it is within the limits
 abbrev pub test_bytes : Test → List ℕ

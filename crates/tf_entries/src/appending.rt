@@ -2,13 +2,11 @@ ghost use Rattle.std.specs.Prelude.{◌≡◌, ◌<◌, ◌≤◌, ◌+◌, ◌+
 ghost use Rattle.std.specs.List.{flat_map};
 ghost use Rattle.std.specs.Int.{to_be_bytes, cast_unsigned, w16, w32, w64};
 ghost use Rattle.tf_values.specs.declared.elements.Scalar.{Scalar};
-ghost use Rattle.tf_values.specs.ByteForm.{scalar_bytes, list_bytes, text_bytes};
+ghost use Rattle.tf_values.specs.Scalars.{scalar_bytes, list_bytes, text_bytes, are_scalars};
 ghost use Rattle.tf_values.specs.Growth.{KeepsPrefix};
-ghost use Rattle.tf_values.specs.Name.{is_name};
-ghost use Rattle.tf_values.specs.Scalars.{are_scalars};
-ghost use Rattle.tf_values.specs.Text.{is_text};
+ghost use Rattle.tf_values.specs.Text.{is_name, is_text};
 ghost use Rattle.tf_values.specs.Value.{byte_form, IsValue};
-ghost use Rattle.tf_entries.specs.Fields.{name_bytes};
+ghost use Rattle.tf_entries.specs.Plans.{name_bytes};
 
 use tf_values::{Memory, Name, Scalar, Text, Val};
 

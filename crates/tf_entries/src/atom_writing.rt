@@ -2,9 +2,9 @@ ghost use Rattle.std.specs.Prelude.{◌≡◌, ◌++◌, ◌∷◌, [], ◌<◌,
 ghost use Rattle.std.specs.Int.{to_be_bytes, cast_unsigned, w16, w32};
 ghost use Rattle.std.specs.List.{flat_map, AllByRecursion};
 ghost use Rattle.tf_values.specs.Growth.{KeepsPrefix};
-ghost use Rattle.tf_values.specs.ByteForm.{text_bytes};
-ghost use Rattle.tf_entries.specs.Atoms as form;
-ghost use Rattle.tf_entries.specs.Fields.{name_bytes, truth_byte as byte_of_truth, listed, AreFew};
+ghost use Rattle.tf_values.specs.Scalars.{text_bytes};
+ghost use Rattle.tf_entries.specs.Plans as form;
+ghost use Rattle.tf_entries.specs.Plans.{name_bytes, truth_byte as byte_of_truth, listed, AreFew};
 
 use crate::appending::{
     append, append_list, append_name, append_tagged_name, append_text, append_value,

@@ -2,12 +2,10 @@
 
 ghost use Rattle.std.specs.Prelude.{◌≡◌, ◌≤◌, ℕ, None, length};
 ghost use Rattle.tf_states.specs.declared.record.Entry.{Entry};
-ghost use Rattle.tf_flow.specs.ByteLength.{plan_len};
-ghost use Rattle.tf_flow.specs.Places.{tree_order};
-ghost use Rattle.tf_flow.specs.Plan.{PlanValue};
-ghost use Rattle.tf_flow.specs.Refusal.{first_refusal};
-ghost use Rattle.tf_flow.specs.Tree.{tree_of};
-ghost use Rattle.tf_flow.specs.Written.{as_written};
+ghost use Rattle.tf_flow.specs.Limits.{plan_len};
+ghost use Rattle.tf_flow.specs.Tree.{tree_order, tree_of};
+ghost use Rattle.tf_flow.specs.Plan.{PlanValue, as_written};
+ghost use Rattle.tf_flow.specs.Rules.{first_refusal};
 ghost use Rattle.tf_entries.specs.Entries.{IsEntry, HasItsPayload, entry_bytes};
 ghost use Rattle.tf_entries.specs.Plans.{plan_bytes, KeepsLimits};
 

@@ -1,5 +1,5 @@
 ghost use Rattle.std.specs.Prelude.{◌≡◌, suc, map, Some, IfOk, IfErr};
-ghost use Rattle.tf_flow.specs.Conditions.{condition_of, decision_of, connection_of};
+ghost use Rattle.tf_flow.specs.Outline.{condition_of, decision_of, connection_of};
 ghost use Rattle.tf_entries.specs.PlanReading as form;
 ghost use Rattle.tf_entries.specs.Reading.{RefusesForm, read_list};
 

@@ -1,12 +1,11 @@
 ghost use Rattle.std.specs.Prelude.{◌≡◌, ◌++◌, ◌∷◌, [], OnOk, OnErr, FitsSigned};
 ghost use Rattle.std.specs.Int.{to_be_bytes, cast_unsigned, w64};
 ghost use Rattle.std.specs.List.{flat_map, AllByRecursion};
-ghost use Rattle.tf_flow.specs.Conditions.{condition_of, decision_of, connection_of};
+ghost use Rattle.tf_flow.specs.Outline.{condition_of, decision_of, connection_of};
 ghost use Rattle.tf_values.specs.Growth.{KeepsPrefix};
 ghost use Rattle.tf_values.specs.Value.{byte_form, IsValue};
-ghost use Rattle.tf_entries.specs.Fields.{name_bytes, listed, AreFew};
-ghost use Rattle.tf_entries.specs.Atoms.{IsName};
-ghost use Rattle.tf_entries.specs.Tests as form;
+ghost use Rattle.tf_entries.specs.Plans.{name_bytes, listed, AreFew, IsName};
+ghost use Rattle.tf_entries.specs.Plans as form;
 ghost use Rattle.tf_entries.specs.Shown.{test_bytes, IsTest, link_bytes, IsLink};
 
 use crate::appending::{append, append_name, append_value};

@@ -1,8 +1,7 @@
 ghost use Rattle.std.specs.Prelude.{◌≡◌, ◌≢◌, ◌++◌, ◌∷◌, [], suc, map, None, Some, IfOk, OnOk, IfErr, IsErrOf};
-ghost use Rattle.tf_flow.specs.Plan.{PlanValue};
-ghost use Rattle.tf_flow.specs.Refusal.{first_refusal};
+ghost use Rattle.tf_flow.specs.Plan.{PlanValue, as_written, item_as_written};
+ghost use Rattle.tf_flow.specs.Rules.{first_refusal};
 ghost use Rattle.tf_flow.specs.Tree.{tree_of};
-ghost use Rattle.tf_flow.specs.Written.{as_written, item_as_written};
 ghost use Rattle.tf_entries.specs.PlanReading as form;
 ghost use Rattle.tf_entries.specs.Plans.{plan_bytes, IsPlan, KeepsLimits};
 ghost use Rattle.tf_entries.specs.Reading.{RefusesForm, read_list, whole};

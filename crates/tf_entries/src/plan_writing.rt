@@ -1,10 +1,9 @@
 ghost use Rattle.std.specs.Prelude.{◌≡◌, ◌≤◌, ◌++◌, ◌∷◌, [], length, OnOk, OnErr};
 ghost use Rattle.std.specs.List.{flat_map, AllByRecursion};
 ghost use Rattle.tf_flow.specs.Tree.{tree_of};
-ghost use Rattle.tf_flow.specs.Written.{as_written};
+ghost use Rattle.tf_flow.specs.Plan.{as_written};
 ghost use Rattle.tf_values.specs.Growth.{KeepsPrefix};
-ghost use Rattle.tf_entries.specs.Atoms.{IsName};
-ghost use Rattle.tf_entries.specs.Fields.{name_bytes, listed, AreFew};
+ghost use Rattle.tf_entries.specs.Plans.{IsName, name_bytes, listed, AreFew};
 ghost use Rattle.tf_entries.specs.Plans as form;
 ghost use Rattle.tf_entries.specs.Shown.{item_bytes, IsItem};
 

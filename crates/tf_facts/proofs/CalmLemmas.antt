@@ -8,11 +8,9 @@ use Rattle.tf_states.specs.declared.state.AtomState.{AtomState}
 use Rattle.tf_states.specs.declared.state.AtomState.TheVariants as atom
 use Rattle.tf_numbers.specs.Numbers.{any_below, first_below}
 use Rattle.tf_model.specs.Plan.{Outline, count, holds, is_before, is_retry, is_task}
-use Rattle.tf_model.specs.Snapshot.{Snapshot, is_at_work}
-use Rattle.tf_model.specs.States.{is_running, is_failure, is_reverting, is_revert_failure, is_retrying, is_executed, is_settled}
+use Rattle.tf_model.specs.History.{Snapshot, is_at_work, is_running, is_failure, is_reverting, is_revert_failure, is_retrying, is_executed, is_settled}
 use Rattle.tf_model.specs.Readiness.{can_run, can_revert, is_unmarked, lets_revert}
-use Rattle.tf_model.specs.Forced.{first_entry, forced_attempt, forced_again, forced_reverted, forced_resolution, forced_retrying, forced_revert, forced_ignore, forced_run, forced_if_running, is_attempting, attempt_entry, is_beginning_again, again_entry, is_undone_retry, reverted_entry, is_unresolved, resolution_entry, is_to_begin_again, retrying_entry, is_retry_to_revert, reverting_entry, is_refused, ignore_entry, is_retry_to_run, running_entry}
-use Rattle.tf_model.specs.Candidates.{priority, outranks, candidate_if_running, candidate_entry, is_best, is_candidate, is_interrupted}
+use Rattle.tf_model.specs.Forced.{first_entry, forced_attempt, forced_again, forced_reverted, forced_resolution, forced_retrying, forced_revert, forced_ignore, forced_run, forced_if_running, is_attempting, attempt_entry, is_beginning_again, again_entry, is_undone_retry, reverted_entry, is_unresolved, resolution_entry, is_to_begin_again, retrying_entry, is_retry_to_revert, reverting_entry, is_refused, ignore_entry, is_retry_to_run, running_entry, priority, outranks, candidate_if_running, candidate_entry, is_best, is_candidate, is_interrupted}
 use Rattle.tf_numbers.proofs.TruthLemmas.{and_first, and_second, true_first, true_second, true_both, clash, either_way, not_true, or_of_not}
 use Rattle.tf_model.proofs.BeforeLemmas.{never_before_itself, before_chain}
 use Rattle.tf_facts.proofs.LayoutLemmas.{IsLaidOut, task_or_retry}

@@ -4,8 +4,7 @@ use Rattle.std.specs.Prelude.{is_none}
 use Rattle.tf_states.specs.declared.state.AtomState.{AtomState}
 use Rattle.tf_states.specs.declared.state.AtomState.TheVariants as atom
 use Rattle.tf_model.specs.Plan.{Outline, count, is_before, holds, is_retry, own_flow}
-use Rattle.tf_model.specs.Snapshot.{Resolve, Snapshot}
-use Rattle.tf_model.specs.States.{is_done, is_settled, is_executed, is_put_back, flow_is_reverted}
+use Rattle.tf_model.specs.History.{Resolve, Snapshot, is_done, is_settled, is_executed, is_put_back, flow_is_reverted}
 use Rattle.tf_model.proofs.BeforeLemmas.{never_before_itself, before_chain}
 use Rattle.tf_facts.proofs.LayoutLemmas.{IsLaidOut, own_holds}
 use Rattle.tf_numbers.proofs.TruthLemmas.{clash, either_way}

@@ -8,11 +8,9 @@ use Rattle.tf_states.specs.declared.state.FlowState.{FlowState}
 use Rattle.tf_states.specs.declared.state.FlowState.TheVariants as flow
 use Rattle.tf_numbers.specs.Numbers.{all_below, any_below}
 use Rattle.tf_model.specs.Plan.{Outline, count, is_before, is_retry, is_task}
-use Rattle.tf_model.specs.Snapshot.{Resolve, Snapshot, is_at_work}
-use Rattle.tf_model.specs.States.{is_pending, is_success, is_failure, is_revert_failure, is_executed, is_done, flow_runs, flow_suspends}
+use Rattle.tf_model.specs.History.{Resolve, Snapshot, is_at_work, is_pending, is_success, is_failure, is_revert_failure, is_executed, is_done, flow_runs, flow_suspends}
 use Rattle.tf_model.specs.Readiness.{can_run, can_revert, is_unmarked, is_to_revert, lets_run}
-use Rattle.tf_model.specs.Forced.{forced_if_running, forced, is_active, is_unhurt, is_unhurt_at, is_retry_to_run}
-use Rattle.tf_model.specs.Candidates.{candidate_if_running, choice, is_candidate, is_interrupted, is_done_at, is_at_rest, calm_end, end_of}
+use Rattle.tf_model.specs.Forced.{forced_if_running, forced, is_active, is_unhurt, is_unhurt_at, is_retry_to_run, candidate_if_running, choice, is_candidate, is_interrupted, is_done_at, is_at_rest, calm_end, end_of}
 use Rattle.tf_model.specs.Scope.{is_earlier}
 use Rattle.tf_model.specs.Steps.{is_idle, is_still}
 use Rattle.tf_numbers.proofs.TruthLemmas.{and_first, true_first, true_second, true_both, clash, either_way, not_true, or_of_not, and_false}

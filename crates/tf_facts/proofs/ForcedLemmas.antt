@@ -13,10 +13,8 @@ use Rattle.tf_flow.specs.declared.deciders.Depth.{Depth}
 use Rattle.std.proofs.lemmas.Bool.{ne_eqb}
 use Rattle.tf_numbers.specs.Numbers.{first_below}
 use Rattle.tf_model.specs.Plan.{Outline, count, holds, is_retry, own_flow}
-use Rattle.tf_model.specs.Snapshot.{Resolve, Snapshot, is_again}
-use Rattle.tf_model.specs.States.{is_pending, is_running, is_success, is_failure, is_reverting, is_settled, is_put_back, flow_runs, flow_suspends, flow_is_reverted}
-use Rattle.tf_model.specs.Readiness.{can_run, can_revert}
-use Rattle.tf_model.specs.Deciders.{refused}
+use Rattle.tf_model.specs.History.{Resolve, Snapshot, is_again, is_pending, is_running, is_success, is_failure, is_reverting, is_settled, is_put_back, flow_runs, flow_suspends, flow_is_reverted}
+use Rattle.tf_model.specs.Readiness.{can_run, can_revert, refused}
 use Rattle.tf_model.specs.Retries.{attempt, ends_with, resolution}
 use Rattle.tf_model.specs.Forced.{holds_with, is_of_its_flow, forced_if_running, forced, is_active, is_to_put_back, put_back_or_run, is_marked_again, is_settled_beside, is_to_begin_again, retrying_entry, reverting_entry, ignore_by, ignore_or_self, is_to_ignore, ignored_entry}
 use Rattle.tf_numbers.proofs.TruthLemmas.{and_first, and_second, true_first, true_both, clash, either_way, not_true}

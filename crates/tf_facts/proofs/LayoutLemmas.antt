@@ -5,11 +5,10 @@ use Rattle.tf_flow.specs.Plan.{PlanValue}
 use Rattle.tf_flow.specs.Outline.{Part, a_task, a_retry, Atom}
 use Rattle.tf_flow.specs.declared.paths.Turn.{Turn}
 use Rattle.tf_model.specs.Before.{Flow, path_before, passes_flow}
-use Rattle.tf_model.specs.Plan.{Outline, outline_of, count, path, is_before, holds, is_retry, is_task, own_flow}
-use Rattle.tf_model.specs.Compilation.{compile_refusal}
-use Rattle.tf_model.specs.Snapshot.{Snapshot}
+use Rattle.tf_model.specs.Plan.{Outline, outline_of, count, path, is_before, holds, is_retry, is_task, own_flow, compile_refusal}
+use Rattle.tf_model.specs.History.{Snapshot}
 use Rattle.tf_model.specs.Retries.{resolution}
-use Rattle.tf_model.specs.Deciders.{ignores}
+use Rattle.tf_model.specs.Readiness.{ignores}
 use Rattle.tf_model.proofs.Told.{path_in, is_retry_in, is_task_in}
 use Rattle.tf_model.specs.Laws.{AreOrdered}
 use Rattle.tf_model.proofs.PathLemmas.{alike_in}

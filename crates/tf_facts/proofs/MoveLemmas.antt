@@ -8,8 +8,7 @@ use Rattle.tf_states.specs.declared.record.What.TheVariants as what
 use Rattle.tf_states.specs.declared.state.AtomState.{AtomState}
 use Rattle.tf_states.specs.declared.state.AtomState.TheVariants as atom
 use Rattle.tf_model.specs.Plan.{Outline, count, is_before, is_retry, own_flow}
-use Rattle.tf_model.specs.Snapshot.{Resolve, Snapshot, later, mark_after, begun_again, is_again, is_retry_of}
-use Rattle.tf_model.specs.States.{is_pending, is_running, is_done, is_settled, is_executed, flow_is_reverted}
+use Rattle.tf_model.specs.History.{Resolve, Snapshot, later, mark_after, begun_again, is_again, is_retry_of, is_pending, is_running, is_done, is_settled, is_executed, flow_is_reverted}
 use Rattle.tf_model.specs.Readiness.{can_run, can_revert, lets_run, lets_revert, is_unmarked}
 use Rattle.tf_numbers.proofs.TruthLemmas.{and_first, and_second, or_either, clash, either_way, and_false, not_true}
 use Rattle.tf_facts.proofs.LayoutLemmas.{own_holds, before_below, before_below_first}

@@ -14,14 +14,10 @@ use Rattle.tf_states.specs.declared.state.FlowState.TheVariants as flow
 use Rattle.tf_flow.specs.declared.deciders.Depth.{Depth}
 use Rattle.tf_numbers.specs.Numbers.{all_below, first_below, is_number}
 use Rattle.tf_model.specs.Plan.{Outline, count, is_before, is_retry}
-use Rattle.tf_model.specs.Snapshot.{Snapshot, is_at_work}
-use Rattle.tf_model.specs.History.{snapshot}
-use Rattle.tf_model.specs.States.{is_pending, is_reverting, is_settled, flow_runs, flow_suspends, flow_is_reverted}
-use Rattle.tf_model.specs.Readiness.{can_revert}
+use Rattle.tf_model.specs.History.{Snapshot, is_at_work, snapshot, is_pending, is_reverting, is_settled, flow_runs, flow_suspends, flow_is_reverted}
+use Rattle.tf_model.specs.Readiness.{can_revert, refused}
 use Rattle.tf_model.specs.Retries.{attempt, ends_with}
-use Rattle.tf_model.specs.Deciders.{refused}
-use Rattle.tf_model.specs.Forced.{forced, forced_if_running, is_active, is_to_put_back, put_back_or_run, ignore_or_self, ignore_by, is_to_ignore, reverting_entry}
-use Rattle.tf_model.specs.Candidates.{candidate_if_running, choice, candidate_entry, taken_up, is_best, is_candidate, end_of}
+use Rattle.tf_model.specs.Forced.{forced, forced_if_running, is_active, is_to_put_back, put_back_or_run, ignore_or_self, ignore_by, is_to_ignore, reverting_entry, candidate_if_running, choice, candidate_entry, taken_up, is_best, is_candidate, end_of}
 use Rattle.tf_model.specs.Steps.{Rule, by_force, by_choice, by_end_of_task, by_turn, by_end, by_suspension, by_reset, LegalPast, ends_task, ends_as, turns_flow, end_entry, reset, put_back_or_rest, is_put_back_at, is_settled_at}
 use Rattle.tf_model.specs.Laws.{enters_by}
 use Rattle.tf_numbers.proofs.TruthLemmas.{and_first, and_second, clash}

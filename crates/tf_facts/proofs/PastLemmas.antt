@@ -9,16 +9,11 @@ use Rattle.tf_states.specs.declared.state.AtomState.TheVariants as atom
 use Rattle.tf_states.specs.declared.state.FlowState.{FlowState}
 use Rattle.tf_states.specs.declared.state.FlowState.TheVariants as flow
 use Rattle.tf_flow.specs.Plan.{PlanValue}
-use Rattle.tf_model.specs.Plan.{Outline, outline_of, count, holds, is_retry}
-use Rattle.tf_model.specs.Compilation.{compile_refusal}
-use Rattle.tf_model.specs.Snapshot.{Resolve, Snapshot, state_after}
-use Rattle.tf_model.specs.History.{snapshot, state_of, flow_of}
-use Rattle.tf_model.specs.States.{is_settled, flow_runs, flow_is_reverted}
+use Rattle.tf_model.specs.Plan.{Outline, outline_of, count, holds, is_retry, compile_refusal}
+use Rattle.tf_model.specs.History.{Resolve, Snapshot, state_after, snapshot, state_of, flow_of, is_settled, flow_runs, flow_is_reverted}
 use Rattle.tf_model.specs.Readiness.{marks_from, is_marked_from, is_region}
-use Rattle.tf_model.specs.Forced.{forced}
-use Rattle.tf_model.specs.Candidates.{choice, end_of}
-use Rattle.tf_model.specs.Steps.{LegalPast, is_idle, is_still}
-use Rattle.tf_model.specs.Sessions.{Session}
+use Rattle.tf_model.specs.Forced.{forced, choice, end_of}
+use Rattle.tf_model.specs.Steps.{LegalPast, is_idle, is_still, Session}
 use Rattle.tf_model.specs.Laws.{atom_may, is_allowed}
 use Rattle.tf_model.proofs.StepLemmas.{past_allowed}
 use Rattle.tf_model.proofs.HistoryLemmas.{one_more, session_legal, session_state}

@@ -11,8 +11,7 @@ use Rattle.tf_states.specs.declared.state.AtomState.{AtomState}
 use Rattle.tf_states.specs.declared.state.AtomState.TheVariants as atom
 use Rattle.tf_states.specs.declared.state.FlowState.TheVariants as flow
 use Rattle.tf_model.specs.Plan.{Outline, is_before, holds}
-use Rattle.tf_model.specs.Snapshot.{Resolve, Snapshot, mark_after}
-use Rattle.tf_model.specs.History.{snapshot}
+use Rattle.tf_model.specs.History.{Resolve, Snapshot, mark_after, snapshot}
 use Rattle.tf_model.proofs.RowWords.{number, echo, controller, flow_of_items, plan_of, by, to, gives, flow_to, resolves}
 use Rattle.tf_facts.specs.Facts.{is_open, IsInOrder, HasWholeMarks, HasOpenAtoms, IsSettledAfter, IsDoneBefore, IsUndoneByMark, IsAloneRetrying, HasOrderlyReverts, InForce, IsSettledWithin, IsUndoneWithin}
 

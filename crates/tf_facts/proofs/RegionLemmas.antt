@@ -8,8 +8,7 @@ use Rattle.tf_states.specs.declared.state.AtomState.TheVariants as atom
 use Rattle.tf_states.specs.declared.state.FlowState.{FlowState}
 use Rattle.tf_states.specs.declared.state.FlowState.TheVariants as flow
 use Rattle.tf_model.specs.Plan.{Outline, count, holds, is_retry, own_flow}
-use Rattle.tf_model.specs.Snapshot.{Resolve, Snapshot, later, state_after, mark_after, begun_again, is_again, is_retry_of}
-use Rattle.tf_model.specs.States.{is_done, is_settled, is_put_back, is_retrying, flow_is_reverted}
+use Rattle.tf_model.specs.History.{Resolve, Snapshot, later, state_after, mark_after, begun_again, is_again, is_retry_of, is_done, is_settled, is_put_back, is_retrying, flow_is_reverted}
 use Rattle.tf_numbers.proofs.TruthLemmas.{and_second, clash, either_way}
 use Rattle.tf_facts.specs.Facts.{is_open, is_undoing}
 use Rattle.tf_facts.proofs.LayoutLemmas.{IsLaidOut, before_below}

@@ -12,14 +12,11 @@ use Rattle.tf_states.specs.declared.state.AtomState.TheVariants as atom
 use Rattle.tf_states.specs.declared.state.FlowState.{FlowState}
 use Rattle.tf_states.specs.declared.state.FlowState.TheVariants as flow
 use Rattle.tf_numbers.specs.Numbers.{all_below, first_below, is_number}
-use Rattle.tf_model.specs.Sessions.{has_ended}
+use Rattle.tf_model.specs.Steps.{has_ended, Rule, by_force, by_choice, by_end_of_task, by_turn, by_end, by_suspension, by_reset, is_still, ends_task, ends_as, turns_flow, may_turn, end_entry, may_suspend, reset, put_back_or_rest, is_put_back_at, is_settled_at}
 use Rattle.tf_model.specs.Plan.{Outline, count, is_task}
-use Rattle.tf_model.specs.Snapshot.{Snapshot, later, is_at_work}
-use Rattle.tf_model.specs.States.{is_pending, is_executed, is_settled, is_put_back, flow_runs, flow_suspends, flow_is_reverted}
+use Rattle.tf_model.specs.History.{Snapshot, later, is_at_work, is_pending, is_executed, is_settled, is_put_back, flow_runs, flow_suspends, flow_is_reverted}
 use Rattle.tf_model.specs.Readiness.{can_run, can_revert}
-use Rattle.tf_model.specs.Forced.{forced, is_active, reverting_entry}
-use Rattle.tf_model.specs.Candidates.{candidate_if_running, choice, candidate_entry, taken_up, is_best, is_candidate, is_interrupted, end_of}
-use Rattle.tf_model.specs.Steps.{Rule, by_force, by_choice, by_end_of_task, by_turn, by_end, by_suspension, by_reset, is_still, ends_task, ends_as, turns_flow, may_turn, end_entry, may_suspend, reset, put_back_or_rest, is_put_back_at, is_settled_at}
+use Rattle.tf_model.specs.Forced.{forced, is_active, reverting_entry, candidate_if_running, choice, candidate_entry, taken_up, is_best, is_candidate, is_interrupted, end_of}
 use Rattle.tf_model.proofs.StepLemmas.{end_is}
 use Rattle.tf_numbers.proofs.TruthLemmas.{and_first, and_second, or_either, true_second, clash}
 use Rattle.tf_numbers.proofs.BelowLemmas.{found_passes, all_at, none_at}

@@ -6,9 +6,7 @@ use Rattle.tf_states.specs.declared.record.What.TheVariants as what
 use Rattle.tf_states.specs.declared.state.AtomState.{AtomState}
 use Rattle.tf_states.specs.declared.state.AtomState.TheVariants as atom
 use Rattle.tf_model.specs.Plan.{Outline, count, is_before, holds, own_flow}
-use Rattle.tf_model.specs.Snapshot.{Resolve, Snapshot}
-use Rattle.tf_model.specs.History.{snapshot, state_of}
-use Rattle.tf_model.specs.States.{is_done, is_settled, is_reverting, is_retrying, flow_is_reverted}
+use Rattle.tf_model.specs.History.{Resolve, Snapshot, snapshot, state_of, is_done, is_settled, is_reverting, is_retrying, flow_is_reverted}
 use Rattle.tf_model.specs.Readiness.{is_unmarked, is_region}
 use Rattle.tf_model.specs.Steps.{is_idle}
 use Rattle.tf_model.specs.Laws.{enters_by}

@@ -4,13 +4,10 @@ ghost use Rattle.std.specs.Prelude.{◌≡◌, ◌++◌, List, None, Some, true,
 ghost use Rattle.tf_states.specs.declared.record.Entry.{Entry};
 ghost use Rattle.tf_states.specs.declared.state.FlowState.TheVariants as flow;
 ghost use Rattle.tf_flow.specs.Plan.{PlanValue};
-ghost use Rattle.tf_model.specs.Plan.{outline_of};
-ghost use Rattle.tf_model.specs.Compilation.{compile_refusal};
+ghost use Rattle.tf_model.specs.Plan.{outline_of, compile_refusal};
 ghost use Rattle.tf_model.specs.History.{snapshot, flow_of};
-ghost use Rattle.tf_model.specs.Forced.{forced};
-ghost use Rattle.tf_model.specs.Candidates.{choice, end_of};
-ghost use Rattle.tf_model.specs.Steps.{LegalPast, is_still};
-ghost use Rattle.tf_model.specs.Sessions.{Session};
+ghost use Rattle.tf_model.specs.Forced.{forced, choice, end_of};
+ghost use Rattle.tf_model.specs.Steps.{LegalPast, is_still, Session};
 ghost use Rattle.tf_facts.specs.Facts.{Facts, InFlight, CompletedReversion};
 
 /// After every legal history the seven facts hold.

@@ -4,8 +4,8 @@ use Rattle.std.proofs.lemmas.List.{take_more}
 use Rattle.std.proofs.lemmas.List.Folds.{list_any-append}
 use Rattle.std.specs.List.{list_any}
 use Rattle.tf_flow.specs.declared.atoms.Arg.{Arg}
-use Rattle.tf_flow.specs.Names.{same_name}
-use Rattle.tf_files.specs.document.Signatures.{speaks_of}
+use Rattle.tf_flow.specs.Tree.{same_name}
+use Rattle.tf_files.specs.document.Tasks.{speaks_of}
 
 or_last : (seen name symbol : Bool) → cond symbol true (cond name true seen) ≡ (seen || ((name || symbol) || false))
 or_last true true true = refl

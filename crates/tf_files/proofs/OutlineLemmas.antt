@@ -2,7 +2,7 @@
 use Rattle.std.proofs.Common.{◌≡◌, ◌∙◌, ℕ, suc, ◌+◌, List, [], ◌∷◌, ◌++◌, map, refl, ap, sym}
 use Rattle.tf_flow.specs.Outline.{Atom, a_task, stands_task, stands_flow, Item, FlowPlace, flow_count, flows_among_count, retry_count, atom_count, atoms_among_count, enter, retry_atoms, atoms_of, atoms_among, retry_number, item_of, items_of, flows_of, flows_among, innermost_first, innermost_among}
 use Rattle.tf_flow.specs.Tree.{Tree, task, flow, Trees, no_trees, tree}
-use Rattle.tf_flow.specs.Written.{WrittenHead, WrittenTree, written_task, written_flow, WrittenTrees, nothing_written, written, as_written, all_as_written, head_as_written}
+use Rattle.tf_flow.specs.Plan.{WrittenHead, WrittenTree, written_task, written_flow, WrittenTrees, nothing_written, written, as_written, all_as_written, head_as_written}
 
 -- ---- by what is written
 

@@ -2,8 +2,7 @@
 use Rattle.std.proofs.Common.{◌≡◌, ℕ, ◌+◌, ◌<◌, List, [], ◌∷◌, ◌++◌, Option, Some, None, Result, Ok, Err, length, get_or, drop, add-one, refl, ap, sym, ◌∙◌, append_assoc, append-nil}
 use Rattle.std.specs.Prelude.{IfErr}
 use Rattle.std.specs.Fmt.{decimal}
-use Rattle.tf_files.specs.document.Paths.{below}
-use Rattle.tf_files.specs.document.Reading.{RefusesWith, chain, unknown_key, unless_unknown, known_only, required_at, required, optional, of_kind, put_first, each}
+use Rattle.tf_files.specs.document.Reading.{below, RefusesWith, chain, unknown_key, unless_unknown, known_only, required_at, required, optional, of_kind, put_first, each}
 use Rattle.tf_files.specs.declared.document.faults.FileFault.{FileFault}
 use Rattle.tf_files.specs.declared.document.faults.FileFault.TheVariants as fault
 use Rattle.toml.proofs.Views.{items_view-drop}

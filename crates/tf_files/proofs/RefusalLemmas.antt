@@ -4,13 +4,13 @@ use Rattle.tf_files.specs.document.Reading.{RefusesWith}
 use Rattle.tf_files.specs.declared.document.faults.FileFault.{FileFault}
 use Rattle.tf_files.specs.declared.document.faults.FileFault.TheVariants as fault
 use Rattle.tf_flow.proofs.AlikeLemmas.{refused_alike}
-use Rattle.tf_flow.specs.Refusal.{first_refusal, IsAnswer}
+use Rattle.tf_flow.specs.Rules.{first_refusal, IsAnswer}
 use Rattle.tf_flow.specs.Tree.{tree_of}
 use Rattle.tf_flow.specs.declared.atoms.Bind.{Bind}
 use Rattle.tf_flow.specs.declared.faults.PlanFault.{PlanFault}
 use Rattle.tf_flow.specs.declared.faults.PlanFault.TheVariants as plan_fault
 use Rattle.tf_flow.specs.declared.nested.Flow.{Flow}
-use Rattle.tf_flow.specs.Written.{as_written, WrittenPlan}
+use Rattle.tf_flow.specs.Plan.{as_written, WrittenPlan}
 use Rattle.tf_files.specs.FlowFile.{plan_refusal, IsBroken, IsFirstReason, unspelled, broken, no_memory}
 
 -- the reason why nothing is spelled comes first

@@ -6,7 +6,7 @@ use Rattle.tf_files.specs.document.Values.{name_form, binds_form}
 use Rattle.tf_files.specs.declared.document.faults.FileFault.{FileFault}
 use Rattle.tf_flow.specs.declared.atoms.Bind.{Bind}
 use Rattle.tf_flow.specs.declared.nested.FlowKind.{FlowKind}
-use Rattle.tf_flow.specs.Written.{WrittenTree}
+use Rattle.tf_flow.specs.Plan.{WrittenTree}
 use Rattle.tf_files.specs.FlowFile.{root_form, root_keys, pattern_form, flow_inside}
 use Rattle.toml.specs.Data.{Members}
 

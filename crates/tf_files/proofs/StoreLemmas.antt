@@ -4,10 +4,10 @@ use Rattle.std.proofs.lemmas.List.Sums.{fold-append}
 use Rattle.std.specs.Prelude.{if◌then◌else◌}
 use Rattle.indexmap.specs.IndexMap.{insert_entry, insert_all}
 use Rattle.tf_values.specs.declared.value.Val.{Val}
-use Rattle.tf_flow.specs.Names.{same_name}
+use Rattle.tf_flow.specs.Tree.{same_name}
 use Rattle.tf_flow.specs.declared.atoms.Bind.{Bind}
 use Rattle.tf_files.specs.Pairs.{pair_of, bind_of}
-use Rattle.tf_files.specs.Store.{put, store_with}
+use Rattle.tf_files.specs.FlowFile.{put, store_with}
 
 chosen : (here : Bool) (entries others : List (List ℕ × Val)) → map bind_of (if here then entries else others) ≡ (if here then map bind_of entries else map bind_of others)
 chosen true entries others = refl

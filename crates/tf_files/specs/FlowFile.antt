@@ -1,11 +1,10 @@
 -- The plan that a flow file spells, or the first reason why it spells none.
-use Rattle.std.specs.Prelude.{◌≡◌, ℕ, zero, suc, List, [], ◌∷◌, codes, Bool, not, ◌&&◌, Option, Some, None, Result, Ok, Err, if◌then◌else◌}
-use Rattle.std.specs.Str.{is_utf8}
-use Rattle.tf_flow.specs.Conditions.{Connection}
-use Rattle.tf_flow.specs.Names.{same_name}
-use Rattle.tf_flow.specs.Refusal.{first_refusal}
-use Rattle.tf_flow.specs.Tree.{tree_of}
+use Rattle.std.specs.Prelude.{List, [], ◌∷◌, ◌++◌, fold, if◌then◌else◌, ◌≡◌, ℕ, zero, suc, codes, Bool, not, ◌&&◌, Option, Some, None, Result, Ok, Err}
+use Rattle.tf_flow.specs.Tree.{same_name, tree_of}
 use Rattle.tf_flow.specs.declared.atoms.Bind.{Bind}
+use Rattle.std.specs.Str.{is_utf8}
+use Rattle.tf_flow.specs.Outline.{Connection}
+use Rattle.tf_flow.specs.Rules.{first_refusal}
 use Rattle.tf_flow.specs.declared.atoms.Retry.{Retry}
 use Rattle.tf_flow.specs.declared.faults.Limit.TheVariants as limit
 use Rattle.tf_flow.specs.declared.faults.PlanFault.{PlanFault}
@@ -13,7 +12,7 @@ use Rattle.tf_flow.specs.declared.faults.PlanFault.TheVariants as plan_fault
 use Rattle.tf_flow.specs.declared.nested.Flow.{Flow}
 use Rattle.tf_flow.specs.declared.nested.FlowKind.{FlowKind}
 use Rattle.tf_flow.specs.declared.nested.FlowKind.TheVariants as pattern
-use Rattle.tf_flow.specs.Written.{WrittenTree, written_task, written_flow, written_trees, as_written, WrittenPlan}
+use Rattle.tf_flow.specs.Plan.{WrittenTree, written_task, written_flow, written_trees, as_written, WrittenPlan}
 use Rattle.tf_files.specs.document.Deciders.{decider_of}
 use Rattle.tf_files.specs.document.Reading.{chain, has_key, known_only, required, optional, of_kind, array_of}
 use Rattle.tf_files.specs.document.Retries.{retry_form}
@@ -21,9 +20,23 @@ use Rattle.tf_files.specs.document.Tasks.{task_form}
 use Rattle.tf_files.specs.document.Values.{name_form, binds_form}
 use Rattle.tf_files.specs.declared.document.faults.FileFault.{FileFault}
 use Rattle.tf_files.specs.declared.document.faults.FileFault.TheVariants as fault
-use Rattle.tf_files.specs.Store.{store_with}
 use Rattle.toml.specs.Data.{Data, as_str, as_table, Members}
 use Rattle.toml.specs.Parse.{parse_document}
+
+-- ---- the values of a flow's store
+
+-- a value is put under its symbol: in the place of the value that the symbol has, else behind the others
+abbrev pub put : List Bind → Bind → List Bind
+put [] bind = bind ∷ []
+put (first ∷ others) bind =
+    if same_name bind.symbol first.symbol then record { symbol = first.symbol; value = bind.value } ∷ others
+    else first ∷ put others bind
+
+-- the values of a file's store and then those that are set, each put under its symbol
+abbrev pub store_with : List Bind → List Bind → List Bind
+store_with store sets = fold put [] (store ++ sets)
+
+-- ---- the plan that a flow file spells, or the first reason why it spells none
 
 -- ---- links
 

@@ -1,4 +1,3 @@
 pub mod document
-pub mod Store
-pub mod Pairs
 pub mod FlowFile
+pub mod Pairs

@@ -1,5 +1,5 @@
 ghost use Rattle.std.specs.Prelude.{◌≡◌, [], map, codes, None, Ok, IfOk, OnOk, IfErr};
-ghost use Rattle.tf_flow.specs.Conditions.{connection_of};
+ghost use Rattle.tf_flow.specs.Outline.{connection_of};
 ghost use Rattle.tf_files.specs.document.Reading.{RefusesWith, each, known_only as read_known, unknown_key, optional as spelled_perhaps};
 ghost use Rattle.tf_files.specs.FlowFile.{link_keys as keys_of, link_table as link_of, link_form as link_spelled, links_form as links_spelled};
 ghost use Rattle.toml.specs.View.{view, items_view, table_view};

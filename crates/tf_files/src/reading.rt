@@ -1,7 +1,7 @@
 ghost use Rattle.std.specs.Prelude.{◌≡◌, Bool, List, Some, Ok, IfOk, IfErr};
 ghost use Rattle.tf_files.specs.document.Reading.{RefusesWith, chain};
 ghost use Rattle.tf_files.specs.FlowFile.{flow_of, root_form as root_spelled, documented, document_of, planned, plan_refusal, IsBroken, IsFirstReason};
-ghost use Rattle.tf_flow.specs.Written.{as_written, plan_tree, plan_as_written};
+ghost use Rattle.tf_flow.specs.Plan.{as_written, plan_tree, plan_as_written};
 ghost use Rattle.tf_flow.specs.Tree.{tree_of};
 ghost use Rattle.tf_flow.specs.declared.atoms.Bind.{Bind as BindValue};
 ghost use Rattle.tf_flow.specs.declared.faults.PlanFault.{PlanFault as BrokenRule};

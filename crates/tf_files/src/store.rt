@@ -1,7 +1,7 @@
 ghost use Rattle.std.specs.Prelude.{◌≡◌, IfOk, OnOk, map};
 ghost use Rattle.indexmap.specs.IndexMap.{insert_all};
-ghost use Rattle.tf_flow.specs.Names.{same_name};
-ghost use Rattle.tf_files.specs.Store.{store_with as store_put_together};
+ghost use Rattle.tf_flow.specs.Tree.{same_name};
+ghost use Rattle.tf_files.specs.FlowFile.{store_with as store_put_together};
 ghost use Rattle.tf_files.specs.Pairs.{pair_of, bind_of};
 
 use indexmap::IndexMap;

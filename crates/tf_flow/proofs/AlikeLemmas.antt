@@ -6,14 +6,10 @@ use Rattle.std.proofs.lemmas.List.Sums.{sum_by-cons}
 use Rattle.std.specs.List.{list_any, sum_by}
 use Rattle.std.specs.Option.{option_or}
 use Rattle.std.specs.Prelude.{if◌then◌else◌, is_some, option_map}
-use Rattle.tf_flow.specs.ByteLength.{name_len, link_len, place_len, binds_len, decider_len}
-use Rattle.tf_flow.specs.Conditions.{Connection, connection_of, Decision, decision_of}
-use Rattle.tf_flow.specs.Limits.{capped, passing, passing_nesting, passing_comparisons, passing_at, deep_test, wide_test, link_count, passed, too_large, limits}
-use Rattle.tf_flow.specs.Names.{same_name, first_some, first_again, is_among, has_twice}
-use Rattle.tf_flow.specs.Places.{Place, at_flow, at_retry, at_task, Member, Level, member_of, members_of, retry_places, places, places_among, is_atom, is_flow, name_at}
-use Rattle.tf_flow.specs.Refusal.{first_refusal, broken_rule, empty, duplicate, unknown, bad_link, bad_atom}
-use Rattle.tf_flow.specs.Rules.{has_none, member_names, nested_names, stray_end, unknown_at, is_graph, ends, same_ends, decides_flow, bad_link_at, bad_atom_at, bind_symbols}
-use Rattle.tf_flow.specs.Tree.{Tree, task, flow, Trees, no_trees, tree, tree_of, nesting, deepest}
+use Rattle.tf_flow.specs.Limits.{name_len, link_len, place_len, binds_len, decider_len, capped, passing, passing_nesting, passing_comparisons, passing_at, deep_test, wide_test, link_count, passed, too_large, limits}
+use Rattle.tf_flow.specs.Outline.{Connection, connection_of, Decision, decision_of}
+use Rattle.tf_flow.specs.Tree.{same_name, first_some, first_again, is_among, has_twice, Place, at_flow, at_retry, at_task, Member, Level, member_of, members_of, retry_places, places, places_among, is_atom, is_flow, name_at, Tree, task, flow, Trees, no_trees, tree, tree_of, nesting, deepest}
+use Rattle.tf_flow.specs.Rules.{first_refusal, broken_rule, empty, duplicate, unknown, bad_link, bad_atom, has_none, member_names, nested_names, stray_end, unknown_at, is_graph, ends, same_ends, decides_flow, bad_link_at, bad_atom_at, bind_symbols}
 use Rattle.tf_flow.specs.declared.atoms.Bind.{Bind}
 use Rattle.tf_flow.specs.declared.atoms.Retry.{Retry}
 use Rattle.tf_flow.specs.declared.atoms.Task.{Task}
@@ -26,7 +22,7 @@ use Rattle.tf_flow.specs.declared.nested.Flow.{Flow}
 use Rattle.tf_flow.specs.declared.nested.FlowKind.{FlowKind}
 use Rattle.tf_flow.proofs.MeasureLemmas.{condition_measure, told}
 use Rattle.tf_flow.proofs.WrittenLemmas.{flow_written}
-use Rattle.tf_flow.specs.Written.{WrittenHead, WrittenTree, written_task, written_flow, WrittenTrees, nothing_written, written, as_written, all_as_written, head_as_written}
+use Rattle.tf_flow.specs.Plan.{WrittenHead, WrittenTree, written_task, written_flow, WrittenTrees, nothing_written, written, as_written, all_as_written, head_as_written}
 
 -- ---- lists
 

@@ -4,7 +4,7 @@ use Rattle.tf_values.specs.declared.value.Val.{Val}
 use Rattle.tf_flow.specs.declared.deciders.Test.{Test, the_lemmas}
 use Rattle.tf_flow.specs.declared.deciders.Test.TheVariants as test
 use Rattle.tf_flow.specs.declared.deciders.Tests.{Tests}
-use Rattle.tf_flow.specs.Conditions.{is_same, is_below, is_above, negated, all_of, any_of, condition_of, conditions_of}
+use Rattle.tf_flow.specs.Outline.{is_same, is_below, is_above, negated, all_of, any_of, condition_of, conditions_of}
 
 pub condition_of-is : (name : List ℕ) (wanted : Val) → condition_of (test.Is name wanted) ≡ is_same name wanted
 condition_of-is name wanted = search (rules, the_lemmas)

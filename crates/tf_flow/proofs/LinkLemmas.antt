@@ -4,11 +4,9 @@ use Rattle.std.proofs.lemmas.List.{take_more}
 use Rattle.std.specs.List.{list_any}
 use Rattle.tf_flow.specs.declared.deciders.Link.{Link}
 use Rattle.tf_flow.specs.declared.nested.Item.{Item}
-use Rattle.tf_flow.specs.Names.{first_some, is_among}
-use Rattle.tf_flow.specs.Places.{Member, member_of}
+use Rattle.tf_flow.specs.Tree.{first_some, is_among, Member, member_of, item_tree}
 use Rattle.tf_flow.specs.Rules.{member_names, nested_names, stray_end, decides_flow}
 use Rattle.tf_flow.specs.Shown.{members}
-use Rattle.tf_flow.specs.Tree.{item_tree}
 
 -- which links stray depends on which names are among those of the items alone
 pub stray_same : (a b : List (List ℕ)) → ((name : List ℕ) → is_among a name ≡ is_among b name) → (links : List Link) → first_some (stray_end a) links ≡ first_some (stray_end b) links

@@ -1,8 +1,8 @@
 -- What is counted of a test is counted of its tree; and of tests, one more at a time.
 use Rattle.std.proofs.Common.{◌≡◌, ◌∙◌, ℕ, ◌+◌, ◌<◌, max, List, [], ◌∷◌, ◌++◌, map, length, take, get_or, refl, ap, sym, rules, arith}
 use Rattle.std.proofs.lemmas.List.{take_more}
-use Rattle.tf_flow.specs.ByteLength.{Measure, measure, measure_all, name_len, value_len, comparison, beside, around, together}
-use Rattle.tf_flow.specs.Conditions.{Condition, is_same, is_below, is_above, negated, all_of, any_of, Conditions, no_conditions, condition, conditions_of, condition_of}
+use Rattle.tf_flow.specs.Limits.{Measure, measure, measure_all, name_len, value_len, comparison, beside, around, together}
+use Rattle.tf_flow.specs.Outline.{Condition, is_same, is_below, is_above, negated, all_of, any_of, Conditions, no_conditions, condition, conditions_of, condition_of}
 use Rattle.tf_flow.specs.declared.deciders.Test.{Test, the_lemmas, Row_of-Test, end_of-Test, more_of-Test, items-the_row-Test}
 use Rattle.tf_flow.specs.declared.deciders.Test.TheVariants.{outs-All', outs-Any'}
 use Rattle.tf_flow.specs.declared.deciders.Test.TheVariants as test

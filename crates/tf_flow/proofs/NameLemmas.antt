@@ -7,8 +7,7 @@ use Rattle.std.proofs.lemmas.List.Folds.{list_any-append}
 use Rattle.std.proofs.lemmas.List.Quantifiers.{position-Some}
 use Rattle.std.specs.Cmp.Lexicographic.{bytes_decides}
 use Rattle.std.specs.List.{list_any}
-use Rattle.tf_flow.specs.Names.{same_name, is_among, first_again, first_again_after}
-use Rattle.tf_flow.specs.Places.{Place, name_at, is_atom, atom_names}
+use Rattle.tf_flow.specs.Tree.{same_name, is_among, first_again, first_again_after, Place, name_at, is_atom, atom_names}
 use Rattle.tf_numbers.proofs.TruthLemmas.{true_first, true_second}
 
 or_as_cond : (b : Bool) → (b || false) ≡ cond b true false

@@ -2,9 +2,8 @@
 use Rattle.std.proofs.Common.{◌≡◌, ℕ, suc, ◌+◌, List, [], ◌∷◌, ◌++◌, map, filter, length, Bool, Option, Some, None, refl, sym, ap, ◌∙◌}
 use Rattle.tf_flow.specs.declared.atoms.Task.{Task}
 use Rattle.tf_flow.specs.declared.atoms.Retry.{Retry}
-use Rattle.tf_flow.specs.Places.{Place, at_retry, at_task, places, places_among, retry_places, is_atom, is_flow, is_retry_place, name_at}
+use Rattle.tf_flow.specs.Tree.{Place, at_retry, at_task, places, places_among, retry_places, is_atom, is_flow, is_retry_place, name_at, Tree, Trees, task, flow, no_trees, tree, tree_of}
 use Rattle.tf_flow.specs.Plan.{PlanValue, atoms, retries, flows, paths, paths_to_flows}
-use Rattle.tf_flow.specs.Tree.{Tree, Trees, task, flow, no_trees, tree, tree_of}
 use Rattle.tf_flow.specs.Outline.{Part, a_task, a_retry, Atom, FlowPlace, atoms_of, atoms_among, retry_atoms, enter, flows_of, flows_among, flow_count, atom_count, retry_count, name_of, is_retry_part, name_of_atom, is_retry_atom, atom_path, enter_path, flow_paths, flow_paths_among}
 use Rattle.std.proofs.lemmas.List.{length-map}
 use Rattle.tf_numbers.proofs.EquationLemmas.{ap2}

@@ -1,13 +1,13 @@
 -- What is written of a flow and of its items.
 use Rattle.std.proofs.Common.{◌≡◌, ◌∙◌, List, [], ◌∷◌, map, refl, ap}
 use Rattle.tf_flow.proofs.TreeLemmas.{tree_of-flow, item_tree-task, item_tree-flow}
-use Rattle.tf_flow.specs.Conditions.{connection_of}
+use Rattle.tf_flow.specs.Outline.{connection_of}
 use Rattle.tf_flow.specs.declared.nested.Flow.{Flow}
 use Rattle.tf_flow.specs.declared.atoms.Task.{Task as TaskValue}
 use Rattle.tf_flow.specs.declared.nested.Item.{Item}
 use Rattle.tf_flow.specs.declared.nested.Item.TheVariants as item
 use Rattle.tf_flow.specs.Tree.{tree_of, item_tree, trees_of}
-use Rattle.tf_flow.specs.Written.{written_task, written_flow, written, written_trees, as_written, all_as_written, item_as_written}
+use Rattle.tf_flow.specs.Plan.{written_task, written_flow, written, written_trees, as_written, all_as_written, item_as_written}
 
 items_written : (items : List Item) → all_as_written (trees_of (map item_tree items)) ≡ written_trees (map item_as_written items)
 items_written [] = refl

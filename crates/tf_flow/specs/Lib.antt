@@ -1,15 +1,9 @@
 pub mod Tree
-pub mod Places
-pub mod Names
-pub mod ByteLength
 pub mod Limits
 pub mod Rules
-pub mod Refusal
 pub mod Shown
 pub mod Plan
 pub mod Items
-pub mod Conditions
-pub mod Written
 pub mod Outline
 pub mod Paths
 pub mod Listing

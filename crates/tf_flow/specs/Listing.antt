@@ -1,6 +1,6 @@
 -- What the code's records of a plan's atoms and flows show.
 use Rattle.std.specs.Prelude.{ℕ, zero, suc, List, [], ◌∷◌, ◌++◌, map}
-use Rattle.tf_flow.specs.Conditions.{connection_of}
+use Rattle.tf_flow.specs.Outline.{connection_of}
 use Rattle.tf_flow.specs.declared.paths.Turn.{Turn}
 use Rattle.tf_flow.specs.Outline as model
 use Rattle.tf_flow.specs.declared.listing.AtomPlace.{AtomPlace}

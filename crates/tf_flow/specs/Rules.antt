@@ -1,5 +1,5 @@
--- The rules of links and of atoms.
-use Rattle.std.specs.Prelude.{ℕ, List, [], ◌∷◌, Bool, true, false, not, ◌&&◌, ◌||◌, nat_lt, Option, None, Some, is_some, if◌then◌else◌, length, map, filter, codes}
+-- The rules of a plan, and the first that refuses it.
+use Rattle.std.specs.Prelude.{ℕ, List, [], ◌∷◌, Bool, true, false, not, ◌&&◌, ◌||◌, nat_lt, Option, None, Some, is_some, if◌then◌else◌, length, map, filter, codes, ◌≡◌, option_map}
 use Rattle.std.specs.List.{list_any}
 use Rattle.tf_flow.specs.declared.atoms.Arg.{Arg}
 use Rattle.tf_flow.specs.declared.atoms.Bind.{Bind}
@@ -15,9 +15,14 @@ use Rattle.tf_flow.specs.declared.atoms.Undo.TheVariants as undo
 use Rattle.tf_flow.specs.declared.deciders.Link.{Link}
 use Rattle.tf_flow.specs.declared.nested.FlowKind.{FlowKind}
 use Rattle.tf_flow.specs.declared.nested.FlowKind.TheVariants as flow
-use Rattle.tf_flow.specs.Limits.{provided}
-use Rattle.tf_flow.specs.Names.{same_name, is_among, first_some, first_again, has_twice}
-use Rattle.tf_flow.specs.Places.{Place, at_flow, at_retry, at_task, Member, Level, name_at}
+use Rattle.tf_flow.specs.Limits.{provided, capped, too_large}
+use Rattle.tf_flow.specs.Tree.{same_name, is_among, first_some, first_again, has_twice, Place, at_flow, at_retry, at_task, Member, Level, name_at, is_atom, tree_order, tree_of, nesting}
+use Rattle.std.specs.Option.{option_or}
+use Rattle.tf_flow.specs.declared.faults.PlanFault.{PlanFault}
+use Rattle.tf_flow.specs.declared.faults.PlanFault.TheVariants as fault
+use Rattle.tf_flow.specs.declared.nested.Flow.{Flow}
+
+-- ---- the rules of links and of atoms
 
 abbrev pub has_none : {X : Type 0} → List X → Bool
 has_none [] = true
@@ -141,3 +146,43 @@ is_bad_atom (at_task t) = is_bad_task t
 
 abbrev pub bad_atom_at : Place → Option (List ℕ)
 bad_atom_at place = if is_bad_atom place then Some (name_at place) else None
+
+-- ---- whether flows make a plan: the first refusal
+
+-- no atom in the tree
+abbrev pub empty : List Place → Option PlanFault
+empty order = if has_none (filter is_atom order) then Some fault.Empty else None
+
+-- a name that stands earlier already
+abbrev pub duplicate : List Place → Option PlanFault
+duplicate order = option_map (λ name. fault.Duplicate name) (first_again same_name (map name_at order))
+
+abbrev pub unknown : List Place → Option PlanFault
+unknown order = option_map (λ name. fault.Unknown name) (first_some unknown_at order)
+
+abbrev pub bad_link : List Place → Option PlanFault
+bad_link order = option_map (λ name. fault.BadLink name) (first_some bad_link_at order)
+
+-- a store symbol twice is the root's fault, and the root stands before every atom
+abbrev pub bad_atom : List ℕ → List Bind → List Place → Option PlanFault
+bad_atom root store order = option_map (λ name. fault.BadAtom name) (if has_twice (bind_symbols store) then Some root else first_some bad_atom_at order)
+
+-- what is looked for after the limits, in this order
+abbrev pub broken_rule : List ℕ → List Bind → List Place → Option PlanFault
+broken_rule root store order =
+    option_or (empty order) (option_or (duplicate order) (option_or (unknown order) (option_or (bad_link order) (bad_atom root store order))))
+
+-- the first refusal of what would be a plan: a limit that is passed, or else a rule that is broken
+abbrev pub first_refusal : Flow → List Bind → Option PlanFault
+first_refusal root store =
+    option_or (too_large (capped (nesting (tree_of root))) (tree_order root) store) (broken_rule root.name store (tree_order root))
+
+-- want of memory says nothing of the plan; every other answer is its first refusal
+abbrev pub IsAnswer : Option PlanFault → PlanFault → Type 0
+IsAnswer refusal fault.Memory = Unit {0}
+IsAnswer refusal (fault.TooLarge which n) = refusal ≡ Some (fault.TooLarge which n)
+IsAnswer refusal fault.Empty = refusal ≡ Some fault.Empty
+IsAnswer refusal (fault.Duplicate name) = refusal ≡ Some (fault.Duplicate name)
+IsAnswer refusal (fault.Unknown name) = refusal ≡ Some (fault.Unknown name)
+IsAnswer refusal (fault.BadLink name) = refusal ≡ Some (fault.BadLink name)
+IsAnswer refusal (fault.BadAtom name) = refusal ≡ Some (fault.BadAtom name)

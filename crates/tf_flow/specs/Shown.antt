@@ -4,8 +4,7 @@ use Rattle.tf_flow.specs.declared.nested.Flow.{Flow}
 use Rattle.tf_flow.specs.declared.nested.Item.{Item}
 use Rattle.tf_flow.specs.declared.outline.Place.{Place as CodePlace}
 use Rattle.tf_flow.specs.declared.outline.Place.TheVariants as code
-use Rattle.tf_flow.specs.Places.{Place, at_flow, at_retry, at_task, Level, Member, members_of}
-use Rattle.tf_flow.specs.Tree.{trees_of, item_tree}
+use Rattle.tf_flow.specs.Tree.{Place, at_flow, at_retry, at_task, Level, Member, members_of, trees_of, item_tree}
 
 -- items as members
 abbrev pub members : List Item → List Member

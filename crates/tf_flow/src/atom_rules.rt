@@ -1,6 +1,6 @@
 ghost use Rattle.std.specs.Prelude.{◌≡◌, None, Some, IfOk, codes, if◌then◌else◌};
 ghost use Rattle.tf_flow.specs.Limits.{provided};
-ghost use Rattle.tf_flow.specs.Names.{first_some, has_twice, is_among};
+ghost use Rattle.tf_flow.specs.Tree.{first_some, has_twice, is_among};
 ghost use Rattle.tf_flow.specs.Rules as rule;
 ghost use Rattle.tf_flow.specs.Shown.{shown, shown_places};
 

@@ -1,7 +1,7 @@
 ghost use Rattle.std.specs.Prelude.{◌≡◌, ℕ, ◌+◌, length, sum_by, max};
-ghost use Rattle.tf_values.specs.ByteForm.{scalar_bytes, list_bytes};
+ghost use Rattle.tf_values.specs.Scalars.{scalar_bytes, list_bytes};
 ghost use Rattle.tf_flow.specs.Limits.{capped};
-ghost use Rattle.tf_flow.specs.ByteLength as form;
+ghost use Rattle.tf_flow.specs.Limits as form;
 ghost use Rattle.tf_flow.specs.Shown.{level, shown, shown_places};
 
 use crate::atoms::{Arg, Bind, Provides, Retry, RetryKind, Task, Undo};

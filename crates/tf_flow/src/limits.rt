@@ -1,8 +1,7 @@
 ghost use Rattle.std.specs.Prelude.{◌≡◌, length, filter, sum_by};
 ghost use Rattle.tf_flow.specs.Limits as limit;
 ghost use Rattle.tf_flow.specs.Limits.{capped};
-ghost use Rattle.tf_flow.specs.Names.{first_some};
-ghost use Rattle.tf_flow.specs.Places.{at_flow, at_retry, at_task, is_atom, is_flow};
+ghost use Rattle.tf_flow.specs.Tree.{first_some, at_flow, at_retry, at_task, is_atom, is_flow};
 ghost use Rattle.tf_flow.specs.Shown.{level, shown, shown_places};
 
 use crate::atoms::{Bind, Provides, Retry, Task, Undo};

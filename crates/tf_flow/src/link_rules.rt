@@ -1,10 +1,8 @@
 ghost use Rattle.std.specs.Prelude.{◌≡◌, IfOk, is_some, map, not};
 ghost use Rattle.std.specs.List.{list_any};
-ghost use Rattle.tf_flow.specs.Names.{first_some, is_among, first_again};
-ghost use Rattle.tf_flow.specs.Places.{member_of, at_flow};
+ghost use Rattle.tf_flow.specs.Tree.{first_some, is_among, first_again, member_of, at_flow, item_tree};
 ghost use Rattle.tf_flow.specs.Rules as rule;
 ghost use Rattle.tf_flow.specs.Shown.{level, members, shown, shown_places};
-ghost use Rattle.tf_flow.specs.Tree.{item_tree};
 
 use crate::deciders::Link;
 use crate::nested::{Flow, FlowKind, Item};

@@ -1,8 +1,7 @@
 ghost use Rattle.std.specs.Prelude.{◌≡◌, ◌++◌, IfOk, OnOk};
 ghost use Rattle.tf_flow.specs.Limits.{capped};
-ghost use Rattle.tf_flow.specs.Places.{places, places_among, retry_places, tree_order, name_at, is_flow, is_retry_place};
+ghost use Rattle.tf_flow.specs.Tree.{places, places_among, retry_places, tree_order, name_at, is_flow, is_retry_place, tree_of, item_tree, trees_of, nesting};
 ghost use Rattle.tf_flow.specs.Shown.{shown, shown_places};
-ghost use Rattle.tf_flow.specs.Tree.{tree_of, item_tree, trees_of, nesting};
 
 use crate::atoms::{Retry, Task};
 use crate::nested::{Flow, Item};

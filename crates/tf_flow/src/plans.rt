@@ -1,10 +1,8 @@
 ghost use Rattle.std.specs.Prelude.{◌≡◌, ◌<◌, ◌≤◌, None, Some, IfOk, OnOk, IfErr, IfSome, is_some, length, map, filter, position, slice_get};
-ghost use Rattle.tf_flow.specs.Names.{first_again, is_among, same_name};
-ghost use Rattle.tf_flow.specs.Places.{name_at, is_atom, is_flow, is_retry_place, tree_order, atom_names, retry_marks, flow_names};
+ghost use Rattle.tf_flow.specs.Tree.{first_again, is_among, same_name, name_at, is_atom, is_flow, is_retry_place, tree_order, atom_names, retry_marks, flow_names, tree_of};
 ghost use Rattle.tf_flow.specs.Plan as numbering;
-ghost use Rattle.tf_flow.specs.Refusal.{first_refusal, IsAnswer};
+ghost use Rattle.tf_flow.specs.Rules.{first_refusal, IsAnswer};
 ghost use Rattle.tf_flow.specs.Shown.{shown_places};
-ghost use Rattle.tf_flow.specs.Tree.{tree_of};
 ghost use Rattle.tf_flow.specs.Paths.{shown_part};
 
 use crate::atoms::Binds;

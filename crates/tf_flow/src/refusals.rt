@@ -1,8 +1,7 @@
 ghost use Rattle.std.specs.Prelude.{◌≡◌, IfOk, None, map};
-ghost use Rattle.tf_flow.specs.Names.{first_again, same_name};
+ghost use Rattle.tf_flow.specs.Tree.{first_again, same_name, name_at};
 ghost use Rattle.tf_flow.specs.Limits.{too_large};
-ghost use Rattle.tf_flow.specs.Places.{name_at};
-ghost use Rattle.tf_flow.specs.Refusal as refusal;
+ghost use Rattle.tf_flow.specs.Rules as refusal;
 ghost use Rattle.std.specs.Option.{option_or};
 ghost use Rattle.tf_flow.specs.Shown.{shown, shown_places};
 

@@ -1,7 +1,7 @@
 ghost use Rattle.std.specs.Prelude.{◌≡◌, None, Some, IfOk, MatchResult, List, ℕ};
 ghost use Rattle.std.specs.List.{list_any};
 ghost use Rattle.indexmap.specs.IndexSet.{contains};
-ghost use Rattle.tf_flow.specs.Names.{first_again, same_name, has_twice};
+ghost use Rattle.tf_flow.specs.Tree.{first_again, same_name, has_twice};
 
 use indexmap::IndexSet;
 use std::alloc::Global;

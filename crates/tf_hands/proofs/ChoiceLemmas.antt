@@ -11,18 +11,14 @@ use Rattle.tf_flow.specs.declared.atoms.Task.{Task}
 use Rattle.tf_actions.specs.declared.orders.Order.{Order}
 use Rattle.tf_actions.specs.declared.outcomes.Action.{Action}
 use Rattle.tf_actions.specs.declared.outcomes.Action.TheVariants as action
-use Rattle.tf_model.specs.Candidates.{taken_up, choice}
-use Rattle.tf_model.specs.Orders.{task_at, order_with, order_of, takes_up, before_start, order_at}
+use Rattle.tf_model.specs.Forced.{taken_up, choice}
+use Rattle.tf_model.specs.Scope.{task_at, order_with, order_of, takes_up, before_start, order_at, given_for}
 use Rattle.tf_model.specs.Plan.{Outline, count, is_task}
-use Rattle.tf_model.specs.Scope.{given_for}
-use Rattle.tf_model.specs.Sessions.{is_inner}
-use Rattle.tf_model.specs.Snapshot.{Snapshot, state_after, hand_after, is_at_work}
-use Rattle.tf_model.specs.History.{snapshot, state_of, hand_of}
-use Rattle.tf_model.specs.Steps.{is_free}
+use Rattle.tf_model.specs.Steps.{is_inner, is_free}
+use Rattle.tf_model.specs.History.{Snapshot, state_after, hand_after, is_at_work, snapshot, state_of, hand_of}
 use Rattle.tf_hands.proofs.FitLemmas.{candidate_task}
-use Rattle.tf_hands.specs.Flight.{begun, start_entry, action_in}
+use Rattle.tf_hands.specs.Hands.{begun, start_entry, action_in, by_hand, is_no_end, is_of_flow, takes_task, asked_in, order_for, asked_by, orders, HasOrder}
 use Rattle.tf_hands.specs.declared.starts.Start.{Start}
-use Rattle.tf_hands.specs.Hands.{by_hand, is_no_end, is_of_flow, takes_task, asked_in, order_for, asked_by, orders, HasOrder}
 use Rattle.tf_hands.proofs.EntryLemmas.{set_here, set_there, one_order}
 use Rattle.tf_hands.proofs.TakenLemmas.{taken_of}
 use Rattle.tf_hands.proofs.FlightLemmas.{order_not_free}

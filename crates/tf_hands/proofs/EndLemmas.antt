@@ -16,13 +16,10 @@ use Rattle.tf_actions.specs.declared.outcomes.Outcome.TheVariants as outcome
 use Rattle.tf_actions.specs.Laws.{RevertsToNothing}
 use Rattle.tf_numbers.proofs.TruthLemmas.{and_false}
 use Rattle.tf_model.specs.Plan.{Outline, is_task}
-use Rattle.tf_model.specs.Snapshot.{hand_after, is_at_work}
-use Rattle.tf_model.specs.History.{snapshot, state_of, hand_of}
-use Rattle.tf_model.specs.Orders.{order_at, Allows, IsGiven}
-use Rattle.tf_model.specs.Sessions.{is_inner}
-use Rattle.tf_model.specs.Steps.{LegalPast, is_free}
-use Rattle.tf_hands.specs.Flight.{begun, task_of, ended_from, end_by}
-use Rattle.tf_hands.specs.Hands.{is_no_end, is_of_flow, takes_task, orders, HasOrder}
+use Rattle.tf_model.specs.History.{hand_after, is_at_work, snapshot, state_of, hand_of}
+use Rattle.tf_model.specs.Scope.{order_at, Allows, IsGiven}
+use Rattle.tf_model.specs.Steps.{is_inner, LegalPast, is_free}
+use Rattle.tf_hands.specs.Hands.{begun, task_of, ended_from, end_by, is_no_end, is_of_flow, takes_task, orders, HasOrder}
 use Rattle.tf_hands.proofs.EntryLemmas.{set_here, hand_origin, no_orders}
 use Rattle.tf_hands.proofs.ForcedLemmas.{idle_taken, within_inner}
 use Rattle.tf_hands.proofs.FlightLemmas.{free_of, busy_of, task_held, one_task}

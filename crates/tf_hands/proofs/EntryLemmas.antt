@@ -10,9 +10,8 @@ use Rattle.tf_states.specs.declared.state.AtomState.{AtomState}
 use Rattle.tf_states.specs.declared.state.FlowState.TheVariants as flow
 use Rattle.tf_actions.specs.declared.orders.Order.{Order}
 use Rattle.tf_model.specs.Plan.{Outline, is_task}
-use Rattle.tf_model.specs.Snapshot.{state_after, hand_after, is_at_work}
-use Rattle.tf_model.specs.History.{snapshot, state_of, hand_of}
-use Rattle.tf_model.specs.Orders.{order_of, takes_up, before_start}
+use Rattle.tf_model.specs.History.{state_after, hand_after, is_at_work, snapshot, state_of, hand_of}
+use Rattle.tf_model.specs.Scope.{order_of, takes_up, before_start}
 use Rattle.tf_hands.specs.Hands.{is_of_flow, is_resuming, takes_task, asked_by, orders, HasOrder}
 
 -- ---- numbers

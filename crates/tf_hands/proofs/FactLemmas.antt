@@ -9,13 +9,11 @@ use Rattle.tf_states.specs.declared.state.AtomState.TheVariants as atom
 use Rattle.tf_states.specs.declared.state.FlowState.{FlowState}
 use Rattle.tf_states.specs.declared.state.FlowState.TheVariants as flow
 use Rattle.tf_model.specs.Plan.{Outline, is_task}
-use Rattle.tf_model.specs.Snapshot.{Snapshot, later, is_at_work, hand_after}
-use Rattle.tf_model.specs.History.{snapshot}
-use Rattle.tf_model.specs.States.{flow_runs, flow_suspends}
+use Rattle.tf_model.specs.History.{Snapshot, later, is_at_work, hand_after, snapshot, flow_runs, flow_suspends}
 use Rattle.tf_model.specs.Steps.{LegalPast, is_hand}
 use Rattle.tf_model.proofs.HistoryLemmas.{one_more}
 use Rattle.tf_numbers.proofs.TruthLemmas.{and_first, and_second}
-use Rattle.tf_hands.specs.Flight.{Busy, FlightFacts}
+use Rattle.tf_hands.specs.Hands.{Busy, FlightFacts}
 use Rattle.tf_hands.proofs.FitLemmas.{MayWork, StateFits, Turning, goes_on, resumes, is_free_of_work, Fits, step_fits}
 
 -- the snapshot after what a hand recorded

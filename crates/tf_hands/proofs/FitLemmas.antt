@@ -14,12 +14,10 @@ use Rattle.tf_flow.specs.declared.deciders.Depth.{Depth}
 use Rattle.tf_flow.specs.Outline.{Atom, Part, a_task, a_retry, is_task_part, is_retry_part}
 use Rattle.tf_numbers.specs.Numbers.{all_below, first_below, is_number}
 use Rattle.tf_model.specs.Plan.{Outline, count, is_task, is_retry}
-use Rattle.tf_model.specs.Snapshot.{Snapshot, is_at_work}
-use Rattle.tf_model.specs.States.{is_pending, is_running, is_retrying, flow_runs, flow_suspends, flow_is_reverted}
-use Rattle.tf_model.specs.Deciders.{refused}
+use Rattle.tf_model.specs.History.{Snapshot, is_at_work, is_pending, is_running, is_retrying, flow_runs, flow_suspends, flow_is_reverted}
+use Rattle.tf_model.specs.Readiness.{refused}
 use Rattle.tf_model.specs.Retries.{attempt, ends_with}
-use Rattle.tf_model.specs.Forced.{forced, forced_if_running, is_active, is_unhurt, is_to_put_back, put_back_or_run, is_to_ignore, ignore_or_self, ignore_by}
-use Rattle.tf_model.specs.Candidates.{is_interrupted, is_candidate, is_best, taken_up, candidate_entry, candidate_if_running, choice, end_of}
+use Rattle.tf_model.specs.Forced.{forced, forced_if_running, is_active, is_unhurt, is_to_put_back, put_back_or_run, is_to_ignore, ignore_or_self, ignore_by, is_interrupted, is_candidate, is_best, taken_up, candidate_entry, candidate_if_running, choice, end_of}
 use Rattle.tf_model.proofs.Told.{is_task_in, is_retry_in}
 use Rattle.tf_model.specs.Steps.{Step, Rule, by_force, by_choice, by_end_of_task, by_turn, by_end, by_suspension, by_reset, is_hand, is_still, is_idle, ends_task, ends_as, turns_flow, may_turn, may_suspend, reset, put_back_or_rest, is_put_back_at, is_settled_at}
 use Rattle.tf_numbers.proofs.BelowLemmas.{all_at, found_passes, found_below}
@@ -27,7 +25,7 @@ use Rattle.tf_numbers.proofs.OptionLemmas.{is_this_number, if_some, only_if}
 use Rattle.tf_numbers.proofs.TruthLemmas.{and_first, and_second, or_either, true_first, true_second, clash}
 use Rattle.tf_model.proofs.StepLemmas.{run_pending}
 use Rattle.tf_facts.proofs.CaseLemmas.{forced_by}
-use Rattle.tf_hands.specs.Flight.{Busy, FlightFacts}
+use Rattle.tf_hands.specs.Hands.{Busy, FlightFacts}
 use Rattle.tf_model.proofs.PlanLemmas.{task_below}
 
 -- a task may begin to work by the hand: it is numbered as one, and the flow is RUNNING or SUSPENDING

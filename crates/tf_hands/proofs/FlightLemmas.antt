@@ -8,14 +8,11 @@ use Rattle.tf_numbers.proofs.BelowLemmas.{all_at, all_of, not_each, found_passes
 use Rattle.tf_numbers.proofs.OptionLemmas.{is_this_number}
 use Rattle.tf_numbers.proofs.TruthLemmas.{clash, not_true}
 use Rattle.tf_model.specs.Plan.{Outline, count}
-use Rattle.tf_model.specs.Snapshot.{Snapshot}
-use Rattle.tf_model.specs.History.{snapshot, hand_of}
+use Rattle.tf_model.specs.History.{Snapshot, snapshot, hand_of}
 use Rattle.tf_model.specs.Steps.{Step, LegalPast, is_not_with, is_free, is_idle, is_still}
-use Rattle.tf_hands.specs.Flight.{is_with, task_of}
-use Rattle.tf_hands.specs.Flight.{Busy}
+use Rattle.tf_hands.specs.Hands.{is_with, task_of, Busy, takes_task, HasOrder}
 use Rattle.tf_model.proofs.PlanLemmas.{task_below}
 use Rattle.tf_hands.proofs.FactLemmas.{past_facts}
-use Rattle.tf_hands.specs.Hands.{takes_task, HasOrder}
 use Rattle.tf_hands.proofs.EntryLemmas.{hand_origin}
 use Rattle.tf_hands.proofs.KeptLemmas.{rule_takes}
 

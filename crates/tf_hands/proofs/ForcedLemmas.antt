@@ -13,10 +13,9 @@ use Rattle.tf_numbers.specs.Numbers.{first_below}
 use Rattle.tf_numbers.proofs.OptionLemmas.{only_if}
 use Rattle.tf_numbers.proofs.TruthLemmas.{and_first, and_false, true_second, not_true}
 use Rattle.tf_model.specs.Plan.{Outline, count, is_task, is_retry}
-use Rattle.tf_model.specs.Snapshot.{Snapshot, is_at_work}
-use Rattle.tf_model.specs.States.{is_success}
-use Rattle.tf_model.specs.Sessions.{is_inner}
-use Rattle.tf_model.specs.Deciders.{refused}
+use Rattle.tf_model.specs.History.{Snapshot, is_at_work, is_success}
+use Rattle.tf_model.specs.Steps.{is_inner}
+use Rattle.tf_model.specs.Readiness.{refused}
 use Rattle.tf_model.specs.Retries.{attempt, ends_with}
 use Rattle.tf_model.proofs.Told.{is_task_in, is_retry_in}
 use Rattle.tf_model.specs.Forced.{forced, forced_if_running, is_active, is_to_put_back, put_back_or_run, is_to_ignore, ignore_by, ignore_or_self}

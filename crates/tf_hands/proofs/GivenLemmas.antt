@@ -12,11 +12,10 @@ use Rattle.tf_actions.specs.declared.outcomes.Action.{Action}
 use Rattle.tf_actions.specs.declared.outcomes.Action.TheVariants as action
 use Rattle.tf_actions.specs.declared.outcomes.Outcome.{Outcome}
 use Rattle.tf_numbers.proofs.TruthLemmas.{not_true}
-use Rattle.tf_model.specs.Orders.{task_part, order_with, order_of, Allows, IsUnasked, IsGiven}
+use Rattle.tf_model.specs.Scope.{task_part, order_with, order_of, Allows, IsUnasked, IsGiven, given_for}
 use Rattle.tf_model.specs.Plan.{Outline, is_task}
 use Rattle.tf_model.proofs.Told.{task_in, is_task_in}
-use Rattle.tf_model.specs.Scope.{given_for}
-use Rattle.tf_model.specs.Snapshot.{Snapshot}
+use Rattle.tf_model.specs.History.{Snapshot}
 use Rattle.tf_hands.specs.Hands.{is_no_end}
 
 -- ---- nobody is asked for an atom that is no task

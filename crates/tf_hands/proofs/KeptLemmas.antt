@@ -12,9 +12,8 @@ use Rattle.tf_numbers.specs.Numbers.{all_below, first_below, is_number}
 use Rattle.tf_numbers.proofs.OptionLemmas.{if_some, is_this_number}
 use Rattle.tf_numbers.proofs.TruthLemmas.{and_first, and_second, or_either, clash, not_true}
 use Rattle.tf_model.specs.Plan.{Outline, count, is_task, is_retry}
-use Rattle.tf_model.specs.Snapshot.{Snapshot, is_at_work}
-use Rattle.tf_model.specs.States.{flow_runs, flow_suspends, flow_is_reverted}
-use Rattle.tf_model.specs.Candidates.{is_candidate, taken_up, choice, end_of}
+use Rattle.tf_model.specs.History.{Snapshot, is_at_work, flow_runs, flow_suspends, flow_is_reverted}
+use Rattle.tf_model.specs.Forced.{is_candidate, taken_up, choice, end_of}
 use Rattle.tf_model.specs.Steps.{Rule, by_force, by_choice, by_end_of_task, by_turn, by_end, by_suspension, by_reset, is_free, ends_task, ends_as, turns_flow, reset, put_back_or_rest, is_settled_at, is_put_back_at}
 use Rattle.tf_model.specs.Laws.{atom_may, is_allowed}
 use Rattle.tf_model.proofs.StepLemmas.{step_allowed}

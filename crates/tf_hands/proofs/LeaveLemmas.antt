@@ -9,13 +9,11 @@ use Rattle.tf_actions.specs.declared.outcomes.Action.TheVariants as action
 use Rattle.tf_numbers.specs.Numbers.{is_number}
 use Rattle.tf_numbers.proofs.BelowLemmas.{all_same}
 use Rattle.tf_model.specs.Plan.{Outline, count, is_task}
-use Rattle.tf_model.specs.Snapshot.{Snapshot, hand_after, is_at_work}
-use Rattle.tf_model.specs.History.{snapshot, hand_of}
+use Rattle.tf_model.specs.History.{Snapshot, hand_after, is_at_work, snapshot, hand_of}
 use Rattle.tf_model.specs.Forced.{forced}
 use Rattle.tf_model.specs.Steps.{by_force, LegalPast, is_not_with, is_free, is_idle, is_still}
 use Rattle.tf_model.proofs.StepLemmas.{step_allowed}
-use Rattle.tf_hands.specs.Flight.{begun}
-use Rattle.tf_hands.specs.Hands.{by_hand, orders, HasOrder}
+use Rattle.tf_hands.specs.Hands.{begun, by_hand, orders, HasOrder}
 use Rattle.tf_hands.proofs.EntryLemmas.{touches, within_resumes, hand_stays, none_stays, no_orders, order_stays}
 use Rattle.tf_hands.proofs.ForcedLemmas.{forced_spares, forced_takes_none, forced_within}
 use Rattle.tf_hands.proofs.KeptLemmas.{spared_untouched}

@@ -14,12 +14,10 @@ use Rattle.tf_actions.specs.declared.orders.Order.{Order}
 use Rattle.tf_actions.specs.declared.outcomes.Action.{Action}
 use Rattle.tf_numbers.proofs.TruthLemmas.{clash, never_true, not_true, true_both, and_first, and_second}
 use Rattle.tf_model.specs.Plan.{Outline, is_task, is_retry}
-use Rattle.tf_model.specs.Snapshot.{Snapshot, is_at_work}
-use Rattle.tf_model.specs.History.{snapshot, state_of, hand_of}
-use Rattle.tf_model.specs.Candidates.{is_interrupted, taken_up}
-use Rattle.tf_model.specs.Orders.{task_part, task_at, order_with, order_of}
+use Rattle.tf_model.specs.History.{Snapshot, is_at_work, snapshot, state_of, hand_of}
+use Rattle.tf_model.specs.Forced.{is_interrupted, taken_up}
+use Rattle.tf_model.specs.Scope.{task_part, task_at, order_with, order_of, given_for}
 use Rattle.tf_model.proofs.Told.{is_task_in, task_in}
-use Rattle.tf_model.specs.Scope.{given_for}
 use Rattle.tf_model.specs.Steps.{LegalPast, is_free, ends_task}
 use Rattle.tf_model.specs.Laws.{atom_may, is_allowed}
 use Rattle.tf_model.proofs.StepLemmas.{step_allowed}

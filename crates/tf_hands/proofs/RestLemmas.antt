@@ -9,21 +9,15 @@ use Rattle.tf_states.specs.declared.state.FlowState.TheVariants as flow
 use Rattle.tf_states.specs.Transitions.{flow_may}
 use Rattle.tf_flow.specs.Plan.{PlanValue}
 use Rattle.tf_numbers.proofs.TruthLemmas.{clash}
-use Rattle.tf_model.specs.Plan.{Outline, outline_of}
-use Rattle.tf_model.specs.Compilation.{compile_refusal}
-use Rattle.tf_model.specs.Snapshot.{Snapshot, hand_after}
-use Rattle.tf_model.specs.History.{snapshot, flow_of, hand_of}
-use Rattle.tf_model.specs.States.{flow_runs, flow_suspends}
-use Rattle.tf_model.specs.Forced.{forced}
-use Rattle.tf_model.specs.Candidates.{choice, end_of}
-use Rattle.tf_model.specs.Sessions.{flow_entry, entering, has_ended, is_inner}
-use Rattle.tf_model.specs.Steps.{Step, LegalPast, is_free, is_still}
+use Rattle.tf_model.specs.Plan.{Outline, outline_of, compile_refusal}
+use Rattle.tf_model.specs.History.{Snapshot, hand_after, snapshot, flow_of, hand_of, flow_runs, flow_suspends}
+use Rattle.tf_model.specs.Forced.{forced, choice, end_of}
+use Rattle.tf_model.specs.Steps.{flow_entry, entering, has_ended, is_inner, Step, LegalPast, is_free, is_still}
 use Rattle.tf_model.proofs.StepLemmas.{step_allowed}
 use Rattle.tf_facts.proofs.PastLemmas.{never_stuck}
-use Rattle.tf_hands.specs.Flight.{FlightFacts}
+use Rattle.tf_hands.specs.Hands.{FlightFacts, by_hand, is_of_flow, takes_task, IsAlone}
 use Rattle.tf_hands.proofs.FitLemmas.{Turning, goes_on, resumes, is_free_of_work, step_fits}
 use Rattle.tf_hands.proofs.FactLemmas.{past_facts}
-use Rattle.tf_hands.specs.Hands.{by_hand, is_of_flow, takes_task, IsAlone}
 use Rattle.tf_hands.proofs.EntryLemmas.{hand_origin}
 use Rattle.tf_hands.proofs.FlightLemmas.{free_at, still_at, still_of, busy_of}
 

@@ -10,11 +10,9 @@ use Rattle.tf_numbers.proofs.BelowLemmas.{found_passes, found_below}
 use Rattle.tf_numbers.proofs.OptionLemmas.{only_if}
 use Rattle.tf_numbers.proofs.TruthLemmas.{and_first, and_second, or_either, clash}
 use Rattle.tf_model.specs.Plan.{Outline, count, is_task}
-use Rattle.tf_model.specs.Snapshot.{Snapshot, is_at_work}
-use Rattle.tf_model.specs.States.{is_pending, is_executed}
+use Rattle.tf_model.specs.History.{Snapshot, is_at_work, is_pending, is_executed}
 use Rattle.tf_model.specs.Readiness.{can_run, can_revert}
-use Rattle.tf_model.specs.Forced.{forced, is_active}
-use Rattle.tf_model.specs.Candidates.{is_candidate, is_interrupted, is_best, taken_up, candidate_entry, candidate_if_running, choice}
+use Rattle.tf_model.specs.Forced.{forced, is_active, is_candidate, is_interrupted, is_best, taken_up, candidate_entry, candidate_if_running, choice}
 use Rattle.tf_model.proofs.StepLemmas.{run_pending, revert_executed}
 use Rattle.tf_hands.proofs.FitLemmas.{candidate_task}
 use Rattle.tf_hands.specs.Hands.{takes_task}

@@ -11,19 +11,13 @@ ghost use Rattle.tf_states.specs.declared.state.FlowState.TheVariants as flow;
 ghost use Rattle.tf_flow.specs.Plan.{PlanValue};
 ghost use Rattle.tf_actions.specs.declared.orders.Order.{Order};
 ghost use Rattle.tf_actions.specs.declared.outcomes.Outcome.{Outcome};
-ghost use Rattle.tf_model.specs.Plan.{Outline, outline_of, is_task};
-ghost use Rattle.tf_model.specs.Compilation.{compile_refusal};
-ghost use Rattle.tf_model.specs.Snapshot.{Snapshot};
-ghost use Rattle.tf_model.specs.History.{snapshot, state_of, flow_of, hand_of};
-ghost use Rattle.tf_model.specs.States.{flow_runs, flow_suspends};
-ghost use Rattle.tf_model.specs.Forced.{forced};
-ghost use Rattle.tf_model.specs.Candidates.{is_interrupted, choice, end_of};
-ghost use Rattle.tf_model.specs.Orders.{order_of, IsGiven};
-ghost use Rattle.tf_model.specs.Steps.{LegalPast, is_free, is_still, ends_task};
-ghost use Rattle.tf_model.specs.Sessions.{is_inner, entering, has_ended};
+ghost use Rattle.tf_model.specs.Plan.{Outline, outline_of, is_task, compile_refusal};
+ghost use Rattle.tf_model.specs.History.{Snapshot, snapshot, state_of, flow_of, hand_of, flow_runs, flow_suspends};
+ghost use Rattle.tf_model.specs.Forced.{forced, is_interrupted, choice, end_of};
+ghost use Rattle.tf_model.specs.Scope.{order_of, IsGiven};
+ghost use Rattle.tf_model.specs.Steps.{LegalPast, is_free, is_still, ends_task, is_inner, entering, has_ended};
 ghost use Rattle.tf_hands.specs.declared.starts.Start.{Start};
-ghost use Rattle.tf_hands.specs.Flight.{task_of, start_entry, action_in, ended_from, end_by};
-ghost use Rattle.tf_hands.specs.Hands.{by_hand, is_no_end, is_of_flow, is_by_other, takes_task, asked_by, orders, HasOrder, IsAlone};
+ghost use Rattle.tf_hands.specs.Hands.{task_of, start_entry, action_in, ended_from, end_by, by_hand, is_no_end, is_of_flow, is_by_other, takes_task, asked_by, orders, HasOrder, IsAlone};
 
 use tf_actions::Performer;
 

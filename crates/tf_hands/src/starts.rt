@@ -1,5 +1,5 @@
 ghost use Rattle.std.specs.Prelude.{◌≡◌};
-ghost use Rattle.tf_hands.specs.Flight.{start_entry};
+ghost use Rattle.tf_hands.specs.Hands.{start_entry};
 
 use tf_actions::Action;
 use tf_states::{AtomState, Payload, What};

@@ -3,13 +3,11 @@ use Rattle.std.proofs.Common.{◌≡◌, inl, ⊎_elim, ℕ, ◌+◌, ◌-◌, �
 use Rattle.std.specs.List.{flat_map}
 use Rattle.std.proofs.lemmas.List.{take_all, drop_all, take_at, drop_at}
 use Rattle.std.specs.Prelude.{IsTrue, is_some}
-use Rattle.tf_desk.specs.Content.{written, Torn}
+use Rattle.tf_desk.specs.Crash.{written, Torn}
 use Rattle.tf_desk.specs.State.{DeskState, bytes_now, LeftNow, IsDurable, Passes, passes_within}
 use Rattle.tf_journal.specs.Adding.{Adds, AddsAtMost}
-use Rattle.tf_journal.specs.Format.{OPEN, SIZE_LIMIT, length_bytes, record_of, prefix_of, journal_bytes, bodies, recovered, title_of}
+use Rattle.tf_journal.specs.Format.{OPEN, SIZE_LIMIT, length_bytes, record_of, prefix_of, journal_bytes, bodies, recovered, title_of, Held, IsBody, LiesAs, IsAtRest, LeavesBodies, LeavesEither, LeavesBeforeOrAfter}
 use Rattle.tf_journal.specs.Gates.{LeavesGated}
-use Rattle.tf_journal.specs.Held.{Held}
-use Rattle.tf_journal.specs.Rest.{IsBody, LiesAs, IsAtRest, LeavesBodies, LeavesEither, LeavesBeforeOrAfter}
 use Rattle.tf_journal.proofs.HeaderLemmas.{sixteen}
 use Rattle.tf_journal.proofs.LieLemmas.{recovered_lies}
 use Rattle.tf_journal.proofs.ReachLemmas.{flat_map-push}

@@ -4,9 +4,8 @@ use Rattle.std.specs.Prelude.{nat_eq, nat_le, ◌==◌, ◌||◌, ◌&&◌, not}
 use Rattle.std.specs.Cmp.Lexicographic.{pointwise, bytes_decides}
 use Rattle.std.proofs.lemmas.Bool.{eqb-true, cases_eq, cases_lt, leb-true}
 use Rattle.std.proofs.lemmas.List.{append-nil, take_all, drop_all, take_at, get_or_at, get_or-take}
-use Rattle.tf_desk.specs.Content.{written, Torn}
-use Rattle.tf_journal.specs.Format.{OPEN, unborn, bodies, is_unborn, recovered, journal_bytes}
-use Rattle.tf_journal.specs.Rest.{LiesAs}
+use Rattle.tf_desk.specs.Crash.{written, Torn}
+use Rattle.tf_journal.specs.Format.{OPEN, unborn, bodies, is_unborn, recovered, journal_bytes, LiesAs}
 use Rattle.tf_journal.specs.Birth.{IsTitled}
 use Rattle.tf_journal.proofs.HeaderLemmas.{unborn_short, unborn_zero, unborn_titled, eq_false, false_eq}
 use Rattle.tf_journal.proofs.LieLemmas.{recovered_lies}

@@ -2,13 +2,10 @@
 use Rattle.std.proofs.Common.{◌≡◌, ⊎_elim, ℕ, ◌+◌, List, [], ◌∷◌, ◌++◌, take, drop, Option, Some, None, refl, sym, ◌∙◌, ap, subst, arith}
 use Rattle.std.proofs.lemmas.List.{take_all, append_assoc}
 use Rattle.std.specs.Prelude.{IsTrue}
-use Rattle.tf_desk.specs.Content.{Mark, at_sync, Torn}
-use Rattle.tf_desk.specs.Crash.{IsLeft}
+use Rattle.tf_desk.specs.Crash.{Mark, at_sync, Torn, IsLeft}
 use Rattle.tf_desk.specs.State.{DeskState, LeftNow, IsDurable, bytes_now, FilesStay, Rests, Tears, Syncs}
 use Rattle.tf_desk.proofs.StateLemmas.{bytes_stay, durable_on}
-use Rattle.tf_journal.specs.Rest.{LiesAs, IsAtRest, HasSynced}
-use Rattle.tf_journal.specs.Format.{title_of}
-use Rattle.tf_journal.specs.Held.{Held}
+use Rattle.tf_journal.specs.Format.{LiesAs, IsAtRest, HasSynced, title_of, Held}
 use Rattle.tf_journal.specs.Gates.{LeavesTornAt}
 
 torn_empty : (at n : ℕ) → Torn at n [] []

@@ -2,8 +2,7 @@
 use Rattle.std.proofs.Common.{◌≡◌, ◌≢◌, inr, ℕ, zero, suc, ◌+◌, ◌*◌, ◌/◌, ◌%◌, ◌≤◌, List, [], ◌∷◌, ◌++◌, length, get_or, take, drop, Option, None, refl, sym, ◌∙◌, ap, arith, append_assoc, length-append, take-append-drop}
 use Rattle.std.specs.List.{flat_map}
 use Rattle.std.proofs.lemmas.List.{drop_more, take_at, drop_at, get_or-append-add}
-use Rattle.tf_journal.specs.Format.{OPEN, BODY_LIMIT, SIZE_LIMIT, length_bytes, length_at, record_of, prefix_of, Found, body, record_at, record_within, bodies, with_body, then_from, records_from, title_fault, titled, recovered}
-use Rattle.tf_journal.specs.Rest.{IsBody, AreBodies, LiesAs}
+use Rattle.tf_journal.specs.Format.{OPEN, BODY_LIMIT, SIZE_LIMIT, length_bytes, length_at, record_of, prefix_of, Found, body, record_at, record_within, bodies, with_body, then_from, records_from, title_fault, titled, recovered, IsBody, AreBodies, LiesAs}
 use Rattle.tf_journal.proofs.FoundLemmas.{found_closed, found_open, within_body, length_read}
 use Rattle.tf_journal.proofs.ReachLemmas.{length-record_of, records_long}
 use Rattle.tf_journal.proofs.HeaderLemmas.{born, open_header, title_stands}

@@ -3,13 +3,11 @@ use Rattle.std.proofs.Common.{◌≡◌, ◌≢◌, ◌⊎◌, ℕ, ◌≤◌, L
 use Rattle.std.proofs.lemmas.List.{append_cancel_left}
 use Rattle.std.specs.Prelude.{IsTrue, is_some, unwrap_or}
 use Rattle.std.specs.Option.{option_and_then}
-use Rattle.tf_desk.specs.Content.{Mark, at_pick, at_sync}
-use Rattle.tf_desk.specs.Crash.{Pairs, IsLeft}
+use Rattle.tf_desk.specs.Crash.{Mark, at_pick, at_sync, Pairs, IsLeft}
 use Rattle.tf_desk.specs.State.{DeskState, bytes_now, MayLeave, LeftNow, FilesStay, Passes, nothing_left, OnDisk, Rests, Picks, PicksNone, LeavesMade}
 use Rattle.tf_desk.proofs.StateLemmas.{left_stays, on_disk_told}
-use Rattle.tf_journal.specs.Rest.{HasSynced, IsSynced}
-use Rattle.tf_journal.specs.Start.{file_of, first_pick, first_sync, IsFirm, IsStart}
-use Rattle.tf_journal.specs.Path.{Path, IsAsBefore, IsSame, Untouched, Open}
+use Rattle.tf_journal.specs.Format.{HasSynced, IsSynced}
+use Rattle.tf_journal.specs.Start.{file_of, first_pick, first_sync, IsFirm, IsStart, Path, IsAsBefore, IsSame, Untouched, Open}
 
 -- ---- nothing was picked
 

@@ -2,13 +2,10 @@
 use Rattle.std.proofs.Common.{◌≡◌, ◌⊎◌, ◌≤◌, ℕ, List, [], ◌∷◌, ◌++◌, true, Option, Some, None, refl, sym, ap, ◌∙◌, subst, inl, inr, ⊎_elim, append_assoc, arith}
 use Rattle.std.proofs.lemmas.List.{append_cancel_left}
 use Rattle.std.specs.Prelude.{IsTrue, is_some, unwrap_or}
-use Rattle.tf_desk.specs.Content.{Mark, at_pick, at_sync}
-use Rattle.tf_desk.specs.Crash.{Pairs, IsLeft}
-use Rattle.tf_desk.specs.Shown.{ShowsPrefix}
+use Rattle.tf_desk.specs.Crash.{Mark, at_pick, at_sync, Pairs, IsLeft, ShowsPrefix}
 use Rattle.tf_desk.specs.State.{DeskState, bytes_now, MayLeave, LeftNow, OthersStay, Says, Passes, passes_since}
 use Rattle.tf_desk.proofs.StateLemmas.{left_stays}
-use Rattle.tf_journal.specs.Start.{file_of, first_pick, first_sync, IsStart}
-use Rattle.tf_journal.specs.Path.{Path, IsSet}
+use Rattle.tf_journal.specs.Start.{file_of, first_pick, first_sync, IsStart, Path, IsSet}
 
 -- ---- the call's start
 

@@ -1,8 +1,7 @@
 -- Where the records stand of a file in which bodies lie.
 use Rattle.std.proofs.Common.{◌≡◌, inr, ℕ, ◌+◌, ◌≤◌, List, [], ◌∷◌, ◌++◌, length, get_or, drop, refl, sym, ◌∙◌, ap, arith, append_assoc, length-append}
 use Rattle.std.specs.List.{flat_map}
-use Rattle.tf_journal.specs.Format.{OPEN, SIZE_LIMIT, record_of, length_bytes, prefix_of, closed, body, record_at}
-use Rattle.tf_journal.specs.Rest.{IsBody, AreBodies, LiesAs}
+use Rattle.tf_journal.specs.Format.{OPEN, SIZE_LIMIT, record_of, length_bytes, prefix_of, closed, body, record_at, IsBody, AreBodies, LiesAs}
 use Rattle.tf_journal.proofs.FoundLemmas.{found_closed}
 use Rattle.tf_journal.proofs.ReachLemmas.{flat_map-push, length-record_of}
 use Rattle.tf_journal.proofs.LieLemmas.{found_body, lies_split}

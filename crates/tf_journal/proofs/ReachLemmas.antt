@@ -2,8 +2,7 @@
 use Rattle.std.proofs.Common.{◌≡◌, ◌≢◌, ℕ, zero, suc, ◌+◌, ◌-◌, ◌≤◌, ◌<◌, List, [], ◌∷◌, ◌++◌, length, get_or, take, Option, refl, sym, ◌∙◌, ap, subst, arith, append_assoc, length-append, length-take}
 use Rattle.std.proofs.lemmas.List.{append-nil}
 use Rattle.std.specs.List.{flat_map}
-use Rattle.tf_journal.specs.Format.{OPEN, length_bytes, record_of, prefix_of, Found, closed, bad, record_at, Recovered, bodies, not_a_book, with_body, then_from, records_from}
-use Rattle.tf_journal.specs.Rest.{IsBody, AreBodies, LiesAs}
+use Rattle.tf_journal.specs.Format.{OPEN, length_bytes, record_of, prefix_of, Found, closed, bad, record_at, Recovered, bodies, not_a_book, with_body, then_from, records_from, IsBody, AreBodies, LiesAs}
 use Rattle.tf_journal.proofs.FoundLemmas.{found_some}
 use Rattle.tf_journal.specs.Reach.{HasRecord, with_bodies, Reaches}
 

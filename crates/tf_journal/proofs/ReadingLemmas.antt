@@ -3,10 +3,8 @@ use Rattle.std.proofs.Common.{◌≡◌, ℕ, List, [], ◌∷◌, ◌++◌, len
 use Rattle.std.specs.Prelude.{IsTrue}
 use Rattle.tf_desk.specs.State.{DeskState, bytes_now, Rests}
 use Rattle.tf_desk.proofs.StateLemmas.{on_disk_told, rests_none, rests_on, bytes_stay}
-use Rattle.tf_journal.specs.Format.{Found, closed, body, bad, prefix_of, title_of, record_at}
-use Rattle.tf_journal.specs.Held.{Held}
+use Rattle.tf_journal.specs.Format.{Found, closed, body, bad, prefix_of, title_of, record_at, Held, LiesAs}
 use Rattle.tf_journal.specs.Reading.{HasBodies, OnlyReads}
-use Rattle.tf_journal.specs.Rest.{LiesAs}
 use Rattle.tf_journal.proofs.CrashLemmas.{at_rest_on}
 use Rattle.tf_journal.proofs.PlaceLemmas.{found_next, found_end}
 

@@ -3,9 +3,8 @@ use Rattle.std.proofs.Common.{◌≡◌, ◌≢◌, ◌⊎◌, inl, inr, ℕ, �
 use Rattle.std.specs.List.{flat_map}
 use Rattle.std.proofs.lemmas.List.{drop_more, take_at, drop_at, take_all, take-take, get_or_at, get_or-take}
 use Rattle.std.proofs.lemmas.Bool.{cases_eq}
-use Rattle.tf_desk.specs.Content.{written, Torn}
-use Rattle.tf_journal.specs.Format.{OPEN, SIZE_LIMIT, length_bytes, record_of, prefix_of, bodies, recovered}
-use Rattle.tf_journal.specs.Rest.{IsBody, AreBodies, LiesAs}
+use Rattle.tf_desk.specs.Crash.{written, Torn}
+use Rattle.tf_journal.specs.Format.{OPEN, SIZE_LIMIT, length_bytes, record_of, prefix_of, bodies, recovered, IsBody, AreBodies, LiesAs}
 use Rattle.tf_journal.proofs.ReachLemmas.{flat_map-push, length-record_of, bodies_push}
 use Rattle.tf_journal.proofs.LieLemmas.{recovered_lies}
 

@@ -1,12 +1,10 @@
 -- What an append does.
 use Rattle.std.specs.Prelude.{◌≡◌, ℕ, ◌+◌, ◌<◌, ◌≤◌, true, false, List, [], ◌∷◌, ◌++◌, length}
-use Rattle.tf_desk.specs.Counts.{Rises}
+use Rattle.tf_desk.specs.Crash.{Rises}
 use Rattle.tf_desk.specs.State.{DeskState, bytes_now, Passes}
 use Rattle.tf_journal.specs.declared.faults.AppendFault.{AppendFault}
 use Rattle.tf_journal.specs.declared.faults.AppendFault.TheVariants.{Disk, Full, Halted}
-use Rattle.tf_journal.specs.Format.{SIZE_LIMIT, journal_bytes, bodies, recovered, title_of}
-use Rattle.tf_journal.specs.Held.{Held}
-use Rattle.tf_journal.specs.Rest.{IsAtRest, LeavesEither, LeavesBeforeOrAfter}
+use Rattle.tf_journal.specs.Format.{SIZE_LIMIT, journal_bytes, bodies, recovered, title_of, Held, IsAtRest, LeavesEither, LeavesBeforeOrAfter}
 
 -- the file has one body more: it is at rest, recovery finds it, and so after each crash from now on; a file of just the bodies before has just it more
 pub record Adds {K : Type 0} (state : K → DeskState) (body : List ℕ) (old new : Held K) (held : List (List ℕ)) : Type 0 where

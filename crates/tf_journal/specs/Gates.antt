@@ -1,6 +1,6 @@
 -- What a crash may leave inside a write that is synced, and inside one whose gate is opened after it.
 use Rattle.std.specs.Prelude.{◌≡◌, ◌⊎◌, ℕ, ◌+◌, List, length, Option, Some}
-use Rattle.tf_desk.specs.Content.{written, Torn}
+use Rattle.tf_desk.specs.Crash.{written, Torn}
 
 -- the bytes torn in a range; the shown text stays
 abbrev pub LeavesTornAt : List ℕ → ℕ → ℕ → Option (List ℕ) → List ℕ → List ℕ → Type 0

@@ -1,6 +1,4 @@
 pub mod Format
-pub mod Held
-pub mod Rest
 pub mod Adding
 pub mod Answers
 pub mod Gates
@@ -8,5 +6,4 @@ pub mod Reach
 pub mod Header
 pub mod Birth
 pub mod Start
-pub mod Path
 pub mod Reading

@@ -3,8 +3,7 @@ use Rattle.std.specs.Prelude.{◌≡◌, ℕ, ◌+◌, ◌≤◌, ◌<◌, List,
 use Rattle.std.specs.List.{flat_map}
 use Rattle.tf_journal.specs.declared.scanning.Look.{Look}
 use Rattle.tf_journal.specs.declared.scanning.Look.TheVariants.{Closed, Body, Bad}
-use Rattle.tf_journal.specs.Format.{SIZE_LIMIT, record_of, closed, body, bad, record_at, Recovered, with_body, records_from}
-use Rattle.tf_journal.specs.Rest.{IsBody, AreBodies}
+use Rattle.tf_journal.specs.Format.{SIZE_LIMIT, record_of, closed, body, bad, record_at, Recovered, with_body, records_from, IsBody, AreBodies}
 
 -- the record at that place has this body; the file has the gate behind it
 pub record HasRecord (bytes : List ℕ) (place : ℕ) (record_body : List ℕ) : Type 0 where

@@ -1,9 +1,7 @@
 -- How bodies are read through a journal, one after another.
 use Rattle.std.specs.Prelude.{◌≡◌, ◌⊎◌, ℕ, ◌<◌, ◌≤◌, Bool, true, false, IsTrue, List, [], ◌∷◌, Option, None}
 use Rattle.tf_desk.specs.State.{DeskState, bytes_now, Rests}
-use Rattle.tf_journal.specs.Format.{SIZE_LIMIT, bad, record_at, title_of}
-use Rattle.tf_journal.specs.Held.{Held}
-use Rattle.tf_journal.specs.Rest.{LiesAs, IsAtRest}
+use Rattle.tf_journal.specs.Format.{SIZE_LIMIT, bad, record_at, title_of, Held, LiesAs, IsAtRest}
 use Rattle.tf_journal.specs.declared.faults.LoadFault.{LoadFault}
 use Rattle.tf_journal.specs.declared.faults.LoadFault.TheVariants as load_fault
 

@@ -2,8 +2,7 @@
 ghost use Rattle.std.specs.Prelude.{◌≡◌, ◌≢◌, ◌↔◌, ◌≤◌, true, false, ◌++◌, ◌∷◌, [], IsTrue, length, drop, OnOk, IfErr};
 ghost use Rattle.tf_desk.specs.State.{bytes_now, IsDurable, GoesOn, FailsOnDisk};
 ghost use Rattle.tf_journal.specs.Birth.{IsClosed, IsTitled};
-ghost use Rattle.tf_journal.specs.Format.{is_unborn, journal_bytes, title_of};
-ghost use Rattle.tf_journal.specs.Rest.{LeavesBirth};
+ghost use Rattle.tf_journal.specs.Format.{is_unborn, journal_bytes, title_of, LeavesBirth};
 
 use crate::gates::{OPEN, write_synced};
 use crate::scanning::read_start;

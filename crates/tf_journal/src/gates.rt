@@ -1,6 +1,6 @@
 //! Writes that are on the disk when they answer.
 ghost use Rattle.std.specs.Prelude.{◌≡◌, ◌≤◌, ◌<◌, ◌+◌, ◌^◌, ◌∷◌, [], IsTrue, length, OnOk, IfErr};
-ghost use Rattle.tf_desk.specs.Content.{written};
+ghost use Rattle.tf_desk.specs.Crash.{written};
 ghost use Rattle.tf_desk.specs.State.{bytes_now, IsDurable, GoesOn, FailsOnDisk};
 ghost use Rattle.tf_journal.specs.Format.{OPEN};
 ghost use Rattle.tf_journal.specs.Gates.{LeavesTornAt, LeavesGated};

@@ -1,11 +1,10 @@
 ghost use Rattle.std.specs.Prelude.{◌≡◌, ◌≢◌, ◌≤◌, ◌<◌, ◌+◌, ◌++◌, ◌∷◌, [], ℕ, List, None, true, false, IsTrue, length, vec_capacity, OnOk, IfOk, IfErr, MatchResult, Ok};
-ghost use Rattle.tf_desk.specs.Counts.{Rises};
+ghost use Rattle.tf_desk.specs.Crash.{Rises};
 ghost use Rattle.tf_desk.specs.State.{bytes_now, anything, Rests, GoesOn};
 ghost use Rattle.tf_journal.specs.Adding.{Adds, AddsAtMost, Grows, FailsToAppend};
 ghost use Rattle.tf_journal.specs.Answers.{RefusesFile, RefusesRecord, GivesRecord, FailsToCreate, FailsToRead};
-ghost use Rattle.tf_journal.specs.Format.{length_bytes, is_unborn, journal_bytes, bodies, recovered, record_at, title_of};
+ghost use Rattle.tf_journal.specs.Format.{length_bytes, is_unborn, journal_bytes, bodies, recovered, record_at, title_of, IsBody, IsAtRest, IsReady, AtRest, HasSynced, IsSynced, LeavesBirth, desk_after};
 ghost use Rattle.tf_journal.specs.Reading.{OnlyReads};
-ghost use Rattle.tf_journal.specs.Rest.{IsBody, IsAtRest, IsReady, AtRest, HasSynced, IsSynced, LeavesBirth, desk_after};
 
 use crate::birth::bear;
 use crate::faults::{AppendFault, JournalFault};
@@ -38,8 +37,8 @@ pub struct Journal<K: Desk> {
 }
 
 impl<K: Desk> Model for Journal<K> {
-    ghost use Rattle.std.specs.Prelude.{◌≤◌, vec_capacity};
-    ghost use Rattle.tf_journal.specs.Held.{Held};
+    ghost use Rattle.std.specs.Prelude.{◌≤◌, vec_capacity, ◌≡◌};
+    ghost use Rattle.tf_journal.specs.Format.{Held};
 
     ghost Value = { Held K };
 
@@ -239,7 +238,6 @@ impl<K: Desk> Journal<K> {
 }
 
 impl<K: Desk> Journal<K> {
-    ghost use Rattle.std.specs.Prelude.{◌≡◌};
     ghost use Rattle.std.specs.Borrow.{Lends, sem};
     ghost use Rattle.tf_journal.specs.contracts.journal.Journal.{the_row};
 

@@ -2,9 +2,8 @@
 ghost use Rattle.std.specs.Prelude.{◌≡◌, ◌≢◌, ◌<◌, ◌+◌, ◌*◌, ◌≤◌, List, ℕ, IsTrue, length, take, drop, IfOk, IfErr, OnOk, MatchResult, Err};
 ghost use Rattle.tf_desk.specs.State.{bytes_now, IsDurable, Rests, FailsOnDisk};
 ghost use Rattle.tf_journal.specs.Answers.{RefusesFile, FailsToScan};
-ghost use Rattle.tf_journal.specs.Format.{bodies, records_from, recovered, title_of};
+ghost use Rattle.tf_journal.specs.Format.{bodies, records_from, recovered, title_of, LiesAs, HasSynced, IsSynced};
 ghost use Rattle.tf_journal.specs.Reach.{IsNear, Shows, EndsRecords};
-ghost use Rattle.tf_journal.specs.Rest.{LiesAs, HasSynced, IsSynced};
 
 use crate::faults::JournalFault;
 use crate::gates::OPEN;

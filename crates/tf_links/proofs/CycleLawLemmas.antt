@@ -3,10 +3,8 @@ use Rattle.std.proofs.Common.{◌≡◌, ℕ, zero, suc, ◌<◌, ◌≤◌, Lis
 use Rattle.std.specs.Prelude.{nat_eq, nat_lt, is_some}
 use Rattle.std.specs.List.{list_any}
 use Rattle.std.proofs.lemmas.Bool.{cases_lt, ltb-true}
-use Rattle.tf_numbers.specs.Numbers.{has_number, first_below}
-use Rattle.tf_numbers.specs.Pairs.{Pair, has_pair}
-use Rattle.tf_links.specs.Cycles.{leads_to_one, reaching, goes_on_by, go_on, walk_to, comes_back, walk_back, shortest_cycle}
-use Rattle.tf_links.specs.Laws.{AreBelow, leads_through, Chain, IsCycle, comes_before}
+use Rattle.tf_numbers.specs.Numbers.{has_number, first_below, Pair, has_pair}
+use Rattle.tf_links.specs.Graphs.{leads_to_one, reaching, goes_on_by, go_on, walk_to, comes_back, walk_back, shortest_cycle, AreBelow, leads_through, Chain, IsCycle, comes_before}
 use Rattle.tf_numbers.proofs.TruthLemmas.{and_first, and_second, or_either, true_first, true_second, true_both, clash, either_way, never_true, neither, only_first, first_false}
 use Rattle.tf_numbers.proofs.PairLemmas.{which_passes, passes_which}
 use Rattle.tf_numbers.proofs.BelowLemmas.{found_passes, first_there, first_none, first_before}

@@ -3,9 +3,8 @@ use Rattle.std.proofs.Common.{◌≡◌, ◌≢◌, ℕ, zero, suc, ◌+◌, ◌
 use Rattle.std.specs.Prelude.{nat_eq, is_some, if◌then◌else◌}
 use Rattle.std.specs.List.{list_any}
 use Rattle.std.proofs.lemmas.Bool.{cases_lt}
-use Rattle.tf_numbers.specs.Numbers.{has_number, first_below}
-use Rattle.tf_numbers.specs.Pairs.{Pair, has_pair}
-use Rattle.tf_links.specs.Cycles.{leads_to_one, reaching, goes_on_by, go_on, walk_to, comes_back, walk_back, shortest_cycle}
+use Rattle.tf_numbers.specs.Numbers.{has_number, first_below, Pair, has_pair}
+use Rattle.tf_links.specs.Graphs.{leads_to_one, reaching, goes_on_by, go_on, walk_to, comes_back, walk_back, shortest_cycle}
 use Rattle.tf_numbers.proofs.TruthLemmas.{and_first, and_second, or_either, true_first, true_second, true_both, same_truth, clash}
 use Rattle.tf_numbers.proofs.PairLemmas.{which_passes, passes_which}
 use Rattle.tf_links.specs.Bits.{has, words_for}

@@ -1,8 +1,7 @@
 -- A number reaches another exactly where a chain of pairs leads from the one to the other.
 use Rattle.std.proofs.Common.{◌≡◌, ℕ, zero, suc, List, [], ◌∷◌, ◌++◌, true, ◌&&◌, inl, inr}
-use Rattle.tf_numbers.specs.Pairs.{Pair, has_pair}
-use Rattle.tf_links.specs.Reach.{leads_by, reached_by, reached}
-use Rattle.tf_links.specs.Laws.{AreBelow, leads_through, Chain}
+use Rattle.tf_numbers.specs.Numbers.{Pair, has_pair}
+use Rattle.tf_links.specs.Graphs.{leads_by, reached_by, reached, AreBelow, leads_through, Chain}
 use Rattle.tf_numbers.proofs.TruthLemmas.{and_first, and_second, or_either, true_both}
 use Rattle.tf_numbers.proofs.PairLemmas.{pair_passes}
 use Rattle.tf_links.proofs.ReachedLemmas.{reached_chain, reached_keeps}

@@ -3,9 +3,8 @@ use Rattle.std.proofs.Common.{◌≡◌, ◌≢◌, ℕ, zero, suc, ◌+◌, ◌
 use Rattle.std.specs.Prelude.{nat_eq, nat_lt, if◌then◌else◌}
 use Rattle.std.proofs.lemmas.Bool.{cases_lt, ltb-true, lt-ltb}
 use Rattle.std.proofs.lemmas.List.{reverse-append}
-use Rattle.tf_numbers.specs.Numbers.{first_below, has_number}
-use Rattle.tf_numbers.specs.Pairs.{Pair, has_pair}
-use Rattle.tf_links.specs.Reach.{leads_by, reached_by, reached}
+use Rattle.tf_numbers.specs.Numbers.{first_below, has_number, Pair, has_pair}
+use Rattle.tf_links.specs.Graphs.{leads_by, reached_by, reached}
 use Rattle.tf_numbers.proofs.TruthLemmas.{and_first, and_second, or_either, true_first, true_second, true_both, same_truth, never_true, clash, and_false, or_chain, or_false, or_nothing, or_turn}
 use Rattle.tf_numbers.proofs.BelowLemmas.{none_at}
 use Rattle.tf_numbers.proofs.PairLemmas.{pair_passes}

@@ -1,8 +1,8 @@
 -- Which number leads to which, in one step or in several.
 use Rattle.std.proofs.Common.{◌≡◌, ℕ, zero, suc, ◌<◌, List, true, ◌&&◌, sym, ap, ◌∙◌, inl, inr, arith}
 use Rattle.std.proofs.lemmas.Bool.{cases_lt}
-use Rattle.tf_numbers.specs.Pairs.{Pair, has_pair}
-use Rattle.tf_links.specs.Reach.{leads_by, reached_by, reached}
+use Rattle.tf_numbers.specs.Numbers.{Pair, has_pair}
+use Rattle.tf_links.specs.Graphs.{leads_by, reached_by, reached}
 use Rattle.tf_numbers.proofs.TruthLemmas.{and_first, and_second, or_either, true_first, true_second, true_both}
 use Rattle.tf_numbers.proofs.PairLemmas.{pair_passes, passes_pair}
 

@@ -2,11 +2,8 @@
 use Rattle.std.proofs.Common.{◌≡◌, ℕ, zero, suc, ◌+◌, ◌<◌, ◌≤◌, List, [], ◌∷◌, ◌++◌, Bool, true, false, not, ◌&&◌, Option, Some, None, refl, sym, ap, ◌∙◌, ◌⊎◌, inl, inr, arith, eqb-true, eq-eqb}
 use Rattle.std.specs.Prelude.{nat_eq, is_some}
 use Rattle.std.specs.List.{list_all}
-use Rattle.tf_numbers.specs.Numbers.{has_number, first_below}
-use Rattle.tf_numbers.specs.Pairs.{Pair, is_pair, has_pair}
-use Rattle.tf_links.specs.Standing.{is_behind, is_next, take_one, take_items, standing_items}
-use Rattle.tf_links.specs.Reach.{reached}
-use Rattle.tf_links.specs.Laws.{AreBelow, Chain, Waits, IsNextOf}
+use Rattle.tf_numbers.specs.Numbers.{has_number, first_below, Pair, is_pair, has_pair}
+use Rattle.tf_links.specs.Graphs.{is_behind, is_next, take_one, take_items, standing_items, reached, AreBelow, Chain, Waits, IsNextOf}
 use Rattle.tf_numbers.proofs.TruthLemmas.{and_first, and_second, or_either, true_first, true_second, true_both, clash, either_way, never_true, not_true, neither_first, neither_second, or_of_not}
 use Rattle.tf_numbers.proofs.BelowLemmas.{found_passes, found_below, first_there, first_before, none_or_last}
 use Rattle.tf_links.proofs.ReachedLemmas.{reached_chain, reached_keeps, reached_within}

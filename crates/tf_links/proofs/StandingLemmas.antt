@@ -3,9 +3,8 @@ use Rattle.std.proofs.Common.{◌≡◌, ◌≢◌, ℕ, zero, suc, ◌+◌, ◌
 use Rattle.std.specs.Prelude.{nat_eq, nat_lt, if◌then◌else◌}
 use Rattle.std.specs.List.{list_all}
 use Rattle.std.proofs.lemmas.Bool.{cases_lt, ltb-true, lt-ltb}
-use Rattle.tf_numbers.specs.Numbers.{all_below, first_below, which_below, has_number}
-use Rattle.tf_numbers.specs.Pairs.{Pair, has_pair}
-use Rattle.tf_links.specs.Standing.{is_behind, is_next, take_one, take_items}
+use Rattle.tf_numbers.specs.Numbers.{all_below, first_below, which_below, has_number, Pair, has_pair}
+use Rattle.tf_links.specs.Graphs.{is_behind, is_next, take_one, take_items}
 use Rattle.tf_numbers.proofs.TruthLemmas.{and_first, and_second, or_either, true_first, true_second, true_both, same_truth, never_true, clash, and_false, or_chain, or_false, or_of_not, or_true}
 use Rattle.tf_numbers.proofs.PairLemmas.{which_passes, passes_which}
 use Rattle.tf_links.specs.Bits.{has, room, has_if, is_within, words_for}

@@ -1,7 +1,7 @@
 -- The items from which one item is reached in so many links, and walks by them.
 use Rattle.std.specs.Prelude.{◌≡◌, ℕ, zero, suc, ◌<◌, List, [], ◌∷◌, Bool, ◌&&◌, Option, is_some, length, nat_eq, slice_index_or}
 use Rattle.tf_numbers.specs.Numbers.{first_below}
-use Rattle.tf_links.specs.Cycles.{go_on}
+use Rattle.tf_links.specs.Graphs.{go_on}
 use Rattle.tf_links.specs.Bits.{has, words_for}
 use Rattle.tf_links.specs.Links.{leads, LinksValue}
 

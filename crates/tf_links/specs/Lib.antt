@@ -1,7 +1,4 @@
-pub mod Reach
-pub mod Standing
-pub mod Cycles
+pub mod Graphs
 pub mod Bits
 pub mod Links
 pub mod Layers
-pub mod Laws

@@ -1,8 +1,7 @@
 -- Links among the items of a flow, as rows of bits.
 use Rattle.std.specs.Prelude.{◌≡◌, ℕ, ◌<◌, List, [], ◌∷◌, Bool, true, not, ◌&&◌, ◌||◌, length, nat_lt, slice_index_or}
-use Rattle.tf_numbers.specs.Pairs.{Pair, has_pair}
-use Rattle.tf_numbers.specs.Numbers.{has_number, all_below}
-use Rattle.tf_links.specs.Standing.{take_items}
+use Rattle.tf_numbers.specs.Numbers.{Pair, has_pair, has_number, all_below}
+use Rattle.tf_links.specs.Graphs.{take_items}
 use Rattle.tf_links.specs.Bits.{has, words_for}
 
 -- the row of u has v

@@ -1,7 +1,6 @@
 ghost use Rattle.std.specs.Prelude.{◌≡◌, ℕ, ◌+◌, ◌<◌, List, [], ◌∷◌, Bool, true, length, OnOk, IfOk, is_some, nat_eq, slice_index_or};
-ghost use Rattle.tf_numbers.specs.Pairs.{Pair};
-ghost use Rattle.tf_numbers.specs.Numbers.{has_number};
-ghost use Rattle.tf_links.specs.Cycles.{shortest_cycle};
+ghost use Rattle.tf_numbers.specs.Numbers.{Pair, has_number};
+ghost use Rattle.tf_links.specs.Graphs.{shortest_cycle};
 ghost use Rattle.tf_links.specs.Bits.{has, words_for};
 ghost use Rattle.tf_links.specs.Links.{leads, AreLinks};
 ghost use Rattle.tf_links.specs.Layers.{AreLayers, first_into, walk_by};

@@ -1,12 +1,8 @@
 //! What the definitions promise of all links.
 
 ghost use Rattle.std.specs.Prelude.{◌≡◌, ℕ, ◌<◌, ◌≤◌, List, [], ◌∷◌, ◌++◌, true, false, length};
-ghost use Rattle.tf_numbers.specs.Numbers.{has_number};
-ghost use Rattle.tf_numbers.specs.Pairs.{Pair, has_pair};
-ghost use Rattle.tf_links.specs.Reach.{reached};
-ghost use Rattle.tf_links.specs.Cycles.{shortest_cycle};
-ghost use Rattle.tf_links.specs.Standing.{standing_items};
-ghost use Rattle.tf_links.specs.Laws.{AreBelow, Chain, IsNextOf, IsCycle, comes_before};
+ghost use Rattle.tf_numbers.specs.Numbers.{has_number, Pair, has_pair};
+ghost use Rattle.tf_links.specs.Graphs.{reached, shortest_cycle, standing_items, AreBelow, Chain, IsNextOf, IsCycle, comes_before};
 
 /// A number reaches another exactly where a chain of pairs leads from the one to the other, for pairs of
 /// numbers below n.

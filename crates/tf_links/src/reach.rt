@@ -1,7 +1,6 @@
 ghost use Rattle.std.specs.Prelude.{◌≡◌, ℕ, ◌<◌, List, Bool, true, false, ◌&&◌, ◌||◌, nat_eq, length, reverse, OnOk, IfOk, slice_index_or};
-ghost use Rattle.tf_numbers.specs.Pairs.{Pair, has_pair};
-ghost use Rattle.tf_numbers.specs.Numbers.{has_number};
-ghost use Rattle.tf_links.specs.Reach.{reached};
+ghost use Rattle.tf_numbers.specs.Numbers.{Pair, has_pair, has_number};
+ghost use Rattle.tf_links.specs.Graphs.{reached};
 ghost use Rattle.tf_links.specs.Bits.{has, words_for};
 ghost use Rattle.tf_links.specs.Links.{leads, IsSquare, AreLinks, leads_by_path, AreReached, ArePivots};
 

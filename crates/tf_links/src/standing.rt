@@ -1,7 +1,6 @@
 ghost use Rattle.std.specs.Prelude.{◌≡◌, ℕ, ◌+◌, ◌<◌, List, Bool, true, false, ◌&&◌, ◌||◌, not, nat_eq, nat_lt, length, OnOk, IfOk};
-ghost use Rattle.tf_numbers.specs.Pairs.{Pair, has_pair};
-ghost use Rattle.tf_numbers.specs.Numbers.{has_number};
-ghost use Rattle.tf_links.specs.Standing.{standing_items};
+ghost use Rattle.tf_numbers.specs.Numbers.{Pair, has_pair, has_number};
+ghost use Rattle.tf_links.specs.Graphs.{standing_items};
 ghost use Rattle.tf_links.specs.Bits.{has, words_for};
 ghost use Rattle.tf_links.specs.Links.{leads, AreLinks, is_ready, AreReady, Taken};
 

@@ -8,15 +8,13 @@ use Rattle.tf_states.specs.declared.state.AtomState.{AtomState}
 use Rattle.tf_states.specs.declared.state.AtomState.TheVariants as atom
 use Rattle.tf_states.specs.declared.state.FlowState.TheVariants as flow
 use Rattle.tf_model.specs.Plan.{Outline}
-use Rattle.tf_model.specs.Snapshot.{Snapshot, later, attempts_in}
-use Rattle.tf_model.specs.History.{snapshot}
-use Rattle.tf_model.specs.States.{is_pending, is_running, is_retrying}
+use Rattle.tf_model.specs.History.{Snapshot, later, attempts_in, snapshot, is_pending, is_running, is_retrying}
 use Rattle.tf_model.specs.Steps.{Step}
 use Rattle.tf_numbers.proofs.TruthLemmas.{or_either}
 use Rattle.tf_bound.specs.Costs.{tries_at, HasAttempts}
 use Rattle.tf_bound.specs.Kept.{IsCounted}
 use Rattle.tf_machine.specs.Tries.{HasTries}
-use Rattle.tf_hands.specs.Flight.{FlightFacts}
+use Rattle.tf_hands.specs.Hands.{FlightFacts}
 use Rattle.tf_hands.proofs.FitLemmas.{StateFits, Fits, step_fits}
 
 -- the snapshot after what a hand recorded

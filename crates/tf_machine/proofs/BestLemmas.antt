@@ -7,9 +7,8 @@ use Rattle.tf_states.specs.declared.state.AtomState.{AtomState}
 use Rattle.tf_states.specs.declared.state.AtomState.TheVariants as atom
 use Rattle.tf_numbers.specs.Numbers.{first_below}
 use Rattle.tf_model.specs.Plan.{Outline, count, is_task}
-use Rattle.tf_model.specs.Snapshot.{Snapshot}
-use Rattle.tf_model.specs.Forced.{forced, forced_if_running, is_active}
-use Rattle.tf_model.specs.Candidates.{priority, is_candidate, outranks, is_best, taken_up, candidate_entry, candidate_if_running, choice}
+use Rattle.tf_model.specs.History.{Snapshot}
+use Rattle.tf_model.specs.Forced.{forced, forced_if_running, is_active, priority, is_candidate, outranks, is_best, taken_up, candidate_entry, candidate_if_running, choice}
 use Rattle.tf_numbers.proofs.TruthLemmas.{and_first, true_both, first_false, second_false}
 use Rattle.tf_hands.proofs.FitLemmas.{candidate_task}
 use Rattle.tf_machine.specs.Best.{outranked, best_below, is_start}

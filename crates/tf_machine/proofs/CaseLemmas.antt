@@ -5,7 +5,7 @@ use Rattle.tf_states.specs.declared.record.What.{What}
 use Rattle.tf_machine.specs.declared.cases.Case.{Case}
 use Rattle.tf_numbers.specs.Numbers.{first_below}
 use Rattle.tf_model.specs.Plan.{Outline, count}
-use Rattle.tf_model.specs.Snapshot.{Snapshot}
+use Rattle.tf_model.specs.History.{Snapshot}
 use Rattle.tf_model.specs.Forced.{forced_attempt, forced_again, forced_reverted, forced_resolution, forced_retrying, forced_revert, forced_ignore, forced_run, forced_if_running}
 use Rattle.tf_numbers.proofs.ListLemmas.{drop_first, drop_whole}
 use Rattle.tf_numbers.proofs.OptionLemmas.{or_none}

@@ -11,9 +11,7 @@ use Rattle.tf_states.specs.declared.state.FlowState.{FlowState}
 use Rattle.tf_machine.specs.declared.tables.Place.{Place}
 use Rattle.tf_model.specs.Plan.{Outline, count, holds, is_retry, own_flow}
 use Rattle.tf_model.specs.Forced.{holds_with, is_marked_again}
-use Rattle.tf_model.specs.Snapshot.{held_after, attempts_in}
-use Rattle.tf_model.specs.States.{is_running}
-use Rattle.tf_model.specs.Views.{state_in, payload_in}
+use Rattle.tf_model.specs.History.{held_after, attempts_in, is_running, state_in, payload_in}
 use Rattle.tf_machine.specs.Tables.{hand_in, mark_in, attempts_told, resolve_of, shown_of}
 use Rattle.tf_machine.specs.declared.compiled.Span.{Span}
 use Rattle.tf_machine.specs.declared.tables.Change.{Change}

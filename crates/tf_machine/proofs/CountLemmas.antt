@@ -13,9 +13,8 @@ use Rattle.tf_numbers.proofs.PairLemmas.{which_passes, passes_which}
 use Rattle.tf_numbers.proofs.TruthLemmas.{same_truth, never_true, neither, neither_first, neither_second}
 use Rattle.tf_model.specs.Plan.{Outline, count, is_before}
 use Rattle.tf_model.specs.Scope.{is_earlier}
-use Rattle.tf_model.specs.Snapshot.{Snapshot}
-use Rattle.tf_model.specs.States.{is_done, is_settled}
-use Rattle.tf_model.specs.Candidates.{is_done_at}
+use Rattle.tf_model.specs.History.{Snapshot, is_done, is_settled}
+use Rattle.tf_model.specs.Forced.{is_done_at}
 use Rattle.tf_model.specs.Steps.{is_settled_at}
 use Rattle.tf_facts.proofs.LayoutLemmas.{before_below, before_below_first}
 use Rattle.tf_order.specs.Graph.{predecessors_of, successors_of}

@@ -1,8 +1,8 @@
 -- Which atoms a link with a decider leads to.
 use Rattle.std.proofs.Common.{◌≡◌, ℕ, zero, suc, ◌+◌, List, [], ◌∷◌, ◌++◌, length, Bool, false, Some, None, sym, ap, ◌∙◌, subst, slice_get}
 use Rattle.tf_model.specs.Plan.{Outline, count}
-use Rattle.tf_model.specs.Snapshot.{Snapshot}
-use Rattle.tf_model.specs.Deciders.{refused}
+use Rattle.tf_model.specs.History.{Snapshot}
+use Rattle.tf_model.specs.Readiness.{refused}
 use Rattle.tf_numbers.proofs.ListLemmas.{length_more}
 use Rattle.tf_machine.specs.Compiled.{AreDecided}
 

@@ -5,8 +5,8 @@ use Rattle.tf_states.specs.declared.state.FlowState.{FlowState}
 use Rattle.tf_states.specs.declared.state.FlowState.TheVariants as flow
 use Rattle.tf_numbers.specs.Numbers.{all_below, first_below}
 use Rattle.tf_model.specs.Plan.{Outline, count}
-use Rattle.tf_model.specs.Snapshot.{Snapshot}
-use Rattle.tf_model.specs.Candidates.{is_best, is_done_at, is_at_rest, candidate_entry, candidate_if_running, calm_end}
+use Rattle.tf_model.specs.History.{Snapshot}
+use Rattle.tf_model.specs.Forced.{is_best, is_done_at, is_at_rest, candidate_entry, candidate_if_running, calm_end}
 
 none_taken : (s : Snapshot) (o : Option ℕ) → is_none (option_map (candidate_entry s) o) ≡ is_none o
 none_taken s None = refl

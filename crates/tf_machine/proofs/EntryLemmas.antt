@@ -19,15 +19,14 @@ use Rattle.tf_numbers.proofs.ListLemmas.{take_whole}
 use Rattle.tf_numbers.proofs.TruthLemmas.{or_either, clash}
 use Rattle.tf_model.specs.Before.{leads_into, passes_flow}
 use Rattle.tf_model.specs.Plan.{Outline, outline_of, count, holds, retry_of, path}
-use Rattle.tf_model.specs.Snapshot.{Snapshot}
-use Rattle.tf_model.specs.Deciders.{refused}
+use Rattle.tf_model.specs.History.{Snapshot, Shows, state_in, payload_in}
+use Rattle.tf_model.specs.Readiness.{refused}
 use Rattle.tf_model.specs.Retries.{retry_kind, attempt_by, attempt_of, attempt, answer_by, answer_of, answer, resolution}
 use Rattle.tf_model.specs.Scope.{given_for}
 use Rattle.tf_model.specs.Forced.{is_to_put_back, put_back_or_run, again_entry, is_to_ignore, ignore_or_self, ignore_by, ignore_entry, ignored_entry, resolve_entry, resolution_entry}
 use Rattle.tf_rules.specs.declared.resolutions.Resolution.{Resolution}
 use Rattle.tf_rules.specs.Answers.{HasAnswers}
 use Rattle.tf_rules.specs.Resolutions.{shown_resolution}
-use Rattle.tf_model.specs.Views.{Shows, state_in, payload_in}
 use Rattle.tf_machine.specs.declared.tables.Tables.{Tables}
 use Rattle.tf_machine.specs.Entries.{IsAsGiven}
 use Rattle.tf_machine.specs.Tables.{shown_by}

@@ -6,11 +6,10 @@ use Rattle.tf_states.specs.declared.record.What.TheVariants as what
 use Rattle.tf_states.specs.declared.state.AtomState.{AtomState}
 use Rattle.tf_states.specs.declared.state.AtomState.TheVariants as atom
 use Rattle.tf_model.specs.Plan.{Outline, holds, is_retry, is_task, own_flow}
-use Rattle.tf_model.specs.Snapshot.{Snapshot, Resolve, is_at_work, is_again, is_retry_of, later, mark_after, begun_again}
+use Rattle.tf_model.specs.History.{Snapshot, Resolve, is_at_work, is_again, is_retry_of, later, mark_after, begun_again, is_running}
 use Rattle.tf_model.specs.Forced.{holds_with}
 use Rattle.tf_numbers.proofs.TruthLemmas.{and_second, clash, never_true}
 use Rattle.tf_states.specs.declared.record.Kind.{Kind}
-use Rattle.tf_model.specs.States.{is_running}
 use Rattle.tf_machine.specs.declared.worklists.Extent.TheVariants as extent
 use Rattle.tf_machine.specs.Worklists.{AreMoved, AreMarksHeld, event}
 

@@ -8,8 +8,7 @@ use Rattle.tf_machine.specs.declared.cases.Placed.{Placed}
 use Rattle.tf_numbers.proofs.BelowLemmas.{first_is, first_none}
 use Rattle.tf_numbers.proofs.TruthLemmas.{first_false}
 use Rattle.tf_model.specs.Plan.{Outline, count, is_retry}
-use Rattle.tf_model.specs.Snapshot.{Snapshot}
-use Rattle.tf_model.specs.States.{is_failure, is_success}
+use Rattle.tf_model.specs.History.{Snapshot, is_failure, is_success}
 use Rattle.tf_model.specs.Forced.{forced_if_running, is_refused}
 use Rattle.tf_machine.specs.Cases.{applies, entry_in, entry_among, cases, case_of, IsCaseAt, sooner}
 use Rattle.tf_links.specs.Bits.{has}

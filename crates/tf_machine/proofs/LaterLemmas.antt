@@ -15,9 +15,8 @@ use Rattle.tf_machine.specs.declared.tables.Change.TheVariants as change
 use Rattle.tf_machine.specs.declared.tables.Mark.{Mark}
 use Rattle.tf_machine.specs.declared.tables.Place.{Place}
 use Rattle.tf_model.specs.Plan.{Outline, count, holds, is_task, is_retry, own_flow}
-use Rattle.tf_model.specs.Snapshot.{Resolve, Snapshot, later, state_after, payload_after, hand_after, mark_after, attempts_after, is_at_work, begun_again}
+use Rattle.tf_model.specs.History.{Resolve, Snapshot, later, state_after, payload_after, hand_after, mark_after, attempts_after, is_at_work, begun_again, is_running}
 use Rattle.tf_model.specs.Forced.{is_marked_again}
-use Rattle.tf_model.specs.States.{is_running}
 use Rattle.tf_machine.specs.Tables.{hand_in, mark_in, attempts_told, resolve_of, shown_of}
 use Rattle.tf_machine.specs.Changes.{AreChanged, first_place, changed, turned, cleared, marked, begun}
 use Rattle.tf_machine.proofs.PlanLemmas.{never_held}

@@ -9,16 +9,14 @@ use Rattle.tf_states.specs.declared.record.What.TheVariants as what
 use Rattle.tf_states.specs.declared.state.FlowState.TheVariants as flow
 use Rattle.tf_actions.specs.declared.outcomes.Outcome.{Outcome}
 use Rattle.tf_model.specs.Plan.{count}
-use Rattle.tf_model.specs.Snapshot.{Snapshot, later}
-use Rattle.tf_model.specs.States.{flow_runs, flow_suspends}
-use Rattle.tf_model.specs.Forced.{forced}
-use Rattle.tf_model.specs.Candidates.{choice}
+use Rattle.tf_model.specs.History.{Snapshot, later, flow_runs, flow_suspends}
+use Rattle.tf_model.specs.Forced.{forced, choice}
 use Rattle.tf_model.specs.Steps.{Step}
 use Rattle.tf_numbers.proofs.BelowLemmas.{found_passes}
 use Rattle.tf_bound.specs.Owed.{left, left_later}
 use Rattle.tf_bound.proofs.SessionLemmas.{falls, forced_less, chosen_less, ended_less}
 use Rattle.tf_hands.specs.declared.starts.Start.{Start}
-use Rattle.tf_hands.specs.Flight.{start_entry, is_with, task_of, end_by, ended_from}
+use Rattle.tf_hands.specs.Hands.{start_entry, is_with, task_of, end_by, ended_from}
 use Rattle.tf_machine.specs.Machine.{MachineValue, IsSoundMachine, outline, shown}
 use Rattle.tf_numbers.proofs.OptionLemmas.{is_this_number}
 use Rattle.tf_machine.proofs.MachineLemmas.{sound_facts, sound_kept, ended_as}

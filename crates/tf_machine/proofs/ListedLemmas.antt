@@ -9,10 +9,10 @@ use Rattle.tf_links.specs.Bits.{has, room, words_for}
 use Rattle.tf_links.proofs.BitLemmas.{past_none}
 use Rattle.std.proofs.lemmas.Bool.{cases_lt}
 use Rattle.tf_model.specs.Plan.{Outline, count}
-use Rattle.tf_model.specs.Snapshot.{Snapshot}
+use Rattle.tf_model.specs.History.{Snapshot}
 use Rattle.tf_model.specs.Forced.{is_unhurt}
 use Rattle.tf_model.specs.Steps.{is_not_with, is_idle}
-use Rattle.tf_hands.specs.Flight.{is_with}
+use Rattle.tf_hands.specs.Hands.{is_with}
 use Rattle.tf_machine.specs.declared.worklists.Worklist.{Worklist}
 use Rattle.tf_machine.specs.declared.compiled.Span.{Span}
 use Rattle.tf_machine.specs.Compiled.{IsSpanAround}

@@ -10,14 +10,10 @@ use Rattle.tf_actions.specs.declared.outcomes.Outcome.{Outcome}
 use Rattle.tf_actions.specs.declared.outcomes.Outcome.TheVariants as outcome
 use Rattle.tf_machine.specs.declared.tables.Place.{Place}
 use Rattle.tf_numbers.specs.Numbers.{is_number}
-use Rattle.tf_model.specs.Compilation.{compile_refusal}
-use Rattle.tf_model.specs.Plan.{Outline, outline_of, count, is_task}
+use Rattle.tf_model.specs.Plan.{compile_refusal, Outline, outline_of, count, is_task}
 use Rattle.tf_model.specs.Scope.{missing_symbol}
-use Rattle.tf_model.specs.Snapshot.{Snapshot, later, is_at_work}
-use Rattle.tf_model.specs.History.{snapshot, flow_of}
-use Rattle.tf_model.specs.States.{flow_runs, flow_suspends}
-use Rattle.tf_model.specs.Forced.{forced}
-use Rattle.tf_model.specs.Candidates.{choice, end_of}
+use Rattle.tf_model.specs.History.{Snapshot, later, is_at_work, snapshot, flow_of, flow_runs, flow_suspends, state_in, payload_in}
+use Rattle.tf_model.specs.Forced.{forced, choice, end_of}
 use Rattle.tf_model.specs.Steps.{Step, by_end_of_task, LegalPast, ends_task, is_still}
 use Rattle.tf_model.proofs.HistoryLemmas.{one_more}
 use Rattle.std.specs.Prelude.{is_some}
@@ -31,11 +27,9 @@ use Rattle.tf_bound.specs.Kept.{IsKept, IsBounded}
 use Rattle.tf_bound.specs.Short.{IsShortEvent, IsWithinLimits}
 use Rattle.tf_bound.proofs.PastLemmas.{first_bounded, next_bounded, bounded_kept}
 use Rattle.tf_machine.specs.Answers.{view_at, views_of}
-use Rattle.tf_hands.specs.Flight.{is_with, task_of, end_by, ended_from}
+use Rattle.tf_hands.specs.Hands.{is_with, task_of, end_by, ended_from, FlightFacts}
 use Rattle.tf_machine.specs.Tries.{HasTries, HasFewTries}
-use Rattle.tf_hands.specs.Flight.{FlightFacts}
 use Rattle.tf_machine.specs.Machine.{MachineValue, outline, shown, StandsFor, IsSoundMachine}
-use Rattle.tf_model.specs.Views.{state_in, payload_in}
 use Rattle.tf_machine.specs.Worklists.{AreMarksHeld}
 use Rattle.tf_machine.specs.Tables.{hand_in, mark_in, attempts_told}
 use Rattle.tf_machine.specs.Changes.{first_view, first_place, first_views, first_places}

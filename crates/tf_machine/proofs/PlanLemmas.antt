@@ -14,9 +14,9 @@ use Rattle.tf_flow.specs.Outline.{Part, a_task, Atom, part_of, priority_of}
 use Rattle.tf_flow.specs.declared.paths.Turn.{Turn}
 use Rattle.tf_model.specs.Before.{passes_flow}
 use Rattle.tf_model.specs.Plan.{Outline, outline_of, count, holds, own_flow, last_flow}
-use Rattle.tf_model.specs.Candidates.{priority}
+use Rattle.tf_model.specs.Forced.{priority}
 use Rattle.tf_machine.specs.Compiled.{priority_at, AreNoGreater}
-use Rattle.tf_model.specs.Orders.{task_part, task_at}
+use Rattle.tf_model.specs.Scope.{task_part, task_at}
 use Rattle.tf_model.proofs.PlanLemmas.{path_told, atoms_counted}
 use Rattle.tf_model.proofs.Told.{path_in, priority_in, task_in}
 use Rattle.tf_numbers.proofs.ListLemmas.{take_whole}

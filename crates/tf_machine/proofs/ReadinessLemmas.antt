@@ -3,11 +3,10 @@ use Rattle.std.proofs.Common.{◌≡◌, ℕ, Bool, true, false, not, ◌&&◌, 
 use Rattle.std.specs.List.{list_all}
 use Rattle.tf_order.specs.Graph.{predecessors_of, successors_of}
 use Rattle.tf_model.specs.Plan.{Outline, count, is_before}
-use Rattle.tf_model.specs.Snapshot.{Snapshot}
-use Rattle.tf_model.specs.States.{is_pending, is_executed}
+use Rattle.tf_model.specs.History.{Snapshot, is_pending, is_executed}
 use Rattle.tf_model.specs.Scope.{is_earlier}
 use Rattle.tf_model.specs.Readiness.{can_run, can_revert, is_unmarked}
-use Rattle.tf_model.specs.Candidates.{is_done_at}
+use Rattle.tf_model.specs.Forced.{is_done_at}
 use Rattle.tf_model.specs.Steps.{is_settled_at}
 use Rattle.tf_numbers.proofs.BelowLemmas.{all_which}
 use Rattle.tf_numbers.proofs.TruthLemmas.{second_false, not_true}

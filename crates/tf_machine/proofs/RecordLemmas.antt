@@ -12,7 +12,7 @@ use Rattle.tf_machine.specs.declared.tables.Change.TheVariants as change
 use Rattle.tf_machine.specs.declared.tables.Mark.{Mark}
 use Rattle.tf_machine.specs.declared.tables.Place.{Place}
 use Rattle.tf_model.specs.Plan.{Outline, count, is_task}
-use Rattle.tf_model.specs.Snapshot.{Snapshot, later, is_at_work, state_after, payload_after, attempts_after}
+use Rattle.tf_model.specs.History.{Snapshot, later, is_at_work, state_after, payload_after, attempts_after}
 use Rattle.tf_numbers.proofs.ListLemmas.{nothing_after, drop_whole, take_whole}
 use Rattle.tf_machine.specs.Tables.{shown_of}
 use Rattle.tf_machine.specs.Changes.{AreChanged, changed, cleared, turned}

@@ -9,8 +9,8 @@ use Rattle.tf_states.specs.declared.state.AtomState.TheVariants as atom
 use Rattle.tf_states.specs.declared.state.FlowState.TheVariants as flow
 use Rattle.tf_actions.specs.declared.outcomes.Action.TheVariants as action
 use Rattle.tf_actions.specs.declared.outcomes.Outcome.TheVariants as outcome
-use Rattle.tf_model.specs.Snapshot.{Snapshot}
-use Rattle.tf_hands.specs.Flight.{start_entry, action_in, ended_from}
+use Rattle.tf_model.specs.History.{Snapshot}
+use Rattle.tf_hands.specs.Hands.{start_entry, action_in, ended_from}
 use Rattle.tf_machine.specs.Tables.{shown_of}
 
 -- of two atoms the first is RUNNING by hand 5, and the second is SUCCESS with 7 and to be reverted

@@ -4,8 +4,7 @@ use Rattle.std.proofs.lemmas.Bool.{cases_lt}
 use Rattle.tf_numbers.specs.Numbers.{all_below, first_below}
 use Rattle.tf_numbers.proofs.BelowLemmas.{all_of, first_none}
 use Rattle.tf_numbers.proofs.TruthLemmas.{clash, first_false, never_true}
-use Rattle.tf_model.specs.Snapshot.{Snapshot}
-use Rattle.tf_model.specs.States.{is_settled}
+use Rattle.tf_model.specs.History.{Snapshot, is_settled}
 use Rattle.tf_model.specs.Forced.{holds_with, is_of_its_flow, is_settled_beside, is_to_put_back}
 use Rattle.tf_model.specs.Plan.{Outline, count, holds, own_flow}
 use Rattle.tf_machine.specs.declared.compiled.Span.{Span}

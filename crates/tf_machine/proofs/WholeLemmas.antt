@@ -18,24 +18,20 @@ use Rattle.tf_flow.specs.declared.faults.PlanFault.{PlanFault}
 use Rattle.tf_flow.specs.declared.faults.PlanFault.TheVariants as fault
 use Rattle.tf_flow.specs.declared.nested.Flow.{Flow}
 use Rattle.tf_flow.specs.Limits.{too_large, limit_fault, capped, passing, passing_at, undo_words}
-use Rattle.tf_flow.specs.Names.{first_some, has_twice}
-use Rattle.tf_flow.specs.Places.{Place, at_task, name_at, places, places_among, retry_places, tree_order}
+use Rattle.tf_flow.specs.Tree.{first_some, has_twice, Place, at_task, name_at, places, places_among, retry_places, tree_order, Tree, Trees, task, flow, no_trees, tree, tree_of, nesting}
 use Rattle.tf_flow.specs.Plan.{PlanValue}
-use Rattle.tf_flow.specs.Refusal.{empty, duplicate, unknown, bad_link, bad_atom, broken_rule, first_refusal}
-use Rattle.tf_flow.specs.Rules.{is_bad_atom, bad_atom_at, bind_symbols, least_arguments, has_wrong_words, runs_nothing, repeats_itself}
-use Rattle.tf_flow.specs.Tree.{Tree, Trees, task, flow, no_trees, tree, tree_of, nesting}
+use Rattle.tf_flow.specs.Rules.{empty, duplicate, unknown, bad_link, bad_atom, broken_rule, first_refusal, is_bad_atom, bad_atom_at, bind_symbols, least_arguments, has_wrong_words, runs_nothing, repeats_itself}
 use Rattle.tf_flow.specs.Outline.{Atom, Part, a_task, a_retry, atoms_of, atoms_among, retry_atoms, enter, flow_count}
 use Rattle.tf_actions.specs.declared.orders.Given.{Given}
 use Rattle.tf_actions.specs.declared.orders.Given.TheVariants as given
 use Rattle.tf_actions.specs.declared.orders.Pair.{Pair}
 use Rattle.tf_actions.specs.declared.outcomes.Action.{Action}
 use Rattle.tf_actions.specs.declared.outcomes.Action.TheVariants as action
-use Rattle.tf_actions.specs.Whole.{HasFewWords, IsGivenEnough, IsWhole}
+use Rattle.tf_actions.specs.Gives.{HasFewWords, IsGivenEnough, IsWhole}
 use Rattle.tf_model.specs.Plan.{Outline, outline_of, arguments}
-use Rattle.tf_model.specs.Orders.{task_part, task_at, order_with, order_of}
+use Rattle.tf_model.specs.Scope.{task_part, task_at, order_with, order_of, symbol_value, or_missing, given_arguments, argument_to_revert, given_for}
 use Rattle.tf_model.proofs.Told.{arguments_in, task_in}
-use Rattle.tf_model.specs.Scope.{symbol_value, or_missing, given_arguments, argument_to_revert, given_for}
-use Rattle.tf_model.specs.Snapshot.{Snapshot}
+use Rattle.tf_model.specs.History.{Snapshot}
 use Rattle.tf_model.proofs.PathLemmas.{all_both}
 use Rattle.tf_numbers.proofs.TruthLemmas.{clash, neither_first, neither_second}
 use Rattle.tf_numbers.proofs.OptionLemmas.{none_mapped, neither_there, none_if}

@@ -7,12 +7,9 @@ use Rattle.tf_numbers.proofs.TruthLemmas.{clash, never_true, true_both, and_firs
 use Rattle.tf_links.specs.Bits.{has, room}
 use Rattle.tf_states.specs.declared.state.AtomState.{AtomState}
 use Rattle.tf_model.specs.Plan.{Outline, count, holds, is_before, is_retry, is_task, own_flow}
-use Rattle.tf_model.specs.Snapshot.{Snapshot, Resolve, is_at_work}
-use Rattle.tf_model.specs.States.{is_pending, is_running, is_success, is_failure, is_reverting, is_retrying, is_revert_failure, is_settled, is_done, is_executed}
-use Rattle.tf_model.specs.Readiness.{is_unmarked, can_run, can_revert, lets_run, lets_revert}
-use Rattle.tf_model.specs.Deciders.{refused}
-use Rattle.tf_model.specs.Forced.{is_unhurt, is_unhurt_at, is_marked_again, is_to_begin_again, is_refused, holds_with}
-use Rattle.tf_model.specs.Candidates.{is_interrupted, is_candidate}
+use Rattle.tf_model.specs.History.{Snapshot, Resolve, is_at_work, is_pending, is_running, is_success, is_failure, is_reverting, is_retrying, is_revert_failure, is_settled, is_done, is_executed}
+use Rattle.tf_model.specs.Readiness.{is_unmarked, can_run, can_revert, lets_run, lets_revert, refused}
+use Rattle.tf_model.specs.Forced.{is_unhurt, is_unhurt_at, is_marked_again, is_to_begin_again, is_refused, holds_with, is_interrupted, is_candidate}
 use Rattle.tf_order.specs.Graph.{predecessors_of, successors_of}
 use Rattle.tf_machine.specs.Cases.{applies, IsCaseAt, is_asked_again}
 use Rattle.tf_machine.specs.declared.cases.Case.{Case}

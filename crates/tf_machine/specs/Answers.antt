@@ -16,11 +16,10 @@ use Rattle.tf_machine.specs.declared.faults.BuildFault.TheVariants as build_faul
 use Rattle.tf_flow.specs.Plan.{PlanValue}
 use Rattle.tf_scopes.specs.declared.faults.ScopeFault.TheVariants as scope_fault
 use Rattle.tf_scopes.specs.Providers.{IsMissing}
-use Rattle.tf_model.specs.Compilation.{compile_refusal}
+use Rattle.tf_model.specs.Plan.{compile_refusal, Outline, outline_of, count}
 use Rattle.tf_model.specs.Scope.{missing_symbol}
 use Rattle.tf_numbers.specs.Numbers.{numbers_below}
-use Rattle.tf_model.specs.Plan.{Outline, outline_of, count}
-use Rattle.tf_model.specs.Snapshot.{Snapshot}
+use Rattle.tf_model.specs.History.{Snapshot}
 
 -- the view of atom a
 abbrev pub view_at : Snapshot → ℕ → AtomView

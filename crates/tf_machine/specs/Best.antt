@@ -5,8 +5,8 @@ use Rattle.tf_states.specs.declared.record.Payload.TheVariants as payload
 use Rattle.tf_states.specs.declared.record.What.{What}
 use Rattle.tf_states.specs.declared.record.What.TheVariants as what
 use Rattle.tf_model.specs.Plan.{Outline}
-use Rattle.tf_model.specs.Snapshot.{Snapshot, is_at_work}
-use Rattle.tf_model.specs.Candidates.{priority, is_candidate}
+use Rattle.tf_model.specs.History.{Snapshot, is_at_work}
+use Rattle.tf_model.specs.Forced.{priority, is_candidate}
 
 -- a has a greater priority than the best one so far, if there is one
 abbrev pub outranked : Outline → Option ℕ → ℕ → Bool

@@ -7,8 +7,7 @@ use Rattle.tf_machine.specs.declared.cases.Case.TheVariants as case
 use Rattle.tf_machine.specs.declared.cases.Forcing.{Forcing}
 use Rattle.tf_machine.specs.declared.cases.Placed.{Placed}
 use Rattle.tf_model.specs.Plan.{Outline, is_retry, own_flow}
-use Rattle.tf_model.specs.States.{is_success}
-use Rattle.tf_model.specs.Snapshot.{Snapshot}
+use Rattle.tf_model.specs.History.{is_success, Snapshot}
 use Rattle.tf_model.specs.Forced as rule
 
 -- the case applies to atom a

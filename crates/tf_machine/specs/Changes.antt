@@ -13,8 +13,7 @@ use Rattle.tf_machine.specs.declared.tables.Mark.{Mark}
 use Rattle.tf_machine.specs.declared.tables.Place.{Place}
 use Rattle.tf_model.specs.Forced.{is_marked_again}
 use Rattle.tf_model.specs.Plan.{Outline, count, holds, is_retry, own_flow}
-use Rattle.tf_model.specs.Snapshot.{held_after, attempts_in}
-use Rattle.tf_model.specs.States.{is_running}
+use Rattle.tf_model.specs.History.{held_after, attempts_in, is_running}
 use Rattle.tf_machine.specs.declared.compiled.Span.{Span}
 use Rattle.tf_machine.specs.Compiled.{IsInSpan}
 use Rattle.tf_machine.specs.Tables.{resolve_of}

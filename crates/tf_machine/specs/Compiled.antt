@@ -3,11 +3,11 @@ use Rattle.std.specs.Prelude.{◌≡◌, ℕ, ℤ, List, [], ◌∷◌, length, 
 use Rattle.tf_flow.specs.Plan.{PlanValue}
 use Rattle.tf_order.specs.Graph.{GraphValue, IsGraphOf}
 use Rattle.tf_flow.specs.Outline.{Atom, priority_of}
-use Rattle.tf_model.specs.Deciders.{refused}
+use Rattle.tf_model.specs.Readiness.{refused}
 use Rattle.tf_machine.specs.declared.compiled.Span.{Span}
 use Rattle.tf_model.specs.Forced.{holds_with}
 use Rattle.tf_model.specs.Plan.{Outline, outline_of, count, holds}
-use Rattle.tf_model.specs.Snapshot.{Snapshot}
+use Rattle.tf_model.specs.History.{Snapshot}
 use Rattle.tf_model.specs.Scope.{missing_symbol}
 use Rattle.tf_scopes.specs.declared.sources.Source.{Source}
 use Rattle.tf_scopes.specs.Providers.{IsOf}

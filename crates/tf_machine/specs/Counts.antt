@@ -3,8 +3,7 @@ use Rattle.std.specs.Prelude.{◌≡◌, ℕ, suc, ◌+◌, ◌-◌, ◌<◌, mi
 use Rattle.tf_numbers.specs.Numbers.{has_number}
 use Rattle.tf_order.specs.Graph.{predecessors_of, successors_of}
 use Rattle.tf_model.specs.Plan.{Outline, count}
-use Rattle.tf_model.specs.Snapshot.{Snapshot}
-use Rattle.tf_model.specs.States.{is_done, is_settled}
+use Rattle.tf_model.specs.History.{Snapshot, is_done, is_settled}
 use Rattle.tf_machine.specs.Tables.{shown_by}
 use Rattle.tf_machine.specs.declared.counters.Counters.{Counters}
 use Rattle.tf_machine.specs.declared.tables.Tables.{Tables}

@@ -5,11 +5,9 @@ use Rattle.tf_states.specs.declared.record.AtomView.{AtomView}
 use Rattle.tf_states.specs.declared.record.Entry.{Entry}
 use Rattle.tf_states.specs.declared.state.FlowState.{FlowState}
 use Rattle.tf_machine.specs.declared.tables.Place.{Place}
-use Rattle.tf_model.specs.Compilation.{compile_refusal}
-use Rattle.tf_model.specs.Plan.{Outline, outline_of, count}
+use Rattle.tf_model.specs.Plan.{compile_refusal, Outline, outline_of, count}
 use Rattle.tf_model.specs.Scope.{missing_symbol}
-use Rattle.tf_model.specs.Snapshot.{Snapshot}
-use Rattle.tf_model.specs.History.{snapshot}
+use Rattle.tf_model.specs.History.{Snapshot, snapshot}
 use Rattle.tf_model.specs.Steps.{LegalPast}
 use Rattle.tf_bound.specs.Kept.{IsBounded}
 use Rattle.tf_machine.specs.Counts.{AreCounted}

@@ -5,8 +5,7 @@ use Rattle.tf_states.specs.declared.state.FlowState.{FlowState}
 use Rattle.tf_machine.specs.declared.tables.Mark.{Mark}
 use Rattle.tf_machine.specs.declared.tables.Place.{Place}
 use Rattle.tf_machine.specs.declared.tables.Tables.{Tables}
-use Rattle.tf_model.specs.Snapshot.{Resolve, Snapshot}
-use Rattle.tf_model.specs.Views.{state_in, payload_in}
+use Rattle.tf_model.specs.History.{Resolve, Snapshot, state_in, payload_in}
 
 -- the hand that a place tells
 abbrev pub hand_in : Option Place → Option ℕ

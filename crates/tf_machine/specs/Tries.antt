@@ -1,8 +1,7 @@
 -- How often an atom was tried: it holds at each moment of a run.
 use Rattle.std.specs.Prelude.{◌≡◌, ℕ, ◌<◌, ◌≤◌, true}
 use Rattle.tf_model.specs.Plan.{Outline}
-use Rattle.tf_model.specs.Snapshot.{Snapshot}
-use Rattle.tf_model.specs.States.{is_pending, is_running}
+use Rattle.tf_model.specs.History.{Snapshot, is_pending, is_running}
 use Rattle.tf_bound.specs.Costs.{tries_at}
 
 -- attempts begin anew with PENDING, and are never more than the atom has tries: fewer while it is RUNNING

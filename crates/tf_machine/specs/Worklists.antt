@@ -4,11 +4,9 @@ use Rattle.tf_links.specs.Bits.{has, words_for}
 use Rattle.tf_states.specs.declared.record.Entry.{Entry}
 use Rattle.tf_states.specs.declared.record.What.{What}
 use Rattle.tf_model.specs.Plan.{Outline, count, holds, own_flow}
-use Rattle.tf_model.specs.Snapshot.{Resolve, Snapshot}
-use Rattle.tf_model.specs.Readiness.{can_run, can_revert}
-use Rattle.tf_model.specs.Deciders.{refused}
-use Rattle.tf_model.specs.Forced.{is_unhurt, holds_with}
-use Rattle.tf_model.specs.Candidates.{is_candidate}
+use Rattle.tf_model.specs.History.{Resolve, Snapshot}
+use Rattle.tf_model.specs.Readiness.{can_run, can_revert, refused}
+use Rattle.tf_model.specs.Forced.{is_unhurt, holds_with, is_candidate}
 use Rattle.tf_machine.specs.Cases.{applies, is_asked_again}
 use Rattle.tf_machine.specs.declared.cases.Case.{Case}
 use Rattle.tf_machine.specs.declared.counters.Counters.{Counters}

@@ -1,8 +1,8 @@
 ghost use Rattle.std.specs.Prelude.{◌≡◌, ◌≢◌, ◌<◌, ◌&&◌, true, false, None, Some, IfSome, option_map};
 ghost use Rattle.tf_numbers.specs.Numbers.{first_below};
 ghost use Rattle.tf_model.specs.Plan.{outline_of, count, is_task};
-ghost use Rattle.tf_model.specs.Candidates.{is_interrupted, is_candidate, is_best, taken_up, choice, candidate_if_running};
-ghost use Rattle.tf_hands.specs.Flight.{start_entry, action_in};
+ghost use Rattle.tf_model.specs.Forced.{is_interrupted, is_candidate, is_best, taken_up, choice, candidate_if_running};
+ghost use Rattle.tf_hands.specs.Hands.{start_entry, action_in};
 ghost use Rattle.tf_machine.specs.Best.{outranked, is_start};
 ghost use Rattle.tf_machine.specs.Counts.{HasCounters};
 ghost use Rattle.tf_machine.specs.Tables.{shown_by};

@@ -1,17 +1,13 @@
 ghost use Rattle.std.specs.Prelude.{◌≡◌, ◌<◌, ◌≤◌, ◌++◌, ℕ, int_lt, None, Some, true, false, IfOk, IfErr, IfSome, OnOk, map, length, option_map};
 ghost use Rattle.tf_order.specs.Graph.{predecessors_of, successors_of};
-ghost use Rattle.tf_flow.specs.Refusal.{first_refusal};
-ghost use Rattle.tf_model.specs.Compilation.{compile_refusal};
-ghost use Rattle.tf_model.specs.Orders.{task_at};
-ghost use Rattle.tf_model.specs.Scope.{missing_symbol, given_for};
-ghost use Rattle.tf_model.specs.Deciders.{refused, ignores};
-ghost use Rattle.tf_model.specs.Forced.{is_of_its_flow};
+ghost use Rattle.tf_flow.specs.Rules.{first_refusal};
+ghost use Rattle.tf_model.specs.Plan.{compile_refusal, outline_of, count, is_task, is_retry, holds, own_flow, last_flow, retry_of, path};
+ghost use Rattle.tf_model.specs.Scope.{task_at, missing_symbol, given_for};
+ghost use Rattle.tf_model.specs.Readiness.{refused, ignores};
+ghost use Rattle.tf_model.specs.Forced.{is_of_its_flow, priority};
 ghost use Rattle.tf_model.specs.Retries.{retry_kind};
-ghost use Rattle.tf_model.specs.Snapshot.{Snapshot};
-ghost use Rattle.tf_model.specs.Views.{Shows};
+ghost use Rattle.tf_model.specs.History.{Snapshot, Shows};
 ghost use Rattle.tf_model.specs.Before.{passes_flow};
-ghost use Rattle.tf_model.specs.Plan.{outline_of, count, is_task, is_retry, holds, own_flow, last_flow, retry_of, path};
-ghost use Rattle.tf_model.specs.Candidates.{priority};
 ghost use Rattle.tf_machine.specs.Answers.{IsBuildRefusal};
 ghost use Rattle.tf_machine.specs.Compiled.{priority_at, AreDecided, AreNoGreater, AreSpans, IsSpanAround, IsSpanOf};
 

@@ -2,7 +2,7 @@ ghost use Rattle.std.specs.Prelude.{◌≡◌, ◌<◌, ◌≤◌, ℕ, true, If
 ghost use Rattle.tf_numbers.specs.Numbers.{has_number};
 ghost use Rattle.tf_states.specs.declared.state.AtomState.TheVariants.{Pending as pending};
 ghost use Rattle.tf_model.specs.Plan.{Outline, outline_of, count};
-ghost use Rattle.tf_model.specs.Snapshot.{Snapshot};
+ghost use Rattle.tf_model.specs.History.{Snapshot};
 ghost use Rattle.tf_machine.specs.Stretches.{AreApart, AreSteppedFrom};
 ghost use Rattle.tf_machine.specs.Counts.{AreCounted, AreDistinct, after_steps, after_turn, stepped, waiting_of, holding_of};
 

@@ -1,7 +1,7 @@
 ghost use Rattle.std.specs.Prelude.{◌≡◌};
 ghost use Rattle.tf_numbers.specs.Numbers.{all_below};
 ghost use Rattle.tf_model.specs.Plan.{outline_of, count};
-ghost use Rattle.tf_model.specs.Candidates.{is_done_at, is_at_rest, calm_end, end_of};
+ghost use Rattle.tf_model.specs.Forced.{is_done_at, is_at_rest, calm_end, end_of};
 ghost use Rattle.tf_machine.specs.Counts.{HasCounters};
 ghost use Rattle.tf_machine.specs.Tables.{shown_by};
 ghost use Rattle.tf_machine.specs.Worklists.{IsListed};
@@ -65,7 +65,7 @@ fn calm_end(compiled: &Compiled, tables: &Tables, list: &Worklist) -> Option<Flo
 }
 
 /// The end of the run.
-#[tactic(auto, unfolding(tf_model::specs::Candidates::end_of))]
+#[tactic(auto, unfolding(tf_model::specs::Forced::end_of))]
 pub fn end_of(compiled: &Compiled, tables: &Tables, list: &Worklist) -> Option<FlowState>
     requires counted { HasCounters (outline_of compiled.now) tables.now }
     requires listed { IsListed (outline_of compiled.now) (shown_by tables.now) list.now }

@@ -1,6 +1,6 @@
 ghost use Rattle.std.specs.Prelude.{◌≡◌, IfOk, Some, true};
-ghost use Rattle.tf_actions.specs.Whole.{IsWhole};
-ghost use Rattle.tf_model.specs.Orders.{order_of};
+ghost use Rattle.tf_actions.specs.Gives.{IsWhole};
+ghost use Rattle.tf_model.specs.Scope.{order_of};
 ghost use Rattle.tf_model.specs.Plan.{outline_of, is_task};
 ghost use Rattle.tf_machine.specs.Tables.{shown_by};
 

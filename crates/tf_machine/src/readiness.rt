@@ -2,7 +2,7 @@ ghost use Rattle.std.specs.Prelude.{◌≡◌, ◌<◌, true, false};
 ghost use Rattle.std.specs.List.{list_all};
 ghost use Rattle.tf_model.specs.Plan.{outline_of, count};
 ghost use Rattle.tf_model.specs.Readiness.{can_run, can_revert};
-ghost use Rattle.tf_model.specs.Candidates.{is_done_at};
+ghost use Rattle.tf_model.specs.Forced.{is_done_at};
 ghost use Rattle.tf_model.specs.Steps.{is_settled_at};
 ghost use Rattle.tf_order.specs.Graph.{predecessors_of, successors_of};
 ghost use Rattle.tf_machine.specs.Counts.{HasCounters};

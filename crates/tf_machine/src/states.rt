@@ -1,6 +1,6 @@
 ghost use Rattle.std.specs.Prelude.{◌≡◌};
-ghost use Rattle.tf_model.specs.Snapshot as snapshot;
-ghost use Rattle.tf_model.specs.States as model;
+ghost use Rattle.tf_model.specs.History as snapshot;
+ghost use Rattle.tf_model.specs.History as model;
 ghost use Rattle.tf_machine.specs.Changes as changes;
 
 use tf_states::{AtomState, FlowState};

@@ -5,7 +5,7 @@ ghost use Rattle.tf_numbers.specs.Numbers.{all_below, first_below};
 ghost use Rattle.tf_model.specs.Plan.{outline_of, count};
 ghost use Rattle.tf_model.specs.Forced.{forced};
 ghost use Rattle.tf_model.specs.Steps.{Rule, Step, is_free, is_still, is_settled_at, is_put_back_at, ends_as, ends_task, may_turn, turns_flow, end_entry, may_suspend, reset, put_back_or_rest};
-ghost use Rattle.tf_hands.specs.Flight.{task_of, is_with};
+ghost use Rattle.tf_hands.specs.Hands.{task_of, is_with};
 ghost use Rattle.tf_machine.specs.Counts.{HasCounters};
 ghost use Rattle.tf_machine.specs.Tables.{shown_by};
 ghost use Rattle.tf_machine.specs.Worklists.{IsListed};

@@ -3,11 +3,10 @@ ghost use Rattle.tf_states.specs.declared.record.Payload.{Payload as PayloadValu
 ghost use Rattle.tf_states.specs.declared.record.What.TheVariants.{Atom as atom_enters};
 ghost use Rattle.tf_states.specs.declared.state.FlowState.TheVariants.{Pending as pending_flow};
 ghost use Rattle.tf_model.specs.Plan.{outline_of, count, is_task};
-ghost use Rattle.tf_model.specs.Snapshot.{later, is_at_work, state_after, payload_after, held_after, attempts_in, attempts_after};
+ghost use Rattle.tf_model.specs.History.{later, is_at_work, state_after, payload_after, held_after, attempts_in, attempts_after};
 ghost use Rattle.tf_model.specs.Steps.{Step};
-ghost use Rattle.tf_hands.specs.Flight.{FlightFacts};
+ghost use Rattle.tf_hands.specs.Hands.{FlightFacts, is_with};
 ghost use Rattle.tf_model.specs.Readiness.{is_unmarked, is_to_revert};
-ghost use Rattle.tf_hands.specs.Flight.{is_with};
 ghost use Rattle.tf_model.specs.Forced.{is_marked_again};
 ghost use Rattle.tf_machine.specs.Tables.{shown_by, resolve_of};
 ghost use Rattle.tf_machine.specs.Counts.{HasCounters};

@@ -2,7 +2,7 @@ ghost use Rattle.std.specs.Prelude.{◌≡◌};
 ghost use Rattle.tf_flow.specs.Paths.{shown_part};
 ghost use Rattle.tf_model.specs.Plan.{outline_of};
 ghost use Rattle.tf_model.specs.Retries.{kind_of_part};
-ghost use Rattle.tf_model.specs.Bound as bound;
+ghost use Rattle.tf_model.specs.Plan as bound;
 ghost use Rattle.tf_bound.specs.Costs.{tries_of};
 ghost use Rattle.tf_machine.specs.Tries.{HasFewTries};
 

@@ -3,12 +3,10 @@ ghost use Rattle.std.specs.Prelude.{◌≡◌, ◌<◌, ◌≤◌, ◌⊎◌, �
 ghost use Rattle.tf_numbers.specs.Numbers.{has_number};
 ghost use Rattle.tf_links.specs.Bits.{has};
 ghost use Rattle.tf_model.specs.Plan.{outline_of, count, is_retry};
-ghost use Rattle.tf_model.specs.Readiness.{can_run};
-ghost use Rattle.tf_model.specs.Snapshot.{Snapshot, later};
+ghost use Rattle.tf_model.specs.Readiness.{can_run, refused};
+ghost use Rattle.tf_model.specs.History.{Snapshot, later, is_running};
 ghost use Rattle.tf_machine.specs.Counts.{HasCounters, AreDistinct};
 ghost use Rattle.tf_machine.specs.Tables.{shown_by};
-ghost use Rattle.tf_model.specs.Deciders.{refused};
-ghost use Rattle.tf_model.specs.States.{is_running};
 ghost use Rattle.tf_machine.specs.Cases as specs;
 ghost use Rattle.tf_machine.specs.Cases.{is_asked_again};
 ghost use Rattle.tf_machine.specs.declared.cases.Case.{Case as AnyCase};

@@ -4,17 +4,14 @@ use Rattle.std.specs.Prelude.{option_map}
 use Rattle.tf_flow.specs.Outline.{atoms_of, flows_of}
 use Rattle.tf_flow.specs.Plan.{PlanValue}
 use Rattle.tf_flow.specs.Tree.{tree_of}
-use Rattle.tf_links.specs.Cycles.{shortest_cycle}
-use Rattle.tf_links.specs.Laws.{AreBelow, Chain}
+use Rattle.tf_links.specs.Graphs.{shortest_cycle, AreBelow, Chain}
 use Rattle.tf_links.proofs.ReachLawLemmas.{chain_of, chain_reaches}
 use Rattle.tf_numbers.specs.Numbers.{first_below}
 use Rattle.tf_numbers.proofs.BelowLemmas.{found_passes, found_below, first_before, none_at}
 use Rattle.tf_numbers.proofs.TruthLemmas.{clash}
-use Rattle.tf_model.specs.Before.{Flow, find_flow}
-use Rattle.tf_model.specs.Compilation.{cycle, cycle_of, cycle_through, is_back}
+use Rattle.tf_model.specs.Before.{Flow, find_flow, item_name}
+use Rattle.tf_model.specs.Plan.{cycle, cycle_of, cycle_through, is_back, outline_of}
 use Rattle.tf_model.specs.Laws.{IsFirstCycle}
-use Rattle.tf_model.specs.Linked.{item_name}
-use Rattle.tf_model.specs.Plan.{outline_of}
 use Rattle.tf_model.proofs.OrderLemmas.{IsArranged, each_arranged}
 
 -- a flow's linked pairs are pairs of its items

@@ -9,11 +9,8 @@ use Rattle.tf_states.specs.declared.state.AtomState.{AtomState}
 use Rattle.tf_states.specs.declared.state.AtomState.TheVariants as atom
 use Rattle.tf_states.specs.declared.state.FlowState.{FlowState}
 use Rattle.tf_model.specs.Plan.{Outline, is_retry}
-use Rattle.tf_model.specs.Snapshot.{Snapshot, later, state_after, payload_after, held_after}
-use Rattle.tf_model.specs.History.{snapshot, state_of, payload_of, flow_of}
-use Rattle.tf_model.specs.States.{is_pending, is_running, is_success}
-use Rattle.tf_model.specs.Steps.{LegalPast}
-use Rattle.tf_model.specs.Sessions.{Session, already_ended, entered, halted, whole, entering}
+use Rattle.tf_model.specs.History.{Snapshot, later, state_after, payload_after, held_after, snapshot, state_of, payload_of, flow_of, is_pending, is_running, is_success}
+use Rattle.tf_model.specs.Steps.{LegalPast, Session, already_ended, entered, halted, whole, entering}
 use Rattle.tf_model.specs.Laws.{atom_may, is_allowed, enters_by, puts_back, success_payload, last_success}
 use Rattle.tf_model.proofs.StepLemmas.{past_allowed}
 use Rattle.tf_numbers.proofs.TruthLemmas.{and_first, and_second, true_first, true_second}

@@ -6,17 +6,15 @@ use Rattle.tf_flow.specs.declared.deciders.Depth.{Depth}
 use Rattle.tf_flow.specs.declared.deciders.Depth.TheVariants as depth
 use Rattle.tf_flow.specs.Plan.{PlanValue}
 use Rattle.tf_flow.specs.Tree.{Tree, Trees, task, flow, no_trees, tree, tree_of}
-use Rattle.tf_numbers.specs.Pairs.{Pair, has_pair}
+use Rattle.tf_numbers.specs.Numbers.{Pair, has_pair}
 use Rattle.tf_flow.specs.Outline.{atoms_of, flows_of, flow_count}
 use Rattle.tf_flow.specs.declared.paths.Turn.{Turn}
 use Rattle.std.specs.Option.{unwrap_or}
 use Rattle.tf_model.specs.Before.{Flow, find_flow, no_flow, item_before, turn_before, path_before}
-use Rattle.tf_model.specs.Plan.{outline_of, is_before, is_task, path, own_flow, last_flow}
-use Rattle.tf_model.specs.Compilation.{compile_refusal}
-use Rattle.tf_model.specs.Deciders.{home, last_item, same_flow, is_sibling, linked_places, is_neighbor, ignores_other, ignores}
+use Rattle.tf_model.specs.Plan.{outline_of, is_before, is_task, path, own_flow, last_flow, compile_refusal, Outline}
+use Rattle.tf_model.specs.Readiness.{home, last_item, same_flow, is_sibling, linked_places, is_neighbor, ignores_other, ignores}
 use Rattle.tf_flow.specs.Rules.{is_graph}
 use Rattle.tf_model.specs.Laws.{IsLinkedTask}
-use Rattle.tf_model.specs.Plan.{Outline}
 use Rattle.tf_model.proofs.Told.{order_in, linked_in, found_home, flow_in}
 use Rattle.tf_numbers.proofs.TruthLemmas.{and_first, and_second, or_either, true_both, second_false}
 use Rattle.tf_model.proofs.OrderLemmas.{IsArranged, each_arranged, plan_ordered}

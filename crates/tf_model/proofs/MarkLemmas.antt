@@ -9,8 +9,7 @@ use Rattle.tf_states.specs.declared.state.AtomState.TheVariants as atom
 use Rattle.tf_states.specs.declared.state.FlowState.TheVariants as flow
 use Rattle.tf_numbers.proofs.TruthLemmas.{neither_first, neither_second}
 use Rattle.tf_model.specs.Plan.{Outline, holds, is_retry, own_flow}
-use Rattle.tf_model.specs.Snapshot.{Resolve, mark_after, begun_again, is_retry_of}
-use Rattle.tf_model.specs.History.{mark_of}
+use Rattle.tf_model.specs.History.{Resolve, mark_after, begun_again, is_retry_of, mark_of}
 use Rattle.tf_model.specs.Laws.{resolves_over, resolves_atom, ends_mark, ends_mark_of}
 
 -- what is left of a mark

@@ -6,23 +6,19 @@ use Rattle.std.specs.Option.{option_or}
 use Rattle.std.proofs.lemmas.Bool.{ltb-true, lt-ltb}
 use Rattle.tf_flow.specs.declared.nested.FlowKind.{FlowKind}
 use Rattle.tf_flow.specs.declared.nested.FlowKind.TheVariants as kind
-use Rattle.tf_flow.specs.Names.{first_some}
+use Rattle.tf_flow.specs.Tree.{first_some, Tree, Trees, task, flow, no_trees, tree, tree_of}
 use Rattle.tf_flow.specs.Plan.{PlanValue}
 use Rattle.tf_flow.specs.Rules.{is_graph}
-use Rattle.tf_flow.specs.Tree.{Tree, Trees, task, flow, no_trees, tree, tree_of}
 use Rattle.tf_flow.specs.declared.atoms.Bind.{Bind}
-use Rattle.tf_numbers.specs.Numbers.{first_below, has_number}
-use Rattle.tf_numbers.specs.Pairs.{Pair, has_pair, pairs_below}
+use Rattle.tf_numbers.specs.Numbers.{first_below, has_number, Pair, has_pair, pairs_below}
 use Rattle.tf_flow.specs.Outline.{Atom, FlowPlace, flows_of, flows_among, innermost_first, innermost_among, atoms_of, flow_count, atom_count, retry_count}
-use Rattle.tf_model.specs.Before.{Flow, has_flow_number, find_flow, item_before}
-use Rattle.tf_model.specs.Linked.{is_linked, item_order, arrange, arranged}
-use Rattle.tf_model.specs.Plan.{Outline, outline_of_tree, outline_of}
+use Rattle.tf_model.specs.Before.{Flow, has_flow_number, find_flow, item_before, is_linked, item_order, arrange, arranged}
+use Rattle.tf_model.specs.Plan.{Outline, outline_of_tree, outline_of, ambiguity, cycle_of, cycle_through, is_back, refusal_of, refusal_among, refusal_at, tree_refusal, compile_refusal}
 use Rattle.tf_model.proofs.Told.{order_in}
-use Rattle.tf_model.specs.Compilation.{ambiguity, cycle_of, cycle_through, is_back, refusal_of, refusal_among, refusal_at, tree_refusal, compile_refusal}
 use Rattle.tf_model.specs.Laws.{AreOrdered}
 use Rattle.tf_numbers.proofs.TruthLemmas.{or_either, true_first, never_true}
 use Rattle.tf_numbers.proofs.PairLemmas.{passes_pair, any_left, any_right, any_in_both, pair_passes}
-use Rattle.tf_links.specs.Reach.{reached}
+use Rattle.tf_links.specs.Graphs.{reached}
 use Rattle.tf_links.proofs.ReachedLemmas.{reached_chain, reached_within, reached_keeps}
 use Rattle.tf_numbers.proofs.BelowLemmas.{none_at}
 use Rattle.tf_numbers.proofs.OptionLemmas.{none_mapped}

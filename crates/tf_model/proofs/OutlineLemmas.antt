@@ -4,7 +4,7 @@ use Rattle.tf_flow.specs.Plan.{PlanValue, flows}
 use Rattle.tf_flow.specs.Tree.{tree_of}
 use Rattle.tf_flow.specs.Outline.{Atom, FlowPlace, atoms_of, flows_of}
 use Rattle.tf_flow.proofs.OutlineLemmas.{place_name, flows_told}
-use Rattle.tf_model.specs.Linked.{arranged}
+use Rattle.tf_model.specs.Before.{arranged}
 use Rattle.tf_model.specs.Plan.{outline_of}
 use Rattle.tf_model.specs.Laws.{name_of_flow}
 

@@ -14,9 +14,8 @@ use Rattle.tf_states.specs.declared.record.What.TheVariants as what
 use Rattle.tf_states.specs.declared.state.FlowState.TheVariants as flow
 use Rattle.tf_states.specs.Transitions.{atom_place, flow_place}
 use Rattle.tf_model.specs.Plan.{Outline}
-use Rattle.tf_model.specs.Snapshot.{Snapshot}
-use Rattle.tf_model.specs.Forced.{forced}
-use Rattle.tf_model.specs.Candidates.{choice}
+use Rattle.tf_model.specs.History.{Snapshot}
+use Rattle.tf_model.specs.Forced.{forced, choice}
 use Rattle.tf_model.specs.Steps.{Step, Rule, by_force, by_choice, by_end_of_task, by_turn, by_end, by_suspension, by_reset, is_hand, is_free, is_still, ends_task, turns_flow, end_entry, may_suspend, reset}
 use Rattle.tf_numbers.proofs.TruthLemmas.{true_both}
 

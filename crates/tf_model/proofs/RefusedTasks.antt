@@ -1,17 +1,13 @@
 -- Entries that may not follow, though they are nearly right: what hands record of tasks.
-use Rattle.std.specs.Prelude.{[], reverse, refl}
-use Rattle.std.specs.Prelude.{take}
+use Rattle.std.specs.Prelude.{[], reverse, refl, take}
 use Rattle.tf_states.specs.declared.record.Failure.TheVariants as failure
 use Rattle.tf_states.specs.declared.state.AtomState.TheVariants as atom
 use Rattle.tf_model.specs.Plan.{is_before, holds}
-use Rattle.tf_model.specs.Snapshot.{mark_after}
-use Rattle.tf_model.specs.History.{snapshot}
+use Rattle.tf_model.specs.History.{mark_after, snapshot}
 use Rattle.tf_model.specs.Scope.{members, symbol_value}
-use Rattle.tf_model.specs.Readiness.{can_run, can_revert}
-use Rattle.tf_model.specs.Deciders.{refused, ignores}
+use Rattle.tf_model.specs.Readiness.{can_run, can_revert, refused, ignores}
 use Rattle.tf_model.specs.Retries.{attempt, answer, resolution}
-use Rattle.tf_model.specs.Forced.{forced_attempt, forced_again, forced_reverted, forced_resolution, forced_retrying, forced_revert, forced_ignore, forced_run, forced_if_running, is_active, forced}
-use Rattle.tf_model.specs.Candidates.{candidate_if_running, choice, calm_end, end_of}
+use Rattle.tf_model.specs.Forced.{forced_attempt, forced_again, forced_reverted, forced_resolution, forced_retrying, forced_revert, forced_ignore, forced_run, forced_if_running, is_active, forced, candidate_if_running, choice, calm_end, end_of}
 use Rattle.tf_model.specs.Steps.{is_free, is_still, ends_task, may_suspend, reset, Step}
 use Rattle.tf_model.proofs.Refusals.{refuse}
 use Rattle.tf_model.proofs.RowWords.{number, by, to, gives, fails, again}

@@ -11,7 +11,7 @@ use Rattle.tf_flow.specs.Outline.{Atom, atoms_of}
 use Rattle.tf_flow.specs.declared.paths.Turn.{Turn}
 use Rattle.tf_model.specs.Before.{passes_flow}
 use Rattle.tf_model.specs.Plan.{Outline, outline_of, holds, path, count, retry_of}
-use Rattle.tf_model.specs.Snapshot.{Resolve, Snapshot}
+use Rattle.tf_model.specs.History.{Resolve, Snapshot}
 use Rattle.tf_model.specs.Retries.{Controlled, controlled, controlled_on, enclosing, resolved, resolution_by, resolution, answer, is_outermost, is_revert}
 use Rattle.tf_model.proofs.Told.{path_in}
 use Rattle.tf_numbers.proofs.TruthLemmas.{or_either, and_first, and_second, true_first, true_second, true_both}

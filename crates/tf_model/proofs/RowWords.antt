@@ -25,12 +25,10 @@ use Rattle.tf_states.specs.declared.state.AtomState.{AtomState}
 use Rattle.tf_states.specs.declared.state.AtomState.TheVariants as atom
 use Rattle.tf_states.specs.declared.state.FlowState.{FlowState}
 use Rattle.tf_states.specs.declared.state.FlowState.TheVariants as flow_state
-use Rattle.tf_flow.specs.Conditions.{Condition, Connection}
-use Rattle.tf_flow.specs.Outline.{FlowPlace, atoms_of, flows_of}
+use Rattle.tf_flow.specs.Outline.{Condition, Connection, FlowPlace, atoms_of, flows_of}
 use Rattle.tf_model.specs.Plan.{Outline, outline_with, outline_of_tree}
-use Rattle.tf_model.specs.Snapshot.{Snapshot}
-use Rattle.tf_model.specs.Forced.{forced}
-use Rattle.tf_model.specs.Candidates.{choice}
+use Rattle.tf_model.specs.History.{Snapshot}
+use Rattle.tf_model.specs.Forced.{forced, choice}
 use Rattle.tf_model.specs.Steps.{Step, by_force, by_choice, by_end_of_task, by_turn, by_end, by_suspension, by_reset, is_hand, is_free, is_still, ends_task, turns_flow, end_entry, may_suspend, reset}
 
 -- ---- plans

@@ -1,6 +1,5 @@
 -- Worked runs with retry controllers in flows of flows.
-use Rattle.std.specs.Prelude.{List, [], ◌∷◌, reverse, codes, false, Some, None, refl}
-use Rattle.std.specs.Prelude.{drop}
+use Rattle.std.specs.Prelude.{List, [], ◌∷◌, reverse, codes, false, Some, None, refl, drop}
 use Rattle.std.specs.List.{between}
 use Rattle.tf_values.specs.declared.value.Val.TheVariants as value
 use Rattle.tf_flow.specs.declared.atoms.Provides.TheVariants as provides
@@ -12,16 +11,12 @@ use Rattle.tf_states.specs.declared.record.Kind.TheVariants as resolved
 use Rattle.tf_states.specs.declared.state.AtomState.TheVariants as atom
 use Rattle.tf_states.specs.declared.state.FlowState.TheVariants as flow
 use Rattle.tf_model.specs.Plan.{Outline, is_before, holds}
-use Rattle.tf_model.specs.Snapshot.{mark_after}
-use Rattle.tf_model.specs.History.{snapshot}
+use Rattle.tf_model.specs.History.{mark_after, snapshot}
 use Rattle.tf_model.specs.Scope.{members, symbol_value}
-use Rattle.tf_model.specs.Readiness.{can_run, can_revert}
-use Rattle.tf_model.specs.Deciders.{refused, ignores}
+use Rattle.tf_model.specs.Readiness.{can_run, can_revert, refused, ignores}
 use Rattle.tf_model.specs.Retries.{attempt, answer, resolution}
-use Rattle.tf_model.specs.Forced.{forced_attempt, forced_again, forced_reverted, forced_resolution, forced_retrying, forced_revert, forced_ignore, forced_run, forced_if_running, is_active, forced}
-use Rattle.tf_model.specs.Candidates.{candidate_if_running, choice, calm_end, end_of}
-use Rattle.tf_model.specs.Steps.{is_free, is_still, ends_task, may_suspend, reset, LegalPast}
-use Rattle.tf_model.specs.Sessions.{Session, whole}
+use Rattle.tf_model.specs.Forced.{forced_attempt, forced_again, forced_reverted, forced_resolution, forced_retrying, forced_revert, forced_ignore, forced_run, forced_if_running, is_active, forced, candidate_if_running, choice, calm_end, end_of}
+use Rattle.tf_model.specs.Steps.{is_free, is_still, ends_task, may_suspend, reset, LegalPast, Session, whole}
 use Rattle.tf_model.proofs.RowWords.{number, same_arg, bound_to, echo, echo_of, fail, controller, flow_of_items, plan_of, deferring_plan_of, by, to, gives, fails, flow_to, resolves, force, take_up, finish, turn, end}
 
 -- where reverts are deferred, the whole flow is reverted

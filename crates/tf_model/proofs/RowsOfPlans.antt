@@ -7,15 +7,12 @@ use Rattle.tf_flow.specs.declared.atoms.TaskKind.TheVariants as task_kind
 use Rattle.tf_flow.specs.declared.atoms.Undo.TheVariants as undo
 use Rattle.tf_flow.specs.declared.deciders.Depth.TheVariants as depth
 use Rattle.tf_flow.specs.declared.nested.FlowKind.TheVariants as kind
-use Rattle.tf_numbers.specs.Pairs.{pair, pairs_below}
-use Rattle.tf_numbers.specs.Numbers.{which_below}
+use Rattle.tf_numbers.specs.Numbers.{pair, pairs_below, which_below}
 use Rattle.tf_model.specs.Before.{find_flow}
-use Rattle.tf_model.specs.Plan.{Outline, is_before, holds, path}
-use Rattle.tf_model.specs.Compilation.{ambiguous, cycle, tree_refusal}
+use Rattle.tf_model.specs.Plan.{Outline, is_before, holds, path, ambiguous, cycle, tree_refusal, tree_bound}
 use Rattle.tf_model.specs.Scope.{members, missing_symbol}
-use Rattle.tf_model.specs.Deciders.{ignores}
+use Rattle.tf_model.specs.Readiness.{ignores}
 use Rattle.tf_model.proofs.Told.{standing_in, linked_in}
-use Rattle.tf_model.specs.Bound.{tree_bound}
 use Rattle.tf_model.proofs.RowWords.{number, same_arg, echo, echo_to, echo_of, work, fail_below, controller, flow_of_items, plan_of, linked_plan_of, link}
 use Rattle.tf_model.proofs.RowsOfDeciders.{depth_all_plan}
 

@@ -3,14 +3,11 @@ use Rattle.std.specs.Prelude.{◌≡◌, [], ◌∷◌, reverse, map, Some, refl
 use Rattle.tf_flow.specs.declared.deciders.Depth.TheVariants as depth
 use Rattle.tf_states.specs.declared.state.AtomState.TheVariants as atom
 use Rattle.tf_model.specs.Plan.{is_before, holds}
-use Rattle.tf_model.specs.Snapshot.{mark_after}
-use Rattle.tf_model.specs.History.{snapshot, attempts_of}
+use Rattle.tf_model.specs.History.{mark_after, snapshot, attempts_of}
 use Rattle.tf_model.specs.Scope.{members, symbol_value}
-use Rattle.tf_model.specs.Readiness.{can_run, can_revert}
-use Rattle.tf_model.specs.Deciders.{refused, ignores, widest}
+use Rattle.tf_model.specs.Readiness.{can_run, can_revert, refused, ignores, widest}
 use Rattle.tf_model.specs.Retries.{attempt, answer, resolution}
-use Rattle.tf_model.specs.Forced.{forced_attempt, forced_again, forced_reverted, forced_resolution, forced_retrying, forced_revert, forced_ignore, forced_run, forced_if_running, is_active, forced}
-use Rattle.tf_model.specs.Candidates.{candidate_if_running, choice, calm_end, end_of}
+use Rattle.tf_model.specs.Forced.{forced_attempt, forced_again, forced_reverted, forced_resolution, forced_retrying, forced_revert, forced_ignore, forced_run, forced_if_running, is_active, forced, candidate_if_running, choice, calm_end, end_of}
 use Rattle.tf_model.specs.Steps.{is_free, is_still, ends_task, may_suspend, reset, LegalPast}
 use Rattle.tf_model.proofs.RowWords.{number, by, to, gives, take_up}
 use Rattle.tf_model.proofs.RowsOfTasks.{reverted_in_reverse_plan, put_back_anew, put_back_anew_legal}

@@ -1,6 +1,5 @@
 -- Worked runs of several sessions, and of several hands.
-use Rattle.std.specs.Prelude.{List, [], ◌∷◌, reverse, codes, false, Some, None, refl}
-use Rattle.std.specs.Prelude.{take, drop}
+use Rattle.std.specs.Prelude.{List, [], ◌∷◌, reverse, codes, false, Some, None, refl, take, drop}
 use Rattle.std.specs.List.{between}
 use Rattle.tf_flow.specs.declared.atoms.Provides.TheVariants as provides
 use Rattle.tf_flow.specs.declared.atoms.RetryKind.TheVariants as retry
@@ -11,16 +10,12 @@ use Rattle.tf_states.specs.declared.record.Kind.TheVariants as resolved
 use Rattle.tf_states.specs.declared.state.AtomState.TheVariants as atom
 use Rattle.tf_states.specs.declared.state.FlowState.TheVariants as flow
 use Rattle.tf_model.specs.Plan.{Outline, is_before, holds}
-use Rattle.tf_model.specs.Snapshot.{mark_after}
-use Rattle.tf_model.specs.History.{snapshot}
+use Rattle.tf_model.specs.History.{mark_after, snapshot}
 use Rattle.tf_model.specs.Scope.{members, symbol_value}
-use Rattle.tf_model.specs.Readiness.{can_run, can_revert}
-use Rattle.tf_model.specs.Deciders.{refused, ignores}
+use Rattle.tf_model.specs.Readiness.{can_run, can_revert, refused, ignores}
 use Rattle.tf_model.specs.Retries.{attempt, answer, resolution}
-use Rattle.tf_model.specs.Forced.{forced_attempt, forced_again, forced_reverted, forced_resolution, forced_retrying, forced_revert, forced_ignore, forced_run, forced_if_running, is_active, forced}
-use Rattle.tf_model.specs.Candidates.{candidate_if_running, choice, calm_end, end_of}
-use Rattle.tf_model.specs.Steps.{is_free, is_still, ends_task, may_suspend, reset, LegalPast}
-use Rattle.tf_model.specs.Sessions.{Session, whole, halted, entered, already_ended}
+use Rattle.tf_model.specs.Forced.{forced_attempt, forced_again, forced_reverted, forced_resolution, forced_retrying, forced_revert, forced_ignore, forced_run, forced_if_running, is_active, forced, candidate_if_running, choice, calm_end, end_of}
+use Rattle.tf_model.specs.Steps.{is_free, is_still, ends_task, may_suspend, reset, LegalPast, Session, whole, halted, entered, already_ended}
 use Rattle.tf_model.proofs.HistoryLemmas.{legal_before}
 use Rattle.tf_model.proofs.RowWords.{number, echo, fail_below, controller, flow_of_items, plan_of, by, to, gives, fails, flow_to, resolves, again, force, take_up, finish, turn, end, suspend}
 

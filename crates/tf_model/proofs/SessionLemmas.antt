@@ -8,10 +8,8 @@ use Rattle.tf_states.specs.declared.state.FlowState.{FlowState}
 use Rattle.tf_states.specs.declared.state.FlowState.TheVariants as flow
 use Rattle.tf_states.specs.Transitions.{flow_may}
 use Rattle.tf_model.specs.Plan.{Outline}
-use Rattle.tf_model.specs.Snapshot.{flow_after}
-use Rattle.tf_model.specs.History.{snapshot, flow_of}
-use Rattle.tf_model.specs.Steps.{LegalPast}
-use Rattle.tf_model.specs.Sessions.{Session, already_ended, entered, halted, whole, entering, has_ended, is_last, is_inner, is_inner_entry}
+use Rattle.tf_model.specs.History.{flow_after, snapshot, flow_of}
+use Rattle.tf_model.specs.Steps.{LegalPast, Session, already_ended, entered, halted, whole, entering, has_ended, is_last, is_inner, is_inner_entry}
 use Rattle.tf_model.specs.Laws.{is_allowed, HasAllowed, flow_states, flow_state_in, IsGoing, IsStopped, IsWholeRun}
 use Rattle.tf_model.proofs.StepLemmas.{past_allowed}
 use Rattle.tf_numbers.proofs.TruthLemmas.{and_first, and_second}

@@ -15,16 +15,11 @@ use Rattle.tf_states.specs.Transitions.{retry_may, flow_may}
 use Rattle.tf_flow.specs.declared.deciders.Depth.{Depth}
 use Rattle.tf_numbers.specs.Numbers.{all_below, first_below, is_number}
 use Rattle.tf_model.specs.Plan.{Outline, count, is_retry, is_task}
-use Rattle.tf_model.specs.Snapshot.{Snapshot, is_at_work}
-use Rattle.tf_model.specs.History.{snapshot}
-use Rattle.tf_model.specs.States.{is_pending, is_running, is_success, is_reverting, is_retrying, is_executed, is_put_back, flow_runs, flow_suspends, flow_is_reverted}
-use Rattle.tf_model.specs.Readiness.{can_run, can_revert, is_unmarked}
-use Rattle.tf_model.specs.Deciders.{refused}
+use Rattle.tf_model.specs.History.{Snapshot, is_at_work, snapshot, is_pending, is_running, is_success, is_reverting, is_retrying, is_executed, is_put_back, flow_runs, flow_suspends, flow_is_reverted}
+use Rattle.tf_model.specs.Readiness.{can_run, can_revert, is_unmarked, refused}
 use Rattle.tf_model.specs.Retries.{attempt, ends_with}
-use Rattle.tf_model.specs.Forced.{first_entry, forced_attempt, forced_again, forced_reverted, forced_resolution, forced_retrying, forced_revert, forced_ignore, forced_run, forced_if_running, forced, is_active, is_unhurt, is_attempting, attempt_entry, is_beginning_again, again_entry, is_to_put_back, put_back_or_run, is_undone_retry, reverted_entry, is_unresolved, resolution_entry, is_to_begin_again, retrying_entry, is_retry_to_revert, reverting_entry, is_refused, ignore_entry, ignore_by, ignore_or_self, is_to_ignore, ignored_entry, is_retry_to_run, running_entry}
-use Rattle.tf_model.specs.Candidates.{candidate_if_running, choice, candidate_entry, taken_up, is_best, is_candidate, is_interrupted, end_of, calm_end, is_done_at}
-use Rattle.tf_model.specs.Steps.{Rule, by_force, by_choice, by_end_of_task, by_turn, by_end, by_suspension, by_reset, LegalPast, ends_task, ends_as, turns_flow, may_turn, end_entry, may_suspend, reset, put_back_or_rest, is_put_back_at, is_settled_at}
-use Rattle.tf_model.specs.Sessions.{has_ended}
+use Rattle.tf_model.specs.Forced.{first_entry, forced_attempt, forced_again, forced_reverted, forced_resolution, forced_retrying, forced_revert, forced_ignore, forced_run, forced_if_running, forced, is_active, is_unhurt, is_attempting, attempt_entry, is_beginning_again, again_entry, is_to_put_back, put_back_or_run, is_undone_retry, reverted_entry, is_unresolved, resolution_entry, is_to_begin_again, retrying_entry, is_retry_to_revert, reverting_entry, is_refused, ignore_entry, ignore_by, ignore_or_self, is_to_ignore, ignored_entry, is_retry_to_run, running_entry, candidate_if_running, choice, candidate_entry, taken_up, is_best, is_candidate, is_interrupted, end_of, calm_end, is_done_at}
+use Rattle.tf_model.specs.Steps.{Rule, by_force, by_choice, by_end_of_task, by_turn, by_end, by_suspension, by_reset, LegalPast, ends_task, ends_as, turns_flow, may_turn, end_entry, may_suspend, reset, put_back_or_rest, is_put_back_at, is_settled_at, has_ended}
 use Rattle.tf_model.specs.Laws.{atom_may, is_allowed, HasAllowed}
 use Rattle.tf_numbers.proofs.BelowLemmas.{found_passes}
 use Rattle.tf_numbers.proofs.OptionLemmas.{if_some, option_either}

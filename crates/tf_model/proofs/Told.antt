@@ -8,13 +8,11 @@ use Rattle.tf_flow.specs.declared.atoms.Provides.TheVariants as provides
 use Rattle.tf_flow.specs.declared.atoms.RetryKind.{RetryKind}
 use Rattle.tf_flow.specs.declared.atoms.Task.{Task}
 use Rattle.tf_flow.specs.declared.paths.Turn.{Turn}
-use Rattle.tf_flow.specs.Conditions.{Connection}
-use Rattle.tf_flow.specs.Names.{is_among}
-use Rattle.tf_flow.specs.Outline.{Part, Atom, Item, is_retry_part, is_task_part, arguments_of, injected_in, provided_by, name_of, priority_of, part_of, atom_path}
-use Rattle.tf_numbers.specs.Pairs.{Pair}
-use Rattle.tf_model.specs.Before.{Flow, find_flow, no_flow}
-use Rattle.tf_model.specs.Linked.{taken_symbols, listed, name_of_item, item_standing}
-use Rattle.tf_model.specs.Orders.{task_part}
+use Rattle.tf_flow.specs.Outline.{Connection, Part, Atom, Item, is_retry_part, is_task_part, arguments_of, injected_in, provided_by, name_of, priority_of, part_of, atom_path}
+use Rattle.tf_flow.specs.Tree.{is_among}
+use Rattle.tf_numbers.specs.Numbers.{Pair}
+use Rattle.tf_model.specs.Before.{Flow, find_flow, no_flow, taken_symbols, listed, name_of_item, item_standing}
+use Rattle.tf_model.specs.Scope.{task_part}
 use Rattle.tf_model.specs.Plan.{Outline, own_flow}
 use Rattle.tf_model.specs.Retries.{kind_of_part}
 

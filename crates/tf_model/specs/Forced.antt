@@ -1,19 +1,23 @@
--- The entry that must come next.
-use Rattle.std.specs.Prelude.{ℕ, Bool, false, not, ◌&&◌, ◌||◌, Option, Some, None, option_map, is_some, nat_eq, if◌then◌else◌}
-use Rattle.std.specs.Option.{option_or}
+-- Which entry comes next: the one that is forced, or the task that a hand takes up.
+use Rattle.std.specs.Prelude.{ℕ, Bool, false, not, ◌&&◌, ◌||◌, Option, Some, None, option_map, is_some, nat_eq, if◌then◌else◌, ℤ, pos, is_none, int_lt}
+use Rattle.std.specs.Option.{option_or, option_map_or}
 use Rattle.tf_flow.specs.declared.deciders.Depth.{Depth}
 use Rattle.tf_states.specs.declared.record.Payload.TheVariants as payload
 use Rattle.tf_states.specs.declared.record.What.{What}
 use Rattle.tf_states.specs.declared.record.What.TheVariants as what
 use Rattle.tf_states.specs.declared.state.AtomState.{AtomState}
 use Rattle.tf_states.specs.declared.state.AtomState.TheVariants as atom
-use Rattle.tf_numbers.specs.Numbers.{all_below, first_below}
-use Rattle.tf_model.specs.Plan.{Outline, count, holds, is_retry, own_flow}
-use Rattle.tf_model.specs.Snapshot.{Resolve, Snapshot, is_retry_of}
-use Rattle.tf_model.specs.States.{is_pending, is_running, is_success, is_failure, is_reverting, is_revert_failure, is_retrying, is_settled, is_put_back, flow_runs}
-use Rattle.tf_model.specs.Readiness.{is_unmarked, can_run, can_revert}
-use Rattle.tf_model.specs.Deciders.{refused, ignores}
+use Rattle.tf_numbers.specs.Numbers.{all_below, first_below, any_below}
+use Rattle.tf_model.specs.Plan.{Outline, count, holds, is_retry, own_flow, is_task}
+use Rattle.tf_model.specs.History.{Resolve, Snapshot, is_retry_of, is_pending, is_running, is_success, is_failure, is_reverting, is_revert_failure, is_retrying, is_settled, is_put_back, flow_runs, is_at_work, is_done, flow_suspends}
+use Rattle.tf_model.specs.Readiness.{is_unmarked, can_run, can_revert, refused, ignores, is_to_revert}
 use Rattle.tf_model.specs.Retries.{attempt, ends_with, resolution}
+use Rattle.tf_states.specs.declared.state.FlowState.{FlowState}
+use Rattle.tf_states.specs.declared.state.FlowState.TheVariants as flow
+use Rattle.tf_flow.specs.Outline.{priority_of}
+use Rattle.tf_model.specs.Before.{part_at}
+
+-- ---- the entry that must come next
 
 -- the atom enters a state that carries nothing
 abbrev pub enters : ℕ → AtomState → What
@@ -200,3 +204,69 @@ is_active plan s = flow_runs s.flow && is_unhurt plan s
 -- the forced entry
 unfoldable pub forced : Outline → Snapshot → Option What
 forced plan s = if is_active plan s then forced_if_running plan s else None
+
+-- ---- which task a hand takes up next, and how a run ends
+
+-- an interrupted task: at work, and no hand has it in flight
+abbrev pub is_interrupted : Outline → Snapshot → ℕ → Bool
+is_interrupted plan s a = is_task plan a && (is_at_work (s.state a) && is_none (s.hand a))
+
+-- a task that may be taken up: an interrupted one, one that can run, or one that can revert
+abbrev pub is_candidate : Outline → Snapshot → ℕ → Bool
+is_candidate plan s a = is_interrupted plan s a || (is_task plan a && (can_run plan s a || can_revert plan s a))
+
+-- the priority of a
+abbrev pub priority : Outline → ℕ → ℤ
+priority plan a = option_map_or priority_of (part_at plan.atoms a) (pos 0)
+
+-- b is a candidate of a greater priority than a
+abbrev pub outranks : Outline → Snapshot → ℕ → ℕ → Bool
+outranks plan s a b = is_candidate plan s b && int_lt (priority plan a) (priority plan b)
+
+-- a candidate of the greatest priority
+abbrev pub is_best : Outline → Snapshot → ℕ → Bool
+is_best plan s a = is_candidate plan s a && not (any_below (count plan) (outranks plan s a))
+
+-- how a task in this state is taken up: restarted, started, or begun to be reverted
+abbrev pub taken_up : AtomState → ℕ → What
+taken_up atom.Running a = what.Restart a
+taken_up atom.Reverting a = what.Restart a
+taken_up atom.Pending a = enters a atom.Running
+taken_up state a = enters a atom.Reverting
+
+-- how a is taken up
+abbrev pub candidate_entry : Snapshot → ℕ → What
+candidate_entry s a = taken_up (s.state a) a
+
+-- the first candidate, of the greatest priority and then in tree order, read as if the flow were RUNNING
+unfoldable pub candidate_if_running : Outline → Snapshot → Option What
+candidate_if_running plan s = option_map (candidate_entry s) (first_below (count plan) (is_best plan s))
+
+-- the first candidate: while nothing is forced, the flow is RUNNING and no atom is REVERT_FAILURE
+unfoldable pub choice : Outline → Snapshot → Option What
+choice plan s = if is_active plan s && is_none (forced plan s) then candidate_if_running plan s else None
+
+-- SUCCESS or IGNORE
+abbrev pub is_done_at : Snapshot → ℕ → Bool
+is_done_at s a = is_done (s.state a)
+
+-- not RUNNING, REVERTING or FAILURE, and not SUCCESS where the mark is REVERT
+abbrev pub is_at_rest : Snapshot → ℕ → Bool
+is_at_rest s a =
+    not (is_at_work (s.state a)) && (not (is_failure (s.state a)) && not (is_success (s.state a) && is_to_revert (s.mark a)))
+
+-- how a run ends that nothing is forced in: SUCCESS where every atom is SUCCESS or IGNORE; else REVERTED
+-- where there is no candidate and every atom is at rest
+unfoldable pub calm_end : Outline → Snapshot → Option FlowState
+calm_end plan s =
+    if all_below (count plan) (is_done_at s) then Some flow.Success
+    else if is_none (candidate_if_running plan s) && all_below (count plan) (is_at_rest s) then Some flow.Reverted
+    else None
+
+-- the end: none unless the flow is RUNNING or SUSPENDING; FAILURE where an atom is REVERT_FAILURE; none
+-- while an entry is forced, which in SUSPENDING is read, like the candidates, as if the flow were RUNNING
+unfoldable pub end_of : Outline → Snapshot → Option FlowState
+end_of plan s =
+    if flow_runs s.flow || flow_suspends s.flow then
+    (if is_unhurt plan s then (if is_none (forced_if_running plan s) then calm_end plan s else None) else Some flow.Failure)
+    else None

@@ -1,7 +1,7 @@
 -- What the laws of legal histories speak of.
 use Rattle.std.specs.Prelude.{not, ◌≡◌, ◌⊎◌, ◌<◌, length, map, ◌++◌, reverse, filter_map, Some, None, Option, ℕ, List, [], ◌∷◌, Bool, true, false, ◌&&◌, ◌||◌, if◌then◌else◌, nat_eq}
 use Rattle.std.specs.List.{list_all}
-use Rattle.tf_numbers.specs.Numbers.{has_number}
+use Rattle.tf_numbers.specs.Numbers.{has_number, has_pair}
 use Rattle.tf_states.specs.declared.record.Entry.{Entry}
 use Rattle.tf_states.specs.declared.record.Payload.{Payload}
 use Rattle.tf_states.specs.declared.record.Payload.TheVariants as payload
@@ -12,17 +12,12 @@ use Rattle.tf_states.specs.declared.state.AtomState.TheVariants as atom
 use Rattle.tf_states.specs.declared.state.FlowState.{FlowState}
 use Rattle.tf_states.specs.declared.state.FlowState.TheVariants as flow
 use Rattle.tf_states.specs.Transitions.{task_may, retry_may, flow_may}
-use Rattle.tf_model.specs.Before.{Flow, item_before}
+use Rattle.tf_model.specs.Before.{Flow, item_before, item_name}
 use Rattle.tf_model.specs.Plan.{Outline, path, holds, is_retry, is_task, own_flow}
-use Rattle.tf_model.specs.Deciders.{home, last_item}
-use Rattle.tf_numbers.specs.Pairs.{has_pair}
-use Rattle.tf_links.specs.Cycles.{shortest_cycle}
-use Rattle.tf_links.specs.Laws.{Chain}
-use Rattle.tf_model.specs.Linked.{item_name}
-use Rattle.tf_model.specs.States.{is_pending, is_success}
-use Rattle.tf_model.specs.Snapshot.{Resolve, Snapshot, is_retry_of}
-use Rattle.tf_model.specs.History.{snapshot, flow_of}
-use Rattle.tf_model.specs.Sessions.{has_ended, entering}
+use Rattle.tf_model.specs.Readiness.{home, last_item}
+use Rattle.tf_links.specs.Graphs.{shortest_cycle, Chain}
+use Rattle.tf_model.specs.History.{is_pending, is_success, Resolve, Snapshot, is_retry_of, snapshot, flow_of}
+use Rattle.tf_model.specs.Steps.{has_ended, entering}
 
 -- the pair is allowed: of a retry controller, or else of a task
 abbrev pub atom_may : Bool → AtomState → AtomState → Bool

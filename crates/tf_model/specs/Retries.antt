@@ -5,7 +5,7 @@ use Rattle.tf_values.specs.declared.value.Val.{Val}
 use Rattle.tf_values.specs.declared.value.Val.TheVariants as value
 use Rattle.tf_flow.specs.declared.atoms.RetryKind.{RetryKind}
 use Rattle.tf_flow.specs.declared.atoms.RetryKind.TheVariants as retry
-use Rattle.tf_flow.specs.Names.{same_name}
+use Rattle.tf_flow.specs.Tree.{same_name}
 use Rattle.tf_actions.specs.declared.orders.Given.{Given}
 use Rattle.tf_actions.specs.declared.orders.Given.TheVariants as given
 use Rattle.tf_actions.specs.declared.orders.Pair.{Pair}
@@ -22,7 +22,7 @@ use Rattle.tf_flow.specs.Outline.{Part, a_task, a_retry}
 use Rattle.tf_flow.specs.declared.paths.Turn.{Turn}
 use Rattle.tf_model.specs.Before.{part_at}
 use Rattle.tf_model.specs.Plan.{Outline, path, retry_of}
-use Rattle.tf_model.specs.Snapshot.{Resolve, Snapshot}
+use Rattle.tf_model.specs.History.{Resolve, Snapshot}
 use Rattle.tf_model.specs.Scope.{item_value, given_for}
 
 -- the kind of a retry controller

@@ -3,8 +3,7 @@ use Rattle.std.proofs.Common.{◌≡◌, ℕ, zero, suc, ◌<◌, List, [], ◌�
 use Rattle.std.specs.Prelude.{if◌then◌else◌, nat_eq}
 use Rattle.std.specs.List.{list_any}
 use Rattle.std.proofs.lemmas.Bool.{cases_lt}
-use Rattle.tf_numbers.specs.Numbers.{which_below, numbers_below}
-use Rattle.tf_numbers.specs.Pairs.{pair, is_pair, has_pair, pairs_from, pairs_below}
+use Rattle.tf_numbers.specs.Numbers.{which_below, numbers_below, pair, is_pair, has_pair, pairs_from, pairs_below}
 use Rattle.tf_numbers.proofs.TruthLemmas.{and_first, and_second, or_either, true_first, true_second, true_both, only_first, or_chain}
 
 -- ---- one of a list passes

@@ -7,18 +7,15 @@ use Rattle.std.proofs.lemmas.Bool.{cases_lt, ltb-true, lt-ltb}
 use Rattle.std.proofs.lemmas.List.{map-append}
 use Rattle.std.proofs.lemmas.Option.{slice_get-map}
 use Rattle.tf_flow.specs.declared.atoms.Arg.{Arg}
-use Rattle.tf_flow.specs.Names.{is_among}
+use Rattle.tf_flow.specs.Tree.{is_among}
 use Rattle.tf_flow.specs.Rules.{bind_symbols}
-use Rattle.tf_numbers.specs.Numbers.{which_below, has_number}
-use Rattle.tf_numbers.specs.Pairs.{Pair}
-use Rattle.tf_links.specs.Reach.{reached}
+use Rattle.tf_numbers.specs.Numbers.{which_below, has_number, Pair}
+use Rattle.tf_links.specs.Graphs.{reached, shortest_cycle}
 use Rattle.tf_flow.specs.Outline.{Part, injected_in, arguments_of}
 use Rattle.tf_flow.specs.declared.paths.Turn.{Turn}
-use Rattle.tf_model.specs.Before.{Flow, path_at, passes_item}
-use Rattle.tf_model.specs.Linked.{arg_symbol, is_unserved, is_inside, needs_of_atom, needs, givers, item_name}
+use Rattle.tf_model.specs.Before.{Flow, path_at, passes_item, arg_symbol, is_unserved, is_inside, needs_of_atom, needs, givers, item_name}
 use Rattle.tf_model.proofs.Told.{item_name_in}
-use Rattle.tf_model.specs.Compilation.{ambiguous, cycle, name_less, least, are_several, is_ambiguous, refuse_givers, refuse_symbol, ambiguity_at, is_back, cycle_through, first_cycle}
-use Rattle.tf_links.specs.Cycles.{shortest_cycle}
+use Rattle.tf_model.specs.Plan.{ambiguous, cycle, name_less, least, are_several, is_ambiguous, refuse_givers, refuse_symbol, ambiguity_at, is_back, cycle_through, first_cycle}
 use Rattle.tf_flow.specs.declared.listing.AtomPlace.{AtomPlace}
 use Rattle.tf_flow.specs.declared.listing.ItemPlace.{ItemPlace}
 use Rattle.tf_order.specs.declared.sight.Sight.{Sight}

@@ -3,7 +3,7 @@ use Rattle.std.proofs.Common.{◌≡◌, ◌≢◌, ℕ, ◌-◌, ◌<◌, ◌�
 use Rattle.std.specs.Prelude.{nat_eq, nat_lt}
 use Rattle.std.proofs.lemmas.Bool.{cases_lt, lt-ltb, ltb-true}
 use Rattle.tf_numbers.proofs.TruthLemmas.{never_true, clash, and_first, true_both}
-use Rattle.tf_numbers.specs.Pairs.{has_pair}
+use Rattle.tf_numbers.specs.Numbers.{has_pair}
 use Rattle.tf_model.specs.Before.{Flow, find_flow, item_before}
 use Rattle.tf_model.proofs.Told.{order_in}
 use Rattle.tf_order.specs.declared.arranged.Arranged.{Arranged}

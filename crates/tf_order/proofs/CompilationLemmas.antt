@@ -1,22 +1,18 @@
 -- Looking at the flows of a plan from the last one on, the first refusal, and the graph of a plan.
 use Rattle.std.proofs.Common.{◌≡◌, ◌≢◌, ℕ, zero, suc, ◌+◌, ◌<◌, ◌≤◌, List, [], ◌∷◌, ◌++◌, length, map, flat_map, take, drop, Bool, true, false, Option, Some, None, refl, sym, ap, subst, ◌∙◌, add-one, inl, inr, arith, eqb-true, eq-eqb, slice_set, slice_get, slice_index_or}
-use Rattle.std.specs.Option.{option_to_list}
+use Rattle.std.specs.Option.{option_to_list, option_or}
 use Rattle.std.specs.Prelude.{nat_eq, if◌then◌else◌}
-use Rattle.std.specs.Option.{option_or}
 use Rattle.std.proofs.lemmas.Bool.{cases_lt}
 use Rattle.std.proofs.lemmas.List.{length-set, length-map}
 use Rattle.std.proofs.lemmas.Option.{slice_get_past}
-use Rattle.tf_flow.specs.Names.{first_some}
+use Rattle.tf_flow.specs.Tree.{first_some, Tree, Trees, task, flow, no_trees, tree, tree_of}
 use Rattle.tf_flow.specs.Plan.{PlanValue}
-use Rattle.tf_flow.specs.Tree.{Tree, Trees, task, flow, no_trees, tree, tree_of}
 use Rattle.tf_flow.specs.declared.atoms.Retry.{Retry}
-use Rattle.tf_model.specs.Before.{Flow, find_flow, has_flow_number}
-use Rattle.tf_model.specs.Compilation.{CompileRefusal, ambiguous, cycle, refusal_of, refusal_among, refusal_at, compile_refusal}
-use Rattle.tf_model.specs.Linked.{arrange, arranged, standing_at, standing_of_item, linked_pairs}
-use Rattle.tf_links.specs.Standing.{standing_items}
+use Rattle.tf_model.specs.Before.{Flow, find_flow, has_flow_number, arrange, arranged, standing_at, standing_of_item, linked_pairs}
+use Rattle.tf_model.specs.Plan.{CompileRefusal, ambiguous, cycle, refusal_of, refusal_among, refusal_at, compile_refusal, outline_with, outline_of, is_before, count}
+use Rattle.tf_links.specs.Graphs.{standing_items}
 use Rattle.tf_numbers.specs.Numbers.{numbers_below}
 use Rattle.tf_flow.specs.Outline.{Atom, Item, Standing, stands_task, stands_flow, FlowPlace, atoms_of, flows_of, flows_among, flow_count, atom_count, atoms_among_count, retry_count, retry_number, item_of, items_of, innermost_first}
-use Rattle.tf_model.specs.Plan.{outline_with, outline_of, is_before, count}
 use Rattle.tf_model.proofs.Told.{standing_in, standing_of}
 use Rattle.tf_numbers.proofs.PairLemmas.{any_in_both}
 use Rattle.tf_order.specs.declared.arranged.Arranged.{Arranged}

@@ -15,7 +15,7 @@ use Rattle.tf_links.proofs.BitLemmas.{past_none}
 use Rattle.tf_links.proofs.LinkLemmas.{past_row, row_zero}
 use Rattle.tf_links.proofs.StandingLemmas.{number_more, listed_within, taking_none, taking_next, taking_all}
 use Rattle.tf_model.specs.Before.{Flow, flow_at}
-use Rattle.tf_model.specs.Deciders.{last_item, same_flow}
+use Rattle.tf_model.specs.Readiness.{last_item, same_flow}
 use Rattle.tf_model.specs.Plan.{last_flow}
 use Rattle.tf_numbers.specs.Numbers.{which_below, has_number, is_number}
 use Rattle.tf_numbers.proofs.BelowLemmas.{which_same}

@@ -6,11 +6,10 @@ use Rattle.std.proofs.lemmas.Bool.{ltb-true, lt-ltb}
 use Rattle.std.proofs.lemmas.Cmp.{nat_list_eq_equiv}
 use Rattle.std.proofs.lemmas.List.{length-map}
 use Rattle.tf_flow.specs.declared.deciders.Link.{Link}
-use Rattle.tf_flow.specs.Names.{same_name}
-use Rattle.tf_numbers.specs.Numbers.{which_below, has_number}
-use Rattle.tf_numbers.specs.Pairs.{has_pair}
-use Rattle.tf_flow.specs.Conditions.{Connection, connection_of}
-use Rattle.tf_model.specs.Linked.{joins, item_name, is_explicit, explicit}
+use Rattle.tf_flow.specs.Tree.{same_name}
+use Rattle.tf_numbers.specs.Numbers.{which_below, has_number, has_pair}
+use Rattle.tf_flow.specs.Outline.{Connection, connection_of}
+use Rattle.tf_model.specs.Before.{joins, item_name, is_explicit, explicit}
 use Rattle.tf_numbers.proofs.TruthLemmas.{and_first, and_second, true_both, same_truth, and_false, or_chain, or_false, or_turn}
 use Rattle.tf_numbers.proofs.PairLemmas.{which_passes, passes_which, pair_passes, passes_pair}
 use Rattle.tf_order.specs.declared.index.NameIndex.{NameIndex}

@@ -9,7 +9,7 @@ use Rattle.tf_flow.specs.declared.paths.Turn.{Turn}
 use Rattle.std.specs.Option.{unwrap_or}
 use Rattle.tf_model.specs.Before.{Flow, no_flow, path_before}
 use Rattle.tf_model.specs.Plan.{Outline, outline_of, count, path, is_before, is_task, last_flow}
-use Rattle.tf_model.specs.Deciders.{same_flow, last_item}
+use Rattle.tf_model.specs.Readiness.{same_flow, last_item}
 use Rattle.tf_model.proofs.Told.{path_in, flow_in}
 use Rattle.tf_model.specs.Scope.{is_earlier}
 use Rattle.tf_order.specs.Graph.{GraphValue, IsGraphOf, predecessors_of, successors_of, direct_tasks_of, leads_to, leads_in}

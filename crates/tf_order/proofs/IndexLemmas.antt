@@ -4,9 +4,9 @@ use Rattle.std.proofs.Common.{◌≡◌, ℕ, zero, suc, ◌+◌, ◌-◌, ◌<�
 use Rattle.std.specs.Prelude.{nat_eq, if◌then◌else◌}
 use Rattle.tf_flow.specs.declared.atoms.Provides.{Provides}
 use Rattle.tf_flow.specs.Limits.{provided}
-use Rattle.tf_flow.specs.Names.{same_name, is_among}
+use Rattle.tf_flow.specs.Tree.{same_name, is_among}
 use Rattle.tf_flow.proofs.NameLemmas.{any_push, any_more}
-use Rattle.tf_model.specs.Linked.{provides_at}
+use Rattle.tf_model.specs.Before.{provides_at}
 use Rattle.tf_numbers.specs.Numbers.{is_number, which_below}
 use Rattle.tf_flow.specs.Outline.{provided_by}
 use Rattle.tf_flow.specs.declared.listing.AtomPlace.{AtomPlace}

@@ -5,14 +5,13 @@ use Rattle.std.specs.Prelude.{nat_eq, nat_lt, if◌then◌else◌}
 use Rattle.std.specs.List.{list_any}
 use Rattle.std.proofs.lemmas.Bool.{lt-ltb}
 use Rattle.tf_flow.specs.declared.atoms.Arg.{Arg}
-use Rattle.tf_flow.specs.Names.{is_among}
+use Rattle.tf_flow.specs.Tree.{is_among}
 use Rattle.tf_flow.specs.Rules.{bind_symbols}
 use Rattle.tf_numbers.specs.Numbers.{which_below}
 use Rattle.tf_flow.specs.Outline.{Part, injected_in, arguments_of}
-use Rattle.tf_model.specs.Before.{Flow}
-use Rattle.tf_model.specs.Linked.{arg_symbol, is_taken, taken_symbols, is_unserved, givers, is_served, other_provides, is_only, is_inferred_by}
+use Rattle.tf_model.specs.Before.{Flow, arg_symbol, is_taken, taken_symbols, is_unserved, givers, is_served, other_provides, is_only, is_inferred_by}
 use Rattle.tf_model.proofs.Told.{taken_by}
-use Rattle.tf_model.specs.Compilation.{are_several, is_ambiguous}
+use Rattle.tf_model.specs.Plan.{are_several, is_ambiguous}
 use Rattle.tf_numbers.proofs.TruthLemmas.{true_first, true_both, or_chain, second_false, or_nothing, or_spread}
 use Rattle.tf_numbers.proofs.PairLemmas.{which_passes}
 use Rattle.tf_flow.specs.declared.listing.AtomPlace.{AtomPlace}

@@ -6,15 +6,13 @@ use Rattle.std.specs.Option.{option_or}
 use Rattle.std.proofs.lemmas.Bool.{cases_lt, ltb-true, lt-ltb}
 use Rattle.tf_flow.specs.declared.nested.FlowKind.{FlowKind}
 use Rattle.tf_flow.specs.declared.nested.FlowKind.TheVariants as kind
-use Rattle.tf_flow.specs.Names.{first_some}
+use Rattle.tf_flow.specs.Tree.{first_some}
 use Rattle.tf_flow.specs.Rules.{is_graph}
-use Rattle.tf_numbers.specs.Numbers.{first_below, numbers_below}
-use Rattle.tf_numbers.specs.Pairs.{Pair, has_pair, pairs_below}
-use Rattle.tf_links.specs.Reach.{reached}
+use Rattle.tf_numbers.specs.Numbers.{first_below, numbers_below, Pair, has_pair, pairs_below}
+use Rattle.tf_links.specs.Graphs.{reached}
 use Rattle.tf_flow.specs.Outline.{FlowPlace}
-use Rattle.tf_model.specs.Before.{Flow}
-use Rattle.tf_model.specs.Linked.{needs, givers, is_only, is_inferred_by, is_inferred, is_explicit, explicit, is_linked, linked_pairs, item_order, standing_atoms}
-use Rattle.tf_model.specs.Compilation.{CompileRefusal, lesser, least, name_less, are_several, is_ambiguous, refuse_givers, refuse_symbol, ambiguity_at, ambiguity, cycle_of, first_cycle}
+use Rattle.tf_model.specs.Before.{Flow, needs, givers, is_only, is_inferred_by, is_inferred, is_explicit, explicit, is_linked, linked_pairs, item_order, standing_atoms}
+use Rattle.tf_model.specs.Plan.{CompileRefusal, lesser, least, name_less, are_several, is_ambiguous, refuse_givers, refuse_symbol, ambiguity_at, ambiguity, cycle_of, first_cycle}
 use Rattle.tf_numbers.proofs.TruthLemmas.{and_first, and_second, or_either, true_first, true_second, true_both, same_truth, neither_second, neither_first}
 use Rattle.tf_numbers.proofs.PairLemmas.{pair_passes, passes_pair}
 use Rattle.tf_order.specs.declared.arranged.Arranged.{Arranged}

@@ -8,7 +8,7 @@ use Rattle.tf_model.proofs.Told.{path_in}
 use Rattle.tf_flow.specs.declared.listing.AtomPlace.{AtomPlace}
 use Rattle.tf_flow.specs.Listing.{shown_atoms}
 use Rattle.tf_flow.proofs.NumberingLemmas.{atom_there}
-use Rattle.tf_model.specs.Deciders.{last_item}
+use Rattle.tf_model.specs.Readiness.{last_item}
 use Rattle.tf_flow.specs.declared.paths.Turn.{Turn}
 use Rattle.tf_model.specs.Plan.{last_flow}
 use Rattle.tf_order.specs.declared.paths.Meeting.{Meeting}

@@ -7,13 +7,11 @@ use Rattle.tf_flow.specs.Plan.{PlanValue}
 use Rattle.tf_flow.specs.Tree.{tree_of}
 use Rattle.tf_flow.specs.Listing.{shown_atoms, shown_levels}
 use Rattle.tf_flow.specs.declared.listing.Outline.{Outline}
-use Rattle.tf_model.specs.Before.{Flow, item_before}
-use Rattle.tf_model.specs.Linked.{arranged}
-use Rattle.tf_model.specs.Plan.{outline_of}
+use Rattle.tf_model.specs.Before.{Flow, item_before, arranged}
+use Rattle.tf_model.specs.Plan.{outline_of, root_item_before}
 use Rattle.tf_numbers.proofs.EquationLemmas.{ap2}
 use Rattle.tf_numbers.specs.Numbers.{numbers_below}
 use Rattle.tf_order.specs.Arranged.{ShowsFlows}
-use Rattle.tf_order.specs.RootItems.{root_item_before}
 use Rattle.tf_order.specs.Tables.{AreLooked}
 use Rattle.tf_order.specs.declared.arranged.Arranged.{Arranged}
 use Rattle.tf_order.specs.declared.faults.CompileFault.{CompileFault}

@@ -5,14 +5,12 @@ use Rattle.std.specs.List.{list_any}
 use Rattle.std.proofs.lemmas.Bool.{ltb-true, lt-ltb}
 use Rattle.std.proofs.lemmas.List.{length-map}
 use Rattle.tf_flow.specs.declared.atoms.Bind.{Bind}
-use Rattle.tf_flow.specs.Names.{same_name, is_among}
+use Rattle.tf_flow.specs.Tree.{same_name, is_among}
 use Rattle.tf_flow.specs.Rules.{bind_symbols}
-use Rattle.tf_numbers.specs.Numbers.{any_below, which_below, has_number}
-use Rattle.tf_numbers.specs.Pairs.{has_pair}
-use Rattle.tf_links.specs.Reach.{reached}
+use Rattle.tf_numbers.specs.Numbers.{any_below, which_below, has_number, has_pair}
+use Rattle.tf_links.specs.Graphs.{reached}
 use Rattle.tf_flow.specs.declared.paths.Turn.{Turn}
-use Rattle.tf_model.specs.Before.{Flow, takes_item, same_place, passes_item, path_before, path_at}
-use Rattle.tf_model.specs.Linked.{provides_at, is_inside, serves_inside, is_unserved, gives_inside, item_provides, retry_provides, explicit, reaches_with, is_served, other_provides, givers}
+use Rattle.tf_model.specs.Before.{Flow, takes_item, same_place, passes_item, path_before, path_at, provides_at, is_inside, serves_inside, is_unserved, gives_inside, item_provides, retry_provides, explicit, reaches_with, is_served, other_provides, givers}
 use Rattle.tf_numbers.proofs.TruthLemmas.{and_first, and_second, or_either, true_first, true_second, true_both, same_truth, never_true, or_chain, or_false, and_true, and_false, second_false, or_nothing, neither, neither_second, neither_first, or_spread, and_spread}
 use Rattle.tf_numbers.proofs.PairLemmas.{which_passes, passes_which}
 use Rattle.tf_flow.specs.declared.listing.AtomPlace.{AtomPlace}

@@ -10,7 +10,7 @@ use Rattle.tf_numbers.specs.Numbers.{numbers_below, which_below}
 use Rattle.tf_flow.specs.Outline.{Atom, is_task_part}
 use Rattle.tf_flow.specs.declared.paths.Turn.{Turn}
 use Rattle.tf_model.specs.Plan.{Outline as PlanOutline, is_before, last_flow, count}
-use Rattle.tf_model.specs.Deciders.{last_item, same_flow}
+use Rattle.tf_model.specs.Readiness.{last_item, same_flow}
 use Rattle.tf_model.proofs.Told.{standing_in, is_task_in, flow_in}
 use Rattle.tf_order.specs.declared.arranged.Arranged.{Arranged}
 use Rattle.tf_flow.specs.declared.listing.AtomPlace.{AtomPlace}

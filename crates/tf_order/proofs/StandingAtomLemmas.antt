@@ -1,14 +1,12 @@
 -- The atoms of a flow in standing order.
 use Rattle.std.proofs.Common.{◌≡◌, ℕ, ◌+◌, ◌<◌, ◌≤◌, List, [], ◌∷◌, ◌++◌, length, take, flat_map, Option, Some, None, refl, sym, ap, ◌∙◌, add-one, append_assoc, slice_index_or, slice_get}
-use Rattle.std.specs.Option.{option_to_list}
-use Rattle.std.specs.Option.{option_map}
+use Rattle.std.specs.Option.{option_to_list, option_map}
 use Rattle.std.proofs.lemmas.List.{length-map}
 use Rattle.std.proofs.lemmas.Option.{slice_get-map}
-use Rattle.tf_numbers.specs.Pairs.{Pair}
-use Rattle.tf_model.specs.Before.{Flow, find_flow}
-use Rattle.tf_model.specs.Linked.{standing_at, standing_of_item, standing_atoms}
+use Rattle.tf_numbers.specs.Numbers.{Pair}
+use Rattle.tf_model.specs.Before.{Flow, find_flow, standing_at, standing_of_item, standing_atoms}
 use Rattle.tf_model.proofs.Told.{standing_in, standing_of}
-use Rattle.tf_links.specs.Standing.{standing_items}
+use Rattle.tf_links.specs.Graphs.{standing_items}
 use Rattle.tf_order.specs.declared.arranged.Arranged.{Arranged}
 use Rattle.tf_flow.specs.declared.listing.ItemPlace.{ItemPlace}
 use Rattle.tf_flow.specs.declared.listing.Standing.{Standing}

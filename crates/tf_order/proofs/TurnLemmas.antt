@@ -5,9 +5,8 @@ use Rattle.std.specs.List.{list_any}
 use Rattle.std.proofs.lemmas.Bool.{ltb-true}
 use Rattle.tf_numbers.specs.Numbers.{which_below}
 use Rattle.tf_flow.specs.declared.paths.Turn.{Turn}
-use Rattle.tf_model.specs.Before.{Flow, takes_item, same_place, passes_item, path_at}
-use Rattle.tf_model.specs.Linked.{is_inside, needs_of_atom, needs, is_inferred_by}
-use Rattle.tf_model.specs.Compilation.{is_ambiguous}
+use Rattle.tf_model.specs.Before.{Flow, takes_item, same_place, passes_item, path_at, is_inside, needs_of_atom, needs, is_inferred_by}
+use Rattle.tf_model.specs.Plan.{is_ambiguous}
 use Rattle.tf_numbers.proofs.TruthLemmas.{true_both, never_true, or_chain, or_false, second_false, or_nothing}
 use Rattle.tf_order.specs.declared.sight.Sight.{Sight}
 use Rattle.tf_order.specs.Arranged.{ShowsFlows}

@@ -2,9 +2,8 @@
 use Rattle.std.specs.Prelude.{ℕ, List, [], filter, if◌then◌else◌}
 use Rattle.tf_flow.specs.declared.atoms.Arg.{Arg}
 use Rattle.tf_flow.specs.Outline.{Part}
-use Rattle.tf_model.specs.Before.{Flow}
-use Rattle.tf_model.specs.Linked.{is_inside}
-use Rattle.tf_model.specs.Compilation.{is_ambiguous}
+use Rattle.tf_model.specs.Before.{Flow, is_inside}
+use Rattle.tf_model.specs.Plan.{is_ambiguous}
 use Rattle.tf_order.specs.declared.sight.Sight.{Sight}
 use Rattle.tf_order.specs.Sight.{atoms_seen, place_seen, needed_by, needed_at, needed_below}
 

@@ -2,7 +2,7 @@
 use Rattle.std.specs.Prelude.{◌≡◌, ℕ, List, Bool, false, ◌&&◌, Option, Some, None, nat_lt, slice_get}
 use Rattle.tf_flow.specs.declared.nested.FlowKind.{FlowKind}
 use Rattle.tf_flow.specs.declared.nested.FlowKind.TheVariants as kind
-use Rattle.tf_numbers.specs.Pairs.{has_pair}
+use Rattle.tf_numbers.specs.Numbers.{has_pair}
 use Rattle.tf_model.specs.Before.{Flow, find_flow}
 use Rattle.tf_order.specs.declared.arranged.Arranged.{Arranged}
 use Rattle.tf_links.specs.Links.{leads}

@@ -3,7 +3,7 @@ use Rattle.std.specs.Prelude.{◌≡◌, ℕ, List, Bool, ◌&&◌, Option, None
 use Rattle.std.specs.List.{list_any}
 use Rattle.tf_flow.specs.Outline.{is_task_part}
 use Rattle.tf_flow.specs.Paths.{shown_part}
-use Rattle.tf_model.specs.Deciders.{last_item}
+use Rattle.tf_model.specs.Readiness.{last_item}
 use Rattle.tf_model.specs.Plan.{last_flow}
 use Rattle.tf_numbers.specs.Numbers.{which_below, is_number, has_number}
 use Rattle.tf_flow.specs.declared.listing.AtomPlace.{AtomPlace}

@@ -3,13 +3,11 @@ use Rattle.std.specs.Prelude.{◌≡◌, ℕ, ◌+◌, List, Bool, false, ◌&&�
 use Rattle.tf_flow.specs.Plan.{PlanValue}
 use Rattle.tf_flow.specs.declared.nested.FlowKind.{FlowKind}
 use Rattle.tf_flow.specs.declared.nested.FlowKind.TheVariants as kind
-use Rattle.tf_numbers.specs.Numbers.{which_below, numbers_below}
-use Rattle.tf_numbers.specs.Pairs.{Pair}
+use Rattle.tf_numbers.specs.Numbers.{which_below, numbers_below, Pair}
 use Rattle.tf_model.specs.Before.{Flow, flow_at}
-use Rattle.tf_model.specs.Plan.{Outline, outline_of, count, path, is_before}
+use Rattle.tf_model.specs.Plan.{Outline, outline_of, count, path, is_before, compile_refusal}
 use Rattle.tf_model.specs.Scope.{is_earlier}
-use Rattle.tf_model.specs.Deciders.{is_sibling, last_item, home, linked_places}
-use Rattle.tf_model.specs.Compilation.{compile_refusal}
+use Rattle.tf_model.specs.Readiness.{is_sibling, last_item, home, linked_places}
 
 -- all atoms before a, ascending
 abbrev pub predecessors_of : Outline → ℕ → List ℕ

@@ -2,8 +2,8 @@
 use Rattle.std.specs.Prelude.{ℕ, List, [], ◌∷◌, ◌++◌, ◌-◌, Bool, Option, None, Some, length, slice_get, if◌then◌else◌}
 use Rattle.std.specs.Option.{option_map_or}
 use Rattle.indexmap.specs.IndexMap.{get}
-use Rattle.tf_flow.specs.Names.{same_name}
-use Rattle.tf_model.specs.Linked.{name_of_item}
+use Rattle.tf_flow.specs.Tree.{same_name}
+use Rattle.tf_model.specs.Before.{name_of_item}
 use Rattle.tf_numbers.specs.Numbers.{is_number}
 use Rattle.tf_flow.specs.Outline.{Item}
 use Rattle.tf_order.specs.declared.index.NameIndex.{NameIndex}

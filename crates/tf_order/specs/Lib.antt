@@ -11,4 +11,3 @@ pub mod Ambiguities
 pub mod Stretches
 pub mod Tables
 pub mod Direct
-pub mod RootItems

@@ -1,8 +1,7 @@
 -- What is found of a flow when it is looked at.
 use Rattle.std.specs.Prelude.{List, Option, Some, None}
-use Rattle.tf_model.specs.Before.{Flow}
-use Rattle.tf_model.specs.Linked.{arrange}
-use Rattle.tf_model.specs.Compilation.{CompileRefusal, ambiguous, cycle, refusal_of}
+use Rattle.tf_model.specs.Before.{Flow, arrange}
+use Rattle.tf_model.specs.Plan.{CompileRefusal, ambiguous, cycle, refusal_of}
 use Rattle.tf_order.specs.declared.faults.CompileFault.{CompileFault}
 use Rattle.tf_order.specs.declared.faults.CompileFault.TheVariants as fault
 use Rattle.tf_order.specs.declared.sight.Sight.{Sight}

@@ -2,8 +2,7 @@
 use Rattle.std.specs.Prelude.{ℕ, List, Bool, ◌&&◌, Some, nat_lt, not, nat_eq}
 use Rattle.tf_flow.specs.Outline.{Atom}
 use Rattle.tf_flow.specs.declared.paths.Turn.{Turn}
-use Rattle.tf_model.specs.Before.{Flow, takes_item, passes_item, path_before, path_at}
-use Rattle.tf_model.specs.Linked.{is_inside}
+use Rattle.tf_model.specs.Before.{Flow, takes_item, passes_item, path_before, path_at, is_inside}
 use Rattle.tf_links.specs.Links.{leads}
 
 -- the turn takes item u of the flow, which is below the count

@@ -1,6 +1,6 @@
 -- The refusals of compilation as faults.
 use Rattle.std.specs.Prelude.{◌≡◌, Option, Some}
-use Rattle.tf_model.specs.Compilation.{CompileRefusal, ambiguous, cycle}
+use Rattle.tf_model.specs.Plan.{CompileRefusal, ambiguous, cycle}
 use Rattle.tf_order.specs.declared.faults.CompileFault.{CompileFault}
 use Rattle.tf_order.specs.declared.faults.CompileFault.TheVariants as fault
 

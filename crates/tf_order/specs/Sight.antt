@@ -3,12 +3,11 @@ use Rattle.std.specs.Prelude.{◌≡◌, ℕ, List, [], ◌&&◌, ◌||◌, Some
 use Rattle.std.specs.List.{list_any}
 use Rattle.tf_flow.specs.declared.atoms.Arg.{Arg}
 use Rattle.tf_numbers.specs.Numbers.{which_below}
-use Rattle.tf_links.specs.Reach.{reached}
+use Rattle.tf_links.specs.Graphs.{reached}
 use Rattle.tf_flow.specs.Outline.{Part, Atom, FlowPlace}
 use Rattle.tf_flow.specs.declared.paths.Turn.{Turn}
-use Rattle.tf_model.specs.Before.{Flow, takes_item, passes_item}
-use Rattle.tf_model.specs.Linked.{provides_at, is_inferred_by, is_unserved, is_taken, is_inside, needs_of_atom, arg_symbol, explicit}
-use Rattle.tf_model.specs.Compilation.{is_ambiguous}
+use Rattle.tf_model.specs.Before.{Flow, takes_item, passes_item, provides_at, is_inferred_by, is_unserved, is_taken, is_inside, needs_of_atom, arg_symbol, explicit}
+use Rattle.tf_model.specs.Plan.{is_ambiguous}
 use Rattle.tf_order.specs.declared.sight.Sight.{Sight}
 use Rattle.tf_links.specs.Bits.{has}
 use Rattle.tf_order.specs.Index.{told}

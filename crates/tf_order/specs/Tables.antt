@@ -5,11 +5,9 @@ use Rattle.tf_flow.specs.declared.nested.FlowKind.{FlowKind}
 use Rattle.tf_flow.specs.declared.nested.FlowKind.TheVariants as kind
 use Rattle.tf_numbers.specs.Numbers.{numbers_below, has_number, which_below}
 use Rattle.tf_flow.specs.Outline.{Atom, FlowPlace, is_task_part}
-use Rattle.tf_model.specs.Before.{Flow, flow_at, no_flow}
-use Rattle.tf_model.specs.Deciders.{last_item, same_flow}
-use Rattle.tf_model.specs.Linked.{arranged, provides_at}
-use Rattle.tf_model.specs.Compilation.{CompileRefusal, refusal_among}
-use Rattle.tf_model.specs.Plan.{Outline as PlanOutline, outline_with, count, last_flow}
+use Rattle.tf_model.specs.Before.{Flow, flow_at, no_flow, arranged, provides_at}
+use Rattle.tf_model.specs.Readiness.{last_item, same_flow}
+use Rattle.tf_model.specs.Plan.{CompileRefusal, refusal_among, Outline as PlanOutline, outline_with, count, last_flow}
 use Rattle.tf_order.specs.declared.arranged.Arranged.{Arranged}
 use Rattle.tf_order.specs.declared.faults.CompileFault.{CompileFault}
 use Rattle.tf_order.specs.declared.index.NameIndex.{NameIndex}

@@ -1,6 +1,6 @@
 ghost use Rattle.std.specs.Prelude.{◌≡◌, ◌+◌, ◌<◌, ℕ, None, length, map, IfOk, IfErr, OnOk, MatchOption};
-ghost use Rattle.tf_flow.specs.Names.{first_some};
-ghost use Rattle.tf_model.specs.Compilation.{compile_refusal};
+ghost use Rattle.tf_flow.specs.Tree.{first_some};
+ghost use Rattle.tf_model.specs.Plan.{compile_refusal};
 ghost use Rattle.tf_numbers.specs.Numbers.{numbers_below};
 ghost use Rattle.tf_order.specs.Graph.{IsGraphOf};
 ghost use Rattle.tf_flow.specs.Listing.{level_number, shown_atoms, shown_levels};

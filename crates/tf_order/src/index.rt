@@ -1,7 +1,7 @@
 ghost use Rattle.std.specs.Prelude.{◌≡◌, ℕ, List, [], length, map, if◌then◌else◌, IfOk, OnOk};
 ghost use Rattle.tf_flow.specs.Limits.{provided};
-ghost use Rattle.tf_flow.specs.Names.{same_name, is_among};
-ghost use Rattle.tf_model.specs.Linked.{provides_at};
+ghost use Rattle.tf_flow.specs.Tree.{same_name, is_among};
+ghost use Rattle.tf_model.specs.Before.{provides_at};
 ghost use Rattle.tf_numbers.specs.Numbers.{which_below};
 ghost use Rattle.tf_order.specs.Index.{add_once, told, is_named_at};
 ghost use Rattle.tf_flow.specs.Listing.{shown_atoms, shown_item};

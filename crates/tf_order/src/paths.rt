@@ -1,6 +1,6 @@
 ghost use Rattle.std.specs.Prelude.{◌≡◌, Some};
 ghost use Rattle.tf_model.specs.Before as before;
-ghost use Rattle.tf_model.specs.Deciders.{last_item};
+ghost use Rattle.tf_model.specs.Readiness.{last_item};
 ghost use Rattle.tf_model.specs.Plan.{last_flow};
 ghost use Rattle.tf_order.specs.Paths as paths;
 

@@ -2,10 +2,9 @@ ghost use Rattle.std.specs.Prelude.{◌≡◌, List, length, map, IfOk};
 ghost use Rattle.tf_flow.specs.Items.{item_list};
 ghost use Rattle.tf_model.specs.Before as before;
 ghost use Rattle.tf_model.specs.Before.{Flow};
-ghost use Rattle.tf_model.specs.Plan.{outline_of as plan_outline};
+ghost use Rattle.tf_model.specs.Plan.{outline_of as plan_outline, root_item_before};
 ghost use Rattle.tf_numbers.specs.Numbers.{numbers_below};
 ghost use Rattle.tf_order.specs.Arranged.{ShowsFlows};
-ghost use Rattle.tf_order.specs.RootItems.{root_item_before};
 
 use crate::arranged::{Arranged, item_before};
 use crate::compilation::look_at_flows;

@@ -2,8 +2,8 @@ ghost use Rattle.std.specs.Prelude.{◌≡◌, ℕ, ◌<◌, List, Bool, true, �
 ghost use Rattle.std.specs.List.{list_any};
 ghost use Rattle.tf_numbers.specs.Numbers.{which_below, has_number};
 ghost use Rattle.tf_model.specs.Before.{Flow};
-ghost use Rattle.tf_model.specs.Linked as model;
-ghost use Rattle.tf_flow.specs.Names.{is_among};
+ghost use Rattle.tf_model.specs.Before as model;
+ghost use Rattle.tf_flow.specs.Tree.{is_among};
 ghost use Rattle.tf_flow.specs.Limits.{provided};
 ghost use Rattle.tf_order.specs.Arranged.{ShowsFlows};
 ghost use Rattle.tf_links.specs.Bits.{has, words_for};

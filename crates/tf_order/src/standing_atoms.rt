@@ -1,8 +1,8 @@
 ghost use Rattle.std.specs.Prelude.{◌≡◌, ◌++◌, List, IfOk, OnOk};
 ghost use Rattle.std.specs.Option.{option_to_list};
 ghost use Rattle.tf_model.specs.Before.{Flow, flow_at};
-ghost use Rattle.tf_model.specs.Linked as model;
-ghost use Rattle.tf_numbers.specs.Pairs.{Pair};
+ghost use Rattle.tf_model.specs.Before as model;
+ghost use Rattle.tf_numbers.specs.Numbers.{Pair};
 ghost use Rattle.tf_order.specs.Arranged.{ShowsFlows};
 ghost use Rattle.tf_links.specs.Links.{AreLinks};
 ghost use Rattle.tf_order.specs.Sight.{place_seen, count_seen};

@@ -1,4 +1,4 @@
-pub mod Contents
+pub mod Ports
 pub mod Links
 pub mod MemoryCrew
 pub mod MemoryLink
@@ -8,4 +8,3 @@ pub mod MemorySpawner
 pub mod PlayedLaws
 pub mod Remaining
 pub mod Sockets
-pub mod Wanted

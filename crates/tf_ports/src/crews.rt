@@ -1,8 +1,8 @@
 ghost use Rattle.std.specs.Prelude.{◌≡◌, ℕ, ◌≤◌, List, Option, IfOk, OnOk, OnErr, IsErrOf, vec_len};
-ghost use Rattle.tf_desk.specs.Counts.{Rises};
+ghost use Rattle.tf_desk.specs.Crash.{Rises};
 ghost use Rattle.tf_ports.specs.declared.crews.Want.{Want as AWant};
-ghost use Rattle.tf_actions.specs.Told.{told_with};
-ghost use Rattle.tf_ports.specs.Wanted.{wanted};
+ghost use Rattle.tf_actions.specs.Gives.{told_with};
+ghost use Rattle.tf_ports.specs.Ports.{wanted};
 
 use std::alloc::Global;
 use std::marker::Model;

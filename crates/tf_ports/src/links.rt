@@ -1,5 +1,5 @@
 ghost use Rattle.std.specs.Prelude.{◌≡◌, ℕ, ◌<◌, ◌≤◌, List, Option, length, OnOk, OnErr};
-ghost use Rattle.tf_desk.specs.Counts.{Rises};
+ghost use Rattle.tf_desk.specs.Crash.{Rises};
 ghost use Rattle.tf_ports.specs.Links.{sent_with, SendsPrefix, Comes};
 
 /// What a link gave: so many bytes, at the front of the buffer; its end, after which nothing comes; or

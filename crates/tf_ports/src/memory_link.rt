@@ -1,5 +1,5 @@
 ghost use Rattle.std.specs.Prelude.{◌≡◌, ◌<◌, ◌≤◌, [], ◌++◌, drop, take, length, vec_len, Some, OnOk, OnErr};
-ghost use Rattle.tf_desk.specs.Counts.{Rises};
+ghost use Rattle.tf_desk.specs.Crash.{Rises};
 ghost use Rattle.tf_ports.specs.Links.{SendsPrefix};
 
 use crate::links::{Came, Link, LinkFault};

@@ -1,5 +1,5 @@
 ghost use Rattle.std.specs.Prelude.{◌≡◌, ◌↔◌, ℕ, ◌≤◌, List, length, IfOk, IsErrOf};
-ghost use Rattle.tf_desk.specs.Counts.{Rises};
+ghost use Rattle.tf_desk.specs.Crash.{Rises};
 ghost use Rattle.tf_ports.specs.declared.programs.Done.{Done as ADone};
 
 use std::alloc::Global;

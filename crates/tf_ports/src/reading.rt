@@ -1,6 +1,6 @@
 ghost use Rattle.std.specs.Prelude.{◌≡◌, ℕ, ◌≤◌, length, IfOk, IsErrOf};
-ghost use Rattle.tf_desk.specs.Counts.{Rises};
-ghost use Rattle.tf_ports.specs.Contents.{Contents, GivesBytes, PassesLimit};
+ghost use Rattle.tf_desk.specs.Crash.{Rises};
+ghost use Rattle.tf_ports.specs.Ports.{Contents, GivesBytes, PassesLimit};
 
 use std::alloc::Global;
 use tf_values::Text;

@@ -1,9 +1,8 @@
 -- How a journal is read back. `replayed made bodies` says that just these bodies were replayed into the value.
 use Rattle.std.specs.Prelude.{◌≡◌, ◌≤◌, ℕ, ◌+◌, IsTrue, List, ◌++◌, length}
-use Rattle.tf_desk.specs.Counts.{Rises}
+use Rattle.tf_desk.specs.Crash.{Rises}
 use Rattle.tf_desk.specs.State.{DeskState}
-use Rattle.tf_journal.specs.Format.{SIZE_LIMIT, prefix_of, title_of}
-use Rattle.tf_journal.specs.Held.{Held}
+use Rattle.tf_journal.specs.Format.{SIZE_LIMIT, prefix_of, title_of, Held}
 use Rattle.tf_journal.specs.Reading.{HasBodies}
 use Rattle.tf_journal.specs.declared.faults.LoadFault.{LoadFault}
 use Rattle.tf_journal.specs.declared.faults.LoadFault.TheVariants as load_fault

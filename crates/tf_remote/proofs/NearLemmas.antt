@@ -14,7 +14,7 @@ use Rattle.tf_flow.specs.declared.atoms.TaskKind.{TaskKind}
 use Rattle.tf_flow.specs.declared.atoms.TaskKind.TheVariants as kind
 use Rattle.tf_flow.specs.declared.atoms.Undo.{Undo}
 use Rattle.tf_flow.specs.declared.atoms.Undo.TheVariants as undo
-use Rattle.tf_flow.specs.Names.{first_some}
+use Rattle.tf_flow.specs.Tree.{first_some}
 use Rattle.tf_actions.specs.declared.orders.Given.{Given}
 use Rattle.tf_actions.specs.declared.orders.Given.TheVariants as given
 use Rattle.tf_actions.specs.declared.orders.Order.{Order}
@@ -24,8 +24,7 @@ use Rattle.tf_actions.specs.declared.outcomes.Action.TheVariants as action
 use Rattle.tf_actions.specs.declared.outcomes.Outcome.{Outcome}
 use Rattle.tf_actions.specs.declared.outcomes.Outcome.TheVariants as outcome
 use Rattle.tf_actions.specs.Built.{joined, text_of, raised, total, not_summed, fits, number_of, wrong_kind_or, measured, item_or_range, item_at, picked_by, picked, spread_pair, listed, is_below, not_below, not_below_by, compared, demanded, built, plain}
-use Rattle.tf_actions.specs.Far.{is_far_failure}
-use Rattle.tf_actions.specs.Gives.{Gives, GivesFor, GivesExecuted, GivesReverted, GivesText, GivesNothing, IsProgramFailure}
+use Rattle.tf_actions.specs.Gives.{is_far_failure, Gives, GivesFor, GivesExecuted, GivesReverted, GivesText, GivesNothing, IsProgramFailure}
 
 -- of two outcomes
 either : (b : Bool) (x y : Outcome) → is_far_failure x ≡ false → is_far_failure y ≡ false → is_far_failure (if b then x else y) ≡ false

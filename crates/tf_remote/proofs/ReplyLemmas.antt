@@ -1,7 +1,7 @@
 -- What the bytes of a reply are taken for.
 use Rattle.std.proofs.Common.{◌≡◌, ℕ, ◌≤◌, List, [], ◌++◌, length, true, false, Option, Result, Ok, Err, inl, inr, refl, sym, ap, ◌∙◌, subst, arith}
 use Rattle.std.specs.Prelude.{IfOk, IfErr, MatchResult}
-use Rattle.tf_desk.specs.Counts.{Rises}
+use Rattle.tf_desk.specs.Crash.{Rises}
 use Rattle.tf_wire.specs.Reading.{AreResponse}
 use Rattle.tf_wire.specs.declared.messages.Response.{Response}
 use Rattle.tf_wire.specs.declared.messages.Response.TheVariants as response
@@ -13,7 +13,7 @@ use Rattle.tf_states.specs.declared.record.Failure.TheVariants as failure
 use Rattle.tf_actions.specs.declared.orders.Order.{Order}
 use Rattle.tf_actions.specs.declared.outcomes.Outcome.{Outcome}
 use Rattle.tf_actions.specs.declared.outcomes.Outcome.TheVariants as outcome
-use Rattle.tf_actions.specs.Far.{is_sent, is_far_failure, GivesFar}
+use Rattle.tf_actions.specs.Gives.{is_sent, is_far_failure, GivesFar}
 use Rattle.tf_wire.specs.Stream.{framed}
 use Rattle.tf_remote.specs.Asking.{IsSentFor, AsksWorker, RunsOutAsking}
 use Rattle.tf_remote.specs.Received.{SeenLink, BringsSome, BringsAny, BringsFrame, IsGone, IsPart, StopsFrame}

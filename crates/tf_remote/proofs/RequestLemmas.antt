@@ -9,8 +9,7 @@ use Rattle.tf_actions.specs.declared.orders.Given.TheVariants as given
 use Rattle.tf_actions.specs.declared.orders.Order.{Order}
 use Rattle.tf_actions.specs.declared.outcomes.Action.{Action}
 use Rattle.tf_actions.specs.declared.outcomes.Action.TheVariants as action
-use Rattle.tf_actions.specs.Far.{is_sent}
-use Rattle.tf_actions.specs.Whole.{IsWhole}
+use Rattle.tf_actions.specs.Gives.{is_sent, IsWhole}
 use Rattle.tf_tasks.specs.Program.{is_program}
 use Rattle.tf_wire.specs.Orders.{order_of}
 use Rattle.tf_wire.specs.Messages.{request_data, frame_of}

@@ -1,7 +1,7 @@
 -- How a remote hand asks its worker.
 use Rattle.std.specs.Prelude.{◌≡◌, ◌↔◌, ℕ, List, ◌++◌, true, Option, Some, Result, IfOk}
 use Rattle.serde_json.specs.Written.{compact_text}
-use Rattle.tf_desk.specs.Counts.{Rises}
+use Rattle.tf_desk.specs.Crash.{Rises}
 use Rattle.tf_ports.specs.Links.{sent_with, SendsPrefix}
 use Rattle.tf_states.specs.declared.record.Failure.TheVariants as failure
 use Rattle.tf_actions.specs.Gives.{Gives}

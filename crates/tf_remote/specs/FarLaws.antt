@@ -6,7 +6,7 @@ use Rattle.tf_actions.specs.declared.orders.Given.TheVariants as given
 use Rattle.tf_actions.specs.declared.orders.Order.{Order}
 use Rattle.tf_actions.specs.declared.outcomes.Action.{Action}
 use Rattle.tf_actions.specs.declared.outcomes.Action.TheVariants as action
-use Rattle.tf_actions.specs.Far.{GivesFar, is_sent_so}
+use Rattle.tf_actions.specs.Gives.{GivesFar, is_sent_so}
 use Rattle.tf_actions.specs.Laws.{LooksUp, RevertsToNothing}
 use Rattle.tf_tasks.specs.GivesLaws.{gives_looks_up, gives_reverts}
 

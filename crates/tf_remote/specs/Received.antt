@@ -1,7 +1,7 @@
 -- What a link gave.
 use Rattle.std.specs.Prelude.{◌≡◌, ℕ, ◌<◌, ◌≤◌, ◌^◌, List, length, Option, false, ◌⊎◌}
 use Rattle.std.specs.Int.{to_be_bytes, w32}
-use Rattle.tf_desk.specs.Counts.{Rises}
+use Rattle.tf_desk.specs.Crash.{Rises}
 use Rattle.tf_ports.specs.Links.{left_before, IsNothingLeft}
 use Rattle.tf_wire.specs.Stream.{is_length, IsFrame, framed, BeginsWithFrame, BeginsWithBadLength}
 use Rattle.tf_remote.specs.declared.receiving.Stop.{Stop}

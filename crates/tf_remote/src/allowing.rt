@@ -1,7 +1,5 @@
 ghost use Rattle.std.specs.Prelude.{◌≡◌, ◌↔◌, IsTrue, IfOk};
-ghost use Rattle.tf_actions.specs.Far.{is_sent as goes_far};
-ghost use Rattle.tf_actions.specs.Gives.{Gives, GivesText, GivesNothing, IsProgramFailure};
-ghost use Rattle.tf_actions.specs.Whole.{IsWhole};
+ghost use Rattle.tf_actions.specs.Gives.{is_sent as goes_far, Gives, GivesText, GivesNothing, IsProgramFailure, IsWhole};
 ghost use Rattle.tf_tasks.specs.Program.{is_program as asks_program};
 ghost use Rattle.tf_remote.specs.Allowed.{GivesProgram};
 

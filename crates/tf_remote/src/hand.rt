@@ -1,6 +1,5 @@
 ghost use Rattle.std.specs.Prelude.{◌≡◌, ◌<◌, ◌^◌, true, false, None, IfOk, OnOk, MatchResult};
-ghost use Rattle.tf_actions.specs.Far.{GivesFar, is_sent as goes_far};
-ghost use Rattle.tf_actions.specs.Whole.{IsWhole};
+ghost use Rattle.tf_actions.specs.Gives.{GivesFar, is_sent as goes_far, IsWhole};
 ghost use Rattle.tf_remote.specs.Asking.{AsksWorker, RunsOutAsking, IsRequestBack, NamesOrder, TakesReply, TakesServed};
 ghost use Rattle.tf_remote.specs.FarLaws.{far_looks_up, far_reverts};
 ghost use Rattle.tf_remote.specs.Received.{seen};

@@ -1,5 +1,5 @@
 ghost use Rattle.std.specs.Prelude.{◌≡◌, ◌≤◌, length, vec_len, IfOk, IsErrOf};
-ghost use Rattle.tf_desk.specs.Counts.{Rises};
+ghost use Rattle.tf_desk.specs.Crash.{Rises};
 
 use crate::hand::RemoteHand;
 use std::alloc::Global;

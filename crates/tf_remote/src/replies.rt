@@ -1,5 +1,5 @@
 ghost use Rattle.std.specs.Prelude.{◌≡◌, IfOk, IfErr, MatchResult};
-ghost use Rattle.tf_actions.specs.Whole.{IsWhole};
+ghost use Rattle.tf_actions.specs.Gives.{IsWhole};
 ghost use Rattle.tf_remote.specs.Received.{seen, StopsFrame, BringsSome, BringsAny, IsPart};
 ghost use Rattle.tf_remote.specs.Stopped.{IsStopTaken, IsUnread};
 ghost use Rattle.tf_wire.specs.Reading.{AreResponse};

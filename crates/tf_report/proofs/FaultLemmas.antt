@@ -2,7 +2,7 @@
 use Rattle.std.proofs.Common.{◌≡◌, ℕ, List, ◌++◌, Option, codes}
 use Rattle.std.specs.Fmt.{decimal}
 use Rattle.std.proofs.lemmas.List.{append_assoc}
-use Rattle.tf_report.specs.Faults.{byte_or_end, not_a_book, book_full}
+use Rattle.tf_report.specs.Closing.{byte_or_end, not_a_book, book_full}
 
 -- five texts that were appended by twos
 five_by_twos : (prefix a b c d e : List ℕ) → ((prefix ++ (a ++ b)) ++ (c ++ d)) ++ e ≡ prefix ++ (a ++ b ++ c ++ d ++ e)

@@ -9,11 +9,8 @@ use Rattle.tf_states.specs.declared.record.Payload.{Payload}
 use Rattle.tf_states.specs.declared.state.AtomState.{AtomState}
 use Rattle.tf_states.specs.declared.state.FlowState.{FlowState}
 use Rattle.tf_model.specs.Plan.{Outline, atom_name}
-use Rattle.tf_model.specs.Snapshot.{Snapshot}
-use Rattle.tf_model.specs.Views.{Shows}
-use Rattle.tf_report.specs.Lines.{payload_text}
-use Rattle.tf_report.specs.Report.{failed, state_shown, payload_shown, report_shown, report}
-use Rattle.tf_report.specs.Table.{table_shown, table}
+use Rattle.tf_model.specs.History.{Snapshot, Shows}
+use Rattle.tf_report.specs.Lines.{payload_text, failed, state_shown, payload_shown, report_shown, report, table_shown, table}
 
 by_four : (prefix a b c d : List ℕ) → (((prefix ++ a) ++ b) ++ c) ++ d ≡ prefix ++ (a ++ b ++ c ++ d)
 by_four prefix a b c d = simp append_assoc

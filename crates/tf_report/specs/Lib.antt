@@ -1,6 +1,2 @@
 pub mod Lines
-pub mod Report
-pub mod Table
-pub mod Jobs
-pub mod Faults
 pub mod Closing

@@ -1,6 +1,6 @@
 //! What is said of a book or a board that can't be read, or can't take a record more.
 ghost use Rattle.std.specs.Prelude.{◌≡◌, ◌++◌, OnOk};
-ghost use Rattle.tf_report.specs.Faults.{byte_or_end, not_a_book, book_full};
+ghost use Rattle.tf_report.specs.Closing.{byte_or_end, not_a_book, book_full};
 
 use crate::appending::{append, append_counted};
 use tf_values::Memory;
@@ -9,7 +9,7 @@ use tf_values::Memory;
 pub const DISK_FAULT: &[u8] = b"taskflow: disk fault\n";
 
 /// Appends the message for a file that is no book or no board: the offset and the byte that show it, or the file's end.
-#[tactic(auto, unfolding(crate::specs::Faults::not_a_book))]
+#[tactic(auto, unfolding(crate::specs::Closing::not_a_book))]
 pub fn append_not_a_book(offset: u64, byte: Option<u8>, out: &mut Vec<u8>) -> Result<(), Memory>
     ensures { OnOk result (out.new.items ≡ out.old.items ++ not_a_book offset byte) }
 {
@@ -30,7 +30,7 @@ fn append_byte(byte: Option<u8>, out: &mut Vec<u8>) -> Result<(), Memory>
 }
 
 /// Appends the message for a book or a board that is full: its size, and how many bytes more were asked for.
-#[tactic(auto, unfolding(crate::specs::Faults::book_full))]
+#[tactic(auto, unfolding(crate::specs::Closing::book_full))]
 pub fn append_book_full(size: u64, need: u64, out: &mut Vec<u8>) -> Result<(), Memory>
     ensures { OnOk result (out.new.items ≡ out.old.items ++ book_full size need) }
 {

@@ -1,7 +1,7 @@
 ghost use Rattle.std.specs.Prelude.{◌≡◌, ◌++◌, ◌∷◌, [], OnOk, OnErr};
 ghost use Rattle.std.specs.List.{flat_map};
 ghost use Rattle.tf_values.specs.Growth.{KeepsPrefix};
-ghost use Rattle.tf_report.specs.Jobs.{priority_word as word_of_priority, job_word as word_of_job, owner_text, job_line};
+ghost use Rattle.tf_report.specs.Lines.{priority_word as word_of_priority, job_word as word_of_job, owner_text, job_line};
 
 use crate::appending::{append, append_counted, append_named, append_pair};
 use tf_states::{JobState, Priority};

@@ -1,10 +1,8 @@
 ghost use Rattle.std.specs.Prelude.{◌≡◌, ◌<◌, ◌++◌, OnOk, OnErr, length, slice_get};
 ghost use Rattle.tf_values.specs.Growth.{KeepsPrefix};
 ghost use Rattle.tf_model.specs.Plan.{outline_of, count};
-ghost use Rattle.tf_model.specs.Snapshot.{Snapshot};
-ghost use Rattle.tf_model.specs.States.{is_revert_failure as reversion_failed};
-ghost use Rattle.tf_model.specs.Views.{Shows};
-ghost use Rattle.tf_report.specs.Report.{state_shown, payload_shown, failed, unreverted, unreverted_below, ending, report_shown, report as report_of};
+ghost use Rattle.tf_model.specs.History.{Snapshot, is_revert_failure as reversion_failed, Shows};
+ghost use Rattle.tf_report.specs.Lines.{state_shown, payload_shown, failed, unreverted, unreverted_below, ending, report_shown, report as report_of};
 
 use crate::appending::{append, append_named};
 use crate::failures::append_payload;

@@ -1,10 +1,8 @@
 ghost use Rattle.std.specs.Prelude.{◌≡◌, ◌++◌, OnOk, OnErr};
 ghost use Rattle.tf_values.specs.Growth.{KeepsPrefix};
 ghost use Rattle.tf_model.specs.Plan.{outline_of, count};
-ghost use Rattle.tf_model.specs.Snapshot.{Snapshot};
-ghost use Rattle.tf_model.specs.Views.{Shows};
-ghost use Rattle.tf_report.specs.Report.{state_shown, payload_shown};
-ghost use Rattle.tf_report.specs.Table.{flow_line, atom_line, atom_lines_below, table_shown, table as table_of};
+ghost use Rattle.tf_model.specs.History.{Snapshot, Shows};
+ghost use Rattle.tf_report.specs.Lines.{state_shown, payload_shown, flow_line, atom_line, atom_lines_below, table_shown, table as table_of};
 
 use crate::appending::{append, append_named};
 use crate::failures::append_payload;

@@ -5,11 +5,11 @@ use Rattle.std.specs.List.{cons_option}
 use Rattle.tf_flow.specs.declared.deciders.Depth.{Depth}
 use Rattle.tf_flow.specs.declared.deciders.Depth.TheVariants as depth
 use Rattle.tf_flow.specs.declared.deciders.Link.{Link}
-use Rattle.tf_flow.specs.Conditions.{Connection, connection_of}
-use Rattle.tf_model.specs.Deciders.{wider, wider_of, widest, decides_on, decider_links, refused, refused_depth, seen, seen_by_link}
+use Rattle.tf_flow.specs.Outline.{Connection, connection_of}
+use Rattle.tf_model.specs.Readiness.{wider, wider_of, widest, decides_on, decider_links, refused, refused_depth, seen, seen_by_link}
 use Rattle.tf_model.specs.Plan.{Outline, atom_name}
 use Rattle.tf_model.proofs.Told.{connections_in, found_home}
-use Rattle.tf_model.specs.Snapshot.{Snapshot}
+use Rattle.tf_model.specs.History.{Snapshot}
 use Rattle.tf_numbers.proofs.ListLemmas.{drop_first, drop_whole}
 use Rattle.tf_rules.specs.Deciders.{wider_if_any, has_any}
 use Rattle.tf_rules.specs.Seen.{deciding}

@@ -6,15 +6,13 @@ use Rattle.tf_flow.specs.declared.atoms.Retry.{Retry}
 use Rattle.tf_flow.specs.declared.deciders.Link.{Link}
 use Rattle.tf_flow.specs.declared.nested.FlowKind.{FlowKind}
 use Rattle.tf_flow.specs.declared.nested.Flow.{Flow as FlowValue}
-use Rattle.tf_flow.specs.Conditions.{connection_of}
-use Rattle.tf_flow.specs.Outline.{Part, a_retry, Atom, FlowPlace, part_of, name_of, name_of_atom, atoms_of, atoms_among, retry_atoms, enter, flows_of, flows_among, flow_count, atom_count, retry_count, retry_number, flow_trees, flow_trees_among}
+use Rattle.tf_flow.specs.Outline.{connection_of, Part, a_retry, Atom, FlowPlace, part_of, name_of, name_of_atom, atoms_of, atoms_among, retry_atoms, enter, flows_of, flows_among, flow_count, atom_count, retry_count, retry_number, flow_trees, flow_trees_among}
 use Rattle.tf_flow.specs.Plan.{PlanValue}
 use Rattle.tf_flow.specs.Plan as numbering
 use Rattle.tf_flow.specs.Tree.{Tree, Trees, task, flow, no_trees, tree, tree_of}
 use Rattle.tf_flow.proofs.TreeLemmas.{tree_of-flow}
 use Rattle.tf_flow.proofs.OutlineLemmas.{same_atoms, flows_told, place_name}
-use Rattle.tf_model.specs.Before.{Flow, find_flow}
-use Rattle.tf_model.specs.Linked.{arranged, arrange}
+use Rattle.tf_model.specs.Before.{Flow, find_flow, arranged, arrange}
 use Rattle.tf_model.specs.Plan.{outline_of, is_retry, retry_of}
 use Rattle.tf_model.proofs.Told.{is_retry_in, retry_in}
 use Rattle.tf_numbers.proofs.TruthLemmas.{never_true}

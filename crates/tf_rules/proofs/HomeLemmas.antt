@@ -2,7 +2,7 @@
 use Rattle.std.proofs.Common.{◌≡◌, ℕ, List, [], map, Option, Some, None, refl, sym, ap, ◌∙◌}
 use Rattle.tf_flow.specs.declared.nested.Flow.{Flow as FlowValue}
 use Rattle.tf_flow.specs.declared.paths.Turn.{Turn}
-use Rattle.tf_flow.specs.Conditions.{connection_of}
+use Rattle.tf_flow.specs.Outline.{connection_of}
 use Rattle.tf_flow.specs.Plan.{PlanValue}
 use Rattle.tf_flow.specs.Plan as numbering
 use Rattle.tf_flow.specs.Rules.{is_graph}

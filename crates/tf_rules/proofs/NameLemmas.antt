@@ -9,11 +9,9 @@ use Rattle.std.proofs.lemmas.List.Folds.{list_any-append}
 use Rattle.tf_numbers.proofs.TruthLemmas.{neither_first, neither_second}
 use Rattle.tf_flow.specs.declared.faults.PlanFault.TheVariants as fault
 use Rattle.tf_flow.specs.Limits.{capped, too_large}
-use Rattle.tf_flow.specs.Names.{same_name, is_among, first_again, first_again_after}
-use Rattle.tf_flow.specs.Places.{name_at, tree_order}
+use Rattle.tf_flow.specs.Tree.{same_name, is_among, first_again, first_again_after, name_at, tree_order, tree_of, nesting}
 use Rattle.tf_flow.specs.Plan.{PlanValue, atoms}
-use Rattle.tf_flow.specs.Refusal.{first_refusal, duplicate, empty, broken_rule}
-use Rattle.tf_flow.specs.Tree.{tree_of, nesting}
+use Rattle.tf_flow.specs.Rules.{first_refusal, duplicate, empty, broken_rule}
 use Rattle.tf_flow.proofs.NameLemmas.{atoms_once}
 
 or_none_second : {X : Type 0} (o p : Option X) → option_or o p ≡ None → p ≡ None

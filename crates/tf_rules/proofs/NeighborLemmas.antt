@@ -13,7 +13,7 @@ use Rattle.tf_flow.specs.Plan.{PlanValue}
 use Rattle.tf_flow.specs.Rules.{is_graph}
 use Rattle.tf_flow.specs.Tree.{tree_of}
 use Rattle.tf_model.specs.Before.{Flow}
-use Rattle.tf_model.specs.Deciders.{home, is_sibling, is_neighbor, linked_places, last_item, ignores, ignores_other}
+use Rattle.tf_model.specs.Readiness.{home, is_sibling, is_neighbor, linked_places, last_item, ignores, ignores_other}
 use Rattle.tf_model.specs.Plan.{Outline, outline_of, count, own_flow, path}
 use Rattle.tf_model.proofs.Told.{flow_in, found_home, linked_in}
 use Rattle.tf_model.proofs.OrderLemmas.{each_arranged}

@@ -8,7 +8,7 @@ use Rattle.tf_states.specs.declared.record.Kind.{Kind}
 use Rattle.tf_model.specs.Before.{leads_into, passes_flow}
 use Rattle.tf_model.specs.Plan.{Outline, path, holds, retry_of}
 use Rattle.tf_model.specs.Retries.{Controlled, controlled, controlled_on, resolution_by, resolved, is_outermost, answer, resolution}
-use Rattle.tf_model.specs.Snapshot.{Snapshot}
+use Rattle.tf_model.specs.History.{Snapshot}
 use Rattle.tf_numbers.proofs.ListLemmas.{nothing_after, append_chain, take_whole}
 use Rattle.tf_rules.specs.declared.resolutions.Resolution.{Resolution}
 use Rattle.tf_rules.specs.declared.resolutions.Controller.{Controller}

@@ -12,18 +12,16 @@ use Rattle.tf_numbers.proofs.BelowLemmas.{first_none, first_is}
 use Rattle.tf_values.specs.declared.value.Val.{Val}
 use Rattle.tf_states.specs.declared.record.Payload.{Payload}
 use Rattle.tf_states.specs.declared.record.Payload.TheVariants as payload
-use Rattle.tf_flow.specs.Conditions.{Connection}
-use Rattle.tf_flow.specs.Names.{same_name}
-use Rattle.tf_flow.specs.Outline.{Atom, name_of_atom}
+use Rattle.tf_flow.specs.Outline.{Connection, Atom, name_of_atom}
+use Rattle.tf_flow.specs.Tree.{same_name}
 use Rattle.tf_flow.specs.Plan.{PlanValue}
 use Rattle.tf_flow.specs.Plan as numbering
 use Rattle.tf_flow.proofs.OutlineLemmas.{same_atoms}
-use Rattle.tf_model.specs.Deciders.{Named, result_of, named_result, seen_at, seen_by_link, atom_named, is_named}
+use Rattle.tf_model.specs.Readiness.{Named, result_of, named_result, seen_at, seen_by_link, atom_named, is_named}
 use Rattle.tf_model.specs.Plan.{Outline, outline_of, count}
 use Rattle.tf_model.proofs.Told.{name_in}
-use Rattle.tf_model.specs.Snapshot.{Snapshot}
-use Rattle.tf_model.specs.States.{is_success}
-use Rattle.tf_model.specs.Views as views
+use Rattle.tf_model.specs.History.{Snapshot, is_success}
+use Rattle.tf_model.specs.History as views
 use Rattle.tf_rules.specs.Seen.{begins_at}
 use Rattle.std.proofs.lemmas.Option.{slice_get-map}
 use Rattle.tf_rules.proofs.NameLemmas.{itself}

@@ -6,7 +6,7 @@ use Rattle.tf_numbers.proofs.TruthLemmas.{never_true}
 use Rattle.tf_values.specs.declared.value.Val.{Val}
 use Rattle.tf_values.specs.Value.{byte_form, IsValue}
 use Rattle.tf_values.proofs.ValueLemmas.{value_byte_one}
-use Rattle.tf_model.specs.Deciders.{same_value}
+use Rattle.tf_model.specs.Readiness.{same_value}
 
 -- byte forms of two lengths
 pub not_as_long : (v w : Val) → length (byte_form v) ≢ length (byte_form w) → false ≡ same_value v w

@@ -3,7 +3,7 @@ use Rattle.std.specs.Prelude.{◌≡◌, ℕ, List, true, Some, slice_get}
 use Rattle.tf_states.specs.declared.record.Kind.{Kind}
 use Rattle.tf_model.specs.Plan.{Outline, holds, retry_of}
 use Rattle.tf_model.specs.Retries.{answer}
-use Rattle.tf_model.specs.Snapshot.{Snapshot}
+use Rattle.tf_model.specs.History.{Snapshot}
 
 -- at the atom number of the retry controller of each flow that holds an atom stands its answer; other places may hold anything
 pub record HasAnswers (answers : List Kind) (plan : Outline) (s : Snapshot) (a : ℕ) : Type 0 where

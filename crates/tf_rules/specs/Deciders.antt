@@ -2,10 +2,10 @@
 use Rattle.std.specs.Prelude.{List, [], ◌∷◌, Bool, true, false, Option, Some, None, filter_map}
 use Rattle.tf_flow.specs.declared.deciders.Depth.{Depth}
 use Rattle.tf_flow.specs.declared.deciders.Link.{Link}
-use Rattle.tf_flow.specs.Conditions.{Connection}
-use Rattle.tf_model.specs.Deciders.{wider, refused_depth}
+use Rattle.tf_flow.specs.Outline.{Connection}
+use Rattle.tf_model.specs.Readiness.{wider, refused_depth}
 use Rattle.tf_model.specs.Plan.{outline_of}
-use Rattle.tf_model.specs.Snapshot.{Snapshot}
+use Rattle.tf_model.specs.History.{Snapshot}
 use Rattle.tf_rules.specs.declared.conditions.Seen.{Seen}
 use Rattle.tf_rules.specs.Seen.{deciding, seen_in}
 

@@ -1,7 +1,7 @@
 -- What the code shows as a resolution.
 use Rattle.std.specs.Prelude.{List, [], ◌∷◌, Option, Some, None}
 use Rattle.tf_model.specs.Retries.{Controlled}
-use Rattle.tf_model.specs.Snapshot.{Resolve}
+use Rattle.tf_model.specs.History.{Resolve}
 use Rattle.tf_rules.specs.declared.resolutions.Resolution.{Resolution}
 use Rattle.tf_rules.specs.declared.resolutions.Controller.{Controller}
 

@@ -1,11 +1,11 @@
 -- What the tests of a task's links see.
 use Rattle.std.specs.Prelude.{ℕ, List, Bool, map, filter, filter_map}
 use Rattle.tf_flow.specs.declared.deciders.Link.{Link}
-use Rattle.tf_flow.specs.Conditions.{Connection, connection_of}
-use Rattle.tf_flow.specs.Names.{same_name}
-use Rattle.tf_model.specs.Deciders.{Named, decides_on, seen_by_link}
+use Rattle.tf_flow.specs.Outline.{Connection, connection_of}
+use Rattle.tf_flow.specs.Tree.{same_name}
+use Rattle.tf_model.specs.Readiness.{Named, decides_on, seen_by_link}
 use Rattle.tf_model.specs.Plan.{outline_of}
-use Rattle.tf_model.specs.Snapshot.{Snapshot}
+use Rattle.tf_model.specs.History.{Snapshot}
 use Rattle.tf_rules.specs.declared.conditions.Seen.{Seen}
 
 -- those of the links that lead to the task of this name and have a decider

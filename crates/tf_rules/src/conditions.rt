@@ -2,11 +2,10 @@
 
 ghost use Rattle.std.specs.Prelude.{◌≡◌, ◌&&◌, filter, map, option_map};
 ghost use Rattle.std.specs.List.{list_any};
-ghost use Rattle.tf_flow.specs.Conditions.{condition_of, conditions_of, connection_of};
-ghost use Rattle.tf_model.specs.Deciders as deciders;
-ghost use Rattle.tf_model.specs.Snapshot.{Snapshot};
-ghost use Rattle.tf_model.specs.Views.{Shows};
-ghost use Rattle.tf_model.specs.Views as shown;
+ghost use Rattle.tf_flow.specs.Outline.{condition_of, conditions_of, connection_of};
+ghost use Rattle.tf_model.specs.Readiness as deciders;
+ghost use Rattle.tf_model.specs.History.{Snapshot, Shows};
+ghost use Rattle.tf_model.specs.History as shown;
 ghost use Rattle.tf_rules.specs.Seen.{seen_in, deciding, begins_at};
 
 use tf_flow::{Link, Plan, Test};

@@ -1,10 +1,9 @@
 ghost use Rattle.std.specs.Prelude.{◌≡◌, ◌<◌, None, false};
-ghost use Rattle.tf_flow.specs.Conditions.{connection_of, decision_of};
-ghost use Rattle.tf_model.specs.Deciders as deciders;
+ghost use Rattle.tf_flow.specs.Outline.{connection_of, decision_of};
+ghost use Rattle.tf_model.specs.Readiness as deciders;
 ghost use Rattle.tf_model.specs.Plan.{outline_of, count};
-ghost use Rattle.tf_model.specs.Snapshot.{Snapshot};
-ghost use Rattle.tf_model.specs.States as states;
-ghost use Rattle.tf_model.specs.Views.{Shows};
+ghost use Rattle.tf_model.specs.History.{Snapshot, Shows};
+ghost use Rattle.tf_model.specs.History as states;
 ghost use Rattle.tf_rules.specs.Seen.{seen_in};
 ghost use Rattle.tf_rules.specs.Deciders.{has_any, refusing_depths, wider_if_any};
 

@@ -1,6 +1,6 @@
 ghost use Rattle.std.specs.Prelude.{◌≡◌, ◌<◌};
 ghost use Rattle.tf_flow.specs.Rules.{is_graph};
-ghost use Rattle.tf_model.specs.Deciders as deciders;
+ghost use Rattle.tf_model.specs.Readiness as deciders;
 ghost use Rattle.tf_model.specs.Plan.{outline_of, count};
 ghost use Rattle.tf_order.specs.Graph.{IsGraphOf};
 

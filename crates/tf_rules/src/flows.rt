@@ -1,10 +1,10 @@
 //! The flows of a plan by their numbers, and the flow in which an atom stands itself.
 
 ghost use Rattle.std.specs.Prelude.{◌≡◌, ◌<◌, option_map, map, IfSome, IsSome, true};
-ghost use Rattle.tf_flow.specs.Conditions.{connection_of};
+ghost use Rattle.tf_flow.specs.Outline.{connection_of};
 ghost use Rattle.tf_flow.specs.Plan as numbering;
 ghost use Rattle.tf_flow.specs.Tree.{tree_of};
-ghost use Rattle.tf_model.specs.Deciders.{home};
+ghost use Rattle.tf_model.specs.Readiness.{home};
 ghost use Rattle.tf_model.specs.Plan.{outline_of, count, own_flow, is_retry, retry_of};
 ghost use Rattle.tf_rules.specs.Flows.{home_tree};
 

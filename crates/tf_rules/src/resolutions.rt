@@ -2,7 +2,7 @@ ghost use Rattle.std.specs.Prelude.{◌≡◌, ◌<◌, List, IfSome, Some, slic
 ghost use Rattle.tf_model.specs.Plan.{outline_of, count, retry_of};
 ghost use Rattle.tf_model.specs.Retries as retries;
 ghost use Rattle.tf_model.specs.Retries.{Controlled, resolution};
-ghost use Rattle.tf_model.specs.Snapshot.{Snapshot};
+ghost use Rattle.tf_model.specs.History.{Snapshot};
 ghost use Rattle.tf_states.specs.declared.record.Kind.{Kind};
 ghost use Rattle.tf_rules.specs.Answers.{HasAnswers};
 ghost use Rattle.tf_rules.specs.Resolutions.{shown_resolution, shown_controller, controllers_in};

@@ -10,7 +10,7 @@ use Rattle.tf_actions.specs.declared.outcomes.Action.{Action}
 use Rattle.tf_actions.specs.declared.outcomes.Action.TheVariants as action
 use Rattle.tf_model.specs.Plan.{Outline, arguments}
 use Rattle.tf_model.specs.Scope.{symbol_value, given_arguments, argument_to_revert, given_for, or_nothing, or_missing}
-use Rattle.tf_model.specs.Snapshot.{Snapshot}
+use Rattle.tf_model.specs.History.{Snapshot}
 use Rattle.tf_numbers.proofs.ListLemmas.{nothing_after, append_chain, drop_whole}
 use Rattle.tf_scopes.specs.Given.{is_missed}
 

@@ -5,7 +5,7 @@ use Rattle.std.specs.Option.{option_or}
 use Rattle.std.proofs.lemmas.List.Sums.{take_while-cons}
 use Rattle.std.proofs.lemmas.List.{reverse-append}
 use Rattle.std.proofs.lemmas.Bool.{ne_eqb}
-use Rattle.tf_flow.specs.Names.{first_some}
+use Rattle.tf_flow.specs.Tree.{first_some}
 use Rattle.tf_scopes.specs.Standing.{is_other}
 
 -- ---- what stands before a number

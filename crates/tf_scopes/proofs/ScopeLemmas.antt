@@ -9,16 +9,14 @@ use Rattle.tf_flow.specs.Rules.{is_graph}
 use Rattle.tf_flow.specs.Tree.{Tree, Trees, task, flow, no_trees, tree, trees_of, item_tree, Head}
 use Rattle.tf_flow.specs.Outline.{Atom, FlowPlace, Item, Standing, stands_task, stands_flow, atoms_of, flows_of, flows_among, flow_count, flows_among_count, atom_count, retry_count, item_of, items_of}
 use Rattle.tf_flow.proofs.TreeLemmas.{tree_of-flow}
-use Rattle.tf_model.specs.Before.{Flow, find_flow, item_before}
-use Rattle.tf_model.specs.Compilation.{compile_refusal}
+use Rattle.tf_model.specs.Before.{Flow, find_flow, item_before, standing_at, standing_of_item, linked_pairs, is_linked, arrange, arranged}
+use Rattle.tf_model.specs.Plan.{compile_refusal, Outline, outline_of, outline_of_tree, count, path}
 use Rattle.tf_model.specs.Laws.{AreOrdered}
-use Rattle.tf_model.specs.Linked.{standing_at, standing_of_item, linked_pairs, is_linked, arrange, arranged}
-use Rattle.tf_model.specs.Plan.{Outline, outline_of, outline_of_tree, count, path}
 use Rattle.tf_model.proofs.Told.{order_in, path_in, standing_in, standing_of}
 use Rattle.tf_model.specs.Scope.{members, is_earlier}
 use Rattle.tf_model.proofs.OrderLemmas.{IsArranged, each_arranged, plan_ordered}
-use Rattle.tf_links.specs.Standing.{standing_items}
-use Rattle.tf_numbers.specs.Pairs.{has_pair, pairs_below}
+use Rattle.tf_links.specs.Graphs.{standing_items}
+use Rattle.tf_numbers.specs.Numbers.{has_pair, pairs_below}
 use Rattle.tf_numbers.proofs.EquationLemmas.{ap2}
 use Rattle.tf_numbers.proofs.PairLemmas.{pair_passes}
 use Rattle.tf_scopes.specs.Standing.{is_other, standing_scope}

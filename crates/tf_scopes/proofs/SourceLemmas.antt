@@ -5,7 +5,7 @@ use Rattle.std.specs.List.{position_from, list_any}
 use Rattle.std.specs.Option.{option_or}
 use Rattle.std.proofs.lemmas.Iterator.Adapters.{position_from-zero}
 use Rattle.std.proofs.lemmas.Bool.{cases_lt}
-use Rattle.tf_flow.specs.Names.{same_name, is_among, first_some}
+use Rattle.tf_flow.specs.Tree.{same_name, is_among, first_some}
 use Rattle.tf_flow.specs.Rules.{bind_symbols}
 use Rattle.tf_flow.specs.declared.atoms.Arg.{Arg}
 use Rattle.tf_flow.specs.declared.atoms.Bind.{Bind}
@@ -13,8 +13,7 @@ use Rattle.tf_numbers.specs.Numbers.{numbers_below}
 use Rattle.tf_numbers.proofs.NumberLemmas.{turn_eq}
 use Rattle.tf_numbers.proofs.EquationLemmas.{ap2}
 use Rattle.tf_model.specs.Plan.{Outline, count, injects, atom_name}
-use Rattle.tf_model.specs.Scope.{Missing, lists_symbol, bound}
-use Rattle.tf_model.specs.Scope.{members, has_source, missing_argument, missing_of, missing_symbol}
+use Rattle.tf_model.specs.Scope.{Missing, lists_symbol, bound, members, has_source, missing_argument, missing_of, missing_symbol}
 use Rattle.tf_scopes.specs.declared.faults.ScopeFault.{ScopeFault}
 use Rattle.tf_scopes.specs.declared.faults.ScopeFault.TheVariants as fault
 use Rattle.tf_scopes.specs.Providers.{IsMissing}

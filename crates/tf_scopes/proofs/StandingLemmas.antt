@@ -3,11 +3,10 @@ use Rattle.std.proofs.Common.{◌≡◌, ℕ, zero, suc, ◌+◌, ◌<◌, ◌�
 use Rattle.std.specs.Prelude.{nat_eq, is_some}
 use Rattle.std.specs.List.{list_all}
 use Rattle.std.proofs.lemmas.Bool.{cases_lt}
-use Rattle.tf_numbers.specs.Numbers.{first_below, has_number}
-use Rattle.tf_numbers.specs.Pairs.{Pair, pair, is_pair, has_pair}
+use Rattle.tf_numbers.specs.Numbers.{first_below, has_number, Pair, pair, is_pair, has_pair}
 use Rattle.tf_numbers.proofs.BelowLemmas.{none_or_last, first_there, found_passes, found_below}
 use Rattle.tf_numbers.proofs.TruthLemmas.{true_both, true_first, true_second, and_first, either_way, not_true, clash, or_of_not}
-use Rattle.tf_links.specs.Standing.{is_behind, is_next, take_one, take_items, standing_items}
+use Rattle.tf_links.specs.Graphs.{is_behind, is_next, take_one, take_items, standing_items}
 use Rattle.tf_links.proofs.StandingLemmas.{number_more}
 
 all_pairs : (test : Pair → Bool) (pairs : List Pair) → ((u v : ℕ) → has_pair pairs u v ≡ true → test (pair u v) ≡ true) → list_all test pairs ≡ true

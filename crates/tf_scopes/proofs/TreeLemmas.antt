@@ -8,8 +8,7 @@ use Rattle.tf_flow.specs.declared.atoms.Retry.{Retry}
 use Rattle.tf_flow.specs.declared.paths.Turn.{Turn}
 use Rattle.tf_flow.specs.Tree.{Tree, Trees, task, flow, no_trees, tree, Head}
 use Rattle.tf_flow.specs.Outline.{Atom, FlowPlace, Item, atoms_of, atoms_among, retry_atoms, enter, flows_of, flows_among, flow_count, atom_count, retry_count, retry_number, item_of, items_of}
-use Rattle.tf_model.specs.Before.{find_flow, passes_flow, passes_item}
-use Rattle.tf_model.specs.Linked.{standing_at}
+use Rattle.tf_model.specs.Before.{find_flow, passes_flow, passes_item, standing_at}
 use Rattle.tf_model.specs.Plan.{Outline, path}
 use Rattle.tf_model.proofs.Told.{standing_in, standing_of}
 use Rattle.tf_model.specs.Scope.{is_elsewhere}

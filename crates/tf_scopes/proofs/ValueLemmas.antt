@@ -4,7 +4,7 @@ use Rattle.std.specs.Prelude.{cond, filter, if◌then◌else◌, is_some, nat_eq
 use Rattle.std.specs.List.{list_any, list_all}
 use Rattle.std.specs.Option.{option_or}
 use Rattle.tf_flow.specs.Limits.{provided}
-use Rattle.tf_flow.specs.Names.{same_name, is_among, first_some}
+use Rattle.tf_flow.specs.Tree.{same_name, is_among, first_some}
 use Rattle.tf_flow.specs.Outline.{Atom}
 use Rattle.tf_flow.specs.declared.atoms.Provides.{Provides}
 use Rattle.tf_flow.specs.declared.atoms.Provides.TheVariants as provides
@@ -16,10 +16,8 @@ use Rattle.tf_scopes.proofs.PlanLemmas.{before_is_atom}
 use Rattle.tf_model.proofs.BeforeLemmas.{members_before}
 use Rattle.tf_model.specs.Plan.{Outline, count, injects, provides_of}
 use Rattle.tf_model.proofs.Told.{provides_in, listed_by}
-use Rattle.tf_model.specs.Scope.{is_earlier, lists_symbol, bound, item_at, part_given, given_by_result, given_by_payload, given_by}
-use Rattle.tf_model.specs.Scope.{members, symbol_value}
-use Rattle.tf_model.specs.Snapshot.{Snapshot}
-use Rattle.tf_model.specs.States.{is_success}
+use Rattle.tf_model.specs.Scope.{is_earlier, lists_symbol, bound, item_at, part_given, given_by_result, given_by_payload, given_by, members, symbol_value}
+use Rattle.tf_model.specs.History.{Snapshot, is_success}
 use Rattle.tf_numbers.proofs.EquationLemmas.{ap2}
 use Rattle.tf_numbers.proofs.TruthLemmas.{neither_first, neither_second, or_either, true_first, true_second, and_first, and_second}
 use Rattle.tf_scopes.specs.declared.sources.Source.{Source}

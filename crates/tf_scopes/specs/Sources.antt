@@ -2,11 +2,10 @@
 use Rattle.std.specs.Prelude.{ℕ, List, [], ◌∷◌, Bool, true, false, Option, Some, None, option_map, position, filter, map, slice_get}
 use Rattle.tf_flow.specs.declared.atoms.Arg.{Arg}
 use Rattle.tf_flow.specs.declared.atoms.Bind.{Bind}
-use Rattle.tf_flow.specs.Names.{same_name}
+use Rattle.tf_flow.specs.Tree.{same_name}
 use Rattle.tf_values.specs.declared.value.Val.{Val}
 use Rattle.tf_model.specs.Plan.{Outline, arguments, injects}
-use Rattle.tf_model.specs.Scope.{lists_symbol}
-use Rattle.tf_model.specs.Scope.{members}
+use Rattle.tf_model.specs.Scope.{lists_symbol, members}
 use Rattle.tf_scopes.specs.declared.sources.Source.{Source}
 use Rattle.tf_scopes.specs.declared.sources.Source.TheVariants as source
 

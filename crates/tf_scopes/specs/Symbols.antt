@@ -1,7 +1,7 @@
 -- Where in the standing order those stand that list a symbol.
 use Rattle.std.specs.Prelude.{◌≡◌, ℕ, List, Bool, false, Option, Some, None, length, slice_get}
 use Rattle.indexmap.specs.IndexMap.{get}
-use Rattle.tf_flow.specs.Names.{same_name}
+use Rattle.tf_flow.specs.Tree.{same_name}
 use Rattle.tf_numbers.specs.Numbers.{which_below}
 use Rattle.tf_model.specs.Plan.{Outline}
 use Rattle.tf_model.specs.Scope.{lists_symbol}

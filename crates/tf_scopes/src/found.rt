@@ -1,13 +1,11 @@
 ghost use Rattle.std.specs.Prelude.{◌≡◌, ◌<◌, ℕ, Some, None, true, option_map, if◌then◌else◌};
-ghost use Rattle.tf_flow.specs.Names.{first_some, same_name};
+ghost use Rattle.tf_flow.specs.Tree.{first_some, same_name};
 ghost use Rattle.tf_model.specs.Plan.{outline_of, count};
-ghost use Rattle.tf_model.specs.Scope.{given_by, given_by_result, item_at, part_given};
-ghost use Rattle.tf_model.specs.Scope.{symbol_value};
-ghost use Rattle.tf_model.specs.Snapshot.{Snapshot};
+ghost use Rattle.tf_model.specs.Scope.{given_by, given_by_result, item_at, part_given, symbol_value};
+ghost use Rattle.tf_model.specs.History.{Snapshot, Shows, result_of};
 ghost use Rattle.tf_numbers.specs.Numbers.{has_number};
 ghost use Rattle.tf_scopes.specs.Sources.{bound_at, source_of};
 ghost use Rattle.tf_scopes.specs.Found.{shown_in};
-ghost use Rattle.tf_model.specs.Views.{Shows, result_of};
 
 use crate::sources::Source;
 use tf_flow::{Bind, Plan, Provides};

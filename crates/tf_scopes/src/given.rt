@@ -1,8 +1,7 @@
 ghost use Rattle.std.specs.Prelude.{◌≡◌, ◌<◌, IfOk};
 ghost use Rattle.tf_model.specs.Plan.{outline_of, count};
 ghost use Rattle.tf_model.specs.Scope.{given_for, or_nothing};
-ghost use Rattle.tf_model.specs.Snapshot.{Snapshot};
-ghost use Rattle.tf_model.specs.Views.{Shows};
+ghost use Rattle.tf_model.specs.History.{Snapshot, Shows};
 ghost use Rattle.tf_scopes.specs.Found.{shown_in};
 ghost use Rattle.tf_scopes.specs.Given.{is_missed};
 ghost use Rattle.tf_scopes.specs.Providers.{IsOf};

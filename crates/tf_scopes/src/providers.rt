@@ -2,14 +2,13 @@ ghost use Rattle.std.specs.Prelude.{◌≡◌, ◌<◌, ◌++◌, ◌∷◌, [],
 ghost use Rattle.tf_flow.specs.declared.atoms.Arg.{Arg};
 ghost use Rattle.tf_model.specs.Plan.{outline_of, count, arguments};
 ghost use Rattle.tf_model.specs.Scope.{missing_symbol, missing_of, symbol_value};
-ghost use Rattle.tf_model.specs.Snapshot.{Snapshot};
+ghost use Rattle.tf_model.specs.History.{Snapshot, Shows};
 ghost use Rattle.tf_order.specs.Graph.{IsGraphOf};
 ghost use Rattle.tf_scopes.specs.Scope.{IsScopeIn};
 ghost use Rattle.tf_scopes.specs.Sources.{place_bound, source_of, sources_of};
 ghost use Rattle.tf_scopes.specs.Symbols.{Tells};
 ghost use Rattle.tf_scopes.specs.Providers.{IsOf, IsMissing};
 ghost use Rattle.tf_scopes.specs.Found.{shown_in};
-ghost use Rattle.tf_model.specs.Views.{Shows};
 
 use crate::faults::ScopeFault;
 use crate::found::{Found, found_in};

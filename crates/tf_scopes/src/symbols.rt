@@ -1,6 +1,6 @@
 ghost use Rattle.std.specs.Prelude.{◌≡◌, ℕ, List, [], IfOk, OnOk, if◌then◌else◌};
 ghost use Rattle.tf_flow.specs.Limits.{provided};
-ghost use Rattle.tf_flow.specs.Names.{same_name, is_among};
+ghost use Rattle.tf_flow.specs.Tree.{same_name, is_among};
 ghost use Rattle.tf_model.specs.Plan.{outline_of};
 ghost use Rattle.tf_model.specs.Scope.{lists_symbol};
 ghost use Rattle.tf_order.specs.Graph.{IsGraphOf};

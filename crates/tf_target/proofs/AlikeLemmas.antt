@@ -2,15 +2,12 @@
 use Rattle.std.proofs.Common.{◌≡◌, ◌∙◌, ℕ, suc, ◌+◌, List, [], ◌∷◌, Bool, true, false, ◌||◌, Option, Some, None, refl, sym, ap}
 use Rattle.std.specs.Prelude.{nat_eq, if◌then◌else◌}
 use Rattle.tf_flow.specs.Outline.{Atom, FlowPlace, atoms_of, flows_of, atom_count, atoms_among_count, retry_count}
-use Rattle.tf_flow.specs.Places.{member_of}
+use Rattle.tf_flow.specs.Tree.{member_of, Tree, task, flow, Trees, no_trees, tree}
 use Rattle.tf_flow.specs.Rules.{is_graph}
-use Rattle.tf_flow.specs.Tree.{Tree, task, flow, Trees, no_trees, tree}
-use Rattle.tf_flow.specs.Written.{PlanTree, WrittenTree, written_task, written_flow, WrittenTrees, nothing_written, written, as_written, all_as_written}
+use Rattle.tf_flow.specs.Plan.{PlanTree, WrittenTree, written_task, written_flow, WrittenTrees, nothing_written, written, as_written, all_as_written}
 use Rattle.tf_flow.specs.declared.atoms.Bind.{Bind}
-use Rattle.tf_model.specs.Plan.{Outline, outline_with}
-use Rattle.tf_order.specs.RootItems.{root_item_before}
-use Rattle.tf_target.specs.Kept.{items_in, names_among, place_of_name, keep_first, kept_among, kept_tree}
-use Rattle.tf_target.specs.Target.{outline_in, is_graph_flow, is_kept, target_tree, refuse_none, refuse_item, target_refusal}
+use Rattle.tf_model.specs.Plan.{Outline, outline_with, root_item_before}
+use Rattle.tf_target.specs.Target.{items_in, names_among, place_of_name, keep_first, kept_among, kept_tree, outline_in, is_graph_flow, is_kept, target_tree, refuse_none, refuse_item, target_refusal}
 use Rattle.tf_target.specs.declared.faults.TargetFault.{TargetFault}
 use Rattle.tf_target.specs.declared.faults.TargetFault.TheVariants as fault
 use Rattle.tf_target.proofs.OutlineLemmas.{written_atom_count, atoms_counted, atoms_alike, flows_alike}

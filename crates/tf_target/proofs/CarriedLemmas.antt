@@ -7,9 +7,8 @@ use Rattle.std.proofs.lemmas.Bool.{cases_lt}
 use Rattle.std.proofs.lemmas.Option.{slice_get_past}
 use Rattle.tf_flow.specs.Outline.{Part, Atom, atom_path, part_of}
 use Rattle.tf_flow.specs.declared.paths.Turn.{Turn}
-use Rattle.tf_model.specs.Before.{Flow, item_before, turn_before, path_before, part_at, path_at, same_place, takes_item, passes_item}
-use Rattle.tf_flow.specs.Names.{is_among}
-use Rattle.tf_model.specs.Linked.{taken_symbols, listed, provides_at, is_inside, serves_inside, needs_of_atom, needs, gives_inside, item_provides}
+use Rattle.tf_model.specs.Before.{Flow, item_before, turn_before, path_before, part_at, path_at, same_place, takes_item, passes_item, taken_symbols, listed, provides_at, is_inside, serves_inside, needs_of_atom, needs, gives_inside, item_provides}
+use Rattle.tf_flow.specs.Tree.{is_among}
 use Rattle.tf_model.proofs.Told.{path_in}
 use Rattle.tf_numbers.specs.Numbers.{any_below, which_below}
 use Rattle.tf_numbers.proofs.EquationLemmas.{ap2}

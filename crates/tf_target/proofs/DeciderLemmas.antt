@@ -3,21 +3,18 @@ use Rattle.std.proofs.Common.{◌≡◌, ◌∙◌, ℕ, zero, suc, ◌+◌, ◌
 use Rattle.std.specs.Prelude.{is_some, nat_eq, option_map, if◌then◌else◌}
 use Rattle.std.specs.Option.{option_map_or}
 use Rattle.std.specs.List.{list_any}
-use Rattle.tf_flow.specs.Conditions.{connection_of}
-use Rattle.tf_flow.specs.Names.{same_name, is_among, first_some}
-use Rattle.tf_flow.specs.Outline.{Atom, flow_count, atom_count, enter, retry_atoms, atoms_of, atoms_among, item_of, items_of, name_of, is_task_part}
-use Rattle.tf_flow.specs.Places.{member_of}
+use Rattle.tf_flow.specs.Outline.{connection_of, Atom, flow_count, atom_count, enter, retry_atoms, atoms_of, atoms_among, item_of, items_of, name_of, is_task_part}
+use Rattle.tf_flow.specs.Tree.{same_name, is_among, first_some, member_of, Tree, task, flow, Trees, no_trees, tree}
 use Rattle.tf_flow.specs.Rules.{stray_end}
-use Rattle.tf_flow.specs.Tree.{Tree, task, flow, Trees, no_trees, tree}
 use Rattle.tf_flow.specs.declared.atoms.Retry.{Retry}
 use Rattle.tf_flow.specs.declared.deciders.Link.{Link}
 use Rattle.tf_flow.specs.declared.paths.Turn.{Turn}
-use Rattle.tf_model.specs.Deciders.{decides_on}
-use Rattle.tf_model.specs.Linked.{joins, name_of_item}
+use Rattle.tf_model.specs.Readiness.{decides_on}
+use Rattle.tf_model.specs.Before.{joins, name_of_item}
 use Rattle.tf_model.specs.Plan.{last_flow}
 use Rattle.tf_numbers.proofs.OptionLemmas.{neither_there}
 use Rattle.tf_numbers.proofs.TruthLemmas.{clash, never_true, true_first, true_second, true_both, or_either, and_first}
-use Rattle.tf_target.specs.Kept.{names_among}
+use Rattle.tf_target.specs.Target.{names_among}
 use Rattle.tf_target.proofs.PartLemmas.{whole_turn, Between, AllBetween, flows_between}
 
 -- a name among those of items is that of one of them

@@ -4,15 +4,13 @@ use Rattle.std.specs.Prelude.{nat_eq, if◌then◌else◌}
 use Rattle.std.specs.Option.{option_or}
 use Rattle.std.specs.List.{list_any}
 use Rattle.std.proofs.lemmas.Bool.{cases_lt}
-use Rattle.tf_flow.specs.Names.{first_some}
+use Rattle.tf_flow.specs.Tree.{first_some}
 use Rattle.tf_flow.specs.Outline.{Atom, FlowPlace}
-use Rattle.tf_links.specs.Laws.{AreBelow, Chain, leads_through}
-use Rattle.tf_links.specs.Reach.{reached}
+use Rattle.tf_links.specs.Graphs.{AreBelow, Chain, leads_through, reached}
 use Rattle.tf_links.proofs.ReachLawLemmas.{chain_of, chain_reaches}
-use Rattle.tf_model.specs.Compilation.{is_ambiguous, are_several, refuse_symbol, refuse_givers, least, lesser, name_less}
-use Rattle.tf_model.specs.Linked.{is_only, givers}
-use Rattle.tf_numbers.specs.Numbers.{numbers_below}
-use Rattle.tf_numbers.specs.Pairs.{Pair, has_pair, pairs_below}
+use Rattle.tf_model.specs.Plan.{is_ambiguous, are_several, refuse_symbol, refuse_givers, least, lesser, name_less}
+use Rattle.tf_model.specs.Before.{is_only, givers}
+use Rattle.tf_numbers.specs.Numbers.{numbers_below, Pair, has_pair, pairs_below}
 use Rattle.tf_numbers.proofs.OptionLemmas.{neither_there}
 use Rattle.tf_numbers.proofs.PairLemmas.{pair_passes, passes_pair}
 use Rattle.tf_numbers.proofs.TruthLemmas.{same_truth, and_first, and_second, true_both}

@@ -3,20 +3,18 @@ use Rattle.std.proofs.Common.{◌≡◌, ◌∙◌, ℕ, zero, suc, ◌+◌, ◌
 use Rattle.std.specs.Prelude.{nat_eq, if◌then◌else◌}
 use Rattle.std.specs.Option.{option_map_or}
 use Rattle.std.specs.List.{list_any}
-use Rattle.tf_flow.specs.Conditions.{Connection, connection_of}
-use Rattle.tf_flow.specs.Outline.{Atom, a_retry, flow_count, retry_count, atom_count, atoms_among_count, retry_atoms, item_of, items_of}
-use Rattle.tf_flow.specs.Places.{member_of}
+use Rattle.tf_flow.specs.Outline.{Connection, connection_of, Atom, a_retry, flow_count, retry_count, atom_count, atoms_among_count, retry_atoms, item_of, items_of}
+use Rattle.tf_flow.specs.Tree.{member_of, Tree, task, flow, Trees, no_trees, tree}
 use Rattle.tf_flow.specs.Rules.{is_graph}
-use Rattle.tf_flow.specs.Tree.{Tree, task, flow, Trees, no_trees, tree}
 use Rattle.tf_flow.specs.declared.atoms.Retry.{Retry}
 use Rattle.tf_flow.specs.declared.deciders.Link.{Link}
 use Rattle.tf_flow.specs.declared.nested.FlowKind.{FlowKind}
 use Rattle.tf_flow.specs.declared.nested.FlowKind.TheVariants as kind
-use Rattle.tf_links.specs.Reach.{reached}
-use Rattle.tf_model.specs.Linked.{name_of_item, item_order}
-use Rattle.tf_numbers.specs.Pairs.{Pair}
+use Rattle.tf_links.specs.Graphs.{reached}
+use Rattle.tf_model.specs.Before.{name_of_item, item_order}
+use Rattle.tf_numbers.specs.Numbers.{Pair}
 use Rattle.tf_numbers.proofs.TruthLemmas.{never_true, clash, true_first, true_second}
-use Rattle.tf_target.specs.Kept.{names_among}
+use Rattle.tf_target.specs.Target.{names_among}
 use Rattle.tf_target.proofs.MoveLemmas.{size_of}
 use Rattle.tf_target.proofs.PartLemmas.{AtomsMoved, atom_kept}
 

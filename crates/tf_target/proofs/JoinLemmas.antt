@@ -6,38 +6,32 @@ use Rattle.std.specs.List.{list_any}
 use Rattle.std.proofs.lemmas.Bool.{cases_lt}
 use Rattle.std.proofs.lemmas.Option.{slice_get_past}
 use Rattle.tf_flow.proofs.ListingLemmas.{length_atoms}
-use Rattle.tf_flow.specs.Conditions.{connection_of}
-use Rattle.tf_flow.specs.Names.{same_name, is_among, first_some}
-use Rattle.tf_flow.specs.Outline.{Atom, Item, FlowPlace, flow_count, retry_count, retry_number, atom_count, retry_atoms, atoms_of, atoms_among, flow_place, flows_among}
-use Rattle.tf_flow.specs.Rules.{is_graph}
-use Rattle.tf_flow.specs.Tree.{flow, Trees, Head}
+use Rattle.tf_flow.specs.Outline.{connection_of, Atom, Item, FlowPlace, flow_count, retry_count, retry_number, atom_count, retry_atoms, atoms_of, atoms_among, flow_place, flows_among}
+use Rattle.tf_flow.specs.Tree.{same_name, is_among, first_some, flow, Trees, Head}
+use Rattle.tf_flow.specs.Rules.{is_graph, stray_end}
 use Rattle.tf_flow.specs.declared.atoms.Retry.{Retry}
 use Rattle.tf_flow.specs.declared.deciders.Link.{Link}
 use Rattle.tf_flow.specs.declared.nested.FlowKind.TheVariants as kind
-use Rattle.tf_links.specs.Reach.{reached}
-use Rattle.tf_model.specs.Before.{Flow, find_flow, item_before, flow_at}
-use Rattle.tf_model.specs.Compilation.{ambiguity, cycle_of, refusal_of, refusal_among}
-use Rattle.tf_model.specs.Linked.{joins, name_of_item, item_name, is_explicit, linked_pairs, arrange, arranged, item_standing, standing_of_item}
+use Rattle.tf_links.specs.Graphs.{reached, standing_items}
+use Rattle.tf_model.specs.Before.{Flow, find_flow, item_before, flow_at, joins, name_of_item, item_name, is_explicit, linked_pairs, arrange, arranged, item_standing, standing_of_item, is_inferred}
+use Rattle.tf_model.specs.Plan.{ambiguity, cycle_of, refusal_of, refusal_among}
 use Rattle.tf_model.proofs.Told.{order_in, path_in}
-use Rattle.tf_numbers.specs.Pairs.{Pair, has_pair}
+use Rattle.tf_numbers.specs.Numbers.{Pair, has_pair}
 use Rattle.tf_numbers.proofs.EquationLemmas.{ap2}
 use Rattle.tf_numbers.proofs.TruthLemmas.{never_true, and_first, and_second, true_both, true_first}
-use Rattle.tf_target.specs.Kept.{kept_among, joins_kept, kept_head, kept_tree, names_among}
+use Rattle.tf_target.specs.Target.{kept_among, joins_kept, kept_head, kept_tree, names_among}
 use Rattle.tf_target.proofs.ImageLemmas.{Image}
 use Rattle.tf_target.proofs.MoveLemmas.{size_of, across, across_below, across_past, across_rises, across_once, moved_end}
 use Rattle.tf_target.proofs.PartLemmas.{item_at, whole_atom, whole_item, Avoids, AtomsMoved, PlacesMoved}
 use Rattle.tf_target.proofs.TailLemmas.{one, Tail, tail_atoms, tail_places, items_sized, tail_item, tail_found, tail_absent, IsAbsentAt}
 use Rattle.tf_target.proofs.CarriedLemmas.{Carried, OrdersCarried, moved_at, moved_or_left}
 use Rattle.tf_target.proofs.NestedLemmas.{NestedCarried, nested_carried, orders_nested, NoneKept, none_standing, standing_told, item_standing_carried}
-use Rattle.tf_links.specs.Standing.{standing_items}
 use Rattle.tf_model.proofs.Told.{standing_in}
 use Rattle.tf_numbers.proofs.ListLemmas.{filter_append, map_append}
 use Rattle.tf_numbers.proofs.NumberLemmas.{same_or_other}
 use Rattle.tf_target.proofs.RootLemmas.{RootBeside, linked_beside, order_beside, clear_beside, cycle_beside, order_back, standing_beside, linked_kept}
 use Rattle.std.specs.Cmp.Lexicographic.{same_text}
-use Rattle.tf_flow.specs.Rules.{stray_end}
-use Rattle.tf_model.specs.Deciders.{decides_on}
-use Rattle.tf_model.specs.Linked.{is_inferred}
+use Rattle.tf_model.specs.Readiness.{decides_on}
 use Rattle.tf_target.proofs.DeciderLemmas.{among_index, deciders_kept, IsRootTaskIn, name_in_part, in_both, task_named, name_itself}
 use Rattle.tf_target.proofs.MemberLemmas.{is_image, filter_images, filter_left, filter_flat}
 use Rattle.tf_target.proofs.ItemLemmas.{control_moved, atoms_sized, item_listed, links_kept, not_first, order_of_graph}

@@ -4,13 +4,11 @@ use Rattle.std.proofs.lemmas.List.{take_more, map-append, length-take}
 use Rattle.tf_numbers.proofs.ListLemmas.{nothing_after, filter_append}
 use Rattle.std.specs.Prelude.{if◌then◌else◌}
 use Rattle.std.specs.List.{list_any}
-use Rattle.tf_flow.specs.Conditions.{Connection, connection_of}
-use Rattle.tf_flow.specs.Names.{same_name, is_among}
-use Rattle.tf_flow.specs.Places.{member_of}
+use Rattle.tf_flow.specs.Outline.{Connection, connection_of}
+use Rattle.tf_flow.specs.Tree.{same_name, is_among, member_of, Tree, task, flow, Trees, trees_of, item_tree, tree_of}
 use Rattle.tf_flow.specs.Rules.{member_names}
 use Rattle.tf_flow.specs.Shown.{members}
-use Rattle.tf_flow.specs.Tree.{Tree, task, flow, Trees, trees_of, item_tree, tree_of}
-use Rattle.tf_flow.specs.Written.{WrittenTree, written_task, written_flow, as_written, all_as_written, item_as_written, written, written_trees, WrittenTrees}
+use Rattle.tf_flow.specs.Plan.{WrittenTree, written_task, written_flow, as_written, all_as_written, item_as_written, written, written_trees, WrittenTrees}
 use Rattle.tf_flow.specs.declared.atoms.Retry.{Retry}
 use Rattle.tf_flow.specs.declared.deciders.Link.{Link}
 use Rattle.tf_flow.specs.declared.nested.Flow.{Flow}
@@ -19,7 +17,7 @@ use Rattle.tf_flow.specs.declared.nested.Item.{Item}
 use Rattle.tf_flow.proofs.TreeLemmas.{tree_of-flow}
 use Rattle.tf_flow.proofs.WrittenLemmas.{flow_written}
 use Rattle.tf_numbers.proofs.EquationLemmas.{ap2}
-use Rattle.tf_target.specs.Kept.{keep_first, kept_among, joins_kept, kept_tree, pick_first, elements_kept, names_among}
+use Rattle.tf_target.specs.Target.{keep_first, kept_among, joins_kept, kept_tree, pick_first, elements_kept, names_among}
 
 -- ---- one element more
 

@@ -4,12 +4,9 @@ use Rattle.std.specs.List.{list_any}
 use Rattle.std.specs.Option.{option_or}
 use Rattle.std.specs.Prelude.{if◌then◌else◌, is_some}
 use Rattle.tf_flow.specs.Limits.{capped, too_large, limits}
-use Rattle.tf_flow.specs.Names.{same_name, first_some, first_again, is_among}
+use Rattle.tf_flow.specs.Tree.{same_name, first_some, first_again, is_among, Place, at_flow, Member, Level, level_of, retry_places, places, places_among, is_atom, Tree, task, flow, Trees, no_trees, tree, Head, tree_of, trees_of, item_tree, nesting}
 use Rattle.tf_flow.specs.Outline.{atom_count, atoms_among_count, retry_count}
-use Rattle.tf_flow.specs.Places.{Place, at_flow, Member, Level, level_of, retry_places, places, places_among, is_atom}
-use Rattle.tf_flow.specs.Refusal.{first_refusal, broken_rule, empty, duplicate, unknown, bad_link, bad_atom}
-use Rattle.tf_flow.specs.Rules.{has_none, nested_names, stray_end, unknown_at, is_graph, ends, same_ends, decides_flow, bad_link_at, has_bad_link}
-use Rattle.tf_flow.specs.Tree.{Tree, task, flow, Trees, no_trees, tree, Head, tree_of, trees_of, item_tree, nesting}
+use Rattle.tf_flow.specs.Rules.{first_refusal, broken_rule, empty, duplicate, unknown, bad_link, bad_atom, has_none, nested_names, stray_end, unknown_at, is_graph, ends, same_ends, decides_flow, bad_link_at, has_bad_link}
 use Rattle.tf_flow.specs.declared.atoms.Bind.{Bind}
 use Rattle.tf_flow.specs.declared.atoms.Retry.{Retry}
 use Rattle.tf_flow.specs.declared.deciders.Link.{Link}
@@ -21,9 +18,9 @@ use Rattle.tf_numbers.proofs.EquationLemmas.{ap2}
 use Rattle.tf_numbers.proofs.ListLemmas.{filter_append, length_both}
 use Rattle.tf_flow.proofs.AlikeLemmas.{refused_alike}
 use Rattle.tf_flow.proofs.TreeLemmas.{tree_of-flow}
-use Rattle.tf_flow.specs.Written.{as_written}
+use Rattle.tf_flow.specs.Plan.{as_written}
 use Rattle.tf_flow.specs.declared.nested.Flow.{Flow}
-use Rattle.tf_target.specs.Kept.{names_among, kept_among, joins_kept, kept_head, kept_tree, pick_first, elements_kept}
+use Rattle.tf_target.specs.Target.{names_among, kept_among, joins_kept, kept_head, kept_tree, pick_first, elements_kept}
 use Rattle.tf_target.proofs.KeepingLemmas.{picked_trees}
 use Rattle.tf_target.proofs.WithinLemmas.{Within, within_prefix, within_map, within_filter, filter_within, still_no_element, still_once}
 use Rattle.tf_target.proofs.LimitLemmas.{places_kept, members_kept, no_deeper, all_fit, names_once, ends_known, links_good, atoms_good}

@@ -1,26 +1,22 @@
 -- What is kept of a plan that compiles compiles, and keeps links and order.
 use Rattle.std.proofs.Common.{◌≡◌, ◌∙◌, ℕ, suc, ◌+◌, List, [], ◌∷◌, Bool, true, false, ◌||◌, Option, None, refl, sym, ap, subst, inl, inr, ◌⊎◌, eqb-true, eq-eqb, map, flat_map, not, ◌≤◌, ◌++◌, Some, arith, zero, filter, slice_get, ◌<◌}
 use Rattle.std.specs.Prelude.{nat_eq, if◌then◌else◌, reverse, option_map}
-use Rattle.std.specs.Option.{option_or, option_map_or}
+use Rattle.std.specs.Option.{option_or, option_map_or, unwrap_or, option_and_then}
 use Rattle.std.specs.List.{list_any}
-use Rattle.tf_flow.specs.Names.{first_some, is_among}
-use Rattle.tf_flow.specs.Outline.{Atom, FlowPlace, flow_count, atom_count, retry_count, flows_of, flows_among, innermost_first, innermost_among, atoms_of, Part, name_of, arguments_of, injected_in}
-use Rattle.tf_flow.specs.Rules.{is_graph, bind_symbols}
-use Rattle.tf_flow.specs.Tree.{Tree, task, flow, Trees, no_trees, tree, Head, tree_of}
-use Rattle.tf_flow.specs.Plan.{PlanValue}
-use Rattle.tf_flow.specs.Written.{plan_tree, as_written}
+use Rattle.tf_flow.specs.Tree.{first_some, is_among, Tree, task, flow, Trees, no_trees, tree, Head, tree_of}
+use Rattle.tf_flow.specs.Outline.{Atom, FlowPlace, flow_count, atom_count, retry_count, flows_of, flows_among, innermost_first, innermost_among, atoms_of, Part, name_of, arguments_of, injected_in, Connection, is_task_part, part_of, atom_path}
+use Rattle.tf_flow.specs.Rules.{is_graph, bind_symbols, first_refusal, stray_end}
+use Rattle.tf_flow.specs.Plan.{PlanValue, plan_tree, as_written}
 use Rattle.tf_flow.specs.declared.atoms.Bind.{Bind}
 use Rattle.tf_flow.specs.declared.nested.Flow.{Flow as FlowValue}
 use Rattle.tf_flow.proofs.TreeLemmas.{tree_of-flow}
-use Rattle.tf_model.specs.Before.{item_before, path_before, path_at, part_at, passes_item, flow_at}
-use Rattle.tf_model.specs.Compilation.{ambiguity, cycle_of, refusal_of, refusal_among, refusal_at, tree_refusal, compile_refusal}
+use Rattle.tf_model.specs.Before.{item_before, path_before, path_at, part_at, passes_item, flow_at, arrange, arranged, listed, Flow, find_flow, no_flow}
+use Rattle.tf_model.specs.Plan.{ambiguity, cycle_of, refusal_of, refusal_among, refusal_at, tree_refusal, compile_refusal, Outline, outline_with, outline_of_tree, outline_of, is_before, count, is_task, atom_name, last_flow}
 use Rattle.tf_model.specs.Laws.{AreOrdered}
 use Rattle.tf_model.specs.Scope.{members, members_in, is_earlier, is_elsewhere, lists_symbol, has_source, Missing, missing_of, missing_symbol}
 use Rattle.tf_flow.specs.declared.atoms.Arg.{Arg}
 use Rattle.tf_flow.specs.declared.paths.Turn.{Turn}
 use Rattle.std.proofs.Math.Path.{fun_ext}
-use Rattle.tf_model.specs.Linked.{arrange, arranged, listed}
-use Rattle.tf_model.specs.Plan.{Outline, outline_with, outline_of_tree, outline_of, is_before, count}
 use Rattle.tf_model.proofs.OrderLemmas.{compiled_ordered, each_arranged}
 use Rattle.tf_numbers.specs.Numbers.{has_number, numbers_below}
 use Rattle.tf_numbers.proofs.EquationLemmas.{ap2}
@@ -28,23 +24,13 @@ use Rattle.tf_numbers.proofs.ListLemmas.{map_append}
 use Rattle.tf_numbers.proofs.OptionLemmas.{neither_there}
 use Rattle.tf_numbers.proofs.PairLemmas.{any_left, any_right, any_in_both}
 use Rattle.tf_numbers.proofs.TruthLemmas.{or_either, true_first, true_second, neither_first, neither_second, either_way, clash, never_true}
-use Rattle.tf_target.specs.Kept.{kept_tree}
-use Rattle.std.specs.Option.{unwrap_or, option_and_then}
-use Rattle.tf_flow.specs.Conditions.{Connection}
-use Rattle.tf_flow.specs.Refusal.{first_refusal}
-use Rattle.tf_flow.specs.Rules.{stray_end}
-use Rattle.tf_flow.specs.Outline.{is_task_part, part_of, atom_path}
-use Rattle.tf_model.specs.Before.{Flow, find_flow, no_flow}
-use Rattle.tf_model.specs.Deciders.{decides_on, decider_links}
-use Rattle.tf_model.specs.Plan.{is_task, atom_name, last_flow}
+use Rattle.tf_target.specs.Target.{kept_tree, names_among, KeepsOrder, target_tree, IsTargetOf}
+use Rattle.tf_model.specs.Readiness.{decides_on, decider_links}
 use Rattle.tf_model.proofs.Told.{connections_in}
-use Rattle.tf_target.specs.Kept.{names_among}
 use Rattle.tf_target.proofs.DeciderLemmas.{IsRootTaskIn, name_in_part, last_moved}
 use Rattle.tf_target.proofs.JoinLemmas.{nested, root_deciders, root_task}
 use Rattle.tf_target.proofs.KeptLimitLemmas.{root_known}
 use Rattle.tf_target.proofs.NestedLemmas.{BothCarried}
-use Rattle.tf_target.specs.Laws.{KeepsOrder}
-use Rattle.tf_target.specs.Target.{target_tree, IsTargetOf}
 use Rattle.tf_target.proofs.OutlineLemmas.{atoms_alike, flows_alike, innermost_alike}
 use Rattle.tf_target.proofs.CarriedLemmas.{part_carried, path_carried, before_carried, passes_alike, within_whole}
 use Rattle.tf_target.proofs.MemberLemmas.{is_image, image_yes, before_none, visits_kept, map_reverse}

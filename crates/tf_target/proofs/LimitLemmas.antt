@@ -5,20 +5,16 @@ use Rattle.std.proofs.lemmas.Bool.{cases_lt, lt-ltb}
 use Rattle.std.specs.List.{sum_by}
 use Rattle.std.specs.Option.{option_or}
 use Rattle.std.specs.Prelude.{if◌then◌else◌, option_map, nat_lt}
-use Rattle.tf_flow.specs.ByteLength.{name_len, link_len, place_len, level_len, plan_len}
-use Rattle.tf_flow.specs.Limits.{capped, passing, passing_nesting, passing_comparisons, passing_at, passing_links, link_count, passed, limit_fault}
-use Rattle.tf_flow.specs.Names.{same_name, first_some, first_again, has_twice}
-use Rattle.tf_flow.specs.Places.{Place, at_flow, Level, member_of, members_of, places, places_among, is_atom, is_flow, name_at}
-use Rattle.tf_flow.specs.Refusal.{duplicate, unknown, bad_link, bad_atom}
-use Rattle.tf_flow.specs.Rules.{member_names, stray_end, unknown_at, bad_link_at, bad_atom_at, bind_symbols, has_bad_link}
-use Rattle.tf_flow.specs.Tree.{Trees, no_trees, tree, nesting, deepest}
+use Rattle.tf_flow.specs.Limits.{name_len, link_len, place_len, level_len, plan_len, capped, passing, passing_nesting, passing_comparisons, passing_at, passing_links, link_count, passed, limit_fault}
+use Rattle.tf_flow.specs.Tree.{same_name, first_some, first_again, has_twice, Place, at_flow, Level, member_of, members_of, places, places_among, is_atom, is_flow, name_at, Trees, no_trees, tree, nesting, deepest}
+use Rattle.tf_flow.specs.Rules.{duplicate, unknown, bad_link, bad_atom, member_names, stray_end, unknown_at, bad_link_at, bad_atom_at, bind_symbols, has_bad_link}
 use Rattle.tf_flow.specs.declared.atoms.Bind.{Bind}
 use Rattle.tf_flow.specs.declared.faults.Limit.{Limit}
 use Rattle.tf_flow.specs.declared.faults.Limit.TheVariants as limit
 use Rattle.tf_flow.specs.declared.faults.PlanFault.TheVariants as fault
 use Rattle.tf_numbers.proofs.OptionLemmas.{neither_there, none_mapped, none_if}
 use Rattle.tf_numbers.proofs.TruthLemmas.{never_true, clash}
-use Rattle.tf_target.specs.Kept.{keep_first, kept_among}
+use Rattle.tf_target.specs.Target.{keep_first, kept_among}
 use Rattle.tf_target.proofs.WithinLemmas.{Within, none_left, left_in, left_out, within_prefix, within_behind, within_map, within_filter, shorter, lesser_sum, still_nothing, still_once}
 
 -- ---- what is kept among items

@@ -4,7 +4,7 @@ use Rattle.std.specs.Prelude.{nat_lt, if◌then◌else◌}
 use Rattle.std.proofs.lemmas.Bool.{cases_lt, lt-ltb}
 use Rattle.tf_flow.specs.Tree.{Tree, Trees, no_trees, tree}
 use Rattle.tf_numbers.proofs.TruthLemmas.{never_true}
-use Rattle.tf_target.specs.Kept.{keep_first, kept_among}
+use Rattle.tf_target.specs.Target.{keep_first, kept_among}
 
 -- the number that so many have in the whole from one number on, where they have it from another on in what is
 -- kept; or else one that is found behind these

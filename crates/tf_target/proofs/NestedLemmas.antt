@@ -5,18 +5,14 @@ use Rattle.std.specs.Option.{option_map_or, option_or, option_to_list}
 use Rattle.std.specs.List.{list_any}
 use Rattle.std.proofs.Math.Path.{fun_ext}
 use Rattle.std.proofs.lemmas.List.{map-append, length-map}
-use Rattle.tf_flow.specs.Names.{first_some}
+use Rattle.tf_flow.specs.Tree.{first_some}
 use Rattle.tf_flow.specs.Outline.{Atom, Item, Standing, stands_task, stands_flow, FlowPlace}
 use Rattle.tf_flow.specs.Rules.{is_graph}
-use Rattle.tf_links.specs.Cycles.{shortest_cycle}
-use Rattle.tf_links.specs.Reach.{reached}
-use Rattle.tf_links.specs.Standing.{standing_items}
-use Rattle.tf_model.specs.Before.{Flow, find_flow, item_before}
-use Rattle.tf_model.specs.Compilation.{CompileRefusal, ambiguous, cycle, are_several, is_ambiguous, refuse_symbol, refuse_givers, ambiguity_at, least, is_back, first_cycle, refusal_of, refusal_among}
-use Rattle.tf_model.specs.Linked.{joins, is_only, name_of_item, item_name, is_explicit, explicit, reaches_with, is_served, givers, is_inferred, linked_pairs, item_order, standing_at, item_standing, standing_of_item, arrange, arranged, needs, item_provides, retry_provides}
+use Rattle.tf_links.specs.Graphs.{shortest_cycle, reached, standing_items}
+use Rattle.tf_model.specs.Before.{Flow, find_flow, item_before, joins, is_only, name_of_item, item_name, is_explicit, explicit, reaches_with, is_served, givers, is_inferred, linked_pairs, item_order, standing_at, item_standing, standing_of_item, arrange, arranged, needs, item_provides, retry_provides}
+use Rattle.tf_model.specs.Plan.{CompileRefusal, ambiguous, cycle, are_several, is_ambiguous, refuse_symbol, refuse_givers, ambiguity_at, least, is_back, first_cycle, refusal_of, refusal_among}
 use Rattle.tf_model.proofs.Told.{order_in, standing_in}
-use Rattle.tf_numbers.specs.Numbers.{any_below, which_below, first_below, numbers_below}
-use Rattle.tf_numbers.specs.Pairs.{Pair, has_pair, pairs_below}
+use Rattle.tf_numbers.specs.Numbers.{any_below, which_below, first_below, numbers_below, Pair, has_pair, pairs_below}
 use Rattle.tf_numbers.proofs.EquationLemmas.{ap2}
 use Rattle.tf_numbers.proofs.TruthLemmas.{never_true}
 use Rattle.tf_target.proofs.PartLemmas.{item_at, whole_standing, whole_item, whole_place, Absent, StandsAbsent, ItemsAbsent, ControlAbsent, LeftPlace, PlacesMoved, all_placed, place_kept, place_left}

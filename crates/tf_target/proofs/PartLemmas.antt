@@ -1,8 +1,7 @@
 -- The atoms and the flows of what is kept of a plan, beside those of the whole.
 use Rattle.std.proofs.Common.{◌≡◌, ◌≢◌, ◌∙◌, ℕ, zero, suc, ◌+◌, ◌-◌, ◌<◌, ◌≤◌, List, [], ◌∷◌, ◌++◌, map, length, true, false, Option, Some, None, refl, sym, ap, subst, inl, inr, ◌⊎◌, arith, eqb-true}
 use Rattle.std.specs.Prelude.{nat_eq, option_map}
-use Rattle.tf_flow.specs.Outline.{Atom, Standing, stands_task, stands_flow, Item, FlowPlace, flow_count, flows_among_count, retry_count, atom_count, atoms_among_count, enter, retry_atoms, atoms_of, atoms_among, retry_number, item_of, items_of, flows_of, flows_among}
-use Rattle.tf_flow.specs.Conditions.{connection_of}
+use Rattle.tf_flow.specs.Outline.{Atom, Standing, stands_task, stands_flow, Item, FlowPlace, flow_count, flows_among_count, retry_count, atom_count, atoms_among_count, enter, retry_atoms, atoms_of, atoms_among, retry_number, item_of, items_of, flows_of, flows_among, connection_of}
 use Rattle.tf_flow.specs.Tree.{Tree, task, flow, Trees, no_trees, tree, Head}
 use Rattle.tf_flow.specs.declared.atoms.Retry.{Retry}
 use Rattle.tf_flow.specs.declared.paths.Turn.{Turn}

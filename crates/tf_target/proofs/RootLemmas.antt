@@ -4,17 +4,14 @@ use Rattle.std.specs.Prelude.{nat_eq, option_map, if◌then◌else◌}
 use Rattle.std.specs.Option.{option_or}
 use Rattle.std.specs.List.{list_any}
 use Rattle.std.proofs.lemmas.Bool.{cases_lt}
-use Rattle.tf_flow.specs.Names.{first_some}
+use Rattle.tf_flow.specs.Tree.{first_some}
 use Rattle.tf_flow.specs.Outline.{Atom, FlowPlace}
 use Rattle.tf_flow.specs.Rules.{is_graph}
-use Rattle.tf_links.specs.Laws.{AreBelow}
-use Rattle.tf_links.specs.Reach.{reached}
+use Rattle.tf_links.specs.Graphs.{AreBelow, reached, standing_items}
 use Rattle.tf_links.proofs.ReachLawLemmas.{chain_reaches}
-use Rattle.tf_model.specs.Before.{Flow}
-use Rattle.tf_model.specs.Compilation.{is_ambiguous, are_several, refuse_symbol, ambiguity_at, ambiguity, least, is_back, cycle_through, first_cycle}
-use Rattle.tf_model.specs.Linked.{is_only, item_name, is_explicit, explicit, reaches_with, is_served, other_provides, givers, is_inferred_by, is_inferred, is_linked, linked_pairs, needs, item_provides, retry_provides}
-use Rattle.tf_numbers.specs.Numbers.{which_below, numbers_below}
-use Rattle.tf_numbers.specs.Pairs.{Pair, has_pair, pairs_below}
+use Rattle.tf_model.specs.Before.{Flow, is_only, item_name, is_explicit, explicit, reaches_with, is_served, other_provides, givers, is_inferred_by, is_inferred, is_linked, linked_pairs, needs, item_provides, retry_provides}
+use Rattle.tf_model.specs.Plan.{is_ambiguous, are_several, refuse_symbol, ambiguity_at, ambiguity, least, is_back, cycle_through, first_cycle}
+use Rattle.tf_numbers.specs.Numbers.{which_below, numbers_below, Pair, has_pair, pairs_below}
 use Rattle.tf_numbers.proofs.BelowLemmas.{first_none}
 use Rattle.tf_numbers.proofs.EquationLemmas.{ap2}
 use Rattle.tf_numbers.proofs.OptionLemmas.{neither_there}
@@ -22,7 +19,6 @@ use Rattle.tf_links.proofs.ReachedLemmas.{reached_within}
 use Rattle.tf_numbers.proofs.NumberLemmas.{same_or_other}
 use Rattle.tf_numbers.proofs.PairLemmas.{pair_passes, passes_pair, passes_which}
 use Rattle.tf_numbers.proofs.TruthLemmas.{same_truth, never_true, clash, and_first, true_first, true_second, neither_first, neither_second}
-use Rattle.tf_links.specs.Standing.{standing_items}
 use Rattle.tf_target.proofs.StandingPartLemmas.{standing_kept}
 use Rattle.tf_target.proofs.ImageLemmas.{Image, any_image, which_image}
 use Rattle.tf_target.proofs.CarriedLemmas.{Carried, OrdersCarried, provided_carried, needs_carried}

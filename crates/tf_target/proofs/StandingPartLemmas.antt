@@ -4,11 +4,9 @@ use Rattle.std.specs.Prelude.{nat_eq, if◌then◌else◌}
 use Rattle.std.specs.List.{list_all}
 use Rattle.std.proofs.lemmas.Bool.{cases_lt}
 use Rattle.std.proofs.lemmas.List.{map-append}
-use Rattle.tf_links.specs.Laws.{AreBelow, Chain}
-use Rattle.tf_links.specs.Standing.{is_behind, is_next, take_one, take_items, standing_items}
+use Rattle.tf_links.specs.Graphs.{AreBelow, Chain, is_behind, is_next, take_one, take_items, standing_items}
 use Rattle.tf_links.proofs.StandingLawLemmas.{all_stand}
-use Rattle.tf_numbers.specs.Numbers.{has_number, first_below}
-use Rattle.tf_numbers.specs.Pairs.{Pair, is_pair, has_pair}
+use Rattle.tf_numbers.specs.Numbers.{has_number, first_below, Pair, is_pair, has_pair}
 use Rattle.tf_numbers.proofs.BelowLemmas.{found_passes, found_below, first_before, first_is, first_none}
 use Rattle.tf_numbers.proofs.EquationLemmas.{ap2}
 use Rattle.tf_numbers.proofs.ListLemmas.{filter_append, nothing_after}

@@ -8,7 +8,7 @@ use Rattle.tf_flow.specs.Outline.{Atom, Item, items_of, FlowPlace, flow_count, a
 use Rattle.tf_flow.specs.Tree.{Tree, Trees, no_trees, tree}
 use Rattle.tf_numbers.proofs.EquationLemmas.{ap2}
 use Rattle.tf_numbers.proofs.TruthLemmas.{either_way}
-use Rattle.tf_target.specs.Kept.{keep_first, kept_among}
+use Rattle.tf_target.specs.Target.{keep_first, kept_among}
 use Rattle.tf_target.proofs.MoveLemmas.{moved_by, moved, size_of, here_or_behind, behind_here, moved_from}
 use Rattle.tf_target.proofs.PartLemmas.{whole_atom, whole_item, whole_place, item_whole, Shifts, atoms_whole, flows_whole, flows_between, entered_avoid, AtomsMoved, all_moved, kept_before, left_before, PlacesMoved, all_placed, numbers_between, places_before, places_past, left_places, item_absent, StandsAbsent}
 

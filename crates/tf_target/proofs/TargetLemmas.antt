@@ -3,31 +3,24 @@ use Rattle.std.proofs.Common.{◌≡◌, ◌∙◌, ℕ, zero, suc, ◌+◌, ◌
 use Rattle.std.specs.Prelude.{nat_eq, if◌then◌else◌}
 use Rattle.tf_flow.proofs.TreeLemmas.{tree_of-flow}
 use Rattle.tf_flow.specs.Outline.{atom_count}
-use Rattle.tf_flow.specs.Names.{same_name}
-use Rattle.tf_flow.specs.Plan.{PlanValue}
-use Rattle.tf_flow.specs.Places.{member_of, members_of}
-use Rattle.tf_flow.specs.Refusal.{first_refusal, IsAnswer}
-use Rattle.tf_flow.specs.Rules.{is_graph, member_names}
+use Rattle.tf_flow.specs.Tree.{same_name, member_of, members_of, Tree, Trees, no_trees, tree, flow, tree_of, item_tree, trees_of}
+use Rattle.tf_flow.specs.Plan.{PlanValue, plan_tree, as_written}
+use Rattle.tf_flow.specs.Rules.{first_refusal, IsAnswer, is_graph, member_names}
 use Rattle.tf_flow.specs.Shown.{members}
-use Rattle.tf_flow.specs.Tree.{Tree, Trees, no_trees, tree, flow, tree_of, item_tree, trees_of}
-use Rattle.tf_flow.specs.Written.{plan_tree, as_written}
 use Rattle.tf_flow.specs.declared.atoms.Bind.{Bind}
 use Rattle.tf_flow.specs.declared.faults.PlanFault.{PlanFault}
 use Rattle.tf_flow.specs.declared.faults.PlanFault.TheVariants as plan_refusal
 use Rattle.tf_flow.specs.declared.nested.Flow.{Flow}
 use Rattle.tf_flow.specs.declared.nested.Item.{Item}
-use Rattle.tf_model.specs.Compilation.{compile_refusal}
-use Rattle.tf_model.specs.Plan.{outline_of}
+use Rattle.tf_model.specs.Plan.{compile_refusal, outline_of, root_item_before}
 use Rattle.tf_model.proofs.OrderLemmas.{plan_ordered}
 use Rattle.tf_numbers.proofs.BelowLemmas.{found_below, first_found, still_none}
 use Rattle.tf_numbers.proofs.EquationLemmas.{ap2}
 use Rattle.tf_numbers.proofs.TruthLemmas.{or_either, true_second, never_true, clash}
 use Rattle.tf_numbers.specs.Numbers.{first_below, numbers_below}
-use Rattle.tf_order.specs.RootItems.{root_item_before}
 use Rattle.tf_order.proofs.GraphLemmas.{rows_length, row_told}
 use Rattle.tf_order.proofs.SpreadLemmas.{get_set_same, get_set_other}
-use Rattle.tf_target.specs.Kept.{items_in, names_among, is_name_at, place_of_name, kept_among, keep_first, kept_head, kept_tree, mark_or_none, is_marked}
-use Rattle.tf_target.specs.Target.{is_graph_flow, item_named, is_kept, target_tree, refuse_none, refuse_item, target_refusal, IsTargetAnswer, IsTargetOf, LeavesNoneBefore, plan_fault}
+use Rattle.tf_target.specs.Target.{items_in, names_among, is_name_at, place_of_name, kept_among, keep_first, kept_head, kept_tree, mark_or_none, is_marked, is_graph_flow, item_named, is_kept, target_tree, refuse_none, refuse_item, target_refusal, IsTargetAnswer, IsTargetOf, LeavesNoneBefore, plan_fault}
 use Rattle.tf_target.specs.declared.faults.TargetFault.{TargetFault}
 use Rattle.tf_target.specs.declared.faults.TargetFault.TheVariants as fault
 use Rattle.tf_target.proofs.KeptLimitLemmas.{kept_refused, empty_if}

@@ -4,7 +4,7 @@ use Rattle.std.proofs.lemmas.List.Sums.{sum_by-cons}
 use Rattle.std.specs.List.{list_any, sum_by}
 use Rattle.std.specs.Option.{option_or}
 use Rattle.std.specs.Prelude.{if◌then◌else◌}
-use Rattle.tf_flow.specs.Names.{first_some, first_again, first_again_after}
+use Rattle.tf_flow.specs.Tree.{first_some, first_again, first_again_after}
 use Rattle.tf_numbers.proofs.OptionLemmas.{neither_there}
 use Rattle.tf_numbers.proofs.TruthLemmas.{neither, neither_first, neither_second}
 

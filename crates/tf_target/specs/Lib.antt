@@ -1,3 +1,1 @@
-pub mod Kept
 pub mod Target
-pub mod Laws

@@ -1,9 +1,9 @@
 //! Items that are written alike.
 
 ghost use Rattle.std.specs.Prelude.{◌≡◌, map, IfOk};
-ghost use Rattle.tf_flow.specs.Conditions.{connection_of};
+ghost use Rattle.tf_flow.specs.Outline.{connection_of};
 ghost use Rattle.tf_flow.specs.Tree.{tree_of};
-ghost use Rattle.tf_flow.specs.Written.{as_written, item_as_written};
+ghost use Rattle.tf_flow.specs.Plan.{as_written, item_as_written};
 
 use crate::atoms::{copy_control, copy_task};
 use crate::links::copy_link;

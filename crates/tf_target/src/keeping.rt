@@ -2,14 +2,12 @@
 
 ghost use Rattle.std.specs.Prelude.{◌≡◌, ◌&&◌, map, filter, IfOk};
 ghost use Rattle.indexmap.specs.IndexSet.{contains};
-ghost use Rattle.tf_flow.specs.Conditions.{connection_of};
-ghost use Rattle.tf_flow.specs.Names.{same_name};
-ghost use Rattle.tf_flow.specs.Places.{member_of};
+ghost use Rattle.tf_flow.specs.Outline.{connection_of};
+ghost use Rattle.tf_flow.specs.Tree.{same_name, member_of, item_tree, tree_of};
 ghost use Rattle.tf_flow.specs.Rules.{member_names};
 ghost use Rattle.tf_flow.specs.Shown.{members};
-ghost use Rattle.tf_flow.specs.Tree.{item_tree, tree_of};
-ghost use Rattle.tf_flow.specs.Written.{as_written, item_as_written};
-ghost use Rattle.tf_target.specs.Kept.{is_marked, kept_tree, elements_kept};
+ghost use Rattle.tf_flow.specs.Plan.{as_written, item_as_written};
+ghost use Rattle.tf_target.specs.Target.{is_marked, kept_tree, elements_kept};
 
 use crate::atoms::copy_control;
 use crate::flows::copy_item;

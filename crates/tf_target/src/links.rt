@@ -1,7 +1,7 @@
 //! Links with deciders that are written alike.
 
 ghost use Rattle.std.specs.Prelude.{◌≡◌, map, IfOk};
-ghost use Rattle.tf_flow.specs.Conditions.{condition_of, decision_of, connection_of};
+ghost use Rattle.tf_flow.specs.Outline.{condition_of, decision_of, connection_of};
 
 use std::alloc::Global;
 use tf_flow::{Decider, Link, Test, Tests};

@@ -2,13 +2,10 @@ ghost use Rattle.std.specs.Prelude.{◌≡◌, ◌<◌, ℕ, None, length, IfOk,
 ghost use Rattle.tf_flow.specs.Items.{item_list};
 ghost use Rattle.tf_flow.specs.Rules.{is_graph, member_names};
 ghost use Rattle.tf_flow.specs.Shown.{members};
-ghost use Rattle.tf_flow.specs.Written.{plan_tree};
-ghost use Rattle.tf_model.specs.Compilation.{compile_refusal};
-ghost use Rattle.tf_model.specs.Plan.{outline_of};
+ghost use Rattle.tf_flow.specs.Plan.{plan_tree};
+ghost use Rattle.tf_model.specs.Plan.{compile_refusal, outline_of};
 ghost use Rattle.tf_model.specs.Scope.{missing_symbol};
-ghost use Rattle.tf_target.specs.Laws.{KeepsOrder};
-ghost use Rattle.tf_target.specs.Kept.{place_of_name, is_marked};
-ghost use Rattle.tf_target.specs.Target.{is_kept, IsTargetOf, target_refusal, IsTargetAnswer, LeavesNoneBefore, plan_fault};
+ghost use Rattle.tf_target.specs.Target.{KeepsOrder, place_of_name, is_marked, is_kept, IsTargetOf, target_refusal, IsTargetAnswer, LeavesNoneBefore, plan_fault};
 
 use crate::atoms::copy_binds;
 use crate::faults::TargetFault;

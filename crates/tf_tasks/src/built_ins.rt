@@ -2,8 +2,7 @@ ghost use Rattle.std.specs.Prelude.{◌≡◌, ◌≤◌, length, false, Some, I
 ghost use Rattle.tf_flow.specs.Rules.{is_command, least_arguments};
 ghost use Rattle.tf_actions.specs.Built.{built, by_first, by_first_two, echoed, measured, picked, compared, demanded, raised, joined};
 ghost use Rattle.tf_flow.specs.declared.atoms.Undo.TheVariants as undo;
-ghost use Rattle.tf_actions.specs.Gives.{Gives, GivesReverted};
-ghost use Rattle.tf_actions.specs.Whole.{IsWhole};
+ghost use Rattle.tf_actions.specs.Gives.{Gives, GivesReverted, IsWhole};
 ghost use Rattle.tf_tasks.specs.Program.{is_program, is_run};
 
 use crate::lists::{list, measure, pick};

@@ -1,8 +1,7 @@
 ghost use Rattle.std.specs.Prelude.{◌≡◌, true, false, None, IfOk, ◌≤◌, length};
 ghost use Rattle.std.specs.List.{list_all};
-ghost use Rattle.tf_desk.specs.Counts.{Rises};
-ghost use Rattle.tf_actions.specs.Gives.{Gives, GivesNothing};
-ghost use Rattle.tf_actions.specs.Whole.{IsWhole};
+ghost use Rattle.tf_desk.specs.Crash.{Rises};
+ghost use Rattle.tf_actions.specs.Gives.{Gives, GivesNothing, IsWhole};
 ghost use Rattle.tf_flow.specs.declared.atoms.Undo.TheVariants as undo;
 ghost use Rattle.tf_tasks.specs.GivesLaws.{gives_looks_up, gives_reverts};
 ghost use Rattle.tf_tasks.specs.Program.{is_program, runs_program};

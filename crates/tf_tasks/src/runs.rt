@@ -1,6 +1,6 @@
 ghost use Rattle.std.specs.Prelude.{◌≡◌, ◌∷◌, [], ◌++◌, ◌≤◌, length, map, true, false, IfOk};
 ghost use Rattle.std.specs.List.{list_all};
-ghost use Rattle.tf_desk.specs.Counts.{Rises};
+ghost use Rattle.tf_desk.specs.Crash.{Rises};
 ghost use Rattle.tf_actions.specs.Built.{plain_pair};
 ghost use Rattle.tf_actions.specs.Gives.{GivesText, GivesNothing};
 ghost use Rattle.tf_tasks.specs.Run.{has_text, without_feed as unfed, spelled, ended, EndsWith, RunsTo, dropped};

@@ -9,9 +9,7 @@ use Rattle.std.proofs.lemmas.Grind.{common_steps}
 use Rattle.tf_values.specs.declared.elements.Scalar.{Scalar}
 use Rattle.tf_values.specs.declared.elements.Scalar.TheVariants as scalar
 use Rattle.tf_values.specs.Text.{is_text}
-use Rattle.tf_values.specs.ByteForm.{scalar_bytes, text_bytes, list_bytes}
-use Rattle.tf_values.specs.Element.{IsElement}
-use Rattle.tf_values.specs.Scalars.{are_scalars}
+use Rattle.tf_values.specs.Scalars.{scalar_bytes, text_bytes, list_bytes, IsElement, are_scalars}
 use Rattle.tf_values.specs.Value.{byte_form, IsValue, BeginsWith}
 use Rattle.tf_values.specs.declared.value.Val.{Val}
 use Rattle.tf_values.specs.declared.value.Val.TheVariants as value

@@ -3,7 +3,7 @@ use Rattle.std.proofs.Common.{◌≡◌, ℕ, ◌-◌, ◌≤◌, List, [], ◌�
 use Rattle.std.proofs.Math.ListN.{replicate}
 use Rattle.std.proofs.Math.Seq.{drop-append_seam, take-append_seam}
 use Rattle.std.proofs.lemmas.Grind.{common_steps}
-use Rattle.tf_values.specs.Name.{is_name, IsPadded, padded}
+use Rattle.tf_values.specs.Text.{is_name, IsPadded, padded}
 
 -- a name is short
 pub length-is_name : (name : List ℕ) → is_name name ≡ true → length name ≤ 64

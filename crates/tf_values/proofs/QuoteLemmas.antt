@@ -4,7 +4,7 @@ use Rattle.std.specs.Prelude.{nat_lt}
 use Rattle.std.specs.List.{flat_map, AllByRecursion}
 use Rattle.std.proofs.lemmas.Bool.{eqb-true}
 use Rattle.std.proofs.lemmas.Bool.Decides.{nat_tests}
-use Rattle.tf_values.specs.TextForm.{hexadecimal, quoted_byte}
+use Rattle.tf_values.specs.Value.{hexadecimal, quoted_byte}
 use Rattle.tf_values.proofs.ListLemmas.{heads, tails}
 use Rattle.tf_values.proofs.Codes.{IsCode, one_reading}
 

@@ -8,10 +8,8 @@ use Rattle.tf_values.specs.declared.elements.Scalar.{Scalar}
 use Rattle.tf_values.specs.declared.elements.Scalar.TheVariants as scalar
 use Rattle.tf_values.specs.declared.value.Val.{Val}
 use Rattle.tf_values.specs.declared.value.Val.TheVariants as value
-use Rattle.tf_values.specs.ByteForm.{scalar_bytes}
-use Rattle.tf_values.specs.TextForm.{quoted_byte, quoted, scalar_text, further_text, scalars_text, text_form}
-use Rattle.tf_values.specs.Element.{IsElement}
-use Rattle.tf_values.specs.Value.{byte_form, IsValue}
+use Rattle.tf_values.specs.Scalars.{scalar_bytes, IsElement}
+use Rattle.tf_values.specs.Value.{quoted_byte, quoted, scalar_text, further_text, scalars_text, text_form, byte_form, IsValue}
 use Rattle.tf_values.specs.Text.{is_text}
 use Rattle.tf_values.proofs.ByteLemmas.{text_is_short}
 

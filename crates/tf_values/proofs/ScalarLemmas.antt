@@ -8,8 +8,8 @@ use Rattle.std.proofs.lemmas.Fmt.{signed_decimal_injective}
 use Rattle.tf_values.specs.declared.elements.Scalar.{Scalar}
 use Rattle.tf_values.specs.declared.elements.Scalar.TheVariants as scalar
 use Rattle.tf_values.specs.Text.{is_text}
-use Rattle.tf_values.specs.TextForm.{quoted_byte, quoted, scalar_text}
-use Rattle.tf_values.specs.Element.{IsElement}
+use Rattle.tf_values.specs.Value.{quoted_byte, quoted, scalar_text}
+use Rattle.tf_values.specs.Scalars.{IsElement}
 use Rattle.tf_values.specs.Word.{ends_here, is_word, IsNoScalar}
 use Rattle.tf_values.proofs.ListLemmas.{tails, same_heads, differ}
 use Rattle.tf_values.proofs.QuoteLemmas.{quoted_text_one}

@@ -7,12 +7,9 @@ use Rattle.tf_values.specs.declared.elements.Scalar.{Scalar}
 use Rattle.tf_values.specs.declared.elements.Scalar.TheVariants as scalar
 use Rattle.tf_values.specs.declared.value.Val.{Val}
 use Rattle.tf_values.specs.declared.value.Val.TheVariants as value
-use Rattle.tf_values.specs.ByteForm.{scalar_bytes, list_bytes}
-use Rattle.tf_values.specs.TextForm.{quoted_byte, scalar_text, further_text, scalars_text, text_form}
-use Rattle.tf_values.specs.Scalars.{are_scalars}
-use Rattle.tf_values.specs.Element.{IsElement}
+use Rattle.tf_values.specs.Scalars.{scalar_bytes, list_bytes, are_scalars, IsElement}
+use Rattle.tf_values.specs.Value.{quoted_byte, scalar_text, further_text, scalars_text, text_form, value_of, byte_form, IsValue, IsTextOf}
 use Rattle.tf_values.specs.Word.{ends_here}
-use Rattle.tf_values.specs.Value.{value_of, byte_form, IsValue, IsTextOf}
 use Rattle.tf_values.proofs.ListLemmas.{heads, tails, same_heads, differ}
 use Rattle.tf_values.proofs.Codes.{IsCode, BeginsNone, one_reading}
 use Rattle.tf_values.proofs.ByteLemmas.{scalar_one, list_one, list_is_short}

@@ -1,10 +1,6 @@
-pub mod Name
 pub mod Text
-pub mod ByteForm
 pub mod Scalars
-pub mod TextForm
+pub mod Value
 pub mod Growth
-pub mod Element
 pub mod Quote
 pub mod Word
-pub mod Value

@@ -3,7 +3,7 @@ use Rattle.std.specs.Prelude.{◌≢◌, ℕ, ℤ, List, [], ◌∷◌, Bool, tr
 use Rattle.std.specs.Int.{w64}
 use Rattle.std.specs.Fmt.{signed_decimal}
 use Rattle.std.specs.List.{list_all}
-use Rattle.tf_values.specs.TextForm.{truth_text}
+use Rattle.tf_values.specs.Value.{truth_text}
 
 -- a comma or a closing bracket
 abbrev pub is_mark : ℕ → Bool

@@ -1,8 +1,7 @@
 ghost use Rattle.std.specs.Prelude.{◌≡◌, ◌≤◌, ◌+◌, ◌++◌, ◌∷◌, [], ◌<◌, ◌^◌, length, true, OnOk, OnErr, vec_capacity};
 ghost use Rattle.std.specs.List.{flat_map};
 ghost use Rattle.std.specs.Int.{to_be_bytes, cast_unsigned, w64};
-ghost use Rattle.tf_values.specs.ByteForm.{scalar_bytes, list_bytes, text_bytes};
-ghost use Rattle.tf_values.specs.Scalars.{are_scalars};
+ghost use Rattle.tf_values.specs.Scalars.{scalar_bytes, list_bytes, text_bytes, are_scalars};
 ghost use Rattle.tf_values.specs.Text.{is_text};
 ghost use Rattle.tf_values.specs.Value.{byte_form, IsValue};
 ghost use Rattle.tf_values.specs.Growth.{KeepsPrefix};

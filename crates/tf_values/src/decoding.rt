@@ -4,10 +4,8 @@ ghost use Rattle.std.specs.Int.{to_be_bytes, cast_unsigned, w16, w32, w64};
 ghost use Rattle.tf_values.specs.declared.elements.Scalar.{Scalar};
 ghost use Rattle.tf_values.specs.declared.value.Val.{Val};
 ghost use Rattle.tf_values.specs.declared.faults.MakeFault.TheVariants.{Memory as OutOfMemory};
-ghost use Rattle.tf_values.specs.ByteForm.{scalar_bytes, list_bytes, text_bytes};
-ghost use Rattle.tf_values.specs.Scalars.{are_scalars};
+ghost use Rattle.tf_values.specs.Scalars.{scalar_bytes, list_bytes, text_bytes, are_scalars, IsElement};
 ghost use Rattle.tf_values.specs.Text.{is_text};
-ghost use Rattle.tf_values.specs.Element.{IsElement};
 ghost use Rattle.tf_values.specs.Value.{byte_form, IsValue, BeginsWith};
 
 use crate::elements::{Scalar, Scalars};

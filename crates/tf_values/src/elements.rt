@@ -1,8 +1,6 @@
 ghost use Rattle.std.specs.Prelude.{◌≡◌, ◌*◌, ◌≤◌, true, IfOk, IfErr, is_ok, length};
 ghost use Rattle.std.specs.List.{flat_map, AllByRecursion};
-ghost use Rattle.tf_values.specs.Element.{IsElement};
-ghost use Rattle.tf_values.specs.ByteForm.{scalar_bytes};
-ghost use Rattle.tf_values.specs.Scalars.{are_scalars};
+ghost use Rattle.tf_values.specs.Scalars.{IsElement, scalar_bytes, are_scalars};
 ghost use Rattle.tf_values.specs.declared.elements.TheConstants.{LIST_LIMIT};
 
 use crate::faults::Memory;
@@ -63,8 +61,7 @@ impl Model for Scalars {
     ghost use Rattle.std.specs.Prelude.{◌≡◌, true, List};
     ghost use Rattle.tf_values.specs.declared.elements.Scalar.{Scalar};
     ghost use Rattle.std.specs.List.{AllByRecursion};
-    ghost use Rattle.tf_values.specs.Element.{IsElement};
-    ghost use Rattle.tf_values.specs.Scalars.{are_scalars};
+    ghost use Rattle.tf_values.specs.Scalars.{IsElement, are_scalars};
 
     ghost Value = { List Scalar };
 

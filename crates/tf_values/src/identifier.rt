@@ -1,6 +1,6 @@
 ghost use Rattle.std.specs.Prelude.{◌≡◌, true, is_some, IfSome, ◌≤◌, length};
 ghost use Rattle.std.specs.List.{list_all};
-ghost use Rattle.tf_values.specs.Name.{is_name, begins_name, stands_in_name, padded};
+ghost use Rattle.tf_values.specs.Text.{is_name, begins_name, stands_in_name, padded};
 
 use std::hash::{Hash, Hasher};
 use std::marker::Model;
@@ -17,8 +17,8 @@ pub struct Name {
 }
 
 impl Model for Name {
-    ghost use Rattle.std.specs.Prelude.{ℕ, List, length, take};
-    ghost use Rattle.tf_values.specs.Name.{IsPadded, padded, padded-take, length-named};
+    ghost use Rattle.std.specs.Prelude.{ℕ, List, length, take, ◌==◌};
+    ghost use Rattle.tf_values.specs.Text.{IsPadded, padded, padded-take, length-named};
 
     ghost Value = { List ℕ };
 
@@ -58,7 +58,6 @@ impl Name {
 }
 
 impl PartialEq for Name {
-    ghost use Rattle.std.specs.Prelude.{◌==◌};
     ghost use Rattle.std.specs.Cmp.Lexicographic.{pointwise};
     ghost use Rattle.std.specs.Cmp.Rules.{comparing};
     ghost use Rattle.std.proofs.Common.{rules};
@@ -138,8 +137,6 @@ pub struct Names {
 }
 
 impl Model for Names {
-    ghost use Rattle.std.specs.Prelude.{List, ℕ};
-
     ghost Value = { List (List ℕ) };
 
     ghost view = { λ names. names.items.items };

@@ -2,8 +2,7 @@
 
 ghost use Rattle.std.specs.Prelude.{◌≡◌, ◌++◌, ℕ, List};
 ghost use Rattle.tf_values.specs.declared.value.Val.{Val};
-ghost use Rattle.tf_values.specs.TextForm.{text_form};
-ghost use Rattle.tf_values.specs.Value.{IsValue, byte_form};
+ghost use Rattle.tf_values.specs.Value.{text_form, IsValue, byte_form};
 
 /// A text form has one reading.
 #[tactic(auto, using(crate::proofs::ValueLemmas::value_text_one))]

@@ -3,10 +3,9 @@ ghost use Rattle.std.specs.List.{AllByRecursion};
 ghost use Rattle.tf_values.specs.declared.elements.Scalar.{Scalar};
 ghost use Rattle.tf_values.specs.declared.value.Val.{Val};
 ghost use Rattle.tf_values.specs.Text.{is_text};
-ghost use Rattle.tf_values.specs.TextForm.{quoted, scalar_text, scalars_text};
-ghost use Rattle.tf_values.specs.Element.{IsElement};
+ghost use Rattle.tf_values.specs.Value.{quoted, scalar_text, scalars_text, IsTextOf};
+ghost use Rattle.tf_values.specs.Scalars.{IsElement};
 ghost use Rattle.tf_values.specs.Word.{ends_here};
-ghost use Rattle.tf_values.specs.Value.{IsTextOf};
 
 use crate::elements::{Scalar, Scalars};
 use crate::faults::MakeFault;

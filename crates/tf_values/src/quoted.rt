@@ -1,6 +1,6 @@
 ghost use Rattle.std.specs.Prelude.{◌≡◌, ◌≢◌, ◌<◌, ◌/◌, ◌%◌, ◌++◌, ◌∷◌, [], ℕ, List, IfOk, IsErrOf, MatchOption};
 ghost use Rattle.std.specs.List.{flat_map};
-ghost use Rattle.tf_values.specs.TextForm.{quoted_byte, hexadecimal};
+ghost use Rattle.tf_values.specs.Value.{quoted_byte, hexadecimal};
 ghost use Rattle.tf_values.specs.Quote.{is_control};
 
 use crate::faults::MakeFault;

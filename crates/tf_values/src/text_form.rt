@@ -1,8 +1,7 @@
 ghost use Rattle.std.specs.Prelude.{◌≡◌, ◌<◌, ◌≤◌, ◌+◌, [], ◌∷◌, ◌++◌, length, OnOk, OnErr, vec_capacity};
 ghost use Rattle.std.specs.Fmt.{signed_decimal};
 ghost use Rattle.std.specs.List.{flat_map};
-ghost use Rattle.tf_values.specs.TextForm.{hexadecimal, quoted_byte, quoted, truth_text, scalar_text, further_text, scalars_text, text_form};
-ghost use Rattle.tf_values.specs.Value.{IsValue};
+ghost use Rattle.tf_values.specs.Value.{hexadecimal, quoted_byte, quoted, truth_text, scalar_text, further_text, scalars_text, text_form, IsValue};
 ghost use Rattle.tf_values.specs.Growth.{KeepsPrefix};
 
 use crate::elements::Scalar;

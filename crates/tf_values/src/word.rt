@@ -1,8 +1,8 @@
 ghost use Rattle.std.specs.Prelude.{◌≡◌, ◌≢◌, ◌++◌, ◌↔◌, IsTrue, true, ℤ, MatchOption, FitsSigned};
 ghost use Rattle.std.specs.Int.{w64};
 ghost use Rattle.std.specs.Fmt.{signed_decimal};
-ghost use Rattle.tf_values.specs.TextForm.{scalar_text};
-ghost use Rattle.tf_values.specs.Element.{IsElement};
+ghost use Rattle.tf_values.specs.Value.{scalar_text};
+ghost use Rattle.tf_values.specs.Scalars.{IsElement};
 ghost use Rattle.tf_values.specs.Word.{is_mark, ends_here, is_word, IsNoScalar};
 
 use crate::elements::Scalar;

@@ -5,7 +5,7 @@ use Rattle.tf_numbers.proofs.TruthLemmas.{and_first, and_second, true_both, not_
 use Rattle.tf_flow.specs.Rules.{is_command, least_arguments, has_wrong_words, has_none, runs_nothing}
 use Rattle.tf_flow.specs.declared.atoms.TaskKind.{TaskKind}
 use Rattle.tf_flow.specs.declared.atoms.TaskKind.TheVariants as kind
-use Rattle.tf_actions.specs.Whole.{IsGivenEnough, HasFewWords}
+use Rattle.tf_actions.specs.Gives.{IsGivenEnough, HasFewWords}
 use Rattle.tf_actions.specs.declared.orders.Given.TheVariants as given
 use Rattle.tf_actions.specs.declared.orders.Pair.{Pair}
 use Rattle.tf_actions.specs.declared.outcomes.Action.{Action}

@@ -13,8 +13,8 @@ use Rattle.tf_values.specs.declared.elements.Scalar.{Scalar}
 use Rattle.tf_values.specs.declared.elements.Scalar.TheVariants as scalar
 use Rattle.tf_values.specs.declared.value.Val.{Val}
 use Rattle.tf_values.specs.declared.value.Val.TheVariants as value
-use Rattle.tf_values.specs.Element.{IsElement}
-use Rattle.tf_values.specs.Name.{is_name}
+use Rattle.tf_values.specs.Scalars.{IsElement}
+use Rattle.tf_values.specs.Text.{is_name}
 use Rattle.tf_values.specs.Value.{IsValue}
 use Rattle.tf_states.specs.declared.record.Failure.{Failure}
 use Rattle.tf_states.specs.declared.record.Failure.TheVariants as failure

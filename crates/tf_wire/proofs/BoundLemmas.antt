@@ -13,13 +13,11 @@ use Rattle.serde_json.specs.Find.{of_integer}
 use Rattle.serde_json.specs.View.{items_of}
 use Rattle.serde_json.specs.Written.{comma_if, number_text, compact_text, items_text, members_text}
 use Rattle.tf_numbers.proofs.TruthLemmas.{and_second}
-use Rattle.tf_values.specs.ByteForm.{scalar_bytes, list_bytes}
+use Rattle.tf_values.specs.Scalars.{scalar_bytes, list_bytes, IsElement, are_scalars}
 use Rattle.tf_values.specs.declared.elements.Scalar.{Scalar}
 use Rattle.tf_values.specs.declared.elements.Scalar.TheVariants as scalar
 use Rattle.tf_values.specs.declared.value.Val.{Val}
 use Rattle.tf_values.specs.declared.value.Val.TheVariants as value
-use Rattle.tf_values.specs.Element.{IsElement}
-use Rattle.tf_values.specs.Scalars.{are_scalars}
 use Rattle.tf_values.specs.Value.{IsValue}
 use Rattle.tf_values.proofs.ByteLemmas.{text_is_short}
 use Rattle.tf_values.proofs.NameLemmas.{length-is_name}

@@ -5,8 +5,7 @@ use Rattle.std.specs.Str.{IsUtf8, IsAscii, is_utf8}
 use Rattle.std.proofs.lemmas.Grind.{common_steps}
 use Rattle.std.proofs.lemmas.Str.{IsUtf8-from_ascii, IsUtf8-from_is_utf8}
 use Rattle.tf_numbers.proofs.TruthLemmas.{and_first, and_second}
-use Rattle.tf_values.specs.Name.{is_name, begins_name, stands_in_name}
-use Rattle.tf_values.specs.Text.{is_text}
+use Rattle.tf_values.specs.Text.{is_name, begins_name, stands_in_name, is_text}
 
 pub text_utf8 : (text : List ℕ) → is_text text ≡ true → IsUtf8 text
 text_utf8 text is = IsUtf8-from_is_utf8 text (and_second (nat_le (length text) 65536) (is_utf8 text) is)

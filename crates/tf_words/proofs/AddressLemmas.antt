@@ -5,7 +5,7 @@ use Rattle.std.proofs.lemmas.Str.{IsUtf8-from_ascii}
 use Rattle.std.specs.List.{list_all}
 use Rattle.std.specs.Str.{IsUtf8, IsAscii}
 use Rattle.tf_numbers.proofs.TruthLemmas.{and_first, and_second}
-use Rattle.tf_values.specs.Name.{is_between}
+use Rattle.tf_values.specs.Text.{is_between}
 use Rattle.tf_words.specs.Spelled.{is_digit, is_count}
 
 low : (least most byte : ℕ) → most < 128 → is_between least most byte ≡ true → byte < 128

@@ -1,7 +1,7 @@
 -- The words behind those that choose a command, and words that spell nothing.
 use Rattle.std.proofs.Common.{◌≡◌, ℕ, List, ◌∷◌, true, Option, Some, None, refl, sym, ap, ◌∙◌}
 use Rattle.tf_numbers.proofs.TruthLemmas.{and_second}
-use Rattle.tf_words.specs.Pieces.{is_filled, are_filled}
+use Rattle.tf_words.specs.Verbs.{is_filled, are_filled}
 
 -- the words behind the first are filled where all are
 pub filled_behind : (words others : List (List ℕ)) (first : List ℕ) → words ≡ first ∷ others → are_filled words ≡ true → are_filled others ≡ true

@@ -13,14 +13,13 @@ use Rattle.std.proofs.lemmas.List.{append-nil}
 use Rattle.tf_numbers.proofs.TruthLemmas.{or_true}
 use Rattle.tf_values.specs.declared.elements.Scalar.{Scalar}
 use Rattle.tf_values.specs.declared.elements.Scalar.TheVariants as scalar
-use Rattle.tf_values.specs.Element.{IsElement}
-use Rattle.tf_values.specs.TextForm.{hexadecimal, quoted_byte, scalar_text, further_text, scalars_text}
+use Rattle.tf_values.specs.Scalars.{IsElement}
+use Rattle.tf_values.specs.Value.{hexadecimal, quoted_byte, scalar_text, further_text, scalars_text}
 use Rattle.tf_values.proofs.QuoteLemmas.{IsControl, IsPlain, quoted_cases, nibble-hexadecimal, digits_form}
 use Rattle.tf_values.proofs.WordLemmas.{BeginsNumber, number_begins, own_digits}
 use Rattle.tf_words.specs.declared.quotes.Inside.TheVariants as at
 use Rattle.tf_words.specs.declared.spelled.Quoting.TheVariants as quoting
-use Rattle.tf_words.specs.Quotes.{nibble, is_hexadecimal, are_digits, is_plain, emitted, text_from}
-use Rattle.tf_words.specs.Spelled.{same_word, is_digit, is_count, is_integer, scalar_spelled, in_front, scalars_from, scalars_spelled}
+use Rattle.tf_words.specs.Spelled.{nibble, is_hexadecimal, are_digits, is_plain, emitted, text_from, same_word, is_digit, is_count, is_integer, scalar_spelled, in_front, scalars_from, scalars_spelled}
 
 -- ---- texts in quotes
 

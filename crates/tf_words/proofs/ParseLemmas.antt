@@ -10,9 +10,7 @@ use Rattle.clap.specs.Walk.{Held, Row, Rule, Waiting, arg_by_index, arg_by_long,
 use Rattle.clap.specs.Faults.{settle_fault, use_fault, walk_fault}
 use Rattle.std.specs.Option.{option_map_or}
 use Rattle.clap.specs.declared.error.kind.ErrorKind.TheVariants as kind
-use Rattle.tf_words.specs.Pieces.{Form, Piece, alone, in_front, option_met, pieces, sort_of, takes_value, value_met}
-use Rattle.tf_words.specs.Pieces.{word_met as piece_met}
-use Rattle.tf_words.specs.Pieces.{Sort, ending, long, plain, short}
+use Rattle.tf_words.specs.Verbs.{Form, Piece, alone, in_front, option_met, pieces, sort_of, takes_value, value_met, word_met as piece_met, Sort, ending, long, plain, short}
 use Rattle.tf_words.proofs.RuleLemmas.{none_by_long, one_by_long, one_by_id, place_by_id}
 use Rattle.tf_words.proofs.SortLemmas.{HasLetter, SeenAs, Sees, seen_as}
 use Rattle.tf_words.proofs.WalkLemmas.{IsFree, Settles, attached_open, begun_open, final, final_next, here, long_stuck, long_turn, noted, place_open, place_turn, placed, raised_open, resting, resting_settles, rules, seen, seen_as_is, short_turn, then_on, told, unless, value_turn, waits_for}

@@ -4,9 +4,8 @@ use Rattle.std.proofs.lemmas.List.{take_more, map-append}
 use Rattle.tf_numbers.proofs.ListLemmas.{take_whole}
 use Rattle.clap.specs.Words.{App, Rule, with_rule}
 use Rattle.tf_words.specs.declared.verbs.Key.{Key}
-use Rattle.tf_words.specs.Pieces.{Form}
+use Rattle.tf_words.specs.Verbs.{Form, form_of}
 use Rattle.tf_words.specs.Table.{option_rule, positional_rule, table, with_rules}
-use Rattle.tf_words.specs.Verbs.{form_of}
 
 abbrev option_of : Key → Rule
 option_of key = option_rule (form_of key)

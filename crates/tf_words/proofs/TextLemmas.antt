@@ -10,9 +10,8 @@ use Rattle.std.specs.Prelude.{IfSome, unwrap_or}
 use Rattle.tf_words.specs.Held.{texts_in}
 use Rattle.tf_numbers.proofs.TruthLemmas.{and_first, and_second, true_both}
 use Rattle.tf_values.specs.Text.{is_text}
-use Rattle.tf_words.specs.Pairs.{Halves, halves_of, longer}
-use Rattle.tf_words.specs.Pieces.{Form, Piece, Sort, said_by, alone, are_filled, behind_hyphens, ending, in_front, is_filled, long, long_of, option_met, pieces, plain, short, sort_of, takes_value, value_met, values_in, word_met}
-use Rattle.tf_words.specs.Spelled.{same_word}
+use Rattle.tf_words.specs.Spelled.{Halves, halves_of, longer, same_word}
+use Rattle.tf_words.specs.Verbs.{Form, Piece, Sort, said_by, alone, are_filled, behind_hyphens, ending, in_front, is_filled, long, long_of, option_met, pieces, plain, short, sort_of, takes_value, value_met, values_in, word_met}
 use Rattle.tf_words.proofs.PairLemmas.{text_behind}
 
 abbrev has_text : Piece → Bool

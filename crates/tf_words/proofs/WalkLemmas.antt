@@ -4,8 +4,7 @@ use Rattle.std.specs.Prelude.{encode_utf8}
 use Rattle.std.specs.List.{fold}
 use Rattle.std.specs.Str.{bytes_eq, chars}
 use Rattle.clap.specs.Kinds.{Kinds, or_else}
-use Rattle.clap.specs.Walk.{Held, Row, Rule, Step, Waiting, Walk, after_step, idle, long_word, option, plain_word, positional, settled, settled_rows, short_or_plain, short_word, subcommand_met, trailing, walked, with_values}
-use Rattle.clap.specs.Walk.{after_flag, arg_by_index, arg_by_long, long_met, long_or_other, is_pending, pushed, subcommand_or_other, takes_values, to_positional}
+use Rattle.clap.specs.Walk.{Held, Row, Rule, Step, Waiting, Walk, after_step, idle, long_word, option, plain_word, positional, settled, settled_rows, short_or_plain, short_word, subcommand_met, trailing, walked, with_values, after_flag, arg_by_index, arg_by_long, long_met, long_or_other, is_pending, pushed, subcommand_or_other, takes_values, to_positional}
 use Rattle.clap.specs.Faults.{bundle_fault, bundle_step_fault, flag_word_fault, flags_fault, long_fault, option_fault, other_fault, positional_fault, react_fault, settle_fault, short_fault, step_fault, stray_fault, turn_fault, use_fault, walk_fault}
 use Rattle.clap.specs.declared.error.kind.ErrorKind.{ErrorKind}
 use Rattle.clap.specs.declared.error.kind.ErrorKind.TheVariants as kind
@@ -15,7 +14,7 @@ use Rattle.clap.specs.Lexer.{long_of, short_of}
 use Rattle.clap.specs.Simple.{Shape}
 use Rattle.clap.specs.declared.builder.value_parser.Reading.TheVariants as reading
 use Rattle.clap.specs.declared.parser.matches.ValueSource.TheVariants.{CommandLine}
-use Rattle.tf_words.specs.Pieces.{Form, Piece}
+use Rattle.tf_words.specs.Verbs.{Form, Piece}
 use Rattle.tf_words.proofs.RuleLemmas.{place_rule, rule_for, rules_for, shape_for, place_by_index, none_by_short}
 use Rattle.tf_words.proofs.SortLemmas.{HasLetter, Sees}
 

@@ -1,14 +1,5 @@
-pub mod Quotes
 pub mod Spelled
-pub mod Pairs
-pub mod Pieces
 pub mod Verbs
 pub mod Held
 pub mod Table
-pub mod Numbers
-pub mod Commands
-pub mod Demos
 pub mod Words
-pub mod Options
-pub mod Addresses
-pub mod Boards

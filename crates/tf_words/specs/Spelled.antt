@@ -1,21 +1,84 @@
--- What a VALUE stands for.
-use Rattle.std.specs.Prelude.{ℕ, ℤ, pos, negsuc, List, [], ◌∷◌, ◌++◌, ◌^◌, Bool, true, false, ◌&&◌, ◌||◌, ◌==◌, nat_lt, Option, Some, None, option_map, if◌then◌else◌, codes}
+-- What words stand for: values, numbers, and pairs of the form NAME=VALUE.
+use Rattle.std.specs.Prelude.{ℕ, ◌+◌, ◌-◌, ◌*◌, List, [], ◌∷◌, ◌++◌, Bool, not, ◌&&◌, ◌||◌, ◌==◌, nat_lt, nat_le, Option, Some, None, option_map, if◌then◌else◌, ℤ, pos, negsuc, ◌^◌, true, false, codes, length, position}
+use Rattle.tf_values.specs.Text.{is_between, is_text, is_name}
+use Rattle.tf_words.specs.declared.quotes.Inside.{Inside}
+use Rattle.tf_words.specs.declared.quotes.Inside.TheVariants as at
 use Rattle.std.specs.List.{list_all}
-use Rattle.std.specs.Str.Parse.{signed_digits_value}
+use Rattle.std.specs.Str.Parse.{signed_digits_value, digits_value}
 use Rattle.std.specs.Cmp.Lexicographic.{pointwise}
 use Rattle.tf_values.specs.declared.elements.Scalar.{Scalar}
 use Rattle.tf_values.specs.declared.elements.Scalar.TheVariants as scalar
 use Rattle.tf_values.specs.declared.value.Val.{Val}
 use Rattle.tf_values.specs.declared.value.Val.TheVariants as value
-use Rattle.tf_values.specs.Name.{is_between}
 use Rattle.tf_values.specs.Scalars.{are_scalars}
-use Rattle.tf_values.specs.Text.{is_text}
 use Rattle.tf_values.specs.Value.{value_of}
-use Rattle.tf_words.specs.Quotes.{text_in_quotes}
 use Rattle.tf_words.specs.declared.spelled.Mark.{Mark}
 use Rattle.tf_words.specs.declared.spelled.Mark.TheVariants as mark
 use Rattle.tf_words.specs.declared.spelled.Quoting.{Quoting}
 use Rattle.tf_words.specs.declared.spelled.Quoting.TheVariants as quoting
+use Rattle.tf_flow.specs.declared.atoms.Bind.{Bind}
+
+-- ---- how a text stands in quotes, read from its opening quote on
+
+-- the number that a lower-case hexadecimal digit stands for
+abbrev pub nibble : ℕ → ℕ
+nibble digit = if nat_lt digit 97 then digit - 48 else digit - 87
+
+-- a lower-case hexadecimal digit
+abbrev pub is_hexadecimal : ℕ → Bool
+is_hexadecimal byte = is_between 48 57 byte || is_between 97 102 byte
+
+-- two hexadecimal digits that a byte has which has no shorter form: below 32 and neither 09 nor 0a, or 7f
+abbrev pub are_digits : ℕ → ℕ → Bool
+are_digits high low =
+    if high == 48 then is_hexadecimal low && not (low == 57 || low == 97)
+    else if high == 49 then is_hexadecimal low
+    else high == 55 && low == 102
+
+-- a byte that stands for itself
+abbrev pub is_plain : ℕ → Bool
+is_plain byte = nat_le 32 byte && not (byte == 127)
+
+-- a byte that may stand behind a backslash: a quote, a backslash, n or t
+abbrev pub is_short : ℕ → Bool
+is_short byte = (byte == 34 || byte == 92) || (byte == 110 || byte == 116)
+
+-- where the reader stands behind the byte, if the byte may stand here
+abbrev pub step : Inside → ℕ → Option Inside
+step at.Bytes byte = if byte == 34 then Some at.Closed else if byte == 92 then Some at.Escape else if is_plain byte then Some at.Bytes else None
+step at.Escape byte = if byte == 117 then Some at.Unicode else if is_short byte then Some at.Bytes else None
+step at.Unicode byte = if byte == 48 then Some at.Zero else None
+step at.Zero byte = if byte == 48 then Some at.Zeros else None
+step at.Zeros byte = Some (at.Digit byte)
+step (at.Digit high) byte = if are_digits high byte then Some at.Bytes else None
+step at.Closed byte = None
+
+-- the byte of the text that ends with this byte of its form
+abbrev pub emitted : Inside → ℕ → List ℕ
+emitted at.Bytes byte = if byte == 34 || byte == 92 then [] else byte ∷ []
+emitted at.Escape byte = if byte == 117 then [] else if byte == 110 then 10 ∷ [] else if byte == 116 then 9 ∷ [] else byte ∷ []
+emitted at.Unicode byte = []
+emitted at.Zero byte = []
+emitted at.Zeros byte = []
+emitted (at.Digit high) byte = (nibble high * 16 + nibble byte) ∷ []
+emitted at.Closed byte = []
+
+-- nothing is left of the text behind its closing quote
+abbrev pub closed_at : Inside → Option (List ℕ)
+closed_at at.Closed = Some []
+closed_at place = None
+
+-- the text whose form goes on with these bytes, up to a closing quote that ends them
+abbrev pub text_from : Inside → List ℕ → Option (List ℕ)
+text_from place [] = closed_at place
+text_from place (byte ∷ bytes) = elim (step place byte) [ None ↦ None | Some after ↦ option_map (λ text. emitted place byte ++ text) (text_from after bytes) ]
+
+-- the text that stands in quotes
+abbrev pub text_in_quotes : List ℕ → Option (List ℕ)
+text_in_quotes [] = None
+text_in_quotes (first ∷ inner) = if first == 34 then text_from at.Bytes inner else None
+
+-- ---- what a VALUE stands for
 
 -- the words have the same bytes
 abbrev pub same_word : List ℕ → List ℕ → Bool
@@ -113,3 +176,53 @@ value_within found = if is_value found then Some found else None
 abbrev pub value_meant : List ℕ → Option Val
 value_meant [] = None
 value_meant bytes = elim (spelled bytes) [ None ↦ Some (value.Text bytes) | Some found ↦ value_within found ]
+
+-- ---- numbers in words
+
+-- one to nine decimal digits, of which the first may be a zero
+abbrev pub is_number : List ℕ → Bool
+is_number word = (nat_le 1 (length word) && nat_le (length word) 9) && list_all is_digit word
+
+-- the number that the word spells, where it is one of these
+abbrev pub number_between : ℕ → ℕ → List ℕ → Option ℕ
+number_between least most word =
+    if is_number word && (nat_le least (digits_value 10 word) && nat_le (digits_value 10 word) most)
+    then Some (digits_value 10 word) else None
+
+-- ---- the values that words of the form NAME=VALUE give to names
+
+-- a word cut in two
+pub record Halves : Type 0 where
+  pub name : List ℕ
+  pub value : List ℕ
+
+-- the halves of a word with one byte more in front
+abbrev pub longer : ℕ → Halves → Halves
+longer byte halves = record halves { name = byte ∷ halves.name }
+
+-- the bytes before the first `=`, and those behind it
+abbrev pub halves_of : List ℕ → Option Halves
+halves_of [] = None
+halves_of (byte ∷ bytes) = if byte == 61 then Some (record { name = []; value = bytes }) else option_map (longer byte) (halves_of bytes)
+
+-- the name and the value that the halves are
+abbrev pub bind_in : Halves → Option Bind
+bind_in halves = if is_name halves.name then option_map (λ value. record { symbol = halves.name; value = value }) (value_meant halves.value) else None
+
+-- the name and the value that a word of the form NAME=VALUE gives
+abbrev pub bind_of : List ℕ → Option Bind
+bind_of word = elim (halves_of word) [ None ↦ None | Some halves ↦ bind_in halves ]
+
+-- a value replaces the earlier one of its name at the earlier one's place, and else follows the others
+abbrev pub put : Bind → List Bind → List Bind
+put bind [] = bind ∷ []
+put bind (first ∷ others) = if same_word first.symbol bind.symbol then bind ∷ others else first ∷ put bind others
+
+-- where the value of the name stands
+abbrev pub place_of : List ℕ → List Bind → Option ℕ
+place_of name sets = position (λ bind. same_word bind.symbol name) sets
+
+-- the values that were given, and those that the words give behind them
+abbrev pub sets_behind : List Bind → List (List ℕ) → Option (List Bind)
+sets_behind sets [] = Some sets
+sets_behind sets (word ∷ words) = elim (bind_of word) [ None ↦ None | Some bind ↦ sets_behind (put bind sets) words ]

@@ -3,7 +3,7 @@ use Rattle.std.specs.Prelude.{List, [], ◌∷◌, ◌++◌, map, codes, true, S
 use Rattle.clap.specs.Words.{App, Rule, new_app, new_rule}
 use Rattle.clap.specs.declared.builder.action.ArgAction.TheVariants.{Append}
 use Rattle.clap.specs.declared.builder.range.ValueRange.{ValueRange}
-use Rattle.tf_words.specs.Pieces.{Form}
+use Rattle.tf_words.specs.Verbs.{Form}
 
 -- one use takes no value
 abbrev pub no_values : ValueRange

@@ -1,9 +1,236 @@
--- Which words are a command.
-use Rattle.std.specs.Prelude.{ℕ, List, Option, None, option_and_then, if◌then◌else◌}
+-- Which words are a command, and what each command asks for.
+use Rattle.std.specs.Prelude.{ℕ, List, [], ◌∷◌, codes, length, take, drop, not, Bool, ◌&&◌, ◌==◌, nat_le, Option, Some, None, option_map, option_and_then, if◌then◌else◌, ◌≤◌, true, false}
+use Rattle.std.specs.List.{list_any}
+use Rattle.tf_ports.specs.declared.crews.Address.{Address}
+use Rattle.tf_ports.specs.declared.crews.Address.TheVariants as address
+use Rattle.tf_values.specs.Text.{is_text, is_name}
+use Rattle.tf_words.specs.Spelled.{number_between, same_word, is_count, value_meant, sets_behind}
+use Rattle.tf_words.specs.Verbs.{Said, once, are_filled, said_by, Choice, choice_of, forms_of}
 use Rattle.tf_words.specs.declared.asked.Asked.{Asked}
-use Rattle.tf_words.specs.Pieces.{are_filled, said_by}
-use Rattle.tf_words.specs.Verbs.{Choice, choice_of, forms_of}
-use Rattle.tf_words.specs.Commands.{asked_by}
+use Rattle.tf_words.specs.declared.asked.Asked.TheVariants as asked
+use Rattle.uuid.specs.Text.{parsed}
+use Rattle.tf_states.specs.declared.priorities.Priority.{Priority}
+use Rattle.tf_states.specs.declared.priorities.Priority.TheVariants as priority
+use Rattle.tf_values.specs.declared.value.Val.{Val}
+use Rattle.tf_values.specs.declared.value.Val.TheVariants as value
+use Rattle.tf_ports.specs.declared.crews.Want.TheVariants as want
+use Rattle.tf_words.specs.declared.verbs.Verb.{Verb}
+use Rattle.tf_words.specs.declared.verbs.Verb.TheVariants as verb
+
+-- ---- addresses, and the command of a worker
+
+-- what stands behind a head, if the word begins with it
+abbrev pub behind : List ℕ → List ℕ → Option (List ℕ)
+behind head word = if nat_le (length head) (length word) && same_word (take (length head) word) head then Some (drop (length head) word) else None
+
+-- a comma stands in it
+abbrev pub has_comma : List ℕ → Bool
+has_comma word = list_any (λ byte. byte == 44) word
+
+-- a path is a text that isn't empty and has no comma
+abbrev pub is_path : List ℕ → Bool
+is_path path = (not (length path == 0) && not (has_comma path)) && is_text path
+
+-- a path of this process's files
+abbrev pub path_of : List ℕ → Option Address
+path_of path = if is_path path then Some (address.Unix path) else None
+
+-- a port of 127.0.0.1: 1 to 65535, without a leading zero
+abbrev pub port_of : List ℕ → Option Address
+port_of word = if is_count word then option_map (λ port. address.Tcp port) (number_between 1 65535 word) else None
+
+-- `unix:` and a path, or `tcp:127.0.0.1:` and a port
+abbrev pub address_of : List ℕ → Option Address
+address_of word = elim (behind (codes "unix:") word) [ Some path ↦ path_of path | None ↦ option_and_then port_of (behind (codes "tcp:127.0.0.1:") word) ]
+
+-- how many sessions are served, and else one
+abbrev pub sessions_in : Said → Option ℕ
+sessions_in said = once 1 (number_between 1 999999999) (said (codes "sessions"))
+
+-- `worker ADDRESS`
+abbrev pub worker_of : Said → List (List ℕ) → Option Asked
+worker_of said (word ∷ []) = option_and_then (λ n. option_map (λ a. asked.Worker a n) (address_of word)) (sessions_in said)
+worker_of said _ = None
+
+-- ---- what the commands of a board ask for, by the values that their words give to the names of their options and as positional words
+
+-- the id that a word spells, in one of its text forms
+unfoldable pub id_in : List ℕ → Option (List ℕ)
+id_in word = parsed word
+
+-- the priority of this name
+abbrev pub priority_named : List ℕ → Option Priority
+priority_named word =
+    if same_word word (codes "VERY_HIGH") then Some priority.VeryHigh
+    else if same_word word (codes "HIGH") then Some priority.High
+    else if same_word word (codes "NORMAL") then Some priority.Normal
+    else if same_word word (codes "LOW") then Some priority.Low
+    else if same_word word (codes "VERY_LOW") then Some priority.VeryLow
+    else None
+
+-- how urgent a job is, and else NORMAL
+abbrev pub priority_in : Said → Option Priority
+priority_in said = once priority.Normal priority_named (said (codes "priority"))
+
+-- what a job has beside its name, and else nothing
+abbrev pub details_in : Said → Option Val
+details_in said = once value.Nothing value_meant (said (codes "details"))
+
+-- `board post BOARD NAME`
+abbrev pub post_of : Said → List (List ℕ) → Option Asked
+post_of said (board ∷ name ∷ []) =
+    if is_name name
+    then option_and_then (λ p. option_map (λ d. asked.Post board name p d) (details_in said)) (priority_in said)
+    else None
+post_of said _ = None
+
+-- a board, a job by its id, and an owner
+pub record Applied : Type 0 where
+  pub board : List ℕ
+  pub id : List ℕ
+  pub owner : List ℕ
+
+-- `BOARD ID OWNER`, where the id is a text form of one and the owner a name
+abbrev pub applied_in : List (List ℕ) → Option Applied
+applied_in (board ∷ id ∷ owner ∷ []) = option_and_then (λ i. if is_name owner then Some (record { board = board; id = i; owner = owner }) else None) (id_in id)
+applied_in _ = None
+
+-- `board claim BOARD ID OWNER`
+abbrev pub claim_of : List (List ℕ) → Option Asked
+claim_of words = option_map (λ found. asked.Claim found.board found.id found.owner) (applied_in words)
+
+-- `board abandon BOARD ID OWNER`
+abbrev pub abandon_of : List (List ℕ) → Option Asked
+abandon_of words = option_map (λ found. asked.Abandon found.board found.id found.owner) (applied_in words)
+
+-- `board consume BOARD ID OWNER`
+abbrev pub consume_of : List (List ℕ) → Option Asked
+consume_of words = option_map (λ found. asked.Consume found.board found.id found.owner) (applied_in words)
+
+-- `board trash BOARD ID OWNER`
+abbrev pub trash_of : List (List ℕ) → Option Asked
+trash_of words = option_map (λ found. asked.Trash found.board found.id found.owner) (applied_in words)
+
+-- `board owner BOARD ID`
+abbrev pub owner_of : List (List ℕ) → Option Asked
+owner_of (board ∷ id ∷ []) = option_map (λ i. asked.Owner board i) (id_in id)
+owner_of _ = None
+
+-- `board list BOARD`
+abbrev pub list_of : List (List ℕ) → Option Asked
+list_of (board ∷ []) = Some (asked.List board)
+list_of _ = None
+
+-- ---- the numbers of a generated flow
+
+-- a seed and a size from which a flow may be generated
+pub record IsDemo (seed size : ℕ) : Type 0 where
+  pub seed_most : seed ≤ 65536
+  pub size_least : 1 ≤ size
+  pub size_most : size ≤ 900
+
+-- ---- what each command asks for, by the values that its words give to the names of its options and, as positional words, to the empty name
+
+-- whether reverts are deferred
+abbrev pub deferral_in : Said → Option Bool
+deferral_in said = once false (λ value. Some true) (said (codes "defer-reverts"))
+
+-- how many hands are wanted, 1 to 64 and else one
+abbrev pub hands_in : Said → Option ℕ
+hands_in said = once 1 (number_between 1 64) (said (codes "hands"))
+
+-- after how many entries the run stops, if it does
+abbrev pub stop_in : Said → Option (Option ℕ)
+stop_in said = once None (λ value. option_map Some (number_between 1 999999999 value)) (said (codes "stop-after"))
+
+-- up to which target the flow goes, if to one; it is a name
+abbrev pub target_in : Said → Option (Option (List ℕ))
+target_in said = once None (λ value. if is_name value then Some (Some value) else None) (said (codes "target"))
+
+-- `try FILE [NAME=VALUE]...`
+abbrev pub try_of : Said → List (List ℕ) → Option Asked
+try_of said [] = None
+try_of said (file ∷ pairs) =
+    option_and_then (λ defer.
+    option_and_then (λ hands.
+    option_and_then (λ target.
+    option_map (λ sets. asked.Try file sets defer (want.Local hands) target)
+    (sets_behind [] pairs)) (target_in said)) (hands_in said)) (deferral_in said)
+
+-- `run FILE BOOK [NAME=VALUE]...`
+abbrev pub run_of : Said → List (List ℕ) → Option Asked
+run_of said (file ∷ book ∷ pairs) =
+    option_and_then (λ defer.
+    option_and_then (λ hands.
+    option_and_then (λ stop.
+    option_and_then (λ target.
+    option_map (λ sets. asked.Run file book sets defer (want.Local hands) stop target)
+    (sets_behind [] pairs)) (target_in said)) (stop_in said)) (hands_in said)) (deferral_in said)
+run_of said _ = None
+
+-- `resume BOOK`
+abbrev pub resume_of : Said → List (List ℕ) → Option Asked
+resume_of said (book ∷ []) =
+    option_and_then (λ hands.
+    option_map (λ stop. asked.Resume book (want.Local hands) stop)
+    (stop_in said)) (hands_in said)
+resume_of said _ = None
+
+-- `show BOOK`
+abbrev pub show_of : List (List ℕ) → Option Asked
+show_of (book ∷ []) = Some (asked.Show book)
+show_of _ = None
+
+-- `reset BOOK`
+abbrev pub reset_of : List (List ℕ) → Option Asked
+reset_of (book ∷ []) = Some (asked.Reset book)
+reset_of _ = None
+
+-- `check FILE [NAME=VALUE]...`
+abbrev pub check_of : Said → List (List ℕ) → Option Asked
+check_of said [] = None
+check_of said (file ∷ pairs) =
+    option_and_then (λ target.
+    option_map (λ sets. asked.Check file sets target)
+    (sets_behind [] pairs)) (target_in said)
+
+-- `audit FILE LOG [NAME=VALUE]...`
+abbrev pub audit_of : Said → List (List ℕ) → Option Asked
+audit_of said (file ∷ log ∷ pairs) =
+    option_and_then (λ defer.
+    option_map (λ sets. asked.Audit file log sets defer)
+    (sets_behind [] pairs)) (deferral_in said)
+audit_of said _ = None
+
+-- `demo SEED SIZE BOOK`
+abbrev pub demo_of : Said → List (List ℕ) → Option Asked
+demo_of said (seed ∷ size ∷ book ∷ []) =
+    option_and_then (λ seed.
+    option_and_then (λ size.
+    option_map (λ hands. asked.Demo seed size book hands)
+    (hands_in said)) (number_between 1 900 size)) (number_between 0 65536 seed)
+demo_of said _ = None
+
+-- what the command asks for
+abbrev pub asked_by : Verb → Said → Option Asked
+asked_by verb.Try said = try_of said (said [])
+asked_by verb.Run said = run_of said (said [])
+asked_by verb.Resume said = resume_of said (said [])
+asked_by verb.Show said = show_of (said [])
+asked_by verb.Reset said = reset_of (said [])
+asked_by verb.Check said = check_of said (said [])
+asked_by verb.Audit said = audit_of said (said [])
+asked_by verb.Demo said = demo_of said (said [])
+asked_by verb.Worker said = worker_of said (said [])
+asked_by verb.Post said = post_of said (said [])
+asked_by verb.Claim said = claim_of (said [])
+asked_by verb.Abandon said = abandon_of (said [])
+asked_by verb.Consume said = consume_of (said [])
+asked_by verb.Trash said = trash_of (said [])
+asked_by verb.Owner said = owner_of (said [])
+asked_by verb.List said = list_of (said [])
+
+-- ---- which words are a command
 
 -- what the words behind those that choose a command ask for
 abbrev pub asked_of : Choice → Option Asked

@@ -2,7 +2,7 @@ ghost use Rattle.std.specs.Prelude.{◌≡◌, ◌≤◌, IfOk, IfSome, option_m
 ghost use Rattle.std.specs.List.{All};
 ghost use Rattle.tf_values.specs.Text.{is_text};
 ghost use Rattle.tf_words.specs.Held.{held_by, texts_in};
-ghost use Rattle.tf_words.specs.Addresses.{behind as behind_head, has_comma as comma_in, path_of as path_said, port_of as port_said, address_of as address_said, sessions_in as sessions_said, worker_of as worker_said};
+ghost use Rattle.tf_words.specs.Words.{behind as behind_head, has_comma as comma_in, path_of as path_said, port_of as port_said, address_of as address_said, sessions_in as sessions_said, worker_of as worker_said};
 
 use crate::asked::Asked;
 use crate::given::Given;

@@ -2,8 +2,7 @@ ghost use Rattle.std.specs.Prelude.{◌≡◌, IfOk, Some, None, option_map, tru
 ghost use Rattle.std.specs.List.{All};
 ghost use Rattle.tf_values.specs.Text.{is_text};
 ghost use Rattle.tf_words.specs.Held.{held_by, texts_in};
-ghost use Rattle.tf_words.specs.Boards.{id_in, Applied, priority_named as priority_by_name, priority_in as priority_said, details_in as details_said, applied_in as applied_said};
-ghost use Rattle.tf_words.specs.Boards.{post_of as post_said, claim_of as claim_said, abandon_of as abandon_said, consume_of as consume_said, trash_of as trash_said, owner_of as owner_said, list_of as list_said};
+ghost use Rattle.tf_words.specs.Words.{id_in, Applied, priority_named as priority_by_name, priority_in as priority_said, details_in as details_said, applied_in as applied_said, post_of as post_said, claim_of as claim_said, abandon_of as abandon_said, consume_of as consume_said, trash_of as trash_said, owner_of as owner_said, list_of as list_said};
 
 use crate::asked::Asked;
 use crate::commands::text_of;
@@ -180,7 +179,7 @@ pub fn list_of(alloc: Global, words: &[&str]) -> Result<Option<Asked>, Memory>
 }
 
 /// The id that the word spells, in one of its text forms.
-#[tactic(auto, unfolding(crate::specs::Boards::id_in))]
+#[tactic(auto, unfolding(crate::specs::Words::id_in))]
 fn id_of(word: &str) -> Option<Uuid>
     ensures { result ≡ id_in word.now }
 {

@@ -2,8 +2,7 @@ ghost use Rattle.std.specs.Prelude.{◌≡◌, ◌≤◌, ℕ, List, [], IfOk, I
 ghost use Rattle.std.specs.List.{All};
 ghost use Rattle.tf_values.specs.Text.{is_text};
 ghost use Rattle.tf_words.specs.Held.{held_by, texts_in};
-ghost use Rattle.tf_words.specs.Commands.{asked_by as asked_in, deferral_in as deferral_said, hands_in as hands_said, stop_in as stop_said, target_in as target_said};
-ghost use Rattle.tf_words.specs.Commands.{try_of as try_said, run_of as run_said, resume_of as resume_said, show_of as show_said, reset_of as reset_said, check_of as check_said, audit_of as audit_said, demo_of as demo_said};
+ghost use Rattle.tf_words.specs.Words.{asked_by as asked_in, deferral_in as deferral_said, hands_in as hands_said, stop_in as stop_said, target_in as target_said, try_of as try_said, run_of as run_said, resume_of as resume_said, show_of as show_said, reset_of as reset_said, check_of as check_said, audit_of as audit_said, demo_of as demo_said};
 
 use crate::addresses::worker_of;
 use crate::asked::Asked;

@@ -1,10 +1,8 @@
 ghost use Rattle.std.specs.Prelude.{◌≡◌, ℕ, List, IfOk, IfSome, Some, None, [], map, option_map, unwrap_or, true};
 ghost use Rattle.std.specs.List.{All};
 ghost use Rattle.tf_values.specs.Text.{is_text};
-ghost use Rattle.tf_words.specs.Pieces.{are_filled, said_by, takes_value};
-ghost use Rattle.tf_words.specs.Verbs.{form_of};
+ghost use Rattle.tf_words.specs.Verbs.{are_filled, said_by, takes_value, form_of, once};
 ghost use Rattle.tf_words.specs.Held.{held_by, texts_in};
-ghost use Rattle.tf_words.specs.Options.{once};
 
 use crate::parsing::parsed;
 use crate::verbs::Key;

@@ -1,8 +1,7 @@
 //! What holds of every command. The function does nothing; its contract is the law.
 
 ghost use Rattle.std.specs.Prelude.{◌≡◌, ℕ, List, Some};
-ghost use Rattle.tf_words.specs.Demos.{IsDemo};
-ghost use Rattle.tf_words.specs.Words.{command_of};
+ghost use Rattle.tf_words.specs.Words.{IsDemo, command_of};
 ghost use Rattle.tf_words.specs.declared.asked.Asked.TheVariants as command;
 
 /// The seed and the size of a generated flow are within their bounds.

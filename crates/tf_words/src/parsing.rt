@@ -1,9 +1,8 @@
 ghost use Rattle.std.specs.Prelude.{◌≡◌, [], IfOk, None, Some, map, option_map, true, false};
 ghost use Rattle.clap.specs.Words.{app_of, rule_of};
 ghost use Rattle.tf_words.specs.Held.{held_by};
-ghost use Rattle.tf_words.specs.Pieces.{are_filled, said_by, takes_value};
+ghost use Rattle.tf_words.specs.Verbs.{are_filled, said_by, takes_value, form_of};
 ghost use Rattle.tf_words.specs.Table.{table, option_rule, positional_rule};
-ghost use Rattle.tf_words.specs.Verbs.{form_of};
 
 use crate::verbs::Key;
 use crate::word::Word;

@@ -1,6 +1,5 @@
 ghost use Rattle.std.specs.Prelude.{◌≡◌, [], Some, None, true, IfSome, map, option_map};
-ghost use Rattle.tf_words.specs.Pieces.{are_filled, takes_value};
-ghost use Rattle.tf_words.specs.Verbs.{form_of, forms_of, verb_named as verb_by_name, board_verb_named as board_verb_by_name, choice_of as chosen_by, board_choice_of as chosen_behind_board};
+ghost use Rattle.tf_words.specs.Verbs.{are_filled, takes_value, form_of, forms_of, verb_named as verb_by_name, board_verb_named as board_verb_by_name, choice_of as chosen_by, board_choice_of as chosen_behind_board};
 
 use crate::word::Word;
 

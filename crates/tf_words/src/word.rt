@@ -1,5 +1,5 @@
 ghost use Rattle.std.specs.Prelude.{◌≡◌, true, string_bytes};
-ghost use Rattle.tf_words.specs.Pieces.{is_filled as filled, are_filled as all_filled};
+ghost use Rattle.tf_words.specs.Verbs.{is_filled as filled, are_filled as all_filled};
 
 use std::convert::AsStr;
 use std::marker::Model;

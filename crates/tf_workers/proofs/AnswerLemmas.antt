@@ -1,8 +1,8 @@
 -- How far the answer to a frame came.
 use Rattle.std.proofs.Common.{◌≡◌, ◌≢◌, ℕ, List, [], ◌∷◌, Option, refl, ap, ◌∙◌, subst, arith}
-use Rattle.tf_desk.specs.Counts.{Rises}
+use Rattle.tf_desk.specs.Crash.{Rises}
 use Rattle.tf_ports.specs.Links.{sent_with, SendsPrefix}
-use Rattle.tf_actions.specs.Told.{told_with}
+use Rattle.tf_actions.specs.Gives.{told_with}
 use Rattle.tf_actions.specs.declared.orders.Order.{Order}
 use Rattle.tf_actions.specs.declared.outcomes.Outcome.{Outcome}
 use Rattle.tf_wire.specs.Reading.{AreRequest}

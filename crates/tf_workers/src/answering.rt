@@ -1,5 +1,5 @@
 ghost use Rattle.std.specs.Prelude.{◌≡◌, ◌≢◌, ◌≤◌, Err, OnOk, OnErr, IfErr, IsErrOf};
-ghost use Rattle.tf_desk.specs.Counts.{Rises};
+ghost use Rattle.tf_desk.specs.Crash.{Rises};
 ghost use Rattle.tf_ports.specs.Links.{sent_with, SendsPrefix};
 ghost use Rattle.tf_workers.specs.Dialogue.{spoken, told as told_by};
 ghost use Rattle.tf_workers.specs.Progress.{Answers, StopsFor};

@@ -1,12 +1,9 @@
 ghost use Rattle.std.specs.Prelude.{◌≡◌, ◌≢◌, ℕ, List, [], true, false, IsTrue, IfOk, IfErr};
 ghost use Rattle.tf_desk.specs.State.{bytes_now, Rests, GoesOn};
-ghost use Rattle.tf_journal.specs.Format.{is_unborn, title_of, unborn, journal_bytes};
-ghost use Rattle.tf_journal.specs.Rest.{IsAtRest, IsReady, LeavesBirth};
+ghost use Rattle.tf_journal.specs.Format.{is_unborn, title_of, unborn, journal_bytes, IsAtRest, IsReady, LeavesBirth};
 ghost use Rattle.tf_journal.specs.declared.title.Title.TheVariants.{Jobs as jobs_title};
 ghost use Rattle.tf_records.specs.Replaying.{FailsToReadBack};
-ghost use Rattle.tf_board.specs.Board.{board_in, bodies_of, IsRefusedCommand};
-ghost use Rattle.tf_board.specs.Loading.{desk_loaded, IsReadyBoard, IsLoadedBoard, FailsToMake, FailsToLoad, LeavesLoad};
-ghost use Rattle.tf_board.specs.Opening.{IsPicked, Opens};
+ghost use Rattle.tf_board.specs.Board.{board_in, bodies_of, IsRefusedCommand, desk_loaded, IsReadyBoard, IsLoadedBoard, FailsToMake, FailsToLoad, LeavesLoad, IsPicked, Opens};
 
 use super::Board;
 use crate::kept::Kept;

@@ -1,8 +1,7 @@
 ghost use Rattle.std.specs.Prelude.{◌≡◌, None};
-ghost use Rattle.tf_board.specs.Commands.{IsCommand};
-ghost use Rattle.tf_board.specs.Jobs.{refuses};
-ghost use Rattle.tf_board.specs.Kept.{IsChange};
-ghost use Rattle.tf_board.specs.Recording.{Records};
+ghost use Rattle.tf_board.specs.Jobs.{IsCommand, refuses};
+ghost use Rattle.tf_board.specs.Board.{IsChange};
+ghost use Rattle.tf_board.specs.Answers.{Records};
 
 use super::Board;
 use crate::commands::{Command, append_command};

@@ -1,6 +1,6 @@
 ghost use Rattle.std.specs.Prelude.{◌≡◌, ◌⊎◌, ℕ, List, [], None, Some, OnOk, OnErr, IfOk, IfErr, IsErrOf};
 ghost use Rattle.tf_desk.specs.State.{IsUnasked};
-ghost use Rattle.tf_report.specs.Report.{report as report_of};
+ghost use Rattle.tf_report.specs.Lines.{report as report_of};
 ghost use Rattle.tf_book.specs.Book.{BookValue, outline, moment};
 ghost use Rattle.tf_book.specs.Closed.{Closed};
 ghost use Rattle.tf_book.specs.Faults.{IsFault};

@@ -9,9 +9,7 @@ ghost use Rattle.tf_book.specs.Book.{BookValue, flow_state};
 ghost use Rattle.tf_book.specs.Faults.{IsFault};
 ghost use Rattle.tf_book.specs.SessionInvariant.{SessionInvariant, Proceeds};
 ghost use Rattle.tf_book.specs.Recording.{halt_after, failed_after, past_after};
-ghost use Rattle.tf_book.specs.Stopping.{limit_from};
-ghost use Rattle.tf_book.specs.Tried.{HasTried};
-ghost use Rattle.tf_book.specs.Turns.{IsEntering, IsEntered};
+ghost use Rattle.tf_book.specs.Turns.{limit_from, HasTried, IsEntering, IsEntered};
 
 use super::Book;
 use crate::faults::{BookFault, Halt};

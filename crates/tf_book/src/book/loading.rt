@@ -1,11 +1,10 @@
 ghost use Rattle.std.specs.Prelude.{◌≡◌, ◌≢◌, ◌≤◌, ℕ, List, [], None, false, IsTrue, IfOk, IfErr};
-ghost use Rattle.tf_desk.specs.Counts.{Rises};
+ghost use Rattle.tf_desk.specs.Crash.{Rises};
 ghost use Rattle.tf_desk.specs.State.{bytes_now, Rests};
-ghost use Rattle.tf_journal.specs.Format.{title_of, recovered};
-ghost use Rattle.tf_journal.specs.Rest.{IsAtRest, HasSynced, IsSynced};
+ghost use Rattle.tf_journal.specs.Format.{title_of, recovered, IsAtRest, HasSynced, IsSynced};
 ghost use Rattle.tf_journal.specs.declared.title.Title.TheVariants.{Book as book_title};
 ghost use Rattle.tf_records.specs.Replaying.{FailsToReadBack};
-ghost use Rattle.tf_book.specs.Loading.{CannotFollow, RefusesBook};
+ghost use Rattle.tf_book.specs.Book.{CannotFollow, RefusesBook};
 ghost use Rattle.tf_book.specs.Loaded.{desk_after_load, IsMade, IsLoadedFrom, IsLoaded};
 
 use super::Book;

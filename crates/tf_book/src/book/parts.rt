@@ -1,7 +1,6 @@
 ghost use Rattle.std.specs.Prelude.{◌≡◌, None, false, IsTrue, length};
 ghost use Rattle.tf_desk.specs.State.{bytes_now, IsDurable};
-ghost use Rattle.tf_journal.specs.Format.{title_of};
-ghost use Rattle.tf_journal.specs.Rest.{LiesAs};
+ghost use Rattle.tf_journal.specs.Format.{title_of, LiesAs};
 ghost use Rattle.tf_journal.specs.declared.title.Title.TheVariants.{Book as book_title};
 ghost use Rattle.tf_machine.specs.Machine.{StandsFor};
 ghost use Rattle.tf_book.specs.Book.{bodies_of, book_size};

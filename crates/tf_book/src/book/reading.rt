@@ -1,19 +1,15 @@
 ghost use Rattle.std.specs.Prelude.{◌≡◌, ◌≢◌, ◌<◌, ◌^◌, None, Some, true, false, ℕ, length, IsSome, IsTrue, IfOk, IfSome, option_map, is_some};
 ghost use Rattle.tf_states.specs.declared.state.FlowState.TheVariants as flow;
-ghost use Rattle.tf_hands.specs.Flight.{start_entry, action_in, task_of, end_by};
-ghost use Rattle.tf_model.specs.Candidates.{choice, end_of};
-ghost use Rattle.tf_model.specs.Forced.{forced as forced_entry};
-ghost use Rattle.tf_model.specs.Orders.{order_of};
-ghost use Rattle.tf_model.specs.Plan.{is_task};
+ghost use Rattle.tf_hands.specs.Hands.{start_entry, action_in, task_of, end_by};
+ghost use Rattle.tf_model.specs.Forced.{choice, end_of, forced as forced_entry};
+ghost use Rattle.tf_model.specs.Scope.{order_of};
+ghost use Rattle.tf_model.specs.Plan.{is_task, compile_refusal};
 ghost use Rattle.tf_model.specs.Steps.{Step, LegalPast, is_still};
-ghost use Rattle.tf_actions.specs.Whole.{IsWhole};
+ghost use Rattle.tf_actions.specs.Gives.{IsWhole};
 ghost use Rattle.tf_bound.specs.Short.{AreShort, IsWithinLimits};
-ghost use Rattle.tf_model.specs.Compilation.{compile_refusal};
-ghost use Rattle.tf_journal.specs.Format.{title_of};
-ghost use Rattle.tf_journal.specs.Rest.{LeavesBodies};
+ghost use Rattle.tf_journal.specs.Format.{title_of, LeavesBodies};
 ghost use Rattle.tf_journal.specs.declared.title.Title.TheVariants.{Book as book_title};
-ghost use Rattle.tf_book.specs.Book.{outline, moment, flow_state, bodies_of};
-ghost use Rattle.tf_book.specs.Loading.{IsHistoryOf};
+ghost use Rattle.tf_book.specs.Book.{outline, moment, flow_state, bodies_of, IsHistoryOf};
 ghost use Rattle.tf_book.specs.declared.faults.Halt.{Halt as Cause};
 
 use super::Book;

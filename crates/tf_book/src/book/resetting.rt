@@ -7,8 +7,7 @@ ghost use Rattle.tf_numbers.specs.Numbers.{first_below};
 ghost use Rattle.tf_book.specs.Book.{outline, moment, flow_state};
 ghost use Rattle.tf_book.specs.Faults.{IsFault};
 ghost use Rattle.tf_book.specs.SessionInvariant.{Proceeds};
-ghost use Rattle.tf_book.specs.Tried.{HasTriedToReset};
-ghost use Rattle.tf_book.specs.Resetting.{may_reset as may, IsPutBackBy, IsPutBackOn, IsPutBack};
+ghost use Rattle.tf_book.specs.Turns.{HasTriedToReset, may_reset as may, IsPutBackBy, IsPutBackOn, IsPutBack};
 ghost use Rattle.tf_book.specs.declared.faults.BookFault.{BookFault as Fault};
 ghost use Rattle.tf_book.specs.declared.faults.Halt.{Halt as Cause};
 

@@ -1,6 +1,6 @@
 ghost use Rattle.std.specs.Prelude.{◌≡◌, IfOk};
 ghost use Rattle.tf_book.specs.Book.{outline};
-ghost use Rattle.tf_book.specs.Showing.{history_text};
+ghost use Rattle.tf_book.specs.SessionInvariant.{history_text};
 
 use super::Book;
 use crate::showing::append_lines;

@@ -1,13 +1,11 @@
 ghost use Rattle.std.specs.Prelude.{◌≡◌, ◌≤◌, [], true, OnOk, IfOk, IfErr};
 ghost use Rattle.tf_desk.specs.State.{bytes_now, anything, Passes, GoesOn};
 ghost use Rattle.tf_entries.specs.Plans.{IsPlan};
-ghost use Rattle.tf_journal.specs.Format.{title_of, bodies, journal_bytes, recovered};
-ghost use Rattle.tf_journal.specs.Rest.{IsAtRest, IsOpen};
+ghost use Rattle.tf_journal.specs.Format.{title_of, bodies, journal_bytes, recovered, IsAtRest, IsOpen};
 ghost use Rattle.tf_journal.specs.declared.title.Title.TheVariants.{Book as book_title};
 ghost use Rattle.tf_machine.specs.Machine.{StandsFor};
 ghost use Rattle.tf_book.specs.Book.{bodies_of, book_size};
-ghost use Rattle.tf_book.specs.History.{past_shown, HasAllRoom, HasDraftRoom};
-ghost use Rattle.tf_book.specs.SessionInvariant.{IsExact};
+ghost use Rattle.tf_book.specs.SessionInvariant.{past_shown, HasAllRoom, HasDraftRoom, IsExact};
 ghost use Rattle.tf_book.specs.Starting.{HasNoRecord, begun_book, desk_started, LeavesPlan, FailsToAppendPlan, FailsToStart};
 
 use super::Book;

@@ -1,22 +1,17 @@
 ghost use Rattle.std.specs.Prelude.{◌≡◌, ◌⊎◌, ◌<◌, ◌≤◌, ◌-◌, None, Some, Ok, true, false, length, IsSome, IfOk, IfErr, OnOk, OnErr, IsErrOf};
 ghost use Rattle.tf_states.specs.declared.state.FlowState.TheVariants as flow;
-ghost use Rattle.tf_hands.specs.Flight.{start_entry, action_in, task_of};
-ghost use Rattle.tf_model.specs.Candidates.{choice, end_of};
-ghost use Rattle.tf_model.specs.Forced.{forced as forced_entry};
+ghost use Rattle.tf_hands.specs.Hands.{start_entry, action_in, task_of, by_hand};
+ghost use Rattle.tf_model.specs.Forced.{choice, end_of, forced as forced_entry};
 ghost use Rattle.tf_model.specs.Plan.{is_task};
-ghost use Rattle.tf_model.specs.Sessions.{is_last};
-ghost use Rattle.tf_model.specs.States.{flow_runs, flow_suspends};
-ghost use Rattle.tf_model.specs.Steps.{is_free, is_still};
-ghost use Rattle.tf_hands.specs.Hands.{by_hand};
+ghost use Rattle.tf_model.specs.Steps.{is_last, is_free, is_still};
+ghost use Rattle.tf_model.specs.History.{flow_runs, flow_suspends};
 ghost use Rattle.tf_states.specs.declared.record.What.TheVariants.{Flow as flow_turns};
-ghost use Rattle.tf_actions.specs.Whole.{IsWhole};
+ghost use Rattle.tf_actions.specs.Gives.{IsWhole};
 ghost use Rattle.tf_book.specs.Book.{BookValue, outline, moment, flow_state};
 ghost use Rattle.tf_book.specs.Faults.{IsFault};
 ghost use Rattle.tf_book.specs.SessionInvariant.{SessionInvariant, Proceeds, TakesTurn};
 ghost use Rattle.tf_book.specs.Recording.{halt_for_memory, halt_after, past_after};
-ghost use Rattle.tf_book.specs.Stopping.{is_to_stop, IsAnswered};
-ghost use Rattle.tf_book.specs.Tried.{HasTried, HasTriedToEnd};
-ghost use Rattle.tf_book.specs.Turns.{RanOn, RanUntilStop, IsForcedBy, IsForcedOn, IsStartedSo, IsStartOf, HasRested, IsClosedOr, HasStopped, IsStoppedOr, IsFinished, IsLessAfterStart, IsTurn, IsHaltedTurn, IsTurnAsked, IsHaltedTurnAsked, is_entered, end_now, suspending_after};
+ghost use Rattle.tf_book.specs.Turns.{is_to_stop, IsAnswered, HasTried, HasTriedToEnd, RanOn, RanUntilStop, IsForcedBy, IsForcedOn, IsStartedSo, IsStartOf, HasRested, IsClosedOr, HasStopped, IsStoppedOr, IsFinished, IsLessAfterStart, IsTurn, IsHaltedTurn, IsTurnAsked, IsHaltedTurnAsked, is_entered, end_now, suspending_after};
 ghost use Rattle.tf_book.specs.declared.faults.Halt.{Halt as Cause};
 ghost use Rattle.tf_states.specs.declared.record.Entry.{Entry as Record};
 
@@ -53,9 +48,8 @@ impl<K: Desk> Book<K> {
         ensures cut { OnErr result (IsForcedBy (outline self.old) hand self.old.past self.new.past
             ⊎ (self.new.past ≡ self.old.past)) }
         ensures running { OnOk result (flow_state self.new ≡ flow.Running) }
-        ensures sound { OnOk result (self.new.halt ≡ None) }
         ensures tried { OnErr result (HasTried hand self.new) }
-        ensures halt { IfErr result (λ halt. self.new.halt ≡ Some halt) }
+        ensures halt { self.new.halt ≡ halt_after result }
         ensures no_more { 67108864 - self.new.journal.size ≤ 67108864 - self.old.journal.size }
         ensures less { result ≡ Ok true → 67108864 - self.new.journal.size < 67108864 - self.old.journal.size }
     {
@@ -123,9 +117,8 @@ impl<K: Desk> Book<K> {
         ensures started { IfOk result (IsStartOf (outline self.old) hand self.old.past self.new.past start) }
         ensures cut { OnErr result (IsStartedSo (outline self.old) hand self.old.past self.new.past start
             ⊎ (self.new.past ≡ self.old.past)) }
-        ensures sound { OnOk result (self.new.halt ≡ None) }
         ensures tried { OnErr result (HasTried hand self.new) }
-        ensures halt { IfErr result (λ halt. self.new.halt ≡ Some halt) }
+        ensures halt { self.new.halt ≡ halt_after result }
         ensures less { OnOk result (67108864 - self.new.journal.size < 67108864 - self.old.journal.size) }
     {
         let Ok(order) = self.order(&start) else {

@@ -1,11 +1,25 @@
 -- How a document is read: what a part of it spells, or the first reason why it spells nothing.
-use Rattle.std.specs.Prelude.{◌≡◌, ℕ, suc, List, [], ◌∷◌, Bool, true, false, is_some, Option, Some, None, Result, Ok, Err, if◌then◌else◌}
+use Rattle.std.specs.Prelude.{ℕ, List, [], ◌∷◌, ◌++◌, if◌then◌else◌, ◌≡◌, suc, Bool, true, false, is_some, Option, Some, None, Result, Ok, Err}
+use Rattle.tf_values.specs.Text.{is_name}
+use Rattle.tf_values.specs.Value.{quoted}
 use Rattle.std.specs.Fmt.{decimal}
-use Rattle.tf_flow.specs.Names.{same_name, is_among}
-use Rattle.tf_files.specs.document.Paths.{below, step_of}
+use Rattle.tf_flow.specs.Tree.{same_name, is_among}
 use Rattle.tf_files.specs.declared.document.faults.FileFault.{FileFault}
 use Rattle.tf_files.specs.declared.document.faults.FileFault.TheVariants as fault
 use Rattle.toml.specs.Data.{Data, as_str, as_array, Items, no_items, item, Members, no_members, member, get_member}
+
+-- ---- where a value stands in a document: keys and numbers of items, with dots between
+
+-- one step further in; the document itself has the empty path
+abbrev pub below : List ℕ → List ℕ → List ℕ
+below [] step = step
+below (byte ∷ path) step = (byte ∷ path) ++ 46 ∷ step
+
+-- the step of a key: itself where it is a name, else its quoted form
+abbrev pub step_of : List ℕ → List ℕ
+step_of key = if is_name key then key else quoted key
+
+-- ---- how a document is read: what a part of it spells, or the first reason why it spells nothing
 
 -- reading goes on with what was read
 abbrev pub chain : {A B : Type 0} → Result A FileFault → (A → Result B FileFault) → Result B FileFault

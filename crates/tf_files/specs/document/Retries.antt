@@ -3,12 +3,12 @@ use Rattle.std.specs.Prelude.{ℕ, ℤ, pos, int_le, unsigned_abs, List, [], ◌
 use Rattle.tf_values.specs.declared.elements.Scalar.{Scalar}
 use Rattle.tf_values.specs.declared.value.Val.{Val}
 use Rattle.tf_values.specs.declared.value.Val.TheVariants as value
-use Rattle.tf_flow.specs.Names.{same_name}
+use Rattle.tf_flow.specs.Tree.{same_name}
 use Rattle.tf_flow.specs.declared.atoms.Retry.{Retry}
 use Rattle.tf_flow.specs.declared.atoms.RetryKind.{RetryKind}
 use Rattle.tf_flow.specs.declared.atoms.RetryKind.TheVariants as kind
 use Rattle.tf_files.specs.document.Reading.{chain, has_text, known_only, required, optional, of_kind}
-use Rattle.tf_files.specs.document.Signatures.{signature_form}
+use Rattle.tf_files.specs.document.Tasks.{signature_form}
 use Rattle.tf_files.specs.document.Values.{name_form, value_at}
 use Rattle.tf_files.specs.declared.document.faults.FileFault.{FileFault}
 use Rattle.tf_files.specs.declared.document.faults.FileFault.TheVariants as fault

@@ -1,15 +1,13 @@
 -- The names and values that stand in a document.
 use Rattle.std.specs.Prelude.{ℕ, List, [], ◌∷◌, Option, Some, None, option_map, option_and_then, Result, Ok, Err, if◌then◌else◌}
-use Rattle.tf_values.specs.Name.{is_name}
+use Rattle.tf_values.specs.Text.{is_name, is_text}
 use Rattle.tf_values.specs.Scalars.{are_scalars}
-use Rattle.tf_values.specs.Text.{is_text}
 use Rattle.tf_values.specs.declared.elements.Scalar.{Scalar}
 use Rattle.tf_values.specs.declared.elements.Scalar.TheVariants as scalar
 use Rattle.tf_values.specs.declared.value.Val.{Val}
 use Rattle.tf_values.specs.declared.value.Val.TheVariants as value
 use Rattle.tf_flow.specs.declared.atoms.Bind.{Bind}
-use Rattle.tf_files.specs.document.Paths.{below, step_of}
-use Rattle.tf_files.specs.document.Reading.{chain, of_kind, array_of, put_first}
+use Rattle.tf_files.specs.document.Reading.{below, step_of, chain, of_kind, array_of, put_first}
 use Rattle.tf_files.specs.declared.document.faults.FileFault.{FileFault}
 use Rattle.tf_files.specs.declared.document.faults.FileFault.TheVariants as fault
 use Rattle.toml.specs.Data.{Data, string, integer, boolean, array, as_str, as_table, Items, no_items, item, Members, no_members, member}

@@ -2,8 +2,8 @@ ghost use Rattle.std.specs.Prelude.{◌≡◌, ◌++◌, IfOk, OnOk, List, ℕ, 
 ghost use Rattle.std.specs.List.{list_any};
 ghost use Rattle.indexmap.specs.IndexMap.{get as found_in};
 ghost use Rattle.indexmap.specs.IndexSet.{contains as has};
-ghost use Rattle.tf_flow.specs.Names.{same_name, is_among as among};
-ghost use Rattle.tf_files.specs.document.Signatures.{arguments_of, named_arguments as arguments_named, required_argument, symbol_for as symbol_of, is_additional, speaks_of as speaks, is_unnamed, injected_argument};
+ghost use Rattle.tf_flow.specs.Tree.{same_name, is_among as among};
+ghost use Rattle.tf_files.specs.document.Tasks.{arguments_of, named_arguments as arguments_named, required_argument, symbol_for as symbol_of, is_additional, speaks_of as speaks, is_unnamed, injected_argument};
 
 use indexmap::{IndexMap, IndexSet};
 use std::alloc::Global;

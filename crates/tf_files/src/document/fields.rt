@@ -1,8 +1,7 @@
 ghost use Rattle.std.specs.Prelude.{◌≡◌, Some, Ok, IfOk, IfErr, IfSome, OnOk, map, option_map};
 ghost use Rattle.std.specs.Fmt.{decimal};
-ghost use Rattle.tf_flow.specs.Names.{is_among};
-ghost use Rattle.tf_files.specs.document.Paths.{below};
-ghost use Rattle.tf_files.specs.document.Reading.{RefusesWith, known_only as read_known, unknown_key as first_unknown, required_at, of_kind, has_key as key_is_there, has_text as text_is_there, same_text as is_that_text};
+ghost use Rattle.tf_flow.specs.Tree.{is_among};
+ghost use Rattle.tf_files.specs.document.Reading.{below, RefusesWith, known_only as read_known, unknown_key as first_unknown, required_at, of_kind, has_key as key_is_there, has_text as text_is_there, same_text as is_that_text};
 ghost use Rattle.toml.specs.Data.{get_member, as_str, as_array, as_table};
 ghost use Rattle.toml.specs.View.{view, items_view, table_view};
 

@@ -1,5 +1,5 @@
 ghost use Rattle.std.specs.Prelude.{◌≡◌, [], IfOk};
-ghost use Rattle.tf_files.specs.document.Paths.{below, step_of};
+ghost use Rattle.tf_files.specs.document.Reading.{below, step_of};
 
 use std::alloc::Global;
 use std::marker::Model;

@@ -1,6 +1,6 @@
 ghost use Rattle.std.specs.Prelude.{◌≡◌, Ok, IfOk, IfErr};
 ghost use Rattle.tf_files.specs.document.Reading.{RefusesWith};
-ghost use Rattle.tf_files.specs.document.Signatures.{rebind_form as rebind_spelled, rebounds_of as rebounds_spelled, rebound_form as rebound_spelled};
+ghost use Rattle.tf_files.specs.document.Tasks.{rebind_form as rebind_spelled, rebounds_of as rebounds_spelled, rebound_form as rebound_spelled};
 ghost use Rattle.toml.specs.View.{view, table_view};
 
 use crate::document::faults::FileFault;

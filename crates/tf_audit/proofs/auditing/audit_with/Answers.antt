@@ -1,7 +1,7 @@
 use Rattle.std.proofs.Common.{◌≡◌, ◌∷◌, Option, subst, arith, ◌∙◌}
 use Rattle.tf_machine.specs.Machine.{outline}
 use Rattle.tf_audit.specs.declared.verdicts.Why.{Why}
-use Rattle.tf_audit.specs.LogLines.{log_lines}
+use Rattle.tf_audit.specs.Verdicts.{log_lines}
 use Rattle.tf_audit.specs.Progress.{TakesLine}
 use Rattle.tf_audit.proofs.ProgressLemmas.{followed_more, followed_bad, followed_all}
 use Rattle.tf_audit.proofs.auditing.audit_with.Goals as goal

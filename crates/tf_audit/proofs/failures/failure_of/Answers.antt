@@ -1,5 +1,5 @@
 use Rattle.std.proofs.Common.{List, ℕ, Some, ap, ◌∙◌}
-use Rattle.tf_values.specs.Name.{is_name}
+use Rattle.tf_values.specs.Text.{is_name}
 use Rattle.tf_audit.proofs.EventLemmas.{failure_read}
 use Rattle.tf_audit.proofs.NameLemmas.{made_name}
 use Rattle.tf_audit.proofs.failures.failure_of.Goals as goal

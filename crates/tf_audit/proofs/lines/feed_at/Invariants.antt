@@ -1,5 +1,5 @@
 use Rattle.std.proofs.Common.{◌≡◌, true, take}
-use Rattle.tf_audit.specs.LogLines.{is_unfed}
+use Rattle.tf_audit.specs.Verdicts.{is_unfed}
 use Rattle.tf_audit.proofs.lines.feed_at.Given as goal
 
 abbrev pub invariant-loop-at : goal.invariant-loop-at

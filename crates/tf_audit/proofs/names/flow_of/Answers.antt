@@ -1,5 +1,5 @@
 use Rattle.std.proofs.Common.{List, ℕ, position, ap, ◌∙◌}
-use Rattle.tf_flow.specs.Names.{same_name}
+use Rattle.tf_flow.specs.Tree.{same_name}
 use Rattle.tf_flow.specs.Plan as numbering
 use Rattle.tf_audit.proofs.NameLemmas.{flow_found}
 use Rattle.tf_audit.proofs.names.flow_of.Goals as goal

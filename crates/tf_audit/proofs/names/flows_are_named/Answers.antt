@@ -1,6 +1,6 @@
 use Rattle.std.proofs.Common.{◌≡◌, true, sym, ap, ◌∙◌}
 use borrow.Author.Count.{below_more}
-use Rattle.tf_values.specs.Name.{is_name}
+use Rattle.tf_values.specs.Text.{is_name}
 use Rattle.tf_model.specs.Plan.{outline_of}
 use Rattle.tf_report.specs.Lines.{flow_name}
 use Rattle.tf_report.proofs.LineLemmas.{flow_named}

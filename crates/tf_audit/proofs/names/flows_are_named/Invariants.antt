@@ -1,5 +1,5 @@
 use Rattle.std.proofs.Common.{◌≡◌, ◌<◌, ℕ, true}
-use Rattle.tf_values.specs.Name.{is_name}
+use Rattle.tf_values.specs.Text.{is_name}
 use Rattle.tf_model.specs.Plan.{outline_of}
 use Rattle.tf_report.specs.Lines.{flow_name}
 use Rattle.tf_audit.proofs.names.flows_are_named.Given as goal

@@ -2,7 +2,7 @@ use Rattle.std.proofs.Common.{refl, subst}
 use Rattle.std.specs.Prelude.{IsTrue}
 use Rattle.tf_journal.specs.Start.{file_of}
 use Rattle.tf_journal.specs.declared.faults.LoadFault.{LoadFault}
-use Rattle.tf_report.specs.Faults.{not_a_book}
+use Rattle.tf_report.specs.Closing.{not_a_book}
 use Rattle.tf_board.specs.Board.{board_in, IsNoBoard, RefusesBoard}
 use Rattle.tf_board.specs.Does.{unopened_memory, unopened_disk, no_board}
 use Rattle.tf_board.proofs.EndLemmas.{unopened_stops, no_board_stays, concludes_none}

@@ -1,6 +1,6 @@
 use Rattle.std.proofs.Common.{◌≡◌}
 use Rattle.tf_values.specs.declared.faults.MakeFault.TheVariants as fault
-use Rattle.tf_book.specs.Loading.{no_run}
+use Rattle.tf_book.specs.Book.{no_run}
 use Rattle.tf_book.proofs.recovering.read_plan.Goals as goal
 
 pub returns-in-Err-clause-refused : goal.returns-in-Err-clause-refused

@@ -1,5 +1,5 @@
 use Rattle.std.proofs.Common.{sym, ◌∙◌}
-use Rattle.tf_commands.specs.Accepted.{misspelled}
+use Rattle.tf_commands.specs.Asking.{misspelled}
 use Rattle.tf_commands.proofs.accepting.read.Goals as goal
 
 pub returns-else-is_memory-clause-refused : goal.returns-else-is_memory-clause-refused

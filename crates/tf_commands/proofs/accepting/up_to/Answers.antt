@@ -1,8 +1,7 @@
 use Rattle.std.proofs.Common.{Some, subst, sym}
-use Rattle.tf_flow.specs.Plan.{PlanValue}
-use Rattle.tf_flow.specs.Written.{plan_tree}
+use Rattle.tf_flow.specs.Plan.{PlanValue, plan_tree}
 use Rattle.tf_target.specs.Target.{target_refusal, IsTargetAnswer}
-use Rattle.tf_commands.specs.Accepted.{IsReason}
+use Rattle.tf_commands.specs.Asking.{IsReason}
 use Rattle.tf_commands.specs.declared.accepting.Refusal.{Refusal}
 use Rattle.tf_commands.proofs.AcceptLemmas.{target_refused}
 use Rattle.tf_commands.proofs.accepting.up_to.Goals as goal

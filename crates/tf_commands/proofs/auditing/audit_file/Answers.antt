@@ -1,5 +1,5 @@
 use Rattle.tf_commands.proofs.CourseLemmas.{done_file, undone_file}
-use Rattle.tf_commands.specs.Auditing.{Audits}
+use Rattle.tf_commands.specs.Messages.{Audits}
 use Rattle.tf_commands.proofs.auditing.audit_file.Goals as goal
 
 pub returns-in-Ok-clause-audited : goal.returns-in-Ok-clause-audited

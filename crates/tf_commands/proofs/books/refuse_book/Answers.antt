@@ -1,8 +1,8 @@
 use Rattle.std.proofs.Common.{refl, subst, ⊎_elim}
 use Rattle.tf_journal.specs.declared.faults.LoadFault.{LoadFault}
-use Rattle.tf_book.specs.Loading.{RefusesBook}
+use Rattle.tf_book.specs.Book.{RefusesBook}
 use Rattle.tf_commands.specs.Books.{exhausted, disk_failed, no_book}
-use Rattle.tf_commands.specs.Durable.{book_at}
+use Rattle.tf_commands.specs.Run.{book_at}
 use Rattle.tf_commands.proofs.AloneLemmas.{stops_untouched, refuses_untouched}
 use Rattle.tf_commands.proofs.books.refuse_book.Goals.{in-Disk, in-Memory}
 use Rattle.tf_commands.proofs.books.refuse_book.Goals as goal

@@ -1,7 +1,7 @@
 use Rattle.std.proofs.Common.{◌≡◌, ℕ, [], refl, inl, inr, ap, sym, subst}
-use Rattle.tf_desk.specs.Counts.{Rises}
+use Rattle.tf_desk.specs.Crash.{Rises}
 use Rattle.tf_commands.specs.Books.{Promised}
-use Rattle.tf_report.specs.Faults.{disk_fault_text}
+use Rattle.tf_report.specs.Closing.{disk_fault_text}
 use Rattle.tf_commands.specs.Begun.{SaysUnbegun}
 use Rattle.tf_commands.proofs.HaltLemmas.{says_nothing}
 use Rattle.tf_commands.proofs.PromiseLemmas.{unbegun_promised}

@@ -1,6 +1,6 @@
 use Rattle.std.proofs.Common.{◌≡◌, false, ⊎_elim, ◌∙◌, ap, sym, subst}
 use Rattle.std.specs.Prelude.{IsTrue, None}
-use Rattle.tf_journal.specs.Rest.{IsOpen}
+use Rattle.tf_journal.specs.Format.{IsOpen}
 use Rattle.tf_book.specs.Book.{BookValue}
 use Rattle.tf_commands.specs.Begun.{Unbegun}
 use Rattle.tf_commands.proofs.BeginLemmas.{begins_on, failed_unbegun, no_record_left, not_halted, start_fails, start_failed}

@@ -1,8 +1,8 @@
 use Rattle.std.proofs.Common.{subst}
-use Rattle.tf_flow.specs.Written.{PlanTree}
+use Rattle.tf_flow.specs.Plan.{PlanTree}
 use Rattle.tf_ports.specs.declared.crews.Want.TheVariants as want
 use Rattle.tf_commands.specs.Books.{Runs, demonstrated}
-use Rattle.tf_commands.specs.Causes.{WasAsked}
+use Rattle.tf_commands.specs.Asking.{WasAsked}
 use Rattle.tf_commands.specs.Run.{unspoken}
 use Rattle.tf_commands.proofs.demoing.demo_book.Goals as goal
 

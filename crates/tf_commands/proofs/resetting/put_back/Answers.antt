@@ -1,6 +1,6 @@
 use Rattle.std.proofs.Common.{◌≡◌, ◌∙◌, sym, ap, arith, None, Some, Err}
 use Rattle.tf_book.specs.Book.{BookValue, outline, moment}
-use Rattle.tf_book.specs.Resetting.{may_reset}
+use Rattle.tf_book.specs.Turns.{may_reset}
 use Rattle.tf_book.specs.declared.faults.Halt.TheVariants as halt
 use Rattle.tf_book.proofs.InvariantLemmas.{keeps_none}
 use Rattle.tf_book.proofs.TriedLemmas.{unhalted_tried}

@@ -1,5 +1,5 @@
 use Rattle.std.proofs.Common.{arith}
-use Rattle.tf_commands.specs.Causes.{WasAsked}
+use Rattle.tf_commands.specs.Asking.{WasAsked}
 use Rattle.tf_commands.proofs.CountLemmas.{reaches_itself, ran_causes}
 use Rattle.tf_commands.proofs.ResumeLemmas.{ended_so, ended_on, ended_goes}
 use Rattle.tf_commands.proofs.resuming.go_on.Goals as goal

@@ -1,5 +1,5 @@
 use Rattle.std.proofs.Common.{refl, inl, inr, sym, subst, arith}
-use Rattle.tf_book.specs.Loading.{CanRun}
+use Rattle.tf_book.specs.Book.{CanRun}
 use Rattle.tf_commands.specs.Books.{unopened_again, empty}
 use Rattle.tf_commands.proofs.BookLemmas.{resumed_over, untouched_by}
 use Rattle.tf_commands.proofs.AskedLemmas.{resumes_more}

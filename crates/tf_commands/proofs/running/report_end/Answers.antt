@@ -1,6 +1,6 @@
 use Rattle.std.proofs.Common.{ap, sym, length, Bool, if◌then◌else◌, [], Err}
 use Rattle.tf_book.specs.Book.{BookValue, outline, moment}
-use Rattle.tf_report.specs.Report.{report}
+use Rattle.tf_report.specs.Lines.{report}
 use Rattle.tf_commands.specs.Messages.{summary}
 use Rattle.tf_report.specs.declared.statuses.TheConstants.{UNSAID, OUT_OF_MEMORY}
 use Rattle.tf_commands.proofs.ReportLemmas.{closing_said, closing_cut, closing_left, status_said, status_cut, status_left, fault_out, fault_memory}

@@ -1,6 +1,6 @@
 use Rattle.std.proofs.Common.{subst}
 use Rattle.tf_flow.specs.Plan.{PlanValue}
-use Rattle.tf_book.specs.Loading.{IsHistoryOf}
+use Rattle.tf_book.specs.Book.{IsHistoryOf}
 use Rattle.tf_book.proofs.InvariantLemmas.{keeps_none}
 use Rattle.tf_commands.proofs.AskedLemmas.{session_more}
 use Rattle.tf_commands.proofs.CountLemmas.{rises_until}

@@ -1,6 +1,6 @@
 use Rattle.std.proofs.Common.{sym, refl}
 use Rattle.tf_book.specs.declared.faults.Halt.TheVariants as halt
-use Rattle.tf_report.specs.Faults.{disk_fault_text}
+use Rattle.tf_report.specs.Closing.{disk_fault_text}
 use Rattle.tf_report.specs.declared.statuses.TheConstants.{OUT_OF_MEMORY, UNSAID}
 use Rattle.tf_commands.proofs.HaltLemmas.{halt_spoken, halt_unspoken, apart_closes}
 use Rattle.tf_commands.proofs.running.say_cause.Goals as goal

@@ -1,7 +1,7 @@
 use Rattle.std.proofs.Common.{◌≡◌, sym, ap, ◌∙◌, ◌++◌, length, Bool, if◌then◌else◌, [], None, Some}
 use Rattle.tf_book.specs.Book.{outline, moment}
 use Rattle.tf_book.specs.declared.faults.Halt.TheVariants as halt
-use Rattle.tf_report.specs.Report.{report}
+use Rattle.tf_report.specs.Lines.{report}
 use Rattle.tf_commands.specs.Messages.{summary}
 use Rattle.tf_commands.proofs.ReportLemmas.{closed_sound}
 use Rattle.tf_commands.proofs.RunLemmas.{sums_run, stops_run}

@@ -1,4 +1,4 @@
-use Rattle.tf_commands.specs.Working.{worked, unopened}
+use Rattle.tf_commands.specs.Messages.{worked, unopened}
 use Rattle.tf_commands.proofs.working.listen_and_serve.Goals as goal
 
 pub returns-in-Ok-clause-works : goal.returns-in-Ok-clause-works

@@ -1,6 +1,6 @@
 use Rattle.std.proofs.Common.{ℕ, List, inr, refl, subst}
-use Rattle.tf_desk.specs.Shown.{ShowsPrefix}
-use Rattle.tf_commands.specs.Working.{unsaid_next}
+use Rattle.tf_desk.specs.Crash.{ShowsPrefix}
+use Rattle.tf_commands.specs.Messages.{unsaid_next}
 use Rattle.tf_commands.proofs.WorkLemmas.{over_where, printed, says_only}
 use Rattle.tf_commands.proofs.working.say_end.Goals as goal
 

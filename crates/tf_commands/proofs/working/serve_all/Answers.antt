@@ -1,5 +1,5 @@
 use Rattle.std.proofs.Common.{◌≡◌, ◌+◌, ◌∷◌, [], ◌++◌, refl, ap, ◌∙◌, arith}
-use Rattle.tf_commands.specs.Working.{all_served}
+use Rattle.tf_commands.specs.Messages.{all_served}
 use Rattle.tf_commands.proofs.WorkLemmas.{says_none, says_more, says_itself, says_on, serves_so_far, length_more, stop_later}
 use Rattle.tf_commands.proofs.working.serve_all.Goals as goal
 

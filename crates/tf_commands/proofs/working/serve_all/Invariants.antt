@@ -1,7 +1,7 @@
 use Rattle.std.proofs.Common.{◌≡◌, ◌≤◌, List, length}
 use Rattle.tf_workers.specs.declared.serving.ServeEnd.{ServeEnd}
-use Rattle.tf_commands.specs.Saying.{OnlySays}
-use Rattle.tf_commands.specs.Working.{SaysSessions}
+use Rattle.tf_commands.specs.Run.{OnlySays}
+use Rattle.tf_commands.specs.Messages.{SaysSessions}
 use Rattle.tf_commands.proofs.working.serve_all.Given as goal
 
 abbrev pub invariant-loop-number : goal.invariant-loop-number

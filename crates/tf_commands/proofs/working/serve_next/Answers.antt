@@ -1,4 +1,4 @@
-use Rattle.tf_commands.specs.Working.{no_next_link}
+use Rattle.tf_commands.specs.Messages.{no_next_link}
 use Rattle.tf_commands.proofs.working.serve_next.Goals as goal
 
 pub returns-in-Err-Failed-clause-stopped : goal.returns-in-Err-Failed-clause-stopped

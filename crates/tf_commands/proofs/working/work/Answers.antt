@@ -1,4 +1,4 @@
-use Rattle.tf_commands.specs.Working.{unhired}
+use Rattle.tf_commands.specs.Messages.{unhired}
 use Rattle.tf_commands.proofs.working.work.Goals as goal
 
 pub returns-in-Some-clause-works : goal.returns-in-Some-clause-works

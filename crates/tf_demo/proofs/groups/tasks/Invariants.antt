@@ -1,7 +1,6 @@
 use Rattle.std.proofs.Common.{◌≡◌, ◌≤◌, ◌+◌, ◌-◌, ◌++◌, map}
 use Rattle.tf_flow.specs.Tree.{item_tree}
-use Rattle.tf_demo.specs.Draws.{after}
-use Rattle.tf_demo.specs.Demo.{tasks_from}
+use Rattle.tf_demo.specs.Demo.{after, tasks_from}
 use Rattle.tf_demo.proofs.groups.tasks.Given as goal
 
 -- the tasks so far, followed by those of what is left, are all of them

@@ -1,15 +1,14 @@
 use Rattle.std.proofs.Common.{refl, arith, subst, sym, ℕ, List, Option}
 use Rattle.std.specs.Prelude.{IfSome, IfNone}
 use Rattle.tf_flow.specs.Plan.{PlanValue}
-use Rattle.tf_desk.specs.Counts.{Rises}
-use Rattle.tf_hands.specs.Hands.{HasOrder, IsAlone}
+use Rattle.tf_desk.specs.Crash.{Rises}
+use Rattle.tf_hands.specs.Hands.{HasOrder, IsAlone, orders}
 use Rattle.tf_hands.proofs.FlightLemmas.{still_free}
 use Rattle.tf_model.specs.Plan.{outline_of}
 use Rattle.tf_model.specs.Steps.{LegalPast}
 use Rattle.tf_engines.specs.Runs.{IsUnderWay, HasRun}
 use Rattle.tf_engines.specs.declared.engine.How.{How}
 use Rattle.tf_actions.specs.declared.orders.Order.{Order}
-use Rattle.tf_hands.specs.Hands.{orders}
 use Rattle.tf_engines.specs.Asked.{HasDone, HasToDo, HasDoneBy}
 use Rattle.tf_engines.proofs.FailLemmas.{turn_failed, unhalted_might}
 use Rattle.tf_engines.proofs.OrderLemmas.{started_to_do, ended_done, suspended_done, halted_done, halted_asks}

@@ -1,6 +1,6 @@
 use Rattle.std.proofs.Common.{arith, vec_capacity}
 use Rattle.std.proofs.lemmas.Result.{err_from_is_err_and}
-use Rattle.tf_values.specs.ByteForm.{scalar_bytes}
+use Rattle.tf_values.specs.Scalars.{scalar_bytes}
 use Rattle.tf_entries.proofs.AppendLemmas.{no_room}
 use Rattle.tf_entries.proofs.appending.append_scalars.Goals as goal
 

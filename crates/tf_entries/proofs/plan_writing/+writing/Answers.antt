@@ -1,7 +1,6 @@
 use Rattle.std.proofs.Common.{◌++◌, ◌∷◌}
 use Rattle.std.proofs.lemmas.Result.{on_ok_weaker}
-use Rattle.tf_entries.specs.Fields.{name_bytes, listed}
-use Rattle.tf_entries.specs.Plans.{flow_kind_byte, control_bytes}
+use Rattle.tf_entries.specs.Plans.{name_bytes, listed, flow_kind_byte, control_bytes}
 use Rattle.tf_entries.specs.Shown.{item_bytes, link_bytes}
 use Rattle.tf_entries.proofs.AppendLemmas.{three_parts}
 use Rattle.tf_entries.proofs.ShownLemmas.{flow_bytes, flow_is_tree}

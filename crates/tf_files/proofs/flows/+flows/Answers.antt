@@ -1,12 +1,11 @@
 use Rattle.std.proofs.Common.{◌≡◌, map, [], ◌∷◌, codes, IfSome, option_map, subst}
 use Rattle.std.proofs.lemmas.List.{map-append}
 use Rattle.tf_files.proofs.ReadingLemmas.{each_turn, optional_refuses}
-use Rattle.tf_files.specs.document.Reading.{each, array_of}
-use Rattle.tf_files.specs.document.Paths.{below}
+use Rattle.tf_files.specs.document.Reading.{each, array_of, below}
 use Rattle.tf_files.specs.declared.document.fields.Field.{Field}
 use Rattle.toml.specs.Data.{get_member}
 use Rattle.tf_files.specs.FlowFile.{item_form}
-use Rattle.tf_flow.specs.Written.{item_as_written}
+use Rattle.tf_flow.specs.Plan.{item_as_written}
 use Rattle.toml.specs.View.{view, items_view, table_view}
 use Rattle.tf_files.proofs.flows.+flows.Goals as goal
 

@@ -2,7 +2,7 @@ use Rattle.std.proofs.Common.{◌≡◌, ◌+◌, ◌*◌, map}
 use Rattle.tf_files.specs.document.Reading.{each}
 use Rattle.tf_files.proofs.ReadingLemmas.{after, each_from}
 use Rattle.tf_files.specs.FlowFile.{item_form}
-use Rattle.tf_flow.specs.Written.{item_as_written}
+use Rattle.tf_flow.specs.Plan.{item_as_written}
 use Rattle.toml.specs.View.{items_view}
 use Rattle.tf_files.proofs.flows.+flows.Given as goal
 

@@ -1,6 +1,6 @@
 use Rattle.std.proofs.lemmas.Result.{err_from_is_err_and}
 use Rattle.tf_flow.specs.Tree.{tree_of}
-use Rattle.tf_flow.specs.Written.{as_written}
+use Rattle.tf_flow.specs.Plan.{as_written}
 use Rattle.toml.specs.View.{table_view}
 use Rattle.tf_files.proofs.RootLemmas.{root_read, root_stops}
 use Rattle.tf_files.proofs.flows.root_form.Goals as goal

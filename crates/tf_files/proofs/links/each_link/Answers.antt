@@ -1,6 +1,6 @@
 use Rattle.std.proofs.Common.{map, [], ◌∷◌}
 use Rattle.std.proofs.lemmas.List.{map-append}
-use Rattle.tf_flow.specs.Conditions.{connection_of}
+use Rattle.tf_flow.specs.Outline.{connection_of}
 use Rattle.tf_files.proofs.ReadingLemmas.{each_turn}
 use Rattle.tf_files.specs.document.Reading.{each}
 use Rattle.tf_files.specs.FlowFile.{link_form}

@@ -1,5 +1,5 @@
 use Rattle.std.proofs.Common.{◌≡◌, map}
-use Rattle.tf_flow.specs.Conditions.{connection_of}
+use Rattle.tf_flow.specs.Outline.{connection_of}
 use Rattle.tf_files.specs.document.Reading.{each}
 use Rattle.tf_files.proofs.ReadingLemmas.{after, each_from}
 use Rattle.tf_files.specs.FlowFile.{link_form}

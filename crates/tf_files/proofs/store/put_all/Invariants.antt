@@ -1,6 +1,6 @@
 use Rattle.std.proofs.Common.{◌≡◌, map, drop}
 use Rattle.indexmap.specs.IndexMap.{insert_all}
-use Rattle.tf_flow.specs.Names.{same_name}
+use Rattle.tf_flow.specs.Tree.{same_name}
 use Rattle.tf_files.specs.Pairs.{pair_of}
 use Rattle.tf_files.proofs.store.put_all.Given as goal
 

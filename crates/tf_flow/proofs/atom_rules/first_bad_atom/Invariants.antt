@@ -1,5 +1,5 @@
 use Rattle.std.proofs.Common.{◌≡◌, drop}
-use Rattle.tf_flow.specs.Names.{first_some}
+use Rattle.tf_flow.specs.Tree.{first_some}
 use Rattle.tf_flow.specs.Rules as rule
 use Rattle.tf_flow.specs.Shown.{shown_places}
 use Rattle.tf_flow.proofs.atom_rules.first_bad_atom.Given as goal

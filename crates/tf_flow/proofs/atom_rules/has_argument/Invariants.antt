@@ -1,5 +1,5 @@
 use Rattle.std.proofs.Common.{◌≡◌, drop}
-use Rattle.tf_flow.specs.Names.{is_among}
+use Rattle.tf_flow.specs.Tree.{is_among}
 use Rattle.tf_flow.specs.Rules as rule
 use Rattle.tf_flow.proofs.atom_rules.has_argument.Given as goal
 

@@ -1,5 +1,5 @@
 use Rattle.std.proofs.Common.{◌≡◌, take, sum_by}
-use Rattle.tf_flow.specs.ByteLength as form
+use Rattle.tf_flow.specs.Limits as form
 use Rattle.tf_flow.specs.Limits.{capped}
 use Rattle.tf_flow.proofs.byte_length.links_len.Given as goal
 

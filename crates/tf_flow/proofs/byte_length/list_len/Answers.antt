@@ -1,7 +1,7 @@
 use Rattle.std.proofs.Common.{◌≡◌, ◌+◌, arith, length, refl}
 use Rattle.std.proofs.lemmas.Grind.{common_steps}
 use Rattle.std.specs.List.{flat_map}
-use Rattle.tf_values.specs.ByteForm.{scalar_bytes}
+use Rattle.tf_values.specs.Scalars.{scalar_bytes}
 use Rattle.tf_flow.specs.Limits.{capped}
 use Rattle.tf_flow.proofs.byte_length.list_len.Goals as goal
 

@@ -1,6 +1,6 @@
 use Rattle.std.proofs.Common.{◌≡◌, take, length}
 use Rattle.std.specs.List.{flat_map}
-use Rattle.tf_values.specs.ByteForm.{scalar_bytes}
+use Rattle.tf_values.specs.Scalars.{scalar_bytes}
 use Rattle.tf_flow.specs.Limits.{capped}
 use Rattle.tf_flow.proofs.byte_length.list_len.Given as goal
 

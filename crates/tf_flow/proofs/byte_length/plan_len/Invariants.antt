@@ -1,6 +1,5 @@
 use Rattle.std.proofs.Common.{◌≡◌, take, sum_by}
-use Rattle.tf_flow.specs.ByteLength.{place_len}
-use Rattle.tf_flow.specs.Limits.{capped}
+use Rattle.tf_flow.specs.Limits.{place_len, capped}
 use Rattle.tf_flow.specs.Shown.{shown_places}
 use Rattle.tf_flow.proofs.byte_length.plan_len.Given as goal
 

@@ -1,5 +1,5 @@
 use Rattle.std.proofs.Common.{◌≡◌, ◌≤◌, take, length, filter}
-use Rattle.tf_flow.specs.Places.{is_atom}
+use Rattle.tf_flow.specs.Tree.{is_atom}
 use Rattle.tf_flow.specs.Shown.{shown_places}
 use Rattle.tf_flow.proofs.limits.atom_count.Given as goal
 

@@ -1,6 +1,6 @@
 use Rattle.std.proofs.Common.{◌≡◌, drop}
 use Rattle.tf_flow.specs.Limits.{limit_fault}
-use Rattle.tf_flow.specs.Names.{first_some}
+use Rattle.tf_flow.specs.Tree.{first_some}
 use Rattle.tf_flow.specs.Shown.{shown_places}
 use Rattle.tf_flow.proofs.limits.first_of.Given as goal
 

@@ -1,6 +1,6 @@
 use Rattle.std.proofs.Common.{◌≡◌, drop}
 use Rattle.tf_flow.specs.Limits.{passing_comparisons}
-use Rattle.tf_flow.specs.Names.{first_some}
+use Rattle.tf_flow.specs.Tree.{first_some}
 use Rattle.tf_flow.proofs.limits.first_wide_test.Given as goal
 
 abbrev pub invariant-loop-link : goal.invariant-loop-link

@@ -1,7 +1,7 @@
 use Rattle.std.proofs.Common.{◌∙◌, ap, List, ℕ}
 use Rattle.tf_flow.specs.declared.deciders.Link.{Link}
 use Rattle.tf_flow.specs.declared.nested.Item.{Item}
-use Rattle.tf_flow.specs.Names.{first_some, is_among}
+use Rattle.tf_flow.specs.Tree.{first_some, is_among}
 use Rattle.tf_flow.specs.Rules as rule
 use Rattle.tf_flow.specs.Shown.{members}
 use Rattle.tf_flow.proofs.LinkLemmas.{stray_same}

@@ -1,8 +1,7 @@
 use Rattle.std.proofs.Common.{◌≡◌, ◌++◌, drop, map, max}
 use Rattle.tf_flow.specs.Limits.{capped}
-use Rattle.tf_flow.specs.Places.{places_among, tree_order}
+use Rattle.tf_flow.specs.Tree.{places_among, tree_order, item_tree, trees_of, deepest}
 use Rattle.tf_flow.specs.Shown.{shown_places}
-use Rattle.tf_flow.specs.Tree.{item_tree, trees_of, deepest}
 use Rattle.tf_flow.proofs.outline.+outline.Given as goal
 
 abbrev pub invariant-add_flow-loop-item : goal.invariant-add_flow-loop-item

@@ -1,7 +1,6 @@
 use Rattle.std.proofs.Common.{◌≡◌, ◌∙◌, ap, None, Some}
 use Rattle.tf_flow.proofs.NameLemmas.{atoms_once}
-use Rattle.tf_flow.specs.Names.{first_again, same_name}
-use Rattle.tf_flow.specs.Places.{atom_names}
+use Rattle.tf_flow.specs.Tree.{first_again, same_name, atom_names}
 use Rattle.tf_flow.specs.Shown.{shown_places}
 use Rattle.tf_flow.proofs.plans.atom_index.Goals as goal
 

@@ -1,5 +1,5 @@
 use Rattle.std.proofs.Common.{◌≡◌, take}
-use Rattle.tf_flow.specs.Places.{atom_names}
+use Rattle.tf_flow.specs.Tree.{atom_names}
 use Rattle.tf_flow.specs.Shown.{shown_places}
 use Rattle.tf_flow.proofs.plans.atom_names.Given as goal
 

@@ -1,5 +1,5 @@
 use Rattle.std.proofs.Common.{◌≡◌, take}
-use Rattle.tf_flow.specs.Places.{flow_names}
+use Rattle.tf_flow.specs.Tree.{flow_names}
 use Rattle.tf_flow.specs.Shown.{shown_places}
 use Rattle.tf_flow.proofs.plans.flow_names.Given as goal
 

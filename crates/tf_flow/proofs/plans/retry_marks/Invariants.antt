@@ -1,5 +1,5 @@
 use Rattle.std.proofs.Common.{◌≡◌, take}
-use Rattle.tf_flow.specs.Places.{retry_marks}
+use Rattle.tf_flow.specs.Tree.{retry_marks}
 use Rattle.tf_flow.specs.Shown.{shown_places}
 use Rattle.tf_flow.proofs.plans.retry_marks.Given as goal
 

@@ -1,5 +1,5 @@
 use Rattle.std.proofs.Common.{◌≡◌, take, map}
-use Rattle.tf_flow.specs.Places.{name_at}
+use Rattle.tf_flow.specs.Tree.{name_at}
 use Rattle.tf_flow.specs.Shown.{shown_places}
 use Rattle.tf_flow.proofs.refusals.names.Given as goal
 

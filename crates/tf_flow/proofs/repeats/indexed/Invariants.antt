@@ -1,5 +1,5 @@
 use Rattle.std.proofs.Common.{◌≡◌, take, drop}
-use Rattle.tf_flow.specs.Names.{first_again, first_again_after}
+use Rattle.tf_flow.specs.Tree.{first_again, first_again_after}
 use Rattle.tf_flow.proofs.repeats.indexed.Given as goal
 
 abbrev pub invariant-loop-item : goal.invariant-loop-item

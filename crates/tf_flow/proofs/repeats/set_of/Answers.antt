@@ -1,5 +1,5 @@
 use Rattle.std.proofs.Common.{◌∙◌, ap, cond, true, arith, length, ◌<◌}
-use Rattle.tf_flow.specs.Names.{same_name}
+use Rattle.tf_flow.specs.Tree.{same_name}
 use Rattle.tf_flow.proofs.NameLemmas.{any_more}
 use Rattle.tf_flow.proofs.repeats.set_of.Goals as goal
 

@@ -1,6 +1,6 @@
 use Rattle.std.proofs.Common.{◌≡◌, ◌∷◌, [], ℕ, length, length-append, IsTrue, sym, ◌∙◌, ap, subst, inl, arith}
 use Rattle.std.proofs.lemmas.Result.{on_ok_weaker}
-use Rattle.tf_desk.specs.Content.{written, Torn}
+use Rattle.tf_desk.specs.Crash.{written, Torn}
 use Rattle.tf_desk.specs.State.{bytes_now}
 use Rattle.tf_desk.proofs.StateLemmas.{goes_within}
 use Rattle.tf_journal.specs.Format.{title_of}

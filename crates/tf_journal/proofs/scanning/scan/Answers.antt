@@ -3,9 +3,8 @@ use Rattle.std.proofs.lemmas.Result.{MatchResult-weaker}
 use Rattle.tf_desk.specs.State.{bytes_now, IsDurable}
 use Rattle.tf_desk.proofs.StateLemmas.{on_disk_told, bytes_stay, durable_on}
 use Rattle.tf_journal.specs.declared.faults.JournalFault.{JournalFault}
-use Rattle.tf_journal.specs.Format.{OPEN, bodies, recovered, records_from, title_of}
+use Rattle.tf_journal.specs.Format.{OPEN, bodies, recovered, records_from, title_of, LiesAs}
 use Rattle.tf_journal.specs.Answers.{RefusesFile}
-use Rattle.tf_journal.specs.Rest.{LiesAs}
 use Rattle.tf_journal.specs.Reach.{EndsRecords}
 use Rattle.tf_journal.proofs.ReachLemmas.{reach_closed, reach_lies}
 use Rattle.tf_journal.proofs.HeaderLemmas.{sixteen}

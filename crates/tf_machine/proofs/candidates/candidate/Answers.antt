@@ -1,7 +1,7 @@
 use Rattle.std.proofs.Common.{◌∙◌, ap, sym, Some}
 use Rattle.tf_states.specs.declared.record.What.{What}
 use Rattle.tf_states.specs.declared.state.AtomState.{AtomState}
-use Rattle.tf_model.specs.Candidates.{taken_up}
+use Rattle.tf_model.specs.Forced.{taken_up}
 use Rattle.tf_model.specs.Plan.{outline_of, is_task}
 use Rattle.tf_machine.specs.Tables.{shown_by}
 use Rattle.tf_machine.proofs.BestLemmas.{choice_forced, choice_found, best_task}

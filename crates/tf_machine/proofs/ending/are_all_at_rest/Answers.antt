@@ -1,6 +1,6 @@
 use Rattle.std.proofs.Common.{◌≡◌, ◌<◌, false, sym, arith, rules}
 use Rattle.tf_model.specs.Plan.{outline_of, count}
-use Rattle.tf_model.specs.Candidates.{is_at_rest}
+use Rattle.tf_model.specs.Forced.{is_at_rest}
 use Rattle.tf_machine.specs.Tables.{shown_by}
 use Rattle.tf_numbers.proofs.BelowLemmas.{not_each}
 use Rattle.tf_machine.proofs.ending.are_all_at_rest.Goals as goal

@@ -1,8 +1,8 @@
 use Rattle.std.proofs.Common.{◌≡◌, ◌∙◌, sym, ℕ, Bool, Option, Some, None, true, false}
 use Rattle.tf_numbers.specs.Numbers.{all_below, first_below}
 use Rattle.tf_model.specs.Plan.{Outline, outline_of, count}
-use Rattle.tf_model.specs.Snapshot.{Snapshot}
-use Rattle.tf_model.specs.Candidates.{is_best, is_done_at, is_at_rest, calm_end}
+use Rattle.tf_model.specs.History.{Snapshot}
+use Rattle.tf_model.specs.Forced.{is_best, is_done_at, is_at_rest, calm_end}
 use Rattle.tf_machine.specs.Tables.{shown_by}
 use Rattle.tf_machine.proofs.EndLemmas.{calm_by, end_by_parts, restless}
 use Rattle.tf_machine.proofs.ending.calm_end.Goals as goal

@@ -2,9 +2,8 @@ use Rattle.std.proofs.Common.{◌≡◌, ◌∙◌, ap, List}
 use Rattle.std.specs.Prelude.{ℕ, Some}
 use Rattle.tf_flow.specs.declared.atoms.Undo.{Undo}
 use Rattle.tf_actions.specs.declared.orders.Given.{Given}
-use Rattle.tf_model.specs.Orders.{order_with}
+use Rattle.tf_model.specs.Scope.{order_with, given_for}
 use Rattle.tf_model.specs.Plan.{outline_of}
-use Rattle.tf_model.specs.Scope.{given_for}
 use Rattle.tf_machine.specs.Tables.{shown_by}
 use Rattle.tf_machine.proofs.EntryLemmas.{views_seen}
 use Rattle.tf_machine.proofs.WholeLemmas.{order_whole, order_told}

@@ -1,6 +1,6 @@
 use Rattle.std.proofs.Common.{◌≡◌, ◌<◌, true, sym, arith, rules}
 use Rattle.tf_model.specs.Plan.{outline_of, count}
-use Rattle.tf_hands.specs.Flight.{is_with}
+use Rattle.tf_hands.specs.Hands.{is_with}
 use Rattle.tf_machine.specs.Tables.{shown_by}
 use Rattle.tf_numbers.proofs.BelowLemmas.{first_found}
 use Rattle.tf_machine.proofs.ListedLemmas.{none_with}

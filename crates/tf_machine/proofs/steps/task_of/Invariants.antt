@@ -1,6 +1,6 @@
 use Rattle.std.proofs.Common.{◌≡◌, None}
 use Rattle.tf_numbers.specs.Numbers.{first_below}
-use Rattle.tf_hands.specs.Flight.{is_with}
+use Rattle.tf_hands.specs.Hands.{is_with}
 use Rattle.tf_machine.specs.Tables.{shown_by}
 use Rattle.tf_machine.proofs.steps.task_of.Given as goal
 

@@ -1,7 +1,7 @@
 use Rattle.std.proofs.Common.{◌∙◌, sym, subst}
 use Rattle.tf_states.specs.declared.record.What.{What}
 use Rattle.tf_model.specs.Plan.{outline_of}
-use Rattle.tf_model.specs.Snapshot.{later}
+use Rattle.tf_model.specs.History.{later}
 use Rattle.tf_machine.specs.declared.worklists.Extent.TheVariants as extent
 use Rattle.tf_machine.specs.Worklists.{AreMoved, event}
 use Rattle.tf_machine.proofs.ExtentLemmas.{entered_around, entered_begun, resolved_flow, restarted_around}

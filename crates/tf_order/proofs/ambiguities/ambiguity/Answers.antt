@@ -1,6 +1,6 @@
 use Rattle.std.proofs.Common.{◌∙◌, ◌≤◌, sym, ap, length, arith}
 use Rattle.std.proofs.lemmas.Grind.{common_steps}
-use Rattle.tf_model.specs.Compilation.{least}
+use Rattle.tf_model.specs.Plan.{least}
 use Rattle.tf_order.specs.Sight.{count_seen}
 use Rattle.tf_order.proofs.AmbiguityLemmas.{two_named, number_read}
 use Rattle.tf_order.proofs.ambiguities.ambiguity.Goals as goal

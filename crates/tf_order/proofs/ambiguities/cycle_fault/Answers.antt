@@ -1,5 +1,5 @@
 use Rattle.std.proofs.Common.{◌∙◌, sym, ap, map, arith}
-use Rattle.tf_model.specs.Linked.{item_name}
+use Rattle.tf_model.specs.Before.{item_name}
 use Rattle.tf_order.specs.Sight.{place_seen}
 use Rattle.tf_order.proofs.AmbiguityLemmas.{cycle_found, no_cycle}
 use Rattle.tf_order.proofs.ambiguities.cycle_fault.Goals as goal

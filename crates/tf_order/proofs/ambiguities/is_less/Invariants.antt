@@ -1,5 +1,5 @@
 use Rattle.std.proofs.Common.{◌≡◌, drop}
-use Rattle.tf_model.specs.Compilation.{name_less}
+use Rattle.tf_model.specs.Plan.{name_less}
 use Rattle.tf_order.proofs.ambiguities.is_less.Given as goal
 
 abbrev pub invariant-loop-i : goal.invariant-loop-i

@@ -1,5 +1,5 @@
 use Rattle.std.proofs.Common.{◌≡◌, take, map}
-use Rattle.tf_model.specs.Linked.{item_name}
+use Rattle.tf_model.specs.Before.{item_name}
 use Rattle.tf_order.specs.Sight.{place_seen}
 use Rattle.tf_order.proofs.ambiguities.names_of.Given as goal
 

@@ -1,6 +1,5 @@
 use Rattle.std.proofs.Common.{◌≡◌, ◌∙◌, ap, sym, subst, None}
-use Rattle.tf_flow.specs.Names.{first_some}
-use Rattle.tf_flow.specs.Tree.{tree_of}
+use Rattle.tf_flow.specs.Tree.{first_some, tree_of}
 use Rattle.tf_order.specs.Arranged.{ShowsFlows}
 use Rattle.tf_order.specs.Refusals.{IsRefusedBy}
 use Rattle.tf_order.specs.Tables.{told_at, plan_seen}

@@ -1,5 +1,5 @@
 use Rattle.std.proofs.Common.{◌≡◌, ℕ, take, None}
-use Rattle.tf_flow.specs.Names.{first_some}
+use Rattle.tf_flow.specs.Tree.{first_some}
 use Rattle.tf_order.specs.Tables.{told_at}
 use Rattle.tf_order.proofs.compilation.first_fault.Given as goal
 

@@ -1,6 +1,6 @@
 use Rattle.std.proofs.Common.{◌≡◌, ◌∙◌, ◌<◌, ℕ, List, sym, ap, arith}
 use Rattle.tf_links.specs.Bits.{has}
-use Rattle.tf_model.specs.Deciders.{last_item}
+use Rattle.tf_model.specs.Readiness.{last_item}
 use Rattle.tf_model.specs.Plan.{last_flow}
 use Rattle.tf_numbers.specs.Numbers.{which_below, has_number}
 use Rattle.tf_order.specs.Tables.{plan_seen, atoms_found}

@@ -1,5 +1,5 @@
 use Rattle.std.proofs.Common.{◌≡◌, ℕ, List}
-use Rattle.tf_model.specs.Linked.{provides_at}
+use Rattle.tf_model.specs.Before.{provides_at}
 use Rattle.tf_numbers.specs.Numbers.{which_below}
 use Rattle.tf_order.specs.Index.{told}
 use Rattle.tf_flow.specs.Listing.{shown_atoms}

@@ -1,5 +1,5 @@
 use Rattle.std.proofs.Common.{◌≡◌, take, false}
-use Rattle.tf_flow.specs.Names.{is_among}
+use Rattle.tf_flow.specs.Tree.{is_among}
 use Rattle.tf_flow.specs.Rules.{bind_symbols}
 use Rattle.tf_order.proofs.linking.binds.Given as goal
 

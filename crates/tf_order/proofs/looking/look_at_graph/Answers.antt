@@ -1,7 +1,7 @@
 use Rattle.std.proofs.Common.{ap, refl}
 use Rattle.tf_flow.specs.Rules.{is_graph}
 use Rattle.tf_flow.specs.declared.nested.FlowKind.TheVariants as kind
-use Rattle.tf_model.specs.Linked.{linked_pairs}
+use Rattle.tf_model.specs.Before.{linked_pairs}
 use Rattle.tf_numbers.specs.Numbers.{first_below}
 use Rattle.tf_links.specs.Bits.{room, has}
 use Rattle.tf_order.specs.Looked.{told_in}

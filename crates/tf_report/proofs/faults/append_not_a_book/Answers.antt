@@ -1,6 +1,6 @@
 use Rattle.std.proofs.Common.{◌∙◌, ap, ◌++◌, List, ℕ, codes}
 use Rattle.std.proofs.lemmas.Result.{on_ok_weaker}
-use Rattle.tf_report.specs.Faults.{byte_or_end}
+use Rattle.tf_report.specs.Closing.{byte_or_end}
 use Rattle.tf_report.proofs.FaultLemmas.{no_book_told}
 use Rattle.tf_report.proofs.faults.append_not_a_book.Goals as goal
 

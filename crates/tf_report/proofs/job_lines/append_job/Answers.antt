@@ -1,6 +1,6 @@
 use Rattle.std.proofs.Common.{◌≡◌, ◌∙◌, ◌++◌, ◌∷◌, [], List, ℕ, ap}
 use Rattle.std.specs.Fmt.{decimal}
-use Rattle.tf_report.specs.Jobs.{priority_word, job_word, owner_text}
+use Rattle.tf_report.specs.Lines.{priority_word, job_word, owner_text}
 use Rattle.tf_report.proofs.JobLemmas.{on_ok, by_seven}
 use Rattle.tf_report.proofs.job_lines.append_job.Goals as goal
 

@@ -1,6 +1,6 @@
 use Rattle.std.proofs.Common.{◌≡◌, ◌++◌, take}
 use Rattle.std.specs.List.{flat_map}
-use Rattle.tf_report.specs.Jobs.{job_line}
+use Rattle.tf_report.specs.Lines.{job_line}
 use Rattle.tf_report.proofs.job_lines.append_jobs.Given as goal
 
 abbrev pub invariant-loop-job : goal.invariant-loop-job

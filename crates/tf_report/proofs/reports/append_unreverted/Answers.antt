@@ -2,7 +2,7 @@ use Rattle.std.proofs.Common.{◌≡◌, ◌∙◌, ◌++◌, ap, subst, List, �
 use Rattle.tf_values.specs.Growth.{KeepsPrefix}
 use Rattle.tf_values.proofs.GrowthLemmas.{keeps_shorter}
 use Rattle.tf_model.specs.Plan.{outline_of, count}
-use Rattle.tf_report.specs.Report.{unreverted, unreverted_below, state_shown, payload_shown}
+use Rattle.tf_report.specs.Lines.{unreverted, unreverted_below, state_shown, payload_shown}
 use Rattle.tf_model.proofs.PlanLemmas.{atoms_counted}
 use Rattle.tf_report.proofs.ReportLemmas.{lines_next, on_err_always}
 use Rattle.tf_report.proofs.reports.append_unreverted.Goals as goal

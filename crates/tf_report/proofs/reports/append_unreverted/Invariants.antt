@@ -1,6 +1,6 @@
 use Rattle.std.proofs.Common.{◌≡◌, ◌++◌}
 use Rattle.tf_model.specs.Plan.{outline_of}
-use Rattle.tf_report.specs.Report.{unreverted_below, state_shown, payload_shown}
+use Rattle.tf_report.specs.Lines.{unreverted_below, state_shown, payload_shown}
 use Rattle.tf_report.proofs.reports.append_unreverted.Given as goal
 
 abbrev pub invariant-loop-atom : goal.invariant-loop-atom

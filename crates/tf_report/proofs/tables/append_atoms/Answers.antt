@@ -2,8 +2,7 @@ use Rattle.std.proofs.Common.{◌≡◌, ◌∙◌, ◌++◌, ap, subst, List, �
 use Rattle.tf_values.specs.Growth.{KeepsPrefix}
 use Rattle.tf_values.proofs.GrowthLemmas.{keeps_shorter}
 use Rattle.tf_model.specs.Plan.{outline_of, count}
-use Rattle.tf_report.specs.Report.{state_shown, payload_shown}
-use Rattle.tf_report.specs.Table.{atom_line, atom_lines_below}
+use Rattle.tf_report.specs.Lines.{state_shown, payload_shown, atom_line, atom_lines_below}
 use Rattle.tf_model.proofs.PlanLemmas.{atoms_counted}
 use Rattle.tf_report.proofs.ReportLemmas.{lines_next, on_err_always}
 use Rattle.tf_report.proofs.tables.append_atoms.Goals as goal

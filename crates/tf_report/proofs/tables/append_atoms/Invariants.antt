@@ -1,7 +1,6 @@
 use Rattle.std.proofs.Common.{◌≡◌, ◌++◌}
 use Rattle.tf_model.specs.Plan.{outline_of}
-use Rattle.tf_report.specs.Report.{state_shown, payload_shown}
-use Rattle.tf_report.specs.Table.{atom_lines_below}
+use Rattle.tf_report.specs.Lines.{state_shown, payload_shown, atom_lines_below}
 use Rattle.tf_report.proofs.tables.append_atoms.Given as goal
 
 abbrev pub invariant-loop-atom : goal.invariant-loop-atom

@@ -1,8 +1,7 @@
 use Rattle.std.proofs.Common.{◌≡◌, map, drop}
-use Rattle.tf_flow.specs.Conditions.{condition_of, conditions_of}
-use Rattle.tf_model.specs.Deciders.{passes_all, passes_one}
-use Rattle.tf_model.specs.Snapshot.{Snapshot}
-use Rattle.tf_model.specs.Views.{Shows}
+use Rattle.tf_flow.specs.Outline.{condition_of, conditions_of}
+use Rattle.tf_model.specs.Readiness.{passes_all, passes_one}
+use Rattle.tf_model.specs.History.{Snapshot, Shows}
 use Rattle.tf_rules.specs.Seen.{seen_in}
 use Rattle.tf_rules.proofs.conditions.+passing.Given as goal
 

@@ -1,7 +1,7 @@
 use Rattle.std.proofs.Common.{Some, None, refl, sym, ap, ◌∙◌, Bool}
 use Rattle.std.specs.Prelude.{if◌then◌else◌}
 use Rattle.std.specs.List.{list_any}
-use Rattle.tf_model.specs.Views as views
+use Rattle.tf_model.specs.History as views
 use Rattle.tf_rules.specs.Seen.{begins_at, deciding}
 use Rattle.tf_rules.proofs.SeenLemmas.{nothing_seen, this_seen, no_result}
 use Rattle.tf_rules.proofs.conditions.result_of.Goals as goal

@@ -1,5 +1,5 @@
 use Rattle.std.proofs.Common.{sym, ap, ◌∙◌}
-use Rattle.tf_model.specs.Deciders.{was_ignored}
+use Rattle.tf_model.specs.Readiness.{was_ignored}
 use Rattle.tf_rules.proofs.SeenLemmas.{found_named}
 use Rattle.tf_rules.proofs.deciders.was_ignored.Goals as goal
 

@@ -1,8 +1,7 @@
 use Rattle.std.proofs.Common.{drop}
-use Rattle.tf_model.specs.Deciders.{refused_depth}
+use Rattle.tf_model.specs.Readiness.{refused_depth}
 use Rattle.tf_model.specs.Plan.{outline_of}
-use Rattle.tf_model.specs.Snapshot.{Snapshot}
-use Rattle.tf_model.specs.Views.{Shows}
+use Rattle.tf_model.specs.History.{Snapshot, Shows}
 use Rattle.tf_rules.specs.Seen.{seen_in}
 use Rattle.tf_rules.proofs.DepthLemmas.{IsFound}
 use Rattle.tf_rules.proofs.deciders.widest_of.Given as goal

@@ -1,6 +1,6 @@
 use Rattle.std.proofs.Common.{sym, ◌∙◌}
 use Rattle.tf_flow.specs.declared.deciders.Depth.TheVariants as depth
-use Rattle.tf_model.specs.Deciders.{is_sibling}
+use Rattle.tf_model.specs.Readiness.{is_sibling}
 use Rattle.tf_model.specs.Plan.{outline_of, is_before}
 use Rattle.tf_rules.proofs.NeighborLemmas.{itself, by_depth, both_hold, first_fails}
 use Rattle.tf_rules.proofs.depths.affected.Goals as goal

@@ -1,5 +1,5 @@
 use Rattle.std.proofs.Common.{sym, ap, map, ◌∙◌}
-use Rattle.tf_flow.specs.Conditions.{connection_of}
+use Rattle.tf_flow.specs.Outline.{connection_of}
 use Rattle.tf_rules.proofs.HomeLemmas.{no_links, links_told}
 use Rattle.tf_rules.proofs.flows.links_around.Goals as goal
 

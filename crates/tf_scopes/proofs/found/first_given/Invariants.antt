@@ -1,9 +1,8 @@
 use Rattle.std.proofs.Common.{◌≡◌, drop}
-use Rattle.tf_flow.specs.Names.{first_some}
+use Rattle.tf_flow.specs.Tree.{first_some}
 use Rattle.tf_model.specs.Plan.{outline_of}
 use Rattle.tf_model.specs.Scope.{given_by}
-use Rattle.tf_model.specs.Snapshot.{Snapshot}
-use Rattle.tf_model.specs.Views.{Shows}
+use Rattle.tf_model.specs.History.{Snapshot, Shows}
 use Rattle.tf_scopes.proofs.found.first_given.Given as goal
 
 abbrev pub invariant-loop-atom : goal.invariant-loop-atom

@@ -1,6 +1,6 @@
 use Rattle.std.proofs.Common.{ℕ, List, sym, ap, ◌∙◌}
 use Rattle.tf_numbers.specs.Numbers.{has_number}
-use Rattle.tf_flow.specs.Names.{first_some}
+use Rattle.tf_flow.specs.Tree.{first_some}
 use Rattle.tf_model.specs.Plan.{outline_of}
 use Rattle.tf_model.specs.Scope.{given_by}
 use Rattle.tf_scopes.specs.Sources.{bound_at}

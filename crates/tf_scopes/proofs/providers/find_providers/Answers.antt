@@ -1,6 +1,6 @@
 use Rattle.std.proofs.Common.{◌≡◌, ◌∙◌, ◌<◌, ℕ, map, sym, ap, arith}
 use Rattle.std.proofs.lemmas.Result.{err_from_is_err_and}
-use Rattle.tf_flow.specs.Names.{first_some}
+use Rattle.tf_flow.specs.Tree.{first_some}
 use Rattle.tf_numbers.specs.Numbers.{numbers_below}
 use Rattle.tf_model.specs.Plan.{outline_of, count}
 use Rattle.tf_model.specs.Scope.{missing_of}

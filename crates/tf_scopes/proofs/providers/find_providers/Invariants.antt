@@ -1,5 +1,5 @@
 use Rattle.std.proofs.Common.{◌≡◌, map, None}
-use Rattle.tf_flow.specs.Names.{first_some}
+use Rattle.tf_flow.specs.Tree.{first_some}
 use Rattle.tf_model.specs.Plan.{outline_of}
 use Rattle.tf_model.specs.Scope.{missing_of}
 use Rattle.tf_numbers.specs.Numbers.{numbers_below}

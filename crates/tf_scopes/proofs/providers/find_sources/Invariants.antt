@@ -1,5 +1,5 @@
 use Rattle.std.proofs.Common.{◌≡◌, map, take, drop}
-use Rattle.tf_flow.specs.Names.{first_some}
+use Rattle.tf_flow.specs.Tree.{first_some}
 use Rattle.tf_model.specs.Plan.{outline_of, arguments}
 use Rattle.tf_model.specs.Scope.{missing_argument, missing_of}
 use Rattle.tf_scopes.specs.Sources.{source_of_argument}

@@ -1,6 +1,6 @@
 use Rattle.std.proofs.Common.{◌≡◌, ℕ, List, take}
 use Rattle.std.specs.Prelude.{if◌then◌else◌}
-use Rattle.tf_flow.specs.Names.{is_among}
+use Rattle.tf_flow.specs.Tree.{is_among}
 use Rattle.tf_order.specs.Index.{add_once}
 use Rattle.tf_scopes.specs.Symbols.{told}
 use Rattle.tf_scopes.proofs.symbols.add_names.Given as goal

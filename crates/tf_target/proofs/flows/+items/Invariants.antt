@@ -1,5 +1,5 @@
 use Rattle.std.proofs.Common.{◌≡◌, map, take}
-use Rattle.tf_flow.specs.Written.{item_as_written}
+use Rattle.tf_flow.specs.Plan.{item_as_written}
 use Rattle.tf_target.proofs.flows.+items.Given as goal
 
 abbrev pub invariant-copy_items-loop-item : goal.invariant-copy_items-loop-item

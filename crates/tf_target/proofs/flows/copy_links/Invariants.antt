@@ -1,5 +1,5 @@
 use Rattle.std.proofs.Common.{◌≡◌, map, take}
-use Rattle.tf_flow.specs.Conditions.{connection_of}
+use Rattle.tf_flow.specs.Outline.{connection_of}
 use Rattle.tf_target.proofs.flows.copy_links.Given as goal
 
 abbrev pub invariant-loop-link : goal.invariant-loop-link

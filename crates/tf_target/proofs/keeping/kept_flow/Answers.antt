@@ -1,14 +1,14 @@
 use Rattle.std.proofs.Common.{◌≡◌, ◌∙◌, List, map, filter, ◌&&◌, refl, ap, sym}
 use Rattle.std.specs.List.{list_any}
 use Rattle.indexmap.specs.IndexSet.{contains}
-use Rattle.tf_flow.specs.Names.{same_name}
+use Rattle.tf_flow.specs.Tree.{same_name}
 use Rattle.tf_flow.specs.Rules.{member_names}
 use Rattle.tf_flow.specs.Shown.{members}
-use Rattle.tf_flow.specs.Written.{item_as_written}
-use Rattle.tf_flow.specs.Conditions.{connection_of}
+use Rattle.tf_flow.specs.Plan.{item_as_written}
+use Rattle.tf_flow.specs.Outline.{connection_of}
 use Rattle.tf_flow.specs.declared.deciders.Link.{Link}
 use Rattle.tf_flow.specs.declared.nested.Item.{Item}
-use Rattle.tf_target.specs.Kept.{is_marked, elements_kept}
+use Rattle.tf_target.specs.Target.{is_marked, elements_kept}
 use Rattle.tf_target.proofs.KeepingLemmas.{flow_kept}
 use Rattle.tf_target.proofs.keeping.kept_flow.Goals as goal
 

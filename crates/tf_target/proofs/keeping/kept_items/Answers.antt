@@ -1,7 +1,7 @@
 use Rattle.std.proofs.Common.{◌∙◌, ◌<◌, length, ap, sym, map, Vec, Global}
 use Rattle.tf_flow.specs.declared.nested.Item.{Item}
-use Rattle.tf_flow.specs.Written.{item_as_written}
-use Rattle.tf_target.specs.Kept.{is_marked}
+use Rattle.tf_flow.specs.Plan.{item_as_written}
+use Rattle.tf_target.specs.Target.{is_marked}
 use Rattle.tf_target.proofs.KeepingLemmas.{picked_yes, picked_no}
 use Rattle.tf_target.proofs.keeping.kept_items.Goals as goal
 use Rattle.tf_target.proofs.keeping.kept_items.Goals.{then-is_marked+in_ok-copy_item+in_ok-push, else-is_marked}

@@ -1,7 +1,7 @@
 use Rattle.std.proofs.Common.{◌≡◌, ◌&&◌, map, take, filter}
 use Rattle.indexmap.specs.IndexSet.{contains}
-use Rattle.tf_flow.specs.Conditions.{connection_of}
-use Rattle.tf_flow.specs.Names.{same_name}
+use Rattle.tf_flow.specs.Outline.{connection_of}
+use Rattle.tf_flow.specs.Tree.{same_name}
 use Rattle.tf_target.proofs.keeping.kept_links.Given as goal
 
 abbrev pub invariant-loop-link : goal.invariant-loop-link

@@ -1,5 +1,5 @@
 use Rattle.std.proofs.Common.{◌≡◌, map, take}
-use Rattle.tf_flow.specs.Conditions.{condition_of}
+use Rattle.tf_flow.specs.Outline.{condition_of}
 use Rattle.tf_target.proofs.links.+tests.Given as goal
 
 abbrev pub invariant-copy_tests-loop-test : goal.invariant-copy_tests-loop-test

@@ -1,7 +1,6 @@
 use Rattle.std.proofs.Common.{◌≡◌, ◌∙◌, true, length, ap, refl, arith, slice_set}
 use Rattle.tf_flow.specs.Items.{item_list}
-use Rattle.tf_model.specs.Plan.{outline_of}
-use Rattle.tf_order.specs.RootItems.{root_item_before}
+use Rattle.tf_model.specs.Plan.{outline_of, root_item_before}
 use Rattle.tf_order.proofs.GraphLemmas.{rows_length}
 use Rattle.tf_target.proofs.TargetLemmas.{marks_kept}
 use Rattle.tf_target.proofs.targeting.kept_marks.Goals as goal

@@ -2,7 +2,7 @@ use Rattle.std.proofs.Common.{◌≡◌, None}
 use Rattle.tf_flow.specs.Rules.{member_names}
 use Rattle.tf_flow.specs.Shown.{members}
 use Rattle.tf_numbers.specs.Numbers.{first_below}
-use Rattle.tf_target.specs.Kept.{is_name_at}
+use Rattle.tf_target.specs.Target.{is_name_at}
 use Rattle.tf_target.proofs.targeting.place_of.Given as goal
 
 abbrev pub invariant-loop-place : goal.invariant-loop-place

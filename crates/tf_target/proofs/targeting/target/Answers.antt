@@ -1,9 +1,8 @@
 use Rattle.std.proofs.Common.{◌≡◌, ◌∙◌, true, Some, ap, sym, subst, arith}
 use Rattle.tf_flow.specs.Outline.{atom_count}
-use Rattle.tf_flow.specs.Refusal.{first_refusal}
-use Rattle.tf_flow.specs.Rules.{is_graph}
+use Rattle.tf_flow.specs.Rules.{first_refusal, is_graph}
 use Rattle.tf_flow.specs.Tree.{tree_of}
-use Rattle.tf_flow.specs.Written.{plan_tree, as_written}
+use Rattle.tf_flow.specs.Plan.{plan_tree, as_written}
 use Rattle.tf_flow.specs.declared.nested.Flow.{Flow}
 use Rattle.tf_target.specs.Target.{item_named, target_refusal, target_tree, IsTargetAnswer}
 use Rattle.tf_target.proofs.LawLemmas.{target_compiles, target_order, target_complete}

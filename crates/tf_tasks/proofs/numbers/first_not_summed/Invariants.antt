@@ -1,5 +1,5 @@
 use Rattle.std.proofs.Common.{◌≡◌, drop}
-use Rattle.tf_flow.specs.Names.{first_some}
+use Rattle.tf_flow.specs.Tree.{first_some}
 use Rattle.tf_actions.specs.Built.{not_summed}
 use Rattle.tf_tasks.proofs.numbers.first_not_summed.Given as goal
 

@@ -1,6 +1,6 @@
 use Rattle.std.proofs.Common.{◌≡◌, ◌≤◌, ◌++◌, take, vec_capacity}
 use Rattle.std.specs.List.{flat_map}
-use Rattle.tf_values.specs.ByteForm.{scalar_bytes}
+use Rattle.tf_values.specs.Scalars.{scalar_bytes}
 use Rattle.tf_values.proofs.byte_form.append_scalars.Given as goal
 
 abbrev pub invariant-loop-scalar : goal.invariant-loop-scalar

@@ -1,7 +1,6 @@
 use Rattle.std.proofs.Common.{◌≡◌, ◌++◌, length}
 use Rattle.std.specs.List.{flat_map, AllByRecursion}
-use Rattle.tf_values.specs.ByteForm.{scalar_bytes}
-use Rattle.tf_values.specs.Element.{IsElement}
+use Rattle.tf_values.specs.Scalars.{scalar_bytes, IsElement}
 use Rattle.tf_values.proofs.decoding.scalars_at.Given as goal
 
 abbrev pub invariant-loop : goal.invariant-loop

@@ -1,7 +1,7 @@
 use Rattle.std.proofs.Common.{◌≡◌, ◌++◌, ◌∷◌, true, length}
 use Rattle.std.specs.List.{flat_map, AllByRecursion}
-use Rattle.tf_values.specs.TextForm.{further_text}
-use Rattle.tf_values.specs.Element.{IsElement}
+use Rattle.tf_values.specs.Value.{further_text}
+use Rattle.tf_values.specs.Scalars.{IsElement}
 use Rattle.tf_values.specs.Word.{ends_here}
 use Rattle.tf_values.proofs.parsing.scalars_of.Given as goal
 

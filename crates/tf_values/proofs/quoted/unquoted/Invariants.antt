@@ -1,6 +1,6 @@
 use Rattle.std.proofs.Common.{◌≡◌, ◌++◌, length}
 use Rattle.std.specs.List.{flat_map}
-use Rattle.tf_values.specs.TextForm.{quoted_byte}
+use Rattle.tf_values.specs.Value.{quoted_byte}
 use Rattle.tf_values.proofs.quoted.unquoted.Given as goal
 
 abbrev pub invariant-loop-byte : goal.invariant-loop-byte

@@ -1,6 +1,6 @@
 use Rattle.std.proofs.Common.{arith, vec_capacity, get_or, refl}
 use Rattle.std.proofs.lemmas.Result.{err_from_is_err_and}
-use Rattle.tf_values.specs.TextForm.{quoted_byte}
+use Rattle.tf_values.specs.Value.{quoted_byte}
 use Rattle.tf_values.proofs.RoomLemmas.{no_room}
 use Rattle.tf_values.proofs.text_form.append_quoted_bytes.Goals as goal
 

@@ -1,6 +1,6 @@
 use Rattle.std.proofs.Common.{◌≡◌, ◌≤◌, ◌++◌, take, vec_capacity}
 use Rattle.std.specs.List.{flat_map}
-use Rattle.tf_values.specs.TextForm.{quoted_byte}
+use Rattle.tf_values.specs.Value.{quoted_byte}
 use Rattle.tf_values.proofs.text_form.append_quoted_bytes.Given as goal
 
 abbrev pub invariant-loop-byte : goal.invariant-loop-byte

@@ -2,7 +2,7 @@ use Rattle.std.proofs.Common.{◌≡◌, ◌+◌, ◌<◌, ◌≤◌, ℕ, List,
 use Rattle.std.proofs.lemmas.Result.{err_from_is_err_and}
 use Rattle.std.specs.List.{flat_map}
 use Rattle.tf_values.specs.declared.elements.Scalar.{Scalar}
-use Rattle.tf_values.specs.TextForm.{scalar_text, further_text, scalars_text}
+use Rattle.tf_values.specs.Value.{scalar_text, further_text, scalars_text}
 use Rattle.tf_values.proofs.RoomLemmas.{no_room}
 use Rattle.tf_values.proofs.text_form.append_scalars.Goals as goal
 

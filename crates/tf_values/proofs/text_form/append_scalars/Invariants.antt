@@ -1,6 +1,6 @@
 use Rattle.std.proofs.Common.{◌≡◌, ◌≤◌, ◌++◌, take, vec_capacity}
 use Rattle.std.specs.List.{flat_map}
-use Rattle.tf_values.specs.TextForm.{further_text}
+use Rattle.tf_values.specs.Value.{further_text}
 use Rattle.tf_values.proofs.text_form.append_scalars.Given as goal
 
 abbrev pub invariant-loop-scalar : goal.invariant-loop-scalar

@@ -1,5 +1,5 @@
 use Rattle.uuid.specs.Text.{parsed}
-use Rattle.tf_words.specs.Boards.{id_in}
+use Rattle.tf_words.specs.Words.{id_in}
 use Rattle.tf_words.proofs.ChoiceLemmas.{none_of}
 use Rattle.tf_words.proofs.boards.id_of.Goals as goal
 

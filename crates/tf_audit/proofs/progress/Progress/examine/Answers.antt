@@ -2,7 +2,7 @@ use Rattle.std.proofs.Common.{Option, subst}
 use Rattle.tf_flow.specs.Plan.{PlanValue}
 use Rattle.tf_model.specs.Plan.{outline_of}
 use Rattle.tf_audit.specs.declared.entries.Numbered.{Numbered}
-use Rattle.tf_audit.specs.Reading.{IsLineOf, IsReading}
+use Rattle.tf_audit.specs.Verdicts.{IsLineOf, IsReading}
 use Rattle.tf_audit.proofs.ProgressLemmas.{answer_follows}
 use Rattle.tf_audit.proofs.progress.Progress.examine.Goals as goal
 

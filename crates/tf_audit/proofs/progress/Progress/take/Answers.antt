@@ -2,8 +2,8 @@ use Rattle.std.proofs.Common.{List, Option, Err, refl, sym, ap, subst, ◌∙◌
 use Rattle.std.specs.Prelude.{◌↔◌, IsTrue}
 use Rattle.tf_states.specs.declared.record.Entry.{Entry as Record}
 use Rattle.tf_actions.specs.declared.orders.Order.{Order}
-use Rattle.tf_actions.specs.Far.{GivesFar}
-use Rattle.tf_model.specs.Orders.{IsGiven}
+use Rattle.tf_actions.specs.Gives.{GivesFar}
+use Rattle.tf_model.specs.Scope.{IsGiven}
 use Rattle.tf_machine.specs.Machine.{MachineValue, outline, shown}
 use Rattle.tf_machine.specs.declared.faults.ApplyFault.{ApplyFault}
 use Rattle.tf_audit.specs.Kept.{Follows}

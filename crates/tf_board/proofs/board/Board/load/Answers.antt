@@ -9,8 +9,7 @@ use Rattle.tf_journal.specs.declared.faults.LoadFault.TheVariants as load_fault
 use Rattle.tf_journal.specs.declared.title.Title.TheVariants.{Jobs as jobs_title}
 use Rattle.tf_journal.proofs.UnbornLemmas.{unborn_found}
 use Rattle.tf_records.specs.Refusing.{no_journal}
-use Rattle.tf_board.specs.Board.{board_in}
-use Rattle.tf_board.specs.Loading.{desk_loaded}
+use Rattle.tf_board.specs.Board.{board_in, desk_loaded}
 use Rattle.tf_board.proofs.DeskLaws.{KeepsLaws}
 use Rattle.tf_board.proofs.LoadLemmas.{read_loaded, unread_unloaded, made_loaded, unmade_unloaded, made_goes}
 use Rattle.tf_board.proofs.OpeningLemmas.{read_opens, made_opens, unread_opens}

@@ -1,5 +1,5 @@
 use Rattle.std.proofs.Common.{inl, inr, ⊎_elim}
-use Rattle.tf_book.specs.Tried.{IsNoEndBy}
+use Rattle.tf_book.specs.Turns.{IsNoEndBy}
 use Rattle.tf_book.proofs.TriedLemmas.{tried_by, close_tried}
 use Rattle.tf_book.proofs.TurnLemmas.{on_err}
 use Rattle.tf_book.proofs.book.Book.close_session.Goals as goal

@@ -6,7 +6,7 @@ use Rattle.tf_book.proofs.ForceLemmas.{forced_stays}
 use Rattle.tf_book.specs.Book.{BookValue, outline}
 use Rattle.tf_book.specs.Recording.{past_after}
 use Rattle.tf_book.specs.declared.faults.Halt.{Halt}
-use Rattle.tf_book.specs.Tried.{IsNoEndBy}
+use Rattle.tf_book.specs.Turns.{IsNoEndBy}
 use Rattle.tf_book.proofs.TriedLemmas.{tried_by, force_tried}
 use Rattle.tf_book.proofs.TurnLemmas.{on_err}
 use Rattle.tf_book.proofs.book.Book.force_once.Goals as goal

@@ -1,7 +1,7 @@
 use Rattle.std.proofs.Common.{sym, subst}
 use Rattle.tf_flow.specs.Plan.{PlanValue}
-use Rattle.tf_book.specs.History.{past_shown}
-use Rattle.tf_book.specs.Loading.{AreEntriesOf}
+use Rattle.tf_book.specs.SessionInvariant.{past_shown}
+use Rattle.tf_book.specs.Book.{AreEntriesOf}
 use Rattle.tf_book.proofs.AmongLemmas.{past_entries}
 use Rattle.tf_book.proofs.book.Book.history_text.Goals as goal
 

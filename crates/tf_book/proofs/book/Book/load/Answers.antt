@@ -2,7 +2,7 @@ use Rattle.tf_desk.specs.State.{bytes_now}
 use Rattle.tf_journal.specs.Format.{recovered, title_of}
 use Rattle.tf_journal.specs.declared.title.Title.TheVariants.{Book as book_title}
 use Rattle.tf_records.proofs.ReplayLemmas.{unread}
-use Rattle.tf_book.specs.Loading.{CannotFollow}
+use Rattle.tf_book.specs.Book.{CannotFollow}
 use Rattle.tf_book.proofs.ReadingLemmas.{if_err_on}
 use Rattle.tf_book.proofs.book.Book.load.Goals as goal
 

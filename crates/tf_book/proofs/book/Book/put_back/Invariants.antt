@@ -1,7 +1,7 @@
 use Rattle.std.proofs.Common.{◌≡◌, ◌-◌, None, true}
 use Rattle.tf_book.specs.Book.{outline, moment}
 use Rattle.tf_book.specs.SessionInvariant.{Proceeds}
-use Rattle.tf_book.specs.Resetting.{may_reset, IsPutBackOn}
+use Rattle.tf_book.specs.Turns.{may_reset, IsPutBackOn}
 use Rattle.tf_book.proofs.book.Book.put_back.Given as goal
 
 abbrev pub invariant-putting : goal.invariant-putting

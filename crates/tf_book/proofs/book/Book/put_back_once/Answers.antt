@@ -7,7 +7,7 @@ use Rattle.tf_model.specs.History.{snapshot}
 use Rattle.tf_model.specs.Plan.{outline_of}
 use Rattle.tf_book.specs.Book.{BookValue, outline}
 use Rattle.tf_book.specs.Recording.{past_after}
-use Rattle.tf_book.specs.Resetting.{may_reset}
+use Rattle.tf_book.specs.Turns.{may_reset}
 use Rattle.tf_book.specs.declared.faults.Halt.{Halt}
 use Rattle.tf_book.proofs.ResetLemmas.{more_left}
 use Rattle.tf_book.proofs.book.Book.put_back_once.Goals as goal

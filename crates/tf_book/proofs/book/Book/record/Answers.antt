@@ -2,7 +2,7 @@ use Rattle.std.proofs.Common.{List, ℕ, length, ap, ◌∙◌, sym, arith}
 use Rattle.tf_book.proofs.HistoryLemmas.{past_long, few_entries, framed_short, past_turned}
 use Rattle.tf_book.proofs.InvariantLemmas.{book_proceeds, not_disk}
 use Rattle.tf_book.specs.Book.{BookValue}
-use Rattle.tf_book.specs.History.{past_shown}
+use Rattle.tf_book.specs.SessionInvariant.{past_shown}
 use Rattle.tf_book.specs.Recording.{halt_after}
 use Rattle.tf_book.proofs.book.Book.record.Goals as goal
 

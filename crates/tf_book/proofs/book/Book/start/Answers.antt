@@ -2,7 +2,7 @@ use Rattle.std.proofs.Common.{sym, subst}
 use Rattle.tf_desk.specs.State.{anything, GoesOn}
 use Rattle.tf_desk.proofs.StateLemmas.{goes_none}
 use Rattle.tf_flow.specs.Plan.{PlanValue}
-use Rattle.tf_book.specs.Loading.{IsAcceptedPlan}
+use Rattle.tf_book.specs.Book.{IsAcceptedPlan}
 use Rattle.tf_book.specs.Starting.{FailsToAppendPlan}
 use Rattle.tf_book.proofs.ReadingLemmas.{not_begun}
 use Rattle.tf_book.proofs.StartLemmas.{start_fails}

@@ -2,7 +2,7 @@ use Rattle.std.proofs.Common.{sym, subst}
 use Rattle.tf_states.specs.declared.record.What.{What}
 use Rattle.tf_hands.specs.Hands.{by_hand}
 use Rattle.tf_book.specs.Book.{outline}
-use Rattle.tf_book.specs.Tried.{IsNoEndBy}
+use Rattle.tf_book.specs.Turns.{IsNoEndBy}
 use Rattle.tf_book.proofs.TriedLemmas.{tried_by, start_tried}
 use Rattle.tf_book.proofs.TurnLemmas.{on_err}
 use Rattle.tf_book.proofs.book.Book.take_up.Goals as goal

@@ -1,9 +1,8 @@
 use Rattle.std.proofs.Common.{rules, ◌≡◌, List, [], ◌∷◌, ℕ, subst, ap, sym, ◌∙◌}
 use Rattle.tf_desk.specs.State.{bytes_now}
 use Rattle.tf_entries.specs.Plans.{plan_bytes}
-use Rattle.tf_journal.specs.Format.{bodies, journal_bytes, recovered, title_of}
+use Rattle.tf_journal.specs.Format.{bodies, journal_bytes, recovered, title_of, IsAtRest}
 use Rattle.tf_journal.specs.declared.title.Title.TheVariants.{Book as book_title}
-use Rattle.tf_journal.specs.Rest.{IsAtRest}
 use Rattle.tf_journal.specs.declared.title.Title.{Title}
 use Rattle.tf_book.proofs.StartLemmas.{begun_crash}
 use Rattle.tf_book.proofs.book.starting.append_plan.Goals as goal

@@ -2,7 +2,7 @@ use Rattle.std.proofs.Common.{◌≡◌, ap, subst, Err}
 use Rattle.std.proofs.lemmas.Result.{err_from_is_err_and}
 use Rattle.tf_values.specs.declared.faults.MakeFault.{MakeFault}
 use Rattle.tf_values.specs.declared.faults.MakeFault.TheVariants as fault
-use Rattle.tf_book.specs.Loading.{first}
+use Rattle.tf_book.specs.Book.{first}
 use Rattle.tf_book.specs.Reading.{HasReplayed}
 use Rattle.tf_book.specs.declared.recovering.Replayed.{Replayed}
 use Rattle.tf_book.proofs.ReadingLemmas.{run_refused}

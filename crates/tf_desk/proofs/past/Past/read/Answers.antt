@@ -1,7 +1,7 @@
 use Rattle.std.proofs.Common.{◌≡◌, ℕ, List, arith, sym, ◌∙◌, ap, subst}
 use Rattle.tf_desk.specs.declared.past.MemoryFile.{MemoryFile}
 use Rattle.tf_desk.specs.Acts.{Act, content_after}
-use Rattle.tf_desk.specs.Content.{bytes_of, Reads}
+use Rattle.tf_desk.specs.Crash.{bytes_of, Reads}
 use Rattle.tf_desk.specs.Sound.{acts}
 use Rattle.tf_desk.proofs.KeepsLemmas.{keeps_within, keeps_bytes}
 use Rattle.tf_desk.proofs.past.Past.read.Goals as goal

@@ -1,7 +1,7 @@
 use Rattle.std.proofs.Common.{◌+◌, ◌-◌, arith}
 use Rattle.tf_entries.specs.PlanReading.{read_flow, read_item}
 use Rattle.tf_entries.specs.Reading.{read_many}
-use Rattle.tf_flow.specs.Written.{item_as_written}
+use Rattle.tf_flow.specs.Plan.{item_as_written}
 use Rattle.tf_entries.proofs.ReadingLemmas.{shown_turn}
 use Rattle.tf_entries.proofs.reader.Reader.+flows.Goals as goal
 

@@ -1,5 +1,5 @@
 use Rattle.std.proofs.Common.{◌+◌, ◌-◌, arith}
-use Rattle.tf_flow.specs.Conditions.{condition_of}
+use Rattle.tf_flow.specs.Outline.{condition_of}
 use Rattle.tf_entries.specs.PlanReading.{read_test}
 use Rattle.tf_entries.specs.Reading.{read_many}
 use Rattle.tf_entries.proofs.ReadingLemmas.{shown_turn}

@@ -1,5 +1,5 @@
 use Rattle.std.proofs.Common.{◌≡◌, ◌-◌, map}
-use Rattle.tf_flow.specs.Conditions.{connection_of}
+use Rattle.tf_flow.specs.Outline.{connection_of}
 use Rattle.tf_entries.specs.PlanReading.{read_link}
 use Rattle.tf_entries.specs.Reading.{read_many}
 use Rattle.tf_entries.proofs.ReadingLemmas.{after}

@@ -1,6 +1,6 @@
 use Rattle.std.proofs.Common.{◌≡◌, not, filter, take}
 use Rattle.indexmap.specs.IndexSet.{contains}
-use Rattle.tf_flow.specs.Names.{same_name}
+use Rattle.tf_flow.specs.Tree.{same_name}
 use Rattle.tf_files.proofs.document.arguments.arguments_outside.Given as goal
 
 abbrev pub invariant-loop-arg : goal.invariant-loop-arg

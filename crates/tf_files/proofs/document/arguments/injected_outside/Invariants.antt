@@ -1,7 +1,7 @@
 use Rattle.std.proofs.Common.{◌≡◌, not, map, filter, take}
 use Rattle.indexmap.specs.IndexSet.{contains}
-use Rattle.tf_flow.specs.Names.{same_name}
-use Rattle.tf_files.specs.document.Signatures.{injected_argument}
+use Rattle.tf_flow.specs.Tree.{same_name}
+use Rattle.tf_files.specs.document.Tasks.{injected_argument}
 use Rattle.tf_files.proofs.document.arguments.injected_outside.Given as goal
 
 abbrev pub invariant-loop-bind : goal.invariant-loop-bind

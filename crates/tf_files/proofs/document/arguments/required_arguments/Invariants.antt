@@ -1,5 +1,5 @@
 use Rattle.std.proofs.Common.{◌≡◌, map, take}
-use Rattle.tf_files.specs.document.Signatures.{required_argument}
+use Rattle.tf_files.specs.document.Tasks.{required_argument}
 use Rattle.tf_files.proofs.document.arguments.required_arguments.Given as goal
 
 abbrev pub invariant-loop-name : goal.invariant-loop-name

@@ -1,5 +1,5 @@
 use Rattle.std.proofs.Common.{◌∙◌, ap, cond, true, arith, length, ◌<◌}
-use Rattle.tf_flow.specs.Names.{same_name}
+use Rattle.tf_flow.specs.Tree.{same_name}
 use Rattle.tf_files.proofs.ArgumentLemmas.{speaks_more}
 use Rattle.tf_files.proofs.document.arguments.spoken_of.Goals as goal
 

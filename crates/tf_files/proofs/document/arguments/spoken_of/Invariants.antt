@@ -1,8 +1,8 @@
 use Rattle.std.proofs.Common.{◌≡◌, take, List, ℕ}
 use Rattle.std.specs.List.{list_any}
 use Rattle.indexmap.specs.IndexSet.{contains}
-use Rattle.tf_flow.specs.Names.{same_name}
-use Rattle.tf_files.specs.document.Signatures.{speaks_of}
+use Rattle.tf_flow.specs.Tree.{same_name}
+use Rattle.tf_files.specs.document.Tasks.{speaks_of}
 use Rattle.tf_files.proofs.document.arguments.spoken_of.Given as goal
 
 abbrev pub invariant-loop-arg : goal.invariant-loop-arg

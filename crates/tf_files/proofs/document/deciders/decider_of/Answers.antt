@@ -1,6 +1,6 @@
 use Rattle.std.proofs.Common.{◌≡◌, IfOk, None, Ok, Option, Result, codes, subst, sym}
 use Rattle.toml.specs.View.{view, table_view}
-use Rattle.tf_flow.specs.Conditions.{Decision, decision_of}
+use Rattle.tf_flow.specs.Outline.{Decision, decision_of}
 use Rattle.tf_files.specs.document.Deciders.{decider_form}
 use Rattle.tf_files.specs.declared.document.faults.FileFault.{FileFault}
 use Rattle.tf_files.proofs.ReadingLemmas.{optional_refuses, optional_there}

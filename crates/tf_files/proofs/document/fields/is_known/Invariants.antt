@@ -1,5 +1,5 @@
 use Rattle.std.proofs.Common.{◌≡◌, map, drop}
-use Rattle.tf_flow.specs.Names.{is_among}
+use Rattle.tf_flow.specs.Tree.{is_among}
 use Rattle.tf_files.proofs.document.fields.is_known.Given as goal
 
 abbrev pub invariant-loop-other : goal.invariant-loop-other

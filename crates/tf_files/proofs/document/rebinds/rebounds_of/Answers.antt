@@ -1,6 +1,6 @@
 use Rattle.std.proofs.Common.{◌≡◌, ◌∙◌, ◌∷◌, ap, sym}
 use Rattle.toml.specs.View.{view, members_view}
-use Rattle.tf_files.specs.document.Signatures.{rebound_form, rebounds_of}
+use Rattle.tf_files.specs.document.Tasks.{rebound_form, rebounds_of}
 use Rattle.tf_files.proofs.ReadingLemmas.{after, after_one}
 use Rattle.tf_files.proofs.document.rebinds.rebounds_of.Goals as goal
 

@@ -1,6 +1,6 @@
 use Rattle.std.proofs.Common.{◌≡◌}
 use Rattle.toml.specs.View.{members_view}
-use Rattle.tf_files.specs.document.Signatures.{rebounds_of}
+use Rattle.tf_files.specs.document.Tasks.{rebounds_of}
 use Rattle.tf_files.proofs.ReadingLemmas.{after}
 use Rattle.tf_files.proofs.document.rebinds.rebounds_of.Given as goal
 

@@ -1,7 +1,7 @@
 use Rattle.std.proofs.Common.{codes}
 use Rattle.toml.specs.View.{view, table_view}
 use Rattle.tf_flow.specs.declared.atoms.Provides.TheVariants as provided
-use Rattle.tf_files.specs.document.Signatures.{provides_form}
+use Rattle.tf_files.specs.document.Tasks.{provides_form}
 use Rattle.tf_files.proofs.ReadingLemmas.{optional_refuses}
 use Rattle.tf_files.proofs.document.signatures.provides_at.Goals as goal
 

@@ -1,6 +1,6 @@
 use Rattle.std.proofs.Common.{◌≡◌, Some, position, rules}
 use Rattle.tf_flow.proofs.NameLemmas.{at_position}
-use Rattle.tf_flow.specs.Names.{same_name}
+use Rattle.tf_flow.specs.Tree.{same_name}
 use Rattle.tf_flow.specs.Plan as numbering
 use Rattle.tf_flow.proofs.plans.Plan.find.Goals as goal
 

@@ -2,8 +2,7 @@ use Rattle.std.proofs.Common.{◌+◌, true, inl, length, IsTrue, sym, ◌∙◌
 use Rattle.tf_desk.specs.State.{passes_none}
 use Rattle.tf_desk.proofs.StateLemmas.{on_disk_told}
 use Rattle.tf_journal.specs.Adding.{Adds, AddsAtMost}
-use Rattle.tf_journal.specs.Held.{Held}
-use Rattle.tf_journal.specs.Rest.{IsAtRest}
+use Rattle.tf_journal.specs.Format.{Held, IsAtRest}
 use Rattle.tf_journal.proofs.AppendLemmas.{appended_adds, appended_at_most, rest_leaves}
 use Rattle.tf_journal.proofs.journal.Journal.append.Goals as goal
 

@@ -1,5 +1,5 @@
 use Rattle.std.proofs.Common.{subst}
-use Rattle.tf_journal.specs.Held.{Held}
+use Rattle.tf_journal.specs.Format.{Held}
 use Rattle.tf_journal.specs.Reading.{OnlyReads}
 use Rattle.tf_journal.proofs.ReadingLemmas.{read_only}
 use Rattle.tf_journal.proofs.journal.Journal.body_at.Goals as goal

@@ -2,7 +2,7 @@ use Rattle.std.proofs.Common.{◌≡◌, ◌<◌, ◌∙◌, ℕ, ℤ, false, sy
 use Rattle.std.specs.Prelude.{int_lt}
 use Rattle.tf_flow.specs.Plan.{PlanValue}
 use Rattle.tf_model.specs.Plan.{outline_of, count}
-use Rattle.tf_model.specs.Candidates.{priority}
+use Rattle.tf_model.specs.Forced.{priority}
 use Rattle.tf_machine.proofs.PlanLemmas.{none_outranks}
 use Rattle.tf_machine.proofs.compiled.Compiled.is_outranked_by_none.Goals as goal
 

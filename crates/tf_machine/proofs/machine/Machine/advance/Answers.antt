@@ -1,7 +1,7 @@
 use Rattle.std.proofs.Common.{◌≡◌, ◌≢◌, ◌<◌, ◌||◌, true, sym, refl, subst}
 use Rattle.tf_states.specs.declared.record.What.TheVariants as what
 use Rattle.tf_states.specs.declared.state.FlowState.TheVariants as flow
-use Rattle.tf_model.specs.States.{flow_runs, flow_suspends}
+use Rattle.tf_model.specs.History.{flow_runs, flow_suspends}
 use Rattle.tf_bound.specs.Owed.{left}
 use Rattle.tf_machine.proofs.LeftLemmas.{moved_less}
 use Rattle.tf_model.specs.Steps.{Step}

@@ -1,5 +1,5 @@
 use Rattle.std.proofs.Common.{◌∙◌, ap, subst}
-use Rattle.tf_model.specs.Candidates.{choice}
+use Rattle.tf_model.specs.Forced.{choice}
 use Rattle.tf_machine.specs.Machine.{MachineValue, IsSoundMachine, outline, shown}
 use Rattle.tf_machine.proofs.LeftLemmas.{machine_chosen}
 use Rattle.tf_machine.proofs.machine.Machine.candidate.Goals as goal

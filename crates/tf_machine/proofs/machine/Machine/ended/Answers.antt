@@ -1,6 +1,6 @@
 use Rattle.std.proofs.Common.{◌∙◌, ap, subst}
 use Rattle.std.specs.Prelude.{is_some}
-use Rattle.tf_model.specs.Candidates.{end_of}
+use Rattle.tf_model.specs.Forced.{end_of}
 use Rattle.tf_machine.specs.Machine.{MachineValue, IsSoundMachine, outline, shown}
 use Rattle.tf_machine.proofs.MachineLemmas.{stuck_never}
 use Rattle.tf_machine.proofs.machine.Machine.ended.Goals as goal

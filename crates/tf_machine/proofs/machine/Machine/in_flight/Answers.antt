@@ -1,8 +1,8 @@
 use Rattle.std.proofs.Common.{◌≡◌, true, ◌∙◌, ◌<◌, sym, subst}
 use Rattle.tf_model.specs.Plan.{is_task}
 use Rattle.tf_model.specs.Steps.{Step}
-use Rattle.tf_model.specs.Snapshot.{later}
-use Rattle.tf_hands.specs.Flight.{end_by}
+use Rattle.tf_model.specs.History.{later}
+use Rattle.tf_hands.specs.Hands.{end_by}
 use Rattle.tf_bound.specs.Owed.{left}
 use Rattle.tf_machine.specs.Machine.{MachineValue, outline, shown}
 use Rattle.tf_machine.proofs.MachineLemmas.{sound_facts, flying_task, settled_step}

@@ -1,7 +1,6 @@
 use Rattle.std.proofs.Common.{◌≡◌, None, sym, refl, subst}
 use Rattle.tf_flow.specs.Plan.{PlanValue}
-use Rattle.tf_model.specs.Compilation.{compile_refusal}
-use Rattle.tf_model.specs.Plan.{outline_of, count}
+use Rattle.tf_model.specs.Plan.{compile_refusal, outline_of, count}
 use Rattle.tf_model.specs.Scope.{missing_symbol}
 use Rattle.tf_bound.specs.Short.{IsWithinLimits}
 use Rattle.tf_machine.specs.Tries.{HasFewTries}

@@ -1,6 +1,6 @@
 use Rattle.std.proofs.Common.{◌∙◌, ap}
 use Rattle.tf_states.specs.declared.state.AtomState.{AtomState}
-use Rattle.tf_hands.specs.Flight.{ended_from}
+use Rattle.tf_hands.specs.Hands.{ended_from}
 use Rattle.tf_machine.proofs.LeftLemmas.{settled_less}
 use Rattle.tf_machine.proofs.machine.Machine.settle.Goals as goal
 

@@ -4,7 +4,7 @@ use Rattle.tf_machine.specs.declared.tables.Change.TheVariants as change
 use Rattle.tf_machine.specs.declared.tables.Mark.{Mark}
 use Rattle.tf_machine.specs.declared.tables.Place.{Place}
 use Rattle.tf_model.specs.Plan.{outline_of, count}
-use Rattle.tf_model.specs.Views.{state_in, payload_in}
+use Rattle.tf_model.specs.History.{state_in, payload_in}
 use Rattle.tf_machine.specs.Changes.{ArePlacesHeld, AreChanged, changed, cleared, turned}
 use Rattle.tf_machine.proofs.ChangeLemmas.{places_held}
 use Rattle.tf_machine.specs.Counts.{AreCounted}

@@ -1,7 +1,7 @@
 use Rattle.std.proofs.Common.{ℕ, Bool, List, ◌∙◌, ◌||◌, ap, sym, subst}
 use Rattle.tf_numbers.specs.Numbers.{has_number}
 use Rattle.tf_model.specs.Plan.{outline_of}
-use Rattle.tf_model.specs.States.{is_done, is_settled, is_revert_failure}
+use Rattle.tf_model.specs.History.{is_done, is_settled, is_revert_failure}
 use Rattle.tf_machine.specs.Tables.{shown_by}
 use Rattle.tf_machine.proofs.CountLemmas.{successors_below, predecessors_below, successors_distinct, predecessors_distinct}
 use Rattle.tf_machine.proofs.StretchLemmas.{successors_apart, predecessors_apart}

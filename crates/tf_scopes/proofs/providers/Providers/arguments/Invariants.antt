@@ -1,8 +1,7 @@
 use Rattle.std.proofs.Common.{◌≡◌, drop}
 use Rattle.tf_model.specs.Plan.{outline_of, arguments}
 use Rattle.tf_model.specs.Scope.{given_for}
-use Rattle.tf_model.specs.Snapshot.{Snapshot}
-use Rattle.tf_model.specs.Views.{Shows}
+use Rattle.tf_model.specs.History.{Snapshot, Shows}
 use Rattle.tf_scopes.proofs.GivenLemmas.{with_pairs, given_from}
 use Rattle.tf_scopes.proofs.providers.Providers.arguments.Given as goal
 
