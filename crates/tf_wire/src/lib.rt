@@ -17,5 +17,6 @@ mod waiting;
 pub use faults::WireFault;
 pub use frames::Frames;
 pub use messages::{Request, Response};
-pub use printing::{print_request, print_response};
-pub use reading::{read_request, read_response};
+pub use printing::{print_message, print_request, print_response};
+pub use reading::{message_of, read_request, read_response};
+pub use values::{name_of, value_of};

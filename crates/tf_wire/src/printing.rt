@@ -235,8 +235,9 @@ fn fault_value(alloc: Global, id: u64, fault: Value) -> Result<Value, Memory>
     Ok(json!(in alloc; {"failure": fault, "id": id, "state": "FAILURE"})?)
 }
 
-/// Appends a message that has no float as a frame, which is read as that message.
-fn print_message(alloc: Global, message: &Value, out: &mut Vec<u8>) -> Result<(), Memory>
+/// Appends a message that has no float as a frame, its compact text behind the length of that, which is read as that
+/// message.
+pub fn print_message(alloc: Global, message: &Value, out: &mut Vec<u8>) -> Result<(), Memory>
     requires no_float { has_float (view message.now) ≡ false }
     requires short { length (compact_text (view message.now)) < 2 ^ 32 }
     ensures frame { OnOk result (out.new.items ≡ out.old.items ++ frame_of (view message.now)) }

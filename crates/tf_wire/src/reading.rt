@@ -40,7 +40,7 @@ pub fn read_response(alloc: Global, frame: &[u8]) -> Result<Response, WireFault>
 }
 
 /// The JSON that the bytes are, or none.
-fn message_of(alloc: Global, frame: &[u8]) -> Result<Option<Value>, Memory>
+pub fn message_of(alloc: Global, frame: &[u8]) -> Result<Option<Value>, Memory>
     ensures { IfOk result (λ made. option_map view made ≡ message_spelled frame.now) }
 {
     match Value::from_slice(alloc, frame) {

@@ -49,8 +49,8 @@ fn priority_in(given: &Given<'_>) -> Option<Priority>
     }
 }
 
-/// The priority of this name.
-fn priority_named(word: &[u8]) -> Option<Priority>
+/// The priority of this name, in capital letters; none where it is the name of none.
+pub fn priority_named(word: &[u8]) -> Option<Priority>
     ensures { result ≡ priority_by_name word.now }
 {
     if word == b"VERY_HIGH".as_slice() {
@@ -178,9 +178,9 @@ pub fn list_of(alloc: Global, words: &[&str]) -> Result<Option<Asked>, Memory>
     Ok(Some(Asked::List { board }))
 }
 
-/// The id that the word spells, in one of its text forms.
+/// The id that the word spells, in one of the text forms that `uuid` knows, or none.
 #[tactic(auto, unfolding(crate::specs::Words::id_in))]
-fn id_of(word: &str) -> Option<Uuid>
+pub fn id_of(word: &str) -> Option<Uuid>
     ensures { result ≡ id_in word.now }
 {
     match Uuid::parse_str(word) {

@@ -16,5 +16,6 @@ mod verbs;
 mod word;
 
 pub use asked::{Asked, read_words};
+pub use boards::{id_of, priority_named};
 pub use laws::demo_numbers_are_within;
 pub use word::Word;
