@@ -37,7 +37,7 @@ pub struct Journal<K: Desk> {
 }
 
 impl<K: Desk> Model for Journal<K> {
-    ghost use Rattle.std.specs.Prelude.{◌≤◌, vec_capacity, ◌≡◌};
+    ghost use Rattle.std.specs.Prelude.{◌≤◌, vec_capacity};
     ghost use Rattle.tf_journal.specs.Format.{Held};
 
     ghost Value = { Held K };
@@ -238,6 +238,7 @@ impl<K: Desk> Journal<K> {
 }
 
 impl<K: Desk> Journal<K> {
+    ghost use Rattle.std.specs.Prelude.{◌≡◌};
     ghost use Rattle.std.specs.Borrow.{Lends, sem};
     ghost use Rattle.tf_journal.specs.contracts.journal.Journal.{the_row};
 

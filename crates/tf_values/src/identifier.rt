@@ -17,7 +17,7 @@ pub struct Name {
 }
 
 impl Model for Name {
-    ghost use Rattle.std.specs.Prelude.{ℕ, List, length, take, ◌==◌};
+    ghost use Rattle.std.specs.Prelude.{ℕ, List, length, take};
     ghost use Rattle.tf_values.specs.Text.{IsPadded, padded, padded-take, length-named};
 
     ghost Value = { List ℕ };
@@ -58,6 +58,7 @@ impl Name {
 }
 
 impl PartialEq for Name {
+    ghost use Rattle.std.specs.Prelude.{◌==◌};
     ghost use Rattle.std.specs.Cmp.Lexicographic.{pointwise};
     ghost use Rattle.std.specs.Cmp.Rules.{comparing};
     ghost use Rattle.std.proofs.Common.{rules};
@@ -137,6 +138,8 @@ pub struct Names {
 }
 
 impl Model for Names {
+    ghost use Rattle.std.specs.Prelude.{List, ℕ};
+
     ghost Value = { List (List ℕ) };
 
     ghost view = { λ names. names.items.items };
