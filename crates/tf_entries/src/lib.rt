@@ -1,4 +1,4 @@
-//! Plans and entries as bytes, exact both paths.
+//! Plans and entries as bytes, exact both ways.
 #![tactic(auto)]
 
 mod appending;

@@ -69,7 +69,7 @@ pub fn outline_of<'a>(alloc: Global, plan: &'a Plan) -> Result<Outline<'a>, Memo
     Ok(outline)
 }
 
-/// Adds what stands in a flow to which this way leads.
+/// Adds what stands in a flow to which this path leads.
 #[cycle(walk)]
 #[tactic(auto)]
 fn add_flow<'a>(
@@ -107,7 +107,7 @@ fn add_flow<'a>(
     Ok(())
 }
 
-/// Adds what stands in an item to which this way leads, and answers what the item is.
+/// Adds what stands in an item to which this path leads, and answers what the item is.
 #[cycle(walk)]
 #[tactic(auto)]
 fn add_item<'a>(

@@ -138,7 +138,7 @@ pub fn paths_of(alloc: Global, root: &Flow) -> Result<Paths, Memory>
     Ok(paths)
 }
 
-/// Adds the paths to what stands in a flow to which this way leads.
+/// Adds the paths to what stands in a flow to which this path leads.
 #[cycle(paths)]
 fn add_flow(alloc: Global, flow: &Flow, path: &[Turn], paths: &mut Paths) -> Result<(), Memory>
     ensures atoms { OnOk result (paths.new.atoms.items ≡ paths.old.atoms.items
@@ -166,7 +166,7 @@ fn add_flow(alloc: Global, flow: &Flow, path: &[Turn], paths: &mut Paths) -> Res
     Ok(())
 }
 
-/// Adds the paths to what stands in an item to which this way leads.
+/// Adds the paths to what stands in an item to which this path leads.
 #[cycle(paths)]
 fn add_item(alloc: Global, item: &Item, path: Path, paths: &mut Paths) -> Result<(), Memory>
     ensures atoms { OnOk result (paths.new.atoms.items ≡ paths.old.atoms.items
