@@ -1,7 +1,7 @@
 use std::alloc::Global;
 use std::process::Abort;
 use std::test::Fail;
-use tf_desk::{Desk, DeskFault, MemoryDesk};
+use tf_desk::{Desk, DeskFault, MemoryDesk, Torn};
 use tf_values::Text;
 
 /// A desk of which the stated calls fail and the stated turns ask for a stop.
@@ -55,4 +55,62 @@ fn what_passes_the_capacity_is_not_taken(rt: HostRuntime) -> Result<(), Fail> {
     assert_eq!(rt; desk.shown().len(), 30);
     desk.say(b"ab")?;
     Ok(())
+}
+
+/// A desk that has four bytes on the disk, and three of them written anew, with a line said before and after the
+/// last sync. Its calls: pick, write, sync, write, say, sync, say.
+fn written_desk(alloc: Global) -> Result<MemoryDesk, Fail> {
+    let mut desk = desk(alloc, &[], &[])?;
+    desk.pick(alloc, &Text::make(alloc, b"book")?)?;
+    desk.write_at(0, b"abcd")?;
+    desk.sync()?;
+    desk.write_at(0, b"XYZ")?;
+    desk.say(b"one")?;
+    desk.sync()?;
+    desk.say(b"two")?;
+    Ok(desk)
+}
+
+/// A crash in that call leaves these bytes and that text.
+fn assert_crashed(
+    rt: &HostRuntime,
+    call: u64,
+    torn: Torn,
+    bytes: &[u8],
+    text: &[u8],
+) -> Result<(), Fail> {
+    let desk = written_desk(rt.alloc())?;
+    if call < 1 || call > desk.made() {
+        return Err(Fail::from("no such call"));
+    }
+    let mut crashed = desk.crashed(rt.alloc(), call, torn)?;
+    assert_eq!(rt; crashed.made(), 0);
+    assert_eq!(rt; crashed.shown(), text);
+    assert_bytes(rt, &mut crashed, bytes);
+    Ok(())
+}
+
+#[test]
+fn a_crash_in_a_write_tears_it(rt: HostRuntime) -> Result<(), Fail> {
+    assert_crashed(&rt, 2, Torn::Old, b"", b"")?;
+    assert_crashed(&rt, 2, Torn::New, b"abcd", b"")?;
+    assert_crashed(&rt, 4, Torn::Old, b"abcd", b"")?;
+    assert_crashed(&rt, 4, Torn::New, b"XYZd", b"")?;
+    // The draws are 0 of 1, and 11,249, 57,305 and 38,044 modulo 256.
+    assert_crashed(&rt, 4, Torn::Mixed(1), b"\xf1\xd9\x9cd", b"")
+}
+
+#[test]
+fn a_crash_in_a_sync_comes_before_it_is_done(rt: HostRuntime) -> Result<(), Fail> {
+    assert_crashed(&rt, 6, Torn::Old, b"abcd", b"one")?;
+    assert_crashed(&rt, 6, Torn::New, b"XYZd", b"one")?;
+    assert_crashed(&rt, 6, Torn::Mixed(1), b"\xf1\xd9\x9cd", b"one")
+}
+
+#[test]
+fn a_crash_in_a_say_shows_all_of_it_or_nothing(rt: HostRuntime) -> Result<(), Fail> {
+    assert_crashed(&rt, 5, Torn::Old, b"abcd", b"")?;
+    assert_crashed(&rt, 5, Torn::New, b"XYZd", b"one")?;
+    assert_crashed(&rt, 7, Torn::Old, b"XYZd", b"one")?;
+    assert_crashed(&rt, 7, Torn::Mixed(2), b"XYZd", b"onetwo")
 }

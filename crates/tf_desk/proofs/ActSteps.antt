@@ -126,8 +126,8 @@ synced_once old = record {
 }
 
 -- a sync that was noted
-pub synced_rests : (old mid : Held) (past : List Act) → mid ≡ old → past ≡ synced ∷ mid.past → Rests (state_of old) (state_of (record mid { past = past }))
-synced_rests old mid past same is =
+pub synced_rests : (old mid : Held) (past : List Act) (began : List ℕ) → mid ≡ record old { began = began } → past ≡ synced ∷ mid.past → Rests (state_of old) (state_of (record mid { past = past }))
+synced_rests old mid past began same is =
     subst (λ (p : List Act). Rests (state_of old) (state_of (record mid { past = p }))) (sym is)
     (subst (λ (m : Held). Rests (state_of old) (state_of (record m { past = synced ∷ m.past }))) (sym same) (synced_once old))
 
@@ -156,15 +156,15 @@ picked_once old name = record {
 }
 
 -- a pick that was noted
-pub picked_on_disk : (old mid : Held) (past : List Act) (name : List ℕ) → mid ≡ old → past ≡ picked name ∷ mid.past
+pub picked_on_disk : (old mid : Held) (past : List Act) (began name : List ℕ) → mid ≡ record old { began = began } → past ≡ picked name ∷ mid.past
     → OnDisk (LeftNow (state_of (record mid { past = past }))) (state_of old) (state_of (record mid { past = past }))
-picked_on_disk old mid past name same is =
+picked_on_disk old mid past began name same is =
     subst (λ (p : List Act). OnDisk (LeftNow (state_of (record mid { past = p }))) (state_of old) (state_of (record mid { past = p }))) (sym is)
     (subst (λ (m : Held). OnDisk (LeftNow (state_of (record m { past = picked name ∷ m.past }))) (state_of old) (state_of (record m { past = picked name ∷ m.past }))) (sym same) (picked_once old name))
 
 -- a pick that wasn't
-pub unpicked_on_disk : (old mid : Held) (past : List Act) → mid ≡ old → past ≡ mid.past
+pub unpicked_on_disk : (old mid : Held) (past : List Act) (began : List ℕ) → mid ≡ record old { began = began } → past ≡ mid.past
     → OnDisk (LeftNow (state_of (record mid { past = past }))) (state_of old) (state_of (record mid { past = past }))
-unpicked_on_disk old mid past same is =
+unpicked_on_disk old mid past began same is =
     subst (λ (p : List Act). OnDisk (LeftNow (state_of (record mid { past = p }))) (state_of old) (state_of (record mid { past = p }))) (sym is)
     (subst (λ (m : Held). OnDisk (LeftNow (state_of m)) (state_of old) (state_of m)) (sym same) on_disk_none)

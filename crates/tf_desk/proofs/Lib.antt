@@ -4,3 +4,6 @@ pub mod ActSteps
 pub mod StreamLemmas
 pub mod CountLemmas
 pub mod StateLemmas
+pub mod LogLemmas
+pub mod CrashedLemmas
+pub mod LeavesLemmas

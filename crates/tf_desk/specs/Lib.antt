@@ -4,5 +4,6 @@ pub mod Acts
 pub mod ActLaws
 pub mod MemoryDesk
 pub mod Sound
+pub mod Crashed
 pub mod Streams
 pub mod FileDesk

@@ -7,9 +7,10 @@ use Rattle.tf_desk.specs.declared.past.Noted.TheVariants.{Picked, Wrote, Synced,
 use Rattle.tf_desk.specs.Acts.{Act, picked, wrote, synced, said, shown_after, content_after, left_after, crashes_after}
 use Rattle.tf_desk.specs.State.{DeskState}
 
--- what it has done, newest first, and its four counts
+-- what it has done, newest first; how much it had done when each of its calls began; and its four counts
 pub record Held : Type 0 where
   pub past : List Act
+  pub began : List ℕ
   pub disk_faults : ℕ
   pub out_faults : ℕ
   pub asks : ℕ
@@ -36,6 +37,20 @@ acts_of (Picked name ∷ log) written shown = picked name ∷ acts_of log writte
 acts_of (Wrote at count ∷ log) written shown = wrote at (drop (length written - count) written) ∷ acts_of log (take (length written - count) written) shown
 acts_of (Synced ∷ log) written shown = synced ∷ acts_of log written shown
 acts_of (Said count ∷ log) written shown = said (drop (length shown - count) shown) ∷ acts_of log written (take (length shown - count) shown)
+
+-- how many bytes an entry wrote
+abbrev pub written_count : Noted → ℕ
+written_count (Picked name) = 0
+written_count (Wrote at count) = count
+written_count Synced = 0
+written_count (Said count) = 0
+
+-- how many bytes it said
+abbrev pub said_count : Noted → ℕ
+said_count (Picked name) = 0
+said_count (Wrote at count) = 0
+said_count Synced = 0
+said_count (Said count) = count
 
 -- the file has this name
 abbrev pub has_name : List ℕ → MemoryFile → Bool

@@ -1,6 +1,7 @@
 //! The desk: the files that a run keeps, and the text that it shows, with what a crash may leave of them.
 #![tactic(auto)]
 
+mod crashing;
 mod device;
 mod files;
 mod memory;
@@ -8,6 +9,7 @@ mod past;
 mod reasons;
 mod streams;
 
+pub use crashing::Torn;
 pub use device::{Desk, DeskFault};
 pub use files::FileDesk;
 pub use memory::MemoryDesk;

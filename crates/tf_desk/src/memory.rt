@@ -1,10 +1,12 @@
-ghost use Rattle.std.specs.Prelude.{◌≡◌, ◌≤◌, ◌∷◌, [], IfOk, true, false};
+ghost use Rattle.std.specs.Prelude.{◌≡◌, ◌≤◌, ◌∷◌, [], length, IfOk, true, false};
 ghost use Rattle.std.proofs.Common.{refl};
 ghost use Rattle.tf_desk.specs.Acts.{shown_after};
 ghost use Rattle.tf_desk.specs.ActLaws.{picked_there, left_reads, left_none, crashes_earlier, crashes_now, crashes_only};
 ghost use Rattle.tf_desk.specs.Crash.{Rises};
+ghost use Rattle.tf_desk.specs.Crashed.{began_at, ended_at, struck_at, IsCrashed};
 ghost use Rattle.tf_desk.specs.MemoryDesk.{state_of};
 
+use crate::crashing::Torn;
 use crate::device::{Desk, DeskFault};
 use crate::past::Past;
 use std::alloc::Global;
@@ -15,6 +17,7 @@ use tf_values::{Memory, Text};
 #[derive(Drop)]
 pub struct MemoryDesk {
     past: Past,
+    began: Vec<usize>,
     calls: usize,
     made: usize,
     failing: Vec<u64>,
@@ -30,14 +33,14 @@ impl Model for MemoryDesk {
 
     ghost Value = { Held };
 
-    ghost view = { λ desk. record { past = desk.past; disk_faults = desk.disk_faults; out_faults = desk.out_faults; asks = desk.asks; turns = desk.turns } };
+    ghost view = { λ desk. record { past = desk.past; began = desk.began.items; disk_faults = desk.disk_faults; out_faults = desk.out_faults; asks = desk.asks; turns = desk.turns } };
 }
 
 impl MemoryDesk {
     /// An empty desk without a file. It reserves all its memory but that of a file, which its pick takes:
     /// `capacity` bounds the bytes that its calls together write and show. A call fails where its number is
     /// in `failing`, where more than `calls` were made, or past the capacity; a `say` and a `write_at` then
-    /// take the first half of their bytes, or none past the capacity. `stop_asked` answers `true` at its
+    /// take the first half of their bytes, or none past the calls or the capacity. `stop_asked` answers `true` at its
     /// turns in `asking`, and doesn't fail.
     pub fn make(
         alloc: Global,
@@ -52,6 +55,7 @@ impl MemoryDesk {
     {
         Ok(MemoryDesk {
             past: Past::make(alloc, capacity, calls)?,
+            began: Vec::with_capacity(alloc, calls)?,
             calls,
             made: 0,
             failing,
@@ -65,10 +69,22 @@ impl MemoryDesk {
 
     /// Counts a call, and tells whether it is one that fails.
     fn fails(&mut self) -> bool
-        ensures same { self.new ≡ self.old }
+        ensures same { self.new ≡ record self.old { began = self.new.began } }
     {
         self.made = self.made.saturating_add(1);
-        self.made > self.calls || self.failing.contains(&(self.made as u64))
+        if self.made > self.calls {
+            return true;
+        }
+        let _room = self.began.push(self.past.count());
+        self.failing.contains(&(self.made as u64))
+    }
+
+    /// How many bytes a call may write or say: none past the calls that the desk takes.
+    fn room(&self) -> usize {
+        if self.made > self.calls {
+            return 0;
+        }
+        self.past.room()
     }
 
     /// A fault of the disk, counted.
@@ -98,6 +114,70 @@ impl MemoryDesk {
         ensures { result.now ≡ shown_after self.now.past }
     {
         self.past.shown()
+    }
+
+    /// How many calls were made, of those that the desk takes.
+    pub fn made(&self) -> u64
+        ensures { result ≡ length self.now.began }
+    {
+        self.began.len() as u64
+    }
+
+    /// When the call of that number ended.
+    fn ended(&self, call: usize) -> usize
+        ensures { result ≡ ended_at self.now call }
+    {
+        let done = self.past.count();
+        if call < self.began.len() {
+            return self.began[call].min(done);
+        }
+        done
+    }
+
+    /// When the call of that number began.
+    fn began(&self, call: usize) -> usize
+        requires low { 1 ≤ call }
+        requires high { call ≤ length self.now.began }
+        ensures { result ≡ began_at self.now call }
+    {
+        self.began[call - 1].min(self.ended(call))
+    }
+
+    /// The moment whose files a crash in the call tears so.
+    fn struck(&self, call: usize, torn: Torn) -> usize
+        requires low { 1 ≤ call }
+        requires high { call ≤ length self.now.began }
+        ensures { result ≡ struck_at torn self.now call }
+    {
+        let began = self.began(call);
+        match torn {
+            Torn::Old => began,
+            Torn::New | Torn::Mixed(_) => self.past.unsynced(began, self.ended(call)),
+        }
+    }
+
+    /// The desk that a crash in the call of that number leaves: the picked file, torn so, and the text, all of it
+    /// on the disk. What the call itself said was shown, but for `Old`, which tears what was there before the
+    /// call; a sync of its own wasn't done. Calls are numbered anew, none fails, and no stop is asked for. As many
+    /// calls, and bytes, can be made, written and shown as when this desk was made. `Err`: memory ran out.
+    pub fn crashed(&self, alloc: Global, call: u64, torn: Torn) -> Result<MemoryDesk, Memory>
+        requires low { 1 ≤ call }
+        requires high { call ≤ length self.now.began }
+        ensures { IfOk result (λ desk. IsCrashed torn call self.now desk) }
+    {
+        let moment = self.struck(call as usize, torn);
+        Ok(MemoryDesk {
+            past: self.past.crashed(alloc, self.calls, moment, torn)?,
+            began: Vec::with_capacity(alloc, self.calls)?,
+            calls: self.calls,
+            made: 0,
+            failing: Vec::new(alloc),
+            asking: Vec::new(alloc),
+            disk_faults: 0,
+            out_faults: 0,
+            asks: 0,
+            turns: 0,
+        })
     }
 }
 
@@ -144,7 +224,7 @@ impl Desk for MemoryDesk {
 
     fn write_at(&mut self, at: u64, bytes: &[u8]) -> Result<(), DeskFault> {
         let fails = self.fails();
-        if bytes.len() > self.past.room() {
+        if bytes.len() > self.room() {
             return Err(self.disk_fault());
         }
         if fails {
@@ -166,7 +246,7 @@ impl Desk for MemoryDesk {
 
     fn say(&mut self, bytes: &[u8]) -> Result<(), DeskFault> {
         let fails = self.fails();
-        if bytes.len() > self.past.room() {
+        if bytes.len() > self.room() {
             return Err(self.out_fault());
         }
         if fails {

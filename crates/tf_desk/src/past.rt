@@ -1,8 +1,10 @@
 ghost use Rattle.std.specs.Prelude.{◌≡◌, ◌≤◌, ◌<◌, ◌++◌, ◌∷◌, [], true, false, length, is_ok, IsSome, IfOk, IfSome, IfNone, OnOk, OnErr, if◌then◌else◌};
 ghost use Rattle.tf_desk.specs.Crash.{written, bytes_of, Reads};
 ghost use Rattle.tf_desk.specs.Acts.{picked, wrote, synced, said, content_after, picked_after, shown_after};
+ghost use Rattle.tf_desk.specs.Crashed.{acts_at, unsynced_at, IsTornDesk};
 ghost use Rattle.tf_desk.specs.MemoryDesk.{file_at, IsFirst};
 
+use crate::crashing::{Torn, image_of, is_sync, picked_in, text_of};
 use std::alloc::Global;
 use std::marker::Model;
 use tf_values::{Memory, Text};
@@ -244,5 +246,76 @@ impl Past {
         ensures { result.now ≡ shown_after self.now }
     {
         &self.shown
+    }
+
+    /// How many acts were done.
+    pub fn count(&self) -> usize
+        ensures { result ≡ length self.now }
+    {
+        self.log.len()
+    }
+
+    /// The end of what was done between the two moments, but for a sync that came last.
+    pub fn unsynced(&self, began: usize, ended: usize) -> usize
+        requires { ended ≤ length self.now }
+        ensures { result ≡ unsynced_at self.now began ended }
+    {
+        if began < ended && is_sync(&self.log[ended - 1]) {
+            return ended - 1;
+        }
+        ended
+    }
+
+    /// What a crash at that moment leaves, torn so: the picked file alone, with all of it on the disk, and the text.
+    /// As much can be written and shown as after `make`. `Err`: memory ran out.
+    pub fn crashed(
+        &self,
+        alloc: Global,
+        calls: usize,
+        moment: usize,
+        torn: Torn,
+    ) -> Result<Past, Memory>
+        requires { moment ≤ length self.now }
+        ensures { IfOk result (λ past. IsTornDesk torn (acts_at self.now moment) past) }
+    {
+        let log = &self.log[..moment];
+        let text = text_of(log, &self.shown);
+        let Some(name) = picked_in(log) else {
+            return Past::shows(alloc, self.capacity, calls, text);
+        };
+        let image = image_of(alloc, log, &self.written, name, torn)?;
+        Past::keeps(alloc, self.capacity, calls, name, &image, text)
+    }
+
+    /// Nothing but a text that was said.
+    fn shows(alloc: Global, capacity: usize, calls: usize, text: &[u8]) -> Result<Past, Memory>
+        ensures { IfOk result (λ past. past ≡ said text.now ∷ []) }
+    {
+        let capacity = capacity.saturating_add(text.len());
+        let mut past = Past::make(alloc, capacity, calls.saturating_add(1))?;
+        if !past.say(text) {
+            return Err(Memory);
+        }
+        Ok(past)
+    }
+
+    /// A text that was said, and a file that is on the disk.
+    fn keeps(
+        alloc: Global,
+        capacity: usize,
+        calls: usize,
+        name: &Text,
+        image: &[u8],
+        text: &[u8],
+    ) -> Result<Past, Memory>
+        ensures { IfOk result (λ past. past ≡ synced ∷ wrote 0 image.now ∷ picked name.now ∷ said text.now ∷ []) }
+    {
+        let capacity = capacity.saturating_add(image.len());
+        let mut past = Past::shows(alloc, capacity, calls.saturating_add(3), text)?;
+        past.pick(alloc, name)?;
+        if !past.write(0, image) || !past.sync() {
+            return Err(Memory);
+        }
+        Ok(past)
     }
 }

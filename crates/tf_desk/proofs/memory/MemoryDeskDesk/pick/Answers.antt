@@ -8,6 +8,6 @@ pub returns-clause-on_disk : goal.returns-clause-on_disk
 returns-clause-on_disk c =
     let same = c.self.view_is ∙ c.fails.ensures.same in
     elim c.match-pick.branch [
-      | in-Ok w ↦ picked_on_disk c.args.self.now (the_view c.self.inside) c.pick.new.self c.args.name.now same w.in-Ok.ensures.ok
-      | in-Err w ↦ unpicked_on_disk c.args.self.now (the_view c.self.inside) c.pick.new.self same w.in-Err.ensures.err
+      | in-Ok w ↦ picked_on_disk c.args.self.now (the_view c.self.inside) c.pick.new.self c.fails.new.self.began c.args.name.now same w.in-Ok.ensures.ok
+      | in-Err w ↦ unpicked_on_disk c.args.self.now (the_view c.self.inside) c.pick.new.self c.fails.new.self.began same w.in-Err.ensures.err
     ]

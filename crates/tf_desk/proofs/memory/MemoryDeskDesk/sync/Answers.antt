@@ -5,4 +5,4 @@ use Rattle.tf_desk.proofs.memory.MemoryDeskDesk.sync.Goals as goal
 
 pub returns-clause-rests : goal.returns-clause-rests
 returns-clause-rests c =
-    synced_rests c.args.self.now (the_view c.self.inside) c.sync.new.self (c.self.view_is ∙ c.fails.ensures.same) (c.sync.ensures.noted c.if-not-sync.false)
+    synced_rests c.args.self.now (the_view c.self.inside) c.sync.new.self c.fails.new.self.began (c.self.view_is ∙ c.fails.ensures.same) (c.sync.ensures.noted c.if-not-sync.false)

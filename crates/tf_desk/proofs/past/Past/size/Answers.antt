@@ -9,13 +9,13 @@ use Rattle.tf_desk.proofs.past.Past.size.Goals as goal
 pub index-requires : goal.index-requires
 index-requires c =
     let p = c.self.inside in
-    omega (arith, keeps_within (acts p) p.shown.items p.files.items p.picked c.self.invariant c.in-Some.place c.in-Some.is, p.files.ok.0)
+    omega (arith, keeps_within (acts p) p.shown.items p.files.items p.picked c.self.invariant.keeps c.in-Some.place c.in-Some.is, p.files.ok.0)
 
 pub returns-in-Some : goal.returns-in-Some
 returns-in-Some c =
     let p = c.self.inside in
     let file = c.index.result.now in
-    let whole = keeps_bytes (acts p) p.shown.items p.files.items p.picked c.self.invariant c.in-Some.place c.in-Some.is file in
+    let whole = keeps_bytes (acts p) p.shown.items p.files.items p.picked c.self.invariant.keeps c.in-Some.place c.in-Some.is file in
     let its : bytes_of (content_after c.args.self.now) ≡ file.bytes.items =
     ap (λ (past : List Act). bytes_of (content_after past)) (sym c.self.view_is) ∙ whole ∙ ap (λ (f : MemoryFile). f.bytes.items) (sym c.index.ensures) in
     omega (arith, ap length its, c.len.ensures, file.bytes.ok.0)
