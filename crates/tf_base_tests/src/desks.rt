@@ -73,17 +73,18 @@ fn written_desk(alloc: Global) -> Result<MemoryDesk, Fail> {
 
 /// A crash in that call leaves these bytes and that text.
 fn assert_crashed(
-    rt: &HostRuntime,
+    rt: &impl Abort,
+    alloc: Global,
     call: u64,
     torn: Torn,
     bytes: &[u8],
     text: &[u8],
 ) -> Result<(), Fail> {
-    let desk = written_desk(rt.alloc())?;
+    let desk = written_desk(alloc)?;
     if call < 1 || call > desk.made() {
         return Err(Fail::from("no such call"));
     }
-    let mut crashed = desk.crashed(rt.alloc(), call, torn)?;
+    let mut crashed = desk.crashed(alloc, call, torn)?;
     assert_eq!(rt; crashed.made(), 0);
     assert_eq!(rt; crashed.shown(), text);
     assert_bytes(rt, &mut crashed, bytes);
@@ -92,25 +93,28 @@ fn assert_crashed(
 
 #[test]
 fn a_crash_in_a_write_tears_it(rt: HostRuntime) -> Result<(), Fail> {
-    assert_crashed(&rt, 2, Torn::Old, b"", b"")?;
-    assert_crashed(&rt, 2, Torn::New, b"abcd", b"")?;
-    assert_crashed(&rt, 4, Torn::Old, b"abcd", b"")?;
-    assert_crashed(&rt, 4, Torn::New, b"XYZd", b"")?;
+    let alloc = rt.alloc();
+    assert_crashed(&rt, alloc, 2, Torn::Old, b"", b"")?;
+    assert_crashed(&rt, alloc, 2, Torn::New, b"abcd", b"")?;
+    assert_crashed(&rt, alloc, 4, Torn::Old, b"abcd", b"")?;
+    assert_crashed(&rt, alloc, 4, Torn::New, b"XYZd", b"")?;
     // The draws are 0 of 1, and 11,249, 57,305 and 38,044 modulo 256.
-    assert_crashed(&rt, 4, Torn::Mixed(1), b"\xf1\xd9\x9cd", b"")
+    assert_crashed(&rt, alloc, 4, Torn::Mixed(1), b"\xf1\xd9\x9cd", b"")
 }
 
 #[test]
 fn a_crash_in_a_sync_comes_before_it_is_done(rt: HostRuntime) -> Result<(), Fail> {
-    assert_crashed(&rt, 6, Torn::Old, b"abcd", b"one")?;
-    assert_crashed(&rt, 6, Torn::New, b"XYZd", b"one")?;
-    assert_crashed(&rt, 6, Torn::Mixed(1), b"\xf1\xd9\x9cd", b"one")
+    let alloc = rt.alloc();
+    assert_crashed(&rt, alloc, 6, Torn::Old, b"abcd", b"one")?;
+    assert_crashed(&rt, alloc, 6, Torn::New, b"XYZd", b"one")?;
+    assert_crashed(&rt, alloc, 6, Torn::Mixed(1), b"\xf1\xd9\x9cd", b"one")
 }
 
 #[test]
 fn a_crash_in_a_say_shows_all_of_it_or_nothing(rt: HostRuntime) -> Result<(), Fail> {
-    assert_crashed(&rt, 5, Torn::Old, b"abcd", b"")?;
-    assert_crashed(&rt, 5, Torn::New, b"XYZd", b"one")?;
-    assert_crashed(&rt, 7, Torn::Old, b"XYZd", b"one")?;
-    assert_crashed(&rt, 7, Torn::Mixed(2), b"XYZd", b"onetwo")
+    let alloc = rt.alloc();
+    assert_crashed(&rt, alloc, 5, Torn::Old, b"abcd", b"")?;
+    assert_crashed(&rt, alloc, 5, Torn::New, b"XYZd", b"one")?;
+    assert_crashed(&rt, alloc, 7, Torn::Old, b"XYZd", b"one")?;
+    assert_crashed(&rt, alloc, 7, Torn::Mixed(2), b"XYZd", b"onetwo")
 }
