@@ -131,7 +131,7 @@ pub record Held (K : Type 0) : Type 0 where
 
 -- a body that a journal takes
 abbrev pub IsBody : List ℕ → Type 0
-IsBody body = (1 ≤ length body) × (length body ≤ BODY_LIMIT)
+IsBody bytes = (1 ≤ length bytes) × (length bytes ≤ BODY_LIMIT)
 
 -- each is one
 abbrev pub AreBodies : List (List ℕ) → Type 0
