@@ -6,7 +6,7 @@ use std::alloc::Global;
 use std::process::Abort;
 use std::test::Fail;
 use tf_desk::{Desk, FileDesk, MemoryDesk};
-use tf_journal::{AppendFault, Journal, Title};
+use tf_journal::{AppendFault, Journal, ScanFault, Scanned, Title, scan};
 use tf_values::Text;
 
 /// A desk with an empty picked file, of which the stated calls fail. Its pick was the first call.
@@ -77,5 +77,74 @@ fn a_full_journal_refuses_by_its_two_numbers(rt: HostRuntime) -> Result<(), Fail
     assert_eq!(rt; journal.size(), 67_108_864);
     let mut none = Vec::new(alloc);
     assert_eq!(rt; journal.body_at(17, &mut none), Ok(None));
+    Ok(())
+}
+
+/// A desk with an empty picked file that takes so many bytes.
+fn wide_desk(alloc: Global, capacity: usize) -> Result<MemoryDesk, Fail> {
+    let mut desk = MemoryDesk::make(alloc, capacity, 10_000, Vec::new(alloc), Vec::new(alloc))?;
+    desk.pick(alloc, &Text::make(alloc, b"book")?)?;
+    Ok(desk)
+}
+
+/// Puts the bytes behind the file's.
+fn add(desk: &mut MemoryDesk, bytes: &[u8]) -> Result<(), Fail> {
+    let size = desk.size()?;
+    desk.write_at(size, bytes)?;
+    Ok(())
+}
+
+#[test]
+fn what_is_no_journal_is_scanned(rt: HostRuntime) -> Result<(), Fail> {
+    let alloc = rt.alloc();
+    let mut desk = wide_desk(alloc, 64)?;
+    assert_eq!(rt; scan(&mut desk, Title::Book), Ok(Scanned::Unborn));
+    add(&mut desk, b"\xa5TASKFLOW JOBS 1\n\0")?;
+    let fault = ScanFault::NotABook {
+        offset: 10,
+        byte: Some(b'J'),
+    };
+    assert_eq!(rt; scan(&mut desk, Title::Book), Err(fault));
+    let empty = Scanned::Records { count: 0, end: 18 };
+    assert_eq!(rt; scan(&mut desk, Title::Jobs), Ok(empty));
+    Ok(())
+}
+
+#[test]
+fn records_that_lie_across_windows_are_scanned(rt: HostRuntime) -> Result<(), Fail> {
+    let alloc = rt.alloc();
+    let mut desk = wide_desk(alloc, 20_000)?;
+    add(&mut desk, b"\xa5TASKFLOW BOOK 1\n")?;
+    for _ in 0..1_000 {
+        add(&mut desk, b"\xa5\0\0\0\x07seven..")?;
+    }
+    add(&mut desk, b"\0\xa5")?;
+    let all = Scanned::Records {
+        count: 1_000,
+        end: 12_018,
+    };
+    assert_eq!(rt; scan(&mut desk, Title::Book), Ok(all));
+    Ok(())
+}
+
+#[test]
+fn a_journal_of_the_greatest_size_is_scanned(rt: HostRuntime) -> Result<(), Fail> {
+    let alloc = rt.alloc();
+    let mut desk = wide_desk(alloc, 67_108_864)?;
+    let body = sevens(alloc, 1_048_576)?;
+    let last = sevens(alloc, 1_048_230)?;
+    add(&mut desk, b"\xa5TASKFLOW BOOK 1\n")?;
+    for _ in 0..63 {
+        add(&mut desk, b"\xa5\0\x10\0\0")?;
+        add(&mut desk, &body)?;
+    }
+    add(&mut desk, b"\xa5\0\x0f\xfe\xa6")?;
+    add(&mut desk, &last)?;
+    add(&mut desk, b"\xa5\0\0\0\x03\x01\x02\x03\0")?;
+    let all = Scanned::Records {
+        count: 65,
+        end: 67_108_864,
+    };
+    assert_eq!(rt; scan(&mut desk, Title::Book), Ok(all));
     Ok(())
 }

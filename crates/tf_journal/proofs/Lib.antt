@@ -11,3 +11,4 @@ pub mod PathLemmas
 pub mod OpenLemmas
 pub mod UnbornLemmas
 pub mod ReadingLemmas
+mod WindowLemmas

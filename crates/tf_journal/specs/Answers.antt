@@ -1,10 +1,14 @@
 -- What the answers of a journal's calls say of its file.
-use Rattle.std.specs.Prelude.{◌≡◌, ◌≢◌, ℕ, List, Option, Some, None}
+use Rattle.std.specs.Prelude.{◌≡◌, ◌≢◌, ℕ, ◌≤◌, List, length, Option, Some, None}
 use Rattle.tf_desk.specs.Crash.{Rises}
 use Rattle.tf_desk.specs.State.{DeskState}
 use Rattle.tf_journal.specs.declared.faults.JournalFault.{JournalFault}
 use Rattle.tf_journal.specs.declared.faults.JournalFault.TheVariants.{Disk, NotABook, Unborn, Memory}
-use Rattle.tf_journal.specs.Format.{Found, closed, body, bad, Recovered, unborn, not_a_book}
+use Rattle.tf_journal.specs.declared.faults.ScanFault.{ScanFault}
+use Rattle.tf_journal.specs.declared.faults.ScanFault.TheVariants as scan_fault
+use Rattle.tf_journal.specs.declared.scanning.Scanned.{Scanned}
+use Rattle.tf_journal.specs.declared.scanning.Scanned.TheVariants as scanned
+use Rattle.tf_journal.specs.Format.{SIZE_LIMIT, Found, closed, body, bad, Recovered, unborn, bodies, not_a_book, recovered, LiesAs}
 
 -- a file was refused for what it is; a fault of the disk and want of memory say nothing of it
 abbrev pub RefusesFile : JournalFault → Recovered → Type 0
@@ -48,3 +52,23 @@ FailsToCreate Disk old new = Rises old.disk_faults new.disk_faults
 FailsToCreate Memory old new = Unit {0}
 FailsToCreate Unborn old new = ⊥
 FailsToCreate (NotABook offset byte) old new = ⊥
+
+-- the file is unborn, or a journal with so many bodies, which end at that place
+abbrev pub IsScanned : Scanned → List ℕ → List ℕ → Type 0
+IsScanned scanned.Unborn title bytes = recovered title bytes ≡ unborn
+IsScanned (scanned.Records count end) title bytes = (held : List (List ℕ)) × (recovered title bytes ≡ bodies held) × (count ≡ length held) × LiesAs title held end bytes
+
+-- the place is one at which a journal may end
+abbrev pub EndsWithin : Scanned → Type 0
+EndsWithin scanned.Unborn = Unit {0}
+EndsWithin (scanned.Records count end) = (18 ≤ end) × (end ≤ SIZE_LIMIT)
+
+-- the file was refused for what it is; a fault of the disk says nothing of it
+abbrev pub RefusesScan : ScanFault → Recovered → Type 0
+RefusesScan scan_fault.Disk file = Unit {0}
+RefusesScan (scan_fault.NotABook offset byte) file = file ≡ not_a_book offset byte
+
+-- a disk fault comes only where their count rose
+abbrev pub RisesAtDisk : ScanFault → DeskState → DeskState → Type 0
+RisesAtDisk scan_fault.Disk old new = Rises old.disk_faults new.disk_faults
+RisesAtDisk (scan_fault.NotABook offset byte) old new = Unit {0}

@@ -1,6 +1,9 @@
 -- How far a reading of a journal's records has come.
-use Rattle.std.specs.Prelude.{◌≡◌, ℕ, ◌+◌, ◌≤◌, ◌<◌, List, [], ◌∷◌, ◌++◌, length, take}
+use Rattle.std.specs.Prelude.{◌≡◌, ℕ, ◌+◌, ◌≤◌, ◌<◌, List, [], ◌∷◌, ◌++◌, length, take, drop}
 use Rattle.std.specs.List.{flat_map}
+use Rattle.tf_journal.specs.declared.scanning.Scanned.{Scanned}
+use Rattle.tf_journal.specs.declared.scanning.Scanned.TheVariants as scanned
+use Rattle.tf_journal.specs.declared.window.Window.{Window}
 use Rattle.tf_journal.specs.declared.scanning.Look.{Look}
 use Rattle.tf_journal.specs.declared.scanning.Look.TheVariants.{Closed, Body, Bad}
 use Rattle.tf_journal.specs.Format.{SIZE_LIMIT, record_of, closed, body, bad, record_at, Recovered, with_body, records_from, IsBody, AreBodies}
@@ -39,10 +42,21 @@ pub record Reaches (bytes : List ℕ) (held : List (List ℕ)) (place : ℕ) : T
   pub fit : AreBodies held
   pub left : (most : ℕ) × (most + length held ≡ length bytes) × (records_from (length bytes) bytes 17 ≡ with_bodies held (records_from most bytes place))
 
--- these bodies stand up to a gate that isn't open, which that place is behind
-pub record EndsRecords (bytes : List ℕ) (end : ℕ) : Type 0 where
+-- so many bodies stand up to a gate that isn't open, which that place is behind
+pub record EndsRecords (bytes : List ℕ) (count end : ℕ) : Type 0 where
   pub held : List (List ℕ)
+  pub many : count ≡ length held
   pub place : ℕ
   pub reaches : Reaches bytes held place
   pub ends : record_at bytes place ≡ closed
   pub behind : end ≡ place + 1
+
+-- so many bodies end at that place
+abbrev pub EndsScanned : Scanned → List ℕ → Type 0
+EndsScanned scanned.Unborn bytes = ⊥
+EndsScanned (scanned.Records count end) bytes = EndsRecords bytes count end
+
+-- a window's bytes are the file's from its start on, and its size is the file's
+pub record IsWindow (file : List ℕ) (window : Window) : Type 0 where
+  pub part : take window.count window.bytes ≡ take window.count (drop window.start file)
+  pub whole : length file ≡ window.size

@@ -8,6 +8,14 @@ pub enum JournalFault {
     Memory,
 }
 
+/// Why a file wasn't scanned: the disk failed, or the file is no journal, which the byte at that offset shows or
+/// the file's end.
+#[derive(Clone, Copy, Debug, PartialEq, Eq)]
+pub enum ScanFault {
+    Disk,
+    NotABook { offset: u64, byte: Option<u8> },
+}
+
 /// Why a body wasn't appended: the disk failed, the journal is full, of that size where `need` bytes more
 /// were asked for, or an earlier append found a disk fault.
 #[derive(Clone, Copy, Debug, PartialEq, Eq)]

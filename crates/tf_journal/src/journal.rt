@@ -10,7 +10,7 @@ use crate::birth::bear;
 use crate::faults::{AppendFault, JournalFault};
 use crate::gates::write_gated;
 use crate::reading::read_record;
-use crate::scanning::{BODY_LIMIT, SIZE_LIMIT, scan};
+use crate::scanning::{BODY_LIMIT, SIZE_LIMIT, find_end};
 use crate::title::Title;
 use std::alloc::Global;
 use std::marker::Model;
@@ -115,7 +115,7 @@ impl<K: Desk> Journal<K> {
         ensures cause { IfErr result (λ back. back.1 ≡ JournalFault.Disk
             → Rises (K.state desk).disk_faults (K.state back.0).disk_faults) }
     {
-        match scan(&mut desk, title) {
+        match find_end(&mut desk, title) {
             Ok(size) => match Vec::with_capacity(alloc, TAIL_LIMIT) {
                 Ok(buffer) => Ok(Journal {
                     desk,

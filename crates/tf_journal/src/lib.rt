@@ -10,8 +10,10 @@ mod journal;
 mod reading;
 mod scanning;
 mod title;
+mod window;
 
 pub use bodies::next_body;
-pub use faults::{AppendFault, JournalFault, LoadFault};
+pub use faults::{AppendFault, JournalFault, LoadFault, ScanFault};
 pub use journal::Journal;
+pub use scanning::{Scanned, scan};
 pub use title::Title;

@@ -1,14 +1,15 @@
 //! What a journal's file is, read a few bytes at a time.
 ghost use Rattle.std.specs.Prelude.{◌≡◌, ◌≢◌, ◌<◌, ◌+◌, ◌*◌, ◌≤◌, List, ℕ, IsTrue, length, take, drop, IfOk, IfErr, OnOk, MatchResult, Err};
 ghost use Rattle.tf_desk.specs.State.{bytes_now, IsDurable, Rests, FailsOnDisk};
-ghost use Rattle.tf_journal.specs.Answers.{RefusesFile, FailsToScan};
+ghost use Rattle.tf_journal.specs.Answers.{RefusesFile, FailsToScan, IsScanned, EndsWithin, RefusesScan, RisesAtDisk};
 ghost use Rattle.tf_journal.specs.Format.{bodies, records_from, recovered, title_of, LiesAs, HasSynced, IsSynced};
-ghost use Rattle.tf_journal.specs.Reach.{IsNear, Shows, EndsRecords};
+ghost use Rattle.tf_journal.specs.Reach.{IsNear, Shows, EndsScanned, IsWindow};
 
-use crate::faults::JournalFault;
+use crate::faults::{JournalFault, ScanFault};
 use crate::gates::OPEN;
 use crate::header::{Header, read_header};
 use crate::title::Title;
+use crate::window::Window;
 use tf_desk::{Desk, DeskFault};
 
 /// The greatest length of a body.
@@ -18,10 +19,18 @@ pub const BODY_LIMIT: u64 = 1_048_576;
 pub const SIZE_LIMIT: u64 = 67_108_864;
 
 /// What a look at a place shows: a gate that isn't open, a record with a body of that length, or none.
+#[derive(Drop)]
 pub enum Look {
     Closed,
     Body { length: u64 },
     Bad { offset: u64, byte: Option<u8> },
+}
+
+/// What a file is: unborn, or a journal with so many records, and the place after the gate that ends them.
+#[derive(Clone, Copy, Debug, PartialEq, Eq)]
+pub enum Scanned {
+    Unborn,
+    Records { count: u64, end: u64 },
 }
 
 /// The length that four bytes spell, the greatest part first.
@@ -80,23 +89,61 @@ pub fn look_at<K: Desk>(desk: &mut K, place: u64) -> Result<Look, DeskFault>
     Ok(read_head(&head[..count], size, place))
 }
 
-/// Reads the records from place 17 on, and answers the place after the gate that ends them.
-fn scan_records<K: Desk>(desk: &mut K) -> Result<u64, JournalFault>
-    ensures scanned { IsTrue (K.state desk.old).tells → 18 ≤ length (bytes_now (K.state desk.old))
-        → MatchResult result (λ end. EndsRecords (bytes_now (K.state desk.old)) end)
-        (λ fault. RefusesFile fault
-        (records_from (length (bytes_now (K.state desk.old))) (bytes_now (K.state desk.old)) 17)) }
-    ensures bounds { IfOk result (λ end. (18 ≤ end) × (end ≤ 67108864)) }
+/// Whether a record isn't one only because the file ends too early.
+fn is_cut(look: &Look) -> bool {
+    matches!(look, Look::Bad { byte: None, .. })
+}
+
+/// Looks at the record whose gate is at that place through the window, whose file has that size as asked for last.
+/// Where the file ends too early the size is asked for again: another program may have added the record meanwhile.
+fn look_through<K: Desk>(desk: &mut K, window: &mut Window, place: u64) -> Result<Look, DeskFault>
+    requires { place < SIZE_LIMIT }
+    ensures near { IfOk result (λ look. IsNear look place) }
+    ensures shows { IfOk result (λ look. IsTrue (K.state desk.old).tells
+        → IsWindow (bytes_now (K.state desk.old)) window.old → Shows look (bytes_now (K.state desk.old)) place) }
+    ensures window { OnOk result (IsTrue (K.state desk.old).tells
+        → IsWindow (bytes_now (K.state desk.old)) window.old → IsWindow (bytes_now (K.state desk.old)) window.new) }
     ensures rests { Rests (K.state desk.old) (K.state desk.new) }
-    ensures fails { IfErr result (λ fault. FailsToScan fault (K.state desk.old) (K.state desk.new)) }
+    ensures fails { IfErr result (λ fault. FailsOnDisk fault (K.state desk.old) (K.state desk.new)) }
 {
+    let mut head = [0; 5];
+    let count = window.read(desk, place, &mut head)?;
+    let look = read_head(&head[..count], window.size, place);
+    if !is_cut(&look) {
+        return Ok(look);
+    }
+    window.size = desk.size()?;
+    Ok(read_head(&head[..count], window.size, place))
+}
+
+/// Reads the records from place 17 on of a file of that size.
+fn scan_records<K: Desk>(desk: &mut K, size: u64) -> Result<Scanned, ScanFault>
+    requires { IsTrue (K.state desk.old).tells → length (bytes_now (K.state desk.old)) ≡ size }
+    ensures scanned { IsTrue (K.state desk.old).tells → 18 ≤ length (bytes_now (K.state desk.old))
+        → MatchResult result (λ scanned. EndsScanned scanned (bytes_now (K.state desk.old)))
+        (λ fault. RefusesScan fault
+        (records_from (length (bytes_now (K.state desk.old))) (bytes_now (K.state desk.old)) 17)) }
+    ensures bounds { IfOk result EndsWithin }
+    ensures rests { Rests (K.state desk.old) (K.state desk.new) }
+    ensures fails { IfErr result (λ fault. RisesAtDisk fault (K.state desk.old) (K.state desk.new)) }
+{
+    let mut window = Window::make(size);
     let mut place = 17;
+    let mut count = 0;
     loop {
-        match look_at(desk, place) {
-            Ok(Look::Closed) => return Ok(place + 1),
-            Ok(Look::Body { length }) => place += 5 + length,
-            Ok(Look::Bad { offset, byte }) => return Err(JournalFault::NotABook { offset, byte }),
-            Err(_) => return Err(JournalFault::Disk),
+        match look_through(desk, &mut window, place) {
+            Ok(Look::Closed) => {
+                return Ok(Scanned::Records {
+                    count,
+                    end: place + 1,
+                });
+            }
+            Ok(Look::Body { length }) => {
+                place += 5 + length;
+                count += 1;
+            }
+            Ok(Look::Bad { offset, byte }) => return Err(ScanFault::NotABook { offset, byte }),
+            Err(_) => return Err(ScanFault::Disk),
         }
     }
 }
@@ -122,10 +169,36 @@ pub fn read_start<K: Desk>(desk: &mut K, head: &mut [u8; 18]) -> Result<(u64, us
     Ok((size, count))
 }
 
-/// What the picked file is, by all its bytes: of a journal the place after the gate that ends its records.
-/// `Unborn` and `NotABook` come exactly where the file is so, and `Disk` only where the count of disk faults
-/// rose. The file is synced first.
-pub fn scan<K: Desk>(desk: &mut K, title: Title) -> Result<u64, JournalFault>
+/// What the picked file is, by all its bytes: unborn, or a journal of that title with so many records. `NotABook`
+/// comes exactly where the file is so, and `Disk` only where the count of disk faults rose. The file is synced first,
+/// and none changes. It takes no memory: records are read through a window, whose one read serves all that lie in it.
+pub fn scan<K: Desk>(desk: &mut K, title: Title) -> Result<Scanned, ScanFault>
+    ensures scanned { IsTrue (K.state desk.old).tells → MatchResult result
+        (λ scanned. IsScanned scanned (title_of title) (bytes_now (K.state desk.old)))
+        (λ fault. RefusesScan fault (recovered (title_of title) (bytes_now (K.state desk.old)))) }
+    ensures durable { OnOk result (IsTrue (K.state desk.old).tells → IsDurable (K.state desk.new)) }
+    ensures bounds { IfOk result EndsWithin }
+    ensures rests { Rests (K.state desk.old) (K.state desk.new) }
+    ensures synced { IsTrue (K.state desk.old).tells
+        → IsSynced (K.state desk.old) (K.state desk.new) }
+    ensures at_sync { IsTrue (K.state desk.old).tells → result ≢ Err ScanFault.Disk
+        → HasSynced (K.state desk.old) (K.state desk.new) }
+    ensures fails { IfErr result (λ fault. RisesAtDisk fault (K.state desk.old) (K.state desk.new)) }
+{
+    let mut head = [0; 18];
+    let Ok((size, count)) = read_start(desk, &mut head) else {
+        return Err(ScanFault::Disk);
+    };
+    match read_header(&head[..count], size, title) {
+        Header::Unborn => Ok(Scanned::Unborn),
+        Header::Bad { offset, byte } => Err(ScanFault::NotABook { offset, byte }),
+        Header::Titled => scan_records(desk, size),
+    }
+}
+
+/// The place after the gate that ends the picked file's records. `Unborn` and `NotABook` come exactly where the file is
+/// so, and `Disk` only where the count of disk faults rose. The file is synced first.
+pub fn find_end<K: Desk>(desk: &mut K, title: Title) -> Result<u64, JournalFault>
     ensures scanned { IsTrue (K.state desk.old).tells → MatchResult result
         (λ end. (held : List (List ℕ)) × (recovered (title_of title) (bytes_now (K.state desk.old)) ≡ bodies held)
         × LiesAs (title_of title) held end (bytes_now (K.state desk.new)))
@@ -139,13 +212,10 @@ pub fn scan<K: Desk>(desk: &mut K, title: Title) -> Result<u64, JournalFault>
         → HasSynced (K.state desk.old) (K.state desk.new) }
     ensures fails { IfErr result (λ fault. FailsToScan fault (K.state desk.old) (K.state desk.new)) }
 {
-    let mut head = [0; 18];
-    let Ok((size, count)) = read_start(desk, &mut head) else {
-        return Err(JournalFault::Disk);
-    };
-    match read_header(&head[..count], size, title) {
-        Header::Unborn => Err(JournalFault::Unborn),
-        Header::Bad { offset, byte } => Err(JournalFault::NotABook { offset, byte }),
-        Header::Titled => scan_records(desk),
+    match scan(desk, title) {
+        Ok(Scanned::Records { count: _, end }) => Ok(end),
+        Ok(Scanned::Unborn) => Err(JournalFault::Unborn),
+        Err(ScanFault::NotABook { offset, byte }) => Err(JournalFault::NotABook { offset, byte }),
+        Err(ScanFault::Disk) => Err(JournalFault::Disk),
     }
 }

@@ -2,10 +2,12 @@ use Rattle.std.proofs.Common.{◌≡◌, ℕ, List, length, take, IsTrue, Result
 use Rattle.std.proofs.lemmas.Result.{MatchResult-weaker}
 use Rattle.tf_desk.specs.State.{bytes_now, IsDurable}
 use Rattle.tf_desk.proofs.StateLemmas.{on_disk_told, bytes_stay, durable_on}
-use Rattle.tf_journal.specs.declared.faults.JournalFault.{JournalFault}
-use Rattle.tf_journal.specs.Format.{OPEN, bodies, recovered, records_from, title_of, LiesAs}
-use Rattle.tf_journal.specs.Answers.{RefusesFile}
-use Rattle.tf_journal.specs.Reach.{EndsRecords}
+use Rattle.tf_journal.specs.declared.faults.ScanFault.{ScanFault}
+use Rattle.tf_journal.specs.declared.scanning.Scanned.{Scanned}
+use Rattle.tf_journal.specs.declared.scanning.Scanned.TheVariants as scanned
+use Rattle.tf_journal.specs.Format.{OPEN, recovered, records_from, title_of, LiesAs}
+use Rattle.tf_journal.specs.Answers.{IsScanned, RefusesScan}
+use Rattle.tf_journal.specs.Reach.{EndsRecords, EndsScanned}
 use Rattle.tf_journal.proofs.ReachLemmas.{reach_closed, reach_lies}
 use Rattle.tf_journal.proofs.HeaderLemmas.{sixteen}
 use Rattle.tf_journal.proofs.scanning.scan.Goals as goal
@@ -21,23 +23,23 @@ returns-in-Titled-clause-scanned g c =
     λ told.
     let still : IsTrue (S mid).tells = on_disk_told c.read_start.ensures.rests.on_disk told in
     let same : bytes_now (S mid) ≡ bytes = bytes_stay (c.read_start.ensures.rests.files told) in
-    let last : bytes_now (S new) ≡ bytes = bytes_stay (c.scan_records.ensures.rests.files still) ∙ same in
     let size : length bytes ≡ c.in-Ok.size = c.in-Ok.ensures.size told in
     let titled = c.in-Titled.ensures bytes (c.in-Ok.ensures.bytes told) size in
-    let scanned = c.scan_records.ensures.scanned still (omega (arith, titled.1, ap length same)) in
-    MatchResult-weaker c.scan_records.result {P = λ end. EndsRecords (bytes_now (S mid)) end} {P' = λ end. (held : List (List ℕ)) × (recovered title bytes ≡ bodies held) × LiesAs title held end (bytes_now (S new))}
-    {Q = λ fault. RefusesFile fault (records_from (length (bytes_now (S mid))) (bytes_now (S mid)) 17)} {Q' = λ fault. RefusesFile fault (recovered title bytes)}
-    scanned
-    (λ end ends. lies_in title bytes (bytes_now (S mid)) (bytes_now (S new)) end same last (sixteen c.args.title) titled.0 titled.2 ends)
-    (λ fault refuses. subst (RefusesFile fault) (ap (λ (b : List ℕ). records_from (length b) b 17) same ∙ sym titled.2) refuses)
+    let ends = c.scan_records.ensures.scanned still (omega (arith, titled.1, ap length same)) in
+    MatchResult-weaker c.scan_records.result {P = λ found. EndsScanned found (bytes_now (S mid))} {P' = λ found. IsScanned found title bytes}
+    {Q = λ fault. RefusesScan fault (records_from (length (bytes_now (S mid))) (bytes_now (S mid)) 17)} {Q' = λ fault. RefusesScan fault (recovered title bytes)}
+    ends
+    (λ found its. lies_in title bytes (bytes_now (S mid)) found same (sixteen c.args.title) titled.0 titled.2 its)
+    (λ fault refuses. subst (RefusesScan fault) (ap (λ (b : List ℕ). records_from (length b) b 17) same ∙ sym titled.2) refuses)
   where
-    lies_in : (title bytes mid new : List ℕ) (end : ℕ) → mid ≡ bytes → new ≡ bytes → length title ≡ 16 → take 17 bytes ≡ OPEN ∷ title → recovered title bytes ≡ records_from (length bytes) bytes 17 → EndsRecords mid end
-        → (held : List (List ℕ)) × (recovered title bytes ≡ bodies held) × LiesAs title held end new
-    lies_in title bytes mid new end same last long prefix whole ends =
-        let e : EndsRecords bytes end = subst (λ (b : List ℕ). EndsRecords b end) same ends in (
+    lies_in : (title bytes mid : List ℕ) (found : Scanned) → mid ≡ bytes → length title ≡ 16 → take 17 bytes ≡ OPEN ∷ title → recovered title bytes ≡ records_from (length bytes) bytes 17 → EndsScanned found mid → IsScanned found title bytes
+    lies_in title bytes mid scanned.Unborn same long prefix whole ends = absurd ends
+    lies_in title bytes mid (scanned.Records count end) same long prefix whole ends =
+        let e : EndsRecords bytes count end = subst (λ (b : List ℕ). EndsRecords b count end) same ends in (
           e.held,
           whole ∙ reach_closed bytes e.held e.place e.reaches e.ends,
-          subst (λ (b : List ℕ). LiesAs title e.held end b) (sym last) (subst (λ (n : ℕ). LiesAs title e.held n bytes) (sym e.behind) (reach_lies title bytes e.held e.place prefix long e.reaches e.ends)),
+          e.many,
+          subst (λ (n : ℕ). LiesAs title e.held n bytes) (sym e.behind) (reach_lies title bytes e.held e.place prefix long e.reaches e.ends),
         )
 
 pub returns-in-Titled-clause-durable : goal.returns-in-Titled-clause-durable
@@ -50,6 +52,6 @@ returns-in-Titled-clause-durable g c =
     durable_on (c.scan_records.ensures.rests.files still) (c.in-Ok.ensures.durable told) in
     ok_anyway c.scan_records.result (IsTrue (S c.args.desk.now).tells → IsDurable (S new)) kept
   where
-    ok_anyway : (r : Result ℕ JournalFault) (P : Type 0) → P → OnOk r P
+    ok_anyway : (r : Result Scanned ScanFault) (P : Type 0) → P → OnOk r P
     ok_anyway (Ok n) P p = p
     ok_anyway (Err f) P p = tt

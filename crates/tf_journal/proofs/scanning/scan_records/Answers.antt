@@ -1,21 +1,23 @@
-use Rattle.std.proofs.Common.{◌≡◌, ℕ, ◌+◌, List, [], ◌∷◌, ◌++◌, length, subst, arith}
+use Rattle.std.proofs.Common.{◌≡◌, ℕ, ◌+◌, List, [], ◌∷◌, ◌++◌, length, refl, sym, subst, arith, length-append}
 use Rattle.tf_desk.specs.State.{bytes_now}
 use Rattle.tf_desk.proofs.StateLemmas.{on_disk_told, bytes_stay, rests_none, rests_on}
-use Rattle.tf_journal.specs.Reach.{IsNear, Shows, Reaches}
+use Rattle.tf_journal.specs.Reach.{IsNear, Shows, Reaches, IsWindow}
 use Rattle.tf_journal.specs.declared.scanning.Look.{Look}
-use Rattle.tf_journal.specs.declared.scanning.Look.TheVariants.{Body, Bad}
+use Rattle.tf_journal.specs.declared.scanning.Look.TheVariants.{Closed, Body, Bad}
 use Rattle.tf_journal.proofs.ReachLemmas.{reach_start, reach_on, reach_bad}
 use Rattle.tf_journal.proofs.scanning.scan_records.Goals as goal
 
 pub loop-length-init : goal.loop-length-init
 loop-length-init g c = record {
   place = (omega arith, omega arith);
+  few = omega arith;
+  window = λ told. c.make-window.ensures.shows (bytes_now (g.K.Desk.state c.args.desk.now)) (c.requires told);
   rests = rests_none;
-  reaches = λ told whole. ([], reach_start (bytes_now (g.K.Desk.state c.args.desk.now)) (omega (arith, whole)));
+  reaches = λ told whole. ([], refl, reach_start (bytes_now (g.K.Desk.state c.args.desk.now)) (omega (arith, whole)));
 }
 
 pub returns-in-Ok-Closed-clause-rests : goal.returns-in-Ok-Closed-clause-rests
-returns-in-Ok-Closed-clause-rests g c = rests_on c.loop-length.invariant.rests c.look_at.ensures.rests
+returns-in-Ok-Closed-clause-rests g c = rests_on c.loop-length.invariant.rests c.look_through.ensures.rests
 
 pub loop-length-preserved : goal.loop-length-preserved
 loop-length-preserved g c =
@@ -26,14 +28,43 @@ loop-length-preserved g c =
     let near : IsNear (Body c.in-Ok-Body.length) c.loop-length.place = subst (λ (l : Look). IsNear l c.loop-length.place) c.in-Ok-Body.field-0-is c.in-Ok-Body.ensures.near in
     record {
       place = (omega (arith, had.place.0), omega (arith, near));
+      few = omega (arith, had.few);
+      window = λ told.
+          let same : mid ≡ old = bytes_stay (had.rests.files told) in
+          let before = subst (λ (b : List ℕ). IsWindow b c.loop-length.window) (sym same) (had.window told) in
+          subst (λ (b : List ℕ). IsWindow b c.look_through.new.window) same (c.in-Ok-Body.ensures.window (on_disk_told had.rests.on_disk told) before);
       rests = rests_on had.rests c.in-Ok-Body.ensures.rests;
       reaches = λ told whole.
           let r = had.reaches told whole in
           let same : mid ≡ old = bytes_stay (had.rests.files told) in
-          let shown : Shows (Body c.in-Ok-Body.length) mid c.loop-length.place = subst (λ (l : Look). Shows l mid c.loop-length.place) c.in-Ok-Body.field-0-is (c.in-Ok-Body.ensures.shows (on_disk_told had.rests.on_disk told)) in
+          let before = subst (λ (b : List ℕ). IsWindow b c.loop-length.window) (sym same) (had.window told) in
+          let shown : Shows (Body c.in-Ok-Body.length) mid c.loop-length.place = subst (λ (l : Look). Shows l mid c.loop-length.place) c.in-Ok-Body.field-0-is (c.in-Ok-Body.ensures.shows (on_disk_told had.rests.on_disk told) before) in
           let here : Shows (Body c.in-Ok-Body.length) old c.loop-length.place = subst (λ (b : List ℕ). Shows (Body c.in-Ok-Body.length) b c.loop-length.place) same shown in
-          let next : c.loop-length.place + 5 + length here.0 ≡ c.loop-length.place + (5 + c.in-Ok-Body.length) = omega (arith, here.1) in
-          (r.0 ++ here.0 ∷ [], subst (Reaches old (r.0 ++ here.0 ∷ [])) next (reach_on old r.0 c.loop-length.place here.0 r.1 here.2));
+          let next : c.loop-length.place + 5 + length here.0 ≡ c.loop-length.place + (5 + c.in-Ok-Body.length) = omega (arith, here.1) in (
+            r.0 ++ here.0 ∷ [],
+            omega (arith, r.1, length-append r.0 (here.0 ∷ [])),
+            subst (Reaches old (r.0 ++ here.0 ∷ [])) next (reach_on old r.0 c.loop-length.place here.0 r.2 here.2),
+          );
+    }
+
+pub returns-in-Ok-Closed-clause-scanned : goal.returns-in-Ok-Closed-clause-scanned
+returns-in-Ok-Closed-clause-scanned g c =
+    let S = g.K.Desk.state in
+    let old = bytes_now (S c.args.desk.now) in
+    let mid = bytes_now (S c.loop-length.desk) in
+    let had = c.loop-length.invariant in
+    λ told whole.
+    let r = had.reaches told whole in
+    let same : mid ≡ old = bytes_stay (had.rests.files told) in
+    let before = subst (λ (b : List ℕ). IsWindow b c.loop-length.window) (sym same) (had.window told) in
+    let shown : Shows Closed mid c.loop-length.place = subst (λ (l : Look). Shows l mid c.loop-length.place) c.in-Ok-Closed.field-0-is (c.in-Ok-Closed.ensures.shows (on_disk_told had.rests.on_disk told) before) in
+    record {
+      held = r.0;
+      many = r.1;
+      place = c.loop-length.place;
+      reaches = r.2;
+      ends = subst (λ (b : List ℕ). Shows Closed b c.loop-length.place) same shown;
+      behind = omega arith;
     }
 
 pub returns-in-Ok-Bad-clause-scanned : goal.returns-in-Ok-Bad-clause-scanned
@@ -45,9 +76,13 @@ returns-in-Ok-Bad-clause-scanned g c =
     λ told whole.
     let r = had.reaches told whole in
     let same : mid ≡ old = bytes_stay (had.rests.files told) in
-    let shown : Shows (Bad c.in-Ok-Bad.offset c.in-Ok-Bad.byte) mid c.loop-length.place = subst (λ (l : Look). Shows l mid c.loop-length.place) c.in-Ok-Bad.field-0-is (c.in-Ok-Bad.ensures.shows (on_disk_told had.rests.on_disk told)) in
+    let before = subst (λ (b : List ℕ). IsWindow b c.loop-length.window) (sym same) (had.window told) in
+    let shown : Shows (Bad c.in-Ok-Bad.offset c.in-Ok-Bad.byte) mid c.loop-length.place = subst (λ (l : Look). Shows l mid c.loop-length.place) c.in-Ok-Bad.field-0-is (c.in-Ok-Bad.ensures.shows (on_disk_told had.rests.on_disk told) before) in
     let here : Shows (Bad c.in-Ok-Bad.offset c.in-Ok-Bad.byte) old c.loop-length.place = subst (λ (b : List ℕ). Shows (Bad c.in-Ok-Bad.offset c.in-Ok-Bad.byte) b c.loop-length.place) same shown in
-    reach_bad old r.0 c.loop-length.place c.in-Ok-Bad.offset c.in-Ok-Bad.byte r.1 here
+    reach_bad old r.0 c.loop-length.place c.in-Ok-Bad.offset c.in-Ok-Bad.byte r.2 here
 
 pub returns-in-Ok-Bad-clause-rests : goal.returns-in-Ok-Bad-clause-rests
-returns-in-Ok-Bad-clause-rests g c = rests_on c.loop-length.invariant.rests c.look_at.ensures.rests
+returns-in-Ok-Bad-clause-rests g c = rests_on c.loop-length.invariant.rests c.look_through.ensures.rests
+
+pub returns-in-Err-clause-rests : goal.returns-in-Err-clause-rests
+returns-in-Err-clause-rests g c = rests_on c.loop-length.invariant.rests c.look_through.ensures.rests
