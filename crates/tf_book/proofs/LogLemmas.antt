@@ -1,11 +1,11 @@
 -- How an append and a line that is said after it go together.
-use Rattle.std.proofs.Common.{◌≡◌, inl, inr, ⊎_elim, ℕ, ◌+◌, ◌≤◌, Bool, List, [], length, Option, Some, None, refl, sym, ◌∙◌, ap, subst, append-nil, arith}
+use Rattle.std.proofs.Common.{◌≡◌, inl, inr, ⊎_elim, ℕ, ◌+◌, ◌≤◌, Bool, List, [], ◌∷◌, ◌++◌, length, Option, Some, None, refl, sym, ◌∙◌, ap, subst, append-nil, length-append, arith}
 use Rattle.std.specs.Prelude.{IsTrue, true, Result, Ok, Err, IfErr}
 use Rattle.tf_desk.specs.Crash.{Rises, shown_with, ShowsPrefix}
 use Rattle.tf_desk.specs.State.{DeskState, anything, FilesStay, GoesOn, Says, Asks, passes_none, passes_on}
 use Rattle.tf_desk.proofs.StateLemmas.{files_none, bytes_stay, left_stays, on_disk_told, continues_on, goes_continues, says_continues}
 use Rattle.tf_journal.specs.Adding.{Adds, AddsAtMost, Grows}
-use Rattle.tf_journal.specs.Format.{SIZE_LIMIT, recovered, title_of, Held, IsAtRest, AtRest, LeavesBeforeOrAfter}
+use Rattle.tf_journal.specs.Format.{SIZE_LIMIT, prefix_of, recovered, title_of, Held, IsAtRest, AtRest, LeavesBeforeOrAfter}
 use Rattle.tf_journal.proofs.CrashLemmas.{at_rest_on}
 use Rattle.tf_book.specs.SessionInvariant.{said_of, journal_after, IsSaid, IsCaused, FailsToSay, LeavesLogged, StaysOffDisk, Logged}
 use Rattle.tf_book.specs.declared.faults.Halt.{Halt}
@@ -103,7 +103,8 @@ module _ {K : Type 0} (state : K → DeskState) where
     off_disk = λ volatile. off_on (off_same state old.desk mid.desk (still volatile)) (λ told. on_disk_told goes.on_disk told) (off_says says);
     records = λ on opened held rest. (let added = adds opened held rest in let stay = says.files (on_disk_told goes.on_disk opened.told) in record {
       rest = said_at_rest same stay added.rest;
-      exact = λ just. bytes_stay stay ∙ added.exact just;
+      exact = λ just. bytes_stay stay
+          ∙ added.exact (ap length just ∙ length-append (prefix_of (title_of old.title) held) (0 ∷ []) ∙ sym rest.lies.place);
     });
     at_most = λ opened held rest. (let added = adds opened held rest in let told = on_disk_told goes.on_disk opened.told in record {
       crash = passes_on (at_most opened held rest).crash (says.crash told) (appended_logged (title_of old.title) held body line (state old.desk).shown)

@@ -20,7 +20,7 @@ use Rattle.tf_book.specs.declared.faults.Halt.{Halt}
 use Rattle.tf_book.specs.declared.faults.Halt.TheVariants as halt
 use Rattle.tf_commands.specs.Begun.{desk_in, IsRecordless, IsFoundAs, IsFoundBlank, MayBegin, IsExactSoFar, LeavesNoFlow, IsQuiet, FailsToBegin, Begins, Unbegun}
 use Rattle.tf_commands.specs.Books.{IsFile}
-use Rattle.tf_commands.specs.Run.{book_in, book_at, HoldsNoFlow, FindsHistory, IsFreshFile}
+use Rattle.tf_commands.specs.Run.{book_in, book_at, HoldsNoFlow, FindsHistory}
 use Rattle.tf_commands.specs.Runs.{book_desk}
 use Rattle.tf_commands.specs.declared.books.Blank.{Blank}
 use Rattle.tf_commands.specs.declared.books.Blank.TheVariants as blank
@@ -54,14 +54,6 @@ err_on (Err b) has gives is on = on b is
 pub not_halted : (why : Option Halt) → why ≡ None → why ≢ Some halt.Disk
 not_halted None is = λ disk. cc
 not_halted (Some other) is = absurd (cc)
-
--- a fresh file in which recovery found a book without a record is as it was created
-created_so : (file : List ℕ) → IsFreshFile file → book_in file ≡ bodies [] → file ≡ journal_bytes (title_of book_title) []
-created_so file (inl none) found = absurd (clash (sym none ∙ found))
-  where
-    clash : unborn ≡ bodies [] → ⊥
-    clash is = cc
-created_so file (inr same) found = same
 
 -- a start failed as a beginning does
 pub start_fails : {K : Type 0} (state : K → DeskState) (plan : PlanValue) (why : BookFault) (old new : K) → FailsToStart state plan why old new → FailsToBegin why (state old) (state new)
@@ -168,12 +160,14 @@ failed_unbegun {name} {entry} {mid} {now} plan u call passes laws none good rose
     (left_by call passes laws told image is))
     (λ unrisen told. absurd (unrisen (omega (arith, u.quiet.disk, rose))))
 
--- a file that was found to be a book without a record is so far as it was created
-pub exact_found : {name : List ℕ} {entry now : DeskState} → Open name entry now → IsFile name entry (λ found. found ≡ bodies []) → ReadsPicked name now → IsExactSoFar name entry now
-exact_found {name} {entry} o found laws told fresh short =
+-- a file of at most 18 bytes that was found to be a book without a record has nothing behind its gate
+pub exact_found : {name : List ℕ} {entry now : DeskState} → Open name entry now → ReadsPicked name now
+    → (IsTrue now.tells → 18 ≤ length (bytes_now now)) → IsExactSoFar name entry now
+exact_found {name} {entry} o laws long told none short =
     let told_entry : IsTrue entry.tells = subst IsTrue o.untouched.told told in
     let read = reads_as (o.set told_entry).picked laws told in
-    sym read.1 ∙ o.untouched.file told_entry ∙ created_so (file_of entry name) fresh (found told_entry)
+    let same = ap length (sym read.1 ∙ o.untouched.file told_entry) in
+    omega (arith, same, short, long told)
 
 -- a crash at the open file leaves no flow, where none was found
 pub unborn_left : {name : List ℕ} {entry now : DeskState} → Open name entry now → IsFile name entry HoldsNoFlow → LeavesNoFlow now
@@ -188,7 +182,7 @@ module _ {K : Type 0} (state : K → DeskState) where
       → book.plan ≡ plan → book.past ≡ [] → book.halt ≡ None → book.journal.volatile ≡ false
       → GoesOn wide mid (book_desk state book) → (IsTrue mid.tells → Passes (LeavesPlan plan mid.shown) mid (book_desk state book))
       → (IsTrue (book_desk state book).tells → LeavesBodies (title_of book_title) (book_desk state book) (bodies_of book.plan book.past))
-      → (IsTrue mid.tells → IsFreshFile (file_of entry name) → length (file_of entry name) ≤ 18 → bytes_now (book_desk state book) ≡ journal_bytes (title_of book_title) (bodies_of plan []))
+      → (IsTrue mid.tells → HoldsNoFlow (book_at entry name) → length (file_of entry name) ≤ 18 → bytes_now (book_desk state book) ≡ journal_bytes (title_of book_title) (bodies_of plan []))
       → IsHistoryOf book.plan book.past
       → Begins state name entry plan book
   begins_on {name} {entry} {mid} plan book u plan_is past_is sound kept call passes rest exact history = record {
@@ -206,7 +200,7 @@ module _ {K : Type 0} (state : K → DeskState) where
               ∙ ap (λ (past : List Entry). bodies (bodies_of book.plan past)) past_is ∙ ap (λ (p : PlanValue). bodies (bodies_of p [])) plan_is;
           history = good;
         });
-    exact = λ told fresh short. exact (told_mid told) fresh short;
+    exact = λ told none short. exact (told_mid told) none short;
   }
     where
       told_mid : IsTrue entry.tells → IsTrue mid.tells
@@ -237,10 +231,12 @@ module _ {K : Type 0} (state : K → DeskState) where
       (λ told. inr (subst (λ (b : Blank K). IsFoundAs b (book_at entry name)) is (so told)))
 
   pub titled_exact : {name : List ℕ} {entry : DeskState} (found : Blank K) (journal : Held K) → found ≡ blank.Titled journal
-      → Open name entry (state (desk_in found)) → IsFoundBlank name entry found → ReadsPicked name (state journal.desk) → IsExactSoFar name entry (state journal.desk)
-  titled_exact {name} {entry} found journal is o so laws =
-      exact_found (subst (λ (b : Blank K). Open name entry (state (desk_in b))) is o)
-      (λ told. subst (λ (b : Blank K). IsFoundAs b (book_at entry name)) is (so told)) laws
+      → Open name entry (state (desk_in found)) → IsRecordless state journal → ReadsPicked name (state journal.desk) → IsExactSoFar name entry (state journal.desk)
+  titled_exact {name} {entry} found journal is o made laws =
+      exact_found (subst (λ (b : Blank K). Open name entry (state (desk_in b))) is o) laws
+      (λ told.
+      let lies = (made.new.ready (record { told = told; sound = made.new.sound; kept = made.kept })).lies in
+      omega (arith, lies.whole, made.new.size))
 
   -- an unborn file that was found
   pub unborn_unbegun : {name : List ℕ} {entry : DeskState} (found : Blank K) (desk : K) (plan : PlanValue) → found ≡ blank.Unborn desk

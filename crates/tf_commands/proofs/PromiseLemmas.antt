@@ -18,7 +18,7 @@ use Rattle.tf_book.proofs.SpokenLemmas.{shown_none}
 use Rattle.tf_journal.proofs.PathLemmas.{set_start, path_said}
 use Rattle.tf_commands.specs.Begun.{Begins, Unbegun}
 use Rattle.tf_commands.specs.Books.{Promised}
-use Rattle.tf_commands.specs.Run.{book_in, book_at, HoldsNoFlow, HoldsHistory, FindsHistory, IsFreshFile, MayLeave, Lasts, MayRun, Ran, RunShows, closed, stopped, disk_failed}
+use Rattle.tf_commands.specs.Run.{book_in, book_at, HoldsNoFlow, HoldsHistory, FindsHistory, MayLeave, Lasts, MayRun, Ran, RunShows, closed, stopped, disk_failed}
 use Rattle.tf_report.specs.Closing.{disk_fault_text, ClosesWith}
 use Rattle.tf_report.specs.declared.statuses.TheConstants.{DISK_FAILED, OUT_OF_MEMORY}
 use Rattle.tf_commands.specs.declared.running.Request.{Request}
@@ -40,11 +40,6 @@ found_leaves first plan quiet before entries pending shown closing image text fi
   finds = finds;
   spoken = inl (record { count = 0; prefix = sym is ∙ sym (shown_none shown) });
 }
-
--- a fresh file holds no flow
-fresh_holds : (file : List ℕ) → IsFreshFile file → HoldsNoFlow (book_in file)
-fresh_holds file (inl unborn_so) = inl unborn_so
-fresh_holds file (inr is) = inr (ap book_in is ∙ refl)
 
 -- a run that couldn't begin: its message was said or cut, or memory ran out
 pub unbegun_promised : (gives : Order → Outcome → Type 0) (request : Request) (asked : Type 0) (name : List ℕ) (plan : PlanValue) (entry mid now : DeskState) (closing : List ℕ) (status : ℕ)
@@ -108,7 +103,7 @@ module _ {K : Type 0} (state : K → DeskState) where
       → Continues (book_desk state book) now → IsTrue (book_desk state book).tells
       → (r : RunLasts state may_be (book_at entry name) book now entries closing)
       → ((image text : List ℕ) → may image text → MayLeave (book_at entry name) book.plan book.quiet book.past entries r.pending entry.shown closing image text)
-      → (IsFreshFile (file_of entry name) → length (file_of entry name) ≤ 18 → IsExact (book_desk state book) book.plan book.past)
+      → (HoldsNoFlow (book_at entry name) → length (file_of entry name) ≤ 18 → IsExact (book_desk state book) book.plan book.past)
       → ReadsPicked name now
       → Lasts may_be name book.plan book.quiet book.past entries entry now closing
   run_lasts may_be name entry book now entries closing path set quiet before call told r widens known laws =
@@ -152,7 +147,7 @@ module _ {K : Type 0} (state : K → DeskState) where
         (run_lasts (MayRun gives request book.plan) name entry book now r.entries r.closing (b.path told) (b.quiet.set told) b.quiet.shown b.quiet.disk r.continues told_book l
         (λ image text may. found_leaves (book_at entry name) book.plan book.quiet book.past r.entries l.pending entry.shown r.closing image text
         (subst (λ (p : PlanValue). FindsHistory (book_at entry name) p book.past (book_in image)) (sym b.plan_is) (subst (λ (past : List Entry). FindsHistory (book_at entry name) plan past (book_in image)) (sym b.past_is) may.0)) may.1)
-        (λ fresh short. b.exact told fresh short ∙ ap (λ (p : PlanValue). journal_bytes (title_of book_title) (bodies_of p [])) (sym b.plan_is)
+        (λ none short. b.exact told none short ∙ ap (λ (p : PlanValue). journal_bytes (title_of book_title) (bodies_of p [])) (sym b.plan_is)
         ∙ ap (λ (past : List Entry). journal_bytes (title_of book_title) (bodies_of book.plan past)) (sym b.past_is))
         laws)));
   }
@@ -173,7 +168,7 @@ module _ {K : Type 0} (state : K → DeskState) where
       run_lasts may_be name entry book now entries closing path (o.set told) o.untouched.quiet o.untouched.disk call told_book l
       (λ image text may. found_leaves (book_at entry name) book.plan book.quiet book.past entries l.pending entry.shown closing image text
       (inl (subst (λ (f : List ℕ). HoldsHistory book.plan book.past (book_in f)) (sym may.0) (holds told))) may.1)
-      (λ none short. absurd (flow_held (book_at entry name) book.plan book.past (fresh_holds (file_of entry name) none) (holds told)))
+      (λ none short. absurd (flow_held (book_at entry name) book.plan book.past none (holds told)))
       laws
 
   -- a run that went on from the history which the book held

@@ -10,7 +10,7 @@ use Rattle.tf_book.specs.Book.{BookValue, bodies_of}
 use Rattle.tf_book.specs.Starting.{HasNoRecord}
 use Rattle.tf_book.specs.declared.faults.BookFault.{BookFault}
 use Rattle.tf_book.specs.declared.faults.BookFault.TheVariants as book_fault
-use Rattle.tf_commands.specs.Run.{book_in, book_at, HoldsNoFlow, HoldsHistory, FindsHistory, IsFreshFile}
+use Rattle.tf_commands.specs.Run.{book_in, book_at, HoldsNoFlow, HoldsHistory, FindsHistory}
 use Rattle.tf_report.specs.Closing.{disk_fault_text, ClosesWith}
 use Rattle.tf_report.specs.declared.statuses.TheConstants.{DISK_FAILED, OUT_OF_MEMORY}
 use Rattle.tf_commands.specs.declared.books.Blank.{Blank}
@@ -51,10 +51,10 @@ IsFoundBlank name entry found = IsTrue entry.tells → IsFoundAs found (book_at 
 abbrev pub MayBegin : Recovered → PlanValue → Option (List ℕ) → Pairs
 MayBegin first plan shown image text = FindsHistory first plan [] (book_in image) × (shown ≡ Some text)
 
--- a file that was fresh and had at most 18 bytes is a book without a record as it was created
+-- where the file held no flow and had at most 18 bytes, nothing stands behind the last gate of the book without a record
 abbrev pub IsExactSoFar : List ℕ → DeskState → DeskState → Type 0
 IsExactSoFar name entry now =
-    IsTrue now.tells → IsFreshFile (file_of entry name) → length (file_of entry name) ≤ 18 → bytes_now now ≡ journal_bytes (title_of book_title) []
+    IsTrue now.tells → HoldsNoFlow (book_at entry name) → length (file_of entry name) ≤ 18 → length (bytes_now now) ≡ 18
 
 -- a crash now leaves no flow
 abbrev pub LeavesNoFlow : DeskState → Type 0
@@ -77,7 +77,7 @@ pub record FailsToBegin (fault : BookFault) (old new : DeskState) : Type 0 where
   pub one : (fault ≡ book_fault.Disk) ⊎ (fault ≡ book_fault.Memory)
   pub cause : fault ≡ book_fault.Disk → Rises old.disk_faults new.disk_faults
 
--- the book of the plan began, with the empty history; where the file had at most 18 bytes, each byte of it is known
+-- the book of the plan began, with the empty history; where the file held no flow and had at most 18 bytes, each byte of it is known
 pub record Begins {K : Type 0} (state : K → DeskState) (name : List ℕ) (entry : DeskState) (plan : PlanValue) (book : BookValue K) : Type 0 where
   pub plan_is : book.plan ≡ plan
   pub past_is : book.past ≡ []
@@ -86,7 +86,7 @@ pub record Begins {K : Type 0} (state : K → DeskState) (name : List ℕ) (entr
   pub quiet : IsQuiet name entry (state book.journal.desk)
   pub path : IsTrue entry.tells → Path name entry (state book.journal.desk) (MayBegin (book_at entry name) plan entry.shown)
       (λ image. HoldsHistory plan [] (book_in image))
-  pub exact : IsTrue entry.tells → IsFreshFile (file_of entry name) → length (file_of entry name) ≤ 18
+  pub exact : IsTrue entry.tells → HoldsNoFlow (book_at entry name) → length (file_of entry name) ≤ 18
       → bytes_now (state book.journal.desk) ≡ journal_bytes (title_of book_title) (bodies_of plan [])
 
 -- it couldn't begin

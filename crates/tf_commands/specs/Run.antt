@@ -101,22 +101,18 @@ abbrev pub HasFile : Recovered → PlanValue → (before entries pending : List 
 HasFile first plan before entries pending file =
     FindsHistory first plan (entries ++ before) (book_in file) ⊎ HoldsHistory plan (pending ++ (entries ++ before)) (book_in file)
 
--- a fresh file: it is unborn, or a book without a record as it was created
-abbrev pub IsFreshFile : List ℕ → Type 0
-IsFreshFile file = (book_in file ≡ unborn) ⊎ (file ≡ journal_bytes (title_of book_title) [])
-
 -- at most one entry is pending behind the history, which it may follow as such an entry does, and only after a fault of the disk
 pub record IsPendingSo (may : List Entry → Entry → Type 0) (plan : PlanValue) (past pending : List Entry) (old new : DeskState) : Type 0 where
   pub few : MayFollow (may past) plan past pending
   pub caused : (pending ≡ []) ⊎ Rises old.disk_faults new.disk_faults
 
--- what is promised of the file and of a crash, where the desk tells its content and such an entry may be recorded; of a fresh file of at most 18 bytes that wasn't met by
--- a fault of the disk each byte is told
+-- what is promised of the file and of a crash, where the desk tells its content and such an entry may be recorded; of a file that held no flow and
+-- had at most 18 bytes, where no fault of the disk came, each byte is told
 pub record Lasts (may : List Entry → Entry → Type 0) (name : List ℕ) (plan : PlanValue) (quiet : Bool) (before entries : List Entry) (entry now : DeskState) (closing : List ℕ) : Type 0 where
   pub pending : List Entry
   pub few : IsPendingSo may plan (entries ++ before) pending entry now
   pub file : HasFile (book_at entry name) plan before entries pending (file_of now name)
-  pub exact : IsFreshFile (file_of entry name) → length (file_of entry name) ≤ 18 → ¬ (Rises entry.disk_faults now.disk_faults)
+  pub exact : HoldsNoFlow (book_at entry name) → length (file_of entry name) ≤ 18 → ¬ (Rises entry.disk_faults now.disk_faults)
       → HoldsHistory plan (entries ++ before) (book_at now name)
       → file_of now name ≡ journal_bytes (title_of book_title) (bodies_of plan (entries ++ before))
   pub others : (other : List ℕ) → other ≢ name → now.content.files other ≡ entry.content.files other

@@ -1,7 +1,7 @@
 -- What an append leaves, by the bytes that it writes.
-use Rattle.std.proofs.Common.{◌≡◌, inl, ⊎_elim, ℕ, ◌+◌, ◌-◌, ◌≤◌, List, [], ◌∷◌, ◌++◌, length, drop, Option, Some, None, refl, sym, ◌∙◌, ap, subst, arith, append-nil, append_assoc, length-append}
+use Rattle.std.proofs.Common.{◌≡◌, inl, ⊎_elim, ℕ, ◌+◌, ◌-◌, ◌≤◌, List, [], ◌∷◌, ◌++◌, length, take, drop, Option, Some, None, refl, sym, ◌∙◌, ap, subst, arith, append-nil, append_assoc, length-append}
 use Rattle.std.specs.List.{flat_map}
-use Rattle.std.proofs.lemmas.List.{take_all, drop_all, take_at, drop_at}
+use Rattle.std.proofs.lemmas.List.{take_all, drop_all, drop_at, take-append-le}
 use Rattle.std.specs.Prelude.{IsTrue, is_some}
 use Rattle.tf_desk.specs.Crash.{written, Torn}
 use Rattle.tf_desk.specs.State.{DeskState, bytes_now, LeftNow, IsDurable, Passes, passes_within}
@@ -35,22 +35,23 @@ module _ (title : List ℕ) (held : List (List ℕ)) (size : ℕ) (old body buff
     left.1,
   )
 
-  -- a file that has just these bodies has just the new one more
-  pub appended_exact : (new : List ℕ) → old ≡ journal_bytes title held → new ≡ written (written old (size - 1 + 1) buffer) (size - 1) (OPEN ∷ []) → new ≡ journal_bytes title (held ++ body ∷ [])
-  appended_exact new just wrote =
+  -- a file in which nothing stands behind the last gate has just these bodies and the new one then
+  pub appended_exact : (new : List ℕ) → length old ≡ size → new ≡ written (written old (size - 1 + 1) buffer) (size - 1) (OPEN ∷ []) → new ≡ journal_bytes title (held ++ body ∷ [])
+  appended_exact new long wrote =
       let prefix : List ℕ = prefix_of title held in
       let tail : List ℕ = tail_of body in
-      let long : length old ≡ size = ap length just ∙ length-append prefix (0 ∷ []) ∙ sym lies.place in
       let place : size - 1 ≡ length prefix = omega (arith, lies.place) in
       let behind : written old (size - 1 + 1) buffer ≡ old ++ tail =
       ap (λ (l : List ℕ). l ++ (buffer ++ drop (size - 1 + 1 + length buffer) old)) (take_all (size - 1 + 1) old (omega (arith, long, at_gate)))
       ∙ ap (λ (l : List ℕ). old ++ (buffer ++ l)) (drop_all (size - 1 + 1 + length buffer) old (omega (arith, long, at_gate)))
       ∙ ap (λ (l : List ℕ). old ++ l) (append-nil buffer ∙ filled) in
-      let split : written old (size - 1 + 1) buffer ≡ prefix ++ (0 ∷ tail) = behind ∙ ap (λ (l : List ℕ). l ++ tail) just ∙ append_assoc prefix (0 ∷ []) tail in
+      let first : take (size - 1) (old ++ tail) ≡ prefix =
+      take-append-le (size - 1) old tail (omega (arith, long)) ∙ ap (λ (n : ℕ). take n old) place ∙ lies.prefix in
+      let last : drop (size - 1 + 1) (old ++ tail) ≡ tail = drop_at old tail (size - 1 + 1) (omega (arith, long, at_gate)) in
       let opened : new ≡ prefix ++ (OPEN ∷ tail) =
-      wrote ∙ ap (λ (l : List ℕ). written l (size - 1) (OPEN ∷ [])) split
-      ∙ ap (λ (l : List ℕ). l ++ (OPEN ∷ drop (size - 1 + 1) (prefix ++ (0 ∷ tail)))) (take_at prefix (0 ∷ tail) (size - 1) (sym place))
-      ∙ ap (λ (l : List ℕ). prefix ++ (OPEN ∷ l)) (ap (drop (size - 1 + 1)) (sym (append_assoc prefix (0 ∷ []) tail)) ∙ drop_at (prefix ++ 0 ∷ []) tail (size - 1 + 1) (omega (arith, place, length-append prefix (0 ∷ [])))) in
+      wrote ∙ ap (λ (l : List ℕ). written l (size - 1) (OPEN ∷ [])) behind
+      ∙ ap (λ (l : List ℕ). l ++ (OPEN ∷ drop (size - 1 + 1) (old ++ tail))) first
+      ∙ ap (λ (l : List ℕ). prefix ++ (OPEN ∷ l)) last in
       opened ∙ ap (λ (l : List ℕ). prefix ++ (OPEN ∷ l)) (sym (append_assoc (length_bytes (length body)) body (0 ∷ [])))
       ∙ sym (append_assoc prefix (record_of body) (0 ∷ []))
       ∙ ap (λ (l : List ℕ). l ++ 0 ∷ []) (append_assoc (OPEN ∷ title) (flat_map record_of held) (record_of body) ∙ ap (λ (l : List ℕ). (OPEN ∷ title) ++ l) (sym (flat_map-push held body)))
@@ -109,6 +110,6 @@ appended_adds state journal next held body buffer rest is fits filled wrote dura
     record {
       rest = record { lies = lies; durable = durable };
       recovers = found;
-      exact = λ just. appended_exact title held journal.size old body buffer (sixteen journal.title) rest.lies is fits filled new just wrote;
+      exact = λ long. appended_exact title held journal.size old body buffer (sixteen journal.title) rest.lies is fits filled new long wrote;
       lasts = λ image text left. ap (recovered title) (durable image (only image text left).0) ∙ found;
     }

@@ -6,11 +6,12 @@ use Rattle.tf_journal.specs.declared.faults.AppendFault.{AppendFault}
 use Rattle.tf_journal.specs.declared.faults.AppendFault.TheVariants.{Disk, Full, Halted}
 use Rattle.tf_journal.specs.Format.{SIZE_LIMIT, journal_bytes, bodies, recovered, title_of, Held, IsAtRest, LeavesEither, LeavesBeforeOrAfter}
 
--- the file has one body more: it is at rest, recovery finds it, and so after each crash from now on; a file of just the bodies before has just it more
+-- the file has one body more: it is at rest, recovery finds it, and so after each crash from now on; a file in which nothing stood behind
+-- the last gate has just these bodies
 pub record Adds {K : Type 0} (state : K → DeskState) (body : List ℕ) (old new : Held K) (held : List (List ℕ)) : Type 0 where
   pub rest : IsAtRest state new (held ++ body ∷ [])
   pub recovers : recovered (title_of old.title) (bytes_now (state new.desk)) ≡ bodies (held ++ body ∷ [])
-  pub exact : bytes_now (state old.desk) ≡ journal_bytes (title_of old.title) held
+  pub exact : length (bytes_now (state old.desk)) ≡ old.size
       → bytes_now (state new.desk) ≡ journal_bytes (title_of old.title) (held ++ body ∷ [])
   pub lasts : (image text : List ℕ) → (state new.desk).crashes (state new.desk).content.clock image text
       → recovered (title_of old.title) image ≡ bodies (held ++ body ∷ [])

@@ -1,7 +1,7 @@
-ghost use Rattle.std.specs.Prelude.{◌≡◌, ◌≤◌, [], true, OnOk, IfOk, IfErr};
+ghost use Rattle.std.specs.Prelude.{◌≡◌, ◌≤◌, [], length, true, OnOk, IfOk, IfErr};
 ghost use Rattle.tf_desk.specs.State.{bytes_now, anything, Passes, GoesOn};
 ghost use Rattle.tf_entries.specs.Plans.{IsPlan};
-ghost use Rattle.tf_journal.specs.Format.{title_of, bodies, journal_bytes, recovered, IsAtRest, IsOpen};
+ghost use Rattle.tf_journal.specs.Format.{title_of, bodies, recovered, IsAtRest, IsOpen};
 ghost use Rattle.tf_journal.specs.declared.title.Title.TheVariants.{Book as book_title};
 ghost use Rattle.tf_machine.specs.Machine.{StandsFor};
 ghost use Rattle.tf_book.specs.Book.{bodies_of, book_size};
@@ -44,7 +44,7 @@ fn append_plan<K: Desk>(
     ensures recovers { OnOk result (IsOpen K.state journal.old
         → recovered (title_of book_title) (bytes_now (K.state journal.new.desk)) ≡ bodies (bodies_of plan.now [])) }
     ensures exact { OnOk result (IsOpen K.state journal.old
-        → bytes_now (K.state journal.old.desk) ≡ journal_bytes (title_of book_title) []
+        → length (bytes_now (K.state journal.old.desk)) ≡ journal.old.size
         → IsExact (K.state journal.new.desk) plan.now []) }
     ensures short { OnOk result (book_size plan.now [] ≤ 67108864) }
     ensures is_plan { OnOk result (IsPlan plan.now) }
@@ -83,7 +83,7 @@ impl<K: Desk> Book<K> {
             → recovered (title_of book_title) (bytes_now (K.state book.journal.desk))
             ≡ bodies (bodies_of machine.plan [])) }
         ensures exact { IfOk result (λ book. IsOpen K.state journal
-            → bytes_now (K.state journal.desk) ≡ journal_bytes (title_of book_title) []
+            → length (bytes_now (K.state journal.desk)) ≡ journal.size
             → IsExact (K.state book.journal.desk) machine.plan []) }
         ensures crash { IsOpen K.state journal
             → Passes (LeavesPlan machine.plan (K.state journal.desk).shown) (K.state journal.desk)

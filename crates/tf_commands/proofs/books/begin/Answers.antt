@@ -1,7 +1,8 @@
-use Rattle.std.proofs.Common.{subst}
+use Rattle.std.proofs.Common.{length, ap, subst}
 use Rattle.std.specs.Prelude.{IsTrue}
 use Rattle.tf_desk.proofs.StateLemmas.{goes_on}
 use Rattle.tf_commands.proofs.BeginLemmas.{ok_on, err_on, titled_unbegun, titled_exact, unborn_unbegun, unborn_leaves, unborn_goes}
+use Rattle.tf_commands.specs.Begun.{IsBlank}
 use Rattle.tf_commands.proofs.books.begin.Goals as goal
 
 pub returns-in-Titled-clause-begins : goal.returns-in-Titled-clause-begins
@@ -12,7 +13,7 @@ returns-in-Titled-clause-begins g c =
     (λ book begins name entry opened found.
     begins name entry
     (titled_unbegun D.state c.args.blank journal c.args.machine.plan c.in-Titled.is opened found)
-    (titled_exact D.state c.args.blank journal c.in-Titled.is opened found
+    (titled_exact D.state c.args.blank journal c.in-Titled.is opened (subst (IsBlank D.state) c.in-Titled.is c.requires.blank)
     (record { there = g.met.K.Desk.picked_is_there journal.desk name; reads = λ told bytes has. g.met.K.Desk.reads_left journal.desk name bytes told has })))
 
 pub returns-in-Titled-clause-unbegun : goal.returns-in-Titled-clause-unbegun
@@ -29,7 +30,7 @@ returns-in-Ok-clause-begins g c =
     (λ book begins name entry opened found.
     begins name entry
     (e.begins name entry plan (unborn_unbegun g.K.Desk.state c.args.blank c.in-Unborn.desk plan c.in-Unborn.is opened found))
-    (λ told fresh short. e.born (subst IsTrue e.goes.on_disk.tells told)))
+    (λ told none short. ap length (e.born (subst IsTrue e.goes.on_disk.tells told))))
 
 pub returns-in-Ok-clause-goes : goal.returns-in-Ok-clause-goes
 returns-in-Ok-clause-goes g c =

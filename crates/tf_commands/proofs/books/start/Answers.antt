@@ -21,7 +21,7 @@ returns-in-Ok-clause-begins g c = λ name entry unbegun exact.
     (ap (λ (b : BookValue g.row.K.Denot). b.plan) e.made) (ap (λ (b : BookValue g.row.K.Denot). b.past) e.made) halt_is kept
     e.goes (λ told. e.crash (opened told))
     (λ told. c.state-pending.ensures.leaves told kept (not_halted book.halt halt_is))
-    (λ told fresh short. e.exact (opened told) (exact told fresh short)) c.state-pending.ensures.history
+    (λ told none short. e.exact (opened told) (exact told none short ∙ sym made.new.size)) c.state-pending.ensures.history
 
 pub returns-in-Err-clause-unbegun : goal.returns-in-Err-clause-unbegun
 returns-in-Err-clause-unbegun g c = λ name entry unbegun.

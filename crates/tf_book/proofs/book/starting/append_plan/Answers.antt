@@ -27,7 +27,7 @@ returns-in-Err-Disk-clause-crash g c = λ opened.
     begun_crash c.args.plan.now c.requires.new.title (search rules) (c.append.ensures.at_most opened [] (c.requires.new.ready opened)).crash
 
 pub returns-in-Ok-append-clause-exact : goal.returns-in-Ok-append-clause-exact
-returns-in-Ok-append-clause-exact g c = λ opened just.
+returns-in-Ok-append-clause-exact g c = λ opened long.
     let same : c.deref.result.now ≡ plan_bytes c.args.plan.now = search rules in
-    (c.in-Ok-append.ensures.adds opened [] (c.requires.new.ready opened)).exact (just ∙ ap (λ (t : Title). journal_bytes (title_of t) []) (sym c.requires.new.title))
+    (c.in-Ok-append.ensures.adds opened [] (c.requires.new.ready opened)).exact long
     ∙ ap (λ (t : Title). journal_bytes (title_of t) (c.deref.result.now ∷ [])) c.requires.new.title ∙ ap (λ (b : List ℕ). journal_bytes (title_of book_title) (b ∷ [])) same
