@@ -7,7 +7,7 @@ use tf_desk::MemoryDesk;
 use tf_report::{DISK_FAILED, FORBIDDEN, REVERTED, UNSAID};
 
 /// The last of three tasks fails, and the two before it are undone.
-const REVERTED_FLOW: &[u8] = br#"name = "main"
+pub(crate) const REVERTED_FLOW: &[u8] = br#"name = "main"
 kind = "linear"
 items = [
     { task = "a", kind = "echo", inject = { value = 1 } },
@@ -20,7 +20,7 @@ items = [
 const CALLS: u64 = 120;
 
 /// Goes on with the flow of a file, or begins it anew where the file holds none: the desk, and the status.
-fn went_on<R: Threads + Wait + Sync>(
+pub(crate) fn went_on<R: Threads + Wait + Sync>(
     rt: &R,
     alloc: Global,
     desk: MemoryDesk,
