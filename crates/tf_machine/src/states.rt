@@ -1,5 +1,4 @@
 ghost use Rattle.std.specs.Prelude.{◌≡◌};
-ghost use Rattle.tf_model.specs.History as snapshot;
 ghost use Rattle.tf_model.specs.History as model;
 ghost use Rattle.tf_machine.specs.Changes as changes;
 
@@ -49,7 +48,7 @@ pub fn is_revert_failure(state: AtomState) -> bool
 
 /// A task in this state is at work.
 pub fn is_at_work(state: AtomState) -> bool
-    ensures { result ≡ snapshot.is_at_work state }
+    ensures { result ≡ model.is_at_work state }
 {
     matches!(state, AtomState::Running | AtomState::Reverting)
 }
