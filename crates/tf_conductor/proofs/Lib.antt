@@ -1,0 +1,11 @@
+pub mod TurnLemmas
+pub mod CalledLemmas
+pub mod PassLemmas
+pub mod SendLemmas
+pub mod RoundLemmas
+pub mod HeldLemmas
+pub mod SeenLemmas
+pub mod ClaimedLemmas
+pub mod StepLemmas
+pub mod EndLemmas
+pub mod OwnerLemmas

@@ -1,0 +1,23 @@
+use Rattle.std.proofs.Common.{arith, subst, ℕ}
+use Rattle.tf_turnstile.specs.Numbered.{IsLater}
+use Rattle.tf_conductor.proofs.CalledLemmas.{counted}
+use Rattle.tf_conductor.proofs.PassLemmas.{gives_turn, longer_none}
+use Rattle.tf_conductor.proofs.SeenLemmas.{turned_none}
+use Rattle.tf_conductor.proofs.conductors.halt_board.Goals as goal
+
+pub give-requires-clause-room : goal.give-requires-clause-room
+give-requires-clause-room g c =
+    let k = c.known-2.ensures in
+    omega (arith, k.few, counted g.K.Desk.state c.halt.new.self.now k.shared)
+
+pub give-requires-clause-turn : goal.give-requires-clause-turn
+give-requires-clause-turn g c =
+    gives_turn c.args.pass.now c.take-board.new.pass c.args.number c.take-board.result c.halt.new.self c.requires.idle.number_is c.take-board.ensures.pass c.halt.ensures.none.same
+    (longer_none c.args.number c.take-board.result.now c.halt.new.self.now c.halt.ensures.none.none.made)
+
+pub returns-clause-turned : goal.returns-clause-turned
+returns-clause-turned g c =
+    let later = subst (λ (n : ℕ). IsLater n c.args.pass.now.seen c.take-board.new.pass.seen) c.requires.idle.number_is c.take-board.ensures.seen in
+    turned_none g.K.Desk.state c.args.turnstile.now c.args.number c.args.pass.now c.take-board.new.pass.seen c.give.new.pass c.take-board.result c.halt.new.self
+    c.requires.opened.fresh later c.take-board.ensures.origin c.halt.ensures.none.same c.take-board.ensures.history c.give.ensures.history c.known.ensures.conducting c.known-2.ensures.conducting
+    c.halt.ensures.none.none

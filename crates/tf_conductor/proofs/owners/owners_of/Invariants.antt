@@ -1,0 +1,9 @@
+use Rattle.std.proofs.Common.{◌≡◌, length}
+use Rattle.tf_conductor.specs.Owners.{AreNamedBy}
+use Rattle.tf_conductor.proofs.owners.owners_of.Given as goal
+
+abbrev pub invariant-loop-number : goal.invariant-loop-number
+invariant-loop-number g l = record {
+  long : length l.owners.items ≡ l.number;
+  named : AreNamedBy l.word l.owners.items;
+}
