@@ -29,7 +29,7 @@ forcing-preserved g c =
     record {
       proceeds = proceeds_on l.proceeds e.proceeds;
       on = forced_more _ _ _ _ _ _ _ _ (ap outline_of l.proceeds.plan) (stops_same _ _ _ _ _ l.proceeds.limit (sym c.is_to_stop.ensures ∙ c.if-is_to_stop.false)) l.on (e.forced (ap (λ (b : Bool). Ok b) c.if-not-branch.false));
-      sound = e.sound;
+      sound = e.halt;
       running = e.running;
       no_more = omega (arith, e.no_more, l.no_more);
     }

@@ -23,12 +23,12 @@ write-requires-clause-room g c =
 pub returns-in-Ok-clause-proceeds : goal.returns-in-Ok-clause-proceeds
 returns-in-Ok-clause-proceeds g c =
     let w = c.write.ensures in
-    book_proceeds _ _ _ _ _ _ _ _ _ _ _ _ _ c.self.view_is (sym (past_long c.self.inside.history.entries.items)) c.requires.sound c.requires.allowed w.form c.self.invariant.2
+    book_proceeds _ _ _ _ _ _ _ _ _ _ _ _ _ c.self.view_is (sym (past_long c.self.inside.history.entries.items)) c.requires.sound c.requires.allowed w.form.1 c.self.invariant.2
     w.logged w.plan (past_turned _ _ _ _ (λ on. (w.recorded on).entries) (λ off. (w.unrecorded off).entries))
     (ap (λ (b : BookValue _). b.halt) c.self.view_is ∙ c.requires.sound ∙ sym (ap halt_after c.in-Ok.is)) w.failed
 
 pub returns-in-Err-clause-proceeds : goal.returns-in-Err-clause-proceeds
 returns-in-Err-clause-proceeds g c =
     let w = c.write.ensures in
-    book_proceeds _ _ _ _ _ _ _ _ _ _ _ _ _ c.self.view_is (sym (past_long c.self.inside.history.entries.items)) c.requires.sound c.requires.allowed w.form c.self.invariant.2
+    book_proceeds _ _ _ _ _ _ _ _ _ _ _ _ _ c.self.view_is (sym (past_long c.self.inside.history.entries.items)) c.requires.sound c.requires.allowed w.form.1 c.self.invariant.2
     w.logged w.plan (past_turned _ _ _ _ (λ on. (w.recorded on).entries) (λ off. (w.unrecorded off).entries)) (sym (ap halt_after c.in-Err.is)) w.failed
