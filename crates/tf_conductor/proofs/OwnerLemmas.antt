@@ -1,45 +1,35 @@
 -- Owners that are named by their numbers are names, and different.
-use Rattle.std.proofs.Common.{◌≡◌, ◌⊎◌, ◌<◌, ◌≤◌, ◌+◌, ℕ, zero, suc, Bool, true, false, List, [], ◌∷◌, ◌++◌, length, Option, Some, None, refl, sym, ap, subst, ◌∙◌, inl, inr, arith, length-append}
-use Rattle.std.specs.Prelude.{◌&&◌, ◌^◌, nat_lt, slice_get}
+use Rattle.std.proofs.Common.{◌≡◌, ◌⊎◌, ◌<◌, ◌≤◌, ℕ, zero, suc, Bool, true, false, List, [], ◌∷◌, ◌++◌, length, Some, refl, sym, ap, ◌∙◌, inl, inr, arith, length-append}
+use Rattle.std.specs.Prelude.{◌&&◌, ◌||◌, ◌==◌, nat_lt, slice_get}
+use Rattle.std.specs.Str.{all_ascii_digits}
 use Rattle.std.specs.Fmt.{decimal}
 use Rattle.std.specs.List.{list_all}
 use Rattle.std.proofs.lemmas.Bool.{cases_lt, lt-ltb}
-use Rattle.std.proofs.lemmas.Fmt.{decimal_injective}
+use Rattle.std.proofs.lemmas.Fmt.{decimal_injective, digits_decimal, length-decimal-le}
+use Rattle.std.proofs.lemmas.Bool.Decides.{nat_tests}
 use Rattle.std.proofs.lemmas.List.{append_cancel_left}
 use Rattle.std.proofs.lemmas.List.Folds.{list_all-append}
 use Rattle.std.proofs.lemmas.Option.{slice_get_within}
-use Rattle.tf_values.specs.Text.{is_name, begins_name, stands_in_name}
+use Rattle.tf_values.specs.Text.{is_between, is_name, begins_name, stands_in_name}
+use Rattle.tf_values.proofs.WordLemmas.{own_digits}
 use Rattle.tf_conductor.specs.Owners.{AreNamedBy, owner_name}
 use Rattle.tf_conductor.specs.Rounds.{AreDifferent}
 
--- ---- a table of 64 numbers
+-- ---- digits
 
--- each number below this one passes a test
-all_below : (ℕ → Bool) → ℕ → Bool
-all_below test zero = true
-all_below test (suc k) = test k && all_below test k
-
-both_true : (a b : Bool) → (a && b) ≡ true → (a ≡ true) × (b ≡ true)
-both_true true b is = (refl, is)
-both_true false b is = absurd (cc)
-
--- so each does
-below_passes : (test : ℕ → Bool) (k n : ℕ) → all_below test k ≡ true → n < k → test n ≡ true
-unfolding all_below
-below_passes test zero n all below = absurd (omega (arith, below))
-below_passes test (suc k) n all below = by (both_true (test k) (all_below test k) all) (cases_lt n k)
+-- they stand in a name
+digits_stand : (ds : List ℕ) → all_ascii_digits ds ≡ true → list_all stands_in_name ds ≡ true
+digits_stand [] is = refl
+digits_stand (d ∷ ds) is =
+    let rest : all_ascii_digits ds ≡ true = grind (arith, nat_tests) in
+    let others : list_all stands_in_name ds ≡ true = digits_stand ds rest in
+    let digit : is_between 48 57 d ≡ true = grind (arith, nat_tests) in
+    let stands : stands_in_name d ≡ true = ap (λ (b : Bool). ((begins_name d || b) || (d == 45)) || (d == 46)) digit ∙ by (begins_name d) (d == 45) (d == 46) in
+    ap (λ (b : Bool). b && list_all stands_in_name ds) stands ∙ others
   where
-    by : (test k ≡ true) × (all_below test k ≡ true) → (n < k) ⊎ (k ≤ n) → test n ≡ true
-    by both (inl less) = below_passes test k n both.1 less
-    by both (inr last) = ap test (let same : n ≡ k = omega (arith, last, below) in same) ∙ both.0
-
--- the digits of a number stand in a name, and are two at most
-digits_fit : ℕ → Bool
-digits_fit n = list_all stands_in_name (decimal n) && nat_lt (length (decimal n)) 3
-
-digits_table : all_below digits_fit 64 ≡ true
-unfolding all_below digits_fit
-digits_table = refl
+    by : (a b c : Bool) → (((a || true) || b) || c) ≡ true
+    by true b c = refl
+    by false b c = refl
 
 -- ---- an owner
 
@@ -48,23 +38,17 @@ three_true true true c is = (refl, refl, is)
 three_true true false c is = absurd (cc)
 three_true false b c is = absurd (cc)
 
-is_below : (a b : ℕ) → nat_lt a b ≡ true → a < b
-is_below a b is = by (cases_lt a b)
-  where
-    by : (a < b) ⊎ (b ≤ a) → a < b
-    by (inl less) = less
-    by (inr more) = absurd (omega (arith, more, is))
-
 -- it is a name
 pub owner_is_name : (word : List ℕ) (n : ℕ) → is_name word ≡ true → length word ≤ 61 → n < 64 → is_name (owner_name word n) ≡ true
-unfolding owner_name digits_fit
+unfolding owner_name
 owner_is_name [] n named short few = absurd (cc)
 owner_is_name (first ∷ others) n named short few =
     let t = three_true (begins_name first) (nat_lt (length others) 64) (list_all stands_in_name others) named in
-    let d = both_true (list_all stands_in_name (decimal n)) (nat_lt (length (decimal n)) 3) (below_passes digits_fit 64 n digits_table few) in
-    let long : length (others ++ 45 ∷ decimal n) < 64 = omega (arith, length-append others (45 ∷ decimal n), is_below (length (decimal n)) 3 d.1, short) in
+    let digits : list_all stands_in_name (decimal n) ≡ true = digits_stand (decimal n) (digits_decimal own_digits n (omega (arith, few))) in
+    let two : length (decimal n) ≤ 2 = length-decimal-le 2 n (omega arith) (omega (arith, few)) (omega (arith, few)) in
+    let long : length (others ++ 45 ∷ decimal n) < 64 = omega (arith, length-append others (45 ∷ decimal n), two, short) in
     let stand : list_all stands_in_name (others ++ 45 ∷ decimal n) ≡ true
-    = list_all-append stands_in_name others (45 ∷ decimal n) ∙ ap (λ (b : Bool). b && list_all stands_in_name (decimal n)) t.2 ∙ d.0 in
+    = list_all-append stands_in_name others (45 ∷ decimal n) ∙ ap (λ (b : Bool). b && list_all stands_in_name (decimal n)) t.2 ∙ digits in
     ap (λ (b : Bool). (b && nat_lt (length (others ++ 45 ∷ decimal n)) 64) && list_all stands_in_name (others ++ 45 ∷ decimal n)) t.0
     ∙ ap (λ (b : Bool). b && list_all stands_in_name (others ++ 45 ∷ decimal n)) (lt-ltb (length (others ++ 45 ∷ decimal n)) 64 long)
     ∙ stand
