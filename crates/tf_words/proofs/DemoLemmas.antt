@@ -3,7 +3,7 @@ use Rattle.std.proofs.Common.{◌≡◌, ℕ, ◌≤◌, List, [], ◌∷◌, Bo
 use Rattle.std.specs.Prelude.{option_map, option_and_then, if◌then◌else◌}
 use Rattle.std.specs.Str.Parse.{digits_value}
 use Rattle.tf_numbers.proofs.TruthLemmas.{and_first, and_second}
-use Rattle.tf_words.specs.Words.{worker_of, address_of, sessions_in, id_in, Applied, post_of, owner_of, list_of, applied_in, priority_in, details_in, hands_in, deferral_in, stop_in, target_in, try_of, run_of, resume_of, show_of, reset_of, check_of, audit_of, demo_of, asked_by, IsDemo, asked_of, command_of}
+use Rattle.tf_words.specs.Words.{worker_of, address_of, sessions_in, id_in, Applied, post_of, owner_of, list_of, applied_in, priority_in, details_in, hands_in, want_in, deferral_in, stop_in, target_in, try_of, run_of, resume_of, show_of, reset_of, check_of, audit_of, demo_of, asked_by, IsDemo, asked_of, command_of}
 use Rattle.tf_words.specs.Verbs.{Said, are_filled, said_by, choice_of, forms_of}
 use Rattle.tf_values.specs.Text.{is_name}
 use Rattle.tf_words.specs.Spelled.{is_number, number_between, sets_behind}
@@ -15,11 +15,11 @@ use Rattle.tf_numbers.proofs.OptionLemmas.{if_some}
 use Rattle.tf_numbers.proofs.NumberLemmas.{le_true}
 
 -- what gives something was given something
-then_some : {A B : Type 0} (f : A → Option B) (o : Option A) (b : B) → option_and_then f o ≡ Some b → (a : A) × (o ≡ Some a) × (f a ≡ Some b)
+pub then_some : {A B : Type 0} (f : A → Option B) (o : Option A) (b : B) → option_and_then f o ≡ Some b → (a : A) × (o ≡ Some a) × (f a ≡ Some b)
 then_some f None b is = absurd (cc)
 then_some f (Some a) b is = (a, refl, is)
 
-map_some : {A B : Type 0} (f : A → B) (o : Option A) (b : B) → option_map f o ≡ Some b → (a : A) × (o ≡ Some a) × (f a ≡ b)
+pub map_some : {A B : Type 0} (f : A → B) (o : Option A) (b : B) → option_map f o ≡ Some b → (a : A) × (o ≡ Some a) × (f a ≡ b)
 map_some f None b is = absurd (cc)
 map_some f (Some a) b is = (a, refl, cc)
 
@@ -55,7 +55,7 @@ try_other : (said : Said) (words : List (List ℕ)) (seed size : ℕ) (name : Li
 try_other said [] seed size name hands is = cc
 try_other said (file ∷ pairs) seed size name hands is =
     let a = then_some _ (deferral_in said) (asked.Demo seed size name hands) is in
-    let b = then_some _ (hands_in said) (asked.Demo seed size name hands) a.2 in
+    let b = then_some _ (want_in said) (asked.Demo seed size name hands) a.2 in
     let c = then_some _ (target_in said) (asked.Demo seed size name hands) b.2 in
     let d = map_some _ (sets_behind [] pairs) (asked.Demo seed size name hands) c.2 in
     let other = d.2 in cc
@@ -65,7 +65,7 @@ run_other said [] seed size name hands is = cc
 run_other said (file ∷ []) seed size name hands is = cc
 run_other said (file ∷ book ∷ pairs) seed size name hands is =
     let a = then_some _ (deferral_in said) (asked.Demo seed size name hands) is in
-    let b = then_some _ (hands_in said) (asked.Demo seed size name hands) a.2 in
+    let b = then_some _ (want_in said) (asked.Demo seed size name hands) a.2 in
     let c = then_some _ (stop_in said) (asked.Demo seed size name hands) b.2 in
     let d = then_some _ (target_in said) (asked.Demo seed size name hands) c.2 in
     let e = map_some _ (sets_behind [] pairs) (asked.Demo seed size name hands) d.2 in
@@ -74,7 +74,7 @@ run_other said (file ∷ book ∷ pairs) seed size name hands is =
 resume_other : (said : Said) (words : List (List ℕ)) (seed size : ℕ) (name : List ℕ) (hands : ℕ) → resume_of said words ≡ Some (asked.Demo seed size name hands) → ⊥
 resume_other said [] seed size name hands is = cc
 resume_other said (book ∷ []) seed size name hands is =
-    let a = then_some _ (hands_in said) (asked.Demo seed size name hands) is in
+    let a = then_some _ (want_in said) (asked.Demo seed size name hands) is in
     let b = map_some _ (stop_in said) (asked.Demo seed size name hands) a.2 in
     let other = b.2 in cc
 resume_other said (book ∷ more ∷ others) seed size name hands is = cc

@@ -129,6 +129,10 @@ deferral = record { name = codes "defer-reverts"; valued = false }
 abbrev pub hands : Form
 hands = record { name = codes "hands"; valued = true }
 
+-- `--worker LIST`
+abbrev pub workers : Form
+workers = record { name = codes "worker"; valued = true }
+
 -- `--stop-after N`
 abbrev pub stop_after : Form
 stop_after = record { name = codes "stop-after"; valued = true }
@@ -151,9 +155,9 @@ details = record { name = codes "details"; valued = true }
 
 -- the options that a command knows
 abbrev pub forms_of : Verb → List Form
-forms_of verb.Try = deferral ∷ hands ∷ target ∷ []
-forms_of verb.Run = deferral ∷ hands ∷ stop_after ∷ target ∷ []
-forms_of verb.Resume = hands ∷ stop_after ∷ []
+forms_of verb.Try = deferral ∷ hands ∷ workers ∷ target ∷ []
+forms_of verb.Run = deferral ∷ hands ∷ workers ∷ stop_after ∷ target ∷ []
+forms_of verb.Resume = hands ∷ workers ∷ stop_after ∷ []
 forms_of verb.Show = []
 forms_of verb.Reset = []
 forms_of verb.Check = target ∷ []

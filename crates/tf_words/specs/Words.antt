@@ -1,5 +1,5 @@
 -- Which words are a command, and what each command asks for.
-use Rattle.std.specs.Prelude.{ℕ, List, [], ◌∷◌, codes, length, take, drop, not, Bool, ◌&&◌, ◌==◌, nat_le, Option, Some, None, option_map, option_and_then, if◌then◌else◌, ◌≤◌, true, false}
+use Rattle.std.specs.Prelude.{ℕ, List, [], ◌∷◌, ◌++◌, codes, length, take, drop, not, Bool, ◌&&◌, ◌==◌, nat_le, Option, Some, None, option_map, option_and_then, if◌then◌else◌, ◌≤◌, true, false}
 use Rattle.std.specs.List.{list_any}
 use Rattle.tf_ports.specs.declared.crews.Address.{Address}
 use Rattle.tf_ports.specs.declared.crews.Address.TheVariants as address
@@ -13,6 +13,7 @@ use Rattle.tf_states.specs.declared.priorities.Priority.{Priority}
 use Rattle.tf_states.specs.declared.priorities.Priority.TheVariants as priority
 use Rattle.tf_values.specs.declared.value.Val.{Val}
 use Rattle.tf_values.specs.declared.value.Val.TheVariants as value
+use Rattle.tf_ports.specs.declared.crews.Want.{Want}
 use Rattle.tf_ports.specs.declared.crews.Want.TheVariants as want
 use Rattle.tf_words.specs.declared.verbs.Verb.{Verb}
 use Rattle.tf_words.specs.declared.verbs.Verb.TheVariants as verb
@@ -42,6 +43,20 @@ port_of word = if is_count word then option_map (λ port. address.Tcp port) (num
 -- `unix:` and a path, or `tcp:127.0.0.1:` and a port
 abbrev pub address_of : List ℕ → Option Address
 address_of word = elim (behind (codes "unix:") word) [ Some path ↦ path_of path | None ↦ option_and_then port_of (behind (codes "tcp:127.0.0.1:") word) ]
+
+-- the pieces of a word between its commas, of whose first piece these bytes stand before the word
+abbrev pub pieces_behind : List ℕ → List ℕ → List (List ℕ)
+pieces_behind begun [] = begun ∷ []
+pieces_behind begun (byte ∷ bytes) = if byte == 44 then begun ∷ pieces_behind [] bytes else pieces_behind (begun ++ byte ∷ []) bytes
+
+-- the addresses that words spell, where each spells one
+abbrev pub addresses_in : List (List ℕ) → Option (List Address)
+addresses_in [] = Some []
+addresses_in (word ∷ words) = option_and_then (λ first. option_map (λ others. first ∷ others) (addresses_in words)) (address_of word)
+
+-- 1 to 64 addresses with a comma between each two
+abbrev pub addresses_of : List ℕ → Option (List Address)
+addresses_of word = option_and_then (λ found. if nat_le (length found) 64 then Some found else None) (addresses_in (pieces_behind [] word))
 
 -- how many sessions are served, and else one
 abbrev pub sessions_in : Said → Option ℕ
@@ -135,9 +150,24 @@ pub record IsDemo (seed size : ℕ) : Type 0 where
 abbrev pub deferral_in : Said → Option Bool
 deferral_in said = once false (λ value. Some true) (said (codes "defer-reverts"))
 
--- how many hands are wanted, 1 to 64 and else one
+-- how many hands of this process are wanted, 1 to 64 and else one
 abbrev pub hands_in : Said → Option ℕ
 hands_in said = once 1 (number_between 1 64) (said (codes "hands"))
+
+-- a hand at each address of a list, beside which no number of hands stands
+abbrev pub remote_of : List (List ℕ) → List ℕ → Option Want
+remote_of [] list = option_map (λ addresses. want.Remote addresses) (addresses_of list)
+remote_of _ list = None
+
+-- the same, where such a list is given; it stands at most once, and where there is none hands of this process are wanted
+abbrev pub want_by : Said → List (List ℕ) → Option Want
+want_by said [] = option_map (λ hands. want.Local hands) (hands_in said)
+want_by said (list ∷ []) = remote_of (said (codes "hands")) list
+want_by said _ = None
+
+-- the hands that are wanted: those of `--worker LIST`, or those of `--hands N`
+abbrev pub want_in : Said → Option Want
+want_in said = want_by said (said (codes "worker"))
 
 -- after how many entries the run stops, if it does
 abbrev pub stop_in : Said → Option (Option ℕ)
@@ -154,8 +184,8 @@ try_of said (file ∷ pairs) =
     option_and_then (λ defer.
     option_and_then (λ hands.
     option_and_then (λ target.
-    option_map (λ sets. asked.Try file sets defer (want.Local hands) target)
-    (sets_behind [] pairs)) (target_in said)) (hands_in said)) (deferral_in said)
+    option_map (λ sets. asked.Try file sets defer hands target)
+    (sets_behind [] pairs)) (target_in said)) (want_in said)) (deferral_in said)
 
 -- `run FILE BOOK [NAME=VALUE]...`
 abbrev pub run_of : Said → List (List ℕ) → Option Asked
@@ -164,16 +194,16 @@ run_of said (file ∷ book ∷ pairs) =
     option_and_then (λ hands.
     option_and_then (λ stop.
     option_and_then (λ target.
-    option_map (λ sets. asked.Run file book sets defer (want.Local hands) stop target)
-    (sets_behind [] pairs)) (target_in said)) (stop_in said)) (hands_in said)) (deferral_in said)
+    option_map (λ sets. asked.Run file book sets defer hands stop target)
+    (sets_behind [] pairs)) (target_in said)) (stop_in said)) (want_in said)) (deferral_in said)
 run_of said _ = None
 
 -- `resume BOOK`
 abbrev pub resume_of : Said → List (List ℕ) → Option Asked
 resume_of said (book ∷ []) =
     option_and_then (λ hands.
-    option_map (λ stop. asked.Resume book (want.Local hands) stop)
-    (stop_in said)) (hands_in said)
+    option_map (λ stop. asked.Resume book hands stop)
+    (stop_in said)) (want_in said)
 resume_of said _ = None
 
 -- `show BOOK`

@@ -1,15 +1,16 @@
-ghost use Rattle.std.specs.Prelude.{◌≡◌, ◌≤◌, IfOk, IfSome, option_map, true};
+ghost use Rattle.std.specs.Prelude.{◌≡◌, ◌≤◌, [], IfOk, IfSome, option_map, true};
 ghost use Rattle.std.specs.List.{All};
 ghost use Rattle.tf_values.specs.Text.{is_text};
 ghost use Rattle.tf_words.specs.Held.{held_by, texts_in};
 ghost use Rattle.tf_words.specs.Words.{behind as behind_head, has_comma as comma_in, path_of as path_said, port_of as port_said, address_of as address_said, sessions_in as sessions_said, worker_of as worker_said};
+ghost use Rattle.tf_words.specs.Words.{pieces_behind, addresses_in as addresses_said_in, addresses_of as addresses_said};
 
 use crate::asked::Asked;
 use crate::given::Given;
 use crate::numbers::number_between;
 use crate::spelled::is_count;
 use std::alloc::Global;
-use tf_ports::Address;
+use tf_ports::{Address, Addresses};
 use tf_values::{MakeFault, Memory, Text};
 
 /// `worker ADDRESS`
@@ -36,6 +37,43 @@ fn sessions_in(given: &Given<'_>) -> Option<u32>
         None => Some(1),
         Some(value) => number_between(1, 999_999_999, value),
     }
+}
+
+/// The addresses that the word spells, one to 64, with a comma between each two.
+pub fn addresses_of(alloc: Global, word: &[u8]) -> Result<Option<Addresses>, Memory>
+    ensures { IfOk result (λ addresses. addresses ≡ addresses_said word.now) }
+{
+    match all_in(alloc, word)? {
+        Some(addresses) => {
+            if addresses.items().len() > 64 {
+                return Ok(None);
+            }
+            Ok(Some(addresses))
+        }
+        None => Ok(None),
+    }
+}
+
+/// The addresses that stand between the commas of the word.
+fn all_in(alloc: Global, word: &[u8]) -> Result<Option<Addresses>, Memory>
+    ensures { IfOk result (λ addresses. addresses ≡ addresses_said_in (pieces_behind [] word.now)) }
+{
+    let mut addresses = Vec::new(alloc);
+    let mut begin = 0;
+    for (end, byte) in word.iter().enumerate() {
+        if *byte == b',' {
+            let Some(address) = address_of(alloc, &word[begin..end])? else {
+                return Ok(None);
+            };
+            addresses.push(address)?;
+            begin = end + 1;
+        }
+    }
+    let Some(address) = address_of(alloc, &word[begin..])? else {
+        return Ok(None);
+    };
+    addresses.push(address)?;
+    Ok(Some(Addresses::make(addresses)))
 }
 
 /// The address that the word spells.

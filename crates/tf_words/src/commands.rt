@@ -2,7 +2,7 @@ ghost use Rattle.std.specs.Prelude.{◌≡◌, ◌≤◌, ℕ, List, [], IfOk, I
 ghost use Rattle.std.specs.List.{All};
 ghost use Rattle.tf_values.specs.Text.{is_text};
 ghost use Rattle.tf_words.specs.Held.{held_by, texts_in};
-ghost use Rattle.tf_words.specs.Words.{asked_by as asked_in, deferral_in as deferral_said, hands_in as hands_said, stop_in as stop_said, target_in as target_said, try_of as try_said, run_of as run_said, resume_of as resume_said, show_of as show_said, reset_of as reset_said, check_of as check_said, audit_of as audit_said, demo_of as demo_said};
+ghost use Rattle.tf_words.specs.Words.{asked_by as asked_in, deferral_in as deferral_said, hands_in as hands_said, want_in as want_said, stop_in as stop_said, target_in as target_said, try_of as try_said, run_of as run_said, resume_of as resume_said, show_of as show_said, reset_of as reset_said, check_of as check_said, audit_of as audit_said, demo_of as demo_said};
 
 use crate::addresses::worker_of;
 use crate::asked::Asked;
@@ -11,8 +11,8 @@ use crate::given::Given;
 use crate::numbers::number_between;
 use crate::pairs::sets_of;
 use crate::verbs::Verb;
+use crate::wants::{hands_in, want_in};
 use std::alloc::Global;
-use tf_ports::Want;
 use tf_values::{Memory, Name, Text};
 
 /// What the command asks for, or none where the values are not those of the command.
@@ -53,7 +53,7 @@ fn try_of(alloc: Global, given: &Given<'_>, words: &[&str]) -> Result<Option<Ask
     let Some(defer) = deferral_in(given) else {
         return Ok(None);
     };
-    let Some(hands) = hands_in(given) else {
+    let Some(want) = want_in(alloc, given)? else {
         return Ok(None);
     };
     let Some(target) = target_in(given) else {
@@ -63,7 +63,6 @@ fn try_of(alloc: Global, given: &Given<'_>, words: &[&str]) -> Result<Option<Ask
         return Ok(None);
     };
     let file = text_of(alloc, file)?;
-    let want = Want::Local(hands);
     Ok(Some(Asked::Try {
         file,
         sets,
@@ -84,7 +83,7 @@ fn run_of(alloc: Global, given: &Given<'_>, words: &[&str]) -> Result<Option<Ask
     let Some(defer) = deferral_in(given) else {
         return Ok(None);
     };
-    let Some(hands) = hands_in(given) else {
+    let Some(want) = want_in(alloc, given)? else {
         return Ok(None);
     };
     let Some(stop_after) = stop_in(given) else {
@@ -98,7 +97,6 @@ fn run_of(alloc: Global, given: &Given<'_>, words: &[&str]) -> Result<Option<Ask
     };
     let file = text_of(alloc, file)?;
     let book = text_of(alloc, book)?;
-    let want = Want::Local(hands);
     Ok(Some(Asked::Run {
         file,
         book,
@@ -118,14 +116,13 @@ fn resume_of(alloc: Global, given: &Given<'_>, words: &[&str]) -> Result<Option<
     let [book] = words else {
         return Ok(None);
     };
-    let Some(hands) = hands_in(given) else {
+    let Some(want) = want_in(alloc, given)? else {
         return Ok(None);
     };
     let Some(stop_after) = stop_in(given) else {
         return Ok(None);
     };
     let book = text_of(alloc, book)?;
-    let want = Want::Local(hands);
     Ok(Some(Asked::Resume {
         book,
         want,
@@ -233,19 +230,6 @@ fn deferral_in(given: &Given<'_>) -> Option<bool>
     match given.once("defer-reverts")? {
         None => Some(false),
         Some(_) => Some(true),
-    }
-}
-
-/// How many hands are wanted, or none where that is no number of hands.
-fn hands_in(given: &Given<'_>) -> Option<u8>
-    ensures { result ≡ hands_said (held_by given.now.matches) }
-{
-    match given.once("hands")? {
-        None => Some(1),
-        Some(value) => {
-            let hands = number_between(1, 64, value)?;
-            Some(hands as u8)
-        }
     }
 }
 

@@ -13,6 +13,7 @@ mod parsing;
 mod quotes;
 mod spelled;
 mod verbs;
+mod wants;
 mod word;
 
 pub use asked::{Asked, read_words};

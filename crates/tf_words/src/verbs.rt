@@ -49,6 +49,11 @@ const HANDS: Key = Key {
     valued: true,
 };
 
+const WORKERS: Key = Key {
+    name: "worker",
+    valued: true,
+};
+
 const STOP_AFTER: Key = Key {
     name: "stop-after",
     valued: true,
@@ -74,11 +79,11 @@ const DETAILS: Key = Key {
     valued: true,
 };
 
-static TRY: [Key; 3] = [DEFER_REVERTS, HANDS, TARGET];
+static TRY: [Key; 4] = [DEFER_REVERTS, HANDS, WORKERS, TARGET];
 
-static RUN: [Key; 4] = [DEFER_REVERTS, HANDS, STOP_AFTER, TARGET];
+static RUN: [Key; 5] = [DEFER_REVERTS, HANDS, WORKERS, STOP_AFTER, TARGET];
 
-static RESUME: [Key; 2] = [HANDS, STOP_AFTER];
+static RESUME: [Key; 3] = [HANDS, WORKERS, STOP_AFTER];
 
 static CHECK: [Key; 1] = [TARGET];
 
