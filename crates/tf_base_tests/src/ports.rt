@@ -37,7 +37,7 @@ fn a_crew_in_memory_hires_performers_that_keep_their_orders(rt: HostRuntime) -> 
     waiting.push(MemoryPerformer::make(alloc, vec![in alloc; 2]?))?;
     let mut crew = MemoryCrew::make(alloc, waiting, vec![in alloc; 1]?);
     assert!(rt; matches!(crew.hire(alloc, &Want::Local(1)), Err(PortFault::Failed)));
-    let Ok(mut hands) = crew.hire(alloc, &Want::Local(1)) else {
+    let Ok(Hands::Local(mut hands)) = crew.hire(alloc, &Want::Local(1)) else {
         panic!(rt; "no hand");
     };
     assert!(rt; matches!(crew.hire(alloc, &Want::Local(1)), Err(PortFault::Failed)));

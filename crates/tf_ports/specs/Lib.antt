@@ -1,6 +1,7 @@
 pub mod Ports
 pub mod Links
 pub mod MemoryCrew
+pub mod MemoryDialer
 pub mod MemoryLink
 pub mod MemoryPerformer
 pub mod MemorySources

@@ -1,8 +1,8 @@
-ghost use Rattle.std.specs.Prelude.{◌≡◌, ℕ, ◌≤◌, List, Option, IfOk, OnOk, OnErr, IsErrOf, vec_len};
+ghost use Rattle.std.specs.Prelude.{◌≡◌, ℕ, ◌≤◌, List, Option, IfOk, OnOk, OnErr, IsErrOf};
 ghost use Rattle.tf_desk.specs.Crash.{Rises};
 ghost use Rattle.tf_ports.specs.declared.crews.Want.{Want as AWant};
 ghost use Rattle.tf_actions.specs.Gives.{told_with};
-ghost use Rattle.tf_ports.specs.Ports.{wanted};
+ghost use Rattle.tf_ports.specs.Ports.{wanted, AreWanted};
 
 use std::alloc::Global;
 use std::marker::Model;
@@ -106,9 +106,21 @@ pub enum PortFault {
     Memory,
 }
 
+/// Hands that were hired: hands of this process, or hands that ask workers elsewhere. Which they are is told by their
+/// type, so that each keeps a relation of orders and outcomes of its own.
+#[derive(Drop)]
+pub enum Hands<H, F> {
+    Local(Vec<H>),
+    Remote(Vec<F>),
+}
+
 /// Who hires hands.
 pub trait Crew: Drop {
+    /// A hand of this process.
     type Hand: Performer + Send;
+
+    /// A hand that asks a worker.
+    type Far: Performer + Send;
 
     /// How many faults there were. The count never falls, and stands still at the greatest u64.
     ghost faults: { Self → ℕ };
@@ -116,10 +128,14 @@ pub trait Crew: Drop {
     /// The wants that were answered with hands, in order, where the crew keeps them.
     ghost hired: { Self → Option (List AWant) };
 
-    /// As many hands as are wanted, in the order of the addresses. `Failed` comes only where the count of
-    /// faults rose.
-    fn hire(&mut self, alloc: Global, want: &Want) -> Result<Vec<Self::Hand>, PortFault>
-        ensures all { IfOk result (λ hands. vec_len hands ≡ wanted want.now) }
+    /// The hands that are wanted: as many of this process, or one for each address, in order. `Failed` comes only
+    /// where the count of faults rose.
+    fn hire(
+        &mut self,
+        alloc: Global,
+        want: &Want,
+    ) -> Result<Hands<Self::Hand, Self::Far>, PortFault>
+        ensures all { IfOk result (λ hands. AreWanted want.now hands) }
         ensures cause { IsErrOf result PortFault.Failed → Rises (faults self.old) (faults self.new) }
         ensures hired { OnOk result (hired self.new ≡ told_with (hired self.old) want.now) }
         ensures not_hired { OnErr result (hired self.new ≡ hired self.old) }

@@ -19,7 +19,7 @@ mod reading;
 mod sockets;
 
 pub use children::Children;
-pub use crews::{Address, Addresses, Crew, PortFault, Want};
+pub use crews::{Address, Addresses, Crew, Hands, PortFault, Want};
 pub use dialers::Dialer;
 pub use doors::Door;
 pub use folder::Folder;

@@ -1,7 +1,7 @@
-ghost use Rattle.std.specs.Prelude.{◌≡◌, ◌≤◌, [], Some, IsErrOf};
+ghost use Rattle.std.specs.Prelude.{◌≡◌, ◌≤◌, [], Some};
 ghost use Rattle.tf_desk.specs.Crash.{Rises};
 
-use crate::crews::{Crew, PortFault, Want};
+use crate::crews::{Crew, Hands, PortFault, Want};
 use std::alloc::Global;
 use std::marker::Model;
 use tf_actions::Performer;
@@ -47,32 +47,35 @@ impl<P> MemoryCrew<P> {
         &self.hired
     }
 
-    fn fault(&mut self) -> Result<Vec<P>, PortFault>
-        ensures failed { IsErrOf result PortFault.Failed }
+    /// Counts a fault.
+    fn fault(&mut self) -> PortFault
+        ensures failed { result ≡ PortFault.Failed }
         ensures same { self.new.hired ≡ self.old.hired }
         ensures rose { Rises self.old.faults self.new.faults }
         ensures no_fall { self.old.faults ≤ self.new.faults }
     {
         self.faults = self.faults.saturating_add(1);
-        Err(PortFault::Failed)
+        PortFault::Failed
     }
 }
 
 impl<P: Performer + Send> Crew for MemoryCrew<P> {
     type Hand = P;
 
+    type Far = P;
+
     ghost faults = { λ crew. crew.faults };
 
     ghost hired = { λ crew. Some crew.hired };
 
-    fn hire(&mut self, alloc: Global, want: &Want) -> Result<Vec<P>, PortFault> {
+    fn hire(&mut self, alloc: Global, want: &Want) -> Result<Hands<P, P>, PortFault> {
         self.made = self.made.saturating_add(1);
         let count = want.count();
         if self.failing.contains(&self.made) {
-            return self.fault();
+            return Err(self.fault());
         }
         if count > self.hands.len() {
-            return self.fault();
+            return Err(self.fault());
         }
         let Ok(kept) = want.copy(alloc) else {
             return Err(PortFault::Memory);
@@ -83,6 +86,9 @@ impl<P: Performer + Send> Crew for MemoryCrew<P> {
         if self.hired.push(kept).is_err() {
             return Err(PortFault::Memory);
         }
-        Ok(hands)
+        Ok(match want {
+            Want::Local(_) => Hands::Local(hands),
+            Want::Remote(_) => Hands::Remote(hands),
+        })
     }
 }

@@ -214,11 +214,14 @@ impl<R> SocketDialer<R> {
     }
 }
 
-impl<R: Net<Listener = TcpListener, Stream = TcpStream> + Files + Eprint + Copy + Drop> Dialer
-    for SocketDialer<R> {
+impl<
+    R: Net<Listener = TcpListener, Stream = TcpStream> + Files + Eprint + Copy + Send + Drop,
+> Dialer for SocketDialer<R> {
     type Made = SocketLink<R>;
 
     ghost faults = { λ dialer. dialer.faults };
+
+    ghost dialled = { λ _. None };
 
     fn dial(&mut self, alloc: Global, address: &Address) -> Result<SocketLink<R>, PortFault> {
         let Ok(kept) = address.copy(alloc) else {
