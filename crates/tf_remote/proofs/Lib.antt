@@ -5,4 +5,5 @@ mod ByteLemmas
 mod FrameLemmas
 mod ReplyLemmas
 mod LengthLemmas
+mod DialledLemmas
 mod TakeLemmas

@@ -31,7 +31,7 @@ refused_clash wanted bytes rest frame behind is_frame good same refused = elim r
     behind = rest;
     fits = short.fits;
     is_bad = short.is_bad;
-    prefix = ap (λ (prefix : List ℕ). prefix ++ rest) short.is;
+    front = ap (λ (prefix : List ℕ). prefix ++ rest) short.is;
   }
   | inr other ↦
       let one = frame_one other.frame frame rest behind other.is_frame is_frame (ap (λ (prefix : List ℕ). prefix ++ rest) (sym other.is) ∙ same) in
@@ -41,7 +41,7 @@ refused_clash wanted bytes rest frame behind is_frame good same refused = elim r
 -- nor is less than a frame, where nothing follows it
 part_clash : (bytes rest frame behind : List ℕ) → IsFrame frame → rest ≡ [] → bytes ++ rest ≡ framed frame ++ behind → IsPart bytes → ⊥
 part_clash bytes rest frame behind is_frame none same part =
-    part.no_frame record { frame = frame; behind = behind; is_frame = is_frame; prefix = sym (append-nil bytes) ∙ ap (λ (more : List ℕ). bytes ++ more) (sym none) ∙ same }
+    part.no_frame record { frame = frame; behind = behind; is_frame = is_frame; front = sym (append-nil bytes) ∙ ap (λ (more : List ℕ). bytes ++ more) (sym none) ∙ same }
 
 -- ---- the first frame and what follows, against a reply
 

@@ -5,3 +5,4 @@ pub mod Stopped
 pub mod Asking
 pub mod Allowed
 pub mod FarLaws
+pub mod Dialled

@@ -22,7 +22,7 @@ fn a_dialer_in_memory_makes_its_links_and_fails_where_it_is_told(
     links.push(MemoryLink::make(alloc, Vec::new(alloc), 1, Vec::new(alloc)))?;
     let mut failing = Vec::new(alloc);
     failing.push(1)?;
-    let mut dialer = MemoryDialer::make(links, failing);
+    let mut dialer = MemoryDialer::make(alloc, links, failing);
     assert!(rt; matches!(dialer.dial(alloc, &address), Err(PortFault::Failed)));
     let link = dialer.dial(alloc, &address).ok().ok_or("no link")?;
     assert!(rt; link.sent().is_empty());
@@ -51,12 +51,12 @@ fn two_links(alloc: Global) -> Result<Vec<MemoryLink>, Fail> {
 fn one_hand_is_hired_for_each_address(rt: HostRuntime) -> Result<(), Fail> {
     let alloc = rt.alloc();
     let addresses = [Address::Tcp(7001), Address::Tcp(7002)];
-    let mut dialer = MemoryDialer::make(two_links(alloc)?, Vec::new(alloc));
+    let mut dialer = MemoryDialer::make(alloc, two_links(alloc)?, Vec::new(alloc));
     let hands = hire(alloc, &mut dialer, &addresses);
     assert_eq!(rt; hands.ok().ok_or("no hands")?.len(), 2);
     let mut failing = Vec::new(alloc);
     failing.push(2)?;
-    let mut dialer = MemoryDialer::make(two_links(alloc)?, failing);
+    let mut dialer = MemoryDialer::make(alloc, two_links(alloc)?, failing);
     let hands = hire(alloc, &mut dialer, &addresses);
     assert!(rt; matches!(hands, Err(PortFault::Failed)));
     Ok(())
