@@ -5,9 +5,9 @@
 use std::env::Env;
 use std::process::ExitCode;
 use std::{env, io};
-use tf_commands::{LocalCrew, Outside, taskflow};
+use tf_commands::{Outside, ProgramCrew, taskflow};
 use tf_desk::FileDesk;
-use tf_ports::{Folder, SocketDoor};
+use tf_ports::{Folder, SocketDialer, SocketDoor};
 use tf_report::OUT_OF_MEMORY;
 use tf_words::Word;
 
@@ -26,7 +26,7 @@ fn main(rt: HostRuntime) -> ExitCode {
     let outside = Outside {
         desk: FileDesk::make(rt),
         sources: Folder::make(rt),
-        crew: LocalCrew::make(rt),
+        crew: ProgramCrew::make(rt, SocketDialer::make(rt)),
         door: SocketDoor::make(rt),
     };
     let ended = taskflow(&rt, alloc, &words, outside);

@@ -1,6 +1,7 @@
 -- What was done on a board stands.
 use Rattle.std.proofs.Common.{◌≡◌, ◌⊎◌, ℕ, List, [], ◌∷◌, ◌++◌, refl, inl, inr, arith}
 use Rattle.tf_desk.specs.State.{DeskState}
+use Rattle.tf_ports.specs.declared.crews.Want.{Want}
 use Rattle.tf_actions.specs.declared.orders.Order.{Order}
 use Rattle.tf_actions.specs.declared.outcomes.Outcome.{Outcome}
 use Rattle.tf_journal.specs.Start.{file_of}
@@ -13,7 +14,7 @@ use Rattle.tf_claims.specs.Life.{Call, Life, IsBoardOf, IsDone}
 use Rattle.tf_claims.proofs.ClosingLemmas.{never_closes, said_whole, either_one}
 use Rattle.tf_claims.proofs.OwnerLemmas.{life_adds_legally}
 
-module _ {K : Type 0} (state : K → DeskState) (gives : Order → Outcome → Type 0) (name last : List ℕ) where
+module _ {K : Type 0} (state : K → DeskState) (gives : Want → Order → Outcome → Type 0) (name last : List ℕ) where
   stands_on : (mid : List ℕ) → Life state gives name mid last → (added past : List Command) → IsBoardOf (added ++ past) mid
       → (added ≡ []) ⊎ ((newer : List Command) × IsBoardOf (newer ++ (added ++ past)) last)
   stands_on mid life [] past held = inl refl

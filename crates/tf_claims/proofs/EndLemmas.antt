@@ -16,7 +16,8 @@ use Rattle.tf_model.specs.Plan.{Outline, outline_of}
 use Rattle.tf_model.specs.Steps.{Session, already_ended, entered, halted, whole, has_ended, is_last}
 use Rattle.tf_words.specs.declared.asked.Asked.{Asked}
 use Rattle.tf_words.specs.declared.asked.Asked.TheVariants as asked
-use Rattle.tf_commands.specs.Asking.{asked_for, WasAsked}
+use Rattle.tf_commands.specs.Asking.{WasAsked}
+use Rattle.tf_words.specs.Words.{command_of}
 use Rattle.tf_commands.specs.Books as books
 use Rattle.tf_commands.specs.Books.{Promised, Resumes}
 use Rattle.tf_commands.specs.Course as course
@@ -138,8 +139,8 @@ module _ {gives : Order → Outcome → Type 0} {hands : Want} {stopped : Type 0
   resume_ends holds (books.resumed other before can held how p) = run_ends holds (held told) p
 
 -- the call
-pub call_ends : {K : Type 0} (state : K → DeskState) (gives : Order → Outcome → Type 0) (name : List ℕ) (hands : Want) (call : Call state gives) (plan : PlanValue) (past : List Entry)
-    → asked_for call.words ≡ Some (asked.Resume name hands None) → HoldsHistory plan past (book_at (state call.entry) name)
+pub call_ends : {K : Type 0} (state : K → DeskState) (gives : Want → Order → Outcome → Type 0) (name : List ℕ) (hands : Want) (call : Call state gives) (plan : PlanValue) (past : List Entry)
+    → command_of call.words ≡ Some (asked.Resume name hands None) → HoldsHistory plan past (book_at (state call.entry) name)
     → IsUnfailing state gives call → ¬ (Rises (state call.entry).disk_faults (state call.now).disk_faults)
     → EndsAsStated plan past (file_of (state call.now) name) call.status
 call_ends {K} state gives name hands call plan past asks holds unfailing undamaged = by call.course

@@ -1,21 +1,17 @@
 -- Which hands recorded the entries of calls, and which outcomes the ends of tasks among them carry.
-use Rattle.std.proofs.Common.{◌≡◌, ◌<◌, ℕ, List, [], ◌∷◌, ◌++◌, reverse, true, false, Option, Some, None, inl, inr, refl, ap, sym, ◌∙◌, subst, append_assoc}
+use Rattle.std.proofs.Common.{◌≡◌, ◌<◌, ℕ, List, [], ◌∷◌, ◌++◌, reverse, true, false, Option, inl, inr, refl, ap, sym, ◌∙◌, subst, append_assoc}
 use Rattle.std.proofs.lemmas.Bool.{and_parts, ltb-true}
 use Rattle.std.specs.List.{list_all}
-use Rattle.std.specs.Prelude.{◌&&◌}
+use Rattle.tf_ports.specs.declared.crews.Want.{Want}
 use Rattle.tf_actions.specs.declared.orders.Order.{Order}
 use Rattle.tf_actions.specs.declared.outcomes.Outcome.{Outcome}
 use Rattle.tf_flow.specs.Plan.{PlanValue}
 use Rattle.tf_states.specs.declared.record.Entry.{Entry}
-use Rattle.tf_states.specs.declared.record.What.{What}
 use Rattle.tf_states.specs.declared.state.FlowState.{FlowState}
 use Rattle.tf_states.specs.declared.state.FlowState.TheVariants as flow
-use Rattle.tf_numbers.specs.Numbers.{all_below, first_below}
-use Rattle.tf_numbers.proofs.OptionLemmas.{only_if}
-use Rattle.tf_model.specs.History.{snapshot, flow_of, Snapshot, flow_is_reverted}
-use Rattle.tf_model.specs.Scope.{IsGiven}
-use Rattle.tf_model.specs.Plan.{Outline, outline_of, count}
-use Rattle.tf_model.specs.Steps.{Session, already_ended, entered, halted, whole, entering, has_ended, is_settled_at, is_put_back_at, put_back_or_rest, reset}
+use Rattle.tf_model.specs.History.{flow_of}
+use Rattle.tf_model.specs.Plan.{Outline, outline_of}
+use Rattle.tf_model.specs.Steps.{Session, already_ended, entered, halted, whole, entering, has_ended}
 use Rattle.tf_book.specs.Turns.{AreReset, IsNextReset}
 use Rattle.tf_book.specs.SessionInvariant.{MayFollow, nothing_more, one_more}
 use Rattle.tf_engines.specs.Runs.{AreGiven, is_of}
@@ -25,11 +21,11 @@ use Rattle.tf_ports.specs.Ports.{wanted as number_of}
 use Rattle.tf_claims.specs.Life.{IsRecordedBy, AreRecorded}
 
 -- each entry that was recorded is such a one, and so is each that may be
-pub record GivesAll (gives : Order → Outcome → Type 0) (hired : ℕ → Type 0) (may : List Entry → Entry → Type 0) (plan : PlanValue) (before entries : List Entry) : Type 0 where
+pub record GivesAll (gives : Want → Order → Outcome → Type 0) (hired : ℕ → Want → Type 0) (may : List Entry → Entry → Type 0) (plan : PlanValue) (before entries : List Entry) : Type 0 where
   pub recorded : AreRecorded gives hired (outline_of plan) before entries
   pub next : (e : Entry) → may (entries ++ before) e → IsRecordedBy gives hired (outline_of plan) (entries ++ before) e
 
-module _ (gives : Order → Outcome → Type 0) (hired : ℕ → Type 0) where
+module _ (gives : Want → Order → Outcome → Type 0) (hired : ℕ → Want → Type 0) where
   -- entries behind others
   pub given_append : (plan : Outline) (past newer older : List Entry) → AreRecorded gives hired plan (older ++ past) newer → AreRecorded gives hired plan past older
       → AreRecorded gives hired plan past (newer ++ older)
@@ -48,41 +44,29 @@ module _ (gives : Order → Outcome → Type 0) (hired : ℕ → Type 0) where
   pending_given may plan before entries _ given nothing_more = given.recorded
   pending_given may plan before entries _ given (one_more e step form so) = (given.next e so, given.recorded)
 
-  -- what puts a flow back ends no task
-  back_given : (plan : Outline) (past : List Entry) (found : Option ℕ) → IsGiven gives plan past (put_back_or_rest found)
-  back_given plan past None = tt
-  back_given plan past (Some a) = tt
-
-  reset_given : (plan : Outline) (past : List Entry) (w : What) → reset plan (snapshot plan past) ≡ Some w → IsGiven gives plan past w
-  unfolding reset
-  reset_given plan past w is =
-      let s : Snapshot = snapshot plan past in
-      let found : Option ℕ = first_below (count plan) (is_put_back_at s) in
-      let same : Some (put_back_or_rest found) ≡ Some w = (only_if (flow_is_reverted s.flow && all_below (count plan) (is_settled_at s)) (Some (put_back_or_rest found)) w is).1 in
-      subst (IsGiven gives plan past) (let one : put_back_or_rest found ≡ w = cc in one) (back_given plan past found)
-
+  -- what puts a flow back
   put_back_given : (plan : Outline) (past : List Entry) (e : Entry) → IsNextReset plan past e → IsRecordedBy gives hired plan past e
-  put_back_given plan past e next = record { given = reset_given plan past e.what next.is; by = inr next }
+  put_back_given plan past e next = inr next
 
   resets_given : (plan : Outline) (before entries : List Entry) → AreReset plan entries before → AreRecorded gives hired plan before entries
   resets_given plan before [] are = tt
   resets_given plan before (e ∷ entries) are = (put_back_given plan (entries ++ before) e (record { by = are.0; is = are.1 }), resets_given plan before entries are.2)
 
   -- what a run's hands recorded, where each of them was hired
-  runs_given : (number : ℕ) → ((n : ℕ) → n < number → hired n) → (plan : Outline) (before entries : List Entry) → AreGiven gives plan before entries
-      → list_all (is_of number) entries ≡ true → AreRecorded gives hired plan before entries
-  runs_given number allow plan before [] given hands = tt
-  runs_given number allow plan before (e ∷ entries) given hands =
-      let both = and_parts (is_of number e) (list_all (is_of number) entries) hands in
-      (record { given = given.0; by = inl (allow e.hand (ltb-true e.hand number both.0)) }, runs_given number allow plan before entries given.1 both.1)
+  runs_given : (hands : Want) → ((n : ℕ) → n < number_of hands → hired n hands) → (plan : Outline) (before entries : List Entry) → AreGiven (gives hands) plan before entries
+      → list_all (is_of (number_of hands)) entries ≡ true → AreRecorded gives hired plan before entries
+  runs_given hands allow plan before [] given are = tt
+  runs_given hands allow plan before (e ∷ entries) given are =
+      let both = and_parts (is_of (number_of hands) e) (list_all (is_of (number_of hands)) entries) are in
+      (inl (record { hands = hands; hires = allow e.hand (ltb-true e.hand (number_of hands) both.0); given = given.0 }), runs_given hands allow plan before entries given.1 both.1)
 
 -- a run, for which its hands were hired
-pub run_gives : {gives : Order → Outcome → Type 0} {hired : ℕ → Type 0} {request : Request} {asked : Type 0} {plan : PlanValue} {before entries : List Entry} {stop : Option FlowState}
-    {shown now : Option (List ℕ)} {closing : List ℕ} {status : ℕ} → ((n : ℕ) → n < number_of request.want → hired n)
-    → Ran gives request asked plan before entries stop shown now closing status → GivesAll gives hired (MayRun gives request plan) plan before entries
+pub run_gives : {gives : Want → Order → Outcome → Type 0} {hired : ℕ → Want → Type 0} {request : Request} {asked : Type 0} {plan : PlanValue} {before entries : List Entry} {stop : Option FlowState}
+    {shown now : Option (List ℕ)} {closing : List ℕ} {status : ℕ} → ((n : ℕ) → n < number_of request.want → hired n request.want)
+    → Ran (gives request.want) request asked plan before entries stop shown now closing status → GivesAll gives hired (MayRun (gives request.want) request plan) plan before entries
 run_gives {gives} {hired} {request} {plan = plan} {before} {entries} allow r = record {
-  recorded = runs_given gives hired (number_of request.want) allow (outline_of plan) before entries r.outcomes r.steps.hands;
-  next = λ e may. record { given = may.given; by = inl (allow e.hand (ltb-true e.hand (number_of request.want) may.hand)) };
+  recorded = runs_given gives hired request.want allow (outline_of plan) before entries r.outcomes r.steps.hands;
+  next = λ e may. inl (record { hands = request.want; hires = allow e.hand (ltb-true e.hand (number_of request.want) may.hand); given = may.given });
 }
 
 -- a run of a flow that had ended, which records nothing
@@ -105,9 +89,9 @@ nothing_recorded {before = before} ended (entered some others is legal) = ap (λ
 nothing_recorded ended (halted inner going all legal) = absurd (let clash = sym going ∙ ended in cc)
 nothing_recorded ended (whole hand last inner is all going legal) = absurd (let clash = sym going ∙ ended in cc)
 
-pub ended_gives : {gives : Order → Outcome → Type 0} {hired : ℕ → Type 0} {request : Request} {asked : Type 0} {plan : PlanValue} {before entries : List Entry} {stop : Option FlowState}
+pub ended_gives : {gives : Want → Order → Outcome → Type 0} {hired : ℕ → Want → Type 0} {request : Request} {asked : Type 0} {plan : PlanValue} {before entries : List Entry} {stop : Option FlowState}
     {shown now : Option (List ℕ)} {closing : List ℕ} {status : ℕ} → has_ended (flow_of before) ≡ true
-    → Ran gives request asked plan before entries stop shown now closing status → GivesAll gives hired (MayRun gives request plan) plan before entries
+    → Ran (gives request.want) request asked plan before entries stop shown now closing status → GivesAll gives hired (MayRun (gives request.want) request plan) plan before entries
 ended_gives {gives} {hired} {request} {plan = plan} {before} {entries} ended r =
     let none : entries ≡ [] = nothing_recorded ended r.steps.session in
     record {
@@ -118,7 +102,7 @@ ended_gives {gives} {hired} {request} {plan = plan} {before} {entries} ended r =
     }
 
 -- a flow that is put back
-pub reset_gives : {gives : Order → Outcome → Type 0} {hired : ℕ → Type 0} {plan : PlanValue} {before entries : List Entry} {shown now : Option (List ℕ)} {closing : List ℕ} {status : ℕ}
+pub reset_gives : {gives : Want → Order → Outcome → Type 0} {hired : ℕ → Want → Type 0} {plan : PlanValue} {before entries : List Entry} {shown now : Option (List ℕ)} {closing : List ℕ} {status : ℕ}
     → PutBack plan before entries shown now closing status → GivesAll gives hired (IsNextReset (outline_of plan)) plan before entries
 reset_gives {gives} {hired} {plan} {before} {entries} p = record {
   recorded = resets_given gives hired (outline_of plan) before entries p.steps;

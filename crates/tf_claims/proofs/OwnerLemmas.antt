@@ -2,6 +2,7 @@
 use Rattle.std.proofs.Common.{◌≡◌, ◌≢◌, ◌⊎◌, ℕ, List, [], ◌∷◌, ◌++◌, Option, Some, None, refl, sym, ap, ◌∙◌, subst, inl, inr, ⊎_elim, append_assoc, arith}
 use Rattle.std.specs.Prelude.{IsTrue}
 use Rattle.tf_desk.specs.State.{DeskState}
+use Rattle.tf_ports.specs.declared.crews.Want.{Want}
 use Rattle.tf_actions.specs.declared.orders.Order.{Order}
 use Rattle.tf_actions.specs.declared.outcomes.Outcome.{Outcome}
 use Rattle.tf_journal.specs.Start.{file_of}
@@ -57,7 +58,7 @@ module _ (first : Command) (rest : List Command) (good : AreOfBoard (first ∷ r
   after_crash pending added image may (inr held) = grown pending added image may held
 
   -- what each way of a call leaves
-  legal_effect : {gives : Order → Outcome → Type 0} {able : ℕ → Type 0} {name : List ℕ} {entry now : DeskState} → Holds past (board_in (file_of entry name)) → Way gives able name entry now → Effect (GrownLegally past) name entry now
+  legal_effect : {gives : Want → Order → Outcome → Type 0} {able : ℕ → Want → Type 0} {name : List ℕ} {entry now : DeskState} → Holds past (board_in (file_of entry name)) → Way gives able name entry now → Effect (GrownLegally past) name entry now
   legal_effect {gives} {able} {name} {entry} {now} holds (alone closing a) = record {
     file = same_board (file_of entry name) (file_of now name) holds a.file;
     crash = λ moment start image text is. same_board (file_of entry name) image holds (a.crash moment start image text is).0;
@@ -80,7 +81,7 @@ module _ (first : Command) (rest : List Command) (good : AreOfBoard (first ∷ r
             (⊎_elim (λ old. inl old.0) (λ new. inr new.0) (l.crash moment start image text is)));
       }
 
-module _ {K : Type 0} (state : K → DeskState) (gives : Order → Outcome → Type 0) where
+module _ {K : Type 0} (state : K → DeskState) (gives : Want → Order → Outcome → Type 0) where
   -- what a call leaves of a board
   call_adds_legally : (name : List ℕ) (call : Call state gives) (added past : List Command) (first : Command) → IsBoardOf (added ++ (first ∷ past)) (file_of (state call.entry) name)
       → (last : List ℕ) → Leaves state gives name call last → GrownLegally (added ++ (first ∷ past)) last
@@ -147,7 +148,7 @@ has_place past id owner free = by (place_of (jobs_of past) id) refl
         let clash : Some refusal.NoJob ≡ None = sym (ap (λ (o : Option Job). refused_of o action.Claim owner) (named_by (jobs_of past) id None is)) ∙ free in
         absurd (cc)
 
-module _ {K : Type 0} (state : K → DeskState) (gives : Order → Outcome → Type 0) where
+module _ {K : Type 0} (state : K → DeskState) (gives : Want → Order → Outcome → Type 0) where
   -- between two claims of the job of an id the first owner gave it up
   pub handed_on : (name id first second : List ℕ) (one two : Call state gives) → WasClaimed name id first (state one.entry) (state one.now) one.status
       → Life state gives name (file_of (state one.now) name) (file_of (state two.entry) name)

@@ -4,6 +4,7 @@ use Rattle.tf_desk.specs.Crash.{shown_with, ShowsPrefix}
 use Rattle.tf_desk.specs.State.{DeskState}
 use Rattle.tf_flow.specs.Plan.{PlanValue}
 use Rattle.tf_states.specs.declared.record.Entry.{Entry}
+use Rattle.tf_ports.specs.declared.crews.Want.{Want}
 use Rattle.tf_actions.specs.declared.orders.Order.{Order}
 use Rattle.tf_actions.specs.declared.outcomes.Outcome.{Outcome}
 use Rattle.tf_model.specs.Plan.{outline_of}
@@ -34,7 +35,7 @@ shown_after {plan} {quiet} {before} (e ∷ entries) {shown} {last} {closing} {te
 shown_after {plan} {quiet} {before} entries {shown} (stopped same) =
     inr ([], refl, record { count = 0; prefix = same ∙ sym (shown_none (shown_with shown (said quiet (outline_of plan) before entries))) })
 
-module _ {K : Type 0} (state : K → DeskState) (gives : Order → Outcome → Type 0) where
+module _ {K : Type 0} (state : K → DeskState) (gives : Want → Order → Outcome → Type 0) where
   -- when a call had left the file
   told_then : (may : List Entry → Entry → Type 0) (name : List ℕ) (call : Call state gives) (plan : PlanValue) (quiet : Bool) (before entries : List Entry) (last : List ℕ → ℕ → Type 0) (closing : List ℕ)
       → ShowsLines plan quiet before entries (state call.entry).shown (state call.now).shown last closing call.status

@@ -8,6 +8,7 @@ use Rattle.tf_desk.specs.Crash.{Mark}
 use Rattle.tf_desk.specs.State.{DeskState}
 use Rattle.tf_flow.specs.Plan.{PlanValue}
 use Rattle.tf_states.specs.declared.record.Entry.{Entry}
+use Rattle.tf_ports.specs.declared.crews.Want.{Want}
 use Rattle.tf_actions.specs.declared.orders.Order.{Order}
 use Rattle.tf_actions.specs.declared.outcomes.Outcome.{Outcome}
 use Rattle.tf_journal.specs.Start.{file_of, first_pick, first_sync, IsFirm, IsStart}
@@ -18,7 +19,8 @@ use Rattle.tf_board.specs.Does.{HoldsEither}
 use Rattle.tf_board.specs.declared.commands.Command.{Command}
 use Rattle.tf_journal.specs.Format.{bodies, Recovered}
 use Rattle.tf_book.specs.Book.{bodies_of}
-use Rattle.tf_commands.specs.Asking.{asked_for, want_of, WasAsked}
+use Rattle.tf_commands.specs.Asking.{want_of, WasAsked}
+use Rattle.tf_words.specs.Words.{command_of}
 use Rattle.tf_commands.specs.Course as course
 use Rattle.tf_commands.specs.Course.{Course, Obeys, FileRead, IsUntouched}
 use Rattle.tf_commands.specs.Run.{NoFileChanges, book_in, book_at, HoldsNoFlow, HoldsHistory}
@@ -33,7 +35,7 @@ use Rattle.tf_board.proofs.StayLemmas.{some_body}
 use Rattle.tf_claims.proofs.TitleLemmas.{no_board_too, no_book_too}
 
 -- the file holds the plan with the history, and perhaps more behind it, which such hands recorded
-abbrev pub Grown : (Order → Outcome → Type 0) → (ℕ → Type 0) → PlanValue → List Entry → List ℕ → Type 0
+abbrev pub Grown : (Want → Order → Outcome → Type 0) → (ℕ → Want → Type 0) → PlanValue → List Entry → List ℕ → Type 0
 Grown gives able plan past file = (entries : List Entry) × HoldsHistory plan (entries ++ past) (book_in file) × AreRecorded gives able (outline_of plan) past entries
 
 -- the board has the commands, and perhaps more behind them
@@ -41,7 +43,7 @@ abbrev pub GrownBoard : List Command → List ℕ → Type 0
 GrownBoard past file = (added : List Command) × Holds (added ++ past) (board_in file)
 
 -- the same file
-stays : (gives : Order → Outcome → Type 0) (able : ℕ → Type 0) {plan : PlanValue} {past : List Entry} (before now : List ℕ) → HoldsHistory plan past (book_in before) → now ≡ before → Grown gives able plan past now
+stays : (gives : Want → Order → Outcome → Type 0) (able : ℕ → Want → Type 0) {plan : PlanValue} {past : List Entry} (before now : List ℕ) → HoldsHistory plan past (book_in before) → now ≡ before → Grown gives able plan past now
 stays gives able {plan} {past} before now holds same = ([], subst (λ (f : List ℕ). HoldsHistory plan past (book_in f)) (sym same) holds, tt)
 
 -- a call that picks and syncs nothing has no start
@@ -66,18 +68,18 @@ pub no_jobs : {plan : PlanValue} {past : List Entry} (file : List ℕ) (before :
 no_jobs {plan} {past} file before holds (inl held) = let none = no_board_too file (bodies_of plan past) holds.is in let clash = sym none.2 ∙ held in cc
 no_jobs {plan} {past} file before holds (inr empty) = let none = no_board_too file (bodies_of plan past) holds.is in let clash = sym none.2 ∙ empty.1 in cc
 
-not_made : (gives : Order → Outcome → Type 0) (able : ℕ → Type 0) {plan : PlanValue} {past : List Entry} (before now : List ℕ) → HoldsHistory plan past (book_in before) → IsAsBeforeOrMade before now → Grown gives able plan past now
+not_made : (gives : Want → Order → Outcome → Type 0) (able : ℕ → Want → Type 0) {plan : PlanValue} {past : List Entry} (before now : List ℕ) → HoldsHistory plan past (book_in before) → IsAsBeforeOrMade before now → Grown gives able plan past now
 not_made gives able before now holds (inl same) = stays gives able before now holds same
 not_made gives able {plan} {past} before now holds (inr made) = let none = no_board_too before (bodies_of plan past) holds.is in let clash = sym none.2 ∙ made.0 in absurd (cc)
 
 -- entries behind the history that a call found are given behind the one that the file held
-given_once : (gives : Order → Outcome → Type 0) (able : ℕ → Type 0) (entries : List Entry) {p q : PlanValue} {h k : List Entry} {found : Recovered} → HoldsHistory p h found → HoldsHistory q k found
+given_once : (gives : Want → Order → Outcome → Type 0) (able : ℕ → Want → Type 0) (entries : List Entry) {p q : PlanValue} {h k : List Entry} {found : Recovered} → HoldsHistory p h found → HoldsHistory q k found
     → AreRecorded gives able (outline_of q) k entries → AreRecorded gives able (outline_of p) h entries
 given_once gives able entries {p} {q} {h} {k} first second given =
     let one = once first second in
     subst (λ (l : List Entry). AreRecorded gives able (outline_of p) l entries) one.2 (subst (λ (o : Outline). AreRecorded gives able o k entries) one.1 given)
 
-way_effect : {gives : Order → Outcome → Type 0} {able : ℕ → Type 0} {plan : PlanValue} {past : List Entry} {name : List ℕ} {entry now : DeskState} → HoldsHistory plan past (book_at entry name)
+way_effect : {gives : Want → Order → Outcome → Type 0} {able : ℕ → Want → Type 0} {plan : PlanValue} {past : List Entry} {name : List ℕ} {entry now : DeskState} → HoldsHistory plan past (book_at entry name)
     → Way gives able name entry now → Effect (Grown gives able plan past) name entry now
 way_effect {gives} {able} {plan} {past} {name} {entry} {now} holds (alone closing a) = record {
   file = stays gives able (file_of entry name) (file_of now name) holds a.file;
@@ -150,7 +152,7 @@ module _ (first : Command) (rest : List Command) where
   no_flow file holds (inr empty) = (let none = no_book_too file (commands_bodies past) holds in let clash = sym none.2 ∙ empty in cc)
 
   -- what is left of a board
-  board_effect : {gives : Order → Outcome → Type 0} {able : ℕ → Type 0} {name : List ℕ} {entry now : DeskState} → Holds past (board_in (file_of entry name)) → Way gives able name entry now → Effect (GrownBoard past) name entry now
+  board_effect : {gives : Want → Order → Outcome → Type 0} {able : ℕ → Want → Type 0} {name : List ℕ} {entry now : DeskState} → Holds past (board_in (file_of entry name)) → Way gives able name entry now → Effect (GrownBoard past) name entry now
   board_effect {gives} {able} {name} {entry} {now} holds (alone closing a) = record {
     file = stays_board (file_of entry name) (file_of now name) holds a.file;
     crash = λ moment start image text is. stays_board (file_of entry name) image holds (a.crash moment start image text is).0;
@@ -178,14 +180,14 @@ other_file : (name : List ℕ) (entry now : DeskState) → now.content.files nam
 other_file name entry now same = ap (λ (f : Option (List ℕ)). unwrap_or f []) same
 
 -- the file that the words are about
-about_one : (words : List (List ℕ)) (name : List ℕ) (command : Asked) (file : List ℕ) → asked_for words ≡ Some command → file_of_command command ≡ Some file
+about_one : (words : List (List ℕ)) (name : List ℕ) (command : Asked) (file : List ℕ) → command_of words ≡ Some command → file_of_command command ≡ Some file
     → IsAbout words name → name ≡ file
 about_one words name command file asks is one =
     let same : one.0 ≡ command = (let both : Some one.0 ≡ Some command = sym one.1 ∙ asks in cc) in
     let both : Some name ≡ Some file = sym one.2 ∙ ap file_of_command same ∙ is in
     cc
 
-module _ {K : Type 0} (state : K → DeskState) (gives : Order → Outcome → Type 0) (has : List ℕ → Type 0) where
+module _ {K : Type 0} (state : K → DeskState) (gives : Want → Order → Outcome → Type 0) (has : List ℕ → Type 0) where
   -- a file that stays has what it had
   same_file : (before now : List ℕ) → has before → now ≡ before → has now
   same_file before now had same = subst has (sym same) had
@@ -199,7 +201,7 @@ module _ {K : Type 0} (state : K → DeskState) (gives : Order → Outcome → T
   quiet_keeps name call same had _ (elsewhere other) = had
 
   -- a call about a file
-  way_keeps : (name file : List ℕ) (call : Call state gives) (command : Asked) → asked_for call.words ≡ Some command → file_of_command command ≡ Some file
+  way_keeps : (name file : List ℕ) (call : Call state gives) (command : Asked) → command_of call.words ≡ Some command → file_of_command command ≡ Some file
       → Way gives (IsHired state gives call) file (state call.entry) (state call.now) → has (file_of (state call.entry) name)
       → (Way gives (IsHired state gives call) name (state call.entry) (state call.now) → Effect has name (state call.entry) (state call.now))
       → (last : List ℕ) → Leaves state gives name call last → has last
@@ -217,7 +219,7 @@ module _ {K : Type 0} (state : K → DeskState) (gives : Order → Outcome → T
       by (inr apart) _ (crashed one moment start image text left) = absurd (apart (about_one call.words name command file asks is one))
       by (inr apart) _ (elsewhere other) = had
 
-  goes_keeps : (name : List ℕ) (call : Call state gives) (command : Asked) → asked_for call.words ≡ Some command
+  goes_keeps : (name : List ℕ) (call : Call state gives) (command : Asked) → command_of call.words ≡ Some command
       → Goes gives (IsHired state gives call) (file_of_command command) (state call.entry) (state call.now) → has (file_of (state call.entry) name)
       → (Way gives (IsHired state gives call) name (state call.entry) (state call.now) → Effect has name (state call.entry) (state call.now))
       → (last : List ℕ) → Leaves state gives name call last → has last
@@ -237,16 +239,16 @@ module _ {K : Type 0} (state : K → DeskState) (gives : Order → Outcome → T
       by (course.obeyed command asks obeys) =
           goes_keeps name call command asks
           (obeys_goes state gives (WasAsked (state call.entry) (state call.now)) command call.files call.hired call.after_hiring call.entry call.now call.status
-          (λ want is hires n among. record { hands = want; wanted = ap (option_and_then want_of) asks ∙ is; hires = hires; among = among }) call.tells obeys) had effect last leaves
+          (λ want is hires n among. record { wanted = ap (option_and_then want_of) asks ∙ is; hires = hires; among = among }) call.tells obeys) had effect last leaves
 
 -- what a call leaves of a file that holds a history is that history, with what was recorded behind it
-pub call_grows : {K : Type 0} (state : K → DeskState) (gives : Order → Outcome → Type 0) {plan : PlanValue} {past : List Entry} (name : List ℕ) (call : Call state gives)
+pub call_grows : {K : Type 0} (state : K → DeskState) (gives : Want → Order → Outcome → Type 0) {plan : PlanValue} {past : List Entry} (name : List ℕ) (call : Call state gives)
     → HoldsHistory plan past (book_at (state call.entry) name) → (last : List ℕ) → Leaves state gives name call last → Grown gives (IsHired state gives call) plan past last
 call_grows state gives {plan} {past} name call holds last leaves =
     call_keeps state gives (Grown gives (IsHired state gives call) plan past) name call ([], holds, tt) (λ way. way_effect holds way) last leaves
 
 -- and of a board that has a command, its commands with those that were added
-pub call_adds : {K : Type 0} (state : K → DeskState) (gives : Order → Outcome → Type 0) {first : Command} {rest : List Command} (name : List ℕ) (call : Call state gives)
+pub call_adds : {K : Type 0} (state : K → DeskState) (gives : Want → Order → Outcome → Type 0) {first : Command} {rest : List Command} (name : List ℕ) (call : Call state gives)
     → Holds (first ∷ rest) (board_in (file_of (state call.entry) name)) → (last : List ℕ) → Leaves state gives name call last → GrownBoard (first ∷ rest) last
 call_adds state gives {first} {rest} name call holds last leaves =
     call_keeps state gives (GrownBoard (first ∷ rest)) name call ([], holds) (λ way. board_effect first rest holds way) last leaves

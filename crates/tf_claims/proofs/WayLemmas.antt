@@ -30,7 +30,7 @@ use Rattle.tf_claims.proofs.GivenLemmas.{GivesAll, run_gives, ended_gives, reset
 -- ---- the ways of a call about a file
 
 -- nothing was recorded; entries were recorded behind a history that the file holds, or in a file that held no flow; or the same of a board
-pub data Way (gives : Order → Outcome → Type 0) (able : ℕ → Type 0) (name : List ℕ) (entry now : DeskState) : Type 1 where
+pub data Way (gives : Want → Order → Outcome → Type 0) (able : ℕ → Want → Type 0) (name : List ℕ) (entry now : DeskState) : Type 1 where
   alone : (closing : List ℕ) → StaysAlone name entry now closing → Way gives able name entry now
   recorded : (may : List Entry → Entry → Type 0) (plan : PlanValue) (quiet : Bool) (before entries : List Entry) (closing : List ℕ) → HoldsHistory plan before (book_at entry name)
       → GivesAll gives able may plan before entries → Lasts may name plan quiet before entries entry now closing → Way gives able name entry now
@@ -41,7 +41,7 @@ pub data Way (gives : Order → Outcome → Type 0) (able : ℕ → Type 0) (nam
       → board.Lasts name before pending (added ++ before) entry now message → Way gives able name entry now
 
 -- other files stay
-pub way_others : {gives : Order → Outcome → Type 0} {able : ℕ → Type 0} {name : List ℕ} {entry now : DeskState} → Way gives able name entry now → (other : List ℕ) → other ≢ name → now.content.files other ≡ entry.content.files other
+pub way_others : {gives : Want → Order → Outcome → Type 0} {able : ℕ → Want → Type 0} {name : List ℕ} {entry now : DeskState} → Way gives able name entry now → (other : List ℕ) → other ≢ name → now.content.files other ≡ entry.content.files other
 way_others (alone closing a) = a.others
 way_others (recorded may plan quiet before entries closing held given l) = l.others
 way_others (began may plan quiet entries closing none given l) = l.others
@@ -49,12 +49,12 @@ way_others (unmade message s) = s.others
 way_others (jobs before added pending message finds may l) = l.others
 
 -- such a hand may record where these hands were hired
-abbrev pub Allows : (ℕ → Type 0) → Want → Option (List Want) → Option (List Want) → Type 0
-Allows able want hired after_hiring = Hires want hired after_hiring → (n : ℕ) → n < number_of want → able n
+abbrev pub Allows : (ℕ → Want → Type 0) → Want → Option (List Want) → Option (List Want) → Type 0
+Allows able want hired after_hiring = Hires want hired after_hiring → (n : ℕ) → n < number_of want → able n want
 
 -- ---- which way each command goes
 
-does_way : {gives : Order → Outcome → Type 0} {able : ℕ → Type 0} (command : Asked) (name : List ℕ) (entry now : DeskState) (status : ℕ) → IsTrue entry.tells → Does command name entry now status → Way gives able name entry now
+does_way : {gives : Want → Order → Outcome → Type 0} {able : ℕ → Want → Type 0} (command : Asked) (name : List ℕ) (entry now : DeskState) (status : ℕ) → IsTrue entry.tells → Does command name entry now status → Way gives able name entry now
 does_way command name entry now status told (board.unopened_memory is ends) = unmade [] (ends.stays told)
 does_way command name entry now status told (board.unopened_disk ends) = unmade _ (ends.stays told)
 does_way command name entry now status told (board.no_board offset byte none same ends) = unmade _ (ends.stays told)
@@ -63,26 +63,26 @@ does_way command name entry now status told (board.unrecorded before legal has i
 does_way command name entry now status told (board.disk_failed before legal may has ends) = jobs before [] (answer_of command before).added _ (has told) may (ends.lasts told)
 does_way command name entry now status told (board.filled before size need legal has full ends) = jobs before [] [] _ (has told) legal (ends.lasts told)
 
-unopened_way : {gives : Order → Outcome → Type 0} {able : ℕ → Type 0} (name : List ℕ) (entry now : DeskState) (status : ℕ) → IsTrue entry.tells → Unopened name entry now status → Way gives able name entry now
+unopened_way : {gives : Want → Order → Outcome → Type 0} {able : ℕ → Want → Type 0} (name : List ℕ) (entry now : DeskState) (status : ℕ) → IsTrue entry.tells → Unopened name entry now status → Way gives able name entry now
 unopened_way name entry now status told (books.exhausted s) = alone [] (s.alone told)
 unopened_way name entry now status told (books.disk_failed r) = alone _ (r.alone told)
 unopened_way name entry now status told (books.no_book offset byte none r) = alone _ (r.alone told)
 
-unhired_way : {gives : Order → Outcome → Type 0} {able : ℕ → Type 0} (name : List ℕ) (entry now : DeskState) (hired after_hiring : Option (List Want)) (status : ℕ) → IsTrue entry.tells
+unhired_way : {gives : Want → Order → Outcome → Type 0} {able : ℕ → Want → Type 0} (name : List ℕ) (entry now : DeskState) (hired after_hiring : Option (List Want)) (status : ℕ) → IsTrue entry.tells
     → Unhired name entry now hired after_hiring status → Way gives able name entry now
 unhired_way name entry now hired after_hiring status told (books.exhausted_hire same s) = alone [] (s.alone told)
 unhired_way name entry now hired after_hiring status told (books.unhired same r) = alone _ (r.alone told)
 
-runs_way : {gives : Order → Outcome → Type 0} {able : ℕ → Type 0} {request : Request} {stopped : Type 0} (name : List ℕ) (hired after_hiring : Option (List Want)) (entry now : DeskState)
-    (tree : PlanTree) (status : ℕ) → Allows able request.want hired after_hiring → IsTrue entry.tells → Runs gives request stopped name hired after_hiring entry now tree status → Way gives able name entry now
+runs_way : {gives : Want → Order → Outcome → Type 0} {able : ℕ → Want → Type 0} {request : Request} {stopped : Type 0} (name : List ℕ) (hired after_hiring : Option (List Want)) (entry now : DeskState)
+    (tree : PlanTree) (status : ℕ) → Allows able request.want hired after_hiring → IsTrue entry.tells → Runs (gives request.want) request stopped name hired after_hiring entry now tree status → Way gives able name entry now
 runs_way name hired after_hiring entry now tree status allow told (books.unopened same u) = unopened_way name entry now status told u
 runs_way name hired after_hiring entry now tree status allow told (books.forbidden other before same held r) = alone _ (r.alone told)
 runs_way name hired after_hiring entry now tree status allow told (books.unhired_run none u) = unhired_way name entry now hired after_hiring status told u
 runs_way name hired after_hiring entry now tree status allow told (books.ran other same none hires p) =
     began _ other _ p.entries p.closing (none told) (run_gives (allow hires) p.ran) (p.lasts told)
 
-resumes_way : {gives : Order → Outcome → Type 0} {able : ℕ → Type 0} {request : Request} {stopped : Type 0} (name : List ℕ) (hired after_hiring : Option (List Want)) (entry now : DeskState)
-    (status : ℕ) → Allows able request.want hired after_hiring → IsTrue entry.tells → Resumes gives request stopped name hired after_hiring entry now status → Way gives able name entry now
+resumes_way : {gives : Want → Order → Outcome → Type 0} {able : ℕ → Want → Type 0} {request : Request} {stopped : Type 0} (name : List ℕ) (hired after_hiring : Option (List Want)) (entry now : DeskState)
+    (status : ℕ) → Allows able request.want hired after_hiring → IsTrue entry.tells → Resumes (gives request.want) request stopped name hired after_hiring entry now status → Way gives able name entry now
 resumes_way name hired after_hiring entry now status allow told (books.unopened_again same u) = unopened_way name entry now status told u
 resumes_way name hired after_hiring entry now status allow told (books.empty same none r) = alone _ (r.alone told)
 resumes_way name hired after_hiring entry now status allow told (books.unhired_again other before held going u) = unhired_way name entry now hired after_hiring status told u
@@ -90,12 +90,12 @@ resumes_way name hired after_hiring entry now status allow told (books.resumed o
     recorded _ other _ before p.entries p.closing (held told)
     (⊎_elim (λ over. ended_gives over.0 p.ran) (λ going. run_gives (allow going.1) p.ran) how) (p.lasts told)
 
-shows_way : {gives : Order → Outcome → Type 0} {able : ℕ → Type 0} (name : List ℕ) (entry now : DeskState) (status : ℕ) → IsTrue entry.tells → ShowsBook name entry now status → Way gives able name entry now
+shows_way : {gives : Want → Order → Outcome → Type 0} {able : ℕ → Want → Type 0} (name : List ℕ) (entry now : DeskState) (status : ℕ) → IsTrue entry.tells → ShowsBook name entry now status → Way gives able name entry now
 shows_way name entry now status told (books.unopened_show u) = unopened_way name entry now status told u
 shows_way name entry now status told (books.nothing_shown none r) = alone _ (r.alone told)
 shows_way name entry now status told (books.shown_whole other before held r) = alone _ (r.alone told)
 
-resets_way : {gives : Order → Outcome → Type 0} {able : ℕ → Type 0} (name : List ℕ) (entry now : DeskState) (status : ℕ) → IsTrue entry.tells → ResetsBook name entry now status → Way gives able name entry now
+resets_way : {gives : Want → Order → Outcome → Type 0} {able : ℕ → Want → Type 0} (name : List ℕ) (entry now : DeskState) (status : ℕ) → IsTrue entry.tells → ResetsBook name entry now status → Way gives able name entry now
 resets_way name entry now status told (books.unopened_reset u) = unopened_way name entry now status told u
 resets_way name entry now status told (books.nothing_put_back none r) = alone _ (r.alone told)
 resets_way name entry now status told (books.reset_forbidden other before held never r) = alone _ (r.alone told)
@@ -103,12 +103,12 @@ resets_way name entry now status told (books.was_reset other before held may p) 
     recorded _ other _ before p.entries p.closing (held told) (reset_gives p.put_back) (p.lasts told)
 
 -- a command that is about a file goes a way of that file, or touched none
-pub data Goes (gives : Order → Outcome → Type 0) (able : ℕ → Type 0) (file : Option (List ℕ)) (entry now : DeskState) : Type 1 where
+pub data Goes (gives : Want → Order → Outcome → Type 0) (able : ℕ → Want → Type 0) (file : Option (List ℕ)) (entry now : DeskState) : Type 1 where
   untouched : NoFileChanges entry now → Goes gives able file entry now
   about : (name : List ℕ) → file ≡ Some name → Way gives able name entry now → Goes gives able file entry now
 
 -- a run of what a flow file gives
-file_goes : {gives : Order → Outcome → Type 0} {able : ℕ → Type 0} {files : Contents} {source : Source} {hired after_hiring : Option (List Want)} {does : PlanTree → ℕ → Type 0} {before after : Option (List ℕ)} (name : List ℕ) (entry now : DeskState)
+file_goes : {gives : Want → Order → Outcome → Type 0} {able : ℕ → Want → Type 0} {files : Contents} {source : Source} {hired after_hiring : Option (List Want)} {does : PlanTree → ℕ → Type 0} {before after : Option (List ℕ)} (name : List ℕ) (entry now : DeskState)
     (status : ℕ) → ((tree : PlanTree) → does tree status → Way gives able name entry now) → FileRead files source (IsUntouched hired after_hiring entry now) does before after status
     → Goes gives able (Some name) entry now
 file_goes name entry now status way (course.unfinished still is same) = untouched still.1
@@ -122,15 +122,15 @@ file_goes name entry now status way (course.read bytes given short (course.done 
 pub itself : (entry : DeskState) → NoFileChanges entry entry
 itself entry told = (refl, refl)
 
-module _ {K : Type 0} (state : K → DeskState) (gives : Order → Outcome → Type 0) where
-  demo_goes : {able : ℕ → Type 0} {hands : Want} {stopped : Type 0} (name : List ℕ) (hired after_hiring : Option (List Want)) (entry now : K) (seed size status : ℕ) → Allows able hands hired after_hiring → IsTrue (state entry).tells
-      → Demonstrates state gives hands stopped name hired after_hiring entry now seed size status → Goes gives able (Some name) (state entry) (state now)
+module _ {K : Type 0} (state : K → DeskState) (gives : Want → Order → Outcome → Type 0) where
+  demo_goes : {able : ℕ → Want → Type 0} {hands : Want} {stopped : Type 0} (name : List ℕ) (hired after_hiring : Option (List Want)) (entry now : K) (seed size status : ℕ) → Allows able hands hired after_hiring → IsTrue (state entry).tells
+      → Demonstrates state (gives hands) hands stopped name hired after_hiring entry now seed size status → Goes gives able (Some name) (state entry) (state now)
   demo_goes name hired after_hiring entry now seed size status allow told (books.ungenerated is same still) =
       untouched (subst (λ (k : K). NoFileChanges (state entry) (state k)) (sym still) (itself (state entry)))
   demo_goes name hired after_hiring entry now seed size status allow told (books.demonstrated r) =
       about name refl (runs_way name hired after_hiring (state entry) (state now) _ status allow told r)
 
-  pub obeys_goes : {able : ℕ → Type 0} (stopped : Type 0) (command : Asked) (files : Contents) (hired after_hiring : Option (List Want)) (entry now : K) (status : ℕ)
+  pub obeys_goes : {able : ℕ → Want → Type 0} (stopped : Type 0) (command : Asked) (files : Contents) (hired after_hiring : Option (List Want)) (entry now : K) (status : ℕ)
       → ((want : Want) → want_of command ≡ Some want → Allows able want hired after_hiring) → IsTrue (state entry).tells
       → Obeys state gives stopped command files hired after_hiring entry now status → Goes gives able (file_of_command command) (state entry) (state now)
   obeys_goes stopped (asked.Try file sets defer hands target) files hired after_hiring entry now status allow told obeys = untouched obeys.1.0

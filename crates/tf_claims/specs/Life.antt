@@ -22,7 +22,8 @@ use Rattle.tf_board.specs.declared.commands.Command.{Command}
 use Rattle.tf_board.specs.declared.commands.Command.TheVariants as command
 use Rattle.tf_board.specs.declared.commands.JobAction.TheVariants as action
 use Rattle.tf_book.specs.Turns.{IsNextReset}
-use Rattle.tf_commands.specs.Asking.{asked_for, wanted_by, WasAsked}
+use Rattle.tf_commands.specs.Asking.{wanted_by, WasAsked}
+use Rattle.tf_words.specs.Words.{command_of}
 use Rattle.tf_commands.specs.Books.{Hires}
 use Rattle.tf_commands.specs.Course.{Course, MayBeDone, IsComplete}
 use Rattle.tf_commands.specs.Run.{book_in, HoldsHistory, IsShownThen, HasReached, stop_status}
@@ -39,9 +40,9 @@ file_of_command command = board_of command
 
 -- the words are a command about the file of that name
 abbrev pub IsAbout : List (List ℕ) → List ℕ → Type 0
-IsAbout words name = (command : Asked) × (asked_for words ≡ Some command) × (file_of_command command ≡ Some name)
+IsAbout words name = (command : Asked) × (command_of words ≡ Some command) × (file_of_command command ≡ Some name)
 
-module _ {K : Type 0} (state : K → DeskState) (gives : Order → Outcome → Type 0) where
+module _ {K : Type 0} (state : K → DeskState) (gives : Want → Order → Outcome → Type 0) where
   -- a call of the program, of which the top call's clause on its course holds: by any words, with any sources, hired hands and faults, on
   -- a desk that tells what its files have, and whatever its status
   pub record Call : Type 0 where
@@ -65,11 +66,10 @@ module _ {K : Type 0} (state : K → DeskState) (gives : Order → Outcome → T
 
   -- the top call's clause on completeness, where no count of faults rose and no stop was asked for
   abbrev pub IsUnfailing : Call → Type 0
-  IsUnfailing call = (command : Asked) → asked_for call.words ≡ Some command → MayBeDone command call.files (state call.entry) → IsComplete command call.status
+  IsUnfailing call = (command : Asked) → command_of call.words ≡ Some command → MayBeDone command call.files (state call.entry) → IsComplete command call.status
 
-  -- a hand of this number was hired for a call: its words ask for hands, these were hired, and so many there are
-  pub record IsHired (call : Call) (hand : ℕ) : Type 0 where
-    pub hands : Want
+  -- a hand of this number was hired for a call as one of the hands that are wanted: its words ask for these, they were hired, and so many there are
+  pub record IsHired (call : Call) (hand : ℕ) (hands : Want) : Type 0 where
     pub wanted : wanted_by call.words ≡ Some hands
     pub hires : Hires hands call.hired call.after_hiring
     pub among : hand < number_of hands
@@ -86,19 +86,24 @@ module _ {K : Type 0} (state : K → DeskState) (gives : Order → Outcome → T
     lived : {mid last : List ℕ} → Life name first mid → (call : Call) → file_of (state call.entry) name ≡ mid → Leaves name call last
         → Life name first last
 
-  -- a hand of this number was hired for some call of the life
-  abbrev pub HiredIn : {name first last : List ℕ} → Life name first last → ℕ → Type 0
-  HiredIn unlived hand = ⊥
-  HiredIn (lived before call same leaves) hand = HiredIn before hand ⊎ IsHired call hand
+  -- a hand of this number was hired for some call of the life, as one of the hands that are wanted there
+  abbrev pub HiredIn : {name first last : List ℕ} → Life name first last → ℕ → Want → Type 0
+  HiredIn unlived hand hands = ⊥
+  HiredIn (lived before call same leaves) hand hands = HiredIn before hand hands ⊎ IsHired call hand hands
 
--- an entry that was recorded after a history, or may be: where it ends a task, it carries an outcome that the hands' relation gives for the order of
--- the task's last start; and it is by one of these hands, or by hand 0 to put the flow back
-pub record IsRecordedBy (gives : Order → Outcome → Type 0) (hired : ℕ → Type 0) (plan : Outline) (past : List Entry) (e : Entry) : Type 0 where
-  pub given : IsGiven gives plan past e.what
-  pub by : hired e.hand ⊎ IsNextReset plan past e
+-- an entry is by a hand that was hired as one of some that were wanted; and where it ends a task, it carries an outcome that their relation gives for
+-- the order of the task's last start
+pub record IsByHand (gives : Want → Order → Outcome → Type 0) (hired : ℕ → Want → Type 0) (plan : Outline) (past : List Entry) (e : Entry) : Type 0 where
+  pub hands : Want
+  pub hires : hired e.hand hands
+  pub given : IsGiven (gives hands) plan past e.what
+
+-- an entry that was recorded after a history, or may be: by such a hand, or by hand 0 to put the flow back
+abbrev pub IsRecordedBy : (Want → Order → Outcome → Type 0) → (ℕ → Want → Type 0) → Outline → List Entry → Entry → Type 0
+IsRecordedBy gives hired plan past e = IsByHand gives hired plan past e ⊎ IsNextReset plan past e
 
 -- so is each of the entries that were recorded after a history, after those before it
-abbrev pub AreRecorded : (Order → Outcome → Type 0) → (ℕ → Type 0) → Outline → List Entry → List Entry → Type 0
+abbrev pub AreRecorded : (Want → Order → Outcome → Type 0) → (ℕ → Want → Type 0) → Outline → List Entry → List Entry → Type 0
 AreRecorded gives hired plan past [] = Unit {0}
 AreRecorded gives hired plan past (e ∷ entries) = IsRecordedBy gives hired plan (entries ++ past) e × AreRecorded gives hired plan past entries
 

@@ -4,6 +4,7 @@ ghost use Rattle.std.specs.Prelude.{◌≡◌, ◌∷◌, ◌++◌, false, ℕ, 
 ghost use Rattle.tf_desk.specs.Crash.{Rises};
 ghost use Rattle.tf_flow.specs.Plan.{PlanValue};
 ghost use Rattle.tf_states.specs.declared.record.Entry.{Entry};
+ghost use Rattle.tf_ports.specs.Ports.{gives_by};
 ghost use Rattle.tf_ports.specs.declared.crews.Want.{Want as AWant};
 ghost use Rattle.tf_journal.specs.Format.{Recovered};
 ghost use Rattle.tf_journal.specs.Start.{file_of};
@@ -14,7 +15,8 @@ ghost use Rattle.tf_book.specs.Book.{IsNoBook};
 ghost use Rattle.tf_words.specs.declared.asked.Asked.{Asked};
 ghost use Rattle.tf_words.specs.declared.asked.Asked.TheVariants.{Resume};
 ghost use Rattle.tf_model.specs.Plan.{outline_of};
-ghost use Rattle.tf_commands.specs.Asking.{asked_for, WasAsked};
+ghost use Rattle.tf_commands.specs.Asking.{WasAsked};
+ghost use Rattle.tf_words.specs.Words.{command_of};
 ghost use Rattle.tf_commands.specs.Books.{Promised, PutsBack};
 ghost use Rattle.tf_commands.specs.declared.running.Request.{Request};
 ghost use Rattle.tf_commands.specs.Run.{book_in, book_at, HoldsHistory};
@@ -26,21 +28,23 @@ use tf_ports::Crew;
 /// What the file of a name holds at any later point of its life begins with what it held before: the same plan, and the
 /// history with what was recorded since.
 pub fn history_only_grows<K: Desk, W: Crew>()
-    ensures { (name first last : List ℕ) → Life K.state W.Hand.gives name first last
+    ensures { (name first last : List ℕ) → Life K.state (gives_by W.Hand.gives W.Far.gives) name first last
         → (plan : PlanValue) (past : List Entry) → HoldsHistory plan past (book_in first)
         → (entries : List Entry) × HoldsHistory plan (entries ++ past) (book_in last) }
 {}
 
 /// Whatever is recorded over a life is a step of the one history: a step that a rule allows after those before it, within
 /// its limits (`HoldsHistory`); by a hand that was hired for a call of the life, or by hand 0 where it puts the flow back;
-/// and where it ends a task, then with an outcome that the hired hands' relation gives for the order of the task's last
-/// start, whose arguments are those that the definition of scopes gives at that moment. So it is also of an entry whose
-/// record a crash, or a fault of the disk, left pending.
+/// and where it ends a task, then with an outcome that the relation of the hands that the call wanted gives for the order
+/// of the task's last start, whose arguments are those that the definition of scopes gives at that moment: so what only a
+/// hand that asks a worker may give (`lost`, `bad-reply`) stands only where such hands were wanted. So it is also of an
+/// entry whose record a crash, or a fault of the disk, left pending.
 pub fn every_entry_is_a_step<K: Desk, W: Crew>()
-    ensures { (name first last : List ℕ) (life : Life K.state W.Hand.gives name first last)
+    ensures { (name first last : List ℕ) (life : Life K.state (gives_by W.Hand.gives W.Far.gives) name first last)
         (plan : PlanValue) (past : List Entry) → HoldsHistory plan past (book_in first)
         → (entries : List Entry) × HoldsHistory plan (entries ++ past) (book_in last)
-        × AreRecorded W.Hand.gives (HiredIn K.state W.Hand.gives life) (outline_of plan) past entries }
+        × AreRecorded (gives_by W.Hand.gives W.Far.gives) (HiredIn K.state (gives_by W.Hand.gives W.Far.gives) life)
+        (outline_of plan) past entries }
 {}
 
 /// What a board's file holds at any later point of its life begins with what it held before: the same commands, with those
@@ -48,10 +52,10 @@ pub fn every_entry_is_a_step<K: Desk, W: Crew>()
 /// said of a board with a command; a board without one may be left as a file that isn't made yet. Where the commands were
 /// such as a board may hold, so are all of them at any later point: none was refused after those before it.
 pub fn boards_only_grow<K: Desk, W: Crew>()
-    ensures grows { (name first last : List ℕ) → Life K.state W.Hand.gives name first last
+    ensures grows { (name first last : List ℕ) → Life K.state (gives_by W.Hand.gives W.Far.gives) name first last
         → (one : Command) (past : List Command) → Holds (one ∷ past) (board_in first)
         → (added : List Command) × Holds (added ++ (one ∷ past)) (board_in last) }
-    ensures legal { (name first last : List ℕ) → Life K.state W.Hand.gives name first last
+    ensures legal { (name first last : List ℕ) → Life K.state (gives_by W.Hand.gives W.Far.gives) name first last
         → (one : Command) (past : List Command) → IsBoardOf (one ∷ past) first
         → (added : List Command) × IsBoardOf (added ++ (one ∷ past)) last }
 {}
@@ -59,8 +63,9 @@ pub fn boards_only_grow<K: Desk, W: Crew>()
 /// What was done on a board stands. A command on it that ended with status 0 said what it comes to on the commands that
 /// the board had; and these, with what it added behind them, are in the file at any later point of its life.
 pub fn what_was_done_stands<K: Desk, W: Crew>()
-    ensures { (name last : List ℕ) (call : Call K.state W.Hand.gives) (command : Asked) → call.status ≡ 0
-        → Life K.state W.Hand.gives name (file_of (K.state call.now) name) last
+    ensures { (name last : List ℕ) (call : Call K.state (gives_by W.Hand.gives W.Far.gives)) (command : Asked)
+        → call.status ≡ 0
+        → Life K.state (gives_by W.Hand.gives W.Far.gives) name (file_of (K.state call.now) name) last
         → Does command name (K.state call.entry) (K.state call.now) call.status
         → IsDone command name (K.state call.entry) (K.state call.now) last }
 {}
@@ -69,9 +74,10 @@ pub fn what_was_done_stands<K: Desk, W: Crew>()
 /// an id, and after it another one was, then the list of the board has both claims of that job, and between them that the
 /// first owner gave it up. A list says of each job who has it, and a file has one list.
 pub fn one_owner<K: Desk, W: Crew>()
-    ensures { (name id first second : List ℕ) (one two : Call K.state W.Hand.gives)
+    ensures { (name id first second : List ℕ) (one two : Call K.state (gives_by W.Hand.gives W.Far.gives))
         → WasClaimed name id first (K.state one.entry) (K.state one.now) one.status
-        → Life K.state W.Hand.gives name (file_of (K.state one.now) name) (file_of (K.state two.entry) name)
+        → Life K.state (gives_by W.Hand.gives W.Far.gives) name
+        (file_of (K.state one.now) name) (file_of (K.state two.entry) name)
         → WasClaimed name id second (K.state two.entry) (K.state two.now) two.status
         → IsHandedOn id first second (file_of (K.state one.entry) name) (file_of (K.state two.now) name) }
 {}
@@ -81,16 +87,19 @@ pub fn one_owner<K: Desk, W: Crew>()
 /// of; or all that the call recorded, whose lines the text has whole, with a prefix of the closing. So it is of a run
 /// (`run`, `resume`, `demo`), and of a flow that is put back (`reset`), whether the call returned or a crash came inside.
 pub fn nothing_shown_is_lost<K: Desk, W: Crew>()
-    ensures run { (name mid last text : List ℕ) (call : Call K.state W.Hand.gives) (request : Request)
-        (plan : PlanValue) (before : List Entry)
-        → (p : Promised W.Hand.gives request (WasAsked (K.state call.entry) (K.state call.now)) name plan before
+    ensures run { (name mid last text : List ℕ) (call : Call K.state (gives_by W.Hand.gives W.Far.gives))
+        (request : Request) (plan : PlanValue) (before : List Entry)
+        → (p : Promised (gives_by W.Hand.gives W.Far.gives request.want) request
+        (WasAsked (K.state call.entry) (K.state call.now)) name plan before
         (K.state call.entry) (K.state call.now) call.status)
-        → Shown K.state W.Hand.gives name call mid text → Life K.state W.Hand.gives name mid last
+        → Shown K.state (gives_by W.Hand.gives W.Far.gives) name call mid text
+        → Life K.state (gives_by W.Hand.gives W.Far.gives) name mid last
         → IsToldBy plan request.quiet before p.entries (K.state call.entry).shown p.closing text last }
-    ensures reset { (name mid last text : List ℕ) (call : Call K.state W.Hand.gives)
+    ensures reset { (name mid last text : List ℕ) (call : Call K.state (gives_by W.Hand.gives W.Far.gives))
         (plan : PlanValue) (before : List Entry)
         → (p : PutsBack name plan before (K.state call.entry) (K.state call.now) call.status)
-        → Shown K.state W.Hand.gives name call mid text → Life K.state W.Hand.gives name mid last
+        → Shown K.state (gives_by W.Hand.gives W.Far.gives) name call mid text
+        → Life K.state (gives_by W.Hand.gives W.Far.gives) name mid last
         → IsToldBy plan false before p.entries (K.state call.entry).shown p.closing text last }
 {}
 
@@ -98,10 +107,11 @@ pub fn nothing_shown_is_lost<K: Desk, W: Crew>()
 /// is asked, ends the flow: in success, in completed reversion, or in failure; unless memory runs out, or the next record
 /// would make the book longer than its limit. So it is at any point of a life, whatever came before.
 pub fn ends_as_stated<K: Desk, W: Crew>()
-    ensures { (name : List ℕ) (hands : AWant) (call : Call K.state W.Hand.gives) (plan : PlanValue) (past : List Entry)
-        → asked_for call.words ≡ Some (Resume name hands None)
+    ensures { (name : List ℕ) (hands : AWant) (call : Call K.state (gives_by W.Hand.gives W.Far.gives))
+        (plan : PlanValue) (past : List Entry)
+        → command_of call.words ≡ Some (Resume name hands None)
         → HoldsHistory plan past (book_at (K.state call.entry) name)
-        → IsUnfailing K.state W.Hand.gives call
+        → IsUnfailing K.state (gives_by W.Hand.gives W.Far.gives) call
         → ¬ (Rises (K.state call.entry).disk_faults (K.state call.now).disk_faults)
         → EndsAsStated plan past (file_of (K.state call.now) name) call.status }
 {}

@@ -7,3 +7,5 @@ mod calls;
 mod crashes;
 #[cfg(test)]
 mod faults;
+#[cfg(test)]
+mod remote;

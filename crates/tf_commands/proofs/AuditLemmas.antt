@@ -13,8 +13,9 @@ use Rattle.tf_audit.specs.Verdicts.{verdict_text, IsVerdict}
 use Rattle.tf_audit.specs.declared.verdicts.Verdict.{Verdict}
 use Rattle.tf_audit.specs.declared.verdicts.Verdict.TheVariants as verdict
 use Rattle.tf_words.specs.declared.asked.Asked.{Asked}
-use Rattle.tf_commands.specs.Asking.{GivesPlan, GivesNone, asked_for, file_asked_for}
+use Rattle.tf_commands.specs.Asking.{GivesPlan, GivesNone, file_asked_for}
 use Rattle.tf_commands.specs.Messages.{Judges, unjudged, judged, Audits, unfinished_log, unread_log, long_log, audited, log_asked_for, verdict_status, RefusesLog, IsLogRefused}
+use Rattle.tf_words.specs.Words.{command_of}
 use Rattle.tf_commands.specs.Course as course
 use Rattle.tf_commands.specs.Course.{BytesRead, FileRead, IsRefused, passes_limit, gives_none, IsDoneComplete}
 use Rattle.tf_commands.specs.Run.{HasSaid}
@@ -130,7 +131,7 @@ audit_unrefused files source log status (file_refused four bytes why given none)
 audit_unrefused files source log status (log_refused last refuses) is = omega (arith, last, is)
 
 -- status 4 comes where the flow file is refused
-pub audit_refused : (words : List (List ℕ)) (files : Contents) (command : Asked) (source : Source) (log : List ℕ) (status : ℕ) → asked_for words ≡ Some command → file_asked_for command ≡ Some source
+pub audit_refused : (words : List (List ℕ)) (files : Contents) (command : Asked) (source : Source) (log : List ℕ) (status : ℕ) → command_of words ≡ Some command → file_asked_for command ≡ Some source
     → AuditStatus files source log status → status ≡ 4 → IsRefused words files
 audit_refused words files command source log status asks about (audit_done one) is = absurd (one_of status 4 (λ e. omega arith) (λ e. omega arith) (λ e. omega arith) (λ e. omega arith) one is)
 audit_refused words files command source log status asks about (file_long four passes) is = passes_limit command source asks about passes
@@ -138,7 +139,7 @@ audit_refused words files command source log status asks about (file_refused fou
 audit_refused words files command source log status asks about (log_refused last refuses) is = absurd (omega (arith, last, is))
 
 -- status 17 comes where the log is refused
-pub audit_log_refused : (words : List (List ℕ)) (files : Contents) (command : Asked) (source : Source) (log : List ℕ) (status : ℕ) → asked_for words ≡ Some command → file_asked_for command ≡ Some source
+pub audit_log_refused : (words : List (List ℕ)) (files : Contents) (command : Asked) (source : Source) (log : List ℕ) (status : ℕ) → command_of words ≡ Some command → file_asked_for command ≡ Some source
     → log_asked_for command ≡ Some log → AuditStatus files source log status → status ≡ 17 → IsLogRefused words files
 audit_log_refused words files command source log status asks file about (audit_done one) is = absurd (one_of status 17 (λ e. omega arith) (λ e. omega arith) (λ e. omega arith) (λ e. omega arith) one is)
 audit_log_refused words files command source log status asks file about (file_long four passes) is = absurd (omega (arith, four, is))

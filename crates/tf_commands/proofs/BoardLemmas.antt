@@ -13,7 +13,8 @@ use Rattle.tf_report.proofs.ClosingLemmas.{ends_status}
 use Rattle.tf_board.specs.Answers.{board_of, answer_of}
 use Rattle.tf_board.specs.Does.{Does, IsBoardStatus, is_done, is_failed, is_no_board, is_unsaid, is_out, is_full, is_refused}
 use Rattle.tf_board.specs.Does as board
-use Rattle.tf_commands.specs.Asking.{HasEachCause, HasCausesOr, counts_of, asked_for, want_of}
+use Rattle.tf_commands.specs.Asking.{HasEachCause, HasCausesOr, counts_of, want_of}
+use Rattle.tf_words.specs.Words.{command_of}
 use Rattle.tf_commands.specs.Course.{Obeys, HiresAsWanted, IsBoardRefused}
 
 -- no words, no file and no hand are why a command on a board fails
@@ -95,7 +96,7 @@ board_closes old now message wanted status closes is =
     (ends_status old.shown now.shown message wanted status closes)
 
 -- status 15 is a refusal
-pub board_refuses : (words : List (List ℕ)) (command : Asked) (name : List ℕ) (entry now : DeskState) (status : ℕ) → asked_for words ≡ Some command → board_of command ≡ Some name
+pub board_refuses : (words : List (List ℕ)) (command : Asked) (name : List ℕ) (entry now : DeskState) (status : ℕ) → command_of words ≡ Some command → board_of command ≡ Some name
     → Does command name entry now status → status ≡ 15 → IsBoardRefused words entry
 board_refuses words command name entry now status asks about does is = by does
   where
@@ -119,7 +120,7 @@ board_refuses words command name entry now status asks about does is = by does
 
 module _ {K : Type 0} (state : K → DeskState) where
   -- what is done on a board is obeyed
-  pub obeys_board : (gives : Order → Outcome → Type 0) (stopped : Type 0) (command : Asked) (files : Contents) (hired after_hiring : Option (List Want)) (entry now : K) (status : ℕ)
+  pub obeys_board : (gives : Want → Order → Outcome → Type 0) (stopped : Type 0) (command : Asked) (files : Contents) (hired after_hiring : Option (List Want)) (entry now : K) (status : ℕ)
       → is_some (board_of command) ≡ true → ((name : List ℕ) → board_of command ≡ Some name → Does command name (state entry) (state now) status) → after_hiring ≡ hired
       → Obeys state gives stopped command files hired after_hiring entry now status
   obeys_board gives stopped (asked.Post board name priority details) files hired after_hiring entry now status is does same = (does board refl, same)

@@ -12,7 +12,8 @@ use Rattle.tf_words.specs.declared.asked.Asked.TheVariants as asked
 use Rattle.tf_board.specs.Answers.{board_of}
 use Rattle.tf_board.specs.Does.{IsBoardStatus}
 use Rattle.tf_board.proofs.DoesLemmas.{does_status}
-use Rattle.tf_commands.specs.Asking.{file_asked_for, asked_for, IsWork, Counts, HasEachCause, HasCausesOr, counts_of}
+use Rattle.tf_commands.specs.Asking.{file_asked_for, IsWork, Counts, HasEachCause, HasCausesOr, counts_of}
+use Rattle.tf_words.specs.Words.{command_of}
 use Rattle.tf_commands.specs.Course as course
 use Rattle.tf_commands.specs.Course.{Course, Obeys, source_so, IsRefused, IsBoardRefused}
 use Rattle.tf_commands.specs.Run.{OnlySays}
@@ -39,7 +40,7 @@ status_usage command files status (by_log source log file about is) two = audit_
 status_usage command files status (by_book ended) two = ended_apart status 2 ended two (inl refl)
 status_usage command files status (by_board about ended) two = (board_apart status ended).0 two
 
-status_refused : (words : List (List ℕ)) (files : Contents) (command : Asked) (status : ℕ) → asked_for words ≡ Some command → AskedStatus command files status → status ≡ 4 → IsRefused words files
+status_refused : (words : List (List ℕ)) (files : Contents) (command : Asked) (status : ℕ) → command_of words ≡ Some command → AskedStatus command files status → status ≡ 4 → IsRefused words files
 status_refused words files command status asks (by_file source about is) four = file_refused words files command source status asks about is four
 status_refused words files command status asks (by_log source log file about is) four = audit_refused words files command source log status asks file is four
 status_refused words files command status asks (by_book ended) four = absurd (ended_apart status 4 ended four (inr (inr refl)))
@@ -51,14 +52,14 @@ status_of_board command files status (by_log source log file about is) fifteen =
 status_of_board command files status (by_book ended) fifteen = absurd (ended_unrefused status ended fifteen)
 status_of_board command files status (by_board about ended) fifteen = about
 
-status_log_refused : (words : List (List ℕ)) (files : Contents) (command : Asked) (status : ℕ) → asked_for words ≡ Some command → AskedStatus command files status → status ≡ 17 → IsLogRefused words files
+status_log_refused : (words : List (List ℕ)) (files : Contents) (command : Asked) (status : ℕ) → command_of words ≡ Some command → AskedStatus command files status → status ≡ 17 → IsLogRefused words files
 status_log_refused words files command status asks (by_file source about is) last = absurd (file_no_log files source status is last)
 status_log_refused words files command status asks (by_log source log file about is) last = audit_log_refused words files command source log status asks file about is last
 status_log_refused words files command status asks (by_book ended) last = absurd (ended_no_log status ended last)
 status_log_refused words files command status asks (by_board about ended) last = absurd (board_no_log status ended last)
 
 module _ {K : Type 0} (state : K → DeskState) where
-  asked_status : (gives : Order → Outcome → Type 0) (asked_so : Type 0) (command : Asked) (files : Contents) (hired after_hiring : Option (List Want)) (entry now : K) (status : ℕ)
+  asked_status : (gives : Want → Order → Outcome → Type 0) (asked_so : Type 0) (command : Asked) (files : Contents) (hired after_hiring : Option (List Want)) (entry now : K) (status : ℕ)
       → Obeys state gives asked_so command files hired after_hiring entry now status → AskedStatus command files status
   asked_status gives asked_so (asked.Try file sets defer hands target) files hired after_hiring entry now status obeys =
       by_file (source_so file sets defer target) refl (file_status files (source_so file sets defer target) _ _ (state entry).shown (state now).shown status
@@ -97,15 +98,15 @@ module _ {K : Type 0} (state : K → DeskState) where
       by_board refl (does_status (asked.List board) board (state entry) (state now) status obeys.0)
 
   -- status 2 comes only where the words are no command
-  pub usage_tells : {gives : Order → Outcome → Type 0} {asked_so : Type 0} (words : List (List ℕ)) (files : Contents) (hired after_hiring : Option (List Want)) (entry now : K) (status : ℕ)
-      → Course state gives asked_so words files hired after_hiring entry now status → status ≡ 2 → asked_for words ≡ None
+  pub usage_tells : {gives : Want → Order → Outcome → Type 0} {asked_so : Type 0} (words : List (List ℕ)) (files : Contents) (hired after_hiring : Option (List Want)) (entry now : K) (status : ℕ)
+      → Course state gives asked_so words files hired after_hiring entry now status → status ≡ 2 → command_of words ≡ None
   usage_tells words files hired after_hiring entry now status (course.unheard is same still) two = absurd (omega arith)
   usage_tells words files hired after_hiring entry now status (course.no_command none closes still) two = none
   usage_tells {gives} {asked_so} words files hired after_hiring entry now status (course.obeyed command asks obeys) two =
       absurd (status_usage command files status (asked_status gives asked_so command files hired after_hiring entry now status obeys) two)
 
   -- status 4 comes only where the file is refused
-  pub refused_tells : {gives : Order → Outcome → Type 0} {asked_so : Type 0} (words : List (List ℕ)) (files : Contents) (hired after_hiring : Option (List Want)) (entry now : K) (status : ℕ)
+  pub refused_tells : {gives : Want → Order → Outcome → Type 0} {asked_so : Type 0} (words : List (List ℕ)) (files : Contents) (hired after_hiring : Option (List Want)) (entry now : K) (status : ℕ)
       → Course state gives asked_so words files hired after_hiring entry now status → status ≡ 4 → IsRefused words files
   refused_tells words files hired after_hiring entry now status (course.unheard is same still) four = absurd (omega arith)
   refused_tells words files hired after_hiring entry now status (course.no_command none closes still) four =
@@ -113,8 +114,8 @@ module _ {K : Type 0} (state : K → DeskState) where
   refused_tells {gives} {asked_so} words files hired after_hiring entry now status (course.obeyed command asks obeys) four =
       status_refused words files command status asks (asked_status gives asked_so command files hired after_hiring entry now status obeys) four
 
-  on_board : (gives : Order → Outcome → Type 0) (asked_so : Type 0) (words : List (List ℕ)) (command : Asked) (files : Contents) (hired after_hiring : Option (List Want)) (entry now : K) (status : ℕ)
-      → asked_for words ≡ Some command → is_some (board_of command) ≡ true → Obeys state gives asked_so command files hired after_hiring entry now status → status ≡ 15
+  on_board : (gives : Want → Order → Outcome → Type 0) (asked_so : Type 0) (words : List (List ℕ)) (command : Asked) (files : Contents) (hired after_hiring : Option (List Want)) (entry now : K) (status : ℕ)
+      → command_of words ≡ Some command → is_some (board_of command) ≡ true → Obeys state gives asked_so command files hired after_hiring entry now status → status ≡ 15
       → IsBoardRefused words (state entry)
   on_board gives asked_so words (asked.Post board name priority details) files hired after_hiring entry now status asks about obeys is =
       board_refuses words (asked.Post board name priority details) board (state entry) (state now) status asks refl obeys.0 is
@@ -141,7 +142,7 @@ module _ {K : Type 0} (state : K → DeskState) where
   on_board gives asked_so words (asked.Worker address sessions) files hired after_hiring entry now status asks about obeys is = absurd (cc)
 
   -- status 15 comes only where a board refuses
-  pub board_tells : {gives : Order → Outcome → Type 0} {asked_so : Type 0} (words : List (List ℕ)) (files : Contents) (hired after_hiring : Option (List Want)) (entry now : K) (status : ℕ)
+  pub board_tells : {gives : Want → Order → Outcome → Type 0} {asked_so : Type 0} (words : List (List ℕ)) (files : Contents) (hired after_hiring : Option (List Want)) (entry now : K) (status : ℕ)
       → Course state gives asked_so words files hired after_hiring entry now status → status ≡ 15 → IsBoardRefused words (state entry)
   board_tells words files hired after_hiring entry now status (course.unheard is same still) fifteen = absurd (omega (arith, is, fifteen))
   board_tells words files hired after_hiring entry now status (course.no_command none closes still) fifteen =
@@ -153,7 +154,7 @@ module _ {K : Type 0} (state : K → DeskState) where
 
 module _ {K : Type 0} (state : K → DeskState) where
   -- status 17 comes only where a log is refused
-  pub log_tells : {gives : Order → Outcome → Type 0} {asked_so : Type 0} (words : List (List ℕ)) (files : Contents) (hired after_hiring : Option (List Want)) (entry now : K) (status : ℕ)
+  pub log_tells : {gives : Want → Order → Outcome → Type 0} {asked_so : Type 0} (words : List (List ℕ)) (files : Contents) (hired after_hiring : Option (List Want)) (entry now : K) (status : ℕ)
       → Course state gives asked_so words files hired after_hiring entry now status → status ≡ 17 → IsLogRefused words files
   log_tells words files hired after_hiring entry now status (course.unheard is same still) last = absurd (omega (arith, is, last))
   log_tells words files hired after_hiring entry now status (course.no_command none closes still) last =
@@ -164,7 +165,7 @@ module _ {K : Type 0} (state : K → DeskState) where
 -- ---- causes
 
 -- the command that the words are asks for a worker
-pub works_so : (words : List (List ℕ)) (other command : Asked) → asked_for words ≡ Some other → IsWork other → asked_for words ≡ Some command → IsWork command
+pub works_so : (words : List (List ℕ)) (other command : Asked) → command_of words ≡ Some other → IsWork other → command_of words ≡ Some command → IsWork command
 works_so words other command is works asks = let same : other ≡ command = cc in subst IsWork same works
 
 -- a cause that may be the door's is another's where the door had no fault

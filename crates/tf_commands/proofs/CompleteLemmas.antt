@@ -17,8 +17,9 @@ use Rattle.tf_book.specs.Turns.{may_reset, is_reached}
 use Rattle.tf_words.specs.declared.asked.Asked.{Asked}
 use Rattle.tf_words.specs.declared.asked.Asked.TheVariants as asked
 use Rattle.tf_board.proofs.DoesLemmas.{complete_so}
-use Rattle.tf_commands.specs.Asking.{demo_tree, asked_for, Counts, HasEachCause, HasNoFault}
+use Rattle.tf_commands.specs.Asking.{demo_tree, Counts, HasEachCause, HasNoFault}
 use Rattle.tf_commands.specs.Messages.{Audits}
+use Rattle.tf_words.specs.Words.{command_of}
 use Rattle.tf_commands.specs.Books.{Unopened, exhausted, disk_failed, no_book, Unhired, exhausted_hire, unhired, Promised, Runs, unopened, forbidden, unhired_run, ran, Demonstrates, ungenerated, demonstrated, Resumes, unopened_again, empty, unhired_again, resumed, ShowsBook, unopened_show, nothing_shown, shown_whole, ResetsBook, unopened_reset, nothing_put_back, reset_forbidden, was_reset}
 use Rattle.tf_commands.specs.Course as course
 use Rattle.tf_commands.specs.Course.{Tries, Checks, Course, Obeys, source_so, HoldsFlow, HoldsReverted, IsRunComplete, IsRunCompleteBy, IsDoneComplete, IsResetComplete, MayBeDone, IsComplete}
@@ -232,10 +233,10 @@ out_complete (asked.Owner board id) status is = inr (inl is)
 out_complete (asked.List board) status is = inr (inl is)
 
 module _ {K : Type 0} (state : K → DeskState) where
-  asked_well : (gives : Order → Outcome → Type 0) (asked_so : Type 0) (command : Asked) (files : Contents) (hired after_hiring : Option (List Want)) (entry now : K) (status : ℕ) → IsUnhurt status → ¬ asked_so
+  asked_well : (gives : Want → Order → Outcome → Type 0) (asked_so : Type 0) (command : Asked) (files : Contents) (hired after_hiring : Option (List Want)) (entry now : K) (status : ℕ) → IsUnhurt status → ¬ asked_so
       → MayBeDone command files (state entry) → Obeys state gives asked_so command files hired after_hiring entry now status → IsComplete command status
   asked_well gives asked_so (asked.Try file sets defer hands target) files hired after_hiring entry now status u unasked ready obeys =
-      well_or_out None status (Tries gives hands asked_so hired after_hiring (state entry).shown (state now).shown) (λ plan did. tries_well hired after_hiring (state entry).shown (state now).shown plan status u unasked did)
+      well_or_out None status (Tries (gives hands) hands asked_so hired after_hiring (state entry).shown (state now).shown) (λ plan did. tries_well hired after_hiring (state entry).shown (state now).shown plan status u unasked did)
       (accepted_done files (source_so file sets defer target) _ _ (state entry).shown (state now).shown status ready u.readable u.sayable obeys.0)
   asked_well gives asked_so (asked.Check file sets target) files hired after_hiring entry now status u unasked ready obeys =
       done_or_out status (Checks (state entry).shown (state now).shown) (λ plan did. checks_well (state entry).shown (state now).shown _ status u did)
@@ -246,7 +247,7 @@ module _ {K : Type 0} (state : K → DeskState) where
       (accepted_done files (source_so file sets defer None) _ _ (state entry).shown (state now).shown status ready.0 u.readable u.sayable obeys.0))
       ready.1 (audit_status files (source_so file sets defer None) log (state entry).shown (state now).shown status _ obeys.0)
   asked_well gives asked_so (asked.Run file book sets defer hands stop target) files hired after_hiring entry now status u unasked ready obeys =
-      well_or_out stop status (Runs gives (spoken_run hands stop) asked_so book hired after_hiring (state entry) (state now))
+      well_or_out stop status (Runs (gives hands) (spoken_run hands stop) asked_so book hired after_hiring (state entry) (state now))
       (λ plan did. runs_well book hired after_hiring (state entry) (state now) plan status u unasked ready.1.0 ready.1.1 did)
       (accepted_done files (source_so file sets defer target) _ _ (state entry).shown (state now).shown status ready.0 u.readable u.sayable obeys)
   asked_well gives asked_so (asked.Resume book hands stop) files hired after_hiring entry now status u unasked ready obeys =
@@ -273,9 +274,9 @@ module _ {K : Type 0} (state : K → DeskState) where
       complete_so (asked.List board) board (state entry) (state now) status obeys.0 ready.0 ready.1 u.sound u.sayable
 
   -- where nothing stands against it and no count of faults rose, what was asked for was done
-  pub completes : {gives : Order → Outcome → Type 0} {asked_so : Type 0} (words : List (List ℕ)) (files : Contents) (hired after_hiring : Option (List Want)) (entry now : K) (status : ℕ) (before after : Counts)
+  pub completes : {gives : Want → Order → Outcome → Type 0} {asked_so : Type 0} (words : List (List ℕ)) (files : Contents) (hired after_hiring : Option (List Want)) (entry now : K) (status : ℕ) (before after : Counts)
       → Course state gives asked_so words files hired after_hiring entry now status → HasEachCause status before after
-      → (command : Asked) → asked_for words ≡ Some command → MayBeDone command files (state entry) → HasNoFault before after → ¬ asked_so → IsComplete command status
+      → (command : Asked) → command_of words ≡ Some command → MayBeDone command files (state entry) → HasNoFault before after → ¬ asked_so → IsComplete command status
   completes words files hired after_hiring entry now status before after (course.unheard is same still) causes command wanted ready none unasked = out_complete command status is
   completes words files hired after_hiring entry now status before after (course.no_command unknown closes still) causes command wanted ready none unasked = absurd (cc)
   completes {gives} {asked_so} words files hired after_hiring entry now status before after (course.obeyed other asks obeys) causes command wanted ready none unasked =

@@ -12,7 +12,8 @@ use Rattle.tf_machine.specs.Machine.{MachineValue}
 use Rattle.tf_words.specs.Words.{IsDemo}
 use Rattle.tf_words.specs.declared.asked.Asked.{Asked}
 use Rattle.tf_words.specs.declared.asked.Asked.TheVariants as asked
-use Rattle.tf_commands.specs.Asking.{is_done_here, if_done_here, IsWithin, want_of, wanted_by, asked_for, GivesNone, is_want_of_memory, IsReason}
+use Rattle.tf_commands.specs.Asking.{IsWithin, want_of, wanted_by, GivesNone, is_want_of_memory, IsReason}
+use Rattle.tf_words.specs.Words.{command_of}
 use Rattle.tf_commands.specs.Course.{BytesRead, exhausted, refused, done, FileRead, unfinished, unread, too_long, read, Undone, Obeys, HiresAsWanted}
 use Rattle.tf_commands.specs.Messages.{refusal, reason_text}
 use Rattle.tf_commands.specs.Opened.{Opened}
@@ -87,7 +88,7 @@ done_file files source quiet m does before after status opened did = read opened
 
 module _ {K : Type 0} (state : K → DeskState) where
   -- what becomes of a command that is another's
-  pub obeys_so : (gives : Order → Outcome → Type 0) (stopped : Type 0) (command other : Asked) (files : Contents) (hired after_hiring : Option (List Want)) (entry now : K) (status : ℕ) → command ≡ other
+  pub obeys_so : (gives : Want → Order → Outcome → Type 0) (stopped : Type 0) (command other : Asked) (files : Contents) (hired after_hiring : Option (List Want)) (entry now : K) (status : ℕ) → command ≡ other
       → Obeys state gives stopped other files hired after_hiring entry now status
       → Obeys state gives stopped command files hired after_hiring entry now status
   obeys_so gives stopped command other files hired after_hiring entry now status is obeys =
@@ -99,7 +100,7 @@ hires_nobody None hired = refl
 hires_nobody (Some hands) hired = inl refl
 
 -- the hands that the words want are those of the command that they are
-pub hires_asked : (words : List (List ℕ)) (command : Asked) (hired after_hiring : Option (List Want)) → asked_for words ≡ Some command → HiresAsWanted (want_of command) hired after_hiring
+pub hires_asked : (words : List (List ℕ)) (command : Asked) (hired after_hiring : Option (List Want)) → command_of words ≡ Some command → HiresAsWanted (want_of command) hired after_hiring
     → HiresAsWanted (wanted_by words) hired after_hiring
 hires_asked words command hired after_hiring is hires =
     subst (λ (o : Option Asked). HiresAsWanted (option_and_then want_of o) hired after_hiring) (sym is) hires
@@ -114,24 +115,13 @@ few_so command other is within = subst IsWithin is within
 
 -- ---- the hands and the numbers of a command
 
--- a command that the program does is the one that the words are
-done_some : (found : Option Asked) (command : Asked) → if_done_here found ≡ Some command → found ≡ Some command
-done_some None command is = absurd (cc)
-done_some (Some other) command is = by (is_done_here other) is
-  where
-    by : (b : Bool) → (if b then Some other else None) ≡ Some command → Some other ≡ Some command
-    by true same = same
-    by false same = absurd (cc)
-
--- so its hands and its numbers are within their bounds
+-- the hands and the numbers of the command that the words are are within their bounds
 pub within_so : (found : Option Asked) (command : Asked) → ((seed size : ℕ) (book : List ℕ) (hands : ℕ) → found ≡ Some (asked.Demo seed size book hands) → IsDemo seed size)
-    → ((c : Asked) → found ≡ Some c → HasHands c) → if_done_here found ≡ Some command → IsWithin command
-within_so found (asked.Demo seed size book hands) bounds few is =
-    let same = done_some found (asked.Demo seed size book hands) is in
-    (bounds seed size book hands same, few (asked.Demo seed size book hands) same)
-within_so found (asked.Try file sets defer hands target) bounds few is = few (asked.Try file sets defer hands target) (done_some found (asked.Try file sets defer hands target) is)
-within_so found (asked.Run file book sets defer hands stop target) bounds few is = few (asked.Run file book sets defer hands stop target) (done_some found (asked.Run file book sets defer hands stop target) is)
-within_so found (asked.Resume book hands stop) bounds few is = few (asked.Resume book hands stop) (done_some found (asked.Resume book hands stop) is)
+    → ((c : Asked) → found ≡ Some c → HasHands c) → found ≡ Some command → IsWithin command
+within_so found (asked.Demo seed size book hands) bounds few is = (bounds seed size book hands is, few (asked.Demo seed size book hands) is)
+within_so found (asked.Try file sets defer hands target) bounds few is = few (asked.Try file sets defer hands target) is
+within_so found (asked.Run file book sets defer hands stop target) bounds few is = few (asked.Run file book sets defer hands stop target) is
+within_so found (asked.Resume book hands stop) bounds few is = few (asked.Resume book hands stop) is
 within_so found (asked.Show book) bounds few is = tt
 within_so found (asked.Reset book) bounds few is = tt
 within_so found (asked.Check file sets target) bounds few is = tt

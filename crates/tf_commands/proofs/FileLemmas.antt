@@ -3,7 +3,8 @@ use Rattle.std.proofs.Common.{◌≡◌, ◌⊎◌, ℕ, List, length, Option, S
 use Rattle.tf_flow.specs.Plan.{PlanTree}
 use Rattle.tf_ports.specs.Ports.{Contents, GivesBytes, PassesLimit}
 use Rattle.tf_words.specs.declared.asked.Asked.{Asked}
-use Rattle.tf_commands.specs.Asking.{GivesWhole, GivesNone, file_asked_for, asked_for}
+use Rattle.tf_commands.specs.Asking.{GivesWhole, GivesNone, file_asked_for}
+use Rattle.tf_words.specs.Words.{command_of}
 use Rattle.tf_commands.specs.Course as course
 use Rattle.tf_commands.specs.Course.{BytesRead, FileRead, IsRefused, passes_limit, gives_none, IsAccepted}
 use Rattle.tf_commands.specs.declared.accepting.Refusal.{Refusal}
@@ -90,7 +91,7 @@ file_usage files source status (not_read is) two = omega arith
 file_usage files source status (not_short is passes) two = omega arith
 file_usage files source status (not_plan is bytes why given none) two = omega arith
 
-pub file_refused : (words : List (List ℕ)) (files : Contents) (command : Asked) (source : Source) (status : ℕ) → asked_for words ≡ Some command → file_asked_for command ≡ Some source → FileStatus files source status
+pub file_refused : (words : List (List ℕ)) (files : Contents) (command : Asked) (source : Source) (status : ℕ) → command_of words ≡ Some command → file_asked_for command ≡ Some source → FileStatus files source status
     → status ≡ 4 → IsRefused words files
 file_refused words files command source status asks about (done_so ended) four = absurd (ended_apart status 4 ended four (inr (inr refl)))
 file_refused words files command source status asks about (not_read is) four = absurd (omega arith)

@@ -1,9 +1,11 @@
 -- How many hands the words of a command want: 1 to 64.
-use Rattle.std.proofs.Common.{◌≡◌, ℕ, List, [], ◌∷◌, Bool, true, false, Option, Some, None, refl, subst, arith}
+use Rattle.std.proofs.Common.{◌≡◌, ◌≤◌, ◌==◌, ◌++◌, ◌∙◌, ℕ, suc, List, [], ◌∷◌, length, Bool, true, false, Option, Some, None, nat_le, refl, sym, ap, subst, arith}
 use Rattle.std.specs.Prelude.{IfSome, codes, option_map, option_and_then, if◌then◌else◌}
+use Rattle.tf_ports.specs.declared.crews.Address.{Address}
+use Rattle.tf_ports.specs.declared.crews.Want.{Want}
 use Rattle.tf_ports.specs.declared.crews.Want.TheVariants as want
 use Rattle.tf_values.specs.Text.{is_name}
-use Rattle.tf_words.specs.Words.{worker_of, address_of, sessions_in, Applied, id_in, post_of, owner_of, list_of, applied_in, priority_in, details_in, hands_in, deferral_in, stop_in, target_in, try_of, run_of, resume_of, show_of, reset_of, check_of, audit_of, demo_of, asked_by, asked_of, command_of}
+use Rattle.tf_words.specs.Words.{worker_of, address_of, addresses_in, addresses_of, pieces_behind, sessions_in, Applied, id_in, post_of, owner_of, list_of, applied_in, priority_in, details_in, hands_in, remote_of, want_by, want_in, deferral_in, stop_in, target_in, try_of, run_of, resume_of, show_of, reset_of, check_of, audit_of, demo_of, asked_by, asked_of, command_of}
 use Rattle.tf_words.specs.Spelled.{number_between, sets_behind}
 use Rattle.tf_words.specs.Verbs.{Said, once, are_filled, said_by, Choice, choice_of, forms_of}
 use Rattle.tf_words.specs.declared.asked.Asked.{Asked}
@@ -11,7 +13,9 @@ use Rattle.tf_words.specs.declared.asked.Asked.TheVariants as asked
 use Rattle.tf_words.specs.declared.verbs.Verb.{Verb}
 use Rattle.tf_words.specs.declared.verbs.Verb.TheVariants as verb
 use Rattle.tf_commands.specs.Asking.{AreHands}
-use Rattle.tf_words.proofs.DemoLemmas.{between}
+use Rattle.tf_numbers.proofs.NumberLemmas.{le_true}
+use Rattle.tf_numbers.proofs.OptionLemmas.{if_some}
+use Rattle.tf_words.proofs.DemoLemmas.{between, then_some, map_some}
 
 -- the hands that a command wants may run a flow
 abbrev pub HasHands : Asked → Type 0
@@ -49,24 +53,71 @@ hands_within said n is = by (said (codes "hands")) is
         record { least = bounds.0; most = bounds.1 }
     by (value ∷ more ∷ others) found = absurd (cc)
 
+-- ---- addresses of hands
+
+-- a word has at least one piece
+some_pieces : (begun word : List ℕ) → 1 ≤ length (pieces_behind begun word)
+some_pieces begun [] = omega arith
+some_pieces begun (byte ∷ bytes) = by (byte == 44) (some_pieces (begun ++ byte ∷ []) bytes)
+  where
+    by : (b : Bool) → 1 ≤ length (pieces_behind (begun ++ byte ∷ []) bytes) → 1 ≤ length (if b then begun ∷ pieces_behind [] bytes else pieces_behind (begun ++ byte ∷ []) bytes)
+    by true some = omega arith
+    by false some = some
+
+-- as many addresses as words
+as_many : (words : List (List ℕ)) (found : List Address) → addresses_in words ≡ Some found → length found ≡ length words
+as_many [] found is = let none : [] ≡ found = cc in ap length (sym none)
+as_many (word ∷ words) found is =
+    let first = then_some _ (address_of word) found is in
+    let others = map_some _ (addresses_in words) found first.2 in
+    ap length (sym others.2) ∙ ap suc (as_many words others.0 others.1)
+
+remote_within : (word : List ℕ) (found : List Address) → addresses_of word ≡ Some found → AreHands (want.Remote found)
+remote_within word found is =
+    let all = then_some _ (addresses_in (pieces_behind [] word)) found is in
+    let few = if_some (nat_le (length all.0) 64) all.0 found all.2 in
+    let many = as_many (pieces_behind [] word) all.0 all.1 in
+    record {
+      least = omega (arith, some_pieces [] word, many, ap length few.1);
+      most = omega (arith, le_true (length all.0) 64 few.0, ap length few.1);
+    }
+
+-- ---- the hands that words want
+
+want_within : (said : Said) (w : Want) → want_in said ≡ Some w → AreHands w
+want_within said w is = by (said (codes "worker")) is
+  where
+    at : (values : List (List ℕ)) (list : List ℕ) → remote_of values list ≡ Some w → AreHands w
+    at [] list found =
+        let all = map_some (λ a. want.Remote a) (addresses_of list) w found in
+        subst AreHands all.2 (remote_within list all.0 all.1)
+    at (value ∷ others) list found = absurd (cc)
+
+    by : (values : List (List ℕ)) → want_by said values ≡ Some w → AreHands w
+    by [] found =
+        let n = map_some (λ h. want.Local h) (hands_in said) w found in
+        subst AreHands n.2 (hands_within said n.0 n.1)
+    by (list ∷ []) found = at (said (codes "hands")) list found
+    by (list ∷ more ∷ others) found = absurd (cc)
+
 -- ---- each command
 
 try_hands : (said : Said) (words : List (List ℕ)) → IfSome (try_of said words) HasHands
 try_hands said [] = tt
 try_hands said (file ∷ pairs) =
-    all_then HasHands _ (deferral_in said) (λ defer is. all_then HasHands _ (hands_in said) (λ n is_hands. all_then HasHands _ (target_in said) (λ target is_target.
-    all_map HasHands _ (sets_behind [] pairs) (λ sets. hands_within said n is_hands))))
+    all_then HasHands _ (deferral_in said) (λ defer is. all_then HasHands _ (want_in said) (λ n is_hands. all_then HasHands _ (target_in said) (λ target is_target.
+    all_map HasHands _ (sets_behind [] pairs) (λ sets. want_within said n is_hands))))
 
 run_hands : (said : Said) (words : List (List ℕ)) → IfSome (run_of said words) HasHands
 run_hands said [] = tt
 run_hands said (file ∷ []) = tt
 run_hands said (file ∷ book ∷ pairs) =
-    all_then HasHands _ (deferral_in said) (λ defer is. all_then HasHands _ (hands_in said) (λ n is_hands. all_then HasHands _ (stop_in said) (λ stop is_stop.
-    all_then HasHands _ (target_in said) (λ target is_target. all_map HasHands _ (sets_behind [] pairs) (λ sets. hands_within said n is_hands)))))
+    all_then HasHands _ (deferral_in said) (λ defer is. all_then HasHands _ (want_in said) (λ n is_hands. all_then HasHands _ (stop_in said) (λ stop is_stop.
+    all_then HasHands _ (target_in said) (λ target is_target. all_map HasHands _ (sets_behind [] pairs) (λ sets. want_within said n is_hands)))))
 
 resume_hands : (said : Said) (words : List (List ℕ)) → IfSome (resume_of said words) HasHands
 resume_hands said [] = tt
-resume_hands said (book ∷ []) = all_then HasHands _ (hands_in said) (λ n is_hands. all_map HasHands _ (stop_in said) (λ stop. hands_within said n is_hands))
+resume_hands said (book ∷ []) = all_then HasHands _ (want_in said) (λ n is_hands. all_map HasHands _ (stop_in said) (λ stop. want_within said n is_hands))
 resume_hands said (book ∷ more ∷ others) = tt
 
 show_hands : (words : List (List ℕ)) → IfSome (show_of words) HasHands

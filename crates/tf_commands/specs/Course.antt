@@ -25,8 +25,9 @@ use Rattle.tf_report.specs.declared.statuses.TheConstants.{BOARD_REFUSED, SUCCEE
 use Rattle.tf_report.specs.Closing.{ClosesWith, ClosesWithOrStops}
 use Rattle.tf_board.specs.Does.{Does, IsAllowed, IsBoardComplete}
 use Rattle.tf_target.specs.Target.{outline_in}
-use Rattle.tf_commands.specs.Asking.{GivesPlan, GivesWhole, GivesNone, MayTarget, file_asked_for, asked_for, wanted_by}
+use Rattle.tf_commands.specs.Asking.{GivesPlan, GivesWhole, GivesNone, MayTarget, file_asked_for, wanted_by}
 use Rattle.tf_commands.specs.Messages.{Audits, RefusesLog, checked, usage, cannot_read, cannot_hire, refusal, reason_text, Works}
+use Rattle.tf_words.specs.Words.{command_of}
 use Rattle.tf_commands.specs.Books.{Hires, Runs, Demonstrates, Resumes, ShowsBook, ResetsBook}
 use Rattle.tf_journal.specs.Start.{file_of}
 use Rattle.tf_commands.specs.Run.{NoFileChanges, TouchesNoFile, book_at, HoldsNoFlow, HoldsHistory, spoken_run, Ran}
@@ -113,10 +114,10 @@ IsUntouched hired after_hiring entry now = (after_hiring ≡ hired) × NoFileCha
 module _ {K : Type 0} (state : K → DeskState) where
   -- what becomes of what the words ask for, where a run may be suspended for a stop that was asked for; a trial changes no file and meets no fault of the disk, and a
   -- check and an audit change none
-  abbrev pub Obeys : (Order → Outcome → Type 0) → Type 0 → Asked → Contents → Option (List Want) → Option (List Want) → K → K → ℕ → Type 0
+  abbrev pub Obeys : (Want → Order → Outcome → Type 0) → Type 0 → Asked → Contents → Option (List Want) → Option (List Want) → K → K → ℕ → Type 0
   Obeys gives stopped (asked.Try file sets defer hands target) files hired after_hiring entry now status =
       FileRead files (source_so file sets defer target) (IsUntouched hired after_hiring (state entry) (state now))
-      (Tries gives hands stopped hired after_hiring (state entry).shown (state now).shown) (state entry).shown (state now).shown status × TouchesNoFile (state entry) (state now)
+      (Tries (gives hands) hands stopped hired after_hiring (state entry).shown (state now).shown) (state entry).shown (state now).shown status × TouchesNoFile (state entry) (state now)
   Obeys gives stopped (asked.Check file sets target) files hired after_hiring entry now status =
       FileRead files (source_so file sets false target) (IsUntouched hired after_hiring (state entry) (state now))
       (Checks (state entry).shown (state now).shown) (state entry).shown (state now).shown status × IsUntouched hired after_hiring (state entry) (state now)
@@ -125,15 +126,15 @@ module _ {K : Type 0} (state : K → DeskState) where
       (Audits files log (state entry).shown (state now).shown) (state entry).shown (state now).shown status × IsUntouched hired after_hiring (state entry) (state now)
   Obeys gives stopped (asked.Run file book sets defer hands stop target) files hired after_hiring entry now status =
       FileRead files (source_so file sets defer target) (IsUntouched hired after_hiring (state entry) (state now))
-      (Runs gives (spoken_run hands stop) stopped book hired after_hiring (state entry) (state now)) (state entry).shown (state now).shown status
+      (Runs (gives hands) (spoken_run hands stop) stopped book hired after_hiring (state entry) (state now)) (state entry).shown (state now).shown status
   Obeys gives stopped (asked.Resume book hands stop) files hired after_hiring entry now status =
-      Resumes gives (spoken_run hands stop) stopped book hired after_hiring (state entry) (state now) status
+      Resumes (gives hands) (spoken_run hands stop) stopped book hired after_hiring (state entry) (state now) status
   Obeys gives stopped (asked.Show book) files hired after_hiring entry now status =
       ShowsBook book (state entry) (state now) status × (after_hiring ≡ hired)
   Obeys gives stopped (asked.Reset book) files hired after_hiring entry now status =
       ResetsBook book (state entry) (state now) status × (after_hiring ≡ hired)
   Obeys gives stopped (asked.Demo seed size book hands) files hired after_hiring entry now status =
-      Demonstrates state gives (want.Local hands) stopped book hired after_hiring entry now seed size status
+      Demonstrates state (gives (want.Local hands)) (want.Local hands) stopped book hired after_hiring entry now seed size status
   Obeys gives stopped (asked.Worker address sessions) files hired after_hiring entry now status =
       Works hired after_hiring (state entry).shown (state now).shown sessions status × NoFileChanges (state entry) (state now)
   Obeys gives stopped (asked.Post board name priority details) files hired after_hiring entry now status =
@@ -151,28 +152,28 @@ module _ {K : Type 0} (state : K → DeskState) where
   Obeys gives stopped (asked.List board) files hired after_hiring entry now status =
       Does (asked.List board) board (state entry) (state now) status × (after_hiring ≡ hired)
 
-  -- the way that a command went, with hands that keep this relation of orders and outcomes, and with runs that may be suspended where
+  -- the way that a command went, with hands that keep the relation of orders and outcomes of those that are wanted, and with runs that may be suspended where
   -- a stop was asked for: its words, what the sources tell, which hands were hired before and after, the desk before and after, the
   -- status
-  pub data Course (gives : Order → Outcome → Type 0) (stopped : Type 0) (words : List (List ℕ)) (files : Contents) (hired after_hiring : Option (List Want)) (entry now : K)
+  pub data Course (gives : Want → Order → Outcome → Type 0) (stopped : Type 0) (words : List (List ℕ)) (files : Contents) (hired after_hiring : Option (List Want)) (entry now : K)
       (status : ℕ) : Type 0 where
     -- memory ran out before the words were read
     unheard : status ≡ OUT_OF_MEMORY → now ≡ entry → after_hiring ≡ hired
         → Course gives stopped words files hired after_hiring entry now status
     -- the words are no command
-    no_command : asked_for words ≡ None → ClosesWith (state entry).shown usage NO_COMMAND (state now).shown status → IsUntouched hired after_hiring (state entry) (state now)
+    no_command : command_of words ≡ None → ClosesWith (state entry).shown usage NO_COMMAND (state now).shown status → IsUntouched hired after_hiring (state entry) (state now)
         → Course gives stopped words files hired after_hiring entry now status
     -- what they ask for was done, or it was said why not
-    obeyed : (command : Asked) → asked_for words ≡ Some command → Obeys gives stopped command files hired after_hiring entry now status
+    obeyed : (command : Asked) → command_of words ≡ Some command → Obeys gives stopped command files hired after_hiring entry now status
         → Course gives stopped words files hired after_hiring entry now status
 
 -- ---- what a status tells
 
 -- the words ask for a flow file that the sources refuse as too long or whose bytes give no plan
 pub data IsRefused (words : List (List ℕ)) (files : Contents) : Type 0 where
-  passes_limit : (command : Asked) (source : Source) → asked_for words ≡ Some command → file_asked_for command ≡ Some source → PassesLimit files source.file
+  passes_limit : (command : Asked) (source : Source) → command_of words ≡ Some command → file_asked_for command ≡ Some source → PassesLimit files source.file
       → IsRefused words files
-  gives_none : (command : Asked) (source : Source) (bytes : List ℕ) (reason : Refusal) → asked_for words ≡ Some command → file_asked_for command ≡ Some source
+  gives_none : (command : Asked) (source : Source) (bytes : List ℕ) (reason : Refusal) → command_of words ≡ Some command → file_asked_for command ≡ Some source
       → GivesBytes files source.file bytes → GivesNone source.sets source.defer source.target bytes reason → IsRefused words files
 
 -- the words are a command on a board which refuses it, by the commands that its file has
@@ -180,7 +181,7 @@ pub record IsBoardRefused (words : List (List ℕ)) (entry : DeskState) : Type 0
   pub command : Asked
   pub name : List ℕ
   pub past : List Command
-  pub asks : asked_for words ≡ Some command
+  pub asks : command_of words ≡ Some command
   pub about : board_of command ≡ Some name
   pub legal : AreOfBoard past
   pub found : IsTrue entry.tells → Finds past (board_in (file_of entry name))

@@ -32,7 +32,8 @@ use Rattle.tf_report.specs.Closing.{ClosesWith}
 use Rattle.tf_report.specs.declared.statuses.TheConstants.{SUCCEEDED, UNREAD, OUT_OF_MEMORY, UNHIRED, UNSAID}
 use Rattle.tf_words.specs.declared.asked.Asked.{Asked}
 use Rattle.tf_words.specs.declared.asked.Asked.TheVariants as asked
-use Rattle.tf_commands.specs.Asking.{GivesPlan, asked_for, file_asked_for}
+use Rattle.tf_commands.specs.Asking.{GivesPlan, file_asked_for}
+use Rattle.tf_words.specs.Words.{command_of}
 use Rattle.tf_commands.specs.declared.auditing.TheConstants.{LOG_REFUSED}
 use Rattle.tf_commands.specs.declared.reading.Source.{Source}
 use Rattle.tf_desk.specs.Crash.{Rises, shown_with, ShowsPrefix}
@@ -213,7 +214,7 @@ pub record IsLogRefused (words : List (List ℕ)) (files : Contents) : Type 0 wh
   pub command : Asked
   pub source : Source
   pub log : List ℕ
-  pub asks : asked_for words ≡ Some command
+  pub asks : command_of words ≡ Some command
   pub file : file_asked_for command ≡ Some source
   pub about : log_asked_for command ≡ Some log
   pub refused : RefusesLog files source log

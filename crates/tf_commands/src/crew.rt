@@ -3,41 +3,65 @@ ghost use Rattle.std.specs.Prelude.{◌≡◌, vec_len, IfOk, None};
 use std::alloc::Global;
 use std::io::Eprint;
 use std::process::Processes;
-use tf_ports::{Children, Crew, PortFault, Want};
+use tf_ports::{Children, Crew, Dialer, Hands, PortFault, Want};
+use tf_remote::RemoteHand;
 use tf_tasks::LocalHand;
 use tf_values::Memory;
 
-/// The program's crew: its hands perform built-in tasks in this process. It has no remote hands yet, and
-/// tells its count alone.
+/// The program's crew: hands of this process, which perform built-in tasks and run programs, or hands over links that
+/// its dialer makes, one for each address, in order. It tells its count alone, which is that of the dialer's faults.
 #[derive(Drop)]
-pub struct LocalCrew<R> {
+pub struct ProgramCrew<R, D> {
     runtime: R,
-    faults: u64,
+    dialer: D,
 }
 
-impl<R> LocalCrew<R> {
-    /// A crew with nobody hired and no fault so far.
-    pub fn make(runtime: R) -> LocalCrew<R> {
-        LocalCrew { runtime, faults: 0 }
+impl<R, D> ProgramCrew<R, D> {
+    /// A crew with nobody hired.
+    pub fn make(runtime: R, dialer: D) -> ProgramCrew<R, D> {
+        ProgramCrew { runtime, dialer }
+    }
+
+    /// The dialer.
+    pub fn dialer(&self) -> &D
+        ensures { result.now ≡ self.now.dialer }
+    {
+        &self.dialer
     }
 }
 
-impl<R: Processes + Eprint + Copy + Send + Drop> Crew for LocalCrew<R> {
+impl<R: Processes + Eprint + Copy + Send + Drop, D: Dialer> Crew for ProgramCrew<R, D> {
     type Hand = LocalHand<Children<R>>;
 
-    ghost faults = { λ crew. crew.faults };
+    type Far = RemoteHand<D::Made>;
+
+    ghost faults = { λ crew. D.faults crew.dialer };
 
     ghost hired = { λ _. None };
 
-    fn hire(&mut self, alloc: Global, want: &Want) -> Result<Vec<Self::Hand>, PortFault> {
+    fn hire(
+        &mut self,
+        alloc: Global,
+        want: &Want,
+    ) -> Result<Hands<Self::Hand, Self::Far>, PortFault> {
         match want {
             Want::Local(count) => match local_hands(alloc, self.runtime, *count) {
-                Ok(hands) => Ok(hands),
+                Ok(hands) => Ok(Hands::Local(hands)),
                 Err(_) => Err(PortFault::Memory),
             },
-            Want::Remote(_) => {
-                self.faults = self.faults.saturating_add(1);
-                Err(PortFault::Failed)
+            Want::Remote(addresses) => {
+                // As `hire` of `tf_remote` does: a call of it, which hands the dialer on, isn't covered here by the check.
+                let mut hands = Vec::new(alloc);
+                for address in addresses.items() {
+                    let link = match self.dialer.dial(alloc, address) {
+                        Ok(link) => link,
+                        Err(fault) => return Err(fault),
+                    };
+                    if hands.push(RemoteHand::make(link)).is_err() {
+                        return Err(PortFault::Memory);
+                    }
+                }
+                Ok(Hands::Remote(hands))
             }
         }
     }

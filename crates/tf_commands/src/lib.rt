@@ -20,5 +20,5 @@ mod top;
 mod trying;
 mod working;
 
-pub use crate::crew::LocalCrew;
+pub use crate::crew::ProgramCrew;
 pub use crate::top::{Ended, Outside, taskflow};

@@ -2,7 +2,7 @@
 
 ghost use Rattle.std.specs.Prelude.{◌≡◌, ◌≤◌, ◌⊎◌, ℕ, List, [], vec_len};
 ghost use Rattle.tf_flow.specs.Plan.{plan_tree};
-ghost use Rattle.tf_ports.specs.Ports.{wanted as number_of};
+ghost use Rattle.tf_ports.specs.Ports.{gives_by, wanted as number_of};
 ghost use Rattle.tf_machine.specs.Machine.{StandsFor};
 ghost use Rattle.tf_book.specs.Book.{outline, flow_state};
 ghost use Rattle.tf_commands.specs.Asking.{AreHands, HasEachCause, WasAsked, counts_of};
@@ -24,7 +24,7 @@ use tf_actions::Performer;
 use tf_book::{Book, Loaded};
 use tf_desk::Desk;
 use tf_machine::Machine;
-use tf_ports::{Crew, Sources};
+use tf_ports::{Crew, Hands, Sources};
 use tf_report::{FORBIDDEN, OUT_OF_MEMORY, UNSAID};
 use tf_values::Text;
 
@@ -42,7 +42,8 @@ pub fn run_file<K: Desk + Send, S: Sources, W: Crew, R: Threads + Wait + Sync>(
     requires few { AreHands request.now.want }
     ensures runs { FileRead (S.contents sources.old) source
         (IsUntouched (W.hired crew.old) (W.hired crew.new) (K.state desk) (K.state result.desk))
-        (Runs W.Hand.gives request.now (WasAsked (K.state desk) (K.state result.desk)) name.now
+        (Runs (gives_by W.Hand.gives W.Far.gives request.now.want) request.now
+        (WasAsked (K.state desk) (K.state result.desk)) name.now
         (W.hired crew.old) (W.hired crew.new) (K.state desk) (K.state result.desk))
         (K.state desk).shown (K.state result.desk).shown result.status }
     ensures hires { HiresAtMost request.now.want (W.hired crew.old) (W.hired crew.new) }
@@ -68,7 +69,8 @@ pub fn run_plan<K: Desk + Send, W: Crew, R: Threads + Wait + Sync>(
 ) -> Over<K>
     requires fresh { StandsFor machine [] }
     requires few { AreHands request.now.want }
-    ensures runs { Runs W.Hand.gives request.now (WasAsked (K.state desk) (K.state result.desk)) name.now
+    ensures runs { Runs (gives_by W.Hand.gives W.Far.gives request.now.want) request.now
+        (WasAsked (K.state desk) (K.state result.desk)) name.now
         (W.hired crew.old) (W.hired crew.new) (K.state desk) (K.state result.desk)
         (plan_tree machine.plan) result.status }
     ensures hires { HiresAtMost request.now.want (W.hired crew.old) (W.hired crew.new) }
@@ -121,6 +123,7 @@ pub fn forbid<K: Desk>(alloc: Global, book: Book<K>) -> Over<K>
 }
 
 /// Hires the hands that are wanted, and runs the plan of a machine with them in a file that holds no flow.
+#[tactic(auto, using(crate::proofs::WantLemmas::near_count, crate::proofs::WantLemmas::far_count))]
 fn hire_and_run<K: Desk + Send, W: Crew, R: Threads + Wait + Sync>(
     rt: &R,
     alloc: Global,
@@ -137,7 +140,8 @@ fn hire_and_run<K: Desk + Send, W: Crew, R: Threads + Wait + Sync>(
         → IsFoundBlank name (K.state entry) blank
         → (Unhired name (K.state entry) (K.state result.desk) (W.hired crew.old) (W.hired crew.new) result.status
         ⊎ (Hires request.now.want (W.hired crew.old) (W.hired crew.new)
-        × Promised W.Hand.gives request.now (WasAsked (K.state (desk_in blank)) (K.state result.desk))
+        × Promised (gives_by W.Hand.gives W.Far.gives request.now.want) request.now
+        (WasAsked (K.state (desk_in blank)) (K.state result.desk))
         name machine.plan [] (K.state entry) (K.state result.desk) result.status)) }
     ensures hires { HiresAtMost request.now.want (W.hired crew.old) (W.hired crew.new) }
     ensures asks { (K.state (desk_in blank)).asks ≤ (K.state result.desk).asks }
@@ -145,7 +149,8 @@ fn hire_and_run<K: Desk + Send, W: Crew, R: Threads + Wait + Sync>(
         (counts_of (K.state result.desk) 0 (W.faults crew.new)) }
 {
     match crew.hire(alloc, &request.want) {
-        Ok(hands) => run_in(rt, alloc, machine, blank, request, hands),
+        Ok(Hands::Local(hands)) => run_in(rt, alloc, machine, blank, request, hands),
+        Ok(Hands::Remote(hands)) => run_in(rt, alloc, machine, blank, request, hands),
         Err(fault) => {
             drop(machine);
             say_unhired(blank.into_desk(), fault)

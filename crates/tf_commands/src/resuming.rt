@@ -1,12 +1,13 @@
 //! A run that goes on from the history which a book holds.
 
-ghost use Rattle.std.specs.Prelude.{◌≡◌, ◌≤◌, ℕ, List, false, None};
-ghost use Rattle.tf_book.specs.Book.{flow_state};
+ghost use Rattle.std.specs.Prelude.{◌≡◌, ◌≢◌, ◌≤◌, ℕ, List, false, None, Some};
+ghost use Rattle.tf_book.specs.Book.{BookValue, flow_state};
 ghost use Rattle.tf_model.specs.Steps.{has_ended};
 ghost use Rattle.tf_commands.specs.Asking.{AreHands, HasEachCause, WasAsked, counts_of};
+ghost use Rattle.tf_ports.specs.Ports.{gives_by};
 ghost use Rattle.tf_commands.specs.Books.{Resumes};
 ghost use Rattle.tf_commands.specs.Course.{HiresAtMost};
-ghost use Rattle.tf_commands.specs.Runs.{HoldsBook, GoesFurther};
+ghost use Rattle.tf_commands.specs.Runs.{HoldsBook, GoesFurther, IsRunTo, RunsOn};
 ghost use Rattle.tf_journal.specs.Start.{Open};
 
 use crate::books::{open, refuse_book, say_empty, say_unhired};
@@ -16,7 +17,8 @@ use std::sync::Wait;
 use std::thread::Threads;
 use tf_book::{Book, Loaded};
 use tf_desk::Desk;
-use tf_ports::Crew;
+use tf_ports::{Crew, Hands, Want};
+use tf_report::{UNHIRED, UNREAD};
 use tf_states::FlowState;
 use tf_values::Text;
 
@@ -32,7 +34,8 @@ pub fn resume_book<K: Desk + Send, W: Crew, R: Threads + Wait + Sync>(
 ) -> Over<K>
     requires speaks { request.now.quiet ≡ false }
     requires few { AreHands request.now.want }
-    ensures resumes { Resumes W.Hand.gives request.now (WasAsked (K.state desk) (K.state result.desk)) name.now
+    ensures resumes { Resumes (gives_by W.Hand.gives W.Far.gives request.now.want) request.now
+        (WasAsked (K.state desk) (K.state result.desk)) name.now
         (W.hired crew.old) (W.hired crew.new) (K.state desk) (K.state result.desk) result.status }
     ensures hires { HiresAtMost request.now.want (W.hired crew.old) (W.hired crew.new) }
     ensures asks { (K.state desk).asks ≤ (K.state result.desk).asks }
@@ -66,7 +69,8 @@ fn go_on<K: Desk + Send, W: Crew, R: Threads + Wait + Sync>(
     ensures goes { (name : List ℕ) (entry : K)
         → Open name (K.state entry) (K.state book.journal.desk)
         → HoldsBook name (K.state entry) book
-        → GoesFurther W.Hand.gives request.now (WasAsked (K.state book.journal.desk) (K.state result.desk))
+        → GoesFurther (gives_by W.Hand.gives W.Far.gives request.now.want) request.now
+        (WasAsked (K.state book.journal.desk) (K.state result.desk))
         name (K.state entry) book (W.hired crew.old) (W.hired crew.new) (K.state result.desk) result.status }
     ensures hires { HiresAtMost request.now.want (W.hired crew.old) (W.hired crew.new) }
     ensures asks { (K.state book.journal.desk).asks ≤ (K.state result.desk).asks }
@@ -76,13 +80,32 @@ fn go_on<K: Desk + Send, W: Crew, R: Threads + Wait + Sync>(
     let state = book.state();
     match state {
         FlowState::Success | FlowState::Failure | FlowState::Reverted => {
-            report_end::<K, W::Hand>(book, state)
+            report_ended::<K, W>(book, state, request)
         }
         _ => hire_and_go_on(rt, alloc, book, request, crew),
     }
 }
 
+/// Says the report of a book whose flow has ended in that state. Nobody is hired; which hands are wanted tells which
+/// relation a run of nothing keeps.
+fn report_ended<K: Desk, W: Crew>(book: Book<K>, last: FlowState, request: &Request) -> Over<K>
+    requires sound { book.halt ≡ None }
+    ensures runs { (start : BookValue K) → request.now.quiet ≡ false
+        → IsRunTo K.state (gives_by W.Hand.gives W.Far.gives request.now.want) request.now
+        (WasAsked (K.state start.journal.desk) (K.state result.desk)) start book (Some last)
+        → RunsOn K.state (gives_by W.Hand.gives W.Far.gives request.now.want) request.now
+        (WasAsked (K.state start.journal.desk) (K.state result.desk)) start (K.state result.desk) result.status }
+    ensures apart { (result.status ≢ UNREAD) × (result.status ≢ UNHIRED) }
+    ensures asks { (K.state book.journal.desk).asks ≤ (K.state result.desk).asks }
+{
+    match &request.want {
+        Want::Local(_) => report_end::<K, W::Hand>(book, last),
+        Want::Remote(_) => report_end::<K, W::Far>(book, last),
+    }
+}
+
 /// Hires the hands that are wanted, and runs a book's flow on with them.
+#[tactic(auto, using(crate::proofs::WantLemmas::near_count, crate::proofs::WantLemmas::far_count))]
 fn hire_and_go_on<K: Desk + Send, W: Crew, R: Threads + Wait + Sync>(
     rt: &R,
     alloc: Global,
@@ -99,7 +122,8 @@ fn hire_and_go_on<K: Desk + Send, W: Crew, R: Threads + Wait + Sync>(
     ensures goes { (name : List ℕ) (entry : K)
         → Open name (K.state entry) (K.state book.journal.desk)
         → HoldsBook name (K.state entry) book
-        → GoesFurther W.Hand.gives request.now (WasAsked (K.state book.journal.desk) (K.state result.desk))
+        → GoesFurther (gives_by W.Hand.gives W.Far.gives request.now.want) request.now
+        (WasAsked (K.state book.journal.desk) (K.state result.desk))
         name (K.state entry) book (W.hired crew.old) (W.hired crew.new) (K.state result.desk) result.status }
     ensures hires { HiresAtMost request.now.want (W.hired crew.old) (W.hired crew.new) }
     ensures asks { (K.state book.journal.desk).asks ≤ (K.state result.desk).asks }
@@ -107,7 +131,8 @@ fn hire_and_go_on<K: Desk + Send, W: Crew, R: Threads + Wait + Sync>(
         (counts_of (K.state result.desk) 0 (W.faults crew.new)) }
 {
     match crew.hire(alloc, &request.want) {
-        Ok(hands) => run_book(rt, alloc, book, hands, request),
+        Ok(Hands::Local(hands)) => run_book(rt, alloc, book, hands, request),
+        Ok(Hands::Remote(hands)) => run_book(rt, alloc, book, hands, request),
         Err(fault) => say_unhired(book.close(), fault),
     }
 }

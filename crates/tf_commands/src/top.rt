@@ -1,10 +1,12 @@
-ghost use Rattle.std.specs.Prelude.{◌≡◌, ◌≤◌, true, false, is_some, None, Some, IfSome};
+ghost use Rattle.std.specs.Prelude.{◌≡◌, ◌≤◌, false, is_some, None, Some};
 ghost use Rattle.tf_board.specs.Answers.{board_of};
 ghost use Rattle.tf_desk.specs.Crash.{Rises};
-ghost use Rattle.tf_commands.specs.Asking.{is_local as wants_local, is_done_here as is_done, asked_for, if_done_here, IsWithin, want_of, IsWork, AsksForWork, HasCausesOr, HasNoFault, WasAsked, counts_of};
+ghost use Rattle.tf_commands.specs.Asking.{IsWithin, want_of, IsWork, AsksForWork, HasCausesOr, HasNoFault, WasAsked, counts_of};
 ghost use Rattle.tf_commands.specs.Messages.{IsLogRefused};
+ghost use Rattle.tf_words.specs.Words.{command_of};
 ghost use Rattle.tf_commands.specs.Course.{Course, HiresAsAsked, HiresAsWanted, Obeys, IsRefused, IsBoardRefused, MayBeDone, IsComplete};
 ghost use Rattle.tf_commands.specs.declared.auditing.TheConstants.{LOG_REFUSED};
+ghost use Rattle.tf_ports.specs.Ports.{gives_by};
 ghost use Rattle.tf_report.specs.declared.statuses.TheConstants.{BOARD_REFUSED};
 ghost use Rattle.tf_words.specs.declared.asked.Asked.{Asked as AnAsked};
 
@@ -25,7 +27,7 @@ use std::alloc::Global;
 use std::sync::Wait;
 use std::thread::Threads;
 use tf_desk::Desk;
-use tf_ports::{Crew, Door, Sources, Want};
+use tf_ports::{Crew, Door, Sources};
 use tf_report::{NO_COMMAND, OUT_OF_MEMORY, REFUSED, close};
 use tf_words::{Asked, Word, demo_numbers_are_within, read_words};
 
@@ -57,12 +59,12 @@ pub fn taskflow<K: Desk + Send, S: Sources, W: Crew, L: Door, R: Threads + Wait 
     // The way that the command went: which command the words are, which plan the sources' bytes give or
     // why they give none, what the book held and holds, which hands were hired, what was recorded, what was
     // shown, what a crash may leave, and the status.
-    ensures course { Course K.state W.Hand.gives (WasAsked (K.state outside.desk) (K.state result.outside.desk))
-        words.now (S.contents outside.sources)
+    ensures course { Course K.state (gives_by W.Hand.gives W.Far.gives)
+        (WasAsked (K.state outside.desk) (K.state result.outside.desk)) words.now (S.contents outside.sources)
         (W.hired outside.crew) (W.hired result.outside.crew) outside.desk result.outside.desk result.status }
 
     // Status 2 comes only where the words are no command.
-    ensures no_command { result.status ≡ NO_COMMAND → asked_for words.now ≡ None }
+    ensures no_command { result.status ≡ NO_COMMAND → command_of words.now ≡ None }
 
     // Status 4 comes only where the file is too long or gives no plan to run, or none up to the target that is named.
     ensures refused { result.status ≡ REFUSED → IsRefused words.now (S.contents outside.sources) }
@@ -78,7 +80,7 @@ pub fn taskflow<K: Desk + Send, S: Sources, W: Crew, L: Door, R: Threads + Wait 
     // end, or shown, or put back, a log none of whose lines can't be is said to be legal, and a command is done on a board that doesn't refuse it, unless a count of faults
     // rose (that of the door for a worker alone), a stop was asked for or memory ran out; 13 comes only as the course says, and 12 only where there is a
     // limit of entries.
-    ensures complete { (command : AnAsked) → asked_for words.now ≡ Some command
+    ensures complete { (command : AnAsked) → command_of words.now ≡ Some command
         → MayBeDone command (S.contents outside.sources) (K.state outside.desk)
         → ¬ (WasAsked (K.state outside.desk) (K.state result.outside.desk))
         → (IsWork command → ¬ (Rises (L.faults outside.door) (L.faults result.outside.door)))
@@ -127,7 +129,8 @@ fn answer<K: Desk + Send, S: Sources, W: Crew, L: Door, R: Threads + Wait + Sync
     crew: &mut W,
     door: &mut L,
 ) -> Over<K>
-    ensures course { Course K.state W.Hand.gives (WasAsked (K.state desk) (K.state result.desk)) words.now
+    ensures course { Course K.state (gives_by W.Hand.gives W.Far.gives)
+        (WasAsked (K.state desk) (K.state result.desk)) words.now
         (S.contents sources.old) (W.hired crew.old) (W.hired crew.new) desk result.desk result.status }
     ensures hires { HiresAsAsked words.now (W.hired crew.old) (W.hired crew.new) }
     ensures asks { (K.state desk).asks ≤ (K.state result.desk).asks }
@@ -143,59 +146,12 @@ fn answer<K: Desk + Send, S: Sources, W: Crew, L: Door, R: Threads + Wait + Sync
         };
     };
     demo_numbers_are_within();
-    match done_here(found) {
+    match found {
         Some(asked) => obey(rt, alloc, asked, desk, sources, crew, door),
         None => {
             let status = close(USAGE, NO_COMMAND, &mut desk);
             Over { desk, status }
         }
-    }
-}
-
-/// The command, where the program does it.
-fn done_here(found: Option<Asked>) -> Option<Asked>
-    ensures is { result ≡ if_done_here found }
-    ensures done { IfSome result (λ asked. is_done asked ≡ true) }
-{
-    match found {
-        Some(asked) => {
-            if is_done_here(&asked) {
-                Some(asked)
-            } else {
-                None
-            }
-        }
-        None => None,
-    }
-}
-
-/// Whether the program does the command.
-fn is_done_here(asked: &Asked) -> bool
-    ensures { result ≡ is_done asked.now }
-{
-    match asked {
-        Asked::Try { want, .. } => is_local(want),
-        Asked::Run { want, .. } => is_local(want),
-        Asked::Resume { want, .. } => is_local(want),
-        Asked::Show { .. } | Asked::Reset { .. } | Asked::Check { .. } => true,
-        Asked::Audit { .. } | Asked::Demo { .. } | Asked::Worker { .. } => true,
-        Asked::Post { .. }
-        | Asked::Claim { .. }
-        | Asked::Abandon { .. }
-        | Asked::Consume { .. }
-        | Asked::Trash { .. }
-        | Asked::Owner { .. }
-        | Asked::List { .. } => true,
-    }
-}
-
-/// Whether hands of this process are wanted.
-fn is_local(want: &Want) -> bool
-    ensures { result ≡ wants_local want.now }
-{
-    match want {
-        Want::Local(_) => true,
-        Want::Remote(_) => false,
     }
 }
 
@@ -209,9 +165,9 @@ fn obey<K: Desk + Send, S: Sources, W: Crew, L: Door, R: Threads + Wait + Sync>(
     crew: &mut W,
     door: &mut L,
 ) -> Over<K>
-    requires done { is_done asked ≡ true }
     requires within { IsWithin asked }
-    ensures obeys { Obeys K.state W.Hand.gives (WasAsked (K.state desk) (K.state result.desk)) asked
+    ensures obeys { Obeys K.state (gives_by W.Hand.gives W.Far.gives)
+        (WasAsked (K.state desk) (K.state result.desk)) asked
         (S.contents sources.old) (W.hired crew.old) (W.hired crew.new) desk result.desk result.status }
     ensures hires { HiresAsWanted (want_of asked) (W.hired crew.old) (W.hired crew.new) }
     ensures asks { (K.state desk).asks ≤ (K.state result.desk).asks }
@@ -238,10 +194,10 @@ fn obey_flow<K: Desk + Send, S: Sources, W: Crew, L: Door, R: Threads + Wait + S
     crew: &mut W,
     door: &mut L,
 ) -> Over<K>
-    requires done { is_done asked ≡ true }
     requires no_board { is_some (board_of asked) ≡ false }
     requires within { IsWithin asked }
-    ensures obeys { Obeys K.state W.Hand.gives (WasAsked (K.state desk) (K.state result.desk)) asked
+    ensures obeys { Obeys K.state (gives_by W.Hand.gives W.Far.gives)
+        (WasAsked (K.state desk) (K.state result.desk)) asked
         (S.contents sources.old) (W.hired crew.old) (W.hired crew.new) desk result.desk result.status }
     ensures hires { HiresAsWanted (want_of asked) (W.hired crew.old) (W.hired crew.new) }
     ensures asks { (K.state desk).asks ≤ (K.state result.desk).asks }

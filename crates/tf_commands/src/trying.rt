@@ -2,7 +2,7 @@
 
 ghost use Rattle.std.specs.Prelude.{◌≡◌, ◌≤◌, [], None, vec_len};
 ghost use Rattle.tf_flow.specs.Plan.{plan_tree};
-ghost use Rattle.tf_ports.specs.Ports.{wanted as number_of};
+ghost use Rattle.tf_ports.specs.Ports.{gives_by, wanted as number_of};
 ghost use Rattle.tf_machine.specs.Machine.{StandsFor};
 ghost use Rattle.tf_commands.specs.Asking.{AreHands, HasEachCause, WasAsked, counts_of};
 ghost use Rattle.tf_commands.specs.Course.{FileRead, IsUntouched, Tries, Tried, HiresAtMost};
@@ -19,7 +19,7 @@ use tf_book::Book;
 use tf_desk::Desk;
 use tf_journal::Journal;
 use tf_machine::Machine;
-use tf_ports::{Crew, Sources};
+use tf_ports::{Crew, Hands, Sources};
 use tf_report::OUT_OF_MEMORY;
 
 /// Reads the file, hires the hands that are wanted, runs the file's flow with them and reports its end. Nothing of it is
@@ -37,7 +37,8 @@ pub fn try_file<K: Desk + Send, S: Sources, W: Crew, R: Threads + Wait + Sync>(
     requires few { AreHands request.now.want }
     ensures tried { FileRead (S.contents sources.old) source
         (IsUntouched (W.hired crew.old) (W.hired crew.new) (K.state desk) (K.state result.desk))
-        (Tries W.Hand.gives request.now.want (WasAsked (K.state desk) (K.state result.desk))
+        (Tries (gives_by W.Hand.gives W.Far.gives request.now.want) request.now.want
+        (WasAsked (K.state desk) (K.state result.desk))
         (W.hired crew.old) (W.hired crew.new) (K.state desk).shown (K.state result.desk).shown)
         (K.state desk).shown (K.state result.desk).shown result.status }
     ensures stays { TouchesNoFile (K.state desk) (K.state result.desk) }
@@ -53,6 +54,7 @@ pub fn try_file<K: Desk + Send, S: Sources, W: Crew, R: Threads + Wait + Sync>(
 }
 
 /// Hires the hands that are wanted, and runs the plan of a machine with them.
+#[tactic(auto, using(crate::proofs::WantLemmas::near_count, crate::proofs::WantLemmas::far_count))]
 fn try_plan<K: Desk + Send, W: Crew, R: Threads + Wait + Sync>(
     rt: &R,
     alloc: Global,
@@ -64,7 +66,8 @@ fn try_plan<K: Desk + Send, W: Crew, R: Threads + Wait + Sync>(
     requires fresh { StandsFor machine [] }
     requires said { request.now ≡ spoken_run request.now.want None }
     requires few { AreHands request.now.want }
-    ensures tried { Tries W.Hand.gives request.now.want (WasAsked (K.state desk) (K.state result.desk))
+    ensures tried { Tries (gives_by W.Hand.gives W.Far.gives request.now.want) request.now.want
+        (WasAsked (K.state desk) (K.state result.desk))
         (W.hired crew.old) (W.hired crew.new) (K.state desk).shown (K.state result.desk).shown
         (plan_tree machine.plan) result.status }
     ensures stays { TouchesNoFile (K.state desk) (K.state result.desk) }
@@ -74,7 +77,8 @@ fn try_plan<K: Desk + Send, W: Crew, R: Threads + Wait + Sync>(
         (counts_of (K.state result.desk) 0 (W.faults crew.new)) }
 {
     match crew.hire(alloc, &request.want) {
-        Ok(hands) => try_with(rt, alloc, machine, request, desk, hands),
+        Ok(Hands::Local(hands)) => try_with(rt, alloc, machine, request, desk, hands),
+        Ok(Hands::Remote(hands)) => try_with(rt, alloc, machine, request, desk, hands),
         Err(fault) => {
             drop(machine);
             say_unhired(desk, fault)

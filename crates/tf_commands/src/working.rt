@@ -10,13 +10,14 @@ use crate::messages::{CANNOT_HIRE, CANNOT_LISTEN};
 use std::alloc::Global;
 use tf_actions::Performer;
 use tf_desk::Desk;
-use tf_ports::{Address, Crew, Door, PortFault, Want};
+use tf_ports::{Address, Crew, Door, Hands, PortFault, Want};
 use tf_report::{OUT_OF_MEMORY, SUCCEEDED, UNHIRED, UNSAID, append, append_counted, close};
 use tf_values::Memory;
 use tf_workers::{ServeEnd, serve};
 
 /// Hires a hand of this process, opens the door at the address, and serves so many sessions with the hand, one
 /// after the other. Says how each ended.
+#[tactic(auto, using(crate::proofs::WantLemmas::near_count, crate::proofs::WantLemmas::none_far))]
 pub fn work<K: Desk, W: Crew, D: Door>(
     alloc: Global,
     address: &Address,
@@ -37,12 +38,13 @@ pub fn work<K: Desk, W: Crew, D: Door>(
     ensures door_stands { D.faults door.old ≤ D.faults door.new }
 {
     match crew.hire(alloc, &Want::Local(1)) {
-        Ok(mut hands) => {
+        Ok(Hands::Local(mut hands)) => {
             let Some(mut hand) = hands.pop() else {
                 unreachable!();
             };
             listen_and_serve(alloc, address, sessions, desk, &mut hand, door)
         }
+        Ok(Hands::Remote(_)) => unreachable!(),
         Err(PortFault::Failed) => close(CANNOT_HIRE, UNHIRED, desk),
         Err(PortFault::Memory) => OUT_OF_MEMORY,
     }

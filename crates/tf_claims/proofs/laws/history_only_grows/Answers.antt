@@ -1,6 +1,7 @@
+use Rattle.tf_ports.specs.Ports.{gives_by}
 use Rattle.tf_claims.proofs.LifeLemmas.{life_grows}
 use Rattle.tf_claims.proofs.laws.history_only_grows.Goals as goal
 
 pub returns : goal.returns
 returns g c name first last life plan past holds =
-    let grown = life_grows g.K.Desk.state g.W.Hand.Performer.gives name first last life plan past holds in (grown.0, grown.1)
+    let grown = life_grows g.K.Desk.state (gives_by g.W.Hand.Performer.gives g.W.Far.Performer.gives) name first last life plan past holds in (grown.0, grown.1)

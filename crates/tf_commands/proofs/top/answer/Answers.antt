@@ -1,5 +1,4 @@
-use Rattle.std.proofs.Common.{sym, ap, ◌∙◌, refl}
-use Rattle.tf_commands.specs.Asking.{if_done_here}
+use Rattle.std.proofs.Common.{sym, ◌∙◌, refl}
 use Rattle.tf_commands.specs.Course.{unheard, obeyed, no_command}
 use Rattle.tf_words.specs.Words.{command_of}
 use Rattle.tf_commands.proofs.CauseLemmas.{listened_so}
@@ -11,29 +10,29 @@ pub obey-requires-clause-within : goal.obey-requires-clause-within
 obey-requires-clause-within g c = λ lives kept.
     within_so (command_of c.args.words.now) c.in-Some.asked (λ seed size book hands is. c.demo_numbers_are_within.ensures c.args.words.now seed size book hands is)
     (λ command is. command_hands c.args.words.now command is)
-    (ap if_done_here (sym c.in-Ok.ensures) ∙ sym c.done_here.ensures.is ∙ c.in-Some.is)
+    (sym c.in-Ok.ensures ∙ c.in-Some.is)
 
 pub returns-in_default-clause-course : goal.returns-in_default-clause-course
 returns-in_default-clause-course g c = unheard refl refl refl
 
 pub returns-in-Some-clause-course : goal.returns-in-Some-clause-course
 returns-in-Some-clause-course g c =
-    obeyed c.in-Some.asked (ap if_done_here (sym c.in-Ok.ensures) ∙ sym c.done_here.ensures.is ∙ c.in-Some.is) c.obey.ensures.obeys
+    obeyed c.in-Some.asked (sym c.in-Ok.ensures ∙ c.in-Some.is) c.obey.ensures.obeys
 
 pub returns-in-None-clause-course : goal.returns-in-None-clause-course
 returns-in-None-clause-course g c =
-    no_command (ap if_done_here (sym c.in-Ok.ensures) ∙ sym c.done_here.ensures.is ∙ c.in-None.is) c.close-status.ensures.closes (refl, λ told. ((c.close-status.ensures.says.files told).files, c.close-status.ensures.says.marks told))
+    no_command (sym c.in-Ok.ensures ∙ c.in-None.is) c.close-status.ensures.closes (refl, λ told. ((c.close-status.ensures.says.files told).files, c.close-status.ensures.says.marks told))
 
 pub returns-in_default-clause-hires : goal.returns-in_default-clause-hires
 returns-in_default-clause-hires g c = hires_nobody _ _
 
 pub returns-in-Some-clause-hires : goal.returns-in-Some-clause-hires
 returns-in-Some-clause-hires g c =
-    hires_asked c.args.words.now c.in-Some.asked _ _ (ap if_done_here (sym c.in-Ok.ensures) ∙ sym c.done_here.ensures.is ∙ c.in-Some.is) c.obey.ensures.hires
+    hires_asked c.args.words.now c.in-Some.asked _ _ (sym c.in-Ok.ensures ∙ c.in-Some.is) c.obey.ensures.hires
 
 pub returns-in-None-clause-hires : goal.returns-in-None-clause-hires
 returns-in-None-clause-hires g c = hires_nobody _ _
 
 pub returns-in-Some-clause-causes : goal.returns-in-Some-clause-causes
 returns-in-Some-clause-causes g c =
-    listened_so _ _ _ _ _ (λ both. ((c.in-Some.asked, ap if_done_here (sym c.in-Ok.ensures) ∙ sym c.done_here.ensures.is ∙ c.in-Some.is, both.0), both.1)) c.obey.ensures.causes
+    listened_so _ _ _ _ _ (λ both. ((c.in-Some.asked, sym c.in-Ok.ensures ∙ c.in-Some.is, both.0), both.1)) c.obey.ensures.causes

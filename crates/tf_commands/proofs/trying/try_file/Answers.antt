@@ -1,4 +1,5 @@
 use Rattle.std.proofs.Common.{refl}
+use Rattle.tf_ports.specs.Ports.{gives_by}
 use Rattle.tf_commands.specs.Asking.{WasAsked}
 use Rattle.tf_commands.specs.Course.{IsUntouched, Tries}
 use Rattle.tf_commands.specs.Run.{NoFileChanges}
@@ -10,7 +11,7 @@ returns-in-Ok-clause-tried g c =
     let entry = g.K.Desk.state c.args.desk in
     let now = g.K.Desk.state c.try_plan.result.desk in
     done_file _ c.args.source _ c.in-Ok.machine
-    (Tries g.W.Hand.Performer.gives c.args.request.now.want (WasAsked entry now) (g.W.Crew.hired c.args.crew.now) (g.W.Crew.hired c.try_plan.new.crew) entry.shown now.shown)
+    (Tries (gives_by g.W.Hand.Performer.gives g.W.Far.Performer.gives c.args.request.now.want) c.args.request.now.want (WasAsked entry now) (g.W.Crew.hired c.args.crew.now) (g.W.Crew.hired c.try_plan.new.crew) entry.shown now.shown)
     _ _ c.try_plan.result.status c.in-Ok.ensures.opened (rw c.in-Ok.ensures.same at c.try_plan.ensures.tried)
 
 pub returns-in-Ok-clause-stays : goal.returns-in-Ok-clause-stays
@@ -22,5 +23,5 @@ returns-in-Err-clause-tried g c =
     let now = g.K.Desk.state c.open_file.new.desk in
     let hired = g.W.Crew.hired c.args.crew.now in
     undone_file _ c.args.source (NoFileChanges entry now) (IsUntouched hired hired entry now)
-    (Tries g.W.Hand.Performer.gives c.args.request.now.want (WasAsked entry now) hired hired entry.shown now.shown)
+    (Tries (gives_by g.W.Hand.Performer.gives g.W.Far.Performer.gives c.args.request.now.want) c.args.request.now.want (WasAsked entry now) hired hired entry.shown now.shown)
     _ _ c.in-Err.status (λ still. (refl, still)) c.in-Err.ensures.closed
