@@ -1,11 +1,8 @@
 use crate::faults::desk;
 use std::alloc::Global;
-use std::io::Eprint;
-use std::process::Processes;
-use std::sync::Wait;
 use std::test::Fail;
-use std::thread::Threads;
 use tf_commands::{Ended, Outside, ProgramCrew, taskflow};
+use tf_desk::MemoryDesk;
 use tf_ports::{Address, MemoryDialer, MemoryDoor, MemoryLink, MemorySource, MemorySources};
 use tf_report::{REVERTED, SUCCEEDED, UNHIRED};
 use tf_values::Text;
@@ -36,114 +33,118 @@ const UNDONE: &[u8] = b"
 end main REVERTED
 ";
 
-/// A command's status, what it said, and the ports that were dialled.
-#[derive(Drop)]
-struct Tried {
-    status: u8,
-    shown: Vec<u8>,
-    ports: Vec<u16>,
-}
-
-/// Gives the words over a dialer of links with these bytes, the last first, of whose calls one fails.
-fn try_over<R: Threads + Wait + Sync + Processes + Eprint + Copy + Send + Drop>(
-    rt: &R,
+/// The outside of a command: a desk, a source of the flow, and no door; its crew is the program's, over this dialer.
+fn outside_of(
+    rt: HostRuntime,
     alloc: Global,
-    words: &[&str],
-    links: &[&[u8]],
-    failing: u64,
-) -> Result<Tried, Fail> {
-    let mut made = Vec::new(alloc);
-    for word in words {
-        made.push(Word::make(String::from_str(alloc, word)?))?;
-    }
+    dialer: MemoryDialer<MemoryLink>,
+) -> Result<
+    Outside<
+        MemoryDesk,
+        MemorySources,
+        ProgramCrew<HostRuntime, MemoryDialer<MemoryLink>>,
+        MemoryDoor<MemoryLink>,
+    >,
+    Fail,
+> {
     let mut sources = Vec::new(alloc);
     sources.push(MemorySource {
         name: Text::make(alloc, b"flow.toml")?,
         bytes: Vec::from_slice(alloc, ONE_ECHO)?,
     })?;
-    let mut waiting = Vec::new(alloc);
-    for bytes in links {
-        let bytes = Vec::from_slice(alloc, bytes)?;
-        waiting.push(MemoryLink::make(alloc, bytes, 7, Vec::new(alloc)))?;
-    }
-    let dialer = MemoryDialer::make(alloc, waiting, vec![in alloc; failing]?);
-    let door: MemoryDoor<MemoryLink> = MemoryDoor::make(Vec::new(alloc), Vec::new(alloc));
-    let outside = Outside {
+    Ok(Outside {
         desk: desk(alloc, &[])?,
         sources: MemorySources::make(sources, Vec::new(alloc)),
-        crew: ProgramCrew::make(*rt, dialer),
-        door,
-    };
-    let Ended { outside, status } = taskflow(rt, alloc, &made, outside);
-    let mut ports = Vec::new(alloc);
-    for address in outside.crew.dialer().dialled() {
-        if let Address::Tcp(port) = address {
-            ports.push(*port)?;
-        }
-    }
-    let shown = Vec::from_slice(alloc, outside.desk.shown())?;
-    Ok(Tried {
-        status,
-        shown,
-        ports,
+        crew: ProgramCrew::make(rt, dialer),
+        door: MemoryDoor::make(Vec::new(alloc), Vec::new(alloc)),
     })
 }
 
-/// Whether a trial by one remote hand over a link with these parts says this of its task, and ends with this status.
-fn tells<R: Threads + Wait + Sync + Processes + Eprint + Copy + Send + Drop>(
-    rt: &R,
+/// A dialer of so many links, over each of which these bytes come; the call of this number fails.
+fn dialer_of(
     alloc: Global,
-    parts: &[&[u8]],
-    says: &[u8],
-    wanted: u8,
-) -> Result<bool, Fail> {
+    count: usize,
+    bytes: &[u8],
+    failing: u64,
+) -> Result<MemoryDialer<MemoryLink>, Fail> {
+    let mut links = Vec::new(alloc);
+    for _link in 0..count {
+        let bytes = Vec::from_slice(alloc, bytes)?;
+        links.push(MemoryLink::make(alloc, bytes, 7, Vec::new(alloc)))?;
+    }
+    Ok(MemoryDialer::make(alloc, links, vec![in alloc; failing]?))
+}
+
+/// The words of a trial by these workers.
+fn trial_by(alloc: Global, workers: &str) -> Result<Vec<Word>, Fail> {
+    let mut made = Vec::new(alloc);
+    for word in &["try", "flow.toml", "--worker", workers] {
+        made.push(Word::make(String::from_str(alloc, word)?))?;
+    }
+    Ok(made)
+}
+
+/// These parts, one after another.
+fn joined(alloc: Global, parts: &[&[u8]]) -> Result<Vec<u8>, Fail> {
     let mut bytes = Vec::new(alloc);
     for part in parts {
         bytes.extend_from_slice(part)?;
     }
-    let words = ["try", "flow.toml", "--worker", "tcp:127.0.0.1:7001"];
-    let tried = try_over(rt, alloc, &words, &[&bytes], 0)?;
-    let mut text = Vec::from_slice(alloc, BEGIN)?;
-    text.extend_from_slice(says)?;
-    if wanted == REVERTED {
-        text.extend_from_slice(UNDONE)?;
-    }
-    Ok(tried.status == wanted && tried.shown == text)
+    Ok(bytes)
 }
+
+const ONE_WORKER: &str = "tcp:127.0.0.1:7001";
 
 #[test]
 fn a_remote_hand_runs_a_flow(rt: HostRuntime) -> Result<(), Fail> {
     let alloc = rt.alloc();
+    let words = trial_by(alloc, ONE_WORKER)?;
+    let dialer = dialer_of(alloc, 1, &joined(alloc, &[RUNNING, SUCCESS])?, 0)?;
+    let outside = outside_of(rt, alloc, dialer)?;
+    let Ended { outside, status } = taskflow(&rt, alloc, &words, outside);
+    assert_eq!(rt; status, SUCCEEDED);
     let says = b"SUCCESS 1\n4 0 flow main SUCCESS\nend main SUCCESS\n";
-    assert!(rt; tells(&rt, alloc, &[RUNNING, SUCCESS], says, SUCCEEDED)?);
-    assert!(rt; tells(&rt, alloc, &[&RUNNING[..10]], b"FAILURE lost", REVERTED)?);
-    assert!(rt;
-        tells(
-            &rt,
-            alloc,
-            &[RUNNING, OTHER],
-            b"FAILURE bad-reply 30",
-            REVERTED
-        )?
-    );
+    let wanted = joined(alloc, &[BEGIN, says])?;
+    assert_eq!(rt; outside.desk.shown(), wanted.as_slice());
     Ok(())
 }
 
 #[test]
+fn a_flow_whose_worker_is_lost_is_undone(rt: HostRuntime) -> Result<(), Fail> {
+    let alloc = rt.alloc();
+    let words = trial_by(alloc, ONE_WORKER)?;
+    let outside = outside_of(rt, alloc, dialer_of(alloc, 1, &RUNNING[..10], 0)?)?;
+    let Ended { outside, status } = taskflow(&rt, alloc, &words, outside);
+    assert_eq!(rt; status, REVERTED);
+    let wanted = joined(alloc, &[BEGIN, b"FAILURE lost", UNDONE])?;
+    assert_eq!(rt; outside.desk.shown(), wanted.as_slice());
+    Ok(())
+}
+
+#[test]
+fn a_flow_whose_worker_answers_another_is_undone(rt: HostRuntime) -> Result<(), Fail> {
+    let alloc = rt.alloc();
+    let words = trial_by(alloc, ONE_WORKER)?;
+    let dialer = dialer_of(alloc, 1, &joined(alloc, &[RUNNING, OTHER])?, 0)?;
+    let outside = outside_of(rt, alloc, dialer)?;
+    let Ended { outside, status } = taskflow(&rt, alloc, &words, outside);
+    assert_eq!(rt; status, REVERTED);
+    let wanted = joined(alloc, &[BEGIN, b"FAILURE bad-reply 30", UNDONE])?;
+    assert_eq!(rt; outside.desk.shown(), wanted.as_slice());
+    Ok(())
+}
+
+const THREE_WORKERS: &str = "tcp:127.0.0.1:7002,tcp:127.0.0.1:7001,tcp:127.0.0.1:7003";
+
+#[test]
 fn hands_are_hired_at_the_addresses_in_order(rt: HostRuntime) -> Result<(), Fail> {
     let alloc = rt.alloc();
-    let words = [
-        "try",
-        "flow.toml",
-        "--worker",
-        "tcp:127.0.0.1:7002,tcp:127.0.0.1:7001,tcp:127.0.0.1:7003",
-    ];
-    let tried = try_over(&rt, alloc, &words, &[b"", b"", b""], 3)?;
-    assert_eq!(rt; tried.status, UNHIRED);
-    assert_eq!(rt;
-        tried.shown.as_slice(),
-        b"taskflow: cannot hire\n".as_slice()
-    );
-    assert_eq!(rt; tried.ports.as_slice(), [7002, 7001].as_slice());
+    let words = trial_by(alloc, THREE_WORKERS)?;
+    let outside = outside_of(rt, alloc, dialer_of(alloc, 3, b"", 3)?)?;
+    let Ended { outside, status } = taskflow(&rt, alloc, &words, outside);
+    assert_eq!(rt; status, UNHIRED);
+    assert_eq!(rt; outside.desk.shown(), b"taskflow: cannot hire\n".as_slice());
+    let dialled = outside.crew.dialer().dialled();
+    assert!(rt; matches!(dialled, [Address::Tcp(7002), Address::Tcp(7001)]));
     Ok(())
 }
