@@ -1,5 +1,3 @@
-ghost use Rattle.std.specs.Prelude.{◌≤◌, length};
-
 use crate::calls::{REVERTED_FLOW, went_on};
 use crate::faults::{NO_FAULTS, desk, ran_over};
 use std::alloc::Global;
@@ -25,10 +23,10 @@ fn is_reverted_after_a_crash<R: Threads + Wait + Sync>(
     ran: &MemoryDesk,
     call: u64,
     torn: Torn,
-) -> Result<bool, Fail>
-    requires low { 1 ≤ call }
-    requires high { call ≤ length ran.now.began }
-{
+) -> Result<bool, Fail> {
+    if call < 1 || call > ran.made() {
+        return Err(Fail::from("no such call"));
+    }
     let desk = ran.crashed(alloc, call, torn)?;
     if !ran.shown().starts_with(desk.shown()) {
         return Ok(false);
