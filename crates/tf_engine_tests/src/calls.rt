@@ -1,4 +1,4 @@
-ghost use Rattle.std.specs.Prelude.{◌≡◌, ◌<◌, true, IsSome};
+ghost use Rattle.std.specs.Prelude.{◌≡◌, ◌<◌, true, IsSome, IfOk, vec_len};
 ghost use Rattle.tf_book.specs.Book.{moment, outline};
 ghost use Rattle.tf_hands.specs.Hands.{task_of};
 
@@ -8,9 +8,12 @@ use std::test::Fail;
 use tf_actions::Outcome;
 use tf_book::{Book, Entered, Turn};
 use tf_desk::MemoryDesk;
+use tf_engines::{How, RunEnd, interleaved};
 use tf_flow::Plan;
 use tf_hands::hands_are_free_or_have_a_task;
+use tf_ports::MemorySpawner;
 use tf_states::{Failure, FlowState};
+use tf_tasks::LocalHand;
 use tf_values::{Text, Val};
 
 /// A run of a plan whose session was entered by hand 0, and of which nothing is kept.
@@ -184,6 +187,37 @@ fn one_resolution_covers_the_failures_of_two_hands(rt: HostRuntime) -> Result<()
     let alloc = rt.alloc();
     let book = entered(alloc, plan(alloc, RETRIED)?)?;
     let mut book = after(alloc, book, &ACTS)?;
+    assert_eq!(rt; book.count(), 22);
+    let desk = book.close();
+    assert!(rt; desk.shown() == LINES);
+    Ok(())
+}
+
+/// A hand of this process.
+fn local_hand(alloc: Global) -> LocalHand<MemorySpawner> {
+    LocalHand::make(MemorySpawner::make(alloc, Vec::new(alloc), Vec::new(alloc)))
+}
+
+/// Two of them.
+fn two_hands(alloc: Global) -> Result<Vec<LocalHand<MemorySpawner>>, Fail>
+    ensures { IfOk result (λ hands. vec_len hands ≡ 2) }
+{
+    let mut hands = Vec::new(alloc);
+    hands.push(local_hand(alloc))?;
+    hands.push(local_hand(alloc))?;
+    Ok(hands)
+}
+
+/// Whose turns these acts are.
+const PICKS: [u8; 15] = [0, 1, 0, 0, 1, 1, 0, 0, 1, 1, 0, 1, 1, 0, 0];
+
+#[test]
+fn the_same_comes_of_two_hands_whose_turns_are_told(rt: HostRuntime) -> Result<(), Fail> {
+    let alloc = rt.alloc();
+    let book = begun(alloc, plan(alloc, RETRIED)?, desk(alloc, &[])?)?;
+    let mut hands = two_hands(alloc)?;
+    let RunEnd { book, how } = interleaved(alloc, book, &mut hands, &PICKS, None);
+    assert!(rt; how == How::Ended(FlowState::Success));
     assert_eq!(rt; book.count(), 22);
     let desk = book.close();
     assert!(rt; desk.shown() == LINES);

@@ -54,6 +54,10 @@ impl Performer for Meeting {
 
     ghost gives = { Gives };
 
+    ghost faults = { λ _. 0 };
+
+    ghost of_fault = { λ _ _. ⊥ };
+
     ghost looks_up = { gives_looks_up };
 
     ghost reverts_to_nothing = { gives_reverts };
@@ -72,7 +76,7 @@ fn hand(
     wanted: u64,
     turns: u64,
 ) -> Result<Meeting, Fail> {
-    let spawner = MemorySpawner::make(Vec::new(alloc), Vec::new(alloc));
+    let spawner = MemorySpawner::make(alloc, Vec::new(alloc), Vec::new(alloc));
     Ok(Meeting {
         hand: LocalHand::make(spawner),
         begun: Arc::try_clone(begun)?,

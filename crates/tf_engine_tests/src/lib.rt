@@ -1,5 +1,5 @@
-//! Tests of engines: two hands on one book whose calls come in a stated order, hands that wait for each other, a hand without
-//! memory, and a disk that fails.
+//! Tests of engines: two hands on one book whose calls come in a stated order, hands that take turns as they are told, hands that
+//! wait for each other, a hand without memory, and a disk that fails.
 #![tactic(auto)]
 
 #[cfg(test)]
@@ -8,3 +8,7 @@ mod books;
 mod calls;
 #[cfg(test)]
 mod hands;
+#[cfg(test)]
+mod interleaved;
+#[cfg(test)]
+mod runs;

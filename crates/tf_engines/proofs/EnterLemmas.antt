@@ -162,3 +162,7 @@ cut_before gives asked number limit plan past after cause answer any halts legal
           (omega (arith, length-reverse is.some, ap (λ (l : List Entry). length l) prefix, length-append is.some is.others));
       suspended = λ stops. none_last flow.Suspended (IsSuspended asked limit (reverse is.some)) stops;
     })
+
+-- of a flow that had ended nothing is recorded
+pub ended_entering : (past after : List Entry) (state : FlowState) → (flow_of past ≡ state) × (has_ended state ≡ true) × (after ≡ past) → IsEntering 0 past after
+ended_entering past after state is = record { some = []; others = entering_by 0 (flow_of past); prefix = refl; is = is.2 }

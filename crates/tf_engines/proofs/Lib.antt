@@ -12,3 +12,5 @@ pub mod SharedLemmas
 pub mod HandLemmas
 pub mod CloseLemmas
 pub mod SendLemmas
+pub mod TakingLemmas
+pub mod TurnsLemmas

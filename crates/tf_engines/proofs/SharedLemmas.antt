@@ -6,7 +6,7 @@ use Rattle.std.proofs.lemmas.Bool.{lt-ltb}
 use Rattle.std.proofs.lemmas.List.Folds.{list_all-append}
 use Rattle.tf_numbers.proofs.TruthLemmas.{clash, true_both, and_first, and_second}
 use Rattle.tf_desk.specs.State.{DeskState}
-use Rattle.tf_desk.specs.Crash.{Rises}
+use Rattle.tf_numbers.specs.Numbers.{Rises}
 use Rattle.tf_actions.specs.Laws.{RevertsToNothing}
 use Rattle.tf_actions.specs.declared.orders.Order.{Order}
 use Rattle.tf_actions.specs.declared.outcomes.Outcome.{Outcome}

@@ -3,7 +3,7 @@ use Rattle.std.proofs.Common.{◌≡◌, inl, inr, ◌⊎◌, ⊎_elim, ℕ, ◌
 use Rattle.std.specs.Prelude.{suc, not, nat_le, IfSome}
 use Rattle.std.proofs.lemmas.Bool.Decides.{nat_tests}
 use Rattle.std.specs.List.{list_all}
-use Rattle.tf_desk.specs.Crash.{Rises}
+use Rattle.tf_numbers.specs.Numbers.{Rises}
 use Rattle.tf_hands.specs.Hands.{is_over, is_no_end}
 use Rattle.tf_model.specs.Plan.{Outline, is_task}
 use Rattle.tf_numbers.proofs.TruthLemmas.{clash, not_true, and_first, and_second, neither_second, or_either}

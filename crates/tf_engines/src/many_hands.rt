@@ -1,5 +1,5 @@
 ghost use Rattle.std.specs.Prelude.{◌≡◌, ◌⊎◌, ◌<◌, ◌≤◌, ◌+◌, ℕ, [], IsSome, None, Some, true, false, List, Option, length, slice_index_or, vec_capacity, vec_len};
-ghost use Rattle.tf_desk.specs.Crash.{Rises};
+ghost use Rattle.tf_numbers.specs.Numbers.{Rises};
 ghost use Rattle.tf_hands.specs.Hands.{orders};
 ghost use Rattle.tf_model.specs.Plan.{entry_bound};
 ghost use Rattle.tf_model.specs.History.{flow_of};
@@ -62,7 +62,7 @@ fn halt_for<K: Desk>(book: &mut Book<K>, failed: bool)
 
 /// The end of a run whose hands have stopped. Where one of them couldn't go on, the book is halted: if it wasn't
 /// before, then for want of memory.
-fn conclude<K: Desk, P: Performer>(shared: Shared<K, P>, failed: bool) -> RunEnd<K>
+pub(crate) fn conclude<K: Desk, P: Performer>(shared: Shared<K, P>, failed: bool) -> RunEnd<K>
     requires { failed ≡ false → is_last (flow_of shared.now.past) ≡ true }
     ensures run { IsRun K.state P.gives
         shared.number shared.limit shared.start result.book result.how }
@@ -77,10 +77,11 @@ fn conclude<K: Desk, P: Performer>(shared: Shared<K, P>, failed: bool) -> RunEnd
 }
 
 /// The end of a run for which memory doesn't suffice, and in which no hand has begun.
-fn give_up<K: Desk, P: Performer>(shared: Shared<K, P>) -> RunEnd<K>
+pub(crate) fn give_up<K: Desk, P: Performer>(shared: Shared<K, P>) -> RunEnd<K>
     requires fresh { IsJustEntered shared }
     ensures run { IsRun K.state P.gives
         shared.number shared.limit shared.start result.book result.how }
+    ensures past { result.book.past ≡ shared.now.past }
     ensures orders { (hand : ℕ) (did : Option (List AnOrder))
         → HasDoneBy did (orders (outline shared.start) hand shared.start.past) did
         (orders (outline shared.start) hand result.book.past) result.how }

@@ -4,6 +4,7 @@ ghost use Rattle.tf_model.specs.History.{snapshot};
 ghost use Rattle.tf_model.specs.Steps.{is_free, LegalPast};
 ghost use Rattle.tf_actions.specs.declared.orders.Order.{Order as AnOrder};
 ghost use Rattle.tf_book.specs.Book.{outline};
+ghost use Rattle.tf_book.specs.Turns.{IsEntering};
 ghost use Rattle.tf_engines.specs.Asked.{HasDone};
 ghost use Rattle.tf_engines.specs.Shared.{entries_of, origin_of, IsJustEntered, IsShared};
 ghost use Rattle.tf_engines.specs.Working.{HasDoneNext, HasNext, HasOutcome, IsAdded, IsRun};
@@ -61,6 +62,7 @@ impl<K: Desk, P: Performer> Shared<K, P> {
         ensures fresh { IfOk result IsJustEntered }
         ensures origin { IfOk result (λ shared. origin_of shared ≡ (book, limit, hands)) }
         ensures run { IfErr result (λ end. IsRun K.state P.gives hands limit book end.book end.how) }
+        ensures begun { IfErr result (λ end. IsEntering 0 book.past end.book.past) }
         ensures orders { IfErr result (λ end. (hand : ℕ)
             → orders (outline book) hand end.book.past ≡ orders (outline book) hand book.past) }
     {
@@ -132,6 +134,7 @@ impl<K: Desk, P: Performer> Shared<K, P> {
 
     /// Halts the book for want of memory, if it isn't halted.
     pub(crate) fn halt(&mut self)
+        ensures halted { is_some self.new.now.halt ≡ true }
         ensures origin { origin_of self.new ≡ origin_of self.old }
         ensures past { self.new.now.past ≡ self.old.now.past }
     {

@@ -1,6 +1,6 @@
 // One turn of a hand at a book that several hands share.
 ghost use Rattle.std.specs.Prelude.{◌≡◌, ◌<◌, ◌≤◌, ℕ, true, List, Option, IsTrue};
-ghost use Rattle.tf_desk.specs.Crash.{Rises};
+ghost use Rattle.tf_numbers.specs.Numbers.{Rises};
 ghost use Rattle.tf_states.specs.declared.record.Entry.{Entry as Record};
 ghost use Rattle.tf_hands.specs.Hands.{orders};
 ghost use Rattle.tf_model.specs.Steps.{is_free};

@@ -1,5 +1,5 @@
 use Rattle.std.proofs.Common.{ℕ, sym, subst}
-use Rattle.tf_desk.specs.Crash.{Rises}
+use Rattle.tf_numbers.specs.Numbers.{Rises}
 use Rattle.tf_flow.specs.Plan.{PlanValue}
 use Rattle.tf_model.specs.Plan.{outline_of}
 use Rattle.tf_engines.specs.Runs.{HasRun, IsUnderWay}

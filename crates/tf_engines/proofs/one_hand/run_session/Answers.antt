@@ -1,5 +1,5 @@
 use Rattle.std.proofs.Common.{refl, subst, sym, ℕ, arith}
-use Rattle.tf_desk.specs.Crash.{Rises}
+use Rattle.tf_numbers.specs.Numbers.{Rises}
 use Rattle.tf_engines.specs.Asked.{HasDone, HasDoneBy}
 use Rattle.tf_engines.specs.Runs.{HasRun, IsUnderWay}
 use Rattle.tf_hands.specs.Hands.{orders}

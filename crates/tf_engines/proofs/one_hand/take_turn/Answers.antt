@@ -1,7 +1,7 @@
 use Rattle.std.proofs.Common.{refl, arith, subst, sym, ℕ, List, Option}
 use Rattle.std.specs.Prelude.{IfSome, IfNone}
 use Rattle.tf_flow.specs.Plan.{PlanValue}
-use Rattle.tf_desk.specs.Crash.{Rises}
+use Rattle.tf_numbers.specs.Numbers.{Rises}
 use Rattle.tf_hands.specs.Hands.{HasOrder, IsAlone, orders}
 use Rattle.tf_hands.proofs.FlightLemmas.{still_free}
 use Rattle.tf_model.specs.Plan.{outline_of}

@@ -1,6 +1,7 @@
 use Rattle.std.proofs.Common.{sym, subst, arith}
 use Rattle.tf_book.specs.Book.{BookValue}
 use Rattle.tf_engines.specs.Shared.{IsJustEntered, IsShared}
+use Rattle.tf_engines.proofs.EnterLemmas.{ended_entering}
 use Rattle.tf_engines.proofs.OpenLemmas.{is_fresh, entered_shared, ended_run, cut_run}
 use Rattle.tf_engines.proofs.FailLemmas.{turn_failed, unhalted_might}
 use Rattle.tf_engines.proofs.OrderLemmas.{cut_asks}
@@ -26,6 +27,11 @@ returns-in-Ok-Ended-clause-run g c =
     let t = rw c.in-Ok-Ended.field-0-is at c.in-Ok-Ended.ensures.entered in
     let e = c.enter.ensures in
     ended_run g.K.Desk.state g.P.Performer.gives c.args.hands c.args.limit c.args.book c.enter.new.self c.in-Ok-Ended.state e.keeps e.plan e.unasked.asks c.in-Ok-Ended.ensures.sound c.state-before.ensures.legal t
+
+pub returns-in-Ok-Ended-clause-begun : goal.returns-in-Ok-Ended-clause-begun
+returns-in-Ok-Ended-clause-begun g c =
+    let t = rw c.in-Ok-Ended.field-0-is at c.in-Ok-Ended.ensures.entered in
+    ended_entering c.args.book.past c.enter.new.self.past c.in-Ok-Ended.state t
 
 pub returns-in-Err-clause-run : goal.returns-in-Err-clause-run
 returns-in-Err-clause-run g c =
