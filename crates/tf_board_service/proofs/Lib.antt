@@ -1,0 +1,10 @@
+pub mod PointLemmas
+pub mod OwnLemmas
+pub mod PrintLemmas
+pub mod FrameLemmas
+pub mod SessionLemmas
+pub mod TurnLemmas
+pub mod PassLemmas
+pub mod SendLemmas
+pub mod EndLemmas
+pub mod AnswerLemmas

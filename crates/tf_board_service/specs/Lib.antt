@@ -1,0 +1,10 @@
+pub mod Requests
+pub mod Replies
+pub mod Answering
+pub mod Serving
+pub mod Receiving
+pub mod Points
+pub mod Sessions
+pub mod Turns
+pub mod Turning
+pub mod Served
