@@ -31,11 +31,16 @@ fn a_door_in_memory_is_opened_before_it_gives_links(rt: HostRuntime) -> Result<(
     links.push(link(alloc)?)?;
     let mut failing = Vec::new(alloc);
     failing.push(3)?;
-    let mut door = MemoryDoor::make(links, failing);
+    let mut door = MemoryDoor::make(alloc, links, failing);
     assert!(rt; matches!(door.accept(alloc), Err(PortFault::Failed)));
     assert!(rt; door.listen(alloc, &Address::Tcp(1)).is_ok());
     assert!(rt; matches!(door.accept(alloc), Err(PortFault::Failed)));
-    assert!(rt; door.accept(alloc).is_ok());
+    let Ok(link) = door.accept(alloc) else {
+        panic!(rt; "no link");
+    };
+    assert!(rt; door.close(link).is_ok());
+    assert_eq!(rt; door.opened().len(), 1);
+    assert_eq!(rt; door.returned().len(), 1);
     assert!(rt; matches!(door.accept(alloc), Err(PortFault::Failed)));
     Ok(())
 }

@@ -64,7 +64,7 @@ fn a_spawner_in_memory_runs_its_programs(rt: HostRuntime) -> Result<(), Fail> {
         },
     })?;
     let args = Texts::make(Vec::new(alloc));
-    let mut spawner = MemorySpawner::make(programs, vec![in alloc; 2]?);
+    let mut spawner = MemorySpawner::make(alloc, programs, vec![in alloc; 2]?);
     let known = Text::make(alloc, b"echo")?;
     let Ok(done) = spawner.run(alloc, &known, &args) else {
         panic!(rt; "not run");
@@ -73,5 +73,7 @@ fn a_spawner_in_memory_runs_its_programs(rt: HostRuntime) -> Result<(), Fail> {
     assert!(rt; matches!(spawner.run(alloc, &known, &args), Err(SpawnFault::Failed)));
     let absent = Text::make(alloc, b"cat")?;
     assert!(rt; matches!(spawner.run(alloc, &absent, &args), Err(SpawnFault::Failed)));
+    assert_eq!(rt; spawner.ran().len(), 1);
+    assert_eq!(rt; spawner.ran()[0].program.bytes(), b"echo".as_slice());
     Ok(())
 }

@@ -2,18 +2,17 @@
 use Rattle.std.proofs.Common.{◌≡◌, ◌≢◌, ◌⊎◌, ℕ, List, [], ◌∷◌, ◌++◌, true, false, Option, Some, None, Result, Ok, Err, refl, sym, ap, ◌∙◌, subst, inl, inr, ⊎_elim}
 use Rattle.std.specs.Prelude.{IsTrue, IfErr}
 use Rattle.tf_desk.specs.ActLaws.{bytes_of-picked}
-use Rattle.tf_desk.specs.Crash.{Rises}
+use Rattle.tf_numbers.specs.Numbers.{Rises}
 use Rattle.tf_desk.specs.State.{DeskState, anything, OnDisk}
 use Rattle.tf_desk.proofs.CountLemmas.{rises_later}
 use Rattle.tf_desk.proofs.StateLemmas.{on_disk_none, on_disk_told, on_disk_on, on_disk_within}
 use Rattle.tf_journal.specs.Start.{IsSet, file_of}
 use Rattle.tf_journal.proofs.PathLemmas.{set_on, path_on, as_read}
 use Rattle.tf_words.specs.declared.asked.Asked.{Asked}
-use Rattle.tf_board.specs.Answers.{Answer, answers, answer_of, acts, fault_text, fault_status, refusal_text, applied_text, FailsToRecord, Records, Acts, fault_of, applied}
+use Rattle.tf_board.specs.Does.{Answer, answers, answer_of, acts, fault_text, fault_status, refusal_text, applied_text, FailsToRecord, Records, Acts, fault_of, applied, Reached, Ends, Does, Concludes, HasCauses, answered, unrecorded, disk_failed, filled}
 use Rattle.tf_report.specs.Closing.{disk_fault_text, book_full}
 use Rattle.tf_report.specs.declared.statuses.TheConstants.{SUCCEEDED, DISK_FAILED, OUT_OF_MEMORY, FULL, BOARD_REFUSED}
 use Rattle.tf_board.specs.Board.{BoardValue, AreOfBoard, board_in, Holds, IsOpened}
-use Rattle.tf_board.specs.Does.{Reached, Ends, Does, Concludes, HasCauses, answered, unrecorded, disk_failed, filled}
 use Rattle.tf_board.specs.declared.commands.Command.{Command}
 use Rattle.tf_board.specs.declared.commands.JobAction.{JobAction}
 use Rattle.tf_board.specs.declared.faults.BoardFault.{BoardFault}

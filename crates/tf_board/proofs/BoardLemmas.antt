@@ -9,9 +9,8 @@ use Rattle.tf_journal.specs.declared.title.Title.{Title}
 use Rattle.tf_journal.specs.declared.title.Title.TheVariants.{Jobs as jobs_title}
 use Rattle.tf_journal.proofs.HeaderLemmas.{sixteen}
 use Rattle.tf_journal.proofs.LieLemmas.{recovered_lies}
-use Rattle.tf_board.specs.Board.{BoardValue, board_in, bodies_of, Holds, LeavesHeld, IsSound}
-use Rattle.tf_board.specs.Jobs.{refused_at, refused_of, refuses_id, jobs_of, numbered, place_of, named, owner_in, owner_of}
-use Rattle.tf_board.specs.Answers.{LeavesRecorded, FailsToRecord, Records, fault_of, number_at, applied, Acts}
+use Rattle.tf_board.specs.Board.{BoardValue, board_in, bodies_of, Holds, LeavesHeld, IsSound, refused_at, refused_of, refuses_id, jobs_of, numbered, place_of, named, owner_in, owner_of}
+use Rattle.tf_board.specs.Does.{LeavesRecorded, FailsToRecord, Records, fault_of, number_at, applied, Acts}
 use Rattle.tf_board.specs.declared.board.Owner.TheVariants as owned
 use Rattle.tf_board.specs.declared.commands.Command.{Command}
 use Rattle.tf_board.specs.declared.commands.Command.TheVariants as command

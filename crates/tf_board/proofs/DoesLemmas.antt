@@ -5,13 +5,11 @@ use Rattle.tf_desk.specs.State.{DeskState}
 use Rattle.tf_journal.specs.Start.{file_of}
 use Rattle.tf_words.specs.declared.asked.Asked.{Asked}
 use Rattle.tf_words.specs.declared.asked.Asked.TheVariants as words
-use Rattle.tf_board.specs.Answers.{answer_of, board_of, acts, tells_owner}
+use Rattle.tf_board.specs.Does.{answer_of, board_of, acts, tells_owner, Does, IsAllowed, IsBoardComplete, IsBoardStatus, is_done, is_failed, is_no_board, is_unsaid, is_out, is_full, is_refused, unopened_memory, unopened_disk, no_board, answered, unrecorded, disk_failed, filled}
 use Rattle.tf_report.specs.Closing.{disk_fault_text, book_full, ClosesWithOrStops}
 use Rattle.tf_report.proofs.ClosingLemmas.{ends_status}
 use Rattle.tf_report.specs.declared.statuses.TheConstants.{DISK_FAILED, NO_BOOK, UNSAID, FULL}
-use Rattle.tf_board.specs.Board.{board_in}
-use Rattle.tf_board.specs.Does.{Does, IsAllowed, IsBoardComplete, IsBoardStatus, is_done, is_failed, is_no_board, is_unsaid, is_out, is_full, is_refused, unopened_memory, unopened_disk, no_board, answered, unrecorded, disk_failed, filled}
-use Rattle.tf_board.specs.Jobs.{refuses_id, owner_of}
+use Rattle.tf_board.specs.Board.{board_in, refuses_id, owner_of}
 use Rattle.tf_board.specs.declared.commands.Command.{Command}
 use Rattle.tf_board.specs.declared.board.Owner.{Owner}
 use Rattle.tf_board.specs.declared.board.Owner.TheVariants as owned

@@ -1,7 +1,8 @@
 -- How a command on a board ends: from what was reached, and from a board that couldn't be opened.
 use Rattle.std.proofs.Common.{◌≡◌, ◌≢◌, ◌⊎◌, ℕ, List, [], Option, Some, None, refl, sym, ap, ◌∙◌, subst, inl, inr, ⊎_elim, append-nil}
 use Rattle.std.specs.Prelude.{IsTrue, unwrap_or}
-use Rattle.tf_desk.specs.Crash.{Rises, ShowsPrefix}
+use Rattle.tf_numbers.specs.Numbers.{Rises}
+use Rattle.tf_desk.specs.Crash.{ShowsPrefix}
 use Rattle.tf_desk.specs.State.{DeskState, anything, OnDisk, Says}
 use Rattle.tf_desk.proofs.StateLemmas.{on_disk_told, on_disk_extends, says_extends, extends_none, extends_on, extends_within}
 use Rattle.tf_journal.specs.Start.{Path, file_of}

@@ -11,7 +11,7 @@ use Rattle.tf_values.proofs.NameLemmas.{length-is_name}
 use Rattle.tf_values.proofs.NumberLemmas.{IsCut}
 use Rattle.tf_values.proofs.RoomLemmas.{byte_form_is_short}
 use Rattle.tf_values.proofs.ValueLemmas.{value_byte_one}
-use Rattle.tf_board.specs.Jobs.{name_bytes, priority_byte, action_byte, command_bytes, IsCommand}
+use Rattle.tf_board.specs.Board.{name_bytes, priority_byte, action_byte, command_bytes, IsCommand}
 use Rattle.tf_board.specs.declared.commands.Command.{Command}
 use Rattle.tf_board.specs.declared.commands.Command.TheVariants as command
 use Rattle.tf_board.specs.declared.commands.JobAction.{JobAction}

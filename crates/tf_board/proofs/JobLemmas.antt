@@ -11,7 +11,7 @@ use Rattle.std.proofs.lemmas.List.Folds.{find_at}
 use Rattle.std.proofs.lemmas.Option.{slice_get_past, slice_get_within, get_or_from_slice_get}
 use Rattle.tf_states.specs.declared.priorities.Priority.{Priority}
 use Rattle.tf_values.specs.declared.value.Val.{Val}
-use Rattle.tf_board.specs.Jobs.{id_of, posted, standing_after, standing_of, job_at, jobs_in, jobs_of, numbered, refused_at, refused_of, LegalJobs, same, place_of, has_id, named}
+use Rattle.tf_board.specs.Board.{id_of, posted, standing_after, standing_of, job_at, jobs_in, jobs_of, numbered, refused_at, refused_of, LegalJobs, same, place_of, has_id, named, IsChange}
 use Rattle.tf_board.specs.declared.commands.Command.{Command}
 use Rattle.tf_board.specs.declared.commands.Command.TheVariants as command
 use Rattle.tf_board.specs.declared.commands.JobAction.{JobAction}
@@ -19,7 +19,6 @@ use Rattle.tf_board.specs.declared.commands.JobAction.TheVariants as action
 use Rattle.tf_board.specs.declared.jobs.Job.{Job}
 use Rattle.tf_board.specs.declared.jobs.Standing.{Standing}
 use Rattle.tf_board.specs.declared.jobs.Standing.TheVariants as standing
-use Rattle.tf_board.specs.Board.{IsChange}
 use Rattle.tf_board.specs.declared.kept.Change.{Change}
 use Rattle.tf_board.specs.declared.kept.Change.TheVariants as change
 use Rattle.tf_board.specs.declared.rules.Refusal.TheVariants as refusal

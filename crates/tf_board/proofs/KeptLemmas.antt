@@ -1,8 +1,7 @@
 -- What a board keeps in memory.
 use Rattle.std.proofs.Common.{◌≡◌, ◌<◌, ℕ, List, ◌∷◌, length, get_or, set, Some, sym, ap, ◌∙◌}
 use Rattle.std.proofs.lemmas.Option.{slice_get-get_or}
-use Rattle.tf_board.specs.Jobs.{jobs_of}
-use Rattle.tf_board.specs.Board.{IsChange}
+use Rattle.tf_board.specs.Board.{jobs_of, IsChange}
 use Rattle.tf_board.specs.declared.commands.Command.{Command}
 use Rattle.tf_board.specs.declared.jobs.Job.{Job}
 use Rattle.tf_board.specs.declared.jobs.Standing.{Standing}

@@ -3,7 +3,7 @@ use Rattle.std.proofs.Common.{◌≡◌, ◌⊎◌, inl, inr, ℕ, zero, suc, �
 use Rattle.std.proofs.lemmas.Bool.{eqb-true}
 use Rattle.std.specs.Cmp.Lexicographic.{bytes_decides}
 use Rattle.std.specs.Prelude.{slice_get, nat_eq, if◌then◌else◌}
-use Rattle.tf_board.specs.Jobs.{standing_after, standing_of, jobs_of, numbered, refused_at, refused_of, LegalJobs, same}
+use Rattle.tf_board.specs.Board.{standing_after, standing_of, jobs_of, numbered, refused_at, refused_of, LegalJobs, same}
 use Rattle.tf_board.specs.declared.commands.Command.{Command}
 use Rattle.tf_board.specs.declared.commands.Command.TheVariants as command
 use Rattle.tf_board.specs.declared.commands.JobAction.{JobAction}

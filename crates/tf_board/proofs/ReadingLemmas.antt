@@ -7,8 +7,7 @@ use Rattle.tf_journal.specs.declared.title.Title.{Title}
 use Rattle.tf_journal.specs.declared.title.Title.TheVariants.{Jobs as jobs_title}
 use Rattle.tf_journal.proofs.ReachLemmas.{flat_map-push, length-record_of}
 use Rattle.tf_records.specs.Replaying.{HasReadAll}
-use Rattle.tf_board.specs.Board.{bodies_of, size_of, past_in, IsTrueTo}
-use Rattle.tf_board.specs.Jobs.{command_bytes}
+use Rattle.tf_board.specs.Board.{bodies_of, size_of, past_in, IsTrueTo, command_bytes}
 use Rattle.tf_board.specs.Reading.{HasReadCommands, HasReadBoard}
 use Rattle.tf_board.specs.declared.commands.Command.{Command}
 use Rattle.tf_board.specs.declared.kept.Kept.{Kept}

@@ -5,8 +5,7 @@ use Rattle.std.specs.Option.{option_or}
 use Rattle.std.specs.List.{find, filter, flat_map}
 use Rattle.std.proofs.lemmas.List.Folds.{find-append}
 use Rattle.std.proofs.lemmas.Option.{slice_get_cases}
-use Rattle.tf_board.specs.Board.{size_of}
-use Rattle.tf_board.specs.Jobs.{posted, details_in}
+use Rattle.tf_board.specs.Board.{size_of, posted, details_in}
 use Rattle.tf_board.specs.declared.commands.Command.{Command}
 use Rattle.tf_board.specs.declared.commands.Command.TheVariants as command
 

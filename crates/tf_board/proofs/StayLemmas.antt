@@ -4,8 +4,7 @@ use Rattle.std.specs.List.{position_or_len}
 use Rattle.std.proofs.lemmas.Bool.{cases_lt, lt-ltb, le-ltb, eqb-true}
 use Rattle.std.proofs.lemmas.List.Folds.{position_or_len_push}
 use Rattle.tf_journal.specs.Format.{Recovered, bodies}
-use Rattle.tf_board.specs.Board.{AreOfBoard, bodies_of, Finds}
-use Rattle.tf_board.specs.Jobs.{AreCommands, command_bytes, id_of, posted, same, has_id, job_at, jobs_in, jobs_of, place_of}
+use Rattle.tf_board.specs.Board.{AreOfBoard, bodies_of, Finds, AreCommands, command_bytes, id_of, posted, same, has_id, job_at, jobs_in, jobs_of, place_of}
 use Rattle.tf_board.specs.declared.commands.Command.{Command}
 use Rattle.tf_board.specs.declared.commands.Command.TheVariants as command
 use Rattle.tf_board.proofs.FormLemmas.{command_one}

@@ -1,6 +1,4 @@
-pub mod Jobs
 pub mod Board
 pub mod Reading
-pub mod Answers
 pub mod Seeking
 pub mod Does

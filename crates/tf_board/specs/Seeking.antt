@@ -2,7 +2,7 @@
 use Rattle.std.specs.Prelude.{◌≢◌, ℕ, suc, List, Bool, false, ◌&&◌, ◌==◌, not, if◌then◌else◌, Option, Some, None, option_map}
 use Rattle.std.specs.List.{find, filter, flat_map, list_any}
 use Rattle.tf_values.specs.declared.value.Val.{Val}
-use Rattle.tf_board.specs.Jobs.{details_in, jobs_of, numbered, named, place_of, is_free, is_there, is_listed, priorities}
+use Rattle.tf_board.specs.Board.{details_in, jobs_of, numbered, named, place_of, is_free, is_there, is_listed, priorities}
 use Rattle.tf_board.specs.declared.commands.Command.{Command}
 use Rattle.tf_board.specs.declared.commands.Command.TheVariants as command
 use Rattle.tf_board.specs.declared.jobs.Job.{Job}

@@ -7,7 +7,7 @@ ghost use Rattle.tf_states.specs.declared.priorities.Priority.{Priority as APrio
 ghost use Rattle.tf_values.specs.declared.value.Val.{Val as AValue};
 ghost use Rattle.tf_board.specs.declared.commands.Command.{Command as ACommand};
 ghost use Rattle.tf_board.specs.declared.commands.JobAction.{JobAction as AnAction};
-ghost use Rattle.tf_board.specs.Jobs as form;
+ghost use Rattle.tf_board.specs.Board as form;
 
 use crate::commands::{Command, JobAction};
 use std::alloc::Global;

@@ -1,13 +1,11 @@
 //! A whole command on a board.
 ghost use Rattle.std.specs.Prelude.{◌≡◌, ◌≢◌, ◌⊎◌, ℕ, List, true, is_some, IsTrue, IfOk, IsErr, Some};
-ghost use Rattle.tf_desk.specs.Crash.{Rises};
+ghost use Rattle.tf_numbers.specs.Numbers.{Rises};
 ghost use Rattle.tf_journal.specs.Start.{file_of};
 ghost use Rattle.tf_journal.specs.declared.faults.LoadFault.{LoadFault as ALoadFault};
 ghost use Rattle.tf_words.specs.declared.asked.Asked.{Asked};
-ghost use Rattle.tf_board.specs.Answers.{answer_of, acts, board_of, fault_text, fault_status};
-ghost use Rattle.tf_board.specs.Board.{board_in, IsUnopened};
-ghost use Rattle.tf_board.specs.Does.{Reached, Ends, EndsUnmade, Does, Concludes, HasCauses, IsAllowed, IsBoardComplete};
-ghost use Rattle.tf_board.specs.Jobs.{refuses_id};
+ghost use Rattle.tf_board.specs.Does.{answer_of, acts, board_of, fault_text, fault_status, Reached, Ends, EndsUnmade, Does, Concludes, HasCauses, IsAllowed, IsBoardComplete};
+ghost use Rattle.tf_board.specs.Board.{board_in, IsUnopened, refuses_id};
 ghost use Rattle.tf_board.specs.declared.commands.Command.{Command};
 
 use crate::board::{Board, Owner, fault_of};

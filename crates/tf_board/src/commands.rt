@@ -1,6 +1,6 @@
 ghost use Rattle.std.specs.Prelude.{◌≡◌, ◌++◌, true, OnOk};
 ghost use Rattle.tf_values.specs.Text.{is_name};
-ghost use Rattle.tf_board.specs.Jobs as form;
+ghost use Rattle.tf_board.specs.Board as form;
 
 use tf_report::append;
 use tf_states::Priority;

@@ -1,6 +1,6 @@
 ghost use Rattle.std.specs.Prelude.{◌≡◌, ◌++◌, ◌∷◌, OnOk, IfOk};
 ghost use Rattle.std.specs.Fmt.{decimal};
-ghost use Rattle.tf_board.specs.Jobs.{id_of, id_text as text_of};
+ghost use Rattle.tf_board.specs.Board.{id_of, id_text as text_of};
 
 use std::alloc::Global;
 use tf_report::{append, append_number};
@@ -11,7 +11,7 @@ use uuid::Uuid;
 const TITLE_LIMIT: usize = 128;
 
 /// The id of the job of that number and that name: version 5 of the DNS name space and the text `NUMBER/NAME`.
-#[tactic(auto, unfolding(crate::specs::Jobs::id_of))]
+#[tactic(auto, unfolding(crate::specs::Board::id_of))]
 pub fn job_id(alloc: Global, number: u64, name: &Name) -> Result<Uuid, Memory>
     ensures { IfOk result (λ id. id ≡ id_of number name.now) }
 {
@@ -23,7 +23,7 @@ pub fn job_id(alloc: Global, number: u64, name: &Name) -> Result<Uuid, Memory>
 }
 
 /// The text of an id: hyphenated, in lower case.
-#[tactic(auto, unfolding(crate::specs::Jobs::id_text))]
+#[tactic(auto, unfolding(crate::specs::Board::id_text))]
 pub fn id_text(alloc: Global, id: &Uuid) -> Result<Text, Memory>
     ensures { IfOk result (λ text. text ≡ text_of id.now) }
 {

@@ -1,5 +1,5 @@
 ghost use Rattle.std.specs.Prelude.{◌≡◌, IfOk, IsTrue};
-ghost use Rattle.tf_board.specs.Jobs.{standing_after, is_there as there, state_of as state_in, holder_of as holder_in, same_priority as priority_is, is_listed as listed, line_of as line_in};
+ghost use Rattle.tf_board.specs.Board.{standing_after, is_there as there, state_of as state_in, holder_of as holder_in, same_priority as priority_is, is_listed as listed, line_of as line_in};
 
 use crate::commands::JobAction;
 use crate::ids::id_text;
@@ -30,7 +30,7 @@ pub struct Job {
 
 impl Standing {
     ghost use Rattle.std.specs.Prelude.{◌≡◌};
-    ghost use Rattle.tf_board.specs.Jobs.{standing_after, is_free as free, is_there as there, state_of as state_in, holder_of as holder_in};
+    ghost use Rattle.tf_board.specs.Board.{standing_after, is_free as free, is_there as there, state_of as state_in, holder_of as holder_in};
 
     /// Where a job stands after what an owner did with it.
     pub fn after(action: JobAction, owner: &Name) -> Standing

@@ -1,6 +1,5 @@
 ghost use Rattle.std.specs.Prelude.{◌≡◌, ◌≢◌, ◌<◌, ◌+◌, ◌∷◌, ◌++◌, [], List, length, None, OnOk, IfOk, IfSome, MatchOption, vec_len, vec_capacity};
-ghost use Rattle.tf_board.specs.Jobs.{IsCommand, same, posted as count_of, job_at, place_of as place_among, posted_with, refuses};
-ghost use Rattle.tf_board.specs.Board.{past_of, past_in, IsTrueTo, HasRoom, IsChange};
+ghost use Rattle.tf_board.specs.Board.{IsCommand, same, posted as count_of, job_at, place_of as place_among, posted_with, refuses, past_of, past_in, IsTrueTo, HasRoom, IsChange};
 ghost use Rattle.tf_board.specs.declared.commands.Command.{Command as ACommand};
 
 use crate::commands::Command;

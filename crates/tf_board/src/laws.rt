@@ -3,9 +3,8 @@ ghost use Rattle.std.specs.Prelude.{◌≡◌, ◌≤◌, ◌<◌, ◌≢◌, �
 ghost use Rattle.std.specs.List.{list_any, AllByRecursion};
 ghost use Rattle.tf_journal.specs.Format.{Recovered};
 ghost use Rattle.tf_values.specs.declared.value.Val.{Val};
-ghost use Rattle.tf_board.specs.Board.{AreOfBoard, Finds};
-ghost use Rattle.tf_board.specs.Jobs.{IsCommand, command_bytes, standing_of, jobs_of, place_of, named, refuses_id, LegalJobs};
-ghost use Rattle.tf_board.specs.Answers.{number_of, applied};
+ghost use Rattle.tf_board.specs.Board.{AreOfBoard, Finds, IsCommand, command_bytes, standing_of, jobs_of, place_of, named, refuses_id, LegalJobs};
+ghost use Rattle.tf_board.specs.Does.{number_of, applied};
 ghost use Rattle.tf_board.specs.Seeking.{free_job, id_at, details_at, by_other};
 ghost use Rattle.tf_board.specs.declared.commands.Command.{Command};
 ghost use Rattle.tf_board.specs.declared.commands.Command.TheVariants as command;

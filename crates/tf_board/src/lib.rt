@@ -26,3 +26,5 @@ pub use laws::{
     a_free_job_may_be_claimed, a_job_is_given_up_between_claims, an_id_goes_on_naming_its_job,
     an_id_names_its_first_job, command_has_one_form,
 };
+pub use messages::{applied_line, fault_line, kept_line, not_a_book_text, posted_line};
+pub use opening::open;

@@ -1,9 +1,9 @@
 ghost use Rattle.std.specs.Prelude.{◌≡◌, ◌≢◌, ◌++◌, ◌∷◌, [], codes, IfOk, IsErr};
 ghost use Rattle.std.specs.List.{flat_map};
 ghost use Rattle.tf_report.specs.Lines.{job_line, owner_text};
-ghost use Rattle.tf_board.specs.Answers.{fault_text, fault_status, posted_text, applied_text, kept_text};
+ghost use Rattle.tf_board.specs.Does.{fault_text, fault_status, posted_text, applied_text, kept_text};
 ghost use Rattle.tf_report.specs.Closing.{not_a_book, book_full};
-ghost use Rattle.tf_board.specs.Jobs.{id_of, listed};
+ghost use Rattle.tf_board.specs.Board.{id_of, listed};
 ghost use Rattle.tf_board.specs.declared.faults.BoardFault.{BoardFault};
 
 use crate::board::Board;
@@ -57,7 +57,7 @@ fn fixed(alloc: Global, text: &[u8]) -> Result<Vec<u8>, Memory>
 }
 
 /// The message for a call that did nothing. `Memory` is answered for want of memory, of the call or here.
-#[tactic(auto, unfolding(crate::specs::Answers::fault_text))]
+#[tactic(auto, unfolding(crate::specs::Does::fault_text))]
 pub fn fault_line(alloc: Global, fault: BoardFault) -> Result<Vec<u8>, Memory>
     requires { fault ≢ BoardFault.Halted }
     ensures line { IfOk result (λ text. text.items ≡ fault_text fault) }
@@ -111,7 +111,7 @@ fn owner_line(alloc: Global, head: &[u8], owner: Option<Name>) -> Result<Vec<u8>
 }
 
 /// What is said of who has a job.
-#[tactic(auto, unfolding(crate::specs::Answers::kept_text))]
+#[tactic(auto, unfolding(crate::specs::Does::kept_text))]
 pub fn kept_line(alloc: Global, owner: Option<Name>) -> Result<Vec<u8>, Memory>
     ensures { IfOk result (λ text. text.items ≡ kept_text owner) }
 {
@@ -119,7 +119,7 @@ pub fn kept_line(alloc: Global, owner: Option<Name>) -> Result<Vec<u8>, Memory>
 }
 
 /// What is said of the job that was posted with this number.
-#[tactic(auto, unfolding(crate::specs::Answers::posted_text))]
+#[tactic(auto, unfolding(crate::specs::Does::posted_text))]
 pub fn posted_line(alloc: Global, number: u64, name: &Name) -> Result<Vec<u8>, Memory>
     ensures { IfOk result (λ text. text.items ≡ posted_text (id_of number name.now)) }
 {
@@ -129,7 +129,7 @@ pub fn posted_line(alloc: Global, number: u64, name: &Name) -> Result<Vec<u8>, M
 }
 
 /// What is said of what an owner did with a job.
-#[tactic(auto, unfolding(crate::specs::Answers::applied_text))]
+#[tactic(auto, unfolding(crate::specs::Does::applied_text))]
 pub fn applied_line(
     alloc: Global,
     action: JobAction,

@@ -1,5 +1,5 @@
 ghost use Rattle.std.specs.Prelude.{◌≡◌, None, Some, if◌then◌else◌};
-ghost use Rattle.tf_board.specs.Jobs.{same, refused_at};
+ghost use Rattle.tf_board.specs.Board.{same, refused_at};
 
 use crate::commands::JobAction;
 use crate::jobs::Standing;

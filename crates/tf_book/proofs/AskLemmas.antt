@@ -1,6 +1,6 @@
 -- What stays true of a book when its limit is kept, and when its desk is asked for a stop.
 use Rattle.std.proofs.Common.{◌≡◌, ℕ, Bool, false, List, Option, Some, None, refl, sym, ◌∙◌, ap, subst, arith}
-use Rattle.tf_desk.specs.Crash.{Rises}
+use Rattle.tf_numbers.specs.Numbers.{Rises}
 use Rattle.tf_desk.specs.State.{DeskState, Asks}
 use Rattle.tf_desk.proofs.StateLemmas.{bytes_stay, left_stays, passes_then, extends_told, continues_on, asks_continues}
 use Rattle.tf_flow.specs.Plan.{PlanValue}

@@ -1,7 +1,8 @@
 -- How what closes a run is said.
 use Rattle.std.proofs.Common.{◌≡◌, inl, inr, ⊎_elim, ℕ, ◌≤◌, false, List, ◌++◌, Option, Some, None, refl, sym, ◌∙◌, ap, subst}
 use Rattle.std.specs.Prelude.{IsTrue, Result, Ok, Err}
-use Rattle.tf_desk.specs.Crash.{Rises, shown_with, ShowsPrefix}
+use Rattle.tf_numbers.specs.Numbers.{Rises}
+use Rattle.tf_desk.specs.Crash.{shown_with, ShowsPrefix}
 use Rattle.tf_desk.specs.State.{DeskState, SaysPrefix, FilesStay, Says, Continues, Passes, passes_none, passes_on, passes_within}
 use Rattle.tf_desk.proofs.CountLemmas.{rises_later}
 use Rattle.tf_desk.proofs.StateLemmas.{files_none, bytes_stay, left_stays, extends_told, continues_none, continues_on, says_continues}

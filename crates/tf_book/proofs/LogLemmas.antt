@@ -1,7 +1,8 @@
 -- How an append and a line that is said after it go together.
 use Rattle.std.proofs.Common.{◌≡◌, inl, inr, ⊎_elim, ℕ, ◌+◌, ◌≤◌, Bool, List, [], ◌∷◌, ◌++◌, length, Option, Some, None, refl, sym, ◌∙◌, ap, subst, append-nil, length-append, arith}
 use Rattle.std.specs.Prelude.{IsTrue, true, Result, Ok, Err, IfErr}
-use Rattle.tf_desk.specs.Crash.{Rises, shown_with, ShowsPrefix}
+use Rattle.tf_numbers.specs.Numbers.{Rises}
+use Rattle.tf_desk.specs.Crash.{shown_with, ShowsPrefix}
 use Rattle.tf_desk.specs.State.{DeskState, anything, FilesStay, GoesOn, Says, Asks, passes_none, passes_on}
 use Rattle.tf_desk.proofs.StateLemmas.{files_none, bytes_stay, left_stays, on_disk_told, continues_on, goes_continues, says_continues}
 use Rattle.tf_journal.specs.Adding.{Adds, AddsAtMost, Grows}

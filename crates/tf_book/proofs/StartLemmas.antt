@@ -1,6 +1,6 @@
 -- What a crash in a book's start leaves, and why it fails.
 use Rattle.std.proofs.Common.{◌≡◌, ℕ, List, [], Option, ap, ◌∙◌, sym, subst}
-use Rattle.tf_desk.specs.Crash.{Rises}
+use Rattle.tf_numbers.specs.Numbers.{Rises}
 use Rattle.tf_desk.specs.State.{DeskState, Passes}
 use Rattle.tf_entries.specs.Plans.{IsPlan, plan_bytes}
 use Rattle.tf_flow.specs.Plan.{PlanValue}

@@ -1,6 +1,7 @@
 -- What stays true of a book from the start of a session on, and how an entry is logged.
 use Rattle.std.specs.Prelude.{IsTrue, ◌≡◌, ◌⊎◌, ◌<◌, ◌≤◌, ℕ, ◌+◌, Bool, true, false, List, [], ◌∷◌, ◌++◌, Option, Some, Result, Ok, Err, if◌then◌else◌, length, ◌≢◌, None, reverse, map, vec_len, vec_capacity}
-use Rattle.tf_desk.specs.Crash.{Rises, Pairs, shown_with, ShowsPrefix}
+use Rattle.tf_numbers.specs.Numbers.{Rises}
+use Rattle.tf_desk.specs.Crash.{Pairs, shown_with, ShowsPrefix}
 use Rattle.tf_desk.specs.State.{DeskState, bytes_now, Passes, Continues, IsUnasked}
 use Rattle.tf_journal.specs.Format.{SIZE_LIMIT, bodies, journal_bytes, recovered, title_of, Held, IsAtRest, AtRest, LeavesEither, LeavesBodies, length_bytes, IsBody}
 use Rattle.tf_book.specs.declared.faults.Halt.{Halt}

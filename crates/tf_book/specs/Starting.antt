@@ -1,6 +1,7 @@
 -- What a book's start answers, and what a crash leaves of it.
 use Rattle.std.specs.Prelude.{◌≡◌, List, [], ℕ, Option, Result, Ok, Err, Bool, false, None}
-use Rattle.tf_desk.specs.Crash.{Rises, Pairs}
+use Rattle.tf_numbers.specs.Numbers.{Rises}
+use Rattle.tf_desk.specs.Crash.{Pairs}
 use Rattle.tf_desk.specs.State.{DeskState}
 use Rattle.tf_journal.specs.Format.{title_of, Held, IsAtRest, IsOpen, LeavesBeforeOrAfter}
 use Rattle.tf_journal.specs.declared.title.Title.TheVariants.{Book as book_title}

@@ -1,6 +1,6 @@
 -- What the calls of a book record, and what they answer. Histories have the newest entry first.
 use Rattle.std.specs.Prelude.{◌≡◌, ℕ, ◌+◌, Bool, true, false, ◌||◌, nat_le, Option, Some, None, ◌⊎◌, ◌<◌, ◌-◌, List, [], ◌∷◌, ◌++◌, length, map, reverse, is_some, if◌then◌else◌, ◌&&◌}
-use Rattle.tf_desk.specs.Crash.{Rises}
+use Rattle.tf_numbers.specs.Numbers.{Rises, all_below}
 use Rattle.tf_actions.specs.Gives.{IsWhole}
 use Rattle.tf_actions.specs.declared.orders.Order.{Order}
 use Rattle.tf_actions.specs.declared.outcomes.Outcome.{Outcome}
@@ -23,7 +23,6 @@ use Rattle.tf_book.specs.declared.turn.Turn.TheVariants as turn
 use Rattle.tf_book.specs.Book.{BookValue, outline}
 use Rattle.tf_book.specs.declared.faults.Halt.{Halt}
 use Rattle.tf_book.specs.declared.faults.Halt.TheVariants as halt
-use Rattle.tf_numbers.specs.Numbers.{all_below}
 
 -- ---- when a session is to stop: a stop was asked for, or its limit of entries is reached
 

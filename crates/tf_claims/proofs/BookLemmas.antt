@@ -31,8 +31,8 @@ use Rattle.tf_bound.proofs.PastLemmas.{past_kept}
 use Rattle.tf_book.specs.Book.{bodies_of, AreForms, AreEntriesOf, IsHistoryOf, IsNoPlan, no_form, no_run, CannotFollow, first, later, IsNoBook}
 use Rattle.tf_book.proofs.AmongLemmas.{past_entries}
 use Rattle.tf_book.proofs.InvariantLemmas.{history_before}
-use Rattle.tf_commands.specs.Run.{HoldsHistory}
-use Rattle.tf_commands.proofs.AcceptLemmas.{same_refusal}
+use Rattle.tf_commands.specs.Books.{HoldsHistory}
+use Rattle.tf_accept.proofs.AcceptLemmas.{same_refusal}
 use Rattle.tf_board.proofs.StayLemmas.{last_same}
 use Rattle.tf_claims.proofs.OnceLemmas.{keeps_limits, same_plan, same_written, never_empty, same_bodies}
 

@@ -6,9 +6,8 @@ use Rattle.tf_actions.specs.declared.orders.Order.{Order}
 use Rattle.tf_actions.specs.declared.outcomes.Outcome.{Outcome}
 use Rattle.tf_journal.specs.Start.{file_of}
 use Rattle.tf_words.specs.declared.asked.Asked.{Asked}
-use Rattle.tf_board.specs.Answers.{answer_of}
+use Rattle.tf_board.specs.Does.{answer_of, Does, HoldsEither}
 use Rattle.tf_board.specs.Does as board
-use Rattle.tf_board.specs.Does.{Does, HoldsEither}
 use Rattle.tf_board.specs.declared.commands.Command.{Command}
 use Rattle.tf_claims.specs.Life.{Call, Life, IsBoardOf, IsDone}
 use Rattle.tf_claims.proofs.ClosingLemmas.{never_closes, said_whole, either_one}

@@ -1,7 +1,7 @@
 -- A call that resumes a flow, and that nothing fails, ends it as stated.
 use Rattle.std.proofs.Common.{◌≡◌, ◌≢◌, ◌⊎◌, ℕ, List, [], ◌++◌, true, false, Option, Some, None, refl, sym, ◌∙◌, ap, subst, inl, inr, ⊎_elim, arith}
 use Rattle.std.specs.Prelude.{IsTrue}
-use Rattle.tf_desk.specs.Crash.{Rises}
+use Rattle.tf_numbers.specs.Numbers.{Rises}
 use Rattle.tf_desk.specs.State.{DeskState}
 use Rattle.tf_flow.specs.Plan.{PlanValue}
 use Rattle.tf_states.specs.declared.record.Entry.{Entry}
@@ -19,11 +19,9 @@ use Rattle.tf_words.specs.declared.asked.Asked.TheVariants as asked
 use Rattle.tf_commands.specs.Asking.{WasAsked}
 use Rattle.tf_words.specs.Words.{command_of}
 use Rattle.tf_commands.specs.Books as books
-use Rattle.tf_commands.specs.Books.{Promised, Resumes}
+use Rattle.tf_commands.specs.Books.{Promised, Resumes, book_at, HoldsHistory, spoken_run, MayRun, HasReached, stop_status, IsLastSaid, ShowsLines}
 use Rattle.tf_commands.specs.Course as course
 use Rattle.tf_commands.specs.Course.{Course, Obeys, IsRunComplete}
-use Rattle.tf_commands.specs.Run.{book_at, HoldsHistory, spoken_run, MayRun, HasReached, stop_status, IsLastSaid, ShowsLines}
-use Rattle.tf_commands.specs.Run as run
 use Rattle.tf_report.specs.Closing.{ClosesWith}
 use Rattle.tf_report.proofs.ClosingLemmas.{closes_status}
 use Rattle.tf_commands.proofs.FlowLemmas.{flow_held}
@@ -109,26 +107,26 @@ module _ {gives : Order → Outcome → Type 0} {hands : Want} {stopped : Type 0
 
       said_so : (closing : List ℕ) (wanted ends : ℕ) (stop : Option FlowState) → IsRunComplete ends → p.stop ≡ stop → ends ≡ wanted
           → IsLastSaid (MayRun gives (spoken_run hands None) other) other [] (p.entries ++ before) stop closing wanted → EndsAsStated plan past (file_of now name) ends
-      said_so closing wanted ends _ good stops same (run.reported last) =
+      said_so closing wanted ends _ good stops same (books.reported last) =
           subst (EndsAsStated plan past (file_of now name)) (sym same)
           (ended last p.entries (file_then holds held p) (ended_of last (stops_last stops p.ran.steps.session) (subst IsRunComplete same good)) (reached last stops))
-      said_so closing wanted ends _ good stops same (run.disk_failed stop unended) = never good 5 same (λ n. omega arith) (λ n. omega arith) (λ n. omega arith) (λ n. omega arith) (λ n. omega arith)
-      said_so closing wanted ends _ good stops same (run.filled stop size need full) = subst (EndsAsStated plan past (file_of now name)) (sym same) filled
+      said_so closing wanted ends _ good stops same (books.disk_failed stop unended) = never good 5 same (λ n. omega arith) (λ n. omega arith) (λ n. omega arith) (λ n. omega arith) (λ n. omega arith)
+      said_so closing wanted ends _ good stops same (books.filled stop size need full) = subst (EndsAsStated plan past (file_of now name)) (sym same) filled
 
       by : (closing : List ℕ) (ends : ℕ) → IsRunComplete ends
           → ShowsLines other false before p.entries entry.shown now.shown (IsLastSaid (MayRun gives (spoken_run hands None) other) other [] (p.entries ++ before) p.stop) closing ends
           → EndsAsStated plan past (file_of now name) ends
-      by _ ends good (run.closed closing wanted _ last closes) =
+      by _ ends good (books.closed closing wanted _ last closes) =
           ⊎_elim (λ same. said_so closing wanted ends p.stop good refl same last)
           (λ is. never good 7 is (λ n. omega arith) (λ n. omega arith) (λ n. omega arith) (λ n. omega arith) (λ n. omega arith))
           (closes_status _ now.shown closing wanted ends closes)
-      by _ _ good (run.line_cut prefix) = never good 7 refl (λ n. omega arith) (λ n. omega arith) (λ n. omega arith) (λ n. omega arith) (λ n. omega arith)
-      by _ _ good (run.stopped same) = exhausted
+      by _ _ good (books.line_cut prefix) = never good 7 refl (λ n. omega arith) (λ n. omega arith) (λ n. omega arith) (λ n. omega arith) (λ n. omega arith)
+      by _ _ good (books.stopped same) = exhausted
 
   resume_ends : {plan : PlanValue} {past : List Entry} {hired after_hiring : Option (List Want)} → HoldsHistory plan past (book_at entry name)
       → Resumes gives (spoken_run hands None) stopped name hired after_hiring entry now status → EndsAsStated plan past (file_of now name) status
   resume_ends {plan} {past} holds (books.unopened_again same (books.exhausted s)) = subst (EndsAsStated plan past (file_of now name)) (sym s.status_is) exhausted
-  resume_ends holds (books.unopened_again same (books.disk_failed r)) =
+  resume_ends holds (books.unopened_again same (books.disk_failed_opening r)) =
       never_closes complete r.closes (λ n. omega arith) (λ n. omega arith) (λ n. omega arith) (λ n. omega arith) (λ n. omega arith)
   resume_ends holds (books.unopened_again same (books.no_book offset byte none r)) = absurd (is_book (book_at entry name) holds offset byte (none told))
   resume_ends {plan} {past} holds (books.empty same none r) = absurd (flow_held (book_at entry name) plan past (none told) holds)
@@ -150,13 +148,13 @@ call_ends {K} state gives name hands call plan past asks holds unfailing undamag
         (call.tells, ((λ offset byte none. is_book (book_at (state call.entry) name) holds offset byte none), (λ none. flow_held (book_at (state call.entry) name) plan past none holds)))
 
     obeyed_so : (command : Asked) → command ≡ asked.Resume name hands None
-        → Obeys state gives (WasAsked (state call.entry) (state call.now)) command call.files call.hired call.after_hiring call.entry call.now call.status
+        → Obeys state gives (WasAsked (state call.entry) (state call.now)) command call.files call.ports call.later call.entry call.now call.status
         → EndsAsStated plan past (file_of (state call.now) name) call.status
     obeyed_so command same obeys =
         resume_ends call.tells undamaged complete holds
-        (subst (λ (c : Asked). Obeys state gives (WasAsked (state call.entry) (state call.now)) c call.files call.hired call.after_hiring call.entry call.now call.status) same obeys)
+        (subst (λ (c : Asked). Obeys state gives (WasAsked (state call.entry) (state call.now)) c call.files call.ports call.later call.entry call.now call.status) same obeys)
 
-    by : Course state gives (WasAsked (state call.entry) (state call.now)) call.words call.files call.hired call.after_hiring call.entry call.now call.status
+    by : Course state gives (WasAsked (state call.entry) (state call.now)) call.words call.files call.ports call.later call.entry call.now call.status
         → EndsAsStated plan past (file_of (state call.now) name) call.status
     by (course.unheard is same still) = subst (EndsAsStated plan past (file_of (state call.now) name)) (sym is) exhausted
     by (course.no_command none closes still) = (let both : None ≡ Some (asked.Resume name hands None) = sym none ∙ asks in absurd (cc))

@@ -9,7 +9,7 @@ use Rattle.tf_actions.specs.declared.outcomes.Outcome.{Outcome}
 use Rattle.tf_journal.specs.Start.{file_of}
 use Rattle.tf_board.specs.Board.{board_in, Holds}
 use Rattle.tf_board.specs.declared.commands.Command.{Command}
-use Rattle.tf_commands.specs.Run.{book_in, HoldsHistory}
+use Rattle.tf_commands.specs.Books.{book_in, HoldsHistory}
 use Rattle.tf_claims.specs.Life.{Call, Leaves, Life, unlived, lived, IsHired, HiredIn, AreRecorded}
 use Rattle.tf_model.specs.Plan.{Outline, outline_of}
 use Rattle.tf_claims.proofs.GivenLemmas.{given_append}

@@ -21,8 +21,8 @@ use Rattle.tf_journal.specs.Format.{Recovered, bodies}
 use Rattle.tf_model.specs.Plan.{Outline, outline_of}
 use Rattle.tf_model.specs.Steps.{LegalPast}
 use Rattle.tf_book.specs.Book.{bodies_of, IsForm, AreForms, IsAcceptedPlan}
-use Rattle.tf_commands.specs.Run.{HoldsHistory}
-use Rattle.tf_commands.proofs.AcceptLemmas.{same_outline}
+use Rattle.tf_commands.specs.Books.{HoldsHistory}
+use Rattle.tf_accept.proofs.AcceptLemmas.{same_outline}
 use Rattle.tf_board.proofs.StayLemmas.{last_same}
 
 -- ---- lists that two bytes can count are lists

@@ -7,11 +7,9 @@ use Rattle.tf_actions.specs.declared.orders.Order.{Order}
 use Rattle.tf_actions.specs.declared.outcomes.Outcome.{Outcome}
 use Rattle.tf_journal.specs.Start.{file_of}
 use Rattle.tf_words.specs.declared.asked.Asked.TheVariants as asked
-use Rattle.tf_board.specs.Answers.{acts, number_at, number_of, applied}
-use Rattle.tf_board.specs.Board.{AreOfBoard, board_in, Holds, Finds, IsAsBeforeOrMade}
+use Rattle.tf_board.specs.Does.{acts, number_at, number_of, applied, Does, HoldsEither, Ends}
+use Rattle.tf_board.specs.Board.{AreOfBoard, board_in, Holds, Finds, IsAsBeforeOrMade, jobs_of, place_of, refuses_id, refused_of}
 use Rattle.tf_board.specs.Does as board
-use Rattle.tf_board.specs.Does.{Does, HoldsEither, Ends}
-use Rattle.tf_board.specs.Jobs.{jobs_of, place_of, refuses_id, refused_of}
 use Rattle.tf_board.specs.declared.commands.Command.{Command}
 use Rattle.tf_board.specs.declared.commands.Command.TheVariants as command
 use Rattle.tf_board.specs.declared.commands.JobAction.TheVariants as action

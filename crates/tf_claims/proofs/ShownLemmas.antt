@@ -10,7 +10,7 @@ use Rattle.tf_actions.specs.declared.outcomes.Outcome.{Outcome}
 use Rattle.tf_model.specs.Plan.{outline_of}
 use Rattle.tf_book.specs.SessionInvariant.{said}
 use Rattle.tf_book.proofs.SpokenLemmas.{shown_none, prefix_whole, prefix_further}
-use Rattle.tf_commands.specs.Run.{book_in, HoldsHistory, IsShownThen, Lasts, ShowsLines, closed, line_cut, stopped}
+use Rattle.tf_commands.specs.Books.{book_in, HoldsHistory, IsShownThen, Lasts, ShowsLines, closed, line_cut, stopped}
 use Rattle.tf_report.specs.Closing.{ClosesWith, said as was_said, cut}
 use Rattle.tf_claims.specs.Life.{Call, Shown, after_call, at_crash, Life, IsToldBy}
 use Rattle.tf_claims.proofs.LifeLemmas.{life_grows}

@@ -13,8 +13,7 @@ use Rattle.tf_actions.specs.declared.orders.Order.{Order}
 use Rattle.tf_actions.specs.declared.outcomes.Outcome.{Outcome}
 use Rattle.tf_journal.specs.Start.{file_of, first_pick, first_sync, IsFirm, IsStart}
 use Rattle.tf_words.specs.declared.asked.Asked.{Asked}
-use Rattle.tf_board.specs.Board.{bodies_of as commands_bodies, board_in, Holds, Finds, IsAsBeforeOrMade}
-use Rattle.tf_board.specs.Jobs.{command_bytes}
+use Rattle.tf_board.specs.Board.{bodies_of as commands_bodies, board_in, Holds, Finds, IsAsBeforeOrMade, command_bytes}
 use Rattle.tf_board.specs.Does.{HoldsEither}
 use Rattle.tf_board.specs.declared.commands.Command.{Command}
 use Rattle.tf_journal.specs.Format.{bodies, Recovered}
@@ -23,7 +22,7 @@ use Rattle.tf_commands.specs.Asking.{want_of, WasAsked}
 use Rattle.tf_words.specs.Words.{command_of}
 use Rattle.tf_commands.specs.Course as course
 use Rattle.tf_commands.specs.Course.{Course, Obeys, FileRead, IsUntouched}
-use Rattle.tf_commands.specs.Run.{NoFileChanges, book_in, book_at, HoldsNoFlow, HoldsHistory}
+use Rattle.tf_commands.specs.Books.{NoFileChanges, book_in, book_at, HoldsNoFlow, HoldsHistory}
 use Rattle.tf_commands.proofs.FlowLemmas.{flow_held}
 use Rattle.tf_claims.specs.Life.{file_of_command, IsAbout, Call, Leaves, returned, crashed, elsewhere, IsHired, AreRecorded}
 use Rattle.tf_claims.proofs.NameLemmas.{name_same}
@@ -232,13 +231,13 @@ module _ {K : Type 0} (state : K → DeskState) (gives : Want → Order → Outc
       → (last : List ℕ) → Leaves state gives name call last → has last
   call_keeps name call had effect last leaves = by call.course
     where
-      by : Course state gives (WasAsked (state call.entry) (state call.now)) call.words call.files call.hired call.after_hiring call.entry call.now call.status → has last
+      by : Course state gives (WasAsked (state call.entry) (state call.now)) call.words call.files call.ports call.later call.entry call.now call.status → has last
       by (course.unheard is same still) =
           quiet_keeps name call (subst (λ (k : K). NoFileChanges (state call.entry) (state k)) (sym same) (itself (state call.entry))) had last leaves
       by (course.no_command none closes still) = quiet_keeps name call still.1 had last leaves
       by (course.obeyed command asks obeys) =
           goes_keeps name call command asks
-          (obeys_goes state gives (WasAsked (state call.entry) (state call.now)) command call.files call.hired call.after_hiring call.entry call.now call.status
+          (obeys_goes state gives (WasAsked (state call.entry) (state call.now)) command call.files call.ports call.later call.entry call.now call.status
           (λ want is hires n among. record { wanted = ap (option_and_then want_of) asks ∙ is; hires = hires; among = among }) call.tells obeys) had effect last leaves
 
 -- what a call leaves of a file that holds a history is that history, with what was recorded behind it

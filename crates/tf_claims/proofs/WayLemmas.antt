@@ -11,17 +11,15 @@ use Rattle.tf_actions.specs.declared.outcomes.Outcome.{Outcome}
 use Rattle.tf_journal.specs.Start.{file_of}
 use Rattle.tf_words.specs.declared.asked.Asked.{Asked}
 use Rattle.tf_words.specs.declared.asked.Asked.TheVariants as asked
-use Rattle.tf_board.specs.Answers.{answer_of}
+use Rattle.tf_board.specs.Does.{answer_of, Does, HoldsEither}
 use Rattle.tf_board.specs.Board.{AreOfBoard, board_in, Finds}
 use Rattle.tf_board.specs.Does as board
-use Rattle.tf_board.specs.Does.{Does, HoldsEither}
 use Rattle.tf_board.specs.declared.commands.Command.{Command}
 use Rattle.tf_commands.specs.Asking.{want_of}
 use Rattle.tf_commands.specs.Books as books
-use Rattle.tf_commands.specs.Books.{Hires, Unopened, Unhired, Runs, Demonstrates, Resumes, ShowsBook, ResetsBook}
+use Rattle.tf_commands.specs.Books.{Hires, Unopened, Unhired, Runs, Demonstrates, Resumes, ShowsBook, ResetsBook, NoFileChanges, book_at, HoldsNoFlow, HoldsHistory, StaysAlone, Lasts}
 use Rattle.tf_commands.specs.Course as course
-use Rattle.tf_commands.specs.Course.{Course, Obeys, FileRead, IsUntouched}
-use Rattle.tf_commands.specs.Run.{NoFileChanges, book_at, HoldsNoFlow, HoldsHistory, StaysAlone, Lasts}
+use Rattle.tf_commands.specs.Course.{PortsTold, Course, Obeys, FileRead, IsUntouched}
 use Rattle.tf_commands.specs.declared.reading.Source.{Source}
 use Rattle.tf_commands.specs.declared.running.Request.{Request}
 use Rattle.tf_claims.specs.Life.{file_of_command}
@@ -65,7 +63,7 @@ does_way command name entry now status told (board.filled before size need legal
 
 unopened_way : {gives : Want → Order → Outcome → Type 0} {able : ℕ → Want → Type 0} (name : List ℕ) (entry now : DeskState) (status : ℕ) → IsTrue entry.tells → Unopened name entry now status → Way gives able name entry now
 unopened_way name entry now status told (books.exhausted s) = alone [] (s.alone told)
-unopened_way name entry now status told (books.disk_failed r) = alone _ (r.alone told)
+unopened_way name entry now status told (books.disk_failed_opening r) = alone _ (r.alone told)
 unopened_way name entry now status told (books.no_book offset byte none r) = alone _ (r.alone told)
 
 unhired_way : {gives : Want → Order → Outcome → Type 0} {able : ℕ → Want → Type 0} (name : List ℕ) (entry now : DeskState) (hired after_hiring : Option (List Want)) (status : ℕ) → IsTrue entry.tells
@@ -130,23 +128,23 @@ module _ {K : Type 0} (state : K → DeskState) (gives : Want → Order → Outc
   demo_goes name hired after_hiring entry now seed size status allow told (books.demonstrated r) =
       about name refl (runs_way name hired after_hiring (state entry) (state now) _ status allow told r)
 
-  pub obeys_goes : {able : ℕ → Want → Type 0} (stopped : Type 0) (command : Asked) (files : Contents) (hired after_hiring : Option (List Want)) (entry now : K) (status : ℕ)
-      → ((want : Want) → want_of command ≡ Some want → Allows able want hired after_hiring) → IsTrue (state entry).tells
-      → Obeys state gives stopped command files hired after_hiring entry now status → Goes gives able (file_of_command command) (state entry) (state now)
-  obeys_goes stopped (asked.Try file sets defer hands target) files hired after_hiring entry now status allow told obeys = untouched obeys.1.0
-  obeys_goes stopped (asked.Check file sets target) files hired after_hiring entry now status allow told obeys = untouched obeys.1.1
-  obeys_goes stopped (asked.Audit file log sets defer) files hired after_hiring entry now status allow told obeys = untouched obeys.1.1
-  obeys_goes stopped (asked.Run file book sets defer hands stop target) files hired after_hiring entry now status allow told obeys =
-      file_goes book (state entry) (state now) status (λ tree did. runs_way book hired after_hiring (state entry) (state now) tree status (allow hands refl) told did) obeys
-  obeys_goes stopped (asked.Resume book hands stop) files hired after_hiring entry now status allow told obeys = about book refl (resumes_way book hired after_hiring (state entry) (state now) status (allow hands refl) told obeys)
-  obeys_goes stopped (asked.Show book) files hired after_hiring entry now status allow told obeys = about book refl (shows_way book (state entry) (state now) status told obeys.0)
-  obeys_goes stopped (asked.Reset book) files hired after_hiring entry now status allow told obeys = about book refl (resets_way book (state entry) (state now) status told obeys.0)
-  obeys_goes stopped (asked.Demo seed size book hands) files hired after_hiring entry now status allow told obeys = demo_goes book hired after_hiring entry now seed size status (allow _ refl) told obeys
-  obeys_goes stopped (asked.Worker address sessions) files hired after_hiring entry now status allow told obeys = untouched obeys.1
-  obeys_goes stopped (asked.Post file name priority details) files hired after_hiring entry now status allow told obeys = about file refl (does_way _ file (state entry) (state now) status told obeys.0)
-  obeys_goes stopped (asked.Claim file id owner) files hired after_hiring entry now status allow told obeys = about file refl (does_way _ file (state entry) (state now) status told obeys.0)
-  obeys_goes stopped (asked.Abandon file id owner) files hired after_hiring entry now status allow told obeys = about file refl (does_way _ file (state entry) (state now) status told obeys.0)
-  obeys_goes stopped (asked.Consume file id owner) files hired after_hiring entry now status allow told obeys = about file refl (does_way _ file (state entry) (state now) status told obeys.0)
-  obeys_goes stopped (asked.Trash file id owner) files hired after_hiring entry now status allow told obeys = about file refl (does_way _ file (state entry) (state now) status told obeys.0)
-  obeys_goes stopped (asked.Owner file id) files hired after_hiring entry now status allow told obeys = about file refl (does_way _ file (state entry) (state now) status told obeys.0)
-  obeys_goes stopped (asked.List file) files hired after_hiring entry now status allow told obeys = about file refl (does_way _ file (state entry) (state now) status told obeys.0)
+  pub obeys_goes : {able : ℕ → Want → Type 0} (stopped : Type 0) (command : Asked) (files : Contents) (ports later : PortsTold) (entry now : K) (status : ℕ)
+      → ((want : Want) → want_of command ≡ Some want → Allows able want ports.hired later.hired) → IsTrue (state entry).tells
+      → Obeys state gives stopped command files ports later entry now status → Goes gives able (file_of_command command) (state entry) (state now)
+  obeys_goes stopped (asked.Try file sets defer hands target) files ports later entry now status allow told obeys = untouched obeys.1.0
+  obeys_goes stopped (asked.Check file sets target) files ports later entry now status allow told obeys = untouched obeys.1.1
+  obeys_goes stopped (asked.Audit file log sets defer) files ports later entry now status allow told obeys = untouched obeys.1.1
+  obeys_goes stopped (asked.Run file book sets defer hands stop target) files ports later entry now status allow told obeys =
+      file_goes book (state entry) (state now) status (λ tree did. runs_way book ports.hired later.hired (state entry) (state now) tree status (allow hands refl) told did) obeys
+  obeys_goes stopped (asked.Resume book hands stop) files ports later entry now status allow told obeys = about book refl (resumes_way book ports.hired later.hired (state entry) (state now) status (allow hands refl) told obeys)
+  obeys_goes stopped (asked.Show book) files ports later entry now status allow told obeys = about book refl (shows_way book (state entry) (state now) status told obeys.0)
+  obeys_goes stopped (asked.Reset book) files ports later entry now status allow told obeys = about book refl (resets_way book (state entry) (state now) status told obeys.0)
+  obeys_goes stopped (asked.Demo seed size book hands) files ports later entry now status allow told obeys = demo_goes book ports.hired later.hired entry now seed size status (allow _ refl) told obeys
+  obeys_goes stopped (asked.Worker address sessions) files ports later entry now status allow told obeys = untouched obeys.1
+  obeys_goes stopped (asked.Post file name priority details) files ports later entry now status allow told obeys = about file refl (does_way _ file (state entry) (state now) status told obeys.0)
+  obeys_goes stopped (asked.Claim file id owner) files ports later entry now status allow told obeys = about file refl (does_way _ file (state entry) (state now) status told obeys.0)
+  obeys_goes stopped (asked.Abandon file id owner) files ports later entry now status allow told obeys = about file refl (does_way _ file (state entry) (state now) status told obeys.0)
+  obeys_goes stopped (asked.Consume file id owner) files ports later entry now status allow told obeys = about file refl (does_way _ file (state entry) (state now) status told obeys.0)
+  obeys_goes stopped (asked.Trash file id owner) files ports later entry now status allow told obeys = about file refl (does_way _ file (state entry) (state now) status told obeys.0)
+  obeys_goes stopped (asked.Owner file id) files ports later entry now status allow told obeys = about file refl (does_way _ file (state entry) (state now) status told obeys.0)
+  obeys_goes stopped (asked.List file) files ports later entry now status allow told obeys = about file refl (does_way _ file (state entry) (state now) status told obeys.0)

@@ -15,18 +15,16 @@ use Rattle.tf_model.specs.Plan.{Outline, outline_of}
 use Rattle.tf_model.specs.Steps.{has_ended}
 use Rattle.tf_words.specs.declared.asked.Asked.{Asked}
 use Rattle.tf_words.specs.declared.asked.Asked.TheVariants as asked
-use Rattle.tf_board.specs.Answers.{board_of, answer_of, number_of as job_of}
+use Rattle.tf_board.specs.Does.{board_of, answer_of, number_of as job_of, Does}
 use Rattle.tf_board.specs.Board.{AreOfBoard, board_in, Holds, Finds}
-use Rattle.tf_board.specs.Does.{Does}
 use Rattle.tf_board.specs.declared.commands.Command.{Command}
 use Rattle.tf_board.specs.declared.commands.Command.TheVariants as command
 use Rattle.tf_board.specs.declared.commands.JobAction.TheVariants as action
 use Rattle.tf_book.specs.Turns.{IsNextReset}
 use Rattle.tf_commands.specs.Asking.{wanted_by, WasAsked}
 use Rattle.tf_words.specs.Words.{command_of}
-use Rattle.tf_commands.specs.Books.{Hires}
-use Rattle.tf_commands.specs.Course.{Course, MayBeDone, IsComplete}
-use Rattle.tf_commands.specs.Run.{book_in, HoldsHistory, IsShownThen, HasReached, stop_status}
+use Rattle.tf_commands.specs.Books.{Hires, book_in, HoldsHistory, IsShownThen, HasReached, stop_status}
+use Rattle.tf_commands.specs.Course.{PortsTold, Course, MayBeDone, IsComplete}
 use Rattle.tf_report.specs.declared.statuses.TheConstants.{OUT_OF_MEMORY, FULL}
 
 -- the book or the board that a command is about
@@ -48,13 +46,13 @@ module _ {K : Type 0} (state : K → DeskState) (gives : Want → Order → Outc
   pub record Call : Type 0 where
     pub words : List (List ℕ)
     pub files : Contents
-    pub hired : Option (List Want)
-    pub after_hiring : Option (List Want)
+    pub ports : PortsTold
+    pub later : PortsTold
     pub entry : K
     pub now : K
     pub status : ℕ
     pub tells : IsTrue (state entry).tells
-    pub course : Course state gives (WasAsked (state entry) (state now)) words files hired after_hiring entry now status
+    pub course : Course state gives (WasAsked (state entry) (state now)) words files ports later entry now status
 
   -- what a call leaves of the file: what it has when the call returns; or, where the words are about it, what a crash inside the call left; or,
   -- where they aren't, what it had before the call, since a crash leaves other files as they are
@@ -71,7 +69,7 @@ module _ {K : Type 0} (state : K → DeskState) (gives : Want → Order → Outc
   -- a hand of this number was hired for a call as one of the hands that are wanted: its words ask for these, they were hired, and so many there are
   pub record IsHired (call : Call) (hand : ℕ) (hands : Want) : Type 0 where
     pub wanted : wanted_by call.words ≡ Some hands
-    pub hires : Hires hands call.hired call.after_hiring
+    pub hires : Hires hands call.ports.hired call.later.hired
     pub among : hand < number_of hands
 
   -- the text that was shown when a call had left the file so

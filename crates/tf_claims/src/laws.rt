@@ -1,7 +1,7 @@
 //! The laws of a life.
 
 ghost use Rattle.std.specs.Prelude.{◌≡◌, ◌∷◌, ◌++◌, false, ℕ, List, Option, Some, None};
-ghost use Rattle.tf_desk.specs.Crash.{Rises};
+ghost use Rattle.tf_numbers.specs.Numbers.{Rises};
 ghost use Rattle.tf_flow.specs.Plan.{PlanValue};
 ghost use Rattle.tf_states.specs.declared.record.Entry.{Entry};
 ghost use Rattle.tf_ports.specs.Ports.{gives_by};
@@ -17,9 +17,8 @@ ghost use Rattle.tf_words.specs.declared.asked.Asked.TheVariants.{Resume};
 ghost use Rattle.tf_model.specs.Plan.{outline_of};
 ghost use Rattle.tf_commands.specs.Asking.{WasAsked};
 ghost use Rattle.tf_words.specs.Words.{command_of};
-ghost use Rattle.tf_commands.specs.Books.{Promised, PutsBack};
+ghost use Rattle.tf_commands.specs.Books.{Promised, PutsBack, book_in, book_at, HoldsHistory};
 ghost use Rattle.tf_commands.specs.declared.running.Request.{Request};
-ghost use Rattle.tf_commands.specs.Run.{book_in, book_at, HoldsHistory};
 ghost use Rattle.tf_claims.specs.Life.{Call, IsUnfailing, Shown, Life, IsToldBy, EndsAsStated, IsBoardOf, IsDone, HiredIn, AreRecorded, WasClaimed, IsHandedOn};
 
 use tf_desk::Desk;

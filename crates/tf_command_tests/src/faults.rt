@@ -50,7 +50,7 @@ pub(crate) fn ran_over<R: Threads + Wait + Sync>(
         name: Text::make(alloc, b"flow.toml")?,
         bytes: Vec::from_slice(alloc, flow)?,
     })?;
-    let spawner = MemorySpawner::make(Vec::new(alloc), Vec::new(alloc));
+    let spawner = MemorySpawner::make(alloc, Vec::new(alloc), Vec::new(alloc));
     let mut hands = Vec::new(alloc);
     hands.push(LocalHand::make(spawner))?;
     let outside = Outside {
@@ -58,6 +58,7 @@ pub(crate) fn ran_over<R: Threads + Wait + Sync>(
         sources: MemorySources::make(sources, Vec::from_slice(alloc, faults.sources)?),
         crew: MemoryCrew::make(alloc, hands, Vec::from_slice(alloc, faults.crew)?),
         door: MemoryDoor::make(
+            alloc,
             links_of(alloc, links)?,
             Vec::from_slice(alloc, faults.door)?,
         ),

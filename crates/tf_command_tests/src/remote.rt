@@ -56,7 +56,7 @@ fn outside_of(
         desk: desk(alloc, &[])?,
         sources: MemorySources::make(sources, Vec::new(alloc)),
         crew: ProgramCrew::make(rt, dialer),
-        door: MemoryDoor::make(Vec::new(alloc), Vec::new(alloc)),
+        door: MemoryDoor::make(alloc, Vec::new(alloc), Vec::new(alloc)),
     })
 }
 

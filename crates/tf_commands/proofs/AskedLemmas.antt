@@ -8,9 +8,8 @@ use Rattle.tf_actions.specs.declared.outcomes.Outcome.{Outcome}
 use Rattle.tf_states.specs.declared.record.Entry.{Entry}
 use Rattle.tf_states.specs.declared.state.FlowState.{FlowState}
 use Rattle.tf_engines.specs.Runs.{AreDue, IsSuspended, IsSession}
-use Rattle.tf_commands.specs.Books.{Promised, Resumes, unopened_again, empty, unhired_again, resumed}
+use Rattle.tf_commands.specs.Books.{Promised, Resumes, unopened_again, empty, unhired_again, resumed, Ran}
 use Rattle.tf_commands.specs.declared.running.Request.{Request}
-use Rattle.tf_commands.specs.Run.{Ran}
 use Rattle.tf_model.specs.Plan.{Outline}
 
 due_more : (few more : Type 0) (limit : Option ℕ) → (few → more) → (entries : List Entry) → AreDue few limit entries → AreDue more limit entries

@@ -1,6 +1,6 @@
 -- How an audit goes, and what its status tells.
 use Rattle.std.proofs.Common.{◌≡◌, ◌≤◌, ◌⊎◌, ℕ, List, [], ◌++◌, length, Option, Some, inl, inr, refl, sym, ap, ◌∙◌, subst, arith, ⊎_elim}
-use Rattle.tf_desk.specs.Crash.{Rises}
+use Rattle.tf_numbers.specs.Numbers.{Rises}
 use Rattle.tf_desk.specs.State.{DeskState, Says}
 use Rattle.tf_flow.specs.Plan.{PlanTree}
 use Rattle.tf_model.specs.Plan.{Outline}
@@ -13,13 +13,14 @@ use Rattle.tf_audit.specs.Verdicts.{verdict_text, IsVerdict}
 use Rattle.tf_audit.specs.declared.verdicts.Verdict.{Verdict}
 use Rattle.tf_audit.specs.declared.verdicts.Verdict.TheVariants as verdict
 use Rattle.tf_words.specs.declared.asked.Asked.{Asked}
-use Rattle.tf_commands.specs.Asking.{GivesPlan, GivesNone, file_asked_for}
+use Rattle.tf_accept.specs.Accepted.{GivesPlan, GivesNone}
+use Rattle.tf_commands.specs.Asking.{file_asked_for}
 use Rattle.tf_commands.specs.Messages.{Judges, unjudged, judged, Audits, unfinished_log, unread_log, long_log, audited, log_asked_for, verdict_status, RefusesLog, IsLogRefused}
 use Rattle.tf_words.specs.Words.{command_of}
 use Rattle.tf_commands.specs.Course as course
 use Rattle.tf_commands.specs.Course.{BytesRead, FileRead, IsRefused, passes_limit, gives_none, IsDoneComplete}
-use Rattle.tf_commands.specs.Run.{HasSaid}
-use Rattle.tf_commands.specs.declared.accepting.Refusal.{Refusal}
+use Rattle.tf_commands.specs.Books.{HasSaid}
+use Rattle.tf_accept.specs.declared.accepting.Refusal.{Refusal}
 use Rattle.tf_commands.specs.declared.reading.Source.{Source}
 use Rattle.tf_commands.proofs.WorkLemmas.{says_only}
 

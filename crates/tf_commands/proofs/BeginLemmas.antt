@@ -2,7 +2,8 @@
 use Rattle.std.proofs.Common.{◌≡◌, ◌≢◌, ◌⊎◌, ℕ, ◌≤◌, List, [], length, false, Option, Some, None, refl, sym, ap, ◌∙◌, subst, inl, inr, ⊎_elim, arith}
 use Rattle.std.specs.Prelude.{IsTrue, is_some, Result, Ok, Err, IfOk, IfErr}
 use Rattle.tf_desk.proofs.StateLemmas.{on_disk_told, goes_continues}
-use Rattle.tf_desk.specs.Crash.{Rises, Pairs}
+use Rattle.tf_numbers.specs.Numbers.{Rises}
+use Rattle.tf_desk.specs.Crash.{Pairs}
 use Rattle.tf_desk.specs.State.{DeskState, LeftNow, MayLeave as MayLeaveNow, bytes_now, anything, GoesOn, Passes}
 use Rattle.tf_flow.specs.Plan.{PlanValue}
 use Rattle.tf_states.specs.declared.record.Entry.{Entry}
@@ -19,8 +20,7 @@ use Rattle.tf_book.specs.declared.faults.BookFault.TheVariants as book_fault
 use Rattle.tf_book.specs.declared.faults.Halt.{Halt}
 use Rattle.tf_book.specs.declared.faults.Halt.TheVariants as halt
 use Rattle.tf_commands.specs.Begun.{desk_in, IsRecordless, IsFoundAs, IsFoundBlank, MayBegin, IsExactSoFar, LeavesNoFlow, IsQuiet, FailsToBegin, Begins, Unbegun}
-use Rattle.tf_commands.specs.Books.{IsFile}
-use Rattle.tf_commands.specs.Run.{book_in, book_at, HoldsNoFlow, FindsHistory}
+use Rattle.tf_commands.specs.Books.{IsFile, book_in, book_at, HoldsNoFlow, FindsHistory}
 use Rattle.tf_commands.specs.Runs.{book_desk}
 use Rattle.tf_commands.specs.declared.books.Blank.{Blank}
 use Rattle.tf_commands.specs.declared.books.Blank.TheVariants as blank

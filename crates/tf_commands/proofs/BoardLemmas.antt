@@ -10,12 +10,11 @@ use Rattle.tf_words.specs.declared.asked.Asked.{Asked}
 use Rattle.tf_words.specs.declared.asked.Asked.TheVariants as asked
 use Rattle.tf_report.specs.Closing.{ClosesWithOrStops}
 use Rattle.tf_report.proofs.ClosingLemmas.{ends_status}
-use Rattle.tf_board.specs.Answers.{board_of, answer_of}
-use Rattle.tf_board.specs.Does.{Does, IsBoardStatus, is_done, is_failed, is_no_board, is_unsaid, is_out, is_full, is_refused}
+use Rattle.tf_board.specs.Does.{board_of, answer_of, Does, IsBoardStatus, is_done, is_failed, is_no_board, is_unsaid, is_out, is_full, is_refused}
 use Rattle.tf_board.specs.Does as board
 use Rattle.tf_commands.specs.Asking.{HasEachCause, HasCausesOr, counts_of, want_of}
 use Rattle.tf_words.specs.Words.{command_of}
-use Rattle.tf_commands.specs.Course.{Obeys, HiresAsWanted, IsBoardRefused}
+use Rattle.tf_commands.specs.Course.{PortsTold, Obeys, HiresAsWanted, IsBoardRefused}
 
 -- no words, no file and no hand are why a command on a board fails
 pub board_apart : (status : ℕ) → IsBoardStatus status → (status ≢ 2) × (status ≢ 3) × (status ≢ 4) × (status ≢ 8)
@@ -120,22 +119,22 @@ board_refuses words command name entry now status asks about does is = by does
 
 module _ {K : Type 0} (state : K → DeskState) where
   -- what is done on a board is obeyed
-  pub obeys_board : (gives : Want → Order → Outcome → Type 0) (stopped : Type 0) (command : Asked) (files : Contents) (hired after_hiring : Option (List Want)) (entry now : K) (status : ℕ)
-      → is_some (board_of command) ≡ true → ((name : List ℕ) → board_of command ≡ Some name → Does command name (state entry) (state now) status) → after_hiring ≡ hired
-      → Obeys state gives stopped command files hired after_hiring entry now status
-  obeys_board gives stopped (asked.Post board name priority details) files hired after_hiring entry now status is does same = (does board refl, same)
-  obeys_board gives stopped (asked.Claim board id owner) files hired after_hiring entry now status is does same = (does board refl, same)
-  obeys_board gives stopped (asked.Abandon board id owner) files hired after_hiring entry now status is does same = (does board refl, same)
-  obeys_board gives stopped (asked.Consume board id owner) files hired after_hiring entry now status is does same = (does board refl, same)
-  obeys_board gives stopped (asked.Trash board id owner) files hired after_hiring entry now status is does same = (does board refl, same)
-  obeys_board gives stopped (asked.Owner board id) files hired after_hiring entry now status is does same = (does board refl, same)
-  obeys_board gives stopped (asked.List board) files hired after_hiring entry now status is does same = (does board refl, same)
-  obeys_board gives stopped (asked.Try file sets defer hands target) files hired after_hiring entry now status is does same = absurd (cc)
-  obeys_board gives stopped (asked.Run file book sets defer hands stop target) files hired after_hiring entry now status is does same = absurd (cc)
-  obeys_board gives stopped (asked.Resume book hands stop) files hired after_hiring entry now status is does same = absurd (cc)
-  obeys_board gives stopped (asked.Show book) files hired after_hiring entry now status is does same = absurd (cc)
-  obeys_board gives stopped (asked.Reset book) files hired after_hiring entry now status is does same = absurd (cc)
-  obeys_board gives stopped (asked.Check file sets target) files hired after_hiring entry now status is does same = absurd (cc)
-  obeys_board gives stopped (asked.Audit file log sets defer) files hired after_hiring entry now status is does same = absurd (cc)
-  obeys_board gives stopped (asked.Demo seed size book hands) files hired after_hiring entry now status is does same = absurd (cc)
-  obeys_board gives stopped (asked.Worker address sessions) files hired after_hiring entry now status is does same = absurd (cc)
+  pub obeys_board : (gives : Want → Order → Outcome → Type 0) (stopped : Type 0) (command : Asked) (files : Contents) (ports later : PortsTold) (entry now : K) (status : ℕ)
+      → is_some (board_of command) ≡ true → ((name : List ℕ) → board_of command ≡ Some name → Does command name (state entry) (state now) status) → later ≡ ports
+      → Obeys state gives stopped command files ports later entry now status
+  obeys_board gives stopped (asked.Post board name priority details) files ports later entry now status is does same = (does board refl, same)
+  obeys_board gives stopped (asked.Claim board id owner) files ports later entry now status is does same = (does board refl, same)
+  obeys_board gives stopped (asked.Abandon board id owner) files ports later entry now status is does same = (does board refl, same)
+  obeys_board gives stopped (asked.Consume board id owner) files ports later entry now status is does same = (does board refl, same)
+  obeys_board gives stopped (asked.Trash board id owner) files ports later entry now status is does same = (does board refl, same)
+  obeys_board gives stopped (asked.Owner board id) files ports later entry now status is does same = (does board refl, same)
+  obeys_board gives stopped (asked.List board) files ports later entry now status is does same = (does board refl, same)
+  obeys_board gives stopped (asked.Try file sets defer hands target) files ports later entry now status is does same = absurd (cc)
+  obeys_board gives stopped (asked.Run file book sets defer hands stop target) files ports later entry now status is does same = absurd (cc)
+  obeys_board gives stopped (asked.Resume book hands stop) files ports later entry now status is does same = absurd (cc)
+  obeys_board gives stopped (asked.Show book) files ports later entry now status is does same = absurd (cc)
+  obeys_board gives stopped (asked.Reset book) files ports later entry now status is does same = absurd (cc)
+  obeys_board gives stopped (asked.Check file sets target) files ports later entry now status is does same = absurd (cc)
+  obeys_board gives stopped (asked.Audit file log sets defer) files ports later entry now status is does same = absurd (cc)
+  obeys_board gives stopped (asked.Demo seed size book hands) files ports later entry now status is does same = absurd (cc)
+  obeys_board gives stopped (asked.Worker address sessions) files ports later entry now status is does same = absurd (cc)

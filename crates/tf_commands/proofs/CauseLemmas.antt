@@ -1,22 +1,22 @@
 -- What a status tells of the way that a command went.
 use Rattle.std.proofs.Common.{◌≡◌, ◌⊎◌, ℕ, ◌≤◌, List, Option, Some, None, true, false, inl, inr, refl, subst, arith, ⊎_elim}
 use Rattle.std.specs.Prelude.{is_some}
-use Rattle.tf_desk.specs.Crash.{Rises}
+use Rattle.tf_numbers.specs.Numbers.{Rises}
 use Rattle.tf_desk.specs.State.{DeskState}
 use Rattle.tf_ports.specs.Ports.{Contents}
 use Rattle.tf_ports.specs.declared.crews.Want.{Want}
+use Rattle.tf_ports.specs.declared.crews.Want.TheVariants as want
 use Rattle.tf_actions.specs.declared.orders.Order.{Order}
 use Rattle.tf_actions.specs.declared.outcomes.Outcome.{Outcome}
 use Rattle.tf_words.specs.declared.asked.Asked.{Asked}
 use Rattle.tf_words.specs.declared.asked.Asked.TheVariants as asked
-use Rattle.tf_board.specs.Answers.{board_of}
-use Rattle.tf_board.specs.Does.{IsBoardStatus}
+use Rattle.tf_board.specs.Does.{board_of, IsBoardStatus}
 use Rattle.tf_board.proofs.DoesLemmas.{does_status}
 use Rattle.tf_commands.specs.Asking.{file_asked_for, IsWork, Counts, HasEachCause, HasCausesOr, counts_of}
 use Rattle.tf_words.specs.Words.{command_of}
 use Rattle.tf_commands.specs.Course as course
-use Rattle.tf_commands.specs.Course.{Course, Obeys, source_so, IsRefused, IsBoardRefused}
-use Rattle.tf_commands.specs.Run.{OnlySays}
+use Rattle.tf_commands.specs.Course.{PortsTold, Course, Obeys, source_so, IsRefused, IsBoardRefused}
+use Rattle.tf_commands.specs.Books.{OnlySays}
 use Rattle.tf_commands.specs.declared.reading.Source.{Source}
 use Rattle.tf_commands.specs.Messages.{IsLogRefused, log_asked_for}
 use Rattle.tf_commands.proofs.AuditLemmas.{AuditStatus, audit_status, audit_usage, audit_refused, audit_unrefused, audit_log_refused}
@@ -59,108 +59,108 @@ status_log_refused words files command status asks (by_book ended) last = absurd
 status_log_refused words files command status asks (by_board about ended) last = absurd (board_no_log status ended last)
 
 module _ {K : Type 0} (state : K → DeskState) where
-  asked_status : (gives : Want → Order → Outcome → Type 0) (asked_so : Type 0) (command : Asked) (files : Contents) (hired after_hiring : Option (List Want)) (entry now : K) (status : ℕ)
-      → Obeys state gives asked_so command files hired after_hiring entry now status → AskedStatus command files status
-  asked_status gives asked_so (asked.Try file sets defer hands target) files hired after_hiring entry now status obeys =
+  asked_status : (gives : Want → Order → Outcome → Type 0) (asked_so : Type 0) (command : Asked) (files : Contents) (ports later : PortsTold) (entry now : K) (status : ℕ)
+      → Obeys state gives asked_so command files ports later entry now status → AskedStatus command files status
+  asked_status gives asked_so (asked.Try file sets defer hands target) files ports later entry now status obeys =
       by_file (source_so file sets defer target) refl (file_status files (source_so file sets defer target) _ _ (state entry).shown (state now).shown status
-      (λ plan did. tries_ended hired after_hiring (state entry).shown (state now).shown plan status did) obeys.0)
-  asked_status gives asked_so (asked.Check file sets target) files hired after_hiring entry now status obeys =
+      (λ plan did. tries_ended ports.hired later.hired (state entry).shown (state now).shown plan status did) obeys.0)
+  asked_status gives asked_so (asked.Check file sets target) files ports later entry now status obeys =
       by_file (source_so file sets false target) refl (file_status files (source_so file sets false target) _ _ (state entry).shown (state now).shown status
       (λ plan did. checks_ended (state entry).shown (state now).shown _ status did) obeys.0)
-  asked_status gives asked_so (asked.Audit file log sets defer) files hired after_hiring entry now status obeys =
+  asked_status gives asked_so (asked.Audit file log sets defer) files ports later entry now status obeys =
       by_log (source_so file sets defer None) log refl refl (audit_status files (source_so file sets defer None) log (state entry).shown (state now).shown status _ obeys.0)
-  asked_status gives asked_so (asked.Run file book sets defer hands stop target) files hired after_hiring entry now status obeys =
+  asked_status gives asked_so (asked.Run file book sets defer hands stop target) files ports later entry now status obeys =
       by_file (source_so file sets defer target) refl (file_status files (source_so file sets defer target) _ _ (state entry).shown (state now).shown status
-      (λ plan did. runs_ended book hired after_hiring (state entry) (state now) plan status did) obeys)
-  asked_status gives asked_so (asked.Resume book hands stop) files hired after_hiring entry now status obeys =
-      by_book (resumes_ended book hired after_hiring (state entry) (state now) status obeys)
-  asked_status gives asked_so (asked.Show book) files hired after_hiring entry now status obeys =
+      (λ plan did. runs_ended book ports.hired later.hired (state entry) (state now) plan status did) obeys)
+  asked_status gives asked_so (asked.Resume book hands stop) files ports later entry now status obeys =
+      by_book (resumes_ended book ports.hired later.hired (state entry) (state now) status obeys)
+  asked_status gives asked_so (asked.Show book) files ports later entry now status obeys =
       by_book (shows_ended book (state entry) (state now) status obeys.0)
-  asked_status gives asked_so (asked.Reset book) files hired after_hiring entry now status obeys =
+  asked_status gives asked_so (asked.Reset book) files ports later entry now status obeys =
       by_book (resets_ended book (state entry) (state now) status obeys.0)
-  asked_status gives asked_so (asked.Demo seed size book hands) files hired after_hiring entry now status obeys =
-      by_book (demonstrates_ended book hired after_hiring entry now seed size status obeys)
-  asked_status gives asked_so (asked.Worker address sessions) files hired after_hiring entry now status obeys =
-      by_book (works_ended status (works_one hired after_hiring (state entry).shown (state now).shown sessions status obeys.0))
-  asked_status gives asked_so (asked.Post board name priority details) files hired after_hiring entry now status obeys =
+  asked_status gives asked_so (asked.Demo seed size book hands) files ports later entry now status obeys =
+      by_book (demonstrates_ended book ports.hired later.hired entry now seed size status obeys)
+  asked_status gives asked_so (asked.Worker address sessions) files ports later entry now status obeys =
+      by_book (works_ended status (works_one (gives (want.Local 1)) ports.hired later.hired ports.door later.door (state entry).shown (state now).shown address sessions status obeys.0))
+  asked_status gives asked_so (asked.Post board name priority details) files ports later entry now status obeys =
       by_board refl (does_status (asked.Post board name priority details) board (state entry) (state now) status obeys.0)
-  asked_status gives asked_so (asked.Claim board id owner) files hired after_hiring entry now status obeys =
+  asked_status gives asked_so (asked.Claim board id owner) files ports later entry now status obeys =
       by_board refl (does_status (asked.Claim board id owner) board (state entry) (state now) status obeys.0)
-  asked_status gives asked_so (asked.Abandon board id owner) files hired after_hiring entry now status obeys =
+  asked_status gives asked_so (asked.Abandon board id owner) files ports later entry now status obeys =
       by_board refl (does_status (asked.Abandon board id owner) board (state entry) (state now) status obeys.0)
-  asked_status gives asked_so (asked.Consume board id owner) files hired after_hiring entry now status obeys =
+  asked_status gives asked_so (asked.Consume board id owner) files ports later entry now status obeys =
       by_board refl (does_status (asked.Consume board id owner) board (state entry) (state now) status obeys.0)
-  asked_status gives asked_so (asked.Trash board id owner) files hired after_hiring entry now status obeys =
+  asked_status gives asked_so (asked.Trash board id owner) files ports later entry now status obeys =
       by_board refl (does_status (asked.Trash board id owner) board (state entry) (state now) status obeys.0)
-  asked_status gives asked_so (asked.Owner board id) files hired after_hiring entry now status obeys =
+  asked_status gives asked_so (asked.Owner board id) files ports later entry now status obeys =
       by_board refl (does_status (asked.Owner board id) board (state entry) (state now) status obeys.0)
-  asked_status gives asked_so (asked.List board) files hired after_hiring entry now status obeys =
+  asked_status gives asked_so (asked.List board) files ports later entry now status obeys =
       by_board refl (does_status (asked.List board) board (state entry) (state now) status obeys.0)
 
   -- status 2 comes only where the words are no command
-  pub usage_tells : {gives : Want → Order → Outcome → Type 0} {asked_so : Type 0} (words : List (List ℕ)) (files : Contents) (hired after_hiring : Option (List Want)) (entry now : K) (status : ℕ)
-      → Course state gives asked_so words files hired after_hiring entry now status → status ≡ 2 → command_of words ≡ None
-  usage_tells words files hired after_hiring entry now status (course.unheard is same still) two = absurd (omega arith)
-  usage_tells words files hired after_hiring entry now status (course.no_command none closes still) two = none
-  usage_tells {gives} {asked_so} words files hired after_hiring entry now status (course.obeyed command asks obeys) two =
-      absurd (status_usage command files status (asked_status gives asked_so command files hired after_hiring entry now status obeys) two)
+  pub usage_tells : {gives : Want → Order → Outcome → Type 0} {asked_so : Type 0} (words : List (List ℕ)) (files : Contents) (ports later : PortsTold) (entry now : K) (status : ℕ)
+      → Course state gives asked_so words files ports later entry now status → status ≡ 2 → command_of words ≡ None
+  usage_tells words files ports later entry now status (course.unheard is same still) two = absurd (omega arith)
+  usage_tells words files ports later entry now status (course.no_command none closes still) two = none
+  usage_tells {gives} {asked_so} words files ports later entry now status (course.obeyed command asks obeys) two =
+      absurd (status_usage command files status (asked_status gives asked_so command files ports later entry now status obeys) two)
 
   -- status 4 comes only where the file is refused
-  pub refused_tells : {gives : Want → Order → Outcome → Type 0} {asked_so : Type 0} (words : List (List ℕ)) (files : Contents) (hired after_hiring : Option (List Want)) (entry now : K) (status : ℕ)
-      → Course state gives asked_so words files hired after_hiring entry now status → status ≡ 4 → IsRefused words files
-  refused_tells words files hired after_hiring entry now status (course.unheard is same still) four = absurd (omega arith)
-  refused_tells words files hired after_hiring entry now status (course.no_command none closes still) four =
+  pub refused_tells : {gives : Want → Order → Outcome → Type 0} {asked_so : Type 0} (words : List (List ℕ)) (files : Contents) (ports later : PortsTold) (entry now : K) (status : ℕ)
+      → Course state gives asked_so words files ports later entry now status → status ≡ 4 → IsRefused words files
+  refused_tells words files ports later entry now status (course.unheard is same still) four = absurd (omega arith)
+  refused_tells words files ports later entry now status (course.no_command none closes still) four =
       absurd (⊎_elim (λ is. omega arith) (λ is. omega arith) (closes_status (state entry).shown (state now).shown _ 2 status closes))
-  refused_tells {gives} {asked_so} words files hired after_hiring entry now status (course.obeyed command asks obeys) four =
-      status_refused words files command status asks (asked_status gives asked_so command files hired after_hiring entry now status obeys) four
+  refused_tells {gives} {asked_so} words files ports later entry now status (course.obeyed command asks obeys) four =
+      status_refused words files command status asks (asked_status gives asked_so command files ports later entry now status obeys) four
 
-  on_board : (gives : Want → Order → Outcome → Type 0) (asked_so : Type 0) (words : List (List ℕ)) (command : Asked) (files : Contents) (hired after_hiring : Option (List Want)) (entry now : K) (status : ℕ)
-      → command_of words ≡ Some command → is_some (board_of command) ≡ true → Obeys state gives asked_so command files hired after_hiring entry now status → status ≡ 15
+  on_board : (gives : Want → Order → Outcome → Type 0) (asked_so : Type 0) (words : List (List ℕ)) (command : Asked) (files : Contents) (ports later : PortsTold) (entry now : K) (status : ℕ)
+      → command_of words ≡ Some command → is_some (board_of command) ≡ true → Obeys state gives asked_so command files ports later entry now status → status ≡ 15
       → IsBoardRefused words (state entry)
-  on_board gives asked_so words (asked.Post board name priority details) files hired after_hiring entry now status asks about obeys is =
+  on_board gives asked_so words (asked.Post board name priority details) files ports later entry now status asks about obeys is =
       board_refuses words (asked.Post board name priority details) board (state entry) (state now) status asks refl obeys.0 is
-  on_board gives asked_so words (asked.Claim board id owner) files hired after_hiring entry now status asks about obeys is =
+  on_board gives asked_so words (asked.Claim board id owner) files ports later entry now status asks about obeys is =
       board_refuses words (asked.Claim board id owner) board (state entry) (state now) status asks refl obeys.0 is
-  on_board gives asked_so words (asked.Abandon board id owner) files hired after_hiring entry now status asks about obeys is =
+  on_board gives asked_so words (asked.Abandon board id owner) files ports later entry now status asks about obeys is =
       board_refuses words (asked.Abandon board id owner) board (state entry) (state now) status asks refl obeys.0 is
-  on_board gives asked_so words (asked.Consume board id owner) files hired after_hiring entry now status asks about obeys is =
+  on_board gives asked_so words (asked.Consume board id owner) files ports later entry now status asks about obeys is =
       board_refuses words (asked.Consume board id owner) board (state entry) (state now) status asks refl obeys.0 is
-  on_board gives asked_so words (asked.Trash board id owner) files hired after_hiring entry now status asks about obeys is =
+  on_board gives asked_so words (asked.Trash board id owner) files ports later entry now status asks about obeys is =
       board_refuses words (asked.Trash board id owner) board (state entry) (state now) status asks refl obeys.0 is
-  on_board gives asked_so words (asked.Owner board id) files hired after_hiring entry now status asks about obeys is =
+  on_board gives asked_so words (asked.Owner board id) files ports later entry now status asks about obeys is =
       board_refuses words (asked.Owner board id) board (state entry) (state now) status asks refl obeys.0 is
-  on_board gives asked_so words (asked.List board) files hired after_hiring entry now status asks about obeys is =
+  on_board gives asked_so words (asked.List board) files ports later entry now status asks about obeys is =
       board_refuses words (asked.List board) board (state entry) (state now) status asks refl obeys.0 is
-  on_board gives asked_so words (asked.Try file sets defer hands target) files hired after_hiring entry now status asks about obeys is = absurd (cc)
-  on_board gives asked_so words (asked.Run file book sets defer hands stop target) files hired after_hiring entry now status asks about obeys is = absurd (cc)
-  on_board gives asked_so words (asked.Resume book hands stop) files hired after_hiring entry now status asks about obeys is = absurd (cc)
-  on_board gives asked_so words (asked.Show book) files hired after_hiring entry now status asks about obeys is = absurd (cc)
-  on_board gives asked_so words (asked.Reset book) files hired after_hiring entry now status asks about obeys is = absurd (cc)
-  on_board gives asked_so words (asked.Check file sets target) files hired after_hiring entry now status asks about obeys is = absurd (cc)
-  on_board gives asked_so words (asked.Audit file log sets defer) files hired after_hiring entry now status asks about obeys is = absurd (cc)
-  on_board gives asked_so words (asked.Demo seed size book hands) files hired after_hiring entry now status asks about obeys is = absurd (cc)
-  on_board gives asked_so words (asked.Worker address sessions) files hired after_hiring entry now status asks about obeys is = absurd (cc)
+  on_board gives asked_so words (asked.Try file sets defer hands target) files ports later entry now status asks about obeys is = absurd (cc)
+  on_board gives asked_so words (asked.Run file book sets defer hands stop target) files ports later entry now status asks about obeys is = absurd (cc)
+  on_board gives asked_so words (asked.Resume book hands stop) files ports later entry now status asks about obeys is = absurd (cc)
+  on_board gives asked_so words (asked.Show book) files ports later entry now status asks about obeys is = absurd (cc)
+  on_board gives asked_so words (asked.Reset book) files ports later entry now status asks about obeys is = absurd (cc)
+  on_board gives asked_so words (asked.Check file sets target) files ports later entry now status asks about obeys is = absurd (cc)
+  on_board gives asked_so words (asked.Audit file log sets defer) files ports later entry now status asks about obeys is = absurd (cc)
+  on_board gives asked_so words (asked.Demo seed size book hands) files ports later entry now status asks about obeys is = absurd (cc)
+  on_board gives asked_so words (asked.Worker address sessions) files ports later entry now status asks about obeys is = absurd (cc)
 
   -- status 15 comes only where a board refuses
-  pub board_tells : {gives : Want → Order → Outcome → Type 0} {asked_so : Type 0} (words : List (List ℕ)) (files : Contents) (hired after_hiring : Option (List Want)) (entry now : K) (status : ℕ)
-      → Course state gives asked_so words files hired after_hiring entry now status → status ≡ 15 → IsBoardRefused words (state entry)
-  board_tells words files hired after_hiring entry now status (course.unheard is same still) fifteen = absurd (omega (arith, is, fifteen))
-  board_tells words files hired after_hiring entry now status (course.no_command none closes still) fifteen =
+  pub board_tells : {gives : Want → Order → Outcome → Type 0} {asked_so : Type 0} (words : List (List ℕ)) (files : Contents) (ports later : PortsTold) (entry now : K) (status : ℕ)
+      → Course state gives asked_so words files ports later entry now status → status ≡ 15 → IsBoardRefused words (state entry)
+  board_tells words files ports later entry now status (course.unheard is same still) fifteen = absurd (omega (arith, is, fifteen))
+  board_tells words files ports later entry now status (course.no_command none closes still) fifteen =
       absurd (⊎_elim (λ is. omega (arith, is, fifteen)) (λ is. omega (arith, is, fifteen)) (closes_status (state entry).shown (state now).shown _ 2 status closes))
-  board_tells {gives} {asked_so} words files hired after_hiring entry now status (course.obeyed command asks obeys) fifteen =
-      on_board gives asked_so words command files hired after_hiring entry now status asks (status_of_board command files status (asked_status gives asked_so command files hired after_hiring entry now status obeys) fifteen) obeys fifteen
+  board_tells {gives} {asked_so} words files ports later entry now status (course.obeyed command asks obeys) fifteen =
+      on_board gives asked_so words command files ports later entry now status asks (status_of_board command files status (asked_status gives asked_so command files ports later entry now status obeys) fifteen) obeys fifteen
 
 -- ---- status 17
 
 module _ {K : Type 0} (state : K → DeskState) where
   -- status 17 comes only where a log is refused
-  pub log_tells : {gives : Want → Order → Outcome → Type 0} {asked_so : Type 0} (words : List (List ℕ)) (files : Contents) (hired after_hiring : Option (List Want)) (entry now : K) (status : ℕ)
-      → Course state gives asked_so words files hired after_hiring entry now status → status ≡ 17 → IsLogRefused words files
-  log_tells words files hired after_hiring entry now status (course.unheard is same still) last = absurd (omega (arith, is, last))
-  log_tells words files hired after_hiring entry now status (course.no_command none closes still) last =
+  pub log_tells : {gives : Want → Order → Outcome → Type 0} {asked_so : Type 0} (words : List (List ℕ)) (files : Contents) (ports later : PortsTold) (entry now : K) (status : ℕ)
+      → Course state gives asked_so words files ports later entry now status → status ≡ 17 → IsLogRefused words files
+  log_tells words files ports later entry now status (course.unheard is same still) last = absurd (omega (arith, is, last))
+  log_tells words files ports later entry now status (course.no_command none closes still) last =
       absurd (⊎_elim (λ is. omega (arith, is, last)) (λ is. omega (arith, is, last)) (closes_status (state entry).shown (state now).shown _ 2 status closes))
-  log_tells {gives} {asked_so} words files hired after_hiring entry now status (course.obeyed command asks obeys) last =
-      status_log_refused words files command status asks (asked_status state gives asked_so command files hired after_hiring entry now status obeys) last
+  log_tells {gives} {asked_so} words files ports later entry now status (course.obeyed command asks obeys) last =
+      status_log_refused words files command status asks (asked_status state gives asked_so command files ports later entry now status obeys) last
 
 -- ---- causes
 

@@ -5,6 +5,7 @@ use Rattle.tf_desk.specs.State.{DeskState}
 use Rattle.tf_flow.specs.Plan.{PlanValue, PlanTree}
 use Rattle.tf_ports.specs.Ports.{Contents}
 use Rattle.tf_ports.specs.declared.crews.Want.{Want}
+use Rattle.tf_ports.specs.declared.crews.Want.TheVariants as want
 use Rattle.tf_actions.specs.declared.orders.Order.{Order}
 use Rattle.tf_actions.specs.declared.outcomes.Outcome.{Outcome}
 use Rattle.tf_states.specs.declared.record.Entry.{Entry}
@@ -20,10 +21,9 @@ use Rattle.tf_board.proofs.DoesLemmas.{complete_so}
 use Rattle.tf_commands.specs.Asking.{demo_tree, Counts, HasEachCause, HasNoFault}
 use Rattle.tf_commands.specs.Messages.{Audits}
 use Rattle.tf_words.specs.Words.{command_of}
-use Rattle.tf_commands.specs.Books.{Unopened, exhausted, disk_failed, no_book, Unhired, exhausted_hire, unhired, Promised, Runs, unopened, forbidden, unhired_run, ran, Demonstrates, ungenerated, demonstrated, Resumes, unopened_again, empty, unhired_again, resumed, ShowsBook, unopened_show, nothing_shown, shown_whole, ResetsBook, unopened_reset, nothing_put_back, reset_forbidden, was_reset}
+use Rattle.tf_commands.specs.Books.{Unopened, exhausted, disk_failed, no_book, Unhired, exhausted_hire, unhired, Promised, Runs, unopened, forbidden, unhired_run, ran, Demonstrates, ungenerated, demonstrated, Resumes, unopened_again, empty, unhired_again, resumed, ShowsBook, unopened_show, nothing_shown, shown_whole, ResetsBook, unopened_reset, nothing_put_back, reset_forbidden, was_reset, book_at, HoldsNoFlow, IsResetSaid, all_back, disk_failed_back, filled_back, spoken_run, heading_of, stop_status, MayRun, Ran, ShowsLines, closed, line_cut, stopped, IsLastSaid, reported, disk_failed as disk_said, filled, disk_failed_opening}
 use Rattle.tf_commands.specs.Course as course
-use Rattle.tf_commands.specs.Course.{Tries, Checks, Course, Obeys, source_so, HoldsFlow, HoldsReverted, IsRunComplete, IsRunCompleteBy, IsDoneComplete, IsResetComplete, MayBeDone, IsComplete}
-use Rattle.tf_commands.specs.Run.{book_at, HoldsNoFlow, IsResetSaid, all_back, disk_failed_back, filled_back, spoken_run, heading_of, stop_status, MayRun, Ran, ShowsLines, closed, line_cut, stopped, IsLastSaid, reported, disk_failed as disk_said, filled}
+use Rattle.tf_commands.specs.Course.{PortsTold, Tries, Checks, Course, Obeys, source_so, HoldsFlow, HoldsReverted, IsRunComplete, IsRunCompleteBy, IsDoneComplete, IsResetComplete, MayBeDone, IsComplete}
 use Rattle.tf_commands.specs.declared.running.Request.{Request}
 use Rattle.tf_report.specs.Closing.{ClosesWithOrStops}
 use Rattle.tf_report.proofs.ClosingLemmas.{closes_status}
@@ -162,7 +162,7 @@ reset_well plan past entries before after closing status u (stopped text) = inr 
 unopened_well : (name : List ℕ) (entry now : DeskState) (status : ℕ) → IsUnhurt status → ((offset : ℕ) (byte : Option ℕ) → ¬ (IsNoBook (book_at entry name) offset byte)) → IsTrue entry.tells
     → Unopened name entry now status → status ≡ 9
 unopened_well name entry now status u book told (exhausted stops) = stops.status_is
-unopened_well name entry now status u book told (disk_failed r) = absurd (⊎_elim u.sound u.sayable (closes_status entry.shown now.shown _ 5 status r.closes))
+unopened_well name entry now status u book told (disk_failed_opening r) = absurd (⊎_elim u.sound u.sayable (closes_status entry.shown now.shown _ 5 status r.closes))
 unopened_well name entry now status u book told (no_book offset byte is r) = absurd (book offset byte (is told))
 
 unhired_well : (name : List ℕ) (entry now : DeskState) (hired after_hiring : Option (List Want)) (status : ℕ) → IsUnhurt status
@@ -233,53 +233,53 @@ out_complete (asked.Owner board id) status is = inr (inl is)
 out_complete (asked.List board) status is = inr (inl is)
 
 module _ {K : Type 0} (state : K → DeskState) where
-  asked_well : (gives : Want → Order → Outcome → Type 0) (asked_so : Type 0) (command : Asked) (files : Contents) (hired after_hiring : Option (List Want)) (entry now : K) (status : ℕ) → IsUnhurt status → ¬ asked_so
-      → MayBeDone command files (state entry) → Obeys state gives asked_so command files hired after_hiring entry now status → IsComplete command status
-  asked_well gives asked_so (asked.Try file sets defer hands target) files hired after_hiring entry now status u unasked ready obeys =
-      well_or_out None status (Tries (gives hands) hands asked_so hired after_hiring (state entry).shown (state now).shown) (λ plan did. tries_well hired after_hiring (state entry).shown (state now).shown plan status u unasked did)
+  asked_well : (gives : Want → Order → Outcome → Type 0) (asked_so : Type 0) (command : Asked) (files : Contents) (ports later : PortsTold) (entry now : K) (status : ℕ) → IsUnhurt status → ¬ asked_so
+      → MayBeDone command files (state entry) → Obeys state gives asked_so command files ports later entry now status → IsComplete command status
+  asked_well gives asked_so (asked.Try file sets defer hands target) files ports later entry now status u unasked ready obeys =
+      well_or_out None status (Tries (gives hands) hands asked_so ports.hired later.hired (state entry).shown (state now).shown) (λ plan did. tries_well ports.hired later.hired (state entry).shown (state now).shown plan status u unasked did)
       (accepted_done files (source_so file sets defer target) _ _ (state entry).shown (state now).shown status ready u.readable u.sayable obeys.0)
-  asked_well gives asked_so (asked.Check file sets target) files hired after_hiring entry now status u unasked ready obeys =
+  asked_well gives asked_so (asked.Check file sets target) files ports later entry now status u unasked ready obeys =
       done_or_out status (Checks (state entry).shown (state now).shown) (λ plan did. checks_well (state entry).shown (state now).shown _ status u did)
       (accepted_done files (source_so file sets false target) _ _ (state entry).shown (state now).shown status ready u.readable u.sayable obeys.0)
-  asked_well gives asked_so (asked.Audit file log sets defer) files hired after_hiring entry now status u unasked ready obeys =
+  asked_well gives asked_so (asked.Audit file log sets defer) files ports later entry now status u unasked ready obeys =
       audits_well files (source_so file sets defer None) log status u.readable u.sayable
       (audited_whole status (Audits files log (state entry).shown (state now).shown) (λ plan did. audits_whole files log (state entry).shown (state now).shown plan status did)
       (accepted_done files (source_so file sets defer None) _ _ (state entry).shown (state now).shown status ready.0 u.readable u.sayable obeys.0))
       ready.1 (audit_status files (source_so file sets defer None) log (state entry).shown (state now).shown status _ obeys.0)
-  asked_well gives asked_so (asked.Run file book sets defer hands stop target) files hired after_hiring entry now status u unasked ready obeys =
-      well_or_out stop status (Runs (gives hands) (spoken_run hands stop) asked_so book hired after_hiring (state entry) (state now))
-      (λ plan did. runs_well book hired after_hiring (state entry) (state now) plan status u unasked ready.1.0 ready.1.1 did)
+  asked_well gives asked_so (asked.Run file book sets defer hands stop target) files ports later entry now status u unasked ready obeys =
+      well_or_out stop status (Runs (gives hands) (spoken_run hands stop) asked_so book ports.hired later.hired (state entry) (state now))
+      (λ plan did. runs_well book ports.hired later.hired (state entry) (state now) plan status u unasked ready.1.0 ready.1.1 did)
       (accepted_done files (source_so file sets defer target) _ _ (state entry).shown (state now).shown status ready.0 u.readable u.sayable obeys)
-  asked_well gives asked_so (asked.Resume book hands stop) files hired after_hiring entry now status u unasked ready obeys =
-      resumes_well book hired after_hiring (state entry) (state now) status u unasked ready.0 ready.1 obeys
-  asked_well gives asked_so (asked.Show book) files hired after_hiring entry now status u unasked ready obeys = shows_well book (state entry) (state now) status u ready.0 ready.1 obeys.0
-  asked_well gives asked_so (asked.Reset book) files hired after_hiring entry now status u unasked ready obeys = resets_well book (state entry) (state now) status u ready.0 ready.1 obeys.0
-  asked_well gives asked_so (asked.Demo seed size book hands) files hired after_hiring entry now status u unasked ready obeys =
-      demonstrates_well book hired after_hiring entry now seed size status u unasked ready.0 ready.1 obeys
-  asked_well gives asked_so (asked.Worker address sessions) files hired after_hiring entry now status u unasked ready obeys =
-      works_well status u (works_one hired after_hiring (state entry).shown (state now).shown sessions status obeys.0)
-  asked_well gives asked_so (asked.Post board name priority details) files hired after_hiring entry now status u unasked ready obeys =
+  asked_well gives asked_so (asked.Resume book hands stop) files ports later entry now status u unasked ready obeys =
+      resumes_well book ports.hired later.hired (state entry) (state now) status u unasked ready.0 ready.1 obeys
+  asked_well gives asked_so (asked.Show book) files ports later entry now status u unasked ready obeys = shows_well book (state entry) (state now) status u ready.0 ready.1 obeys.0
+  asked_well gives asked_so (asked.Reset book) files ports later entry now status u unasked ready obeys = resets_well book (state entry) (state now) status u ready.0 ready.1 obeys.0
+  asked_well gives asked_so (asked.Demo seed size book hands) files ports later entry now status u unasked ready obeys =
+      demonstrates_well book ports.hired later.hired entry now seed size status u unasked ready.0 ready.1 obeys
+  asked_well gives asked_so (asked.Worker address sessions) files ports later entry now status u unasked ready obeys =
+      works_well status u (works_one (gives (want.Local 1)) ports.hired later.hired ports.door later.door (state entry).shown (state now).shown address sessions status obeys.0)
+  asked_well gives asked_so (asked.Post board name priority details) files ports later entry now status u unasked ready obeys =
       complete_so (asked.Post board name priority details) board (state entry) (state now) status obeys.0 ready.0 ready.1 u.sound u.sayable
-  asked_well gives asked_so (asked.Claim board id owner) files hired after_hiring entry now status u unasked ready obeys =
+  asked_well gives asked_so (asked.Claim board id owner) files ports later entry now status u unasked ready obeys =
       complete_so (asked.Claim board id owner) board (state entry) (state now) status obeys.0 ready.0 ready.1 u.sound u.sayable
-  asked_well gives asked_so (asked.Abandon board id owner) files hired after_hiring entry now status u unasked ready obeys =
+  asked_well gives asked_so (asked.Abandon board id owner) files ports later entry now status u unasked ready obeys =
       complete_so (asked.Abandon board id owner) board (state entry) (state now) status obeys.0 ready.0 ready.1 u.sound u.sayable
-  asked_well gives asked_so (asked.Consume board id owner) files hired after_hiring entry now status u unasked ready obeys =
+  asked_well gives asked_so (asked.Consume board id owner) files ports later entry now status u unasked ready obeys =
       complete_so (asked.Consume board id owner) board (state entry) (state now) status obeys.0 ready.0 ready.1 u.sound u.sayable
-  asked_well gives asked_so (asked.Trash board id owner) files hired after_hiring entry now status u unasked ready obeys =
+  asked_well gives asked_so (asked.Trash board id owner) files ports later entry now status u unasked ready obeys =
       complete_so (asked.Trash board id owner) board (state entry) (state now) status obeys.0 ready.0 ready.1 u.sound u.sayable
-  asked_well gives asked_so (asked.Owner board id) files hired after_hiring entry now status u unasked ready obeys =
+  asked_well gives asked_so (asked.Owner board id) files ports later entry now status u unasked ready obeys =
       complete_so (asked.Owner board id) board (state entry) (state now) status obeys.0 ready.0 ready.1 u.sound u.sayable
-  asked_well gives asked_so (asked.List board) files hired after_hiring entry now status u unasked ready obeys =
+  asked_well gives asked_so (asked.List board) files ports later entry now status u unasked ready obeys =
       complete_so (asked.List board) board (state entry) (state now) status obeys.0 ready.0 ready.1 u.sound u.sayable
 
   -- where nothing stands against it and no count of faults rose, what was asked for was done
-  pub completes : {gives : Want → Order → Outcome → Type 0} {asked_so : Type 0} (words : List (List ℕ)) (files : Contents) (hired after_hiring : Option (List Want)) (entry now : K) (status : ℕ) (before after : Counts)
-      → Course state gives asked_so words files hired after_hiring entry now status → HasEachCause status before after
+  pub completes : {gives : Want → Order → Outcome → Type 0} {asked_so : Type 0} (words : List (List ℕ)) (files : Contents) (ports later : PortsTold) (entry now : K) (status : ℕ) (before after : Counts)
+      → Course state gives asked_so words files ports later entry now status → HasEachCause status before after
       → (command : Asked) → command_of words ≡ Some command → MayBeDone command files (state entry) → HasNoFault before after → ¬ asked_so → IsComplete command status
-  completes words files hired after_hiring entry now status before after (course.unheard is same still) causes command wanted ready none unasked = out_complete command status is
-  completes words files hired after_hiring entry now status before after (course.no_command unknown closes still) causes command wanted ready none unasked = absurd (cc)
-  completes {gives} {asked_so} words files hired after_hiring entry now status before after (course.obeyed other asks obeys) causes command wanted ready none unasked =
+  completes words files ports later entry now status before after (course.unheard is same still) causes command wanted ready none unasked = out_complete command status is
+  completes words files ports later entry now status before after (course.no_command unknown closes still) causes command wanted ready none unasked = absurd (cc)
+  completes {gives} {asked_so} words files ports later entry now status before after (course.obeyed other asks obeys) causes command wanted ready none unasked =
       let same : other ≡ command = cc in
-      asked_well gives asked_so command files hired after_hiring entry now status (unhurt status before after causes none) unasked ready
-      (subst (λ (c : Asked). Obeys state gives asked_so c files hired after_hiring entry now status) same obeys)
+      asked_well gives asked_so command files ports later entry now status (unhurt status before after causes none) unasked ready
+      (subst (λ (c : Asked). Obeys state gives asked_so c files ports later entry now status) same obeys)

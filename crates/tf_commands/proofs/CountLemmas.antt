@@ -1,12 +1,12 @@
 -- The counts of faults on the way through a command on a book.
 use Rattle.std.proofs.Common.{◌≡◌, ◌≢◌, ◌⊎◌, ℕ, ◌≤◌, List, Option, sym, ◌∙◌, inl, inr, ⊎_elim, refl, arith}
-use Rattle.tf_desk.specs.Crash.{Rises, Pairs}
+use Rattle.tf_numbers.specs.Numbers.{Rises}
+use Rattle.tf_desk.specs.Crash.{Pairs}
 use Rattle.tf_desk.specs.State.{DeskState, GoesOn, Continues}
 use Rattle.tf_journal.specs.Start.{Untouched}
-use Rattle.tf_commands.specs.Books.{Unopened, exhausted, disk_failed, no_book}
+use Rattle.tf_commands.specs.Books.{Unopened, exhausted, disk_failed_opening, no_book, HasSaid}
 use Rattle.tf_commands.specs.Asking.{HasEachCause, counts_of}
 use Rattle.tf_commands.specs.Runs.{HasEnded}
-use Rattle.tf_commands.specs.Run.{HasSaid}
 use Rattle.tf_report.specs.Closing.{ClosesWith}
 use Rattle.tf_report.proofs.ClosingLemmas.{closes_status}
 use Rattle.tf_report.specs.declared.statuses.TheConstants.{UNREAD, DISK_FAILED, NO_BOOK, UNSAID, UNHIRED, OUT_OF_MEMORY, FORBIDDEN}
@@ -69,5 +69,5 @@ forbids_hired status (inr (inr is)) = (λ other. omega (arith, is, other), λ ot
 -- nor is one that couldn't open its book
 pub unopened_hired : (name : List ℕ) (entry now : DeskState) (status : ℕ) → Unopened name entry now status → status ≢ UNHIRED
 unopened_hired name entry now status (exhausted stops) is = let memory : status ≡ OUT_OF_MEMORY = stops.status_is in omega (arith, is, memory)
-unopened_hired name entry now status (disk_failed r) is = closes_hired entry.shown now.shown _ DISK_FAILED status (λ same. omega (arith, same)) r.closes is
+unopened_hired name entry now status (disk_failed_opening r) is = closes_hired entry.shown now.shown _ DISK_FAILED status (λ same. omega (arith, same)) r.closes is
 unopened_hired name entry now status (no_book offset byte found r) is = closes_hired entry.shown now.shown _ NO_BOOK status (λ same. omega (arith, same)) r.closes is

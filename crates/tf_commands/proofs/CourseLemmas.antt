@@ -12,15 +12,16 @@ use Rattle.tf_machine.specs.Machine.{MachineValue}
 use Rattle.tf_words.specs.Words.{IsDemo}
 use Rattle.tf_words.specs.declared.asked.Asked.{Asked}
 use Rattle.tf_words.specs.declared.asked.Asked.TheVariants as asked
-use Rattle.tf_commands.specs.Asking.{IsWithin, want_of, wanted_by, GivesNone, is_want_of_memory, IsReason}
+use Rattle.tf_accept.specs.Accepted.{GivesNone, is_want_of_memory, IsReason}
+use Rattle.tf_commands.specs.Asking.{IsWithin, want_of, wanted_by}
 use Rattle.tf_words.specs.Words.{command_of}
-use Rattle.tf_commands.specs.Course.{BytesRead, exhausted, refused, done, FileRead, unfinished, unread, too_long, read, Undone, Obeys, HiresAsWanted}
+use Rattle.tf_commands.specs.Course.{PortsTold, BytesRead, exhausted, refused, done, FileRead, unfinished, unread, too_long, read, Undone, Obeys, HiresAsWanted}
 use Rattle.tf_commands.specs.Messages.{refusal, reason_text}
 use Rattle.tf_commands.specs.Opened.{Opened}
 use Rattle.tf_report.specs.Closing.{ClosesWithOrStops}
 use Rattle.tf_report.specs.declared.statuses.TheConstants.{REFUSED, OUT_OF_MEMORY}
-use Rattle.tf_commands.specs.declared.accepting.Refusal.{Refusal}
-use Rattle.tf_commands.specs.declared.accepting.Refusal.TheVariants as reason
+use Rattle.tf_accept.specs.declared.accepting.Refusal.{Refusal}
+use Rattle.tf_accept.specs.declared.accepting.Refusal.TheVariants as reason
 use Rattle.tf_commands.specs.declared.reading.Source.{Source}
 use Rattle.tf_commands.proofs.HandLemmas.{HasHands}
 
@@ -88,11 +89,11 @@ done_file files source quiet m does before after status opened did = read opened
 
 module _ {K : Type 0} (state : K → DeskState) where
   -- what becomes of a command that is another's
-  pub obeys_so : (gives : Want → Order → Outcome → Type 0) (stopped : Type 0) (command other : Asked) (files : Contents) (hired after_hiring : Option (List Want)) (entry now : K) (status : ℕ) → command ≡ other
-      → Obeys state gives stopped other files hired after_hiring entry now status
-      → Obeys state gives stopped command files hired after_hiring entry now status
-  obeys_so gives stopped command other files hired after_hiring entry now status is obeys =
-      subst (λ (asks : Asked). Obeys state gives stopped asks files hired after_hiring entry now status) (sym is) obeys
+  pub obeys_so : (gives : Want → Order → Outcome → Type 0) (stopped : Type 0) (command other : Asked) (files : Contents) (ports later : PortsTold) (entry now : K) (status : ℕ) → command ≡ other
+      → Obeys state gives stopped other files ports later entry now status
+      → Obeys state gives stopped command files ports later entry now status
+  obeys_so gives stopped command other files ports later entry now status is obeys =
+      subst (λ (asks : Asked). Obeys state gives stopped asks files ports later entry now status) (sym is) obeys
 
 -- nobody was hired
 pub hires_nobody : (hands : Option Want) (hired : Option (List Want)) → HiresAsWanted hands hired hired

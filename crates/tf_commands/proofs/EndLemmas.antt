@@ -11,10 +11,9 @@ use Rattle.tf_states.specs.declared.state.FlowState.TheVariants as flow
 use Rattle.tf_model.specs.Plan.{outline_of}
 use Rattle.tf_book.specs.Turns.{is_reached}
 use Rattle.tf_commands.specs.Asking.{demo_tree}
-use Rattle.tf_commands.specs.Books.{Unopened, exhausted, disk_failed, no_book, Refuses, Unhired, exhausted_hire, unhired, Promised, Runs, unopened, forbidden, unhired_run, ran, Demonstrates, ungenerated, demonstrated, Resumes, unopened_again, empty, unhired_again, resumed, ShowsBook, unopened_show, nothing_shown, shown_whole, ResetsBook, unopened_reset, nothing_put_back, reset_forbidden, was_reset}
+use Rattle.tf_commands.specs.Books.{Unopened, exhausted, disk_failed, no_book, Refuses, Unhired, exhausted_hire, unhired, Promised, Runs, unopened, forbidden, unhired_run, ran, Demonstrates, ungenerated, demonstrated, Resumes, unopened_again, empty, unhired_again, resumed, ShowsBook, unopened_show, nothing_shown, shown_whole, ResetsBook, unopened_reset, nothing_put_back, reset_forbidden, was_reset, IsResetSaid, all_back, disk_failed_back, filled_back, heading_of, stop_status, MayRun, Ran, ShowsLines, closed, line_cut, stopped, IsLastSaid, reported, disk_failed as disk_said, filled, disk_failed_opening}
 use Rattle.tf_commands.specs.Course as course
 use Rattle.tf_commands.specs.Course.{Tries, IsRunComplete}
-use Rattle.tf_commands.specs.Run.{IsResetSaid, all_back, disk_failed_back, filled_back, heading_of, stop_status, MayRun, Ran, ShowsLines, closed, line_cut, stopped, IsLastSaid, reported, disk_failed as disk_said, filled}
 use Rattle.tf_commands.specs.declared.running.Request.{Request}
 use Rattle.tf_report.specs.Closing.{ClosesWithOrStops}
 use Rattle.tf_report.proofs.ClosingLemmas.{closes_status}
@@ -134,7 +133,7 @@ refuses_ended name entry now message wanted status ended r =
 
 unopened_ended : (name : List ℕ) (entry now : DeskState) (status : ℕ) → Unopened name entry now status → Ended status
 unopened_ended name entry now status (exhausted stops) = out_ends status stops.status_is
-unopened_ended name entry now status (disk_failed r) = refuses_ended name entry now _ 5 status (is_failed refl) r
+unopened_ended name entry now status (disk_failed_opening r) = refuses_ended name entry now _ 5 status (is_failed refl) r
 unopened_ended name entry now status (no_book offset byte is r) = refuses_ended name entry now _ 6 status (is_no_book refl) r
 
 unhired_ended : (name : List ℕ) (entry now : DeskState) (hired after_hiring : Option (List Want)) (status : ℕ) → Unhired name entry now hired after_hiring status → Ended status

@@ -3,13 +3,14 @@ use Rattle.std.proofs.Common.{◌≡◌, ◌⊎◌, ℕ, List, length, Option, S
 use Rattle.tf_flow.specs.Plan.{PlanTree}
 use Rattle.tf_ports.specs.Ports.{Contents, GivesBytes, PassesLimit}
 use Rattle.tf_words.specs.declared.asked.Asked.{Asked}
-use Rattle.tf_commands.specs.Asking.{GivesWhole, GivesNone, file_asked_for}
+use Rattle.tf_accept.specs.Accepted.{GivesWhole, GivesNone}
+use Rattle.tf_commands.specs.Asking.{file_asked_for}
 use Rattle.tf_words.specs.Words.{command_of}
 use Rattle.tf_commands.specs.Course as course
 use Rattle.tf_commands.specs.Course.{BytesRead, FileRead, IsRefused, passes_limit, gives_none, IsAccepted}
-use Rattle.tf_commands.specs.declared.accepting.Refusal.{Refusal}
+use Rattle.tf_accept.specs.declared.accepting.Refusal.{Refusal}
 use Rattle.tf_commands.specs.declared.reading.Source.{Source}
-use Rattle.tf_commands.proofs.AcceptLemmas.{gives_one}
+use Rattle.tf_accept.proofs.AcceptLemmas.{gives_one}
 use Rattle.tf_commands.proofs.EndLemmas.{Ended, is_unsaid, out_ends, ended_apart, ended_unrefused, ended_no_log}
 use Rattle.tf_report.proofs.ClosingLemmas.{closes_status}
 

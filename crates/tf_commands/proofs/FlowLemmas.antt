@@ -5,7 +5,7 @@ use Rattle.tf_states.specs.declared.record.Entry.{Entry}
 use Rattle.tf_journal.specs.Format.{Recovered, unborn, bodies, not_a_book}
 use Rattle.tf_book.specs.Book.{bodies_of, IsNoBook}
 use Rattle.tf_records.specs.Refusing.{no_journal, bad_body}
-use Rattle.tf_commands.specs.Run.{HoldsNoFlow, HoldsHistory}
+use Rattle.tf_commands.specs.Books.{HoldsNoFlow, HoldsHistory}
 
 -- it is no book and holds no flow, or is a book with one: not both
 pub no_book_held : (found : Recovered) (offset : ℕ) (byte : Option ℕ) → HoldsNoFlow found → IsNoBook found offset byte → ⊥

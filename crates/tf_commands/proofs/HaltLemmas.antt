@@ -2,7 +2,8 @@
 use Rattle.std.proofs.Common.{◌≡◌, ◌≢◌, ◌⊎◌, ℕ, List, [], ◌++◌, Bool, false, Option, Some, None, refl, sym, ap, ◌∙◌, subst, inl, inr, ⊎_elim, append_assoc, arith}
 use Rattle.std.specs.Prelude.{IsTrue}
 use Rattle.tf_desk.proofs.StateLemmas.{bytes_stay, left_stays, files_none, extends_told, passes_then}
-use Rattle.tf_desk.specs.Crash.{Rises, shown_with, ShowsPrefix}
+use Rattle.tf_numbers.specs.Numbers.{Rises}
+use Rattle.tf_desk.specs.Crash.{shown_with, ShowsPrefix}
 use Rattle.tf_desk.specs.State.{DeskState, Passes, Says, SaysPrefix, nothing_left, passes_none, passes_on, passes_within}
 use Rattle.tf_flow.specs.Plan.{PlanValue}
 use Rattle.tf_states.specs.declared.record.Entry.{Entry}
@@ -19,7 +20,7 @@ use Rattle.tf_book.specs.declared.faults.Halt.TheVariants as halt
 use Rattle.tf_book.proofs.SpokenLemmas.{shown_none}
 use Rattle.tf_report.specs.Closing.{disk_fault_text, book_full, ClosesWith, said as was_said, cut}
 use Rattle.tf_report.specs.declared.statuses.TheConstants.{UNSAID, UNREAD, UNHIRED, DISK_FAILED, FULL}
-use Rattle.tf_commands.specs.Run.{ShowsLines, closed, line_cut, stopped, book_in, HoldsHistory, IsPendingSo, MayLeave}
+use Rattle.tf_commands.specs.Books.{ShowsLines, closed, line_cut, stopped, book_in, HoldsHistory, IsPendingSo, MayLeave}
 use Rattle.tf_commands.specs.Runs.{SaysHalt, HasMessage, HasSaidHalt, book_desk, LastsFrom, HasEnded}
 
 -- nothing was said

@@ -6,8 +6,7 @@ use Rattle.tf_ports.specs.declared.crews.Want.{Want}
 use Rattle.tf_ports.specs.declared.crews.Want.TheVariants as want
 use Rattle.tf_values.specs.Text.{is_name}
 use Rattle.tf_words.specs.Words.{worker_of, address_of, addresses_in, addresses_of, pieces_behind, sessions_in, Applied, id_in, post_of, owner_of, list_of, applied_in, priority_in, details_in, hands_in, remote_of, want_by, want_in, deferral_in, stop_in, target_in, try_of, run_of, resume_of, show_of, reset_of, check_of, audit_of, demo_of, asked_by, asked_of, command_of}
-use Rattle.tf_words.specs.Spelled.{number_between, sets_behind}
-use Rattle.tf_words.specs.Verbs.{Said, once, are_filled, said_by, Choice, choice_of, forms_of}
+use Rattle.tf_words.specs.Verbs.{number_between, sets_behind, Said, once, are_filled, said_by, Choice, choice_of, forms_of}
 use Rattle.tf_words.specs.declared.asked.Asked.{Asked}
 use Rattle.tf_words.specs.declared.asked.Asked.TheVariants as asked
 use Rattle.tf_words.specs.declared.verbs.Verb.{Verb}

@@ -1,5 +1,4 @@
 pub mod MessageLemmas
-pub mod AcceptLemmas
 pub mod RegionLemmas
 pub mod ReachLemmas
 pub mod ReportLemmas

@@ -17,8 +17,7 @@ use Rattle.tf_book.proofs.InvariantLemmas.{history_on}
 use Rattle.tf_book.proofs.SpokenLemmas.{shown_none}
 use Rattle.tf_journal.proofs.PathLemmas.{set_start, path_said}
 use Rattle.tf_commands.specs.Begun.{Begins, Unbegun}
-use Rattle.tf_commands.specs.Books.{Promised}
-use Rattle.tf_commands.specs.Run.{book_in, book_at, HoldsNoFlow, HoldsHistory, FindsHistory, MayLeave, Lasts, MayRun, Ran, RunShows, closed, stopped, disk_failed}
+use Rattle.tf_commands.specs.Books.{Promised, book_in, book_at, HoldsNoFlow, HoldsHistory, FindsHistory, MayLeave, Lasts, MayRun, Ran, RunShows, closed, stopped, disk_failed}
 use Rattle.tf_report.specs.Closing.{disk_fault_text, ClosesWith}
 use Rattle.tf_report.specs.declared.statuses.TheConstants.{DISK_FAILED, OUT_OF_MEMORY}
 use Rattle.tf_commands.specs.declared.running.Request.{Request}

@@ -20,7 +20,7 @@ use Rattle.tf_model.specs.Steps.{has_ended, Rule, by_force, by_choice, by_end_of
 use Rattle.tf_facts.proofs.PastLemmas.{reversion_completed}
 use Rattle.tf_hands.specs.Hands.{is_of_flow}
 use Rattle.tf_hands.proofs.ForcedLemmas.{forced_within}
-use Rattle.tf_commands.specs.Run.{is_beside_flow, EndsBy, HasReached}
+use Rattle.tf_commands.specs.Books.{is_beside_flow, EndsBy, HasReached}
 use Rattle.tf_commands.proofs.RegionLemmas.{all_settled}
 use Rattle.tf_hands.proofs.TakenLemmas.{taken_of}
 

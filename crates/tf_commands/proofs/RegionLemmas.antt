@@ -30,7 +30,7 @@ use Rattle.tf_model.proofs.Told.{retry_in}
 use Rattle.tf_model.specs.Steps.{Rule, by_force, by_choice, by_end_of_task, by_turn, by_end, by_suspension, by_reset, LegalPast, ends_task, turns_flow, reset, put_back_or_rest, is_put_back_at, is_settled_at}
 use Rattle.tf_model.proofs.ResolutionLemmas.{root_holds}
 use Rattle.tf_hands.proofs.TakenLemmas.{taken_of}
-use Rattle.tf_commands.specs.Run.{has_no_retry, has_no_retries}
+use Rattle.tf_commands.specs.Books.{has_no_retry, has_no_retries}
 
 -- ---- every failure is resolved to the root
 

@@ -1,6 +1,7 @@
 -- What a run says last: its report, or nothing where the output failed or memory ran out before.
 use Rattle.std.proofs.Common.{◌≡◌, ◌≢◌, ℕ, List, [], ◌++◌, Option, Some, None, refl, sym, ap, ◌∙◌, subst, arith}
-use Rattle.tf_desk.specs.Crash.{Rises, shown_with, ShowsPrefix}
+use Rattle.tf_numbers.specs.Numbers.{Rises}
+use Rattle.tf_desk.specs.Crash.{shown_with, ShowsPrefix}
 use Rattle.tf_desk.specs.State.{DeskState}
 use Rattle.tf_flow.specs.Plan.{PlanValue}
 use Rattle.tf_states.specs.declared.record.Entry.{Entry}
@@ -19,7 +20,7 @@ use Rattle.tf_book.specs.declared.faults.BookFault.TheVariants as fault
 use Rattle.tf_book.specs.declared.faults.Halt.{Halt}
 use Rattle.tf_book.specs.declared.faults.Halt.TheVariants as halt
 use Rattle.tf_commands.specs.declared.running.Request.{Request}
-use Rattle.tf_commands.specs.Run.{heading_of, stop_status, reported, RunShows, closed, stopped}
+use Rattle.tf_commands.specs.Books.{heading_of, stop_status, reported, RunShows, closed, stopped}
 use Rattle.tf_commands.specs.Runs.{HasEnded}
 use Rattle.tf_report.specs.Closing.{ClosesWith, said as was_said, cut}
 use Rattle.tf_report.specs.declared.statuses.TheConstants.{UNSAID, OUT_OF_MEMORY, DISK_FAILED}

@@ -19,8 +19,7 @@ use Rattle.tf_book.specs.declared.faults.Halt.{Halt}
 use Rattle.tf_book.specs.declared.faults.Halt.TheVariants as halt
 use Rattle.tf_book.proofs.SpokenLemmas.{shown_none}
 use Rattle.tf_journal.specs.Start.{Open}
-use Rattle.tf_commands.specs.Books.{Refuses, RefusesOrStops, exhausted, ResetsBook, unopened_reset, reset_forbidden, was_reset}
-use Rattle.tf_commands.specs.Run.{Lasts, PutBack, IsResetSaid, all_back, disk_failed_back, filled_back, ShowsLines, closed}
+use Rattle.tf_commands.specs.Books.{Refuses, RefusesOrStops, exhausted, ResetsBook, unopened_reset, reset_forbidden, was_reset, Lasts, PutBack, IsResetSaid, all_back, disk_failed_back, filled_back, ShowsLines, closed}
 use Rattle.tf_commands.specs.Messages.{state_forbids}
 use Rattle.tf_commands.specs.Runs.{HoldsBook, HasSaidHalt, book_desk, IsPutBackTo, GoesBack}
 use Rattle.tf_report.specs.Closing.{said as was_said}

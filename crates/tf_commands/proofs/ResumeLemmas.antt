@@ -12,7 +12,7 @@ use Rattle.tf_book.specs.Book.{BookValue, outline, flow_state, IsHistoryOf}
 use Rattle.tf_book.proofs.InvariantLemmas.{keeps_none}
 use Rattle.tf_commands.specs.declared.running.Request.{Request}
 use Rattle.tf_book.proofs.TriedLemmas.{unhalted_tried}
-use Rattle.tf_commands.specs.Run.{MayRun}
+use Rattle.tf_commands.specs.Books.{MayRun}
 use Rattle.tf_commands.specs.Runs.{HoldsBook, book_desk, IsRunTo, RunsOn, GoesFurther, went_on}
 use Rattle.tf_journal.specs.Start.{Open}
 use Rattle.tf_commands.proofs.PathLemmas.{ReadsPicked}

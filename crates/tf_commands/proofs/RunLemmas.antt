@@ -2,7 +2,8 @@
 use Rattle.std.proofs.Common.{◌≡◌, ◌≢◌, ℕ, List, [], ◌∷◌, ◌++◌, Bool, false, Option, Some, None, refl, sym, ap, ◌∙◌, subst, inl, inr, arith}
 use Rattle.std.proofs.lemmas.List.{append_cancel_right}
 use Rattle.tf_desk.proofs.StateLemmas.{continues_on, says_continues, extends_told}
-use Rattle.tf_desk.specs.Crash.{Rises, shown_with}
+use Rattle.tf_numbers.specs.Numbers.{Rises}
+use Rattle.tf_desk.specs.Crash.{shown_with}
 use Rattle.tf_desk.specs.State.{DeskState, Says, passes_within}
 use Rattle.tf_flow.specs.Plan.{PlanValue}
 use Rattle.tf_states.specs.declared.record.Entry.{Entry}
@@ -28,7 +29,7 @@ use Rattle.tf_book.specs.declared.faults.Halt.TheVariants as halt
 use Rattle.tf_engines.specs.Runs.{AreGiven, IsSession, MayRecord, MightRecord}
 use Rattle.tf_commands.specs.declared.running.Request.{Request}
 use Rattle.tf_book.specs.Turns.{IsTried}
-use Rattle.tf_commands.specs.Run.{heading_of, MayRun, HasSteps, HasReached, stop_status, IsLastSaid, reported, disk_failed, filled, ShowsLines, RunShows, closed, stopped, Ran, MayLeave}
+use Rattle.tf_commands.specs.Books.{heading_of, MayRun, HasSteps, HasReached, stop_status, IsLastSaid, reported, disk_failed, filled, ShowsLines, RunShows, closed, stopped, Ran, MayLeave}
 use Rattle.tf_commands.specs.Runs.{HasSaidHalt, IsRunTo, book_desk, RunsOn}
 use Rattle.tf_report.specs.Closing.{ClosesWith}
 use Rattle.tf_report.specs.declared.statuses.TheConstants.{UNSAID, OUT_OF_MEMORY, DISK_FAILED}

@@ -11,7 +11,7 @@ use Rattle.tf_book.proofs.SpokenLemmas.{shown_none}
 use Rattle.tf_commands.specs.Begun.{SaysUnbegun}
 use Rattle.tf_commands.specs.Asking.{HasEachCause, counts_of}
 use Rattle.tf_commands.specs.Course.{Tried}
-use Rattle.tf_commands.specs.Run.{TouchesNoFile, spoken_run, Ran, RunShows, closed, stopped, disk_failed, HasSaid}
+use Rattle.tf_commands.specs.Books.{TouchesNoFile, spoken_run, Ran, RunShows, closed, stopped, disk_failed, HasSaid}
 use Rattle.tf_report.specs.Closing.{disk_fault_text, ClosesWith}
 use Rattle.tf_report.specs.declared.statuses.TheConstants.{UNREAD, DISK_FAILED, UNHIRED}
 use Rattle.tf_commands.specs.declared.running.Request.{Request}

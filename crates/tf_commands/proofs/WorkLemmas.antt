@@ -1,15 +1,22 @@
 -- The lines of a worker's sessions.
-use Rattle.std.proofs.Common.{◌≡◌, ◌≢◌, ℕ, ◌+◌, ◌<◌, ◌≤◌, List, [], ◌∷◌, ◌++◌, length, take, Option, Some, None, inl, inr, refl, sym, ap, ◌∙◌, subst, arith, append_assoc, append-nil, length-append}
-use Rattle.std.specs.Prelude.{◌⊎◌, IsTrue}
+use Rattle.std.proofs.Common.{◌≡◌, ◌≢◌, ℕ, ◌+◌, ◌<◌, ◌≤◌, List, [], ◌∷◌, ◌++◌, length, take, get_or, Option, Some, None, inl, inr, refl, sym, ap, ◌∙◌, subst, arith, append_assoc, append-nil, length-append, map, Result, Ok, Err}
+use Rattle.std.specs.Prelude.{◌⊎◌, IsTrue, OnOk, IfErr}
 use Rattle.std.specs.List.{AllByRecursion}
 use Rattle.std.proofs.Math.Seq.{take-append-add}
+use Rattle.std.proofs.lemmas.List.{map-append, length-map, take_more}
+use Rattle.tf_actions.specs.Gives.{told_with}
+use Rattle.tf_actions.specs.declared.orders.Order.{Order}
+use Rattle.tf_actions.specs.declared.outcomes.Outcome.{Outcome}
+use Rattle.tf_ports.specs.Ports.{SeenLink, DoorTold, told_with_all, opened_at, gave_link, took_back}
+use Rattle.tf_ports.specs.declared.crews.Address.{Address}
 use Rattle.tf_ports.specs.declared.crews.Want.{Want}
+use Rattle.tf_workers.specs.Session.{Serves}
 use Rattle.tf_desk.specs.Crash.{shown_with, ShowsPrefix}
 use Rattle.tf_desk.specs.State.{DeskState, Says}
 use Rattle.tf_workers.specs.declared.serving.ServeEnd.{ServeEnd}
 use Rattle.tf_workers.specs.declared.serving.ServeEnd.TheVariants as end
-use Rattle.tf_commands.specs.Messages.{cannot_hire, cannot_listen, session_line, session_lines, IsOver, SaysSessions, SaysNext, StopsNext, ServesAll, Works, HasStopCause, HasServeCause, exhausted_next, no_next_link, unsaid_next, all_served, exhausted, no_link, cut_short, unbegun, unhired, unopened, worked}
-use Rattle.tf_commands.specs.Run.{OnlySays}
+use Rattle.tf_commands.specs.Messages.{cannot_hire, cannot_listen, session_line, session_lines, IsOver, Served, ends_of, seen_with, AreServed, GivesLinks, ServesNext, SaysSession, CutsSession, unsaid_whole, unsaid_part, SaysSessions, SaysNext, StopsNext, ServesAll, Works, HasStopCause, HasServeCause, exhausted_next, no_next_link, unsaid_next, all_served, exhausted, no_link, cut_short, unbegun, unhired, unopened, worked}
+use Rattle.tf_commands.specs.Books.{OnlySays}
 use Rattle.tf_report.specs.declared.statuses.TheConstants.{SUCCEEDED, UNHIRED, OUT_OF_MEMORY, UNSAID}
 use Rattle.tf_report.proofs.ClosingLemmas.{closes_status}
 
@@ -31,6 +38,16 @@ prefix_more before now after first second is more = record {
 shown_nothing : (shown : Option (List ℕ)) → shown ≡ shown_with shown []
 shown_nothing None = refl
 shown_nothing (Some text) = ap Some (sym (append-nil text))
+
+-- ---- answers
+
+pub on_ok : {A E : Type 0} (r : Result A E) (P Q : Type 0) → (P → Q) → OnOk r P → OnOk r Q
+on_ok (Ok x) P Q on had = on had
+on_ok (Err e) P Q on had = tt
+
+pub if_err : {A E : Type 0} (r : Result A E) (P Q : E → Type 0) → ((e : E) → P e → Q e) → IfErr r P → IfErr r Q
+if_err (Ok x) P Q on had = tt
+if_err (Err e) P Q on had = on e had
 
 -- ---- lines
 
@@ -59,20 +76,165 @@ next_line before number ends how long =
     ap (λ (n : ℕ). session_lines 1 ends ++ session_line n how) same ∙ sym (lines_more 1 ends how)
 
 -- one session more
-pub says_more : (before now after : Option (List ℕ)) (number : ℕ) (ends : List ServeEnd) → length ends ≡ number → SaysSessions before now ends → (next : SaysNext now after (number + 1)) → SaysSessions before after (ends ++ next.how ∷ [])
-says_more before now after number ends long says next = record {
-  over = over_more ends next.how says.over next.over;
-  said = shown_more before now after (session_lines 1 ends) (session_line (number + 1) next.how) says.said next.said ∙ ap (shown_with before) (next_line before number ends next.how long);
+says_more : (before now after : Option (List ℕ)) (number : ℕ) (ends : List ServeEnd) (how : ServeEnd) → length ends ≡ number → SaysSessions before now ends → SaysSession now after (number + 1) how → SaysSessions before after (ends ++ how ∷ [])
+says_more before now after number ends how long says next = record {
+  over = over_more ends how says.over next.over;
+  said = shown_more before now after (session_lines 1 ends) (session_line (number + 1) how) says.said next.said ∙ ap (shown_with before) (next_line before number ends how long);
 }
 
+-- ---- links and hands
+
+served_more : (gives : Order → Outcome → Type 0) (did now after : Option (List Order)) (served : List Served) (session : Served) → AreServed gives did served now → session.did ≡ after
+    → Serves gives (seen_with session.first now) (seen_with session.last after) session.how → AreServed gives did (served ++ session ∷ []) after
+served_more gives did now after [] session are same serves = (
+  subst (λ (had : Option (List Order)). Serves gives (seen_with session.first had) (seen_with session.last session.did) session.how) are
+      (subst (λ (has : Option (List Order)). Serves gives (seen_with session.first now) (seen_with session.last has) session.how) (sym same) serves),
+  sym same,
+)
+served_more gives did now after (first ∷ others) session are same serves = (are.0, served_more gives first.did now after others session are.1 same serves)
+
+told_on : {X : Type 0} (told : Option (List X)) (xs : List X) (x : X) → told_with (told_with_all told xs) x ≡ told_with_all told (xs ++ x ∷ [])
+told_on None xs x = refl
+told_on (Some had) xs x = ap Some (append_assoc had xs (x ∷ []))
+
+-- behind the first few of the addresses the next one was dialled
+pub dialled_next : (addresses : List Address) (i : ℕ) (one : Address) (before now after : Option (List Address)) → i < length addresses → one ≡ get_or addresses i one
+    → now ≡ told_with_all before (take i addresses) → after ≡ told_with now one → after ≡ told_with_all before (take (i + 1) addresses)
+dialled_next addresses i one before now after within is told next =
+    let more : take (i + 1) addresses ≡ take i addresses ++ one ∷ [] = take_more addresses i one within ∙ ap (λ (a : Address). take i addresses ++ a ∷ []) (sym is) in
+    next ∙ ap (λ (o : Option (List Address)). told_with o one) told ∙ told_on before (take i addresses) one ∙ ap (told_with_all before) (sym more)
+
+told_two : {X : Type 0} (told : Option (List X)) (xs ys : List X) → told_with_all (told_with_all told xs) ys ≡ told_with_all told (xs ++ ys)
+told_two None xs ys = refl
+told_two (Some had) xs ys = ap Some (append_assoc had xs ys)
+
+told_one : {X : Type 0} (told : Option (List X)) (x : X) → told_with told x ≡ told_with_all told (x ∷ [])
+told_one None x = refl
+told_one (Some had) x = refl
+
+told_nothing : {X : Type 0} (told : Option (List X)) → told ≡ told_with_all told []
+told_nothing None = refl
+told_nothing (Some had) = ap Some (sym (append-nil had))
+
+-- no link more
+pub links_none : (door : DoorTold) → GivesLinks [] [] [] door door
+links_none door = record { opened = refl; given = told_nothing door.given; returned = told_nothing door.returned }
+
+-- what was seen of the links of these sessions first, or last
+abbrev firsts : List Served → List SeenLink
+firsts served = map (λ session. session.first) served
+
+abbrev lasts : List Served → List SeenLink
+lasts served = map (λ session. session.last) served
+
+-- one session more
+links_more : (served : List Served) (session : Served) (old mid new : DoorTold) → GivesLinks served [] [] old mid → new ≡ took_back (gave_link mid session.first) session.last → GivesLinks (served ++ session ∷ []) [] [] old new
+links_more served session old mid new links is = record {
+  opened = ap (λ (door : DoorTold). door.opened) is ∙ links.opened;
+  given = ap (λ (door : DoorTold). door.given) is ∙ ap (λ (told : Option (List SeenLink)). told_with told session.first) (links.given ∙ ap (told_with_all old.given) (append-nil (firsts served)))
+      ∙ told_on old.given (firsts served) session.first ∙ ap (told_with_all old.given) (sym (map-append (λ (one : Served). one.first) served (session ∷ [])) ∙ sym (append-nil (firsts (served ++ session ∷ []))));
+  returned = ap (λ (door : DoorTold). door.returned) is ∙ ap (λ (told : Option (List SeenLink)). told_with told session.last) (links.returned ∙ ap (told_with_all old.returned) (append-nil (lasts served)))
+      ∙ told_on old.returned (lasts served) session.last ∙ ap (told_with_all old.returned) (sym (map-append (λ (one : Served). one.last) served (session ∷ [])) ∙ sym (append-nil (lasts (served ++ session ∷ []))));
+}
+
+-- some links more, of no session
+links_besides : (served : List Served) (more back : List SeenLink) (old mid new : DoorTold) → GivesLinks served [] [] old mid → GivesLinks [] more back mid new → GivesLinks served more back old new
+links_besides served more back old mid new links besides = record {
+  opened = besides.opened ∙ links.opened;
+  given = besides.given ∙ ap (λ (told : Option (List SeenLink)). told_with_all told more) (links.given ∙ ap (told_with_all old.given) (append-nil (firsts served))) ∙ told_two old.given (firsts served) more;
+  returned = besides.returned ∙ ap (λ (told : Option (List SeenLink)). told_with_all told back) (links.returned ∙ ap (told_with_all old.returned) (append-nil (lasts served))) ∙ told_two old.returned (lasts served) back;
+}
+
+-- a link that was given, and not back
+pub link_besides : (first : SeenLink) (old new : DoorTold) → new ≡ gave_link old first → GivesLinks [] (first ∷ []) [] old new
+link_besides first old new is = record {
+  opened = ap (λ (door : DoorTold). door.opened) is;
+  given = ap (λ (door : DoorTold). door.given) is ∙ told_one old.given first;
+  returned = ap (λ (door : DoorTold). door.returned) is ∙ told_nothing old.returned;
+}
+
+-- a link that was given, and then back
+pub link_and_back : (first last : SeenLink) (old new : DoorTold) → new ≡ took_back (gave_link old first) last → GivesLinks [] (first ∷ []) (last ∷ []) old new
+link_and_back first last old new is = record {
+  opened = ap (λ (door : DoorTold). door.opened) is;
+  given = ap (λ (door : DoorTold). door.given) is ∙ told_one old.given first;
+  returned = ap (λ (door : DoorTold). door.returned) is ∙ told_one old.returned last;
+}
+
+-- ---- the sessions so far
+
+-- so many sessions were served, and their lines were said
+pub record HasServed (gives : Order → Outcome → Type 0) (did now_did : Option (List Order)) (old new : DoorTold) (before now : Option (List ℕ)) (number : ℕ) : Type 0 where
+  pub served : List Served
+  pub long : length served ≡ number
+  pub are : AreServed gives did served now_did
+  pub links : GivesLinks served [] [] old new
+  pub says : SaysSessions before now (ends_of served)
+
+pub served_none : (gives : Order → Outcome → Type 0) (did : Option (List Order)) (door : DoorTold) (shown : Option (List ℕ)) → HasServed gives did did door door shown shown 0
+served_none gives did door shown = record { served = []; long = refl; are = refl; links = links_none door; says = says_none shown }
+
+ends_more : (served : List Served) (session : Served) → ends_of (served ++ session ∷ []) ≡ ends_of served ++ session.how ∷ []
+ends_more served session = map-append (λ (one : Served). one.how) served (session ∷ [])
+
+ends_long : (served : List Served) → length (ends_of served) ≡ length served
+ends_long served = length-map served (λ (one : Served). one.how)
+
+pub serves_more : (gives : Order → Outcome → Type 0) (did now_did later_did : Option (List Order)) (old mid new : DoorTold) (before now after : Option (List ℕ)) (number : ℕ)
+    → HasServed gives did now_did old mid before now number → SaysNext gives now_did later_did mid new now after (number + 1) → HasServed gives did later_did old new before after (number + 1)
+serves_more gives did now_did later_did old mid new before now after number had next =
+    let session = next.session in record {
+      served = had.served ++ session ∷ [];
+      long = length-append had.served (session ∷ []) ∙ ap (λ (n : ℕ). n + 1) had.long;
+      are = served_more gives did now_did later_did had.served session had.are next.serves.last next.serves.serves;
+      links = links_more had.served session old mid new had.links next.serves.links;
+      says = subst (SaysSessions before after) (sym (ends_more had.served session)) (says_more before now after number (ends_of had.served) session.how (ends_long had.served ∙ had.long) had.says next.says);
+    }
+
 -- no session more
-pub serves_so_far : (before now after : Option (List ℕ)) (number sessions : ℕ) (ends : List ServeEnd) (status : ℕ) → length ends ≡ number → number < sessions → SaysSessions before now ends → StopsNext now after (number + 1) status → ServesAll before after sessions status
-serves_so_far before now after number sessions ends status long few says (exhausted_next is same) =
-    exhausted is ends (omega (arith, long)) (subst (λ (shown : Option (List ℕ)). SaysSessions before shown ends) (sym same) says)
-serves_so_far before now after number sessions ends status long few says (no_next_link closes) = no_link ends now (omega (arith, long)) says closes
-serves_so_far before now after number sessions ends status long few says (unsaid_next is how over prefix) =
-    cut_short is (ends ++ how ∷ []) (omega (arith, long, length_more ends how)) (over_more ends how says.over over)
-    (subst (λ (lines : List ℕ). ShowsPrefix before lines after) (next_line before number ends how long) (prefix_more before now after (session_lines 1 ends) (session_line (number + 1) how) says.said prefix))
+pub serves_so_far : (gives : Order → Outcome → Type 0) (did now_did later_did : Option (List Order)) (old mid new : DoorTold) (before now after : Option (List ℕ)) (number sessions status : ℕ)
+    → HasServed gives did now_did old mid before now number → number < sessions → StopsNext gives now_did later_did mid new now after (number + 1) status → ServesAll gives old new before after sessions status
+serves_so_far gives did now_did later_did old mid new before now after number sessions status had few (exhausted_next is same more back one less links) =
+    exhausted is had.served (omega (arith, had.long)) (record {
+      did = did;
+      now = now_did;
+      are = had.are;
+      more = more;
+      back = back;
+      few = (one, less);
+      links = links_besides had.served more back old mid new had.links links;
+    }) (subst (λ (shown : Option (List ℕ)). SaysSessions before shown (ends_of had.served)) (sym same) had.says)
+serves_so_far gives did now_did later_did old mid new before now after number sessions status had few (no_next_link same closes) =
+    no_link had.served now (omega (arith, had.long)) (did, now_did, had.are, subst (GivesLinks had.served [] [] old) (sym same) had.links) had.says closes
+serves_so_far gives did now_did later_did old mid new before now after number sessions status had few (unsaid_next is session serves over prefix) =
+    let ends = ends_of had.served in
+    cut_short is (had.served ++ session ∷ []) (omega (arith, had.long, length-append had.served (session ∷ [])))
+    (did, later_did, served_more gives did now_did later_did had.served session had.are serves.last serves.serves, links_more had.served session old mid new had.links serves.links)
+    (subst (AllByRecursion IsOver) (sym (ends_more had.served session)) (over_more ends session.how had.says.over over))
+    (subst (λ (lines : List ℕ). ShowsPrefix before lines after) (next_line before number ends session.how (ends_long had.served ∙ had.long) ∙ ap (session_lines 1) (sym (ends_more had.served session)))
+    (prefix_more before now after (session_lines 1 ends) (session_line (number + 1) session.how) had.says.said prefix))
+
+-- all of them
+pub serves_whole : (gives : Order → Outcome → Type 0) (did now_did : Option (List Order)) (old new : DoorTold) (before now : Option (List ℕ)) (number sessions status : ℕ)
+    → HasServed gives did now_did old new before now number → number ≡ sessions → status ≡ SUCCEEDED → ServesAll gives old new before now sessions status
+serves_whole gives did now_did old new before now number sessions status had all is = all_served is had.served (had.long ∙ all) (did, now_did, had.are, had.links) had.says
+
+-- the line of a session was said, or cut
+pub says_next : (gives : Order → Outcome → Type 0) (did now_did : Option (List Order)) (first last : SeenLink) (how : ServeEnd) (old mid new : DoorTold) (before now : Option (List ℕ)) (number : ℕ)
+    → mid ≡ gave_link old first → Serves gives (seen_with first did) (seen_with last now_did) how → new ≡ took_back mid last → SaysSession before now number how → SaysNext gives did now_did old new before now number
+says_next gives did now_did first last how old mid new before now number gave serves back says = record {
+  session = record { how = how; first = first; last = last; did = now_did };
+  serves = record { last = refl; serves = serves; links = back ∙ ap (λ (door : DoorTold). took_back door last) gave };
+  says = says;
+}
+
+pub stops_next : (gives : Order → Outcome → Type 0) (did now_did : Option (List Order)) (first last : SeenLink) (how : ServeEnd) (old mid new : DoorTold) (before now : Option (List ℕ)) (number status : ℕ)
+    → mid ≡ gave_link old first → Serves gives (seen_with first did) (seen_with last now_did) how → new ≡ took_back mid last → CutsSession before now number how status → StopsNext gives did now_did old new before now number status
+stops_next gives did now_did first last how old mid new before now number status gave serves back (unsaid_whole is same) =
+    exhausted_next is same (first ∷ []) (last ∷ []) (omega arith) (omega arith) (link_and_back first last old new (back ∙ ap (λ (door : DoorTold). took_back door last) gave))
+stops_next gives did now_did first last how old mid new before now number status gave serves back (unsaid_part is over prefix) =
+    unsaid_next is (record { how = how; first = first; last = last; did = now_did })
+    (record { last = refl; serves = serves; links = back ∙ ap (λ (door : DoorTold). took_back door last) gave }) over prefix
 
 pub stop_later : {old mid now : DeskState} {door_then door_mid door_now status : ℕ} → OnlySays old mid → door_then ≤ door_mid → HasStopCause mid now door_mid door_now status → HasServeCause old now door_then door_now status
 stop_later says door cause = record {
@@ -93,18 +255,19 @@ printed number from how bytes out empty same is none number_is = same ∙ is ∙
 
 -- ---- how a worker ends
 
-serves_one : (before now : Option (List ℕ)) (sessions status : ℕ) → ServesAll before now sessions status → (status ≡ SUCCEEDED) ⊎ (status ≡ OUT_OF_MEMORY) ⊎ (status ≡ UNHIRED) ⊎ (status ≡ UNSAID)
-serves_one before now sessions status (all_served is ends long says) = inl is
-serves_one before now sessions status (exhausted is ends few says) = inr (inl is)
-serves_one before now sessions status (no_link ends between few says closes) = inr (inr (closes_status between now cannot_listen UNHIRED status closes))
-serves_one before now sessions status (cut_short is ends few over prefix) = inr (inr (inr is))
-
-pub works_one : (hired after_hiring : Option (List Want)) (before now : Option (List ℕ)) (sessions status : ℕ) → Works hired after_hiring before now sessions status
+serves_one : (gives : Order → Outcome → Type 0) (old new : DoorTold) (before now : Option (List ℕ)) (sessions status : ℕ) → ServesAll gives old new before now sessions status
     → (status ≡ SUCCEEDED) ⊎ (status ≡ OUT_OF_MEMORY) ⊎ (status ≡ UNHIRED) ⊎ (status ≡ UNSAID)
-works_one hired after_hiring before now sessions status (unbegun is same) = inr (inl is)
-works_one hired after_hiring before now sessions status (unhired same closes) = inr (inr (closes_status before now cannot_hire UNHIRED status closes))
-works_one hired after_hiring before now sessions status (unopened here closes) = inr (inr (closes_status before now cannot_listen UNHIRED status closes))
-works_one hired after_hiring before now sessions status (worked here serves) = serves_one before now sessions status serves
+serves_one gives old new before now sessions status (all_served is served long links says) = inl is
+serves_one gives old new before now sessions status (exhausted is served few links says) = inr (inl is)
+serves_one gives old new before now sessions status (no_link served between few links says closes) = inr (inr (closes_status between now cannot_listen UNHIRED status closes))
+serves_one gives old new before now sessions status (cut_short is served few links over prefix) = inr (inr (inr is))
+
+pub works_one : (gives : Order → Outcome → Type 0) (hired after_hiring : Option (List Want)) (old new : DoorTold) (before now : Option (List ℕ)) (address : Address) (sessions status : ℕ)
+    → Works gives hired after_hiring old new before now address sessions status → (status ≡ SUCCEEDED) ⊎ (status ≡ OUT_OF_MEMORY) ⊎ (status ≡ UNHIRED) ⊎ (status ≡ UNSAID)
+works_one gives hired after_hiring old new before now address sessions status (unbegun is stays same) = inr (inl is)
+works_one gives hired after_hiring old new before now address sessions status (unhired same stays closes) = inr (inr (closes_status before now cannot_hire UNHIRED status closes))
+works_one gives hired after_hiring old new before now address sessions status (unopened here stays closes) = inr (inr (closes_status before now cannot_listen UNHIRED status closes))
+works_one gives hired after_hiring old new before now address sessions status (worked here serves) = serves_one gives (opened_at old address) new before now sessions status serves
 
 -- ---- nothing but saying
 

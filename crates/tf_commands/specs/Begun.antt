@@ -1,6 +1,7 @@
 -- How a run begins in a file that holds no flow; no clause of the top call cites it.
 use Rattle.std.specs.Prelude.{◌≡◌, ◌⊎◌, ◌≤◌, ℕ, true, false, IsTrue, List, [], length, Option, Some, None}
-use Rattle.tf_desk.specs.Crash.{Rises, Pairs}
+use Rattle.tf_numbers.specs.Numbers.{Rises}
+use Rattle.tf_desk.specs.Crash.{Pairs}
 use Rattle.tf_desk.specs.State.{DeskState, bytes_now, MayLeave as MayLeaveNow}
 use Rattle.tf_flow.specs.Plan.{PlanValue}
 use Rattle.tf_journal.specs.Format.{Recovered, unborn, bodies, journal_bytes, title_of, is_unborn, Held}
@@ -10,7 +11,7 @@ use Rattle.tf_book.specs.Book.{BookValue, bodies_of}
 use Rattle.tf_book.specs.Starting.{HasNoRecord}
 use Rattle.tf_book.specs.declared.faults.BookFault.{BookFault}
 use Rattle.tf_book.specs.declared.faults.BookFault.TheVariants as book_fault
-use Rattle.tf_commands.specs.Run.{book_in, book_at, HoldsNoFlow, HoldsHistory, FindsHistory}
+use Rattle.tf_commands.specs.Books.{book_in, book_at, HoldsNoFlow, HoldsHistory, FindsHistory}
 use Rattle.tf_report.specs.Closing.{disk_fault_text, ClosesWith}
 use Rattle.tf_report.specs.declared.statuses.TheConstants.{DISK_FAILED, OUT_OF_MEMORY}
 use Rattle.tf_commands.specs.declared.books.Blank.{Blank}

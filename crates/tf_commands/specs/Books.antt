@@ -1,26 +1,262 @@
--- What becomes of the commands on a book.
-use Rattle.std.specs.Prelude.{◌≡◌, ◌⊎◌, ℕ, true, false, IsTrue, List, [], Option}
+-- What is promised of a run, of a flow that is put back, and of a book that is kept. Histories have the newest entry first. What becomes of the commands on a book.
+use Rattle.std.specs.Prelude.{◌≡◌, ◌≢◌, ◌⊎◌, ℕ, ◌≤◌, Bool, IsTrue, List, [], ◌++◌, length, Option, Some, ◌<◌, ◌∷◌, not, is_none, None, true, false, if◌then◌else◌}
+use Rattle.tf_numbers.specs.Numbers.{Rises}
+use Rattle.tf_desk.specs.Crash.{shown_with, ShowsPrefix}
 use Rattle.tf_desk.specs.State.{DeskState}
 use Rattle.tf_flow.specs.Plan.{PlanValue, PlanTree, plan_tree}
 use Rattle.tf_states.specs.declared.record.Entry.{Entry}
+use Rattle.tf_journal.specs.Start.{file_of, IsStart}
+use Rattle.tf_journal.specs.Format.{Recovered, unborn, bodies, recovered, journal_bytes, title_of}
+use Rattle.tf_journal.specs.declared.title.Title.TheVariants.{Book as book_title}
+use Rattle.tf_model.specs.Plan.{outline_of, entry_bound, Outline, count}
+use Rattle.tf_book.specs.Book.{bodies_of, IsHistoryOf, IsNoBook, CanRun}
+use Rattle.tf_book.specs.SessionInvariant.{said, MayFollow, IsCut, IsFullFor, history_text}
+use Rattle.std.specs.List.{list_all}
 use Rattle.tf_states.specs.declared.state.FlowState.{FlowState}
-use Rattle.tf_actions.specs.Gives.{told_with}
+use Rattle.tf_ports.specs.Ports.{wanted as number_of}
 use Rattle.tf_ports.specs.declared.crews.Want.{Want}
 use Rattle.tf_actions.specs.declared.orders.Order.{Order}
 use Rattle.tf_actions.specs.declared.outcomes.Outcome.{Outcome}
-use Rattle.tf_journal.specs.Format.{Recovered}
-use Rattle.tf_model.specs.History.{flow_of, snapshot}
-use Rattle.tf_model.specs.Plan.{outline_of}
-use Rattle.tf_model.specs.Steps.{has_ended}
-use Rattle.tf_book.specs.Book.{IsNoBook, CanRun}
-use Rattle.tf_book.specs.Turns.{may_reset, IsNextReset}
-use Rattle.tf_book.specs.SessionInvariant.{history_text}
-use Rattle.tf_commands.specs.Asking.{demo_tree}
-use Rattle.tf_commands.specs.Run.{book_at, HoldsNoFlow, HoldsHistory, StaysAlone, Lasts, PutBack, unspoken, MayRun, Ran}
-use Rattle.tf_commands.specs.Messages.{no_flow_text, state_forbids, cannot_hire}
-use Rattle.tf_report.specs.Closing.{disk_fault_text, not_a_book, ClosesWith}
-use Rattle.tf_report.specs.declared.statuses.TheConstants.{SUCCEEDED, UNHIRED, OUT_OF_MEMORY, DISK_FAILED, NO_BOOK, FORBIDDEN}
+use Rattle.tf_model.specs.Before.{Flow}
+use Rattle.tf_model.specs.Forced.{end_of}
+use Rattle.tf_model.specs.History.{flow_of, snapshot, state_of, is_settled}
+use Rattle.tf_model.specs.Steps.{Session, entering, has_ended}
+use Rattle.tf_facts.specs.Facts.{CompletedReversion}
+use Rattle.tf_hands.specs.Hands.{is_of_flow}
+use Rattle.tf_report.specs.Lines.{report}
+use Rattle.tf_engines.specs.Runs.{MayRecord, AreGiven, AreDue, AreWithin, IsSuspended, is_of}
+use Rattle.tf_commands.specs.Messages.{summary, no_flow_text, state_forbids, cannot_hire}
+use Rattle.tf_report.specs.Closing.{disk_fault_text, book_full, ClosesWith, not_a_book}
+use Rattle.tf_report.specs.declared.statuses.TheConstants.{SUCCEEDED, DISK_FAILED, UNSAID, OUT_OF_MEMORY, REVERTED, FAILED, SUSPENDED, FULL, UNREAD, UNHIRED, NO_BOOK, FORBIDDEN}
 use Rattle.tf_commands.specs.declared.running.Request.{Request}
+use Rattle.tf_book.specs.Turns.{AreReset, IsNextReset, may_reset}
+use Rattle.tf_actions.specs.Gives.{told_with}
+use Rattle.tf_commands.specs.Asking.{demo_tree}
+use Rattle.tf_states.specs.declared.record.What.TheVariants as what
+use Rattle.tf_states.specs.declared.state.FlowState.TheVariants as flow
+
+-- ---- what is promised of a book's file, and of what a crash leaves of it
+-- Histories have the newest entry first.
+
+-- ---- files
+
+-- no file changed, and none was picked or synced
+abbrev pub NoFileChanges : DeskState → DeskState → Type 0
+NoFileChanges entry now = IsTrue entry.tells → (now.content.files ≡ entry.content.files) × (now.content.marks ≡ entry.content.marks)
+
+-- no file changed, and the disk had no fault
+abbrev pub TouchesNoFile : DeskState → DeskState → Type 0
+TouchesNoFile entry now = NoFileChanges entry now × (now.disk_faults ≡ entry.disk_faults)
+
+-- what recovery makes of the bytes of a book's file
+abbrev pub book_in : List ℕ → Recovered
+book_in bytes = recovered (title_of book_title) bytes
+
+-- what it makes of the file of that name
+abbrev pub book_at : DeskState → List ℕ → Recovered
+book_at state name = book_in (file_of state name)
+
+-- no flow is in it: it is unborn, or a book without a record
+abbrev pub HoldsNoFlow : Recovered → Type 0
+HoldsNoFlow found = (found ≡ unborn) ⊎ (found ≡ bodies [])
+
+-- it holds the plan and the history, which a book may hold: the plan is within every limit and rule and can run, and each entry keeps
+-- its limits and may follow those before it
+pub record HoldsHistory (plan : PlanValue) (past : List Entry) (found : Recovered) : Type 0 where
+  pub is : found ≡ bodies (bodies_of plan past)
+  pub history : IsHistoryOf plan past
+
+-- ---- nothing was recorded
+
+-- the file stays, and the other files; a crash since the call's start leaves the file, and a prefix of what was said is shown
+pub record StaysAlone (name : List ℕ) (entry now : DeskState) (closing : List ℕ) : Type 0 where
+  pub file : file_of now name ≡ file_of entry name
+  pub others : (other : List ℕ) → other ≢ name → now.content.files other ≡ entry.content.files other
+  pub crash : (moment : ℕ) → IsStart name entry now moment → (image text : List ℕ) → now.crashes moment image text
+      → (image ≡ file_of entry name) × ShowsPrefix entry.shown closing (Some text)
+
+-- ---- a run over a book
+
+-- recovery finds the plan with this history; or no flow, where the history is empty and the file held no flow at first
+abbrev pub FindsHistory : Recovered → PlanValue → List Entry → Recovered → Type 0
+FindsHistory first plan past found = HoldsHistory plan past found ⊎ ((past ≡ []) × HoldsNoFlow first × HoldsNoFlow found)
+
+-- what is shown after a crash: a prefix of the lines of the entries that recovery finds, or, where these are all that the call recorded
+-- and perhaps the pending one, all lines of the recorded entries and a prefix of the closing
+abbrev pub IsShownThen : PlanValue → Bool → (before entries kept : List Entry) → Option (List ℕ) → List ℕ → List ℕ → Type 0
+IsShownThen plan quiet before entries kept shown closing text =
+    ShowsPrefix shown (said quiet (outline_of plan) before kept) (Some text)
+    ⊎ ((more : List Entry) × (kept ≡ more ++ entries)
+    × ShowsPrefix (shown_with shown (said quiet (outline_of plan) before entries)) closing (Some text))
+
+-- a crash leaves this image and this text: recovery finds the history before the call with some of its entries, the oldest, and perhaps
+-- the pending one the last
+pub record MayLeave (first : Recovered) (plan : PlanValue) (quiet : Bool) (before entries pending : List Entry) (shown : Option (List ℕ)) (closing image text : List ℕ) : Type 0 where
+  pub lost : List Entry
+  pub kept : List Entry
+  pub oldest : pending ++ entries ≡ lost ++ kept
+  pub finds : FindsHistory first plan (kept ++ before) (book_in image)
+  pub spoken : IsShownThen plan quiet before entries kept shown closing text
+
+-- the file has the plan and the history, and after a disk fault perhaps the pending entry besides; where nothing was recorded, one that
+-- held no flow at first may still hold none
+abbrev pub HasFile : Recovered → PlanValue → (before entries pending : List Entry) → List ℕ → Type 0
+HasFile first plan before entries pending file =
+    FindsHistory first plan (entries ++ before) (book_in file) ⊎ HoldsHistory plan (pending ++ (entries ++ before)) (book_in file)
+
+-- at most one entry is pending behind the history, which it may follow as such an entry does, and only after a fault of the disk
+pub record IsPendingSo (may : List Entry → Entry → Type 0) (plan : PlanValue) (past pending : List Entry) (old new : DeskState) : Type 0 where
+  pub few : MayFollow (may past) plan past pending
+  pub caused : (pending ≡ []) ⊎ Rises old.disk_faults new.disk_faults
+
+-- what is promised of the file and of a crash, where the desk tells its content and such an entry may be recorded; of a file that held no flow and
+-- had at most 18 bytes, where no fault of the disk came, each byte is told
+pub record Lasts (may : List Entry → Entry → Type 0) (name : List ℕ) (plan : PlanValue) (quiet : Bool) (before entries : List Entry) (entry now : DeskState) (closing : List ℕ) : Type 0 where
+  pub pending : List Entry
+  pub few : IsPendingSo may plan (entries ++ before) pending entry now
+  pub file : HasFile (book_at entry name) plan before entries pending (file_of now name)
+  pub exact : HoldsNoFlow (book_at entry name) → length (file_of entry name) ≤ 18 → ¬ (Rises entry.disk_faults now.disk_faults)
+      → HoldsHistory plan (entries ++ before) (book_at now name)
+      → file_of now name ≡ journal_bytes (title_of book_title) (bodies_of plan (entries ++ before))
+  pub others : (other : List ℕ) → other ≢ name → now.content.files other ≡ entry.content.files other
+  pub crash : (moment : ℕ) → IsStart name entry now moment → (image text : List ℕ) → now.crashes moment image text
+      → MayLeave (book_at entry name) plan quiet before entries pending entry.shown closing image text
+
+-- ---- what is promised of a run: its steps, its outcomes, the text that it shows and its end
+-- Histories have the newest entry first.
+
+-- a run with these hands that says each line, and is suspended after so many entries, if after so many
+abbrev pub spoken_run : Want → Option ℕ → Request
+spoken_run hands limit = record { want = hands; quiet = false; limit = limit }
+
+-- a run with these hands that says no line of its entries
+abbrev pub unspoken : Want → Request
+unspoken hands = record { want = hands; quiet = true; limit = None }
+
+-- ---- steps
+
+-- what is recorded is a session of the plan: each entry is a step that a rule allows after those before it; a hand records it
+-- whose number is below that of the hands that were hired; it is suspended only where a stop was asked for or after so many entries; and past so many entries only the end of a task,
+-- SUSPENDING and a last state of the flow come
+pub record HasSteps (asked : Type 0) (number : ℕ) (limit : Option ℕ) (plan : Outline) (before entries : List Entry) (stop : Option FlowState) : Type 0 where
+  pub session : Session plan before entries stop
+  pub hands : list_all (is_of number) entries ≡ true
+  pub due : AreDue asked limit entries
+  pub within : AreWithin plan limit (length (entering (flow_of before))) entries
+  pub suspended : stop ≡ Some flow.Suspended → IsSuspended asked limit entries
+
+-- ---- the end
+
+-- an entry that isn't of the flow
+abbrev pub is_beside_flow : Entry → Bool
+is_beside_flow e = not (is_of_flow e.what)
+
+-- the flow's last entry records the end of the history before it
+pub record EndsBy (plan : Outline) (past : List Entry) (last : FlowState) : Type 0 where
+  pub since : List Entry
+  pub hand : ℕ
+  pub earlier : List Entry
+  pub splits : past ≡ since ++ record { hand = hand; what = what.Flow last } ∷ earlier
+  pub is_last : list_all is_beside_flow since ≡ true
+  pub ends : end_of plan (snapshot plan earlier) ≡ Some last
+
+-- the flow has no retry controller
+abbrev pub has_no_retry : Flow → Bool
+has_no_retry f = is_none f.place.retry
+
+-- no flow of the plan has one
+abbrev pub has_no_retries : Outline → Bool
+has_no_retries plan = list_all has_no_retry plan.flows
+
+-- the end: where the run stopped with an end, the flow's last entry records it; and where that is REVERTED, the reversion is
+-- completed, and in a plan without retry controllers every atom is settled, so that all that was executed is undone
+pub record HasReached (plan : Outline) (past : List Entry) (last : FlowState) : Type 0 where
+  pub end : has_ended last ≡ true → EndsBy plan past last
+  pub completed : last ≡ flow.Reverted → CompletedReversion plan past
+  pub undone : last ≡ flow.Reverted → has_no_retries plan ≡ true → (a : ℕ) → a < count plan → is_settled (state_of past a) ≡ true
+
+-- ---- the text
+
+-- the status of a run that stopped in a state
+abbrev pub stop_status : FlowState → ℕ
+stop_status flow.Success = SUCCEEDED
+stop_status flow.Reverted = REVERTED
+stop_status flow.Suspended = SUSPENDED
+stop_status _ = FAILED
+
+-- what is said before the report: of a run that said no lines, how many tasks the plan has and how many entries the history
+abbrev pub heading_of : Request → Outline → List Entry → List ℕ
+heading_of request plan past = if request.quiet then summary plan (length past) else []
+
+-- what a run may record after a history: an entry by one of its hands, with an outcome that its order may have, where the flow hasn't ended
+abbrev pub MayRun : (Order → Outcome → Type 0) → Request → PlanValue → List Entry → Entry → Type 0
+MayRun gives request plan = MayRecord gives (number_of request.want) (outline_of plan)
+
+-- what a run says last, and its status: the report behind its heading, where it stopped in a state; or, where the flow hadn't ended, why it
+-- was halted: the disk failed, or the journal is full for the next such entry
+pub data IsLastSaid (may : List Entry → Entry → Type 0) (plan : PlanValue) (heading : List ℕ) (past : List Entry) : Option FlowState → List ℕ → ℕ → Type 0 where
+  reported : (last : FlowState) → IsLastSaid may plan heading past (Some last) (heading ++ report (outline_of plan) (snapshot (outline_of plan) past)) (stop_status last)
+  disk_failed : (stop : Option FlowState) → has_ended (flow_of past) ≡ false → IsLastSaid may plan heading past stop disk_fault_text DISK_FAILED
+  filled : (stop : Option FlowState) (size need : ℕ) → IsFullFor (may past) plan past size need → IsLastSaid may plan heading past stop (book_full size need) FULL
+
+-- the text after a command that records: the one before it, the lines of its entries, and what it says last, which is the closing; where
+-- the output failed it is cut within the line of the newest entry, and no entry was recorded after it, or within the closing
+pub data ShowsLines (plan : PlanValue) (quiet : Bool) (before entries : List Entry) (shown now : Option (List ℕ)) (last : List ℕ → ℕ → Type 0) : List ℕ → ℕ → Type 0 where
+  closed : (closing : List ℕ) (wanted status : ℕ) → last closing wanted
+      → ClosesWith (shown_with shown (said quiet (outline_of plan) before entries)) closing wanted now status
+      → ShowsLines plan quiet before entries shown now last closing status
+  line_cut : IsCut quiet (outline_of plan) before shown entries now → ShowsLines plan quiet before entries shown now last [] UNSAID
+  -- memory ran out after the lines of its entries were said
+  stopped : now ≡ shown_with shown (said quiet (outline_of plan) before entries) → ShowsLines plan quiet before entries shown now last [] OUT_OF_MEMORY
+
+-- the text after a run that stopped so
+abbrev pub RunShows : (Order → Outcome → Type 0) → Request → PlanValue → (before entries : List Entry) → (shown now : Option (List ℕ)) → Option FlowState → List ℕ → ℕ → Type 0
+RunShows gives request plan before entries shown now stop =
+    ShowsLines plan request.quiet before entries shown now (IsLastSaid (MayRun gives request plan) plan (heading_of request (outline_of plan) (entries ++ before)) (entries ++ before) stop)
+
+-- ---- all of it
+
+-- a run of the plan by the hands that were hired, which keep a relation of orders and outcomes, as it is requested: from the history before it to its
+-- entries and the state in which it stopped, or None where it was halted before that; from the text shown before it to the one after
+-- it, its closing and its status
+pub record Ran (gives : Order → Outcome → Type 0) (request : Request) (asked : Type 0) (plan : PlanValue) (before entries : List Entry)
+    (stop : Option FlowState) (shown now : Option (List ℕ)) (closing : List ℕ) (status : ℕ) : Type 0 where
+  pub steps : HasSteps asked (number_of request.want) request.limit (outline_of plan) before entries stop
+  pub bound : length entries ≤ entry_bound plan
+  pub outcomes : AreGiven gives (outline_of plan) before entries
+  pub text : RunShows gives request plan before entries shown now stop closing status
+  pub end : (last : FlowState) → stop ≡ Some last → HasReached (outline_of plan) (entries ++ before) last
+
+-- ---- what is promised of a flow that is put back: its steps and the text that it shows
+-- Histories have the newest entry first.
+
+-- what a reset says last, and its status: nothing, where all was put back; or why the book was halted, while an entry was left to record
+pub data IsResetSaid (plan : PlanValue) (past : List Entry) : List ℕ → ℕ → Type 0 where
+  all_back : flow_of past ≡ flow.Pending → IsResetSaid plan past [] SUCCEEDED
+  disk_failed_back : (e : Entry) → IsNextReset (outline_of plan) past e → IsResetSaid plan past disk_fault_text DISK_FAILED
+  filled_back : (size need : ℕ) → IsFullFor (IsNextReset (outline_of plan) past) plan past size need → IsResetSaid plan past (book_full size need) FULL
+
+-- a flow is put back: by hand 0 its REVERTED and IGNORE atoms become PENDING, in tree order, and then the flow does; with status 0 all
+-- of it was recorded, and what was recorded is said
+pub record PutBack (plan : PlanValue) (before entries : List Entry) (shown now : Option (List ℕ)) (closing : List ℕ) (status : ℕ) : Type 0 where
+  pub steps : AreReset (outline_of plan) entries before
+  pub text : ShowsLines plan false before entries shown now (IsResetSaid plan (entries ++ before)) closing status
+
+-- ---- what is known of the desk where a command only said something
+
+-- nothing was done with the desk but saying: no file changed, the disk had no fault, and no count fell
+pub record OnlySays (entry now : DeskState) : Type 0 where
+  pub tells : now.tells ≡ entry.tells
+  pub files : NoFileChanges entry now
+  pub disk : now.disk_faults ≡ entry.disk_faults
+  pub out : entry.out_faults ≤ now.out_faults
+  pub asks : entry.asks ≤ now.asks
+
+-- a command said its last, or nothing: only a text that couldn't be said tells of an output fault, and no file was read
+pub record HasSaid (entry now : DeskState) (status : ℕ) : Type 0 where
+  pub says : OnlySays entry now
+  pub unsaid : status ≡ UNSAID → Rises entry.out_faults now.out_faults
+  pub read : status ≢ UNREAD
 
 -- the hands that were wanted were hired, and nobody else
 abbrev pub Hires : Want → Option (List Want) → Option (List Want) → Type 0
@@ -52,7 +288,7 @@ RefusesOrStops name entry now message wanted status = Stops name entry now statu
 -- the book couldn't be opened: memory ran out, the disk failed, or the file is no book
 pub data Unopened (name : List ℕ) (entry now : DeskState) (status : ℕ) : Type 0 where
   exhausted : Stops name entry now status → Unopened name entry now status
-  disk_failed : Refuses name entry now disk_fault_text DISK_FAILED status → Unopened name entry now status
+  disk_failed_opening : Refuses name entry now disk_fault_text DISK_FAILED status → Unopened name entry now status
   no_book : (offset : ℕ) (byte : Option ℕ) → IsFile name entry (λ found. IsNoBook found offset byte)
       → Refuses name entry now (not_a_book offset byte) NO_BOOK status → Unopened name entry now status
 

@@ -2,7 +2,7 @@
 use Rattle.std.specs.Prelude.{◌≡◌, ◌≤◌, ◌⊎◌, ℕ, List, [], length, codes, true, false, IsTrue, Bool, Option, Some, None}
 use Rattle.tf_desk.specs.State.{DeskState}
 use Rattle.tf_flow.specs.declared.atoms.Bind.{Bind}
-use Rattle.tf_ports.specs.Ports.{Contents, GivesBytes, PassesLimit}
+use Rattle.tf_ports.specs.Ports.{Contents, GivesBytes, PassesLimit, DoorTold}
 use Rattle.tf_ports.specs.declared.crews.Want.{Want}
 use Rattle.tf_ports.specs.declared.crews.Want.TheVariants as want
 use Rattle.tf_actions.specs.declared.orders.Order.{Order}
@@ -18,20 +18,19 @@ use Rattle.tf_states.specs.declared.record.Entry.{Entry}
 use Rattle.tf_states.specs.declared.state.FlowState.{FlowState}
 use Rattle.tf_words.specs.declared.asked.Asked.{Asked}
 use Rattle.tf_words.specs.declared.asked.Asked.TheVariants as asked
-use Rattle.tf_board.specs.Answers.{answer_of, board_of}
+use Rattle.tf_board.specs.Does.{answer_of, board_of, Does, IsAllowed, IsBoardComplete}
 use Rattle.tf_board.specs.Board.{AreOfBoard, board_in, Finds}
 use Rattle.tf_board.specs.declared.commands.Command.{Command}
 use Rattle.tf_report.specs.declared.statuses.TheConstants.{BOARD_REFUSED, SUCCEEDED, NO_COMMAND, UNREAD, REFUSED, UNHIRED, OUT_OF_MEMORY, REVERTED, FAILED, SUSPENDED, FULL}
 use Rattle.tf_report.specs.Closing.{ClosesWith, ClosesWithOrStops}
-use Rattle.tf_board.specs.Does.{Does, IsAllowed, IsBoardComplete}
 use Rattle.tf_target.specs.Target.{outline_in}
-use Rattle.tf_commands.specs.Asking.{GivesPlan, GivesWhole, GivesNone, MayTarget, file_asked_for, wanted_by}
+use Rattle.tf_accept.specs.Accepted.{GivesPlan, GivesWhole, GivesNone, MayTarget}
+use Rattle.tf_commands.specs.Asking.{file_asked_for, wanted_by}
 use Rattle.tf_commands.specs.Messages.{Audits, RefusesLog, checked, usage, cannot_read, cannot_hire, refusal, reason_text, Works}
 use Rattle.tf_words.specs.Words.{command_of}
-use Rattle.tf_commands.specs.Books.{Hires, Runs, Demonstrates, Resumes, ShowsBook, ResetsBook}
+use Rattle.tf_commands.specs.Books.{Hires, Runs, Demonstrates, Resumes, ShowsBook, ResetsBook, NoFileChanges, TouchesNoFile, book_at, HoldsNoFlow, HoldsHistory, spoken_run, Ran}
 use Rattle.tf_journal.specs.Start.{file_of}
-use Rattle.tf_commands.specs.Run.{NoFileChanges, TouchesNoFile, book_at, HoldsNoFlow, HoldsHistory, spoken_run, Ran}
-use Rattle.tf_commands.specs.declared.accepting.Refusal.{Refusal}
+use Rattle.tf_accept.specs.declared.accepting.Refusal.{Refusal}
 use Rattle.tf_commands.specs.declared.reading.Source.{Source}
 
 -- ---- flow files
@@ -107,6 +106,15 @@ Checks before after plan status = ClosesWithOrStops before (checked (outline_in 
 abbrev pub source_so : List ℕ → List Bind → Bool → Option (List ℕ) → Source
 source_so file sets defer target = record { file = file; sets = sets; defer = defer; target = target }
 
+-- what is told of the crew and of the door: the wants that were answered with hands; and at which addresses the door was opened, and its links
+pub record PortsTold : Type 0 where
+  pub hired : Option (List Want)
+  pub door : DoorTold
+
+-- what a crew and a door tell
+abbrev pub ports_told : {W L : Type 0} → (W → Option (List Want)) → (L → DoorTold) → W → L → PortsTold
+ports_told hired told crew door = record { hired = hired crew; door = told door }
+
 -- nobody was hired, and no file changed
 abbrev pub IsUntouched : Option (List Want) → Option (List Want) → DeskState → DeskState → Type 0
 IsUntouched hired after_hiring entry now = (after_hiring ≡ hired) × NoFileChanges entry now
@@ -114,58 +122,59 @@ IsUntouched hired after_hiring entry now = (after_hiring ≡ hired) × NoFileCha
 module _ {K : Type 0} (state : K → DeskState) where
   -- what becomes of what the words ask for, where a run may be suspended for a stop that was asked for; a trial changes no file and meets no fault of the disk, and a
   -- check and an audit change none
-  abbrev pub Obeys : (Want → Order → Outcome → Type 0) → Type 0 → Asked → Contents → Option (List Want) → Option (List Want) → K → K → ℕ → Type 0
-  Obeys gives stopped (asked.Try file sets defer hands target) files hired after_hiring entry now status =
-      FileRead files (source_so file sets defer target) (IsUntouched hired after_hiring (state entry) (state now))
-      (Tries (gives hands) hands stopped hired after_hiring (state entry).shown (state now).shown) (state entry).shown (state now).shown status × TouchesNoFile (state entry) (state now)
-  Obeys gives stopped (asked.Check file sets target) files hired after_hiring entry now status =
-      FileRead files (source_so file sets false target) (IsUntouched hired after_hiring (state entry) (state now))
-      (Checks (state entry).shown (state now).shown) (state entry).shown (state now).shown status × IsUntouched hired after_hiring (state entry) (state now)
-  Obeys gives stopped (asked.Audit file log sets defer) files hired after_hiring entry now status =
-      FileRead files (source_so file sets defer None) (IsUntouched hired after_hiring (state entry) (state now))
-      (Audits files log (state entry).shown (state now).shown) (state entry).shown (state now).shown status × IsUntouched hired after_hiring (state entry) (state now)
-  Obeys gives stopped (asked.Run file book sets defer hands stop target) files hired after_hiring entry now status =
-      FileRead files (source_so file sets defer target) (IsUntouched hired after_hiring (state entry) (state now))
-      (Runs (gives hands) (spoken_run hands stop) stopped book hired after_hiring (state entry) (state now)) (state entry).shown (state now).shown status
-  Obeys gives stopped (asked.Resume book hands stop) files hired after_hiring entry now status =
-      Resumes (gives hands) (spoken_run hands stop) stopped book hired after_hiring (state entry) (state now) status
-  Obeys gives stopped (asked.Show book) files hired after_hiring entry now status =
-      ShowsBook book (state entry) (state now) status × (after_hiring ≡ hired)
-  Obeys gives stopped (asked.Reset book) files hired after_hiring entry now status =
-      ResetsBook book (state entry) (state now) status × (after_hiring ≡ hired)
-  Obeys gives stopped (asked.Demo seed size book hands) files hired after_hiring entry now status =
-      Demonstrates state (gives (want.Local hands)) (want.Local hands) stopped book hired after_hiring entry now seed size status
-  Obeys gives stopped (asked.Worker address sessions) files hired after_hiring entry now status =
-      Works hired after_hiring (state entry).shown (state now).shown sessions status × NoFileChanges (state entry) (state now)
-  Obeys gives stopped (asked.Post board name priority details) files hired after_hiring entry now status =
-      Does (asked.Post board name priority details) board (state entry) (state now) status × (after_hiring ≡ hired)
-  Obeys gives stopped (asked.Claim board id owner) files hired after_hiring entry now status =
-      Does (asked.Claim board id owner) board (state entry) (state now) status × (after_hiring ≡ hired)
-  Obeys gives stopped (asked.Abandon board id owner) files hired after_hiring entry now status =
-      Does (asked.Abandon board id owner) board (state entry) (state now) status × (after_hiring ≡ hired)
-  Obeys gives stopped (asked.Consume board id owner) files hired after_hiring entry now status =
-      Does (asked.Consume board id owner) board (state entry) (state now) status × (after_hiring ≡ hired)
-  Obeys gives stopped (asked.Trash board id owner) files hired after_hiring entry now status =
-      Does (asked.Trash board id owner) board (state entry) (state now) status × (after_hiring ≡ hired)
-  Obeys gives stopped (asked.Owner board id) files hired after_hiring entry now status =
-      Does (asked.Owner board id) board (state entry) (state now) status × (after_hiring ≡ hired)
-  Obeys gives stopped (asked.List board) files hired after_hiring entry now status =
-      Does (asked.List board) board (state entry) (state now) status × (after_hiring ≡ hired)
+  abbrev pub Obeys : (Want → Order → Outcome → Type 0) → Type 0 → Asked → Contents → PortsTold → PortsTold → K → K → ℕ → Type 0
+  Obeys gives stopped (asked.Try file sets defer hands target) files ports later entry now status =
+      FileRead files (source_so file sets defer target) (IsUntouched ports.hired later.hired (state entry) (state now))
+      (Tries (gives hands) hands stopped ports.hired later.hired (state entry).shown (state now).shown) (state entry).shown (state now).shown status × TouchesNoFile (state entry) (state now)
+  Obeys gives stopped (asked.Check file sets target) files ports later entry now status =
+      FileRead files (source_so file sets false target) (IsUntouched ports.hired later.hired (state entry) (state now))
+      (Checks (state entry).shown (state now).shown) (state entry).shown (state now).shown status × IsUntouched ports.hired later.hired (state entry) (state now)
+  Obeys gives stopped (asked.Audit file log sets defer) files ports later entry now status =
+      FileRead files (source_so file sets defer None) (IsUntouched ports.hired later.hired (state entry) (state now))
+      (Audits files log (state entry).shown (state now).shown) (state entry).shown (state now).shown status × IsUntouched ports.hired later.hired (state entry) (state now)
+  Obeys gives stopped (asked.Run file book sets defer hands stop target) files ports later entry now status =
+      FileRead files (source_so file sets defer target) (IsUntouched ports.hired later.hired (state entry) (state now))
+      (Runs (gives hands) (spoken_run hands stop) stopped book ports.hired later.hired (state entry) (state now)) (state entry).shown (state now).shown status
+  Obeys gives stopped (asked.Resume book hands stop) files ports later entry now status =
+      Resumes (gives hands) (spoken_run hands stop) stopped book ports.hired later.hired (state entry) (state now) status
+  Obeys gives stopped (asked.Show book) files ports later entry now status =
+      ShowsBook book (state entry) (state now) status × (later ≡ ports)
+  Obeys gives stopped (asked.Reset book) files ports later entry now status =
+      ResetsBook book (state entry) (state now) status × (later ≡ ports)
+  Obeys gives stopped (asked.Demo seed size book hands) files ports later entry now status =
+      Demonstrates state (gives (want.Local hands)) (want.Local hands) stopped book ports.hired later.hired entry now seed size status
+  Obeys gives stopped (asked.Worker address sessions) files ports later entry now status =
+      Works (gives (want.Local 1)) ports.hired later.hired ports.door later.door (state entry).shown (state now).shown address sessions status
+      × NoFileChanges (state entry) (state now)
+  Obeys gives stopped (asked.Post board name priority details) files ports later entry now status =
+      Does (asked.Post board name priority details) board (state entry) (state now) status × (later ≡ ports)
+  Obeys gives stopped (asked.Claim board id owner) files ports later entry now status =
+      Does (asked.Claim board id owner) board (state entry) (state now) status × (later ≡ ports)
+  Obeys gives stopped (asked.Abandon board id owner) files ports later entry now status =
+      Does (asked.Abandon board id owner) board (state entry) (state now) status × (later ≡ ports)
+  Obeys gives stopped (asked.Consume board id owner) files ports later entry now status =
+      Does (asked.Consume board id owner) board (state entry) (state now) status × (later ≡ ports)
+  Obeys gives stopped (asked.Trash board id owner) files ports later entry now status =
+      Does (asked.Trash board id owner) board (state entry) (state now) status × (later ≡ ports)
+  Obeys gives stopped (asked.Owner board id) files ports later entry now status =
+      Does (asked.Owner board id) board (state entry) (state now) status × (later ≡ ports)
+  Obeys gives stopped (asked.List board) files ports later entry now status =
+      Does (asked.List board) board (state entry) (state now) status × (later ≡ ports)
 
   -- the way that a command went, with hands that keep the relation of orders and outcomes of those that are wanted, and with runs that may be suspended where
-  -- a stop was asked for: its words, what the sources tell, which hands were hired before and after, the desk before and after, the
+  -- a stop was asked for: its words, what the sources tell, what the crew and the door tell before and after, the desk before and after, the
   -- status
-  pub data Course (gives : Want → Order → Outcome → Type 0) (stopped : Type 0) (words : List (List ℕ)) (files : Contents) (hired after_hiring : Option (List Want)) (entry now : K)
+  pub data Course (gives : Want → Order → Outcome → Type 0) (stopped : Type 0) (words : List (List ℕ)) (files : Contents) (ports later : PortsTold) (entry now : K)
       (status : ℕ) : Type 0 where
     -- memory ran out before the words were read
-    unheard : status ≡ OUT_OF_MEMORY → now ≡ entry → after_hiring ≡ hired
-        → Course gives stopped words files hired after_hiring entry now status
+    unheard : status ≡ OUT_OF_MEMORY → now ≡ entry → later ≡ ports
+        → Course gives stopped words files ports later entry now status
     -- the words are no command
-    no_command : command_of words ≡ None → ClosesWith (state entry).shown usage NO_COMMAND (state now).shown status → IsUntouched hired after_hiring (state entry) (state now)
-        → Course gives stopped words files hired after_hiring entry now status
+    no_command : command_of words ≡ None → ClosesWith (state entry).shown usage NO_COMMAND (state now).shown status → IsUntouched ports.hired later.hired (state entry) (state now)
+        → Course gives stopped words files ports later entry now status
     -- what they ask for was done, or it was said why not
-    obeyed : (command : Asked) → command_of words ≡ Some command → Obeys gives stopped command files hired after_hiring entry now status
-        → Course gives stopped words files hired after_hiring entry now status
+    obeyed : (command : Asked) → command_of words ≡ Some command → Obeys gives stopped command files ports later entry now status
+        → Course gives stopped words files ports later entry now status
 
 -- ---- what a status tells
 

@@ -1,6 +1,5 @@
 pub mod Asking
 pub mod Messages
-pub mod Run
 pub mod Books
 pub mod Course
 pub mod Opened

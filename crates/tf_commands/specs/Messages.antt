@@ -1,5 +1,5 @@
 -- What a command says: of a refusal, of an audit, and of the sessions of a worker.
-use Rattle.std.specs.Prelude.{ℕ, ◌-◌, List, [], ◌∷◌, ◌++◌, codes, length, ◌≡◌, ◌≤◌, ◌⊎◌, Option, Some, None, ◌+◌, ◌<◌}
+use Rattle.std.specs.Prelude.{ℕ, ◌-◌, List, [], ◌∷◌, ◌++◌, codes, length, map, ◌≡◌, ◌≤◌, ◌⊎◌, Option, Some, None, ◌+◌, ◌<◌}
 use Rattle.std.specs.Fmt.{decimal}
 use Rattle.std.specs.List.{flat_map, AllByRecursion}
 use Rattle.tf_flow.specs.declared.faults.Limit.{Limit}
@@ -10,7 +10,7 @@ use Rattle.tf_files.specs.declared.document.faults.FileFault.{FileFault}
 use Rattle.tf_files.specs.declared.document.faults.FileFault.TheVariants as file_fault
 use Rattle.tf_order.specs.declared.faults.CompileFault.{CompileFault}
 use Rattle.tf_order.specs.declared.faults.CompileFault.TheVariants as compile_fault
-use Rattle.tf_numbers.specs.Numbers.{which_below}
+use Rattle.tf_numbers.specs.Numbers.{which_below, Rises}
 use Rattle.tf_model.specs.Plan.{Outline, count, is_task}
 use Rattle.tf_report.specs.Lines.{flow_name, flow_word}
 use Rattle.tf_states.specs.declared.state.FlowState.{FlowState}
@@ -18,9 +18,9 @@ use Rattle.tf_scopes.specs.declared.faults.ScopeFault.{ScopeFault}
 use Rattle.tf_scopes.specs.declared.faults.ScopeFault.TheVariants as scope_fault
 use Rattle.tf_target.specs.declared.faults.TargetFault.{TargetFault}
 use Rattle.tf_target.specs.declared.faults.TargetFault.TheVariants as target_fault
-use Rattle.tf_commands.specs.declared.accepting.Refusal.{Refusal}
-use Rattle.tf_commands.specs.declared.accepting.Refusal.TheVariants as refused
-use Rattle.tf_ports.specs.Ports.{Contents, GivesBytes, PassesLimit}
+use Rattle.tf_accept.specs.declared.accepting.Refusal.{Refusal}
+use Rattle.tf_accept.specs.declared.accepting.Refusal.TheVariants as refused
+use Rattle.tf_ports.specs.Ports.{Contents, GivesBytes, PassesLimit, SeenLink, DoorTold, told_with_all, opened_at, gave_link, took_back}
 use Rattle.tf_ports.specs.declared.reading.TheConstants.{SOURCE_LIMIT}
 use Rattle.tf_flow.specs.Plan.{PlanTree}
 use Rattle.tf_target.specs.Target.{outline_in}
@@ -32,15 +32,20 @@ use Rattle.tf_report.specs.Closing.{ClosesWith}
 use Rattle.tf_report.specs.declared.statuses.TheConstants.{SUCCEEDED, UNREAD, OUT_OF_MEMORY, UNHIRED, UNSAID}
 use Rattle.tf_words.specs.declared.asked.Asked.{Asked}
 use Rattle.tf_words.specs.declared.asked.Asked.TheVariants as asked
-use Rattle.tf_commands.specs.Asking.{GivesPlan, file_asked_for}
+use Rattle.tf_accept.specs.Accepted.{GivesPlan}
+use Rattle.tf_commands.specs.Asking.{file_asked_for}
 use Rattle.tf_words.specs.Words.{command_of}
 use Rattle.tf_commands.specs.declared.auditing.TheConstants.{LOG_REFUSED}
 use Rattle.tf_commands.specs.declared.reading.Source.{Source}
-use Rattle.tf_desk.specs.Crash.{Rises, shown_with, ShowsPrefix}
+use Rattle.tf_desk.specs.Crash.{shown_with, ShowsPrefix}
 use Rattle.tf_desk.specs.State.{DeskState}
 use Rattle.tf_actions.specs.Gives.{told_with}
 use Rattle.tf_ports.specs.declared.crews.Want.{Want}
 use Rattle.tf_ports.specs.declared.crews.Want.TheVariants as want
+use Rattle.tf_actions.specs.declared.orders.Order.{Order}
+use Rattle.tf_actions.specs.declared.outcomes.Outcome.{Outcome}
+use Rattle.tf_ports.specs.declared.crews.Address.{Address}
+use Rattle.tf_workers.specs.Session.{Seen, Serves}
 use Rattle.tf_workers.specs.declared.serving.ServeEnd.{ServeEnd}
 use Rattle.tf_workers.specs.declared.serving.ServeEnd.TheVariants as end
 
@@ -244,22 +249,83 @@ IsOver end.Lost = Unit {0}
 IsOver (end.Bad at) = Unit {0}
 IsOver end.Memory = ⊥
 
+-- A session that was served: how it ended, what was seen of its link as the door gave it and as it was given back, and the orders that the hand had
+-- performed after it, where the hand tells them.
+pub record Served : Type 0 where
+  pub how : ServeEnd
+  pub first : SeenLink
+  pub last : SeenLink
+  pub did : Option (List Order)
+
+-- how each ended
+abbrev pub ends_of : List Served → List ServeEnd
+ends_of sessions = map (λ session. session.how) sessions
+
+-- what is seen of a link and of a hand that had performed these orders
+abbrev pub seen_with : SeenLink → Option (List Order) → Seen
+seen_with link did = record { left = link.left; sent = link.sent; faults = link.faults; ends = link.ends; did = did }
+
+-- Each session is as a worker serves its link, one after the other, all by one hand, which had performed these orders before, and these after.
+abbrev pub AreServed : (Order → Outcome → Type 0) → Option (List Order) → List Served → Option (List Order) → Type 0
+AreServed gives did [] now = now ≡ did
+AreServed gives did (session ∷ others) now = Serves gives (seen_with session.first did) (seen_with session.last session.did) session.how × AreServed gives session.did others now
+
+-- The door gave the links of these sessions, each once and in order, and besides these; and was given back those, each as its session left it, and
+-- besides these others.
+pub record GivesLinks (sessions : List Served) (more back : List SeenLink) (old new : DoorTold) : Type 0 where
+  pub opened : new.opened ≡ old.opened
+  pub given : new.given ≡ told_with_all old.given (map (λ session. session.first) sessions ++ more)
+  pub returned : new.returned ≡ told_with_all old.returned (map (λ session. session.last) sessions ++ back)
+
+-- these sessions were served, each over the next link that the door gave, by one hand; at most one link besides was given, over which no session came to an end that is told
+pub record ServesLinks (gives : Order → Outcome → Type 0) (sessions : List Served) (old new : DoorTold) : Type 0 where
+  pub did : Option (List Order)
+  pub now : Option (List Order)
+  pub are : AreServed gives did sessions now
+  pub more : List SeenLink
+  pub back : List SeenLink
+  pub few : (length more ≤ 1) × (length back ≤ length more)
+  pub links : GivesLinks sessions more back old new
+
+-- the same, and no link besides was given
+abbrev pub ServesTheseLinks : (Order → Outcome → Type 0) → List Served → DoorTold → DoorTold → Type 0
+ServesTheseLinks gives sessions old new = (did now : Option (List Order)) × AreServed gives did sessions now × GivesLinks sessions [] [] old new
+
 -- sessions that ended so, one line said for each, in order
 pub record SaysSessions (before now : Option (List ℕ)) (ends : List ServeEnd) : Type 0 where
   pub over : AllByRecursion IsOver ends
   pub said : now ≡ shown_with before (session_lines 1 ends)
 
--- the next session, of this number, ended, and its line was said
-pub record SaysNext (before now : Option (List ℕ)) (number : ℕ) : Type 0 where
-  pub how : ServeEnd
+-- The next session was served by a hand that had performed these orders before, and those after: over a link that the door gave for it, and was given
+-- back.
+pub record ServesNext (gives : Order → Outcome → Type 0) (did now_did : Option (List Order)) (old new : DoorTold) (session : Served) : Type 0 where
+  pub last : session.did ≡ now_did
+  pub serves : Serves gives (seen_with session.first did) (seen_with session.last now_did) session.how
+  pub links : new ≡ took_back (gave_link old session.first) session.last
+
+-- a session ended so, and the line of this number was said
+pub record SaysSession (before now : Option (List ℕ)) (number : ℕ) (how : ServeEnd) : Type 0 where
   pub over : IsOver how
   pub said : now ≡ shown_with before (session_line number how)
 
+-- its line wasn't said whole: memory ran out in it, or before the line was made, or a prefix of the line was said
+pub data CutsSession (before now : Option (List ℕ)) (number : ℕ) (how : ServeEnd) (status : ℕ) : Type 0 where
+  unsaid_whole : status ≡ OUT_OF_MEMORY → now ≡ before → CutsSession before now number how status
+  unsaid_part : status ≡ UNSAID → IsOver how → ShowsPrefix before (session_line number how) now → CutsSession before now number how status
+
+-- the next session ended, and the line of this number was said
+pub record SaysNext (gives : Order → Outcome → Type 0) (did now_did : Option (List Order)) (old new : DoorTold) (before now : Option (List ℕ)) (number : ℕ) : Type 0 where
+  pub session : Served
+  pub serves : ServesNext gives did now_did old new session
+  pub says : SaysSession before now number session.how
+
 -- why there is no next session: memory ran out, no link came, or its line couldn't be said
-pub data StopsNext (before now : Option (List ℕ)) (number : ℕ) (status : ℕ) : Type 0 where
-  exhausted_next : status ≡ OUT_OF_MEMORY → now ≡ before → StopsNext before now number status
-  no_next_link : ClosesWith before cannot_listen UNHIRED now status → StopsNext before now number status
-  unsaid_next : status ≡ UNSAID → (how : ServeEnd) → IsOver how → ShowsPrefix before (session_line number how) now → StopsNext before now number status
+pub data StopsNext (gives : Order → Outcome → Type 0) (did now_did : Option (List Order)) (old new : DoorTold) (before now : Option (List ℕ)) (number : ℕ) (status : ℕ) : Type 0 where
+  exhausted_next : status ≡ OUT_OF_MEMORY → now ≡ before → (more back : List SeenLink) → length more ≤ 1 → length back ≤ length more → GivesLinks [] more back old new
+      → StopsNext gives did now_did old new before now number status
+  no_next_link : new ≡ old → ClosesWith before cannot_listen UNHIRED now status → StopsNext gives did now_did old new before now number status
+  unsaid_next : status ≡ UNSAID → (session : Served) → ServesNext gives did now_did old new session → IsOver session.how → ShowsPrefix before (session_line number session.how) now
+      → StopsNext gives did now_did old new before now number status
 
 -- what a status tells that ends the serving: the door or the output had a fault, or memory ran out
 pub record HasStopCause (old new : DeskState) (door_then door_now status : ℕ) : Type 0 where
@@ -274,28 +340,32 @@ pub record HasServeCause (old new : DeskState) (door_then door_now status : ℕ)
   pub one : (status ≡ SUCCEEDED) ⊎ (status ≡ OUT_OF_MEMORY) ⊎ (status ≡ UNHIRED) ⊎ (status ≡ UNSAID)
 
 -- so many sessions are served, one after the other
-pub data ServesAll (before now : Option (List ℕ)) (sessions : ℕ) (status : ℕ) : Type 0 where
+pub data ServesAll (gives : Order → Outcome → Type 0) (old new : DoorTold) (before now : Option (List ℕ)) (sessions : ℕ) (status : ℕ) : Type 0 where
   -- all were served, and the line of each was said
-  all_served : status ≡ SUCCEEDED → (ends : List ServeEnd) → length ends ≡ sessions → SaysSessions before now ends → ServesAll before now sessions status
+  all_served : status ≡ SUCCEEDED → (served : List Served) → length served ≡ sessions → ServesTheseLinks gives served old new → SaysSessions before now (ends_of served)
+      → ServesAll gives old new before now sessions status
   -- memory ran out in the next one, or before it
-  exhausted : status ≡ OUT_OF_MEMORY → (ends : List ServeEnd) → length ends < sessions → SaysSessions before now ends → ServesAll before now sessions status
+  exhausted : status ≡ OUT_OF_MEMORY → (served : List Served) → length served < sessions → ServesLinks gives served old new → SaysSessions before now (ends_of served)
+      → ServesAll gives old new before now sessions status
   -- no link came for the next one, and that is said
-  no_link : (ends : List ServeEnd) (between : Option (List ℕ)) → length ends < sessions → SaysSessions before between ends → ClosesWith between cannot_listen UNHIRED now status
-      → ServesAll before now sessions status
+  no_link : (served : List Served) (between : Option (List ℕ)) → length served < sessions → ServesTheseLinks gives served old new → SaysSessions before between (ends_of served)
+      → ClosesWith between cannot_listen UNHIRED now status → ServesAll gives old new before now sessions status
   -- a line couldn't be said, and a prefix of the lines was
-  cut_short : status ≡ UNSAID → (ends : List ServeEnd) → length ends ≤ sessions → AllByRecursion IsOver ends → ShowsPrefix before (session_lines 1 ends) now → ServesAll before now sessions status
+  cut_short : status ≡ UNSAID → (served : List Served) → length served ≤ sessions → ServesTheseLinks gives served old new → AllByRecursion IsOver (ends_of served)
+      → ShowsPrefix before (session_lines 1 (ends_of served)) now → ServesAll gives old new before now sessions status
 
 -- one hand of this process was hired
 abbrev pub HiresHere : Option (List Want) → Option (List Want) → Type 0
 HiresHere hired after_hiring = after_hiring ≡ told_with hired (want.Local 1)
 
--- to work is to hire one hand of this process, to listen, and to serve so many sessions
-pub data Works (hired after_hiring : Option (List Want)) (before now : Option (List ℕ)) (sessions : ℕ) (status : ℕ) : Type 0 where
-  -- memory ran out before the first session, and nothing was said
-  unbegun : status ≡ OUT_OF_MEMORY → now ≡ before → Works hired after_hiring before now sessions status
+-- to work is to hire one hand of this process, to open the door at the address, and to serve so many sessions
+pub data Works (gives : Order → Outcome → Type 0) (hired after_hiring : Option (List Want)) (old new : DoorTold) (before now : Option (List ℕ)) (address : Address) (sessions : ℕ) (status : ℕ)
+    : Type 0 where
+  -- memory ran out before the door was open, and nothing was said
+  unbegun : status ≡ OUT_OF_MEMORY → new ≡ old → now ≡ before → Works gives hired after_hiring old new before now address sessions status
   -- no hand could be hired, and that is said
-  unhired : after_hiring ≡ hired → ClosesWith before cannot_hire UNHIRED now status → Works hired after_hiring before now sessions status
+  unhired : after_hiring ≡ hired → new ≡ old → ClosesWith before cannot_hire UNHIRED now status → Works gives hired after_hiring old new before now address sessions status
   -- the door couldn't be opened, and that is said
-  unopened : HiresHere hired after_hiring → ClosesWith before cannot_listen UNHIRED now status → Works hired after_hiring before now sessions status
-  -- the hand served
-  worked : HiresHere hired after_hiring → ServesAll before now sessions status → Works hired after_hiring before now sessions status
+  unopened : HiresHere hired after_hiring → new ≡ old → ClosesWith before cannot_listen UNHIRED now status → Works gives hired after_hiring old new before now address sessions status
+  -- the door was opened there, and the hand served
+  worked : HiresHere hired after_hiring → ServesAll gives (opened_at old address) new before now sessions status → Works gives hired after_hiring old new before now address sessions status

@@ -4,7 +4,7 @@ use Rattle.tf_ports.specs.Ports.{Contents, GivesBytes}
 use Rattle.tf_ports.specs.declared.reading.TheConstants.{SOURCE_LIMIT}
 use Rattle.tf_flow.specs.Plan.{plan_tree}
 use Rattle.tf_machine.specs.Machine.{MachineValue}
-use Rattle.tf_commands.specs.Asking.{GivesPlan}
+use Rattle.tf_accept.specs.Accepted.{GivesPlan}
 use Rattle.tf_commands.specs.declared.reading.Source.{Source}
 
 -- the machine's plan is the one that the file gives

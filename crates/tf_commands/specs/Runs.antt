@@ -1,6 +1,6 @@
 -- What a run of a book keeps, from the book on which it began to the desk that it left; no clause of the top call cites it.
 use Rattle.std.specs.Prelude.{◌≡◌, ◌≢◌, ◌⊎◌, ℕ, true, false, IsTrue, List, [], ◌++◌, Option}
-use Rattle.tf_desk.specs.Crash.{Rises}
+use Rattle.tf_numbers.specs.Numbers.{Rises}
 use Rattle.tf_desk.specs.State.{DeskState, Continues, Passes, Says, nothing_left}
 use Rattle.tf_actions.specs.declared.orders.Order.{Order}
 use Rattle.tf_actions.specs.declared.outcomes.Outcome.{Outcome}
@@ -18,8 +18,7 @@ use Rattle.tf_engines.specs.Runs.{IsSession}
 use Rattle.tf_model.specs.Steps.{has_ended}
 use Rattle.tf_ports.specs.Ports.{wanted as number_of}
 use Rattle.tf_ports.specs.declared.crews.Want.{Want}
-use Rattle.tf_commands.specs.Books.{Hires, Unhired, Promised}
-use Rattle.tf_commands.specs.Run.{book_at, HoldsHistory, IsPendingSo, MayLeave, PutBack, MayRun, Ran}
+use Rattle.tf_commands.specs.Books.{Hires, Unhired, Promised, book_at, HoldsHistory, IsPendingSo, MayLeave, PutBack, MayRun, Ran}
 use Rattle.tf_report.specs.Closing.{disk_fault_text, book_full, ClosesWith}
 use Rattle.tf_report.specs.declared.statuses.TheConstants.{UNREAD, DISK_FAILED, UNSAID, UNHIRED, OUT_OF_MEMORY, FULL}
 use Rattle.tf_commands.specs.declared.running.Request.{Request}

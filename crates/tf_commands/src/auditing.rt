@@ -1,12 +1,12 @@
 //! An audit: a flow file and a log are read, and it is said whether the log can be that of runs of the file's plan.
 
 ghost use Rattle.std.specs.Prelude.{◌≡◌, ◌≢◌, ◌≤◌, []};
-ghost use Rattle.tf_desk.specs.Crash.{Rises};
+ghost use Rattle.tf_numbers.specs.Numbers.{Rises};
 ghost use Rattle.tf_flow.specs.Plan.{plan_tree};
 ghost use Rattle.tf_machine.specs.Machine.{outline, StandsFor};
 ghost use Rattle.tf_commands.specs.Messages.{Audits, Judges, verdict_status};
 ghost use Rattle.tf_commands.specs.Course.{FileRead};
-ghost use Rattle.tf_commands.specs.Run.{NoFileChanges, OnlySays, HasSaid};
+ghost use Rattle.tf_commands.specs.Books.{NoFileChanges, OnlySays, HasSaid};
 
 use crate::messages::{CANNOT_READ, LOG_TOO_LONG};
 use crate::reading::{Source, open_file};

@@ -1,8 +1,7 @@
 //! How a command on a board is done.
 ghost use Rattle.std.specs.Prelude.{◌≡◌, ◌≤◌, ℕ, List, true, is_some, Some};
 ghost use Rattle.tf_words.specs.declared.asked.Asked.{Asked};
-ghost use Rattle.tf_board.specs.Answers.{board_of};
-ghost use Rattle.tf_board.specs.Does.{Does};
+ghost use Rattle.tf_board.specs.Does.{board_of, Does};
 ghost use Rattle.tf_commands.specs.Asking.{HasEachCause, counts_of};
 
 use crate::running::Over;

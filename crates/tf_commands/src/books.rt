@@ -1,7 +1,7 @@
 //! Books on the desk: how one is opened, why it isn't, and how a run begins in a file that holds no flow.
 
 ghost use Rattle.std.specs.Prelude.{◌≡◌, ◌≢◌, ◌≤◌, ◌⊎◌, ℕ, List, [], IsTrue, None, IfOk, IfErr};
-ghost use Rattle.tf_desk.specs.Crash.{Rises};
+ghost use Rattle.tf_numbers.specs.Numbers.{Rises};
 ghost use Rattle.tf_desk.specs.State.{bytes_now, anything, GoesOn};
 ghost use Rattle.tf_flow.specs.Plan.{PlanValue};
 ghost use Rattle.tf_journal.specs.Format.{journal_bytes, title_of, desk_after};
@@ -12,8 +12,7 @@ ghost use Rattle.tf_book.specs.Loaded.{desk_of, desk_after_load, IsLoaded, IsMad
 ghost use Rattle.tf_book.specs.Book.{RefusesBook};
 ghost use Rattle.tf_book.specs.Starting.{desk_started};
 ghost use Rattle.tf_commands.specs.Begun.{desk_in, MayBeBorn, IsRecordless, IsBlank, IsFoundBlank, IsExactSoFar, LeavesNoFlow, SaysUnbegun, FailsToBegin, Begins, Unbegun};
-ghost use Rattle.tf_commands.specs.Books.{Promised, Refuses, RefusesOrStops, Unopened};
-ghost use Rattle.tf_commands.specs.Run.{book_at, HasSaid};
+ghost use Rattle.tf_commands.specs.Books.{Promised, Refuses, RefusesOrStops, Unopened, book_at, HasSaid};
 ghost use Rattle.tf_commands.specs.Messages.{no_flow_text, cannot_hire};
 ghost use Rattle.tf_report.specs.Closing.{not_a_book, ClosesWithOrStops};
 ghost use Rattle.tf_commands.specs.declared.running.Request.{Request};

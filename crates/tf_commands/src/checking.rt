@@ -1,10 +1,10 @@
 //! A check: a flow file is read, and what its flow has is said.
 
 ghost use Rattle.std.specs.Prelude.{◌≡◌, ◌≢◌, ◌≤◌};
-ghost use Rattle.tf_desk.specs.Crash.{Rises};
+ghost use Rattle.tf_numbers.specs.Numbers.{Rises};
 ghost use Rattle.tf_model.specs.Plan.{outline_of};
 ghost use Rattle.tf_commands.specs.Course.{FileRead, Checks};
-ghost use Rattle.tf_commands.specs.Run.{NoFileChanges, OnlySays, HasSaid};
+ghost use Rattle.tf_commands.specs.Books.{NoFileChanges, OnlySays, HasSaid};
 ghost use Rattle.tf_commands.specs.Messages.{checked};
 ghost use Rattle.tf_report.specs.Closing.{ClosesWithOrStops};
 

@@ -9,7 +9,7 @@ use tf_tasks::LocalHand;
 use tf_values::Memory;
 
 /// The program's crew: hands of this process, which perform built-in tasks and run programs, or hands over links that
-/// its dialer makes, one for each address, in order. It tells its count alone, which is that of the dialer's faults.
+/// its dialer makes, one for each address, in order. It tells its count alone, which is that of the dialer's faults, and whom it dialled where the dialer tells it.
 #[derive(Drop)]
 pub struct ProgramCrew<R, D> {
     runtime: R,
@@ -38,6 +38,8 @@ impl<R: Processes + Eprint + Copy + Send + Drop, D: Dialer> Crew for ProgramCrew
     ghost faults = { λ crew. D.faults crew.dialer };
 
     ghost hired = { λ _. None };
+
+    ghost dialled = { λ crew. D.dialled crew.dialer };
 
     fn hire(
         &mut self,

@@ -2,7 +2,6 @@
 //! for.
 #![tactic(auto)]
 
-mod accepting;
 mod auditing;
 mod boards;
 mod books;

@@ -4,7 +4,7 @@ ghost use Rattle.tf_numbers.specs.Numbers.{which_below};
 ghost use Rattle.tf_model.specs.Plan.{outline_of, count, is_task};
 ghost use Rattle.tf_commands.specs.Messages.{limit_word as word_of_limit, checked, summary, tasks_below, spaced, plan_fault_text, file_fault_text, compile_fault_text, scope_fault_text, target_fault_text, reason_text, refusal, state_forbids};
 
-use crate::accepting::Refusal;
+use tf_accept::Refusal;
 use tf_files::{FileFault, Path};
 use tf_flow::{Limit, Plan, PlanFault};
 use tf_order::CompileFault;

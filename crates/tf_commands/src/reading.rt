@@ -1,19 +1,19 @@
 //! Flow files: from a name to a machine before a run of the plan that the file gives.
 
 ghost use Rattle.std.specs.Prelude.{◌≡◌, ◌≢◌, ◌≤◌, [], true, false, Ok, Err, OnOk, IfOk, IfErr};
-ghost use Rattle.tf_desk.specs.Crash.{Rises};
+ghost use Rattle.tf_numbers.specs.Numbers.{Rises};
 ghost use Rattle.tf_flow.specs.Plan.{plan_tree};
 ghost use Rattle.tf_machine.specs.Machine.{StandsFor};
-ghost use Rattle.tf_commands.specs.Asking.{GivesPlan, is_want_of_memory};
+ghost use Rattle.tf_accept.specs.Accepted.{GivesPlan, is_want_of_memory};
 ghost use Rattle.tf_commands.specs.Messages.{refusal, reason_text};
 ghost use Rattle.tf_commands.specs.Course.{BytesRead, FileRead, Undone};
-ghost use Rattle.tf_commands.specs.Run.{NoFileChanges, OnlySays, HasSaid};
+ghost use Rattle.tf_commands.specs.Books.{NoFileChanges, OnlySays, HasSaid};
 ghost use Rattle.tf_commands.specs.Opened.{Opened};
 ghost use Rattle.tf_report.specs.Closing.{ClosesWithOrStops};
 
-use crate::accepting::{Refusal, accept};
 use crate::messages::{CANNOT_READ, TOO_LONG, append_refusal};
 use std::alloc::Global;
+use tf_accept::{Refusal, accept};
 use tf_desk::Desk;
 use tf_flow::Binds;
 use tf_machine::Machine;

@@ -7,10 +7,9 @@ ghost use Rattle.tf_machine.specs.Machine.{StandsFor};
 ghost use Rattle.tf_book.specs.Book.{outline, flow_state};
 ghost use Rattle.tf_commands.specs.Asking.{AreHands, HasEachCause, WasAsked, counts_of};
 ghost use Rattle.tf_commands.specs.Begun.{desk_in, IsBlank, IsFoundBlank};
-ghost use Rattle.tf_commands.specs.Books.{Hires, RefusesOrStops, Unhired, Promised, Runs};
+ghost use Rattle.tf_commands.specs.Books.{Hires, RefusesOrStops, Unhired, Promised, Runs, HasSaid};
 ghost use Rattle.tf_commands.specs.Course.{FileRead, IsUntouched, HiresAtMost};
 ghost use Rattle.tf_commands.specs.Messages.{state_forbids};
-ghost use Rattle.tf_commands.specs.Run.{HasSaid};
 ghost use Rattle.tf_journal.specs.Start.{Untouched, Open};
 
 use crate::books::{Blank, begin, open, refuse_book, say_over, say_unbegun, say_unhired};

@@ -11,7 +11,7 @@ ghost use Rattle.tf_book.specs.declared.faults.Halt.{Halt as Cause};
 ghost use Rattle.tf_engines.specs.Runs.{MightRecord, HasRun, StandsAs};
 ghost use Rattle.tf_commands.specs.Asking.{AreHands, WasAsked};
 ghost use Rattle.tf_commands.specs.Messages.{summary};
-ghost use Rattle.tf_commands.specs.Run.{stop_status};
+ghost use Rattle.tf_commands.specs.Books.{stop_status};
 ghost use Rattle.tf_commands.specs.Runs.{HasSaidHalt, IsRunTo, RunsOn};
 ghost use Rattle.tf_commands.specs.declared.running.Request.{Request as ARequest};
 

@@ -3,9 +3,8 @@
 ghost use Rattle.std.specs.Prelude.{◌≡◌, ◌≤◌, ◌⊎◌, ℕ, List};
 ghost use Rattle.tf_book.specs.Book.{outline};
 ghost use Rattle.tf_book.specs.SessionInvariant.{history_text};
-ghost use Rattle.tf_commands.specs.Books.{RefusesOrStops, ShowsBook};
+ghost use Rattle.tf_commands.specs.Books.{RefusesOrStops, ShowsBook, HasSaid};
 ghost use Rattle.tf_commands.specs.Asking.{HasEachCause, counts_of};
-ghost use Rattle.tf_commands.specs.Run.{HasSaid};
 ghost use Rattle.tf_journal.specs.Start.{Untouched};
 
 use crate::books::{open, refuse_book, say_empty, say_over};

@@ -1,10 +1,10 @@
 ghost use Rattle.std.specs.Prelude.{◌≡◌, ◌≤◌, false, is_some, None, Some};
-ghost use Rattle.tf_board.specs.Answers.{board_of};
-ghost use Rattle.tf_desk.specs.Crash.{Rises};
+ghost use Rattle.tf_board.specs.Does.{board_of};
+ghost use Rattle.tf_numbers.specs.Numbers.{Rises};
 ghost use Rattle.tf_commands.specs.Asking.{IsWithin, want_of, IsWork, AsksForWork, HasCausesOr, HasNoFault, WasAsked, counts_of};
 ghost use Rattle.tf_commands.specs.Messages.{IsLogRefused};
 ghost use Rattle.tf_words.specs.Words.{command_of};
-ghost use Rattle.tf_commands.specs.Course.{Course, HiresAsAsked, HiresAsWanted, Obeys, IsRefused, IsBoardRefused, MayBeDone, IsComplete};
+ghost use Rattle.tf_commands.specs.Course.{Course, ports_told, HiresAsAsked, HiresAsWanted, Obeys, IsRefused, IsBoardRefused, MayBeDone, IsComplete};
 ghost use Rattle.tf_commands.specs.declared.auditing.TheConstants.{LOG_REFUSED};
 ghost use Rattle.tf_ports.specs.Ports.{gives_by};
 ghost use Rattle.tf_report.specs.declared.statuses.TheConstants.{BOARD_REFUSED};
@@ -57,11 +57,14 @@ pub fn taskflow<K: Desk + Send, S: Sources, W: Crew, L: Door, R: Threads + Wait 
     outside: Outside<K, S, W, L>,
 ) -> Ended<K, S, W, L>
     // The way that the command went: which command the words are, which plan the sources' bytes give or
-    // why they give none, what the book held and holds, which hands were hired, what was recorded, what was
-    // shown, what a crash may leave, and the status.
+    // why they give none, what the book held and holds, which hands were hired, at which address a worker's door was
+    // opened and how each of its links was served, what was recorded, what was shown, what a crash may leave, and the
+    // status.
     ensures course { Course K.state (gives_by W.Hand.gives W.Far.gives)
         (WasAsked (K.state outside.desk) (K.state result.outside.desk)) words.now (S.contents outside.sources)
-        (W.hired outside.crew) (W.hired result.outside.crew) outside.desk result.outside.desk result.status }
+        (ports_told W.hired L.told outside.crew outside.door)
+        (ports_told W.hired L.told result.outside.crew result.outside.door) outside.desk result.outside.desk
+        result.status }
 
     // Status 2 comes only where the words are no command.
     ensures no_command { result.status ≡ NO_COMMAND → command_of words.now ≡ None }
@@ -131,7 +134,8 @@ fn answer<K: Desk + Send, S: Sources, W: Crew, L: Door, R: Threads + Wait + Sync
 ) -> Over<K>
     ensures course { Course K.state (gives_by W.Hand.gives W.Far.gives)
         (WasAsked (K.state desk) (K.state result.desk)) words.now
-        (S.contents sources.old) (W.hired crew.old) (W.hired crew.new) desk result.desk result.status }
+        (S.contents sources.old) (ports_told W.hired L.told crew.old door.old)
+        (ports_told W.hired L.told crew.new door.new) desk result.desk result.status }
     ensures hires { HiresAsAsked words.now (W.hired crew.old) (W.hired crew.new) }
     ensures asks { (K.state desk).asks ≤ (K.state result.desk).asks }
     ensures door { L.faults door.old ≤ L.faults door.new }
@@ -168,7 +172,8 @@ fn obey<K: Desk + Send, S: Sources, W: Crew, L: Door, R: Threads + Wait + Sync>(
     requires within { IsWithin asked }
     ensures obeys { Obeys K.state (gives_by W.Hand.gives W.Far.gives)
         (WasAsked (K.state desk) (K.state result.desk)) asked
-        (S.contents sources.old) (W.hired crew.old) (W.hired crew.new) desk result.desk result.status }
+        (S.contents sources.old) (ports_told W.hired L.told crew.old door.old)
+        (ports_told W.hired L.told crew.new door.new) desk result.desk result.status }
     ensures hires { HiresAsWanted (want_of asked) (W.hired crew.old) (W.hired crew.new) }
     ensures asks { (K.state desk).asks ≤ (K.state result.desk).asks }
     ensures door { L.faults door.old ≤ L.faults door.new }
@@ -198,7 +203,8 @@ fn obey_flow<K: Desk + Send, S: Sources, W: Crew, L: Door, R: Threads + Wait + S
     requires within { IsWithin asked }
     ensures obeys { Obeys K.state (gives_by W.Hand.gives W.Far.gives)
         (WasAsked (K.state desk) (K.state result.desk)) asked
-        (S.contents sources.old) (W.hired crew.old) (W.hired crew.new) desk result.desk result.status }
+        (S.contents sources.old) (ports_told W.hired L.told crew.old door.old)
+        (ports_told W.hired L.told crew.new door.new) desk result.desk result.status }
     ensures hires { HiresAsWanted (want_of asked) (W.hired crew.old) (W.hired crew.new) }
     ensures asks { (K.state desk).asks ≤ (K.state result.desk).asks }
     ensures door { L.faults door.old ≤ L.faults door.new }

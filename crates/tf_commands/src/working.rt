@@ -1,10 +1,10 @@
 //! A worker: it serves the requests of remote hands that come to an address, one session after the other.
 
-ghost use Rattle.std.specs.Prelude.{◌≡◌, ◌≤◌, ◌+◌, ◌++◌, ◌⊎◌, ℕ, List, Option, OnOk, IfErr};
-ghost use Rattle.tf_desk.specs.Crash.{Rises};
+ghost use Rattle.std.specs.Prelude.{◌≡◌, ◌≢◌, ◌≤◌, ◌+◌, ◌++◌, ◌⊎◌, ℕ, List, Option, OnOk, IfErr};
+ghost use Rattle.tf_numbers.specs.Numbers.{Rises};
 ghost use Rattle.tf_ports.specs.declared.crews.Want.{Want as AWant};
-ghost use Rattle.tf_commands.specs.Messages.{end_word, session_line, SaysNext, StopsNext, HasStopCause, HasServeCause, HiresHere, ServesAll, Works};
-ghost use Rattle.tf_commands.specs.Run.{OnlySays};
+ghost use Rattle.tf_commands.specs.Messages.{end_word, session_line, SaysSession, CutsSession, SaysNext, StopsNext, HasStopCause, HasServeCause, HiresHere, ServesAll, Works};
+ghost use Rattle.tf_commands.specs.Books.{OnlySays};
 
 use crate::messages::{CANNOT_HIRE, CANNOT_LISTEN};
 use std::alloc::Global;
@@ -26,8 +26,8 @@ pub fn work<K: Desk, W: Crew, D: Door>(
     crew: &mut W,
     door: &mut D,
 ) -> u8
-    ensures works { Works (W.hired crew.old) (W.hired crew.new) (K.state desk.old).shown (K.state desk.new).shown
-        sessions result }
+    ensures works { Works W.Hand.gives (W.hired crew.old) (W.hired crew.new) (D.told door.old) (D.told door.new)
+        (K.state desk.old).shown (K.state desk.new).shown address.now sessions result }
     ensures says { OnlySays (K.state desk.old) (K.state desk.new) }
     ensures hires { (W.hired crew.new ≡ W.hired crew.old) ⊎ HiresHere (W.hired crew.old) (W.hired crew.new) }
     ensures unhired { result ≡ UNHIRED
@@ -60,7 +60,8 @@ fn listen_and_serve<K: Desk, P: Performer, D: Door>(
     door: &mut D,
 ) -> u8
     ensures works { (hired after_hiring : Option (List AWant)) → HiresHere hired after_hiring
-        → Works hired after_hiring (K.state desk.old).shown (K.state desk.new).shown sessions result }
+        → Works P.gives hired after_hiring (D.told door.old) (D.told door.new) (K.state desk.old).shown
+        (K.state desk.new).shown address.now sessions result }
     ensures says { OnlySays (K.state desk.old) (K.state desk.new) }
     ensures causes { HasServeCause (K.state desk.old) (K.state desk.new)
         (D.faults door.old) (D.faults door.new) result }
@@ -81,7 +82,8 @@ fn serve_all<K: Desk, P: Performer, D: Door>(
     hand: &mut P,
     door: &mut D,
 ) -> u8
-    ensures serves { ServesAll (K.state desk.old).shown (K.state desk.new).shown sessions result }
+    ensures serves { ServesAll P.gives (D.told door.old) (D.told door.new) (K.state desk.old).shown
+        (K.state desk.new).shown sessions result }
     ensures says { OnlySays (K.state desk.old) (K.state desk.new) }
     ensures causes { HasServeCause (K.state desk.old) (K.state desk.new)
         (D.faults door.old) (D.faults door.new) result }
@@ -95,7 +97,7 @@ fn serve_all<K: Desk, P: Performer, D: Door>(
     SUCCEEDED
 }
 
-/// Takes the next link, serves it, and says how the session ended: the one of this number, from 0.
+/// Takes the next link, serves it, gives it back, and says how the session ended: the one of this number, from 0.
 fn serve_next<K: Desk, P: Performer, D: Door>(
     alloc: Global,
     number: u32,
@@ -103,27 +105,31 @@ fn serve_next<K: Desk, P: Performer, D: Door>(
     hand: &mut P,
     door: &mut D,
 ) -> Result<(), u8>
-    ensures next { OnOk result (SaysNext (K.state desk.old).shown (K.state desk.new).shown (number + 1)) }
-    ensures stopped { IfErr result (StopsNext (K.state desk.old).shown (K.state desk.new).shown (number + 1)) }
+    ensures next { OnOk result (SaysNext P.gives (P.did hand.old) (P.did hand.new) (D.told door.old) (D.told door.new)
+        (K.state desk.old).shown (K.state desk.new).shown (number + 1)) }
+    ensures stopped { IfErr result (StopsNext P.gives (P.did hand.old) (P.did hand.new) (D.told door.old)
+        (D.told door.new) (K.state desk.old).shown (K.state desk.new).shown (number + 1)) }
     ensures causes { IfErr result (HasStopCause (K.state desk.old) (K.state desk.new)
         (D.faults door.old) (D.faults door.new)) }
     ensures says { OnlySays (K.state desk.old) (K.state desk.new) }
     ensures door { D.faults door.old ≤ D.faults door.new }
 {
-    match door.accept(alloc) {
-        Ok(mut link) => {
-            let end = serve(alloc, &mut link, hand);
-            say_end(alloc, number, end, desk)
-        }
-        Err(PortFault::Failed) => Err(close(CANNOT_LISTEN, UNHIRED, desk)),
-        Err(PortFault::Memory) => Err(OUT_OF_MEMORY),
+    let mut link = match door.accept(alloc) {
+        Ok(link) => link,
+        Err(PortFault::Failed) => return Err(close(CANNOT_LISTEN, UNHIRED, desk)),
+        Err(PortFault::Memory) => return Err(OUT_OF_MEMORY),
+    };
+    let end = serve(alloc, &mut link, hand);
+    match door.close(link) {
+        Ok(()) => say_end(alloc, number, end, desk),
+        Err(_) => Err(OUT_OF_MEMORY),
     }
 }
 
 /// Says how the session of this number, from 0, ended; unless memory ended it, or runs out.
 fn say_end<K: Desk>(alloc: Global, number: u32, end: ServeEnd, desk: &mut K) -> Result<(), u8>
-    ensures next { OnOk result (SaysNext (K.state desk.old).shown (K.state desk.new).shown (number + 1)) }
-    ensures stopped { IfErr result (StopsNext (K.state desk.old).shown (K.state desk.new).shown (number + 1)) }
+    ensures next { OnOk result (SaysSession (K.state desk.old).shown (K.state desk.new).shown (number + 1) end) }
+    ensures stopped { IfErr result (CutsSession (K.state desk.old).shown (K.state desk.new).shown (number + 1) end) }
     ensures causes { (door : ℕ)
         → IfErr result (HasStopCause (K.state desk.old) (K.state desk.new) door door) }
     ensures says { OnlySays (K.state desk.old) (K.state desk.new) }

@@ -4,9 +4,8 @@ use Rattle.std.specs.Prelude.{IfOk, IfErr, IfSome, IsSome, slice_get}
 use Rattle.tf_desk.specs.Crash.{Pairs}
 use Rattle.tf_desk.specs.State.{DeskState, anything, GoesOn}
 use Rattle.tf_desk.proofs.StateLemmas.{goes_within}
-use Rattle.tf_board.specs.Board.{BoardValue}
-use Rattle.tf_board.specs.Jobs.{refuses_id}
-use Rattle.tf_board.specs.Answers.{number_of}
+use Rattle.tf_board.specs.Board.{BoardValue, refuses_id}
+use Rattle.tf_board.specs.Does.{number_of}
 use Rattle.tf_board.specs.Seeking.{free_job, id_at}
 use Rattle.tf_board.specs.declared.commands.Command.{Command}
 use Rattle.tf_board.specs.declared.commands.JobAction.TheVariants as action

@@ -7,7 +7,7 @@ use Rattle.std.proofs.lemmas.Bool.{eqb-true}
 use Rattle.std.proofs.lemmas.List.{map-append}
 use Rattle.std.proofs.lemmas.List.Folds.{find-append}
 use Rattle.std.proofs.lemmas.Option.{slice_get-map}
-use Rattle.tf_board.specs.Jobs.{LegalJobs, has_id, is_free, is_listed, is_there, job_at, jobs_in, jobs_of, named, posted, priorities, refused_at, refuses, same_priority, standing_after, standing_of}
+use Rattle.tf_board.specs.Board.{LegalJobs, has_id, is_free, is_listed, is_there, job_at, jobs_in, jobs_of, named, posted, priorities, refused_at, refuses, same_priority, standing_after, standing_of}
 use Rattle.tf_board.specs.Seeking.{free_job, is_numbered, is_takable, jobs_listed, names_itself, number_in}
 use Rattle.tf_board.specs.declared.commands.Command.{Command}
 use Rattle.tf_board.specs.declared.commands.Command.TheVariants as command

@@ -2,8 +2,8 @@
 use Rattle.std.proofs.Common.{◌≡◌, ◌≢◌, ℕ, List, [], ◌∷◌, ◌++◌, Some, refl, sym, ap, subst, ◌∙◌, append_assoc}
 use Rattle.std.specs.Prelude.{slice_get}
 use Rattle.std.specs.List.{AllByRecursion}
-use Rattle.tf_board.specs.Jobs.{LegalJobs}
-use Rattle.tf_board.specs.Answers.{applied, number_of}
+use Rattle.tf_board.specs.Board.{LegalJobs}
+use Rattle.tf_board.specs.Does.{applied, number_of}
 use Rattle.tf_board.specs.Seeking.{by_other}
 use Rattle.tf_board.specs.declared.commands.Command.{Command}
 use Rattle.tf_board.specs.declared.commands.Command.TheVariants as command

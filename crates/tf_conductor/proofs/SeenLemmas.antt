@@ -6,9 +6,8 @@ use Rattle.std.proofs.lemmas.List.{append_cancel_left, map-append}
 use Rattle.std.proofs.lemmas.List.Elements.{recursion_from_All}
 use Rattle.tf_desk.specs.State.{DeskState}
 use Rattle.tf_values.specs.declared.value.Val.{Val}
-use Rattle.tf_board.specs.Board.{AreOfBoard}
-use Rattle.tf_board.specs.Jobs.{details_in, is_there, LegalJobs, numbered as item_of, jobs_of}
-use Rattle.tf_board.specs.Answers.{number_of}
+use Rattle.tf_board.specs.Board.{AreOfBoard, details_in, is_there, LegalJobs, numbered as item_of, jobs_of}
+use Rattle.tf_board.specs.Does.{number_of}
 use Rattle.tf_board.specs.Seeking.{free_job, details_for}
 use Rattle.tf_board.specs.declared.commands.Command.{Command}
 use Rattle.tf_board.specs.declared.jobs.Job.{Job}

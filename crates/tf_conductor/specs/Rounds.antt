@@ -2,7 +2,7 @@
 use Rattle.std.specs.Prelude.{◌≡◌, ℕ, Bool, true, false, ◌&&◌, nat_eq, List, [], ◌∷◌, ◌++◌, length, drop, map, slice_get, Option, Some, None}
 use Rattle.std.specs.List.{filter, list_any, AllByRecursion}
 use Rattle.tf_values.specs.declared.value.Val.{Val}
-use Rattle.tf_board.specs.Jobs.{details_in, jobs_of, numbered, is_free}
+use Rattle.tf_board.specs.Board.{details_in, jobs_of, numbered, is_free}
 use Rattle.tf_board.specs.Seeking.{names_itself}
 use Rattle.tf_board.specs.declared.commands.Command.{Command}
 use Rattle.tf_board.specs.declared.jobs.Job.{Job}

@@ -2,8 +2,8 @@
 use Rattle.std.specs.Prelude.{◌≡◌, ◌≢◌, ◌⊎◌, ◌==◌, ◌<◌, ℕ, Bool, true, false, List, [], ◌∷◌, ◌++◌, length, map, slice_get, Option, Some, None}
 use Rattle.std.specs.List.{list_any, AllByRecursion}
 use Rattle.tf_values.specs.declared.value.Val.{Val}
-use Rattle.tf_board.specs.Jobs.{LegalJobs}
-use Rattle.tf_board.specs.Answers.{number_of}
+use Rattle.tf_board.specs.Board.{LegalJobs}
+use Rattle.tf_board.specs.Does.{number_of}
 use Rattle.tf_board.specs.Seeking.{free_job}
 use Rattle.tf_board.specs.declared.commands.Command.{Command}
 use Rattle.tf_shared_board.specs.Calls.{followed_by}

@@ -13,7 +13,7 @@ use Rattle.tf_desk.specs.Crash.{written, bytes_of, IsLeft}
 use Rattle.tf_desk.specs.Acts.{Act, picked, wrote, synced, said, picked_after, files_after, shown_after, content_after, left_after, crashes_after}
 use Rattle.tf_desk.specs.ActLaws.{has_file, left_reads, crashes_now}
 use Rattle.tf_desk.specs.MemoryDesk.{Held, acts_of, written_count, said_count}
-use Rattle.tf_desk.specs.Crashed.{IsTornAfter, acts_at, ended_at, began_at, unsynced_at, struck_at, struck, ends_in_sync, IsTornDesk, IsCrashed, picked_in_log}
+use Rattle.tf_desk.specs.Crashed.{IsTornAfter, acts_at, acts_left, ended_at, began_at, unsynced_at, struck_at, struck, ends_in_sync, IsTornDesk, IsCrashed, picked_in_log}
 use Rattle.tf_desk.proofs.FileLemmas.{chosen}
 use Rattle.tf_desk.proofs.LogLemmas.{unsynced_none, acts_up_to, shown_of, picked_of, sum_by-reverse}
 use Rattle.tf_desk.proofs.CrashedLemmas.{mixed_left, crashes_on}
@@ -57,12 +57,12 @@ module _ (name image text : List ℕ) where
       ∙ ap (λ (l : List ℕ). Some ([] ++ (image ++ l))) (drop_all (0 + length image) [] (omega arith))
       ∙ ap Some (append-nil image)
 
-  kept_bytes : bytes_of (content_after (synced ∷ wrote 0 image ∷ picked name ∷ said text ∷ [])) ≡ image
+  kept_bytes : bytes_of (content_after (acts_left name image text)) ≡ image
   kept_bytes = ap (λ (f : Option (List ℕ)). unwrap_or f []) kept_file
 
   -- a file is picked
   pub leaves_some : (torn : Torn) (past : List Act) → picked_after past ≡ Some name → shown_after past ≡ text → IsTornAfter torn past (Some name) image
-      → IsTornDesk torn past (synced ∷ wrote 0 image ∷ picked name ∷ said text ∷ [])
+      → IsTornDesk torn past (acts_left name image text)
   leaves_some torn past is shows torn_so = record {
     picked = sym is;
     image = subst (λ (l : List ℕ). IsTornAfter torn past (picked_after past) l) (sym kept_bytes) (subst (λ (p : Option (List ℕ)). IsTornAfter torn past p image) (sym is) torn_so);
@@ -101,7 +101,7 @@ module _ (past : List Act) (log : List Noted) (w s : List ℕ) (moment : ℕ) (v
 
   pub crashed_some : (torn : Torn) (name image text : List ℕ) (new : List Act) → picked_in_log (reverse (take moment log)) ≡ Some name → text ≡ take (sum_by said_count (take moment log)) s
       → ((shown : List ℕ) → IsTornAfter torn (acts_of (reverse (take moment log)) (take (sum_by written_count (take moment log)) w) shown) (Some name) image)
-      → new ≡ synced ∷ wrote 0 image ∷ picked name ∷ said text ∷ [] → IsTornDesk torn (acts_at past moment) new
+      → new ≡ acts_left name image text → IsTornDesk torn (acts_at past moment) new
   crashed_some torn name image text new some shows torn_so is =
       subst (IsTornDesk torn (acts_at past moment)) (sym is)
       (leaves_some name image text torn (acts_at past moment) (name_then ∙ some) (text_then ∙ sym shows)

@@ -1,5 +1,5 @@
 -- What a desk tells of its files and of the text that it shows, and what a crash may leave of both.
-use Rattle.std.specs.Prelude.{◌≡◌, ℕ, ◌+◌, ◌-◌, ◌≤◌, min, max, List, [], ◌++◌, length, take, drop, Option, unwrap_or, option_map, ◌^◌, Some, None}
+use Rattle.std.specs.Prelude.{◌≡◌, ℕ, ◌+◌, ◌-◌, ◌≤◌, min, max, List, [], ◌++◌, length, take, drop, Option, unwrap_or, option_map, Some, None}
 use Rattle.std.specs.Option.{option_and_then}
 
 -- ---- what a desk tells of its files, and what its calls do to it
@@ -48,10 +48,6 @@ pub record ShowsPrefix (before : Option (List ℕ)) (bytes : List ℕ) (after : 
   pub prefix : after ≡ shown_with before (take count bytes)
 
 -- ---- counts that never fall, and stand still at the greatest u64
-
--- the count rose, or stands at its greatest value
-abbrev pub Rises : ℕ → ℕ → Type 0
-Rises before after = min (before + 1) (2 ^ 64 - 1) ≤ after
 
 -- ---- what a crash may leave: an image of the file that is picked at that moment, and a shown text
 

@@ -88,6 +88,10 @@ struck torn held call = acts_at held.past (struck_at torn held call)
 
 -- ---- the desk that is left
 
+-- what was done, newest first, by a desk on whose disk this file alone is, and that has shown this text
+abbrev pub acts_left : (name image text : List ℕ) → List Act
+acts_left name image text = synced ∷ wrote 0 image ∷ picked name ∷ said text ∷ []
+
 -- after what was done, a desk that has the picked file torn so, and the text; a crash then may leave this file, and all of it is on the disk now
 pub record IsTornDesk (torn : Torn) (past new : List Act) : Type 0 where
   pub picked : picked_after new ≡ picked_after past

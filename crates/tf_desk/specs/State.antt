@@ -1,7 +1,8 @@
 -- What a desk tells, as one state, and what a call does to it. Each fact of the files, the marks or the crashes holds where the desk tells.
 use Rattle.std.specs.Prelude.{◌≡◌, ◌≢◌, ◌⊎◌, ℕ, ◌≤◌, Bool, IsTrue, List, [], ◌∷◌, ◌++◌, Option, Some, None, unwrap_or}
 use Rattle.std.proofs.Common.{inl, inr, ⊎_elim, arith}
-use Rattle.tf_desk.specs.Crash.{Mark, at_pick, at_sync, Content, Torn, bytes_of, Rises, Pairs, Images, Crashes, IsLeft, IsLeftNow, LeavesNoMore, ShowsPrefix}
+use Rattle.tf_numbers.specs.Numbers.{Rises}
+use Rattle.tf_desk.specs.Crash.{Mark, at_pick, at_sync, Content, Torn, bytes_of, Pairs, Images, Crashes, IsLeft, IsLeftNow, LeavesNoMore, ShowsPrefix}
 use Rattle.tf_desk.specs.declared.device.DeskFault.{DeskFault}
 use Rattle.tf_desk.specs.declared.device.DeskFault.TheVariants.{Disk, Out, Memory}
 
@@ -138,6 +139,14 @@ pub record Asks (old new : DeskState) : Type 0 where
   pub marks : Unmarked old new
   pub files : IsTrue old.tells → FilesStay old new
   pub crash : IsTrue old.tells → Passes nothing_left old new
+
+-- no fault of the disk was counted
+abbrev pub MeetsNoDiskFault : DeskState → DeskState → Type 0
+MeetsNoDiskFault old new = new.disk_faults ≡ old.disk_faults
+
+-- no fault of the output was counted
+abbrev pub MeetsNoOutputFault : DeskState → DeskState → Type 0
+MeetsNoOutputFault old new = new.out_faults ≡ old.out_faults
 
 -- the file of that name is picked, made empty where there was none
 pub record Picks (name : List ℕ) (old new : DeskState) : Type 0 where

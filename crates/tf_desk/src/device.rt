@@ -1,6 +1,7 @@
 ghost use Rattle.std.specs.Prelude.{◌≡◌, ℕ, ◌≤◌, true, false, IsTrue, List, length, Some, None, is_some, OnOk, OnErr, IfOk, IfErr};
-ghost use Rattle.tf_desk.specs.Crash.{written, Reads, Rises, shown_with};
-ghost use Rattle.tf_desk.specs.State.{DeskState, bytes_now, LeftNow, OnDisk, Unmarked, Rests, GoesOn, Tears, Syncs, Says, Asks, Picks, PicksNone, LeavesMade, FailsOnDisk, FailsOnOutput, FailsToPick};
+ghost use Rattle.tf_numbers.specs.Numbers.{Rises};
+ghost use Rattle.tf_desk.specs.Crash.{written, Reads, shown_with};
+ghost use Rattle.tf_desk.specs.State.{DeskState, bytes_now, LeftNow, OnDisk, Unmarked, Rests, GoesOn, Tears, Syncs, Says, Asks, Picks, PicksNone, LeavesMade, MeetsNoDiskFault, MeetsNoOutputFault, FailsOnDisk, FailsOnOutput, FailsToPick};
 
 use std::alloc::Global;
 use tf_values::Text;
@@ -32,6 +33,7 @@ pub trait Desk: Drop {
             → PicksNone name.now (state self.old) (state self.new)) }
         ensures leaves { IsTrue (state self.old).tells → LeavesMade name.now (state self.old) (state self.new) }
         ensures on_disk { OnDisk (LeftNow (state self.new)) (state self.old) (state self.new) }
+        ensures calm { OnOk result (MeetsNoDiskFault (state self.old) (state self.new)) }
         ensures fails { IfErr result (λ fault. FailsToPick fault (state self.old) (state self.new)) };
 
     /// How many bytes the picked file has.
@@ -40,6 +42,7 @@ pub trait Desk: Drop {
             → size ≡ length (bytes_now (state self.old))) }
         ensures unmarked { Unmarked (state self.old) (state self.new) }
         ensures rests { Rests (state self.old) (state self.new) }
+        ensures calm { OnOk result (MeetsNoDiskFault (state self.old) (state self.new)) }
         ensures fails { IfErr result (λ fault. FailsOnDisk fault (state self.old) (state self.new)) };
 
     /// Fills the buffer with the picked file's bytes from that offset on, and answers how many it put
@@ -50,6 +53,7 @@ pub trait Desk: Drop {
             → Reads (bytes_now (state self.old)) at buf.new n) }
         ensures unmarked { Unmarked (state self.old) (state self.new) }
         ensures rests { Rests (state self.old) (state self.new) }
+        ensures calm { OnOk result (MeetsNoDiskFault (state self.old) (state self.new)) }
         ensures fails { IfErr result (λ fault. FailsOnDisk fault (state self.old) (state self.new)) };
 
     /// Puts the bytes into the picked file from that offset on, which is at most its size. Until a sync a
@@ -61,6 +65,7 @@ pub trait Desk: Drop {
         ensures tears { IsTrue (state self.old).tells
             → Tears at (length bytes.now) (state self.old) (state self.new) }
         ensures goes { GoesOn (LeftNow (state self.new)) (state self.old) (state self.new) }
+        ensures calm { OnOk result (MeetsNoDiskFault (state self.old) (state self.new)) }
         ensures fails { IfErr result (λ fault. FailsOnDisk fault (state self.old) (state self.new)) };
 
     /// Puts what was written to the picked file on the disk. After `Ok` a crash leaves what is read of it.
@@ -68,6 +73,7 @@ pub trait Desk: Drop {
         ensures synced { OnOk result (IsTrue (state self.old).tells → Syncs (state self.old) (state self.new)) }
         ensures unsynced { OnErr result (Unmarked (state self.old) (state self.new)) }
         ensures rests { Rests (state self.old) (state self.new) }
+        ensures calm { OnOk result (MeetsNoDiskFault (state self.old) (state self.new)) }
         ensures fails { IfErr result (λ fault. FailsOnDisk fault (state self.old) (state self.new)) };
 
     /// Appends the bytes to the shown text. Where it fails, a prefix of the bytes was shown, and the
@@ -75,6 +81,7 @@ pub trait Desk: Drop {
     fn say(&mut self, bytes: &[u8]) -> Result<(), DeskFault>
         ensures said { OnOk result ((state self.new).shown ≡ shown_with (state self.old).shown bytes.now) }
         ensures says { Says bytes.now (state self.old) (state self.new) }
+        ensures calm { OnOk result (MeetsNoOutputFault (state self.old) (state self.new)) }
         ensures fails { IfErr result (λ fault. FailsOnOutput fault (state self.old) (state self.new)) };
 
     /// Whether a stop is asked for. `true` comes only where the count of asks rose, and `false` only

@@ -1,6 +1,6 @@
 ghost use Rattle.std.specs.Prelude.{◌≡◌, ◌≤◌, IsErrOf, IfErr};
 ghost use Rattle.std.proofs.lemmas.Bool.{false≢true};
-ghost use Rattle.tf_desk.specs.Crash.{Rises};
+ghost use Rattle.tf_numbers.specs.Numbers.{Rises};
 ghost use Rattle.tf_desk.specs.FileDesk.{counts_alone};
 
 use crate::device::{Desk, DeskFault};

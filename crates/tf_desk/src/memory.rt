@@ -2,7 +2,7 @@ ghost use Rattle.std.specs.Prelude.{◌≡◌, ◌≤◌, ◌∷◌, [], length,
 ghost use Rattle.std.proofs.Common.{refl};
 ghost use Rattle.tf_desk.specs.Acts.{shown_after};
 ghost use Rattle.tf_desk.specs.ActLaws.{picked_there, left_reads, left_none, crashes_earlier, crashes_now, crashes_only};
-ghost use Rattle.tf_desk.specs.Crash.{Rises};
+ghost use Rattle.tf_numbers.specs.Numbers.{Rises};
 ghost use Rattle.tf_desk.specs.Crashed.{began_at, ended_at, struck_at, IsCrashed};
 ghost use Rattle.tf_desk.specs.MemoryDesk.{state_of};
 

@@ -1,7 +1,7 @@
 ghost use Rattle.std.specs.Prelude.{◌≡◌, ◌≤◌, ◌<◌, ◌++◌, ◌∷◌, [], true, false, length, is_ok, IsSome, IfOk, IfSome, IfNone, OnOk, OnErr, if◌then◌else◌};
 ghost use Rattle.tf_desk.specs.Crash.{written, bytes_of, Reads};
 ghost use Rattle.tf_desk.specs.Acts.{picked, wrote, synced, said, content_after, picked_after, shown_after};
-ghost use Rattle.tf_desk.specs.Crashed.{acts_at, unsynced_at, IsTornDesk};
+ghost use Rattle.tf_desk.specs.Crashed.{acts_at, acts_left, unsynced_at, IsTornDesk};
 ghost use Rattle.tf_desk.specs.MemoryDesk.{file_at, IsFirst};
 
 use crate::crashing::{Torn, image_of, is_sync, picked_in, text_of};
@@ -308,7 +308,7 @@ impl Past {
         image: &[u8],
         text: &[u8],
     ) -> Result<Past, Memory>
-        ensures { IfOk result (λ past. past ≡ synced ∷ wrote 0 image.now ∷ picked name.now ∷ said text.now ∷ []) }
+        ensures { IfOk result (λ past. past ≡ acts_left name.now image.now text.now) }
     {
         let capacity = capacity.saturating_add(image.len());
         let mut past = Past::shows(alloc, capacity, calls.saturating_add(3), text)?;

@@ -1,6 +1,6 @@
 -- What the answers of a journal's calls say of its file.
 use Rattle.std.specs.Prelude.{◌≡◌, ◌≢◌, ℕ, ◌≤◌, List, length, Option, Some, None}
-use Rattle.tf_desk.specs.Crash.{Rises}
+use Rattle.tf_numbers.specs.Numbers.{Rises}
 use Rattle.tf_desk.specs.State.{DeskState}
 use Rattle.tf_journal.specs.declared.faults.JournalFault.{JournalFault}
 use Rattle.tf_journal.specs.declared.faults.JournalFault.TheVariants.{Disk, NotABook, Unborn, Memory}

@@ -1,6 +1,6 @@
 //! How bodies are read through a journal, one after another.
 ghost use Rattle.std.specs.Prelude.{◌≡◌, ◌<◌, ◌≤◌, ◌++◌, ℕ, List, false, IsTrue, length, OnOk, IfOk, IfErr, IsErrOf};
-ghost use Rattle.tf_desk.specs.Crash.{Rises};
+ghost use Rattle.tf_numbers.specs.Numbers.{Rises};
 ghost use Rattle.tf_desk.specs.State.{bytes_now};
 ghost use Rattle.tf_journal.specs.Format.{prefix_of, title_of};
 ghost use Rattle.tf_journal.specs.Reading.{IsNext, IsNoRefusal, HasBodies, OnlyReads, RefusesPlace};

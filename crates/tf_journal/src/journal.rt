@@ -1,5 +1,5 @@
 ghost use Rattle.std.specs.Prelude.{◌≡◌, ◌≢◌, ◌≤◌, ◌<◌, ◌+◌, ◌++◌, ◌∷◌, [], ℕ, List, None, true, false, IsTrue, length, vec_capacity, OnOk, IfOk, IfErr, MatchResult, Ok};
-ghost use Rattle.tf_desk.specs.Crash.{Rises};
+ghost use Rattle.tf_numbers.specs.Numbers.{Rises};
 ghost use Rattle.tf_desk.specs.State.{bytes_now, anything, Rests, GoesOn};
 ghost use Rattle.tf_journal.specs.Adding.{Adds, AddsAtMost, Grows, FailsToAppend};
 ghost use Rattle.tf_journal.specs.Answers.{RefusesFile, RefusesRecord, GivesRecord, FailsToCreate, FailsToRead};

@@ -1,5 +1,5 @@
--- Tests of the numbers below a count, and of pairs of such numbers.
-use Rattle.std.specs.Prelude.{ℕ, zero, suc, List, [], ◌∷◌, ◌++◌, Bool, true, false, ◌&&◌, ◌||◌, Option, Some, None, if◌then◌else◌, nat_eq, map, flat_map}
+-- Tests of the numbers below a count, and of pairs of such numbers; and when a count of 64 bits rose.
+use Rattle.std.specs.Prelude.{ℕ, zero, suc, ◌+◌, ◌-◌, ◌^◌, min, ◌≤◌, List, [], ◌∷◌, ◌++◌, Bool, true, false, ◌&&◌, ◌||◌, Option, Some, None, if◌then◌else◌, nat_eq, map, flat_map}
 use Rattle.std.specs.List.{list_any}
 use Rattle.std.specs.Option.{option_or}
 
@@ -65,3 +65,9 @@ pairs_from n test u = map (pair u) (which_below n (test u))
 -- the pairs of numbers below n at which a test of two numbers passes, in order
 abbrev pub pairs_below : ℕ → (ℕ → ℕ → Bool) → List Pair
 pairs_below n test = flat_map (pairs_from n test) (numbers_below n)
+
+-- ---- counts of 64 bits
+
+-- the count rose, or stands at its greatest value
+abbrev pub Rises : ℕ → ℕ → Type 0
+Rises before after = min (before + 1) (2 ^ 64 - 1) ≤ after

@@ -1,3 +1,4 @@
+mod CrewLemmas
 mod LinkLemmas
 mod RemainingLemmas
 mod SocketLemmas

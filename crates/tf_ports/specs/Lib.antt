@@ -1,7 +1,7 @@
 pub mod Ports
-pub mod Links
 pub mod MemoryCrew
 pub mod MemoryDialer
+pub mod MemoryDoor
 pub mod MemoryLink
 pub mod MemoryPerformer
 pub mod MemorySources

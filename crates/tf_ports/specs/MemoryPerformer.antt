@@ -1,5 +1,5 @@
 -- What a performer in memory keeps, and what it gives.
-use Rattle.std.specs.Prelude.{◌≡◌, List, ◌⊎◌}
+use Rattle.std.specs.Prelude.{◌≡◌, ℕ, List, ◌⊎◌}
 use Rattle.tf_values.specs.declared.value.Val.TheVariants as value
 use Rattle.tf_states.specs.declared.record.Failure.TheVariants as failure
 use Rattle.tf_actions.specs.declared.orders.Given.{Given}
@@ -10,9 +10,14 @@ use Rattle.tf_actions.specs.declared.outcomes.Action.TheVariants as action
 use Rattle.tf_actions.specs.declared.outcomes.Outcome.{Outcome}
 use Rattle.tf_actions.specs.declared.outcomes.Outcome.TheVariants as outcome
 
--- the orders so far
+-- the orders so far, and how many faults there were
 pub record HeldByPerformer : Type 0 where
   pub did : List Order
+  pub faults : ℕ
+
+-- a failure as of a hand that is lost
+abbrev pub IsLost : Outcome → Type 0
+IsLost result = result ≡ outcome.Failed failure.Lost
 
 -- nothing, or a failure as of a hand that is lost
 abbrev pub IsNothingOrLost : Outcome → Type 0

@@ -1,11 +1,50 @@
--- What is told of sources, and which hands are wanted.
-use Rattle.std.specs.Prelude.{◌≡◌, ℕ, ◌<◌, List, length, Option, Some, None, vec_len}
+-- What the calls of a link do to the bytes that it tells of. What is told of sources and of a door, and which hands are wanted.
+use Rattle.std.specs.Prelude.{◌≡◌, ℕ, ◌<◌, ◌≤◌, List, [], ◌++◌, length, take, Option, Some, None, option_map, vec_len}
+use Rattle.tf_ports.specs.declared.links.Came.{Came}
 use Rattle.tf_actions.specs.declared.orders.Order.{Order}
 use Rattle.tf_actions.specs.declared.outcomes.Outcome.{Outcome}
+use Rattle.tf_actions.specs.Gives.{told_with}
+use Rattle.tf_ports.specs.declared.crews.Address.{Address}
 use Rattle.tf_ports.specs.declared.crews.Hands.{Hands}
-use Rattle.tf_ports.specs.declared.crews.Hands.TheVariants as hands
 use Rattle.tf_ports.specs.declared.crews.Want.{Want}
+use Rattle.tf_ports.specs.declared.links.Came.TheVariants as came
+use Rattle.tf_ports.specs.declared.crews.Hands.TheVariants as hands
 use Rattle.tf_ports.specs.declared.crews.Want.TheVariants as want
+
+-- what is seen of a link: the bytes that it has left and those that it was sent, None where it doesn't tell them; and its counts of faults and ends
+pub record SeenLink : Type 0 where
+  pub left : Option (List ℕ)
+  pub sent : Option (List ℕ)
+  pub faults : ℕ
+  pub ends : ℕ
+
+abbrev pub seen_link : {L : Type 0} → (L → Option (List ℕ)) → (L → Option (List ℕ)) → (L → ℕ) → (L → ℕ) → L → SeenLink
+seen_link left sent faults ends link = record { left = left link; sent = sent link; faults = faults link; ends = ends link }
+
+-- what was sent, with some bytes more; None, which tells nothing, stays None
+abbrev pub sent_with : Option (List ℕ) → List ℕ → Option (List ℕ)
+sent_with sent bytes = option_map (λ before. before ++ bytes) sent
+
+-- some prefix of the bytes was sent: none of them, a part, or all
+pub record SendsPrefix (before : Option (List ℕ)) (bytes : List ℕ) (after : Option (List ℕ)) : Type 0 where
+  pub count : ℕ
+  pub prefix : after ≡ sent_with before (take count bytes)
+
+-- what was left before these bytes were taken from its front; None, which tells nothing, stays None
+abbrev pub left_before : List ℕ → Option (List ℕ) → Option (List ℕ)
+left_before bytes left = option_map (λ rest. bytes ++ rest) left
+
+-- nothing is left, where it is told
+abbrev pub IsNothingLeft : Option (List ℕ) → Type 0
+IsNothingLeft None = Unit {0}
+IsNothingLeft (Some left) = left ≡ []
+
+-- what came: some bytes from the front of what was left, which stand first in the buffer; or the end, where
+-- nothing was left; or nothing
+abbrev pub Comes : Option (List ℕ) → Option (List ℕ) → List ℕ → Came → Type 0
+Comes before after buffer (came.Bytes count) = (0 < count) × (count ≤ length buffer) × (before ≡ left_before (take count buffer) after)
+Comes before after buffer came.End = IsNothingLeft before × (after ≡ before)
+Comes before after buffer came.Failed = after ≡ before
 
 -- ---- the bytes of the sources, where they are told
 
@@ -22,6 +61,37 @@ GivesBytes (Some sources) name bytes = sources name ≡ Some bytes
 abbrev pub PassesLimit : Contents → List ℕ → Type 0
 PassesLimit None name = Unit {0}
 PassesLimit (Some sources) name = (bytes : List ℕ) × (sources name ≡ Some bytes) × (262144 < length bytes)
+
+-- ---- lists that are told
+
+-- more at the end; None, which tells nothing, stays None
+abbrev pub told_with_all : {X : Type 0} → Option (List X) → List X → Option (List X)
+told_with_all told xs = option_map (λ before. before ++ xs) told
+
+-- ---- what a door tells
+
+-- the addresses at which it was opened, in order; what was seen of each link that it gave, as it gave it; and what was seen of each link that was
+-- given back to it, as it was given back
+pub record DoorTold : Type 0 where
+  pub opened : Option (List Address)
+  pub given : Option (List SeenLink)
+  pub returned : Option (List SeenLink)
+
+-- nothing of all this
+abbrev pub door_tells_nothing : DoorTold
+door_tells_nothing = record { opened = None; given = None; returned = None }
+
+-- it was opened at one address more
+abbrev pub opened_at : DoorTold → Address → DoorTold
+opened_at told address = record told { opened = told_with told.opened address }
+
+-- it gave one link more
+abbrev pub gave_link : DoorTold → SeenLink → DoorTold
+gave_link told link = record told { given = told_with told.given link }
+
+-- one link more was given back
+abbrev pub took_back : DoorTold → SeenLink → DoorTold
+took_back told link = record told { returned = told_with told.returned link }
 
 -- ---- which hands are wanted, and whether those that were hired are these
 
@@ -40,3 +110,16 @@ AreWanted _ _ = ⊥
 abbrev pub gives_by : (near far : Order → Outcome → Type 0) → Want → Order → Outcome → Type 0
 gives_by near far (want.Local count) = near
 gives_by near far (want.Remote addresses) = far
+
+-- ---- which addresses are dialled
+
+-- the addresses at which hands are wanted; none for hands of this process
+abbrev pub addresses_wanted : Want → List Address
+addresses_wanted (want.Local count) = []
+addresses_wanted (want.Remote addresses) = addresses
+
+-- the first few of these addresses were dialled, in order
+pub record DialsSome (addresses : List Address) (before after : Option (List Address)) : Type 0 where
+  pub count : ℕ
+  pub few : count ≤ length addresses
+  pub dialled : after ≡ told_with_all before (take count addresses)

@@ -1,4 +1,4 @@
-ghost use Rattle.std.specs.Prelude.{◌≤◌, length, IfOk};
+ghost use Rattle.std.specs.Prelude.{◌≤◌, length, None, IfOk};
 ghost use Rattle.tf_ports.specs.Remaining.{IsFirstLeft};
 
 use crate::programs::{Done, OUTPUT_LIMIT, Output, SpawnFault, Spawner};
@@ -27,6 +27,8 @@ impl<R: Processes + Eprint + Drop> Spawner for Children<R> {
     ghost faults = { λ children. children.faults };
 
     ghost answers = { λ _ _ _ _. Unit {0} };
+
+    ghost ran = { λ _. None };
 
     fn run(&mut self, alloc: Global, program: &Text, args: &Texts) -> Result<Done, SpawnFault> {
         match run_child(&self.runtime, alloc, program, args) {

@@ -1,8 +1,9 @@
 ghost use Rattle.std.specs.Prelude.{◌≡◌, ℕ, ◌≤◌, List, Option, IfOk, OnOk, OnErr, IsErrOf};
-ghost use Rattle.tf_desk.specs.Crash.{Rises};
+ghost use Rattle.tf_numbers.specs.Numbers.{Rises};
+ghost use Rattle.tf_ports.specs.declared.crews.Address.{Address as AnAddress};
 ghost use Rattle.tf_ports.specs.declared.crews.Want.{Want as AWant};
 ghost use Rattle.tf_actions.specs.Gives.{told_with};
-ghost use Rattle.tf_ports.specs.Ports.{wanted, AreWanted};
+ghost use Rattle.tf_ports.specs.Ports.{wanted, AreWanted, addresses_wanted, told_with_all, DialsSome};
 
 use std::alloc::Global;
 use std::marker::Model;
@@ -128,8 +129,12 @@ pub trait Crew: Drop {
     /// The wants that were answered with hands, in order, where the crew keeps them.
     ghost hired: { Self → Option (List AWant) };
 
-    /// The hands that are wanted: as many of this process, or one for each address, in order. `Failed` comes only
-    /// where the count of faults rose.
+    /// The addresses that were dialled, in order, where the crew tells them.
+    ghost dialled: { Self → Option (List AnAddress) };
+
+    /// The hands that are wanted: as many of this process, or one for each address; the addresses are
+    /// dialled in order, up to the first at which no link can be made. `Failed` comes only where the count of faults
+    /// rose.
     fn hire(
         &mut self,
         alloc: Global,
@@ -139,5 +144,9 @@ pub trait Crew: Drop {
         ensures cause { IsErrOf result PortFault.Failed → Rises (faults self.old) (faults self.new) }
         ensures hired { OnOk result (hired self.new ≡ told_with (hired self.old) want.now) }
         ensures not_hired { OnErr result (hired self.new ≡ hired self.old) }
+        ensures dialled { OnOk result
+            (dialled self.new ≡ told_with_all (dialled self.old) (addresses_wanted want.now)) }
+        ensures dialled_some { OnErr result
+            (DialsSome (addresses_wanted want.now) (dialled self.old) (dialled self.new)) }
         ensures no_fall { faults self.old ≤ faults self.new };
 }

@@ -1,6 +1,6 @@
 ghost use Rattle.std.specs.Prelude.{◌≡◌, ℕ, ◌<◌, ◌≤◌, List, Option, length, OnOk, OnErr};
-ghost use Rattle.tf_desk.specs.Crash.{Rises};
-ghost use Rattle.tf_ports.specs.Links.{sent_with, SendsPrefix, Comes};
+ghost use Rattle.tf_numbers.specs.Numbers.{Rises};
+ghost use Rattle.tf_ports.specs.Ports.{sent_with, SendsPrefix, Comes};
 
 /// What a link gave: so many bytes, at the front of the buffer; its end, after which nothing comes; or
 /// nothing, as it failed.

@@ -1,5 +1,5 @@
 ghost use Rattle.std.specs.Prelude.{◌≡◌, ◌≤◌, Some, map, option_map, IsErrOf};
-ghost use Rattle.tf_desk.specs.Crash.{Rises};
+ghost use Rattle.tf_numbers.specs.Numbers.{Rises};
 ghost use Rattle.tf_ports.specs.MemorySources.{seen, source_at};
 
 use crate::reading::{SOURCE_LIMIT, SourceFault, Sources};

@@ -1,5 +1,7 @@
 ghost use Rattle.std.specs.Prelude.{◌≡◌, ◌≤◌, [], Some};
-ghost use Rattle.tf_desk.specs.Crash.{Rises};
+ghost use Rattle.std.specs.List.{flat_map};
+ghost use Rattle.tf_numbers.specs.Numbers.{Rises};
+ghost use Rattle.tf_ports.specs.Ports.{addresses_wanted};
 
 use crate::crews::{Crew, Hands, PortFault, Want};
 use std::alloc::Global;
@@ -68,6 +70,8 @@ impl<P: Performer + Send> Crew for MemoryCrew<P> {
 
     ghost hired = { λ crew. Some crew.hired };
 
+    ghost dialled = { λ crew. Some (flat_map addresses_wanted crew.hired) };
+
     fn hire(&mut self, alloc: Global, want: &Want) -> Result<Hands<P, P>, PortFault> {
         self.made = self.made.saturating_add(1);
         let count = want.count();
@@ -83,7 +87,7 @@ impl<P: Performer + Send> Crew for MemoryCrew<P> {
         let Ok(hands) = self.hands.split_off(self.hands.len() - count) else {
             return Err(PortFault::Memory);
         };
-        if self.hired.push(kept).is_err() {
+        if let Err(_) = self.hired.push(kept) {
             return Err(PortFault::Memory);
         }
         Ok(match want {

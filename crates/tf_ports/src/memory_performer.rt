@@ -1,5 +1,6 @@
-ghost use Rattle.std.specs.Prelude.{◌≡◌, [], Some};
-ghost use Rattle.tf_ports.specs.MemoryPerformer.{IsPlayed, IsNothingOrLost};
+ghost use Rattle.std.specs.Prelude.{◌≡◌, ◌≤◌, true, [], Some};
+ghost use Rattle.tf_numbers.specs.Numbers.{Rises};
+ghost use Rattle.tf_ports.specs.MemoryPerformer.{IsPlayed, IsNothingOrLost, IsLost};
 ghost use Rattle.tf_ports.specs.PlayedLaws.{played_looks_up, played_reverts};
 
 use std::alloc::Global;
@@ -9,12 +10,13 @@ use tf_states::Failure;
 use tf_values::{Memory, Val};
 
 /// A performer in memory, which keeps its orders and does nothing for them. Its calls are numbered from
-/// 1, and the stated ones fail as if a hand were lost; every other one gives nothing.
+/// 1, and the stated ones fail as if a hand were lost, which counts as a fault; every other one gives nothing.
 #[derive(Drop)]
 pub struct MemoryPerformer {
     did: Vec<Order>,
     made: u64,
     failing: Vec<u64>,
+    faults: u64,
 }
 
 impl Model for MemoryPerformer {
@@ -22,18 +24,20 @@ impl Model for MemoryPerformer {
 
     ghost Value = { HeldByPerformer };
 
-    ghost view = { λ performer. record { did = performer.did.items } };
+    ghost view = { λ performer. record { did = performer.did.items; faults = performer.faults } };
 }
 
 impl MemoryPerformer {
-    /// A performer that was asked for nothing so far.
+    /// A performer that was asked for nothing and had no fault so far.
     pub fn make(alloc: Global, failing: Vec<u64>) -> MemoryPerformer
-        ensures { result.did ≡ [] }
+        ensures nothing { result.did ≡ [] }
+        ensures none { result.faults ≡ 0 }
     {
         MemoryPerformer {
             did: Vec::new(alloc),
             made: 0,
             failing,
+            faults: 0,
         }
     }
 
@@ -50,6 +54,10 @@ impl Performer for MemoryPerformer {
 
     ghost gives = { IsPlayed };
 
+    ghost faults = { λ performer. performer.faults };
+
+    ghost of_fault = { λ order. IsLost };
+
     ghost looks_up = { played_looks_up };
 
     ghost reverts_to_nothing = { played_reverts };
@@ -59,13 +67,17 @@ impl Performer for MemoryPerformer {
         let fails = self.failing.contains(&self.made);
         let kept = order.copy(alloc)?;
         self.did.push(kept)?;
+        if fails {
+            self.faults = self.faults.saturating_add(1);
+        }
         Ok(play(order, fails))
     }
 }
 
 /// What an order gives.
 fn play(order: &Order, fails: bool) -> Outcome
-    ensures { IsPlayed order.now result }
+    ensures plays { IsPlayed order.now result }
+    ensures cause { IsLost result → fails ≡ true }
 {
     match order.action {
         Action::Execute => match &order.given {
@@ -77,7 +89,8 @@ fn play(order: &Order, fails: bool) -> Outcome
 }
 
 fn nothing_or_lost(fails: bool) -> Outcome
-    ensures { IsNothingOrLost result }
+    ensures plays { IsNothingOrLost result }
+    ensures cause { IsLost result → fails ≡ true }
 {
     if fails {
         Outcome::Failed(Failure::Lost)

@@ -1,8 +1,8 @@
-ghost use Rattle.std.specs.Prelude.{◌≡◌, ◌≤◌, length, take, IsErrOf, IfOk, option_map};
-ghost use Rattle.tf_desk.specs.Crash.{Rises};
+ghost use Rattle.std.specs.Prelude.{◌≡◌, ◌≤◌, [], length, take, Some, IsErrOf, IfOk, option_map};
+ghost use Rattle.tf_numbers.specs.Numbers.{Rises};
 ghost use Rattle.tf_ports.specs.MemorySpawner.{EndsAs, end_of, end_at, kept_of};
 
-use crate::programs::{Done, OUTPUT_LIMIT, Output, SpawnFault, Spawner};
+use crate::programs::{Done, OUTPUT_LIMIT, Output, ProgramRun, SpawnFault, Spawner, copy_texts};
 use std::alloc::Global;
 use std::marker::Model;
 use tf_values::{Memory, Text, Texts};
@@ -14,11 +14,12 @@ pub struct MemoryProgram {
     pub ends: Done,
 }
 
-/// A spawner in memory. Its calls are numbered from 1, and the stated ones fail; so does one for a name
+/// A spawner in memory, which keeps what it ran. Its calls are numbered from 1, and the stated ones fail; so does one for a name
 /// that has no program.
 #[derive(Drop)]
 pub struct MemorySpawner {
     programs: Vec<MemoryProgram>,
+    ran: Vec<ProgramRun>,
     made: u64,
     failing: Vec<u64>,
     faults: u64,
@@ -29,26 +30,36 @@ impl Model for MemorySpawner {
 
     ghost Value = { HeldBySpawner };
 
-    ghost view = { λ held. record { programs = held.programs.items; faults = held.faults } };
+    ghost view = { λ held. record { programs = held.programs.items; ran = held.ran.items; faults = held.faults } };
 }
 
 impl MemorySpawner {
-    /// These programs, of which the first of a name counts, with no fault so far.
-    pub fn make(programs: Vec<MemoryProgram>, failing: Vec<u64>) -> MemorySpawner
+    /// These programs, of which the first of a name counts, with none run and no fault so far.
+    pub fn make(alloc: Global, programs: Vec<MemoryProgram>, failing: Vec<u64>) -> MemorySpawner
         ensures held { result.programs ≡ programs.items }
+        ensures unrun { result.ran ≡ [] }
         ensures none { result.faults ≡ 0 }
     {
         MemorySpawner {
             programs,
+            ran: Vec::new(alloc),
             made: 0,
             failing,
             faults: 0,
         }
     }
 
+    /// The programs that were run, in order.
+    pub fn ran(&self) -> &[ProgramRun]
+        ensures { result.now ≡ self.now.ran }
+    {
+        &self.ran
+    }
+
     fn fault(&mut self) -> Result<Done, SpawnFault>
         ensures failed { IsErrOf result SpawnFault.Failed }
         ensures same { self.new.programs ≡ self.old.programs }
+        ensures unrun { self.new.ran ≡ self.old.ran }
         ensures rose { Rises self.old.faults self.new.faults }
         ensures no_fall { self.old.faults ≤ self.new.faults }
     {
@@ -62,7 +73,9 @@ impl Spawner for MemorySpawner {
 
     ghost answers = { EndsAs };
 
-    fn run(&mut self, alloc: Global, program: &Text, _args: &Texts) -> Result<Done, SpawnFault> {
+    ghost ran = { λ held. Some held.ran };
+
+    fn run(&mut self, alloc: Global, program: &Text, args: &Texts) -> Result<Done, SpawnFault> {
         self.made = self.made.saturating_add(1);
         if self.failing.contains(&self.made) {
             return self.fault();
@@ -70,11 +83,27 @@ impl Spawner for MemorySpawner {
         let Some(found) = find(&self.programs, program) else {
             return self.fault();
         };
-        match finish(alloc, found) {
-            Ok(done) => Ok(done),
+        let Ok(done) = finish(alloc, found) else {
+            return Err(SpawnFault::Memory);
+        };
+        let Ok(run) = noted(alloc, program, args) else {
+            return Err(SpawnFault::Memory);
+        };
+        match self.ran.push(run) {
+            Ok(()) => Ok(done),
             Err(_) => Err(SpawnFault::Memory),
         }
     }
+}
+
+/// What is kept of a program that is run.
+fn noted(alloc: Global, program: &Text, args: &Texts) -> Result<ProgramRun, Memory>
+    ensures { IfOk result (λ run. run ≡ record { program = program.now; args = args.now }) }
+{
+    Ok(ProgramRun {
+        program: program.copy(alloc)?,
+        args: copy_texts(alloc, args)?,
+    })
 }
 
 /// The first program of that name.

@@ -1,10 +1,12 @@
-ghost use Rattle.std.specs.Prelude.{◌≡◌, ◌↔◌, ℕ, ◌≤◌, List, length, IfOk, IsErrOf};
-ghost use Rattle.tf_desk.specs.Crash.{Rises};
+ghost use Rattle.std.specs.Prelude.{◌≡◌, ◌↔◌, ℕ, ◌≤◌, List, length, Option, IfOk, OnOk, OnErr, IsErrOf};
+ghost use Rattle.tf_numbers.specs.Numbers.{Rises};
+ghost use Rattle.tf_actions.specs.Gives.{told_with};
 ghost use Rattle.tf_ports.specs.declared.programs.Done.{Done as ADone};
+ghost use Rattle.tf_ports.specs.declared.programs.ProgramRun.{ProgramRun as ARun};
 
 use std::alloc::Global;
 use std::marker::Model;
-use tf_values::{Text, Texts};
+use tf_values::{Memory, Text, Texts};
 
 /// The most bytes that are kept of a program's output: one more than a text may have.
 pub const OUTPUT_LIMIT: usize = 65_537;
@@ -46,6 +48,13 @@ pub struct Done {
     pub out: Output,
 }
 
+/// A program that was run, with its arguments.
+#[derive(Debug, Drop)]
+pub struct ProgramRun {
+    pub program: Text,
+    pub args: Texts,
+}
+
 /// Why a program gave nothing: it couldn't be run, or memory ran out.
 #[derive(Clone, Copy, Debug, PartialEq, Eq)]
 pub enum SpawnFault {
@@ -61,13 +70,30 @@ pub trait Spawner: Drop {
     /// How a program with its arguments may end. No call changes it.
     ghost answers: { Self → List ℕ → List (List ℕ) → ADone → Type 0 };
 
+    /// The programs that were run and answered with their ends, in order, where the spawner keeps them.
+    ghost ran: { Self → Option (List ARun) };
+
     /// Runs the program of that name, and keeps at most 65,537 bytes of its output. `Failed` comes only
     /// where the count of faults rose.
     fn run(&mut self, alloc: Global, program: &Text, args: &Texts) -> Result<Done, SpawnFault>
         ensures answered { IfOk result (λ done. answers self.old program.now args.now done) }
         ensures short { IfOk result (λ done. length done.out ≤ OUTPUT_LIMIT) }
+        ensures ran { OnOk result (ran self.new
+            ≡ told_with (ran self.old) (record { program = program.now; args = args.now })) }
+        ensures not_ran { OnErr result (ran self.new ≡ ran self.old) }
         ensures cause { IsErrOf result SpawnFault.Failed → Rises (faults self.old) (faults self.new) }
         ensures same { (name : List ℕ) (words : List (List ℕ)) (done : ADone)
             → (answers self.new name words done ↔ answers self.old name words done) }
         ensures no_fall { faults self.old ≤ faults self.new };
+}
+
+/// Equal texts.
+pub fn copy_texts(alloc: Global, texts: &Texts) -> Result<Texts, Memory>
+    ensures { IfOk result (λ copies. copies ≡ texts.now) }
+{
+    let mut copies = Vec::with_capacity(alloc, texts.items().len())?;
+    for text in texts.items() {
+        copies.push(text.copy(alloc)?)?;
+    }
+    Ok(Texts::make(copies))
 }

@@ -1,4 +1,5 @@
 ghost use Rattle.std.specs.Prelude.{◌<◌, length, None};
+ghost use Rattle.tf_ports.specs.Ports.{door_tells_nothing};
 ghost use Rattle.tf_ports.specs.Sockets.{ReadsSome};
 
 use crate::crews::{Address, PortFault};
@@ -11,6 +12,7 @@ use std::net::{Ipv4Addr, Net, SocketAddrV4, TcpListener, TcpStream};
 use std::os::unix::net::{UnixListener, UnixStream};
 use std::rt::Files;
 use tf_desk::{tell_reason, write_whole};
+use tf_values::Memory;
 
 /// A stream of the system's: a Unix socket's, or a connection by TCP.
 #[derive(Drop)]
@@ -145,6 +147,8 @@ impl<R: Net<Listener = TcpListener, Stream = TcpStream> + Files + Eprint + Copy 
 
     ghost faults = { λ door. door.faults };
 
+    ghost told = { λ _. door_tells_nothing };
+
     fn listen(&mut self, alloc: Global, address: &Address) -> Result<(), PortFault> {
         let Ok(kept) = address.copy(alloc) else {
             return Err(PortFault::Memory);
@@ -178,6 +182,11 @@ impl<R: Net<Listener = TcpListener, Stream = TcpStream> + Files + Eprint + Copy 
             }
             Err(PortFault::Memory) => Err(PortFault::Memory),
         }
+    }
+
+    fn close(&mut self, link: SocketLink<R>) -> Result<(), Memory> {
+        drop(link);
+        Ok(())
     }
 }
 

@@ -1,6 +1,6 @@
 -- How a journal is read back. `replayed made bodies` says that just these bodies were replayed into the value.
 use Rattle.std.specs.Prelude.{◌≡◌, ◌≤◌, ℕ, ◌+◌, IsTrue, List, ◌++◌, length}
-use Rattle.tf_desk.specs.Crash.{Rises}
+use Rattle.tf_numbers.specs.Numbers.{Rises}
 use Rattle.tf_desk.specs.State.{DeskState}
 use Rattle.tf_journal.specs.Format.{SIZE_LIMIT, prefix_of, title_of, Held}
 use Rattle.tf_journal.specs.Reading.{HasBodies}

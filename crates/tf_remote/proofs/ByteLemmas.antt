@@ -1,8 +1,8 @@
 -- Bytes that come over a link one after the other, and bytes that are sent.
 use Rattle.std.proofs.Common.{◌≡◌, ℕ, ◌≤◌, List, [], ◌++◌, length, Option, Some, None, inl, inr, refl, sym, ap, ◌∙◌, arith, append_assoc, append-nil}
 use Rattle.std.proofs.lemmas.List.{take_all}
-use Rattle.tf_ports.specs.Links.{sent_with, left_before, SendsPrefix}
-use Rattle.tf_remote.specs.Received.{SeenLink, Brings, BringsAny, IsGone}
+use Rattle.tf_ports.specs.Ports.{SeenLink, sent_with, left_before, SendsPrefix}
+use Rattle.tf_remote.specs.Received.{Brings, BringsAny, IsGone}
 
 -- ---- what comes
 

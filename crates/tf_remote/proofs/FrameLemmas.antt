@@ -4,7 +4,8 @@ use Rattle.std.specs.Int.{to_be_bytes, w32}
 use Rattle.std.specs.Prelude.{MatchResult}
 use Rattle.tf_wire.specs.Stream.{is_length, framed}
 use Rattle.tf_wire.proofs.StreamLemmas.{short_is_no_frame, short_is_no_bad_length, part_is_no_frame, good_is_no_bad_length}
-use Rattle.tf_remote.specs.Received.{SeenLink, Brings, BringsCount, BringsFrame, IsPart, IsBadLength, IsShorter, IsNever, StopsFrame}
+use Rattle.tf_ports.specs.Ports.{SeenLink}
+use Rattle.tf_remote.specs.Received.{Brings, BringsCount, BringsFrame, IsPart, IsBadLength, IsShorter, IsNever, StopsFrame}
 use Rattle.tf_remote.specs.declared.receiving.Stop.{Stop}
 use Rattle.tf_remote.specs.declared.receiving.Stop.TheVariants as stop
 use Rattle.tf_remote.proofs.ByteLemmas.{brings_more, brings_any, gone_later}

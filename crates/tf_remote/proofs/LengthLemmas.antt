@@ -27,7 +27,7 @@ use Rattle.tf_wire.specs.declared.messages.Response.{Response}
 use Rattle.tf_wire.specs.declared.messages.Response.TheVariants as response
 use Rattle.tf_wire.specs.Stream.{is_length, IsFrame}
 use Rattle.tf_wire.specs.Limits.{IsFailure, HasPart}
-use Rattle.tf_wire.specs.Messages.{scalar_data, value_data, alone, with_data, failure_data, response_data}
+use Rattle.tf_wire.specs.Grammar.{scalar_data, value_data, alone, with_data, failure_data, response_data}
 
 -- ---- strings
 

@@ -1,13 +1,13 @@
 -- What the bytes of a reply are taken for.
 use Rattle.std.proofs.Common.{◌≡◌, ℕ, ◌≤◌, List, [], ◌++◌, length, true, false, Option, Result, Ok, Err, inl, inr, refl, sym, ap, ◌∙◌, subst, arith}
 use Rattle.std.specs.Prelude.{IfOk, IfErr, MatchResult}
-use Rattle.tf_desk.specs.Crash.{Rises}
-use Rattle.tf_wire.specs.Reading.{AreResponse}
+use Rattle.tf_numbers.specs.Numbers.{Rises}
+use Rattle.tf_wire.specs.Grammar.{AreResponse}
 use Rattle.tf_wire.specs.declared.messages.Response.{Response}
 use Rattle.tf_wire.specs.declared.messages.Response.TheVariants as response
-use Rattle.tf_workers.specs.Dialogue.{told}
+use Rattle.tf_workers.specs.Session.{told}
 use Rattle.tf_remote.proofs.FrameLemmas.{short_part}
-use Rattle.tf_ports.specs.Links.{sent_with, SendsPrefix}
+use Rattle.tf_ports.specs.Ports.{SeenLink, sent_with, SendsPrefix}
 use Rattle.tf_states.specs.declared.record.Failure.{Failure}
 use Rattle.tf_states.specs.declared.record.Failure.TheVariants as failure
 use Rattle.tf_actions.specs.declared.orders.Order.{Order}
@@ -16,7 +16,7 @@ use Rattle.tf_actions.specs.declared.outcomes.Outcome.TheVariants as outcome
 use Rattle.tf_actions.specs.Gives.{is_sent, is_far_failure, GivesFar}
 use Rattle.tf_wire.specs.Stream.{framed}
 use Rattle.tf_remote.specs.Asking.{IsSentFor, AsksWorker, RunsOutAsking}
-use Rattle.tf_remote.specs.Received.{SeenLink, BringsSome, BringsAny, BringsFrame, IsGone, IsPart, StopsFrame}
+use Rattle.tf_remote.specs.Received.{BringsSome, BringsAny, BringsFrame, IsGone, IsPart, StopsFrame}
 use Rattle.tf_remote.specs.Replies.{TellsRunning, TellsOutcome, TellsAny, IsFrameRefused, RunsAndThen, IsOutcomeFrame, IsReply, IsBadReply, IsReplyCut, IsTakenFor, IsFirstFrame, TakesFor}
 use Rattle.tf_remote.specs.Stopped.{IsStopTaken, IsUnread}
 use Rattle.tf_remote.specs.declared.receiving.Stop.{Stop}

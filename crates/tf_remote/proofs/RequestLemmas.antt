@@ -11,9 +11,7 @@ use Rattle.tf_actions.specs.declared.outcomes.Action.{Action}
 use Rattle.tf_actions.specs.declared.outcomes.Action.TheVariants as action
 use Rattle.tf_actions.specs.Gives.{is_sent, IsWhole}
 use Rattle.tf_tasks.specs.Program.{is_program}
-use Rattle.tf_wire.specs.Orders.{order_of}
-use Rattle.tf_wire.specs.Messages.{request_data, frame_of}
-use Rattle.tf_wire.specs.Reading.{names_differ, IsFitRequest, RevertsByCommand, AreRequest}
+use Rattle.tf_wire.specs.Grammar.{order_of, request_data, frame_of, names_differ, IsFitRequest, RevertsByCommand, AreRequest}
 use Rattle.tf_wire.specs.declared.messages.Request.{Request}
 use Rattle.tf_remote.specs.Requests.{pairs_asked, request_for, frame_for}
 use Rattle.tf_remote.specs.Asking.{NamesOrder, IsRequestBack}

@@ -2,20 +2,19 @@
 use Rattle.std.proofs.Common.{◌≡◌, ℕ, List, [], ◌++◌, Option, Some, None, Result, Ok, Err, inl, inr, refl, sym, ap, ◌∙◌, subst, append_assoc, append-nil}
 use Rattle.std.specs.Prelude.{MatchResult}
 use Rattle.serde_json.specs.Written.{compact_text}
-use Rattle.tf_ports.specs.Links.{left_before, IsNothingLeft}
+use Rattle.tf_ports.specs.Ports.{SeenLink, left_before, IsNothingLeft}
 use Rattle.tf_actions.specs.Gives.{Gives}
 use Rattle.tf_actions.specs.declared.orders.Order.{Order}
 use Rattle.tf_actions.specs.declared.outcomes.Outcome.{Outcome}
 use Rattle.tf_actions.specs.declared.outcomes.Outcome.TheVariants as outcome
 use Rattle.tf_wire.proofs.MessageLemmas.{one_response}
 use Rattle.tf_wire.proofs.StreamLemmas.{frame_one, frame_is_not_bad}
-use Rattle.tf_wire.specs.Messages.{response_data}
-use Rattle.tf_wire.specs.Reading.{AreResponse}
+use Rattle.tf_wire.specs.Grammar.{response_data, AreResponse}
 use Rattle.tf_wire.specs.Stream.{IsFrame, framed}
 use Rattle.tf_wire.specs.declared.messages.Response.TheVariants as response
-use Rattle.tf_workers.specs.Dialogue.{Exchange, spoken, told, running, reply}
+use Rattle.tf_workers.specs.Session.{Exchange, spoken, told, running, reply}
 use Rattle.tf_remote.specs.Asking.{AsksWorker, RunsOutAsking, HoldsReply, TakesReply, TakesServed, IsReadable, IsReadableExchange}
-use Rattle.tf_remote.specs.Received.{SeenLink, IsGone, IsPart}
+use Rattle.tf_remote.specs.Received.{IsGone, IsPart}
 use Rattle.tf_remote.specs.Replies.{TellsRunning, TellsAny, IsFrameRefused, RunsAndThen, IsOutcomeFrame, IsReply}
 use Rattle.tf_remote.proofs.LengthLemmas.{response_fits}
 use Rattle.tf_remote.proofs.ReplyLemmas.{IsTaken, cases_of}

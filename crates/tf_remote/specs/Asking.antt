@@ -1,21 +1,19 @@
 -- How a remote hand asks its worker.
 use Rattle.std.specs.Prelude.{◌≡◌, ◌↔◌, ℕ, List, ◌++◌, true, Option, Some, Result, IfOk}
 use Rattle.serde_json.specs.Written.{compact_text}
-use Rattle.tf_desk.specs.Crash.{Rises}
-use Rattle.tf_ports.specs.Links.{sent_with, SendsPrefix}
+use Rattle.tf_numbers.specs.Numbers.{Rises}
+use Rattle.tf_ports.specs.Ports.{SeenLink, sent_with, SendsPrefix}
 use Rattle.tf_states.specs.declared.record.Failure.TheVariants as failure
-use Rattle.tf_actions.specs.Gives.{Gives}
+use Rattle.tf_actions.specs.Gives.{Gives, is_sent}
 use Rattle.tf_actions.specs.declared.orders.Order.{Order}
 use Rattle.tf_actions.specs.declared.outcomes.Outcome.{Outcome}
 use Rattle.tf_actions.specs.declared.outcomes.Outcome.TheVariants as outcome
 use Rattle.tf_wire.specs.Limits.{HasPart}
-use Rattle.tf_wire.specs.Messages.{request_data, response_data}
-use Rattle.tf_wire.specs.Reading.{names_differ, AreRequest, AreResponse}
+use Rattle.tf_wire.specs.Grammar.{request_data, response_data, names_differ, AreRequest, AreResponse, order_of}
 use Rattle.tf_wire.specs.declared.messages.Response.{Response}
 use Rattle.tf_wire.specs.declared.messages.Response.TheVariants as response
-use Rattle.tf_wire.specs.Orders.{order_of}
-use Rattle.tf_workers.specs.Dialogue.{Exchange, reply, told}
-use Rattle.tf_remote.specs.Received.{SeenLink, Brings, IsGone}
+use Rattle.tf_workers.specs.Session.{Exchange, reply, told}
+use Rattle.tf_remote.specs.Received.{Brings, IsGone}
 use Rattle.tf_remote.specs.Replies.{IsReply, IsTakenFor}
 use Rattle.tf_remote.specs.Requests.{pairs_asked, request_for, frame_for}
 
@@ -31,6 +29,11 @@ pub record AsksWorker (order : Order) (id : ℕ) (before now : SeenLink) (came :
   pub brings : Brings bytes before now
   pub taken_for : IsTakenFor order id (IsGone before now) bytes came
   pub sent : IsSentFor (frame_for order id) before.sent now.sent came
+
+-- an order that is sent, and whose worker was lost
+pub record IsLostOnTheWay (order : Order) (came : Outcome) : Type 0 where
+  pub sent : is_sent order ≡ true
+  pub lost : came ≡ outcome.Failed failure.Lost
 
 -- memory ran out while an order was asked: a prefix of the frame was sent
 pub record RunsOutAsking (order : Order) (id : ℕ) (before now : SeenLink) : Type 0 where

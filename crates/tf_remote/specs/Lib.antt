@@ -5,4 +5,3 @@ pub mod Stopped
 pub mod Asking
 pub mod Allowed
 pub mod FarLaws
-pub mod Dialled

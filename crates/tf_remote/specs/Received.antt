@@ -1,22 +1,11 @@
 -- What a link gave.
 use Rattle.std.specs.Prelude.{◌≡◌, ℕ, ◌<◌, ◌≤◌, ◌^◌, List, length, Option, false, ◌⊎◌}
 use Rattle.std.specs.Int.{to_be_bytes, w32}
-use Rattle.tf_desk.specs.Crash.{Rises}
-use Rattle.tf_ports.specs.Links.{left_before, IsNothingLeft}
+use Rattle.tf_numbers.specs.Numbers.{Rises}
+use Rattle.tf_ports.specs.Ports.{SeenLink, left_before, IsNothingLeft}
 use Rattle.tf_wire.specs.Stream.{is_length, IsFrame, framed, BeginsWithFrame, BeginsWithBadLength}
 use Rattle.tf_remote.specs.declared.receiving.Stop.{Stop}
 use Rattle.tf_remote.specs.declared.receiving.Stop.TheVariants as stop
-
--- what is seen of a link: the bytes that it has left and those that it was sent, where it tells them, and its
--- counts of faults and ends
-pub record SeenLink : Type 0 where
-  pub left : Option (List ℕ)
-  pub sent : Option (List ℕ)
-  pub faults : ℕ
-  pub ends : ℕ
-
-abbrev pub seen : {L : Type 0} → (L → Option (List ℕ)) → (L → Option (List ℕ)) → (L → ℕ) → (L → ℕ) → L → SeenLink
-seen left sent faults ends link = record { left = left link; sent = sent link; faults = faults link; ends = ends link }
 
 -- the link gave exactly these bytes, and no count fell
 pub record Brings (bytes : List ℕ) (before now : SeenLink) : Type 0 where

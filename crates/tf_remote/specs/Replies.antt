@@ -5,11 +5,12 @@ use Rattle.tf_actions.specs.declared.orders.Order.{Order}
 use Rattle.tf_actions.specs.declared.outcomes.Outcome.{Outcome}
 use Rattle.tf_actions.specs.declared.outcomes.Outcome.TheVariants as outcome
 use Rattle.tf_actions.specs.Gives.{Gives}
-use Rattle.tf_wire.specs.Reading.{AreResponse}
+use Rattle.tf_wire.specs.Grammar.{AreResponse}
 use Rattle.tf_wire.specs.Stream.{IsFrame, framed}
 use Rattle.tf_wire.specs.declared.messages.Response.TheVariants as response
-use Rattle.tf_workers.specs.Dialogue.{told}
-use Rattle.tf_remote.specs.Received.{SeenLink, Brings, IsGone, IsBadLength, IsPart}
+use Rattle.tf_workers.specs.Session.{told}
+use Rattle.tf_ports.specs.Ports.{SeenLink}
+use Rattle.tf_remote.specs.Received.{Brings, IsGone, IsBadLength, IsPart}
 
 -- the frame tells that the order of that id runs
 pub record TellsRunning (id : ℕ) (frame : List ℕ) : Type 0 where

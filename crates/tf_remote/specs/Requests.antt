@@ -10,7 +10,7 @@ use Rattle.tf_actions.specs.declared.orders.Order.{Order}
 use Rattle.tf_actions.specs.declared.orders.Pair.{Pair}
 use Rattle.tf_actions.specs.declared.outcomes.Action.{Action}
 use Rattle.tf_actions.specs.declared.outcomes.Action.TheVariants as action
-use Rattle.tf_wire.specs.Messages.{request_data, frame_of}
+use Rattle.tf_wire.specs.Grammar.{request_data, frame_of}
 use Rattle.tf_wire.specs.declared.messages.Request.{Request}
 
 -- the kind that is asked for: what undoes a task is a command

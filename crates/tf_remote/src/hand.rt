@@ -1,8 +1,8 @@
-ghost use Rattle.std.specs.Prelude.{◌≡◌, ◌<◌, ◌^◌, true, false, None, IfOk, OnOk, MatchResult};
+ghost use Rattle.std.specs.Prelude.{◌≡◌, ◌<◌, ◌≤◌, ◌+◌, ◌^◌, true, false, None, IfOk, OnOk, MatchResult};
 ghost use Rattle.tf_actions.specs.Gives.{GivesFar, is_sent as goes_far, IsWhole};
-ghost use Rattle.tf_remote.specs.Asking.{AsksWorker, RunsOutAsking, IsRequestBack, NamesOrder, TakesReply, TakesServed};
+ghost use Rattle.tf_remote.specs.Asking.{AsksWorker, IsLostOnTheWay, RunsOutAsking, IsRequestBack, NamesOrder, TakesReply, TakesServed};
 ghost use Rattle.tf_remote.specs.FarLaws.{far_looks_up, far_reverts};
-ghost use Rattle.tf_remote.specs.Received.{seen};
+ghost use Rattle.tf_ports.specs.Ports.{seen_link};
 ghost use Rattle.tf_remote.specs.Requests.{next_id, frame_for};
 
 use crate::allowing::is_sent;
@@ -54,20 +54,22 @@ impl<L: Link> RemoteHand<L> {
         requires whole { IsWhole order.now }
         ensures gives { IfOk result (λ outcome. GivesFar order.now outcome) }
         ensures kept { goes_far order.now ≡ false → self.new ≡ self.old }
+        ensures no_fall { (L.faults self.old.link ≤ L.faults self.new.link)
+            × (L.ends self.old.link ≤ L.ends self.new.link) }
         ensures asked { goes_far order.now ≡ true → MatchResult result
-            (AsksWorker order.now self.old.next (seen L.left L.sent L.faults L.ends self.old.link)
-            (seen L.left L.sent L.faults L.ends self.new.link))
-            (λ _. RunsOutAsking order.now self.old.next (seen L.left L.sent L.faults L.ends self.old.link)
-            (seen L.left L.sent L.faults L.ends self.new.link)) }
+            (AsksWorker order.now self.old.next (seen_link L.left L.sent L.faults L.ends self.old.link)
+            (seen_link L.left L.sent L.faults L.ends self.new.link))
+            (λ _. RunsOutAsking order.now self.old.next (seen_link L.left L.sent L.faults L.ends self.old.link)
+            (seen_link L.left L.sent L.faults L.ends self.new.link)) }
         ensures counted { goes_far order.now ≡ true → OnOk result (self.new.next ≡ next_id self.old.next) }
         ensures names { goes_far order.now ≡ true → NamesOrder order.now self.old.next }
         ensures read_back { goes_far order.now ≡ true → OnOk result (IsRequestBack order.now self.old.next) }
         ensures replied { goes_far order.now ≡ true → TakesReply order.now self.old.next
-            (seen L.left L.sent L.faults L.ends self.old.link)
-            (seen L.left L.sent L.faults L.ends self.new.link) result }
+            (seen_link L.left L.sent L.faults L.ends self.old.link)
+            (seen_link L.left L.sent L.faults L.ends self.new.link) result }
         ensures served { goes_far order.now ≡ true → TakesServed order.now self.old.next
-            (seen L.left L.sent L.faults L.ends self.old.link)
-            (seen L.left L.sent L.faults L.ends self.new.link) result }
+            (seen_link L.left L.sent L.faults L.ends self.old.link)
+            (seen_link L.left L.sent L.faults L.ends self.new.link) result }
     {
         if !is_sent(order) {
             return value_of(alloc, order);
@@ -99,10 +101,10 @@ fn ask<L: Link>(
 ) -> Result<Outcome, Memory>
     requires whole { IsWhole order.now }
     requires frame { frame.now ≡ frame_for order.now id }
-    ensures { MatchResult result (AsksWorker order.now id (seen L.left L.sent L.faults L.ends link.old)
-        (seen L.left L.sent L.faults L.ends link.new))
-        (λ _. RunsOutAsking order.now id (seen L.left L.sent L.faults L.ends link.old)
-        (seen L.left L.sent L.faults L.ends link.new)) }
+    ensures { MatchResult result (AsksWorker order.now id (seen_link L.left L.sent L.faults L.ends link.old)
+        (seen_link L.left L.sent L.faults L.ends link.new))
+        (λ _. RunsOutAsking order.now id (seen_link L.left L.sent L.faults L.ends link.old)
+        (seen_link L.left L.sent L.faults L.ends link.new)) }
 {
     match link.send(frame) {
         Ok(()) => receive_reply(alloc, link, id, order),
@@ -114,6 +116,10 @@ impl<L: Link> Performer for RemoteHand<L> {
     ghost did = { λ _. None };
 
     ghost gives = { GivesFar };
+
+    ghost faults = { λ hand. L.faults hand.link + L.ends hand.link };
+
+    ghost of_fault = { IsLostOnTheWay };
 
     ghost looks_up = { far_looks_up };
 

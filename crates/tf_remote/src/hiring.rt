@@ -1,6 +1,6 @@
 ghost use Rattle.std.specs.Prelude.{◌≡◌, ◌≤◌, length, vec_len, IfOk, OnOk, OnErr, IsErrOf};
-ghost use Rattle.tf_desk.specs.Crash.{Rises};
-ghost use Rattle.tf_remote.specs.Dialled.{DialsSome, dialled_with};
+ghost use Rattle.tf_numbers.specs.Numbers.{Rises};
+ghost use Rattle.tf_ports.specs.Ports.{DialsSome, told_with_all};
 
 use crate::hand::RemoteHand;
 use std::alloc::Global;
@@ -14,7 +14,7 @@ pub fn hire<D: Dialer>(
     addresses: &[Address],
 ) -> Result<Vec<RemoteHand<D::Made>>, PortFault>
     ensures all { IfOk result (λ hands. vec_len hands ≡ length addresses.now) }
-    ensures dialled { OnOk result (D.dialled dialer.new ≡ dialled_with (D.dialled dialer.old) addresses.now) }
+    ensures dialled { OnOk result (D.dialled dialer.new ≡ told_with_all (D.dialled dialer.old) addresses.now) }
     ensures not_dialled { OnErr result (DialsSome addresses.now (D.dialled dialer.old) (D.dialled dialer.new)) }
     ensures cause { IsErrOf result PortFault.Failed → Rises (D.faults dialer.old) (D.faults dialer.new) }
     ensures no_fall { D.faults dialer.old ≤ D.faults dialer.new }

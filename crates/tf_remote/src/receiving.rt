@@ -1,7 +1,8 @@
 ghost use Rattle.std.specs.Prelude.{◌≡◌, ◌<◌, ◌≤◌, ◌^◌, length, true, IfOk, MatchResult};
 ghost use Rattle.std.specs.Int.{to_be_bytes, w32};
 ghost use Rattle.tf_wire.specs.Stream.{is_length};
-ghost use Rattle.tf_remote.specs.Received.{seen, StopsFrame, IsShorter, IsNever, IsPart, IsBadLength, BringsCount, BringsFrame};
+ghost use Rattle.tf_ports.specs.Ports.{seen_link};
+ghost use Rattle.tf_remote.specs.Received.{StopsFrame, IsShorter, IsNever, IsPart, IsBadLength, BringsCount, BringsFrame};
 
 use std::alloc::Global;
 use tf_ports::{Came, Link};
@@ -26,10 +27,10 @@ pub enum Stop {
 /// The next frame over the link. No byte behind it is asked for.
 pub fn receive<L: Link>(alloc: Global, link: &mut L) -> Result<Vec<u8>, Stop>
     ensures came { MatchResult result
-        (λ frame. BringsFrame frame.items (seen L.left L.sent L.faults L.ends link.old)
-        (seen L.left L.sent L.faults L.ends link.new))
-        (StopsFrame IsPart IsBadLength (seen L.left L.sent L.faults L.ends link.old)
-        (seen L.left L.sent L.faults L.ends link.new)) }
+        (λ frame. BringsFrame frame.items (seen_link L.left L.sent L.faults L.ends link.old)
+        (seen_link L.left L.sent L.faults L.ends link.new))
+        (StopsFrame IsPart IsBadLength (seen_link L.left L.sent L.faults L.ends link.old)
+        (seen_link L.left L.sent L.faults L.ends link.new)) }
     ensures sent { L.sent link.new ≡ L.sent link.old }
 {
     let prefix = match receive_bytes(alloc, link, 4) {
@@ -46,10 +47,10 @@ pub fn receive<L: Link>(alloc: Global, link: &mut L) -> Result<Vec<u8>, Stop>
 /// So many bytes over the link, and no more. Memory is taken for those that came alone.
 fn receive_bytes<L: Link>(alloc: Global, link: &mut L, count: usize) -> Result<Vec<u8>, Stop>
     ensures came { MatchResult result
-        (λ bytes. BringsCount count bytes.items (seen L.left L.sent L.faults L.ends link.old)
-        (seen L.left L.sent L.faults L.ends link.new))
-        (StopsFrame (IsShorter count) IsNever (seen L.left L.sent L.faults L.ends link.old)
-        (seen L.left L.sent L.faults L.ends link.new)) }
+        (λ bytes. BringsCount count bytes.items (seen_link L.left L.sent L.faults L.ends link.old)
+        (seen_link L.left L.sent L.faults L.ends link.new))
+        (StopsFrame (IsShorter count) IsNever (seen_link L.left L.sent L.faults L.ends link.old)
+        (seen_link L.left L.sent L.faults L.ends link.new)) }
     ensures sent { L.sent link.new ≡ L.sent link.old }
 {
     let mut bytes = Vec::new(alloc);

@@ -1,8 +1,9 @@
 ghost use Rattle.std.specs.Prelude.{◌≡◌, IfOk, IfErr, MatchResult};
 ghost use Rattle.tf_actions.specs.Gives.{IsWhole};
-ghost use Rattle.tf_remote.specs.Received.{seen, StopsFrame, BringsSome, BringsAny, IsPart};
+ghost use Rattle.tf_ports.specs.Ports.{seen_link};
+ghost use Rattle.tf_remote.specs.Received.{StopsFrame, BringsSome, BringsAny, IsPart};
 ghost use Rattle.tf_remote.specs.Stopped.{IsStopTaken, IsUnread};
-ghost use Rattle.tf_wire.specs.Reading.{AreResponse};
+ghost use Rattle.tf_wire.specs.Grammar.{AreResponse};
 ghost use Rattle.tf_wire.specs.Stream.{IsFrame};
 ghost use Rattle.tf_wire.specs.declared.messages.Response.{Response as Message};
 ghost use Rattle.tf_remote.specs.Replies.{TellsRunning, TellsOutcome, TellsAny, IsFrameRefused, IsFirstFrame, IsOutcomeFrame, TakesFor};
@@ -24,10 +25,10 @@ pub fn receive_reply<L: Link>(
     order: &Order,
 ) -> Result<Outcome, Memory>
     requires { IsWhole order.now }
-    ensures came { IfOk result (TakesFor order.now id (seen L.left L.sent L.faults L.ends link.old)
-        (seen L.left L.sent L.faults L.ends link.new)) }
-    ensures memory { IfErr result (λ _. BringsAny (seen L.left L.sent L.faults L.ends link.old)
-        (seen L.left L.sent L.faults L.ends link.new)) }
+    ensures came { IfOk result (TakesFor order.now id (seen_link L.left L.sent L.faults L.ends link.old)
+        (seen_link L.left L.sent L.faults L.ends link.new)) }
+    ensures memory { IfErr result (λ _. BringsAny (seen_link L.left L.sent L.faults L.ends link.old)
+        (seen_link L.left L.sent L.faults L.ends link.new)) }
     ensures sent { L.sent link.new ≡ L.sent link.old }
 {
     let count = match receive_running(alloc, link, id) {
@@ -54,10 +55,10 @@ fn taken_for(stop: Stop, count: u32) -> Result<Outcome, Memory>
 /// Takes the frame that tells that the order of that id runs, and answers how many bytes it has in the stream.
 fn receive_running<L: Link>(alloc: Global, link: &mut L, id: u64) -> Result<u32, Stop>
     ensures came { MatchResult result
-        (λ count. BringsSome (IsFirstFrame id count) (seen L.left L.sent L.faults L.ends link.old)
-        (seen L.left L.sent L.faults L.ends link.new))
-        (StopsFrame IsPart (IsFrameRefused (TellsRunning id)) (seen L.left L.sent L.faults L.ends link.old)
-        (seen L.left L.sent L.faults L.ends link.new)) }
+        (λ count. BringsSome (IsFirstFrame id count) (seen_link L.left L.sent L.faults L.ends link.old)
+        (seen_link L.left L.sent L.faults L.ends link.new))
+        (StopsFrame IsPart (IsFrameRefused (TellsRunning id)) (seen_link L.left L.sent L.faults L.ends link.old)
+        (seen_link L.left L.sent L.faults L.ends link.new)) }
     ensures sent { L.sent link.new ≡ L.sent link.old }
 {
     let frame = match receive(alloc, link) {
@@ -80,10 +81,10 @@ fn receive_outcome<L: Link>(
 ) -> Result<Outcome, Stop>
     requires { IsWhole order.now }
     ensures came { MatchResult result
-        (λ outcome. BringsSome (IsOutcomeFrame order.now id outcome) (seen L.left L.sent L.faults L.ends link.old)
-        (seen L.left L.sent L.faults L.ends link.new))
-        (StopsFrame IsPart (IsFrameRefused (TellsAny order.now id)) (seen L.left L.sent L.faults L.ends link.old)
-        (seen L.left L.sent L.faults L.ends link.new)) }
+        (λ outcome. BringsSome (IsOutcomeFrame order.now id outcome) (seen_link L.left L.sent L.faults L.ends link.old)
+        (seen_link L.left L.sent L.faults L.ends link.new))
+        (StopsFrame IsPart (IsFrameRefused (TellsAny order.now id)) (seen_link L.left L.sent L.faults L.ends link.old)
+        (seen_link L.left L.sent L.faults L.ends link.new)) }
     ensures sent { L.sent link.new ≡ L.sent link.old }
 {
     let frame = match receive(alloc, link) {

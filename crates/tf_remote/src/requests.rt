@@ -6,6 +6,7 @@ ghost use Rattle.tf_remote.specs.Requests.{kind_asked, words_asked, pairs_asked,
 use std::alloc::Global;
 use tf_actions::{Action, Args, Given, Order};
 use tf_flow::{TaskKind, Undo};
+use tf_ports::copy_texts;
 use tf_values::{Memory, Texts};
 use tf_wire::{Request, print_request};
 
@@ -67,14 +68,4 @@ fn args_of(alloc: Global, given: &Given) -> Result<Args, Memory>
         Given::Found(args) => args.copy(alloc),
         Given::Missing(_) => Ok(Args::make(Vec::new(alloc))),
     }
-}
-
-fn copy_texts(alloc: Global, texts: &Texts) -> Result<Texts, Memory>
-    ensures { IfOk result (λ copies. copies ≡ texts.now) }
-{
-    let mut copies = Vec::with_capacity(alloc, texts.items().len())?;
-    for text in texts.items() {
-        copies.push(text.copy(alloc)?)?;
-    }
-    Ok(Texts::make(copies))
 }

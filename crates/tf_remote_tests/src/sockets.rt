@@ -18,7 +18,7 @@ fn serve_one<D: Door>(alloc: Global, door: &mut D) -> Option<ServeEnd> {
     let Ok(mut link) = door.accept(alloc) else {
         return None;
     };
-    let mut hand = LocalHand::make(MemorySpawner::make(Vec::new(alloc), Vec::new(alloc)));
+    let mut hand = LocalHand::make(MemorySpawner::make(alloc, Vec::new(alloc), Vec::new(alloc)));
     Some(serve(alloc, &mut link, &mut hand))
 }
 

@@ -1,6 +1,6 @@
 //! How a command says what it says last.
 ghost use Rattle.std.specs.Prelude.{◌≡◌, ◌≢◌};
-ghost use Rattle.tf_desk.specs.Crash.{Rises};
+ghost use Rattle.tf_numbers.specs.Numbers.{Rises};
 ghost use Rattle.tf_desk.specs.State.{Says};
 ghost use Rattle.tf_report.specs.Closing.{ClosesWith};
 

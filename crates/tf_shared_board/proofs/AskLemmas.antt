@@ -3,9 +3,8 @@ use Rattle.std.proofs.Common.{◌≡◌, inl, inr, ℕ, ◌+◌, false, List, []
 use Rattle.std.specs.Prelude.{IsTrue, IfOk}
 use Rattle.tf_desk.specs.State.{DeskState, MayLeave, GoesOn}
 use Rattle.tf_desk.proofs.StateLemmas.{goes_none}
-use Rattle.tf_board.specs.Board.{BoardValue, board_in}
-use Rattle.tf_board.specs.Jobs.{posted}
-use Rattle.tf_board.specs.Answers.{HoldsMaybe, LeavesRecorded, FailsToRecord, Records, fault_of, number_of, applied, Acts}
+use Rattle.tf_board.specs.Board.{BoardValue, board_in, posted}
+use Rattle.tf_board.specs.Does.{HoldsMaybe, LeavesRecorded, FailsToRecord, Records, fault_of, number_of, applied, Acts}
 use Rattle.tf_board.specs.declared.commands.Command.{Command}
 use Rattle.tf_board.specs.declared.commands.JobAction.{JobAction}
 use Rattle.tf_board.specs.declared.faults.BoardFault.{BoardFault}

@@ -1,10 +1,11 @@
 -- What the type of a shared board keeps.
 use Rattle.std.proofs.Common.{◌≡◌, ◌≤◌, ℕ, false, List, [], ◌∷◌, ◌++◌, Option, Some, None, refl, sym, ap, ◌∙◌, arith}
-use Rattle.tf_desk.specs.Crash.{Rises, Pairs}
+use Rattle.tf_numbers.specs.Numbers.{Rises}
+use Rattle.tf_desk.specs.Crash.{Pairs}
 use Rattle.tf_desk.specs.State.{DeskState, anything, GoesOn}
 use Rattle.tf_desk.proofs.StateLemmas.{goes_none, goes_on}
 use Rattle.tf_board.specs.Board.{BoardValue}
-use Rattle.tf_board.specs.Answers.{IsRecorded}
+use Rattle.tf_board.specs.Does.{IsRecorded}
 use Rattle.tf_board.specs.declared.commands.Command.{Command}
 use Rattle.tf_board.specs.declared.rules.Refusal.{Refusal}
 use Rattle.tf_shared_board.specs.declared.calls.BoardHalt.{BoardHalt}

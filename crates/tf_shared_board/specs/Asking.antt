@@ -2,7 +2,7 @@
 use Rattle.std.specs.Prelude.{◌≡◌, ℕ, true, IsTrue, List, Option, Some, None, Result, Ok, Err, IfOk, IfErr}
 use Rattle.tf_desk.specs.State.{DeskState, MayLeave, GoesOn}
 use Rattle.tf_board.specs.Board.{BoardValue, board_in}
-use Rattle.tf_board.specs.Answers.{HoldsMaybe, LeavesRecorded, IsRecorded, IsHalted, HasNoPlace, fault_of}
+use Rattle.tf_board.specs.Does.{HoldsMaybe, LeavesRecorded, IsRecorded, IsHalted, HasNoPlace, fault_of}
 use Rattle.tf_board.specs.declared.commands.Command.{Command}
 use Rattle.tf_board.specs.declared.faults.BoardFault.{BoardFault}
 use Rattle.tf_board.specs.declared.faults.BoardFault.TheVariants as fault

@@ -1,7 +1,7 @@
 -- What the calls of a shared board mean. Lists of commands have the newest first, lists of calls the oldest.
 use Rattle.std.specs.Prelude.{◌≡◌, ℕ, ◌+◌, List, [], ◌∷◌, map, Option, None}
-use Rattle.tf_board.specs.Jobs.{posted, refuses_id}
-use Rattle.tf_board.specs.Answers.{number_of}
+use Rattle.tf_board.specs.Board.{posted, refuses_id}
+use Rattle.tf_board.specs.Does.{number_of}
 use Rattle.tf_board.specs.declared.commands.Command.{Command}
 use Rattle.tf_board.specs.declared.commands.Command.TheVariants as command
 use Rattle.tf_board.specs.declared.commands.JobAction.TheVariants as action

@@ -1,11 +1,10 @@
 -- A board that several share, and what its type keeps. Lists of commands have the newest first, lists of calls the oldest.
 use Rattle.std.specs.Prelude.{◌≡◌, ◌⊎◌, ◌<◌, ℕ, ◌+◌, false, List, [], ◌∷◌, ◌++◌, length, Option, Some, None, IfSome}
-use Rattle.tf_desk.specs.Crash.{Rises}
+use Rattle.tf_numbers.specs.Numbers.{Rises}
 use Rattle.tf_desk.specs.State.{DeskState, anything, GoesOn}
 use Rattle.tf_journal.specs.Format.{SIZE_LIMIT}
-use Rattle.tf_board.specs.Board.{BoardValue}
-use Rattle.tf_board.specs.Jobs.{command_bytes}
-use Rattle.tf_board.specs.Answers.{IsRecorded}
+use Rattle.tf_board.specs.Board.{BoardValue, command_bytes}
+use Rattle.tf_board.specs.Does.{IsRecorded}
 use Rattle.tf_board.specs.declared.commands.Command.{Command}
 use Rattle.tf_shared_board.specs.declared.calls.BoardHalt.{BoardHalt}
 use Rattle.tf_shared_board.specs.declared.calls.BoardHalt.TheVariants as halt

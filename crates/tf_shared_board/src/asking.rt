@@ -1,7 +1,7 @@
 // A call of a shared board, as it is asked of the board itself.
 ghost use Rattle.std.specs.Prelude.{◌≢◌};
-ghost use Rattle.tf_board.specs.Jobs.{refuses_id};
-ghost use Rattle.tf_board.specs.Answers.{number_of, applied};
+ghost use Rattle.tf_board.specs.Board.{refuses_id};
+ghost use Rattle.tf_board.specs.Does.{number_of, applied};
 ghost use Rattle.tf_shared_board.specs.Asking.{AsksFor, Asks, Sorts};
 
 use crate::calls::{BoardHalt, JobCall};

@@ -1,6 +1,6 @@
 ghost use Rattle.std.specs.Prelude.{◌≡◌, ◌<◌, ◌^◌, [], false, None, IfOk, IfErr, length, is_some};
 ghost use Rattle.tf_board.specs.Board.{AreOfBoard};
-ghost use Rattle.tf_board.specs.Answers.{LeavesRecorded};
+ghost use Rattle.tf_board.specs.Does.{LeavesRecorded};
 ghost use Rattle.tf_desk.specs.State.{GoesOn};
 ghost use Rattle.tf_shared_board.specs.Calls.{asked_for, numbered};
 ghost use Rattle.tf_shared_board.specs.Shared.{IsShared, IsMade, FailsToCall, halt_or_memory};

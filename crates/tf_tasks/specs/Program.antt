@@ -1,5 +1,5 @@
 -- Orders for which a program is run.
-use Rattle.std.specs.Prelude.{Bool, true, false, ◌&&◌}
+use Rattle.std.specs.Prelude.{◌≡◌, Bool, true, false, ◌&&◌}
 use Rattle.std.specs.List.{list_all}
 use Rattle.tf_flow.specs.declared.atoms.TaskKind.{TaskKind}
 use Rattle.tf_flow.specs.declared.atoms.Undo.{Undo}
@@ -10,6 +10,9 @@ use Rattle.tf_actions.specs.declared.orders.Given.TheVariants as given
 use Rattle.tf_actions.specs.declared.orders.Order.{Order}
 use Rattle.tf_actions.specs.declared.outcomes.Action.{Action}
 use Rattle.tf_actions.specs.declared.outcomes.Action.TheVariants as action
+use Rattle.tf_states.specs.declared.record.Failure.TheVariants as failure
+use Rattle.tf_actions.specs.declared.outcomes.Outcome.{Outcome}
+use Rattle.tf_actions.specs.declared.outcomes.Outcome.TheVariants as outcome
 use Rattle.tf_tasks.specs.Run.{has_text}
 
 -- the undo is a program
@@ -36,3 +39,8 @@ are_texts (given.Missing symbol) = false
 -- a program is run for the order; for any other nothing is asked of the spawner
 abbrev pub runs_program : Order → Bool
 runs_program order = is_program order && are_texts order.given
+
+-- its program couldn't be run
+pub record IsUnspawned (order : Order) (result : Outcome) : Type 0 where
+  pub program : is_program order ≡ true
+  pub failed : result ≡ outcome.Failed failure.Spawn

@@ -14,7 +14,10 @@ use Rattle.tf_actions.specs.declared.outcomes.Action.{Action}
 use Rattle.tf_actions.specs.declared.outcomes.Action.TheVariants as action
 use Rattle.tf_actions.specs.declared.outcomes.Outcome.{Outcome}
 use Rattle.tf_actions.specs.declared.outcomes.Outcome.TheVariants as outcome
+use Rattle.tf_numbers.specs.Numbers.{Rises}
+use Rattle.tf_actions.specs.Gives.{told_with}
 use Rattle.tf_ports.specs.declared.programs.Done.{Done}
+use Rattle.tf_ports.specs.declared.programs.ProgramRun.{ProgramRun}
 use Rattle.tf_actions.specs.Built.{plain_pair}
 
 -- the plain bytes of an argument are a text (they are UTF-8, so that only their length can keep them from
@@ -48,20 +51,48 @@ is_zero (negsuc n) = false
 abbrev pub ended : Done → Outcome
 ended done = if is_zero done.status then output_gives done.out else outcome.Failed (failure.Exit done.status)
 
--- the program couldn't be run, which comes only with this cause, or it ended as it may
-abbrev pub EndsWith : (List ℕ → List (List ℕ) → Done → Type 0) → Type 0 → List ℕ → List (List ℕ) → Outcome → Type 0
-EndsWith answers cause program words result =
-    ((result ≡ outcome.Failed failure.Spawn) × cause) ⊎ ((done : Done) × (answers program words done) × (result ≡ ended done))
+-- what is seen of a spawner around a call: how its programs may end, whether its count of faults rose, and which programs it had run before and after
+pub record Spawns : Type 1 where
+  pub answers : List ℕ → List (List ℕ) → Done → Type 0
+  pub rose : Type 0
+  pub before : Option (List ProgramRun)
+  pub after : Option (List ProgramRun)
+
+abbrev pub spawns : {S : Type 0} → (S → List ℕ → List (List ℕ) → Done → Type 0) → (S → ℕ) → (S → Option (List ProgramRun)) → S → S → Spawns
+spawns answers faults ran old new = record { answers = answers old; rose = Rises (faults old) (faults new); before = ran old; after = ran new }
+
+-- no program was run
+abbrev pub RunsNone : Spawns → Type 0
+RunsNone seen = seen.after ≡ seen.before
+
+-- this program was run, once, and no other
+abbrev pub RunsOnce : Spawns → ProgramRun → Type 0
+RunsOnce seen run = seen.after ≡ told_with seen.before run
+
+-- the program couldn't be run, which comes only where the count of faults rose, or it was run once and ended as it may
+abbrev pub EndsWith : Spawns → ProgramRun → Outcome → Type 0
+EndsWith seen run result =
+    ((result ≡ outcome.Failed failure.Spawn) × seen.rose × RunsNone seen)
+    ⊎ ((done : Done) × (seen.answers run.program run.args done) × (RunsOnce seen run) × (result ≡ ended done))
 
 -- it isn't run where an argument is too long
-abbrev pub RunsWith : Bool → (List ℕ → List (List ℕ) → Done → Type 0) → Type 0 → List ℕ → List (List ℕ) → Outcome → Type 0
-RunsWith false answers cause program words result = result ≡ outcome.Failed failure.TooLong
-RunsWith true answers cause program words result = EndsWith answers cause program words result
+abbrev pub RunsWith : Bool → Spawns → ProgramRun → Outcome → Type 0
+RunsWith false seen run result = (result ≡ outcome.Failed failure.TooLong) × RunsNone seen
+RunsWith true seen run result = EndsWith seen run result
 
 -- the first word is the program; the other words and the plain bytes of each argument are passed to it
-abbrev pub RunsTo : (List ℕ → List (List ℕ) → Done → Type 0) → Type 0 → List (List ℕ) → List Pair → Outcome → Type 0
-RunsTo answers cause [] pairs result = ⊥
-RunsTo answers cause (program ∷ words) pairs result = RunsWith (list_all has_text pairs) answers cause program (words ++ map plain_pair pairs) result
+abbrev pub run_for : List ℕ → List (List ℕ) → List Pair → ProgramRun
+run_for program words pairs = record { program = program; args = words ++ map plain_pair pairs }
+
+-- what comes of the program of these words
+abbrev pub RunsTo : Spawns → List (List ℕ) → List Pair → Outcome → Type 0
+RunsTo seen [] pairs result = ⊥
+RunsTo seen (program ∷ words) pairs result = RunsWith (list_all has_text pairs) seen (run_for program words pairs) result
+
+-- where memory ran out it was run once, or not at all
+abbrev pub RunsAtMost : Spawns → List (List ℕ) → List Pair → Type 0
+RunsAtMost seen [] pairs = ⊥
+RunsAtMost seen (program ∷ words) pairs = RunsNone seen ⊎ RunsOnce seen (run_for program words pairs)
 
 -- the same with the output dropped
 abbrev pub dropped : Outcome → Outcome
@@ -69,16 +100,31 @@ dropped (outcome.Gave result) = outcome.Gave value.Nothing
 dropped (outcome.Failed fault) = outcome.Failed fault
 
 -- what comes of a program that undoes
-abbrev pub UndoesTo : (List ℕ → List (List ℕ) → Done → Type 0) → Type 0 → Undo → List Pair → Outcome → Type 0
-UndoesTo answers cause undo.Pass pairs result = ⊥
-UndoesTo answers cause undo.Fail pairs result = ⊥
-UndoesTo answers cause (undo.Run words) pairs result = (full : Outcome) × (RunsTo answers cause words pairs full) × (result ≡ dropped full)
+abbrev pub UndoesTo : Spawns → Undo → List Pair → Outcome → Type 0
+UndoesTo seen undo.Pass pairs result = ⊥
+UndoesTo seen undo.Fail pairs result = ⊥
+UndoesTo seen (undo.Run words) pairs result = (full : Outcome) × (RunsTo seen words pairs full) × (result ≡ dropped full)
+
+-- where memory ran out it was run once, or not at all
+abbrev pub UndoesAtMost : Spawns → Undo → List Pair → Type 0
+UndoesAtMost seen undo.Pass pairs = ⊥
+UndoesAtMost seen undo.Fail pairs = ⊥
+UndoesAtMost seen (undo.Run words) pairs = RunsAtMost seen words pairs
 
 -- what comes of an order for which a program is run
-abbrev pub ObeysFor : Action → (List ℕ → List (List ℕ) → Done → Type 0) → Type 0 → Order → Given → Outcome → Type 0
-ObeysFor action.Execute answers cause order (given.Found pairs) result = RunsTo answers cause order.words pairs result
-ObeysFor action.Revert answers cause order (given.Found pairs) result = UndoesTo answers cause order.undo pairs result
-ObeysFor how answers cause order (given.Missing symbol) result = ⊥
+abbrev pub ObeysFor : Action → Spawns → Order → Given → Outcome → Type 0
+ObeysFor action.Execute seen order (given.Found pairs) result = RunsTo seen order.words pairs result
+ObeysFor action.Revert seen order (given.Found pairs) result = UndoesTo seen order.undo pairs result
+ObeysFor how seen order (given.Missing symbol) result = ⊥
 
-abbrev pub ObeysOrder : (List ℕ → List (List ℕ) → Done → Type 0) → Type 0 → Order → Outcome → Type 0
-ObeysOrder answers cause order result = ObeysFor order.action answers cause order order.given result
+abbrev pub ObeysOrder : Spawns → Order → Outcome → Type 0
+ObeysOrder seen order result = ObeysFor order.action seen order order.given result
+
+-- where memory ran out, its program was run once, or not at all
+abbrev pub RunsOutFor : Action → Spawns → Order → Given → Type 0
+RunsOutFor action.Execute seen order (given.Found pairs) = RunsAtMost seen order.words pairs
+RunsOutFor action.Revert seen order (given.Found pairs) = UndoesAtMost seen order.undo pairs
+RunsOutFor how seen order (given.Missing symbol) = ⊥
+
+abbrev pub RunsOutOnOrder : Spawns → Order → Type 0
+RunsOutOnOrder seen order = RunsOutFor order.action seen order order.given

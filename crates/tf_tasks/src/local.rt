@@ -1,11 +1,10 @@
-ghost use Rattle.std.specs.Prelude.{◌≡◌, true, false, None, IfOk, ◌≤◌, length};
+ghost use Rattle.std.specs.Prelude.{◌≡◌, true, false, None, IfOk, OnErr, ◌≤◌, length};
 ghost use Rattle.std.specs.List.{list_all};
-ghost use Rattle.tf_desk.specs.Crash.{Rises};
 ghost use Rattle.tf_actions.specs.Gives.{Gives, GivesNothing, IsWhole};
 ghost use Rattle.tf_flow.specs.declared.atoms.Undo.TheVariants as undo;
 ghost use Rattle.tf_tasks.specs.GivesLaws.{gives_looks_up, gives_reverts};
-ghost use Rattle.tf_tasks.specs.Program.{is_program, runs_program};
-ghost use Rattle.tf_tasks.specs.Run.{has_text, ObeysOrder, RunsTo, UndoesTo};
+ghost use Rattle.tf_tasks.specs.Program.{is_program, runs_program, IsUnspawned};
+ghost use Rattle.tf_tasks.specs.Run.{has_text, spawns, ObeysOrder, RunsOutOnOrder, RunsTo, RunsAtMost, UndoesTo};
 
 use crate::built_ins::value_of;
 use crate::runs::{drop_output, run};
@@ -44,10 +43,12 @@ impl<S: Spawner> LocalHand<S> {
     pub fn obey(&mut self, alloc: Global, order: &Order) -> Result<Outcome, Memory>
         requires whole { IsWhole order.now }
         ensures gives { IfOk result (λ outcome. Gives order.now outcome) }
-        ensures program { is_program order.now ≡ true
-            → IfOk result (λ outcome. ObeysOrder (S.answers self.old.spawner)
-            (Rises (S.faults self.old.spawner) (S.faults self.new.spawner)) order.now outcome) }
+        ensures program { is_program order.now ≡ true → IfOk result (λ outcome. ObeysOrder
+            (spawns S.answers S.faults S.ran self.old.spawner self.new.spawner) order.now outcome) }
+        ensures at_most { is_program order.now ≡ true → OnErr result (RunsOutOnOrder
+            (spawns S.answers S.faults S.ran self.old.spawner self.new.spawner) order.now) }
         ensures unrun { runs_program order.now ≡ false → self.new ≡ self.old }
+        ensures no_fall { S.faults self.old.spawner ≤ S.faults self.new.spawner }
     {
         if let Given::Found(args) = &order.given {
             if order.action == Action::Execute && order.kind == TaskKind::Command {
@@ -69,10 +70,13 @@ fn undo<S: Spawner>(
     pairs: &[Pair],
 ) -> Result<Outcome, Memory>
     requires { 1 ≤ length words.now }
-    ensures runs { IfOk result (λ outcome. UndoesTo (S.answers spawner.old)
-        (Rises (S.faults spawner.old) (S.faults spawner.new)) (undo.Run words.now) pairs.now outcome) }
+    ensures runs { IfOk result (λ outcome. UndoesTo (spawns S.answers S.faults S.ran spawner.old spawner.new)
+        (undo.Run words.now) pairs.now outcome) }
+    ensures at_most { OnErr result (RunsAtMost (spawns S.answers S.faults S.ran spawner.old spawner.new) words.now
+        pairs.now) }
     ensures gives { IfOk result (λ outcome. GivesNothing outcome) }
     ensures unrun { list_all has_text pairs.now ≡ false → spawner.new ≡ spawner.old }
+    ensures no_fall { S.faults spawner.old ≤ S.faults spawner.new }
 {
     let full = run(alloc, spawner, words, pairs)?;
     Ok(drop_output(full))
@@ -82,6 +86,10 @@ impl<S: Spawner> Performer for LocalHand<S> {
     ghost did = { λ _. None };
 
     ghost gives = { Gives };
+
+    ghost faults = { λ hand. S.faults hand.spawner };
+
+    ghost of_fault = { IsUnspawned };
 
     ghost looks_up = { gives_looks_up };
 

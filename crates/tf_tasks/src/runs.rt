@@ -1,9 +1,8 @@
-ghost use Rattle.std.specs.Prelude.{◌≡◌, ◌∷◌, [], ◌++◌, ◌≤◌, length, map, true, false, IfOk};
+ghost use Rattle.std.specs.Prelude.{◌≡◌, ◌∷◌, [], ◌++◌, ◌≤◌, length, map, true, false, IfOk, OnErr, ◌⊎◌};
 ghost use Rattle.std.specs.List.{list_all};
-ghost use Rattle.tf_desk.specs.Crash.{Rises};
 ghost use Rattle.tf_actions.specs.Built.{plain_pair};
 ghost use Rattle.tf_actions.specs.Gives.{GivesText, GivesNothing};
-ghost use Rattle.tf_tasks.specs.Run.{has_text, without_feed as unfed, spelled, ended, EndsWith, RunsTo, dropped};
+ghost use Rattle.tf_tasks.specs.Run.{has_text, without_feed as unfed, spelled, ended, spawns, RunsNone, RunsOnce, EndsWith, RunsTo, RunsAtMost, dropped};
 
 use crate::plain::append_plain;
 use std::alloc::Global;
@@ -23,10 +22,13 @@ pub fn run<S: Spawner>(
     pairs: &[Pair],
 ) -> Result<Outcome, Memory>
     requires { 1 ≤ length words.now }
-    ensures runs { IfOk result (λ outcome. RunsTo (S.answers spawner.old)
-        (Rises (S.faults spawner.old) (S.faults spawner.new)) words.now pairs.now outcome) }
+    ensures runs { IfOk result (λ outcome. RunsTo (spawns S.answers S.faults S.ran spawner.old spawner.new) words.now
+        pairs.now outcome) }
+    ensures at_most { OnErr result (RunsAtMost (spawns S.answers S.faults S.ran spawner.old spawner.new) words.now
+        pairs.now) }
     ensures gives { IfOk result (λ outcome. GivesText outcome) }
     ensures unrun { list_all has_text pairs.now ≡ false → spawner.new ≡ spawner.old }
+    ensures no_fall { S.faults spawner.old ≤ S.faults spawner.new }
 {
     let [program, others @ ..] = words else {
         unreachable!();
@@ -45,9 +47,13 @@ fn run_with<S: Spawner>(
     program: &Text,
     args: &Texts,
 ) -> Result<Outcome, Memory>
-    ensures ends { IfOk result (λ outcome. EndsWith (S.answers spawner.old)
-        (Rises (S.faults spawner.old) (S.faults spawner.new)) program.now args.now outcome) }
+    ensures ends { IfOk result (λ outcome. EndsWith (spawns S.answers S.faults S.ran spawner.old spawner.new)
+        (record { program = program.now; args = args.now }) outcome) }
+    ensures at_most { OnErr result (RunsNone (spawns S.answers S.faults S.ran spawner.old spawner.new)
+        ⊎ RunsOnce (spawns S.answers S.faults S.ran spawner.old spawner.new)
+        (record { program = program.now; args = args.now })) }
     ensures gives { IfOk result (λ outcome. GivesText outcome) }
+    ensures no_fall { S.faults spawner.old ≤ S.faults spawner.new }
 {
     match spawner.run(alloc, program, args) {
         Ok(done) => finish(alloc, &done),

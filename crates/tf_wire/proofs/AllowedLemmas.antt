@@ -10,8 +10,7 @@ use Rattle.tf_actions.specs.declared.orders.Given.TheVariants as given
 use Rattle.tf_actions.specs.declared.orders.Pair.{Pair}
 use Rattle.tf_actions.specs.declared.outcomes.Action.{Action}
 use Rattle.tf_actions.specs.declared.outcomes.Action.TheVariants as action
-use Rattle.tf_wire.specs.Orders.{undo_of}
-use Rattle.tf_wire.specs.Reading.{IsFitRequest, RevertsByCommand, is_fit_request, suits, names_differ}
+use Rattle.tf_wire.specs.Grammar.{undo_of, IsFitRequest, RevertsByCommand, is_fit_request, suits, names_differ}
 use Rattle.tf_wire.specs.declared.messages.Request.{Request}
 
 at_most : (m n : ℕ) → nat_le m n ≡ true → m ≤ n

@@ -23,12 +23,9 @@ use Rattle.tf_flow.specs.declared.atoms.TaskKind.TheVariants as kind
 use Rattle.tf_actions.specs.declared.orders.Pair.{Pair}
 use Rattle.tf_actions.specs.declared.outcomes.Action.{Action}
 use Rattle.tf_actions.specs.declared.outcomes.Action.TheVariants as action
-use Rattle.tf_wire.specs.Grammar.{each_of, text_of, name_of, id_of, status_of, count_of, scalar_of, value_of, pair_of, failure_of, action_of, kind_of, request_of, response_of}
+use Rattle.tf_wire.specs.Grammar.{each_of, text_of, name_of, id_of, status_of, count_of, scalar_of, value_of, pair_of, failure_of, action_of, kind_of, request_of, response_of, scalar_data, value_data, pair_data, failure_data, request_data, response_data, message_of, IsFitRequest, AreRequest, AreResponse, action_word, kind_word}
 use Rattle.tf_wire.specs.Limits.{IsWord, IsArgument, IsFailure, HasParts, HasPart, id_in}
-use Rattle.tf_wire.specs.Messages.{scalar_data, value_data, pair_data, failure_data, request_data, response_data}
 use Rattle.serde_json.specs.Written.{compact_text}
-use Rattle.tf_wire.specs.Reading.{message_of, IsFitRequest, AreRequest, AreResponse}
-use Rattle.tf_wire.specs.Words.{action_word, kind_word}
 use Rattle.tf_wire.specs.declared.messages.Request.{Request}
 use Rattle.tf_wire.specs.declared.messages.Response.{Response}
 use Rattle.tf_wire.specs.declared.messages.Response.TheVariants as response

@@ -31,9 +31,8 @@ use Rattle.tf_actions.specs.declared.outcomes.Action.TheVariants as action
 use Rattle.tf_wire.specs.declared.messages.Request.{Request}
 use Rattle.tf_wire.specs.declared.messages.Response.{Response}
 use Rattle.tf_wire.specs.declared.messages.Response.TheVariants as response
-use Rattle.tf_wire.specs.Words.{action_word, kind_word}
+use Rattle.tf_wire.specs.Grammar.{action_word, kind_word, scalar_data, value_data, pair_data, alone, with_data, failure_data, request_data, response_data}
 use Rattle.tf_wire.specs.Limits.{IsWord, IsArgument, IsFailure, HasParts, HasPart}
-use Rattle.tf_wire.specs.Messages.{scalar_data, value_data, pair_data, alone, with_data, failure_data, request_data, response_data}
 
 -- ---- strings
 

@@ -3,8 +3,7 @@ use Rattle.std.proofs.Common.{◌≡◌, ℕ, ◌+◌, ◌-◌, List, [], ◌∷
 use Rattle.std.specs.Prelude.{OnOk, IfErr}
 use Rattle.std.proofs.lemmas.Grind.{flat_map-append}
 use Rattle.std.proofs.lemmas.List.{drop_at, length-drop, drop-drop}
-use Rattle.tf_wire.specs.Stream.{IsFrame, framed, joined, BeginsWithFrame, BeginsWithBadLength, SplitsInto}
-use Rattle.tf_wire.specs.Keeping.{KeptFrames, counted, KeepsStream, IsCutOff, IsHere, IsUnrefused, StopsAt, IsPieceAnswer, KeepsFrames}
+use Rattle.tf_wire.specs.Stream.{IsFrame, framed, joined, BeginsWithFrame, BeginsWithBadLength, SplitsInto, KeptFrames, counted, KeepsStream, IsCutOff, IsHere, IsUnrefused, StopsAt, IsPieceAnswer, KeepsFrames}
 use Rattle.tf_wire.proofs.StreamLemmas.{cut_more, cut_on, bad_stays, bad_is_no_frame, not_refused}
 use Rattle.tf_wire.specs.declared.faults.WireFault.{WireFault}
 use Rattle.tf_wire.specs.declared.faults.WireFault.TheVariants as fault

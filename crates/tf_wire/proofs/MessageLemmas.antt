@@ -4,8 +4,7 @@ use Rattle.std.proofs.lemmas.Str.{IsUtf8-from_is_utf8, is_utf8-from_IsUtf8}
 use Rattle.std.specs.Str.{IsUtf8, is_utf8}
 use Rattle.serde_json.specs.Data.{Data}
 use Rattle.serde_json.specs.Read.{read}
-use Rattle.tf_wire.specs.Grammar.{chain, request_of, response_of}
-use Rattle.tf_wire.specs.Reading.{message_of, IsFitRequest, AreRequest, AreResponse, is_fit_request, allowed_only, request_in, response_in}
+use Rattle.tf_wire.specs.Grammar.{chain, request_of, response_of, message_of, IsFitRequest, AreRequest, AreResponse, is_fit_request, allowed_only, request_in, response_in}
 use Rattle.tf_wire.specs.declared.messages.Request.{Request}
 use Rattle.tf_wire.specs.declared.messages.Response.{Response}
 use Rattle.tf_wire.proofs.AllowedLemmas.{passes, passes_where_allowed}

@@ -11,7 +11,7 @@ use Rattle.tf_values.specs.declared.value.Val.TheVariants as value
 use Rattle.tf_states.specs.declared.record.Failure.{Failure}
 use Rattle.tf_states.specs.declared.record.Failure.TheVariants as failure
 use Rattle.tf_actions.specs.declared.orders.Pair.{Pair}
-use Rattle.tf_wire.specs.Messages.{scalar_data, value_data, pair_data, failure_data, request_data, response_data}
+use Rattle.tf_wire.specs.Grammar.{scalar_data, value_data, pair_data, failure_data, request_data, response_data}
 use Rattle.tf_wire.specs.declared.messages.Request.{Request}
 use Rattle.tf_wire.specs.declared.messages.Response.{Response}
 use Rattle.tf_wire.specs.declared.messages.Response.TheVariants as response

@@ -1,25 +1,57 @@
--- What JSON spells: values, failures, and the parts of messages.
-use Rattle.std.specs.Prelude.{ℕ, ◌^◌, ℤ, pos, negsuc, int_le, nat_lt, nat_eq, List, [], ◌∷◌, codes, ◌&&◌, Option, Some, None, option_map, option_and_then, if◌then◌else◌}
-use Rattle.serde_json.specs.Data.{Data, null, boolean, number, string, array, Items, no_items, item, Members}
+-- The words of messages. What JSON spells: values, failures, and the parts of messages. The order that a request names. The messages that frames spell. Messages as JSON. The members of an object stand in the byte order of their keys.
+use Rattle.std.specs.Prelude.{ℕ, List, codes, ◌^◌, ℤ, pos, negsuc, int_le, nat_lt, nat_eq, [], ◌∷◌, ◌&&◌, Option, Some, None, option_map, option_and_then, if◌then◌else◌, ◌≡◌, nat_le, length, Bool, true, not, map}
+use Rattle.tf_flow.specs.declared.atoms.TaskKind.{TaskKind}
+use Rattle.tf_actions.specs.declared.outcomes.Action.{Action}
+use Rattle.serde_json.specs.Data.{Data, null, boolean, number, string, array, Items, no_items, item, Members, unsigned, object, member, no_members}
 use Rattle.serde_json.specs.Events.{members_len}
-use Rattle.serde_json.specs.Find.{get, as_number, as_str, as_array, as_object, as_i64}
+use Rattle.serde_json.specs.Find.{get, as_number, as_str, as_array, as_object, as_i64, of_integer}
 use Rattle.tf_values.specs.declared.elements.Scalar.{Scalar}
-use Rattle.tf_values.specs.declared.elements.Scalar.TheVariants as scalar
 use Rattle.tf_values.specs.declared.value.Val.{Val}
-use Rattle.tf_values.specs.declared.value.Val.TheVariants as value
 use Rattle.tf_values.specs.Text.{is_name, is_text}
 use Rattle.tf_values.specs.Scalars.{are_scalars}
 use Rattle.tf_states.specs.declared.record.Failure.{Failure}
-use Rattle.tf_states.specs.declared.record.Failure.TheVariants as failure
 use Rattle.tf_flow.specs.Tree.{same_name}
-use Rattle.tf_flow.specs.declared.atoms.TaskKind.{TaskKind}
-use Rattle.tf_flow.specs.declared.atoms.TaskKind.TheVariants as kind
 use Rattle.tf_actions.specs.declared.orders.Pair.{Pair}
-use Rattle.tf_actions.specs.declared.outcomes.Action.{Action}
-use Rattle.tf_actions.specs.declared.outcomes.Action.TheVariants as action
 use Rattle.tf_wire.specs.declared.messages.Request.{Request}
 use Rattle.tf_wire.specs.declared.messages.Response.{Response}
+use Rattle.tf_flow.specs.declared.atoms.Undo.{Undo}
+use Rattle.tf_actions.specs.declared.orders.Order.{Order}
+use Rattle.std.specs.List.{list_any}
+use Rattle.std.specs.Str.{is_utf8}
+use Rattle.serde_json.specs.Read.{read}
+use Rattle.tf_flow.specs.Rules.{is_command, least_arguments, has_wrong_words}
+use Rattle.tf_actions.specs.Gives.{IsWhole}
+use Rattle.tf_wire.specs.declared.faults.WireFault.{WireFault}
+use Rattle.serde_json.specs.View.{items_of}
+use Rattle.serde_json.specs.Written.{compact_text}
+use Rattle.tf_wire.specs.Stream.{framed}
+use Rattle.tf_flow.specs.declared.atoms.TaskKind.TheVariants as kind
+use Rattle.tf_actions.specs.declared.outcomes.Action.TheVariants as action
+use Rattle.tf_values.specs.declared.elements.Scalar.TheVariants as scalar
+use Rattle.tf_values.specs.declared.value.Val.TheVariants as value
+use Rattle.tf_states.specs.declared.record.Failure.TheVariants as failure
 use Rattle.tf_wire.specs.declared.messages.Response.TheVariants as response
+use Rattle.tf_flow.specs.declared.atoms.Undo.TheVariants as undo
+use Rattle.tf_actions.specs.declared.orders.Given.TheVariants as given
+use Rattle.tf_wire.specs.declared.faults.WireFault.TheVariants as fault
+
+-- the word of an action
+abbrev pub action_word : Action → List ℕ
+action_word action.Execute = codes "execute"
+action_word action.Revert = codes "revert"
+
+-- the word of a kind of task
+abbrev pub kind_word : TaskKind → List ℕ
+kind_word kind.Echo = codes "echo"
+kind_word kind.Concat = codes "concat"
+kind_word kind.Sum = codes "sum"
+kind_word kind.Length = codes "length"
+kind_word kind.Pick = codes "pick"
+kind_word kind.List = codes "list"
+kind_word kind.Fail = codes "fail"
+kind_word kind.FailBelow = codes "fail_below"
+kind_word kind.FailUnless = codes "fail_unless"
+kind_word kind.Command = codes "command"
 
 -- ---- putting together
 
@@ -225,3 +257,175 @@ response_named found word =
 -- a response
 abbrev pub response_of : Data → Option Response
 response_of found = chain (at (codes "state") as_str found) (response_named found)
+
+-- what undoes the task of an order: a revert runs the words
+abbrev pub undo_of : Action → List (List ℕ) → Undo
+undo_of action.Execute words = undo.Pass
+undo_of action.Revert words = undo.Run words
+
+-- the order that a request names: its task has no number of its own
+abbrev pub order_of : Request → Order
+order_of request = record {
+  atom = 0;
+  action = request.action;
+  kind = request.kind;
+  words = request.words;
+  undo = undo_of request.action request.words;
+  given = given.Found request.args;
+}
+
+-- the JSON that bytes are, if they are
+abbrev pub message_of : List ℕ → Option Data
+message_of bytes = if is_utf8 bytes then read bytes else None
+
+-- no name stands twice among arguments
+abbrev pub has_name : List ℕ → Pair → Bool
+has_name name pair = same_name name pair.name
+
+abbrev pub names_differ : List Pair → Bool
+names_differ [] = true
+names_differ (first ∷ others) = not (list_any (has_name first.name) others) && names_differ others
+
+-- what undoes a task is a command
+abbrev pub RevertsByCommand : Action → TaskKind → Type 0
+RevertsByCommand action.Execute task_kind = Unit {0}
+RevertsByCommand action.Revert task_kind = task_kind ≡ kind.Command
+
+-- the order that the request names is whole, its arguments' names differ, and a revert's kind is that of commands
+pub record IsFitRequest (request : Request) : Type 0 where
+  pub whole : IsWhole (order_of request)
+  pub differ : names_differ request.args ≡ true
+  pub reverts : RevertsByCommand request.action request.kind
+
+-- the bytes are JSON that spells this request, which is allowed
+pub record AreRequest (bytes : List ℕ) (request : Request) : Type 0 where
+  pub message : Data
+  pub read_as : message_of bytes ≡ Some message
+  pub spelled : request_of message ≡ Some request
+  pub allowed : IsFitRequest request
+
+-- the bytes are JSON that spells this response
+pub record AreResponse (bytes : List ℕ) (response : Response) : Type 0 where
+  pub message : Data
+  pub read_as : message_of bytes ≡ Some message
+  pub spelled : response_of message ≡ Some response
+
+-- ---- the same as tests
+
+-- the arguments suit the action and the kind
+abbrev pub suits : Action → TaskKind → List Pair → Bool
+suits action.Execute task_kind pairs = nat_le (least_arguments task_kind) (length pairs)
+suits action.Revert task_kind pairs = is_command task_kind
+
+abbrev pub is_fit_request : Request → Bool
+is_fit_request request =
+    nat_le (length request.words) 64 && nat_le (length request.args) 64
+    && not (has_wrong_words request.kind request.words)
+    && suits request.action request.kind request.args
+    && names_differ request.args
+
+-- the request that bytes spell and that is allowed
+abbrev pub allowed_only : Request → Option Request
+allowed_only request = if is_fit_request request then Some request else None
+
+abbrev pub request_in : List ℕ → Option Request
+request_in bytes = chain (message_of bytes) (λ message. chain (request_of message) allowed_only)
+
+-- the response that bytes spell
+abbrev pub response_in : List ℕ → Option Response
+response_in bytes = chain (message_of bytes) response_of
+
+-- a reader's fault: the bytes spell nothing, which is told of the front of the frame; or want of memory
+abbrev pub IsRefusal : {A : Type 0} → (A → Type 0) → WireFault → Type 0
+IsRefusal {A} spells (fault.Bad place) = (place ≡ 0) × ((found : A) → ¬ (spells found))
+IsRefusal spells fault.Memory = Unit {0}
+
+-- ---- values
+
+-- a scalar
+abbrev pub scalar_data : Scalar → Data
+scalar_data scalar.Nothing = null
+scalar_data (scalar.Truth truth) = boolean truth
+scalar_data (scalar.Int n) = number (of_integer n)
+scalar_data (scalar.Text text) = string text
+
+-- a value
+abbrev pub value_data : Val → Data
+value_data value.Nothing = null
+value_data (value.Truth truth) = boolean truth
+value_data (value.Int n) = number (of_integer n)
+value_data (value.Text text) = string text
+value_data (value.List scalars) = array (items_of (map scalar_data scalars))
+
+-- an argument, as its name and its value
+abbrev pub pair_data : Pair → Data
+pair_data pair = array (item (string pair.name) (item (value_data pair.value) no_items))
+
+-- a failure without more, and one with a text, a name or a number
+abbrev pub alone : List ℕ → Data
+alone word = array (item (string word) no_items)
+
+abbrev pub with_data : List ℕ → Data → Data
+with_data word more = array (item (string word) (item more no_items))
+
+-- a failure
+abbrev pub failure_data : Failure → Data
+failure_data (failure.Raised text) = with_data (codes "raised") (string text)
+failure_data (failure.WrongKind name) = with_data (codes "type") (string name)
+failure_data failure.Overflow = alone (codes "overflow")
+failure_data failure.Range = alone (codes "range")
+failure_data failure.TooLong = alone (codes "too-long")
+failure_data (failure.Lookup name) = with_data (codes "lookup") (string name)
+failure_data (failure.Exit status) = with_data (codes "exit") (number (of_integer status))
+failure_data failure.Spawn = alone (codes "spawn")
+failure_data failure.NotText = alone (codes "not-text")
+failure_data failure.Lost = alone (codes "lost")
+failure_data (failure.BadReply count) = with_data (codes "bad-reply") (number (unsigned count))
+failure_data failure.Exhausted = alone (codes "exhausted")
+
+-- ---- messages
+
+-- the object of a request with these members
+abbrev pub object_of_request : List ℕ → Data → ℕ → List ℕ → Data → Data
+object_of_request how args id kind words = object
+    (member (codes "action") (string how)
+    (member (codes "args") args
+    (member (codes "id") (number (unsigned id))
+    (member (codes "kind") (string kind)
+    (member (codes "words") words
+    no_members)))))
+
+-- a request
+abbrev pub request_data : Request → Data
+request_data request = object_of_request (action_word request.action) (array (items_of (map pair_data request.args))) request.id (kind_word request.kind) (array (items_of (map string request.words)))
+
+-- the answer that an order runs, that it gave this, and that it failed so
+abbrev pub running_data : ℕ → Data
+running_data id = object
+    (member (codes "id") (number (unsigned id))
+    (member (codes "state") (string (codes "RUNNING"))
+    no_members))
+
+abbrev pub success_data : ℕ → Data → Data
+success_data id given = object
+    (member (codes "id") (number (unsigned id))
+    (member (codes "result") given
+    (member (codes "state") (string (codes "SUCCESS"))
+    no_members)))
+
+abbrev pub fault_data : ℕ → Data → Data
+fault_data id fault = object
+    (member (codes "failure") fault
+    (member (codes "id") (number (unsigned id))
+    (member (codes "state") (string (codes "FAILURE"))
+    no_members)))
+
+-- a response
+abbrev pub response_data : Response → Data
+response_data (response.Running id) = running_data id
+response_data (response.Success id result) = success_data id (value_data result)
+response_data (response.Failure id fault) = fault_data id (failure_data fault)
+
+-- a message as its frame: its compact text behind the length of that
+abbrev pub frame_of : Data → List ℕ
+frame_of message = framed (compact_text message)

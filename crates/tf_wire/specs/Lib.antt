@@ -1,9 +1,4 @@
 pub mod Stream
-pub mod Keeping
 pub mod Fronts
-pub mod Words
-pub mod Messages
-pub mod Orders
 pub mod Grammar
-pub mod Reading
 pub mod Limits

@@ -1,7 +1,7 @@
 ghost use Rattle.std.specs.Prelude.{◌≡◌, nat_le, length};
 ghost use Rattle.std.specs.List.{list_any};
 ghost use Rattle.tf_flow.specs.Rules.{is_command as kind_of_commands, least_arguments as least_of, has_wrong_words as wrong_words};
-ghost use Rattle.tf_wire.specs.Reading.{has_name, names_differ as all_differ, suits as suits_action, is_fit_request as is_allowed_request};
+ghost use Rattle.tf_wire.specs.Grammar.{has_name, names_differ as all_differ, suits as suits_action, is_fit_request as is_allowed_request};
 
 use crate::messages::Request;
 use tf_actions::{Action, Pair};

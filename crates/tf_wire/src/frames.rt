@@ -1,6 +1,5 @@
 ghost use Rattle.std.specs.Prelude.{◌≡◌, ◌↔◌, IsTrue, ℕ, List, [], ◌∷◌, ◌++◌, ◌≤◌, drop, length, true, OnOk, IfErr, IfSome, MatchOption};
-ghost use Rattle.tf_wire.specs.Stream.{BeginsWithFrame, BeginsWithBadLength};
-ghost use Rattle.tf_wire.specs.Keeping.{KeepsStream, IsCutOff, IsHere, IsUnrefused, IsPieceAnswer, KeepsFrames};
+ghost use Rattle.tf_wire.specs.Stream.{BeginsWithFrame, BeginsWithBadLength, KeepsStream, IsCutOff, IsHere, IsUnrefused, IsPieceAnswer, KeepsFrames};
 
 use crate::faults::WireFault;
 use crate::fronts::{Front, front_of};
@@ -18,7 +17,7 @@ pub struct Frames {
 }
 
 impl Model for Frames {
-    ghost use Rattle.tf_wire.specs.Keeping.{KeptFrames};
+    ghost use Rattle.tf_wire.specs.Stream.{KeptFrames};
 
     ghost Value = { KeptFrames };
 

@@ -17,6 +17,6 @@ mod waiting;
 pub use faults::WireFault;
 pub use frames::Frames;
 pub use messages::{Request, Response};
-pub use printing::{print_message, print_request, print_response};
+pub use printing::{print_message, print_request, print_response, text_value, word_values};
 pub use reading::{message_of, read_request, read_response};
 pub use values::{name_of, value_of};

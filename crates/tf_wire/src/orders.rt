@@ -1,5 +1,5 @@
 ghost use Rattle.std.specs.Prelude.{◌≡◌, IfOk};
-ghost use Rattle.tf_wire.specs.Orders.{order_of, undo_of as undo_of_action};
+ghost use Rattle.tf_wire.specs.Grammar.{order_of, undo_of as undo_of_action};
 
 use crate::messages::Request;
 use std::alloc::Global;

@@ -6,9 +6,7 @@ ghost use Rattle.serde_json.specs.Written.{has_float, compact_text};
 ghost use Rattle.tf_values.specs.Text.{is_name, is_text};
 ghost use Rattle.tf_values.specs.Value.{IsValue};
 ghost use Rattle.tf_wire.specs.Limits.{IsWord, IsArgument, IsFailure, HasParts, HasPart, id_in};
-ghost use Rattle.tf_wire.specs.Reading.{message_of, IsFitRequest, AreRequest, AreResponse};
-ghost use Rattle.tf_wire.specs.Messages.{scalar_data, value_data, pair_data, failure_data, alone, with_data, request_data, object_of_request, response_data, running_data, success_data, fault_data, frame_of};
-ghost use Rattle.tf_wire.specs.Words.{action_word as word_of_action, kind_word as word_of_kind};
+ghost use Rattle.tf_wire.specs.Grammar.{message_of, IsFitRequest, AreRequest, AreResponse, scalar_data, value_data, pair_data, failure_data, alone, with_data, request_data, object_of_request, response_data, running_data, success_data, fault_data, frame_of, action_word as word_of_action, kind_word as word_of_kind};
 
 use crate::messages::{Request, Response};
 use serde_json::{Value, json};
@@ -48,7 +46,7 @@ pub fn kind_word(kind: TaskKind) -> &'static str
 
 /// The JSON of a text.
 #[tactic(auto, using(crate::proofs::LimitLemmas::text_utf8))]
-fn text_value(alloc: Global, text: &Text) -> Result<Value, Memory>
+pub fn text_value(alloc: Global, text: &Text) -> Result<Value, Memory>
     ensures spelled { IfOk result (λ made. view made ≡ string_data text.now) }
     ensures text { is_text text.now ≡ true }
 {
@@ -130,7 +128,7 @@ fn pair_values(alloc: Global, pairs: &[Pair]) -> Result<Vec<Value>, Memory>
 }
 
 /// The JSON of each word.
-fn word_values(alloc: Global, words: &[Text]) -> Result<Vec<Value>, Memory>
+pub fn word_values(alloc: Global, words: &[Text]) -> Result<Vec<Value>, Memory>
     ensures spelled { IfOk result (λ made. map view made.items ≡ map string_data words.now) }
     ensures words { IfOk result (λ _. AllByRecursion IsWord words.now) }
 {

@@ -1,8 +1,7 @@
 ghost use Rattle.std.specs.Prelude.{◌≡◌, IfOk, IfErr, codes, option_map};
 ghost use Rattle.serde_json.specs.Find.{as_str};
 ghost use Rattle.serde_json.specs.View.{view};
-ghost use Rattle.tf_wire.specs.Grammar.{at, value_of as value_spelled, failure_of as failure_spelled, success_members as success_spelled, failure_members as fault_spelled, response_named as response_of_word, response_of as response_spelled};
-ghost use Rattle.tf_wire.specs.Reading.{message_of as message_spelled, request_in, response_in, AreRequest, AreResponse, IsRefusal};
+ghost use Rattle.tf_wire.specs.Grammar.{at, value_of as value_spelled, failure_of as failure_spelled, success_members as success_spelled, failure_members as fault_spelled, response_named as response_of_word, response_of as response_spelled, message_of as message_spelled, request_in, response_in, AreRequest, AreResponse, IsRefusal};
 
 use crate::allowing::is_allowed;
 use crate::failures::failure_of;

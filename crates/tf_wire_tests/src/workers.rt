@@ -28,7 +28,7 @@ fn link_of(alloc: Global, parts: &[&[u8]], piece: usize, failing: u64) -> Result
 
 /// Serves the link by a hand of this process.
 fn serve_link(alloc: Global, link: &mut MemoryLink) -> ServeEnd {
-    let mut hand = LocalHand::make(MemorySpawner::make(Vec::new(alloc), Vec::new(alloc)));
+    let mut hand = LocalHand::make(MemorySpawner::make(alloc, Vec::new(alloc), Vec::new(alloc)));
     serve(alloc, link, &mut hand)
 }
 

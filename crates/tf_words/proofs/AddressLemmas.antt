@@ -10,7 +10,7 @@ use Rattle.tf_numbers.proofs.TruthLemmas.{and_first, and_second}
 use Rattle.tf_values.specs.Text.{is_between}
 use Rattle.tf_ports.specs.declared.crews.Address.{Address}
 use Rattle.tf_words.specs.Words.{address_of, addresses_in, pieces_behind}
-use Rattle.tf_words.specs.Spelled.{is_digit, is_count}
+use Rattle.tf_words.specs.Verbs.{is_digit, is_count}
 
 low : (least most byte : ℕ) → most < 128 → is_between least most byte ≡ true → byte < 128
 low least most byte small is = grind (arith, nat_tests)

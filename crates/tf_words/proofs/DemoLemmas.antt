@@ -4,9 +4,8 @@ use Rattle.std.specs.Prelude.{option_map, option_and_then, if◌then◌else◌}
 use Rattle.std.specs.Str.Parse.{digits_value}
 use Rattle.tf_numbers.proofs.TruthLemmas.{and_first, and_second}
 use Rattle.tf_words.specs.Words.{worker_of, address_of, sessions_in, id_in, Applied, post_of, owner_of, list_of, applied_in, priority_in, details_in, hands_in, want_in, deferral_in, stop_in, target_in, try_of, run_of, resume_of, show_of, reset_of, check_of, audit_of, demo_of, asked_by, IsDemo, asked_of, command_of}
-use Rattle.tf_words.specs.Verbs.{Said, are_filled, said_by, choice_of, forms_of}
+use Rattle.tf_words.specs.Verbs.{Said, are_filled, said_by, choice_of, forms_of, is_number, number_between, sets_behind}
 use Rattle.tf_values.specs.Text.{is_name}
-use Rattle.tf_words.specs.Spelled.{is_number, number_between, sets_behind}
 use Rattle.tf_words.specs.declared.asked.Asked.{Asked}
 use Rattle.tf_words.specs.declared.asked.Asked.TheVariants as asked
 use Rattle.tf_words.specs.declared.verbs.Verb.{Verb}

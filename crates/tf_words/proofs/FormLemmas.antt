@@ -19,7 +19,7 @@ use Rattle.tf_values.proofs.QuoteLemmas.{IsControl, IsPlain, quoted_cases, nibbl
 use Rattle.tf_values.proofs.WordLemmas.{BeginsNumber, number_begins, own_digits}
 use Rattle.tf_words.specs.declared.quotes.Inside.TheVariants as at
 use Rattle.tf_words.specs.declared.spelled.Quoting.TheVariants as quoting
-use Rattle.tf_words.specs.Spelled.{nibble, is_hexadecimal, are_digits, is_plain, emitted, text_from, same_word, is_digit, is_count, is_integer, scalar_spelled, in_front, scalars_from, scalars_spelled}
+use Rattle.tf_words.specs.Verbs.{nibble, is_hexadecimal, are_digits, is_plain, emitted, text_from, same_word, is_digit, is_count, is_integer, scalar_spelled, in_front, scalars_from, scalars_spelled}
 
 -- ---- texts in quotes
 

@@ -21,8 +21,7 @@ use Rattle.clap.proofs.FaultLemmas.{leaf_fault}
 use Rattle.clap.proofs.WalkLemmas.{raw_values-rows}
 use Rattle.tf_values.specs.Text.{is_text}
 use Rattle.tf_words.specs.Held.{held_by}
-use Rattle.tf_words.specs.Verbs.{Form, Piece, are_filled, is_filled, pieces, said_by, takes_value, values_in}
-use Rattle.tf_words.specs.Spelled.{same_word}
+use Rattle.tf_words.specs.Verbs.{Form, Piece, are_filled, is_filled, pieces, said_by, takes_value, values_in, same_word}
 use Rattle.tf_words.specs.Table.{table}
 use Rattle.tf_words.proofs.RuleLemmas.{built_table, rule_of_form, place_rule, rules_for, shape_for, simple_table}
 use Rattle.tf_words.proofs.WalkLemmas.{final, noted, told, unless}

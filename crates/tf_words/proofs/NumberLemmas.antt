@@ -6,8 +6,7 @@ use Rattle.std.specs.Str.Parse.{ParsesUnsigned, digits_value}
 use Rattle.std.proofs.lemmas.Str.{is_utf8-from_IsUtf8}
 use Rattle.std.proofs.lemmas.Str.Parse.{IsDigitsTest, IsNumeralModel, digits_value_short, numerals_by_value, parse_gives}
 use Rattle.tf_numbers.proofs.TruthLemmas.{and_true}
-use Rattle.tf_words.specs.Verbs.{is_filled}
-use Rattle.tf_words.specs.Spelled.{is_digit}
+use Rattle.tf_words.specs.Verbs.{is_filled, is_digit}
 
 abbrev AreDigits : List ℕ → Type 0
 AreDigits digits = list_all is_digit digits ≡ true

@@ -7,7 +7,7 @@ use Rattle.std.proofs.lemmas.Str.{IsUtf8-from_is_utf8, is_utf8-from_IsUtf8, IsUt
 use Rattle.tf_numbers.proofs.TruthLemmas.{and_first, and_second}
 use Rattle.tf_values.specs.Text.{is_text}
 use Rattle.tf_flow.specs.declared.atoms.Bind.{Bind}
-use Rattle.tf_words.specs.Spelled.{same_word, put, place_of}
+use Rattle.tf_words.specs.Verbs.{same_word, put, place_of}
 
 short_behind : (word : List ℕ) (i : ℕ) → nat_le (length word) 65536 ≡ true → nat_le (length (drop (i + 1) word)) 65536 ≡ true
 short_behind word i short = grind (arith, nat_tests, length-drop (i + 1) word)

@@ -10,13 +10,13 @@ use Rattle.clap.specs.Walk.{Held, Row, Rule, Waiting, arg_by_index, arg_by_long,
 use Rattle.clap.specs.Faults.{settle_fault, use_fault, walk_fault}
 use Rattle.std.specs.Option.{option_map_or}
 use Rattle.clap.specs.declared.error.kind.ErrorKind.TheVariants as kind
-use Rattle.tf_words.specs.Verbs.{Form, Piece, alone, in_front, option_met, pieces, sort_of, takes_value, value_met, word_met as piece_met, Sort, ending, long, plain, short}
+use Rattle.tf_words.specs.Verbs.{Form, Piece, alone, piece_before, option_met, pieces, sort_of, takes_value, value_met, word_met as piece_met, Sort, ending, long, plain, short}
 use Rattle.tf_words.proofs.RuleLemmas.{none_by_long, one_by_long, one_by_id, place_by_id}
 use Rattle.tf_words.proofs.SortLemmas.{HasLetter, SeenAs, Sees, seen_as}
 use Rattle.tf_words.proofs.WalkLemmas.{IsFree, Settles, attached_open, begun_open, final, final_next, here, long_stuck, long_turn, noted, place_open, place_turn, placed, raised_open, resting, resting_settles, rules, seen, seen_as_is, short_turn, then_on, told, unless, value_turn, waits_for}
 
 -- a piece in front of others is noted first
-told_front : (rows : List Row) (name value : List ℕ) (found : Option (List Piece)) → told (noted rows (record { name = name; value = value })) found ≡ told rows (in_front name value found)
+told_front : (rows : List Row) (name value : List ℕ) (found : Option (List Piece)) → told (noted rows (record { name = name; value = value })) found ≡ told rows (piece_before name value found)
 told_front rows name value None = refl
 told_front rows name value (Some others) = refl
 
@@ -99,7 +99,7 @@ module _ (forms : List Form) (named : takes_value forms [] ≡ None) where
   }
 
   rested : (name value : List ℕ) (rows : List Row) (words : List (List ℕ)) → Walks words
-      → final forms (here (resting (noted rows (record { name = name; value = value }))) idle false) words ≡ told rows (in_front name value (pieces forms None words))
+      → final forms (here (resting (noted rows (record { name = name; value = value }))) idle false) words ≡ told rows (piece_before name value (pieces forms None words))
   rested name value rows words rest =
       rest.open_walk (resting (noted rows (record { name = name; value = value }))) (noted rows (record { name = name; value = value })) idle (resting_settles forms (noted rows (record { name = name; value = value }))) tt
       ∙ told_front rows name value (pieces forms None words)

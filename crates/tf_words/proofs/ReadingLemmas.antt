@@ -8,7 +8,7 @@ use Rattle.tf_numbers.proofs.TruthLemmas.{and_first, and_second, or_either}
 use Rattle.tf_values.specs.Value.{hexadecimal, quoted_byte}
 use Rattle.tf_words.specs.declared.quotes.Inside.{Inside}
 use Rattle.tf_words.specs.declared.quotes.Inside.TheVariants as at
-use Rattle.tf_words.specs.Spelled.{nibble, is_hexadecimal, are_digits, is_plain, is_short, step, emitted, text_from}
+use Rattle.tf_words.specs.Verbs.{nibble, is_hexadecimal, are_digits, is_plain, is_short, step, emitted, text_from}
 use Rattle.tf_values.proofs.QuoteLemmas.{on_test}
 
 -- what of a byte's form stands before the reader

@@ -10,8 +10,7 @@ use Rattle.tf_numbers.proofs.TruthLemmas.{true_both}
 use Rattle.clap.specs.declared.builder.action.ArgAction.TheVariants.{Append}
 use Rattle.clap.specs.declared.builder.range.ValueRange.{ValueRange}
 use Rattle.clap.specs.declared.builder.value_parser.ValueParser.TheVariants as vp
-use Rattle.tf_words.specs.Verbs.{Form, takes_value}
-use Rattle.tf_words.specs.Spelled.{same_word}
+use Rattle.tf_words.specs.Verbs.{Form, takes_value, same_word}
 use Rattle.tf_words.specs.Table.{no_values, option_rule, positional_rule, table}
 
 -- one use takes one value

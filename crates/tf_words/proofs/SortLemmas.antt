@@ -7,8 +7,7 @@ use Rattle.std.proofs.Math.Utf8.{encodes}
 use Rattle.std.proofs.lemmas.Bool.Decides.{Decides-eqb}
 use Rattle.std.proofs.lemmas.Str.{IsUtf8-from_is_utf8, IsUtf8-drop, IsCharBoundary-after_ascii, encodes-chars}
 use Rattle.clap.specs.Lexer.{has_byte, long_of as library_long, name_and_value, short_of}
-use Rattle.tf_words.specs.Spelled.{Halves, halves_of, longer}
-use Rattle.tf_words.specs.Verbs.{Sort, ending, long, plain, short, sort_of, behind_hyphens, long_of}
+use Rattle.tf_words.specs.Verbs.{Halves, halves_of, longer, Sort, ending, long, plain, short, sort_of, behind_hyphens, long_of}
 
 -- the first letter of a bundle of flags
 abbrev pub HasLetter : List ℕ → Type 0

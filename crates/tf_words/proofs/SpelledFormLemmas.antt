@@ -22,7 +22,7 @@ use Rattle.tf_words.specs.declared.spelled.Mark.{Mark}
 use Rattle.tf_words.specs.declared.spelled.Mark.TheVariants as mark
 use Rattle.tf_words.specs.declared.spelled.Quoting.{Quoting}
 use Rattle.tf_words.specs.declared.spelled.Quoting.TheVariants as quoting
-use Rattle.tf_words.specs.Spelled.{text_from, text_in_quotes, same_word, is_digit, is_count, is_integer, scalar_spelled, mark_of, in_front, at_end, scalars_from, scalars_spelled, spelled, quoting_after, is_narrow, is_element, is_value, value_meant}
+use Rattle.tf_words.specs.Verbs.{text_from, text_in_quotes, same_word, is_digit, is_count, is_integer, scalar_spelled, mark_of, in_front, at_end, scalars_from, scalars_spelled, spelled, quoting_after, is_narrow, is_element, is_value, value_meant}
 use Rattle.tf_words.proofs.FormLemmas.{natural_value}
 use Rattle.tf_words.proofs.ValueFormLemmas.{value_fits, meant_by}
 use Rattle.tf_words.proofs.ReadingLemmas.{text_goes}

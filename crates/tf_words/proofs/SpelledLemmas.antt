@@ -8,7 +8,7 @@ use Rattle.tf_words.specs.declared.spelled.Mark.{Mark}
 use Rattle.tf_words.specs.declared.spelled.Mark.TheVariants as mark
 use Rattle.tf_words.specs.declared.spelled.Quoting.{Quoting}
 use Rattle.tf_words.specs.declared.spelled.Quoting.TheVariants as quoting
-use Rattle.tf_words.specs.Spelled.{scalar_spelled, quoting_after, mark_of, in_front, at_end, scalars_from, spelled}
+use Rattle.tf_words.specs.Verbs.{scalar_spelled, quoting_after, mark_of, in_front, at_end, scalars_from, spelled}
 
 pub is_some-map : {X Y : Type 0} (f : X → Y) (o : Option X) → is_some (option_map f o) ≡ is_some o
 is_some-map f None = refl

@@ -10,8 +10,7 @@ use Rattle.std.specs.Prelude.{IfSome, unwrap_or}
 use Rattle.tf_words.specs.Held.{texts_in}
 use Rattle.tf_numbers.proofs.TruthLemmas.{and_first, and_second, true_both}
 use Rattle.tf_values.specs.Text.{is_text}
-use Rattle.tf_words.specs.Spelled.{Halves, halves_of, longer, same_word}
-use Rattle.tf_words.specs.Verbs.{Form, Piece, Sort, said_by, alone, are_filled, behind_hyphens, ending, in_front, is_filled, long, long_of, option_met, pieces, plain, short, sort_of, takes_value, value_met, values_in, word_met}
+use Rattle.tf_words.specs.Verbs.{Halves, halves_of, longer, same_word, Form, Piece, Sort, said_by, alone, are_filled, behind_hyphens, ending, piece_before, is_filled, long, long_of, option_met, pieces, plain, short, sort_of, takes_value, value_met, values_in, word_met}
 use Rattle.tf_words.proofs.PairLemmas.{text_behind}
 
 abbrev has_text : Piece → Bool
@@ -25,7 +24,7 @@ AreTexts (Some found) = list_all has_text found ≡ true
 no_text : is_text [] ≡ true
 no_text = is_utf8-from_IsUtf8 [] IsUtf8-nil
 
-front_texts : (name value : List ℕ) (found : Option (List Piece)) → is_text value ≡ true → AreTexts found → AreTexts (in_front name value found)
+front_texts : (name value : List ℕ) (found : Option (List Piece)) → is_text value ≡ true → AreTexts found → AreTexts (piece_before name value found)
 front_texts name value None text texts = tt
 front_texts name value (Some others) text texts = true_both (is_text value) (list_all has_text others) text texts
 

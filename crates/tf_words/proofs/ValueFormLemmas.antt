@@ -13,7 +13,7 @@ use Rattle.tf_values.specs.declared.value.Val.TheVariants as value
 use Rattle.tf_values.specs.Scalars.{IsElement, are_scalars}
 use Rattle.tf_values.specs.Value.{text_form, IsValue, IsTextOf, value_of}
 use Rattle.tf_values.proofs.WordLemmas.{number_begins}
-use Rattle.tf_words.specs.Spelled.{spelled, is_narrow, is_element, is_value, value_within, value_meant}
+use Rattle.tf_words.specs.Verbs.{spelled, is_narrow, is_element, is_value, value_within, value_meant}
 use Rattle.tf_words.proofs.SpelledLemmas.{spelled_bare}
 use Rattle.tf_words.proofs.FormLemmas.{scalar_read, scalars_read}
 

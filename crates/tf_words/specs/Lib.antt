@@ -1,4 +1,3 @@
-pub mod Spelled
 pub mod Verbs
 pub mod Held
 pub mod Table

@@ -4,8 +4,7 @@ use Rattle.std.specs.List.{list_any}
 use Rattle.tf_ports.specs.declared.crews.Address.{Address}
 use Rattle.tf_ports.specs.declared.crews.Address.TheVariants as address
 use Rattle.tf_values.specs.Text.{is_text, is_name}
-use Rattle.tf_words.specs.Spelled.{number_between, same_word, is_count, value_meant, sets_behind}
-use Rattle.tf_words.specs.Verbs.{Said, once, are_filled, said_by, Choice, choice_of, forms_of}
+use Rattle.tf_words.specs.Verbs.{number_between, same_word, is_count, value_meant, sets_behind, Said, once, are_filled, said_by, Choice, choice_of, forms_of}
 use Rattle.tf_words.specs.declared.asked.Asked.{Asked}
 use Rattle.tf_words.specs.declared.asked.Asked.TheVariants as asked
 use Rattle.uuid.specs.Text.{parsed}

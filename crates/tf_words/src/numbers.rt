@@ -1,5 +1,5 @@
 ghost use Rattle.std.specs.Prelude.{◌≡◌, ◌≤◌, IfSome};
-ghost use Rattle.tf_words.specs.Spelled.{number_between as number_in};
+ghost use Rattle.tf_words.specs.Verbs.{number_between as number_in};
 
 use crate::spelled::are_digits;
 

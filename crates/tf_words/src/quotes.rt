@@ -1,5 +1,5 @@
 ghost use Rattle.std.specs.Prelude.{◌≡◌, is_some};
-ghost use Rattle.tf_words.specs.Spelled.{is_hexadecimal as hexadecimal, are_digits as digits, is_plain as plain, is_short as short, step as step_behind, text_from, text_in_quotes};
+ghost use Rattle.tf_words.specs.Verbs.{is_hexadecimal as hexadecimal, are_digits as digits, is_plain as plain, is_short as short, step as step_behind, text_from, text_in_quotes};
 
 /// Where a reader of a text in quotes stands, behind the opening one.
 #[derive(Clone, Copy, Debug)]

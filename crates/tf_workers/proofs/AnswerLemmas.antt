@@ -1,13 +1,12 @@
 -- How far the answer to a frame came.
-use Rattle.std.proofs.Common.{◌≡◌, ◌≢◌, ℕ, List, [], ◌∷◌, Option, refl, ap, ◌∙◌, subst, arith}
-use Rattle.tf_desk.specs.Crash.{Rises}
-use Rattle.tf_ports.specs.Links.{sent_with, SendsPrefix}
+use Rattle.std.proofs.Common.{◌≡◌, ◌≢◌, ℕ, ◌+◌, ◌≤◌, List, [], ◌∷◌, length, Option, refl, ap, ◌∙◌, subst, arith}
+use Rattle.tf_numbers.specs.Numbers.{Rises}
+use Rattle.tf_ports.specs.Ports.{sent_with, SendsPrefix}
 use Rattle.tf_actions.specs.Gives.{told_with}
 use Rattle.tf_actions.specs.declared.orders.Order.{Order}
 use Rattle.tf_actions.specs.declared.outcomes.Outcome.{Outcome}
-use Rattle.tf_wire.specs.Reading.{AreRequest}
-use Rattle.tf_workers.specs.Dialogue.{Exchange, order_asked, spoken, told, running}
-use Rattle.tf_workers.specs.Session.{Seen, did_with, MayBeGiven}
+use Rattle.tf_wire.specs.Grammar.{AreRequest}
+use Rattle.tf_workers.specs.Session.{Exchange, order_asked, spoken, told, running, Seen, did_with, MayBeGiven}
 use Rattle.tf_workers.specs.Progress.{TakesNothing, HasComeTo, StopsFor}
 use Rattle.tf_workers.specs.Progress.HasComeTo.{performed}
 use Rattle.tf_workers.specs.declared.answering.Stop.{Stop}
@@ -35,4 +34,4 @@ done_for before now order exchange is done = done ∙ ap (λ (asked : Order). di
 pub said_prefix : (gives : Order → Outcome → Type 0) (frame : List ℕ) (before now : Seen) (exchange : Exchange) (between : Option (List ℕ)) → AreRequest frame exchange.request → MayBeGiven gives exchange
     → now.did ≡ did_with before.did (order_asked exchange ∷ []) → between ≡ sent_with before.sent (running exchange.request) → SendsPrefix between (spoken (told exchange.request.id exchange.outcome)) now.sent → HasComeTo gives frame before now
 said_prefix gives frame before now exchange between read gave did first second =
-    performed exchange read gave did (prefix_more_sent before.sent between now.sent (running exchange.request) (spoken (told exchange.request.id exchange.outcome)) first second)
+    performed exchange read gave did (prefix_more_sent before.sent between now.sent (running exchange.request) (spoken (told exchange.request.id exchange.outcome)) first second) (let whole : length (running exchange.request) ≤ length (running exchange.request) + second.count = omega arith in whole)

@@ -1,17 +1,15 @@
 -- One more at the end: of frames, exchanges, orders and bytes.
-use Rattle.std.proofs.Common.{◌≡◌, ℕ, ◌+◌, List, [], ◌∷◌, ◌++◌, length, take, map, Option, Some, None, refl, sym, ap, ◌∙◌, arith, append_assoc, append-nil}
+use Rattle.std.proofs.Common.{◌≡◌, ℕ, ◌+◌, ◌≤◌, List, [], ◌∷◌, ◌++◌, length, take, map, Option, Some, None, refl, sym, ap, ◌∙◌, arith, append_assoc, append-nil, length-append}
 use Rattle.std.specs.List.{AllByRecursion}
 use Rattle.std.proofs.lemmas.Grind.{flat_map-append}
 use Rattle.std.proofs.lemmas.List.{take_all}
 use Rattle.std.proofs.Math.Seq.{take-append-add}
-use Rattle.tf_ports.specs.Links.{sent_with, left_before, SendsPrefix}
+use Rattle.tf_ports.specs.Ports.{sent_with, left_before, SendsPrefix}
 use Rattle.tf_actions.specs.declared.orders.Order.{Order}
-use Rattle.tf_wire.specs.Messages.{response_data, frame_of}
-use Rattle.tf_wire.specs.Reading.{AreRequest}
+use Rattle.tf_wire.specs.Grammar.{response_data, frame_of, AreRequest}
 use Rattle.tf_wire.specs.Stream.{framed, joined}
 use Rattle.tf_wire.specs.declared.messages.Response.{Response}
-use Rattle.tf_workers.specs.Dialogue.{Exchange, order_asked, spoken, reply, dialogue}
-use Rattle.tf_workers.specs.Session.{did_with, AreRead}
+use Rattle.tf_workers.specs.Session.{Exchange, order_asked, spoken, told, running, reply, dialogue, up_to_running, did_with, AreRead}
 
 pub all_prefix : {A : Type 0} (P : A → Type 0) (xs ys : List A) → AllByRecursion P (xs ++ ys) → AllByRecursion P xs
 all_prefix P [] ys all = tt
@@ -60,14 +58,31 @@ pub sent_more : (before now after : Option (List ℕ)) (first second : List ℕ)
 sent_more before now after first second is more = more ∙ ap (λ (sent : Option (List ℕ)). sent_with sent second) is ∙ sent_on before first second
 
 -- some bytes, and then a prefix of others
-pub prefix_more_sent : (before now after : Option (List ℕ)) (first second : List ℕ) → now ≡ sent_with before first → SendsPrefix now second after → SendsPrefix before (first ++ second) after
+abbrev pub prefix_more_sent : (before now after : Option (List ℕ)) (first second : List ℕ) → now ≡ sent_with before first → SendsPrefix now second after → SendsPrefix before (first ++ second) after
 prefix_more_sent before now after first second is more = record {
   count = length first + more.count;
   prefix = sent_more before now after first (take more.count second) is more.prefix ∙ ap (sent_with before) (sym (take-append-add first second more.count));
 }
 
+-- a prefix of the same bytes, written otherwise
+abbrev pub prefix_of : (before after : Option (List ℕ)) (bytes more : List ℕ) → bytes ≡ more → SendsPrefix before bytes after → SendsPrefix before more after
+prefix_of before after bytes more same sent = record { count = sent.count; prefix = sent.prefix ∙ ap (λ (all : List ℕ). sent_with before (take sent.count all)) same }
+
+-- what is sent before the last outcome is a part of the whole dialogue
+pub running_short : (exchanges : List Exchange) → length (up_to_running exchanges) ≤ length (dialogue exchanges)
+running_short [] = omega arith
+running_short (last ∷ []) = omega (arith, length-append (reply last) [], length-append (running last.request) (spoken (told last.request.id last.outcome)))
+running_short (first ∷ (next ∷ others)) = omega (arith, running_short (next ∷ others), length-append (reply first) (up_to_running (next ∷ others)), length-append (reply first) (dialogue (next ∷ others)))
+
+-- and is the dialogue before the last exchange, and that its order runs
+pub running_more : (exchanges : List Exchange) (exchange : Exchange) → length (up_to_running (exchanges ++ exchange ∷ [])) ≡ length (dialogue exchanges) + length (running exchange.request)
+running_more [] exchange = omega arith
+running_more (last ∷ []) exchange = omega (arith, length-append (reply last) (running exchange.request), length-append (reply last) [])
+running_more (first ∷ (next ∷ others)) exchange =
+    omega (arith, running_more (next ∷ others) exchange, length-append (reply first) (up_to_running ((next ∷ others) ++ exchange ∷ [])), length-append (reply first) (dialogue (next ∷ others)))
+
 -- all of the bytes are a prefix of them
-pub whole_prefix : (before after : Option (List ℕ)) (bytes : List ℕ) → after ≡ sent_with before bytes → SendsPrefix before bytes after
+abbrev pub whole_prefix : (before after : Option (List ℕ)) (bytes : List ℕ) → after ≡ sent_with before bytes → SendsPrefix before bytes after
 whole_prefix before after bytes is = record {
   count = length bytes;
   prefix = is ∙ ap (sent_with before) (sym (take_all (length bytes) bytes (omega arith)));

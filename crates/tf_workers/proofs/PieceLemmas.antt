@@ -4,16 +4,14 @@ use Rattle.std.specs.List.{AllByRecursion}
 use Rattle.std.specs.Prelude.{MatchResult}
 use Rattle.std.proofs.lemmas.Grind.{flat_map-append}
 use Rattle.std.proofs.lemmas.List.{append_cancel_left}
-use Rattle.tf_desk.specs.Crash.{Rises}
-use Rattle.tf_ports.specs.Links.{sent_with, left_before, SendsPrefix}
+use Rattle.tf_numbers.specs.Numbers.{Rises}
+use Rattle.tf_ports.specs.Ports.{sent_with, left_before, SendsPrefix}
 use Rattle.tf_actions.specs.declared.orders.Order.{Order}
 use Rattle.tf_actions.specs.declared.outcomes.Outcome.{Outcome}
-use Rattle.tf_wire.specs.Keeping.{KeptFrames, counted, KeepsStream, IsHere, IsPieceAnswer, IsUnrefused as FeedsOn}
+use Rattle.tf_wire.specs.Stream.{KeptFrames, counted, KeepsStream, IsHere, IsPieceAnswer, IsUnrefused as FeedsOn, IsFrame, framed, joined, SplitsInto, BeginsWithFrame, BeginsWithBadLength}
 use Rattle.tf_wire.specs.declared.faults.WireFault.TheVariants as fault
-use Rattle.tf_wire.specs.Stream.{IsFrame, framed, joined, SplitsInto, BeginsWithFrame, BeginsWithBadLength}
 use Rattle.tf_wire.proofs.StreamLemmas.{bad_stays, cut_on, short_is_no_frame, short_is_no_bad_length}
-use Rattle.tf_workers.specs.Dialogue.{Exchange, running, reply, dialogue}
-use Rattle.tf_workers.specs.Session.{Seen, MayBeGiven, WorkerSession, Serves}
+use Rattle.tf_workers.specs.Session.{Exchange, running, reply, dialogue, Seen, MayBeGiven, WorkerSession, Serves}
 use Rattle.tf_workers.specs.Progress.{IsKnown, Feeds, TakesIn, IsAtEnd, RunsOut, HasNothingMore, SoFar, HasAnsweredAll, TakesNothing, Answers, HasComeTo, StopsFor}
 use Rattle.tf_workers.specs.Progress.HasComeTo.{nothing, begun, performed}
 use Rattle.tf_workers.specs.declared.answering.Stop.TheVariants as stop

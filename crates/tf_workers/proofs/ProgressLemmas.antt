@@ -4,23 +4,21 @@ use Rattle.std.specs.List.{AllByRecursion}
 use Rattle.std.specs.Prelude.{MatchResult}
 use Rattle.std.proofs.lemmas.Grind.{flat_map-append}
 use Rattle.std.proofs.lemmas.List.{append_cancel_left}
-use Rattle.tf_desk.specs.Crash.{Rises}
-use Rattle.tf_ports.specs.Links.{sent_with, left_before, SendsPrefix}
+use Rattle.tf_numbers.specs.Numbers.{Rises}
+use Rattle.tf_ports.specs.Ports.{sent_with, left_before, SendsPrefix}
 use Rattle.tf_actions.specs.declared.orders.Order.{Order}
 use Rattle.tf_actions.specs.declared.outcomes.Outcome.{Outcome}
-use Rattle.tf_wire.specs.Keeping.{KeptFrames, counted, KeepsStream, IsHere, IsPieceAnswer, IsUnrefused as FeedsOn}
+use Rattle.tf_wire.specs.Stream.{KeptFrames, counted, KeepsStream, IsHere, IsPieceAnswer, IsUnrefused as FeedsOn, IsFrame, framed, joined, SplitsInto, BeginsWithFrame, BeginsWithBadLength}
 use Rattle.tf_wire.specs.declared.faults.WireFault.TheVariants as fault
-use Rattle.tf_wire.specs.Stream.{IsFrame, framed, joined, SplitsInto, BeginsWithFrame, BeginsWithBadLength}
 use Rattle.tf_wire.proofs.StreamLemmas.{bad_stays, cut_on, short_is_no_frame, short_is_no_bad_length}
-use Rattle.tf_workers.specs.Dialogue.{Exchange, running, reply, dialogue}
-use Rattle.tf_workers.specs.Session.{Seen, MayBeGiven, WorkerSession, Serves}
+use Rattle.tf_workers.specs.Session.{Exchange, running, reply, dialogue, Seen, MayBeGiven, WorkerSession, Serves, up_to_running}
 use Rattle.tf_workers.specs.Progress.{IsKnown, Feeds, TakesIn, IsAtEnd, RunsOut, HasNothingMore, SoFar, HasAnsweredAll, TakesNothing, Answers, HasComeTo, StopsFor}
 use Rattle.tf_workers.specs.Progress.HasComeTo.{nothing, begun, performed}
 use Rattle.tf_workers.specs.declared.answering.Stop.TheVariants as stop
 use Rattle.tf_workers.specs.declared.incoming.Incoming.{Incoming}
 use Rattle.tf_workers.specs.declared.serving.ServeEnd.{ServeEnd}
 use Rattle.tf_workers.specs.declared.serving.ServeEnd.TheVariants as end
-use Rattle.tf_workers.proofs.ListLemmas.{all_prefix, all_behind, all_more, joined_more, dialogue_more, read_more, did_more, sent_more, prefix_more_sent, whole_prefix, came_more, came_none, did_none, sent_none}
+use Rattle.tf_workers.proofs.ListLemmas.{running_short, running_more, prefix_of, all_prefix, all_behind, all_more, joined_more, dialogue_more, read_more, did_more, sent_more, prefix_more_sent, whole_prefix, came_more, came_none, did_none, sent_none}
 use Rattle.tf_wire.proofs.KeepingLemmas.{framed_length}
 
 -- ---- counts
@@ -84,6 +82,7 @@ session_of gives before now given frames exchanges behind far cut = record {
   begun = None;
   is_begun = tt;
   sent = whole_prefix before.sent now.sent (dialogue exchanges ++ []) (far.sent ∙ ap (sent_with before.sent) (sym (append-nil (dialogue exchanges))));
+  said_running = let whole : length (up_to_running exchanges) ≤ length (dialogue exchanges ++ []) = omega (arith, running_short exchanges, length-append (dialogue exchanges) []) in whole;
 }
 
 -- ---- a frame is taken
@@ -167,8 +166,9 @@ reached gives before now after new frame given taken exchanges far next keeps no
   begun = Some request;
   is_begun = record { frame = frame; behind = next.behind; is_frame = next.is_frame; prefix = refl; spells = spells };
   sent = prefix_more_sent before.sent now.sent after.sent (dialogue exchanges) (running request) far.sent sent;
+  said_running = let whole : length (up_to_running exchanges) ≤ length (dialogue exchanges) + sent.count = omega (arith, running_short exchanges) in whole;
 }
-reached gives before now after new frame given taken exchanges far next keeps none (performed exchange spells gave did sent) = record {
+reached gives before now after new frame given taken exchanges far next keeps none (performed exchange spells gave did sent whole) = record {
   given = given;
   came = far.came ∙ ap (left_before given) (sym none.left);
   frames = taken ++ frame ∷ [];
@@ -180,8 +180,9 @@ reached gives before now after new frame given taken exchanges far next keeps no
   did = did_more before.did now.did after.did exchanges exchange far.did did;
   begun = None;
   is_begun = tt;
-  sent = subst (λ (bytes : List ℕ). SendsPrefix before.sent bytes after.sent) (sym (append-nil (dialogue (exchanges ++ exchange ∷ [])) ∙ dialogue_more exchanges exchange))
+  sent = prefix_of before.sent after.sent (dialogue exchanges ++ reply exchange) (dialogue (exchanges ++ exchange ∷ []) ++ []) (sym (append-nil (dialogue (exchanges ++ exchange ∷ [])) ∙ dialogue_more exchanges exchange))
       (prefix_more_sent before.sent now.sent after.sent (dialogue exchanges) (reply exchange) far.sent sent);
+  said_running = let all : length (up_to_running (exchanges ++ exchange ∷ [])) ≤ length (dialogue exchanges) + sent.count = omega (arith, whole, running_more exchanges exchange) in all;
 }
 
 session_at : (gives : Order → Outcome → Type 0) (before now after : Seen) (old new : KeptFrames) (place : ℕ) (refused : Option ℕ) (frame : List ℕ)

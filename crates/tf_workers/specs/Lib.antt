@@ -1,3 +1,2 @@
-pub mod Dialogue
 pub mod Session
 pub mod Progress

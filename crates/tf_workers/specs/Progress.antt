@@ -1,16 +1,14 @@
 -- A session while it goes on.
 use Rattle.std.specs.Prelude.{◌≡◌, ◌≢◌, ◌⊎◌, ℕ, ◌≤◌, List, [], ◌∷◌, ◌++◌, map, length, Option, Some, None}
 use Rattle.std.specs.List.{AllByRecursion}
-use Rattle.tf_desk.specs.Crash.{Rises}
-use Rattle.tf_ports.specs.Links.{sent_with, left_before, SendsPrefix, IsNothingLeft}
+use Rattle.tf_numbers.specs.Numbers.{Rises}
+use Rattle.tf_ports.specs.Ports.{sent_with, left_before, SendsPrefix, IsNothingLeft}
 use Rattle.tf_actions.specs.declared.orders.Order.{Order}
 use Rattle.tf_actions.specs.declared.outcomes.Outcome.{Outcome}
-use Rattle.tf_wire.specs.Keeping.{KeptFrames, counted, KeepsStream}
-use Rattle.tf_wire.specs.Reading.{AreRequest}
-use Rattle.tf_wire.specs.Stream.{joined, BeginsWithFrame, BeginsWithBadLength}
+use Rattle.tf_wire.specs.Stream.{KeptFrames, counted, KeepsStream, joined, BeginsWithFrame, BeginsWithBadLength}
+use Rattle.tf_wire.specs.Grammar.{AreRequest}
 use Rattle.tf_wire.specs.declared.messages.Request.{Request}
-use Rattle.tf_workers.specs.Dialogue.{Exchange, order_asked, running, reply, dialogue}
-use Rattle.tf_workers.specs.Session.{Seen, did_with, AreRead, MayBeGiven}
+use Rattle.tf_workers.specs.Session.{Exchange, order_asked, running, reply, dialogue, Seen, did_with, AreRead, MayBeGiven}
 use Rattle.tf_workers.specs.declared.answering.Stop.{Stop}
 use Rattle.tf_workers.specs.declared.answering.Stop.TheVariants as stop
 use Rattle.tf_workers.specs.declared.incoming.Incoming.{Incoming}
@@ -90,7 +88,7 @@ pub record Answers (gives : Order → Outcome → Type 0) (frame : List ℕ) (be
 pub data HasComeTo (gives : Order → Outcome → Type 0) (frame : List ℕ) (before now : Seen) : Type 0 where
   nothing : now.did ≡ before.did → now.sent ≡ before.sent → HasComeTo gives frame before now
   begun : (request : Request) → AreRequest frame request → now.did ≡ before.did → SendsPrefix before.sent (running request) now.sent → HasComeTo gives frame before now
-  performed : (exchange : Exchange) → AreRequest frame exchange.request → MayBeGiven gives exchange → now.did ≡ did_with before.did (order_asked exchange ∷ []) → SendsPrefix before.sent (reply exchange) now.sent → HasComeTo gives frame before now
+  performed : (exchange : Exchange) → AreRequest frame exchange.request → MayBeGiven gives exchange → now.did ≡ did_with before.did (order_asked exchange ∷ []) → (sent : SendsPrefix before.sent (reply exchange) now.sent) → length (running exchange.request) ≤ sent.count → HasComeTo gives frame before now
 
 -- a frame that spells no request
 pub record IsNoRequest (frame : List ℕ) (before now : Seen) : Type 0 where

@@ -1,17 +1,54 @@
--- A session: what a link gave, what was read and answered of it, and how it ended.
-use Rattle.std.specs.Prelude.{◌≡◌, ◌≢◌, ℕ, ◌≤◌, List, [], ◌∷◌, ◌++◌, map, length, Option, Some, None, option_map, ◌⊎◌}
-use Rattle.std.specs.List.{AllByRecursion}
-use Rattle.tf_desk.specs.Crash.{Rises}
-use Rattle.tf_ports.specs.Links.{sent_with, left_before, SendsPrefix, IsNothingLeft}
+-- What a worker answers: one exchange for each request. A session: what a link gave, what was read and answered of it, and how it ended.
+use Rattle.std.specs.Prelude.{ℕ, List, [], ◌∷◌, ◌++◌, ◌≡◌, ◌≢◌, ◌≤◌, map, length, Option, Some, None, option_map, ◌⊎◌}
+use Rattle.std.specs.List.{flat_map, AllByRecursion}
 use Rattle.tf_actions.specs.declared.orders.Order.{Order}
 use Rattle.tf_actions.specs.declared.outcomes.Outcome.{Outcome}
-use Rattle.tf_wire.specs.Keeping.{counted}
-use Rattle.tf_wire.specs.Reading.{AreRequest}
-use Rattle.tf_wire.specs.Stream.{IsFrame, framed, joined, SplitsInto, BeginsWithFrame, BeginsWithBadLength}
+use Rattle.tf_wire.specs.Grammar.{response_data, frame_of, order_of, AreRequest}
 use Rattle.tf_wire.specs.declared.messages.Request.{Request}
-use Rattle.tf_workers.specs.Dialogue.{Exchange, order_asked, running, dialogue}
+use Rattle.tf_wire.specs.declared.messages.Response.{Response}
+use Rattle.tf_numbers.specs.Numbers.{Rises}
+use Rattle.tf_ports.specs.Ports.{sent_with, left_before, SendsPrefix, IsNothingLeft}
+use Rattle.tf_wire.specs.Stream.{counted, IsFrame, framed, joined, SplitsInto, BeginsWithFrame, BeginsWithBadLength}
 use Rattle.tf_workers.specs.declared.serving.ServeEnd.{ServeEnd}
+use Rattle.tf_actions.specs.declared.outcomes.Outcome.TheVariants as outcome
+use Rattle.tf_wire.specs.declared.messages.Response.TheVariants as response
 use Rattle.tf_workers.specs.declared.serving.ServeEnd.TheVariants as end
+
+-- a request, and the outcome of the order that it names
+pub record Exchange : Type 0 where
+  pub request : Request
+  pub outcome : Outcome
+
+-- the order that the request of an exchange names
+abbrev pub order_asked : Exchange → Order
+order_asked exchange = order_of exchange.request
+
+-- a response as its frame
+unfoldable pub spoken : Response → List ℕ
+spoken answer = frame_of (response_data answer)
+
+-- the response that tells an outcome
+abbrev pub told : ℕ → Outcome → Response
+told id (outcome.Gave result) = response.Success id result
+told id (outcome.Failed fault) = response.Failure id fault
+
+-- the frame that says that the order of a request runs
+abbrev pub running : Request → List ℕ
+running request = spoken (response.Running request.id)
+
+-- the whole reply: that the order runs, and then its outcome
+abbrev pub reply : Exchange → List ℕ
+reply exchange = running exchange.request ++ spoken (told exchange.request.id exchange.outcome)
+
+-- the replies in order
+abbrev pub dialogue : List Exchange → List ℕ
+dialogue exchanges = flat_map reply exchanges
+
+-- the replies in order, the last one without its outcome: what is sent before the hand is asked for the last order
+abbrev pub up_to_running : List Exchange → List ℕ
+up_to_running [] = []
+up_to_running (last ∷ []) = running last.request
+up_to_running (first ∷ (next ∷ others)) = reply first ++ up_to_running (next ∷ others)
 
 -- what is seen of a link and a hand: the bytes that the link has left and those that it was sent, its counts of
 -- faults and ends, and the hand's orders; None where one isn't told
@@ -68,7 +105,7 @@ begun_reply (Some request) = running request
 
 -- The link gave some bytes. Of the frames at their front some were read as requests, and the hand was asked for
 -- the orders that these name, each once and in order. At most one request behind them was read besides, to
--- which no outcome came. The link was sent a prefix of the dialogue.
+-- which no outcome came. The link was sent a prefix of the dialogue: whole up to where it says that the last order of which the hand was asked runs.
 pub record WorkerSession (gives : Order → Outcome → Type 0) (before now : Seen) : Type 0 where
   pub given : List ℕ
   pub came : before.left ≡ left_before given now.left
@@ -82,6 +119,7 @@ pub record WorkerSession (gives : Order → Outcome → Type 0) (before now : Se
   pub begun : Option Request
   pub is_begun : IsBegun behind begun
   pub sent : SendsPrefix before.sent (dialogue exchanges ++ begun_reply begun) now.sent
+  pub said_running : length (up_to_running exchanges) ≤ sent.count
 
 -- no request was begun without an outcome, and the whole dialogue was sent
 pub record IsFullyAnswered {gives : Order → Outcome → Type 0} {before now : Seen} (session : WorkerSession gives before now) : Type 0 where

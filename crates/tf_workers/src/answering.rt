@@ -1,9 +1,8 @@
 ghost use Rattle.std.specs.Prelude.{◌≡◌, ◌≢◌, ◌≤◌, Err, OnOk, OnErr, IfErr, IsErrOf};
-ghost use Rattle.tf_desk.specs.Crash.{Rises};
-ghost use Rattle.tf_ports.specs.Links.{sent_with, SendsPrefix};
-ghost use Rattle.tf_workers.specs.Dialogue.{spoken, told as told_by};
+ghost use Rattle.tf_numbers.specs.Numbers.{Rises};
+ghost use Rattle.tf_ports.specs.Ports.{sent_with, SendsPrefix};
+ghost use Rattle.tf_workers.specs.Session.{spoken, told as told_by, seen};
 ghost use Rattle.tf_workers.specs.Progress.{Answers, StopsFor};
-ghost use Rattle.tf_workers.specs.Session.{seen};
 
 use std::alloc::Global;
 use tf_actions::{Outcome, Performer};

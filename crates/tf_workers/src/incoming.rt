@@ -1,5 +1,5 @@
 ghost use Rattle.std.specs.Prelude.{◌≡◌, ◌≤◌, [], None, OnOk, OnErr, IsErrOf, MatchResult};
-ghost use Rattle.tf_wire.specs.Keeping.{KeepsStream};
+ghost use Rattle.tf_wire.specs.Stream.{KeepsStream};
 ghost use Rattle.tf_workers.specs.Progress.{TakesIn, HasNothingMore, Feeds};
 
 use crate::serving::ServeEnd;

@@ -1,6 +1,6 @@
 ghost use Rattle.std.specs.Prelude.{◌≡◌, ◌⊎◌, ◌+◌, IfOk};
-ghost use Rattle.tf_board.specs.Jobs.{posted as count_of, refuses_id, LegalJobs, owner_of};
-ghost use Rattle.tf_board.specs.Answers.{fault_of as named_fault, Records, Acts};
+ghost use Rattle.tf_board.specs.Board.{posted as count_of, refuses_id, LegalJobs, owner_of};
+ghost use Rattle.tf_board.specs.Does.{fault_of as named_fault, Records, Acts};
 ghost use Rattle.tf_board.specs.declared.commands.Command.TheVariants as command;
 
 use super::{Board, Owner};

@@ -1,6 +1,6 @@
 ghost use Rattle.std.specs.Prelude.{◌≡◌, ◌++◌, List, OnOk, IfOk};
 ghost use Rattle.std.specs.List.{flat_map};
-ghost use Rattle.tf_board.specs.Jobs.{listed, listed_at, priorities};
+ghost use Rattle.tf_board.specs.Board.{listed, listed_at, priorities};
 
 use super::Board;
 use crate::jobs::{Job, is_listed, line_of};

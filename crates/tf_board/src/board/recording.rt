@@ -1,7 +1,6 @@
 ghost use Rattle.std.specs.Prelude.{◌≡◌, None};
-ghost use Rattle.tf_board.specs.Jobs.{IsCommand, refuses};
-ghost use Rattle.tf_board.specs.Board.{IsChange};
-ghost use Rattle.tf_board.specs.Answers.{Records};
+ghost use Rattle.tf_board.specs.Board.{IsCommand, refuses, IsChange};
+ghost use Rattle.tf_board.specs.Does.{Records};
 
 use super::Board;
 use crate::commands::{Command, append_command};

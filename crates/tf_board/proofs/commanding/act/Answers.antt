@@ -1,6 +1,6 @@
 use Rattle.std.proofs.Common.{ap, Ok, Err}
-use Rattle.tf_board.specs.Answers.{applied_text}
-use Rattle.tf_board.specs.Jobs.{refuses_id}
+use Rattle.tf_board.specs.Does.{applied_text}
+use Rattle.tf_board.specs.Board.{refuses_id}
 use Rattle.tf_board.proofs.ActLemmas.{reached_back, acted_does, act_failed, act_causes}
 use Rattle.tf_board.proofs.DeskLaws.{KeepsLaws}
 use Rattle.tf_board.proofs.EndLemmas.{unopened_causes, never_failed}

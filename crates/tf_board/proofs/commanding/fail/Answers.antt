@@ -1,6 +1,5 @@
 use Rattle.std.proofs.Common.{subst, ℕ}
-use Rattle.tf_board.specs.Answers.{fault_text}
-use Rattle.tf_board.specs.Does.{Ends}
+use Rattle.tf_board.specs.Does.{fault_text, Ends}
 use Rattle.tf_board.proofs.commanding.fail.Goals as goal
 
 pub returns-clause-ends : goal.returns-clause-ends

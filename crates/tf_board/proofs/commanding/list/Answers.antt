@@ -1,7 +1,7 @@
 use Rattle.std.proofs.Common.{refl}
 use Rattle.std.specs.List.{flat_map}
 use Rattle.tf_report.specs.Lines.{job_line}
-use Rattle.tf_board.specs.Jobs.{listed}
+use Rattle.tf_board.specs.Board.{listed}
 use Rattle.tf_words.specs.declared.asked.Asked.TheVariants as asked
 use Rattle.tf_board.proofs.ActLemmas.{said_does, said_causes}
 use Rattle.tf_board.proofs.EndLemmas.{unopened_causes, never_failed}

@@ -1,5 +1,5 @@
 use Rattle.std.proofs.Common.{refl, sym, ap, ◌∙◌, None, Some}
-use Rattle.tf_board.specs.Answers.{tells_owner, kept_text}
+use Rattle.tf_board.specs.Does.{tells_owner, kept_text}
 use Rattle.tf_board.specs.declared.board.Owner.{Owner}
 use Rattle.tf_board.specs.declared.rules.Refusal.TheVariants as refusal
 use Rattle.tf_words.specs.declared.asked.Asked.TheVariants as asked

@@ -1,8 +1,7 @@
 use Rattle.std.proofs.Common.{◌≡◌, ℕ, ◌+◌, ◌∷◌, [], Ok, Err, refl, ap, subst}
 use Rattle.std.specs.Prelude.{IfOk}
-use Rattle.tf_board.specs.Answers.{posted_text}
-use Rattle.tf_board.specs.Does.{answered}
-use Rattle.tf_board.specs.Jobs.{id_of, posted}
+use Rattle.tf_board.specs.Does.{posted_text, answered}
+use Rattle.tf_board.specs.Board.{id_of, posted}
 use Rattle.tf_board.specs.declared.commands.Command.TheVariants as command
 use Rattle.tf_words.specs.declared.asked.Asked.TheVariants as asked
 use Rattle.tf_board.proofs.ActLemmas.{reached_back, recorded_reached, recording_failed, recorded_causes}

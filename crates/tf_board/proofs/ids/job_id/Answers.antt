@@ -5,7 +5,7 @@ use Rattle.uuid.specs.Parts.{with_version, with_variant}
 use Rattle.uuid.specs.Uuid.{namespace_dns}
 use Rattle.uuid.specs.declared.Variant.TheVariants.{RFC4122}
 use Rattle.uuid.specs.declared.Version.TheVariants.{Sha1}
-use Rattle.tf_board.specs.Jobs.{id_of}
+use Rattle.tf_board.specs.Board.{id_of}
 use Rattle.tf_board.proofs.ids.job_id.Goals as goal
 
 pub returns : goal.returns

@@ -1,4 +1,4 @@
-use Rattle.tf_board.specs.Answers.{board_of}
+use Rattle.tf_board.specs.Does.{board_of}
 use Rattle.tf_board.proofs.DoesLemmas.{does_status}
 use Rattle.tf_commands.proofs.BoardLemmas.{board_causes, board_named}
 use Rattle.tf_commands.proofs.boards.on_board.Goals as goal

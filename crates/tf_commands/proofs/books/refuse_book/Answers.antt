@@ -1,8 +1,7 @@
 use Rattle.std.proofs.Common.{refl, subst, ⊎_elim}
 use Rattle.tf_journal.specs.declared.faults.LoadFault.{LoadFault}
 use Rattle.tf_book.specs.Book.{RefusesBook}
-use Rattle.tf_commands.specs.Books.{exhausted, disk_failed, no_book}
-use Rattle.tf_commands.specs.Run.{book_at}
+use Rattle.tf_commands.specs.Books.{exhausted, disk_failed_opening, no_book, book_at}
 use Rattle.tf_commands.proofs.AloneLemmas.{stops_untouched, refuses_untouched}
 use Rattle.tf_commands.proofs.books.refuse_book.Goals.{in-Disk, in-Memory}
 use Rattle.tf_commands.proofs.books.refuse_book.Goals as goal
@@ -18,6 +17,6 @@ pub returns-clause-unopened : goal.returns-clause-unopened
 returns-clause-unopened g c = λ name entry untouched refused. elim c.match-fault.branch [
   | in-Disk w ↦
       let e = w.close-status.ensures in
-      rw (w.desk-is, w.status-is) (disk_failed (refuses_untouched _ _ _ untouched e.closes e.says))
+      rw (w.desk-is, w.status-is) (disk_failed_opening (refuses_untouched _ _ _ untouched e.closes e.says))
   | in-Memory w ↦ rw (w.desk-is, w.status-is) (exhausted (stops_untouched _ untouched refl))
 ]

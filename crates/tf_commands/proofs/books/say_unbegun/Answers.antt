@@ -1,5 +1,5 @@
 use Rattle.std.proofs.Common.{◌≡◌, ℕ, [], refl, inl, inr, ap, sym, subst}
-use Rattle.tf_desk.specs.Crash.{Rises}
+use Rattle.tf_numbers.specs.Numbers.{Rises}
 use Rattle.tf_commands.specs.Books.{Promised}
 use Rattle.tf_report.specs.Closing.{disk_fault_text}
 use Rattle.tf_commands.specs.Begun.{SaysUnbegun}

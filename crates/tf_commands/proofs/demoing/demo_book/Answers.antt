@@ -1,9 +1,8 @@
 use Rattle.std.proofs.Common.{subst}
 use Rattle.tf_flow.specs.Plan.{PlanTree}
 use Rattle.tf_ports.specs.declared.crews.Want.TheVariants as want
-use Rattle.tf_commands.specs.Books.{Runs, demonstrated}
+use Rattle.tf_commands.specs.Books.{Runs, demonstrated, unspoken}
 use Rattle.tf_commands.specs.Asking.{WasAsked}
-use Rattle.tf_commands.specs.Run.{unspoken}
 use Rattle.tf_commands.proofs.demoing.demo_book.Goals as goal
 
 pub returns-in-Ok-clause-demonstrates : goal.returns-in-Ok-clause-demonstrates

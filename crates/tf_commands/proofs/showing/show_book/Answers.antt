@@ -3,8 +3,7 @@ use Rattle.std.specs.Prelude.{IsTrue}
 use Rattle.tf_journal.specs.Start.{Open}
 use Rattle.tf_book.specs.Loaded.{desk_of, IsLoaded}
 use Rattle.tf_book.specs.declared.book.loading.Loaded.{Loaded}
-use Rattle.tf_commands.specs.Books.{unopened_show}
-use Rattle.tf_commands.specs.Run.{book_at}
+use Rattle.tf_commands.specs.Books.{unopened_show, book_at}
 use Rattle.tf_commands.proofs.CountLemmas.{untouched_reaches, said_causes, unopened_hired}
 use Rattle.tf_commands.proofs.OpenLemmas.{shows_whole, whole_apart}
 use Rattle.tf_commands.proofs.showing.show_book.Goals as goal

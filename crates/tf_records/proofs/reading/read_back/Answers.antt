@@ -1,7 +1,7 @@
 use Rattle.std.proofs.Common.{rules, ◌≡◌, ◌∙◌, Bool, ℕ, List, ◌++◌, ◌∷◌, [], None, ap, sym, subst, arith, Err}
 use Rattle.std.specs.Prelude.{slice_get}
 use Rattle.std.proofs.lemmas.Result.{err_from_is_err_and}
-use Rattle.tf_desk.specs.Crash.{Rises}
+use Rattle.tf_numbers.specs.Numbers.{Rises}
 use Rattle.tf_desk.proofs.CountLemmas.{rises_later}
 use Rattle.tf_journal.specs.Format.{title_of, Held}
 use Rattle.tf_journal.specs.Reading.{IsNext, IsNoRefusal}

@@ -1,6 +1,6 @@
 use Rattle.std.proofs.Common.{◌≡◌, drop}
 use Rattle.std.specs.List.{list_any}
-use Rattle.tf_wire.specs.Reading.{has_name}
+use Rattle.tf_wire.specs.Grammar.{has_name}
 use Rattle.tf_wire.proofs.allowing.has_named.Given as goal
 
 abbrev pub invariant-loop-pair : goal.invariant-loop-pair

@@ -1,5 +1,5 @@
 use Rattle.std.proofs.Common.{◌≡◌, drop}
-use Rattle.tf_wire.specs.Reading.{names_differ}
+use Rattle.tf_wire.specs.Grammar.{names_differ}
 use Rattle.tf_wire.proofs.allowing.names_differ.Given as goal
 
 abbrev pub invariant-loop-number : goal.invariant-loop-number

@@ -1,5 +1,5 @@
 use Rattle.std.proofs.Common.{◌≤◌, ◌-◌, length}
-use Rattle.tf_wire.specs.Keeping.{KeepsFrames}
+use Rattle.tf_wire.specs.Stream.{KeepsFrames}
 use Rattle.tf_wire.proofs.frames.keep_frames.Given as goal
 
 abbrev pub invariant-loop-frame : goal.invariant-loop-frame

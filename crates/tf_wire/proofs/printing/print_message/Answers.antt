@@ -2,7 +2,7 @@ use Rattle.std.proofs.Common.{◌≡◌, ℕ, List, Some, subst, ◌∙◌}
 use Rattle.std.proofs.lemmas.Str.{IsUtf8-string_bytes}
 use Rattle.std.specs.Prelude.{string_bytes}
 use Rattle.serde_json.specs.View.{view}
-use Rattle.tf_wire.specs.Reading.{message_of}
+use Rattle.tf_wire.specs.Grammar.{message_of}
 use Rattle.tf_wire.proofs.MessageLemmas.{utf8_message}
 use Rattle.tf_wire.proofs.printing.print_message.Goals as goal
 

@@ -1,7 +1,7 @@
 use Rattle.std.proofs.Common.{◌≡◌, ◌<◌, arith, sym, length, true}
 use Rattle.std.proofs.lemmas.Bool.Decides.{nat_tests}
 use Rattle.std.specs.List.{list_all}
-use Rattle.tf_words.specs.Spelled.{is_digit}
+use Rattle.tf_words.specs.Verbs.{is_digit}
 use Rattle.tf_words.proofs.NumberLemmas.{digits_read}
 use Rattle.tf_words.proofs.numbers.number_between.Goals as goal
 

@@ -1,5 +1,5 @@
 use Rattle.std.proofs.Common.{◌≡◌, ◌++◌, take, drop, option_map}
-use Rattle.tf_words.specs.Spelled.{Halves, halves_of}
+use Rattle.tf_words.specs.Verbs.{Halves, halves_of}
 use Rattle.tf_words.proofs.pairs.halves_of.Given as goal
 
 abbrev pub invariant-loop-len : goal.invariant-loop-len

@@ -1,5 +1,5 @@
 use Rattle.std.proofs.Common.{◌∙◌, sym, ap}
-use Rattle.tf_words.specs.Spelled.{place_of}
+use Rattle.tf_words.specs.Verbs.{place_of}
 use Rattle.tf_words.proofs.PairLemmas.{put_there, put_last}
 use Rattle.tf_words.proofs.pairs.put.Goals as goal
 

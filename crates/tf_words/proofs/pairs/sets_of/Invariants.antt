@@ -1,6 +1,6 @@
 use Rattle.std.proofs.Common.{◌≡◌, [], drop}
 use Rattle.tf_words.specs.Held.{texts_in}
-use Rattle.tf_words.specs.Spelled.{sets_behind}
+use Rattle.tf_words.specs.Verbs.{sets_behind}
 use Rattle.tf_words.proofs.pairs.sets_of.Given as goal
 
 abbrev pub invariant-loop-word : goal.invariant-loop-word

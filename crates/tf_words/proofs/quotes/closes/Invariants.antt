@@ -1,6 +1,6 @@
 use Rattle.std.proofs.Common.{◌≡◌, drop, is_some}
 use Rattle.tf_words.specs.declared.quotes.Inside.TheVariants as at
-use Rattle.tf_words.specs.Spelled.{text_from}
+use Rattle.tf_words.specs.Verbs.{text_from}
 use Rattle.tf_words.proofs.quotes.closes.Given as goal
 
 abbrev pub invariant-loop-byte : goal.invariant-loop-byte

@@ -1,6 +1,6 @@
 use Rattle.std.proofs.Common.{◌≡◌, ◌≤◌, [], drop, is_some, slice_range}
 use Rattle.tf_words.specs.declared.spelled.Quoting.TheVariants as quoting
-use Rattle.tf_words.specs.Spelled.{scalars_from}
+use Rattle.tf_words.specs.Verbs.{scalars_from}
 use Rattle.tf_words.proofs.spelled.are_scalars.Given as goal
 
 abbrev pub invariant-loop-end : goal.invariant-loop-end

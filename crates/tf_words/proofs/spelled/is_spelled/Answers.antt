@@ -1,7 +1,7 @@
 use Rattle.std.proofs.Common.{◌∙◌, sym, ap, arith, is_some}
 use Rattle.std.proofs.lemmas.Bool.Decides.{nat_tests}
 use Rattle.tf_values.specs.Value.{value_of}
-use Rattle.tf_words.specs.Spelled.{scalar_spelled}
+use Rattle.tf_words.specs.Verbs.{scalar_spelled}
 use Rattle.tf_words.proofs.SpelledLemmas.{spelled_bare, is_some-map}
 use Rattle.tf_words.proofs.spelled.is_spelled.Goals as goal
 

@@ -1,10 +1,9 @@
 use Rattle.std.proofs.Common.{◌++◌, ap, ◌∙◌, refl, subst, Err}
-use Rattle.tf_ports.specs.Links.{sent_with, SendsPrefix}
+use Rattle.tf_ports.specs.Ports.{sent_with, SendsPrefix}
 use Rattle.tf_wire.specs.declared.messages.Response.{Response}
-use Rattle.tf_workers.specs.Dialogue.{Exchange, spoken, running}
+use Rattle.tf_workers.specs.Session.{Exchange, spoken, running, Seen, seen}
 use Rattle.tf_workers.specs.Progress.{TakesNothing, HasComeTo}
 use Rattle.tf_workers.specs.Progress.HasComeTo.{begun}
-use Rattle.tf_workers.specs.Session.{Seen, seen}
 use Rattle.tf_workers.proofs.AnswerLemmas.{stopped, said_prefix, takes_on, given_for, done_for}
 use Rattle.tf_workers.proofs.ListLemmas.{sent_more, whole_prefix}
 use Rattle.tf_workers.proofs.answering.answer.Goals as goal

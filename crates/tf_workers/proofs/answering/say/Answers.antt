@@ -1,6 +1,6 @@
 use Rattle.std.proofs.Common.{ℕ, List, ◌∙◌, ap, refl, subst}
-use Rattle.tf_ports.specs.Links.{sent_with, SendsPrefix}
-use Rattle.tf_workers.specs.Dialogue.{spoken}
+use Rattle.tf_ports.specs.Ports.{sent_with, SendsPrefix}
+use Rattle.tf_workers.specs.Session.{spoken}
 use Rattle.tf_workers.proofs.ListLemmas.{printed, no_prefix}
 use Rattle.tf_workers.proofs.answering.say.Goals as goal
 

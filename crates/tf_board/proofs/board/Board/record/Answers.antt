@@ -1,6 +1,5 @@
 use Rattle.std.proofs.Common.{◌≡◌, ◌∙◌, ◌++◌, List, ℕ, length, subst, ap, refl, arith}
-use Rattle.tf_board.specs.Board.{past_of, BoardValue, IsSound}
-use Rattle.tf_board.specs.Jobs.{command_bytes}
+use Rattle.tf_board.specs.Board.{past_of, BoardValue, IsSound, command_bytes}
 use Rattle.tf_board.specs.declared.faults.BoardFault.TheVariants as fault
 use Rattle.tf_board.proofs.FormLemmas.{command_long}
 use Rattle.tf_board.proofs.BoardLemmas.{records_same}

@@ -1,5 +1,5 @@
 use Rattle.std.proofs.Common.{◌≡◌, ◌++◌, take}
-use Rattle.tf_board.specs.Jobs.{listed_at}
+use Rattle.tf_board.specs.Board.{listed_at}
 use Rattle.tf_board.proofs.board.listing.append_lines.Given as goal
 
 abbrev pub invariant-loop-job : goal.invariant-loop-job

@@ -4,7 +4,7 @@ use Rattle.std.specs.List.{find, filter, flat_map}
 use Rattle.std.proofs.lemmas.Option.{slice_get-get_or}
 use Rattle.tf_states.specs.declared.priorities.Priority.{Priority}
 use Rattle.tf_states.specs.declared.priorities.Priority.TheVariants as priority
-use Rattle.tf_board.specs.Jobs.{is_listed, priorities}
+use Rattle.tf_board.specs.Board.{is_listed, priorities}
 use Rattle.tf_board.specs.Seeking.{number_in, is_takable}
 use Rattle.tf_board.specs.declared.jobs.Job.{Job}
 use Rattle.tf_board.proofs.SeekingLemmas.{seek_none, seek_found}

@@ -1,6 +1,6 @@
 use Rattle.std.proofs.Common.{◌≡◌, take, None}
 use Rattle.std.specs.List.{find, filter, flat_map}
-use Rattle.tf_board.specs.Jobs.{is_listed, priorities}
+use Rattle.tf_board.specs.Board.{is_listed, priorities}
 use Rattle.tf_board.specs.Seeking.{is_takable}
 use Rattle.tf_board.proofs.board.seeking.free_among.Given as goal
 

@@ -1,5 +1,5 @@
 use Rattle.std.proofs.Common.{◌∙◌}
-use Rattle.tf_board.specs.Jobs.{is_listed}
+use Rattle.tf_board.specs.Board.{is_listed}
 use Rattle.tf_board.specs.Seeking.{is_takable}
 use Rattle.tf_board.proofs.SeekingLemmas.{find_among}
 use Rattle.tf_board.proofs.board.seeking.free_at.Goals as goal

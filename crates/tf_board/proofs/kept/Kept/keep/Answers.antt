@@ -1,7 +1,6 @@
 use Rattle.std.proofs.Common.{◌++◌, List, ap, ◌∙◌}
 use Rattle.tf_values.specs.declared.value.Val.{Val}
-use Rattle.tf_board.specs.Jobs.{posted_with}
-use Rattle.tf_board.specs.Board.{past_in}
+use Rattle.tf_board.specs.Board.{posted_with, past_in}
 use Rattle.tf_board.proofs.KeptLemmas.{jobs_written}
 use Rattle.tf_board.proofs.kept.Kept.keep.Goals as goal
 

@@ -1,6 +1,5 @@
 use Rattle.std.proofs.Common.{◌≡◌, ◌∙◌, length, ap}
-use Rattle.tf_board.specs.Jobs.{posted}
-use Rattle.tf_board.specs.Board.{past_in}
+use Rattle.tf_board.specs.Board.{posted, past_in}
 use Rattle.tf_board.proofs.JobLemmas.{jobs_long, job_next}
 use Rattle.tf_board.proofs.kept.Kept.next.Goals as goal
 

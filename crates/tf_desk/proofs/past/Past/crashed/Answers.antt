@@ -3,7 +3,7 @@ use Rattle.std.specs.List.{sum_by}
 use Rattle.std.proofs.lemmas.List.{length-reverse}
 use Rattle.tf_desk.specs.declared.past.Noted.{Noted}
 use Rattle.tf_desk.specs.Acts.{picked, wrote, synced, said}
-use Rattle.tf_desk.specs.Crashed.{IsTornAfter, acts_at, IsTornDesk, picked_in_log}
+use Rattle.tf_desk.specs.Crashed.{IsTornAfter, acts_at, acts_left, IsTornDesk, picked_in_log}
 use Rattle.tf_desk.specs.MemoryDesk.{acts_of, written_count, said_count}
 use Rattle.tf_desk.proofs.LogLemmas.{length-acts_of}
 use Rattle.tf_desk.proofs.LeavesLemmas.{if_ok, crashed_none, crashed_some}
@@ -40,6 +40,6 @@ returns c =
     subst (λ (i : List ℕ). IsTornAfter c.args.torn (acts_of (reverse (take m p.log.items)) (take (sum_by written_count (take m p.log.items)) p.written.items) shown) (Some name) i) (sym c.deref-4.ensures.value)
     (subst (λ (w : List ℕ). IsTornAfter c.args.torn (acts_of (reverse (take m p.log.items)) (take (sum_by written_count (take m p.log.items)) w) shown) (Some name) c.in_ok-image.image.items) c.deref-3.ensures.value
     (subst (λ (l : List Noted). IsTornAfter c.args.torn (acts_of (reverse (take m l)) (take (sum_by written_count (take m l)) c.deref-3.result.now) shown) (Some name) c.in_ok-image.image.items) c.deref.ensures.value (c.in_ok-image.ensures shown))) in
-    if_ok c.keeps.result (λ past. past ≡ synced ∷ wrote 0 image ∷ picked name ∷ said c.text_of-text.result.now ∷ []) (λ past. IsTornDesk c.args.torn (acts_at c.args.self.now m) past)
+    if_ok c.keeps.result (λ past. past ≡ acts_left name image c.text_of-text.result.now) (λ past. IsTornDesk c.args.torn (acts_at c.args.self.now m) past)
     (λ past is. crashed_some c.args.self.now p.log.items p.written.items p.shown.items m c.self.view_is c.self.invariant.wrote c.self.invariant.said within c.args.torn name image c.text_of-text.result.now past some text torn is)
     c.keeps.ensures

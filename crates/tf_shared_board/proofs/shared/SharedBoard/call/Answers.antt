@@ -1,5 +1,5 @@
 use Rattle.std.proofs.Common.{◌≡◌, ◌∙◌, ℕ, List, [], ◌∷◌, ◌++◌, Option, None, sym, ap, subst}
-use Rattle.tf_board.specs.Answers.{IsRecorded}
+use Rattle.tf_board.specs.Does.{IsRecorded}
 use Rattle.tf_shared_board.specs.declared.calls.BoardHalt.{BoardHalt}
 use Rattle.tf_shared_board.specs.declared.calls.Made.{Made}
 use Rattle.tf_shared_board.specs.Calls.{command_of}

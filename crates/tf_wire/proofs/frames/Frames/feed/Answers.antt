@@ -1,7 +1,6 @@
 use Rattle.std.proofs.Common.{◌≡◌, ℕ, List, ap, ◌∙◌, subst}
-use Rattle.tf_wire.specs.Stream.{BeginsWithBadLength}
+use Rattle.tf_wire.specs.Stream.{BeginsWithBadLength, KeptFrames}
 use Rattle.tf_wire.specs.Fronts.{IsFront}
-use Rattle.tf_wire.specs.Keeping.{KeptFrames}
 use Rattle.tf_wire.proofs.KeepingLemmas.{with_piece, fed_ok, fed_refused}
 use Rattle.tf_wire.proofs.StreamLemmas.{front_not_bad}
 use Rattle.tf_wire.proofs.frames.Frames.feed.Goals as goal
