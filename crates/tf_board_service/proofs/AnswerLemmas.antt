@@ -1,6 +1,6 @@
 -- How a request is answered.
-use Rattle.std.proofs.Common.{◌≡◌, ◌≢◌, ◌<◌, ◌≤◌, ◌+◌, ◌-◌, ℕ, zero, suc, List, [], ◌∷◌, ◌++◌, length, map, take, drop, codes, Option, Some, None, inl, inr, refl, sym, ap, subst, ◌∙◌, arith, length-append, append-nil, append_assoc}
-use Rattle.std.specs.Prelude.{◌⊎◌, Result, Ok, Err, IfOk, OnErr, IfErr, IfSome, IsSome, is_some, true, false, slice_get, slice_range}
+use Rattle.std.proofs.Common.{◌≡◌, ◌≢◌, ◌<◌, ◌≤◌, ◌+◌, ◌-◌, ℕ, zero, suc, List, [], ◌∷◌, ◌++◌, length, map, take, drop, Option, Some, None, inl, inr, refl, sym, ap, subst, ◌∙◌, arith, length-append, append-nil}
+use Rattle.std.specs.Prelude.{◌⊎◌, Result, Ok, Err, IfOk, IfSome, IsSome, is_some, true, false, slice_get, slice_range}
 use Rattle.std.specs.List.{flat_map}
 use Rattle.tf_values.specs.declared.faults.Memory.{Memory}
 use Rattle.tf_desk.specs.Crash.{Pairs}
@@ -9,7 +9,7 @@ use Rattle.tf_desk.proofs.StateLemmas.{goes_none, goes_within}
 use Rattle.tf_report.specs.Lines.{job_line}
 use Rattle.tf_report.specs.declared.job_lines.JobLine.{JobLine}
 use Rattle.tf_board.specs.Board.{BoardValue}
-use Rattle.tf_board.specs.Does.{fault_text, fault_of, refusal_text}
+use Rattle.tf_board.specs.Does.{fault_text, fault_of}
 use Rattle.tf_board.specs.declared.commands.Command.{Command}
 use Rattle.tf_board.specs.declared.faults.BoardFault.{BoardFault}
 use Rattle.tf_board.specs.declared.faults.BoardFault.TheVariants as fault
@@ -23,7 +23,7 @@ use Rattle.tf_shared_board.specs.declared.calls.BoardHalt.TheVariants as halt
 use Rattle.tf_shared_board.specs.declared.calls.JobCall.{JobCall}
 use Rattle.tf_shared_board.specs.declared.calls.Made.{Made}
 use Rattle.tf_board_service.specs.Answering.{Answers, CallsSo, Makes, MakesNoCall, OrHalts, StopsAfter, call_made, unless_refused}
-use Rattle.tf_board_service.specs.Replies.{call_reply, first_lines, made_line, refused_for, reply_of, says, without_name, without_feed, list_line}
+use Rattle.tf_board_service.specs.Replies.{call_reply, first_lines, made_line, reply_of, says, without_name, without_feed, list_line}
 use Rattle.tf_board_service.specs.declared.replies.BoardReply.{BoardReply}
 use Rattle.tf_board_service.specs.declared.replies.BoardReply.TheVariants as reply
 use Rattle.tf_board_service.specs.declared.requests.BoardRequest.{BoardRequest}

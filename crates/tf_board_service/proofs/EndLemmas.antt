@@ -1,14 +1,13 @@
 -- What is known of all sessions once the turnstile is closed.
-use Rattle.std.proofs.Common.{◌≡◌, ◌<◌, ◌≤◌, ℕ, zero, suc, Bool, true, false, List, [], ◌∷◌, ◌++◌, length, map, take, drop, slice_index_or, Option, Some, None, refl, sym, ap, subst, ◌∙◌, arith, append-nil}
+use Rattle.std.proofs.Common.{◌≡◌, ◌<◌, ◌≤◌, ℕ, zero, suc, Bool, true, false, List, [], ◌∷◌, ◌++◌, length, map, take, drop, slice_index_or, Option, refl, sym, ap, subst, ◌∙◌, arith, append-nil}
 use Rattle.std.specs.Prelude.{IsSome}
 use Rattle.std.specs.List.{All}
 use Rattle.std.proofs.lemmas.List.{get_or-map, length-map}
 use Rattle.tf_desk.specs.State.{DeskState}
 use Rattle.tf_board.specs.Board.{AreOfBoard}
 use Rattle.tf_board.specs.declared.commands.Command.{Command}
-use Rattle.tf_shared_board.specs.Calls.{carried, followed_by, numbered}
+use Rattle.tf_shared_board.specs.Calls.{carried, numbered}
 use Rattle.tf_shared_board.specs.Shared.{SharedValue}
-use Rattle.tf_shared_board.specs.declared.calls.BoardHalt.{BoardHalt}
 use Rattle.tf_shared_board.specs.declared.calls.Made.{Made}
 use Rattle.tf_turnstile.specs.Numbered.{AreNumberedBelow, IsLater}
 use Rattle.tf_turnstile.specs.Passes.{TurnstileValue, PassValue, IsIdle, AreAll, AreNew, HasGrown}
@@ -18,7 +17,6 @@ use Rattle.tf_board_service.specs.Served.{AreServed}
 use Rattle.tf_board_service.specs.Turning.{HasServed, IsAppointed, IsFresh, seen_calls, start_past}
 use Rattle.tf_board_service.specs.Turns.{HasWaited, IsOver}
 use Rattle.tf_board_service.specs.declared.sessions.Session.{Session}
-use Rattle.tf_board_service.specs.declared.sessions.SessionEnd.{SessionEnd}
 use Rattle.tf_board_service.proofs.PassLemmas.{all_seen, later_waited}
 use Rattle.tf_board_service.proofs.SessionLemmas.{over_waited}
 

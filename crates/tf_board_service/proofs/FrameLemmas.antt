@@ -6,8 +6,7 @@ use Rattle.std.proofs.lemmas.List.{append_cancel_left, take_all}
 use Rattle.std.proofs.Math.Seq.{take-append-add}
 use Rattle.tf_numbers.specs.Numbers.{Rises}
 use Rattle.tf_ports.specs.Ports.{sent_with, left_before, SendsPrefix}
-use Rattle.tf_wire.specs.Stream.{KeptFrames, counted, KeepsStream, IsHere, IsPieceAnswer, IsUnrefused as FeedsOn, IsFrame, framed, joined, SplitsInto, BeginsWithFrame, BeginsWithBadLength}
-use Rattle.tf_wire.specs.declared.faults.WireFault.TheVariants as fault
+use Rattle.tf_wire.specs.Stream.{KeptFrames, counted, KeepsStream, IsUnrefused as FeedsOn, IsFrame, framed, joined, SplitsInto, BeginsWithFrame, BeginsWithBadLength}
 use Rattle.tf_wire.proofs.KeepingLemmas.{framed_length}
 use Rattle.tf_wire.proofs.StreamLemmas.{bad_stays}
 use Rattle.tf_board_service.specs.Points.{Exchange}

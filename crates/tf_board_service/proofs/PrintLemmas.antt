@@ -1,12 +1,11 @@
 -- Replies have no float, their text is short enough for the length of a frame, and they have no more lines than a reply may have.
-use Rattle.std.proofs.Common.{◌≡◌, ℕ, zero, suc, ◌+◌, ◌*◌, ◌<◌, ◌≤◌, ◌^◌, List, [], ◌∷◌, ◌++◌, Bool, true, false, cond, ◌||◌, Option, Some, None, map, take, codes, length, arith, refl, length-append}
-use Rattle.std.specs.List.{flat_map, AllByRecursion}
+use Rattle.std.proofs.Common.{◌≡◌, ℕ, zero, suc, ◌+◌, ◌*◌, ◌<◌, ◌≤◌, ◌^◌, List, [], ◌∷◌, ◌++◌, Bool, true, false, cond, Option, Some, None, map, take, codes, length, arith, refl, length-append}
+use Rattle.std.specs.List.{flat_map}
 use Rattle.json.specs.Print.{escape_byte, quoted}
-use Rattle.serde_json.specs.Data.{Data, string, array, Items, no_items, item, object, member, no_members}
+use Rattle.serde_json.specs.Data.{Data, string, array, object, member, no_members}
 use Rattle.serde_json.specs.View.{items_of}
-use Rattle.serde_json.specs.Written.{has_float, items_have_float, compact_text, items_text, members_text}
+use Rattle.serde_json.specs.Written.{has_float, items_have_float, compact_text, members_text}
 use Rattle.tf_values.proofs.ByteLemmas.{text_is_short}
-use Rattle.tf_report.specs.declared.job_lines.JobLine.{JobLine}
 use Rattle.tf_board.specs.Board.{listed}
 use Rattle.tf_board.specs.declared.board.Owner.{Owner}
 use Rattle.tf_board.specs.declared.board.Owner.TheVariants as owned
@@ -14,10 +13,9 @@ use Rattle.tf_board.specs.declared.commands.Command.{Command}
 use Rattle.tf_board.specs.declared.rules.Refusal.{Refusal}
 use Rattle.tf_shared_board.specs.Calls.{refuses_call}
 use Rattle.tf_shared_board.specs.declared.calls.JobCall.{JobCall}
-use Rattle.tf_wire.specs.Limits.{IsWord}
 use Rattle.tf_wire.proofs.BoundLemmas.{words_length}
 use Rattle.tf_board.specs.Board.{owner_of}
-use Rattle.tf_board_service.specs.Replies.{HasFewLines, HasTexts, MOST_LINES, call_reply, first_lines, list_line, owner_reply, reply_data, reply_of}
+use Rattle.tf_board_service.specs.Replies.{HasFewLines, HasTexts, MOST_LINES, call_reply, list_line, owner_reply, reply_data, reply_of}
 use Rattle.tf_board_service.specs.declared.replies.BoardReply.{BoardReply}
 use Rattle.tf_board_service.specs.declared.replies.BoardReply.TheVariants as reply
 use Rattle.tf_board_service.specs.declared.requests.BoardRequest.{BoardRequest}

@@ -1,7 +1,6 @@
 -- A session goes on from frame to frame, and ends.
-use Rattle.std.proofs.Common.{◌≡◌, ◌≢◌, ℕ, ◌+◌, ◌<◌, ◌≤◌, List, [], ◌∷◌, ◌++◌, length, map, Option, Some, None, Result, Ok, Err, inl, inr, refl, sym, ap, ◌∙◌, subst, arith, append_assoc, append-nil, length-append}
+use Rattle.std.proofs.Common.{◌≡◌, ◌≢◌, ℕ, ◌+◌, ◌<◌, ◌≤◌, List, [], ◌∷◌, ◌++◌, length, Option, Some, None, Result, Ok, Err, inl, inr, refl, sym, ap, ◌∙◌, subst, arith, append-nil, length-append}
 use Rattle.std.specs.Prelude.{◌⊎◌, MatchResult}
-use Rattle.std.specs.List.{AllByRecursion}
 use Rattle.std.proofs.lemmas.Grind.{flat_map-append}
 use Rattle.tf_numbers.specs.Numbers.{Rises}
 use Rattle.tf_ports.specs.Ports.{sent_with, left_before, SendsPrefix}
@@ -13,10 +12,10 @@ use Rattle.tf_shared_board.specs.declared.calls.Made.{Made}
 use Rattle.tf_board_service.specs.Answering.{call_made}
 use Rattle.tf_board_service.specs.Points.{Exchange, MadeBy, NeverFall, as_list, calls_by, first_of, points_of, told, told_all}
 use Rattle.tf_board_service.specs.Receiving.{HasNothingMore, IsAtEnd, IsKnown, RunsOut, TakesIn}
-use Rattle.tf_board_service.specs.Replies.{reply_frame, reply_of}
+use Rattle.tf_board_service.specs.Replies.{reply_frame}
 use Rattle.tf_board_service.specs.Requests.{board_request_in}
-use Rattle.tf_board_service.specs.Sessions.{AreRead, BeginsWith, IsCutShort, IsFullyAnswered, IsLinkOver, IsNextCall, IsServed, Seen, Serves, SessionEndsAs}
-use Rattle.tf_board_service.specs.Turns.{AnswersFrame, HasAnsweredAll, HasNoReply, HasReplied, HasStopped, HasTaken, HasWaited, IsOver, LosesReply, SaysNothing, SoFar, StopsFrame, TakesNothing}
+use Rattle.tf_board_service.specs.Sessions.{AreRead, IsFullyAnswered, IsNextCall, Seen, Serves}
+use Rattle.tf_board_service.specs.Turns.{AnswersFrame, HasAnsweredAll, HasNoReply, HasTaken, HasWaited, IsOver, LosesReply, SaysNothing, SoFar, StopsFrame}
 use Rattle.tf_board_service.specs.declared.incoming.Incoming.{Incoming}
 use Rattle.tf_board_service.specs.declared.replies.BoardReply.{BoardReply}
 use Rattle.tf_board_service.specs.declared.requests.BoardRequest.{BoardRequest}

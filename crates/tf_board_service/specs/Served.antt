@@ -4,7 +4,6 @@ use Rattle.std.specs.List.{All}
 use Rattle.tf_desk.specs.State.{DeskState}
 use Rattle.tf_board.specs.Board.{AreOfBoard}
 use Rattle.tf_shared_board.specs.Shared.{SharedValue}
-use Rattle.tf_shared_board.specs.declared.calls.Made.{Made}
 use Rattle.tf_board_service.specs.Serving.{IsServing, made_since}
 use Rattle.tf_board_service.specs.Sessions.{HaltsWith, IsServed, seen}
 use Rattle.tf_board_service.specs.declared.sessions.Session.{Session}

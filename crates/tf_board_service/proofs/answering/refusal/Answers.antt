@@ -1,4 +1,4 @@
-use Rattle.std.proofs.Common.{◌≤◌, length, arith, ap}
+use Rattle.std.proofs.Common.{length, arith, ap}
 use Rattle.tf_board_service.proofs.AnswerLemmas.{long_rule}
 use Rattle.tf_board_service.proofs.answering.refusal.Goals as goal
 

@@ -1,7 +1,6 @@
 use Rattle.std.proofs.Common.{◌≡◌, false, map, vec_capacity}
 use Rattle.std.specs.List.{All}
 use Rattle.tf_board_service.specs.Sessions.{is_halted}
-use Rattle.tf_board_service.specs.declared.sessions.Session.{Session}
 use Rattle.tf_board_service.proofs.hiring.dismiss.Given as goal
 
 abbrev pub invariant-loop-server : goal.invariant-loop-server

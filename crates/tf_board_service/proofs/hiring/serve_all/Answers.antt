@@ -3,8 +3,7 @@ use denote.Exit.{yes, unseen}
 use denote.Param.{param}
 use denote.Param.Send.{Quiet-if, shr_sync}
 use denote.Ref.{ShrRef}
-use denote.Struct.Tuple.{Tuple}
-use Rattle.std.specs.Prelude.{[], ◌∷◌}
+use Rattle.std.specs.Prelude.{[]}
 use Rattle.std.specs.contracts.alloc.Global as global
 use Rattle.std.proofs.alloc.Global.TheSendSync as heap
 use Rattle.tf_shared_board.specs.contracts.calls.Made as made

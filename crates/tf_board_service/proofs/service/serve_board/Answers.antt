@@ -1,6 +1,5 @@
-use Rattle.std.proofs.Common.{◌≡◌, ◌<◌, ◌∙◌, ℕ, length, arith, ap, subst}
+use Rattle.std.proofs.Common.{◌≡◌, ◌<◌, ◌∙◌, length, arith, ap, subst}
 use Rattle.std.specs.List.{All}
-use Rattle.std.specs.Prelude.{vec_len}
 use Rattle.tf_shared_board.specs.Shared.{SharedValue}
 use Rattle.tf_board_service.specs.Served.{AreServed}
 use Rattle.tf_board_service.specs.Serving.{ServingValue, made_since}

@@ -1,7 +1,5 @@
-use Rattle.std.proofs.Common.{◌≡◌, ◌≤◌, List, ℕ, length, arith, sym, ap, ◌∙◌}
-use Rattle.tf_board_service.specs.Turning.{IsAppointed}
+use Rattle.std.proofs.Common.{◌≡◌, ◌≤◌, length, arith, ◌∙◌}
 use Rattle.tf_board_service.specs.declared.serving.Server.{Server}
-use Rattle.tf_board_service.specs.declared.sessions.Session.{Session}
 use Rattle.tf_board_service.proofs.EndLemmas.{all_back, all_hired, first_all, whole_end}
 use Rattle.tf_board_service.proofs.service.serve_links.Goals as goal
 

@@ -1,4 +1,4 @@
-use Rattle.std.proofs.Common.{refl, arith, subst}
+use Rattle.std.proofs.Common.{arith}
 use Rattle.tf_board_service.specs.Sessions.{Seen, seen}
 use Rattle.tf_board_service.specs.Turning.{seen_calls, start_past}
 use Rattle.tf_board_service.specs.declared.incoming.Incoming.{Incoming}

@@ -1,4 +1,4 @@
-use Rattle.std.proofs.Common.{◌≡◌, ℕ, List, [], ◌∙◌, refl, sym, ap, subst}
+use Rattle.std.proofs.Common.{ℕ, List, [], refl, sym, ap, subst}
 use Rattle.tf_turnstile.specs.Passes.{IsIdle, PassValue}
 use Rattle.tf_shared_board.specs.declared.calls.Made.{Made}
 use Rattle.tf_board_service.specs.Serving.{ServingValue}
