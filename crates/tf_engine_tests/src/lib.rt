@@ -8,7 +8,3 @@ mod books;
 mod calls;
 #[cfg(test)]
 mod hands;
-#[cfg(test)]
-mod interleaved;
-#[cfg(test)]
-mod runs;
