@@ -49,6 +49,15 @@ fn a_crew_in_memory_hires_performers_that_keep_their_orders(rt: HostRuntime) -> 
     assert!(rt; matches!(hand.perform(alloc, &order)?, Outcome::Gave(Val::Nothing)));
     assert!(rt; matches!(hand.perform(alloc, &order)?, Outcome::Failed(Failure::Lost)));
     assert_eq!(rt; hand.did().len(), 2);
+    assert!(rt; crew.back().is_none());
+    hands.push(hand)?;
+    crew.dismiss(Hands::Local(hands));
+    let Some(Hands::Local(back)) = crew.back() else {
+        panic!(rt; "no hand was given back");
+    };
+    assert_eq!(rt; back.len(), 1);
+    assert_eq!(rt; back[0].did().len(), 2);
+    assert!(rt; matches!(crew.hire(alloc, &Want::Local(1)), Err(PortFault::Failed)));
     Ok(())
 }
 

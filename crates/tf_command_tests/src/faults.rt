@@ -68,7 +68,7 @@ pub(crate) fn ran_over<R: Threads + Wait + Sync>(
     Ok((desk, status))
 }
 
-fn links_of(alloc: Global, links: &[&[u8]]) -> Result<Vec<MemoryLink>, Fail> {
+pub(crate) fn links_of(alloc: Global, links: &[&[u8]]) -> Result<Vec<MemoryLink>, Fail> {
     let mut made = Vec::new(alloc);
     for bytes in links {
         let bytes = Vec::from_slice(alloc, bytes)?;

@@ -8,4 +8,6 @@ mod crashes;
 #[cfg(test)]
 mod faults;
 #[cfg(test)]
+mod orders;
+#[cfg(test)]
 mod remote;

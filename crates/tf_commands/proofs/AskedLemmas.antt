@@ -11,6 +11,7 @@ use Rattle.tf_engines.specs.Runs.{AreDue, IsSuspended, IsSession}
 use Rattle.tf_commands.specs.Books.{Promised, Resumes, unopened_again, empty, unhired_again, resumed, Ran}
 use Rattle.tf_commands.specs.declared.running.Request.{Request}
 use Rattle.tf_model.specs.Plan.{Outline}
+use Rattle.tf_ports.specs.Ports.{GivenBack, CrewTold}
 
 due_more : (few more : Type 0) (limit : Option ℕ) → (few → more) → (entries : List Entry) → AreDue few limit entries → AreDue more limit entries
 due_more few more limit widens [] due = tt
@@ -54,22 +55,23 @@ ran_more gives request few more plan before entries stop shown now closing statu
   end = r.end;
 }
 
-pub promised_more : (gives : Order → Outcome → Type 0) (request : Request) (few more : Type 0) (name : List ℕ) (plan : PlanValue) (before : List Entry) (entry now : DeskState) (status : ℕ) → (few → more)
-    → Promised gives request few name plan before entry now status
-    → Promised gives request more name plan before entry now status
-promised_more gives request few more name plan before entry now status widens p = record {
+pub promised_more : (gives : Order → Outcome → Type 0) (request : Request) (few more : Type 0) (back : GivenBack) (name : List ℕ) (plan : PlanValue) (before : List Entry) (entry now : DeskState) (status : ℕ) → (few → more)
+    → Promised gives request few back name plan before entry now status
+    → Promised gives request more back name plan before entry now status
+promised_more gives request few more back name plan before entry now status widens p = record {
   entries = p.entries;
   stop = p.stop;
   closing = p.closing;
   ran = ran_more gives request few more plan before p.entries p.stop entry.shown now.shown p.closing status widens p.ran;
+  orders_given = p.orders_given;
   lasts = p.lasts;
 }
 
-pub resumes_more : (gives : Order → Outcome → Type 0) (request : Request) (few more : Type 0) (name : List ℕ) (hired after_hiring : Option (List Want)) (entry now : DeskState) (status : ℕ) → (few → more)
-    → Resumes gives request few name hired after_hiring entry now status
-    → Resumes gives request more name hired after_hiring entry now status
-resumes_more gives request few more name hired after_hiring entry now status widens (unopened_again same is) = unopened_again same is
-resumes_more gives request few more name hired after_hiring entry now status widens (empty same none r) = empty same none r
-resumes_more gives request few more name hired after_hiring entry now status widens (unhired_again plan past held going is) = unhired_again plan past held going is
-resumes_more gives request few more name hired after_hiring entry now status widens (resumed plan past can held hires p) =
-    resumed plan past can held hires (promised_more gives request few more name plan past entry now status widens p)
+pub resumes_more : (gives : Order → Outcome → Type 0) (request : Request) (few more : Type 0) (name : List ℕ) (crew crew_after : CrewTold) (entry now : DeskState) (status : ℕ) → (few → more)
+    → Resumes gives request few name crew crew_after entry now status
+    → Resumes gives request more name crew crew_after entry now status
+resumes_more gives request few more name crew crew_after entry now status widens (unopened_again same is) = unopened_again same is
+resumes_more gives request few more name crew crew_after entry now status widens (empty same none r) = empty same none r
+resumes_more gives request few more name crew crew_after entry now status widens (unhired_again plan past held going is) = unhired_again plan past held going is
+resumes_more gives request few more name crew crew_after entry now status widens (resumed plan past can held back hires p) =
+    resumed plan past can held back hires (promised_more gives request few more back name plan past entry now status widens p)

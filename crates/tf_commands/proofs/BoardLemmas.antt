@@ -2,7 +2,7 @@
 use Rattle.std.proofs.Common.{◌≡◌, ◌≢◌, ℕ, List, inl, inr, ⊎_elim, Option, Some, None, true, refl, sym, ◌∙◌, subst, arith}
 use Rattle.std.specs.Prelude.{is_some}
 use Rattle.tf_desk.specs.State.{DeskState}
-use Rattle.tf_ports.specs.Ports.{Contents}
+use Rattle.tf_ports.specs.Ports.{Contents, CrewTold}
 use Rattle.tf_ports.specs.declared.crews.Want.{Want}
 use Rattle.tf_actions.specs.declared.orders.Order.{Order}
 use Rattle.tf_actions.specs.declared.outcomes.Outcome.{Outcome}
@@ -79,8 +79,8 @@ hires_none (asked.Demo seed size book hands) is = absurd (cc)
 hires_none (asked.Worker address sessions) is = absurd (cc)
 
 -- and nobody is hired for it
-pub hires_board : (command : Asked) (hired after_hiring : Option (List Want)) → is_some (board_of command) ≡ true → after_hiring ≡ hired → HiresAsWanted (want_of command) hired after_hiring
-hires_board command hired after_hiring is same = subst (λ (o : Option Want). HiresAsWanted o hired after_hiring) (sym (hires_none command is)) same
+pub hires_board : (command : Asked) (crew crew_after : CrewTold) → is_some (board_of command) ≡ true → crew_after ≡ crew → HiresAsWanted (want_of command) crew crew_after
+hires_board command crew crew_after is same = subst (λ (o : Option Want). HiresAsWanted o crew crew_after) (sym (hires_none command is)) same
 
 -- the name of a command's board
 pub board_named : (o : Option (List ℕ)) → is_some o ≡ true → (name : List ℕ) × (o ≡ Some name)

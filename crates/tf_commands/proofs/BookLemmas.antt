@@ -22,6 +22,7 @@ use Rattle.tf_commands.specs.declared.running.Request.{Request}
 use Rattle.tf_commands.specs.Runs.{HoldsBook, GoesFurther, nobody, went_on}
 use Rattle.tf_report.specs.declared.statuses.TheConstants.{FORBIDDEN, UNHIRED}
 use Rattle.tf_commands.proofs.AskedLemmas.{promised_more}
+use Rattle.tf_ports.specs.Ports.{CrewTold}
 
 -- an equal desk is untouched too
 pub untouched_by : {K : Type 0} (state : K → DeskState) {name : List ℕ} {entry : DeskState} (now other : K) → now ≡ other → Untouched name entry (state now) → Untouched name entry (state other)
@@ -40,33 +41,33 @@ opened_unborn {name} {entry} {now} opened found told =
     unborn_found (title_of book_title) (bytes_now now) (ap book_in (opened_bytes opened told) ∙ found told_entry)
 
 -- the flow that a book holds forbids a run, or memory ran out
-pub forbidden_over : {gives : Order → Outcome → Type 0} {request : Request} {asked : Type 0} {name : List ℕ} {hired after_hiring : Option (List Want)} {entry now : DeskState} {tree : PlanTree} {status : ℕ}
-    (plan : PlanValue) (past : List Entry) → after_hiring ≡ hired → IsFile name entry (HoldsHistory plan past)
+pub forbidden_over : {gives : Order → Outcome → Type 0} {request : Request} {asked : Type 0} {name : List ℕ} {crew crew_after : CrewTold} {entry now : DeskState} {tree : PlanTree} {status : ℕ}
+    (plan : PlanValue) (past : List Entry) → crew_after ≡ crew → IsFile name entry (HoldsHistory plan past)
     → RefusesOrStops name entry now (state_forbids (outline_of plan) (flow_of past)) FORBIDDEN status
-    → Runs gives request asked name hired after_hiring entry now tree status
+    → Runs gives request asked name crew crew_after entry now tree status
 forbidden_over plan past same is (inl stops) = unopened same (exhausted stops)
 forbidden_over plan past same is (inr refuses) = forbidden plan past same is refuses
 
 -- a run began in a file that holds no flow, or nobody was hired
-pub begun_over : (gives : Order → Outcome → Type 0) (request : Request) (asked more : Type 0) (name : List ℕ) (hired after_hiring : Option (List Want)) (entry now : DeskState) (status : ℕ) (plan : PlanValue)
+pub begun_over : (gives : Order → Outcome → Type 0) (request : Request) (asked more : Type 0) (name : List ℕ) (crew crew_after : CrewTold) (entry now : DeskState) (status : ℕ) (plan : PlanValue)
     → IsFile name entry HoldsNoFlow
-    → Unhired name entry now hired after_hiring status ⊎ (Hires request.want hired after_hiring × Promised gives request asked name plan [] entry now status)
+    → Unhired name entry now crew crew_after status ⊎ (Hires request.want crew crew_after × Promised gives request asked crew_after.back name plan [] entry now status)
     → (asked → more)
-    → Runs gives request more name hired after_hiring entry now (plan_tree plan) status
-begun_over gives request asked more name hired after_hiring entry now status plan is (inl none) widens = unhired_run is none
-begun_over gives request asked more name hired after_hiring entry now status plan is (inr begun) widens =
-    ran plan refl is begun.0 (promised_more gives request asked more name plan [] entry now status widens begun.1)
+    → Runs gives request more name crew crew_after entry now (plan_tree plan) status
+begun_over gives request asked more name crew crew_after entry now status plan is (inl none) widens = unhired_run is none
+begun_over gives request asked more name crew crew_after entry now status plan is (inr begun) widens =
+    ran plan refl is begun.0 (promised_more gives request asked more crew_after.back name plan [] entry now status widens begun.1)
 
 -- nobody was hired: it was said, or memory ran out
-pub unhired_so : {name : List ℕ} {entry now : DeskState} {hired after_hiring : Option (List Want)} {status : ℕ} → after_hiring ≡ hired
-    → RefusesOrStops name entry now cannot_hire UNHIRED status → Unhired name entry now hired after_hiring status
+pub unhired_so : {name : List ℕ} {entry now : DeskState} {crew crew_after : CrewTold} {status : ℕ} → crew_after ≡ crew
+    → RefusesOrStops name entry now cannot_hire UNHIRED status → Unhired name entry now crew crew_after status
 unhired_so same (inl stops) = exhausted_hire same stops
 unhired_so same (inr refuses) = unhired same refuses
 
 -- a book that was opened went on
-pub resumed_over : {K : Type 0} {gives : Order → Outcome → Type 0} {request : Request} {asked : Type 0} {name : List ℕ} {hired after_hiring : Option (List Want)} {entry now : DeskState} {status : ℕ}
+pub resumed_over : {K : Type 0} {gives : Order → Outcome → Type 0} {request : Request} {asked : Type 0} {name : List ℕ} {crew crew_after : CrewTold} {entry now : DeskState} {status : ℕ}
     (book : BookValue K) → CanRun book.plan → HoldsBook name entry book
-    → GoesFurther gives request asked name entry book hired after_hiring now status
-    → Resumes gives request asked name hired after_hiring entry now status
+    → GoesFurther gives request asked name entry book crew crew_after now status
+    → Resumes gives request asked name crew crew_after entry now status
 resumed_over book can is (nobody going none) = unhired_again book.plan book.past is going none
-resumed_over book can is (went_on how promised) = resumed book.plan book.past can is how promised
+resumed_over book can is (went_on back how promised) = resumed book.plan book.past can is back how promised

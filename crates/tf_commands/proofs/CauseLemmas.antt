@@ -63,7 +63,7 @@ module _ {K : Type 0} (state : K → DeskState) where
       → Obeys state gives asked_so command files ports later entry now status → AskedStatus command files status
   asked_status gives asked_so (asked.Try file sets defer hands target) files ports later entry now status obeys =
       by_file (source_so file sets defer target) refl (file_status files (source_so file sets defer target) _ _ (state entry).shown (state now).shown status
-      (λ plan did. tries_ended ports.hired later.hired (state entry).shown (state now).shown plan status did) obeys.0)
+      (λ plan did. tries_ended ports.crew later.crew (state entry).shown (state now).shown plan status did) obeys.0)
   asked_status gives asked_so (asked.Check file sets target) files ports later entry now status obeys =
       by_file (source_so file sets false target) refl (file_status files (source_so file sets false target) _ _ (state entry).shown (state now).shown status
       (λ plan did. checks_ended (state entry).shown (state now).shown _ status did) obeys.0)
@@ -71,17 +71,17 @@ module _ {K : Type 0} (state : K → DeskState) where
       by_log (source_so file sets defer None) log refl refl (audit_status files (source_so file sets defer None) log (state entry).shown (state now).shown status _ obeys.0)
   asked_status gives asked_so (asked.Run file book sets defer hands stop target) files ports later entry now status obeys =
       by_file (source_so file sets defer target) refl (file_status files (source_so file sets defer target) _ _ (state entry).shown (state now).shown status
-      (λ plan did. runs_ended book ports.hired later.hired (state entry) (state now) plan status did) obeys)
+      (λ plan did. runs_ended book ports.crew later.crew (state entry) (state now) plan status did) obeys)
   asked_status gives asked_so (asked.Resume book hands stop) files ports later entry now status obeys =
-      by_book (resumes_ended book ports.hired later.hired (state entry) (state now) status obeys)
+      by_book (resumes_ended book ports.crew later.crew (state entry) (state now) status obeys)
   asked_status gives asked_so (asked.Show book) files ports later entry now status obeys =
       by_book (shows_ended book (state entry) (state now) status obeys.0)
   asked_status gives asked_so (asked.Reset book) files ports later entry now status obeys =
       by_book (resets_ended book (state entry) (state now) status obeys.0)
   asked_status gives asked_so (asked.Demo seed size book hands) files ports later entry now status obeys =
-      by_book (demonstrates_ended book ports.hired later.hired entry now seed size status obeys)
+      by_book (demonstrates_ended book ports.crew later.crew entry now seed size status obeys)
   asked_status gives asked_so (asked.Worker address sessions) files ports later entry now status obeys =
-      by_book (works_ended status (works_one (gives (want.Local 1)) ports.hired later.hired ports.door later.door (state entry).shown (state now).shown address sessions status obeys.0))
+      by_book (works_ended status (works_one (gives (want.Local 1)) ports.crew later.crew ports.door later.door (state entry).shown (state now).shown address sessions status obeys.0))
   asked_status gives asked_so (asked.Post board name priority details) files ports later entry now status obeys =
       by_board refl (does_status (asked.Post board name priority details) board (state entry) (state now) status obeys.0)
   asked_status gives asked_so (asked.Claim board id owner) files ports later entry now status obeys =

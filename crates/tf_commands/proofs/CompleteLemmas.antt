@@ -3,7 +3,7 @@ use Rattle.std.proofs.Common.{◌≡◌, ◌⊎◌, ℕ, List, [], ◌++◌, len
 use Rattle.std.specs.Prelude.{IsTrue}
 use Rattle.tf_desk.specs.State.{DeskState}
 use Rattle.tf_flow.specs.Plan.{PlanValue, PlanTree}
-use Rattle.tf_ports.specs.Ports.{Contents}
+use Rattle.tf_ports.specs.Ports.{Contents, GivenBack, CrewTold}
 use Rattle.tf_ports.specs.declared.crews.Want.{Want}
 use Rattle.tf_ports.specs.declared.crews.Want.TheVariants as want
 use Rattle.tf_actions.specs.declared.orders.Order.{Order}
@@ -113,11 +113,11 @@ unhurt status before after causes none = record {
   hirable = λ is. none.crew (causes.unhired is);
 }
 
-tries_well : {gives : Order → Outcome → Type 0} {hands : Want} {asked : Type 0} (hired after_hiring : Option (List Want)) (before after : Option (List ℕ)) (tree : PlanTree) (status : ℕ) → IsUnhurt status → ¬ asked
-    → Tries gives hands asked hired after_hiring before after tree status → IsRunComplete status
-tries_well hired after_hiring before after tree status u unasked (course.unfinished_hire is same) = out_well status is
-tries_well hired after_hiring before after tree status u unasked (course.unhired same closes) = absurd (⊎_elim u.hirable u.sayable (closes_status before after _ 8 status closes))
-tries_well {gives} {hands} {asked} hired after_hiring before after tree status u unasked (course.tried hires t) =
+tries_well : {gives : Order → Outcome → Type 0} {hands : Want} {asked : Type 0} (crew crew_after : CrewTold) (before after : Option (List ℕ)) (tree : PlanTree) (status : ℕ) → IsUnhurt status → ¬ asked
+    → Tries gives hands asked crew crew_after before after tree status → IsRunComplete status
+tries_well crew crew_after before after tree status u unasked (course.unfinished_hire stays is same) = out_well status is
+tries_well crew crew_after before after tree status u unasked (course.unhired same closes) = absurd (⊎_elim u.hirable u.sayable (closes_status before after _ 8 status closes))
+tries_well {gives} {hands} {asked} crew crew_after before after tree status u unasked (course.tried hires t) =
     let apart = ran_apart t.plan [] t.entries t.stop before after t.closing status t.ran in
     ended_well_by None status (length t.entries) asked (ran_ended t.plan [] t.entries t.stop before after t.closing status t.ran) u.sound apart.0 u.sayable u.hirable apart.1 unasked
     (ran_suspended t.plan [] t.entries t.stop before after t.closing status t.ran)
@@ -165,38 +165,38 @@ unopened_well name entry now status u book told (exhausted stops) = stops.status
 unopened_well name entry now status u book told (disk_failed_opening r) = absurd (⊎_elim u.sound u.sayable (closes_status entry.shown now.shown _ 5 status r.closes))
 unopened_well name entry now status u book told (no_book offset byte is r) = absurd (book offset byte (is told))
 
-unhired_well : (name : List ℕ) (entry now : DeskState) (hired after_hiring : Option (List Want)) (status : ℕ) → IsUnhurt status
-    → Unhired name entry now hired after_hiring status → status ≡ 9
-unhired_well name entry now hired after_hiring status u (exhausted_hire same stops) = stops.status_is
-unhired_well name entry now hired after_hiring status u (unhired same r) = absurd (⊎_elim u.hirable u.sayable (closes_status entry.shown now.shown _ 8 status r.closes))
+unhired_well : (name : List ℕ) (entry now : DeskState) (crew crew_after : CrewTold) (status : ℕ) → IsUnhurt status
+    → Unhired name entry now crew crew_after status → status ≡ 9
+unhired_well name entry now crew crew_after status u (exhausted_hire same stops) = stops.status_is
+unhired_well name entry now crew crew_after status u (unhired same r) = absurd (⊎_elim u.hirable u.sayable (closes_status entry.shown now.shown _ 8 status r.closes))
 
-promised_well : {gives : Order → Outcome → Type 0} {request : Request} {asked : Type 0} (name : List ℕ) (plan : PlanValue) (before : List Entry) (entry now : DeskState) (status : ℕ) → IsUnhurt status → ¬ asked
-    → Promised gives request asked name plan before entry now status → IsRunCompleteBy request.limit status
+promised_well : {gives : Order → Outcome → Type 0} {request : Request} {asked : Type 0} {back : GivenBack} (name : List ℕ) (plan : PlanValue) (before : List Entry) (entry now : DeskState) (status : ℕ) → IsUnhurt status → ¬ asked
+    → Promised gives request asked back name plan before entry now status → IsRunCompleteBy request.limit status
 promised_well {gives} {request} {asked} name plan before entry now status u unasked p =
     let apart = ran_apart plan before p.entries p.stop entry.shown now.shown p.closing status p.ran in
     ended_well_by request.limit status (length p.entries) asked (ran_ended plan before p.entries p.stop entry.shown now.shown p.closing status p.ran) u.sound apart.0 u.sayable u.hirable apart.1 unasked
     (ran_suspended plan before p.entries p.stop entry.shown now.shown p.closing status p.ran)
 
-runs_well : {gives : Order → Outcome → Type 0} {request : Request} {asked : Type 0} (name : List ℕ) (hired after_hiring : Option (List Want)) (entry now : DeskState) (tree : PlanTree) (status : ℕ) → IsUnhurt status → ¬ asked → IsTrue entry.tells
-    → HoldsNoFlow (book_at entry name) → Runs gives request asked name hired after_hiring entry now tree status → IsRunCompleteBy request.limit status
-runs_well {gives} {request} name hired after_hiring entry now tree status u unasked told none (unopened same is) =
+runs_well : {gives : Order → Outcome → Type 0} {request : Request} {asked : Type 0} (name : List ℕ) (crew crew_after : CrewTold) (entry now : DeskState) (tree : PlanTree) (status : ℕ) → IsUnhurt status → ¬ asked → IsTrue entry.tells
+    → HoldsNoFlow (book_at entry name) → Runs gives request asked name crew crew_after entry now tree status → IsRunCompleteBy request.limit status
+runs_well {gives} {request} name crew crew_after entry now tree status u unasked told none (unopened same is) =
     out_well_by request.limit status (unopened_well name entry now status u (λ offset byte isnt. no_book_held _ offset byte none isnt) told is)
-runs_well name hired after_hiring entry now tree status u unasked told none (forbidden plan past same held r) = absurd (flow_held _ plan past none (held told))
-runs_well {gives} {request} name hired after_hiring entry now tree status u unasked told none (unhired_run so is) = out_well_by request.limit status (unhired_well name entry now hired after_hiring status u is)
-runs_well name hired after_hiring entry now tree status u unasked told none (ran plan same so hires p) = promised_well name plan [] entry now status u unasked p
+runs_well name crew crew_after entry now tree status u unasked told none (forbidden plan past same held r) = absurd (flow_held _ plan past none (held told))
+runs_well {gives} {request} name crew crew_after entry now tree status u unasked told none (unhired_run so is) = out_well_by request.limit status (unhired_well name entry now crew crew_after status u is)
+runs_well name crew crew_after entry now tree status u unasked told none (ran plan same so hires p) = promised_well name plan [] entry now status u unasked p
 
-demonstrates_well : {K : Type 0} {state : K → DeskState} {gives : Order → Outcome → Type 0} {hands : Want} {asked : Type 0} (name : List ℕ) (hired after_hiring : Option (List Want)) (entry now : K) (seed size status : ℕ) → IsUnhurt status → ¬ asked → IsTrue (state entry).tells
-    → HoldsNoFlow (book_at (state entry) name) → Demonstrates state gives hands asked name hired after_hiring entry now seed size status → IsRunComplete status
-demonstrates_well name hired after_hiring entry now seed size status u unasked told none (ungenerated is same still) = out_well status is
-demonstrates_well {K} {state} name hired after_hiring entry now seed size status u unasked told none (demonstrated runs) =
-    runs_well name hired after_hiring (state entry) (state now) (demo_tree seed size) status u unasked told none runs
+demonstrates_well : {K : Type 0} {state : K → DeskState} {gives : Order → Outcome → Type 0} {hands : Want} {asked : Type 0} (name : List ℕ) (crew crew_after : CrewTold) (entry now : K) (seed size status : ℕ) → IsUnhurt status → ¬ asked → IsTrue (state entry).tells
+    → HoldsNoFlow (book_at (state entry) name) → Demonstrates state gives hands asked name crew crew_after entry now seed size status → IsRunComplete status
+demonstrates_well name crew crew_after entry now seed size status u unasked told none (ungenerated is same still) = out_well status is
+demonstrates_well {K} {state} name crew crew_after entry now seed size status u unasked told none (demonstrated runs) =
+    runs_well name crew crew_after (state entry) (state now) (demo_tree seed size) status u unasked told none runs
 
-resumes_well : {gives : Order → Outcome → Type 0} {request : Request} {asked : Type 0} (name : List ℕ) (hired after_hiring : Option (List Want)) (entry now : DeskState) (status : ℕ) → IsUnhurt status → ¬ asked → IsTrue entry.tells
-    → HoldsFlow (book_at entry name) → Resumes gives request asked name hired after_hiring entry now status → IsRunCompleteBy request.limit status
-resumes_well {gives} {request} name hired after_hiring entry now status u unasked told has (unopened_again same is) = out_well_by request.limit status (unopened_well name entry now status u has.0 told is)
-resumes_well name hired after_hiring entry now status u unasked told has (empty same none r) = absurd (has.1 (none told))
-resumes_well {gives} {request} name hired after_hiring entry now status u unasked told has (unhired_again plan past held going is) = out_well_by request.limit status (unhired_well name entry now hired after_hiring status u is)
-resumes_well name hired after_hiring entry now status u unasked told has (resumed plan past runs held hires p) = promised_well name plan past entry now status u unasked p
+resumes_well : {gives : Order → Outcome → Type 0} {request : Request} {asked : Type 0} (name : List ℕ) (crew crew_after : CrewTold) (entry now : DeskState) (status : ℕ) → IsUnhurt status → ¬ asked → IsTrue entry.tells
+    → HoldsFlow (book_at entry name) → Resumes gives request asked name crew crew_after entry now status → IsRunCompleteBy request.limit status
+resumes_well {gives} {request} name crew crew_after entry now status u unasked told has (unopened_again same is) = out_well_by request.limit status (unopened_well name entry now status u has.0 told is)
+resumes_well name crew crew_after entry now status u unasked told has (empty same none r) = absurd (has.1 (none told))
+resumes_well {gives} {request} name crew crew_after entry now status u unasked told has (unhired_again plan past held going is) = out_well_by request.limit status (unhired_well name entry now crew crew_after status u is)
+resumes_well name crew crew_after entry now status u unasked told has (resumed plan past runs held back hires p) = promised_well name plan past entry now status u unasked p
 
 resets_well : (name : List ℕ) (entry now : DeskState) (status : ℕ) → IsUnhurt status → IsTrue entry.tells → HoldsReverted (book_at entry name)
     → ResetsBook name entry now status → IsResetComplete status
@@ -236,7 +236,7 @@ module _ {K : Type 0} (state : K → DeskState) where
   asked_well : (gives : Want → Order → Outcome → Type 0) (asked_so : Type 0) (command : Asked) (files : Contents) (ports later : PortsTold) (entry now : K) (status : ℕ) → IsUnhurt status → ¬ asked_so
       → MayBeDone command files (state entry) → Obeys state gives asked_so command files ports later entry now status → IsComplete command status
   asked_well gives asked_so (asked.Try file sets defer hands target) files ports later entry now status u unasked ready obeys =
-      well_or_out None status (Tries (gives hands) hands asked_so ports.hired later.hired (state entry).shown (state now).shown) (λ plan did. tries_well ports.hired later.hired (state entry).shown (state now).shown plan status u unasked did)
+      well_or_out None status (Tries (gives hands) hands asked_so ports.crew later.crew (state entry).shown (state now).shown) (λ plan did. tries_well ports.crew later.crew (state entry).shown (state now).shown plan status u unasked did)
       (accepted_done files (source_so file sets defer target) _ _ (state entry).shown (state now).shown status ready u.readable u.sayable obeys.0)
   asked_well gives asked_so (asked.Check file sets target) files ports later entry now status u unasked ready obeys =
       done_or_out status (Checks (state entry).shown (state now).shown) (λ plan did. checks_well (state entry).shown (state now).shown _ status u did)
@@ -247,17 +247,17 @@ module _ {K : Type 0} (state : K → DeskState) where
       (accepted_done files (source_so file sets defer None) _ _ (state entry).shown (state now).shown status ready.0 u.readable u.sayable obeys.0))
       ready.1 (audit_status files (source_so file sets defer None) log (state entry).shown (state now).shown status _ obeys.0)
   asked_well gives asked_so (asked.Run file book sets defer hands stop target) files ports later entry now status u unasked ready obeys =
-      well_or_out stop status (Runs (gives hands) (spoken_run hands stop) asked_so book ports.hired later.hired (state entry) (state now))
-      (λ plan did. runs_well book ports.hired later.hired (state entry) (state now) plan status u unasked ready.1.0 ready.1.1 did)
+      well_or_out stop status (Runs (gives hands) (spoken_run hands stop) asked_so book ports.crew later.crew (state entry) (state now))
+      (λ plan did. runs_well book ports.crew later.crew (state entry) (state now) plan status u unasked ready.1.0 ready.1.1 did)
       (accepted_done files (source_so file sets defer target) _ _ (state entry).shown (state now).shown status ready.0 u.readable u.sayable obeys)
   asked_well gives asked_so (asked.Resume book hands stop) files ports later entry now status u unasked ready obeys =
-      resumes_well book ports.hired later.hired (state entry) (state now) status u unasked ready.0 ready.1 obeys
+      resumes_well book ports.crew later.crew (state entry) (state now) status u unasked ready.0 ready.1 obeys
   asked_well gives asked_so (asked.Show book) files ports later entry now status u unasked ready obeys = shows_well book (state entry) (state now) status u ready.0 ready.1 obeys.0
   asked_well gives asked_so (asked.Reset book) files ports later entry now status u unasked ready obeys = resets_well book (state entry) (state now) status u ready.0 ready.1 obeys.0
   asked_well gives asked_so (asked.Demo seed size book hands) files ports later entry now status u unasked ready obeys =
-      demonstrates_well book ports.hired later.hired entry now seed size status u unasked ready.0 ready.1 obeys
+      demonstrates_well book ports.crew later.crew entry now seed size status u unasked ready.0 ready.1 obeys
   asked_well gives asked_so (asked.Worker address sessions) files ports later entry now status u unasked ready obeys =
-      works_well status u (works_one (gives (want.Local 1)) ports.hired later.hired ports.door later.door (state entry).shown (state now).shown address sessions status obeys.0)
+      works_well status u (works_one (gives (want.Local 1)) ports.crew later.crew ports.door later.door (state entry).shown (state now).shown address sessions status obeys.0)
   asked_well gives asked_so (asked.Post board name priority details) files ports later entry now status u unasked ready obeys =
       complete_so (asked.Post board name priority details) board (state entry) (state now) status obeys.0 ready.0 ready.1 u.sound u.sayable
   asked_well gives asked_so (asked.Claim board id owner) files ports later entry now status u unasked ready obeys =

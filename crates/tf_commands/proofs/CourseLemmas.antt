@@ -2,7 +2,7 @@
 use Rattle.std.proofs.Common.{◌≡◌, ◌≤◌, ℕ, length, List, Option, Some, None, Bool, true, false, refl, sym, inl, inr, subst}
 use Rattle.std.specs.Prelude.{Result, Ok, Err, IfErr, option_and_then, if◌then◌else◌}
 use Rattle.tf_flow.specs.Plan.{PlanTree, plan_tree}
-use Rattle.tf_ports.specs.Ports.{Contents, GivesBytes}
+use Rattle.tf_ports.specs.Ports.{Contents, GivesBytes, CrewTold}
 use Rattle.tf_ports.specs.declared.reading.TheConstants.{SOURCE_LIMIT}
 use Rattle.tf_desk.specs.State.{DeskState}
 use Rattle.tf_ports.specs.declared.crews.Want.{Want}
@@ -96,19 +96,19 @@ module _ {K : Type 0} (state : K → DeskState) where
       subst (λ (asks : Asked). Obeys state gives stopped asks files ports later entry now status) (sym is) obeys
 
 -- nobody was hired
-pub hires_nobody : (hands : Option Want) (hired : Option (List Want)) → HiresAsWanted hands hired hired
-hires_nobody None hired = refl
-hires_nobody (Some hands) hired = inl refl
+pub hires_nobody : (hands : Option Want) (crew : CrewTold) → HiresAsWanted hands crew crew
+hires_nobody None crew = refl
+hires_nobody (Some hands) crew = inl refl
 
 -- the hands that the words want are those of the command that they are
-pub hires_asked : (words : List (List ℕ)) (command : Asked) (hired after_hiring : Option (List Want)) → command_of words ≡ Some command → HiresAsWanted (want_of command) hired after_hiring
-    → HiresAsWanted (wanted_by words) hired after_hiring
-hires_asked words command hired after_hiring is hires =
-    subst (λ (o : Option Asked). HiresAsWanted (option_and_then want_of o) hired after_hiring) (sym is) hires
+pub hires_asked : (words : List (List ℕ)) (command : Asked) (crew crew_after : CrewTold) → command_of words ≡ Some command → HiresAsWanted (want_of command) crew crew_after
+    → HiresAsWanted (wanted_by words) crew crew_after
+hires_asked words command crew crew_after is hires =
+    subst (λ (o : Option Asked). HiresAsWanted (option_and_then want_of o) crew crew_after) (sym is) hires
 
 -- the hands that are wanted are those of an equal command
-pub hires_so : (command other : Asked) (hired after_hiring : Option (List Want)) → command ≡ other → HiresAsWanted (want_of other) hired after_hiring → HiresAsWanted (want_of command) hired after_hiring
-hires_so command other hired after_hiring is hires = subst (λ (asks : Asked). HiresAsWanted (want_of asks) hired after_hiring) (sym is) hires
+pub hires_so : (command other : Asked) (crew crew_after : CrewTold) → command ≡ other → HiresAsWanted (want_of other) crew crew_after → HiresAsWanted (want_of command) crew crew_after
+hires_so command other crew crew_after is hires = subst (λ (asks : Asked). HiresAsWanted (want_of asks) crew crew_after) (sym is) hires
 
 -- a command whose hands are within their bounds
 pub few_so : (command other : Asked) → command ≡ other → IsWithin command → IsWithin other

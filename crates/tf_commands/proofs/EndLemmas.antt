@@ -17,6 +17,7 @@ use Rattle.tf_commands.specs.Course.{Tries, IsRunComplete}
 use Rattle.tf_commands.specs.declared.running.Request.{Request}
 use Rattle.tf_report.specs.Closing.{ClosesWithOrStops}
 use Rattle.tf_report.proofs.ClosingLemmas.{closes_status}
+use Rattle.tf_ports.specs.Ports.{GivenBack, CrewTold}
 
 pub data Ended (status : ℕ) : Type 0 where
   is_complete : IsRunComplete status → Ended status
@@ -118,10 +119,10 @@ ran_suspended {gives} {request} plan before entries stop shown now closing statu
 
 -- ---- trials and checks
 
-pub tries_ended : {gives : Order → Outcome → Type 0} {hands : Want} {asked : Type 0} (hired after_hiring : Option (List Want)) (before after : Option (List ℕ)) (tree : PlanTree) (status : ℕ) → Tries gives hands asked hired after_hiring before after tree status → Ended status
-tries_ended hired after_hiring before after tree status (course.unfinished_hire is same) = out_ends status is
-tries_ended hired after_hiring before after tree status (course.unhired same closes) = ⊎_elim (λ is. is_unhired is) (λ is. is_unsaid is) (closes_status before after _ 8 status closes)
-tries_ended hired after_hiring before after tree status (course.tried hires t) = ran_ended t.plan [] t.entries t.stop before after t.closing status t.ran
+pub tries_ended : {gives : Order → Outcome → Type 0} {hands : Want} {asked : Type 0} (crew crew_after : CrewTold) (before after : Option (List ℕ)) (tree : PlanTree) (status : ℕ) → Tries gives hands asked crew crew_after before after tree status → Ended status
+tries_ended crew crew_after before after tree status (course.unfinished_hire stays is same) = out_ends status is
+tries_ended crew crew_after before after tree status (course.unhired same closes) = ⊎_elim (λ is. is_unhired is) (λ is. is_unsaid is) (closes_status before after _ 8 status closes)
+tries_ended crew crew_after before after tree status (course.tried hires t) = ran_ended t.plan [] t.entries t.stop before after t.closing status t.ran
 
 pub checks_ended : (before after : Option (List ℕ)) (message : List ℕ) (status : ℕ) → ClosesWithOrStops before message 0 after status → Ended status
 checks_ended before after message status (inl out) = out_ends status out.0
@@ -136,32 +137,32 @@ unopened_ended name entry now status (exhausted stops) = out_ends status stops.s
 unopened_ended name entry now status (disk_failed_opening r) = refuses_ended name entry now _ 5 status (is_failed refl) r
 unopened_ended name entry now status (no_book offset byte is r) = refuses_ended name entry now _ 6 status (is_no_book refl) r
 
-unhired_ended : (name : List ℕ) (entry now : DeskState) (hired after_hiring : Option (List Want)) (status : ℕ) → Unhired name entry now hired after_hiring status → Ended status
-unhired_ended name entry now hired after_hiring status (exhausted_hire same stops) = out_ends status stops.status_is
-unhired_ended name entry now hired after_hiring status (unhired same r) = refuses_ended name entry now _ 8 status (is_unhired refl) r
+unhired_ended : (name : List ℕ) (entry now : DeskState) (crew crew_after : CrewTold) (status : ℕ) → Unhired name entry now crew crew_after status → Ended status
+unhired_ended name entry now crew crew_after status (exhausted_hire same stops) = out_ends status stops.status_is
+unhired_ended name entry now crew crew_after status (unhired same r) = refuses_ended name entry now _ 8 status (is_unhired refl) r
 
-promised_ended : {gives : Order → Outcome → Type 0} {request : Request} {asked : Type 0} (name : List ℕ) (plan : PlanValue) (before : List Entry) (entry now : DeskState) (status : ℕ)
-    → Promised gives request asked name plan before entry now status → Ended status
+promised_ended : {gives : Order → Outcome → Type 0} {request : Request} {asked : Type 0} {back : GivenBack} (name : List ℕ) (plan : PlanValue) (before : List Entry) (entry now : DeskState) (status : ℕ)
+    → Promised gives request asked back name plan before entry now status → Ended status
 promised_ended name plan before entry now status p = ran_ended plan before p.entries p.stop entry.shown now.shown p.closing status p.ran
 
-pub runs_ended : {gives : Order → Outcome → Type 0} {request : Request} {asked : Type 0} (name : List ℕ) (hired after_hiring : Option (List Want)) (entry now : DeskState) (tree : PlanTree) (status : ℕ)
-    → Runs gives request asked name hired after_hiring entry now tree status → Ended status
-runs_ended name hired after_hiring entry now tree status (unopened same u) = unopened_ended name entry now status u
-runs_ended name hired after_hiring entry now tree status (forbidden plan past same held r) = refuses_ended name entry now _ 14 status (is_forbidden refl) r
-runs_ended name hired after_hiring entry now tree status (unhired_run none u) = unhired_ended name entry now hired after_hiring status u
-runs_ended name hired after_hiring entry now tree status (ran plan same none hires p) = promised_ended name plan [] entry now status p
+pub runs_ended : {gives : Order → Outcome → Type 0} {request : Request} {asked : Type 0} (name : List ℕ) (crew crew_after : CrewTold) (entry now : DeskState) (tree : PlanTree) (status : ℕ)
+    → Runs gives request asked name crew crew_after entry now tree status → Ended status
+runs_ended name crew crew_after entry now tree status (unopened same u) = unopened_ended name entry now status u
+runs_ended name crew crew_after entry now tree status (forbidden plan past same held r) = refuses_ended name entry now _ 14 status (is_forbidden refl) r
+runs_ended name crew crew_after entry now tree status (unhired_run none u) = unhired_ended name entry now crew crew_after status u
+runs_ended name crew crew_after entry now tree status (ran plan same none hires p) = promised_ended name plan [] entry now status p
 
-pub demonstrates_ended : {K : Type 0} {state : K → DeskState} {gives : Order → Outcome → Type 0} {hands : Want} {asked : Type 0} (name : List ℕ) (hired after_hiring : Option (List Want)) (entry now : K) (seed size status : ℕ)
-    → Demonstrates state gives hands asked name hired after_hiring entry now seed size status → Ended status
-demonstrates_ended name hired after_hiring entry now seed size status (ungenerated is same still) = out_ends status is
-demonstrates_ended {K} {state} name hired after_hiring entry now seed size status (demonstrated runs) = runs_ended name hired after_hiring (state entry) (state now) (demo_tree seed size) status runs
+pub demonstrates_ended : {K : Type 0} {state : K → DeskState} {gives : Order → Outcome → Type 0} {hands : Want} {asked : Type 0} (name : List ℕ) (crew crew_after : CrewTold) (entry now : K) (seed size status : ℕ)
+    → Demonstrates state gives hands asked name crew crew_after entry now seed size status → Ended status
+demonstrates_ended name crew crew_after entry now seed size status (ungenerated is same still) = out_ends status is
+demonstrates_ended {K} {state} name crew crew_after entry now seed size status (demonstrated runs) = runs_ended name crew crew_after (state entry) (state now) (demo_tree seed size) status runs
 
-pub resumes_ended : {gives : Order → Outcome → Type 0} {request : Request} {asked : Type 0} (name : List ℕ) (hired after_hiring : Option (List Want)) (entry now : DeskState) (status : ℕ)
-    → Resumes gives request asked name hired after_hiring entry now status → Ended status
-resumes_ended name hired after_hiring entry now status (unopened_again same u) = unopened_ended name entry now status u
-resumes_ended name hired after_hiring entry now status (empty same none r) = refuses_ended name entry now _ 14 status (is_forbidden refl) r
-resumes_ended name hired after_hiring entry now status (unhired_again plan past held going u) = unhired_ended name entry now hired after_hiring status u
-resumes_ended name hired after_hiring entry now status (resumed plan past runs held hires p) = promised_ended name plan past entry now status p
+pub resumes_ended : {gives : Order → Outcome → Type 0} {request : Request} {asked : Type 0} (name : List ℕ) (crew crew_after : CrewTold) (entry now : DeskState) (status : ℕ)
+    → Resumes gives request asked name crew crew_after entry now status → Ended status
+resumes_ended name crew crew_after entry now status (unopened_again same u) = unopened_ended name entry now status u
+resumes_ended name crew crew_after entry now status (empty same none r) = refuses_ended name entry now _ 14 status (is_forbidden refl) r
+resumes_ended name crew crew_after entry now status (unhired_again plan past held going u) = unhired_ended name entry now crew crew_after status u
+resumes_ended name crew crew_after entry now status (resumed plan past runs held back hires p) = promised_ended name plan past entry now status p
 
 pub shows_ended : (name : List ℕ) (entry now : DeskState) (status : ℕ) → ShowsBook name entry now status → Ended status
 shows_ended name entry now status (unopened_show u) = unopened_ended name entry now status u

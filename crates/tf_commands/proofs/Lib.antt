@@ -26,3 +26,4 @@ pub mod BookLemmas
 pub mod TrialLemmas
 pub mod WorkLemmas
 pub mod WantLemmas
+pub mod OrderLemmas

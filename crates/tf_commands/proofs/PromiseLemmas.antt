@@ -1,6 +1,9 @@
 -- What is promised of a command on a book: how it was opened, and how the run went.
 use Rattle.std.proofs.Common.{◌≡◌, ◌⊎◌, ℕ, ◌≤◌, List, [], ◌++◌, length, Bool, Option, Some, None, refl, sym, ap, ◌∙◌, subst, inl, inr, ⊎_elim, append-nil, arith}
 use Rattle.std.specs.Prelude.{IsTrue, false, unwrap_or}
+use Rattle.std.specs.List.{AllByRecursion}
+use Rattle.tf_model.specs.Plan.{outline_of}
+use Rattle.tf_ports.specs.Ports.{IsFresh}
 use Rattle.tf_desk.proofs.StateLemmas.{extends_told}
 use Rattle.tf_desk.specs.Crash.{Pairs, ShowsPrefix}
 use Rattle.tf_desk.specs.State.{DeskState, Continues, Says}
@@ -17,7 +20,7 @@ use Rattle.tf_book.proofs.InvariantLemmas.{history_on}
 use Rattle.tf_book.proofs.SpokenLemmas.{shown_none}
 use Rattle.tf_journal.proofs.PathLemmas.{set_start, path_said}
 use Rattle.tf_commands.specs.Begun.{Begins, Unbegun}
-use Rattle.tf_commands.specs.Books.{Promised, book_in, book_at, HoldsNoFlow, HoldsHistory, FindsHistory, MayLeave, Lasts, MayRun, Ran, RunShows, closed, stopped, disk_failed}
+use Rattle.tf_commands.specs.Books.{Promised, HasStopped, WereGiven, book_in, book_at, HoldsNoFlow, HoldsHistory, FindsHistory, MayLeave, Lasts, MayRun, Ran, RunShows, closed, stopped, disk_failed}
 use Rattle.tf_report.specs.Closing.{disk_fault_text, ClosesWith}
 use Rattle.tf_report.specs.declared.statuses.TheConstants.{DISK_FAILED, OUT_OF_MEMORY}
 use Rattle.tf_commands.specs.declared.running.Request.{Request}
@@ -25,6 +28,7 @@ use Rattle.tf_commands.specs.Runs.{book_desk, HoldsBook, RunLasts, LastsFrom, Ru
 use Rattle.tf_commands.proofs.AskedLemmas.{ran_more}
 use Rattle.tf_commands.proofs.FlowLemmas.{flow_held}
 use Rattle.tf_commands.proofs.HaltLemmas.{none_so}
+use Rattle.tf_commands.proofs.OrderLemmas.{none_given}
 use Rattle.tf_commands.proofs.PathLemmas.{ReadsPicked, reads_as, set_continues, path_continues}
 use Rattle.tf_commands.proofs.RunLemmas.{unbegun}
 
@@ -41,16 +45,17 @@ found_leaves first plan quiet before entries pending shown closing image text fi
 }
 
 -- a run that couldn't begin: its message was said or cut, or memory ran out
-pub unbegun_promised : (gives : Order → Outcome → Type 0) (request : Request) (asked : Type 0) (name : List ℕ) (plan : PlanValue) (entry mid now : DeskState) (closing : List ℕ) (status : ℕ)
+pub unbegun_promised : (gives : Order → Outcome → Type 0) (request : Request) (asked : Type 0) (did : List (Option (List Order))) (name : List ℕ) (plan : PlanValue) (entry mid now : DeskState) (closing : List ℕ) (status : ℕ)
     → Unbegun name entry plan mid
     → ((closing ≡ disk_fault_text) × ClosesWith mid.shown disk_fault_text DISK_FAILED now.shown status) ⊎ ((closing ≡ []) × (status ≡ OUT_OF_MEMORY) × (now.shown ≡ mid.shown))
-    → Says closing mid now → ReadsPicked name now
-    → Promised gives request asked name plan [] entry now status
-unbegun_promised gives request asked name plan entry mid now closing status u ends says laws = record {
+    → Says closing mid now → ReadsPicked name now → AllByRecursion IsFresh did
+    → Promised gives request asked (Some did) name plan [] entry now status
+unbegun_promised gives request asked did name plan entry mid now closing status u ends says laws fresh = record {
   entries = [];
   stop = None;
   closing = closing;
   ran = unbegun gives request asked plan entry.shown now.shown closing status (text ends);
+  orders_given = none_given (HasStopped status) (outline_of plan) [] did fresh;
   lasts = λ told.
       let told_mid : IsTrue mid.tells = subst IsTrue (sym u.quiet.told) told in
       let told_now : IsTrue now.tells = subst IsTrue (sym says.tells) told_mid in
@@ -121,12 +126,12 @@ module _ {K : Type 0} (state : K → DeskState) where
       }
 
   -- a run that began in this call
-  pub begun_promised : (gives : Order → Outcome → Type 0) (request : Request) (asked more : Type 0) (name : List ℕ) (plan : PlanValue) (entry : DeskState) (book : BookValue K) (now : DeskState) (status : ℕ)
+  pub begun_promised : (gives : Order → Outcome → Type 0) (request : Request) (asked more : Type 0) (did : List (Option (List Order))) (name : List ℕ) (plan : PlanValue) (entry : DeskState) (book : BookValue K) (now : DeskState) (status : ℕ)
       → Begins state name entry plan book
-      → RunsOn state gives request asked book now status → ReadsPicked name now
+      → RunsOn state gives request asked did book now status → ReadsPicked name now
       → book.quiet ≡ request.quiet → (asked → more)
-      → Promised gives request more name plan [] entry now status
-  begun_promised gives request asked more name plan entry book now status b r laws speaks widens = record {
+      → Promised gives request more (Some did) name plan [] entry now status
+  begun_promised gives request asked more did name plan entry book now status b r laws speaks widens = record {
     entries = r.entries;
     stop = r.stop;
     closing = r.closing;
@@ -134,6 +139,8 @@ module _ {K : Type 0} (state : K → DeskState) where
         (subst (λ (p : PlanValue). Ran gives request asked p [] r.entries r.stop entry.shown now.shown r.closing status) b.plan_is
         (subst (λ (past : List Entry). Ran gives request asked book.plan past r.entries r.stop entry.shown now.shown r.closing status) b.past_is
         (subst (λ (o : Option (List ℕ)). Ran gives request asked book.plan book.past r.entries r.stop o now.shown r.closing status) b.quiet.shown r.ran)));
+    orders_given = subst (λ (p : PlanValue). WereGiven (HasStopped status) (outline_of p) [] (r.entries ++ []) did) b.plan_is
+        (subst (λ (past : List Entry). WereGiven (HasStopped status) (outline_of book.plan) past (r.entries ++ past) did) b.past_is r.orders_given);
     lasts = λ told.
         let told_book : IsTrue (book_desk state book).tells = subst IsTrue (sym b.quiet.told) told in
         let start = set_start (b.quiet.set told) in
@@ -171,16 +178,17 @@ module _ {K : Type 0} (state : K → DeskState) where
       laws
 
   -- a run that went on from the history which the book held
-  pub resumed_promised : (gives : Order → Outcome → Type 0) (request : Request) (asked : Type 0) (name : List ℕ) (entry : DeskState) (book : BookValue K) (now : DeskState) (status : ℕ)
+  pub resumed_promised : (gives : Order → Outcome → Type 0) (request : Request) (asked : Type 0) (did : List (Option (List Order))) (name : List ℕ) (entry : DeskState) (book : BookValue K) (now : DeskState) (status : ℕ)
       → Open name entry (book_desk state book) → book.journal.volatile ≡ false → HoldsBook name entry book
-      → RunsOn state gives request asked book now status → ReadsPicked name now
+      → RunsOn state gives request asked did book now status → ReadsPicked name now
       → book.quiet ≡ request.quiet
-      → Promised gives request asked name book.plan book.past entry now status
-  resumed_promised gives request asked name entry book now status o kept holds r laws speaks = record {
+      → Promised gives request asked (Some did) name book.plan book.past entry now status
+  resumed_promised gives request asked did name entry book now status o kept holds r laws speaks = record {
     entries = r.entries;
     stop = r.stop;
     closing = r.closing;
     ran = subst (λ (t : Option (List ℕ)). Ran gives request asked book.plan book.past r.entries r.stop t now.shown r.closing status) o.untouched.quiet r.ran;
+    orders_given = r.orders_given;
     lasts = λ told.
         subst (λ (q : Bool). Lasts (MayRun gives request book.plan) name book.plan q book.past r.entries entry now r.closing) speaks
         (opened_lasts (MayRun gives request book.plan) name entry book now r.entries r.closing o kept holds r.lasts r.continues laws told);

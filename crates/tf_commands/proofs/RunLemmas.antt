@@ -29,11 +29,12 @@ use Rattle.tf_book.specs.declared.faults.Halt.TheVariants as halt
 use Rattle.tf_engines.specs.Runs.{AreGiven, IsSession, MayRecord, MightRecord}
 use Rattle.tf_commands.specs.declared.running.Request.{Request}
 use Rattle.tf_book.specs.Turns.{IsTried}
-use Rattle.tf_commands.specs.Books.{heading_of, MayRun, HasSteps, HasReached, stop_status, IsLastSaid, reported, disk_failed, filled, ShowsLines, RunShows, closed, stopped, Ran, MayLeave}
+use Rattle.tf_commands.specs.Books.{heading_of, MayRun, HasSteps, HasReached, HasStopped, stop_status, IsLastSaid, reported, disk_failed, filled, ShowsLines, RunShows, closed, stopped, Ran, MayLeave}
 use Rattle.tf_commands.specs.Runs.{HasSaidHalt, IsRunTo, book_desk, RunsOn}
 use Rattle.tf_report.specs.Closing.{ClosesWith}
 use Rattle.tf_report.specs.declared.statuses.TheConstants.{UNSAID, OUT_OF_MEMORY, DISK_FAILED}
 use Rattle.tf_commands.proofs.HaltLemmas.{says_nothing, left_runs, closing_runs, none_so, halt_lasts, halt_ended, halt_shows, said_lasts, sound_text}
+use Rattle.tf_commands.proofs.OrderLemmas.{given_so, halt_unstopped}
 use Rattle.tf_commands.proofs.ReachLemmas.{reached_by}
 use Rattle.tf_commands.proofs.ReportLemmas.{StatusAfter, ClosingFor, report_said, report_ended}
 
@@ -93,12 +94,12 @@ run_failed gives request start now number all plan failed =
 
 module _ {K : Type 0} (state : K → DeskState) where
   -- the report was said, or cut, or memory ran out
-  pub closes_run : (gives : Order → Outcome → Type 0) (request : Request) (asked : Type 0) (start book new : BookValue K) (last : FlowState) (closing : List ℕ) (status : ℕ)
+  pub closes_run : (gives : Order → Outcome → Type 0) (request : Request) (asked : Type 0) (did : List (Option (List Order))) (start book new : BookValue K) (last : FlowState) (closing : List ℕ) (status : ℕ)
       → ((plan : Outline) (past : List Entry) → heading_of request plan past ≡ [])
-      → IsRunTo state gives request asked start book (Some last) → new.past ≡ book.past → new.plan ≡ book.plan
+      → IsRunTo state gives request asked did start book (Some last) → book.halt ≡ None → new.past ≡ book.past → new.plan ≡ book.plan
       → Closed state start new closing → ClosingFor (report (outline book) (moment book)) new.halt closing → StatusAfter last new.halt status
-      → RunsOn state gives request asked start (book_desk state new) status
-  closes_run gives request asked start book new last closing status plain to same plan c closes is =
+      → RunsOn state gives request asked did start (book_desk state new) status
+  closes_run gives request asked did start book new last closing status plain to sound same plan c closes is =
       let so_far : IsHistoryOf start.plan (c.entries ++ start.past) = subst (IsHistoryOf start.plan) (sym same ∙ c.recorded) to.history in
       let report_is : report (outline book) (moment book) ≡ report (outline start) (snapshot (outline start) (c.entries ++ start.past)) =
       ap (λ (p : PlanValue). report (outline_of p) (snapshot (outline_of p) book.past)) to.kept.plan
@@ -122,6 +123,7 @@ module _ {K : Type 0} (state : K → DeskState) where
         };
         ran = ran_so gives request asked start.plan start.past book.past c.entries (Some last) (book_desk state start).shown (book_desk state new).shown closing status to.session (sym same ∙ c.recorded)
             to.history.runs.0 to.limits to.short_before to.short told;
+        orders_given = given_so (HasStopped status) (outline start) start.past (c.entries ++ start.past) did (sym same ∙ c.recorded) (λ stopped. sound) to.orders_given;
         continues = c.continues;
         off_disk = c.off_disk;
         ended = report_ended last new.halt status (book_desk state start) (book_desk state new) start.plan new.past new.failed is c.cause;
@@ -137,13 +139,13 @@ module _ {K : Type 0} (state : K → DeskState) where
           (record { is = l.0; history = so_far }) l.1
 
   -- the report behind its heading was said, or cut
-  pub sums_run : (gives : Order → Outcome → Type 0) (request : Request) (asked : Type 0) (start book : BookValue K) (last : FlowState) (closing : List ℕ) (now : DeskState) (status : ℕ)
-      → IsRunTo state gives request asked start book (Some last) → book.halt ≡ None → book.journal.halted ≡ false
+  pub sums_run : (gives : Order → Outcome → Type 0) (request : Request) (asked : Type 0) (did : List (Option (List Order))) (start book : BookValue K) (last : FlowState) (closing : List ℕ) (now : DeskState) (status : ℕ)
+      → IsRunTo state gives request asked did start book (Some last) → book.halt ≡ None → book.journal.halted ≡ false
       → closing ≡ heading_of request (outline book) book.past ++ report (outline book) (moment book)
       → ClosesWith (book_desk state book).shown closing (stop_status last) now.shown status → Says closing (book_desk state book) now
       → (status ≡ UNSAID → Rises (book_desk state book).out_faults now.out_faults) → status ≢ DISK_FAILED
-      → RunsOn state gives request asked start now status
-  sums_run gives request asked start book last closing now status to sound unhalted closing_is closes says unsaid undamaged =
+      → RunsOn state gives request asked did start now status
+  sums_run gives request asked did start book last closing now status to sound unhalted closing_is closes says unsaid undamaged =
       let k = to.kept in
       let spoken = sound_text state start book sound k in
       let same : closing ≡ heading_of request (outline start) (k.entries ++ start.past) ++ report (outline start) (snapshot (outline start) (k.entries ++ start.past)) =
@@ -161,6 +163,7 @@ module _ {K : Type 0} (state : K → DeskState) where
             (closed closing (stop_status last) status
             (subst (λ (c : List ℕ). IsLastSaid (MayRun gives request start.plan) start.plan (heading_of request (outline start) (k.entries ++ start.past)) (k.entries ++ start.past) (Some last) c (stop_status last)) (sym same) (reported last))
             (subst (λ (t : Option (List ℕ)). ClosesWith t closing (stop_status last) now.shown status) spoken closes)));
+        orders_given = given_so (HasStopped status) (outline start) start.past (k.entries ++ start.past) did k.recorded (λ stopped. sound) to.orders_given;
         continues = continues_on k.continues (says_continues says);
         off_disk = λ volatile. off_on (k.off_disk volatile) (λ told. extends_told k.continues.extends told) (off_says says);
         ended = record {
@@ -170,10 +173,10 @@ module _ {K : Type 0} (state : K → DeskState) where
       }
 
   -- memory ran out before the report was made
-  pub stops_run : (gives : Order → Outcome → Type 0) (request : Request) (asked : Type 0) (start book : BookValue K) (last : FlowState)
-      → IsRunTo state gives request asked start book (Some last) → book.halt ≡ None → book.journal.halted ≡ false
-      → RunsOn state gives request asked start (book_desk state book) OUT_OF_MEMORY
-  stops_run gives request asked start book last to sound unhalted =
+  pub stops_run : (gives : Order → Outcome → Type 0) (request : Request) (asked : Type 0) (did : List (Option (List Order))) (start book : BookValue K) (last : FlowState)
+      → IsRunTo state gives request asked did start book (Some last) → book.halt ≡ None → book.journal.halted ≡ false
+      → RunsOn state gives request asked did start (book_desk state book) OUT_OF_MEMORY
+  stops_run gives request asked did start book last to sound unhalted =
       let k = to.kept in
       let spoken = sound_text state start book sound k in
       record {
@@ -185,18 +188,19 @@ module _ {K : Type 0} (state : K → DeskState) where
             to.history.runs.0 to.limits to.short_before to.short
             (subst (λ (b : Bool). ShowsLines start.plan b start.past k.entries (book_desk state start).shown (book_desk state book).shown
             (IsLastSaid (MayRun gives request start.plan) start.plan (heading_of request (outline start) (k.entries ++ start.past)) (k.entries ++ start.past) (Some last)) [] OUT_OF_MEMORY) to.speaks (stopped spoken));
+        orders_given = given_so (HasStopped OUT_OF_MEMORY) (outline start) start.past (k.entries ++ start.past) did k.recorded (λ stopped. sound) to.orders_given;
         continues = k.continues;
         off_disk = k.off_disk;
         ended = record { unsaid = λ is. absurd (cc); failed = λ is. absurd (cc) };
       }
 
   -- why the book was halted was said, or cut, or it says nothing
-  pub halts_run : (gives : Order → Outcome → Type 0) (request : Request) (asked : Type 0) (start book : BookValue K) (stop : Option FlowState) (why : Halt) (now : DeskState) (status : ℕ)
-      → IsRunTo state gives request asked start book stop → book.halt ≡ Some why
+  pub halts_run : (gives : Order → Outcome → Type 0) (request : Request) (asked : Type 0) (did : List (Option (List Order))) (start book : BookValue K) (stop : Option FlowState) (why : Halt) (now : DeskState) (status : ℕ)
+      → IsRunTo state gives request asked did start book stop → book.halt ≡ Some why
       → (book.halt ≢ Some halt.Disk → book.journal.halted ≡ false)
       → HasSaidHalt why (book_desk state book) now status
-      → RunsOn state gives request asked start now status
-  halts_run gives request asked start book stop why now status to halted unhalted s =
+      → RunsOn state gives request asked did start now status
+  halts_run gives request asked did start book stop why now status to halted unhalted s =
       let k = to.kept in
       record {
         entries = k.entries;
@@ -210,6 +214,7 @@ module _ {K : Type 0} (state : K → DeskState) where
             (halt_shows state start book why now status
             (IsLastSaid (MayRun gives request start.plan) start.plan (heading_of request (outline start) (k.entries ++ start.past)) (k.entries ++ start.past) stop)
             (MayRun gives request start.plan) halted s k (λ e may. disk_failed stop may.unended) (filled stop) to.failed));
+        orders_given = given_so (HasStopped status) (outline start) start.past (k.entries ++ start.past) did k.recorded (λ stopped. absurd (halt_unstopped s stopped)) to.orders_given;
         continues = continues_on k.continues (says_continues s.says);
         off_disk = λ volatile. off_on (k.off_disk volatile) (λ told. extends_told k.continues.extends told) (off_says s.says);
         ended = halt_ended state start book why now status halted s k;

@@ -1,21 +1,22 @@
 -- The lines of a worker's sessions.
 use Rattle.std.proofs.Common.{◌≡◌, ◌≢◌, ℕ, ◌+◌, ◌<◌, ◌≤◌, List, [], ◌∷◌, ◌++◌, length, take, get_or, Option, Some, None, inl, inr, refl, sym, ap, ◌∙◌, subst, arith, append_assoc, append-nil, length-append, map, Result, Ok, Err}
-use Rattle.std.specs.Prelude.{◌⊎◌, IsTrue, OnOk, IfErr}
+use Rattle.std.specs.Prelude.{◌⊎◌, IsTrue, OnOk, IfErr, option_map}
 use Rattle.std.specs.List.{AllByRecursion}
 use Rattle.std.proofs.Math.Seq.{take-append-add}
 use Rattle.std.proofs.lemmas.List.{map-append, length-map, take_more}
 use Rattle.tf_actions.specs.Gives.{told_with}
 use Rattle.tf_actions.specs.declared.orders.Order.{Order}
 use Rattle.tf_actions.specs.declared.outcomes.Outcome.{Outcome}
-use Rattle.tf_ports.specs.Ports.{SeenLink, DoorTold, told_with_all, opened_at, gave_link, took_back}
+use Rattle.tf_ports.specs.Ports.{SeenLink, DoorTold, GivenBack, IsFresh, hired_for, gave_back, told_with_all, opened_at, gave_link, took_back, CrewTold}
 use Rattle.tf_ports.specs.declared.crews.Address.{Address}
 use Rattle.tf_ports.specs.declared.crews.Want.{Want}
+use Rattle.tf_ports.specs.declared.crews.Want.TheVariants as want
 use Rattle.tf_workers.specs.Session.{Serves}
 use Rattle.tf_desk.specs.Crash.{shown_with, ShowsPrefix}
 use Rattle.tf_desk.specs.State.{DeskState, Says}
 use Rattle.tf_workers.specs.declared.serving.ServeEnd.{ServeEnd}
 use Rattle.tf_workers.specs.declared.serving.ServeEnd.TheVariants as end
-use Rattle.tf_commands.specs.Messages.{cannot_hire, cannot_listen, session_line, session_lines, IsOver, Served, ends_of, seen_with, AreServed, GivesLinks, ServesNext, SaysSession, CutsSession, unsaid_whole, unsaid_part, SaysSessions, SaysNext, StopsNext, ServesAll, Works, HasStopCause, HasServeCause, exhausted_next, no_next_link, unsaid_next, all_served, exhausted, no_link, cut_short, unbegun, unhired, unopened, worked}
+use Rattle.tf_commands.specs.Messages.{IsGivenBack, HiresHere, cannot_hire, cannot_listen, session_line, session_lines, IsOver, Served, ends_of, seen_with, AreServed, GivesLinks, ServesNext, SaysSession, CutsSession, unsaid_whole, unsaid_part, SaysSessions, SaysNext, StopsNext, ServesAll, Works, HasStopCause, HasServeCause, exhausted_next, no_next_link, unsaid_next, all_served, exhausted, no_link, cut_short, unhired_memory, unhired, unopened_memory, unopened, worked}
 use Rattle.tf_commands.specs.Books.{OnlySays}
 use Rattle.tf_report.specs.declared.statuses.TheConstants.{SUCCEEDED, UNHIRED, OUT_OF_MEMORY, UNSAID}
 use Rattle.tf_report.proofs.ClosingLemmas.{closes_status}
@@ -193,31 +194,31 @@ serves_more gives did now_did later_did old mid new before now after number had 
 
 -- no session more
 pub serves_so_far : (gives : Order → Outcome → Type 0) (did now_did later_did : Option (List Order)) (old mid new : DoorTold) (before now after : Option (List ℕ)) (number sessions status : ℕ)
-    → HasServed gives did now_did old mid before now number → number < sessions → StopsNext gives now_did later_did mid new now after (number + 1) status → ServesAll gives old new before after sessions status
-serves_so_far gives did now_did later_did old mid new before now after number sessions status had few (exhausted_next is same more back one less links) =
+    → HasServed gives did now_did old mid before now number → number < sessions → StopsNext gives now_did later_did mid new now after (number + 1) status → ServesAll gives did later_did old new before after sessions status
+serves_so_far gives did now_did later_did old mid new before now after number sessions status had few (exhausted_next is same more back one less besides links) =
     exhausted is had.served (omega (arith, had.long)) (record {
-      did = did;
-      now = now_did;
+      then_did = now_did;
       are = had.are;
       more = more;
       back = back;
       few = (one, less);
+      besides = besides;
       links = links_besides had.served more back old mid new had.links links;
     }) (subst (λ (shown : Option (List ℕ)). SaysSessions before shown (ends_of had.served)) (sym same) had.says)
-serves_so_far gives did now_did later_did old mid new before now after number sessions status had few (no_next_link same closes) =
-    no_link had.served now (omega (arith, had.long)) (did, now_did, had.are, subst (GivesLinks had.served [] [] old) (sym same) had.links) had.says closes
+serves_so_far gives did now_did later_did old mid new before now after number sessions status had few (no_next_link same idle closes) =
+    no_link had.served now (omega (arith, had.long)) (subst (AreServed gives did had.served) (sym idle) had.are, subst (GivesLinks had.served [] [] old) (sym same) had.links) had.says closes
 serves_so_far gives did now_did later_did old mid new before now after number sessions status had few (unsaid_next is session serves over prefix) =
     let ends = ends_of had.served in
     cut_short is (had.served ++ session ∷ []) (omega (arith, had.long, length-append had.served (session ∷ [])))
-    (did, later_did, served_more gives did now_did later_did had.served session had.are serves.last serves.serves, links_more had.served session old mid new had.links serves.links)
+    (served_more gives did now_did later_did had.served session had.are serves.last serves.serves, links_more had.served session old mid new had.links serves.links)
     (subst (AllByRecursion IsOver) (sym (ends_more had.served session)) (over_more ends session.how had.says.over over))
     (subst (λ (lines : List ℕ). ShowsPrefix before lines after) (next_line before number ends session.how (ends_long had.served ∙ had.long) ∙ ap (session_lines 1) (sym (ends_more had.served session)))
     (prefix_more before now after (session_lines 1 ends) (session_line (number + 1) session.how) had.says.said prefix))
 
 -- all of them
 pub serves_whole : (gives : Order → Outcome → Type 0) (did now_did : Option (List Order)) (old new : DoorTold) (before now : Option (List ℕ)) (number sessions status : ℕ)
-    → HasServed gives did now_did old new before now number → number ≡ sessions → status ≡ SUCCEEDED → ServesAll gives old new before now sessions status
-serves_whole gives did now_did old new before now number sessions status had all is = all_served is had.served (had.long ∙ all) (did, now_did, had.are, had.links) had.says
+    → HasServed gives did now_did old new before now number → number ≡ sessions → status ≡ SUCCEEDED → ServesAll gives did now_did old new before now sessions status
+serves_whole gives did now_did old new before now number sessions status had all is = all_served is had.served (had.long ∙ all) (had.are, had.links) had.says
 
 -- the line of a session was said, or cut
 pub says_next : (gives : Order → Outcome → Type 0) (did now_did : Option (List Order)) (first last : SeenLink) (how : ServeEnd) (old mid new : DoorTold) (before now : Option (List ℕ)) (number : ℕ)
@@ -231,7 +232,7 @@ says_next gives did now_did first last how old mid new before now number gave se
 pub stops_next : (gives : Order → Outcome → Type 0) (did now_did : Option (List Order)) (first last : SeenLink) (how : ServeEnd) (old mid new : DoorTold) (before now : Option (List ℕ)) (number status : ℕ)
     → mid ≡ gave_link old first → Serves gives (seen_with first did) (seen_with last now_did) how → new ≡ took_back mid last → CutsSession before now number how status → StopsNext gives did now_did old new before now number status
 stops_next gives did now_did first last how old mid new before now number status gave serves back (unsaid_whole is same) =
-    exhausted_next is same (first ∷ []) (last ∷ []) (omega arith) (omega arith) (link_and_back first last old new (back ∙ ap (λ (door : DoorTold). took_back door last) gave))
+    exhausted_next is same (first ∷ []) (last ∷ []) (omega arith) (omega arith) (inr (first, last, how, refl, serves)) (link_and_back first last old new (back ∙ ap (λ (door : DoorTold). took_back door last) gave))
 stops_next gives did now_did first last how old mid new before now number status gave serves back (unsaid_part is over prefix) =
     unsaid_next is (record { how = how; first = first; last = last; did = now_did })
     (record { last = refl; serves = serves; links = back ∙ ap (λ (door : DoorTold). took_back door last) gave }) over prefix
@@ -255,19 +256,20 @@ printed number from how bytes out empty same is none number_is = same ∙ is ∙
 
 -- ---- how a worker ends
 
-serves_one : (gives : Order → Outcome → Type 0) (old new : DoorTold) (before now : Option (List ℕ)) (sessions status : ℕ) → ServesAll gives old new before now sessions status
+serves_one : (gives : Order → Outcome → Type 0) (did now_did : Option (List Order)) (old new : DoorTold) (before now : Option (List ℕ)) (sessions status : ℕ) → ServesAll gives did now_did old new before now sessions status
     → (status ≡ SUCCEEDED) ⊎ (status ≡ OUT_OF_MEMORY) ⊎ (status ≡ UNHIRED) ⊎ (status ≡ UNSAID)
-serves_one gives old new before now sessions status (all_served is served long links says) = inl is
-serves_one gives old new before now sessions status (exhausted is served few links says) = inr (inl is)
-serves_one gives old new before now sessions status (no_link served between few links says closes) = inr (inr (closes_status between now cannot_listen UNHIRED status closes))
-serves_one gives old new before now sessions status (cut_short is served few links over prefix) = inr (inr (inr is))
+serves_one gives did now_did old new before now sessions status (all_served is served long links says) = inl is
+serves_one gives did now_did old new before now sessions status (exhausted is served few links says) = inr (inl is)
+serves_one gives did now_did old new before now sessions status (no_link served between few links says closes) = inr (inr (closes_status between now cannot_listen UNHIRED status closes))
+serves_one gives did now_did old new before now sessions status (cut_short is served few links over prefix) = inr (inr (inr is))
 
-pub works_one : (gives : Order → Outcome → Type 0) (hired after_hiring : Option (List Want)) (old new : DoorTold) (before now : Option (List ℕ)) (address : Address) (sessions status : ℕ)
-    → Works gives hired after_hiring old new before now address sessions status → (status ≡ SUCCEEDED) ⊎ (status ≡ OUT_OF_MEMORY) ⊎ (status ≡ UNHIRED) ⊎ (status ≡ UNSAID)
-works_one gives hired after_hiring old new before now address sessions status (unbegun is stays same) = inr (inl is)
-works_one gives hired after_hiring old new before now address sessions status (unhired same stays closes) = inr (inr (closes_status before now cannot_hire UNHIRED status closes))
-works_one gives hired after_hiring old new before now address sessions status (unopened here stays closes) = inr (inr (closes_status before now cannot_listen UNHIRED status closes))
-works_one gives hired after_hiring old new before now address sessions status (worked here serves) = serves_one gives (opened_at old address) new before now sessions status serves
+pub works_one : (gives : Order → Outcome → Type 0) (crew crew_after : CrewTold) (old new : DoorTold) (before now : Option (List ℕ)) (address : Address) (sessions status : ℕ)
+    → Works gives crew crew_after old new before now address sessions status → (status ≡ SUCCEEDED) ⊎ (status ≡ OUT_OF_MEMORY) ⊎ (status ≡ UNHIRED) ⊎ (status ≡ UNSAID)
+works_one gives crew crew_after old new before now address sessions status (unhired_memory nobody is stays same) = inr (inl is)
+works_one gives crew crew_after old new before now address sessions status (unopened_memory did fresh here is stays same) = inr (inl is)
+works_one gives crew crew_after old new before now address sessions status (unhired same stays closes) = inr (inr (closes_status before now cannot_hire UNHIRED status closes))
+works_one gives crew crew_after old new before now address sessions status (unopened did fresh here stays closes) = inr (inr (closes_status before now cannot_listen UNHIRED status closes))
+works_one gives crew crew_after old new before now address sessions status (worked did now_did fresh here serves) = serves_one gives did now_did (opened_at old address) new before now sessions status serves
 
 -- ---- nothing but saying
 
@@ -291,4 +293,34 @@ says_only says = record {
   disk = says.disk_faults;
   out = says.out_faults;
   asks = omega (arith, says.asks);
+}
+
+-- ---- the hand of a worker
+
+-- the one hand that was hired, which was taken from the others, of which there are none
+pub fresh_alone : {P : Type 0} (did : P → Option (List Order)) (hands rest : List P) (hand : P) → hands ≡ rest ++ hand ∷ [] → AllByRecursion IsFresh (map did hands) → IsFresh (did hand)
+fresh_alone {P} did hands rest hand is fresh = last rest (subst (λ (l : List P). AllByRecursion IsFresh (map did l)) is fresh)
+  where
+    last : (rest : List P) → AllByRecursion IsFresh (map did (rest ++ hand ∷ [])) → IsFresh (did hand)
+    last [] all = all.0
+    last (first ∷ others) all = last others all.1
+
+none_left : {P : Type 0} (hands : List P) → length hands ≡ 0 → hands ≡ []
+none_left [] long = refl
+none_left (hand ∷ hands) long = absurd (omega (arith, long))
+
+alone : {P : Type 0} (rest back : List P) (hand : P) → length rest ≡ 0 → back ≡ rest ++ hand ∷ [] → back ≡ hand ∷ []
+alone {P} rest back hand long is = is ∙ ap (λ (l : List P). l ++ hand ∷ []) (none_left rest long)
+
+told_alone : (told : GivenBack) (dids : List (Option (List Order))) (did : Option (List Order)) → dids ≡ did ∷ [] → IsGivenBack (option_map (λ (earlier : List (Option (List Order))). dids) told) did
+told_alone None dids did is = tt
+told_alone (Some earlier) dids did is = is
+
+-- it alone was hired and given back
+pub back_alone : {P : Type 0} (did : P → Option (List Order)) (crew mid last : CrewTold) (rest back : List P) (hand : P) → mid ≡ hired_for crew (want.Local 1) → last ≡ gave_back mid (map did back)
+    → length rest ≡ 0 → back ≡ rest ++ hand ∷ [] → HiresHere crew last (did hand)
+back_alone {P} did crew mid last rest back hand hired gave long is = record {
+  hired = ap (λ (told : CrewTold). told.hired) gave ∙ ap (λ (told : CrewTold). told.hired) hired;
+  back = subst (λ (told : GivenBack). IsGivenBack told (did hand)) (sym (ap (λ (told : CrewTold). told.back) gave))
+      (told_alone mid.back (map did back) (did hand) (ap (map did) (alone rest back hand long is)));
 }

@@ -1,5 +1,5 @@
 -- What is promised of a run, of a flow that is put back, and of a book that is kept. Histories have the newest entry first. What becomes of the commands on a book.
-use Rattle.std.specs.Prelude.{◌≡◌, ◌≢◌, ◌⊎◌, ℕ, ◌≤◌, Bool, IsTrue, List, [], ◌++◌, length, Option, Some, ◌<◌, ◌∷◌, not, is_none, None, true, false, if◌then◌else◌}
+use Rattle.std.specs.Prelude.{◌≡◌, ◌≢◌, ◌⊎◌, ℕ, ◌≤◌, Bool, IsTrue, List, [], ◌++◌, length, Option, Some, ◌<◌, ◌∷◌, not, is_none, None, true, false, if◌then◌else◌, slice_index_or}
 use Rattle.tf_numbers.specs.Numbers.{Rises}
 use Rattle.tf_desk.specs.Crash.{shown_with, ShowsPrefix}
 use Rattle.tf_desk.specs.State.{DeskState}
@@ -13,7 +13,7 @@ use Rattle.tf_book.specs.Book.{bodies_of, IsHistoryOf, IsNoBook, CanRun}
 use Rattle.tf_book.specs.SessionInvariant.{said, MayFollow, IsCut, IsFullFor, history_text}
 use Rattle.std.specs.List.{list_all}
 use Rattle.tf_states.specs.declared.state.FlowState.{FlowState}
-use Rattle.tf_ports.specs.Ports.{wanted as number_of}
+use Rattle.tf_ports.specs.Ports.{GivenBack, wanted as number_of, CrewTold}
 use Rattle.tf_ports.specs.declared.crews.Want.{Want}
 use Rattle.tf_actions.specs.declared.orders.Order.{Order}
 use Rattle.tf_actions.specs.declared.outcomes.Outcome.{Outcome}
@@ -22,7 +22,7 @@ use Rattle.tf_model.specs.Forced.{end_of}
 use Rattle.tf_model.specs.History.{flow_of, snapshot, state_of, is_settled}
 use Rattle.tf_model.specs.Steps.{Session, entering, has_ended}
 use Rattle.tf_facts.specs.Facts.{CompletedReversion}
-use Rattle.tf_hands.specs.Hands.{is_of_flow}
+use Rattle.tf_hands.specs.Hands.{is_of_flow, orders}
 use Rattle.tf_report.specs.Lines.{report}
 use Rattle.tf_engines.specs.Runs.{MayRecord, AreGiven, AreDue, AreWithin, IsSuspended, is_of}
 use Rattle.tf_commands.specs.Messages.{summary, no_flow_text, state_forbids, cannot_hire}
@@ -214,6 +214,34 @@ abbrev pub RunShows : (Order → Outcome → Type 0) → Request → PlanValue �
 RunShows gives request plan before entries shown now stop =
     ShowsLines plan request.quiet before entries shown now (IsLastSaid (MayRun gives request plan) plan (heading_of request (outline_of plan) (entries ++ before)) (entries ++ before) stop)
 
+-- ---- the orders
+
+-- what a hand was given since a history: the orders of the starts and restarts that it recorded after it, in order, each once; the last one may be
+-- missing, but none is where so much is whole
+pub record WasGiven (whole : Type 0) (plan : Outline) (before past : List Entry) (hand : ℕ) (did : List Order) : Type 0 where
+  pub missing : List Order
+  pub few : length missing ≤ 1
+  pub none : whole → missing ≡ []
+  pub since : orders plan hand past ≡ orders plan hand before ++ (did ++ missing)
+
+-- the same of a hand that may tell nothing
+abbrev pub WasGivenIfTold : Type 0 → Outline → (before past : List Entry) → ℕ → Option (List Order) → Type 0
+WasGivenIfTold whole plan before past hand None = Unit {0}
+WasGivenIfTold whole plan before past hand (Some did) = WasGiven whole plan before past hand did
+
+-- so it is of each of these hands, in the order of their numbers
+abbrev pub WereGiven : Type 0 → Outline → (before past : List Entry) → List (Option (List Order)) → Type 0
+WereGiven whole plan before past hands = (hand : ℕ) → WasGivenIfTold whole plan before past hand (slice_index_or hands hand None)
+
+-- so it is of those that were given back, where these are told
+abbrev pub WereGivenBack : Type 0 → Outline → (before past : List Entry) → GivenBack → Type 0
+WereGivenBack whole plan before past None = Unit {0}
+WereGivenBack whole plan before past (Some hands) = WereGiven whole plan before past hands
+
+-- a status tells of a run that stopped in a state
+abbrev pub HasStopped : ℕ → Type 0
+HasStopped status = (last : FlowState) × (status ≡ stop_status last)
+
 -- ---- all of it
 
 -- a run of the plan by the hands that were hired, which keep a relation of orders and outcomes, as it is requested: from the history before it to its
@@ -258,9 +286,19 @@ pub record HasSaid (entry now : DeskState) (status : ℕ) : Type 0 where
   pub unsaid : status ≡ UNSAID → Rises entry.out_faults now.out_faults
   pub read : status ≢ UNREAD
 
+-- as many hands were given back as are wanted, where the crew tells them
+abbrev pub AreAllBack : Want → GivenBack → Type 0
+AreAllBack hands None = Unit {0}
+AreAllBack hands (Some back) = length back ≡ number_of hands
+
 -- the hands that were wanted were hired, and nobody else
-abbrev pub Hires : Want → Option (List Want) → Option (List Want) → Type 0
-Hires hands hired after_hiring = after_hiring ≡ told_with hired hands
+abbrev pub HiresFor : Want → CrewTold → CrewTold → Type 0
+HiresFor hands crew crew_after = crew_after.hired ≡ told_with crew.hired hands
+
+-- so it was, and all were given back
+pub record Hires (hands : Want) (crew crew_after : CrewTold) : Type 0 where
+  pub hired : HiresFor hands crew crew_after
+  pub back : AreAllBack hands crew_after.back
 
 -- what the file of that name is, where the desk tells its content
 abbrev pub IsFile : List ℕ → DeskState → (Recovered → Type 0) → Type 0
@@ -292,13 +330,14 @@ pub data Unopened (name : List ℕ) (entry now : DeskState) (status : ℕ) : Typ
   no_book : (offset : ℕ) (byte : Option ℕ) → IsFile name entry (λ found. IsNoBook found offset byte)
       → Refuses name entry now (not_a_book offset byte) NO_BOOK status → Unopened name entry now status
 
--- a run of the plan from this history on, as it is requested, with what is promised of its file
-pub record Promised (gives : Order → Outcome → Type 0) (request : Request) (asked : Type 0) (name : List ℕ) (plan : PlanValue) (before : List Entry)
+-- a run of the plan from this history on, as it is requested, by hands that were given back so, with what is promised of its file
+pub record Promised (gives : Order → Outcome → Type 0) (request : Request) (asked : Type 0) (back : GivenBack) (name : List ℕ) (plan : PlanValue) (before : List Entry)
     (entry now : DeskState) (status : ℕ) : Type 0 where
   pub entries : List Entry
   pub stop : Option FlowState
   pub closing : List ℕ
   pub ran : Ran gives request asked plan before entries stop entry.shown now.shown closing status
+  pub orders_given : WereGivenBack (HasStopped status) (outline_of plan) before (entries ++ before) back
   pub lasts : IsTrue entry.tells → Lasts (MayRun gives request plan) name plan request.quiet before entries entry now closing
 
 -- a flow that was put back from this history on, with what is promised of its file
@@ -309,39 +348,44 @@ pub record PutsBack (name : List ℕ) (plan : PlanValue) (before : List Entry) (
   pub lasts : IsTrue entry.tells → Lasts (IsNextReset (outline_of plan)) name plan false before entries entry now closing
 
 -- no hands were hired, and nothing was recorded: memory ran out, or they couldn't be hired
-pub data Unhired (name : List ℕ) (entry now : DeskState) (hired after_hiring : Option (List Want)) (status : ℕ) : Type 0 where
-  exhausted_hire : after_hiring ≡ hired → Stops name entry now status → Unhired name entry now hired after_hiring status
-  unhired : after_hiring ≡ hired → Refuses name entry now cannot_hire UNHIRED status → Unhired name entry now hired after_hiring status
+pub data Unhired (name : List ℕ) (entry now : DeskState) (crew crew_after : CrewTold) (status : ℕ) : Type 0 where
+  exhausted_hire : crew_after ≡ crew → Stops name entry now status → Unhired name entry now crew crew_after status
+  unhired : crew_after ≡ crew → Refuses name entry now cannot_hire UNHIRED status → Unhired name entry now crew crew_after status
 
 -- to run a plan over a book: it can't be opened; it holds a flow already, whose state is said; no hands are hired; or those that the
 -- request wants are, and run this plan from the empty history on
-pub data Runs (gives : Order → Outcome → Type 0) (request : Request) (asked : Type 0) (name : List ℕ) (hired after_hiring : Option (List Want))
+pub data Runs (gives : Order → Outcome → Type 0) (request : Request) (asked : Type 0) (name : List ℕ) (crew crew_after : CrewTold)
     (entry now : DeskState) (tree : PlanTree) (status : ℕ) : Type 0 where
-  unopened : after_hiring ≡ hired → Unopened name entry now status → Runs gives request asked name hired after_hiring entry now tree status
-  forbidden : (plan : PlanValue) (past : List Entry) → after_hiring ≡ hired → IsFile name entry (HoldsHistory plan past)
-      → Refuses name entry now (state_forbids (outline_of plan) (flow_of past)) FORBIDDEN status → Runs gives request asked name hired after_hiring entry now tree status
-  unhired_run : IsFile name entry HoldsNoFlow → Unhired name entry now hired after_hiring status → Runs gives request asked name hired after_hiring entry now tree status
-  ran : (plan : PlanValue) → plan_tree plan ≡ tree → IsFile name entry HoldsNoFlow → Hires request.want hired after_hiring
-      → Promised gives request asked name plan [] entry now status → Runs gives request asked name hired after_hiring entry now tree status
+  unopened : crew_after ≡ crew → Unopened name entry now status → Runs gives request asked name crew crew_after entry now tree status
+  forbidden : (plan : PlanValue) (past : List Entry) → crew_after ≡ crew → IsFile name entry (HoldsHistory plan past)
+      → Refuses name entry now (state_forbids (outline_of plan) (flow_of past)) FORBIDDEN status → Runs gives request asked name crew crew_after entry now tree status
+  unhired_run : IsFile name entry HoldsNoFlow → Unhired name entry now crew crew_after status → Runs gives request asked name crew crew_after entry now tree status
+  ran : (plan : PlanValue) → plan_tree plan ≡ tree → IsFile name entry HoldsNoFlow → Hires request.want crew crew_after
+      → Promised gives request asked crew_after.back name plan [] entry now status → Runs gives request asked name crew crew_after entry now tree status
 
 -- to demonstrate is to run the generated flow, without a line of an entry; memory may run out before it was generated
 pub data Demonstrates {K : Type 0} (state : K → DeskState) (gives : Order → Outcome → Type 0) (hands : Want) (asked : Type 0) (name : List ℕ)
-    (hired after_hiring : Option (List Want)) (entry now : K) (seed size status : ℕ) : Type 0 where
-  ungenerated : status ≡ OUT_OF_MEMORY → after_hiring ≡ hired → now ≡ entry → Demonstrates state gives hands asked name hired after_hiring entry now seed size status
-  demonstrated : Runs gives (unspoken hands) asked name hired after_hiring (state entry) (state now) (demo_tree seed size) status
-      → Demonstrates state gives hands asked name hired after_hiring entry now seed size status
+    (crew crew_after : CrewTold) (entry now : K) (seed size status : ℕ) : Type 0 where
+  ungenerated : status ≡ OUT_OF_MEMORY → crew_after ≡ crew → now ≡ entry → Demonstrates state gives hands asked name crew crew_after entry now seed size status
+  demonstrated : Runs gives (unspoken hands) asked name crew crew_after (state entry) (state now) (demo_tree seed size) status
+      → Demonstrates state gives hands asked name crew crew_after entry now seed size status
+
+-- who goes on with a flow in this state: nobody, where it had ended; else the hands that are wanted, which are given back so
+abbrev pub GoesOnBy : FlowState → Want → CrewTold → CrewTold → GivenBack → Type 0
+GoesOnBy at hands crew crew_after back =
+    ((has_ended at ≡ true) × (crew_after ≡ crew) × (back ≡ None)) ⊎ ((has_ended at ≡ false) × Hires hands crew crew_after × (back ≡ crew_after.back))
 
 -- to resume a book: it can't be opened; it holds no flow; no hands are hired; or the plan that it holds runs on from the history that it
 -- holds, with the hands that the request wants, or without any where the flow had ended
-pub data Resumes (gives : Order → Outcome → Type 0) (request : Request) (asked : Type 0) (name : List ℕ) (hired after_hiring : Option (List Want))
+pub data Resumes (gives : Order → Outcome → Type 0) (request : Request) (asked : Type 0) (name : List ℕ) (crew crew_after : CrewTold)
     (entry now : DeskState) (status : ℕ) : Type 0 where
-  unopened_again : after_hiring ≡ hired → Unopened name entry now status → Resumes gives request asked name hired after_hiring entry now status
-  empty : after_hiring ≡ hired → IsFile name entry HoldsNoFlow → Refuses name entry now no_flow_text FORBIDDEN status → Resumes gives request asked name hired after_hiring entry now status
+  unopened_again : crew_after ≡ crew → Unopened name entry now status → Resumes gives request asked name crew crew_after entry now status
+  empty : crew_after ≡ crew → IsFile name entry HoldsNoFlow → Refuses name entry now no_flow_text FORBIDDEN status → Resumes gives request asked name crew crew_after entry now status
   unhired_again : (plan : PlanValue) (past : List Entry) → IsFile name entry (HoldsHistory plan past) → has_ended (flow_of past) ≡ false
-      → Unhired name entry now hired after_hiring status → Resumes gives request asked name hired after_hiring entry now status
+      → Unhired name entry now crew crew_after status → Resumes gives request asked name crew crew_after entry now status
   resumed : (plan : PlanValue) (past : List Entry) → CanRun plan → IsFile name entry (HoldsHistory plan past)
-      → ((has_ended (flow_of past) ≡ true) × (after_hiring ≡ hired)) ⊎ ((has_ended (flow_of past) ≡ false) × Hires request.want hired after_hiring)
-      → Promised gives request asked name plan past entry now status → Resumes gives request asked name hired after_hiring entry now status
+      → (back : GivenBack) → GoesOnBy (flow_of past) request.want crew crew_after back
+      → Promised gives request asked back name plan past entry now status → Resumes gives request asked name crew crew_after entry now status
 
 -- to show a book: it can't be opened; it holds no flow; or the lines of its whole history are said, and then the table
 pub data ShowsBook (name : List ℕ) (entry now : DeskState) (status : ℕ) : Type 0 where

@@ -1,8 +1,8 @@
 -- The ways that a command can go.
-use Rattle.std.specs.Prelude.{◌≡◌, ◌≤◌, ◌⊎◌, ℕ, List, [], length, codes, true, false, IsTrue, Bool, Option, Some, None}
+use Rattle.std.specs.Prelude.{◌≡◌, ◌≤◌, ◌⊎◌, ℕ, List, [], ◌++◌, length, codes, true, false, IsTrue, Bool, Option, Some, None}
 use Rattle.tf_desk.specs.State.{DeskState}
 use Rattle.tf_flow.specs.declared.atoms.Bind.{Bind}
-use Rattle.tf_ports.specs.Ports.{Contents, GivesBytes, PassesLimit, DoorTold}
+use Rattle.tf_ports.specs.Ports.{GivenBack, Contents, GivesBytes, PassesLimit, DoorTold, CrewTold}
 use Rattle.tf_ports.specs.declared.crews.Want.{Want}
 use Rattle.tf_ports.specs.declared.crews.Want.TheVariants as want
 use Rattle.tf_actions.specs.declared.orders.Order.{Order}
@@ -28,7 +28,7 @@ use Rattle.tf_accept.specs.Accepted.{GivesPlan, GivesWhole, GivesNone, MayTarget
 use Rattle.tf_commands.specs.Asking.{file_asked_for, wanted_by}
 use Rattle.tf_commands.specs.Messages.{Audits, RefusesLog, checked, usage, cannot_read, cannot_hire, refusal, reason_text, Works}
 use Rattle.tf_words.specs.Words.{command_of}
-use Rattle.tf_commands.specs.Books.{Hires, Runs, Demonstrates, Resumes, ShowsBook, ResetsBook, NoFileChanges, TouchesNoFile, book_at, HoldsNoFlow, HoldsHistory, spoken_run, Ran}
+use Rattle.tf_commands.specs.Books.{Hires, HiresFor, Runs, WereGivenBack, HasStopped, Demonstrates, Resumes, ShowsBook, ResetsBook, NoFileChanges, TouchesNoFile, book_at, HoldsNoFlow, HoldsHistory, spoken_run, Ran}
 use Rattle.tf_journal.specs.Start.{file_of}
 use Rattle.tf_accept.specs.declared.accepting.Refusal.{Refusal}
 use Rattle.tf_commands.specs.declared.reading.Source.{Source}
@@ -65,36 +65,37 @@ Undone plan status = ⊥
 
 -- ---- trials and checks
 
--- a run of a plan with these hands, of which nothing is kept
-pub record Tried (gives : Order → Outcome → Type 0) (hands : Want) (stopped : Type 0) (tree : PlanTree) (shown now : Option (List ℕ)) (status : ℕ) : Type 0 where
+-- a run of a plan with these hands, which were given back so, of which nothing is kept
+pub record Tried (gives : Order → Outcome → Type 0) (hands : Want) (stopped : Type 0) (back : GivenBack) (tree : PlanTree) (shown now : Option (List ℕ)) (status : ℕ) : Type 0 where
   pub plan : PlanValue
   pub same : plan_tree plan ≡ tree
   pub entries : List Entry
   pub stop : Option FlowState
   pub closing : List ℕ
   pub ran : Ran gives (spoken_run hands None) stopped plan [] entries stop shown now closing status
+  pub orders_given : WereGivenBack (HasStopped status) (outline_of plan) [] (entries ++ []) back
 
 -- to try a plan is to hire the hands that are wanted and to run the plan with them
-pub data Tries (gives : Order → Outcome → Type 0) (hands : Want) (stopped : Type 0) (hired after_hiring : Option (List Want)) (before after : Option (List ℕ)) (tree : PlanTree) (status : ℕ) : Type 0 where
-  -- memory ran out as the hands were hired, or before the run began, and nothing was said
-  unfinished_hire : status ≡ OUT_OF_MEMORY → after ≡ before → Tries gives hands stopped hired after_hiring before after tree status
+pub data Tries (gives : Order → Outcome → Type 0) (hands : Want) (stopped : Type 0) (crew crew_after : CrewTold) (before after : Option (List ℕ)) (tree : PlanTree) (status : ℕ) : Type 0 where
+  -- memory ran out as the hands were hired, and nothing was said
+  unfinished_hire : crew_after ≡ crew → status ≡ OUT_OF_MEMORY → after ≡ before → Tries gives hands stopped crew crew_after before after tree status
   -- they couldn't be hired, and that is said
-  unhired : after_hiring ≡ hired → ClosesWith before cannot_hire UNHIRED after status → Tries gives hands stopped hired after_hiring before after tree status
+  unhired : crew_after ≡ crew → ClosesWith before cannot_hire UNHIRED after status → Tries gives hands stopped crew crew_after before after tree status
   -- they were hired, and ran the plan
-  tried : Hires hands hired after_hiring → Tried gives hands stopped tree before after status → Tries gives hands stopped hired after_hiring before after tree status
+  tried : Hires hands crew crew_after → Tried gives hands stopped crew_after.back tree before after status → Tries gives hands stopped crew crew_after before after tree status
 
 -- nobody was hired, or the hands that were wanted
-abbrev pub HiresAtMost : Want → Option (List Want) → Option (List Want) → Type 0
-HiresAtMost hands hired after_hiring = (after_hiring ≡ hired) ⊎ Hires hands hired after_hiring
+abbrev pub HiresAtMost : Want → CrewTold → CrewTold → Type 0
+HiresAtMost hands crew crew_after = (crew_after ≡ crew) ⊎ HiresFor hands crew crew_after
 
 -- nobody was hired, or the hands that were wanted, if any were
-abbrev pub HiresAsWanted : Option Want → Option (List Want) → Option (List Want) → Type 0
-HiresAsWanted None hired after_hiring = after_hiring ≡ hired
-HiresAsWanted (Some hands) hired after_hiring = HiresAtMost hands hired after_hiring
+abbrev pub HiresAsWanted : Option Want → CrewTold → CrewTold → Type 0
+HiresAsWanted None crew crew_after = crew_after ≡ crew
+HiresAsWanted (Some hands) crew crew_after = HiresAtMost hands crew crew_after
 
 -- nobody was hired, or the hands that the words ask for
-abbrev pub HiresAsAsked : List (List ℕ) → Option (List Want) → Option (List Want) → Type 0
-HiresAsAsked words hired after_hiring = HiresAsWanted (wanted_by words) hired after_hiring
+abbrev pub HiresAsAsked : List (List ℕ) → CrewTold → CrewTold → Type 0
+HiresAsAsked words crew crew_after = HiresAsWanted (wanted_by words) crew crew_after
 
 -- to check a plan is to say what it has, unless memory runs out
 abbrev pub Checks : Option (List ℕ) → Option (List ℕ) → PlanTree → ℕ → Type 0
@@ -106,45 +107,45 @@ Checks before after plan status = ClosesWithOrStops before (checked (outline_in 
 abbrev pub source_so : List ℕ → List Bind → Bool → Option (List ℕ) → Source
 source_so file sets defer target = record { file = file; sets = sets; defer = defer; target = target }
 
--- what is told of the crew and of the door: the wants that were answered with hands; and at which addresses the door was opened, and its links
+-- what is told of the crew and of the door
 pub record PortsTold : Type 0 where
-  pub hired : Option (List Want)
+  pub crew : CrewTold
   pub door : DoorTold
 
 -- what a crew and a door tell
-abbrev pub ports_told : {W L : Type 0} → (W → Option (List Want)) → (L → DoorTold) → W → L → PortsTold
-ports_told hired told crew door = record { hired = hired crew; door = told door }
+abbrev pub ports_told : {W L : Type 0} → (W → CrewTold) → (L → DoorTold) → W → L → PortsTold
+ports_told crew_told door_told crew door = record { crew = crew_told crew; door = door_told door }
 
 -- nobody was hired, and no file changed
-abbrev pub IsUntouched : Option (List Want) → Option (List Want) → DeskState → DeskState → Type 0
-IsUntouched hired after_hiring entry now = (after_hiring ≡ hired) × NoFileChanges entry now
+abbrev pub IsUntouched : CrewTold → CrewTold → DeskState → DeskState → Type 0
+IsUntouched crew crew_after entry now = (crew_after ≡ crew) × NoFileChanges entry now
 
 module _ {K : Type 0} (state : K → DeskState) where
   -- what becomes of what the words ask for, where a run may be suspended for a stop that was asked for; a trial changes no file and meets no fault of the disk, and a
   -- check and an audit change none
   abbrev pub Obeys : (Want → Order → Outcome → Type 0) → Type 0 → Asked → Contents → PortsTold → PortsTold → K → K → ℕ → Type 0
   Obeys gives stopped (asked.Try file sets defer hands target) files ports later entry now status =
-      FileRead files (source_so file sets defer target) (IsUntouched ports.hired later.hired (state entry) (state now))
-      (Tries (gives hands) hands stopped ports.hired later.hired (state entry).shown (state now).shown) (state entry).shown (state now).shown status × TouchesNoFile (state entry) (state now)
+      FileRead files (source_so file sets defer target) (IsUntouched ports.crew later.crew (state entry) (state now))
+      (Tries (gives hands) hands stopped ports.crew later.crew (state entry).shown (state now).shown) (state entry).shown (state now).shown status × TouchesNoFile (state entry) (state now)
   Obeys gives stopped (asked.Check file sets target) files ports later entry now status =
-      FileRead files (source_so file sets false target) (IsUntouched ports.hired later.hired (state entry) (state now))
-      (Checks (state entry).shown (state now).shown) (state entry).shown (state now).shown status × IsUntouched ports.hired later.hired (state entry) (state now)
+      FileRead files (source_so file sets false target) (IsUntouched ports.crew later.crew (state entry) (state now))
+      (Checks (state entry).shown (state now).shown) (state entry).shown (state now).shown status × IsUntouched ports.crew later.crew (state entry) (state now)
   Obeys gives stopped (asked.Audit file log sets defer) files ports later entry now status =
-      FileRead files (source_so file sets defer None) (IsUntouched ports.hired later.hired (state entry) (state now))
-      (Audits files log (state entry).shown (state now).shown) (state entry).shown (state now).shown status × IsUntouched ports.hired later.hired (state entry) (state now)
+      FileRead files (source_so file sets defer None) (IsUntouched ports.crew later.crew (state entry) (state now))
+      (Audits files log (state entry).shown (state now).shown) (state entry).shown (state now).shown status × IsUntouched ports.crew later.crew (state entry) (state now)
   Obeys gives stopped (asked.Run file book sets defer hands stop target) files ports later entry now status =
-      FileRead files (source_so file sets defer target) (IsUntouched ports.hired later.hired (state entry) (state now))
-      (Runs (gives hands) (spoken_run hands stop) stopped book ports.hired later.hired (state entry) (state now)) (state entry).shown (state now).shown status
+      FileRead files (source_so file sets defer target) (IsUntouched ports.crew later.crew (state entry) (state now))
+      (Runs (gives hands) (spoken_run hands stop) stopped book ports.crew later.crew (state entry) (state now)) (state entry).shown (state now).shown status
   Obeys gives stopped (asked.Resume book hands stop) files ports later entry now status =
-      Resumes (gives hands) (spoken_run hands stop) stopped book ports.hired later.hired (state entry) (state now) status
+      Resumes (gives hands) (spoken_run hands stop) stopped book ports.crew later.crew (state entry) (state now) status
   Obeys gives stopped (asked.Show book) files ports later entry now status =
       ShowsBook book (state entry) (state now) status × (later ≡ ports)
   Obeys gives stopped (asked.Reset book) files ports later entry now status =
       ResetsBook book (state entry) (state now) status × (later ≡ ports)
   Obeys gives stopped (asked.Demo seed size book hands) files ports later entry now status =
-      Demonstrates state (gives (want.Local hands)) (want.Local hands) stopped book ports.hired later.hired entry now seed size status
+      Demonstrates state (gives (want.Local hands)) (want.Local hands) stopped book ports.crew later.crew entry now seed size status
   Obeys gives stopped (asked.Worker address sessions) files ports later entry now status =
-      Works (gives (want.Local 1)) ports.hired later.hired ports.door later.door (state entry).shown (state now).shown address sessions status
+      Works (gives (want.Local 1)) ports.crew later.crew ports.door later.door (state entry).shown (state now).shown address sessions status
       × NoFileChanges (state entry) (state now)
   Obeys gives stopped (asked.Post board name priority details) files ports later entry now status =
       Does (asked.Post board name priority details) board (state entry) (state now) status × (later ≡ ports)
@@ -170,7 +171,7 @@ module _ {K : Type 0} (state : K → DeskState) where
     unheard : status ≡ OUT_OF_MEMORY → now ≡ entry → later ≡ ports
         → Course gives stopped words files ports later entry now status
     -- the words are no command
-    no_command : command_of words ≡ None → ClosesWith (state entry).shown usage NO_COMMAND (state now).shown status → IsUntouched ports.hired later.hired (state entry) (state now)
+    no_command : command_of words ≡ None → ClosesWith (state entry).shown usage NO_COMMAND (state now).shown status → IsUntouched ports.crew later.crew (state entry) (state now)
         → Course gives stopped words files ports later entry now status
     -- what they ask for was done, or it was said why not
     obeyed : (command : Asked) → command_of words ≡ Some command → Obeys gives stopped command files ports later entry now status

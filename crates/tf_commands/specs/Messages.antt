@@ -20,7 +20,7 @@ use Rattle.tf_target.specs.declared.faults.TargetFault.{TargetFault}
 use Rattle.tf_target.specs.declared.faults.TargetFault.TheVariants as target_fault
 use Rattle.tf_accept.specs.declared.accepting.Refusal.{Refusal}
 use Rattle.tf_accept.specs.declared.accepting.Refusal.TheVariants as refused
-use Rattle.tf_ports.specs.Ports.{Contents, GivesBytes, PassesLimit, SeenLink, DoorTold, told_with_all, opened_at, gave_link, took_back}
+use Rattle.tf_ports.specs.Ports.{GivenBack, IsFresh, Contents, GivesBytes, PassesLimit, SeenLink, DoorTold, told_with_all, opened_at, gave_link, took_back, CrewTold}
 use Rattle.tf_ports.specs.declared.reading.TheConstants.{SOURCE_LIMIT}
 use Rattle.tf_flow.specs.Plan.{PlanTree}
 use Rattle.tf_target.specs.Target.{outline_in}
@@ -277,19 +277,25 @@ pub record GivesLinks (sessions : List Served) (more back : List SeenLink) (old 
   pub given : new.given ≡ told_with_all old.given (map (λ session. session.first) sessions ++ more)
   pub returned : new.returned ≡ told_with_all old.returned (map (λ session. session.last) sessions ++ back)
 
--- these sessions were served, each over the next link that the door gave, by one hand; at most one link besides was given, over which no session came to an end that is told
-pub record ServesLinks (gives : Order → Outcome → Type 0) (sessions : List Served) (old new : DoorTold) : Type 0 where
-  pub did : Option (List Order)
-  pub now : Option (List Order)
-  pub are : AreServed gives did sessions now
+-- how a hand that had performed these orders came to those: it performed none; or some in a session over this link, of which no end is told
+abbrev pub HasServedBesides : (Order → Outcome → Type 0) → List SeenLink → (did now_did : Option (List Order)) → Type 0
+HasServedBesides gives more did now_did = (now_did ≡ did)
+    ⊎ ((first : SeenLink) × (last : SeenLink) × (how : ServeEnd) × (more ≡ first ∷ []) × Serves gives (seen_with first did) (seen_with last now_did) how)
+
+-- these sessions were served, each over the next link that the door gave, by a hand that had performed these orders before, and those after; at most
+-- one link besides was given, over which no session came to an end that is told
+pub record ServesLinks (gives : Order → Outcome → Type 0) (did now_did : Option (List Order)) (sessions : List Served) (old new : DoorTold) : Type 0 where
+  pub then_did : Option (List Order)
+  pub are : AreServed gives did sessions then_did
   pub more : List SeenLink
   pub back : List SeenLink
   pub few : (length more ≤ 1) × (length back ≤ length more)
+  pub besides : HasServedBesides gives more then_did now_did
   pub links : GivesLinks sessions more back old new
 
 -- the same, and no link besides was given
-abbrev pub ServesTheseLinks : (Order → Outcome → Type 0) → List Served → DoorTold → DoorTold → Type 0
-ServesTheseLinks gives sessions old new = (did now : Option (List Order)) × AreServed gives did sessions now × GivesLinks sessions [] [] old new
+abbrev pub ServesTheseLinks : (Order → Outcome → Type 0) → (did now_did : Option (List Order)) → List Served → DoorTold → DoorTold → Type 0
+ServesTheseLinks gives did now_did sessions old new = AreServed gives did sessions now_did × GivesLinks sessions [] [] old new
 
 -- sessions that ended so, one line said for each, in order
 pub record SaysSessions (before now : Option (List ℕ)) (ends : List ServeEnd) : Type 0 where
@@ -321,9 +327,9 @@ pub record SaysNext (gives : Order → Outcome → Type 0) (did now_did : Option
 
 -- why there is no next session: memory ran out, no link came, or its line couldn't be said
 pub data StopsNext (gives : Order → Outcome → Type 0) (did now_did : Option (List Order)) (old new : DoorTold) (before now : Option (List ℕ)) (number : ℕ) (status : ℕ) : Type 0 where
-  exhausted_next : status ≡ OUT_OF_MEMORY → now ≡ before → (more back : List SeenLink) → length more ≤ 1 → length back ≤ length more → GivesLinks [] more back old new
+  exhausted_next : status ≡ OUT_OF_MEMORY → now ≡ before → (more back : List SeenLink) → length more ≤ 1 → length back ≤ length more → HasServedBesides gives more did now_did → GivesLinks [] more back old new
       → StopsNext gives did now_did old new before now number status
-  no_next_link : new ≡ old → ClosesWith before cannot_listen UNHIRED now status → StopsNext gives did now_did old new before now number status
+  no_next_link : new ≡ old → now_did ≡ did → ClosesWith before cannot_listen UNHIRED now status → StopsNext gives did now_did old new before now number status
   unsaid_next : status ≡ UNSAID → (session : Served) → ServesNext gives did now_did old new session → IsOver session.how → ShowsPrefix before (session_line number session.how) now
       → StopsNext gives did now_did old new before now number status
 
@@ -339,33 +345,44 @@ pub record HasServeCause (old new : DeskState) (door_then door_now status : ℕ)
   pub unsaid : status ≡ UNSAID → Rises old.out_faults new.out_faults
   pub one : (status ≡ SUCCEEDED) ⊎ (status ≡ OUT_OF_MEMORY) ⊎ (status ≡ UNHIRED) ⊎ (status ≡ UNSAID)
 
--- so many sessions are served, one after the other
-pub data ServesAll (gives : Order → Outcome → Type 0) (old new : DoorTold) (before now : Option (List ℕ)) (sessions : ℕ) (status : ℕ) : Type 0 where
+-- so many sessions are served, one after the other, by a hand that had performed these orders before, and those after
+pub data ServesAll (gives : Order → Outcome → Type 0) (did now_did : Option (List Order)) (old new : DoorTold) (before now : Option (List ℕ)) (sessions : ℕ) (status : ℕ) : Type 0 where
   -- all were served, and the line of each was said
-  all_served : status ≡ SUCCEEDED → (served : List Served) → length served ≡ sessions → ServesTheseLinks gives served old new → SaysSessions before now (ends_of served)
-      → ServesAll gives old new before now sessions status
+  all_served : status ≡ SUCCEEDED → (served : List Served) → length served ≡ sessions → ServesTheseLinks gives did now_did served old new → SaysSessions before now (ends_of served)
+      → ServesAll gives did now_did old new before now sessions status
   -- memory ran out in the next one, or before it
-  exhausted : status ≡ OUT_OF_MEMORY → (served : List Served) → length served < sessions → ServesLinks gives served old new → SaysSessions before now (ends_of served)
-      → ServesAll gives old new before now sessions status
+  exhausted : status ≡ OUT_OF_MEMORY → (served : List Served) → length served < sessions → ServesLinks gives did now_did served old new → SaysSessions before now (ends_of served)
+      → ServesAll gives did now_did old new before now sessions status
   -- no link came for the next one, and that is said
-  no_link : (served : List Served) (between : Option (List ℕ)) → length served < sessions → ServesTheseLinks gives served old new → SaysSessions before between (ends_of served)
-      → ClosesWith between cannot_listen UNHIRED now status → ServesAll gives old new before now sessions status
+  no_link : (served : List Served) (between : Option (List ℕ)) → length served < sessions → ServesTheseLinks gives did now_did served old new → SaysSessions before between (ends_of served)
+      → ClosesWith between cannot_listen UNHIRED now status → ServesAll gives did now_did old new before now sessions status
   -- a line couldn't be said, and a prefix of the lines was
-  cut_short : status ≡ UNSAID → (served : List Served) → length served ≤ sessions → ServesTheseLinks gives served old new → AllByRecursion IsOver (ends_of served)
-      → ShowsPrefix before (session_lines 1 (ends_of served)) now → ServesAll gives old new before now sessions status
+  cut_short : status ≡ UNSAID → (served : List Served) → length served ≤ sessions → ServesTheseLinks gives did now_did served old new → AllByRecursion IsOver (ends_of served)
+      → ShowsPrefix before (session_lines 1 (ends_of served)) now → ServesAll gives did now_did old new before now sessions status
 
--- one hand of this process was hired
-abbrev pub HiresHere : Option (List Want) → Option (List Want) → Type 0
-HiresHere hired after_hiring = after_hiring ≡ told_with hired (want.Local 1)
+-- one hand was given back, which had been given these orders, where the crew tells it
+abbrev pub IsGivenBack : GivenBack → Option (List Order) → Type 0
+IsGivenBack None did = Unit {0}
+IsGivenBack (Some hands) did = hands ≡ did ∷ []
 
--- to work is to hire one hand of this process, to open the door at the address, and to serve so many sessions
-pub data Works (gives : Order → Outcome → Type 0) (hired after_hiring : Option (List Want)) (old new : DoorTold) (before now : Option (List ℕ)) (address : Address) (sessions : ℕ) (status : ℕ)
+-- one hand of this process was hired, and given back, which had been given these orders
+pub record HiresHere (crew crew_after : CrewTold) (did : Option (List Order)) : Type 0 where
+  pub hired : crew_after.hired ≡ told_with crew.hired (want.Local 1)
+  pub back : IsGivenBack crew_after.back did
+
+-- to work is to hire one hand of this process, which was given no order yet, to open the door at the address, and to serve so many sessions
+pub data Works (gives : Order → Outcome → Type 0) (crew crew_after : CrewTold) (old new : DoorTold) (before now : Option (List ℕ)) (address : Address) (sessions : ℕ) (status : ℕ)
     : Type 0 where
-  -- memory ran out before the door was open, and nothing was said
-  unbegun : status ≡ OUT_OF_MEMORY → new ≡ old → now ≡ before → Works gives hired after_hiring old new before now address sessions status
+  -- memory ran out as the hand was hired, and nothing was said
+  unhired_memory : crew_after ≡ crew → status ≡ OUT_OF_MEMORY → new ≡ old → now ≡ before → Works gives crew crew_after old new before now address sessions status
   -- no hand could be hired, and that is said
-  unhired : after_hiring ≡ hired → new ≡ old → ClosesWith before cannot_hire UNHIRED now status → Works gives hired after_hiring old new before now address sessions status
+  unhired : crew_after ≡ crew → new ≡ old → ClosesWith before cannot_hire UNHIRED now status → Works gives crew crew_after old new before now address sessions status
+  -- memory ran out before the door was open, and nothing was said
+  unopened_memory : (did : Option (List Order)) → IsFresh did → HiresHere crew crew_after did → status ≡ OUT_OF_MEMORY → new ≡ old → now ≡ before
+      → Works gives crew crew_after old new before now address sessions status
   -- the door couldn't be opened, and that is said
-  unopened : HiresHere hired after_hiring → new ≡ old → ClosesWith before cannot_listen UNHIRED now status → Works gives hired after_hiring old new before now address sessions status
+  unopened : (did : Option (List Order)) → IsFresh did → HiresHere crew crew_after did → new ≡ old → ClosesWith before cannot_listen UNHIRED now status
+      → Works gives crew crew_after old new before now address sessions status
   -- the door was opened there, and the hand served
-  worked : HiresHere hired after_hiring → ServesAll gives (opened_at old address) new before now sessions status → Works gives hired after_hiring old new before now address sessions status
+  worked : (did now_did : Option (List Order)) → IsFresh did → HiresHere crew crew_after now_did → ServesAll gives did now_did (opened_at old address) new before now sessions status
+      → Works gives crew crew_after old new before now address sessions status

@@ -1,5 +1,5 @@
 -- What a run of a book keeps, from the book on which it began to the desk that it left; no clause of the top call cites it.
-use Rattle.std.specs.Prelude.{◌≡◌, ◌≢◌, ◌⊎◌, ℕ, true, false, IsTrue, List, [], ◌++◌, Option}
+use Rattle.std.specs.Prelude.{◌≡◌, ◌≢◌, ◌⊎◌, ℕ, true, false, IsTrue, List, [], ◌++◌, Option, None}
 use Rattle.tf_numbers.specs.Numbers.{Rises}
 use Rattle.tf_desk.specs.State.{DeskState, Continues, Passes, Says, nothing_left}
 use Rattle.tf_actions.specs.declared.orders.Order.{Order}
@@ -16,9 +16,9 @@ use Rattle.tf_book.specs.declared.faults.Halt.{Halt}
 use Rattle.tf_book.specs.declared.faults.Halt.TheVariants as halt
 use Rattle.tf_engines.specs.Runs.{IsSession}
 use Rattle.tf_model.specs.Steps.{has_ended}
-use Rattle.tf_ports.specs.Ports.{wanted as number_of}
+use Rattle.tf_ports.specs.Ports.{GivenBack, wanted as number_of, CrewTold}
 use Rattle.tf_ports.specs.declared.crews.Want.{Want}
-use Rattle.tf_commands.specs.Books.{Hires, Unhired, Promised, book_at, HoldsHistory, IsPendingSo, MayLeave, PutBack, MayRun, Ran}
+use Rattle.tf_commands.specs.Books.{GoesOnBy, WereGiven, HasStopped, Unhired, Promised, book_at, HoldsHistory, IsPendingSo, MayLeave, PutBack, MayRun, Ran}
 use Rattle.tf_report.specs.Closing.{disk_fault_text, book_full, ClosesWith}
 use Rattle.tf_report.specs.declared.statuses.TheConstants.{UNREAD, DISK_FAILED, UNSAID, UNHIRED, OUT_OF_MEMORY, FULL}
 use Rattle.tf_commands.specs.declared.running.Request.{Request}
@@ -63,8 +63,8 @@ module _ {K : Type 0} (state : K → DeskState) where
   abbrev pub book_desk : BookValue K → DeskState
   book_desk book = state book.journal.desk
 
-  -- a run went from one book to another that stopped so
-  pub record IsRunTo (gives : Order → Outcome → Type 0) (request : Request) (asked : Type 0) (start now : BookValue K) (stop : Option FlowState) : Type 0 where
+  -- a run went from one book to another that stopped so, by hands that were given these orders
+  pub record IsRunTo (gives : Order → Outcome → Type 0) (request : Request) (asked : Type 0) (did : List (Option (List Order))) (start now : BookValue K) (stop : Option FlowState) : Type 0 where
     pub kept : SessionInvariant state start now
     pub session : IsSession gives asked (number_of request.want) request.limit (outline start) start.past now.past stop
     pub history : IsHistoryOf start.plan now.past
@@ -73,6 +73,7 @@ module _ {K : Type 0} (state : K → DeskState) where
     pub short : AreShort now.past
     pub speaks : start.quiet ≡ request.quiet
     pub failed : IsTried (MayRun gives request start.plan now.past) now.halt now.failed
+    pub orders_given : WereGiven (now.halt ≡ None) (outline start) start.past now.past did
 
   -- what a crash since the start may leave and now leaves, of a file that was found so at first, and each byte of a file that was known
   pub record RunLasts (may : List Entry → Entry → Type 0) (first : Recovered) (start : BookValue K) (now : DeskState) (entries : List Entry) (closing : List ℕ) : Type 0 where
@@ -91,13 +92,14 @@ module _ {K : Type 0} (state : K → DeskState) where
       → LeavesBodies (title_of book_title) (book_desk start) (bodies_of start.plan start.past)
       → (first : Recovered) → RunLasts may first start now entries closing
 
-  -- from the book on which a run began to the desk that it left
-  pub record RunsOn (gives : Order → Outcome → Type 0) (request : Request) (asked : Type 0) (start : BookValue K) (now : DeskState) (status : ℕ) : Type 0 where
+  -- from the book on which a run began to the desk that it left, by hands that were given these orders
+  pub record RunsOn (gives : Order → Outcome → Type 0) (request : Request) (asked : Type 0) (did : List (Option (List Order))) (start : BookValue K) (now : DeskState) (status : ℕ) : Type 0 where
     pub entries : List Entry
     pub stop : Option FlowState
     pub closing : List ℕ
     pub lasts : LastsFrom (MayRun gives request start.plan) start now entries closing
     pub ran : Ran gives request asked start.plan start.past entries stop (book_desk start).shown now.shown closing status
+    pub orders_given : WereGiven (HasStopped status) (outline start) start.past (entries ++ start.past) did
     pub continues : Continues (book_desk start) now
     pub off_disk : start.journal.volatile ≡ true → StaysOffDisk (book_desk start) now
     pub ended : HasEnded (book_desk start) now status
@@ -120,9 +122,9 @@ module _ {K : Type 0} (state : K → DeskState) where
 
 -- a book that was opened goes on: with hands, or without any where its flow had ended; or they couldn't be hired
 pub data GoesFurther {K : Type 0} (gives : Order → Outcome → Type 0) (request : Request) (asked : Type 0) (name : List ℕ) (entry : DeskState) (book : BookValue K)
-    (hired after_hiring : Option (List Want)) (now : DeskState) (status : ℕ) : Type 0 where
-  nobody : has_ended (flow_state book) ≡ false → Unhired name entry now hired after_hiring status
-      → GoesFurther gives request asked name entry book hired after_hiring now status
-  went_on : ((has_ended (flow_state book) ≡ true) × (after_hiring ≡ hired)) ⊎ ((has_ended (flow_state book) ≡ false) × Hires request.want hired after_hiring)
-      → Promised gives request asked name book.plan book.past entry now status
-      → GoesFurther gives request asked name entry book hired after_hiring now status
+    (crew crew_after : CrewTold) (now : DeskState) (status : ℕ) : Type 0 where
+  nobody : has_ended (flow_state book) ≡ false → Unhired name entry now crew crew_after status
+      → GoesFurther gives request asked name entry book crew crew_after now status
+  went_on : (back : GivenBack) → GoesOnBy (flow_state book) request.want crew crew_after back
+      → Promised gives request asked back name book.plan book.past entry now status
+      → GoesFurther gives request asked name entry book crew crew_after now status

@@ -1,6 +1,9 @@
 //! Books on the desk: how one is opened, why it isn't, and how a run begins in a file that holds no flow.
 
-ghost use Rattle.std.specs.Prelude.{◌≡◌, ◌≢◌, ◌≤◌, ◌⊎◌, ℕ, List, [], IsTrue, None, IfOk, IfErr};
+ghost use Rattle.std.specs.Prelude.{◌≡◌, ◌≢◌, ◌≤◌, ◌⊎◌, ℕ, List, [], IsTrue, None, Some, Option, IfOk, IfErr};
+ghost use Rattle.std.specs.List.{AllByRecursion};
+ghost use Rattle.tf_actions.specs.declared.orders.Order.{Order as AnOrder};
+ghost use Rattle.tf_ports.specs.Ports.{IsFresh};
 ghost use Rattle.tf_numbers.specs.Numbers.{Rises};
 ghost use Rattle.tf_desk.specs.State.{bytes_now, anything, GoesOn};
 ghost use Rattle.tf_flow.specs.Plan.{PlanValue};
@@ -236,9 +239,10 @@ pub fn begin<K: Desk>(
 /// Says why a book couldn't begin, unless memory ran out.
 pub fn say_unbegun<K: Desk, P: Performer>(desk: K, fault: BookFault) -> Over<K>
     requires faults { (fault ≡ BookFault.Disk) ⊎ (fault ≡ BookFault.Memory) }
-    ensures promised { (request : Request) (asks : ℕ) (name : List ℕ) (entry : K) (plan : PlanValue)
-        → Unbegun name (K.state entry) plan (K.state desk)
-        → Promised P.gives request (Rises asks (K.state result.desk).asks)
+    ensures promised { (request : Request) (asks : ℕ) (did : List (Option (List AnOrder))) (name : List ℕ) (entry : K)
+        (plan : PlanValue) → Unbegun name (K.state entry) plan (K.state desk)
+        → AllByRecursion IsFresh did
+        → Promised P.gives request (Rises asks (K.state result.desk).asks) (Some did)
         name plan [] (K.state entry) (K.state result.desk) result.status }
     ensures closes { SaysUnbegun (K.state desk).shown (K.state result.desk).shown result.status }
     ensures said { HasSaid (K.state desk) (K.state result.desk) result.status }

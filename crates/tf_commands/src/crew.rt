@@ -1,4 +1,5 @@
-ghost use Rattle.std.specs.Prelude.{◌≡◌, vec_len, IfOk, None};
+ghost use Rattle.std.specs.Prelude.{◌≡◌, None, vec_len, IfOk};
+ghost use Rattle.tf_ports.specs.Ports.{crew_tells_nothing, did_by, gave_back};
 
 use std::alloc::Global;
 use std::io::Eprint;
@@ -37,7 +38,7 @@ impl<R: Processes + Eprint + Copy + Send + Drop, D: Dialer> Crew for ProgramCrew
 
     ghost faults = { λ crew. D.faults crew.dialer };
 
-    ghost hired = { λ _. None };
+    ghost told = { λ _. crew_tells_nothing };
 
     ghost dialled = { λ crew. D.dialled crew.dialer };
 
@@ -66,6 +67,14 @@ impl<R: Processes + Eprint + Copy + Send + Drop, D: Dialer> Crew for ProgramCrew
                 Ok(Hands::Remote(hands))
             }
         }
+    }
+
+    fn dismiss(&mut self, hands: Hands<Self::Hand, Self::Far>)
+        ensures back { crew_tells_nothing ≡ gave_back crew_tells_nothing (did_by (λ _. None) (λ _. None) hands) }
+        ensures dialled { D.dialled self.new.dialer ≡ D.dialled self.old.dialer }
+        ensures faults { D.faults self.new.dialer ≡ D.faults self.old.dialer }
+    {
+        drop(hands);
     }
 }
 

@@ -37,8 +37,8 @@ pub fn demo_book<K: Desk + Send, W: Crew, R: Threads + Wait + Sync>(
     requires few { AreHands (want.Local hands) }
     ensures demonstrates { Demonstrates K.state W.Hand.gives (want.Local hands)
         (WasAsked (K.state desk) (K.state result.desk)) name.now
-        (W.hired crew.old) (W.hired crew.new) desk result.desk seed size result.status }
-    ensures hires { HiresAtMost (want.Local hands) (W.hired crew.old) (W.hired crew.new) }
+        (W.told crew.old) (W.told crew.new) desk result.desk seed size result.status }
+    ensures hires { HiresAtMost (want.Local hands) (W.told crew.old) (W.told crew.new) }
     ensures asks { (K.state desk).asks ≤ (K.state result.desk).asks }
     ensures causes { HasEachCause result.status (counts_of (K.state desk) 0 (W.faults crew.old))
         (counts_of (K.state result.desk) 0 (W.faults crew.new)) }

@@ -1,8 +1,9 @@
 //! A run that is recorded in a book: it begins in a file that holds no flow.
 
-ghost use Rattle.std.specs.Prelude.{◌≡◌, ◌≤◌, ◌⊎◌, ℕ, List, [], vec_len};
+ghost use Rattle.std.specs.Prelude.{◌≡◌, ◌≤◌, ◌⊎◌, ℕ, List, [], map, Some, vec_len};
+ghost use Rattle.std.specs.List.{AllByRecursion};
 ghost use Rattle.tf_flow.specs.Plan.{plan_tree};
-ghost use Rattle.tf_ports.specs.Ports.{gives_by, wanted as number_of};
+ghost use Rattle.tf_ports.specs.Ports.{gives_by, IsFresh, wanted as number_of};
 ghost use Rattle.tf_machine.specs.Machine.{StandsFor};
 ghost use Rattle.tf_book.specs.Book.{outline, flow_state};
 ghost use Rattle.tf_commands.specs.Asking.{AreHands, HasEachCause, WasAsked, counts_of};
@@ -40,12 +41,12 @@ pub fn run_file<K: Desk + Send, S: Sources, W: Crew, R: Threads + Wait + Sync>(
 ) -> Over<K>
     requires few { AreHands request.now.want }
     ensures runs { FileRead (S.contents sources.old) source
-        (IsUntouched (W.hired crew.old) (W.hired crew.new) (K.state desk) (K.state result.desk))
+        (IsUntouched (W.told crew.old) (W.told crew.new) (K.state desk) (K.state result.desk))
         (Runs (gives_by W.Hand.gives W.Far.gives request.now.want) request.now
         (WasAsked (K.state desk) (K.state result.desk)) name.now
-        (W.hired crew.old) (W.hired crew.new) (K.state desk) (K.state result.desk))
+        (W.told crew.old) (W.told crew.new) (K.state desk) (K.state result.desk))
         (K.state desk).shown (K.state result.desk).shown result.status }
-    ensures hires { HiresAtMost request.now.want (W.hired crew.old) (W.hired crew.new) }
+    ensures hires { HiresAtMost request.now.want (W.told crew.old) (W.told crew.new) }
     ensures asks { (K.state desk).asks ≤ (K.state result.desk).asks }
     ensures causes { HasEachCause result.status (counts_of (K.state desk) (S.faults sources.old) (W.faults crew.old))
         (counts_of (K.state result.desk) (S.faults sources.new) (W.faults crew.new)) }
@@ -70,9 +71,9 @@ pub fn run_plan<K: Desk + Send, W: Crew, R: Threads + Wait + Sync>(
     requires few { AreHands request.now.want }
     ensures runs { Runs (gives_by W.Hand.gives W.Far.gives request.now.want) request.now
         (WasAsked (K.state desk) (K.state result.desk)) name.now
-        (W.hired crew.old) (W.hired crew.new) (K.state desk) (K.state result.desk)
+        (W.told crew.old) (W.told crew.new) (K.state desk) (K.state result.desk)
         (plan_tree machine.plan) result.status }
-    ensures hires { HiresAtMost request.now.want (W.hired crew.old) (W.hired crew.new) }
+    ensures hires { HiresAtMost request.now.want (W.told crew.old) (W.told crew.new) }
     ensures asks { (K.state desk).asks ≤ (K.state result.desk).asks }
     ensures causes { HasEachCause result.status (counts_of (K.state desk) 0 (W.faults crew.old))
         (counts_of (K.state result.desk) 0 (W.faults crew.new)) }
@@ -122,7 +123,7 @@ pub fn forbid<K: Desk>(alloc: Global, book: Book<K>) -> Over<K>
 }
 
 /// Hires the hands that are wanted, and runs the plan of a machine with them in a file that holds no flow.
-#[tactic(auto, using(crate::proofs::WantLemmas::near_count, crate::proofs::WantLemmas::far_count))]
+#[tactic(auto, using(crate::proofs::WantLemmas::near_count, crate::proofs::WantLemmas::far_count, crate::proofs::WantLemmas::near_fresh, crate::proofs::WantLemmas::far_fresh))]
 fn hire_and_run<K: Desk + Send, W: Crew, R: Threads + Wait + Sync>(
     rt: &R,
     alloc: Global,
@@ -137,19 +138,27 @@ fn hire_and_run<K: Desk + Send, W: Crew, R: Threads + Wait + Sync>(
     ensures runs { (name : List ℕ) (entry : K)
         → Open name (K.state entry) (K.state (desk_in blank))
         → IsFoundBlank name (K.state entry) blank
-        → (Unhired name (K.state entry) (K.state result.desk) (W.hired crew.old) (W.hired crew.new) result.status
-        ⊎ (Hires request.now.want (W.hired crew.old) (W.hired crew.new)
+        → (Unhired name (K.state entry) (K.state result.desk) (W.told crew.old) (W.told crew.new) result.status
+        ⊎ (Hires request.now.want (W.told crew.old) (W.told crew.new)
         × Promised (gives_by W.Hand.gives W.Far.gives request.now.want) request.now
-        (WasAsked (K.state (desk_in blank)) (K.state result.desk))
+        (WasAsked (K.state (desk_in blank)) (K.state result.desk)) (W.told crew.new).back
         name machine.plan [] (K.state entry) (K.state result.desk) result.status)) }
-    ensures hires { HiresAtMost request.now.want (W.hired crew.old) (W.hired crew.new) }
+    ensures hires { HiresAtMost request.now.want (W.told crew.old) (W.told crew.new) }
     ensures asks { (K.state (desk_in blank)).asks ≤ (K.state result.desk).asks }
     ensures causes { HasEachCause result.status (counts_of (K.state (desk_in blank)) 0 (W.faults crew.old))
         (counts_of (K.state result.desk) 0 (W.faults crew.new)) }
 {
     match crew.hire(alloc, &request.want) {
-        Ok(Hands::Local(hands)) => run_in(rt, alloc, machine, blank, request, hands),
-        Ok(Hands::Remote(hands)) => run_in(rt, alloc, machine, blank, request, hands),
+        Ok(Hands::Local(mut hands)) => {
+            let over = run_in(rt, alloc, machine, blank, request, &mut hands);
+            crew.dismiss(Hands::Local(hands));
+            over
+        }
+        Ok(Hands::Remote(mut hands)) => {
+            let over = run_in(rt, alloc, machine, blank, request, &mut hands);
+            crew.dismiss(Hands::Remote(hands));
+            over
+        }
         Err(fault) => {
             drop(machine);
             say_unhired(blank.into_desk(), fault)
@@ -164,20 +173,22 @@ fn run_in<K: Desk + Send, P: Performer + Send, R: Threads + Wait + Sync>(
     machine: Machine,
     blank: Blank<K>,
     request: &Request,
-    hands: Vec<P>,
+    hands: &mut Vec<P>,
 ) -> Over<K>
     requires fresh { StandsFor machine [] }
     requires blank { IsBlank K.state blank }
-    requires all { vec_len hands ≡ number_of request.now.want }
+    requires all { vec_len hands.old ≡ number_of request.now.want }
     requires few { AreHands request.now.want }
+    requires idle { AllByRecursion IsFresh (map P.did hands.old.items) }
     ensures runs { (name : List ℕ) (entry : K)
         → Open name (K.state entry) (K.state (desk_in blank))
         → IsFoundBlank name (K.state entry) blank
         → Promised P.gives request.now (WasAsked (K.state (desk_in blank)) (K.state result.desk))
-        name machine.plan [] (K.state entry) (K.state result.desk) result.status }
+        (Some (map P.did hands.new.items)) name machine.plan [] (K.state entry) (K.state result.desk) result.status }
     ensures asks { (K.state (desk_in blank)).asks ≤ (K.state result.desk).asks }
     ensures causes { HasEachCause result.status (counts_of (K.state (desk_in blank)) 0 0)
         (counts_of (K.state result.desk) 0 0) }
+    ensures back { vec_len hands.new ≡ vec_len hands.old }
 {
     match begin(alloc, blank, machine, request.quiet) {
         Ok(book) => run_book(rt, alloc, book, hands, request),

@@ -1,6 +1,6 @@
 //! A run that goes on from the history which a book holds.
 
-ghost use Rattle.std.specs.Prelude.{◌≡◌, ◌≢◌, ◌≤◌, ℕ, List, false, None, Some};
+ghost use Rattle.std.specs.Prelude.{◌≡◌, ◌≢◌, ◌≤◌, ℕ, List, [], false, None, Some};
 ghost use Rattle.tf_book.specs.Book.{BookValue, flow_state};
 ghost use Rattle.tf_model.specs.Steps.{has_ended};
 ghost use Rattle.tf_commands.specs.Asking.{AreHands, HasEachCause, WasAsked, counts_of};
@@ -36,8 +36,8 @@ pub fn resume_book<K: Desk + Send, W: Crew, R: Threads + Wait + Sync>(
     requires few { AreHands request.now.want }
     ensures resumes { Resumes (gives_by W.Hand.gives W.Far.gives request.now.want) request.now
         (WasAsked (K.state desk) (K.state result.desk)) name.now
-        (W.hired crew.old) (W.hired crew.new) (K.state desk) (K.state result.desk) result.status }
-    ensures hires { HiresAtMost request.now.want (W.hired crew.old) (W.hired crew.new) }
+        (W.told crew.old) (W.told crew.new) (K.state desk) (K.state result.desk) result.status }
+    ensures hires { HiresAtMost request.now.want (W.told crew.old) (W.told crew.new) }
     ensures asks { (K.state desk).asks ≤ (K.state result.desk).asks }
     ensures causes { HasEachCause result.status (counts_of (K.state desk) 0 (W.faults crew.old))
         (counts_of (K.state result.desk) 0 (W.faults crew.new)) }
@@ -71,8 +71,8 @@ fn go_on<K: Desk + Send, W: Crew, R: Threads + Wait + Sync>(
         → HoldsBook name (K.state entry) book
         → GoesFurther (gives_by W.Hand.gives W.Far.gives request.now.want) request.now
         (WasAsked (K.state book.journal.desk) (K.state result.desk))
-        name (K.state entry) book (W.hired crew.old) (W.hired crew.new) (K.state result.desk) result.status }
-    ensures hires { HiresAtMost request.now.want (W.hired crew.old) (W.hired crew.new) }
+        name (K.state entry) book (W.told crew.old) (W.told crew.new) (K.state result.desk) result.status }
+    ensures hires { HiresAtMost request.now.want (W.told crew.old) (W.told crew.new) }
     ensures asks { (K.state book.journal.desk).asks ≤ (K.state result.desk).asks }
     ensures causes { HasEachCause result.status (counts_of (K.state book.journal.desk) 0 (W.faults crew.old))
         (counts_of (K.state result.desk) 0 (W.faults crew.new)) }
@@ -92,9 +92,9 @@ fn report_ended<K: Desk, W: Crew>(book: Book<K>, last: FlowState, request: &Requ
     requires sound { book.halt ≡ None }
     ensures runs { (start : BookValue K) → request.now.quiet ≡ false
         → IsRunTo K.state (gives_by W.Hand.gives W.Far.gives request.now.want) request.now
-        (WasAsked (K.state start.journal.desk) (K.state result.desk)) start book (Some last)
+        (WasAsked (K.state start.journal.desk) (K.state result.desk)) [] start book (Some last)
         → RunsOn K.state (gives_by W.Hand.gives W.Far.gives request.now.want) request.now
-        (WasAsked (K.state start.journal.desk) (K.state result.desk)) start (K.state result.desk) result.status }
+        (WasAsked (K.state start.journal.desk) (K.state result.desk)) [] start (K.state result.desk) result.status }
     ensures apart { (result.status ≢ UNREAD) × (result.status ≢ UNHIRED) }
     ensures asks { (K.state book.journal.desk).asks ≤ (K.state result.desk).asks }
 {
@@ -105,7 +105,7 @@ fn report_ended<K: Desk, W: Crew>(book: Book<K>, last: FlowState, request: &Requ
 }
 
 /// Hires the hands that are wanted, and runs a book's flow on with them.
-#[tactic(auto, using(crate::proofs::WantLemmas::near_count, crate::proofs::WantLemmas::far_count))]
+#[tactic(auto, using(crate::proofs::WantLemmas::near_count, crate::proofs::WantLemmas::far_count, crate::proofs::WantLemmas::near_fresh, crate::proofs::WantLemmas::far_fresh))]
 fn hire_and_go_on<K: Desk + Send, W: Crew, R: Threads + Wait + Sync>(
     rt: &R,
     alloc: Global,
@@ -124,15 +124,23 @@ fn hire_and_go_on<K: Desk + Send, W: Crew, R: Threads + Wait + Sync>(
         → HoldsBook name (K.state entry) book
         → GoesFurther (gives_by W.Hand.gives W.Far.gives request.now.want) request.now
         (WasAsked (K.state book.journal.desk) (K.state result.desk))
-        name (K.state entry) book (W.hired crew.old) (W.hired crew.new) (K.state result.desk) result.status }
-    ensures hires { HiresAtMost request.now.want (W.hired crew.old) (W.hired crew.new) }
+        name (K.state entry) book (W.told crew.old) (W.told crew.new) (K.state result.desk) result.status }
+    ensures hires { HiresAtMost request.now.want (W.told crew.old) (W.told crew.new) }
     ensures asks { (K.state book.journal.desk).asks ≤ (K.state result.desk).asks }
     ensures causes { HasEachCause result.status (counts_of (K.state book.journal.desk) 0 (W.faults crew.old))
         (counts_of (K.state result.desk) 0 (W.faults crew.new)) }
 {
     match crew.hire(alloc, &request.want) {
-        Ok(Hands::Local(hands)) => run_book(rt, alloc, book, hands, request),
-        Ok(Hands::Remote(hands)) => run_book(rt, alloc, book, hands, request),
+        Ok(Hands::Local(mut hands)) => {
+            let over = run_book(rt, alloc, book, &mut hands, request);
+            crew.dismiss(Hands::Local(hands));
+            over
+        }
+        Ok(Hands::Remote(mut hands)) => {
+            let over = run_book(rt, alloc, book, &mut hands, request);
+            crew.dismiss(Hands::Remote(hands));
+            over
+        }
         Err(fault) => say_unhired(book.close(), fault),
     }
 }

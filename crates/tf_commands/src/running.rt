@@ -1,13 +1,17 @@
 //! A run of a book with its hands, and what it says last.
 
-ghost use Rattle.std.specs.Prelude.{◌≡◌, ◌≢◌, ◌≤◌, ◌++◌, ℕ, List, length, vec_len, true, false, None, Some, Option, IfOk};
+ghost use Rattle.std.specs.Prelude.{◌≡◌, ◌≢◌, ◌≤◌, ◌<◌, ◌++◌, ℕ, List, length, map, slice_index_or, vec_len, true, false, None, Some, Option, IfOk};
+ghost use Rattle.std.specs.List.{AllByRecursion};
 ghost use Rattle.tf_states.specs.declared.state.FlowState.{FlowState as AFlowState};
 ghost use Rattle.tf_report.specs.Lines.{report};
 ghost use Rattle.tf_states.specs.declared.record.Entry.{Entry as Record};
-ghost use Rattle.tf_ports.specs.Ports.{wanted as number_of};
+ghost use Rattle.tf_actions.specs.declared.orders.Order.{Order as AnOrder};
+ghost use Rattle.tf_hands.specs.Hands.{orders};
+ghost use Rattle.tf_ports.specs.Ports.{wanted as number_of, IsFresh};
 ghost use Rattle.tf_book.specs.Book.{BookValue, outline, moment, flow_state};
 ghost use Rattle.tf_book.specs.SessionInvariant.{SessionInvariant};
 ghost use Rattle.tf_book.specs.declared.faults.Halt.{Halt as Cause};
+ghost use Rattle.tf_engines.specs.Asked.{HasDoneBy};
 ghost use Rattle.tf_engines.specs.Runs.{MightRecord, HasRun, StandsAs};
 ghost use Rattle.tf_commands.specs.Asking.{AreHands, WasAsked};
 ghost use Rattle.tf_commands.specs.Messages.{summary};
@@ -52,15 +56,18 @@ pub fn run_book<K: Desk + Send, P: Performer + Send, R: Threads + Wait + Sync>(
     rt: &R,
     alloc: Global,
     book: Book<K>,
-    hands: Vec<P>,
+    hands: &mut Vec<P>,
     request: &Request,
 ) -> Over<K>
     requires sound { book.halt ≡ None }
     requires speaks { book.quiet ≡ request.now.quiet }
-    requires all { vec_len hands ≡ number_of request.now.want }
+    requires all { vec_len hands.old ≡ number_of request.now.want }
     requires few { AreHands request.now.want }
+    requires idle { AllByRecursion IsFresh (map P.did hands.old.items) }
     ensures runs { RunsOn K.state P.gives request.now
-        (WasAsked (K.state book.journal.desk) (K.state result.desk)) book (K.state result.desk) result.status }
+        (WasAsked (K.state book.journal.desk) (K.state result.desk)) (map P.did hands.new.items)
+        book (K.state result.desk) result.status }
+    ensures back { vec_len hands.new ≡ vec_len hands.old }
     ensures apart { (result.status ≢ UNREAD) × (result.status ≢ UNHIRED) }
 {
     let _before = book.state();
@@ -78,25 +85,33 @@ fn go_through<K: Desk + Send, P: Performer + Send, R: Threads + Wait + Sync>(
     rt: &R,
     alloc: Global,
     book: Book<K>,
-    mut hands: Vec<P>,
+    hands: &mut Vec<P>,
     limit: Option<u32>,
 ) -> RunEnd<K>
-    requires some { 1 ≤ vec_len hands }
-    requires few { vec_len hands ≤ 64 }
+    requires some { 1 ≤ vec_len hands.old }
+    requires few { vec_len hands.old ≤ 64 }
     ensures keeps { (start : BookValue K) → SessionInvariant K.state start book
         → SessionInvariant K.state start result.book }
     ensures stops { StandsAs result.book.halt (flow_state result.book) result.how }
     ensures plan { result.book.plan ≡ book.plan }
     ensures ran { HasRun P.gives (WasAsked (K.state book.journal.desk) (K.state result.book.journal.desk))
-        (vec_len hands) limit (outline book) book.past result.book.past result.how }
-    ensures failed { book.halt ≡ None → MightRecord P.gives (vec_len hands) result.book }
+        (vec_len hands.old) limit (outline book) book.past result.book.past result.how }
+    ensures failed { book.halt ≡ None → MightRecord P.gives (vec_len hands.old) result.book }
     ensures asks { (K.state book.journal.desk).asks ≤ (K.state result.book.journal.desk).asks }
+    ensures count { vec_len hands.new ≡ vec_len hands.old }
+    ensures orders { (i : ℕ) (d : P) → i < vec_len hands.old
+        → HasDoneBy (P.did (slice_index_or hands.old.items i d)) (orders (outline book) i book.past)
+        (P.did (slice_index_or hands.new.items i d)) (orders (outline book) i result.book.past) result.how }
 {
     if hands.len() > 1 {
-        return parallel(rt, alloc, book, &mut hands, limit);
+        return parallel(rt, alloc, book, hands, limit);
     }
     match hands.pop() {
-        Some(mut hand) => serial(alloc, book, &mut hand, limit),
+        Some(mut hand) => {
+            let end = serial(alloc, book, &mut hand, limit);
+            hands.push_reserved(hand);
+            end
+        }
         None => unreachable!(),
     }
 }
@@ -109,10 +124,10 @@ fn end_run<K: Desk, P: Performer>(
     request: &Request,
 ) -> Over<K>
     requires sound { book.halt ≡ None }
-    ensures runs { (start : BookValue K)
-        → IsRunTo K.state P.gives request.now (WasAsked (K.state start.journal.desk) (K.state result.desk))
+    ensures runs { (start : BookValue K) (did : List (Option (List AnOrder)))
+        → IsRunTo K.state P.gives request.now (WasAsked (K.state start.journal.desk) (K.state result.desk)) did
         start book (Some last)
-        → RunsOn K.state P.gives request.now (WasAsked (K.state start.journal.desk) (K.state result.desk))
+        → RunsOn K.state P.gives request.now (WasAsked (K.state start.journal.desk) (K.state result.desk)) did
         start (K.state result.desk) result.status }
     ensures apart { (result.status ≢ UNREAD) × (result.status ≢ UNHIRED) }
     ensures asks { (K.state book.journal.desk).asks ≤ (K.state result.desk).asks }
@@ -126,10 +141,11 @@ fn end_run<K: Desk, P: Performer>(
 /// Says how many tasks and entries a book has whose run stopped in that state, and its report.
 fn sum_up<K: Desk, P: Performer>(alloc: Global, book: Book<K>, last: FlowState) -> Over<K>
     requires sound { book.halt ≡ None }
-    ensures runs { (request : ARequest) (start : BookValue K) → request.quiet ≡ true
-        → IsRunTo K.state P.gives request (WasAsked (K.state start.journal.desk) (K.state result.desk))
+    ensures runs { (request : ARequest) (start : BookValue K) (did : List (Option (List AnOrder)))
+        → request.quiet ≡ true
+        → IsRunTo K.state P.gives request (WasAsked (K.state start.journal.desk) (K.state result.desk)) did
         start book (Some last)
-        → RunsOn K.state P.gives request (WasAsked (K.state start.journal.desk) (K.state result.desk))
+        → RunsOn K.state P.gives request (WasAsked (K.state start.journal.desk) (K.state result.desk)) did
         start (K.state result.desk) result.status }
     ensures apart { (result.status ≢ UNREAD) × (result.status ≢ UNHIRED) }
     ensures asks { (K.state book.journal.desk).asks ≤ (K.state result.desk).asks }
@@ -163,10 +179,11 @@ fn summary_text<K: Desk>(alloc: Global, book: &Book<K>) -> Result<Vec<u8>, Memor
 /// Says the report of a book whose run stopped in that state.
 pub fn report_end<K: Desk, P: Performer>(mut book: Book<K>, last: FlowState) -> Over<K>
     requires sound { book.halt ≡ None }
-    ensures runs { (request : ARequest) (start : BookValue K) → request.quiet ≡ false
-        → IsRunTo K.state P.gives request (WasAsked (K.state start.journal.desk) (K.state result.desk))
+    ensures runs { (request : ARequest) (start : BookValue K) (did : List (Option (List AnOrder)))
+        → request.quiet ≡ false
+        → IsRunTo K.state P.gives request (WasAsked (K.state start.journal.desk) (K.state result.desk)) did
         start book (Some last)
-        → RunsOn K.state P.gives request (WasAsked (K.state start.journal.desk) (K.state result.desk))
+        → RunsOn K.state P.gives request (WasAsked (K.state start.journal.desk) (K.state result.desk)) did
         start (K.state result.desk) result.status }
     ensures apart { (result.status ≢ UNREAD) × (result.status ≢ UNHIRED) }
     ensures asks { (K.state book.journal.desk).asks ≤ (K.state result.desk).asks }
@@ -191,10 +208,11 @@ pub fn report_end<K: Desk, P: Performer>(mut book: Book<K>, last: FlowState) -> 
 /// Says why a book was halted, unless its output failed or memory ran out.
 fn say_halt<K: Desk, P: Performer>(alloc: Global, book: Book<K>, halt: Halt) -> Over<K>
     requires halted { book.halt ≡ Some halt }
-    ensures runs { (request : ARequest) (start : BookValue K) (stop : Option AFlowState)
-        → IsRunTo K.state P.gives request (WasAsked (K.state start.journal.desk) (K.state result.desk))
+    ensures runs { (request : ARequest) (start : BookValue K) (did : List (Option (List AnOrder)))
+        (stop : Option AFlowState)
+        → IsRunTo K.state P.gives request (WasAsked (K.state start.journal.desk) (K.state result.desk)) did
         start book stop
-        → RunsOn K.state P.gives request (WasAsked (K.state start.journal.desk) (K.state result.desk))
+        → RunsOn K.state P.gives request (WasAsked (K.state start.journal.desk) (K.state result.desk)) did
         start (K.state result.desk) result.status }
     ensures apart { (result.status ≢ UNREAD) × (result.status ≢ UNHIRED) }
     ensures asks { (K.state book.journal.desk).asks ≤ (K.state result.desk).asks }

@@ -62,8 +62,8 @@ pub fn taskflow<K: Desk + Send, S: Sources, W: Crew, L: Door, R: Threads + Wait 
     // status.
     ensures course { Course K.state (gives_by W.Hand.gives W.Far.gives)
         (WasAsked (K.state outside.desk) (K.state result.outside.desk)) words.now (S.contents outside.sources)
-        (ports_told W.hired L.told outside.crew outside.door)
-        (ports_told W.hired L.told result.outside.crew result.outside.door) outside.desk result.outside.desk
+        (ports_told W.told L.told outside.crew outside.door)
+        (ports_told W.told L.told result.outside.crew result.outside.door) outside.desk result.outside.desk
         result.status }
 
     // Status 2 comes only where the words are no command.
@@ -93,7 +93,10 @@ pub fn taskflow<K: Desk + Send, S: Sources, W: Crew, L: Door, R: Threads + Wait 
 
     // Nobody is hired, or exactly the hands that the words ask for, and these are where something was recorded, as the course
     // says.
-    ensures hires { HiresAsAsked words.now (W.hired outside.crew) (W.hired result.outside.crew) }
+    ensures hires { HiresAsAsked words.now (W.told outside.crew) (W.told result.outside.crew) }
+
+    // Only a worker has to do with the door.
+    ensures aside { ¬ (AsksForWork words.now) → L.told result.outside.door ≡ L.told outside.door }
 
     // A file can't be read, the disk fails, a text can't be said, no hands are hired and a worker's door fails only where
     // the count of such faults rose; no count falls.
@@ -134,9 +137,10 @@ fn answer<K: Desk + Send, S: Sources, W: Crew, L: Door, R: Threads + Wait + Sync
 ) -> Over<K>
     ensures course { Course K.state (gives_by W.Hand.gives W.Far.gives)
         (WasAsked (K.state desk) (K.state result.desk)) words.now
-        (S.contents sources.old) (ports_told W.hired L.told crew.old door.old)
-        (ports_told W.hired L.told crew.new door.new) desk result.desk result.status }
-    ensures hires { HiresAsAsked words.now (W.hired crew.old) (W.hired crew.new) }
+        (S.contents sources.old) (ports_told W.told L.told crew.old door.old)
+        (ports_told W.told L.told crew.new door.new) desk result.desk result.status }
+    ensures hires { HiresAsAsked words.now (W.told crew.old) (W.told crew.new) }
+    ensures aside { ¬ (AsksForWork words.now) → L.told door.new ≡ L.told door.old }
     ensures asks { (K.state desk).asks ≤ (K.state result.desk).asks }
     ensures door { L.faults door.old ≤ L.faults door.new }
     ensures causes { HasCausesOr (AsksForWork words.now × Rises (L.faults door.old) (L.faults door.new)) result.status
@@ -172,9 +176,10 @@ fn obey<K: Desk + Send, S: Sources, W: Crew, L: Door, R: Threads + Wait + Sync>(
     requires within { IsWithin asked }
     ensures obeys { Obeys K.state (gives_by W.Hand.gives W.Far.gives)
         (WasAsked (K.state desk) (K.state result.desk)) asked
-        (S.contents sources.old) (ports_told W.hired L.told crew.old door.old)
-        (ports_told W.hired L.told crew.new door.new) desk result.desk result.status }
-    ensures hires { HiresAsWanted (want_of asked) (W.hired crew.old) (W.hired crew.new) }
+        (S.contents sources.old) (ports_told W.told L.told crew.old door.old)
+        (ports_told W.told L.told crew.new door.new) desk result.desk result.status }
+    ensures hires { HiresAsWanted (want_of asked) (W.told crew.old) (W.told crew.new) }
+    ensures aside { ¬ (IsWork asked) → L.told door.new ≡ L.told door.old }
     ensures asks { (K.state desk).asks ≤ (K.state result.desk).asks }
     ensures door { L.faults door.old ≤ L.faults door.new }
     ensures causes { HasCausesOr (IsWork asked × Rises (L.faults door.old) (L.faults door.new)) result.status
@@ -203,9 +208,10 @@ fn obey_flow<K: Desk + Send, S: Sources, W: Crew, L: Door, R: Threads + Wait + S
     requires within { IsWithin asked }
     ensures obeys { Obeys K.state (gives_by W.Hand.gives W.Far.gives)
         (WasAsked (K.state desk) (K.state result.desk)) asked
-        (S.contents sources.old) (ports_told W.hired L.told crew.old door.old)
-        (ports_told W.hired L.told crew.new door.new) desk result.desk result.status }
-    ensures hires { HiresAsWanted (want_of asked) (W.hired crew.old) (W.hired crew.new) }
+        (S.contents sources.old) (ports_told W.told L.told crew.old door.old)
+        (ports_told W.told L.told crew.new door.new) desk result.desk result.status }
+    ensures hires { HiresAsWanted (want_of asked) (W.told crew.old) (W.told crew.new) }
+    ensures aside { ¬ (IsWork asked) → L.told door.new ≡ L.told door.old }
     ensures asks { (K.state desk).asks ≤ (K.state result.desk).asks }
     ensures door { L.faults door.old ≤ L.faults door.new }
     ensures causes { HasCausesOr (IsWork asked × Rises (L.faults door.old) (L.faults door.new)) result.status

@@ -1,8 +1,9 @@
 //! A trial: a run of a flow file's plan of which nothing is kept.
 
-ghost use Rattle.std.specs.Prelude.{◌≡◌, ◌≤◌, [], None, vec_len};
+ghost use Rattle.std.specs.Prelude.{◌≡◌, ◌≤◌, [], map, None, Some, vec_len};
+ghost use Rattle.std.specs.List.{AllByRecursion};
 ghost use Rattle.tf_flow.specs.Plan.{plan_tree};
-ghost use Rattle.tf_ports.specs.Ports.{gives_by, wanted as number_of};
+ghost use Rattle.tf_ports.specs.Ports.{gives_by, IsFresh, wanted as number_of};
 ghost use Rattle.tf_machine.specs.Machine.{StandsFor};
 ghost use Rattle.tf_commands.specs.Asking.{AreHands, HasEachCause, WasAsked, counts_of};
 ghost use Rattle.tf_commands.specs.Course.{FileRead, IsUntouched, Tries, Tried, HiresAtMost};
@@ -36,13 +37,13 @@ pub fn try_file<K: Desk + Send, S: Sources, W: Crew, R: Threads + Wait + Sync>(
     requires said { request.now ≡ spoken_run request.now.want None }
     requires few { AreHands request.now.want }
     ensures tried { FileRead (S.contents sources.old) source
-        (IsUntouched (W.hired crew.old) (W.hired crew.new) (K.state desk) (K.state result.desk))
+        (IsUntouched (W.told crew.old) (W.told crew.new) (K.state desk) (K.state result.desk))
         (Tries (gives_by W.Hand.gives W.Far.gives request.now.want) request.now.want
         (WasAsked (K.state desk) (K.state result.desk))
-        (W.hired crew.old) (W.hired crew.new) (K.state desk).shown (K.state result.desk).shown)
+        (W.told crew.old) (W.told crew.new) (K.state desk).shown (K.state result.desk).shown)
         (K.state desk).shown (K.state result.desk).shown result.status }
     ensures stays { TouchesNoFile (K.state desk) (K.state result.desk) }
-    ensures hires { HiresAtMost request.now.want (W.hired crew.old) (W.hired crew.new) }
+    ensures hires { HiresAtMost request.now.want (W.told crew.old) (W.told crew.new) }
     ensures asks { (K.state desk).asks ≤ (K.state result.desk).asks }
     ensures causes { HasEachCause result.status (counts_of (K.state desk) (S.faults sources.old) (W.faults crew.old))
         (counts_of (K.state result.desk) (S.faults sources.new) (W.faults crew.new)) }
@@ -54,7 +55,7 @@ pub fn try_file<K: Desk + Send, S: Sources, W: Crew, R: Threads + Wait + Sync>(
 }
 
 /// Hires the hands that are wanted, and runs the plan of a machine with them.
-#[tactic(auto, using(crate::proofs::WantLemmas::near_count, crate::proofs::WantLemmas::far_count))]
+#[tactic(auto, using(crate::proofs::WantLemmas::near_count, crate::proofs::WantLemmas::far_count, crate::proofs::WantLemmas::near_fresh, crate::proofs::WantLemmas::far_fresh))]
 fn try_plan<K: Desk + Send, W: Crew, R: Threads + Wait + Sync>(
     rt: &R,
     alloc: Global,
@@ -68,17 +69,25 @@ fn try_plan<K: Desk + Send, W: Crew, R: Threads + Wait + Sync>(
     requires few { AreHands request.now.want }
     ensures tried { Tries (gives_by W.Hand.gives W.Far.gives request.now.want) request.now.want
         (WasAsked (K.state desk) (K.state result.desk))
-        (W.hired crew.old) (W.hired crew.new) (K.state desk).shown (K.state result.desk).shown
+        (W.told crew.old) (W.told crew.new) (K.state desk).shown (K.state result.desk).shown
         (plan_tree machine.plan) result.status }
     ensures stays { TouchesNoFile (K.state desk) (K.state result.desk) }
-    ensures hires { HiresAtMost request.now.want (W.hired crew.old) (W.hired crew.new) }
+    ensures hires { HiresAtMost request.now.want (W.told crew.old) (W.told crew.new) }
     ensures asks { (K.state desk).asks ≤ (K.state result.desk).asks }
     ensures causes { HasEachCause result.status (counts_of (K.state desk) 0 (W.faults crew.old))
         (counts_of (K.state result.desk) 0 (W.faults crew.new)) }
 {
     match crew.hire(alloc, &request.want) {
-        Ok(Hands::Local(hands)) => try_with(rt, alloc, machine, request, desk, hands),
-        Ok(Hands::Remote(hands)) => try_with(rt, alloc, machine, request, desk, hands),
+        Ok(Hands::Local(mut hands)) => {
+            let over = try_with(rt, alloc, machine, request, desk, &mut hands);
+            crew.dismiss(Hands::Local(hands));
+            over
+        }
+        Ok(Hands::Remote(mut hands)) => {
+            let over = try_with(rt, alloc, machine, request, desk, &mut hands);
+            crew.dismiss(Hands::Remote(hands));
+            over
+        }
         Err(fault) => {
             drop(machine);
             say_unhired(desk, fault)
@@ -93,18 +102,21 @@ fn try_with<K: Desk + Send, P: Performer + Send, R: Threads + Wait + Sync>(
     machine: Machine,
     request: &Request,
     desk: K,
-    hands: Vec<P>,
+    hands: &mut Vec<P>,
 ) -> Over<K>
     requires fresh { StandsFor machine [] }
     requires said { request.now ≡ spoken_run request.now.want None }
-    requires all { vec_len hands ≡ number_of request.now.want }
+    requires all { vec_len hands.old ≡ number_of request.now.want }
     requires few { AreHands request.now.want }
+    requires idle { AllByRecursion IsFresh (map P.did hands.old.items) }
     ensures tried { Tried P.gives request.now.want (WasAsked (K.state desk) (K.state result.desk))
-        (plan_tree machine.plan) (K.state desk).shown (K.state result.desk).shown result.status }
+        (Some (map P.did hands.new.items)) (plan_tree machine.plan)
+        (K.state desk).shown (K.state result.desk).shown result.status }
     ensures stays { TouchesNoFile (K.state desk) (K.state result.desk) }
     ensures asks { (K.state desk).asks ≤ (K.state result.desk).asks }
     ensures causes { HasEachCause result.status (counts_of (K.state desk) 0 0)
         (counts_of (K.state result.desk) 0 0) }
+    ensures back { vec_len hands.new ≡ vec_len hands.old }
 {
     match Journal::volatile(alloc, desk) {
         Ok(journal) => match Book::start(alloc, journal, machine, false) {

@@ -1,10 +1,12 @@
 //! A worker: it serves the requests of remote hands that come to an address, one session after the other.
 
-ghost use Rattle.std.specs.Prelude.{◌≡◌, ◌≢◌, ◌≤◌, ◌+◌, ◌++◌, ◌⊎◌, ℕ, List, Option, OnOk, IfErr};
+ghost use Rattle.std.specs.Prelude.{◌≡◌, ◌≢◌, ◌≤◌, ◌+◌, ◌++◌, ◌⊎◌, ℕ, OnOk, IfErr};
 ghost use Rattle.tf_numbers.specs.Numbers.{Rises};
-ghost use Rattle.tf_ports.specs.declared.crews.Want.{Want as AWant};
 ghost use Rattle.tf_commands.specs.Messages.{end_word, session_line, SaysSession, CutsSession, SaysNext, StopsNext, HasStopCause, HasServeCause, HiresHere, ServesAll, Works};
 ghost use Rattle.tf_commands.specs.Books.{OnlySays};
+ghost use Rattle.tf_commands.specs.Course.{HiresAtMost};
+ghost use Rattle.tf_ports.specs.Ports.{CrewTold, IsFresh};
+ghost use Rattle.tf_ports.specs.declared.crews.Want.TheVariants as want;
 
 use crate::messages::{CANNOT_HIRE, CANNOT_LISTEN};
 use std::alloc::Global;
@@ -26,10 +28,10 @@ pub fn work<K: Desk, W: Crew, D: Door>(
     crew: &mut W,
     door: &mut D,
 ) -> u8
-    ensures works { Works W.Hand.gives (W.hired crew.old) (W.hired crew.new) (D.told door.old) (D.told door.new)
+    ensures works { Works W.Hand.gives (W.told crew.old) (W.told crew.new) (D.told door.old) (D.told door.new)
         (K.state desk.old).shown (K.state desk.new).shown address.now sessions result }
     ensures says { OnlySays (K.state desk.old) (K.state desk.new) }
-    ensures hires { (W.hired crew.new ≡ W.hired crew.old) ⊎ HiresHere (W.hired crew.old) (W.hired crew.new) }
+    ensures hires { HiresAtMost (want.Local 1) (W.told crew.old) (W.told crew.new) }
     ensures unhired { result ≡ UNHIRED
         → Rises (W.faults crew.old) (W.faults crew.new) ⊎ Rises (D.faults door.old) (D.faults door.new) }
     ensures unsaid { result ≡ UNSAID → Rises (K.state desk.old).out_faults (K.state desk.new).out_faults }
@@ -42,7 +44,10 @@ pub fn work<K: Desk, W: Crew, D: Door>(
             let Some(mut hand) = hands.pop() else {
                 unreachable!();
             };
-            listen_and_serve(alloc, address, sessions, desk, &mut hand, door)
+            let status = listen_and_serve(alloc, address, sessions, desk, &mut hand, door);
+            hands.push_reserved(hand);
+            crew.dismiss(Hands::Local(hands));
+            status
         }
         Ok(Hands::Remote(_)) => unreachable!(),
         Err(PortFault::Failed) => close(CANNOT_HIRE, UNHIRED, desk),
@@ -59,8 +64,9 @@ fn listen_and_serve<K: Desk, P: Performer, D: Door>(
     hand: &mut P,
     door: &mut D,
 ) -> u8
-    ensures works { (hired after_hiring : Option (List AWant)) → HiresHere hired after_hiring
-        → Works P.gives hired after_hiring (D.told door.old) (D.told door.new) (K.state desk.old).shown
+    ensures works { (crew crew_after : CrewTold) → IsFresh (P.did hand.old)
+        → HiresHere crew crew_after (P.did hand.new)
+        → Works P.gives crew crew_after (D.told door.old) (D.told door.new) (K.state desk.old).shown
         (K.state desk.new).shown address.now sessions result }
     ensures says { OnlySays (K.state desk.old) (K.state desk.new) }
     ensures causes { HasServeCause (K.state desk.old) (K.state desk.new)
@@ -82,8 +88,8 @@ fn serve_all<K: Desk, P: Performer, D: Door>(
     hand: &mut P,
     door: &mut D,
 ) -> u8
-    ensures serves { ServesAll P.gives (D.told door.old) (D.told door.new) (K.state desk.old).shown
-        (K.state desk.new).shown sessions result }
+    ensures serves { ServesAll P.gives (P.did hand.old) (P.did hand.new)
+        (D.told door.old) (D.told door.new) (K.state desk.old).shown (K.state desk.new).shown sessions result }
     ensures says { OnlySays (K.state desk.old) (K.state desk.new) }
     ensures causes { HasServeCause (K.state desk.old) (K.state desk.new)
         (D.faults door.old) (D.faults door.new) result }

@@ -1,5 +1,6 @@
 -- What the calls of a link do to the bytes that it tells of. What is told of sources and of a door, and which hands are wanted.
-use Rattle.std.specs.Prelude.{◌≡◌, ℕ, ◌<◌, ◌≤◌, List, [], ◌++◌, length, take, Option, Some, None, option_map, vec_len}
+use Rattle.std.specs.Prelude.{◌≡◌, ℕ, ◌<◌, ◌≤◌, List, [], ◌++◌, length, take, map, Option, Some, None, option_map, vec_len}
+use Rattle.std.specs.List.{AllByRecursion}
 use Rattle.tf_ports.specs.declared.links.Came.{Came}
 use Rattle.tf_actions.specs.declared.orders.Order.{Order}
 use Rattle.tf_actions.specs.declared.outcomes.Outcome.{Outcome}
@@ -110,6 +111,43 @@ AreWanted _ _ = ⊥
 abbrev pub gives_by : (near far : Order → Outcome → Type 0) → Want → Order → Outcome → Type 0
 gives_by near far (want.Local count) = near
 gives_by near far (want.Remote addresses) = far
+
+-- ---- what a crew tells
+
+-- for each of some hands, in their order, the orders that it was given, where it tells them; None where they aren't told
+abbrev pub GivenBack : Type 0
+GivenBack = Option (List (Option (List Order)))
+
+-- the wants that were answered with hands, in order; and the orders of the hands that were given back last
+pub record CrewTold : Type 0 where
+  pub hired : Option (List Want)
+  pub back : GivenBack
+
+-- nothing of this
+abbrev pub crew_tells_nothing : CrewTold
+crew_tells_nothing = record { hired = None; back = None }
+
+-- one want more was answered with hands
+abbrev pub hired_for : CrewTold → Want → CrewTold
+hired_for told hands = record told { hired = told_with told.hired hands }
+
+-- hands were given back, which had been given these orders
+abbrev pub gave_back : CrewTold → List (Option (List Order)) → CrewTold
+gave_back told orders = record told { back = option_map (λ before. orders) told.back }
+
+-- the orders that each of these hands was given, in their order
+abbrev pub did_by : {H F : Type 0} → (H → Option (List Order)) → (F → Option (List Order)) → Hands H F → List (Option (List Order))
+did_by near_did far_did (hands.Local near) = map near_did near.items
+did_by near_did far_did (hands.Remote far) = map far_did far.items
+
+-- a hand was given no order yet, where it tells
+abbrev pub IsFresh : Option (List Order) → Type 0
+IsFresh None = Unit {0}
+IsFresh (Some did) = did ≡ []
+
+-- none of these hands was
+abbrev pub AreFresh : {H F : Type 0} → (H → Option (List Order)) → (F → Option (List Order)) → Hands H F → Type 0
+AreFresh near_did far_did hands = AllByRecursion IsFresh (did_by near_did far_did hands)
 
 -- ---- which addresses are dialled
 

@@ -1,9 +1,8 @@
 ghost use Rattle.std.specs.Prelude.{◌≡◌, ℕ, ◌≤◌, List, Option, IfOk, OnOk, OnErr, IsErrOf};
 ghost use Rattle.tf_numbers.specs.Numbers.{Rises};
 ghost use Rattle.tf_ports.specs.declared.crews.Address.{Address as AnAddress};
-ghost use Rattle.tf_ports.specs.declared.crews.Want.{Want as AWant};
-ghost use Rattle.tf_actions.specs.Gives.{told_with};
-ghost use Rattle.tf_ports.specs.Ports.{wanted, AreWanted, addresses_wanted, told_with_all, DialsSome};
+ghost use Rattle.tf_ports.specs.Ports.{wanted, AreWanted, AreFresh, addresses_wanted, told_with_all, DialsSome};
+ghost use Rattle.tf_ports.specs.Ports.{CrewTold, hired_for, gave_back, did_by};
 
 use std::alloc::Global;
 use std::marker::Model;
@@ -115,7 +114,7 @@ pub enum Hands<H, F> {
     Remote(Vec<F>),
 }
 
-/// Who hires hands.
+/// Who hires hands, and takes them back.
 pub trait Crew: Drop {
     /// A hand of this process.
     type Hand: Performer + Send;
@@ -126,15 +125,16 @@ pub trait Crew: Drop {
     /// How many faults there were. The count never falls, and stands still at the greatest u64.
     ghost faults: { Self → ℕ };
 
-    /// The wants that were answered with hands, in order, where the crew keeps them.
-    ghost hired: { Self → Option (List AWant) };
+    /// Which wants were answered with hands, and which orders the hands that were given back last had been given, where
+    /// the crew tells them.
+    ghost told: { Self → CrewTold };
 
     /// The addresses that were dialled, in order, where the crew tells them.
     ghost dialled: { Self → Option (List AnAddress) };
 
-    /// The hands that are wanted: as many of this process, or one for each address; the addresses are
-    /// dialled in order, up to the first at which no link can be made. `Failed` comes only where the count of faults
-    /// rose.
+    /// The hands that are wanted, which were given no order yet: as many of this process, or one for each address; the
+    /// addresses are dialled in order, up to the first at which no link can be made. `Failed` comes only where the count
+    /// of faults rose.
     fn hire(
         &mut self,
         alloc: Global,
@@ -142,11 +142,19 @@ pub trait Crew: Drop {
     ) -> Result<Hands<Self::Hand, Self::Far>, PortFault>
         ensures all { IfOk result (λ hands. AreWanted want.now hands) }
         ensures cause { IsErrOf result PortFault.Failed → Rises (faults self.old) (faults self.new) }
-        ensures hired { OnOk result (hired self.new ≡ told_with (hired self.old) want.now) }
-        ensures not_hired { OnErr result (hired self.new ≡ hired self.old) }
+        ensures fresh { IfOk result (λ hands. AreFresh Self.Hand.did Self.Far.did hands) }
+        ensures hired { OnOk result (told self.new ≡ hired_for (told self.old) want.now) }
+        ensures not_hired { OnErr result (told self.new ≡ told self.old) }
         ensures dialled { OnOk result
             (dialled self.new ≡ told_with_all (dialled self.old) (addresses_wanted want.now)) }
         ensures dialled_some { OnErr result
             (DialsSome (addresses_wanted want.now) (dialled self.old) (dialled self.new)) }
         ensures no_fall { faults self.old ≤ faults self.new };
+
+    /// Takes hands back that aren't wanted any more. A crew that tells which orders they were given forgets those of the
+    /// hands that it took back before. Nothing is dialled, and there is no fault.
+    fn dismiss(&mut self, hands: Hands<Self::Hand, Self::Far>)
+        ensures back { told self.new ≡ gave_back (told self.old) (did_by Self.Hand.did Self.Far.did hands) }
+        ensures dialled { dialled self.new ≡ dialled self.old }
+        ensures faults { faults self.new ≡ faults self.old };
 }

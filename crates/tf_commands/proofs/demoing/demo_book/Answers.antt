@@ -12,4 +12,4 @@ returns-in-Ok-clause-demonstrates g c =
     let entry = D.state c.args.desk in
     let now = D.state run.result.desk in
     demonstrated (subst (λ (t : PlanTree). Runs g.W.Hand.Performer.gives (unspoken (want.Local c.args.hands)) (WasAsked entry now)
-    c.args.name.now (g.W.Crew.hired c.args.crew.now) (g.W.Crew.hired run.new.crew) entry now t run.result.status) c.in-Ok.ensures.generated run.ensures.runs)
+    c.args.name.now (g.W.Crew.told c.args.crew.now) (g.W.Crew.told run.new.crew) entry now t run.result.status) c.in-Ok.ensures.generated run.ensures.runs)

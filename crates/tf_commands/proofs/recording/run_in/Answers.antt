@@ -10,7 +10,7 @@ returns-in-Ok-clause-runs g c =
     let here = g.met.K.Desk g.world.𝓛 g.world.𝓜 g.world.𝓡 ((λ s x. x), (λ x. x), (λ x. x), λ x. x) in
     let now = c.run_book.result.desk in
     λ name entry opened found.
-    begun_promised D.state g.P.Performer.gives c.args.request.now _ _ name c.args.machine.plan (D.state entry) c.in-Ok.book (D.state now) c.run_book.result.status
+    begun_promised D.state g.P.Performer.gives c.args.request.now _ _ _ name c.args.machine.plan (D.state entry) c.in-Ok.book (D.state now) c.run_book.result.status
     (c.in-Ok.ensures.begins name entry opened found) c.run_book.ensures.runs
     (record { there = λ told picked. here.picked_is_there now name told picked; reads = λ told bytes is. here.reads_left now name bytes told is })
     c.in-Ok.ensures.ready.1 (λ rose. rises_later _ (D.state c.in-Ok.book.journal.desk).asks _ (omega (arith, c.in-Ok.ensures.goes.on_disk.asks)) rose)
@@ -21,4 +21,4 @@ returns-in-Ok-clause-causes g c =
     ran_causes (goes_reaches c.in-Ok.ensures.goes) r.continues r.ended (omega arith) c.run_book.ensures.apart
 
 pub returns-in-Err-clause-runs : goal.returns-in-Err-clause-runs
-returns-in-Err-clause-runs g c = λ name entry opened found. c.say_unbegun.ensures.promised c.args.request.now _ name entry c.args.machine.plan (c.in-Err.ensures.unbegun name entry opened found)
+returns-in-Err-clause-runs g c = λ name entry opened found. c.say_unbegun.ensures.promised c.args.request.now _ _ name entry c.args.machine.plan (c.in-Err.ensures.unbegun name entry opened found) c.requires.idle

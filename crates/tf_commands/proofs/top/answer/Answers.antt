@@ -36,3 +36,6 @@ returns-in-None-clause-hires g c = hires_nobody _ _
 pub returns-in-Some-clause-causes : goal.returns-in-Some-clause-causes
 returns-in-Some-clause-causes g c =
     listened_so _ _ _ _ _ (λ both. ((c.in-Some.asked, sym c.in-Ok.ensures ∙ c.in-Some.is, both.0), both.1)) c.obey.ensures.causes
+
+pub returns-in-Some-clause-aside : goal.returns-in-Some-clause-aside
+returns-in-Some-clause-aside g c never = c.obey.ensures.aside (λ works. never (c.in-Some.asked, sym c.in-Ok.ensures ∙ c.in-Some.is, works))

@@ -77,3 +77,6 @@ returns-in-Demo-clause-hires g c = hires_so c.args.asked _ _ _ c.in-Demo.is c.de
 
 pub returns-in-Worker-clause-hires : goal.returns-in-Worker-clause-hires
 returns-in-Worker-clause-hires g c = hires_so c.args.asked _ _ _ c.in-Worker.is c.work-status.ensures.hires
+
+pub returns-in-Worker-clause-aside : goal.returns-in-Worker-clause-aside
+returns-in-Worker-clause-aside g c never = absurd (never (subst IsWork (sym c.in-Worker.is) tt))

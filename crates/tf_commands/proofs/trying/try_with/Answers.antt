@@ -8,7 +8,7 @@ pub returns-in-Ok-start-clause-tried : goal.returns-in-Ok-start-clause-tried
 returns-in-Ok-start-clause-tried g c =
     let D = g.K.Desk in
     let same = c.in-Ok-start.ensures.volatile c.in-Ok.ensures.made.3 ∙ c.in-Ok.ensures.made.0 in
-    tried_run D.state g.P.Performer.gives c.args.request.now _ _ c.args.machine.plan c.args.desk c.in-Ok-start.book (D.state c.run_book.result.desk) c.run_book.result.status
+    tried_run D.state g.P.Performer.gives c.args.request.now _ _ _ c.args.machine.plan c.args.desk c.in-Ok-start.book (D.state c.run_book.result.desk) c.run_book.result.status
     c.requires.said (ap (λ (b : BookValue g.row.K.Denot). b.plan) c.in-Ok-start.ensures.made) (ap (λ (b : BookValue g.row.K.Denot). b.past) c.in-Ok-start.ensures.made)
     same c.run_book.ensures.runs
     (λ rose. rises_later (D.state c.args.desk).asks (D.state c.in-Ok-start.book.journal.desk).asks _ (omega (arith, ap (λ (k : g.row.K.Denot). (D.state k).asks) same)) rose)
@@ -31,10 +31,10 @@ returns-in-Err-start-clause-stays g c =
 
 pub returns-in-Err-start-clause-tried : goal.returns-in-Err-start-clause-tried
 returns-in-Err-start-clause-tried g c =
-    tried_unbegun_on g.K.Desk.state g.P.Performer.gives c.args.request.now.want _ c.args.machine.plan c.args.desk c.in-Err-start.desk (g.K.Desk.state c.say_unbegun.result.desk) c.say_unbegun.result.status
-    (c.in-Err-start.ensures.volatile c.in-Ok.ensures.made.3 ∙ c.in-Ok.ensures.made.0) c.say_unbegun.ensures.closes
+    tried_unbegun_on g.K.Desk.state g.P.Performer.gives c.args.request.now.want _ _ c.args.machine.plan c.args.desk c.in-Err-start.desk (g.K.Desk.state c.say_unbegun.result.desk) c.say_unbegun.result.status
+    (c.in-Err-start.ensures.volatile c.in-Ok.ensures.made.3 ∙ c.in-Ok.ensures.made.0) c.say_unbegun.ensures.closes c.requires.idle
 
 pub returns-in-Err-clause-tried : goal.returns-in-Err-clause-tried
 returns-in-Err-clause-tried g c =
-    tried_unbegun g.P.Performer.gives c.args.request.now.want _ c.args.machine.plan (g.K.Desk.state c.args.desk).shown (g.K.Desk.state c.in-Err.desk).shown 9
-    (inr (refl, ap (λ (k : g.row.K.Denot). (g.K.Desk.state k).shown) c.in-Err.ensures.back))
+    tried_unbegun g.P.Performer.gives c.args.request.now.want _ _ c.args.machine.plan (g.K.Desk.state c.args.desk).shown (g.K.Desk.state c.in-Err.desk).shown 9
+    (inr (refl, ap (λ (k : g.row.K.Denot). (g.K.Desk.state k).shown) c.in-Err.ensures.back)) c.requires.idle

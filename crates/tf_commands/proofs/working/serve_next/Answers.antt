@@ -1,4 +1,4 @@
-use Rattle.std.proofs.Common.{◌≡◌, ◌+◌, ℕ, List, [], ◌∷◌, Option, refl, sym, subst, arith}
+use Rattle.std.proofs.Common.{◌≡◌, ◌+◌, ℕ, List, [], ◌∷◌, Option, refl, sym, subst, inl, inr, arith}
 use Rattle.tf_actions.specs.declared.orders.Order.{Order}
 use Rattle.tf_ports.specs.Ports.{DoorTold, SeenLink, seen_link}
 use Rattle.tf_commands.specs.Messages.{CutsSession, GivesLinks, SaysNext, SaysSession, StopsNext, no_next_link, exhausted_next}
@@ -6,11 +6,11 @@ use Rattle.tf_commands.proofs.WorkLemmas.{links_none, link_besides, says_next, s
 use Rattle.tf_commands.proofs.working.serve_next.Goals as goal
 
 pub returns-in-Err-Failed-clause-stopped : goal.returns-in-Err-Failed-clause-stopped
-returns-in-Err-Failed-clause-stopped g c = no_next_link c.in-Err-Failed.ensures.gave_none c.close.ensures.closes
+returns-in-Err-Failed-clause-stopped g c = no_next_link c.in-Err-Failed.ensures.gave_none refl c.close.ensures.closes
 
 pub returns-in-Err-Memory-clause-stopped : goal.returns-in-Err-Memory-clause-stopped
 returns-in-Err-Memory-clause-stopped g c =
-    exhausted_next refl refl [] [] (omega arith) (omega arith)
+    exhausted_next refl refl [] [] (omega arith) (omega arith) (inl refl)
     (subst (GivesLinks [] [] [] (g.D.Door.told c.args.door.now)) (sym c.in-Err-Memory.ensures.gave_none) (links_none (g.D.Door.told c.args.door.now)))
 
 pub returns-in-Ok-close-clause-next : goal.returns-in-Ok-close-clause-next
@@ -49,5 +49,6 @@ returns-in-Err-clause-stopped g c =
     let old : DoorTold = g.D.Door.told c.args.door.now in
     let mid : DoorTold = g.D.Door.told c.accept.new.self in
     let new : DoorTold = g.D.Door.told c.close-2.new.self in
-    exhausted_next refl refl (first ∷ []) [] (omega arith) (omega arith)
+    let last : SeenLink = seen_link g.D.Made.Link.left g.D.Made.Link.sent g.D.Made.Link.faults g.D.Made.Link.ends c.serve-end.new.link in
+    exhausted_next refl refl (first ∷ []) [] (omega arith) (omega arith) (inr (first, last, c.serve-end.result, refl, c.serve-end.ensures))
     (subst (GivesLinks [] (first ∷ []) [] old) (sym (let stays : new ≡ mid = c.in-Err.ensures.not_returned in stays)) (link_besides first old mid c.in-Ok.ensures.gave))
