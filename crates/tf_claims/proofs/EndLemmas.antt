@@ -28,6 +28,7 @@ use Rattle.tf_commands.proofs.FlowLemmas.{flow_held}
 use Rattle.tf_claims.specs.Life.{Call, IsUnfailing, EndsAsStated, exhausted, filled, ended}
 use Rattle.tf_claims.proofs.BookLemmas.{is_book}
 use Rattle.tf_claims.proofs.OnceLemmas.{once, grows_so}
+use Rattle.tf_ports.specs.Ports.{CrewTold, GivenBack}
 
 -- a status that none of the five is
 five : {status : ℕ} → IsRunComplete status → (n : ℕ) → status ≡ n → (n ≡ 0) ⊎ (n ≡ 10) ⊎ (n ≡ 11) ⊎ (n ≡ 9) ⊎ (n ≡ 13)
@@ -83,8 +84,8 @@ ended_of flow.Resuming is complete = is
 module _ {gives : Order → Outcome → Type 0} {hands : Want} {stopped : Type 0} {name : List ℕ} {entry now : DeskState} {status : ℕ} (told : IsTrue entry.tells)
     (undamaged : ¬ (Rises entry.disk_faults now.disk_faults)) (complete : IsRunComplete status) where
   -- the file after a run that met no fault of the disk
-  file_then : {plan other : PlanValue} {past before : List Entry} → HoldsHistory plan past (book_at entry name) → HoldsHistory other before (book_at entry name)
-      → (p : Promised gives (spoken_run hands None) stopped name other before entry now status) → HoldsHistory plan (p.entries ++ past) (book_at now name)
+  file_then : {plan other : PlanValue} {past before : List Entry} {back : GivenBack} → HoldsHistory plan past (book_at entry name) → HoldsHistory other before (book_at entry name)
+      → (p : Promised gives (spoken_run hands None) stopped back name other before entry now status) → HoldsHistory plan (p.entries ++ past) (book_at now name)
   file_then {plan} {other} {past} {before} holds held p =
       let l = p.lasts told in
       ⊎_elim
@@ -94,8 +95,8 @@ module _ {gives : Order → Outcome → Type 0} {hands : Want} {stopped : Type 0
       (λ rose. absurd (undamaged rose)) l.few.caused)
       l.file
 
-  run_ends : {plan other : PlanValue} {past before : List Entry} → HoldsHistory plan past (book_at entry name) → HoldsHistory other before (book_at entry name)
-      → (p : Promised gives (spoken_run hands None) stopped name other before entry now status) → EndsAsStated plan past (file_of now name) status
+  run_ends : {plan other : PlanValue} {past before : List Entry} {back : GivenBack} → HoldsHistory plan past (book_at entry name) → HoldsHistory other before (book_at entry name)
+      → (p : Promised gives (spoken_run hands None) stopped back name other before entry now status) → EndsAsStated plan past (file_of now name) status
   run_ends {plan} {other} {past} {before} holds held p = by p.closing status complete p.ran.text
     where
       one : (outline_of other ≡ outline_of plan) × (before ≡ past)
@@ -123,8 +124,8 @@ module _ {gives : Order → Outcome → Type 0} {hands : Want} {stopped : Type 0
       by _ _ good (books.line_cut prefix) = never good 7 refl (λ n. omega arith) (λ n. omega arith) (λ n. omega arith) (λ n. omega arith) (λ n. omega arith)
       by _ _ good (books.stopped same) = exhausted
 
-  resume_ends : {plan : PlanValue} {past : List Entry} {hired after_hiring : Option (List Want)} → HoldsHistory plan past (book_at entry name)
-      → Resumes gives (spoken_run hands None) stopped name hired after_hiring entry now status → EndsAsStated plan past (file_of now name) status
+  resume_ends : {plan : PlanValue} {past : List Entry} {crew crew_after : CrewTold} → HoldsHistory plan past (book_at entry name)
+      → Resumes gives (spoken_run hands None) stopped name crew crew_after entry now status → EndsAsStated plan past (file_of now name) status
   resume_ends {plan} {past} holds (books.unopened_again same (books.exhausted s)) = subst (EndsAsStated plan past (file_of now name)) (sym s.status_is) exhausted
   resume_ends holds (books.unopened_again same (books.disk_failed_opening r)) =
       never_closes complete r.closes (λ n. omega arith) (λ n. omega arith) (λ n. omega arith) (λ n. omega arith) (λ n. omega arith)
@@ -134,7 +135,7 @@ module _ {gives : Order → Outcome → Type 0} {hands : Want} {stopped : Type 0
       subst (EndsAsStated plan past (file_of now name)) (sym s.status_is) exhausted
   resume_ends holds (books.unhired_again other before held going (books.unhired same r)) =
       never_closes complete r.closes (λ n. omega arith) (λ n. omega arith) (λ n. omega arith) (λ n. omega arith) (λ n. omega arith)
-  resume_ends holds (books.resumed other before can held how p) = run_ends holds (held told) p
+  resume_ends holds (books.resumed other before can held back how p) = run_ends holds (held told) p
 
 -- the call
 pub call_ends : {K : Type 0} (state : K → DeskState) (gives : Want → Order → Outcome → Type 0) (name : List ℕ) (hands : Want) (call : Call state gives) (plan : PlanValue) (past : List Entry)

@@ -11,3 +11,4 @@ pub mod EndLemmas
 pub mod ClosingLemmas
 pub mod OwnerLemmas
 pub mod DoneLemmas
+pub mod OrderLemmas

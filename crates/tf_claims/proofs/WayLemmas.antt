@@ -4,7 +4,7 @@ use Rattle.std.specs.Prelude.{Bool, IsTrue}
 use Rattle.tf_desk.specs.State.{DeskState}
 use Rattle.tf_flow.specs.Plan.{PlanValue, PlanTree}
 use Rattle.tf_states.specs.declared.record.Entry.{Entry}
-use Rattle.tf_ports.specs.Ports.{Contents, wanted as number_of}
+use Rattle.tf_ports.specs.Ports.{Contents, wanted as number_of, CrewTold}
 use Rattle.tf_ports.specs.declared.crews.Want.{Want}
 use Rattle.tf_actions.specs.declared.orders.Order.{Order}
 use Rattle.tf_actions.specs.declared.outcomes.Outcome.{Outcome}
@@ -47,8 +47,8 @@ way_others (unmade message s) = s.others
 way_others (jobs before added pending message finds may l) = l.others
 
 -- such a hand may record where these hands were hired
-abbrev pub Allows : (ℕ → Want → Type 0) → Want → Option (List Want) → Option (List Want) → Type 0
-Allows able want hired after_hiring = Hires want hired after_hiring → (n : ℕ) → n < number_of want → able n want
+abbrev pub Allows : (ℕ → Want → Type 0) → Want → CrewTold → CrewTold → Type 0
+Allows able want crew crew_after = Hires want crew crew_after → (n : ℕ) → n < number_of want → able n want
 
 -- ---- which way each command goes
 
@@ -66,25 +66,25 @@ unopened_way name entry now status told (books.exhausted s) = alone [] (s.alone 
 unopened_way name entry now status told (books.disk_failed_opening r) = alone _ (r.alone told)
 unopened_way name entry now status told (books.no_book offset byte none r) = alone _ (r.alone told)
 
-unhired_way : {gives : Want → Order → Outcome → Type 0} {able : ℕ → Want → Type 0} (name : List ℕ) (entry now : DeskState) (hired after_hiring : Option (List Want)) (status : ℕ) → IsTrue entry.tells
-    → Unhired name entry now hired after_hiring status → Way gives able name entry now
-unhired_way name entry now hired after_hiring status told (books.exhausted_hire same s) = alone [] (s.alone told)
-unhired_way name entry now hired after_hiring status told (books.unhired same r) = alone _ (r.alone told)
+unhired_way : {gives : Want → Order → Outcome → Type 0} {able : ℕ → Want → Type 0} (name : List ℕ) (entry now : DeskState) (crew crew_after : CrewTold) (status : ℕ) → IsTrue entry.tells
+    → Unhired name entry now crew crew_after status → Way gives able name entry now
+unhired_way name entry now crew crew_after status told (books.exhausted_hire same s) = alone [] (s.alone told)
+unhired_way name entry now crew crew_after status told (books.unhired same r) = alone _ (r.alone told)
 
-runs_way : {gives : Want → Order → Outcome → Type 0} {able : ℕ → Want → Type 0} {request : Request} {stopped : Type 0} (name : List ℕ) (hired after_hiring : Option (List Want)) (entry now : DeskState)
-    (tree : PlanTree) (status : ℕ) → Allows able request.want hired after_hiring → IsTrue entry.tells → Runs (gives request.want) request stopped name hired after_hiring entry now tree status → Way gives able name entry now
-runs_way name hired after_hiring entry now tree status allow told (books.unopened same u) = unopened_way name entry now status told u
-runs_way name hired after_hiring entry now tree status allow told (books.forbidden other before same held r) = alone _ (r.alone told)
-runs_way name hired after_hiring entry now tree status allow told (books.unhired_run none u) = unhired_way name entry now hired after_hiring status told u
-runs_way name hired after_hiring entry now tree status allow told (books.ran other same none hires p) =
+runs_way : {gives : Want → Order → Outcome → Type 0} {able : ℕ → Want → Type 0} {request : Request} {stopped : Type 0} (name : List ℕ) (crew crew_after : CrewTold) (entry now : DeskState)
+    (tree : PlanTree) (status : ℕ) → Allows able request.want crew crew_after → IsTrue entry.tells → Runs (gives request.want) request stopped name crew crew_after entry now tree status → Way gives able name entry now
+runs_way name crew crew_after entry now tree status allow told (books.unopened same u) = unopened_way name entry now status told u
+runs_way name crew crew_after entry now tree status allow told (books.forbidden other before same held r) = alone _ (r.alone told)
+runs_way name crew crew_after entry now tree status allow told (books.unhired_run none u) = unhired_way name entry now crew crew_after status told u
+runs_way name crew crew_after entry now tree status allow told (books.ran other same none hires p) =
     began _ other _ p.entries p.closing (none told) (run_gives (allow hires) p.ran) (p.lasts told)
 
-resumes_way : {gives : Want → Order → Outcome → Type 0} {able : ℕ → Want → Type 0} {request : Request} {stopped : Type 0} (name : List ℕ) (hired after_hiring : Option (List Want)) (entry now : DeskState)
-    (status : ℕ) → Allows able request.want hired after_hiring → IsTrue entry.tells → Resumes (gives request.want) request stopped name hired after_hiring entry now status → Way gives able name entry now
-resumes_way name hired after_hiring entry now status allow told (books.unopened_again same u) = unopened_way name entry now status told u
-resumes_way name hired after_hiring entry now status allow told (books.empty same none r) = alone _ (r.alone told)
-resumes_way name hired after_hiring entry now status allow told (books.unhired_again other before held going u) = unhired_way name entry now hired after_hiring status told u
-resumes_way name hired after_hiring entry now status allow told (books.resumed other before can held how p) =
+resumes_way : {gives : Want → Order → Outcome → Type 0} {able : ℕ → Want → Type 0} {request : Request} {stopped : Type 0} (name : List ℕ) (crew crew_after : CrewTold) (entry now : DeskState)
+    (status : ℕ) → Allows able request.want crew crew_after → IsTrue entry.tells → Resumes (gives request.want) request stopped name crew crew_after entry now status → Way gives able name entry now
+resumes_way name crew crew_after entry now status allow told (books.unopened_again same u) = unopened_way name entry now status told u
+resumes_way name crew crew_after entry now status allow told (books.empty same none r) = alone _ (r.alone told)
+resumes_way name crew crew_after entry now status allow told (books.unhired_again other before held going u) = unhired_way name entry now crew crew_after status told u
+resumes_way name crew crew_after entry now status allow told (books.resumed other before can held back how p) =
     recorded _ other _ before p.entries p.closing (held told)
     (⊎_elim (λ over. ended_gives over.0 p.ran) (λ going. run_gives (allow going.1) p.ran) how) (p.lasts told)
 
@@ -106,8 +106,8 @@ pub data Goes (gives : Want → Order → Outcome → Type 0) (able : ℕ → Wa
   about : (name : List ℕ) → file ≡ Some name → Way gives able name entry now → Goes gives able file entry now
 
 -- a run of what a flow file gives
-file_goes : {gives : Want → Order → Outcome → Type 0} {able : ℕ → Want → Type 0} {files : Contents} {source : Source} {hired after_hiring : Option (List Want)} {does : PlanTree → ℕ → Type 0} {before after : Option (List ℕ)} (name : List ℕ) (entry now : DeskState)
-    (status : ℕ) → ((tree : PlanTree) → does tree status → Way gives able name entry now) → FileRead files source (IsUntouched hired after_hiring entry now) does before after status
+file_goes : {gives : Want → Order → Outcome → Type 0} {able : ℕ → Want → Type 0} {files : Contents} {source : Source} {crew crew_after : CrewTold} {does : PlanTree → ℕ → Type 0} {before after : Option (List ℕ)} (name : List ℕ) (entry now : DeskState)
+    (status : ℕ) → ((tree : PlanTree) → does tree status → Way gives able name entry now) → FileRead files source (IsUntouched crew crew_after entry now) does before after status
     → Goes gives able (Some name) entry now
 file_goes name entry now status way (course.unfinished still is same) = untouched still.1
 file_goes name entry now status way (course.unread still closes) = untouched still.1
@@ -121,25 +121,25 @@ pub itself : (entry : DeskState) → NoFileChanges entry entry
 itself entry told = (refl, refl)
 
 module _ {K : Type 0} (state : K → DeskState) (gives : Want → Order → Outcome → Type 0) where
-  demo_goes : {able : ℕ → Want → Type 0} {hands : Want} {stopped : Type 0} (name : List ℕ) (hired after_hiring : Option (List Want)) (entry now : K) (seed size status : ℕ) → Allows able hands hired after_hiring → IsTrue (state entry).tells
-      → Demonstrates state (gives hands) hands stopped name hired after_hiring entry now seed size status → Goes gives able (Some name) (state entry) (state now)
-  demo_goes name hired after_hiring entry now seed size status allow told (books.ungenerated is same still) =
+  demo_goes : {able : ℕ → Want → Type 0} {hands : Want} {stopped : Type 0} (name : List ℕ) (crew crew_after : CrewTold) (entry now : K) (seed size status : ℕ) → Allows able hands crew crew_after → IsTrue (state entry).tells
+      → Demonstrates state (gives hands) hands stopped name crew crew_after entry now seed size status → Goes gives able (Some name) (state entry) (state now)
+  demo_goes name crew crew_after entry now seed size status allow told (books.ungenerated is same still) =
       untouched (subst (λ (k : K). NoFileChanges (state entry) (state k)) (sym still) (itself (state entry)))
-  demo_goes name hired after_hiring entry now seed size status allow told (books.demonstrated r) =
-      about name refl (runs_way name hired after_hiring (state entry) (state now) _ status allow told r)
+  demo_goes name crew crew_after entry now seed size status allow told (books.demonstrated r) =
+      about name refl (runs_way name crew crew_after (state entry) (state now) _ status allow told r)
 
   pub obeys_goes : {able : ℕ → Want → Type 0} (stopped : Type 0) (command : Asked) (files : Contents) (ports later : PortsTold) (entry now : K) (status : ℕ)
-      → ((want : Want) → want_of command ≡ Some want → Allows able want ports.hired later.hired) → IsTrue (state entry).tells
+      → ((want : Want) → want_of command ≡ Some want → Allows able want ports.crew later.crew) → IsTrue (state entry).tells
       → Obeys state gives stopped command files ports later entry now status → Goes gives able (file_of_command command) (state entry) (state now)
   obeys_goes stopped (asked.Try file sets defer hands target) files ports later entry now status allow told obeys = untouched obeys.1.0
   obeys_goes stopped (asked.Check file sets target) files ports later entry now status allow told obeys = untouched obeys.1.1
   obeys_goes stopped (asked.Audit file log sets defer) files ports later entry now status allow told obeys = untouched obeys.1.1
   obeys_goes stopped (asked.Run file book sets defer hands stop target) files ports later entry now status allow told obeys =
-      file_goes book (state entry) (state now) status (λ tree did. runs_way book ports.hired later.hired (state entry) (state now) tree status (allow hands refl) told did) obeys
-  obeys_goes stopped (asked.Resume book hands stop) files ports later entry now status allow told obeys = about book refl (resumes_way book ports.hired later.hired (state entry) (state now) status (allow hands refl) told obeys)
+      file_goes book (state entry) (state now) status (λ tree did. runs_way book ports.crew later.crew (state entry) (state now) tree status (allow hands refl) told did) obeys
+  obeys_goes stopped (asked.Resume book hands stop) files ports later entry now status allow told obeys = about book refl (resumes_way book ports.crew later.crew (state entry) (state now) status (allow hands refl) told obeys)
   obeys_goes stopped (asked.Show book) files ports later entry now status allow told obeys = about book refl (shows_way book (state entry) (state now) status told obeys.0)
   obeys_goes stopped (asked.Reset book) files ports later entry now status allow told obeys = about book refl (resets_way book (state entry) (state now) status told obeys.0)
-  obeys_goes stopped (asked.Demo seed size book hands) files ports later entry now status allow told obeys = demo_goes book ports.hired later.hired entry now seed size status (allow _ refl) told obeys
+  obeys_goes stopped (asked.Demo seed size book hands) files ports later entry now status allow told obeys = demo_goes book ports.crew later.crew entry now seed size status (allow _ refl) told obeys
   obeys_goes stopped (asked.Worker address sessions) files ports later entry now status allow told obeys = untouched obeys.1
   obeys_goes stopped (asked.Post file name priority details) files ports later entry now status allow told obeys = about file refl (does_way _ file (state entry) (state now) status told obeys.0)
   obeys_goes stopped (asked.Claim file id owner) files ports later entry now status allow told obeys = about file refl (does_way _ file (state entry) (state now) status told obeys.0)

@@ -1,5 +1,5 @@
 -- A life of a file: calls of the program, one after another, each from what the one before it left.
-use Rattle.std.specs.Prelude.{◌≡◌, ◌⊎◌, ◌<◌, ℕ, Bool, true, IsTrue, List, [], ◌∷◌, ◌++◌, Option, Some}
+use Rattle.std.specs.Prelude.{◌≡◌, ◌⊎◌, ◌<◌, ℕ, Bool, true, IsTrue, List, [], ◌∷◌, ◌++◌, Option, Some, None}
 use Rattle.tf_desk.specs.Crash.{shown_with}
 use Rattle.tf_desk.specs.State.{DeskState}
 use Rattle.tf_flow.specs.Plan.{PlanValue}
@@ -10,6 +10,7 @@ use Rattle.tf_ports.specs.declared.crews.Want.{Want}
 use Rattle.tf_actions.specs.declared.orders.Order.{Order}
 use Rattle.tf_actions.specs.declared.outcomes.Outcome.{Outcome}
 use Rattle.tf_journal.specs.Start.{file_of, IsStart}
+use Rattle.tf_hands.specs.Hands.{orders}
 use Rattle.tf_model.specs.Scope.{IsGiven}
 use Rattle.tf_model.specs.Plan.{Outline, outline_of}
 use Rattle.tf_model.specs.Steps.{has_ended}
@@ -69,7 +70,7 @@ module _ {K : Type 0} (state : K → DeskState) (gives : Want → Order → Outc
   -- a hand of this number was hired for a call as one of the hands that are wanted: its words ask for these, they were hired, and so many there are
   pub record IsHired (call : Call) (hand : ℕ) (hands : Want) : Type 0 where
     pub wanted : wanted_by call.words ≡ Some hands
-    pub hires : Hires hands call.ports.hired call.later.hired
+    pub hires : Hires hands call.ports.crew call.later.crew
     pub among : hand < number_of hands
 
   -- the text that was shown when a call had left the file so
@@ -149,3 +150,15 @@ pub record IsHandedOn (id first second before after : List ℕ) : Type 0 where
   pub stands : IsBoardOf
       (command.Apply action.Claim (job_of past id) second ∷ (later ++ (command.Apply action.Abandon (job_of past id) first
       ∷ (older ++ (command.Apply action.Claim (job_of past id) first ∷ past))))) after
+
+-- ---- the orders of hands
+
+-- after a history a hand was given just the first of the orders that its starts and restarts ask for in a later one
+pub record AreFirst (plan : Outline) (before past : List Entry) (hand : ℕ) (did : List Order) : Type 0 where
+  pub others : List Order
+  pub are : orders plan hand past ≡ orders plan hand before ++ (did ++ others)
+
+-- the same of a hand that may tell nothing
+abbrev pub AreFirstIfTold : Outline → (before past : List Entry) → ℕ → Option (List Order) → Type 0
+AreFirstIfTold plan before past hand None = Unit {0}
+AreFirstIfTold plan before past hand (Some did) = AreFirst plan before past hand did

@@ -1,10 +1,11 @@
 //! The laws of a life.
 
-ghost use Rattle.std.specs.Prelude.{◌≡◌, ◌∷◌, ◌++◌, false, ℕ, List, Option, Some, None};
+ghost use Rattle.std.specs.Prelude.{◌≡◌, ◌∷◌, ◌++◌, false, ℕ, List, Option, Some, None, slice_index_or};
 ghost use Rattle.tf_numbers.specs.Numbers.{Rises};
 ghost use Rattle.tf_flow.specs.Plan.{PlanValue};
 ghost use Rattle.tf_states.specs.declared.record.Entry.{Entry};
-ghost use Rattle.tf_ports.specs.Ports.{gives_by};
+ghost use Rattle.tf_actions.specs.declared.orders.Order.{Order as AnOrder};
+ghost use Rattle.tf_ports.specs.Ports.{gives_by, GivenBack};
 ghost use Rattle.tf_ports.specs.declared.crews.Want.{Want as AWant};
 ghost use Rattle.tf_journal.specs.Format.{Recovered};
 ghost use Rattle.tf_journal.specs.Start.{file_of};
@@ -19,7 +20,7 @@ ghost use Rattle.tf_commands.specs.Asking.{WasAsked};
 ghost use Rattle.tf_words.specs.Words.{command_of};
 ghost use Rattle.tf_commands.specs.Books.{Promised, PutsBack, book_in, book_at, HoldsHistory};
 ghost use Rattle.tf_commands.specs.declared.running.Request.{Request};
-ghost use Rattle.tf_claims.specs.Life.{Call, IsUnfailing, Shown, Life, IsToldBy, EndsAsStated, IsBoardOf, IsDone, HiredIn, AreRecorded, WasClaimed, IsHandedOn};
+ghost use Rattle.tf_claims.specs.Life.{Call, IsUnfailing, Shown, Life, IsToldBy, EndsAsStated, IsBoardOf, IsDone, HiredIn, AreRecorded, WasClaimed, IsHandedOn, AreFirstIfTold};
 
 use tf_desk::Desk;
 use tf_ports::Crew;
@@ -87,9 +88,9 @@ pub fn one_owner<K: Desk, W: Crew>()
 /// (`run`, `resume`, `demo`), and of a flow that is put back (`reset`), whether the call returned or a crash came inside.
 pub fn nothing_shown_is_lost<K: Desk, W: Crew>()
     ensures run { (name mid last text : List ℕ) (call : Call K.state (gives_by W.Hand.gives W.Far.gives))
-        (request : Request) (plan : PlanValue) (before : List Entry)
+        (request : Request) (back : GivenBack) (plan : PlanValue) (before : List Entry)
         → (p : Promised (gives_by W.Hand.gives W.Far.gives request.want) request
-        (WasAsked (K.state call.entry) (K.state call.now)) name plan before
+        (WasAsked (K.state call.entry) (K.state call.now)) back name plan before
         (K.state call.entry) (K.state call.now) call.status)
         → Shown K.state (gives_by W.Hand.gives W.Far.gives) name call mid text
         → Life K.state (gives_by W.Hand.gives W.Far.gives) name mid last
@@ -100,6 +101,21 @@ pub fn nothing_shown_is_lost<K: Desk, W: Crew>()
         → Shown K.state (gives_by W.Hand.gives W.Far.gives) name call mid text
         → Life K.state (gives_by W.Hand.gives W.Far.gives) name mid last
         → IsToldBy plan false before p.entries (K.state call.entry).shown p.closing text last }
+{}
+
+/// The orders that a hand was given in a call which recorded a run, where crew and hand tell them, are the first ones that
+/// the hand's starts and restarts ask for behind the history before the call, in the history that the file holds at any
+/// later point of its life. So nothing was performed whose start isn't in the book, whatever crash comes after the call.
+pub fn orders_stand_in_the_book<K: Desk, W: Crew>()
+    ensures { (name mid last : List ℕ) (call : Call K.state (gives_by W.Hand.gives W.Far.gives))
+        (request : Request) (back : List (Option (List AnOrder))) (plan : PlanValue) (before : List Entry)
+        → (p : Promised (gives_by W.Hand.gives W.Far.gives request.want) request
+        (WasAsked (K.state call.entry) (K.state call.now)) (Some back) name plan before
+        (K.state call.entry) (K.state call.now) call.status)
+        → HoldsHistory plan (p.entries ++ before) (book_in mid)
+        → Life K.state (gives_by W.Hand.gives W.Far.gives) name mid last
+        → (hand : ℕ) → (past : List Entry) × HoldsHistory plan past (book_in last)
+        × AreFirstIfTold (outline_of plan) before past hand (slice_index_or back hand None) }
 {}
 
 /// A call that resumes a flow of which the file holds a history, on which no count of faults rises and for which no stop

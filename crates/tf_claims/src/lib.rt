@@ -7,5 +7,6 @@ mod laws;
 
 pub use laws::{
     boards_only_grow, ends_as_stated, every_entry_is_a_step, histories_are_not_refused,
-    history_only_grows, nothing_shown_is_lost, one_owner, what_was_done_stands,
+    history_only_grows, nothing_shown_is_lost, one_owner, orders_stand_in_the_book,
+    what_was_done_stands,
 };
