@@ -22,8 +22,7 @@ use Rattle.tf_shared_board.specs.declared.calls.BoardHalt.{BoardHalt}
 use Rattle.tf_shared_board.specs.declared.calls.BoardHalt.TheVariants as halt
 use Rattle.tf_shared_board.specs.declared.calls.JobCall.{JobCall}
 use Rattle.tf_shared_board.specs.declared.calls.Made.{Made}
-use Rattle.tf_board_service.specs.Answering.{Answers, CallsSo, Makes, MakesNoCall, OrHalts, StopsAfter, call_made, unless_refused}
-use Rattle.tf_board_service.specs.Replies.{call_reply, first_lines, made_line, reply_of, says, without_name, without_feed, list_line}
+use Rattle.tf_board_service.specs.Sessions.{Answers, CallsSo, Makes, MakesNoCall, OrHalts, StopsAfter, call_made, unless_refused, call_reply, first_lines, made_line, reply_of, says, without_name, without_feed, list_line}
 use Rattle.tf_board_service.specs.declared.replies.BoardReply.{BoardReply}
 use Rattle.tf_board_service.specs.declared.replies.BoardReply.TheVariants as reply
 use Rattle.tf_board_service.specs.declared.requests.BoardRequest.{BoardRequest}

@@ -11,8 +11,9 @@ use Rattle.tf_shared_board.specs.Shared.{SharedValue}
 use Rattle.tf_shared_board.specs.declared.calls.Made.{Made}
 use Rattle.tf_turnstile.specs.Numbered.{AreNumberedBelow, IsLater}
 use Rattle.tf_turnstile.specs.Passes.{TurnstileValue, PassValue, IsIdle, AreAll, AreNew, HasGrown}
+use Rattle.tf_ports.specs.Ports.{SeenLink, seen_link}
 use Rattle.tf_board_service.specs.Serving.{IsServing, ServingValue, made_since}
-use Rattle.tf_board_service.specs.Sessions.{HaltsWith, IsServed, Seen, is_halted, seen}
+use Rattle.tf_board_service.specs.Sessions.{HaltsWith, IsServed, is_halted}
 use Rattle.tf_board_service.specs.Served.{AreServed}
 use Rattle.tf_board_service.specs.Turning.{HasServed, IsAppointed, IsFresh, seen_calls, start_past}
 use Rattle.tf_board_service.specs.Turns.{HasWaited, IsOver}
@@ -49,8 +50,8 @@ below_all bound calls all i d below =
 
 module _ {K W L : Type 0} (state : K → DeskState) (turnstile : TurnstileValue (ServingValue K)) (pass_of : W → PassValue (ServingValue K) Made) (link_of : W → L) (session_of : W → Session)
     (left sent : L → Option (List ℕ)) (faults ends : L → ℕ) where
-  abbrev see : L → Seen
-  see link = seen left sent faults ends link
+  abbrev see : L → SeenLink
+  see link = seen_link left sent faults ends link
 
   -- each has a pass as it is made
   pub all_hired : (workers : List W) (passes : List (PassValue (ServingValue K) Made)) → map pass_of workers ≡ passes → AreNew turnstile passes → IsFresh turnstile → length workers ≤ 64
@@ -108,8 +109,8 @@ module _ {K W L : Type 0} (state : K → DeskState) (turnstile : TurnstileValue 
         over_at i w below =
             let pass : PassValue (ServingValue K) Made = pass_of (slice_index_or new i w) in
             let one : Session = session_of (slice_index_or new i w) in
-            let before : Seen = see (link_of (slice_index_or old i w)) in
-            let after : Seen = see (link_of (slice_index_or new i w)) in
+            let before : SeenLink = see (link_of (slice_index_or old i w)) in
+            let after : SeenLink = see (link_of (slice_index_or new i w)) in
             let whole : IsOver i (start_past turnstile) (made_since s.begun s.now) before after one.points one.end =
             over_waited i (start_past turnstile) (seen_calls pass) (made_since s.begun s.now) before after one.points (waited_at i w below) one.end (served i w below).over in
             let moved : IsOver i (start_past turnstile) (made_since turnstile.start.begun now) before after one.points one.end =

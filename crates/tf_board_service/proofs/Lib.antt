@@ -8,3 +8,6 @@ pub mod PassLemmas
 pub mod SendLemmas
 pub mod EndLemmas
 pub mod AnswerLemmas
+pub mod SayingLemmas
+pub mod CommandLemmas
+pub mod DoorLemmas

@@ -11,9 +11,7 @@ use Rattle.tf_turnstile.proofs.NumberedLemmas.{longer_same}
 use Rattle.tf_shared_board.specs.Calls.{carried, numbered, followed_by}
 use Rattle.tf_shared_board.specs.Shared.{SharedValue, IsMade, IsShared}
 use Rattle.tf_shared_board.specs.declared.calls.Made.{Made}
-use Rattle.tf_board_service.specs.Answering.{Answers, Makes, MakesNoCall, call_made}
-use Rattle.tf_board_service.specs.Points.{as_list}
-use Rattle.tf_board_service.specs.Replies.{reply_of}
+use Rattle.tf_board_service.specs.Sessions.{Answers, Makes, MakesNoCall, call_made, as_list, reply_of}
 use Rattle.tf_board_service.specs.Serving.{IsServing, ServingValue, made_since}
 use Rattle.tf_board_service.specs.Turning.{seen_calls, start_past}
 use Rattle.tf_board_service.specs.Turns.{HasReplied, HasStopped, HasWaited}

@@ -15,7 +15,8 @@ use Rattle.tf_shared_board.specs.Calls.{refuses_call}
 use Rattle.tf_shared_board.specs.declared.calls.JobCall.{JobCall}
 use Rattle.tf_wire.proofs.BoundLemmas.{words_length}
 use Rattle.tf_board.specs.Board.{owner_of}
-use Rattle.tf_board_service.specs.Replies.{HasFewLines, HasTexts, MOST_LINES, call_reply, list_line, owner_reply, reply_data, reply_of}
+use Rattle.tf_board_service.specs.Sessions.{MOST_LINES, call_reply, list_line, owner_reply, reply_data, reply_of}
+use Rattle.tf_board_service.specs.Printing.{HasFewLines, HasTexts}
 use Rattle.tf_board_service.specs.declared.replies.BoardReply.{BoardReply}
 use Rattle.tf_board_service.specs.declared.replies.BoardReply.TheVariants as reply
 use Rattle.tf_board_service.specs.declared.requests.BoardRequest.{BoardRequest}

@@ -3,18 +3,15 @@ use Rattle.std.proofs.Common.{◌≡◌, ◌≢◌, ℕ, ◌+◌, ◌<◌, ◌�
 use Rattle.std.specs.Prelude.{◌⊎◌, MatchResult}
 use Rattle.std.proofs.lemmas.Grind.{flat_map-append}
 use Rattle.tf_numbers.specs.Numbers.{Rises}
-use Rattle.tf_ports.specs.Ports.{sent_with, left_before, SendsPrefix}
+use Rattle.tf_ports.specs.Ports.{SeenLink, SendsPrefix, left_before, sent_with}
 use Rattle.tf_wire.specs.Stream.{KeptFrames, counted, KeepsStream, framed, joined, SplitsInto}
 use Rattle.tf_wire.proofs.StreamLemmas.{bad_stays, cut_on, short_is_no_frame, short_is_no_bad_length}
 use Rattle.tf_board.specs.declared.commands.Command.{Command}
 use Rattle.tf_shared_board.specs.Calls.{followed_by}
 use Rattle.tf_shared_board.specs.declared.calls.Made.{Made}
-use Rattle.tf_board_service.specs.Answering.{call_made}
-use Rattle.tf_board_service.specs.Points.{Exchange, MadeBy, NeverFall, as_list, calls_by, first_of, points_of, told, told_all}
+use Rattle.tf_board_service.specs.Sessions.{call_made, Exchange, MadeBy, NeverFall, as_list, calls_by, first_of, points_of, told, told_all, reply_frame, AreRead, IsFullyAnswered, IsNextCall, Serves}
 use Rattle.tf_board_service.specs.Receiving.{HasNothingMore, IsAtEnd, IsKnown, RunsOut, TakesIn}
-use Rattle.tf_board_service.specs.Replies.{reply_frame}
 use Rattle.tf_board_service.specs.Requests.{board_request_in}
-use Rattle.tf_board_service.specs.Sessions.{AreRead, IsFullyAnswered, IsNextCall, Seen, Serves}
 use Rattle.tf_board_service.specs.Turns.{AnswersFrame, HasAnsweredAll, HasNoReply, HasTaken, HasWaited, IsOver, LosesReply, SaysNothing, SoFar, StopsFrame}
 use Rattle.tf_board_service.specs.declared.incoming.Incoming.{Incoming}
 use Rattle.tf_board_service.specs.declared.replies.BoardReply.{BoardReply}
@@ -39,7 +36,7 @@ module _ (number : ℕ) (past : List Command) where
       (r.0, ap (λ (l : List Made). followed_by past l) is ∙ followed_on past old more ∙ r.1, r.2)
 
   -- others made calls, and a session's requests stay as they were answered
-  pub far_waited : (old new : List Made) (before now : Seen) (points : List ℕ) (given : List ℕ) (frames : List (List ℕ)) (exchanges : List Exchange) → HasWaited number old new
+  pub far_waited : (old new : List Made) (before now : SeenLink) (points : List ℕ) (given : List ℕ) (frames : List (List ℕ)) (exchanges : List Exchange) → HasWaited number old new
       → SoFar number past old before now points given frames exchanges → SoFar number past new before now points given frames exchanges
   far_waited old new before now points given frames exchanges w far =
       let J : List Command = followed_by past old in
@@ -56,7 +53,7 @@ module _ (number : ℕ) (past : List Command) where
       }
 
   -- the same of a session that is over
-  pub serves_waited : (old new : List Made) (before now : Seen) (points : List ℕ) (s : Serves number (length past) (followed_by past old) old before now points) → HasWaited number old new
+  pub serves_waited : (old new : List Made) (before now : SeenLink) (points : List ℕ) (s : Serves number (length past) (followed_by past old) old before now points) → HasWaited number old new
       → Serves number (length past) (followed_by past new) new before now points
   serves_waited old new before now points s w =
       let J : List Command = followed_by past old in
@@ -78,7 +75,7 @@ module _ (number : ℕ) (past : List Command) where
         ends = s.ends;
       }
 
-  module _ (old new : List Made) (before now : Seen) (points : List ℕ) (w : HasWaited number old new) where
+  module _ (old new : List Made) (before now : SeenLink) (points : List ℕ) (w : HasWaited number old new) where
     fully_waited : (s : Serves number (length past) (followed_by past old) old before now points) → IsFullyAnswered s → IsFullyAnswered (serves_waited old new before now points s w)
     unfolding serves_waited
     fully_waited s full =
@@ -121,7 +118,7 @@ module _ (number : ℕ) (past : List Command) where
 
   -- ---- one request more
 
-  module _ (old new : List Made) (before now : Seen) (points : List ℕ) (given : List ℕ) (frames : List (List ℕ)) (exchanges : List Exchange) (frame : List ℕ) (new_points : List ℕ) (reply : BoardReply)
+  module _ (old new : List Made) (before now : SeenLink) (points : List ℕ) (given : List ℕ) (frames : List (List ℕ)) (exchanges : List Exchange) (frame : List ℕ) (new_points : List ℕ) (reply : BoardReply)
       (taken : HasTaken number past frame old new points new_points reply) (had : SoFar number past old before now points given frames exchanges) where
     abbrev mid : List Made
     mid = taken.turn.mid
@@ -171,7 +168,7 @@ module _ (number : ℕ) (past : List Command) where
     sent_far = far.sent
 
   -- one exchange more
-  pub answered : (old new : List Made) (before now after : Seen) (points new_points : List ℕ) (kept rest : KeptFrames) (place later : ℕ) (refused : Option ℕ) (frame : List ℕ) → Taking kept rest frame → later ≡ counted (counted (place + 4) + length frame)
+  pub answered : (old new : List Made) (before now after : SeenLink) (points new_points : List ℕ) (kept rest : KeptFrames) (place later : ℕ) (refused : Option ℕ) (frame : List ℕ) → Taking kept rest frame → later ≡ counted (counted (place + 4) + length frame)
       → AnswersFrame number past frame old new points new_points now after → HasAnsweredAll number past old before now points kept place refused → HasAnsweredAll number past new before after new_points rest later refused
   answered old new before now after points new_points kept rest place later refused frame taking later_is a on =
       let f = on.so_far in
@@ -199,7 +196,7 @@ module _ (number : ℕ) (past : List Command) where
   -- ---- sessions that are over
 
   -- with what was answered
-  abbrev pub session_of : (calls : List Made) (before now : Seen) (points : List ℕ) (given : List ℕ) (frames : List (List ℕ)) (exchanges : List Exchange) (behind : List ℕ)
+  abbrev pub session_of : (calls : List Made) (before now : SeenLink) (points : List ℕ) (given : List ℕ) (frames : List (List ℕ)) (exchanges : List Exchange) (behind : List ℕ)
       → SoFar number past calls before now points given frames exchanges → SplitsInto given frames behind → Serves number (length past) (followed_by past calls) calls before now points
   session_of calls before now points given frames exchanges behind far cut = record {
     given = given;
@@ -219,7 +216,7 @@ module _ (number : ℕ) (past : List Command) where
   }
 
   -- the link couldn't send a reply
-  pub stopped_lost : (old new : List Made) (before now after : Seen) (points new_points : List ℕ) (kept rest : KeptFrames) (place : ℕ) (refused : Option ℕ) (frame : List ℕ) → Taking kept rest frame
+  pub stopped_lost : (old new : List Made) (before now after : SeenLink) (points new_points : List ℕ) (kept rest : KeptFrames) (place : ℕ) (refused : Option ℕ) (frame : List ℕ) → Taking kept rest frame
       → LosesReply number past frame old new points new_points now after → HasAnsweredAll number past old before now points kept place refused → IsOver number past new before after new_points end.Lost
   stopped_lost old new before now after points new_points kept rest place refused frame taking a on =
       let f = on.so_far in
@@ -247,14 +244,14 @@ module _ (number : ℕ) (past : List Command) where
       }
 
   -- nothing changed in this call
-  unchanged : (old new : List Made) (before now after : Seen) (points new_points : List ℕ) (how : SessionEnd) → SaysNothing points new_points now after → new ≡ old
+  unchanged : (old new : List Made) (before now after : SeenLink) (points new_points : List ℕ) (how : SessionEnd) → SaysNothing points new_points now after → new ≡ old
       → IsOver number past old before now points how → IsOver number past new before after new_points how
   unchanged old new before now after points new_points how none same over =
       subst (λ (l : List Made). IsOver number past l before after new_points how) (sym same)
-      (subst (λ (s : Seen). IsOver number past old before s new_points how) (sym none.link) (subst (λ (p : List ℕ). IsOver number past old before now p how) (sym none.points) over))
+      (subst (λ (s : SeenLink). IsOver number past old before s new_points how) (sym none.link) (subst (λ (p : List ℕ). IsOver number past old before now p how) (sym none.points) over))
 
   -- the frame spells no request
-  pub stopped_bad : (old new : List Made) (before now after : Seen) (points new_points : List ℕ) (kept rest : KeptFrames) (place : ℕ) (refused : Option ℕ) (frame : List ℕ) → Taking kept rest frame
+  pub stopped_bad : (old new : List Made) (before now after : SeenLink) (points new_points : List ℕ) (kept rest : KeptFrames) (place : ℕ) (refused : Option ℕ) (frame : List ℕ) → Taking kept rest frame
       → SaysNothing points new_points now after → new ≡ old → board_request_in frame ≡ None → HasAnsweredAll number past old before now points kept place refused → IsOver number past new before after new_points (end.Bad place)
   stopped_bad old new before now after points new_points kept rest place refused frame taking none same bad on =
       let next = next_of kept rest frame on.given on.taken taking.is on.keeps in
@@ -268,7 +265,7 @@ module _ (number : ℕ) (past : List Command) where
       }
 
   -- memory ran out before its turn
-  halted_before : (old new : List Made) (before now after : Seen) (points new_points : List ℕ) (kept rest : KeptFrames) (place : ℕ) (refused : Option ℕ) (frame : List ℕ) → Taking kept rest frame
+  halted_before : (old new : List Made) (before now after : SeenLink) (points new_points : List ℕ) (kept rest : KeptFrames) (place : ℕ) (refused : Option ℕ) (frame : List ℕ) → Taking kept rest frame
       → SaysNothing points new_points now after → new ≡ old → HasAnsweredAll number past old before now points kept place refused → IsOver number past new before after new_points end.Halted
   halted_before old new before now after points new_points kept rest place refused frame taking none same on =
       let next = next_of kept rest frame on.given on.taken taking.is on.keeps in
@@ -276,7 +273,7 @@ module _ (number : ℕ) (past : List Command) where
       record { serves = session_of old before now points on.given on.taken on.exchanges (framed frame ++ next.behind) on.so_far next.cut; ends_as = inl refl }
 
   -- its call was made, but has no reply
-  halted_made : (mid new : List Made) (before now : Seen) (points given : List ℕ) (frames : List (List ℕ)) (exchanges : List Exchange) (frame : List ℕ) (asked : BoardRequest) (m : Made) → Next given frames frame
+  halted_made : (mid new : List Made) (before now : SeenLink) (points given : List ℕ) (frames : List (List ℕ)) (exchanges : List Exchange) (frame : List ℕ) (asked : BoardRequest) (m : Made) → Next given frames frame
       → board_request_in frame ≡ Some asked → call_made number (followed_by past mid) asked ≡ Some m → new ≡ mid ++ m ∷ [] → SoFar number past mid before now points given frames exchanges → IsOver number past new before now points end.Halted
   halted_made mid new before now points given frames exchanges frame asked m next read call is far =
       let J : List Command = followed_by past mid in
@@ -315,7 +312,7 @@ module _ (number : ℕ) (past : List Command) where
       }
 
   -- its turn was taken, but it has no reply
-  halted_in : (old new : List Made) (before now : Seen) (points : List ℕ) (kept rest : KeptFrames) (place : ℕ) (refused : Option ℕ) (frame : List ℕ) → Taking kept rest frame
+  halted_in : (old new : List Made) (before now : SeenLink) (points : List ℕ) (kept rest : KeptFrames) (place : ℕ) (refused : Option ℕ) (frame : List ℕ) → Taking kept rest frame
       → HasNoReply number past frame old new → HasAnsweredAll number past old before now points kept place refused → IsOver number past new before now points end.Halted
   halted_in old new before now points kept rest place refused frame taking unsaid on =
       let next = next_of kept rest frame on.given on.taken taking.is on.keeps in
@@ -336,14 +333,14 @@ module _ (number : ℕ) (past : List Command) where
           halted_made unsaid.turn.mid new before now points on.given on.taken on.exchanges frame unsaid.asked m next unsaid.read is (unsaid.turn.is ∙ ap (λ (l : List Made). unsaid.turn.mid ++ l) (same ∙ ap as_list is)) so_far
 
   -- the board is halted, or memory ran out
-  pub stopped_halted : (old new : List Made) (before now after : Seen) (points new_points : List ℕ) (kept rest : KeptFrames) (place : ℕ) (refused : Option ℕ) (frame : List ℕ) → Taking kept rest frame
+  pub stopped_halted : (old new : List Made) (before now after : SeenLink) (points new_points : List ℕ) (kept rest : KeptFrames) (place : ℕ) (refused : Option ℕ) (frame : List ℕ) → Taking kept rest frame
       → SaysNothing points new_points now after → (new ≡ old) ⊎ HasNoReply number past frame old new → HasAnsweredAll number past old before now points kept place refused → IsOver number past new before after new_points end.Halted
   stopped_halted old new before now after points new_points kept rest place refused frame taking none (inl same) on = halted_before old new before now after points new_points kept rest place refused frame taking none same on
   stopped_halted old new before now after points new_points kept rest place refused frame taking none (inr unsaid) on =
       unchanged new new before now after points new_points end.Halted none refl (halted_in old new before now points kept rest place refused frame taking unsaid on)
 
   -- why a frame wasn't answered
-  pub stopped : (old new : List Made) (before now after : Seen) (points new_points : List ℕ) (kept rest : KeptFrames) (place : ℕ) (refused : Option ℕ) (frame : List ℕ) (how : SessionEnd) → Taking kept rest frame
+  pub stopped : (old new : List Made) (before now after : SeenLink) (points new_points : List ℕ) (kept rest : KeptFrames) (place : ℕ) (refused : Option ℕ) (frame : List ℕ) (how : SessionEnd) → Taking kept rest frame
       → StopsFrame number past frame place old new points new_points now after how → HasAnsweredAll number past old before now points kept place refused → IsOver number past new before after new_points how
   stopped old new before now after points new_points kept rest place refused frame end.Ended taking why on = absurd why
   stopped old new before now after points new_points kept rest place refused frame end.Lost taking why on = stopped_lost old new before now after points new_points kept rest place refused frame taking why on
@@ -354,7 +351,7 @@ module _ (number : ℕ) (past : List Command) where
 
   -- ---- a piece comes
 
-  far_received : (calls : List Made) (before now after : Seen) (points given piece : List ℕ) (frames : List (List ℕ)) (exchanges : List Exchange) → now.left ≡ left_before piece after.left → after.sent ≡ now.sent → now.faults ≤ after.faults
+  far_received : (calls : List Made) (before now after : SeenLink) (points given piece : List ℕ) (frames : List (List ℕ)) (exchanges : List Exchange) → now.left ≡ left_before piece after.left → after.sent ≡ now.sent → now.faults ≤ after.faults
       → now.ends ≤ after.ends → SoFar number past calls before now points given frames exchanges → SoFar number past calls before after points (given ++ piece) frames exchanges
   far_received calls before now after points given piece frames exchanges came sent faults ends far = record {
     came = came_more before.left now.left after.left given piece far.came came;
@@ -367,7 +364,7 @@ module _ (number : ℕ) (past : List Command) where
     ends = le_on before.ends now.ends after.ends far.ends ends;
   }
 
-  pub received : (calls : List Made) (before now after : Seen) (points : List ℕ) (old new : KeptFrames) (place : ℕ) (refused later : Option ℕ) → TakesIn old new later now.left after.left → after.sent ≡ now.sent → now.faults ≤ after.faults
+  pub received : (calls : List Made) (before now after : SeenLink) (points : List ℕ) (old new : KeptFrames) (place : ℕ) (refused later : Option ℕ) → TakesIn old new later now.left after.left → after.sent ≡ now.sent → now.faults ≤ after.faults
       → now.ends ≤ after.ends → HasAnsweredAll number past calls before now points old place refused → HasAnsweredAll number past calls before after points new place later
   received calls before now after points old new place refused later takes sent faults ends on =
       let fed = takes.feeds on.given on.taken on.keeps in record {
@@ -382,7 +379,7 @@ module _ (number : ℕ) (past : List Command) where
 
   -- ---- nothing comes
 
-  far_still : (calls : List Made) (before now after : Seen) (points given : List ℕ) (frames : List (List ℕ)) (exchanges : List Exchange) → after.left ≡ now.left → after.sent ≡ now.sent → now.faults ≤ after.faults → now.ends ≤ after.ends
+  far_still : (calls : List Made) (before now after : SeenLink) (points given : List ℕ) (frames : List (List ℕ)) (exchanges : List Exchange) → after.left ≡ now.left → after.sent ≡ now.sent → now.faults ≤ after.faults → now.ends ≤ after.ends
       → SoFar number past calls before now points given frames exchanges → SoFar number past calls before after points given frames exchanges
   far_still calls before now after points given frames exchanges left sent faults ends far = record {
     came = far.came ∙ ap (left_before given) (sym left);
@@ -395,7 +392,7 @@ module _ (number : ℕ) (past : List Command) where
     ends = le_on before.ends now.ends after.ends far.ends ends;
   }
 
-  module _ (calls : List Made) (before now after : Seen) (points : List ℕ) (kept : KeptFrames) (place : ℕ) (sent : after.sent ≡ now.sent) (faults : now.faults ≤ after.faults) (ends : now.ends ≤ after.ends) where
+  module _ (calls : List Made) (before now after : SeenLink) (points : List ℕ) (kept : KeptFrames) (place : ℕ) (sent : after.sent ≡ now.sent) (faults : now.faults ≤ after.faults) (ends : now.ends ≤ after.ends) where
     over_ended : kept.waiting ≡ [] → kept.rest ≡ [] → IsAtEnd now.left after.left now.ends after.ends → HasAnsweredAll number past calls before now points kept place None → IsOver number past calls before after points end.Ended
     over_ended empty nothing_behind at_end on =
         let far = far_still calls before now after points on.given on.taken on.exchanges at_end.stays sent faults ends on.so_far in record {
@@ -444,7 +441,7 @@ module _ (number : ℕ) (past : List Command) where
           ends_as = inl refl;
         }
 
-  pub over : (calls : List Made) (before now after : Seen) (points : List ℕ) (incoming : Incoming) (how : SessionEnd) → incoming.frames.waiting ≡ [] → after.sent ≡ now.sent → now.faults ≤ after.faults → now.ends ≤ after.ends
+  pub over : (calls : List Made) (before now after : SeenLink) (points : List ℕ) (incoming : Incoming) (how : SessionEnd) → incoming.frames.waiting ≡ [] → after.sent ≡ now.sent → now.faults ≤ after.faults → now.ends ≤ after.ends
       → HasNothingMore incoming now.left after.left now.faults after.faults now.ends after.ends how → HasAnsweredAll number past calls before now points incoming.frames incoming.place incoming.refused → IsOver number past calls before after points how
   over calls before now after points incoming end.Ended empty sent faults ends why on =
       over_ended calls before now after points incoming.frames incoming.place sent faults ends empty why.2 why.0 (subst (HasAnsweredAll number past calls before now points incoming.frames incoming.place) why.1 on)
@@ -458,7 +455,7 @@ module _ (number : ℕ) (past : List Command) where
       over_full calls before now after points incoming.frames incoming.place sent faults ends incoming.refused why on
 
   -- what comes is taken in, or the session is over
-  pub received_or_over : (r : Result (Unit {0}) SessionEnd) (calls : List Made) (before now after : Seen) (points : List ℕ) (kept : KeptFrames) (mid new : Incoming) → mid.frames ≡ kept → kept.waiting ≡ []
+  pub received_or_over : (r : Result (Unit {0}) SessionEnd) (calls : List Made) (before now after : SeenLink) (points : List ℕ) (kept : KeptFrames) (mid new : Incoming) → mid.frames ≡ kept → kept.waiting ≡ []
       → MatchResult r (λ _. TakesIn mid.frames new.frames new.refused now.left after.left) (HasNothingMore mid now.left after.left now.faults after.faults now.ends after.ends) → new.place ≡ mid.place
       → after.sent ≡ now.sent → now.faults ≤ after.faults → now.ends ≤ after.ends → HasAnsweredAll number past calls before now points kept mid.place mid.refused
       → MatchResult r (λ _. HasAnsweredAll number past calls before after points new.frames new.place new.refused) (IsOver number past calls before after points)
@@ -470,7 +467,7 @@ module _ (number : ℕ) (past : List Command) where
 
   -- ---- nothing came yet
 
-  pub starts : (now : Seen) (kept : KeptFrames) (place : ℕ) (refused : Option ℕ) → KeepsStream kept [] [] → place ≡ 0 → refused ≡ None → HasAnsweredAll number past [] now now [] kept place refused
+  pub starts : (now : SeenLink) (kept : KeptFrames) (place : ℕ) (refused : Option ℕ) → KeepsStream kept [] [] → place ≡ 0 → refused ≡ None → HasAnsweredAll number past [] now now [] kept place refused
   starts now kept place refused keeps first free =
       let short : length kept.rest < 4 = omega (arith, simp length-append at (ap length keeps.cut.is)) in record {
         given = [];

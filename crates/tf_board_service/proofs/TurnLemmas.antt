@@ -12,7 +12,7 @@ use Rattle.tf_shared_board.specs.declared.calls.BoardHalt.{BoardHalt}
 use Rattle.tf_shared_board.specs.declared.calls.BoardHalt.TheVariants as halt
 use Rattle.tf_shared_board.specs.declared.calls.Made.{Made}
 use Rattle.tf_shared_board.proofs.CallLemmas.{followed_more}
-use Rattle.tf_board_service.specs.Answering.{Answers, Makes, MakesNoCall, StopsAfter, call_made}
+use Rattle.tf_board_service.specs.Sessions.{Answers, Makes, MakesNoCall, StopsAfter, call_made}
 use Rattle.tf_board_service.specs.Serving.{IsServing, ServingValue, made_since}
 use Rattle.tf_board_service.specs.declared.replies.BoardReply.{BoardReply}
 use Rattle.tf_board_service.specs.declared.requests.BoardRequest.{BoardRequest}

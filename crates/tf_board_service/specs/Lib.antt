@@ -1,10 +1,8 @@
 pub mod Requests
-pub mod Replies
-pub mod Answering
+pub mod Sessions
+pub mod Printing
 pub mod Serving
 pub mod Receiving
-pub mod Points
-pub mod Sessions
 pub mod Turns
 pub mod Turning
 pub mod Served

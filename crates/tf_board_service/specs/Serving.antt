@@ -5,7 +5,7 @@ use Rattle.tf_shared_board.specs.Calls.{followed_by}
 use Rattle.tf_shared_board.specs.Shared.{SharedValue, HasCause}
 use Rattle.tf_shared_board.specs.declared.calls.BoardHalt.{BoardHalt}
 use Rattle.tf_shared_board.specs.declared.calls.Made.{Made}
-use Rattle.tf_board_service.specs.Answering.{Answers, MakesNoCall}
+use Rattle.tf_board_service.specs.Sessions.{Answers, MakesNoCall}
 use Rattle.tf_board_service.specs.declared.replies.BoardReply.{BoardReply}
 use Rattle.tf_board_service.specs.declared.requests.BoardRequest.{BoardRequest}
 

@@ -3,8 +3,8 @@ use Rattle.std.specs.Prelude.{◌≡◌, ◌<◌, ℕ, List, map}
 use Rattle.tf_board.specs.declared.commands.Command.{Command}
 use Rattle.tf_shared_board.specs.declared.calls.Made.{Made}
 use Rattle.tf_turnstile.specs.Passes.{TurnstileValue, PassValue, IsIdle, new_pass}
+use Rattle.tf_ports.specs.Ports.{SeenLink}
 use Rattle.tf_board_service.specs.Serving.{ServingValue}
-use Rattle.tf_board_service.specs.Sessions.{Seen}
 use Rattle.tf_board_service.specs.Turns.{IsOver}
 use Rattle.tf_board_service.specs.declared.sessions.SessionEnd.{SessionEnd}
 
@@ -33,7 +33,7 @@ module _ {K : Type 0} where
     pub made : pass ≡ new_pass turnstile number
 
   -- the session of this number is over
-  pub record HasServed (turnstile : TurnstileValue (ServingValue K)) (number : ℕ) (before now : Seen) (points : List ℕ) (how : SessionEnd)
+  pub record HasServed (turnstile : TurnstileValue (ServingValue K)) (number : ℕ) (before now : SeenLink) (points : List ℕ) (how : SessionEnd)
       (pass : PassValue (ServingValue K) Made) : Type 0 where
     pub idle : IsIdle turnstile number pass
     pub over : IsOver number (start_past turnstile) (seen_calls pass) before now points how

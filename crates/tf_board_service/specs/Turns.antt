@@ -2,17 +2,14 @@
 use Rattle.std.specs.Prelude.{◌≡◌, ◌≢◌, ◌⊎◌, ℕ, ◌≤◌, List, [], ◌∷◌, ◌++◌, length, Option, Some, None}
 use Rattle.std.specs.List.{AllByRecursion}
 use Rattle.tf_numbers.specs.Numbers.{Rises}
-use Rattle.tf_ports.specs.Ports.{sent_with, left_before, SendsPrefix}
+use Rattle.tf_ports.specs.Ports.{SeenLink, SendsPrefix, left_before, sent_with}
 use Rattle.tf_wire.specs.Stream.{KeptFrames, KeepsStream, counted, joined}
 use Rattle.tf_board.specs.declared.commands.Command.{Command}
 use Rattle.tf_shared_board.specs.Calls.{followed_by}
 use Rattle.tf_shared_board.specs.declared.calls.Made.{Made}
-use Rattle.tf_board_service.specs.Answering.{call_made}
-use Rattle.tf_board_service.specs.Points.{Exchange, MadeBy, NeverFall, as_list, points_of, told_all}
+use Rattle.tf_board_service.specs.Sessions.{call_made, Exchange, MadeBy, NeverFall, as_list, points_of, told_all, reply_frame, reply_of, AreRead, IsServed}
 use Rattle.tf_board_service.specs.Receiving.{IsKnown}
-use Rattle.tf_board_service.specs.Replies.{reply_frame, reply_of}
 use Rattle.tf_board_service.specs.Requests.{board_request_in}
-use Rattle.tf_board_service.specs.Sessions.{AreRead, IsServed, Seen}
 use Rattle.tf_board_service.specs.declared.replies.BoardReply.{BoardReply}
 use Rattle.tf_board_service.specs.declared.requests.BoardRequest.{BoardRequest}
 use Rattle.tf_board_service.specs.declared.sessions.SessionEnd.{SessionEnd}
@@ -58,20 +55,20 @@ pub record HasTaken (number : ℕ) (past : List Command) (frame : List ℕ) (old
   pub points : new_points ≡ old_points ++ point ∷ []
 
 -- nothing was taken from the link, and no count fell
-pub record TakesNothing (before now : Seen) : Type 0 where
+pub record TakesNothing (before now : SeenLink) : Type 0 where
   pub left : now.left ≡ before.left
   pub faults : before.faults ≤ now.faults
   pub ends : before.ends ≤ now.ends
 
 -- its reply was sent
-pub record AnswersFrame (number : ℕ) (past : List Command) (frame : List ℕ) (old new : List Made) (old_points new_points : List ℕ) (before now : Seen) : Type 0 where
+pub record AnswersFrame (number : ℕ) (past : List Command) (frame : List ℕ) (old new : List Made) (old_points new_points : List ℕ) (before now : SeenLink) : Type 0 where
   pub reply : BoardReply
   pub taken : HasTaken number past frame old new old_points new_points reply
   pub none : TakesNothing before now
   pub sent : now.sent ≡ sent_with before.sent (reply_frame reply)
 
 -- the link couldn't send it
-pub record LosesReply (number : ℕ) (past : List Command) (frame : List ℕ) (old new : List Made) (old_points new_points : List ℕ) (before now : Seen) : Type 0 where
+pub record LosesReply (number : ℕ) (past : List Command) (frame : List ℕ) (old new : List Made) (old_points new_points : List ℕ) (before now : SeenLink) : Type 0 where
   pub reply : BoardReply
   pub taken : HasTaken number past frame old new old_points new_points reply
   pub none : TakesNothing before now
@@ -79,7 +76,7 @@ pub record LosesReply (number : ℕ) (past : List Command) (frame : List ℕ) (o
   pub rose : Rises before.faults now.faults
 
 -- nothing was said, and no point was kept
-pub record SaysNothing (old_points new_points : List ℕ) (before now : Seen) : Type 0 where
+pub record SaysNothing (old_points new_points : List ℕ) (before now : SeenLink) : Type 0 where
   pub points : new_points ≡ old_points
   pub link : now ≡ before
 
@@ -90,7 +87,7 @@ pub record HasNoReply (number : ℕ) (past : List Command) (frame : List ℕ) (o
   pub turn : HasStopped past number asked old new
 
 -- why a frame wasn't answered: it spells no request, the link couldn't send, the board is halted, or memory ran out
-abbrev pub StopsFrame : ℕ → List Command → List ℕ → ℕ → List Made → List Made → List ℕ → List ℕ → Seen → Seen → SessionEnd → Type 0
+abbrev pub StopsFrame : ℕ → List Command → List ℕ → ℕ → List Made → List Made → List ℕ → List ℕ → SeenLink → SeenLink → SessionEnd → Type 0
 StopsFrame number past frame place old new old_points new_points before now end.Ended = ⊥
 StopsFrame number past frame place old new old_points new_points before now end.Lost = LosesReply number past frame old new old_points new_points before now
 StopsFrame number past frame place old new old_points new_points before now (end.Bad at) =
@@ -101,7 +98,7 @@ StopsFrame number past frame place old new old_points new_points before now end.
 -- ---- a session while it goes on
 
 -- the link gave these bytes, and each of these frames was answered, as an exchange
-pub record SoFar (number : ℕ) (past : List Command) (calls : List Made) (before now : Seen) (points : List ℕ) (given : List ℕ) (frames : List (List ℕ))
+pub record SoFar (number : ℕ) (past : List Command) (calls : List Made) (before now : SeenLink) (points : List ℕ) (given : List ℕ) (frames : List (List ℕ))
     (exchanges : List Exchange) : Type 0 where
   pub came : before.left ≡ left_before given now.left
   pub read : AreRead frames exchanges
@@ -113,7 +110,7 @@ pub record SoFar (number : ℕ) (past : List Command) (calls : List Made) (befor
   pub ends : before.ends ≤ now.ends
 
 -- every frame that was taken was answered, and the next one stands at this place
-pub record HasAnsweredAll (number : ℕ) (past : List Command) (calls : List Made) (before now : Seen) (points : List ℕ) (kept : KeptFrames) (place : ℕ)
+pub record HasAnsweredAll (number : ℕ) (past : List Command) (calls : List Made) (before now : SeenLink) (points : List ℕ) (kept : KeptFrames) (place : ℕ)
     (refused : Option ℕ) : Type 0 where
   pub given : List ℕ
   pub taken : List (List ℕ)
@@ -124,6 +121,6 @@ pub record HasAnsweredAll (number : ℕ) (past : List Command) (calls : List Mad
   pub is_place : place ≡ counted (length (joined taken))
 
 -- the session is over, and ended so
-abbrev pub IsOver : ℕ → List Command → List Made → Seen → Seen → List ℕ → SessionEnd → Type 0
+abbrev pub IsOver : ℕ → List Command → List Made → SeenLink → SeenLink → List ℕ → SessionEnd → Type 0
 IsOver number past calls before now points how =
     IsServed number (length past) (followed_by past calls) calls before now (record { end = how; points = points })

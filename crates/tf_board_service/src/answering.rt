@@ -4,8 +4,7 @@ ghost use Rattle.tf_board.specs.Does.{fault_text};
 ghost use Rattle.tf_board.specs.Board.{owner_of, listed};
 ghost use Rattle.tf_shared_board.specs.Asking.{IsRule};
 ghost use Rattle.tf_shared_board.specs.declared.calls.Made.{Made};
-ghost use Rattle.tf_board_service.specs.Answering.{Answers, CallsSo, OrHalts};
-ghost use Rattle.tf_board_service.specs.Replies.{made_line, says, owner_reply, first_lines, list_line, without_name};
+ghost use Rattle.tf_board_service.specs.Sessions.{Answers, CallsSo, OrHalts, made_line, says, owner_reply, first_lines, list_line, without_name};
 
 use crate::lines::{line_text, message_text};
 use crate::replies::BoardReply;

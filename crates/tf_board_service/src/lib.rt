@@ -2,17 +2,20 @@
 #![tactic(auto)]
 
 mod answering;
+mod commanding;
 mod hiring;
 mod incoming;
 mod lines;
 mod printing;
 mod replies;
 mod requests;
+mod saying;
 mod service;
 mod serving;
 mod sessions;
 mod turns;
 
+pub use commanding::serve_command;
 pub use printing::print_reply;
 pub use replies::BoardReply;
 pub use requests::{BoardRequest, read_board_request};

@@ -1,6 +1,6 @@
 // Lines of commands as the texts of a reply.
 ghost use Rattle.std.specs.Prelude.{◌≡◌, ◌≤◌, length, IfOk};
-ghost use Rattle.tf_board_service.specs.Replies.{without_feed, without_name};
+ghost use Rattle.tf_board_service.specs.Sessions.{without_feed, without_name};
 
 use std::alloc::Global;
 use tf_values::{Memory, Text};

@@ -1,7 +1,8 @@
 // Replies as frames of JSON.
 ghost use Rattle.std.specs.Prelude.{◌≡◌, ◌++◌, IfOk, OnOk};
 ghost use Rattle.serde_json.specs.View.{view};
-ghost use Rattle.tf_board_service.specs.Replies.{reply_data, reply_frame, lines_data, refused_data, HasFewLines, HasTexts};
+ghost use Rattle.tf_board_service.specs.Sessions.{reply_data, reply_frame, lines_data, refused_data};
+ghost use Rattle.tf_board_service.specs.Printing.{HasFewLines, HasTexts};
 
 use crate::replies::BoardReply;
 use serde_json::{Value, json};

@@ -2,9 +2,10 @@ ghost use Rattle.std.specs.Prelude.{◌≡◌, ◌<◌, ◌≤◌, ℕ, [], IfEr
 ghost use Rattle.std.specs.List.{All};
 ghost use Rattle.tf_board.specs.Board.{AreOfBoard};
 ghost use Rattle.tf_turnstile.specs.Passes.{AreNew};
+ghost use Rattle.tf_ports.specs.Ports.{seen_link};
 ghost use Rattle.tf_board_service.specs.Served.{AreServed};
 ghost use Rattle.tf_board_service.specs.Serving.{IsServing, made_since};
-ghost use Rattle.tf_board_service.specs.Sessions.{HaltsWith, IsServed, seen};
+ghost use Rattle.tf_board_service.specs.Sessions.{HaltsWith, IsServed};
 ghost use Rattle.tf_board_service.specs.Turning.{IsFresh};
 ghost use Rattle.tf_board_service.specs.declared.sessions.Session.{Session as ASession};
 
@@ -91,8 +92,8 @@ pub fn serve_board<K: Desk + Send, L: Link + Send, T: Threads + Wait + Sync>(
     ensures legal { IfOk result (λ served. AreOfBoard served.shared.board.past) }
     ensures each { IfOk result (λ served. (i : ℕ) (d : L) (s : ASession) → i < vec_len links.old
         → IsServed i (length shared.board.past) served.shared.board.past (made_since shared served.shared)
-        (seen L.left L.sent L.faults L.ends (slice_index_or links.old.items i d))
-        (seen L.left L.sent L.faults L.ends (slice_index_or links.new.items i d))
+        (seen_link L.left L.sent L.faults L.ends (slice_index_or links.old.items i d))
+        (seen_link L.left L.sent L.faults L.ends (slice_index_or links.new.items i d))
         (slice_index_or served.sessions i s)) }
     ensures numbers { IfOk result (λ served. All (λ m. m.number < vec_len links.old)
         (made_since shared served.shared)) }

@@ -1,8 +1,9 @@
 // What one session does: it takes the board for each request, and sends the reply without it.
 ghost use Rattle.std.specs.Prelude.{◌≡◌, [], OnOk, IfErr, IfSome, MatchResult};
 ghost use Rattle.tf_turnstile.specs.Passes.{IsIdle, new_pass};
-ghost use Rattle.tf_board_service.specs.Replies.{HasFewLines, reply_frame};
-ghost use Rattle.tf_board_service.specs.Sessions.{Seen, seen};
+ghost use Rattle.tf_ports.specs.Ports.{SeenLink, seen_link};
+ghost use Rattle.tf_board_service.specs.Sessions.{reply_frame};
+ghost use Rattle.tf_board_service.specs.Printing.{HasFewLines};
 ghost use Rattle.tf_board_service.specs.Turning.{HasServed, IsFresh, seen_calls, start_past};
 ghost use Rattle.tf_board_service.specs.Turns.{AnswersFrame, HasAnsweredAll, HasWaited, IsOver, KnowsTurn, StopsFrame};
 
@@ -101,11 +102,13 @@ fn answer_frame<K: Desk, L: Link, T: Wait>(
     ensures answered { OnOk result (AnswersFrame number (start_past turnstile.now) frame.now
         (seen_calls server.old.pass) (seen_calls server.new.pass)
         server.old.points.items server.new.points.items
-        (seen L.left L.sent L.faults L.ends server.old.link) (seen L.left L.sent L.faults L.ends server.new.link)) }
+        (seen_link L.left L.sent L.faults L.ends server.old.link)
+        (seen_link L.left L.sent L.faults L.ends server.new.link)) }
     ensures stopped { IfErr result (StopsFrame number (start_past turnstile.now) frame.now place
         (seen_calls server.old.pass) (seen_calls server.new.pass)
         server.old.points.items server.new.points.items
-        (seen L.left L.sent L.faults L.ends server.old.link) (seen L.left L.sent L.faults L.ends server.new.link)) }
+        (seen_link L.left L.sent L.faults L.ends server.old.link)
+        (seen_link L.left L.sent L.faults L.ends server.new.link)) }
 {
     let Ok(read) = read_board_request(alloc, frame) else {
         return Err(SessionEnd::Halted);
@@ -142,16 +145,16 @@ fn go_on<K: Desk, L: Link, T: Wait>(
     requires fresh { IsFresh turnstile.now }
     requires idle { IsIdle turnstile.now number server.old.pass }
     ensures idle { IsIdle turnstile.now number server.new.pass }
-    ensures goes { (before : Seen)
+    ensures goes { (before : SeenLink)
         → HasAnsweredAll number (start_past turnstile.now) (seen_calls server.old.pass) before
-        (seen L.left L.sent L.faults L.ends server.old.link) server.old.points.items
+        (seen_link L.left L.sent L.faults L.ends server.old.link) server.old.points.items
         incoming.old.frames incoming.old.place incoming.old.refused
         → MatchResult result
         (λ _. HasAnsweredAll number (start_past turnstile.now) (seen_calls server.new.pass) before
-        (seen L.left L.sent L.faults L.ends server.new.link) server.new.points.items
+        (seen_link L.left L.sent L.faults L.ends server.new.link) server.new.points.items
         incoming.new.frames incoming.new.place incoming.new.refused)
         (IsOver number (start_past turnstile.now) (seen_calls server.new.pass) before
-        (seen L.left L.sent L.faults L.ends server.new.link) server.new.points.items) }
+        (seen_link L.left L.sent L.faults L.ends server.new.link) server.new.points.items) }
 {
     let Some(frame) = incoming.frames.take_frame() else {
         return incoming.receive(alloc, &mut server.link);
@@ -201,8 +204,8 @@ pub(crate) fn serve<K: Desk, L: Link, T: Wait>(
     requires fresh { IsFresh turnstile.now }
     requires made { server.old.pass ≡ new_pass turnstile.now number }
     requires points { server.old.points.items ≡ [] }
-    ensures { HasServed turnstile.now number (seen L.left L.sent L.faults L.ends server.old.link)
-        (seen L.left L.sent L.faults L.ends server.new.link) server.new.points.items server.new.end
+    ensures { HasServed turnstile.now number (seen_link L.left L.sent L.faults L.ends server.old.link)
+        (seen_link L.left L.sent L.faults L.ends server.new.link) server.new.points.items server.new.end
         server.new.pass }
 {
     let mut incoming = Incoming::make(alloc);

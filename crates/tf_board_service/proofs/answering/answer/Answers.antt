@@ -1,8 +1,7 @@
 use Rattle.std.proofs.Common.{◌≡◌, ◌∙◌, None, ap, refl, sym, subst}
 use Rattle.std.specs.Prelude.{IfOk, is_some}
 use Rattle.tf_board.specs.Board.{BoardValue, listed, owner_of}
-use Rattle.tf_board_service.specs.Answering.{Answers, call_made}
-use Rattle.tf_board_service.specs.Replies.{first_lines, owner_reply}
+use Rattle.tf_board_service.specs.Sessions.{Answers, call_made, first_lines, owner_reply}
 use Rattle.tf_board_service.specs.declared.replies.BoardReply.TheVariants as reply
 use Rattle.tf_board_service.specs.declared.requests.BoardRequest.{BoardRequest}
 use Rattle.tf_board_service.specs.declared.requests.BoardRequest.TheVariants as request

@@ -1,5 +1,5 @@
 use Rattle.std.proofs.Common.{◌≡◌, ◌≤◌, ◌∙◌, arith, ap}
-use Rattle.tf_board_service.specs.Replies.{first_lines}
+use Rattle.tf_board_service.specs.Sessions.{first_lines}
 use Rattle.tf_board_service.specs.declared.replies.BoardReply.TheVariants as reply
 use Rattle.tf_board_service.proofs.AnswerLemmas.{first_are}
 use Rattle.tf_board_service.proofs.answering.list_reply.Goals as goal

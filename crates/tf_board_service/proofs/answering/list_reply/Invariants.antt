@@ -1,5 +1,5 @@
 use Rattle.std.proofs.Common.{◌≡◌, map, take}
-use Rattle.tf_board_service.specs.Replies.{list_line}
+use Rattle.tf_board_service.specs.Sessions.{list_line}
 use Rattle.tf_board_service.proofs.answering.list_reply.Given as goal
 
 -- the lines are those of the first jobs

@@ -2,7 +2,7 @@ use Rattle.std.proofs.Common.{◌≡◌, ◌++◌, subst}
 use Rattle.std.specs.Prelude.{OnOk}
 use Rattle.serde_json.specs.Data.{Data}
 use Rattle.tf_wire.specs.Grammar.{frame_of}
-use Rattle.tf_board_service.specs.Replies.{reply_frame}
+use Rattle.tf_board_service.specs.Sessions.{reply_frame}
 use Rattle.tf_board_service.proofs.PrintLemmas.{reply_short, reply_without}
 use Rattle.tf_board_service.proofs.printing.print_reply.Goals as goal
 

@@ -1,6 +1,6 @@
 use Rattle.std.proofs.Common.{sym, subst}
 use Rattle.tf_shared_board.specs.Calls.{followed_by}
-use Rattle.tf_board_service.specs.Replies.{HasFewLines}
+use Rattle.tf_board_service.specs.Printing.{HasFewLines}
 use Rattle.tf_board_service.specs.Turning.{start_past}
 use Rattle.tf_board_service.proofs.PrintLemmas.{few_of}
 use Rattle.tf_board_service.proofs.serving.answer_frame.Goals as goal
