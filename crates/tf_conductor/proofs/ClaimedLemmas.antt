@@ -82,7 +82,7 @@ jobs_restood all other (command.Post name p details ∷ past) =
     ∙ sym (map-append (restood all) (jobs_in other past) (job_at other (posted past + 1) name p ∷ []))
 
 -- nothing was posted since
-jobs_since : (owners : List (List ℕ)) (all past : List Command) (calls : List Made) → AllByRecursion (IsConductors owners) calls → jobs_in all (followed_by past calls) ≡ jobs_in all past
+pub jobs_since : (owners : List (List ℕ)) (all past : List Command) (calls : List Made) → AllByRecursion (IsConductors owners) calls → jobs_in all (followed_by past calls) ≡ jobs_in all past
 jobs_since owners all past [] by = refl
 jobs_since owners all past (m ∷ calls) by = jobs_since owners all (made_command m ∷ past) calls by.1 ∙ posts_none m.call by.0.2
   where
@@ -112,7 +112,7 @@ itself_restood all jobs job is = ap (λ (o : Option Job). is_numbered o job.numb
 
 -- ---- a job that nobody claimed stays free
 
-legal_before : (past : List Command) (calls : List Made) → LegalJobs (followed_by past calls) → LegalJobs past
+pub legal_before : (past : List Command) (calls : List Made) → LegalJobs (followed_by past calls) → LegalJobs past
 legal_before past [] legal = legal
 legal_before past (m ∷ calls) legal = (legal_before (made_command m ∷ past) calls legal).1
 
@@ -148,14 +148,14 @@ free_still owners past (m ∷ calls) job legal by none free =
 
 -- ---- all jobs
 
-free_of : (s : Standing) → is_free s ≡ true → s ≡ standing.Free
+pub free_of : (s : Standing) → is_free s ≡ true → s ≡ standing.Free
 free_of standing.Free is = refl
 free_of (standing.Held kept) is = absurd (cc)
 free_of standing.Consumed is = absurd (cc)
 free_of standing.Trashed is = absurd (cc)
 
 -- each priority has its place
-place_in : (p : Priority) → (i : ℕ) × (slice_get priorities i ≡ Some p) × (same_priority p p ≡ true)
+pub place_in : (p : Priority) → (i : ℕ) × (slice_get priorities i ≡ Some p) × (same_priority p p ≡ true)
 place_in priority.VeryHigh = (0, refl, refl)
 place_in priority.High = (1, refl, refl)
 place_in priority.Normal = (2, refl, refl)

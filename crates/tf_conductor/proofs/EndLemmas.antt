@@ -15,9 +15,8 @@ use Rattle.tf_shared_board.specs.declared.calls.Made.{Made}
 use Rattle.tf_turnstile.specs.Numbered.{IsLater}
 use Rattle.tf_turnstile.specs.Passes.{TurnstileValue, PassValue, IsIdle, AreAll, AreNew, HasGrown}
 use Rattle.tf_conductor.specs.Conducted.{IsConductedBy}
-use Rattle.tf_conductor.specs.Conducting.{ConductingValue, conducting_origin, IsConducting}
-use Rattle.tf_conductor.specs.Rounds.{AllClaimed, AreDifferent, EndsConducting, HasConducted, calls_by, is_claimed, made_since, nothing}
-use Rattle.tf_conductor.specs.Told.{GiveSame}
+use Rattle.tf_conductor.specs.Conducting.{ConductingValue, conducting_origin, IsConducting, made_since}
+use Rattle.tf_conductor.specs.Rounds.{AllClaimed, AreDifferent, EndsConducting, HasConducted, calls_by, is_claimed, nothing, GiveSame}
 use Rattle.tf_conductor.specs.Working.{HasTurned, HasWorkedAs, HasWorkedOn, IsAppointed, seen_calls, start_past}
 use Rattle.tf_conductor.specs.declared.runners.Ran.{Ran}
 use Rattle.tf_conductor.proofs.RoundLemmas.{conducted_none, conducted_turned}

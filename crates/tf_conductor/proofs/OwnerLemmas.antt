@@ -12,8 +12,7 @@ use Rattle.std.proofs.lemmas.List.Folds.{list_all-append}
 use Rattle.std.proofs.lemmas.Option.{slice_get_within}
 use Rattle.tf_values.specs.Text.{is_between, is_name, begins_name, stands_in_name}
 use Rattle.tf_values.proofs.WordLemmas.{own_digits}
-use Rattle.tf_conductor.specs.Owners.{AreNamedBy, owner_name}
-use Rattle.tf_conductor.specs.Rounds.{AreDifferent}
+use Rattle.tf_conductor.specs.Rounds.{AreDifferent, AreNamedBy, owner_name}
 
 -- ---- digits
 

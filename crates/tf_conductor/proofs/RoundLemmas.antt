@@ -8,8 +8,7 @@ use Rattle.std.proofs.lemmas.List.Elements.{filter-append}
 use Rattle.tf_values.specs.declared.value.Val.{Val}
 use Rattle.tf_board.specs.declared.commands.Command.{Command}
 use Rattle.tf_shared_board.specs.declared.calls.Made.{Made}
-use Rattle.tf_conductor.specs.Told.{GiveSame, told_runs}
-use Rattle.tf_conductor.specs.Rounds.{Begun, Round, HasConducted, IsBegunRound, IsRound, begun_calls, begun_runs, calls_by, calls_of, claim_by, claimed, details_of, end_of_round, nothing, round_run, run, runs_of}
+use Rattle.tf_conductor.specs.Rounds.{Begun, Round, HasConducted, IsBegunRound, IsRound, begun_calls, begun_runs, calls_by, calls_of, claim_by, claimed, details_of, end_of_round, nothing, round_run, run, runs_of, GiveSame, told_runs}
 use Rattle.tf_conductor.specs.Working.{HasMoved, HasRunJob, HasTurned, round_so}
 use Rattle.tf_conductor.specs.declared.runners.Ran.{Ran}
 use Rattle.tf_conductor.specs.declared.turns.Claim.{Claim}

@@ -18,8 +18,8 @@ use Rattle.tf_shared_board.specs.declared.calls.JobCall.TheVariants as call
 use Rattle.tf_shared_board.specs.declared.calls.Made.{Made}
 use Rattle.tf_turnstile.specs.Numbered.{IsLater, NoneBy}
 use Rattle.tf_turnstile.specs.Passes.{TurnstileValue, PassValue}
-use Rattle.tf_conductor.specs.Conducting.{ConductingValue, conducting_origin, Claims, EndsJob, IsConducting, MakesNoCall}
-use Rattle.tf_conductor.specs.Rounds.{AreDifferent, IsConductors, IsCallBy, claim_by, details_of, end_call, end_of_round, made_since}
+use Rattle.tf_conductor.specs.Conducting.{ConductingValue, conducting_origin, Claims, EndsJob, IsConducting, MakesNoCall, made_since}
+use Rattle.tf_conductor.specs.Rounds.{AreDifferent, IsConductors, IsCallBy, claim_by, details_of, end_call, end_of_round}
 use Rattle.tf_conductor.specs.Working.{HasClaim, HasDoneLast, HasTurned, KnowsNext, round_so, seen_calls, start_past}
 use Rattle.tf_conductor.specs.declared.runners.Ran.{Ran}
 use Rattle.tf_conductor.specs.declared.runners.Ran.TheVariants as ran
@@ -127,7 +127,7 @@ module _ {K : Type 0} (state : K → DeskState) (turnstile : TurnstileValue (Con
       }
 
   -- none was
-  pub turned_none : MakesNoCall state c.now k.now → HasTurned number (seen_calls old) (seen_calls new) []
+  pub turned_none : {kind : Made → Type 0} → MakesNoCall state kind c.now k.now → HasTurned number (seen_calls old) (seen_calls new) []
   turned_none none = turned [] (none.made ∙ sym (append-nil c.now.made))
 
   -- one was

@@ -7,8 +7,7 @@ use Rattle.std.proofs.lemmas.List.Folds.{list_any-append}
 use Rattle.tf_values.specs.declared.value.Val.{Val}
 use Rattle.tf_board.specs.declared.commands.Command.{Command}
 use Rattle.tf_shared_board.specs.declared.calls.Made.{Made}
-use Rattle.tf_conductor.specs.Told.{GiveSame}
-use Rattle.tf_conductor.specs.Rounds.{Begun, HasConducted, claim_by, claims, details_of, is_claimed, nothing}
+use Rattle.tf_conductor.specs.Rounds.{Begun, HasConducted, claim_by, claims, details_of, is_claimed, nothing, GiveSame}
 use Rattle.tf_conductor.specs.Working.{AreLeft, HasMoved, HasTurned, LeavesNoJob, RunsClaimed, StepsFrom, StopsWorking}
 use Rattle.tf_conductor.specs.declared.runners.Ran.{Ran}
 use Rattle.tf_conductor.specs.declared.turns.Claim.{Claim}

@@ -5,9 +5,8 @@ use Rattle.tf_values.specs.declared.value.Val.{Val}
 use Rattle.tf_board.specs.Board.{AreOfBoard}
 use Rattle.tf_shared_board.specs.Shared.{SharedValue}
 use Rattle.tf_shared_board.specs.declared.calls.BoardHalt.{BoardHalt}
-use Rattle.tf_conductor.specs.Conducting.{IsConducting}
-use Rattle.tf_conductor.specs.Rounds.{AllClaimed, EndsConducting, made_since}
-use Rattle.tf_conductor.specs.Told.{GiveSame}
+use Rattle.tf_conductor.specs.Conducting.{IsConducting, made_since}
+use Rattle.tf_conductor.specs.Rounds.{AllClaimed, EndsConducting, GiveSame}
 use Rattle.tf_conductor.specs.declared.runners.Ran.{Ran}
 
 -- of a shared board, that these conductors worked on it: it was conducted, its commands are legal, each conductor made just its own calls, all jobs

@@ -1,25 +1,25 @@
 -- What conductors promise of their calls and runs. Lists of commands have the newest first, lists of calls the oldest.
-use Rattle.std.specs.Prelude.{◌≡◌, ℕ, Bool, true, false, ◌&&◌, nat_eq, List, [], ◌∷◌, ◌++◌, length, drop, map, slice_get, Option, Some, None}
+use Rattle.std.specs.Prelude.{◌≡◌, ◌⊎◌, ℕ, Bool, true, false, ◌&&◌, nat_eq, List, [], ◌∷◌, ◌++◌, map, slice_get, Option, Some, None}
+use Rattle.std.specs.Fmt.{decimal}
 use Rattle.std.specs.List.{filter, list_any, AllByRecursion}
+use Rattle.tf_desk.specs.Crash.{Pairs}
+use Rattle.tf_desk.specs.State.{DeskState}
+use Rattle.tf_journal.specs.Format.{Recovered}
 use Rattle.tf_values.specs.declared.value.Val.{Val}
-use Rattle.tf_board.specs.Board.{details_in, jobs_of, numbered, is_free}
+use Rattle.tf_board.specs.Board.{AreOfBoard, Holds, board_in, details_in, jobs_of, numbered, is_free}
 use Rattle.tf_board.specs.Seeking.{names_itself}
 use Rattle.tf_board.specs.declared.commands.Command.{Command}
 use Rattle.tf_board.specs.declared.jobs.Job.{Job}
-use Rattle.tf_shared_board.specs.Shared.{SharedValue}
+use Rattle.tf_shared_board.specs.Calls.{followed_by, made_command}
 use Rattle.tf_shared_board.specs.declared.calls.BoardHalt.{BoardHalt}
+use Rattle.tf_shared_board.specs.declared.calls.BoardHalt.TheVariants as halt
 use Rattle.tf_shared_board.specs.declared.calls.JobCall.{JobCall}
 use Rattle.tf_shared_board.specs.declared.calls.JobCall.TheVariants as call
 use Rattle.tf_shared_board.specs.declared.calls.Made.{Made}
-use Rattle.tf_conductor.specs.Told.{told_runs}
 use Rattle.tf_conductor.specs.declared.runners.Ran.{Ran}
 use Rattle.tf_conductor.specs.declared.runners.Ran.TheVariants as ran
 
 -- ---- calls
-
--- the calls that were made since
-abbrev pub made_since : {K : Type 0} → SharedValue K → SharedValue K → List Made
-made_since old new = drop (length old.made) new.made
 
 -- those of one conductor, in their order
 abbrev pub calls_by : ℕ → List Made → List Made
@@ -45,6 +45,21 @@ AreDifferent owners = (i j : ℕ) (owner : List ℕ) → slice_get owners i ≡ 
 abbrev pub end_call : Ran → List ℕ → List ℕ → JobCall
 end_call ran.Done id owner = call.Consume id owner
 end_call ran.Left id owner = call.Abandon id owner
+
+-- ---- what a runner tells of its runs
+
+-- the runs with these more, where they are told
+abbrev pub told_runs : Option (List (Val × Ran)) → List (Val × Ran) → Option (List (Val × Ran))
+told_runs None more = None
+told_runs (Some runs) more = Some (runs ++ more)
+
+-- the runs with one more, where they are told
+abbrev pub told_run : Option (List (Val × Ran)) → Val × Ran → Option (List (Val × Ran))
+told_run told run = told_runs told (run ∷ [])
+
+-- how runs may end is the same of both
+abbrev pub GiveSame : (Val → Ran → Type 0) → (Val → Ran → Type 0) → Type 0
+GiveSame old new = (details : Val) (ran : Ran) → (old details ran → new details ran) × (new details ran → old details ran)
 
 -- ---- rounds
 
@@ -154,3 +169,47 @@ is_claimed calls job = list_any (claims job) calls
 -- each job that was open has a claim among the calls
 abbrev pub AllClaimed : List Command → List Made → Type 0
 AllClaimed past calls = (job : ℕ) → IsUnclaimed past job → is_claimed calls job ≡ true
+
+-- ---- how owners are named by a word
+
+-- the owner of a conductor: the word, a hyphen and the conductor's number
+unfoldable pub owner_name : List ℕ → ℕ → List ℕ
+owner_name word number = word ++ 45 ∷ decimal number
+
+-- each owner is named so, by its place
+abbrev pub AreNamedBy : List ℕ → List (List ℕ) → Type 0
+AreNamedBy word owners = (i : ℕ) (owner : List ℕ) → slice_get owners i ≡ Some owner → owner ≡ owner_name word i
+
+-- ---- what the board's file has
+
+-- these commands, or with them that of one call more of this kind, which a board may hold there
+pub data HoldsTried (kind : Made → Type 0) (past : List Command) (found : Recovered) : Type 0 where
+  all_held : Holds past found → HoldsTried kind past found
+  one_more : (m : Made) → kind m → AreOfBoard (made_command m ∷ past) → Holds (made_command m ∷ past) found → HoldsTried kind past found
+
+-- the commands from before followed by those of the first calls, or by one call more
+pub record HoldsSome (kind : Made → Type 0) (past : List Command) (made : List Made) (found : Recovered) : Type 0 where
+  pub first : List Made
+  pub others : List Made
+  pub splits : made ≡ first ++ others
+  pub holds : HoldsTried kind (followed_by past first) found
+
+-- these commands; or, where the board was halted since the disk failed, one call more
+abbrev pub HoldsKept : (Made → Type 0) → List Command → Option BoardHalt → Recovered → Type 0
+HoldsKept kind past halted found = Holds past found ⊎ ((halted ≡ Some halt.Disk) × HoldsTried kind past found)
+
+-- a crash inside leaves these commands, or those of one call more; the shown text stays
+abbrev pub LeavesTried : (Made → Type 0) → List Command → DeskState → Pairs
+LeavesTried kind past old image text = HoldsTried kind past (board_in image) × (old.shown ≡ Some text)
+
+-- a crash inside leaves the commands of the first calls, or of one call more; the shown text stays
+abbrev pub LeavesSome : (Made → Type 0) → List Command → List Made → DeskState → Pairs
+LeavesSome kind past made old image text = HoldsSome kind past made (board_in image) × (old.shown ≡ Some text)
+
+-- a call of the conductor of this number, by its owner
+abbrev pub IsBy : ℕ → List ℕ → Made → Type 0
+IsBy number owner m = (m.number ≡ number) × IsCallBy owner m.call
+
+-- no call
+abbrev pub IsNobodys : Made → Type 0
+IsNobodys m = ⊥

@@ -10,8 +10,7 @@ use Rattle.tf_shared_board.specs.Calls.{followed_by}
 use Rattle.tf_shared_board.specs.declared.calls.Made.{Made}
 use Rattle.tf_turnstile.specs.Passes.{TurnstileValue, PassValue, IsIdle, new_pass}
 use Rattle.tf_conductor.specs.Conducting.{ConductingValue}
-use Rattle.tf_conductor.specs.Rounds.{Begun, Round, HasConducted, IsConductors, AreDifferent, AllClaimed, claim_by, details_of, end_of_round, is_claimed, nothing}
-use Rattle.tf_conductor.specs.Told.{GiveSame, told_run}
+use Rattle.tf_conductor.specs.Rounds.{Begun, Round, HasConducted, IsConductors, AreDifferent, AllClaimed, claim_by, details_of, end_of_round, is_claimed, nothing, GiveSame, told_run}
 use Rattle.tf_conductor.specs.declared.runners.Ran.{Ran}
 use Rattle.tf_conductor.specs.declared.turns.Claim.{Claim}
 use Rattle.tf_conductor.specs.declared.turns.Next.{Next}

@@ -2,9 +2,8 @@ ghost use Rattle.std.specs.Prelude.{◌≡◌, ◌<◌, ◌≤◌, ℕ, [], List
 ghost use Rattle.tf_board.specs.Board.{AreOfBoard};
 ghost use Rattle.tf_turnstile.specs.Passes.{AreNew};
 ghost use Rattle.tf_conductor.specs.Conducted.{IsConductedBy};
-ghost use Rattle.tf_conductor.specs.Conducting.{IsConducting};
-ghost use Rattle.tf_conductor.specs.Rounds.{AllClaimed, AreDifferent, EndsConducting, made_since};
-ghost use Rattle.tf_conductor.specs.Told.{GiveSame};
+ghost use Rattle.tf_conductor.specs.Conducting.{IsConducting, MakesNoCall, made_since};
+ghost use Rattle.tf_conductor.specs.Rounds.{AllClaimed, AreDifferent, EndsConducting, GiveSame, IsNobodys};
 
 use crate::conductors::Conductor;
 use crate::hiring::{dismiss, hire, work_through};
@@ -25,6 +24,17 @@ pub struct Conducted<K: Desk> {
     pub halt: Option<BoardHalt>,
 }
 
+/// Halts the board for want of memory, unless it was halted before, where that is so of a conductor.
+fn halt_where<K: Desk>(shared: &mut SharedBoard<K>, halted: bool)
+    ensures none { MakesNoCall K.state IsNobodys shared.old shared.new }
+    ensures halted { halted ≡ true → IsSome shared.new.halt }
+{
+    if !halted {
+        return;
+    }
+    shared.halt_for_memory();
+}
+
 /// The end of a call. Where a conductor stopped at a halt, the board is halted: if it wasn't before, then for want of
 /// memory.
 fn conclude<K: Desk>(board: Conducting<K>, halted: bool) -> Conducted<K>
@@ -36,10 +46,8 @@ fn conclude<K: Desk>(board: Conducting<K>, halted: bool) -> Conducted<K>
     ensures halted { halted ≡ true → IsSome result.halt }
 {
     let mut shared = board.into_shared();
+    halt_where(&mut shared, halted);
     let _made = shared.made();
-    if halted {
-        shared.halt_for_memory();
-    }
     let halt = shared.halted();
     Conducted { shared, halt }
 }

@@ -1,7 +1,7 @@
 // What one conductor does: it takes the board for a turn, and runs its jobs without it.
 ghost use Rattle.std.specs.Prelude.{◌≡◌, []};
 ghost use Rattle.tf_turnstile.specs.Passes.{IsIdle, new_pass};
-ghost use Rattle.tf_conductor.specs.Told.{GiveSame};
+ghost use Rattle.tf_conductor.specs.Rounds.{GiveSame};
 ghost use Rattle.tf_conductor.specs.Working.{HasClaim, HasDoneLast, HasTurned, HasWorkedOn, IsConductorOf, KnowsNext, RunsClaimed, StepsFrom, seen_calls, start_past};
 
 use crate::runners::{Ran, Runner};

@@ -9,5 +9,5 @@ mod runners;
 mod turns;
 
 pub use conducting::{Conducted, conduct};
-pub use owners::{OWNER_LIMIT, owners_of};
+pub use owners::owners_of;
 pub use runners::{Ran, Runner};

@@ -1,17 +1,13 @@
 //! How the owners of conductors are named.
 ghost use Rattle.std.specs.Prelude.{◌≡◌, ◌<◌, ◌≤◌, IfOk, length};
-ghost use Rattle.tf_conductor.specs.Owners.{AreNamedBy, owner_name};
-ghost use Rattle.tf_conductor.specs.Rounds.{AreDifferent};
+ghost use Rattle.tf_conductor.specs.Rounds.{AreDifferent, AreNamedBy, owner_name};
 
 use std::alloc::Global;
 use tf_report::{append, append_number};
 use tf_values::{Memory, Name, Names};
 
-/// The most bytes of a word by which owners are named, so that each is a name.
-pub const OWNER_LIMIT: usize = 61;
-
 /// The owner of the conductor of this number.
-#[tactic(auto, unfolding(crate::specs::Owners::owner_name))]
+#[tactic(auto, unfolding(crate::specs::Rounds::owner_name))]
 fn owner_of(alloc: Global, word: &Name, number: u8) -> Result<Name, Memory>
     requires short { length word.now ≤ 61 }
     requires few { number < 64 }

@@ -1,6 +1,6 @@
 ghost use Rattle.std.specs.Prelude.{◌≡◌, List, Option, IfOk, OnErr};
 ghost use Rattle.tf_values.specs.declared.value.Val.{Val as AValue};
-ghost use Rattle.tf_conductor.specs.Told.{GiveSame, told_run};
+ghost use Rattle.tf_conductor.specs.Rounds.{GiveSame, told_run};
 ghost use Rattle.tf_conductor.specs.declared.runners.Ran.{Ran as ARan};
 
 use std::alloc::Global;

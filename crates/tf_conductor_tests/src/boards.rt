@@ -1,11 +1,11 @@
 // The boards on which the conductors work, their owners, and a runner.
-ghost use Rattle.std.specs.Prelude.{◌≡◌, None, false, IfOk, length};
+ghost use Rattle.std.specs.Prelude.{◌≡◌, ◌≤◌, None, IfOk, length};
 ghost use Rattle.tf_conductor.specs.Rounds.{AreDifferent};
 
 use std::alloc::Global;
 use std::test::Fail;
 use tf_board::Board;
-use tf_conductor::{Ran, Runner};
+use tf_conductor::{Ran, Runner, owners_of};
 use tf_desk::{Desk, MemoryDesk};
 use tf_shared_board::{JobCall, Made, SharedBoard};
 use tf_states::Priority;
@@ -36,23 +36,13 @@ pub(crate) fn named(bytes: &[u8]) -> Result<Name, Fail>
     Ok(Name::make(bytes).ok_or("no name")?)
 }
 
-/// The owner of one conductor.
-pub(crate) fn one_owner(alloc: Global) -> Result<Names, Fail>
-    ensures { IfOk result (λ owners. (length owners ≡ 1) × AreDifferent owners) }
+/// The owners of so many conductors.
+pub(crate) fn owners(alloc: Global, count: u8) -> Result<Names, Fail>
+    requires { count ≤ 64 }
+    ensures { IfOk result (λ owners. (length owners ≡ count) × AreDifferent owners) }
 {
-    let mut owners = Vec::new(alloc);
-    owners.push(named(b"ann-0")?)?;
-    Ok(Names::make(owners))
-}
-
-/// The owners of two.
-pub(crate) fn two_owners(alloc: Global) -> Result<Names, Fail>
-    ensures { IfOk result (λ owners. (length owners ≡ 2) × AreDifferent owners) }
-{
-    let mut owners = Vec::new(alloc);
-    owners.push(named(b"ann-0")?)?;
-    owners.push(named(b"ann-1")?)?;
-    Ok(Names::make(owners))
+    let word = named(b"ann")?;
+    Ok(owners_of(alloc, &word, count)?)
 }
 
 /// A shared board without a job, over a desk of whose calls the stated ones fail.

@@ -1,7 +1,4 @@
-ghost use Rattle.std.specs.Prelude.{◌≡◌, length, vec_len};
-ghost use Rattle.tf_conductor.specs.Rounds.{AreDifferent};
-
-use crate::boards::{Reader, empty_board, file, kind, one_owner, post};
+use crate::boards::{Reader, empty_board, file, kind, owners, post};
 use std::alloc::Global;
 use std::sync::Wait;
 use std::test::Fail;
@@ -17,7 +14,7 @@ pub(crate) fn conducted<T: Threads + Wait + Sync>(
     alloc: Global,
     shared: SharedBoard<MemoryDesk>,
 ) -> Result<Conducted<MemoryDesk>, Fail> {
-    let owners = one_owner(alloc)?;
+    let owners = owners(alloc, 1)?;
     let mut runners = Vec::new(alloc);
     runners.push(Reader)?;
     Ok(conduct(rt, alloc, shared, &owners, &mut runners))
@@ -59,5 +56,17 @@ fn on_an_empty_board_there_is_nothing_to_do(rt: HostRuntime) -> Result<(), Fail>
     let ended = conducted(&rt, alloc, empty_board(alloc, &[])?)?;
     assert!(rt; ended.halt.is_none());
     assert_eq!(rt; ended.shared.made().len(), 0);
+    Ok(())
+}
+
+#[test]
+fn owners_are_named_from_0(rt: HostRuntime) -> Result<(), Fail> {
+    let alloc = rt.alloc();
+    let owners = owners(alloc, 11)?;
+    let [first, .., last] = owners.items() else {
+        return Err(Fail::from("too few"));
+    };
+    assert_eq!(rt; first.bytes(), b"ann-0".as_slice());
+    assert_eq!(rt; last.bytes(), b"ann-10".as_slice());
     Ok(())
 }

@@ -1,6 +1,6 @@
 ghost use Rattle.std.specs.Prelude.{◌≡◌, None, IfOk, vec_len};
 
-use crate::boards::{empty_board, file, kind, post, two_owners};
+use crate::boards::{empty_board, file, kind, owners, post};
 use std::alloc::Global;
 use std::sync::Arc;
 use std::sync::atomic::{AtomicU64, Ordering};
@@ -64,7 +64,7 @@ fn two_conductors_are_at_work_at_once(rt: HostRuntime) -> Result<(), Fail> {
         Priority::Normal,
         file(alloc, b"b.toml")?,
     )?;
-    let owners = two_owners(alloc)?;
+    let owners = owners(alloc, 2)?;
     let mut runners = two_runners(alloc)?;
     let ended = conduct(&rt, alloc, shared, &owners, &mut runners);
     assert!(rt; ended.halt.is_none());

@@ -1,7 +1,7 @@
 use Rattle.std.proofs.Common.{◌≡◌, ◌∙◌, sym, ap, subst, slice_index_or}
 use Rattle.tf_shared_board.specs.Shared.{SharedValue}
-use Rattle.tf_conductor.specs.Conducting.{ConductingValue}
-use Rattle.tf_conductor.specs.Rounds.{AllClaimed, EndsConducting, made_since}
+use Rattle.tf_conductor.specs.Conducting.{ConductingValue, made_since}
+use Rattle.tf_conductor.specs.Rounds.{AllClaimed, EndsConducting}
 use Rattle.tf_conductor.proofs.EndLemmas.{none_ended}
 use Rattle.tf_conductor.proofs.conducting.conduct.Goals as goal
 

@@ -1,6 +1,5 @@
 use Rattle.tf_turnstile.specs.Passes.{IsIdle}
-use Rattle.tf_conductor.specs.Rounds.{HasConducted, nothing}
-use Rattle.tf_conductor.specs.Told.{GiveSame}
+use Rattle.tf_conductor.specs.Rounds.{HasConducted, nothing, GiveSame}
 use Rattle.tf_conductor.specs.Working.{AreLeft, seen_calls, start_past}
 use Rattle.tf_conductor.proofs.conductors.work.Given as goal
 

@@ -1,7 +1,7 @@
 use Rattle.std.proofs.Common.{◌≡◌, ℕ, List, [], ◌∷◌, ◌++◌, true, false, ◌∙◌, ap, append_assoc}
 use Rattle.std.specs.Fmt.{decimal}
 use Rattle.tf_values.specs.Text.{is_name}
-use Rattle.tf_conductor.specs.Owners.{owner_name}
+use Rattle.tf_conductor.specs.Rounds.{owner_name}
 use Rattle.tf_conductor.proofs.OwnerLemmas.{owner_is_name}
 use Rattle.tf_conductor.proofs.owners.owner_of.Goals as goal
 

@@ -1,7 +1,6 @@
 use Rattle.std.proofs.Common.{◌≡◌, ◌≤◌, ◌∷◌, ◌++◌, [], ℕ, List, length, ap, sym, subst, ◌∙◌, arith, length-append}
 use Rattle.std.specs.Prelude.{slice_get}
-use Rattle.tf_conductor.specs.Owners.{AreNamedBy}
-use Rattle.tf_conductor.specs.Rounds.{AreDifferent}
+use Rattle.tf_conductor.specs.Rounds.{AreDifferent, AreNamedBy}
 use Rattle.tf_conductor.proofs.OwnerLemmas.{named_different, named_more}
 use Rattle.tf_conductor.proofs.owners.owners_of.Goals as goal
 

@@ -1,5 +1,5 @@
 use Rattle.std.proofs.Common.{◌≡◌, length}
-use Rattle.tf_conductor.specs.Owners.{AreNamedBy}
+use Rattle.tf_conductor.specs.Rounds.{AreNamedBy}
 use Rattle.tf_conductor.proofs.owners.owners_of.Given as goal
 
 abbrev pub invariant-loop-number : goal.invariant-loop-number

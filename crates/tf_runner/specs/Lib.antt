@@ -1,0 +1,3 @@
+pub mod Conducts
+pub mod Reading
+pub mod Working

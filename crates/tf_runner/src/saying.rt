@@ -1,0 +1,108 @@
+//! What is said of the calls of conductors, and the end of their command.
+ghost use Rattle.std.specs.Prelude.{◌≡◌, ◌≢◌, ◌++◌, ℕ, List, Option, Some, IfOk, OnOk};
+ghost use Rattle.tf_board.specs.Does.{Concludes};
+ghost use Rattle.tf_board.specs.declared.commands.Command.{Command};
+ghost use Rattle.tf_report.specs.declared.statuses.TheConstants.{UNHIRED, UNREAD, UNSAID};
+ghost use Rattle.tf_shared_board.specs.declared.calls.BoardHalt.{BoardHalt as AHalt};
+ghost use Rattle.tf_shared_board.specs.declared.calls.BoardHalt.TheVariants.{Disk as DiskHalt};
+ghost use Rattle.tf_shared_board.specs.declared.calls.Made.{Made as AMade};
+ghost use Rattle.tf_runner.specs.Conducts.{EndsCalls, call_text, calls_text as calls_said, closing_text, halt_status, halt_text};
+ghost use Rattle.tf_runner.specs.Working.{HasCalled};
+
+use std::alloc::Global;
+use tf_board::{JobAction, applied_line};
+use tf_conductor::Conducted;
+use tf_desk::Desk;
+use tf_report::{
+    DISK_FAILED, DISK_FAULT, FULL, OUT_OF_MEMORY, SUCCEEDED, append, append_book_full, close,
+};
+use tf_shared_board::{BoardHalt, JobCall, Made};
+use tf_values::Memory;
+
+/// The line of a call.
+fn call_line(alloc: Global, call: &JobCall) -> Result<Vec<u8>, Memory>
+    ensures { IfOk result (λ text. text.items ≡ call_text call.now) }
+{
+    match call {
+        JobCall::Claim { id, owner } => applied_line(alloc, JobAction::Claim, id, owner),
+        JobCall::Abandon { id, owner } => applied_line(alloc, JobAction::Abandon, id, owner),
+        JobCall::Consume { id, owner } => applied_line(alloc, JobAction::Consume, id, owner),
+        JobCall::Trash { id, owner } => applied_line(alloc, JobAction::Trash, id, owner),
+        JobCall::Post { .. } => Ok(Vec::new(alloc)),
+    }
+}
+
+/// The lines of calls, in their order.
+fn calls_text(alloc: Global, made: &[Made]) -> Result<Vec<u8>, Memory>
+    ensures { IfOk result (λ text. text.items ≡ calls_said made.now) }
+{
+    let mut text = Vec::new(alloc);
+    for call in made {
+        append(&call_line(alloc, &call.call)?, &mut text)?;
+    }
+    Ok(text)
+}
+
+/// Appends why the board doesn't go on, unless memory ran out, and answers the status.
+fn append_halt(halt: Option<BoardHalt>, text: &mut Vec<u8>) -> Result<u8, Memory>
+    ensures text { OnOk result (text.new.items ≡ text.old.items ++ halt_text halt) }
+    ensures status { IfOk result (λ status. status ≡ halt_status halt) }
+{
+    match halt {
+        None => Ok(SUCCEEDED),
+        Some(BoardHalt::Memory) => Ok(OUT_OF_MEMORY),
+        Some(BoardHalt::Disk) => {
+            append(DISK_FAULT, text)?;
+            Ok(DISK_FAILED)
+        }
+        Some(BoardHalt::Full { size, need }) => {
+            append_book_full(size, need, text)?;
+            Ok(FULL)
+        }
+    }
+}
+
+/// What is said where conductors are done, and the status.
+fn closing(alloc: Global, made: &[Made], halt: Option<BoardHalt>) -> Result<(Vec<u8>, u8), Memory>
+    ensures { IfOk result (λ said. (said.0.items ≡ closing_text made.now halt) × (said.1 ≡ halt_status halt)) }
+{
+    let mut text = calls_text(alloc, made)?;
+    let status = append_halt(halt, &mut text)?;
+    Ok((text, status))
+}
+
+/// Says a text, which may be empty, and answers the status: the one that belongs to it, or that of a failed output.
+fn say_all<K: Desk>(mut desk: K, text: &[u8], status: u8) -> (K, u8)
+    requires apart { status ≢ UNSAID }
+    ensures ends { (name word : List ℕ) (count : ℕ) (past : List Command) (made : List AMade) (halted : Option AHalt)
+        (entry : K) → text.now ≡ closing_text made halted → status ≡ halt_status halted
+        → HasCalled name word count past made halted (K.state entry) (K.state desk)
+        → EndsCalls name word count past made halted (K.state entry) (K.state result.0) result.1 }
+    ensures concludes { Concludes (K.state desk) (K.state result.0) result.1 }
+    ensures status { result.1 ≢ UNSAID → result.1 ≡ status }
+{
+    if text.is_empty() {
+        return (desk, status);
+    }
+    let status = close(text, status, &mut desk);
+    (desk, status)
+}
+
+/// Says the lines of the calls that conductors made, and then why the board doesn't go on, if it doesn't.
+pub(crate) fn conclude<K: Desk>(alloc: Global, ended: Conducted<K>) -> (K, u8)
+    ensures ends { (name word : List ℕ) (count : ℕ) (past : List Command) (entry : K)
+        → HasCalled name word count past ended.shared.made ended.halt (K.state entry)
+        (K.state ended.shared.board.journal.desk)
+        → EndsCalls name word count past ended.shared.made ended.halt (K.state entry) (K.state result.0) result.1 }
+    ensures concludes { Concludes (K.state ended.shared.board.journal.desk) (K.state result.0) result.1 }
+    ensures failed { result.1 ≡ DISK_FAILED → ended.halt ≡ Some DiskHalt }
+    ensures apart { (result.1 ≢ UNREAD) × (result.1 ≢ UNHIRED) }
+{
+    let Conducted { shared, halt } = ended;
+    let said = closing(alloc, shared.made(), halt);
+    let desk = shared.close().close();
+    match said {
+        Ok((text, status)) => say_all(desk, &text, status),
+        Err(_) => (desk, OUT_OF_MEMORY),
+    }
+}
