@@ -3,6 +3,7 @@ pub mod NumberLemmas
 pub mod ValueLemmas
 pub mod FieldLemmas
 pub mod EntryLemmas
+pub mod HeadLemmas
 pub mod AppendLemmas
 pub mod SizeLemmas
 pub mod AtomLemmas

@@ -143,7 +143,7 @@ impl Reader<'_> {
 }
 
 /// The number of two bytes at the front, and what stands behind it.
-fn u16_at(bytes: &[u8]) -> Option<(u16, &[u8])>
+pub fn u16_at(bytes: &[u8]) -> Option<(u16, &[u8])>
     ensures { MatchOption result (read_number w16 bytes.now ≡ None)
         (λ read. read_number w16 bytes.now ≡ Some (read.0, read.1.now)) }
 {
