@@ -1,7 +1,7 @@
 -- How many tests may stand in one another.
 use Rattle.std.proofs.Common.{◌≡◌, ◌≢◌, ℕ, suc, ◌-◌, List, arith, ap}
 use Rattle.tf_flow.proofs.ConditionLemmas.{condition_of-is, condition_of-below, condition_of-above, condition_of-not, condition_of-all, condition_of-any}
-use Rattle.tf_files.specs.document.Deciders.{test_table}
+use Rattle.tf_files.specs.FlowFile.{test_table}
 use Rattle.toml.specs.Data.{Members}
 
 -- one less within a test

@@ -1,8 +1,7 @@
 -- The root flow, once its name, its kind and its store are read.
 use Rattle.std.proofs.Common.{◌≡◌, ℕ, List, [], None, Ok, codes, subst, sym, ◌∙◌}
 use Rattle.tf_files.proofs.ReadingLemmas.{known_goes, chain_goes, chain_stops}
-use Rattle.tf_files.specs.document.Reading.{RefusesWith, chain, unknown_key, required, optional}
-use Rattle.tf_files.specs.document.Values.{name_form, binds_form}
+use Rattle.tf_files.specs.document.Reading.{RefusesWith, chain, unknown_key, required, optional, name_form, binds_form}
 use Rattle.tf_files.specs.declared.document.faults.FileFault.{FileFault}
 use Rattle.tf_flow.specs.declared.atoms.Bind.{Bind}
 use Rattle.tf_flow.specs.declared.nested.FlowKind.{FlowKind}

@@ -1,6 +1,5 @@
 ghost use Rattle.std.specs.Prelude.{◌≡◌, [], suc, map, codes, None, Ok, IfOk, IfErr};
-ghost use Rattle.tf_files.specs.document.Reading.{RefusesWith, each, required as spelled_at, optional as spelled_perhaps, array_of};
-ghost use Rattle.tf_files.specs.document.Values.{binds_form as binds_spelled};
+ghost use Rattle.tf_files.specs.document.Reading.{RefusesWith, each, required as spelled_at, optional as spelled_perhaps, array_of, binds_form as binds_spelled};
 ghost use Rattle.tf_flow.specs.Tree.{tree_of};
 ghost use Rattle.tf_flow.specs.Plan.{as_written, item_as_written};
 ghost use Rattle.tf_files.specs.FlowFile.{root_form as root_spelled, flow_inside as inside_spelled, item_form as item_spelled, item_table as item_of, own_retry as retry_of_flow, nested_flow as nested_of, task_item as task_of, pattern_form as pattern_spelled, pattern_named as pattern_of, is_flow_table as is_table_of_flow};

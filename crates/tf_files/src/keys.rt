@@ -1,6 +1,5 @@
 ghost use Rattle.std.specs.Prelude.{◌≡◌, Ok, IfOk, IfErr};
-ghost use Rattle.tf_files.specs.document.Reading.{RefusesWith, required as spelled_at};
-ghost use Rattle.tf_files.specs.document.Values.{name_form as name_spelled};
+ghost use Rattle.tf_files.specs.document.Reading.{RefusesWith, required as spelled_at, name_form as name_spelled};
 ghost use Rattle.toml.specs.View.{table_view};
 
 use crate::document::{FileFault, Path, name_form, required};

@@ -16,6 +16,20 @@ abbrev pub ClosesWithOrStops : Option (List ℕ) → List ℕ → ℕ → Option
 ClosesWithOrStops before message wanted after status =
     ((status ≡ OUT_OF_MEMORY) × (after ≡ before)) ⊎ ClosesWith before message wanted after status
 
+-- ---- what is said of what can't be had
+
+-- the message for a file that can't be read
+abbrev pub cannot_read : List ℕ
+cannot_read = codes "taskflow: cannot read\n"
+
+-- the message where no hand could be hired
+abbrev pub cannot_hire : List ℕ
+cannot_hire = codes "taskflow: cannot hire\n"
+
+-- the message where nobody can be listened to
+abbrev pub cannot_listen : List ℕ
+cannot_listen = codes "taskflow: cannot listen\n"
+
 -- ---- what is said of a file that can't be read, or can't take a record more: of a book and of a board
 
 -- the message for a fault of the disk

@@ -1,4 +1,5 @@
-//! What is said of a book or a board that can't be read, or can't take a record more.
+//! What is said of a file, a hand or an address that can't be had, and of a book or a board that can't be read or can't take a
+//! record more.
 ghost use Rattle.std.specs.Prelude.{◌≡◌, ◌++◌, OnOk};
 ghost use Rattle.tf_report.specs.Closing.{byte_or_end, not_a_book, book_full};
 
@@ -7,6 +8,15 @@ use tf_values::Memory;
 
 /// The message for a fault of the disk.
 pub const DISK_FAULT: &[u8] = b"taskflow: disk fault\n";
+
+/// The message for a file that can't be read.
+pub const CANNOT_READ: &[u8] = b"taskflow: cannot read\n";
+
+/// The message where no hand could be hired.
+pub const CANNOT_HIRE: &[u8] = b"taskflow: cannot hire\n";
+
+/// The message where nobody can be listened to.
+pub const CANNOT_LISTEN: &[u8] = b"taskflow: cannot listen\n";
 
 /// Appends the message for a file that is no book or no board: the offset and the byte that show it, or the file's end.
 #[tactic(auto, unfolding(crate::specs::Closing::not_a_book))]

@@ -17,7 +17,9 @@ mod tables;
 
 pub use appending::{append, append_counted, append_named, append_number, append_pair};
 pub use closing::close;
-pub use faults::{DISK_FAULT, append_book_full, append_not_a_book};
+pub use faults::{
+    CANNOT_HIRE, CANNOT_LISTEN, CANNOT_READ, DISK_FAULT, append_book_full, append_not_a_book,
+};
 pub use job_lines::{JobLine, jobs, priority_word};
 pub use lines::line;
 pub use names::flow_name;

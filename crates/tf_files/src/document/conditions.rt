@@ -1,8 +1,7 @@
 ghost use Rattle.std.specs.Prelude.{◌≡◌, suc, map, codes, Ok, IfOk, IfErr};
 ghost use Rattle.tf_flow.specs.Outline.{condition_of};
-ghost use Rattle.tf_files.specs.document.Deciders.{integer_form as integer_spelled, same_form as same_spelled, below_form as below_spelled, above_form as above_spelled, comparison_form as comparison_spelled, tests_by, all_by, any_by, not_by, row_by, test_table as table_spelled, test_within as test_spelled, test_form as whole_test_spelled};
-ghost use Rattle.tf_files.specs.document.Reading.{RefusesWith, each, array_of, required as required_there};
-ghost use Rattle.tf_files.specs.document.Values.{name_form as name_spelled, value_form as value_spelled};
+ghost use Rattle.tf_files.specs.FlowFile.{integer_form as integer_spelled, same_form as same_spelled, below_form as below_spelled, above_form as above_spelled, comparison_form as comparison_spelled, tests_by, all_by, any_by, not_by, row_by, test_table as table_spelled, test_within as test_spelled, test_form as whole_test_spelled};
+ghost use Rattle.tf_files.specs.document.Reading.{RefusesWith, each, array_of, required as required_there, name_form as name_spelled, value_form as value_spelled};
 ghost use Rattle.toml.specs.View.{view, items_view, table_view};
 
 use crate::document::faults::FileFault;

@@ -1,7 +1,7 @@
 ghost use Rattle.std.specs.Prelude.{◌≡◌, codes, Ok, IfOk, IfErr};
 ghost use Rattle.tf_flow.specs.Outline.{decision_of};
 ghost use Rattle.tf_flow.specs.declared.deciders.Depth.TheVariants as depths;
-ghost use Rattle.tf_files.specs.document.Deciders.{depth_named as depth_of, depth_form as depth_spelled, decider_form as decider_spelled, decider_of as decider_there};
+ghost use Rattle.tf_files.specs.FlowFile.{depth_named as depth_of, depth_form as depth_spelled, decider_form as decider_spelled, decider_of as decider_there};
 ghost use Rattle.tf_files.specs.document.Reading.{RefusesWith, optional as optional_there};
 ghost use Rattle.toml.specs.View.{view, table_view};
 

@@ -1,7 +1,6 @@
 ghost use Rattle.std.specs.Prelude.{◌≡◌, false, codes, map, Ok, IfOk, IfErr};
-ghost use Rattle.tf_files.specs.document.Reading.{RefusesWith, required as required_there, optional as optional_there};
-ghost use Rattle.tf_files.specs.document.Retries.{retry_form as retry_spelled, retry_table as retry_of, retry_keys as keys_of, has_kind as is_kind, retry_kind_form as kind_spelled, kind_named as kind_of, times_of as times_spelled, for_each_of as for_each_spelled, parameterized_of as parameterized_spelled, revert_all_of as revert_all_spelled, attempts_form as attempts_spelled, counted as counted_spelled, values_form as values_spelled, truth_form as truth_spelled};
-ghost use Rattle.tf_files.specs.document.Values.{name_form as name_spelled};
+ghost use Rattle.tf_files.specs.document.Reading.{RefusesWith, required as required_there, optional as optional_there, name_form as name_spelled};
+ghost use Rattle.tf_files.specs.document.Tasks.{retry_form as retry_spelled, retry_table as retry_of, retry_keys as keys_of, has_kind as is_kind, retry_kind_form as kind_spelled, retry_kind_named as kind_of, times_of as times_spelled, for_each_of as for_each_spelled, parameterized_of as parameterized_spelled, revert_all_of as revert_all_spelled, attempts_form as attempts_spelled, counted as counted_spelled, values_form as values_spelled, truth_form as truth_spelled};
 ghost use Rattle.toml.specs.View.{view, table_view};
 
 use crate::document::faults::FileFault;

@@ -1,6 +1,5 @@
 ghost use Rattle.std.specs.Prelude.{◌≡◌, Ok, IfOk, IfErr, [], codes};
-ghost use Rattle.tf_files.specs.document.Reading.{RefusesWith, optional as optional_there};
-ghost use Rattle.tf_files.specs.document.Values.{names_form as names_spelled, binds_form as binds_spelled};
+ghost use Rattle.tf_files.specs.document.Reading.{RefusesWith, optional as optional_there, names_form as names_spelled, binds_form as binds_spelled};
 ghost use Rattle.tf_files.specs.document.Tasks.{signature_form as signature_spelled, rebind_form as rebind_spelled, provides_form as provides_spelled};
 ghost use Rattle.tf_flow.specs.declared.atoms.Provides.TheVariants as provided;
 ghost use Rattle.toml.specs.View.{view, table_view};

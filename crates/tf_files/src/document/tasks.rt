@@ -1,6 +1,5 @@
 ghost use Rattle.std.specs.Prelude.{◌≡◌, [], Ok, IfOk, IfErr, codes, pos};
-ghost use Rattle.tf_files.specs.document.Reading.{RefusesWith, required as required_there, optional as optional_there};
-ghost use Rattle.tf_files.specs.document.Values.{name_form as name_spelled, texts_form as texts_spelled};
+ghost use Rattle.tf_files.specs.document.Reading.{RefusesWith, required as required_there, optional as optional_there, name_form as name_spelled, texts_form as texts_spelled};
 ghost use Rattle.tf_files.specs.document.Tasks.{task_form as task_spelled, task_kind_form as kind_spelled, kind_named as kind_of, priority_form as priority_spelled, ranked as ranked_spelled, undo_form as undo_spelled, undo_named as undo_of};
 ghost use Rattle.tf_flow.specs.declared.atoms.Undo.TheVariants as undone;
 ghost use Rattle.toml.specs.View.{view, table_view};

@@ -1,6 +1,5 @@
 ghost use Rattle.std.specs.Prelude.{◌≡◌, Ok, IfOk, IfErr, option_map};
-ghost use Rattle.tf_files.specs.document.Reading.{RefusesWith, each};
-ghost use Rattle.tf_files.specs.document.Values.{named as name_of, name_form as name_spelled, names_form as names_spelled, key_form as key_spelled, scalar_of as scalar_spelled, scalars_of as scalars_spelled, list_of as list_spelled, value_at as value_spelled, value_form as value_read, bind_form as bind_spelled, binds_of as binds_read, binds_form as binds_spelled};
+ghost use Rattle.tf_files.specs.document.Reading.{RefusesWith, each, named as name_of, name_form as name_spelled, names_form as names_spelled, key_form as key_spelled, scalar_of as scalar_spelled, scalars_of as scalars_spelled, list_of as list_spelled, value_at as value_spelled, value_form as value_read, bind_form as bind_spelled, binds_of as binds_read, binds_form as binds_spelled};
 ghost use Rattle.toml.specs.Data.{string as string_data, array as array_data};
 ghost use Rattle.toml.specs.View.{view, items_view, table_view};
 

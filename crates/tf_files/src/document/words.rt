@@ -1,6 +1,5 @@
 ghost use Rattle.std.specs.Prelude.{◌≡◌, Ok, IfOk, IfErr};
-ghost use Rattle.tf_files.specs.document.Reading.{RefusesWith, each};
-ghost use Rattle.tf_files.specs.document.Values.{a_text as text_of_string, text_form as text_spelled, texts_form as texts_spelled};
+ghost use Rattle.tf_files.specs.document.Reading.{RefusesWith, each, a_text as text_of_string, text_form as text_spelled, texts_form as texts_spelled};
 ghost use Rattle.toml.specs.View.{view, items_view};
 
 use crate::document::faults::FileFault;

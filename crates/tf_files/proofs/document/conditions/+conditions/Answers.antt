@@ -1,7 +1,7 @@
 use Rattle.std.proofs.Common.{map, [], ◌∷◌}
 use Rattle.std.proofs.lemmas.List.{map-append}
 use Rattle.tf_flow.specs.Outline.{condition_of}
-use Rattle.tf_files.specs.document.Deciders.{test_within}
+use Rattle.tf_files.specs.FlowFile.{test_within}
 use Rattle.tf_files.specs.document.Reading.{each}
 use Rattle.tf_files.proofs.ReadingLemmas.{each_turn}
 use Rattle.toml.specs.View.{items_view}

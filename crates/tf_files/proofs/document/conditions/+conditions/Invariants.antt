@@ -1,6 +1,6 @@
 use Rattle.std.proofs.Common.{◌≡◌, ◌+◌, ◌*◌, map}
 use Rattle.tf_flow.specs.Outline.{condition_of}
-use Rattle.tf_files.specs.document.Deciders.{test_within}
+use Rattle.tf_files.specs.FlowFile.{test_within}
 use Rattle.tf_files.specs.document.Reading.{each}
 use Rattle.tf_files.proofs.ReadingLemmas.{after, each_from}
 use Rattle.toml.specs.View.{items_view}

@@ -1,7 +1,7 @@
 use Rattle.std.proofs.Common.{◌≡◌, IfOk, None, Ok, Option, Result, codes, subst, sym}
 use Rattle.toml.specs.View.{view, table_view}
 use Rattle.tf_flow.specs.Outline.{Decision, decision_of}
-use Rattle.tf_files.specs.document.Deciders.{decider_form}
+use Rattle.tf_files.specs.FlowFile.{decider_form}
 use Rattle.tf_files.specs.declared.document.faults.FileFault.{FileFault}
 use Rattle.tf_files.proofs.ReadingLemmas.{optional_refuses, optional_there}
 use Rattle.tf_files.proofs.document.deciders.decider_of.Goals as goal

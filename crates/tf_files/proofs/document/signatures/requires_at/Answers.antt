@@ -1,6 +1,6 @@
 use Rattle.std.proofs.Common.{[], codes}
 use Rattle.toml.specs.View.{view, table_view}
-use Rattle.tf_files.specs.document.Values.{names_form}
+use Rattle.tf_files.specs.document.Reading.{names_form}
 use Rattle.tf_files.proofs.ReadingLemmas.{optional_refuses}
 use Rattle.tf_files.proofs.document.signatures.requires_at.Goals as goal
 

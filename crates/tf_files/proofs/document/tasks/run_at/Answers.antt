@@ -1,6 +1,6 @@
 use Rattle.std.proofs.Common.{[], codes}
 use Rattle.toml.specs.View.{view, table_view}
-use Rattle.tf_files.specs.document.Values.{texts_form}
+use Rattle.tf_files.specs.document.Reading.{texts_form}
 use Rattle.tf_files.proofs.ReadingLemmas.{optional_refuses}
 use Rattle.tf_files.proofs.document.tasks.run_at.Goals as goal
 

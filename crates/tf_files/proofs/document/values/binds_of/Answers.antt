@@ -1,6 +1,6 @@
 use Rattle.std.proofs.Common.{◌≡◌, ◌∙◌, ◌∷◌, ap, sym}
 use Rattle.toml.specs.View.{view, members_view}
-use Rattle.tf_files.specs.document.Values.{bind_form, binds_of}
+use Rattle.tf_files.specs.document.Reading.{bind_form, binds_of}
 use Rattle.tf_files.proofs.ReadingLemmas.{after, after_one}
 use Rattle.tf_files.proofs.document.values.binds_of.Goals as goal
 

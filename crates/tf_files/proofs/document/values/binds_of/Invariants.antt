@@ -1,6 +1,6 @@
 use Rattle.std.proofs.Common.{◌≡◌}
 use Rattle.toml.specs.View.{members_view}
-use Rattle.tf_files.specs.document.Values.{binds_of}
+use Rattle.tf_files.specs.document.Reading.{binds_of}
 use Rattle.tf_files.proofs.ReadingLemmas.{after}
 use Rattle.tf_files.proofs.document.values.binds_of.Given as goal
 

@@ -1,6 +1,5 @@
 use Rattle.toml.specs.View.{items_view}
-use Rattle.tf_files.specs.document.Reading.{each}
-use Rattle.tf_files.specs.document.Values.{name_form}
+use Rattle.tf_files.specs.document.Reading.{each, name_form}
 use Rattle.tf_files.proofs.ReadingLemmas.{each_turn}
 use Rattle.tf_files.proofs.document.values.each_name.Goals as goal
 

@@ -1,7 +1,6 @@
 use Rattle.std.proofs.Common.{◌≡◌}
 use Rattle.toml.specs.View.{items_view}
-use Rattle.tf_files.specs.document.Reading.{each}
-use Rattle.tf_files.specs.document.Values.{name_form}
+use Rattle.tf_files.specs.document.Reading.{each, name_form}
 use Rattle.tf_files.proofs.ReadingLemmas.{after, each_from}
 use Rattle.tf_files.proofs.document.values.each_name.Given as goal
 

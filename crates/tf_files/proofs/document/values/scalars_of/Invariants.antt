@@ -1,6 +1,6 @@
 use Rattle.std.proofs.Common.{◌≡◌, ◌++◌, drop, option_map}
 use Rattle.toml.specs.View.{items_view}
-use Rattle.tf_files.specs.document.Values.{scalars_of}
+use Rattle.tf_files.specs.document.Reading.{scalars_of}
 use Rattle.tf_files.proofs.document.values.scalars_of.Given as goal
 
 -- the scalars made, followed by those of what is left, are those of all

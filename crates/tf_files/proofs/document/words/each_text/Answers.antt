@@ -1,6 +1,5 @@
 use Rattle.toml.specs.View.{items_view}
-use Rattle.tf_files.specs.document.Reading.{each}
-use Rattle.tf_files.specs.document.Values.{text_form}
+use Rattle.tf_files.specs.document.Reading.{each, text_form}
 use Rattle.tf_files.proofs.ReadingLemmas.{each_turn}
 use Rattle.tf_files.proofs.document.words.each_text.Goals as goal
 

@@ -1,7 +1,6 @@
 use Rattle.std.proofs.Common.{◌≡◌}
 use Rattle.toml.specs.View.{items_view}
-use Rattle.tf_files.specs.document.Reading.{each}
-use Rattle.tf_files.specs.document.Values.{text_form}
+use Rattle.tf_files.specs.document.Reading.{each, text_form}
 use Rattle.tf_files.proofs.ReadingLemmas.{after, each_from}
 use Rattle.tf_files.proofs.document.words.each_text.Given as goal
 
