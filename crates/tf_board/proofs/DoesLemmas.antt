@@ -45,6 +45,8 @@ answer_status (words.Consume board id owner) past = acts_status (refuses_id past
 answer_status (words.Trash board id owner) past = acts_status (refuses_id past action.Trash id owner) past action.Trash id owner
 answer_status (words.Owner board id) past = owner_status (owner_of past id) id
 answer_status (words.List board) past = is_done refl
+answer_status (words.Conduct board owner hands) past = is_done refl
+answer_status (words.Serve board address sessions) past = is_done refl
 
 -- a command of this shape, on the board that it names
 pub does_so : (asked shape : Asked) (board name : List ℕ) (entry now : DeskState) (status : ℕ) → asked ≡ shape → board_of shape ≡ Some board → board_of asked ≡ Some name

@@ -12,6 +12,7 @@ pub mod ParseLemmas
 pub mod FoundLemmas
 pub mod TextLemmas
 pub mod NumberLemmas
-pub mod DemoLemmas
+pub mod KindLemmas
+pub mod WithinLemmas
 pub mod AddressLemmas
 pub mod ChoiceLemmas

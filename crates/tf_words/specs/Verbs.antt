@@ -387,6 +387,7 @@ forms_of verb.Check = target ∷ []
 forms_of verb.Audit = deferral ∷ []
 forms_of verb.Demo = hands ∷ []
 forms_of verb.Worker = sessions ∷ []
+forms_of verb.Conduct = hands ∷ []
 forms_of verb.Post = urgency ∷ details ∷ []
 forms_of verb.Claim = []
 forms_of verb.Abandon = []
@@ -394,6 +395,7 @@ forms_of verb.Consume = []
 forms_of verb.Trash = []
 forms_of verb.Owner = []
 forms_of verb.List = []
+forms_of verb.Serve = sessions ∷ []
 
 -- the command of this name
 abbrev pub verb_named : List ℕ → Option Verb
@@ -407,6 +409,7 @@ verb_named word =
     else if same_word word (codes "audit") then Some verb.Audit
     else if same_word word (codes "demo") then Some verb.Demo
     else if same_word word (codes "worker") then Some verb.Worker
+    else if same_word word (codes "conduct") then Some verb.Conduct
     else None
 
 -- the command of a board of this name
@@ -419,6 +422,7 @@ board_verb_named word =
     else if same_word word (codes "trash") then Some verb.Trash
     else if same_word word (codes "owner") then Some verb.Owner
     else if same_word word (codes "list") then Some verb.List
+    else if same_word word (codes "serve") then Some verb.Serve
     else None
 
 -- a command, and the words behind those that choose it

@@ -66,6 +66,15 @@ abbrev pub worker_of : Said → List (List ℕ) → Option Asked
 worker_of said (word ∷ []) = option_and_then (λ n. option_map (λ a. asked.Worker a n) (address_of word)) (sessions_in said)
 worker_of said _ = None
 
+-- how many sessions of a board are served side by side, and else one
+abbrev pub seats_in : Said → Option ℕ
+seats_in said = once 1 (number_between 1 64) (said (codes "sessions"))
+
+-- `board serve BOARD ADDRESS`
+abbrev pub serve_of : Said → List (List ℕ) → Option Asked
+serve_of said (board ∷ word ∷ []) = option_and_then (λ n. option_map (λ a. asked.Serve board a n) (address_of word)) (seats_in said)
+serve_of said _ = None
+
 -- ---- what the commands of a board ask for, by the values that their words give to the names of their options and as positional words
 
 -- the id that a word spells, in one of its text forms
@@ -142,6 +151,14 @@ pub record IsDemo (seed size : ℕ) : Type 0 where
   pub seed_most : seed ≤ 65536
   pub size_least : 1 ≤ size
   pub size_most : size ≤ 900
+
+-- ---- the numbers of conductors
+
+-- 1 to 64 conductors, and a word by which their owners are named
+pub record IsConduct (owner : List ℕ) (hands : ℕ) : Type 0 where
+  pub short : length owner ≤ 61
+  pub least : 1 ≤ hands
+  pub most : hands ≤ 64
 
 -- ---- what each command asks for, by the values that its words give to the names of its options and, as positional words, to the empty name
 
@@ -240,6 +257,18 @@ demo_of said (seed ∷ size ∷ book ∷ []) =
     (hands_in said)) (number_between 1 900 size)) (number_between 0 65536 seed)
 demo_of said _ = None
 
+-- the word by which the owners of conductors are named: a name that leaves room for a hyphen and two digits
+abbrev pub owner_word : List ℕ → Option (List ℕ)
+owner_word word = if is_name word && nat_le (length word) 61 then Some word else None
+
+-- `conduct BOARD OWNER`
+abbrev pub conduct_of : Said → List (List ℕ) → Option Asked
+conduct_of said (board ∷ owner ∷ []) =
+    option_and_then (λ owner.
+    option_map (λ hands. asked.Conduct board owner hands)
+    (hands_in said)) (owner_word owner)
+conduct_of said _ = None
+
 -- what the command asks for
 abbrev pub asked_by : Verb → Said → Option Asked
 asked_by verb.Try said = try_of said (said [])
@@ -251,6 +280,7 @@ asked_by verb.Check said = check_of said (said [])
 asked_by verb.Audit said = audit_of said (said [])
 asked_by verb.Demo said = demo_of said (said [])
 asked_by verb.Worker said = worker_of said (said [])
+asked_by verb.Conduct said = conduct_of said (said [])
 asked_by verb.Post said = post_of said (said [])
 asked_by verb.Claim said = claim_of (said [])
 asked_by verb.Abandon said = abandon_of (said [])
@@ -258,6 +288,7 @@ asked_by verb.Consume said = consume_of (said [])
 asked_by verb.Trash said = trash_of (said [])
 asked_by verb.Owner said = owner_of (said [])
 asked_by verb.List said = list_of (said [])
+asked_by verb.Serve said = serve_of said (said [])
 
 -- ---- which words are a command
 

@@ -2,10 +2,11 @@ ghost use Rattle.std.specs.Prelude.{◌≡◌, ◌≤◌, [], IfOk, IfSome, opti
 ghost use Rattle.std.specs.List.{All};
 ghost use Rattle.tf_values.specs.Text.{is_text};
 ghost use Rattle.tf_words.specs.Held.{held_by, texts_in};
-ghost use Rattle.tf_words.specs.Words.{behind as behind_head, has_comma as comma_in, path_of as path_said, port_of as port_said, address_of as address_said, sessions_in as sessions_said, worker_of as worker_said};
+ghost use Rattle.tf_words.specs.Words.{behind as behind_head, has_comma as comma_in, path_of as path_said, port_of as port_said, address_of as address_said, sessions_in as sessions_said, worker_of as worker_said, seats_in as seats_said, serve_of as serve_said};
 ghost use Rattle.tf_words.specs.Words.{pieces_behind, addresses_in as addresses_said_in, addresses_of as addresses_said};
 
 use crate::asked::Asked;
+use crate::commands::text_of;
 use crate::given::Given;
 use crate::numbers::number_between;
 use crate::spelled::is_count;
@@ -36,6 +37,41 @@ fn sessions_in(given: &Given<'_>) -> Option<u32>
     match given.once("sessions")? {
         None => Some(1),
         Some(value) => number_between(1, 999_999_999, value),
+    }
+}
+
+/// `board serve BOARD ADDRESS`
+pub fn serve_of(alloc: Global, given: &Given<'_>, words: &[&str]) -> Result<Option<Asked>, Memory>
+    requires { All (λ word. is_text word.now ≡ true) words.now }
+    ensures { IfOk result (λ asked. asked ≡ serve_said (held_by given.now.matches) (texts_in words.now)) }
+{
+    let [board, word] = words else {
+        return Ok(None);
+    };
+    let Some(sessions) = seats_in(given) else {
+        return Ok(None);
+    };
+    let Some(address) = address_of(alloc, word.as_bytes())? else {
+        return Ok(None);
+    };
+    let board = text_of(alloc, board)?;
+    Ok(Some(Asked::Serve {
+        board,
+        address,
+        sessions,
+    }))
+}
+
+/// How many sessions of a board are served side by side, or none where that is no number of them.
+fn seats_in(given: &Given<'_>) -> Option<u8>
+    ensures { result ≡ seats_said (held_by given.now.matches) }
+{
+    match given.once("sessions")? {
+        None => Some(1),
+        Some(value) => {
+            let sessions = number_between(1, 64, value)?;
+            Some(sessions as u8)
+        }
     }
 }
 

@@ -72,6 +72,12 @@ pub enum Asked {
         address: Address,
         sessions: u32,
     },
+    /// Let so many hands of this process take the jobs of a board for owners who are named by this word, and run them.
+    Conduct {
+        board: Text,
+        owner: Name,
+        hands: u8,
+    },
     /// Post a job on a board.
     Post {
         board: Text,
@@ -111,6 +117,12 @@ pub enum Asked {
     /// Say which jobs a board has.
     List {
         board: Text,
+    },
+    /// Serve a board to those who come to this address, so many sessions side by side.
+    Serve {
+        board: Text,
+        address: Address,
+        sessions: u8,
     },
 }
 

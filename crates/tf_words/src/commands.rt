@@ -2,9 +2,9 @@ ghost use Rattle.std.specs.Prelude.{◌≡◌, ◌≤◌, ℕ, List, [], IfOk, I
 ghost use Rattle.std.specs.List.{All};
 ghost use Rattle.tf_values.specs.Text.{is_text};
 ghost use Rattle.tf_words.specs.Held.{held_by, texts_in};
-ghost use Rattle.tf_words.specs.Words.{asked_by as asked_in, deferral_in as deferral_said, hands_in as hands_said, want_in as want_said, stop_in as stop_said, target_in as target_said, try_of as try_said, run_of as run_said, resume_of as resume_said, show_of as show_said, reset_of as reset_said, check_of as check_said, audit_of as audit_said, demo_of as demo_said};
+ghost use Rattle.tf_words.specs.Words.{asked_by as asked_in, deferral_in as deferral_said, hands_in as hands_said, want_in as want_said, stop_in as stop_said, target_in as target_said, try_of as try_said, run_of as run_said, resume_of as resume_said, show_of as show_said, reset_of as reset_said, check_of as check_said, audit_of as audit_said, demo_of as demo_said, owner_word as owner_said, conduct_of as conduct_said};
 
-use crate::addresses::worker_of;
+use crate::addresses::{serve_of, worker_of};
 use crate::asked::Asked;
 use crate::boards::{abandon_of, claim_of, consume_of, list_of, owner_of, post_of, trash_of};
 use crate::given::Given;
@@ -14,6 +14,10 @@ use crate::verbs::Verb;
 use crate::wants::{hands_in, want_in};
 use std::alloc::Global;
 use tf_values::{Memory, Name, Text};
+
+/// The most bytes of a word by which the owners of conductors are named: each is the word, a hyphen and a number of at most
+/// two digits, and a name has at most 64 bytes.
+pub const OWNER_LIMIT: usize = 61;
 
 /// What the command asks for, or none where the values are not those of the command.
 pub fn asked_by(alloc: Global, verb: Verb, given: &Given<'_>) -> Result<Option<Asked>, Memory>
@@ -32,6 +36,7 @@ pub fn asked_by(alloc: Global, verb: Verb, given: &Given<'_>) -> Result<Option<A
         Verb::Audit => audit_of(alloc, given, words),
         Verb::Demo => demo_of(alloc, given, words),
         Verb::Worker => worker_of(alloc, given, words),
+        Verb::Conduct => conduct_of(alloc, given, words),
         Verb::Post => post_of(alloc, given, words),
         Verb::Claim => claim_of(alloc, words),
         Verb::Abandon => abandon_of(alloc, words),
@@ -39,6 +44,7 @@ pub fn asked_by(alloc: Global, verb: Verb, given: &Given<'_>) -> Result<Option<A
         Verb::Trash => trash_of(alloc, words),
         Verb::Owner => owner_of(alloc, words),
         Verb::List => list_of(alloc, words),
+        Verb::Serve => serve_of(alloc, given, words),
     }
 }
 
@@ -221,6 +227,38 @@ fn demo_of(alloc: Global, given: &Given<'_>, words: &[&str]) -> Result<Option<As
         book,
         hands,
     }))
+}
+
+/// `conduct BOARD OWNER`
+fn conduct_of(alloc: Global, given: &Given<'_>, words: &[&str]) -> Result<Option<Asked>, Memory>
+    requires { All (λ word. is_text word.now ≡ true) words.now }
+    ensures { IfOk result (λ asked. asked ≡ conduct_said (held_by given.now.matches) (texts_in words.now)) }
+{
+    let [board, owner] = words else {
+        return Ok(None);
+    };
+    let Some(owner) = owner_word(owner) else {
+        return Ok(None);
+    };
+    let Some(hands) = hands_in(given) else {
+        return Ok(None);
+    };
+    let board = text_of(alloc, board)?;
+    Ok(Some(Asked::Conduct {
+        board,
+        owner,
+        hands,
+    }))
+}
+
+/// The word by which the owners of conductors are named, or none where it is no name, or leaves no room for a number.
+fn owner_word(word: &str) -> Option<Name>
+    ensures { result ≡ owner_said word.now }
+{
+    if word.len() > OWNER_LIMIT {
+        return None;
+    }
+    Name::make(word.as_bytes())
 }
 
 /// Whether reverts are deferred, or none where that stands twice.

@@ -18,5 +18,6 @@ mod word;
 
 pub use asked::{Asked, read_words};
 pub use boards::{id_of, priority_named};
-pub use laws::demo_numbers_are_within;
+pub use commands::OWNER_LIMIT;
+pub use laws::{conductors_are_within, demo_numbers_are_within};
 pub use word::Word;

@@ -15,6 +15,7 @@ pub enum Verb {
     Audit,
     Demo,
     Worker,
+    Conduct,
     Post,
     Claim,
     Abandon,
@@ -22,6 +23,7 @@ pub enum Verb {
     Trash,
     Owner,
     List,
+    Serve,
 }
 
 /// An option that a command knows, by its name without the hyphens.
@@ -93,6 +95,8 @@ static DEMO: [Key; 1] = [HANDS];
 
 static WORKER: [Key; 1] = [SESSIONS];
 
+static CONDUCT: [Key; 1] = [HANDS];
+
 static POST: [Key; 2] = [PRIORITY, DETAILS];
 
 static NONE: [Key; 0] = [];
@@ -109,7 +113,8 @@ pub fn keys_of(verb: Verb) -> &'static [Key]
         Verb::Check => &CHECK,
         Verb::Audit => &AUDIT,
         Verb::Demo => &DEMO,
-        Verb::Worker => &WORKER,
+        Verb::Worker | Verb::Serve => &WORKER,
+        Verb::Conduct => &CONDUCT,
         Verb::Post => &POST,
         Verb::Show | Verb::Reset => &NONE,
         Verb::Claim | Verb::Abandon | Verb::Consume | Verb::Trash => &NONE,
@@ -167,6 +172,9 @@ fn board_verb_named(word: &[u8]) -> Option<Verb>
     if word == b"list".as_slice() {
         return Some(Verb::List);
     }
+    if word == b"serve".as_slice() {
+        return Some(Verb::Serve);
+    }
     None
 }
 
@@ -200,6 +208,9 @@ fn verb_named(word: &[u8]) -> Option<Verb>
     }
     if word == b"worker".as_slice() {
         return Some(Verb::Worker);
+    }
+    if word == b"conduct".as_slice() {
+        return Some(Verb::Conduct);
     }
     None
 }
