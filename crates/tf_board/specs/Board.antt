@@ -122,6 +122,15 @@ place_of jobs id = position (has_id id) jobs
 abbrev pub named : List Job → List ℕ → Option Job
 named jobs id = find (has_id id) jobs
 
+-- this is the job of that number, if there is one
+abbrev pub is_numbered : Option Job → ℕ → Bool
+is_numbered None number = false
+is_numbered (Some job) number = job.number == number
+
+-- the id of a job names it, and none of less number
+abbrev pub names_itself : List Job → Job → Bool
+names_itself jobs job = is_numbered (named jobs job.id) job.number
+
 -- ---- what is refused
 
 -- what an owner may not do with a job that stands so

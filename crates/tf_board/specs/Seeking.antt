@@ -2,7 +2,7 @@
 use Rattle.std.specs.Prelude.{◌≢◌, ℕ, suc, List, Bool, false, ◌&&◌, ◌==◌, not, if◌then◌else◌, Option, Some, None, option_map}
 use Rattle.std.specs.List.{find, filter, flat_map, list_any}
 use Rattle.tf_values.specs.declared.value.Val.{Val}
-use Rattle.tf_board.specs.Board.{details_in, jobs_of, numbered, named, place_of, is_free, is_there, is_listed, priorities}
+use Rattle.tf_board.specs.Board.{details_in, jobs_of, numbered, named, names_itself, place_of, is_free, is_there, is_listed, priorities}
 use Rattle.tf_board.specs.declared.commands.Command.{Command}
 use Rattle.tf_board.specs.declared.commands.Command.TheVariants as command
 use Rattle.tf_board.specs.declared.jobs.Job.{Job}
@@ -10,15 +10,6 @@ use Rattle.tf_board.specs.declared.jobs.Job.{Job}
 -- the number of a job
 abbrev pub number_in : Job → ℕ
 number_in job = job.number
-
--- this is the job of that number, if there is one
-abbrev pub is_numbered : Option Job → ℕ → Bool
-is_numbered None number = false
-is_numbered (Some job) number = job.number == number
-
--- the id of a job names it, and none of less number
-abbrev pub names_itself : List Job → Job → Bool
-names_itself jobs job = is_numbered (named jobs job.id) job.number
 
 -- nobody has the job, its id names it, and its number isn't among those to skip
 abbrev pub is_takable : List Job → List ℕ → Job → Bool

@@ -15,9 +15,7 @@ use Rattle.tf_board.specs.declared.faults.BoardFault.{BoardFault}
 use Rattle.tf_board.specs.declared.faults.BoardFault.TheVariants as fault
 use Rattle.tf_board.specs.declared.rules.Refusal.{Refusal}
 use Rattle.tf_board.specs.declared.rules.Refusal.TheVariants as refusal
-use Rattle.tf_shared_board.specs.Asking.{FailsToAsk, IsRule, IsRuled, fault_for}
-use Rattle.tf_shared_board.specs.Calls.{asked_for, refuses_call, id_named, job_of}
-use Rattle.tf_shared_board.specs.Shared.{SharedValue, HasCause, IsMade, Halts, halt_or_memory}
+use Rattle.tf_shared_board.specs.Shared.{FailsToAsk, IsRule, IsRuled, fault_for, asked_for, refuses_call, id_named, job_of, SharedValue, HasCause, IsMade, Halts, halt_or_memory}
 use Rattle.tf_shared_board.specs.declared.calls.BoardHalt.{BoardHalt}
 use Rattle.tf_shared_board.specs.declared.calls.BoardHalt.TheVariants as halt
 use Rattle.tf_shared_board.specs.declared.calls.JobCall.{JobCall}

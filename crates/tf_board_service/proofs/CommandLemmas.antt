@@ -16,19 +16,19 @@ use Rattle.tf_report.specs.Closing.{ClosesWith, ClosesWithOrStops, disk_fault_te
 use Rattle.tf_report.specs.declared.statuses.TheConstants.{SUCCEEDED, DISK_FAILED, NO_BOOK, UNHIRED, UNSAID, OUT_OF_MEMORY, FULL}
 use Rattle.tf_report.proofs.ClosingLemmas.{closes_from, ends_status}
 use Rattle.tf_board.specs.Board.{AreOfBoard, BoardValue, IsOpened, IsUnopened, LeavesBoard, LeavesHeld, board_in, size_of}
-use Rattle.tf_board.specs.Does.{Concludes, Ends, EndsUnmade, HasCauses, HasJobs, HoldsEither, IsBoard, IsBoardComplete, IsBoardFull, Reached}
+use Rattle.tf_board.specs.Does.{Concludes, Ends, EndsUnmade, HasCauses, HasJobs, HoldsEither, IsBoard, IsBoardComplete, Reached}
 use Rattle.tf_board.specs.declared.commands.Command.{Command}
 use Rattle.tf_board.proofs.ActLemmas.{reached_back}
 use Rattle.tf_board.proofs.DeskLaws.{KeepsLaws}
 use Rattle.tf_board.proofs.EndLemmas.{causes_so, concludes_none, concludes_said, opened_reached, reached_ends, reached_stops, unopened_ends, unopened_stops}
 use Rattle.tf_ports.specs.Ports.{DoorTold, SeenLink, opened_at}
 use Rattle.tf_ports.specs.declared.crews.Address.{Address}
-use Rattle.tf_shared_board.specs.Calls.{AreAbout, followed_by}
-use Rattle.tf_shared_board.specs.Shared.{HasCause, IsShared, IsUnrecorded, LeavesSome, SharedValue}
+use Rattle.tf_shared_board.specs.Shared.{AreAbout, followed_by, HasCause, IsShared, IsUnrecorded, LeavesSome, SharedValue, HaltsFor, halt_status}
 use Rattle.tf_shared_board.specs.declared.calls.BoardHalt.{BoardHalt}
 use Rattle.tf_shared_board.specs.declared.calls.BoardHalt.TheVariants as halt
 use Rattle.tf_shared_board.specs.declared.calls.Made.{Made}
-use Rattle.tf_board_service.specs.Sessions.{AreServedOver, GivesBack, HaltsFor, HaltsWith, gave_links, took_links, service_text, HasServiceCauses, IsServiceStatus, is_served, is_failed, is_no_board, is_unsaid, is_unlistened, is_out, is_full, KeepsCalls, LeavesCalls, SaysOrStops, ServesBoard, unopened_memory, unopened_disk, no_board, exhausted, opened_in_vain, unlistened, served, halt_status, was_said, was_stopped, IsServed}
+use Rattle.tf_shared_board.proofs.HaltLemmas.{cause_told}
+use Rattle.tf_board_service.specs.Sessions.{AreServedOver, GivesBack, HaltsWith, gave_links, took_links, service_text, HasServiceCauses, IsServiceStatus, is_served, is_failed, is_no_board, is_unsaid, is_unlistened, is_out, is_full, KeepsCalls, LeavesCalls, SaysOrStops, ServesBoard, unopened_memory, unopened_disk, no_board, exhausted, opened_in_vain, unlistened, served, was_said, was_stopped, IsServed}
 use Rattle.tf_values.specs.declared.faults.Memory.{Memory}
 use Rattle.tf_board_service.specs.Serving.{IsServing, made_since}
 use Rattle.tf_board_service.specs.declared.sessions.Session.{Session}
@@ -163,29 +163,15 @@ module _ {K : Type 0} (state : K → DeskState) (name : List ℕ) (entry : DeskS
   -- why it was halted
   pub halts_for : (desk now : K) (message : List ℕ) (wanted status : ℕ) → desk ≡ new.journal.desk → SaysOrStops state message wanted desk now status
       → IfSome halted (HaltsFor (followed_by board.past made) entry (state now))
-  halts_for desk now message wanted status back said = by halted shared.cause
+  halts_for desk now message wanted status back said =
+      cause_told state board new (followed_by board.past made) entry (state now) (shared.sized o.fresh.sized ∙ ap size_of shared.begins) (rose said) halted shared.cause
     where
-      rose : Rises (state board.journal.desk).disk_faults (state new.journal.desk).disk_faults → SaysOrStops state message wanted desk now status → Rises entry.disk_faults (state now).disk_faults
-      rose rises (was_stopped is same) =
+      rose : SaysOrStops state message wanted desk now status → Rises (state board.journal.desk).disk_faults (state new.journal.desk).disk_faults → Rises entry.disk_faults (state now).disk_faults
+      rose (was_stopped is same) rises =
           subst (λ (k : K). Rises entry.disk_faults (state k).disk_faults) (sym (same ∙ back)) (rises_later entry.disk_faults (state board.journal.desk).disk_faults (state new.journal.desk).disk_faults o.on_disk.disk_faults rises)
-      rose rises (was_said text closes) =
+      rose (was_said text closes) rises =
           subst (λ (n : ℕ). Rises entry.disk_faults n) (sym (text.disk_faults ∙ ap (λ (k : K). (state k).disk_faults) back))
           (rises_later entry.disk_faults (state board.journal.desk).disk_faults (state new.journal.desk).disk_faults o.on_disk.disk_faults rises)
-
-      by : (h : Option BoardHalt) → IfSome h (HasCause state board new) → IfSome h (HaltsFor (followed_by board.past made) entry (state now))
-      by None cause = tt
-      by (Some halt.Disk) cause = rose cause said
-      by (Some (halt.Full size need)) cause = (
-        cause.command,
-        record {
-          new = cause.command;
-          is_added = refl;
-          size_is = cause.size_is ∙ shared.sized o.fresh.sized ∙ ap size_of shared.begins;
-          need_is = cause.need_is;
-          over = cause.over;
-        },
-      )
-      by (Some halt.Memory) cause = tt
 
   -- which faults its status tells
   pub served_causes : (desk now : K) (status : ℕ) → desk ≡ new.journal.desk → Concludes (state desk) (state now) status → (status ≡ DISK_FAILED → halted ≡ Some halt.Disk) → HasCauses entry (state now) status

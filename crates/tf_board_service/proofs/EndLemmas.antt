@@ -6,8 +6,7 @@ use Rattle.std.proofs.lemmas.List.{get_or-map, length-map}
 use Rattle.tf_desk.specs.State.{DeskState}
 use Rattle.tf_board.specs.Board.{AreOfBoard}
 use Rattle.tf_board.specs.declared.commands.Command.{Command}
-use Rattle.tf_shared_board.specs.Calls.{carried, numbered}
-use Rattle.tf_shared_board.specs.Shared.{SharedValue}
+use Rattle.tf_shared_board.specs.Shared.{carried, numbered, SharedValue}
 use Rattle.tf_shared_board.specs.declared.calls.Made.{Made}
 use Rattle.tf_turnstile.specs.Numbered.{AreNumberedBelow, IsLater}
 use Rattle.tf_turnstile.specs.Passes.{TurnstileValue, PassValue, IsIdle, AreAll, AreNew, HasGrown}

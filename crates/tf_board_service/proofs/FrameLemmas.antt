@@ -9,9 +9,8 @@ use Rattle.tf_ports.specs.Ports.{sent_with, left_before, SendsPrefix}
 use Rattle.tf_wire.specs.Stream.{KeptFrames, counted, KeepsStream, IsUnrefused as FeedsOn, IsFrame, framed, joined, SplitsInto, BeginsWithFrame, BeginsWithBadLength}
 use Rattle.tf_wire.proofs.KeepingLemmas.{framed_length}
 use Rattle.tf_wire.proofs.StreamLemmas.{bad_stays}
-use Rattle.tf_board_service.specs.Sessions.{Exchange, AreRead}
+use Rattle.tf_board_service.specs.Sessions.{Exchange, AreRead, board_request_in}
 use Rattle.tf_board_service.specs.Receiving.{Feeds, IsKnown}
-use Rattle.tf_board_service.specs.Requests.{board_request_in}
 
 -- ---- lists
 

@@ -2,7 +2,7 @@
 use Rattle.std.proofs.Common.{◌≡◌, ℕ, List, Option, Some, None, refl, sym, ap, ◌∙◌}
 use Rattle.tf_board.specs.declared.commands.Command.{Command}
 use Rattle.tf_board.specs.declared.rules.Refusal.{Refusal}
-use Rattle.tf_shared_board.specs.Calls.{refuses_call, job_of}
+use Rattle.tf_shared_board.specs.Shared.{refuses_call, job_of}
 use Rattle.tf_shared_board.specs.declared.calls.Made.{Made}
 use Rattle.tf_board_service.specs.Sessions.{call_made, unless_refused}
 use Rattle.tf_board_service.specs.declared.requests.BoardRequest.{BoardRequest}

@@ -8,8 +8,7 @@ use Rattle.tf_board.specs.declared.commands.Command.{Command}
 use Rattle.tf_turnstile.specs.Numbered.{IsLater, IsLonger, NoneBy}
 use Rattle.tf_turnstile.specs.Passes.{TurnstileValue, PassValue, MayGive}
 use Rattle.tf_turnstile.proofs.NumberedLemmas.{longer_same}
-use Rattle.tf_shared_board.specs.Calls.{carried, numbered, followed_by}
-use Rattle.tf_shared_board.specs.Shared.{SharedValue, IsMade, IsShared}
+use Rattle.tf_shared_board.specs.Shared.{carried, numbered, followed_by, SharedValue, IsMade, IsShared}
 use Rattle.tf_shared_board.specs.declared.calls.Made.{Made}
 use Rattle.tf_board_service.specs.Sessions.{Answers, Makes, MakesNoCall, call_made, as_list, reply_of}
 use Rattle.tf_board_service.specs.Serving.{IsServing, ServingValue, made_since}

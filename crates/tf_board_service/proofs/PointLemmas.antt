@@ -6,7 +6,7 @@ use Rattle.std.proofs.lemmas.Bool.{eqb-true}
 use Rattle.std.proofs.lemmas.List.Elements.{filter-append}
 use Rattle.std.proofs.lemmas.Grind.{flat_map-append}
 use Rattle.tf_board.specs.declared.commands.Command.{Command}
-use Rattle.tf_shared_board.specs.Calls.{followed_by, made_command}
+use Rattle.tf_shared_board.specs.Shared.{followed_by, made_command}
 use Rattle.tf_shared_board.specs.declared.calls.Made.{Made}
 use Rattle.tf_board_service.specs.Sessions.{call_made, Exchange, IsAtPoint, MadeBy, NeverFall, after_point, as_list, call_of, calls_by, calls_of, first_of, told, told_all, reply_frame, reply_of}
 

@@ -11,7 +11,7 @@ use Rattle.tf_board.specs.declared.board.Owner.{Owner}
 use Rattle.tf_board.specs.declared.board.Owner.TheVariants as owned
 use Rattle.tf_board.specs.declared.commands.Command.{Command}
 use Rattle.tf_board.specs.declared.rules.Refusal.{Refusal}
-use Rattle.tf_shared_board.specs.Calls.{refuses_call}
+use Rattle.tf_shared_board.specs.Shared.{refuses_call}
 use Rattle.tf_shared_board.specs.declared.calls.JobCall.{JobCall}
 use Rattle.tf_wire.proofs.BoundLemmas.{words_length}
 use Rattle.tf_board.specs.Board.{owner_of}

@@ -7,11 +7,10 @@ use Rattle.tf_ports.specs.Ports.{SeenLink, SendsPrefix, left_before, sent_with}
 use Rattle.tf_wire.specs.Stream.{KeptFrames, counted, KeepsStream, framed, joined, SplitsInto}
 use Rattle.tf_wire.proofs.StreamLemmas.{bad_stays, cut_on, short_is_no_frame, short_is_no_bad_length}
 use Rattle.tf_board.specs.declared.commands.Command.{Command}
-use Rattle.tf_shared_board.specs.Calls.{followed_by}
+use Rattle.tf_shared_board.specs.Shared.{followed_by}
 use Rattle.tf_shared_board.specs.declared.calls.Made.{Made}
-use Rattle.tf_board_service.specs.Sessions.{call_made, Exchange, MadeBy, NeverFall, as_list, calls_by, first_of, points_of, told, told_all, reply_frame, AreRead, IsFullyAnswered, IsNextCall, Serves}
+use Rattle.tf_board_service.specs.Sessions.{call_made, Exchange, MadeBy, NeverFall, as_list, calls_by, first_of, points_of, told, told_all, reply_frame, AreRead, IsFullyAnswered, IsNextCall, Serves, board_request_in}
 use Rattle.tf_board_service.specs.Receiving.{HasNothingMore, IsAtEnd, IsKnown, RunsOut, TakesIn}
-use Rattle.tf_board_service.specs.Requests.{board_request_in}
 use Rattle.tf_board_service.specs.Turns.{AnswersFrame, HasAnsweredAll, HasNoReply, HasTaken, HasWaited, IsOver, LosesReply, SaysNothing, SoFar, StopsFrame}
 use Rattle.tf_board_service.specs.declared.incoming.Incoming.{Incoming}
 use Rattle.tf_board_service.specs.declared.replies.BoardReply.{BoardReply}

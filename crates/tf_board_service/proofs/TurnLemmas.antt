@@ -6,8 +6,7 @@ use Rattle.tf_desk.specs.State.{DeskState, anything, GoesOn}
 use Rattle.tf_desk.proofs.StateLemmas.{goes_none, goes_on}
 use Rattle.tf_board.specs.Board.{BoardValue}
 use Rattle.tf_board.specs.declared.commands.Command.{Command}
-use Rattle.tf_shared_board.specs.Calls.{followed_by, made_command}
-use Rattle.tf_shared_board.specs.Shared.{SharedValue, HasCause, IsMade, halt_or_memory}
+use Rattle.tf_shared_board.specs.Shared.{followed_by, made_command, SharedValue, HasCause, IsMade, halt_or_memory}
 use Rattle.tf_shared_board.specs.declared.calls.BoardHalt.{BoardHalt}
 use Rattle.tf_shared_board.specs.declared.calls.BoardHalt.TheVariants as halt
 use Rattle.tf_shared_board.specs.declared.calls.Made.{Made}

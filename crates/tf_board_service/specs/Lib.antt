@@ -1,4 +1,3 @@
-pub mod Requests
 pub mod Sessions
 pub mod Printing
 pub mod Serving

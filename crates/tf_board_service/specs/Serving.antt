@@ -1,8 +1,7 @@
 -- A shared board that sessions hand round, and what its type keeps. Lists of commands have the newest first, lists of calls the oldest.
 use Rattle.std.specs.Prelude.{◌≡◌, ℕ, List, [], ◌++◌, length, drop, Option, Some, None, IfSome, IsSome}
 use Rattle.tf_desk.specs.State.{DeskState, anything, GoesOn}
-use Rattle.tf_shared_board.specs.Calls.{followed_by}
-use Rattle.tf_shared_board.specs.Shared.{SharedValue, HasCause}
+use Rattle.tf_shared_board.specs.Shared.{followed_by, SharedValue, HasCause}
 use Rattle.tf_shared_board.specs.declared.calls.BoardHalt.{BoardHalt}
 use Rattle.tf_shared_board.specs.declared.calls.Made.{Made}
 use Rattle.tf_board_service.specs.Sessions.{Answers, MakesNoCall}

@@ -1,38 +1,41 @@
--- What a board service answers, what each session promises, and how the command goes that serves a board. Lists of commands have the newest first, lists
--- of calls the oldest.
-use Rattle.std.specs.Prelude.{ℕ, ◌-◌, ◌≤◌, List, [], ◌∷◌, length, take, drop, map, codes, Option, Some, None, ◌≡◌, ◌⊎◌, IfSome, IsSome, Result, Ok, Err, IfOk, OnErr, ◌+◌, nat_eq, ◌++◌, slice_get, ◌≢◌, Bool, true, false, ◌<◌, IsTrue, OnOk}
+-- What clients ask of a board service and what it answers, what each session promises, and how the command goes that serves a board. Lists of commands
+-- have the newest first, lists of calls the oldest.
+use Rattle.std.specs.Prelude.{ℕ, ◌-◌, ◌≤◌, List, [], ◌∷◌, length, take, drop, map, codes, Option, Some, None, ◌≡◌, ◌⊎◌, IfSome, IsSome, Result, Ok, Err, IfOk, OnErr, ◌+◌, nat_eq, ◌++◌, slice_get, ◌≢◌, Bool, true, false, ◌<◌, IsTrue, OnOk, option_map, option_and_then, if◌then◌else◌}
 use Rattle.std.specs.List.{AllByRecursion, filter, flat_map, All}
 use Rattle.serde_json.specs.Data.{Data, string, array, object, member, no_members}
 use Rattle.serde_json.specs.View.{items_of}
 use Rattle.tf_report.specs.Lines.{job_line}
 use Rattle.tf_report.specs.declared.job_lines.JobLine.{JobLine}
 use Rattle.tf_board.specs.Board.{owner_of, listed, id_of, AreOfBoard, IsNoBoard, LeavesBoard, board_in}
-use Rattle.tf_board.specs.Does.{refusal_text, posted_text, applied_text, kept_text, Ends, EndsUnmade, HasCauses, HasJobs, HoldsEither, IsBoardFull}
+use Rattle.tf_board.specs.Does.{refusal_text, posted_text, applied_text, kept_text, Ends, EndsUnmade, HasCauses, HasJobs, HoldsEither}
 use Rattle.tf_board.specs.declared.board.Owner.{Owner}
 use Rattle.tf_board.specs.declared.commands.Command.{Command}
 use Rattle.tf_board.specs.declared.rules.Refusal.{Refusal}
-use Rattle.tf_wire.specs.Grammar.{frame_of}
-use Rattle.tf_shared_board.specs.Calls.{refuses_call, id_named, job_of, AreAbout, followed_by}
+use Rattle.tf_wire.specs.Grammar.{frame_of, chain, at, size_of, name_of, value_of, message_of}
+use Rattle.tf_shared_board.specs.Shared.{refuses_call, id_named, job_of, AreAbout, followed_by, SharedValue, HasCause, IsMade, halt_or_memory, IsUnrecorded, LeavesSome, HaltsFor, halt_status, halt_text}
 use Rattle.tf_shared_board.specs.declared.calls.JobCall.{JobCall}
 use Rattle.tf_board_service.specs.declared.replies.BoardReply.{BoardReply}
 use Rattle.tf_board_service.specs.declared.requests.BoardRequest.{BoardRequest}
 use Rattle.tf_desk.specs.State.{DeskState, anything, GoesOn, Says}
-use Rattle.tf_shared_board.specs.Shared.{SharedValue, HasCause, IsMade, halt_or_memory, IsUnrecorded, LeavesSome}
 use Rattle.tf_shared_board.specs.declared.calls.BoardHalt.{BoardHalt}
 use Rattle.tf_shared_board.specs.declared.calls.Made.{Made}
 use Rattle.tf_values.specs.declared.faults.Memory.{Memory}
 use Rattle.tf_numbers.specs.Numbers.{Rises}
 use Rattle.tf_ports.specs.Ports.{IsNothingLeft, SeenLink, SendsPrefix, left_before, sent_with, DoorTold, opened_at, told_with_all}
 use Rattle.tf_wire.specs.Stream.{counted, IsFrame, framed, joined, SplitsInto, BeginsWithFrame, BeginsWithBadLength}
-use Rattle.tf_board_service.specs.Requests.{board_request_in}
 use Rattle.tf_board_service.specs.declared.sessions.Session.{Session}
 use Rattle.tf_board_service.specs.declared.sessions.SessionEnd.{SessionEnd}
 use Rattle.std.specs.Fmt.{decimal}
 use Rattle.tf_desk.specs.Crash.{Pairs, ShowsPrefix}
 use Rattle.tf_journal.specs.Start.{IsStart, file_of}
 use Rattle.tf_ports.specs.declared.crews.Address.{Address}
-use Rattle.tf_report.specs.Closing.{ClosesWith, ClosesWithOrStops, book_full, disk_fault_text, not_a_book}
+use Rattle.tf_report.specs.Closing.{ClosesWith, ClosesWithOrStops, disk_fault_text, not_a_book, cannot_listen}
 use Rattle.tf_report.specs.declared.statuses.TheConstants.{SUCCEEDED, DISK_FAILED, NO_BOOK, UNHIRED, UNSAID, OUT_OF_MEMORY, FULL}
+use Rattle.serde_json.specs.Find.{as_str}
+use Rattle.tf_states.specs.declared.priorities.Priority.{Priority}
+use Rattle.tf_flow.specs.Tree.{same_name}
+use Rattle.tf_words.specs.Words.{id_in, priority_named}
+use Rattle.tf_board.specs.declared.commands.JobAction.{JobAction}
 use Rattle.tf_board.specs.declared.board.Owner.TheVariants as owned
 use Rattle.tf_board.specs.declared.commands.JobAction.TheVariants as action
 use Rattle.tf_board.specs.declared.rules.Refusal.TheVariants as refusal
@@ -40,7 +43,63 @@ use Rattle.tf_shared_board.specs.declared.calls.JobCall.TheVariants as call
 use Rattle.tf_board_service.specs.declared.replies.BoardReply.TheVariants as reply
 use Rattle.tf_board_service.specs.declared.requests.BoardRequest.TheVariants as request
 use Rattle.tf_board_service.specs.declared.sessions.SessionEnd.TheVariants as end
-use Rattle.tf_shared_board.specs.declared.calls.BoardHalt.TheVariants as halt
+
+-- ---- what a client asks, as JSON: an object with the keys of its call and no others
+
+-- an id, in one of its text forms
+abbrev pub id_spelled : Data → Option (List ℕ)
+id_spelled found = option_and_then id_in (as_str found)
+
+-- how urgent a job is, by its name
+abbrev pub priority_of : Data → Option Priority
+priority_of found = option_and_then priority_named (as_str found)
+
+-- the members of a post
+abbrev pub post_of : Data → Option BoardRequest
+post_of found =
+    chain (at (codes "details") value_of found) (λ details.
+    chain (at (codes "name") name_of found) (λ name.
+    chain (at (codes "priority") priority_of found) (λ priority.
+    Some (request.Call (call.Post name priority details)))))
+
+-- the call by which an owner does this with the job of an id
+abbrev pub call_by : JobAction → List ℕ → List ℕ → JobCall
+call_by action.Claim id owner = call.Claim id owner
+call_by action.Abandon id owner = call.Abandon id owner
+call_by action.Consume id owner = call.Consume id owner
+call_by action.Trash id owner = call.Trash id owner
+
+-- what an owner does with a job
+abbrev pub asks : JobAction → Data → Option BoardRequest
+asks action found =
+    chain (at (codes "id") id_spelled found) (λ id.
+    option_map (λ owner. request.Call (call_by action id owner)) (at (codes "owner") name_of found))
+
+-- the member of a question for an owner
+abbrev pub owner_spelled : Data → Option BoardRequest
+owner_spelled found = option_map request.Owner (at (codes "id") id_spelled found)
+
+-- the members beside the word that names the call, and no others
+abbrev pub call_named : Data → List ℕ → Option BoardRequest
+call_named found word =
+    if same_name word (codes "post") then (if nat_eq (size_of found) 4 then post_of found else None)
+    else if same_name word (codes "claim") then (if nat_eq (size_of found) 3 then asks action.Claim found else None)
+    else if same_name word (codes "abandon") then (if nat_eq (size_of found) 3 then asks action.Abandon found else None)
+    else if same_name word (codes "consume") then (if nat_eq (size_of found) 3 then asks action.Consume found else None)
+    else if same_name word (codes "trash") then (if nat_eq (size_of found) 3 then asks action.Trash found else None)
+    else if same_name word (codes "owner") then (if nat_eq (size_of found) 2 then owner_spelled found else None)
+    else if same_name word (codes "list") then (if nat_eq (size_of found) 1 then Some request.List else None)
+    else None
+
+-- the request that JSON spells
+abbrev pub request_of : Data → Option BoardRequest
+request_of found = chain (at (codes "call") as_str found) (call_named found)
+
+-- the request that bytes spell
+abbrev pub board_request_in : List ℕ → Option BoardRequest
+board_request_in bytes = chain (message_of bytes) request_of
+
+-- ---- lines and messages
 
 -- a line without its line feed
 abbrev pub without_feed : List ℕ → List ℕ
@@ -333,27 +392,9 @@ abbrev pub session_lines : ℕ → List Session → List ℕ
 session_lines number [] = []
 session_lines number (s ∷ others) = session_line number s.end ++ session_lines (number + 1) others
 
--- why the board doesn't go on; nothing for want of memory
-abbrev pub halt_text : Option BoardHalt → List ℕ
-halt_text None = []
-halt_text (Some halt.Disk) = disk_fault_text
-halt_text (Some (halt.Full size need)) = book_full size need
-halt_text (Some halt.Memory) = []
-
--- the status that tells it
-abbrev pub halt_status : Option BoardHalt → ℕ
-halt_status None = SUCCEEDED
-halt_status (Some halt.Disk) = DISK_FAILED
-halt_status (Some (halt.Full size need)) = FULL
-halt_status (Some halt.Memory) = OUT_OF_MEMORY
-
 -- what is said where sessions are over: a line for each, in order, and why the board doesn't go on, if it doesn't
 abbrev pub service_text : List Session → Option BoardHalt → List ℕ
 service_text sessions halted = session_lines 1 sessions ++ halt_text halted
-
--- the message where nobody can be listened to
-abbrev pub cannot_listen : List ℕ
-cannot_listen = codes "taskflow: cannot listen\n"
 
 -- ---- the door
 
@@ -402,13 +443,6 @@ pub record AreServedOver (past : List Command) (made : List Made) (given returne
   pub as_many : length sessions ≡ length given
   pub each : (i : ℕ) (first last : SeenLink) (s : Session) → slice_get given i ≡ Some first → slice_get returned i ≡ Some last → slice_get sessions i ≡ Some s
       → IsServed i (length past) (followed_by past made) made first last s
-
--- why the board was halted: the disk failed, and the count of its faults rose; the record of a command would make it longer than its limit, as the
--- two numbers show; or memory ran out
-abbrev pub HaltsFor : List Command → DeskState → DeskState → BoardHalt → Type 0
-HaltsFor past entry now halt.Disk = Rises entry.disk_faults now.disk_faults
-HaltsFor past entry now (halt.Full size need) = (last : Command) × IsBoardFull past (last ∷ []) size need
-HaltsFor past entry now halt.Memory = Unit {0}
 
 -- ---- what the file has, and what a crash leaves
 

@@ -5,11 +5,10 @@ use Rattle.tf_numbers.specs.Numbers.{Rises}
 use Rattle.tf_ports.specs.Ports.{SeenLink, SendsPrefix, left_before, sent_with}
 use Rattle.tf_wire.specs.Stream.{KeptFrames, KeepsStream, counted, joined}
 use Rattle.tf_board.specs.declared.commands.Command.{Command}
-use Rattle.tf_shared_board.specs.Calls.{followed_by}
+use Rattle.tf_shared_board.specs.Shared.{followed_by}
 use Rattle.tf_shared_board.specs.declared.calls.Made.{Made}
-use Rattle.tf_board_service.specs.Sessions.{call_made, Exchange, MadeBy, NeverFall, as_list, points_of, told_all, reply_frame, reply_of, AreRead, IsServed}
+use Rattle.tf_board_service.specs.Sessions.{call_made, Exchange, MadeBy, NeverFall, as_list, points_of, told_all, reply_frame, reply_of, AreRead, IsServed, board_request_in}
 use Rattle.tf_board_service.specs.Receiving.{IsKnown}
-use Rattle.tf_board_service.specs.Requests.{board_request_in}
 use Rattle.tf_board_service.specs.declared.replies.BoardReply.{BoardReply}
 use Rattle.tf_board_service.specs.declared.requests.BoardRequest.{BoardRequest}
 use Rattle.tf_board_service.specs.declared.sessions.SessionEnd.{SessionEnd}

@@ -2,7 +2,7 @@
 ghost use Rattle.std.specs.Prelude.{◌≡◌, ◌≢◌, ◌<◌, ◌≤◌, ◌+◌, ◌++◌, ◌∷◌, List, [], IfOk, IfErr, length, map, take};
 ghost use Rattle.tf_board.specs.Does.{fault_text};
 ghost use Rattle.tf_board.specs.Board.{owner_of, listed};
-ghost use Rattle.tf_shared_board.specs.Asking.{IsRule};
+ghost use Rattle.tf_shared_board.specs.Shared.{IsRule};
 ghost use Rattle.tf_shared_board.specs.declared.calls.Made.{Made};
 ghost use Rattle.tf_board_service.specs.Sessions.{Answers, CallsSo, OrHalts, made_line, says, owner_reply, first_lines, list_line, without_name};
 

@@ -9,7 +9,7 @@ ghost use Rattle.tf_ports.specs.Ports.{DoorTold, opened_at, seen_link};
 ghost use Rattle.tf_ports.specs.declared.crews.Address.{Address as AnAddress};
 ghost use Rattle.tf_report.specs.Closing.{ClosesWith};
 
-use crate::saying::{closing, halt_status};
+use crate::saying::closing;
 use crate::service::{ServedBoard, serve_board};
 use std::alloc::Global;
 use std::sync::Wait;
@@ -18,12 +18,11 @@ use tf_board::{Board, not_a_book_text, open};
 use tf_desk::Desk;
 use tf_journal::LoadFault;
 use tf_ports::{Address, Door, PortFault};
-use tf_report::{DISK_FAILED, DISK_FAULT, NO_BOOK, OUT_OF_MEMORY, UNHIRED, UNSAID, close};
-use tf_shared_board::SharedBoard;
+use tf_report::{
+    CANNOT_LISTEN, DISK_FAILED, DISK_FAULT, NO_BOOK, OUT_OF_MEMORY, UNHIRED, UNSAID, close,
+};
+use tf_shared_board::{SharedBoard, halt_status};
 use tf_values::{Memory, Text};
-
-/// The message where nobody can be listened to.
-const CANNOT_LISTEN: &[u8] = b"taskflow: cannot listen\n";
 
 /// Opens the board of that name and the door at the address, waits for so many links, and serves them side by side, each in a
 /// session of its own. Then a line is said for each session, and why the board doesn't go on, if it doesn't.

@@ -3,7 +3,7 @@ ghost use Rattle.std.specs.Prelude.{◌≡◌, nat_eq, codes, None, Ok, IfOk, op
 ghost use Rattle.serde_json.specs.Find.{as_str};
 ghost use Rattle.serde_json.specs.View.{view};
 ghost use Rattle.tf_wire.specs.Grammar.{at, size_of, name_of as name_spelled, value_of as value_spelled};
-ghost use Rattle.tf_board_service.specs.Requests.{board_request_in, request_of as request_spelled, call_named as call_of_word, post_of as post_spelled, asks as asks_by, call_by as call_of_action, owner_of as owner_spelled, id_of as id_spelled, priority_of as priority_spelled};
+ghost use Rattle.tf_board_service.specs.Sessions.{board_request_in, request_of as request_spelled, call_named as call_of_word, post_of as post_spelled, asks as asks_by, call_by as call_of_action, owner_spelled, id_spelled, priority_of as priority_spelled};
 
 use serde_json::Value;
 use std::alloc::Global;

@@ -1,14 +1,11 @@
-// What is said of sessions, and the status that tells why a board doesn't go on.
+// What is said of sessions.
 ghost use Rattle.std.specs.Prelude.{◌≡◌, ◌++◌, IfOk, OnOk};
-ghost use Rattle.tf_board_service.specs.Sessions.{end_word, halt_status as status_of_halt, halt_text, service_text, session_line, session_lines};
+ghost use Rattle.tf_board_service.specs.Sessions.{end_word, service_text, session_line, session_lines};
 
 use crate::sessions::{Session, SessionEnd};
 use std::alloc::Global;
-use tf_report::{
-    DISK_FAILED, DISK_FAULT, FULL, OUT_OF_MEMORY, SUCCEEDED, append, append_book_full,
-    append_counted,
-};
-use tf_shared_board::BoardHalt;
+use tf_report::{append, append_counted};
+use tf_shared_board::{BoardHalt, append_halt};
 use tf_values::Memory;
 
 /// What is said where sessions are over.
@@ -58,28 +55,5 @@ fn append_end(end: SessionEnd, out: &mut Vec<u8>) -> Result<(), Memory>
             append(b"\n", out)
         }
         SessionEnd::Halted => append(b" halted\n", out),
-    }
-}
-
-/// Appends why the board doesn't go on, unless memory ran out.
-fn append_halt(halt: Option<BoardHalt>, out: &mut Vec<u8>) -> Result<(), Memory>
-    ensures { OnOk result (out.new.items ≡ out.old.items ++ halt_text halt) }
-{
-    match halt {
-        None | Some(BoardHalt::Memory) => Ok(()),
-        Some(BoardHalt::Disk) => append(DISK_FAULT, out),
-        Some(BoardHalt::Full { size, need }) => append_book_full(size, need, out),
-    }
-}
-
-/// The status that tells why the board doesn't go on.
-pub(crate) fn halt_status(halt: Option<BoardHalt>) -> u8
-    ensures { result ≡ status_of_halt halt }
-{
-    match halt {
-        None => SUCCEEDED,
-        Some(BoardHalt::Disk) => DISK_FAILED,
-        Some(BoardHalt::Full { .. }) => FULL,
-        Some(BoardHalt::Memory) => OUT_OF_MEMORY,
     }
 }

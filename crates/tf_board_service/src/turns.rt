@@ -1,8 +1,7 @@
 // What sessions hand round.
 ghost use Rattle.std.specs.Prelude.{◌≡◌, ◌<◌, ◌^◌, ◌+◌, IsSome, is_some, length};
 ghost use Rattle.tf_board.specs.Board.{AreOfBoard};
-ghost use Rattle.tf_shared_board.specs.Calls.{numbered};
-ghost use Rattle.tf_shared_board.specs.Shared.{IsShared};
+ghost use Rattle.tf_shared_board.specs.Shared.{numbered, IsShared};
 ghost use Rattle.tf_board_service.specs.Serving.{HasAnswered, HasHalted, IsServing};
 
 use crate::answering::answer;

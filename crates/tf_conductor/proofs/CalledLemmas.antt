@@ -10,9 +10,7 @@ use Rattle.tf_board.specs.declared.commands.Command.{Command}
 use Rattle.tf_board.specs.declared.commands.JobAction.TheVariants as action
 use Rattle.tf_board.proofs.ClaimLemmas.{found_claim}
 use Rattle.tf_board.specs.declared.rules.Refusal.{Refusal}
-use Rattle.tf_shared_board.specs.Asking.{FailsToAsk, fault_for}
-use Rattle.tf_shared_board.specs.Calls.{numbered, asked_for, command_of, job_of, made_command, refuses_call, id_named}
-use Rattle.tf_shared_board.specs.Shared.{SharedValue, HasCause, IsMade, IsShared, FailsToCall}
+use Rattle.tf_shared_board.specs.Shared.{FailsToAsk, fault_for, numbered, asked_for, command_of, job_of, made_command, refuses_call, id_named, SharedValue, HasCause, IsMade, IsShared, FailsToCall}
 use Rattle.tf_shared_board.specs.declared.calls.BoardHalt.{BoardHalt}
 use Rattle.tf_shared_board.specs.declared.calls.BoardHalt.TheVariants as halt
 use Rattle.tf_shared_board.specs.declared.calls.CallFault.{CallFault}

@@ -7,8 +7,8 @@ use Rattle.std.proofs.lemmas.Bool.{eqb-true}
 use Rattle.std.proofs.lemmas.List.{map-append}
 use Rattle.std.proofs.lemmas.List.Folds.{find-append}
 use Rattle.std.proofs.lemmas.Option.{slice_get-map}
-use Rattle.tf_board.specs.Board.{LegalJobs, has_id, is_free, is_listed, is_there, job_at, jobs_in, jobs_of, named, posted, priorities, refused_at, refuses, same_priority, standing_after, standing_of}
-use Rattle.tf_board.specs.Seeking.{free_job, is_numbered, is_takable, jobs_listed, names_itself, number_in}
+use Rattle.tf_board.specs.Board.{LegalJobs, has_id, is_free, is_listed, is_there, job_at, jobs_in, jobs_of, named, posted, priorities, refused_at, refuses, same_priority, standing_after, standing_of, is_numbered, names_itself}
+use Rattle.tf_board.specs.Seeking.{free_job, is_takable, jobs_listed, number_in}
 use Rattle.tf_board.specs.declared.commands.Command.{Command}
 use Rattle.tf_board.specs.declared.commands.Command.TheVariants as command
 use Rattle.tf_board.specs.declared.commands.JobAction.{JobAction}
@@ -20,7 +20,7 @@ use Rattle.tf_board.proofs.JobLemmas.{job_told}
 use Rattle.tf_board.proofs.OwnerLemmas.{act_allowed}
 use Rattle.tf_states.specs.declared.priorities.Priority.{Priority}
 use Rattle.tf_states.specs.declared.priorities.Priority.TheVariants as priority
-use Rattle.tf_shared_board.specs.Calls.{followed_by, made_command}
+use Rattle.tf_shared_board.specs.Shared.{followed_by, made_command}
 use Rattle.tf_shared_board.specs.declared.calls.JobCall.{JobCall}
 use Rattle.tf_shared_board.specs.declared.calls.JobCall.TheVariants as call
 use Rattle.tf_shared_board.specs.declared.calls.Made.{Made}

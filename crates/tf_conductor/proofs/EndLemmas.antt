@@ -8,8 +8,7 @@ use Rattle.tf_desk.specs.State.{DeskState}
 use Rattle.tf_values.specs.declared.value.Val.{Val}
 use Rattle.tf_board.specs.Board.{AreOfBoard}
 use Rattle.tf_board.specs.declared.commands.Command.{Command}
-use Rattle.tf_shared_board.specs.Calls.{numbered}
-use Rattle.tf_shared_board.specs.Shared.{SharedValue}
+use Rattle.tf_shared_board.specs.Shared.{numbered, SharedValue}
 use Rattle.tf_shared_board.specs.declared.calls.BoardHalt.{BoardHalt}
 use Rattle.tf_shared_board.specs.declared.calls.Made.{Made}
 use Rattle.tf_turnstile.specs.Numbered.{IsLater}

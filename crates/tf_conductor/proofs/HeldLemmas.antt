@@ -9,7 +9,7 @@ use Rattle.tf_board.specs.declared.commands.Command.{Command}
 use Rattle.tf_board.specs.declared.commands.Command.TheVariants as command
 use Rattle.tf_board.specs.declared.commands.JobAction.TheVariants as action
 use Rattle.tf_board.proofs.ClaimLemmas.{claimant_may}
-use Rattle.tf_shared_board.specs.Calls.{command_of, followed_by, made_command}
+use Rattle.tf_shared_board.specs.Shared.{command_of, followed_by, made_command}
 use Rattle.tf_shared_board.specs.declared.calls.JobCall.{JobCall}
 use Rattle.tf_shared_board.specs.declared.calls.JobCall.TheVariants as call
 use Rattle.tf_shared_board.specs.declared.calls.Made.{Made}

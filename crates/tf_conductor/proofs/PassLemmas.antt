@@ -6,8 +6,7 @@ use Rattle.tf_desk.specs.State.{DeskState}
 use Rattle.tf_turnstile.specs.Numbered.{IsLonger}
 use Rattle.tf_turnstile.specs.Passes.{PassValue, MayGive}
 use Rattle.tf_turnstile.proofs.NumberedLemmas.{longer_same}
-use Rattle.tf_shared_board.specs.Calls.{carried, numbered}
-use Rattle.tf_shared_board.specs.Shared.{SharedValue, IsMade}
+use Rattle.tf_shared_board.specs.Shared.{carried, numbered, SharedValue, IsMade}
 use Rattle.tf_conductor.specs.Rounds.{claim_by}
 use Rattle.tf_shared_board.specs.declared.calls.Made.{Made}
 use Rattle.tf_conductor.specs.declared.runners.Ran.{Ran}

@@ -11,8 +11,7 @@ use Rattle.tf_board.specs.Does.{number_of}
 use Rattle.tf_board.specs.Seeking.{free_job, details_for}
 use Rattle.tf_board.specs.declared.commands.Command.{Command}
 use Rattle.tf_board.specs.declared.jobs.Job.{Job}
-use Rattle.tf_shared_board.specs.Calls.{carried, numbered, followed_by, job_of, made_command}
-use Rattle.tf_shared_board.specs.Shared.{SharedValue, IsMade}
+use Rattle.tf_shared_board.specs.Shared.{carried, numbered, followed_by, job_of, made_command, SharedValue, IsMade}
 use Rattle.tf_shared_board.specs.declared.calls.JobCall.{JobCall}
 use Rattle.tf_shared_board.specs.declared.calls.JobCall.TheVariants as call
 use Rattle.tf_shared_board.specs.declared.calls.Made.{Made}

@@ -10,8 +10,7 @@ use Rattle.tf_journal.specs.Format.{Recovered}
 use Rattle.tf_board.specs.Board.{AreOfBoard, BoardValue, Holds, LeavesHeld, board_in}
 use Rattle.tf_board.specs.Does.{HoldsMaybe, LeavesRecorded}
 use Rattle.tf_board.specs.declared.commands.Command.{Command}
-use Rattle.tf_shared_board.specs.Calls.{followed_by, made_command}
-use Rattle.tf_shared_board.specs.Shared.{SharedValue, HasCause, IsMade, halt_or_memory}
+use Rattle.tf_shared_board.specs.Shared.{followed_by, made_command, SharedValue, HasCause, IsMade, halt_or_memory}
 use Rattle.tf_shared_board.specs.declared.calls.BoardHalt.{BoardHalt}
 use Rattle.tf_shared_board.specs.declared.calls.BoardHalt.TheVariants as halt
 use Rattle.tf_shared_board.specs.declared.calls.Made.{Made}

@@ -5,8 +5,7 @@ use Rattle.tf_desk.specs.State.{DeskState, GoesOn, MayLeave}
 use Rattle.tf_board.specs.Board.{LeavesHeld, board_in}
 use Rattle.tf_board.specs.Does.{LeavesRecorded}
 use Rattle.tf_board.specs.Seeking.{free_job, id_at, details_at}
-use Rattle.tf_shared_board.specs.Calls.{followed_by, made_command}
-use Rattle.tf_shared_board.specs.Shared.{SharedValue, HasCause, IsMade}
+use Rattle.tf_shared_board.specs.Shared.{followed_by, made_command, SharedValue, HasCause, IsMade}
 use Rattle.tf_shared_board.specs.declared.calls.BoardHalt.{BoardHalt}
 use Rattle.tf_shared_board.specs.declared.calls.Made.{Made}
 use Rattle.tf_conductor.specs.Rounds.{IsBy, IsConductors, IsNobodys, HoldsKept, LeavesSome, LeavesTried, claim_by, end_call}

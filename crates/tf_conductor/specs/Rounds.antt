@@ -6,11 +6,10 @@ use Rattle.tf_desk.specs.Crash.{Pairs}
 use Rattle.tf_desk.specs.State.{DeskState}
 use Rattle.tf_journal.specs.Format.{Recovered}
 use Rattle.tf_values.specs.declared.value.Val.{Val}
-use Rattle.tf_board.specs.Board.{AreOfBoard, Holds, board_in, details_in, jobs_of, numbered, is_free}
-use Rattle.tf_board.specs.Seeking.{names_itself}
+use Rattle.tf_board.specs.Board.{AreOfBoard, Holds, board_in, details_in, jobs_of, numbered, is_free, names_itself}
 use Rattle.tf_board.specs.declared.commands.Command.{Command}
 use Rattle.tf_board.specs.declared.jobs.Job.{Job}
-use Rattle.tf_shared_board.specs.Calls.{followed_by, made_command}
+use Rattle.tf_shared_board.specs.Shared.{followed_by, made_command}
 use Rattle.tf_shared_board.specs.declared.calls.BoardHalt.{BoardHalt}
 use Rattle.tf_shared_board.specs.declared.calls.BoardHalt.TheVariants as halt
 use Rattle.tf_shared_board.specs.declared.calls.JobCall.{JobCall}

@@ -6,7 +6,7 @@ use Rattle.tf_board.specs.Board.{LegalJobs}
 use Rattle.tf_board.specs.Does.{number_of}
 use Rattle.tf_board.specs.Seeking.{free_job}
 use Rattle.tf_board.specs.declared.commands.Command.{Command}
-use Rattle.tf_shared_board.specs.Calls.{followed_by}
+use Rattle.tf_shared_board.specs.Shared.{followed_by}
 use Rattle.tf_shared_board.specs.declared.calls.Made.{Made}
 use Rattle.tf_turnstile.specs.Passes.{TurnstileValue, PassValue, IsIdle, new_pass}
 use Rattle.tf_conductor.specs.Conducting.{ConductingValue}

@@ -1,8 +1,7 @@
 // What a conductor does with the board in one turn.
 ghost use Rattle.std.specs.Prelude.{◌≡◌, ◌<◌, ◌^◌, Some, IsSome, is_some, length, slice_get};
 ghost use Rattle.tf_board.specs.Board.{AreOfBoard};
-ghost use Rattle.tf_shared_board.specs.Calls.{numbered};
-ghost use Rattle.tf_shared_board.specs.Shared.{IsShared};
+ghost use Rattle.tf_shared_board.specs.Shared.{numbered, IsShared};
 ghost use Rattle.tf_conductor.specs.Conducting.{IsConducting, MakesNone, HasClaimed, EndsJob, Claims, conducting_origin};
 ghost use Rattle.tf_conductor.specs.Rounds.{end_call};
 

@@ -11,7 +11,7 @@ use Rattle.tf_board.specs.declared.faults.BoardFault.{BoardFault}
 use Rattle.tf_board.specs.declared.faults.BoardFault.TheVariants as fault
 use Rattle.tf_board.specs.declared.rules.Refusal.{Refusal}
 use Rattle.tf_board.specs.declared.rules.Refusal.TheVariants as refusal
-use Rattle.tf_shared_board.specs.Asking.{FailsToAsk, AsksFor}
+use Rattle.tf_shared_board.specs.Shared.{FailsToAsk, AsksFor}
 
 module _ {K : Type 0} (state : K → DeskState) where
   -- nothing changed

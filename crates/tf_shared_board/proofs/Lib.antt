@@ -1,3 +1,4 @@
 pub mod CallLemmas
 pub mod AskLemmas
 pub mod ShareLemmas
+pub mod HaltLemmas

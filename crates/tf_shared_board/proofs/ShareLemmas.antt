@@ -14,9 +14,7 @@ use Rattle.tf_board.specs.declared.rules.Refusal.{Refusal}
 use Rattle.tf_shared_board.specs.declared.calls.BoardHalt.{BoardHalt}
 use Rattle.tf_shared_board.specs.declared.calls.BoardHalt.TheVariants as halt
 use Rattle.tf_shared_board.specs.declared.calls.Made.{Made}
-use Rattle.tf_shared_board.specs.Asking.{FailsToAsk, FailsOnDisk, IsRule, fault_for}
-use Rattle.tf_shared_board.specs.Calls.{job_of, made_command, followed_by}
-use Rattle.tf_shared_board.specs.Shared.{HasCause, IsShared, IsUnrecorded, no_pending, one_pending, HoldsSome, holds_first, holds_all, LeavesSome, KeepsFile}
+use Rattle.tf_shared_board.specs.Shared.{FailsToAsk, FailsOnDisk, IsRule, fault_for, job_of, made_command, followed_by, HasCause, IsShared, IsUnrecorded, no_pending, one_pending, HoldsSome, holds_first, holds_all, LeavesSome, KeepsFile}
 use Rattle.tf_shared_board.proofs.CallLemmas.{followed_more, about_more}
 
 -- ---- what the file has

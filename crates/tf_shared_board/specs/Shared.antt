@@ -1,20 +1,152 @@
--- A board that several share, and what its type keeps. Lists of commands have the newest first, lists of calls the oldest.
-use Rattle.std.specs.Prelude.{◌≡◌, ◌⊎◌, ◌<◌, ℕ, ◌+◌, false, IsTrue, List, [], ◌∷◌, ◌++◌, length, Option, Some, None, IfSome}
+-- A board that several share: what its calls mean, what a call does to the board, what its type keeps, and why it is halted. Lists of commands have
+-- the newest first, lists of calls the oldest.
+use Rattle.std.specs.Prelude.{◌≡◌, ℕ, ◌+◌, List, [], ◌∷◌, map, Option, None, true, IsTrue, Some, Result, Ok, Err, IfOk, IfErr, ◌⊎◌, ◌<◌, false, ◌++◌, length, IfSome}
 use Rattle.tf_numbers.specs.Numbers.{Rises}
+use Rattle.tf_desk.specs.State.{DeskState, MayLeave, GoesOn, anything}
 use Rattle.tf_desk.specs.Crash.{Pairs}
-use Rattle.tf_desk.specs.State.{DeskState, anything, GoesOn, MayLeave}
 use Rattle.tf_journal.specs.Format.{SIZE_LIMIT, Recovered}
-use Rattle.tf_board.specs.Board.{AreOfBoard, BoardValue, Holds, LeavesHeld, board_in, command_bytes, size_of}
-use Rattle.tf_board.specs.Does.{HoldsEither, IsRecorded}
+use Rattle.tf_report.specs.Closing.{book_full, disk_fault_text}
+use Rattle.tf_report.specs.declared.statuses.TheConstants.{SUCCEEDED, DISK_FAILED, OUT_OF_MEMORY, FULL}
+use Rattle.tf_board.specs.Board.{posted, refuses_id, BoardValue, board_in, AreOfBoard, Holds, LeavesHeld, command_bytes, size_of}
+use Rattle.tf_board.specs.Does.{number_of, HoldsMaybe, LeavesRecorded, IsRecorded, IsHalted, HasNoPlace, fault_of, HoldsEither, IsBoardFull}
 use Rattle.tf_board.specs.declared.commands.Command.{Command}
-use Rattle.tf_shared_board.specs.declared.calls.BoardHalt.{BoardHalt}
-use Rattle.tf_shared_board.specs.declared.calls.BoardHalt.TheVariants as halt
-use Rattle.tf_shared_board.specs.declared.calls.CallFault.{CallFault}
-use Rattle.tf_shared_board.specs.declared.calls.CallFault.TheVariants as call_fault
+use Rattle.tf_board.specs.declared.rules.Refusal.{Refusal}
+use Rattle.tf_board.specs.declared.faults.BoardFault.{BoardFault}
 use Rattle.tf_shared_board.specs.declared.calls.JobCall.{JobCall}
 use Rattle.tf_shared_board.specs.declared.calls.Made.{Made}
-use Rattle.tf_shared_board.specs.Asking.{FailsToAsk, IsRuled, fault_for}
-use Rattle.tf_shared_board.specs.Calls.{job_of, asked_for, refuses_call, id_named, made_command, followed_by, AreAbout}
+use Rattle.tf_shared_board.specs.declared.calls.BoardHalt.{BoardHalt}
+use Rattle.tf_shared_board.specs.declared.calls.CallFault.{CallFault}
+use Rattle.tf_board.specs.declared.commands.Command.TheVariants as command
+use Rattle.tf_board.specs.declared.commands.JobAction.TheVariants as action
+use Rattle.tf_shared_board.specs.declared.calls.JobCall.TheVariants as call
+use Rattle.tf_board.specs.declared.faults.BoardFault.TheVariants as fault
+use Rattle.tf_shared_board.specs.declared.calls.BoardHalt.TheVariants as halt
+use Rattle.tf_shared_board.specs.declared.calls.CallFault.TheVariants as call_fault
+
+-- ---- one call
+
+-- the number of the job that a call is about, after these commands: the next one, or that of the job that its id names
+abbrev pub job_of : List Command → JobCall → ℕ
+job_of past (call.Post name priority details) = posted past + 1
+job_of past (call.Claim id owner) = number_of past id
+job_of past (call.Abandon id owner) = number_of past id
+job_of past (call.Consume id owner) = number_of past id
+job_of past (call.Trash id owner) = number_of past id
+
+-- what a call records, of the job of this number
+abbrev pub command_of : JobCall → ℕ → Command
+command_of (call.Post name priority details) job = command.Post name priority details
+command_of (call.Claim id owner) job = command.Apply action.Claim job owner
+command_of (call.Abandon id owner) job = command.Apply action.Abandon job owner
+command_of (call.Consume id owner) job = command.Apply action.Consume job owner
+command_of (call.Trash id owner) job = command.Apply action.Trash job owner
+
+-- what a call asks to record after these commands
+abbrev pub asked_for : List Command → JobCall → Command
+asked_for past call = command_of call (job_of past call)
+
+-- why a call is refused after these commands; a job may always be posted
+abbrev pub refuses_call : List Command → JobCall → Option Refusal
+refuses_call past (call.Post name priority details) = None
+refuses_call past (call.Claim id owner) = refuses_id past action.Claim id owner
+refuses_call past (call.Abandon id owner) = refuses_id past action.Abandon id owner
+refuses_call past (call.Consume id owner) = refuses_id past action.Consume id owner
+refuses_call past (call.Trash id owner) = refuses_id past action.Trash id owner
+
+-- the id that a call names; a post names none
+abbrev pub id_named : JobCall → List ℕ
+id_named (call.Post name priority details) = []
+id_named (call.Claim id owner) = id
+id_named (call.Abandon id owner) = id
+id_named (call.Consume id owner) = id
+id_named (call.Trash id owner) = id
+
+-- ---- the calls that were made
+
+-- the command of a call that was made
+abbrev pub made_command : Made → Command
+made_command m = command_of m.call m.job
+
+-- a call that was made, with the number that it carries
+abbrev pub carried : Made → ℕ × Made
+carried m = (m.number, m)
+
+-- the calls that were made, each with the number that it carries
+abbrev pub numbered : List Made → List (ℕ × Made)
+numbered made = map carried made
+
+-- these commands, followed by those of the calls
+abbrev pub followed_by : List Command → List Made → List Command
+followed_by past [] = past
+followed_by past (m ∷ made) = followed_by (made_command m ∷ past) made
+
+-- each of the calls has the number of the job that it was about when it was made
+abbrev pub AreAbout : List Command → List Made → Type 0
+AreAbout past [] = Unit {0}
+AreAbout past (m ∷ made) = (m.job ≡ job_of past m.call) × AreAbout (made_command m ∷ past) made
+
+-- ---- faults
+
+-- the fault of a board that halts it so
+abbrev pub fault_for : BoardHalt → BoardFault
+fault_for halt.Disk = fault.Disk
+fault_for (halt.Full size need) = fault.Full size need
+fault_for halt.Memory = fault.Memory
+
+-- a call is refused by such a fault
+abbrev pub IsRule : BoardFault → Type 0
+IsRule (fault.NoJob id) = Unit {0}
+IsRule (fault.Gone id) = Unit {0}
+IsRule (fault.Claimed owner) = Unit {0}
+IsRule (fault.NotOwner owner) = Unit {0}
+IsRule fault.Disk = ⊥
+IsRule (fault.Full size need) = ⊥
+IsRule fault.Halted = ⊥
+IsRule fault.Memory = ⊥
+
+-- a fault is one by which a call is refused, or one that halts
+abbrev pub Sorts : BoardFault → Result BoardFault BoardHalt → Type 0
+Sorts fault (Ok rule) = (rule ≡ fault) × IsRule fault
+Sorts fault (Err halt) = fault ≡ fault_for halt
+
+-- ---- a call that is asked of the board
+
+module _ {K : Type 0} where
+  -- it is refused for this reason, of the job of this id, and nothing changed
+  pub record IsRuled (refused : Option Refusal) (id : List ℕ) (old new : BoardValue K) (fault : BoardFault) : Type 0 where
+    pub now : new ≡ old
+    pub why : Refusal
+    pub refused_is : refused ≡ Some why
+    pub fault_is : fault ≡ fault_of why id
+
+module _ {K : Type 0} (state : K → DeskState) where
+  -- the disk failed where this was to be recorded; a crash leaves the commands from before, or with this one
+  pub record FailsOnDisk (added : Command) (old new : BoardValue K) : Type 0 where
+    pub halted : IsHalted state added old new
+    pub leaves : IsTrue (state old.journal.desk).tells → (image : List ℕ) → MayLeave (state new.journal.desk) image
+        → HoldsMaybe old.past added (board_in image)
+
+  -- why a call did nothing that is refused for this reason, of the job of this id, or else was to record this; and what changed
+  abbrev pub FailsToAsk : Option Refusal → List ℕ → Command → BoardValue K → BoardValue K → BoardFault → Type 0
+  FailsToAsk refused id added old new fault.Disk = (refused ≡ None) × FailsOnDisk added old new
+  FailsToAsk refused id added old new (fault.Full size need) = (refused ≡ None) × HasNoPlace size need added old new
+  FailsToAsk refused id added old new fault.Halted = (old.journal.halted ≡ true) × (new ≡ old)
+  FailsToAsk refused id added old new fault.Memory = new ≡ old
+  FailsToAsk refused id added old new (fault.NoJob text) = IsRuled refused id old new (fault.NoJob text)
+  FailsToAsk refused id added old new (fault.Gone text) = IsRuled refused id old new (fault.Gone text)
+  FailsToAsk refused id added old new (fault.Claimed owner) = IsRuled refused id old new (fault.Claimed owner)
+  FailsToAsk refused id added old new (fault.NotOwner owner) = IsRuled refused id old new (fault.NotOwner owner)
+
+  -- a call that is refused for this reason, of the job of this id, or else is to record this of the job of that number
+  pub record AsksFor (refused : Option Refusal) (id : List ℕ) (job : ℕ) (added : Command) (old new : BoardValue K)
+      (result : Result ℕ BoardFault) : Type 0 where
+    pub recorded : IfOk result (λ number. (number ≡ job) × (refused ≡ None) × IsRecorded state added old new)
+    pub fails : IfErr result (λ fault. FailsToAsk refused id added old new fault)
+    pub goes : GoesOn (LeavesRecorded old.past added (state old.journal.desk)) (state old.journal.desk) (state new.journal.desk)
+
+  -- a call as its words say
+  abbrev pub Asks : JobCall → BoardValue K → BoardValue K → Result ℕ BoardFault → Type 0
+  Asks call old new result = AsksFor (refuses_call old.past call) (id_named call) (job_of old.past call) (asked_for old.past call) old new result
 
 -- the board as it was made with, and as it is now; the calls that were made since; and why it doesn't go on, if it doesn't
 pub record SharedValue (K : Type 0) : Type 0 where
@@ -102,3 +234,26 @@ module _ {K : Type 0} (state : K → DeskState) where
 abbrev pub halt_or_memory : Option BoardHalt → Option BoardHalt
 halt_or_memory None = Some halt.Memory
 halt_or_memory (Some halt) = Some halt
+
+-- ---- why it was halted, as a command tells it
+
+-- the disk failed, and the count of its faults rose; the record of a command would make the file longer than its limit, as the two numbers show; or
+-- memory ran out
+abbrev pub HaltsFor : List Command → DeskState → DeskState → BoardHalt → Type 0
+HaltsFor past entry now halt.Disk = Rises entry.disk_faults now.disk_faults
+HaltsFor past entry now (halt.Full size need) = (last : Command) × IsBoardFull past (last ∷ []) size need
+HaltsFor past entry now halt.Memory = Unit {0}
+
+-- what is said of it; nothing for want of memory
+abbrev pub halt_text : Option BoardHalt → List ℕ
+halt_text None = []
+halt_text (Some halt.Disk) = disk_fault_text
+halt_text (Some (halt.Full size need)) = book_full size need
+halt_text (Some halt.Memory) = []
+
+-- the status that tells it
+abbrev pub halt_status : Option BoardHalt → ℕ
+halt_status None = SUCCEEDED
+halt_status (Some halt.Disk) = DISK_FAILED
+halt_status (Some (halt.Full size need)) = FULL
+halt_status (Some halt.Memory) = OUT_OF_MEMORY

@@ -2,7 +2,7 @@
 ghost use Rattle.std.specs.Prelude.{◌≢◌};
 ghost use Rattle.tf_board.specs.Board.{refuses_id};
 ghost use Rattle.tf_board.specs.Does.{number_of, applied};
-ghost use Rattle.tf_shared_board.specs.Asking.{AsksFor, Asks, Sorts};
+ghost use Rattle.tf_shared_board.specs.Shared.{AsksFor, Asks, Sorts};
 
 use crate::calls::{BoardHalt, JobCall};
 use std::alloc::Global;

@@ -3,7 +3,9 @@
 
 mod asking;
 mod calls;
+mod halts;
 mod shared;
 
 pub use calls::{BoardHalt, CallFault, JobCall, Made};
+pub use halts::{append_halt, halt_status};
 pub use shared::SharedBoard;

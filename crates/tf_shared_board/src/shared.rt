@@ -2,8 +2,7 @@ ghost use Rattle.std.specs.Prelude.{◌≡◌, ◌<◌, ◌^◌, [], false, None
 ghost use Rattle.tf_board.specs.Board.{AreOfBoard};
 ghost use Rattle.tf_board.specs.Does.{LeavesRecorded};
 ghost use Rattle.tf_desk.specs.State.{GoesOn};
-ghost use Rattle.tf_shared_board.specs.Calls.{asked_for, numbered};
-ghost use Rattle.tf_shared_board.specs.Shared.{IsShared, IsMade, FailsToCall, halt_or_memory};
+ghost use Rattle.tf_shared_board.specs.Shared.{asked_for, numbered, IsShared, IsMade, FailsToCall, halt_or_memory};
 
 use crate::asking::{ask, sort};
 use crate::calls::{BoardHalt, CallFault, JobCall, Made};

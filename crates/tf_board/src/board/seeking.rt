@@ -1,8 +1,8 @@
 ghost use Rattle.std.specs.Prelude.{◌≡◌, ◌<◌, ◌^◌, ◌&&◌, length, option_copied, unwrap_or};
 ghost use Rattle.std.specs.List.{find, filter};
-ghost use Rattle.tf_board.specs.Board.{AreOfBoard, is_listed as listed, named, numbered};
+ghost use Rattle.tf_board.specs.Board.{AreOfBoard, is_listed as listed, named, numbered, names_itself as itself};
 ghost use Rattle.tf_board.specs.Does.{number_of as number_in};
-ghost use Rattle.tf_board.specs.Seeking.{number_among, names_itself as itself, is_takable as takable, free_job as found_free, number_named, id_at, details_at};
+ghost use Rattle.tf_board.specs.Seeking.{number_among, is_takable as takable, free_job as found_free, number_named, id_at, details_at};
 
 use super::Board;
 use super::listing::PRIORITIES;

@@ -2,10 +2,11 @@ use Rattle.std.proofs.Common.{ℕ, [], refl, ap, subst, ◌∙◌, map, arith}
 use Rattle.tf_desk.proofs.CountLemmas.{rises_later}
 use Rattle.tf_ports.specs.Ports.{DoorTold, seen_link}
 use Rattle.tf_board.proofs.EndLemmas.{concludes_none, concludes_said}
-use Rattle.tf_board_service.specs.Sessions.{GivesInVain, ServesBoard, cannot_listen, exhausted, gave_links, opened_in_vain, unlistened}
+use Rattle.tf_board_service.specs.Sessions.{GivesInVain, ServesBoard, exhausted, gave_links, opened_in_vain, unlistened}
 use Rattle.tf_board_service.proofs.CommandLemmas.{said_apart, vain_causes, vain_ends, vain_stops}
 use Rattle.tf_board_service.proofs.DoorLemmas.{vain_all, vain_some}
 use Rattle.tf_board_service.proofs.commanding.accept_and_serve.Goals as goal
+use Rattle.tf_report.specs.Closing.{cannot_listen}
 
 pub returns-in-Ok-clause-serves : goal.returns-in-Ok-clause-serves
 returns-in-Ok-clause-serves g c = λ name address before entry o opened.

@@ -1,9 +1,10 @@
 use Rattle.std.proofs.Common.{[], Err, ap, refl, arith}
 use Rattle.tf_desk.proofs.CountLemmas.{rises_later}
 use Rattle.tf_board.proofs.EndLemmas.{concludes_none, concludes_said}
-use Rattle.tf_board_service.specs.Sessions.{cannot_listen, exhausted, not_opened, unlistened}
+use Rattle.tf_board_service.specs.Sessions.{exhausted, not_opened, unlistened}
 use Rattle.tf_board_service.proofs.CommandLemmas.{said_apart, vain_causes, vain_ends, vain_stops}
 use Rattle.tf_board_service.proofs.commanding.listen_and_serve.Goals as goal
+use Rattle.tf_report.specs.Closing.{cannot_listen}
 
 pub returns-in-Ok-clause-serves : goal.returns-in-Ok-clause-serves
 returns-in-Ok-clause-serves g c = λ name entry o. c.accept_and_serve.ensures.serves name c.args.address.now (g.D.Door.told c.args.door.now) entry o c.in-Ok.ensures.opened

@@ -6,9 +6,10 @@ use Rattle.std.specs.Prelude.{IfOk}
 use Rattle.tf_numbers.specs.Numbers.{Rises}
 use Rattle.tf_report.specs.declared.statuses.TheConstants.{OUT_OF_MEMORY, UNSAID}
 use Rattle.tf_ports.specs.Ports.{seen_link}
-use Rattle.tf_board_service.specs.Sessions.{GivesBack, SaysOrStops, halt_status, service_text, was_stopped}
+use Rattle.tf_board_service.specs.Sessions.{GivesBack, SaysOrStops, service_text, was_stopped}
 use Rattle.tf_board_service.proofs.CommandLemmas.{causes_over, serves_over, vain_causes, vain_over}
 use Rattle.tf_board_service.proofs.commanding.serve_over.Goals as goal
+use Rattle.tf_shared_board.specs.Shared.{halt_status}
 
 pub returns-in-Ok-whole-clause-serves : goal.returns-in-Ok-whole-clause-serves
 returns-in-Ok-whole-clause-serves g c = λ name address before entry o gave.

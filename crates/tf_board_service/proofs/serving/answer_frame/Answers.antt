@@ -1,5 +1,5 @@
 use Rattle.std.proofs.Common.{sym, subst}
-use Rattle.tf_shared_board.specs.Calls.{followed_by}
+use Rattle.tf_shared_board.specs.Shared.{followed_by}
 use Rattle.tf_board_service.specs.Printing.{HasFewLines}
 use Rattle.tf_board_service.specs.Turning.{start_past}
 use Rattle.tf_board_service.proofs.PrintLemmas.{few_of}

@@ -4,8 +4,7 @@ use Rattle.tf_values.specs.declared.value.Val.{Val}
 use Rattle.tf_board.specs.Board.{BoardValue}
 use Rattle.tf_board.specs.Does.{LeavesRecorded}
 use Rattle.tf_board.specs.Seeking.{free_job, id_at, details_at}
-use Rattle.tf_shared_board.specs.Calls.{command_of}
-use Rattle.tf_shared_board.specs.Shared.{IsMade}
+use Rattle.tf_shared_board.specs.Shared.{command_of, IsMade}
 use Rattle.tf_shared_board.specs.declared.calls.JobCall.TheVariants as call
 use Rattle.tf_conductor.specs.Rounds.{IsBy}
 use Rattle.tf_conductor.proofs.CalledLemmas.{claim_may, halted_call}
