@@ -1,8 +1,9 @@
 -- What conductors leave of a board that was opened, and how their command ends.
-use Rattle.std.proofs.Common.{◌≡◌, ◌≢◌, ◌⊎◌, ◌<◌, ◌≤◌, ℕ, List, [], ◌∷◌, ◌++◌, length, Option, Some, None, refl, sym, ap, ◌∙◌, subst, inl, inr, ⊎_elim, append-nil, arith}
+use Rattle.std.proofs.Common.{◌≡◌, ◌≢◌, ◌⊎◌, ◌<◌, ◌≤◌, ℕ, List, [], ◌∷◌, ◌++◌, length, Option, Some, None, refl, sym, ap, ◌∙◌, subst, inl, inr, ⊎_elim, append-nil, arith, map, slice_index_or, option_map}
 use Rattle.std.specs.Prelude.{◌==◌, IfSome, IsTrue, slice_get, true, unwrap_or}
-use Rattle.std.specs.List.{AllByRecursion}
+use Rattle.std.specs.List.{All, AllByRecursion}
 use Rattle.std.proofs.lemmas.Bool.{eqb-true}
+use Rattle.std.proofs.lemmas.List.{get_or-map, length-map}
 use Rattle.std.proofs.lemmas.Option.{slice_get_cases, slice_get_within}
 use Rattle.tf_numbers.specs.Numbers.{Rises}
 use Rattle.tf_desk.specs.Crash.{ShowsPrefix, shown_with}
@@ -11,7 +12,7 @@ use Rattle.tf_desk.proofs.CountLemmas.{rises_later}
 use Rattle.tf_desk.proofs.StateLemmas.{on_disk_told, on_disk_on}
 use Rattle.tf_journal.specs.Start.{IsSet, Path, file_of}
 use Rattle.tf_journal.proofs.PathLemmas.{as_read, path_on, path_said, set_on, set_start}
-use Rattle.tf_board.specs.Board.{BoardValue, IsOpened, LeavesHeld, board_in}
+use Rattle.tf_board.specs.Board.{BoardValue, IsOpened, LeavesHeld, board_in, size_of}
 use Rattle.tf_board.specs.Does.{Concludes, HasCauses}
 use Rattle.tf_board.specs.declared.commands.Command.{Command}
 use Rattle.tf_board.proofs.DeskLaws.{KeepsLaws}
@@ -20,15 +21,18 @@ use Rattle.tf_book.proofs.SpokenLemmas.{shown_none}
 use Rattle.tf_conductor.specs.Conducting.{IsConducting, made_since}
 use Rattle.tf_conductor.specs.Rounds.{AreNamedBy, HoldsKept, HoldsSome, IsCallBy, IsConductors, owner_name}
 use Rattle.tf_conductor.proofs.TurnLemmas.{kept_within, some_within}
+use Rattle.tf_actions.specs.declared.orders.Order.{Order}
+use Rattle.tf_ports.specs.Ports.{CrewTold, GivenBack, gave_back, hired_for}
+use Rattle.tf_ports.specs.declared.crews.Want.TheVariants as want
 use Rattle.tf_report.specs.Closing.{ClosesWith, said}
 use Rattle.tf_report.proofs.ClosingLemmas.{closes_from}
 use Rattle.tf_report.specs.declared.statuses.TheConstants.{DISK_FAILED, OUT_OF_MEMORY, UNSAID}
-use Rattle.tf_shared_board.specs.Calls.{followed_by}
-use Rattle.tf_shared_board.specs.Shared.{SharedValue, HasCause}
+use Rattle.tf_shared_board.specs.Shared.{followed_by, SharedValue, HasCause, IsShared, halt_status}
+use Rattle.tf_shared_board.proofs.HaltLemmas.{cause_told, cause_later}
 use Rattle.tf_shared_board.specs.declared.calls.BoardHalt.{BoardHalt}
 use Rattle.tf_shared_board.specs.declared.calls.BoardHalt.TheVariants as halt
 use Rattle.tf_shared_board.specs.declared.calls.Made.{Made}
-use Rattle.tf_runner.specs.Conducts.{EndsCalls, IsOwned, LeavesCalls, closing_text, halt_status}
+use Rattle.tf_runner.specs.Conducts.{AreManyBack, HiresMany, EndsCalls, IsOwned, LeavesCalls, closing_text}
 use Rattle.tf_runner.specs.Working.{HasCalled}
 
 -- ---- owners
@@ -52,6 +56,14 @@ owner_there owners i below =
       | inl there ↦ (there.0, there.2)
       | inr out ↦ absurd (omega (arith, out.0, below))
     ]
+
+-- what is so of each share of the files is so of each runner that has one
+pub each_share : {A R : Type 0} (file_of_runner : R → A) (P : A → Type 0) (runners : List R) (shares : List A) → map file_of_runner runners ≡ shares → All P shares
+    → All (λ (r : R). P (file_of_runner r)) runners
+each_share f P runners shares are all i d below =
+    let long : length shares ≡ length runners = ap length (sym are) ∙ length-map runners f in
+    let there : P (slice_index_or shares i (f d)) = all i (f d) (omega (arith, below, long)) in
+    subst P (ap (λ l. slice_index_or l i (f d)) (sym are) ∙ get_or-map f runners i d (f d) below) there
 
 -- ---- what was called
 
@@ -84,10 +96,19 @@ module _ {K : Type 0} (state : K → DeskState) where
     on_disk_now : OnDisk anything entry (state now.board.journal.desk)
     on_disk_now = on_disk_on o.on_disk k.goes.on_disk (λ told image text left. tt) (λ told image text left. tt)
 
+    rose_since : Rises (state board.journal.desk).disk_faults (state now.board.journal.desk).disk_faults → Rises entry.disk_faults (state now.board.journal.desk).disk_faults
+    rose_since rises = rises_later entry.disk_faults (state board.journal.desk).disk_faults (state now.board.journal.desk).disk_faults o.on_disk.disk_faults rises
+
+    sized_now : IsShared state now → now.board.journal.size ≡ size_of (followed_by board.past now.made)
+    sized_now shared =
+        let sized : now.start.journal.size ≡ size_of now.start.past = subst (λ (b : BoardValue K). b.journal.size ≡ size_of b.past) (sym k.start) o.fresh.sized in
+        shared.sized sized ∙ ap size_of k.list
+
     -- the calls were made on the board that was opened
-    pub called_so : KeepsLaws state → HasCalled name word count board.past now.made now.halt entry (state now.board.journal.desk)
-    called_so laws = record {
+    pub called_so : KeepsLaws state → IsShared state now → HasCalled name word count board.past now.made now.halt entry (state now.board.journal.desk)
+    called_so laws shared = record {
       on_disk = on_disk_now;
+      cause = cause_told state board now.board (followed_by board.past now.made) entry (state now.board.journal.desk) (sized_now shared) rose_since now.halt (k.cause refl);
       file = λ told.
           kept_now told (file_of (state now.board.journal.desk) name)
           (as_read (state now.board.journal.desk) (set_now told).picked (λ picked. laws.picked_is_there now.board.journal.desk name (told_now told) picked)
@@ -103,8 +124,7 @@ module _ {K : Type 0} (state : K → DeskState) where
         → HasCauses entry last status
     called_causes back last status same c failed =
         causes_so on_disk_now (subst (λ (d : K). Concludes (state d) last status) same c)
-        (λ is. rises_later entry.disk_faults (state board.journal.desk).disk_faults (state now.board.journal.desk).disk_faults o.on_disk.disk_faults
-        (subst (λ (h : Option BoardHalt). IfSome h (HasCause state board now.board)) (failed is) (k.cause refl)))
+        (λ is. rose_since (subst (λ (h : Option BoardHalt). IfSome h (HasCause state board now.board)) (failed is) (k.cause refl)))
 
 -- ---- how it ends
 
@@ -120,6 +140,7 @@ module _ {name word : List ℕ} {count : ℕ} {past : List Command} {made : List
   pub called_ends : {now : DeskState} (status : ℕ) → ClosesWith mid.shown (closing_text made halted) (halt_status halted) now.shown status → Says (closing_text made halted) mid now
       → EndsCalls name word count past made halted entry now status
   called_ends {now} status closes says = record {
+    cause = cause_later (followed_by past made) entry mid now says.disk_faults halted h.cause;
     closes = inr (closes_from h.on_disk.shown closes);
     keeps = λ told.
         let told_mid : IsTrue mid.tells = on_disk_told h.on_disk told in
@@ -138,6 +159,7 @@ module _ {name word : List ℕ} {count : ℕ} {past : List Command} {made : List
   quiet_keeps : (status : ℕ) → ((status ≡ OUT_OF_MEMORY) × (mid.shown ≡ entry.shown)) ⊎ ClosesWith entry.shown (closing_text made halted) (halt_status halted) mid.shown status
       → EndsCalls name word count past made halted entry mid status
   quiet_keeps status closes = record {
+    cause = h.cause;
     closes = closes;
     keeps = λ told. record {
       file = h.file told;
@@ -170,3 +192,17 @@ never_said n by apart no_unsaid = λ is. apart (sym (by (λ unsaid. no_unsaid (s
 
 pub never_told : (n : ℕ) {status wanted : ℕ} → (status ≢ UNSAID → (status ≡ wanted) ⊎ (status ≡ OUT_OF_MEMORY)) → wanted ≢ n → OUT_OF_MEMORY ≢ n → UNSAID ≢ n → status ≢ n
 never_told n by apart no_memory no_unsaid = λ is. ⊎_elim (λ same. apart (sym same ∙ is)) (λ out. no_memory (sym out ∙ is)) (by (λ unsaid. no_unsaid (sym unsaid ∙ is)))
+
+-- ---- hands
+
+-- as many hands were given back as were hired
+back_so : (count : ℕ) (before : GivenBack) (orders : List (Option (List Order))) → length orders ≡ count → AreManyBack count (option_map (λ old. orders) before)
+back_so count None orders many = tt
+back_so count (Some old) orders many = many
+
+pub hires_so : (count : ℕ) (first mid last : CrewTold) (orders : List (Option (List Order))) → mid ≡ hired_for first (want.Local count) → last ≡ gave_back mid orders → length orders ≡ count
+    → HiresMany count first last
+hires_so count first mid last orders hired gave many = record {
+  hired = ap (λ (t : CrewTold). t.hired) (gave ∙ ap (λ (t : CrewTold). gave_back t orders) hired);
+  back = subst (λ (b : GivenBack). AreManyBack count b) (sym (ap (λ (t : CrewTold). t.back) (gave ∙ ap (λ (t : CrewTold). gave_back t orders) hired))) (back_so count first.back orders many);
+}

@@ -10,8 +10,7 @@ use Rattle.tf_conductor.specs.Conducting.{IsConducting}
 use Rattle.tf_conductor.specs.Rounds.{AllClaimed, AreNamedBy, EndsConducting, HasConducted, IsConductors, owner_name}
 use Rattle.tf_desk.specs.State.{DeskState}
 use Rattle.tf_ports.specs.Ports.{Contents}
-use Rattle.tf_shared_board.specs.Calls.{followed_by}
-use Rattle.tf_shared_board.specs.Shared.{SharedValue}
+use Rattle.tf_shared_board.specs.Shared.{followed_by, SharedValue}
 use Rattle.tf_shared_board.specs.declared.calls.BoardHalt.{BoardHalt}
 use Rattle.tf_shared_board.specs.declared.calls.Made.{Made}
 use Rattle.tf_runner.specs.Conducts.{AreConducted, JobRunsTo}

@@ -14,7 +14,7 @@ use Rattle.tf_board.proofs.JobLemmas.{claim_free, jobs_long}
 use Rattle.tf_conductor.specs.Rounds.{Begun, IsCallBy, IsConductors, Round, begun_calls, calls_by, calls_of, claim_by, claimed, end_of_round, is_claim, nothing, run}
 use Rattle.tf_conductor.proofs.ClaimedLemmas.{legal_before}
 use Rattle.tf_conductor.proofs.HeldLemmas.{followed_on, second_all}
-use Rattle.tf_shared_board.specs.Calls.{command_of, followed_by, made_command}
+use Rattle.tf_shared_board.specs.Shared.{command_of, followed_by, made_command}
 use Rattle.tf_shared_board.specs.declared.calls.JobCall.{JobCall}
 use Rattle.tf_shared_board.specs.declared.calls.JobCall.TheVariants as call
 use Rattle.tf_shared_board.specs.declared.calls.Made.{Made}

@@ -1,5 +1,5 @@
 -- How the command that lets conductors work on a board goes. Lists of commands and histories have the newest first, lists of calls the oldest.
-use Rattle.std.specs.Prelude.{◌≡◌, ◌≢◌, ◌⊎◌, ◌≤◌, ◌<◌, ℕ, true, false, List, [], ◌++◌, length, Option, Some, None, IsTrue, codes}
+use Rattle.std.specs.Prelude.{◌≡◌, ◌≢◌, ◌⊎◌, ◌≤◌, ◌<◌, ℕ, true, false, List, [], ◌++◌, length, Option, Some, None, IfSome, IsTrue}
 use Rattle.std.specs.List.{AllByRecursion, flat_map, list_all}
 use Rattle.tf_accept.specs.Accepted.{GivesNone, GivesPlan}
 use Rattle.tf_accept.specs.declared.accepting.Refusal.{Refusal}
@@ -21,15 +21,14 @@ use Rattle.tf_flow.specs.Plan.{PlanTree, PlanValue, plan_tree}
 use Rattle.tf_journal.specs.Start.{IsStart, file_of}
 use Rattle.tf_model.specs.Plan.{outline_of}
 use Rattle.tf_model.specs.Steps.{Session}
-use Rattle.tf_ports.specs.Ports.{CrewTold, hired_for, Contents, GivesBytes, PassesLimit}
+use Rattle.tf_ports.specs.Ports.{CrewTold, GivenBack, Contents, GivesBytes, PassesLimit}
 use Rattle.tf_ports.specs.declared.crews.Want.{Want}
 use Rattle.tf_ports.specs.declared.crews.Want.TheVariants as want
 use Rattle.tf_ports.specs.declared.reading.TheConstants.{SOURCE_LIMIT}
-use Rattle.tf_report.specs.Closing.{ClosesWithOrStops, book_full, disk_fault_text, not_a_book}
-use Rattle.tf_report.specs.declared.statuses.TheConstants.{SUCCEEDED, UNREAD, DISK_FAILED, NO_BOOK, UNHIRED, OUT_OF_MEMORY, FULL}
-use Rattle.tf_shared_board.specs.Calls.{followed_by}
+use Rattle.tf_report.specs.Closing.{ClosesWithOrStops, disk_fault_text, not_a_book, cannot_read, cannot_hire}
+use Rattle.tf_report.specs.declared.statuses.TheConstants.{UNREAD, DISK_FAILED, NO_BOOK, UNHIRED, OUT_OF_MEMORY}
+use Rattle.tf_shared_board.specs.Shared.{followed_by, HaltsFor, halt_status, halt_text}
 use Rattle.tf_shared_board.specs.declared.calls.BoardHalt.{BoardHalt}
-use Rattle.tf_shared_board.specs.declared.calls.BoardHalt.TheVariants as halt
 use Rattle.tf_shared_board.specs.declared.calls.JobCall.{JobCall}
 use Rattle.tf_shared_board.specs.declared.calls.JobCall.TheVariants as call
 use Rattle.tf_shared_board.specs.declared.calls.Made.{Made}
@@ -92,14 +91,6 @@ pub record AreConducted (gives : Order → Outcome → Type 0) (files : Contents
 
 -- ---- what is said
 
--- the message for a file that can't be read
-abbrev pub cannot_read_text : List ℕ
-cannot_read_text = codes "taskflow: cannot read\n"
-
--- the message where no hand could be hired
-abbrev pub cannot_hire_text : List ℕ
-cannot_hire_text = codes "taskflow: cannot hire\n"
-
 -- the line of a call
 abbrev pub call_text : JobCall → List ℕ
 call_text (call.Claim id owner) = applied_text action.Claim id owner
@@ -115,20 +106,6 @@ made_text m = call_text m.call
 -- the lines of the calls, in their order
 abbrev pub calls_text : List Made → List ℕ
 calls_text made = flat_map made_text made
-
--- why the board doesn't go on; nothing for want of memory
-abbrev pub halt_text : Option BoardHalt → List ℕ
-halt_text None = []
-halt_text (Some halt.Disk) = disk_fault_text
-halt_text (Some (halt.Full size need)) = book_full size need
-halt_text (Some halt.Memory) = []
-
--- the status that tells it
-abbrev pub halt_status : Option BoardHalt → ℕ
-halt_status None = SUCCEEDED
-halt_status (Some halt.Disk) = DISK_FAILED
-halt_status (Some (halt.Full size need)) = FULL
-halt_status (Some halt.Memory) = OUT_OF_MEMORY
 
 -- the lines of the calls, and why the board doesn't go on
 abbrev pub closing_text : List Made → Option BoardHalt → List ℕ
@@ -151,8 +128,9 @@ pub record KeepsCalls (name word : List ℕ) (count : ℕ) (past : List Command)
   pub crash : (moment : ℕ) → IsStart name entry now moment → (image text : List ℕ) → now.crashes moment image text
       → LeavesCalls word count past made halted entry image text
 
--- the lines of the calls were said, and why the board didn't go on, unless memory ran out for that
+-- a halt has its cause; the lines of the calls were said, and why the board didn't go on, unless memory ran out for that
 pub record EndsCalls (name word : List ℕ) (count : ℕ) (past : List Command) (made : List Made) (halted : Option BoardHalt) (entry now : DeskState) (status : ℕ) : Type 0 where
+  pub cause : IfSome halted (HaltsFor (followed_by past made) entry now)
   pub closes : ClosesWithOrStops entry.shown (closing_text made halted) (halt_status halted) now.shown status
   pub keeps : IsTrue entry.tells → KeepsCalls name word count past made halted entry now
 
@@ -166,26 +144,37 @@ pub data EndsUnopened (name : List ℕ) (entry now : DeskState) (status : ℕ) :
       → (IsTrue entry.tells → file_of now name ≡ file_of entry name)
       → EndsUnmade name entry now (not_a_book offset byte) NO_BOOK status → EndsUnopened name entry now status
 
--- the ways that so many hands go that were hired for it: memory ran out before anyone worked, and the board has what it had; or conductors worked
--- on it, and their calls were said
-pub data WorksOff (gives : Order → Outcome → Type 0) (files : Contents) (name word : List ℕ) (count : ℕ) (entry now : DeskState) (status : ℕ) : Type 0 where
-  exhausted : (past : List Command) → AreOfBoard past → HasJobs name entry past → status ≡ OUT_OF_MEMORY
-      → Ends name past [] past entry now [] OUT_OF_MEMORY status → WorksOff gives files name word count entry now status
-  worked : (past : List Command) (made : List Made) (halted : Option BoardHalt) → AreOfBoard past → HasJobs name entry past
-      → AreConducted gives files word count past made halted → EndsCalls name word count past made halted entry now status
-      → WorksOff gives files name word count entry now status
+-- so many hands were given back, where the crew tells them
+abbrev pub AreManyBack : ℕ → GivenBack → Type 0
+AreManyBack count None = Unit {0}
+AreManyBack count (Some back) = length back ≡ count
+
+-- so many hands of this process were hired, and nobody else; and as many were given back
+pub record HiresMany (count : ℕ) (crew crew_after : CrewTold) : Type 0 where
+  pub hired : crew_after.hired ≡ told_with crew.hired (want.Local count)
+  pub back : AreManyBack count crew_after.back
+
+-- so many conductors worked on the board, and their calls were said
+pub record WorksOff (gives : Order → Outcome → Type 0) (files : Contents) (name word : List ℕ) (count : ℕ) (entry now : DeskState) (status : ℕ) : Type 0 where
+  pub past : List Command
+  pub legal : AreOfBoard past
+  pub found : HasJobs name entry past
+  pub made : List Made
+  pub halted : Option BoardHalt
+  pub conducted : AreConducted gives files word count past made halted
+  pub ends : EndsCalls name word count past made halted entry now status
 
 -- the ways that the command goes, with sources and a crew that tell so, and hands that keep a relation of orders and outcomes: the board couldn't
--- be opened; memory ran out before anyone was hired, a file couldn't be read, or no hand be hired, and the board has what it had; or as so many
--- hands went that were hired
+-- be opened; memory ran out before anyone was hired, a file couldn't be read, or no hand be hired, and the board has what it had; or so many hands
+-- were hired, worked, and were given back
 pub data Conducts (gives : Order → Outcome → Type 0) (files : Contents) (crew crew_after : CrewTold) (name word : List ℕ) (count : ℕ)
     (entry now : DeskState) (status : ℕ) : Type 0 where
   unopened : crew_after ≡ crew → EndsUnopened name entry now status → Conducts gives files crew crew_after name word count entry now status
   unready : crew_after ≡ crew → (past : List Command) → AreOfBoard past → HasJobs name entry past → status ≡ OUT_OF_MEMORY
       → Ends name past [] past entry now [] OUT_OF_MEMORY status → Conducts gives files crew crew_after name word count entry now status
   unread : crew_after ≡ crew → (past : List Command) → AreOfBoard past → HasJobs name entry past
-      → Ends name past [] past entry now cannot_read_text UNREAD status → Conducts gives files crew crew_after name word count entry now status
+      → Ends name past [] past entry now cannot_read UNREAD status → Conducts gives files crew crew_after name word count entry now status
   unhired : crew_after ≡ crew → (past : List Command) → AreOfBoard past → HasJobs name entry past
-      → Ends name past [] past entry now cannot_hire_text UNHIRED status → Conducts gives files crew crew_after name word count entry now status
-  conducted : crew_after ≡ hired_for crew (want.Local count) → WorksOff gives files name word count entry now status
+      → Ends name past [] past entry now cannot_hire UNHIRED status → Conducts gives files crew crew_after name word count entry now status
+  conducted : HiresMany count crew crew_after → WorksOff gives files name word count entry now status
       → Conducts gives files crew crew_after name word count entry now status

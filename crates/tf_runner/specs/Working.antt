@@ -1,12 +1,12 @@
 -- What is known on the way through the command that lets conductors work. Lists of commands have the newest first, lists of calls the oldest.
-use Rattle.std.specs.Prelude.{◌≡◌, ◌⊎◌, ℕ, List, Option, Some, IsTrue}
+use Rattle.std.specs.Prelude.{◌≡◌, ◌⊎◌, ℕ, List, Option, Some, IfSome, IsTrue}
 use Rattle.tf_desk.specs.Crash.{Pairs}
 use Rattle.tf_desk.specs.State.{DeskState, anything, OnDisk}
 use Rattle.tf_journal.specs.Start.{Path, file_of}
 use Rattle.tf_board.specs.Board.{LeavesBoard, board_in}
 use Rattle.tf_board.specs.declared.commands.Command.{Command}
 use Rattle.tf_conductor.specs.Rounds.{HoldsKept, HoldsSome}
-use Rattle.tf_shared_board.specs.Calls.{followed_by}
+use Rattle.tf_shared_board.specs.Shared.{followed_by, HaltsFor}
 use Rattle.tf_shared_board.specs.declared.calls.BoardHalt.{BoardHalt}
 use Rattle.tf_shared_board.specs.declared.calls.Made.{Made}
 use Rattle.tf_book.specs.declared.faults.Halt.{Halt}
@@ -22,9 +22,10 @@ abbrev pub LeavesUnsaidCalls : List ℕ → ℕ → List Command → List Made �
 LeavesUnsaidCalls word count past made entry image text =
     LeavesBoard past entry image text ⊎ (HoldsSome (IsOwned word count) past made (board_in image) × (entry.shown ≡ Some text))
 
--- these calls were made; what is left is to say them: the file has them, or one more where the disk failed
+-- these calls were made; what is left is to say them: the file has them, or one more where the disk failed; a halt has its cause
 pub record HasCalled (name word : List ℕ) (count : ℕ) (past : List Command) (made : List Made) (halted : Option BoardHalt) (entry now : DeskState) : Type 0 where
   pub on_disk : OnDisk anything entry now
+  pub cause : IfSome halted (HaltsFor (followed_by past made) entry now)
   pub file : IsTrue entry.tells → HoldsKept (IsOwned word count) (followed_by past made) halted (board_in (file_of now name))
   pub path : IsTrue entry.tells
       → Path name entry now (LeavesUnsaidCalls word count past made entry)

@@ -1,11 +1,11 @@
 //! The command that lets conductors work on a board.
-ghost use Rattle.std.specs.Prelude.{◌≡◌, ◌≢◌, ◌≤◌, ◌⊎◌, ℕ, List, [], IfOk, false, length, vec_len};
+ghost use Rattle.std.specs.Prelude.{◌≡◌, ◌≢◌, ◌≤◌, ◌⊎◌, ℕ, List, [], IfOk, length, vec_capacity, vec_len};
 ghost use Rattle.std.specs.List.{All};
 ghost use Rattle.std.specs.Arc.{arc_value};
-ghost use Rattle.tf_actions.specs.Gives.{told_with};
 ghost use Rattle.tf_board.specs.Board.{IsOpened, IsReadyBoard, IsUnopened};
 ghost use Rattle.tf_board.specs.Does.{Concludes, Ends, EndsUnmade, HasCauses, Reached};
 ghost use Rattle.tf_board.specs.declared.commands.Command.{Command};
+ghost use Rattle.tf_conductor.specs.Rounds.{AreDifferent, AreNamedBy};
 ghost use Rattle.tf_journal.specs.declared.faults.LoadFault.{LoadFault as ALoadFault};
 ghost use Rattle.tf_numbers.specs.Numbers.{Rises};
 ghost use Rattle.tf_ports.specs.Ports.{Contents};
@@ -14,31 +14,28 @@ ghost use Rattle.tf_runner.specs.Conducts.{Conducts, EndsUnopened, WorksOff};
 ghost use Rattle.tf_runner.specs.Reading.{AreReadFrom, HaveFiles};
 
 use crate::files::JobFile;
+use crate::hiring::{Ready, hands_of, prepare, runners_of};
 use crate::reading::read_files;
-use crate::runner::FileRunner;
 use crate::saying::conclude;
 use std::alloc::Global;
-use std::sync::{Arc, Wait};
+use std::sync::Wait;
 use std::thread::Threads;
 use tf_actions::Performer;
 use tf_board::{Board, not_a_book_text, open};
-use tf_conductor::{conduct, owners_of};
+use tf_conductor::conduct;
 use tf_desk::Desk;
 use tf_journal::LoadFault;
 use tf_ports::{Crew, Hands, PortFault, SourceFault, Sources, Want};
-use tf_report::{DISK_FAILED, DISK_FAULT, NO_BOOK, OUT_OF_MEMORY, UNHIRED, UNREAD, close};
+use tf_report::{
+    CANNOT_HIRE, CANNOT_READ, DISK_FAILED, DISK_FAULT, NO_BOOK, OUT_OF_MEMORY, UNHIRED, UNREAD,
+    close,
+};
 use tf_shared_board::SharedBoard;
 use tf_values::{Memory, Name, Text};
 
-/// The message for a file that can't be read.
-const CANNOT_READ: &[u8] = b"taskflow: cannot read\n";
-
-/// The message where no hand could be hired.
-const CANNOT_HIRE: &[u8] = b"taskflow: cannot hire\n";
-
 /// Opens the board of that name, reads the flow files of its jobs that nobody has, hires so many hands of this process, and
-/// lets as many conductors work, whose owners are named by the word and their numbers from 0. Then the lines of their calls
-/// are said.
+/// lets as many conductors work, whose owners are named by the word and their numbers from 0. Then the hands are given back,
+/// and the lines of the calls are said.
 pub fn conduct_command<K: Desk + Send, S: Sources, W: Crew, R: Threads + Wait + Sync>(
     rt: &R,
     alloc: Global,
@@ -52,8 +49,9 @@ pub fn conduct_command<K: Desk + Send, S: Sources, W: Crew, R: Threads + Wait + 
     requires short { length word.now ≤ 61 }
     requires many { (1 ≤ hands) × (hands ≤ 64) }
 
-    // The way that it went: what the board had, which hands were hired, which calls the conductors made, how each job's run
-    // may have ended by the files that the sources tell, what was shown, what the board has, and what a crash may leave.
+    // The way that it went: what the board had, which hands were hired and given back, which calls the conductors made, how
+    // each job's run may have ended by the files that the sources tell, what was shown, why the board was halted, what it
+    // has, and what a crash may leave.
     ensures conducts { Conducts W.Hand.gives (S.contents sources.old) (W.told crew.old) (W.told crew.new) name.now
         word.now hands (K.state desk) (K.state result.0) result.1 }
 
@@ -143,15 +141,15 @@ fn read_and_conduct<K: Desk + Send, S: Sources, W: Crew, R: Threads + Wait + Syn
     ensures no_fall { (S.faults sources.old ≤ S.faults sources.new) × (W.faults crew.old ≤ W.faults crew.new) }
 {
     match read_files(alloc, &board, sources) {
-        Ok(files) => hire_and_conduct(rt, alloc, board, files, word, hands, crew),
+        Ok(files) => prepare_and_conduct(rt, alloc, board, files, word, hands, crew),
         Err(SourceFault::Read) => say(board.close(), CANNOT_READ, UNREAD),
         Err(SourceFault::TooLong) => (board.close(), OUT_OF_MEMORY),
         Err(SourceFault::Memory) => (board.close(), OUT_OF_MEMORY),
     }
 }
 
-/// Hires the hands, and goes on with them.
-fn hire_and_conduct<K: Desk + Send, W: Crew, R: Threads + Wait + Sync>(
+/// Takes all memory that conductors need besides their own, and goes on.
+fn prepare_and_conduct<K: Desk + Send, W: Crew, R: Threads + Wait + Sync>(
     rt: &R,
     alloc: Global,
     board: Board<K>,
@@ -174,61 +172,106 @@ fn hire_and_conduct<K: Desk + Send, W: Crew, R: Threads + Wait + Sync>(
     ensures unhired { result.1 ≡ UNHIRED → Rises (W.faults crew.old) (W.faults crew.new) }
     ensures no_fall { W.faults crew.old ≤ W.faults crew.new }
 {
+    match prepare(alloc, files, word, hands) {
+        Ok(ready) => hire_and_conduct(rt, alloc, board, ready, word, hands, crew),
+        Err(_) => (board.close(), OUT_OF_MEMORY),
+    }
+}
+
+/// Hires the hands, goes on with them, and gives them back.
+fn hire_and_conduct<K: Desk + Send, W: Crew, R: Threads + Wait + Sync>(
+    rt: &R,
+    alloc: Global,
+    board: Board<K>,
+    ready: Ready<W::Hand>,
+    word: &Name,
+    hands: u8,
+    crew: &mut W,
+) -> (K, u8)
+    requires many { (1 ≤ hands) × (hands ≤ 64) }
+    requires owners { (length ready.owners ≡ hands) × AreNamedBy word.now ready.owners × AreDifferent ready.owners }
+    requires shares { (vec_len ready.shares ≡ hands)
+        × All (λ share. arc_value share ≡ arc_value ready.files) ready.shares.items }
+    requires room { (ready.room.items ≡ []) × (hands ≤ vec_capacity ready.room) }
+    requires ready { IsReadyBoard board }
+    requires have { HaveFiles board.past (arc_value ready.files).items }
+    ensures conducts { (contents : Contents) → AreReadFrom contents (arc_value ready.files).items
+        → (name : List ℕ) (entry : K) → IsOpened K.state name (K.state entry) board
+        → Conducts W.Hand.gives contents (W.told crew.old) (W.told crew.new) name word.now hands
+        (K.state entry) (K.state result.0) result.1 }
+    ensures causes { (name : List ℕ) (entry : K) → IsOpened K.state name (K.state entry) board
+        → HasCauses (K.state entry) (K.state result.0) result.1 }
+    ensures apart { result.1 ≢ UNREAD }
+    ensures unhired { result.1 ≡ UNHIRED → Rises (W.faults crew.old) (W.faults crew.new) }
+    ensures no_fall { W.faults crew.old ≤ W.faults crew.new }
+{
     match crew.hire(alloc, &Want::Local(hands)) {
-        Ok(Hands::Local(hired)) => conduct_with(rt, alloc, board, files, word, hired, hands),
+        Ok(Hands::Local(hired)) => {
+            let ended = conduct_with(rt, alloc, board, ready, word, hired, hands);
+            let Ended {
+                desk,
+                status,
+                hands,
+            } = ended;
+            crew.dismiss(Hands::Local(hands));
+            (desk, status)
+        }
         Ok(Hands::Remote(_)) => unreachable!(),
         Err(PortFault::Failed) => say(board.close(), CANNOT_HIRE, UNHIRED),
         Err(PortFault::Memory) => (board.close(), OUT_OF_MEMORY),
     }
 }
 
-/// A runner with each of the hands, all with the same files.
-fn runners_of<P: Performer>(
-    alloc: Global,
+/// What is left where conductors are done: the desk, the status, and their hands.
+struct Ended<K, P> {
+    desk: K,
+    status: u8,
     hands: Vec<P>,
-    files: Vec<JobFile>,
-) -> Result<Vec<FileRunner<P>>, Memory>
-    ensures count { IfOk result (λ runners. vec_len runners ≡ vec_len hands) }
-    ensures files { IfOk result (λ runners. All (λ runner. arc_value runner.files ≡ files) runners.items) }
-{
-    let files = Arc::new(alloc, files)?;
-    let mut runners = Vec::with_capacity(alloc, hands.len())?;
-    for hand in hands {
-        let files = Arc::try_clone(&files)?;
-        runners.push_reserved(FileRunner::make(hand, files));
-    }
-    Ok(runners)
 }
 
-/// Lets conductors work with hands that were hired, and says what they did.
+/// Lets conductors work with hands that were hired, and says what they did. The hands come back.
 fn conduct_with<K: Desk + Send, P: Performer + Send, R: Threads + Wait + Sync>(
     rt: &R,
     alloc: Global,
     board: Board<K>,
-    files: Vec<JobFile>,
+    ready: Ready<P>,
     word: &Name,
     hands: Vec<P>,
     count: u8,
-) -> (K, u8)
-    requires short { length word.now ≤ 61 }
+) -> Ended<K, P>
     requires many { (1 ≤ count) × (count ≤ 64) }
     requires hands { vec_len hands ≡ count }
+    requires owners { (length ready.owners ≡ count) × AreNamedBy word.now ready.owners × AreDifferent ready.owners }
+    requires shares { (vec_len ready.shares ≡ count)
+        × All (λ share. arc_value share ≡ arc_value ready.files) ready.shares.items }
+    requires room { (ready.room.items ≡ []) × (count ≤ vec_capacity ready.room) }
     requires ready { IsReadyBoard board }
-    requires have { HaveFiles board.past files.items }
-    ensures works { (contents : Contents) → AreReadFrom contents files.items
+    requires have { HaveFiles board.past (arc_value ready.files).items }
+    ensures works { (contents : Contents) → AreReadFrom contents (arc_value ready.files).items
         → (name : List ℕ) (entry : K) → IsOpened K.state name (K.state entry) board
-        → WorksOff P.gives contents name word.now count (K.state entry) (K.state result.0) result.1 }
+        → WorksOff P.gives contents name word.now count (K.state entry) (K.state result.desk) result.status }
     ensures causes { (name : List ℕ) (entry : K) → IsOpened K.state name (K.state entry) board
-        → HasCauses (K.state entry) (K.state result.0) result.1 }
-    ensures apart { (result.1 ≢ UNREAD) × (result.1 ≢ UNHIRED) }
+        → HasCauses (K.state entry) (K.state result.desk) result.status }
+    ensures apart { (result.status ≢ UNREAD) × (result.status ≢ UNHIRED) }
+    ensures back { vec_len result.hands ≡ count }
 {
-    let Ok(owners) = owners_of(alloc, word, count) else {
-        return (board.close(), OUT_OF_MEMORY);
-    };
-    let Ok(mut runners) = runners_of(alloc, hands, files) else {
-        return (board.close(), OUT_OF_MEMORY);
-    };
+    let Ready {
+        owners,
+        files,
+        shares,
+        room,
+    } = ready;
+    drop(files);
+    let mut hands = hands;
+    let mut runners = runners_of(&mut hands, shares, room);
     let shared = SharedBoard::make(alloc, board);
     let ended = conduct(rt, alloc, shared, &owners, &mut runners);
-    conclude(alloc, ended)
+    let hands = hands_of(runners, hands);
+    let said = conclude(alloc, ended);
+    let (desk, status) = said;
+    Ended {
+        desk,
+        status,
+        hands,
+    }
 }

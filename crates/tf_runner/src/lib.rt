@@ -3,6 +3,7 @@
 
 mod commanding;
 mod files;
+mod hiring;
 mod mute;
 mod reading;
 mod runner;

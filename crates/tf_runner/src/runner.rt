@@ -1,5 +1,4 @@
 ghost use Rattle.std.specs.Prelude.{◌≡◌, [], None, true, IfOk};
-ghost use Rattle.std.specs.Arc.{arc_value};
 ghost use Rattle.tf_flow.specs.Plan.{plan_tree};
 ghost use Rattle.tf_machine.specs.Machine.{StandsFor};
 ghost use Rattle.tf_runner.specs.Conducts.{BytesRunTo, PlanRunsTo};
@@ -34,9 +33,19 @@ pub struct FileRunner<P> {
 impl<P> FileRunner<P> {
     /// Who runs the flows of these files with that hand.
     pub fn make(hand: P, files: Arc<Vec<JobFile>, Global>) -> FileRunner<P>
-        ensures { arc_value result.files ≡ arc_value files }
+        ensures hand { result.hand ≡ hand }
+        ensures files { result.files ≡ files }
     {
         FileRunner { hand, files }
+    }
+
+    /// The hand back.
+    pub fn into_hand(self) -> P
+        ensures { result ≡ self.hand }
+    {
+        let FileRunner { hand, files } = self;
+        drop(files);
+        hand
     }
 }
 

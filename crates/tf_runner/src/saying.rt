@@ -2,21 +2,20 @@
 ghost use Rattle.std.specs.Prelude.{◌≡◌, ◌≢◌, ◌++◌, ℕ, List, Option, Some, IfOk, OnOk};
 ghost use Rattle.tf_board.specs.Does.{Concludes};
 ghost use Rattle.tf_board.specs.declared.commands.Command.{Command};
-ghost use Rattle.tf_report.specs.declared.statuses.TheConstants.{UNHIRED, UNREAD, UNSAID};
+ghost use Rattle.tf_report.specs.declared.statuses.TheConstants.{DISK_FAILED, UNHIRED, UNREAD, UNSAID};
 ghost use Rattle.tf_shared_board.specs.declared.calls.BoardHalt.{BoardHalt as AHalt};
 ghost use Rattle.tf_shared_board.specs.declared.calls.BoardHalt.TheVariants.{Disk as DiskHalt};
 ghost use Rattle.tf_shared_board.specs.declared.calls.Made.{Made as AMade};
-ghost use Rattle.tf_runner.specs.Conducts.{EndsCalls, call_text, calls_text as calls_said, closing_text, halt_status, halt_text};
+ghost use Rattle.tf_shared_board.specs.Shared.{IsShared, halt_status as status_of_halt};
+ghost use Rattle.tf_runner.specs.Conducts.{EndsCalls, call_text, calls_text as calls_said, closing_text};
 ghost use Rattle.tf_runner.specs.Working.{HasCalled};
 
 use std::alloc::Global;
 use tf_board::{JobAction, applied_line};
 use tf_conductor::Conducted;
 use tf_desk::Desk;
-use tf_report::{
-    DISK_FAILED, DISK_FAULT, FULL, OUT_OF_MEMORY, SUCCEEDED, append, append_book_full, close,
-};
-use tf_shared_board::{BoardHalt, JobCall, Made};
+use tf_report::{OUT_OF_MEMORY, append, close};
+use tf_shared_board::{BoardHalt, JobCall, Made, append_halt, halt_status};
 use tf_values::Memory;
 
 /// The line of a call.
@@ -43,39 +42,20 @@ fn calls_text(alloc: Global, made: &[Made]) -> Result<Vec<u8>, Memory>
     Ok(text)
 }
 
-/// Appends why the board doesn't go on, unless memory ran out, and answers the status.
-fn append_halt(halt: Option<BoardHalt>, text: &mut Vec<u8>) -> Result<u8, Memory>
-    ensures text { OnOk result (text.new.items ≡ text.old.items ++ halt_text halt) }
-    ensures status { IfOk result (λ status. status ≡ halt_status halt) }
-{
-    match halt {
-        None => Ok(SUCCEEDED),
-        Some(BoardHalt::Memory) => Ok(OUT_OF_MEMORY),
-        Some(BoardHalt::Disk) => {
-            append(DISK_FAULT, text)?;
-            Ok(DISK_FAILED)
-        }
-        Some(BoardHalt::Full { size, need }) => {
-            append_book_full(size, need, text)?;
-            Ok(FULL)
-        }
-    }
-}
-
 /// What is said where conductors are done, and the status.
 fn closing(alloc: Global, made: &[Made], halt: Option<BoardHalt>) -> Result<(Vec<u8>, u8), Memory>
-    ensures { IfOk result (λ said. (said.0.items ≡ closing_text made.now halt) × (said.1 ≡ halt_status halt)) }
+    ensures { IfOk result (λ said. (said.0.items ≡ closing_text made.now halt) × (said.1 ≡ status_of_halt halt)) }
 {
     let mut text = calls_text(alloc, made)?;
-    let status = append_halt(halt, &mut text)?;
-    Ok((text, status))
+    append_halt(halt, &mut text)?;
+    Ok((text, halt_status(halt)))
 }
 
 /// Says a text, which may be empty, and answers the status: the one that belongs to it, or that of a failed output.
 fn say_all<K: Desk>(mut desk: K, text: &[u8], status: u8) -> (K, u8)
     requires apart { status ≢ UNSAID }
     ensures ends { (name word : List ℕ) (count : ℕ) (past : List Command) (made : List AMade) (halted : Option AHalt)
-        (entry : K) → text.now ≡ closing_text made halted → status ≡ halt_status halted
+        (entry : K) → text.now ≡ closing_text made halted → status ≡ status_of_halt halted
         → HasCalled name word count past made halted (K.state entry) (K.state desk)
         → EndsCalls name word count past made halted (K.state entry) (K.state result.0) result.1 }
     ensures concludes { Concludes (K.state desk) (K.state result.0) result.1 }
@@ -94,6 +74,7 @@ pub(crate) fn conclude<K: Desk>(alloc: Global, ended: Conducted<K>) -> (K, u8)
         → HasCalled name word count past ended.shared.made ended.halt (K.state entry)
         (K.state ended.shared.board.journal.desk)
         → EndsCalls name word count past ended.shared.made ended.halt (K.state entry) (K.state result.0) result.1 }
+    ensures shared { IsShared K.state ended.shared }
     ensures concludes { Concludes (K.state ended.shared.board.journal.desk) (K.state result.0) result.1 }
     ensures failed { result.1 ≡ DISK_FAILED → ended.halt ≡ Some DiskHalt }
     ensures apart { (result.1 ≢ UNREAD) × (result.1 ≢ UNHIRED) }

@@ -1,19 +1,25 @@
-use Rattle.std.proofs.Common.{[], refl}
+use Rattle.std.proofs.Common.{[], refl, arith}
+use Rattle.std.proofs.lemmas.List.{length-map}
 use Rattle.tf_report.specs.declared.statuses.TheConstants.{DISK_FAILED, UNREAD}
 use Rattle.tf_board.proofs.ActLemmas.{reached_back, said_causes}
 use Rattle.tf_board.proofs.EndLemmas.{opened_reached, reached_stops}
 use Rattle.tf_runner.specs.Conducts.{conducted, unhired, unready}
-use Rattle.tf_runner.proofs.CallLemmas.{never_said}
+use Rattle.tf_runner.proofs.CallLemmas.{hires_so, never_said}
 use Rattle.tf_runner.proofs.commanding.hire_and_conduct.Goals as goal
 
 pub returns-in-Ok-Local-clause-conducts : goal.returns-in-Ok-Local-clause-conducts
-returns-in-Ok-Local-clause-conducts g c = λ contents read name entry o. conducted c.in-Ok-Local.ensures.hired (c.conduct_with.ensures.works contents read name entry o)
+returns-in-Ok-Local-clause-conducts g c = λ contents read name entry o.
+    let ended = c.conduct_with-ended.result in
+    conducted
+    (hires_so c.args.hands (g.W.Crew.told c.args.crew.now) (g.W.Crew.told c.hire.new.self) (g.W.Crew.told c.dismiss.new.self) _ c.in-Ok-Local.ensures.hired c.dismiss.ensures.back
+    (omega (arith, length-map ended.hands.items g.W.Hand.Performer.did, c.conduct_with-ended.ensures.back, ended.hands.ok.0)))
+    (c.conduct_with-ended.ensures.works contents read name entry o)
 
 pub returns-in-Ok-Local-clause-apart : goal.returns-in-Ok-Local-clause-apart
-returns-in-Ok-Local-clause-apart g c = c.conduct_with.ensures.apart.0
+returns-in-Ok-Local-clause-apart g c = c.conduct_with-ended.ensures.apart.0
 
 pub returns-in-Ok-Local-clause-unhired : goal.returns-in-Ok-Local-clause-unhired
-returns-in-Ok-Local-clause-unhired g c = λ is. absurd (c.conduct_with.ensures.apart.1 is)
+returns-in-Ok-Local-clause-unhired g c = λ is. absurd (c.conduct_with-ended.ensures.apart.1 is)
 
 pub returns-in-Err-Failed-clause-conducts : goal.returns-in-Err-Failed-clause-conducts
 returns-in-Err-Failed-clause-conducts g c = λ contents read name entry o.

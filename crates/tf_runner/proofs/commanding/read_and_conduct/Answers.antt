@@ -7,10 +7,10 @@ use Rattle.tf_runner.proofs.CallLemmas.{never_said}
 use Rattle.tf_runner.proofs.commanding.read_and_conduct.Goals as goal
 
 pub returns-in-Ok-clause-conducts : goal.returns-in-Ok-clause-conducts
-returns-in-Ok-clause-conducts g c = λ name entry o. c.hire_and_conduct.ensures.conducts _ c.in-Ok.ensures.read name entry o
+returns-in-Ok-clause-conducts g c = λ name entry o. c.prepare_and_conduct.ensures.conducts _ c.in-Ok.ensures.read name entry o
 
 pub returns-in-Ok-clause-unread : goal.returns-in-Ok-clause-unread
-returns-in-Ok-clause-unread g c = λ is. absurd (c.hire_and_conduct.ensures.apart is)
+returns-in-Ok-clause-unread g c = λ is. absurd (c.prepare_and_conduct.ensures.apart is)
 
 pub returns-in-Err-Read-clause-conducts : goal.returns-in-Err-Read-clause-conducts
 returns-in-Err-Read-clause-conducts g c = λ name entry o.
