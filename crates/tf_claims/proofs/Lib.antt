@@ -3,6 +3,7 @@ pub mod BookLemmas
 pub mod TitleLemmas
 pub mod NameLemmas
 pub mod GivenLemmas
+pub mod ServiceLemmas
 pub mod WayLemmas
 pub mod StepLemmas
 pub mod LifeLemmas

@@ -22,7 +22,8 @@ use Rattle.tf_board.proofs.StayLemmas.{one_list, older_of_board, named_on}
 use Rattle.tf_claims.specs.Life.{Call, Leaves, Life, unlived, lived, IsBoardOf, WasClaimed, IsHandedOn}
 use Rattle.tf_claims.proofs.ClosingLemmas.{never_closes, either_one}
 use Rattle.tf_claims.proofs.StepLemmas.{Effect, call_keeps, no_flow, no_jobs}
-use Rattle.tf_claims.proofs.WayLemmas.{Way, alone, recorded, began, unmade, jobs}
+use Rattle.tf_claims.proofs.ServiceLemmas.{GrownBy}
+use Rattle.tf_claims.proofs.WayLemmas.{Way, alone, recorded, began, unmade, jobs, served_jobs}
 
 -- the board has the commands, and perhaps more behind them, and may hold all
 abbrev pub GrownLegally : List Command → List ℕ → Type 0
@@ -55,6 +56,9 @@ module _ (first : Command) (rest : List Command) (good : AreOfBoard (first ∷ r
   after_crash pending added image may (inl (inr empty)) = absurd (let clash : first ∷ rest ≡ [] = empty.0 in cc)
   after_crash pending added image may (inr held) = grown pending added image may held
 
+  behind : (before : List Command) → before ≡ past → (file : List ℕ) → GrownBy before file → GrownLegally past file
+  behind before same file more = (more.added, subst (λ (b : List Command). IsBoardOf (more.added ++ b) file) same (more.legal, more.holds))
+
   -- what each way of a call leaves
   legal_effect : {gives : Want → Order → Outcome → Type 0} {able : ℕ → Want → Type 0} {name : List ℕ} {entry now : DeskState} → Holds past (board_in (file_of entry name)) → Way gives able name entry now → Effect (GrownLegally past) name entry now
   legal_effect {gives} {able} {name} {entry} {now} holds (alone closing a) = record {
@@ -77,6 +81,13 @@ module _ (first : Command) (rest : List Command) (good : AreOfBoard (first ∷ r
             after_crash pending added image may_here
             (subst (λ (b : List Command). Finds b (board_in image) ⊎ HoldsEither pending (added ++ b) (board_in image)) same
             (⊎_elim (λ old. inl old.0) (λ new. inr new.0) (l.crash moment start image text is)));
+      }
+  legal_effect {gives} {able} {name} {entry} {now} holds (served_jobs before finds file others crash) =
+      let same = held_once before (file_of entry name) holds (older_of_board file.added before file.legal) finds in
+      record {
+        file = behind before same (file_of now name) file;
+        crash = λ moment start image text is.
+            ⊎_elim (λ old. after_crash [] [] image good (inl (subst (λ (b : List Command). Finds b (board_in image)) same old))) (λ more. behind before same image more) (crash moment start image text is);
       }
 
 module _ {K : Type 0} (state : K → DeskState) (gives : Want → Order → Outcome → Type 0) where

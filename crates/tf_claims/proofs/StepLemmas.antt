@@ -29,7 +29,7 @@ use Rattle.tf_claims.proofs.NameLemmas.{name_same}
 use Rattle.tf_model.specs.Plan.{Outline, outline_of}
 use Rattle.tf_claims.proofs.GivenLemmas.{pending_given, given_older}
 use Rattle.tf_claims.proofs.OnceLemmas.{once, grows_so}
-use Rattle.tf_claims.proofs.WayLemmas.{Way, alone, recorded, began, unmade, jobs, way_others, Goes, untouched, about, itself, obeys_goes}
+use Rattle.tf_claims.proofs.WayLemmas.{Way, alone, recorded, began, unmade, jobs, served_jobs, way_others, Goes, untouched, about, itself, obeys_goes}
 use Rattle.tf_board.proofs.StayLemmas.{some_body}
 use Rattle.tf_claims.proofs.TitleLemmas.{no_board_too, no_book_too}
 
@@ -106,6 +106,7 @@ way_effect {gives} {able} {plan} {past} {name} {entry} {now} holds (unmade messa
   crash = λ moment start image text is. not_made gives able (file_of entry name) image holds (s.crash moment start image text is).0;
 }
 way_effect {gives} {able} {plan} {past} {name} {entry} {now} holds (jobs before added pending message finds may l) = absurd (no_jobs (file_of entry name) before holds finds)
+way_effect {gives} {able} {plan} {past} {name} {entry} {now} holds (served_jobs before finds file others crash) = absurd (no_jobs (file_of entry name) before holds finds)
 
 -- the bodies of a board's commands, and of more behind them, are those of every list of commands with the same bodies
 same_board : (past before : List Command) → commands_bodies past ≡ commands_bodies before → (added : List Command)
@@ -168,6 +169,13 @@ module _ (first : Command) (rest : List Command) where
         file = either before same pending added (file_of now name) l.file;
         crash = λ moment start image text is.
             after_crash before pending added same image (⊎_elim (λ old. inl old.0) (λ new. inr new.0) (l.crash moment start image text is));
+      }
+  board_effect {gives} {able} {name} {entry} {now} holds (served_jobs before finds file others crash) =
+      let same = held_so before (file_of entry name) holds finds in
+      record {
+        file = stand before same file.added (file_of now name) file.holds;
+        crash = λ moment start image text is.
+            ⊎_elim (λ old. after_crash before [] [] same image (inl old)) (λ grown. stand before same grown.added image grown.holds) (crash moment start image text is);
       }
 
 -- ---- what a call leaves

@@ -1,19 +1,24 @@
 -- Which way a call goes: what it leaves of the file that it is about.
-use Rattle.std.proofs.Common.{◌≡◌, ◌≢◌, ◌<◌, ℕ, List, [], ◌++◌, Option, Some, refl, sym, subst, ⊎_elim}
+use Rattle.std.proofs.Common.{◌≡◌, ◌≢◌, ◌⊎◌, ◌<◌, ℕ, List, [], ◌++◌, Option, Some, refl, sym, subst, ⊎_elim}
 use Rattle.std.specs.Prelude.{Bool, IsTrue}
 use Rattle.tf_desk.specs.State.{DeskState}
 use Rattle.tf_flow.specs.Plan.{PlanValue, PlanTree}
 use Rattle.tf_states.specs.declared.record.Entry.{Entry}
-use Rattle.tf_ports.specs.Ports.{Contents, wanted as number_of, CrewTold}
+use Rattle.tf_ports.specs.Ports.{Contents, DoorTold, wanted as number_of, CrewTold}
+use Rattle.tf_ports.specs.declared.crews.Address.{Address}
 use Rattle.tf_ports.specs.declared.crews.Want.{Want}
 use Rattle.tf_actions.specs.declared.orders.Order.{Order}
 use Rattle.tf_actions.specs.declared.outcomes.Outcome.{Outcome}
-use Rattle.tf_journal.specs.Start.{file_of}
+use Rattle.tf_journal.specs.Start.{IsStart, file_of}
 use Rattle.tf_words.specs.declared.asked.Asked.{Asked}
 use Rattle.tf_words.specs.declared.asked.Asked.TheVariants as asked
 use Rattle.tf_board.specs.Does.{answer_of, Does, HoldsEither}
 use Rattle.tf_board.specs.Board.{AreOfBoard, board_in, Finds}
 use Rattle.tf_board.specs.Does as board
+use Rattle.tf_board_service.specs.Sessions as service
+use Rattle.tf_board_service.specs.Sessions.{ServesBoard}
+use Rattle.tf_runner.specs.Conducts as conduct
+use Rattle.tf_runner.specs.Conducts.{Conducts, WorksOff}
 use Rattle.tf_board.specs.declared.commands.Command.{Command}
 use Rattle.tf_commands.specs.Asking.{want_of}
 use Rattle.tf_commands.specs.Books as books
@@ -24,6 +29,7 @@ use Rattle.tf_commands.specs.declared.reading.Source.{Source}
 use Rattle.tf_commands.specs.declared.running.Request.{Request}
 use Rattle.tf_claims.specs.Life.{file_of_command}
 use Rattle.tf_claims.proofs.GivenLemmas.{GivesAll, run_gives, ended_gives, reset_gives}
+use Rattle.tf_claims.proofs.ServiceLemmas.{GrownBy, all_grown, crash_grown, conducted_grown, conducted_crash}
 
 -- ---- the ways of a call about a file
 
@@ -37,6 +43,10 @@ pub data Way (gives : Want → Order → Outcome → Type 0) (able : ℕ → Wan
   unmade : (message : List ℕ) → board.StaysUnmade name entry now message → Way gives able name entry now
   jobs : (before added pending : List Command) (message : List ℕ) → Finds before (board_in (file_of entry name)) → AreOfBoard (pending ++ (added ++ before))
       → board.Lasts name before pending (added ++ before) entry now message → Way gives able name entry now
+  served_jobs : (before : List Command) → Finds before (board_in (file_of entry name)) → GrownBy before (file_of now name)
+      → ((other : List ℕ) → other ≢ name → now.content.files other ≡ entry.content.files other)
+      → ((moment : ℕ) → IsStart name entry now moment → (image text : List ℕ) → now.crashes moment image text → Finds before (board_in image) ⊎ GrownBy before image)
+      → Way gives able name entry now
 
 -- other files stay
 pub way_others : {gives : Want → Order → Outcome → Type 0} {able : ℕ → Want → Type 0} {name : List ℕ} {entry now : DeskState} → Way gives able name entry now → (other : List ℕ) → other ≢ name → now.content.files other ≡ entry.content.files other
@@ -45,6 +55,7 @@ way_others (recorded may plan quiet before entries closing held given l) = l.oth
 way_others (began may plan quiet entries closing none given l) = l.others
 way_others (unmade message s) = s.others
 way_others (jobs before added pending message finds may l) = l.others
+way_others (served_jobs before finds file others crash) = others
 
 -- such a hand may record where these hands were hired
 abbrev pub Allows : (ℕ → Want → Type 0) → Want → CrewTold → CrewTold → Type 0
@@ -60,6 +71,35 @@ does_way command name entry now status told (board.answered before legal may has
 does_way command name entry now status told (board.unrecorded before legal has is ends) = jobs before [] [] _ (has told) legal (ends.lasts told)
 does_way command name entry now status told (board.disk_failed before legal may has ends) = jobs before [] (answer_of command before).added _ (has told) may (ends.lasts told)
 does_way command name entry now status told (board.filled before size need legal has full ends) = jobs before [] [] _ (has told) legal (ends.lasts told)
+
+serves_way : {gives : Want → Order → Outcome → Type 0} {able : ℕ → Want → Type 0} (name : List ℕ) (address : Address) (count : ℕ) (old new : DoorTold) (entry now : DeskState) (status : ℕ) → IsTrue entry.tells
+    → ServesBoard name address count old new entry now status → Way gives able name entry now
+serves_way name address count old new entry now status told (service.unopened_memory same is ends) = unmade [] (ends.stays told)
+serves_way name address count old new entry now status told (service.unopened_disk same ends) = unmade _ (ends.stays told)
+serves_way name address count old new entry now status told (service.no_board same offset byte none still ends) = unmade _ (ends.stays told)
+serves_way name address count old new entry now status told (service.exhausted before legal has is vain ends) = jobs before [] [] _ (has told) legal (ends.lasts told)
+serves_way name address count old new entry now status told (service.unlistened before legal has vain ends) = jobs before [] [] _ (has told) legal (ends.lasts told)
+serves_way name address count old new entry now status told (service.served before legal has s) =
+    let kept = s.keeps told in
+    served_jobs before (has told) (all_grown before s.made s.halted kept.pending s.served_over.legal kept.is_pending (file_of now name) kept.file) kept.others
+    (λ moment start image text left. crash_grown before s.made s.halted kept.pending s.served_over.legal kept.is_pending entry _ image text (kept.crash moment start image text left))
+
+works_off_way : {gives : Want → Order → Outcome → Type 0} {able : ℕ → Want → Type 0} {by : Order → Outcome → Type 0} (files : Contents) (name word : List ℕ) (count : ℕ) (entry now : DeskState) (status : ℕ) → IsTrue entry.tells
+    → WorksOff by files name word count entry now status → Way gives able name entry now
+works_off_way files name word count entry now status told w =
+    let kept = w.ends.keeps told in
+    served_jobs w.past (w.found told) (conducted_grown w.past w.made w.conducted.legal (file_of now name) kept.file) kept.others
+    (λ moment start image text left. conducted_crash w.past w.made w.conducted.legal entry image text (kept.crash moment start image text left))
+
+conducts_way : {gives : Want → Order → Outcome → Type 0} {able : ℕ → Want → Type 0} {by : Order → Outcome → Type 0} (files : Contents) (crew crew_after : CrewTold) (name word : List ℕ) (count : ℕ) (entry now : DeskState)
+    (status : ℕ) → IsTrue entry.tells → Conducts by files crew crew_after name word count entry now status → Way gives able name entry now
+conducts_way files crew crew_after name word count entry now status told (conduct.unopened same (conduct.without_memory is ends)) = unmade [] (ends.stays told)
+conducts_way files crew crew_after name word count entry now status told (conduct.unopened same (conduct.without_disk ends)) = unmade _ (ends.stays told)
+conducts_way files crew crew_after name word count entry now status told (conduct.unopened same (conduct.no_board offset byte none still ends)) = unmade _ (ends.stays told)
+conducts_way files crew crew_after name word count entry now status told (conduct.unready same before legal has is ends) = jobs before [] [] _ (has told) legal (ends.lasts told)
+conducts_way files crew crew_after name word count entry now status told (conduct.unread same before legal has ends) = jobs before [] [] _ (has told) legal (ends.lasts told)
+conducts_way files crew crew_after name word count entry now status told (conduct.unhired same before legal has ends) = jobs before [] [] _ (has told) legal (ends.lasts told)
+conducts_way files crew crew_after name word count entry now status told (conduct.conducted hired w) = works_off_way files name word count entry now status told w
 
 unopened_way : {gives : Want → Order → Outcome → Type 0} {able : ℕ → Want → Type 0} (name : List ℕ) (entry now : DeskState) (status : ℕ) → IsTrue entry.tells → Unopened name entry now status → Way gives able name entry now
 unopened_way name entry now status told (books.exhausted s) = alone [] (s.alone told)
@@ -148,3 +188,7 @@ module _ {K : Type 0} (state : K → DeskState) (gives : Want → Order → Outc
   obeys_goes stopped (asked.Trash file id owner) files ports later entry now status allow told obeys = about file refl (does_way _ file (state entry) (state now) status told obeys.0)
   obeys_goes stopped (asked.Owner file id) files ports later entry now status allow told obeys = about file refl (does_way _ file (state entry) (state now) status told obeys.0)
   obeys_goes stopped (asked.List file) files ports later entry now status allow told obeys = about file refl (does_way _ file (state entry) (state now) status told obeys.0)
+  obeys_goes stopped (asked.Conduct file owner hands) files ports later entry now status allow told obeys =
+      about file refl (conducts_way files ports.crew later.crew file owner hands (state entry) (state now) status told obeys.0)
+  obeys_goes stopped (asked.Serve file address sessions) files ports later entry now status allow told obeys =
+      about file refl (serves_way file address sessions ports.door later.door (state entry) (state now) status told obeys.0)

@@ -35,6 +35,8 @@ file_of_command (asked.Resume book hands stop) = Some book
 file_of_command (asked.Show book) = Some book
 file_of_command (asked.Reset book) = Some book
 file_of_command (asked.Demo seed size book hands) = Some book
+file_of_command (asked.Conduct board owner hands) = Some board
+file_of_command (asked.Serve board address sessions) = Some board
 file_of_command command = board_of command
 
 -- the words are a command about the file of that name

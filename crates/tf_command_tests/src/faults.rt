@@ -232,7 +232,7 @@ fn a_worker_says_how_its_sessions_ended(rt: HostRuntime) -> Result<(), Fail> {
     Ok(())
 }
 
-const CLOSED: Faults = Faults {
+pub(crate) const CLOSED: Faults = Faults {
     sources: &[],
     crew: &[],
     door: &[1],

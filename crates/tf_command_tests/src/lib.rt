@@ -11,3 +11,5 @@ mod faults;
 mod orders;
 #[cfg(test)]
 mod remote;
+#[cfg(test)]
+mod serving;

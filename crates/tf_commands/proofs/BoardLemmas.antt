@@ -77,6 +77,8 @@ hires_none (asked.Check file sets target) is = absurd (cc)
 hires_none (asked.Audit file log sets defer) is = absurd (cc)
 hires_none (asked.Demo seed size book hands) is = absurd (cc)
 hires_none (asked.Worker address sessions) is = absurd (cc)
+hires_none (asked.Conduct board owner hands) is = absurd (cc)
+hires_none (asked.Serve board address sessions) is = absurd (cc)
 
 -- and nobody is hired for it
 pub hires_board : (command : Asked) (crew crew_after : CrewTold) → is_some (board_of command) ≡ true → crew_after ≡ crew → HiresAsWanted (want_of command) crew crew_after
@@ -138,3 +140,5 @@ module _ {K : Type 0} (state : K → DeskState) where
   obeys_board gives stopped (asked.Audit file log sets defer) files ports later entry now status is does same = absurd (cc)
   obeys_board gives stopped (asked.Demo seed size book hands) files ports later entry now status is does same = absurd (cc)
   obeys_board gives stopped (asked.Worker address sessions) files ports later entry now status is does same = absurd (cc)
+  obeys_board gives stopped (asked.Conduct board owner hands) files ports later entry now status is does same = absurd (cc)
+  obeys_board gives stopped (asked.Serve board address sessions) files ports later entry now status is does same = absurd (cc)

@@ -17,7 +17,8 @@ use Rattle.tf_states.specs.declared.record.Entry.{Entry}
 use Rattle.tf_book.specs.Book.{BookValue, CanRun}
 use Rattle.tf_commands.specs.Begun.{MayBeBorn}
 use Rattle.tf_commands.specs.Books.{Hires, IsFile, RefusesOrStops, exhausted, Promised, Unhired, exhausted_hire, unhired, Runs, unopened, forbidden, unhired_run, ran, Resumes, unhired_again, resumed, book_in, HoldsNoFlow, HoldsHistory}
-use Rattle.tf_commands.specs.Messages.{state_forbids, cannot_hire}
+use Rattle.tf_commands.specs.Messages.{state_forbids}
+use Rattle.tf_report.specs.Closing.{cannot_hire}
 use Rattle.tf_commands.specs.declared.running.Request.{Request}
 use Rattle.tf_commands.specs.Runs.{HoldsBook, GoesFurther, nobody, went_on}
 use Rattle.tf_report.specs.declared.statuses.TheConstants.{FORBIDDEN, UNHIRED}

@@ -12,6 +12,8 @@ use Rattle.tf_words.specs.declared.asked.Asked.{Asked}
 use Rattle.tf_words.specs.declared.asked.Asked.TheVariants as asked
 use Rattle.tf_board.specs.Does.{board_of, IsBoardStatus}
 use Rattle.tf_board.proofs.DoesLemmas.{does_status}
+use Rattle.tf_board_service.specs.Sessions.{HasServiceCauses, IsServiceStatus}
+use Rattle.tf_board_service.proofs.CommandLemmas.{service_status}
 use Rattle.tf_commands.specs.Asking.{file_asked_for, IsWork, Counts, HasEachCause, HasCausesOr, counts_of}
 use Rattle.tf_words.specs.Words.{command_of}
 use Rattle.tf_commands.specs.Course as course
@@ -20,8 +22,9 @@ use Rattle.tf_commands.specs.Books.{OnlySays}
 use Rattle.tf_commands.specs.declared.reading.Source.{Source}
 use Rattle.tf_commands.specs.Messages.{IsLogRefused, log_asked_for}
 use Rattle.tf_commands.proofs.AuditLemmas.{AuditStatus, audit_status, audit_usage, audit_refused, audit_unrefused, audit_log_refused}
+use Rattle.tf_commands.proofs.ConductLemmas.{IsConductStatus, conduct_status, conduct_apart}
 use Rattle.tf_commands.proofs.BoardLemmas.{board_apart, board_no_log, board_refuses}
-use Rattle.tf_commands.proofs.EndLemmas.{Ended, works_ended, ended_apart, tries_ended, checks_ended, runs_ended, demonstrates_ended, resumes_ended, shows_ended, resets_ended, ended_unrefused, ended_no_log}
+use Rattle.tf_commands.proofs.EndLemmas.{Ended, service_ended, works_ended, ended_apart, tries_ended, checks_ended, runs_ended, demonstrates_ended, resumes_ended, shows_ended, resets_ended, ended_unrefused, ended_no_log}
 use Rattle.tf_report.proofs.ClosingLemmas.{closes_status}
 use Rattle.tf_commands.proofs.FileLemmas.{FileStatus, file_status, file_unrefused, file_usage, file_refused, file_no_log}
 use Rattle.tf_commands.proofs.WorkLemmas.{works_one}
@@ -33,30 +36,35 @@ data AskedStatus (command : Asked) (files : Contents) (status : ℕ) : Type 0 wh
   by_log : (source : Source) (log : List ℕ) → file_asked_for command ≡ Some source → log_asked_for command ≡ Some log → AuditStatus files source log status → AskedStatus command files status
   by_book : Ended status → AskedStatus command files status
   by_board : is_some (board_of command) ≡ true → IsBoardStatus status → AskedStatus command files status
+  by_jobs : IsConductStatus status → AskedStatus command files status
 
 status_usage : (command : Asked) (files : Contents) (status : ℕ) → AskedStatus command files status → status ≡ 2 → ⊥
 status_usage command files status (by_file source about is) two = file_usage files source status is two
 status_usage command files status (by_log source log file about is) two = audit_usage files source log status is two
 status_usage command files status (by_book ended) two = ended_apart status 2 ended two (inl refl)
 status_usage command files status (by_board about ended) two = (board_apart status ended).0 two
+status_usage command files status (by_jobs ended) two = conduct_apart status 2 ended two refl
 
 status_refused : (words : List (List ℕ)) (files : Contents) (command : Asked) (status : ℕ) → command_of words ≡ Some command → AskedStatus command files status → status ≡ 4 → IsRefused words files
 status_refused words files command status asks (by_file source about is) four = file_refused words files command source status asks about is four
 status_refused words files command status asks (by_log source log file about is) four = audit_refused words files command source log status asks file is four
 status_refused words files command status asks (by_book ended) four = absurd (ended_apart status 4 ended four (inr (inr refl)))
 status_refused words files command status asks (by_board about ended) four = absurd ((board_apart status ended).2 four)
+status_refused words files command status asks (by_jobs ended) four = absurd (conduct_apart status 4 ended four refl)
 
 status_of_board : (command : Asked) (files : Contents) (status : ℕ) → AskedStatus command files status → status ≡ 15 → is_some (board_of command) ≡ true
 status_of_board command files status (by_file source about is) fifteen = absurd (file_unrefused files source status is fifteen)
 status_of_board command files status (by_log source log file about is) fifteen = absurd (audit_unrefused files source log status is fifteen)
 status_of_board command files status (by_book ended) fifteen = absurd (ended_unrefused status ended fifteen)
 status_of_board command files status (by_board about ended) fifteen = about
+status_of_board command files status (by_jobs ended) fifteen = absurd (conduct_apart status 15 ended fifteen refl)
 
 status_log_refused : (words : List (List ℕ)) (files : Contents) (command : Asked) (status : ℕ) → command_of words ≡ Some command → AskedStatus command files status → status ≡ 17 → IsLogRefused words files
 status_log_refused words files command status asks (by_file source about is) last = absurd (file_no_log files source status is last)
 status_log_refused words files command status asks (by_log source log file about is) last = audit_log_refused words files command source log status asks file about is last
 status_log_refused words files command status asks (by_book ended) last = absurd (ended_no_log status ended last)
 status_log_refused words files command status asks (by_board about ended) last = absurd (board_no_log status ended last)
+status_log_refused words files command status asks (by_jobs ended) last = absurd (conduct_apart status 17 ended last refl)
 
 module _ {K : Type 0} (state : K → DeskState) where
   asked_status : (gives : Want → Order → Outcome → Type 0) (asked_so : Type 0) (command : Asked) (files : Contents) (ports later : PortsTold) (entry now : K) (status : ℕ)
@@ -82,6 +90,10 @@ module _ {K : Type 0} (state : K → DeskState) where
       by_book (demonstrates_ended book ports.crew later.crew entry now seed size status obeys)
   asked_status gives asked_so (asked.Worker address sessions) files ports later entry now status obeys =
       by_book (works_ended status (works_one (gives (want.Local 1)) ports.crew later.crew ports.door later.door (state entry).shown (state now).shown address sessions status obeys.0))
+  asked_status gives asked_so (asked.Conduct board owner hands) files ports later entry now status obeys =
+      by_jobs (conduct_status obeys.0)
+  asked_status gives asked_so (asked.Serve board address sessions) files ports later entry now status obeys =
+      by_book (service_ended status (service_status obeys.0))
   asked_status gives asked_so (asked.Post board name priority details) files ports later entry now status obeys =
       by_board refl (does_status (asked.Post board name priority details) board (state entry) (state now) status obeys.0)
   asked_status gives asked_so (asked.Claim board id owner) files ports later entry now status obeys =
@@ -140,6 +152,8 @@ module _ {K : Type 0} (state : K → DeskState) where
   on_board gives asked_so words (asked.Audit file log sets defer) files ports later entry now status asks about obeys is = absurd (cc)
   on_board gives asked_so words (asked.Demo seed size book hands) files ports later entry now status asks about obeys is = absurd (cc)
   on_board gives asked_so words (asked.Worker address sessions) files ports later entry now status asks about obeys is = absurd (cc)
+  on_board gives asked_so words (asked.Conduct board owner hands) files ports later entry now status asks about obeys is = absurd (cc)
+  on_board gives asked_so words (asked.Serve board address sessions) files ports later entry now status asks about obeys is = absurd (cc)
 
   -- status 15 comes only where a board refuses
   pub board_tells : {gives : Want → Order → Outcome → Type 0} {asked_so : Type 0} (words : List (List ℕ)) (files : Contents) (ports later : PortsTold) (entry now : K) (status : ℕ)
@@ -197,6 +211,17 @@ worked_causes status sources sources_now crew crew_now door door_now says source
   failed = λ is. absurd (⊎_elim (λ a. omega arith) (⊎_elim (λ a. omega arith) (⊎_elim (λ a. omega arith) (λ a. omega arith))) one);
   unsaid = no_text;
   unhired = λ is. ⊎_elim (λ rose. inl rose) (λ rose. inr (tt, rose)) (no_link is);
+}
+
+-- the causes of a board's service
+pub served_causes : (status : ℕ) {old now : DeskState} (sources crew door door_now : ℕ) → HasServiceCauses old now door door_now status → IsServiceStatus status
+    → HasCausesOr (Unit {0} × Rises door door_now) status (counts_of old sources crew) (counts_of now sources crew)
+served_causes status sources crew door door_now causes one = record {
+  none_falls = record { disk = causes.desk.extends.disk_faults; out = causes.desk.extends.out_faults; sources = omega arith; crew = omega arith };
+  unread = λ is. absurd (ended_apart status 3 (service_ended status one) is (inr (inl refl)));
+  failed = causes.desk.failed;
+  unsaid = causes.desk.unsaid;
+  unhired = λ is. inr (tt, causes.unlistened is);
 }
 
 -- the same for a wider cause

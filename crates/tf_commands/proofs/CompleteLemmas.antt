@@ -18,6 +18,7 @@ use Rattle.tf_book.specs.Turns.{may_reset, is_reached}
 use Rattle.tf_words.specs.declared.asked.Asked.{Asked}
 use Rattle.tf_words.specs.declared.asked.Asked.TheVariants as asked
 use Rattle.tf_board.proofs.DoesLemmas.{complete_so}
+use Rattle.tf_board_service.proofs.CommandLemmas.{serves_complete}
 use Rattle.tf_commands.specs.Asking.{demo_tree, Counts, HasEachCause, HasNoFault}
 use Rattle.tf_commands.specs.Messages.{Audits}
 use Rattle.tf_words.specs.Words.{command_of}
@@ -29,6 +30,7 @@ use Rattle.tf_report.specs.Closing.{ClosesWithOrStops}
 use Rattle.tf_report.proofs.ClosingLemmas.{closes_status}
 use Rattle.tf_commands.proofs.EndLemmas.{Ended, is_complete, is_failed, is_no_book, is_unsaid, is_unhired, is_forbidden, is_suspended, ran_ended, ran_suspended}
 use Rattle.tf_commands.proofs.AuditLemmas.{audit_status, audits_whole, audits_well}
+use Rattle.tf_commands.proofs.ConductLemmas.{conducts_complete}
 use Rattle.tf_commands.proofs.FileLemmas.{accepted_done}
 use Rattle.tf_commands.proofs.FlowLemmas.{no_book_held, flow_held}
 use Rattle.tf_commands.proofs.WorkLemmas.{works_one}
@@ -231,6 +233,8 @@ out_complete (asked.Consume board id owner) status is = inr (inl is)
 out_complete (asked.Trash board id owner) status is = inr (inl is)
 out_complete (asked.Owner board id) status is = inr (inl is)
 out_complete (asked.List board) status is = inr (inl is)
+out_complete (asked.Conduct board owner hands) status is = inr (inl is)
+out_complete (asked.Serve board address sessions) status is = inr (inl is)
 
 module _ {K : Type 0} (state : K → DeskState) where
   asked_well : (gives : Want → Order → Outcome → Type 0) (asked_so : Type 0) (command : Asked) (files : Contents) (ports later : PortsTold) (entry now : K) (status : ℕ) → IsUnhurt status → ¬ asked_so
@@ -258,6 +262,10 @@ module _ {K : Type 0} (state : K → DeskState) where
       demonstrates_well book ports.crew later.crew entry now seed size status u unasked ready.0 ready.1 obeys
   asked_well gives asked_so (asked.Worker address sessions) files ports later entry now status u unasked ready obeys =
       works_well status u (works_one (gives (want.Local 1)) ports.crew later.crew ports.door later.door (state entry).shown (state now).shown address sessions status obeys.0)
+  asked_well gives asked_so (asked.Conduct board owner hands) files ports later entry now status u unasked ready obeys =
+      conducts_complete obeys.0 ready.0 ready.1 u.readable u.sound u.sayable u.hirable
+  asked_well gives asked_so (asked.Serve board address sessions) files ports later entry now status u unasked ready obeys =
+      serves_complete obeys.0 ready.0 ready.1 u.sound u.sayable u.hirable
   asked_well gives asked_so (asked.Post board name priority details) files ports later entry now status u unasked ready obeys =
       complete_so (asked.Post board name priority details) board (state entry) (state now) status obeys.0 ready.0 ready.1 u.sound u.sayable
   asked_well gives asked_so (asked.Claim board id owner) files ports later entry now status u unasked ready obeys =

@@ -9,7 +9,7 @@ use Rattle.tf_ports.specs.declared.crews.Want.{Want}
 use Rattle.tf_actions.specs.declared.orders.Order.{Order}
 use Rattle.tf_actions.specs.declared.outcomes.Outcome.{Outcome}
 use Rattle.tf_machine.specs.Machine.{MachineValue}
-use Rattle.tf_words.specs.Words.{IsDemo}
+use Rattle.tf_words.specs.Words.{IsConduct, IsDemo}
 use Rattle.tf_words.specs.declared.asked.Asked.{Asked}
 use Rattle.tf_words.specs.declared.asked.Asked.TheVariants as asked
 use Rattle.tf_accept.specs.Accepted.{GivesNone, is_want_of_memory, IsReason}
@@ -118,20 +118,23 @@ few_so command other is within = subst IsWithin is within
 
 -- the hands and the numbers of the command that the words are are within their bounds
 pub within_so : (found : Option Asked) (command : Asked) → ((seed size : ℕ) (book : List ℕ) (hands : ℕ) → found ≡ Some (asked.Demo seed size book hands) → IsDemo seed size)
+    → ((board owner : List ℕ) (hands : ℕ) → found ≡ Some (asked.Conduct board owner hands) → IsConduct owner hands)
     → ((c : Asked) → found ≡ Some c → HasHands c) → found ≡ Some command → IsWithin command
-within_so found (asked.Demo seed size book hands) bounds few is = (bounds seed size book hands is, few (asked.Demo seed size book hands) is)
-within_so found (asked.Try file sets defer hands target) bounds few is = few (asked.Try file sets defer hands target) is
-within_so found (asked.Run file book sets defer hands stop target) bounds few is = few (asked.Run file book sets defer hands stop target) is
-within_so found (asked.Resume book hands stop) bounds few is = few (asked.Resume book hands stop) is
-within_so found (asked.Show book) bounds few is = tt
-within_so found (asked.Reset book) bounds few is = tt
-within_so found (asked.Check file sets target) bounds few is = tt
-within_so found (asked.Audit file log sets defer) bounds few is = tt
-within_so found (asked.Worker address sessions) bounds few is = tt
-within_so found (asked.Post board name priority details) bounds few is = tt
-within_so found (asked.Claim board id owner) bounds few is = tt
-within_so found (asked.Abandon board id owner) bounds few is = tt
-within_so found (asked.Consume board id owner) bounds few is = tt
-within_so found (asked.Trash board id owner) bounds few is = tt
-within_so found (asked.Owner board id) bounds few is = tt
-within_so found (asked.List board) bounds few is = tt
+within_so found (asked.Demo seed size book hands) bounds named few is = (bounds seed size book hands is, few (asked.Demo seed size book hands) is)
+within_so found (asked.Try file sets defer hands target) bounds named few is = few (asked.Try file sets defer hands target) is
+within_so found (asked.Run file book sets defer hands stop target) bounds named few is = few (asked.Run file book sets defer hands stop target) is
+within_so found (asked.Resume book hands stop) bounds named few is = few (asked.Resume book hands stop) is
+within_so found (asked.Show book) bounds named few is = tt
+within_so found (asked.Reset book) bounds named few is = tt
+within_so found (asked.Check file sets target) bounds named few is = tt
+within_so found (asked.Audit file log sets defer) bounds named few is = tt
+within_so found (asked.Worker address sessions) bounds named few is = tt
+within_so found (asked.Post board name priority details) bounds named few is = tt
+within_so found (asked.Claim board id owner) bounds named few is = tt
+within_so found (asked.Abandon board id owner) bounds named few is = tt
+within_so found (asked.Consume board id owner) bounds named few is = tt
+within_so found (asked.Trash board id owner) bounds named few is = tt
+within_so found (asked.Owner board id) bounds named few is = tt
+within_so found (asked.List board) bounds named few is = tt
+within_so found (asked.Conduct board owner hands) bounds named few is = named board owner hands is
+within_so found (asked.Serve board address sessions) bounds named few is = few (asked.Serve board address sessions) is

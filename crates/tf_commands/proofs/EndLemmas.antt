@@ -10,6 +10,8 @@ use Rattle.tf_states.specs.declared.state.FlowState.{FlowState}
 use Rattle.tf_states.specs.declared.state.FlowState.TheVariants as flow
 use Rattle.tf_model.specs.Plan.{outline_of}
 use Rattle.tf_book.specs.Turns.{is_reached}
+use Rattle.tf_board_service.specs.Sessions as service
+use Rattle.tf_board_service.specs.Sessions.{IsServiceStatus}
 use Rattle.tf_commands.specs.Asking.{demo_tree}
 use Rattle.tf_commands.specs.Books.{Unopened, exhausted, disk_failed, no_book, Refuses, Unhired, exhausted_hire, unhired, Promised, Runs, unopened, forbidden, unhired_run, ran, Demonstrates, ungenerated, demonstrated, Resumes, unopened_again, empty, unhired_again, resumed, ShowsBook, unopened_show, nothing_shown, shown_whole, ResetsBook, unopened_reset, nothing_put_back, reset_forbidden, was_reset, IsResetSaid, all_back, disk_failed_back, filled_back, heading_of, stop_status, MayRun, Ran, ShowsLines, closed, line_cut, stopped, IsLastSaid, reported, disk_failed as disk_said, filled, disk_failed_opening}
 use Rattle.tf_commands.specs.Course as course
@@ -37,6 +39,16 @@ works_ended status (inl is) = is_complete (inl is)
 works_ended status (inr (inl is)) = out_ends status is
 works_ended status (inr (inr (inl is))) = is_unhired is
 works_ended status (inr (inr (inr is))) = is_unsaid is
+
+-- those of a board's service
+pub service_ended : (status : ℕ) → IsServiceStatus status → Ended status
+service_ended status (service.is_served is) = is_complete (inl is)
+service_ended status (service.is_failed is) = is_failed is
+service_ended status (service.is_no_board is) = is_no_book is
+service_ended status (service.is_unsaid is) = is_unsaid is
+service_ended status (service.is_unlistened is) = is_unhired is
+service_ended status (service.is_out is) = out_ends status is
+service_ended status (service.is_full is) = is_complete (inr (inr (inr (inr is))))
 
 apart_three : (status wanted other : ℕ) → status ≡ other → status ≡ wanted → (wanted ≡ 2) ⊎ (wanted ≡ 3) ⊎ (wanted ≡ 4) → ¬ (other ≡ 2) → ¬ (other ≡ 3) → ¬ (other ≡ 4) → ⊥
 apart_three status wanted other a is (inl two) no_two no_three no_four = no_two (sym a ∙ is ∙ two)

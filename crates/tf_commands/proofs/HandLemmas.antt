@@ -5,7 +5,7 @@ use Rattle.tf_ports.specs.declared.crews.Address.{Address}
 use Rattle.tf_ports.specs.declared.crews.Want.{Want}
 use Rattle.tf_ports.specs.declared.crews.Want.TheVariants as want
 use Rattle.tf_values.specs.Text.{is_name}
-use Rattle.tf_words.specs.Words.{worker_of, address_of, addresses_in, addresses_of, pieces_behind, sessions_in, Applied, id_in, post_of, owner_of, list_of, applied_in, priority_in, details_in, hands_in, remote_of, want_by, want_in, deferral_in, stop_in, target_in, try_of, run_of, resume_of, show_of, reset_of, check_of, audit_of, demo_of, asked_by, asked_of, command_of}
+use Rattle.tf_words.specs.Words.{worker_of, address_of, addresses_in, addresses_of, pieces_behind, sessions_in, seats_in, serve_of, Applied, id_in, post_of, owner_of, list_of, applied_in, priority_in, details_in, hands_in, remote_of, want_by, want_in, deferral_in, stop_in, target_in, try_of, run_of, resume_of, show_of, reset_of, check_of, audit_of, demo_of, conduct_of, owner_word, asked_by, asked_of, command_of}
 use Rattle.tf_words.specs.Verbs.{number_between, sets_behind, Said, once, are_filled, said_by, Choice, choice_of, forms_of}
 use Rattle.tf_words.specs.declared.asked.Asked.{Asked}
 use Rattle.tf_words.specs.declared.asked.Asked.TheVariants as asked
@@ -14,14 +14,16 @@ use Rattle.tf_words.specs.declared.verbs.Verb.TheVariants as verb
 use Rattle.tf_commands.specs.Asking.{AreHands}
 use Rattle.tf_numbers.proofs.NumberLemmas.{le_true}
 use Rattle.tf_numbers.proofs.OptionLemmas.{if_some}
-use Rattle.tf_words.proofs.DemoLemmas.{between, then_some, map_some}
+use Rattle.tf_words.proofs.WithinLemmas.{between}
+use Rattle.tf_words.proofs.KindLemmas.{then_some, map_some}
 
--- the hands that a command wants may run a flow
+-- the hands that a command wants may run a flow, and so many sessions may ask a board
 abbrev pub HasHands : Asked → Type 0
 HasHands (asked.Try file sets defer hands target) = AreHands hands
 HasHands (asked.Run file book sets defer hands stop target) = AreHands hands
 HasHands (asked.Resume book hands stop) = AreHands hands
 HasHands (asked.Demo seed size book hands) = AreHands (want.Local hands)
+HasHands (asked.Serve board address sessions) = (1 ≤ sessions) × (sessions ≤ 64)
 HasHands command = Unit {0}
 
 -- ---- what is given has a property where all that may be given has it
@@ -50,6 +52,18 @@ hands_within said n is = by (said (codes "hands")) is
     by (value ∷ []) found =
         let bounds = between 1 64 value n found in
         record { least = bounds.0; most = bounds.1 }
+    by (value ∷ more ∷ others) found = absurd (cc)
+
+-- ---- a number of sessions
+
+seats_within : (said : Said) (n : ℕ) → seats_in said ≡ Some n → (1 ≤ n) × (n ≤ 64)
+seats_within said n is = by (said (codes "sessions")) is
+  where
+    by : (values : List (List ℕ)) → once 1 (number_between 1 64) values ≡ Some n → (1 ≤ n) × (n ≤ 64)
+    by [] found =
+        let one : 1 ≡ n = cc in
+        (omega (arith, one), omega (arith, one))
+    by (value ∷ []) found = between 1 64 value n found
     by (value ∷ more ∷ others) found = absurd (cc)
 
 -- ---- addresses of hands
@@ -150,10 +164,27 @@ demo_hands said (first ∷ second ∷ book ∷ []) =
     all_then HasHands _ (number_between 0 65536 first) (λ seed is_seed. all_then HasHands _ (number_between 1 900 second) (λ size is_size. demo_of_hands said seed size book (hands_in said) refl))
 demo_hands said (first ∷ second ∷ book ∷ other ∷ others) = tt
 
+conduct_hands : (said : Said) (words : List (List ℕ)) → IfSome (conduct_of said words) HasHands
+conduct_hands said [] = tt
+conduct_hands said (board ∷ []) = tt
+conduct_hands said (board ∷ owner ∷ []) =
+    all_then HasHands _ (owner_word owner) (λ name is. all_map HasHands (λ hands. asked.Conduct board name hands) (hands_in said) (λ hands. tt))
+conduct_hands said (board ∷ owner ∷ more ∷ others) = tt
+
 worker_hands : (said : Said) (words : List (List ℕ)) → IfSome (worker_of said words) HasHands
 worker_hands said [] = tt
 worker_hands said (word ∷ []) = all_then HasHands _ (sessions_in said) (λ n is. all_map HasHands _ (address_of word) (λ address. tt))
 worker_hands said (word ∷ more ∷ others) = tt
+
+serve_of_hands : (said : Said) (board : List ℕ) (address : Option Address) (n : ℕ) → seats_in said ≡ Some n → IfSome (option_map (λ a. asked.Serve board a n) address) HasHands
+serve_of_hands said board None n is = tt
+serve_of_hands said board (Some address) n is = seats_within said n is
+
+serve_hands : (said : Said) (words : List (List ℕ)) → IfSome (serve_of said words) HasHands
+serve_hands said [] = tt
+serve_hands said (board ∷ []) = tt
+serve_hands said (board ∷ word ∷ []) = all_then HasHands _ (seats_in said) (λ n is. serve_of_hands said board (address_of word) n is)
+serve_hands said (board ∷ word ∷ more ∷ others) = tt
 
 post_hands : (said : Said) (words : List (List ℕ)) → IfSome (post_of said words) HasHands
 post_hands said [] = tt
@@ -185,6 +216,7 @@ asked_hands verb.Check said = check_hands said (said [])
 asked_hands verb.Audit said = audit_hands said (said [])
 asked_hands verb.Demo said = demo_hands said (said [])
 asked_hands verb.Worker said = worker_hands said (said [])
+asked_hands verb.Conduct said = conduct_hands said (said [])
 asked_hands verb.Post said = post_hands said (said [])
 asked_hands verb.Claim said = all_map HasHands (λ (found : Applied). asked.Claim found.board found.id found.owner) (applied_in (said [])) (λ found. tt)
 asked_hands verb.Abandon said = all_map HasHands (λ (found : Applied). asked.Abandon found.board found.id found.owner) (applied_in (said [])) (λ found. tt)
@@ -192,6 +224,7 @@ asked_hands verb.Consume said = all_map HasHands (λ (found : Applied). asked.Co
 asked_hands verb.Trash said = all_map HasHands (λ (found : Applied). asked.Trash found.board found.id found.owner) (applied_in (said [])) (λ found. tt)
 asked_hands verb.Owner said = owner_hands (said [])
 asked_hands verb.List said = list_hands (said [])
+asked_hands verb.Serve said = serve_hands said (said [])
 
 chosen_hands : (choice : Choice) → IfSome (asked_of choice) HasHands
 chosen_hands choice = all_then HasHands (asked_by choice.verb) (said_by (forms_of choice.verb) choice.others) (λ said is. asked_hands choice.verb said)

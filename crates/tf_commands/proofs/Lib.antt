@@ -12,6 +12,7 @@ pub mod HandLemmas
 pub mod ResetLemmas
 pub mod CourseLemmas
 pub mod EndLemmas
+pub mod ConductLemmas
 pub mod FileLemmas
 pub mod AuditLemmas
 pub mod CompleteLemmas

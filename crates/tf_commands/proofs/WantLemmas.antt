@@ -15,7 +15,7 @@ use Rattle.tf_ports.specs.declared.crews.Hands.{Hands}
 use Rattle.tf_ports.specs.declared.crews.Hands.TheVariants as hands
 use Rattle.tf_ports.specs.declared.crews.Want.{Want}
 use Rattle.tf_ports.specs.declared.crews.Want.TheVariants as want
-use Rattle.tf_commands.specs.Books.{Promised, Hires, HiresFor, AreAllBack, HasStopped}
+use Rattle.tf_commands.specs.Books.{Promised, Hires, AreAllBack, HasStopped}
 use Rattle.tf_commands.proofs.OrderLemmas.{given_back}
 use Rattle.tf_commands.specs.Course.{Tried}
 use Rattle.tf_commands.specs.declared.running.Request.{Request}
@@ -152,7 +152,3 @@ local_gives (want.Remote addresses) count by far is = absurd (cc)
 pub remote_gives : (w : Want) (addresses : List Address) (by far : Order → Outcome → Type 0) → w ≡ want.Remote addresses → far ≡ gives_by by far w
 remote_gives (want.Local count) addresses by far is = absurd (cc)
 remote_gives (want.Remote other) addresses by far is = refl
-
--- whom a crew that hired and was given the hands back hired
-pub hired_then_back : (w : Want) (crew : CrewTold) {mid last : CrewTold} (did : List (Option (List Order))) → mid ≡ hired_for crew w → last ≡ gave_back mid did → HiresFor w crew last
-hired_then_back w crew did hired gave = ap (λ (told : CrewTold). told.hired) gave ∙ ap (λ (told : CrewTold). told.hired) hired

@@ -16,10 +16,11 @@ use Rattle.tf_desk.specs.Crash.{shown_with, ShowsPrefix}
 use Rattle.tf_desk.specs.State.{DeskState, Says}
 use Rattle.tf_workers.specs.declared.serving.ServeEnd.{ServeEnd}
 use Rattle.tf_workers.specs.declared.serving.ServeEnd.TheVariants as end
-use Rattle.tf_commands.specs.Messages.{IsGivenBack, HiresHere, cannot_hire, cannot_listen, session_line, session_lines, IsOver, Served, ends_of, seen_with, AreServed, GivesLinks, ServesNext, SaysSession, CutsSession, unsaid_whole, unsaid_part, SaysSessions, SaysNext, StopsNext, ServesAll, Works, HasStopCause, HasServeCause, exhausted_next, no_next_link, unsaid_next, all_served, exhausted, no_link, cut_short, unhired_memory, unhired, unopened_memory, unopened, worked}
-use Rattle.tf_commands.specs.Books.{OnlySays}
+use Rattle.tf_commands.specs.Messages.{IsGivenBack, HiresHere, session_line, session_lines, IsOver, Served, ends_of, seen_with, AreServed, GivesLinks, ServesNext, SaysSession, CutsSession, unsaid_whole, unsaid_part, SaysSessions, SaysNext, StopsNext, ServesAll, Works, HasStopCause, HasServeCause, exhausted_next, no_next_link, unsaid_next, all_served, exhausted, no_link, cut_short, unhired_memory, unhired, unopened_memory, unopened, worked}
+use Rattle.tf_commands.specs.Books.{OnlySays, Hires, AreAllBack}
 use Rattle.tf_report.specs.declared.statuses.TheConstants.{SUCCEEDED, UNHIRED, OUT_OF_MEMORY, UNSAID}
 use Rattle.tf_report.proofs.ClosingLemmas.{closes_status}
+use Rattle.tf_report.specs.Closing.{cannot_hire, cannot_listen}
 
 -- ---- texts
 
@@ -324,3 +325,11 @@ back_alone {P} did crew mid last rest back hand hired gave long is = record {
   back = subst (λ (told : GivenBack). IsGivenBack told (did hand)) (sym (ap (λ (told : CrewTold). told.back) gave))
       (told_alone mid.back (map did back) (did hand) (ap (map did) (alone rest back hand long is)));
 }
+
+-- one hand that was given back is all that were hired
+back_all : (told : GivenBack) (did : Option (List Order)) → IsGivenBack told did → AreAllBack (want.Local 1) told
+back_all None did is = tt
+back_all (Some hands) did is = ap length is
+
+pub here_hires : {crew last : CrewTold} {did : Option (List Order)} → HiresHere crew last did → Hires (want.Local 1) crew last
+here_hires {last = last} {did} here = record { hired = here.hired; back = back_all last.back did here.back }

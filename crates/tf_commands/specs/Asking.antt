@@ -3,7 +3,7 @@ use Rattle.std.specs.Prelude.{◌≡◌, ℕ, ◌≤◌, List, false, Option, So
 use Rattle.tf_ports.specs.declared.crews.Want.{Want}
 use Rattle.tf_ports.specs.declared.crews.Want.TheVariants as want
 use Rattle.tf_ports.specs.Ports.{wanted as number_of}
-use Rattle.tf_words.specs.Words.{IsDemo, command_of}
+use Rattle.tf_words.specs.Words.{IsConduct, IsDemo, command_of}
 use Rattle.tf_words.specs.declared.asked.Asked.{Asked}
 use Rattle.tf_words.specs.declared.asked.Asked.TheVariants as asked
 use Rattle.tf_commands.specs.declared.reading.Source.{Source}
@@ -20,12 +20,15 @@ pub record AreHands (hands : Want) : Type 0 where
   pub least : 1 ≤ number_of hands
   pub most : number_of hands ≤ 64
 
--- the hands that run a flow, and the numbers of a generated one, are within their bounds
+-- the hands that run a flow, the numbers of a generated one, the conductors and the word that names their owners, and the sessions of a board's service are
+-- within their bounds
 abbrev pub IsWithin : Asked → Type 0
 IsWithin (asked.Try file sets defer hands target) = AreHands hands
 IsWithin (asked.Run file book sets defer hands stop target) = AreHands hands
 IsWithin (asked.Resume book hands stop) = AreHands hands
 IsWithin (asked.Demo seed size book hands) = IsDemo seed size × AreHands (want.Local hands)
+IsWithin (asked.Conduct board owner hands) = IsConduct owner hands
+IsWithin (asked.Serve board address sessions) = (1 ≤ sessions) × (sessions ≤ 64)
 IsWithin command = Unit {0}
 
 -- the hands that a command wants: those of its words, one of this process to work, and else none
@@ -35,18 +38,20 @@ want_of (asked.Run file book sets defer hands stop target) = Some hands
 want_of (asked.Resume book hands stop) = Some hands
 want_of (asked.Demo seed size book hands) = Some (want.Local hands)
 want_of (asked.Worker address sessions) = Some (want.Local 1)
+want_of (asked.Conduct board owner hands) = Some (want.Local hands)
 want_of command = None
 
 -- the hands that the words want
 abbrev pub wanted_by : List (List ℕ) → Option Want
 wanted_by words = option_and_then want_of (command_of words)
 
--- it asks for a worker
+-- it asks for a worker, or for the service of a board: for what comes to an address
 abbrev pub IsWork : Asked → Type 0
 IsWork (asked.Worker address sessions) = Unit {0}
+IsWork (asked.Serve board address sessions) = Unit {0}
 IsWork command = ⊥
 
--- the words ask for a worker
+-- the words ask for a worker or for the service of a board
 abbrev pub AsksForWork : List (List ℕ) → Type 0
 AsksForWork words = (command : Asked) × (command_of words ≡ Some command) × IsWork command
 

@@ -25,8 +25,8 @@ use Rattle.tf_facts.specs.Facts.{CompletedReversion}
 use Rattle.tf_hands.specs.Hands.{is_of_flow, orders}
 use Rattle.tf_report.specs.Lines.{report}
 use Rattle.tf_engines.specs.Runs.{MayRecord, AreGiven, AreDue, AreWithin, IsSuspended, is_of}
-use Rattle.tf_commands.specs.Messages.{summary, no_flow_text, state_forbids, cannot_hire}
-use Rattle.tf_report.specs.Closing.{disk_fault_text, book_full, ClosesWith, not_a_book}
+use Rattle.tf_commands.specs.Messages.{summary, no_flow_text, state_forbids}
+use Rattle.tf_report.specs.Closing.{disk_fault_text, book_full, ClosesWith, not_a_book, cannot_hire}
 use Rattle.tf_report.specs.declared.statuses.TheConstants.{SUCCEEDED, DISK_FAILED, UNSAID, OUT_OF_MEMORY, REVERTED, FAILED, SUSPENDED, FULL, UNREAD, UNHIRED, NO_BOOK, FORBIDDEN}
 use Rattle.tf_commands.specs.declared.running.Request.{Request}
 use Rattle.tf_book.specs.Turns.{AreReset, IsNextReset, may_reset}

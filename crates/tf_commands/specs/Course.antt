@@ -18,17 +18,19 @@ use Rattle.tf_states.specs.declared.record.Entry.{Entry}
 use Rattle.tf_states.specs.declared.state.FlowState.{FlowState}
 use Rattle.tf_words.specs.declared.asked.Asked.{Asked}
 use Rattle.tf_words.specs.declared.asked.Asked.TheVariants as asked
-use Rattle.tf_board.specs.Does.{answer_of, board_of, Does, IsAllowed, IsBoardComplete}
+use Rattle.tf_board.specs.Does.{answer_of, board_of, Does, IsAllowed, IsBoard, IsBoardComplete}
+use Rattle.tf_board_service.specs.Sessions.{ServesBoard}
+use Rattle.tf_runner.specs.Conducts.{Conducts}
 use Rattle.tf_board.specs.Board.{AreOfBoard, board_in, Finds}
 use Rattle.tf_board.specs.declared.commands.Command.{Command}
 use Rattle.tf_report.specs.declared.statuses.TheConstants.{BOARD_REFUSED, SUCCEEDED, NO_COMMAND, UNREAD, REFUSED, UNHIRED, OUT_OF_MEMORY, REVERTED, FAILED, SUSPENDED, FULL}
-use Rattle.tf_report.specs.Closing.{ClosesWith, ClosesWithOrStops}
+use Rattle.tf_report.specs.Closing.{ClosesWith, ClosesWithOrStops, cannot_read, cannot_hire}
 use Rattle.tf_target.specs.Target.{outline_in}
 use Rattle.tf_accept.specs.Accepted.{GivesPlan, GivesWhole, GivesNone, MayTarget}
 use Rattle.tf_commands.specs.Asking.{file_asked_for, wanted_by}
-use Rattle.tf_commands.specs.Messages.{Audits, RefusesLog, checked, usage, cannot_read, cannot_hire, refusal, reason_text, Works}
+use Rattle.tf_commands.specs.Messages.{Audits, RefusesLog, checked, usage, refusal, reason_text, Works}
 use Rattle.tf_words.specs.Words.{command_of}
-use Rattle.tf_commands.specs.Books.{Hires, HiresFor, Runs, WereGivenBack, HasStopped, Demonstrates, Resumes, ShowsBook, ResetsBook, NoFileChanges, TouchesNoFile, book_at, HoldsNoFlow, HoldsHistory, spoken_run, Ran}
+use Rattle.tf_commands.specs.Books.{Hires, Runs, WereGivenBack, HasStopped, Demonstrates, Resumes, ShowsBook, ResetsBook, NoFileChanges, TouchesNoFile, book_at, HoldsNoFlow, HoldsHistory, spoken_run, Ran}
 use Rattle.tf_journal.specs.Start.{file_of}
 use Rattle.tf_accept.specs.declared.accepting.Refusal.{Refusal}
 use Rattle.tf_commands.specs.declared.reading.Source.{Source}
@@ -84,9 +86,9 @@ pub data Tries (gives : Order → Outcome → Type 0) (hands : Want) (stopped : 
   -- they were hired, and ran the plan
   tried : Hires hands crew crew_after → Tried gives hands stopped crew_after.back tree before after status → Tries gives hands stopped crew crew_after before after tree status
 
--- nobody was hired, or the hands that were wanted
+-- nobody was hired, or the hands that were wanted were, and given back
 abbrev pub HiresAtMost : Want → CrewTold → CrewTold → Type 0
-HiresAtMost hands crew crew_after = (crew_after ≡ crew) ⊎ HiresFor hands crew crew_after
+HiresAtMost hands crew crew_after = (crew_after ≡ crew) ⊎ Hires hands crew crew_after
 
 -- nobody was hired, or the hands that were wanted, if any were
 abbrev pub HiresAsWanted : Option Want → CrewTold → CrewTold → Type 0
@@ -161,6 +163,10 @@ module _ {K : Type 0} (state : K → DeskState) where
       Does (asked.Owner board id) board (state entry) (state now) status × (later ≡ ports)
   Obeys gives stopped (asked.List board) files ports later entry now status =
       Does (asked.List board) board (state entry) (state now) status × (later ≡ ports)
+  Obeys gives stopped (asked.Conduct board owner hands) files ports later entry now status =
+      Conducts (gives (want.Local hands)) files ports.crew later.crew board owner hands (state entry) (state now) status × (later.door ≡ ports.door)
+  Obeys gives stopped (asked.Serve board address sessions) files ports later entry now status =
+      ServesBoard board address sessions ports.door later.door (state entry) (state now) status × (later.crew ≡ ports.crew)
 
   -- the way that a command went, with hands that keep the relation of orders and outcomes of those that are wanted, and with runs that may be suspended where
   -- a stop was asked for: its words, what the sources tell, what the crew and the door tell before and after, the desk before and after, the
@@ -247,6 +253,10 @@ HasBook name entry is = IsTrue entry.tells × is (book_at entry name)
 abbrev pub HasBoard : List ℕ → DeskState → Asked → Type 0
 HasBoard name entry command = IsTrue entry.tells × IsAllowed command (board_in (file_of entry name))
 
+-- the file of that name is a board, and the desk tells so
+abbrev pub HasSomeBoard : List ℕ → DeskState → Type 0
+HasSomeBoard name entry = IsTrue entry.tells × IsBoard (board_in (file_of entry name))
+
 -- nothing stands against what the words ask for: the flow file gives a plan, the book or the board is as the command wants it, and no line of a log
 -- can't be
 abbrev pub MayBeDone : Asked → Contents → DeskState → Type 0
@@ -267,6 +277,8 @@ MayBeDone (asked.Consume board id owner) files entry = HasBoard board entry (ask
 MayBeDone (asked.Trash board id owner) files entry = HasBoard board entry (asked.Trash board id owner)
 MayBeDone (asked.Owner board id) files entry = HasBoard board entry (asked.Owner board id)
 MayBeDone (asked.List board) files entry = HasBoard board entry (asked.List board)
+MayBeDone (asked.Conduct board owner hands) files entry = HasSomeBoard board entry
+MayBeDone (asked.Serve board address sessions) files entry = HasSomeBoard board entry
 
 -- it ends so, where no count of faults rose
 abbrev pub IsComplete : Asked → ℕ → Type 0
@@ -286,3 +298,5 @@ IsComplete (asked.Consume board id owner) status = IsBoardComplete status
 IsComplete (asked.Trash board id owner) status = IsBoardComplete status
 IsComplete (asked.Owner board id) status = IsBoardComplete status
 IsComplete (asked.List board) status = IsBoardComplete status
+IsComplete (asked.Conduct board owner hands) status = IsBoardComplete status
+IsComplete (asked.Serve board address sessions) status = IsBoardComplete status

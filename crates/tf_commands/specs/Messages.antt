@@ -28,7 +28,7 @@ use Rattle.tf_audit.specs.Verdicts.{verdict_text, IsVerdict, IsBadLog}
 use Rattle.tf_audit.specs.declared.verdicts.Verdict.{Verdict}
 use Rattle.tf_audit.specs.declared.verdicts.Verdict.TheVariants as verdict
 use Rattle.tf_audit.specs.declared.verdicts.Why.{Why}
-use Rattle.tf_report.specs.Closing.{ClosesWith}
+use Rattle.tf_report.specs.Closing.{ClosesWith, cannot_read, cannot_hire, cannot_listen}
 use Rattle.tf_report.specs.declared.statuses.TheConstants.{SUCCEEDED, UNREAD, OUT_OF_MEMORY, UNHIRED, UNSAID}
 use Rattle.tf_words.specs.declared.asked.Asked.{Asked}
 use Rattle.tf_words.specs.declared.asked.Asked.TheVariants as asked
@@ -127,21 +127,9 @@ refusal reason = codes "taskflow: flow file: " ++ reason ++ 10 ∷ []
 abbrev pub usage : List ℕ
 usage = codes "taskflow: usage\n"
 
--- the message for a flow file that can't be read
-abbrev pub cannot_read : List ℕ
-cannot_read = codes "taskflow: cannot read\n"
-
 -- the message for a log that is longer than one may be
 abbrev pub log_too_long : List ℕ
 log_too_long = codes "taskflow: audit: too long\n"
-
--- the message where no hand could be hired
-abbrev pub cannot_hire : List ℕ
-cannot_hire = codes "taskflow: cannot hire\n"
-
--- the message where nobody can be listened to
-abbrev pub cannot_listen : List ℕ
-cannot_listen = codes "taskflow: cannot listen\n"
 
 -- the message for a book that holds no flow
 abbrev pub no_flow_text : List ℕ

@@ -8,14 +8,16 @@ ghost use Rattle.tf_commands.specs.Messages.{Audits, Judges, verdict_status};
 ghost use Rattle.tf_commands.specs.Course.{FileRead};
 ghost use Rattle.tf_commands.specs.Books.{NoFileChanges, OnlySays, HasSaid};
 
-use crate::messages::{CANNOT_READ, LOG_TOO_LONG};
+use crate::messages::LOG_TOO_LONG;
 use crate::reading::{Source, open_file};
 use std::alloc::Global;
 use tf_audit::{Audited, Verdict, append_verdict, audit_with};
 use tf_desk::Desk;
 use tf_machine::Machine;
 use tf_ports::{SourceFault, Sources};
-use tf_report::{DISK_FAILED, OUT_OF_MEMORY, SUCCEEDED, UNHIRED, UNREAD, UNSAID, close};
+use tf_report::{
+    CANNOT_READ, DISK_FAILED, OUT_OF_MEMORY, SUCCEEDED, UNHIRED, UNREAD, UNSAID, close,
+};
 use tf_values::Text;
 
 /// The exit status of an audit: the log has a line that can't be, or is longer than a log may be.

@@ -16,11 +16,11 @@ ghost use Rattle.tf_book.specs.Book.{RefusesBook};
 ghost use Rattle.tf_book.specs.Starting.{desk_started};
 ghost use Rattle.tf_commands.specs.Begun.{desk_in, MayBeBorn, IsRecordless, IsBlank, IsFoundBlank, IsExactSoFar, LeavesNoFlow, SaysUnbegun, FailsToBegin, Begins, Unbegun};
 ghost use Rattle.tf_commands.specs.Books.{Promised, Refuses, RefusesOrStops, Unopened, book_at, HasSaid};
-ghost use Rattle.tf_commands.specs.Messages.{no_flow_text, cannot_hire};
-ghost use Rattle.tf_report.specs.Closing.{not_a_book, ClosesWithOrStops};
+ghost use Rattle.tf_commands.specs.Messages.{no_flow_text};
+ghost use Rattle.tf_report.specs.Closing.{not_a_book, cannot_hire, ClosesWithOrStops};
 ghost use Rattle.tf_commands.specs.declared.running.Request.{Request};
 
-use crate::messages::{CANNOT_HIRE, NO_FLOW};
+use crate::messages::NO_FLOW;
 use crate::running::Over;
 use std::alloc::Global;
 use tf_actions::Performer;
@@ -30,8 +30,8 @@ use tf_journal::{Journal, JournalFault, LoadFault, Title};
 use tf_machine::Machine;
 use tf_ports::PortFault;
 use tf_report::{
-    DISK_FAILED, DISK_FAULT, FORBIDDEN, NO_BOOK, OUT_OF_MEMORY, UNHIRED, UNREAD, UNSAID,
-    append_not_a_book, close,
+    CANNOT_HIRE, DISK_FAILED, DISK_FAULT, FORBIDDEN, NO_BOOK, OUT_OF_MEMORY, UNHIRED, UNREAD,
+    UNSAID, append_not_a_book, close,
 };
 use tf_values::Text;
 

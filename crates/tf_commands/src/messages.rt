@@ -19,15 +19,6 @@ use tf_values::{Memory, Name};
 /// The message for words that are no command.
 pub const USAGE: &[u8] = b"taskflow: usage\n";
 
-/// The message for a file that can't be read.
-pub const CANNOT_READ: &[u8] = b"taskflow: cannot read\n";
-
-/// The message where no hand could be hired.
-pub const CANNOT_HIRE: &[u8] = b"taskflow: cannot hire\n";
-
-/// The message where nobody can be listened to.
-pub const CANNOT_LISTEN: &[u8] = b"taskflow: cannot listen\n";
-
 /// The message for a file that is longer than a flow file may be.
 pub const TOO_LONG: &[u8] = b"taskflow: flow file: too long\n";
 

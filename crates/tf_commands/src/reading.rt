@@ -11,14 +11,14 @@ ghost use Rattle.tf_commands.specs.Books.{NoFileChanges, OnlySays, HasSaid};
 ghost use Rattle.tf_commands.specs.Opened.{Opened};
 ghost use Rattle.tf_report.specs.Closing.{ClosesWithOrStops};
 
-use crate::messages::{CANNOT_READ, TOO_LONG, append_refusal};
+use crate::messages::{TOO_LONG, append_refusal};
 use std::alloc::Global;
 use tf_accept::{Refusal, accept};
 use tf_desk::Desk;
 use tf_flow::Binds;
 use tf_machine::Machine;
 use tf_ports::{SourceFault, Sources};
-use tf_report::{DISK_FAILED, OUT_OF_MEMORY, REFUSED, UNHIRED, UNREAD, UNSAID, close};
+use tf_report::{CANNOT_READ, DISK_FAILED, OUT_OF_MEMORY, REFUSED, UNHIRED, UNREAD, UNSAID, close};
 use tf_values::{Name, Text};
 
 /// The flow file that is asked for, the values that its store gets besides, whether reverts are deferred, and up to which

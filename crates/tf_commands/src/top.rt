@@ -26,10 +26,12 @@ use crate::working::work;
 use std::alloc::Global;
 use std::sync::Wait;
 use std::thread::Threads;
+use tf_board_service::serve_command;
 use tf_desk::Desk;
 use tf_ports::{Crew, Door, Sources};
 use tf_report::{NO_COMMAND, OUT_OF_MEMORY, REFUSED, close};
-use tf_words::{Asked, Word, demo_numbers_are_within, read_words};
+use tf_runner::conduct_command;
+use tf_words::{Asked, Word, conductors_are_within, demo_numbers_are_within, read_words};
 
 /// What a command reaches beside its words: the desk, the sources, the crew that hires hands, and the door at
 /// which a worker listens.
@@ -81,7 +83,7 @@ pub fn taskflow<K: Desk + Send, S: Sources, W: Crew, L: Door, R: Threads + Wait 
 
     // A file that gives a plan is run to its end, or said to be in order, a book that holds a flow is resumed to its
     // end, or shown, or put back, a log none of whose lines can't be is said to be legal, and a command is done on a board that doesn't refuse it, unless a count of faults
-    // rose (that of the door for a worker alone), a stop was asked for or memory ran out; 13 comes only as the course says, and 12 only where there is a
+    // rose (that of the door for a worker and a board's service alone), a stop was asked for or memory ran out; 13 comes only as the course says, and 12 only where there is a
     // limit of entries.
     ensures complete { (command : AnAsked) → command_of words.now ≡ Some command
         → MayBeDone command (S.contents outside.sources) (K.state outside.desk)
@@ -95,10 +97,10 @@ pub fn taskflow<K: Desk + Send, S: Sources, W: Crew, L: Door, R: Threads + Wait 
     // says.
     ensures hires { HiresAsAsked words.now (W.told outside.crew) (W.told result.outside.crew) }
 
-    // Only a worker has to do with the door.
+    // Only a worker and the service of a board have to do with the door.
     ensures aside { ¬ (AsksForWork words.now) → L.told result.outside.door ≡ L.told outside.door }
 
-    // A file can't be read, the disk fails, a text can't be said, no hands are hired and a worker's door fails only where
+    // A file can't be read, the disk fails, a text can't be said, no hands are hired and a door fails only where
     // the count of such faults rose; no count falls.
     ensures asks { (K.state outside.desk).asks ≤ (K.state result.outside.desk).asks }
     ensures door { L.faults outside.door ≤ L.faults result.outside.door }
@@ -154,6 +156,7 @@ fn answer<K: Desk + Send, S: Sources, W: Crew, L: Door, R: Threads + Wait + Sync
         };
     };
     demo_numbers_are_within();
+    conductors_are_within();
     match found {
         Some(asked) => obey(rt, alloc, asked, desk, sources, crew, door),
         None => {
@@ -193,7 +196,7 @@ fn obey<K: Desk + Send, S: Sources, W: Crew, L: Door, R: Threads + Wait + Sync>(
     }
 }
 
-/// Does what is asked for of a flow or of a worker, and answers the desk and the status.
+/// Does what is asked for of a flow, of a worker or of a board's service, and answers the desk and the status.
 #[tactic(auto, using(crate::proofs::CauseLemmas::widened))]
 fn obey_flow<K: Desk + Send, S: Sources, W: Crew, L: Door, R: Threads + Wait + Sync>(
     rt: &R,
@@ -306,6 +309,24 @@ fn obey_flow<K: Desk + Send, S: Sources, W: Crew, L: Door, R: Threads + Wait + S
             book,
             hands,
         } => demo_book(rt, alloc, seed, size, &book, hands, desk, crew),
+        Asked::Conduct {
+            board,
+            owner,
+            hands,
+        } => {
+            let (desk, status) = conduct_command(
+                rt, alloc, &board, &owner, hands, desk, sources, crew,
+            );
+            Over { desk, status }
+        }
+        Asked::Serve {
+            board,
+            address,
+            sessions,
+        } => {
+            let (desk, status) = serve_command(rt, alloc, &board, &address, sessions, desk, door);
+            Over { desk, status }
+        }
         Asked::Worker { address, sessions } => {
             let status = work(alloc, &address, sessions, &mut desk, crew, door);
             Over { desk, status }

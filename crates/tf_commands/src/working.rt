@@ -8,12 +8,14 @@ ghost use Rattle.tf_commands.specs.Course.{HiresAtMost};
 ghost use Rattle.tf_ports.specs.Ports.{CrewTold, IsFresh};
 ghost use Rattle.tf_ports.specs.declared.crews.Want.TheVariants as want;
 
-use crate::messages::{CANNOT_HIRE, CANNOT_LISTEN};
 use std::alloc::Global;
 use tf_actions::Performer;
 use tf_desk::Desk;
 use tf_ports::{Address, Crew, Door, Hands, PortFault, Want};
-use tf_report::{OUT_OF_MEMORY, SUCCEEDED, UNHIRED, UNSAID, append, append_counted, close};
+use tf_report::{
+    CANNOT_HIRE, CANNOT_LISTEN, OUT_OF_MEMORY, SUCCEEDED, UNHIRED, UNSAID, append, append_counted,
+    close,
+};
 use tf_values::Memory;
 use tf_workers::{ServeEnd, serve};
 

@@ -3,7 +3,7 @@ use Rattle.tf_commands.specs.Runs.{nobody, went_on}
 use Rattle.tf_commands.proofs.BookLemmas.{untouched_by, unhired_so}
 use Rattle.tf_commands.proofs.CountLemmas.{reaches_itself, ran_causes}
 use Rattle.tf_commands.proofs.PromiseLemmas.{resumed_promised}
-use Rattle.tf_commands.proofs.WantLemmas.{near_count, far_count, hired_then_back, hires_back, long_back, promised_near, promised_far}
+use Rattle.tf_commands.proofs.WantLemmas.{near_count, far_count, hires_back, long_back, promised_near, promised_far}
 use Rattle.tf_commands.proofs.resuming.hire_and_go_on.Goals as goal
 
 pub returns-in-Ok-Local-clause-goes : goal.returns-in-Ok-Local-clause-goes
@@ -58,7 +58,12 @@ returns-in-Err-clause-goes g c = λ name entry opened holds.
     (unhired_so c.in-Err.ensures.not_hired (c.say_unhired.ensures.refuses name entry (untouched_by g.K.Desk.state _ _ (sym c.close.ensures.desk) opened.untouched)))
 
 pub returns-in-Ok-Local-clause-hires : goal.returns-in-Ok-Local-clause-hires
-returns-in-Ok-Local-clause-hires g c = inr (hired_then_back _ _ _ c.in-Ok-Local.ensures.hired c.dismiss.ensures.back)
+returns-in-Ok-Local-clause-hires g c =
+    let e = c.in-Ok-Local in
+    inr (hires_back c.args.request.now.want _ _ _ (map g.W.Hand.Performer.did c.run_book-over.new.hands.items) e.ensures.hired c.dismiss.ensures.back (long_back _ c.run_book-over.new.hands _ _ c.run_book-over.ensures.back (near_count c.args.request.now.want e.field-0 e.hands e.field-0-is e.ensures.all)))
 
 pub returns-in-Ok-Remote-clause-hires : goal.returns-in-Ok-Remote-clause-hires
-returns-in-Ok-Remote-clause-hires g c = inr (hired_then_back _ _ _ c.in-Ok-Remote.ensures.hired c.dismiss-in-Ok-Remote.ensures.back)
+returns-in-Ok-Remote-clause-hires g c =
+    let run = c.run_book-over-in-Ok-Remote in
+    let e = c.in-Ok-Remote in
+    inr (hires_back c.args.request.now.want _ _ _ (map g.W.Far.Performer.did run.new.hands.items) e.ensures.hired c.dismiss-in-Ok-Remote.ensures.back (long_back _ run.new.hands _ _ run.ensures.back (far_count c.args.request.now.want e.field-0 e.hands e.field-0-is e.ensures.all)))

@@ -9,6 +9,7 @@ use Rattle.tf_commands.proofs.top.answer.Goals as goal
 pub obey-requires-clause-within : goal.obey-requires-clause-within
 obey-requires-clause-within g c = λ lives kept.
     within_so (command_of c.args.words.now) c.in-Some.asked (λ seed size book hands is. c.demo_numbers_are_within.ensures c.args.words.now seed size book hands is)
+    (λ board owner hands is. c.conductors_are_within.ensures c.args.words.now board owner hands is)
     (λ command is. command_hands c.args.words.now command is)
     (sym c.in-Ok.ensures ∙ c.in-Some.is)
 

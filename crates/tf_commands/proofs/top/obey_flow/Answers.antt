@@ -1,6 +1,8 @@
 use Rattle.std.proofs.Common.{refl, subst, sym}
 use Rattle.tf_commands.specs.Asking.{IsWork}
-use Rattle.tf_commands.proofs.CauseLemmas.{worked_causes, listened_so}
+use Rattle.tf_board_service.proofs.CommandLemmas.{service_status}
+use Rattle.tf_commands.proofs.ConductLemmas.{conducted_causes, conducts_hires}
+use Rattle.tf_commands.proofs.CauseLemmas.{served_causes, worked_causes, listened_so}
 use Rattle.tf_commands.proofs.CourseLemmas.{obeys_so, hires_so, few_so, quiet_file}
 use Rattle.tf_commands.proofs.top.obey_flow.Goals as goal
 
@@ -51,6 +53,49 @@ returns-in-Worker-clause-causes g c =
     (worked_causes c.work-status.result (g.S.Sources.faults c.args.sources.now) (g.S.Sources.faults c.args.sources.now) (g.W.Crew.faults c.args.crew.now) (g.W.Crew.faults c.work-status.new.crew)
     (g.L.Door.faults c.args.door.now) (g.L.Door.faults c.work-status.new.door) c.work-status.ensures.says refl c.work-status.ensures.crew_stands c.work-status.ensures.unhired c.work-status.ensures.unsaid c.work-status.ensures.status)
 
+pub conduct_command-desk-requires-clause-short : goal.conduct_command-desk-requires-clause-short
+conduct_command-desk-requires-clause-short g c = λ lives kept. (few_so c.args.asked _ c.in-Conduct.is c.requires.within).short
+
+pub conduct_command-desk-requires-clause-many : goal.conduct_command-desk-requires-clause-many
+conduct_command-desk-requires-clause-many g c = λ lives kept.
+    let bounds = few_so c.args.asked _ c.in-Conduct.is c.requires.within in
+    (bounds.least, bounds.most)
+
+pub returns-in-Conduct-clause-obeys : goal.returns-in-Conduct-clause-obeys
+returns-in-Conduct-clause-obeys g c = obeys_so g.K.Desk.state _ _ c.args.asked _ _ _ _ _ _ _ c.in-Conduct.is (c.conduct_command-desk.ensures.conducts, refl)
+
+pub returns-in-Conduct-clause-asks : goal.returns-in-Conduct-clause-asks
+returns-in-Conduct-clause-asks g c = c.conduct_command-desk.ensures.causes.extends.asks
+
+pub returns-in-Conduct-clause-causes : goal.returns-in-Conduct-clause-causes
+returns-in-Conduct-clause-causes g c =
+    conducted_causes _ c.conduct_command-desk.result.1 (g.S.Sources.faults c.args.sources.now) (g.S.Sources.faults c.conduct_command-desk.new.sources) (g.W.Crew.faults c.args.crew.now)
+    (g.W.Crew.faults c.conduct_command-desk.new.crew) c.conduct_command-desk.ensures.causes c.conduct_command-desk.ensures.unread c.conduct_command-desk.ensures.unhired c.conduct_command-desk.ensures.no_fall
+
+pub returns-in-Conduct-clause-hires : goal.returns-in-Conduct-clause-hires
+returns-in-Conduct-clause-hires g c = hires_so c.args.asked _ _ _ c.in-Conduct.is (conducts_hires c.conduct_command-desk.ensures.conducts)
+
+pub serve_command-desk-requires-clause-few : goal.serve_command-desk-requires-clause-few
+serve_command-desk-requires-clause-few g c = λ lives kept. few_so c.args.asked _ c.in-Serve.is c.requires.within
+
+pub returns-in-Serve-clause-obeys : goal.returns-in-Serve-clause-obeys
+returns-in-Serve-clause-obeys g c = obeys_so g.K.Desk.state _ _ c.args.asked _ _ _ _ _ _ _ c.in-Serve.is (c.serve_command-desk.ensures.serves, refl)
+
+pub returns-in-Serve-clause-asks : goal.returns-in-Serve-clause-asks
+returns-in-Serve-clause-asks g c = c.serve_command-desk.ensures.causes.desk.extends.asks
+
+pub returns-in-Serve-clause-door : goal.returns-in-Serve-clause-door
+returns-in-Serve-clause-door g c = c.serve_command-desk.ensures.causes.door
+
+pub returns-in-Serve-clause-causes : goal.returns-in-Serve-clause-causes
+returns-in-Serve-clause-causes g c =
+    listened_so _ _ _ _ _ (λ both. (subst IsWork (sym c.in-Serve.is) both.0, both.1))
+    (served_causes c.serve_command-desk.result.1 (g.S.Sources.faults c.args.sources.now) (g.W.Crew.faults c.args.crew.now) (g.L.Door.faults c.args.door.now) (g.L.Door.faults c.serve_command-desk.new.door)
+    c.serve_command-desk.ensures.causes (service_status c.serve_command-desk.ensures.serves))
+
+pub returns-in-Serve-clause-hires : goal.returns-in-Serve-clause-hires
+returns-in-Serve-clause-hires g c = hires_so c.args.asked _ _ _ c.in-Serve.is refl
+
 pub returns-in-Try-clause-hires : goal.returns-in-Try-clause-hires
 returns-in-Try-clause-hires g c = hires_so c.args.asked _ _ _ c.in-Try.is c.try_file.ensures.hires
 
@@ -80,3 +125,6 @@ returns-in-Worker-clause-hires g c = hires_so c.args.asked _ _ _ c.in-Worker.is 
 
 pub returns-in-Worker-clause-aside : goal.returns-in-Worker-clause-aside
 returns-in-Worker-clause-aside g c never = absurd (never (subst IsWork (sym c.in-Worker.is) tt))
+
+pub returns-in-Serve-clause-aside : goal.returns-in-Serve-clause-aside
+returns-in-Serve-clause-aside g c never = absurd (never (subst IsWork (sym c.in-Serve.is) tt))
