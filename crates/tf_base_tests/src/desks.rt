@@ -1,73 +1,113 @@
+use crate::lists::{numbers, text};
 use std::alloc::Global;
 use std::process::Abort;
 use std::test::Fail;
 use tf_desk::{Desk, DeskFault, MemoryDesk, Torn};
-use tf_values::Text;
+
+/// A desk of which the calls of these numbers fail, and the turns of those ask for a stop.
+fn desk_of(alloc: Global, failing: Vec<u64>, asking: Vec<u64>) -> Result<MemoryDesk, Fail> {
+    let desk = MemoryDesk::make(alloc, 64, 20, failing, asking)?;
+    Ok(desk)
+}
 
 /// A desk of which the stated calls fail and the stated turns ask for a stop.
 fn desk(alloc: Global, failing: &[u64], asking: &[u64]) -> Result<MemoryDesk, Fail> {
-    Ok(MemoryDesk::make(
-        alloc,
-        64,
-        20,
-        Vec::from_slice(alloc, failing)?,
-        Vec::from_slice(alloc, asking)?,
-    )?)
+    desk_of(alloc, numbers(alloc, failing)?, numbers(alloc, asking)?)
+}
+
+/// Picks the file `book`.
+fn pick_book(alloc: Global, desk: &mut MemoryDesk) -> Result<(), Fail> {
+    let name = text(alloc, b"book")?;
+    desk.pick(alloc, &name)?;
+    Ok(())
+}
+
+/// Such a desk, whose file `book` is picked by its first call.
+fn picked(alloc: Global, failing: &[u64], asking: &[u64]) -> Result<MemoryDesk, Fail> {
+    let mut desk = desk(alloc, failing, asking)?;
+    pick_book(alloc, &mut desk)?;
+    Ok(desk)
+}
+
+/// Writes at the beginning of the picked file.
+fn write(desk: &mut MemoryDesk, bytes: &[u8]) -> Result<(), DeskFault> {
+    desk.write_at(0, bytes)
+}
+
+/// Says a text.
+fn say(desk: &mut MemoryDesk, text: &[u8]) -> Result<(), DeskFault> {
+    desk.say(text)
+}
+
+/// Whether the desk asks for a stop.
+fn asks(desk: &mut MemoryDesk) -> bool {
+    desk.stop_asked()
+}
+
+/// The first bytes of the picked file, as far as there are so many.
+fn read(desk: &mut MemoryDesk, buf: &mut [u8]) -> Result<usize, DeskFault> {
+    desk.read(0, buf)
 }
 
 /// The picked file has these bytes, and no more.
 fn assert_bytes(rt: &impl Abort, desk: &mut MemoryDesk, bytes: &[u8]) {
     let mut buf = [0; 32];
-    let size = desk.size();
-    assert!(rt; size == Ok(bytes.len() as u64));
-    let count = desk.read(0, &mut buf);
-    assert!(rt; count == Ok(bytes.len()));
+    assert!(rt; desk.size() == Ok(bytes.len() as u64));
+    assert!(rt; read(desk, &mut buf) == Ok(bytes.len()));
     assert!(rt; bytes.len() <= 32);
     assert_eq!(rt; &buf[..bytes.len()], bytes);
+}
+
+/// The second turn of three asks for a stop.
+fn assert_asks_once(rt: &impl Abort, desk: &mut MemoryDesk) {
+    assert!(rt; !asks(desk));
+    assert!(rt; asks(desk));
+    assert!(rt; !asks(desk));
 }
 
 #[test]
 fn the_stated_calls_fail(rt: HostRuntime) -> Result<(), Fail> {
     let alloc = rt.alloc();
-    let mut desk = desk(alloc, &[2, 5, 7, 9], &[2])?;
-    desk.pick(alloc, &Text::make(alloc, b"book")?)?;
-    assert_eq!(rt; desk.write_at(0, b"abcd"), Err(DeskFault::Disk));
+    let mut desk = picked(alloc, &[2, 5, 7, 9], &[2])?;
+    assert!(rt; write(&mut desk, b"abcd") == Err(DeskFault::Disk));
     assert_bytes(&rt, &mut desk, b"ab");
-    assert_eq!(rt; desk.say(b"line"), Err(DeskFault::Out));
-    assert_eq!(rt; desk.shown(), b"li".as_slice());
+    assert!(rt; say(&mut desk, b"line") == Err(DeskFault::Out));
+    assert!(rt; desk.shown() == b"li".as_slice());
     // The seventh call fails nothing, since it asks for a stop.
-    assert!(rt; !desk.stop_asked());
-    assert!(rt; desk.stop_asked());
-    assert!(rt; !desk.stop_asked());
-    assert_eq!(rt; desk.sync(), Err(DeskFault::Disk));
+    assert_asks_once(&rt, &mut desk);
+    assert!(rt; desk.sync() == Err(DeskFault::Disk));
     Ok(())
+}
+
+/// Thirty bytes are said, then three that pass the capacity, and then two that fit.
+fn assert_says_what_fits(rt: &impl Abort, desk: &mut MemoryDesk) {
+    assert!(rt; say(desk, &[8; 30]).is_ok());
+    assert!(rt; say(desk, b"abc") == Err(DeskFault::Out));
+    assert!(rt; desk.shown().len() == 30);
+    assert!(rt; say(desk, b"ab").is_ok());
 }
 
 #[test]
 fn what_passes_the_capacity_is_not_taken(rt: HostRuntime) -> Result<(), Fail> {
     let alloc = rt.alloc();
     let mut desk = desk(alloc, &[], &[])?;
-    assert_eq!(rt; desk.write_at(0, b"a"), Err(DeskFault::Disk));
-    desk.pick(alloc, &Text::make(alloc, b"book")?)?;
-    desk.write_at(0, &[7; 32])?;
-    desk.say(&[8; 30])?;
-    assert_eq!(rt; desk.say(b"abc"), Err(DeskFault::Out));
-    assert_eq!(rt; desk.shown().len(), 30);
-    desk.say(b"ab")?;
+    assert!(rt; write(&mut desk, b"a") == Err(DeskFault::Disk));
+    pick_book(alloc, &mut desk)?;
+    assert!(rt; write(&mut desk, &[7; 32]).is_ok());
+    assert_says_what_fits(&rt, &mut desk);
     Ok(())
 }
 
 /// A desk that has four bytes on the disk, and three of them written anew, with a line said before and after the
 /// last sync. Its calls: pick, write, sync, write, say, sync, say.
 fn written_desk(alloc: Global) -> Result<MemoryDesk, Fail> {
-    let mut desk = desk(alloc, &[], &[])?;
-    desk.pick(alloc, &Text::make(alloc, b"book")?)?;
-    desk.write_at(0, b"abcd")?;
+    let mut desk = picked(alloc, &[], &[])?;
+    write(&mut desk, b"abcd")?;
     desk.sync()?;
-    desk.write_at(0, b"XYZ")?;
-    desk.say(b"one")?;
+    write(&mut desk, b"XYZ")?;
+    say(&mut desk, b"one")?;
     desk.sync()?;
-    desk.say(b"two")?;
+    say(&mut desk, b"two")?;
     Ok(desk)
 }
 

@@ -9,6 +9,8 @@ mod journals;
 #[cfg(test)]
 mod links;
 #[cfg(test)]
+mod lists;
+#[cfg(test)]
 mod ports;
 #[cfg(test)]
 mod turnstiles;

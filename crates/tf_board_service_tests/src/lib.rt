@@ -1,9 +1,10 @@
-//! Tests of a board service: what requests are answered with, two sessions at once, and a real socket.
+//! Tests of a board service: what requests are answered with, two sessions at once, a real socket, and the command.
 #![tactic(auto)]
 
 #[cfg(test)]
-#[cfg(test)]
 mod boards;
+#[cfg(test)]
+mod commands;
 #[cfg(test)]
 mod meetings;
 #[cfg(test)]

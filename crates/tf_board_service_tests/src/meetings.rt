@@ -1,5 +1,5 @@
 // A link that gives no byte until another was sent its reply.
-ghost use Rattle.std.specs.Prelude.{None};
+ghost use Rattle.std.specs.Prelude.{◌≡◌, IfOk, None, vec_len};
 
 use crate::boards::{empty_board, frames, post};
 use std::alloc::Global;
@@ -7,8 +7,10 @@ use std::sync::Arc;
 use std::sync::atomic::{AtomicU64, Ordering};
 use std::test::Fail;
 use std::thread;
-use tf_board_service::{SessionEnd, serve_board};
+use tf_board_service::{Session, SessionEnd, serve_board};
+use tf_desk::MemoryDesk;
 use tf_ports::{Came, Link, LinkFault, MemoryLink};
+use tf_shared_board::SharedBoard;
 use tf_states::Priority;
 
 /// How many turns a link waits at most for the other one.
@@ -64,11 +66,10 @@ fn waiting(
     })
 }
 
-#[test]
-fn a_session_is_told_what_another_did_before(rt: HostRuntime) -> Result<(), Fail> {
-    let alloc = rt.alloc();
-    let mut shared = empty_board(alloc, &[])?;
-    post(&mut shared, b"build", Priority::Normal)?;
+/// Two links, of which the first gives its question for an owner once the second was sent the reply to its claim.
+fn links(alloc: Global) -> Result<Vec<WaitingLink>, Fail>
+    ensures { IfOk result (λ links. vec_len links ≡ 2) }
+{
     let replies = Arc::new(alloc, AtomicU64::new(0))?;
     let owner = "{\"call\":\"owner\",\"id\":\"584cd1e7-aed6-500d-8055-e04f2efc0be6\"}";
     let claim =
@@ -76,17 +77,37 @@ fn a_session_is_told_what_another_did_before(rt: HostRuntime) -> Result<(), Fail
     let mut links = Vec::new(alloc);
     links.push(waiting(alloc, &replies, 1, &[owner])?)?;
     links.push(waiting(alloc, &replies, 0, &[claim])?)?;
+    Ok(links)
+}
+
+/// A board with a job that nobody has.
+fn board(alloc: Global) -> Result<SharedBoard<MemoryDesk>, Fail> {
+    let mut shared = empty_board(alloc, &[])?;
+    post(&mut shared, b"build", Priority::Normal)?;
+    Ok(shared)
+}
+
+/// Whether a session ended well, at this point.
+fn ends(session: &Session, point: u64) -> bool {
+    session.end == SessionEnd::Ended && session.points.items() == [point].as_slice()
+}
+
+#[test]
+fn a_session_is_told_what_another_did_before(rt: HostRuntime) -> Result<(), Fail> {
+    let alloc = rt.alloc();
+    let shared = board(alloc)?;
+    let mut links = links(alloc)?;
     let Ok(served) = serve_board(&rt, alloc, shared, &mut links) else {
         return Err(Fail::from("memory"));
     };
-    let sessions = served.sessions.items();
-    assert_eq!(rt; sessions.len(), 2);
-    assert_eq!(rt; sessions[0].end, SessionEnd::Ended);
-    assert_eq!(rt; sessions[1].end, SessionEnd::Ended);
+    let [first, other] = served.sessions.items() else {
+        return Err(Fail::from("not two sessions"));
+    };
+    assert!(rt; ends(first, 2) && ends(other, 1) && served.shared.made().len() == 2);
     let told = frames(alloc, &["{\"lines\":[\"owner bob\"]}"])?;
-    assert_eq!(rt; links[0].link.sent(), told.as_slice());
-    assert_eq!(rt; sessions[0].points.items(), [2].as_slice());
-    assert_eq!(rt; sessions[1].points.items(), [1].as_slice());
-    assert_eq!(rt; served.shared.made().len(), 2);
+    let Some(link) = links.first() else {
+        return Err(Fail::from("no link"));
+    };
+    assert!(rt; link.link.sent() == told.as_slice());
     Ok(())
 }

@@ -1,9 +1,12 @@
-use crate::boards::{empty_board, named};
+use crate::boards::{empty_board, id, named};
+use std::alloc::Global;
 use std::test::Fail;
-use tf_board::{BoardFault, job_id};
+use tf_board::BoardFault;
+use tf_desk::{Desk, MemoryDesk};
 use tf_report::Priority;
 use tf_shared_board::{BoardHalt, CallFault, JobCall, SharedBoard};
 use tf_values::{Name, Val};
+use uuid::Uuid;
 
 /// A call that posts a job of this name.
 fn post(name: Name) -> JobCall {
@@ -14,18 +17,58 @@ fn post(name: Name) -> JobCall {
     }
 }
 
+/// A claim of the job of that id.
+fn claim(id: Uuid, owner: Name) -> JobCall {
+    JobCall::Claim { id, owner }
+}
+
+/// A shared board without a job, over a desk of whose calls the stated ones fail.
+fn shared(alloc: Global, failing: &[u64]) -> Result<SharedBoard<MemoryDesk>, Fail> {
+    let board = empty_board(alloc, failing)?;
+    Ok(SharedBoard::make(alloc, board))
+}
+
+/// What comes of a call.
+fn called<K: Desk>(
+    shared: &mut SharedBoard<K>,
+    number: u8,
+    call: JobCall,
+) -> Result<u64, CallFault> {
+    shared.call(number, call)
+}
+
+/// Whether a call goes to the job of number 1.
+fn goes<K: Desk>(shared: &mut SharedBoard<K>, number: u8, call: JobCall) -> bool {
+    matches!(called(shared, number, call), Ok(1))
+}
+
+/// Whether a call is refused since the job is claimed.
+fn is_claimed<K: Desk>(shared: &mut SharedBoard<K>, number: u8, call: JobCall) -> bool {
+    matches!(
+        called(shared, number, call),
+        Err(CallFault::Rule(BoardFault::Claimed(_)))
+    )
+}
+
+/// Whether a call meets a board that the disk halted.
+fn is_halted<K: Desk>(shared: &mut SharedBoard<K>, number: u8, call: JobCall) -> bool {
+    matches!(
+        called(shared, number, call),
+        Err(CallFault::Halted(BoardHalt::Disk))
+    )
+}
+
 #[test]
 fn a_call_that_is_refused_halts_nothing(rt: HostRuntime) -> Result<(), Fail> {
     let alloc = rt.alloc();
-    let mut shared = SharedBoard::make(alloc, empty_board(alloc, &[])?);
+    let mut shared = shared(alloc, &[])?;
     let name = named(b"build")?;
-    let id = job_id(alloc, 1, &name)?;
-    assert!(rt; matches!(shared.call(3, post(name)), Ok(1)));
-    assert!(rt; matches!(shared.call(0, JobCall::Claim { id, owner: name }), Ok(1)));
-    let refused = shared.call(1, JobCall::Claim { id, owner: name });
-    assert!(rt; matches!(refused, Err(CallFault::Rule(BoardFault::Claimed(_)))));
+    let id = id(alloc, 1, name)?;
+    assert!(rt; goes(&mut shared, 3, post(name)));
+    assert!(rt; goes(&mut shared, 0, claim(id, name)));
+    assert!(rt; is_claimed(&mut shared, 1, claim(id, name)));
     assert!(rt; shared.halted().is_none());
-    assert_eq!(rt; shared.made().len(), 2);
+    assert!(rt; shared.made().len() == 2);
     Ok(())
 }
 
@@ -33,10 +76,8 @@ fn a_call_that_is_refused_halts_nothing(rt: HostRuntime) -> Result<(), Fail> {
 fn a_disk_fault_halts_for_good(rt: HostRuntime) -> Result<(), Fail> {
     let alloc = rt.alloc();
     let name = named(b"build")?;
-    let mut shared = SharedBoard::make(alloc, empty_board(alloc, &[16, 17, 18, 19])?);
-    let first = shared.call(0, post(name));
-    assert!(rt; matches!(first, Err(CallFault::Halted(BoardHalt::Disk))));
-    let later = shared.call(0, post(name));
-    assert!(rt; matches!(later, Err(CallFault::Halted(BoardHalt::Disk))));
+    let mut shared = shared(alloc, &[16, 17, 18, 19])?;
+    assert!(rt; is_halted(&mut shared, 0, post(name)));
+    assert!(rt; is_halted(&mut shared, 0, post(name)));
     Ok(())
 }

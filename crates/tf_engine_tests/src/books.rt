@@ -1,4 +1,8 @@
 //! Books that tests run.
+ghost use Rattle.std.specs.Prelude.{[], IfOk};
+ghost use Rattle.tf_book.specs.Starting.{HasNoRecord};
+ghost use Rattle.tf_machine.specs.Machine.{StandsFor};
+
 use std::alloc::Global;
 use std::test::Fail;
 use tf_book::{Book, Loaded};
@@ -34,42 +38,91 @@ pub(crate) fn plan(alloc: Global, bytes: &[u8]) -> Result<Plan, Fail> {
     }
 }
 
-/// A run of a plan of which nothing is kept, over this desk.
-pub(crate) fn begun(alloc: Global, plan: Plan, desk: MemoryDesk) -> Result<Book<MemoryDesk>, Fail> {
-    let Ok(machine) = Machine::make(alloc, plan) else {
-        return Err(Fail::from("the plan isn't taken"));
-    };
-    let Ok(journal) = Journal::volatile(alloc, desk) else {
-        return Err(Fail::from("there is no journal"));
-    };
+/// The machine of a plan of which nothing was run.
+fn machine(alloc: Global, plan: Plan) -> Result<Machine, Fail>
+    ensures { IfOk result (λ machine. StandsFor machine []) }
+{
+    match Machine::make(alloc, plan) {
+        Ok(machine) => Ok(machine),
+        Err(_) => Err(Fail::from("the plan isn't taken")),
+    }
+}
+
+/// A journal of which nothing is kept, over this desk.
+fn journal<K: Desk>(alloc: Global, desk: K) -> Result<Journal<K>, Fail>
+    ensures { IfOk result (HasNoRecord K.state) }
+{
+    match Journal::volatile(alloc, desk) {
+        Ok(journal) => Ok(journal),
+        Err(_) => Err(Fail::from("there is no journal")),
+    }
+}
+
+/// The book of a machine that has run nothing, over a journal without a record.
+fn started<K: Desk>(alloc: Global, journal: Journal<K>, machine: Machine) -> Result<Book<K>, Fail>
+    requires new { HasNoRecord K.state journal }
+    requires fresh { StandsFor machine [] }
+{
     match Book::start(alloc, journal, machine, false) {
         Ok(book) => Ok(book),
         Err(_) => Err(Fail::from("the book doesn't begin")),
     }
 }
 
-/// A desk of whose calls the stated ones fail.
-pub(crate) fn desk(alloc: Global, failing: &[u64]) -> Result<MemoryDesk, Fail> {
-    let failing = Vec::from_slice(alloc, failing)?;
+/// A run of a plan of which nothing is kept, over this desk.
+pub(crate) fn begun<K: Desk>(alloc: Global, plan: Plan, desk: K) -> Result<Book<K>, Fail> {
+    let machine = machine(alloc, plan)?;
+    let journal = journal(alloc, desk)?;
+    started(alloc, journal, machine)
+}
+
+/// These numbers, as those of the calls that fail.
+fn numbers(alloc: Global, items: &[u64]) -> Result<Vec<u64>, Fail> {
+    let list = Vec::from_slice(alloc, items)?;
+    Ok(list)
+}
+
+/// A desk of whose calls these fail.
+fn desk_of(alloc: Global, failing: Vec<u64>) -> Result<MemoryDesk, Fail> {
     let desk = MemoryDesk::make(alloc, 65_536, 1_000, failing, Vec::new(alloc))?;
     Ok(desk)
 }
 
-/// The book that a file with these bytes is, over this desk.
-pub(crate) fn opened(
-    alloc: Global,
-    desk: MemoryDesk,
-    bytes: &[u8],
-) -> Result<Book<MemoryDesk>, Fail> {
-    let mut desk = desk;
-    let Ok(name) = Text::make(alloc, b"B") else {
-        return Err(Fail::from("there is no name"));
-    };
-    if desk.pick(alloc, &name).is_err() || desk.write_at(0, bytes).is_err() {
+/// A desk of whose calls the stated ones fail.
+pub(crate) fn desk(alloc: Global, failing: &[u64]) -> Result<MemoryDesk, Fail> {
+    desk_of(alloc, numbers(alloc, failing)?)
+}
+
+/// A run of the plan of these bytes of which nothing is kept, over a desk in memory that doesn't fail.
+pub(crate) fn run_of(alloc: Global, bytes: &[u8]) -> Result<Book<MemoryDesk>, Fail> {
+    let plan = plan(alloc, bytes)?;
+    let desk = desk(alloc, &[])?;
+    begun(alloc, plan, desk)
+}
+
+/// Writes these bytes into the file `B`.
+fn write<K: Desk>(alloc: Global, desk: &mut K, bytes: &[u8]) -> Result<(), Fail> {
+    let name = Text::make(alloc, b"B")?;
+    if desk.pick(alloc, &name).is_err() {
+        return Err(Fail::from("the file isn't there"));
+    }
+    if desk.write_at(0, bytes).is_err() {
         return Err(Fail::from("the file isn't written"));
     }
+    Ok(())
+}
+
+/// The book that the picked file of this desk is.
+fn loaded<K: Desk>(alloc: Global, desk: K) -> Result<Book<K>, Fail> {
     match Book::load(alloc, desk) {
         Ok(Loaded::Book(book)) => Ok(book),
         _ => Err(Fail::from("the file is no book with a flow")),
     }
+}
+
+/// The book that a file with these bytes is, over this desk.
+pub(crate) fn opened<K: Desk>(alloc: Global, desk: K, bytes: &[u8]) -> Result<Book<K>, Fail> {
+    let mut desk = desk;
+    write(alloc, &mut desk, bytes)?;
+    loaded(alloc, desk)
 }

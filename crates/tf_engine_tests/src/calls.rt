@@ -1,67 +1,92 @@
-ghost use Rattle.std.specs.Prelude.{◌≡◌, ◌<◌, true, IsSome, IfOk, vec_len};
-ghost use Rattle.tf_book.specs.Book.{moment, outline};
+ghost use Rattle.std.specs.Prelude.{◌≡◌, ◌<◌, true, false, IsSome, IfOk, vec_len};
+ghost use Rattle.tf_book.specs.Book.{flow_state, moment, outline};
+ghost use Rattle.tf_book.specs.Turns.{is_entered};
 ghost use Rattle.tf_hands.specs.Hands.{task_of};
+ghost use Rattle.tf_model.specs.Steps.{is_free};
 
-use crate::books::{RETRIED, begun, desk, plan};
+use crate::books::{RETRIED, run_of};
 use std::alloc::Global;
+use std::process::Abort;
 use std::test::Fail;
-use tf_actions::Outcome;
+use tf_actions::{Outcome, Performer};
 use tf_book::{Book, Entered, Turn};
-use tf_desk::MemoryDesk;
+use tf_desk::{Desk, MemoryDesk};
 use tf_engines::{How, RunEnd, interleaved};
-use tf_flow::Plan;
 use tf_hands::hands_are_free_or_have_a_task;
 use tf_ports::MemorySpawner;
 use tf_states::{Failure, FlowState};
 use tf_tasks::LocalHand;
 use tf_values::{Text, Val};
 
-/// A run of a plan whose session was entered by hand 0, and of which nothing is kept.
-fn entered(alloc: Global, plan: Plan) -> Result<Book<MemoryDesk>, Fail> {
-    let mut book = begun(alloc, plan, desk(alloc, &[])?)?;
+/// Whether the book's session was entered.
+fn was_entered<K: Desk>(book: &Book<K>) -> bool
+    ensures { result ≡ true → is_entered (flow_state book.now) ≡ true }
+{
+    let state = book.state();
+    !matches!(state, FlowState::Pending | FlowState::Resuming)
+}
+
+/// Whether a hand has a task in flight.
+fn has_task<K: Desk>(book: &Book<K>, hand: u8) -> bool
+    ensures busy { result ≡ true → IsSome (task_of (outline book.now) (moment book.now) hand) }
+    ensures free { result ≡ false → is_free (outline book.now) (moment book.now) hand ≡ true }
+{
+    hands_are_free_or_have_a_task();
+    book.machine().in_flight(hand).is_some()
+}
+
+/// Enters the session by hand 0.
+fn enter<K: Desk>(book: &mut Book<K>) -> Result<(), Fail> {
     match book.enter(0, None) {
-        Ok(Entered::Running) => Ok(book),
+        Ok(Entered::Running) => Ok(()),
         _ => Err(Fail::from("the session isn't entered")),
     }
 }
 
-/// The next turn of a hand with nothing in flight.
-fn turn(book: &mut Book<MemoryDesk>, hand: u8) -> Result<Turn, Fail>
-    requires { hand < 64 }
+/// The next turn of a free hand.
+fn next<K: Desk>(book: &mut Book<K>, hand: u8) -> Result<Turn, Fail>
+    requires hand { hand < 64 }
+    requires free { is_free (outline book.old) (moment book.old) hand ≡ true }
+    requires entered { is_entered (flow_state book.old) ≡ true }
 {
-    let state = book.state();
-    if matches!(state, FlowState::Pending | FlowState::Resuming) {
-        return Err(Fail::from("the session wasn't entered"));
-    }
-    hands_are_free_or_have_a_task();
-    if book.machine().in_flight(hand).is_some() {
-        return Err(Fail::from("the hand has a task in flight"));
-    }
     match book.next(hand) {
         Ok(turn) => Ok(turn),
         Err(_) => Err(Fail::from("the turn is refused")),
     }
 }
 
-/// Whether a hand has a task in flight.
-fn has_task(book: &Book<MemoryDesk>, hand: u8) -> bool
-    ensures { result ≡ true → IsSome (task_of (outline book.now) (moment book.now) hand) }
-{
-    book.machine().in_flight(hand).is_some()
-}
-
-/// The end of the task that a hand has in flight.
-fn end(book: &mut Book<MemoryDesk>, hand: u8, outcome: Outcome) -> Result<(), Fail>
+/// The next turn of a hand with nothing in flight.
+fn turn<K: Desk>(book: &mut Book<K>, hand: u8) -> Result<Turn, Fail>
     requires { hand < 64 }
 {
-    if !has_task(book, hand) {
-        drop(outcome);
-        return Err(Fail::from("the hand has nothing in flight"));
+    if !was_entered(book) {
+        return Err(Fail::from("the session wasn't entered"));
     }
+    if has_task(book, hand) {
+        return Err(Fail::from("the hand has a task in flight"));
+    }
+    next(book, hand)
+}
+
+/// The end of the task that the hand has in flight.
+fn finish<K: Desk>(book: &mut Book<K>, hand: u8, outcome: Outcome) -> Result<(), Fail>
+    requires hand { hand < 64 }
+    requires task { IsSome (task_of (outline book.old) (moment book.old) hand) }
+{
     match book.finish(hand, outcome) {
         Ok(()) => Ok(()),
         Err(_) => Err(Fail::from("the end is refused")),
     }
+}
+
+/// The end of the task that a hand has in flight, if it has one.
+fn end<K: Desk>(book: &mut Book<K>, hand: u8, outcome: Outcome) -> Result<(), Fail>
+    requires { hand < 64 }
+{
+    if !has_task(book, hand) {
+        return Err(Fail::from("the hand has nothing in flight"));
+    }
+    finish(book, hand, outcome)
 }
 
 /// What a hand is told at its turn.
@@ -101,7 +126,7 @@ fn told_by(turn: Turn) -> Told {
 }
 
 /// Whether a hand is told that at its next turn.
-fn is_told(book: &mut Book<MemoryDesk>, hand: u8, wanted: Told) -> Result<bool, Fail>
+fn is_told<K: Desk>(book: &mut Book<K>, hand: u8, wanted: Told) -> Result<bool, Fail>
     requires { hand < 64 }
 {
     let turn = turn(book, hand)?;
@@ -125,7 +150,7 @@ fn outcome(alloc: Global, came: Came) -> Result<Outcome, Fail> {
 }
 
 /// Ends the task of a hand.
-fn ends(alloc: Global, book: &mut Book<MemoryDesk>, hand: u8, came: Came) -> Result<bool, Fail>
+fn ends<K: Desk>(alloc: Global, book: &mut Book<K>, hand: u8, came: Came) -> Result<bool, Fail>
     requires { hand < 64 }
 {
     let outcome = outcome(alloc, came)?;
@@ -134,7 +159,7 @@ fn ends(alloc: Global, book: &mut Book<MemoryDesk>, hand: u8, came: Came) -> Res
 }
 
 /// Whether a hand is told so at its next turn, or whether the end of its task is recorded.
-fn does(alloc: Global, book: &mut Book<MemoryDesk>, hand: u8, act: Act) -> Result<bool, Fail> {
+fn does<K: Desk>(alloc: Global, book: &mut Book<K>, hand: u8, act: Act) -> Result<bool, Fail> {
     if hand >= 64 {
         return Err(Fail::from("there is no such hand"));
     }
@@ -144,19 +169,14 @@ fn does(alloc: Global, book: &mut Book<MemoryDesk>, hand: u8, act: Act) -> Resul
     }
 }
 
-/// The book after these acts, all of which went so.
-fn after(
-    alloc: Global,
-    book: Book<MemoryDesk>,
-    acts: &[(u8, Act)],
-) -> Result<Book<MemoryDesk>, Fail> {
-    let mut book = book;
+/// Has these acts done, all of which go so.
+fn do_all<K: Desk>(alloc: Global, book: &mut Book<K>, acts: &[(u8, Act)]) -> Result<(), Fail> {
     for (hand, act) in acts {
-        if !does(alloc, &mut book, *hand, *act)? {
+        if !does(alloc, book, *hand, *act)? {
             return Err(Fail::from("a hand is told otherwise"));
         }
     }
-    Ok(book)
+    Ok(())
 }
 
 /// Two hands fail in the first attempt, revert, and give 2 in the second.
@@ -182,14 +202,20 @@ const ACTS: [(u8, Act); 15] = [
 const LINES: &[u8] =
     b"1 0 flow main RUNNING\n2 0 retry r RUNNING\n3 0 retry r SUCCESS 1\n4 0 task t1 RUNNING\n5 1 task t2 RUNNING\n6 0 task t1 FAILURE raised \"1 below 2\"\n7 0 resolve main RETRY\n8 0 task t1 REVERTING\n9 1 task t2 FAILURE raised \"1 below 2\"\n10 1 task t2 REVERTING\n11 0 task t1 REVERTED\n12 1 task t2 REVERTED\n13 1 retry r RETRYING\n14 1 task t1 PENDING\n15 1 task t2 PENDING\n16 1 retry r RUNNING\n17 1 retry r SUCCESS 2\n18 1 task t1 RUNNING\n19 0 task t2 RUNNING\n20 1 task t1 SUCCESS 2\n21 0 task t2 SUCCESS 2\n22 0 flow main SUCCESS\n";
 
+/// The book recorded so many entries, and its desk shows these lines.
+fn assert_recorded(rt: &impl Abort, book: Book<MemoryDesk>, count: u64, lines: &[u8]) {
+    assert_eq!(rt; book.count(), count);
+    let desk = book.close();
+    assert!(rt; desk.shown() == lines);
+}
+
 #[test]
 fn one_resolution_covers_the_failures_of_two_hands(rt: HostRuntime) -> Result<(), Fail> {
     let alloc = rt.alloc();
-    let book = entered(alloc, plan(alloc, RETRIED)?)?;
-    let mut book = after(alloc, book, &ACTS)?;
-    assert_eq!(rt; book.count(), 22);
-    let desk = book.close();
-    assert!(rt; desk.shown() == LINES);
+    let mut book = run_of(alloc, RETRIED)?;
+    enter(&mut book)?;
+    do_all(alloc, &mut book, &ACTS)?;
+    assert_recorded(&rt, book, 22, LINES);
     Ok(())
 }
 
@@ -211,15 +237,36 @@ fn two_hands(alloc: Global) -> Result<Vec<LocalHand<MemorySpawner>>, Fail>
 /// Whose turns these acts are.
 const PICKS: [u8; 15] = [0, 1, 0, 0, 1, 1, 0, 0, 1, 1, 0, 1, 1, 0, 0];
 
+/// The end of a run of a book by two hands whose turns are told.
+fn run_by<K: Desk, P: Performer>(
+    alloc: Global,
+    book: Book<K>,
+    hands: Vec<P>,
+    picks: &[u8],
+) -> RunEnd<K>
+    requires { vec_len hands ≡ 2 }
+{
+    let mut hands = hands;
+    interleaved(alloc, book, &mut hands, picks, None)
+}
+
+/// How such a run of a book stopped, and its book.
+fn ran(
+    alloc: Global,
+    book: Book<MemoryDesk>,
+    picks: &[u8],
+) -> Result<(How, Book<MemoryDesk>), Fail> {
+    let hands = two_hands(alloc)?;
+    let RunEnd { book, how } = run_by(alloc, book, hands, picks);
+    Ok((how, book))
+}
+
 #[test]
 fn the_same_comes_of_two_hands_whose_turns_are_told(rt: HostRuntime) -> Result<(), Fail> {
     let alloc = rt.alloc();
-    let book = begun(alloc, plan(alloc, RETRIED)?, desk(alloc, &[])?)?;
-    let mut hands = two_hands(alloc)?;
-    let RunEnd { book, how } = interleaved(alloc, book, &mut hands, &PICKS, None);
+    let book = run_of(alloc, RETRIED)?;
+    let (how, book) = ran(alloc, book, &PICKS)?;
     assert!(rt; how == How::Ended(FlowState::Success));
-    assert_eq!(rt; book.count(), 22);
-    let desk = book.close();
-    assert!(rt; desk.shown() == LINES);
+    assert_recorded(&rt, book, 22, LINES);
     Ok(())
 }

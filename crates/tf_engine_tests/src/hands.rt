@@ -2,7 +2,7 @@ ghost use Rattle.std.specs.Prelude.{◌≡◌, None, IfOk, vec_len};
 ghost use Rattle.tf_actions.specs.Gives.{Gives};
 ghost use Rattle.tf_tasks.specs.GivesLaws.{gives_looks_up, gives_reverts};
 
-use crate::books::{ONE_TASK, ONE_TASK_BOOK, TWO_ECHOES, begun, desk, opened, plan};
+use crate::books::{ONE_TASK, ONE_TASK_BOOK, TWO_ECHOES, desk, opened, run_of};
 use std::alloc::Global;
 use std::sync::atomic::{AtomicU64, Ordering};
 use std::sync::{Arc, Wait};
@@ -11,7 +11,7 @@ use std::thread;
 use std::thread::Threads;
 use tf_actions::{Order, Outcome, Performer};
 use tf_book::{Book, Halt};
-use tf_desk::MemoryDesk;
+use tf_desk::{Desk, MemoryDesk};
 use tf_engines::{How, RunEnd, parallel};
 use tf_ports::MemorySpawner;
 use tf_states::FlowState;
@@ -98,12 +98,12 @@ fn two_hands(alloc: Global, wanted: u64, turns: u64) -> Result<Vec<Meeting>, Fai
 }
 
 /// The end of a run of a book by two hands.
-fn run_by<R: Threads + Wait + Sync>(
+fn run_by<K: Desk + Send, P: Performer + Send, R: Threads + Wait + Sync>(
     rt: &R,
     alloc: Global,
-    book: Book<MemoryDesk>,
-    hands: Vec<Meeting>,
-) -> RunEnd<MemoryDesk>
+    book: Book<K>,
+    hands: Vec<P>,
+) -> RunEnd<K>
     requires { vec_len hands ≡ 2 }
 {
     let mut hands = hands;
@@ -126,8 +126,7 @@ fn ran<R: Threads + Wait + Sync>(
 #[test]
 fn two_hands_are_at_work_at_once(rt: HostRuntime) -> Result<(), Fail> {
     let alloc = rt.alloc();
-    let plan = plan(alloc, TWO_ECHOES)?;
-    let book = begun(alloc, plan, desk(alloc, &[])?)?;
+    let book = run_of(alloc, TWO_ECHOES)?;
     let (how, book) = ran(&rt, alloc, book, 2, TURNS)?;
     assert!(rt; how == How::Ended(FlowState::Success));
     assert_eq!(rt; book.count(), 6);
@@ -137,7 +136,7 @@ fn two_hands_are_at_work_at_once(rt: HostRuntime) -> Result<(), Fail> {
 #[test]
 fn a_hand_without_memory_halts_the_book(rt: HostRuntime) -> Result<(), Fail> {
     let alloc = rt.alloc();
-    let book = begun(alloc, plan(alloc, ONE_TASK)?, desk(alloc, &[])?)?;
+    let book = run_of(alloc, ONE_TASK)?;
     let (how, book) = ran(&rt, alloc, book, 3, 0)?;
     assert!(rt; how == How::Halted(Halt::Memory));
     assert_eq!(rt; book.count(), 2);
@@ -151,7 +150,8 @@ const ENDS: [u64; 2] = [22, 23];
 #[test]
 fn an_end_that_is_not_written_halts_the_book(rt: HostRuntime) -> Result<(), Fail> {
     let alloc = rt.alloc();
-    let book = opened(alloc, desk(alloc, &ENDS)?, ONE_TASK_BOOK)?;
+    let desk = desk(alloc, &ENDS)?;
+    let book = opened(alloc, desk, ONE_TASK_BOOK)?;
     let (how, book) = ran(&rt, alloc, book, 1, 1)?;
     assert!(rt; how == How::Halted(Halt::Disk));
     assert_eq!(rt; book.count(), 2);

@@ -1,4 +1,4 @@
-ghost use Rattle.std.specs.Prelude.{IfOk};
+ghost use Rattle.std.specs.Prelude.{◌≡◌, length, IfOk};
 ghost use Rattle.tf_actions.specs.Gives.{IsWhole};
 
 use std::alloc::Global;
@@ -7,22 +7,36 @@ use tf_actions::{Action, Args, Given, Order, Pair};
 use tf_flow::{TaskKind, Undo};
 use tf_values::{Name, Text, Texts, Val};
 
+/// The name of these bytes.
+fn named(bytes: &[u8]) -> Result<Name, Fail> {
+    match Name::make(bytes) {
+        Some(name) => Ok(name),
+        None => Err(Fail::from("no name")),
+    }
+}
+
+/// The argument `value` with a value.
+fn args(alloc: Global, value: Val) -> Result<Args, Fail>
+    ensures { IfOk result (λ args. length args ≡ 1) }
+{
+    let name = named(b"value")?;
+    let mut args = Vec::new(alloc);
+    args.push(Pair { name, value })?;
+    Ok(Args::make(args))
+}
+
 /// The order to echo a value.
 pub fn echo(alloc: Global, value: Val) -> Result<Order, Fail>
     ensures { IfOk result IsWhole }
 {
-    let mut args = Vec::new(alloc);
-    args.push(Pair {
-        name: Name::make(b"value").ok_or("no name")?,
-        value,
-    })?;
+    let args = args(alloc, value)?;
     Ok(Order {
         atom: 0,
         action: Action::Execute,
         kind: TaskKind::Echo,
         words: Texts::make(Vec::new(alloc)),
         undo: Undo::Pass,
-        given: Given::Found(Args::make(args)),
+        given: Given::Found(args),
     })
 }
 
@@ -30,28 +44,38 @@ pub fn echo(alloc: Global, value: Val) -> Result<Order, Fail>
 pub fn echo_of_missing(alloc: Global) -> Result<Order, Fail>
     ensures { IfOk result IsWhole }
 {
+    let name = named(b"x")?;
     Ok(Order {
         atom: 0,
         action: Action::Execute,
         kind: TaskKind::Echo,
         words: Texts::make(Vec::new(alloc)),
         undo: Undo::Pass,
-        given: Given::Missing(Name::make(b"x").ok_or("no name")?),
+        given: Given::Missing(name),
     })
+}
+
+/// The words of a program that is run without arguments.
+fn words(alloc: Global, program: &[u8]) -> Result<Texts, Fail>
+    ensures { IfOk result (λ words. length words ≡ 1) }
+{
+    let program = Text::make(alloc, program)?;
+    let mut words = Vec::new(alloc);
+    words.push(program)?;
+    Ok(Texts::make(words))
 }
 
 /// The order to undo a task by a program.
 pub fn undo(alloc: Global, program: &[u8]) -> Result<Order, Fail>
     ensures { IfOk result IsWhole }
 {
-    let mut words = Vec::new(alloc);
-    words.push(Text::make(alloc, program).ok().ok_or("no text")?)?;
+    let words = words(alloc, program)?;
     Ok(Order {
         atom: 0,
         action: Action::Revert,
         kind: TaskKind::Echo,
         words: Texts::make(Vec::new(alloc)),
-        undo: Undo::Run(Texts::make(words)),
+        undo: Undo::Run(words),
         given: Given::Found(Args::make(Vec::new(alloc))),
     })
 }

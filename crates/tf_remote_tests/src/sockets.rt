@@ -1,8 +1,10 @@
+ghost use Rattle.tf_actions.specs.Gives.{IsWhole};
+
 use crate::orders::{echo, undo};
 use std::alloc::Global;
 use std::test::Fail;
 use std::{fs, thread};
-use tf_actions::{Outcome, Performer};
+use tf_actions::{Order, Outcome, Performer};
 use tf_ports::{Address, Dialer, Door, MemorySpawner, SocketDialer, SocketDoor};
 use tf_remote::RemoteHand;
 use tf_states::Failure;
@@ -22,26 +24,66 @@ fn serve_one<D: Door>(alloc: Global, door: &mut D) -> Option<ServeEnd> {
     Some(serve(alloc, &mut link, &mut hand))
 }
 
+/// What an order comes to.
+fn performed<P: Performer>(alloc: Global, hand: &mut P, order: &Order) -> Result<Outcome, Fail>
+    requires { IsWhole order.now }
+{
+    match hand.perform(alloc, order) {
+        Ok(outcome) => Ok(outcome),
+        Err(_) => Err(Fail::from("no memory")),
+    }
+}
+
+/// Whether the hand has an echo done.
+fn has_echoed<P: Performer>(alloc: Global, hand: &mut P) -> Result<bool, Fail> {
+    let order = echo(alloc, Val::Int(1))?;
+    let outcome = performed(alloc, hand, &order)?;
+    Ok(matches!(outcome, Outcome::Gave(Val::Int(1))))
+}
+
+/// Whether an undo fails whose program isn't there.
+fn fails_to_undo<P: Performer>(alloc: Global, hand: &mut P) -> Result<bool, Fail> {
+    let order = undo(alloc, b"umount")?;
+    let outcome = performed(alloc, hand, &order)?;
+    Ok(matches!(outcome, Outcome::Failed(Failure::Spawn)))
+}
+
 /// Whether the hand has an echo done, and an undo whose program isn't there fails.
 fn asks<P: Performer>(alloc: Global, mut hand: P) -> Result<bool, Fail> {
-    let order = echo(alloc, Val::Int(1))?;
-    let echoed = hand.perform(alloc, &order).ok().ok_or("memory")?;
-    let order = undo(alloc, b"umount")?;
-    let undone = hand.perform(alloc, &order).ok().ok_or("memory")?;
-    let is_echoed = matches!(echoed, Outcome::Gave(Val::Int(1)));
-    Ok(is_echoed && matches!(undone, Outcome::Failed(Failure::Spawn)))
+    let is_echoed = has_echoed(alloc, &mut hand)?;
+    let is_undone = fails_to_undo(alloc, &mut hand)?;
+    Ok(is_echoed && is_undone)
+}
+
+/// The address of the socket.
+fn address(alloc: Global) -> Result<Address, Fail> {
+    match Text::make(alloc, PATH.as_bytes()) {
+        Ok(path) => Ok(Address::Unix(path)),
+        Err(_) => Err(Fail::from("no text")),
+    }
+}
+
+/// A hand over the link that the dialer makes.
+fn hand_by<D: Dialer>(
+    alloc: Global,
+    dialer: &mut D,
+    address: &Address,
+) -> Result<RemoteHand<D::Made>, Fail> {
+    match dialer.dial(alloc, address) {
+        Ok(link) => Ok(RemoteHand::make(link)),
+        Err(_) => Err(Fail::from("no link")),
+    }
 }
 
 #[test]
 fn a_hand_asks_a_worker_over_a_unix_socket(rt: HostRuntime) -> Result<(), Fail> {
     let alloc = rt.alloc();
     let _gone = fs::remove_file(&rt, PATH);
-    let address = Address::Unix(Text::make(alloc, PATH.as_bytes()).ok().ok_or("no text")?);
+    let address = address(alloc)?;
     let mut door = SocketDoor::make(rt);
     assert!(rt; door.listen(alloc, &address).is_ok());
     let mut dialer = SocketDialer::make(rt);
-    let link = dialer.dial(alloc, &address).ok().ok_or("no link")?;
-    let hand = RemoteHand::make(link);
+    let hand = hand_by(alloc, &mut dialer, &address)?;
     let (asked, served) = thread::join(&rt, || asks(alloc, hand), || serve_one(alloc, &mut door));
     assert!(rt; asked?);
     assert_eq!(rt; served, Some(ServeEnd::Ended));

@@ -1,6 +1,5 @@
-ghost use Rattle.std.specs.Prelude.{◌<◌};
-
 use std::alloc::Global;
+use std::process::Abort;
 use std::test::Fail;
 use tf_ports::{MemoryLink, MemorySpawner};
 use tf_tasks::LocalHand;
@@ -13,17 +12,27 @@ const REQUEST: &[u8] =
 const REPLY: &[u8] =
     b"\x00\x00\x00\x1a{\"id\":1,\"state\":\"RUNNING\"}\x00\x00\x00\x25{\"id\":1,\"result\":1,\"state\":\"SUCCESS\"}";
 
-/// A link that gives these parts one after the other, in pieces of at most `piece` bytes.
-fn link_of(alloc: Global, parts: &[&[u8]], piece: usize, failing: u64) -> Result<MemoryLink, Fail>
-    requires { 0 < piece }
-{
+/// These parts, one after the other.
+fn joined(alloc: Global, parts: &[&[u8]]) -> Result<Vec<u8>, Fail> {
     let mut bytes = Vec::new(alloc);
     for part in parts {
         bytes.extend_from_slice(part)?;
     }
-    let mut calls = Vec::new(alloc);
-    calls.push(failing)?;
-    Ok(MemoryLink::make(alloc, bytes, piece, calls))
+    Ok(bytes)
+}
+
+/// A list of one number.
+fn only(alloc: Global, number: u64) -> Result<Vec<u64>, Fail> {
+    let mut numbers = Vec::new(alloc);
+    numbers.push(number)?;
+    Ok(numbers)
+}
+
+/// A link that gives these parts one after the other, and whose call of that number fails.
+fn link_of(alloc: Global, parts: &[&[u8]], failing: u64) -> Result<MemoryLink, Fail> {
+    let bytes = joined(alloc, parts)?;
+    let failing = only(alloc, failing)?;
+    Ok(MemoryLink::make(alloc, bytes, 100, failing))
 }
 
 /// Serves the link by a hand of this process.
@@ -32,18 +41,25 @@ fn serve_link(alloc: Global, link: &mut MemoryLink) -> ServeEnd {
     serve(alloc, link, &mut hand)
 }
 
+/// A link of these parts, whose call of that number fails, is lost, and these bytes were sent over it.
+fn assert_lost(
+    rt: &impl Abort,
+    alloc: Global,
+    parts: &[&[u8]],
+    failing: u64,
+    sent: &[u8],
+) -> Result<(), Fail> {
+    let mut link = link_of(alloc, parts, failing)?;
+    assert_eq!(rt; serve_link(alloc, &mut link), ServeEnd::Lost);
+    assert_eq!(rt; link.sent(), sent);
+    Ok(())
+}
+
 #[test]
 fn a_link_that_ends_inside_a_frame_or_fails_is_lost(rt: HostRuntime) -> Result<(), Fail> {
     let alloc = rt.alloc();
-    let mut link = link_of(alloc, &[&REQUEST[..10]], 100, 0)?;
-    assert_eq!(rt; serve_link(alloc, &mut link), ServeEnd::Lost);
-    assert!(rt; link.sent().is_empty());
-    let mut link = link_of(alloc, &[REQUEST, &REQUEST[..3]], 100, 0)?;
-    assert_eq!(rt; serve_link(alloc, &mut link), ServeEnd::Lost);
-    assert_eq!(rt; link.sent(), REPLY);
+    assert_lost(&rt, alloc, &[&REQUEST[..10]], 0, b"")?;
+    assert_lost(&rt, alloc, &[REQUEST, &REQUEST[..3]], 0, REPLY)?;
     // The second call sends that the order runs.
-    let mut link = link_of(alloc, &[REQUEST], 100, 2)?;
-    assert_eq!(rt; serve_link(alloc, &mut link), ServeEnd::Lost);
-    assert_eq!(rt; link.sent(), &REPLY[..15]);
-    Ok(())
+    assert_lost(&rt, alloc, &[REQUEST], 2, &REPLY[..15])
 }

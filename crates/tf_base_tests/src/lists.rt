@@ -1,0 +1,22 @@
+//! Lists that the tests give.
+use std::alloc::Global;
+use std::test::Fail;
+use tf_values::Text;
+
+/// These bytes.
+pub(crate) fn bytes(alloc: Global, items: &[u8]) -> Result<Vec<u8>, Fail> {
+    let list = Vec::from_slice(alloc, items)?;
+    Ok(list)
+}
+
+/// These numbers, as those of the calls that fail.
+pub(crate) fn numbers(alloc: Global, items: &[u64]) -> Result<Vec<u64>, Fail> {
+    let list = Vec::from_slice(alloc, items)?;
+    Ok(list)
+}
+
+/// The text of these bytes.
+pub(crate) fn text(alloc: Global, items: &[u8]) -> Result<Text, Fail> {
+    let text = Text::make(alloc, items)?;
+    Ok(text)
+}
