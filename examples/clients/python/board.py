@@ -1,15 +1,12 @@
 #!/usr/bin/env python3
 """A client of a taskflow board service: it asks one thing and prints what it is told.
-
     board.py ADDRESS post NAME [PRIORITY [DETAILS]]     DETAILS is JSON: null, true, false, a whole number, a string or an array of these
     board.py ADDRESS claim ID OWNER                     likewise abandon, consume and trash
     board.py ADDRESS owner ID
     board.py ADDRESS list
-
 ADDRESS is unix:PATH or tcp:127.0.0.1:PORT. The exit status is 0, 15 where the request is refused, 2 for wrong words, and 1 where the
 service is lost.
 """
-
 import json
 import socket
 import struct
@@ -58,9 +55,6 @@ class Board:
     def list(self):
         return self.ask({"call": "list"})
 
-    def close(self):
-        self.link.close()
-
     def _bytes(self, count):
         found = bytearray()
         while len(found) < count:
@@ -74,12 +68,8 @@ class Board:
 def asked(board, words):
     """Returns the reply to what the words ask, or None where they ask nothing."""
     match words:
-        case ["post", name]:
-            return board.post(name)
-        case ["post", name, priority]:
-            return board.post(name, priority)
-        case ["post", name, priority, details]:
-            return board.post(name, priority, json.loads(details))
+        case ["post", name, *more] if len(more) < 3:
+            return board.post(name, *more[:1], details=json.loads(more[1]) if more[1:] else None)
         case [call, job, owner] if call in BY_OWNER:
             return board.act(call, job, owner)
         case ["owner", job]:
@@ -90,13 +80,8 @@ def asked(board, words):
 
 
 def main(words):
-    if len(words) < 2:
-        print(__doc__, file=sys.stderr)
-        return 2
     try:
-        board = Board(words[0])
-        reply = asked(board, words[1:])
-        board.close()
+        reply = asked(Board(words[0]), words[1:]) if words[1:] else None
     except (Lost, OSError) as why:
         print(f"board: lost: {why}", file=sys.stderr)
         return 1
@@ -106,8 +91,7 @@ def main(words):
     if "refused" in reply:
         print(f"board: {reply['refused']}", file=sys.stderr)
         return 15
-    for line in reply["lines"]:
-        print(line)
+    print("".join(f"{line}\n" for line in reply["lines"]), end="")
     return 0
 
 
