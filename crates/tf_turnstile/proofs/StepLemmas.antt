@@ -73,15 +73,15 @@ module _ {B O E : Type 0} (origin : B → O) (first : B → ℕ) (entries : B �
       )
 
   -- the exchange out
-  pub take_allowed : (id : ℕ) (m : Me (Option B) (View B E)) (step : Step (Option B)) (a : B) → m.0.start ≡ Some a → m.0.taken ≡ None → m.1 ≡ []
-      → Allows (HoldsBetweenSteps origin first entries opening) slots id m 0 (λ _. 1) (takes_out step m)
-  take_allowed id m step a live free none s st one at wide =
-      let words : List ℕ = slice_set s.words 0 1 in
+  pub take_allowed : (turn : ℕ) → 0 < turn → (id : ℕ) (m : Me (Option B) (View B E)) (step : Step (Option B)) (a : B) → m.0.start ≡ Some a → m.0.taken ≡ None → m.1 ≡ []
+      → Allows (HoldsBetweenSteps origin first entries opening) slots id m 0 (λ _. turn) (takes_out step m)
+  take_allowed turn out id m step a live free none s st one at wide =
+      let words : List ℕ = slice_set s.words 0 turn in
       let long : length s.words ≡ 3 = st.words in
-      let three : length words ≡ 3 = length-set s.words 0 1 ∙ long in
-      let count : slice_index words 1 ≡ first st.now + length (entries st.now) = get_or-set_other s.words 0 1 1 0 (λ e. omega (arith, e)) ∙ st.count in
-      let turn : slice_index words 0 ≡ 1 = get_or-set_same s.words 0 1 0 (omega (arith, long)) in
-      let out_now : slice_index words 0 ≢ 0 = λ e. omega (arith, turn, e) in
+      let three : length words ≡ 3 = length-set s.words 0 turn ∙ long in
+      let count : slice_index words 1 ≡ first st.now + length (entries st.now) = get_or-set_other s.words 0 1 turn 0 (λ e. omega (arith, e)) ∙ st.count in
+      let now : slice_index words 0 ≡ turn = get_or-set_same s.words 0 turn 0 (omega (arith, long)) in
+      let out_now : slice_index words 0 ≢ 0 = λ e. omega (arith, now, e, out) in
       let v : View B E = m.0 in
       let f = (st.fits id v at).live a live in
       let there : id < length s.views = there_below s.views id v at in
@@ -175,7 +175,7 @@ module _ {B O E : Type 0} (origin : B → O) (first : B → ℕ) (entries : B �
 
   -- the exchange home
   pub home_allowed : (id : ℕ) (m : Me (Option B) (View B E)) (step : Step (Option B)) (a kept : B) → slots ≡ 1 → m.0.start ≡ Some a → m.0.taken ≡ Some kept → m.1 ≡ (0, Some kept) ∷ []
-      → Allows (HoldsBetweenSteps origin first entries opening) slots id m 0 (λ _. 0) (λ _. puts_home step m 0)
+      → Allows (HoldsBetweenSteps origin first entries opening) slots id m 0 (λ _. 0) (puts_home step m)
   home_allowed id m step a kept only live held slot s st one at wide =
       let words : List ℕ = slice_set s.words 0 0 in
       let long : length s.words ≡ 3 = st.words in

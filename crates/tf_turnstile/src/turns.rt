@@ -13,6 +13,11 @@ use std::sync::Wait;
 // The words of the table. The turn is 0 while the value is at home.
 const TURN: usize = 0;
 
+// The turn while the value is out: nobody waits for it, or somebody may.
+const OUT: u64 = 1;
+
+const AWAITED: u64 = 2;
+
 const COUNT: usize = 1;
 
 const BELL: usize = 2;
@@ -42,7 +47,8 @@ impl<B: Kept> Turnstile<B> {
         slot.unwrap()
     }
 
-    /// Gives the value back, with the entries that the pass's holder has added, and wakes all who wait.
+    /// Gives the value back, with the entries that the pass's holder has added. It wakes one of those who wait to take it, and
+    /// all who wait for more.
     pub fn give(&self, kept: B, pass: &mut Pass<B>)
         requires mine { IsPassOf self.now pass.old }
         requires room { B.first kept + length (B.entries kept) < 2 ^ 64 - 1 }
@@ -57,8 +63,9 @@ impl<B: Kept> Turnstile<B> {
         let slot = shared.exchange(&mut pass.seat, 0, Some(kept));
         let None = slot else { unreachable!() };
         shared.store::<Count>(&mut pass.seat, COUNT, count);
-        shared.store::<PutHome>(&mut pass.seat, TURN, 0);
+        let turn = shared.swap::<PutHome>(&mut pass.seat, TURN, 0);
         pass.last = count;
+        wake_next(shared, turn);
         ring(shared, &mut pass.seat, stopped);
     }
 
@@ -85,27 +92,32 @@ fn take_out<B: Kept, R: Wait>(
     ensures same { IsSameSeat seat.old seat.new }
     ensures taken { TakesSlot seat.old.me seat.new.me }
 {
+    if try_take_out(shared, seat, OUT) {
+        return;
+    }
+    // Who has waited can't know whether others do, so it takes the slot as if they did.
     for _ in rt.forever() {
-        let bell = shared.peek(BELL);
-        if try_take_out(shared, seat) {
+        if try_take_out(shared, seat, AWAITED) {
             return;
         }
-        shared.park(rt, BELL, low_half(bell));
+        shared.park(rt, TURN, low_half(AWAITED));
     }
     unreachable!()
 }
 
-/// Takes the slot out of the table where it is at home, and says whether it did.
+/// Takes the slot out of the table where it is at home, and says whether it did. The turn is this then, in any case.
 fn try_take_out<B: Kept>(
     shared: &Shared<Option<B>, View<B, B::Entry>, Opening<B>, Order>,
     seat: &mut Seat<Option<B>, View<B, B::Entry>>,
+    turn: u64,
 ) -> bool
+    requires out { 0 < turn }
     requires table { IsSized shared.now.table_id × (seat.old.table_id ≡ shared.now.table_id) }
     requires free { IsFree seat.old }
     ensures same { IsSameSeat seat.old seat.new }
     ensures taken { MatchBool result (TakesSlot seat.old.me seat.new.me) (seat.new.me ≡ seat.old.me) }
 {
-    shared.swap::<TakeOut>(seat, TURN, 1) == 0
+    shared.swap::<TakeOut>(seat, TURN, turn) == 0
 }
 
 /// Waits for another count than this one, or for a stopped value.
@@ -128,6 +140,15 @@ fn wait_for_more<B: Kept, R: Wait>(
     unreachable!()
 }
 
+/// Wakes one of those who wait to take the value out, where somebody may: the turn was this while it was out.
+fn wake_next<B: Kept>(shared: &Shared<Option<B>, View<B, B::Entry>, Opening<B>, Order>, turn: u64)
+    requires table { IsSized shared.now.table_id }
+{
+    if turn != OUT {
+        shared.wake_one(TURN);
+    }
+}
+
 /// Announces that the value is home, and that nothing more is to come where it is stopped.
 fn ring<B: Kept>(
     shared: &Shared<Option<B>, View<B, B::Entry>, Opening<B>, Order>,
@@ -144,7 +165,7 @@ fn ring<B: Kept>(
     shared.wake_all(BELL);
 }
 
-/// The half of the bell that a sleeper compares.
-fn low_half(bell: u64) -> u32 {
-    (bell & 0xffff_ffff) as u32
+/// The half of a word that a sleeper compares.
+fn low_half(word: u64) -> u32 {
+    (word & 0xffff_ffff) as u32
 }

@@ -25,8 +25,8 @@ store-requires g c =
           (longer_back c.pass.inside.seat c.args.pass.now c.exchange-slot.new.seat.me.0.number (k.entries turn.taken) (k.entries c.args.kept) c.pass.view_is (ap (λ m. m.0.number) filled) turn.longer) c.count-count.ensures,
     )
 
-pub store-requires-2 : goal.store-requires-2
-store-requires-2 g c =
+pub swap-turn-requires : goal.swap-turn-requires
+swap-turn-requires g c =
     let k = g.B.Kept in
     let mine = c.requires.mine in
     let sized = c.self.invariant in
@@ -54,7 +54,7 @@ turn g c =
     gave_is k.origin k.first k.entries c.pass.inside.seat.me c.exchange-slot.new.seat.me c.store.new.seat.me c.ring.new.seat.me c.args.self.now.start turn.taken c.args.kept
     (step c.self.inside.table.shared.table_id.slots 1 c.count-count.result 0 none) c.count-count.result (ap (λ p. p.start) c.pass.view_is ∙ c.requires.mine.start) (ap (λ p. p.taken) c.pass.view_is ∙ turn.has) c.pass.invariant
     (longer_back c.pass.inside.seat c.args.pass.now c.pass.inside.seat.me.0.number (k.entries turn.taken) (k.entries c.args.kept) c.pass.view_is (λ _. c.pass.inside.seat.me.0.number) turn.longer)
-    e.3 c.store.ensures.2 (c.ring.ensures.1 ∙ c.store-2.ensures.2)
+    e.3 c.store.ensures.2 (c.ring.ensures.1 ∙ c.swap-turn.ensures.2)
 
 pub invariant_of-pass : goal.invariant_of-pass
 invariant_of-pass g c = let k = g.B.Kept in seat_after_give k.origin k.first k.entries c.args.self.now.start c.args.kept c.pass.inside.seat.me c.ring.new.seat.me c.pass.invariant (turn g c)
@@ -68,4 +68,4 @@ returns-clause-seen g c = longer_of (pass_of c.pass.inside.seat) c.args.pass.now
 pub returns-clause-pass : goal.returns-clause-pass
 returns-clause-pass g c =
     pass_after c.pass.inside.seat c.ring.new.seat c.args.pass.now c.ring.new.seat.me.0.seen None [] c.pass.view_is
-    (c.ring.ensures.0.0 ∙ (c.store-2.ensures.0 ∙ (c.store.ensures.0 ∙ c.exchange-slot.ensures.0))) (turn g c).after
+    (c.ring.ensures.0.0 ∙ (c.swap-turn.ensures.0 ∙ (c.store.ensures.0 ∙ c.exchange-slot.ensures.0))) (turn g c).after
