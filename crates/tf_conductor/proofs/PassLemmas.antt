@@ -1,6 +1,7 @@
 -- What a conductor gives back to the turnstile.
-use Rattle.std.proofs.Common.{◌≡◌, ◌<◌, ℕ, zero, suc, Bool, true, false, List, [], ◌∷◌, Some, refl, sym, ap, subst, ◌∙◌, arith, slice_index_or}
+use Rattle.std.proofs.Common.{◌≡◌, ◌<◌, ℕ, zero, suc, Bool, true, false, List, [], ◌∷◌, ◌++◌, Option, Some, None, refl, sym, ap, subst, ◌∙◌, append_assoc, arith, slice_index_or}
 use Rattle.std.proofs.lemmas.List.{map-append}
+use Rattle.std.proofs.lemmas.List.Elements.{All-append}
 use Rattle.std.specs.List.{All}
 use Rattle.tf_desk.specs.State.{DeskState}
 use Rattle.tf_turnstile.specs.Numbered.{IsLonger}
@@ -12,7 +13,15 @@ use Rattle.tf_shared_board.specs.declared.calls.Made.{Made}
 use Rattle.tf_conductor.specs.declared.runners.Ran.{Ran}
 use Rattle.tf_conductor.specs.declared.turns.Next.{Next}
 use Rattle.tf_conductor.specs.declared.turns.Next.TheVariants as next
-use Rattle.tf_conductor.specs.Conducting.{ConductingValue, conducting_origin, Claims, EndsJob}
+use Rattle.tf_conductor.specs.Conducting.{ConductingValue, conducting_origin, Claims, EndsAndClaims, EndsJob}
+
+-- entries of this number more, and then more
+longer_on : {E : Type 0} (n : ℕ) (a b c : List (ℕ × E)) → IsLonger n a b → IsLonger n b c → IsLonger n a c
+longer_on n a b c one two = record {
+  mine = one.mine ++ two.mine;
+  begins = two.begins ∙ ap (λ l. l ++ two.mine) one.begins ∙ append_assoc a one.mine two.mine;
+  own = All-append (λ e. e.0 ≡ n) one.mine two.mine one.own two.own;
+}
 
 module _ {K : Type 0} where
   -- no call was added
@@ -46,3 +55,17 @@ module _ {K : Type 0} (state : K → DeskState) where
   pub longer_ended : (number : ℕ) (owner id : List ℕ) (r : Ran) (old new : ConductingValue K) (made : Bool) → EndsJob state number owner id r old new made → IsLonger number (numbered old.now.made) (numbered new.now.made)
   longer_ended number owner id r old new true ended = (let e = ended.ended refl in longer_one _ old.now new.now e.1)
   longer_ended number owner id r old new false ended = longer_none number old.now new.now (ended.none refl).made
+
+  -- a turn to end a job and to claim the next one
+  pub longer_after : (number : ℕ) (owner id : List ℕ) (r : Ran) (skip : List ℕ) (old new : ConductingValue K) (n : Option Next) → EndsAndClaims state number owner id r skip old new n
+      → IsLonger number (numbered old.now.made) (numbered new.now.made)
+  longer_after number owner id r skip old new None ends = longer_ended number owner id r old new false ends
+  longer_after number owner id r skip old new (Some n) ends =
+      longer_on number (numbered old.now.made) (numbered ends.0.now.made) (numbered new.now.made)
+      (longer_ended number owner id r old ends.0 true ends.2) (longer_claims number owner skip ends.0.now new.now n ends.3.claims)
+
+  -- what may never change stays
+  pub same_after : (number : ℕ) (owner id : List ℕ) (r : Ran) (skip : List ℕ) (old new : ConductingValue K) (n : Option Next) → EndsAndClaims state number owner id r skip old new n
+      → conducting_origin new ≡ conducting_origin old
+  same_after number owner id r skip old new None ends = ends.same
+  same_after number owner id r skip old new (Some n) ends = ends.3.same ∙ ends.2.same

@@ -106,14 +106,6 @@ conducted_turned gives told past number owner did old new b one turned = record 
 -- ---- one job
 
 module _ (gives : Val → Ran → Type 0) (past : List Command) (number : ℕ) (owner : List ℕ) (before after : Option (List (Val × Ran))) (old mid new : List Made) where
-  -- no call of its own
-  pub moved_none : HasTurned number old new [] → HasMoved gives past number owner before before old new nothing
-  moved_none turned = record {
-    more = turned.others ++ [];
-    is = turned.is;
-    conducted = conducted_none gives before past number owner (turned.others ++ []) (turned_calls number turned.others [] turned.apart);
-  }
-
   module _ (claim : Claim) (details_is : details_of past claim.job ≡ Some claim.details) (turned : HasTurned number old mid (claim_by number owner claim.job claim.id ∷ [])) where
     abbrev mine : List Made
     mine = claim_by number owner claim.job claim.id ∷ []

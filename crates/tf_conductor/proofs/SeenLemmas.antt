@@ -17,9 +17,10 @@ use Rattle.tf_shared_board.specs.declared.calls.JobCall.TheVariants as call
 use Rattle.tf_shared_board.specs.declared.calls.Made.{Made}
 use Rattle.tf_turnstile.specs.Numbered.{IsLater, NoneBy}
 use Rattle.tf_turnstile.specs.Passes.{TurnstileValue, PassValue}
-use Rattle.tf_conductor.specs.Conducting.{ConductingValue, conducting_origin, Claims, EndsJob, IsConducting, MakesNoCall, made_since}
+use Rattle.tf_turnstile.proofs.NumberedLemmas.{later_same}
+use Rattle.tf_conductor.specs.Conducting.{ConductingValue, conducting_origin, Claims, EndsAndClaims, EndsJob, IsConducting, MakesNoCall, made_since}
 use Rattle.tf_conductor.specs.Rounds.{AreDifferent, IsConductors, IsCallBy, claim_by, details_of, end_call, end_of_round}
-use Rattle.tf_conductor.specs.Working.{HasClaim, HasDoneLast, HasTurned, KnowsNext, round_so, seen_calls, start_past}
+use Rattle.tf_conductor.specs.Working.{HasClaim, HasTurned, KnowsAfter, KnowsNext, round_so, seen_calls, start_past}
 use Rattle.tf_conductor.specs.declared.runners.Ran.{Ran}
 use Rattle.tf_conductor.specs.declared.runners.Ran.TheVariants as ran
 use Rattle.tf_conductor.specs.declared.turns.Claim.{Claim}
@@ -167,9 +168,10 @@ module _ {K : Type 0} (state : K → DeskState) (turnstile : TurnstileValue (Con
             ∙ ap (λ (l : List Command). details_of l claim.job) (sym past_c) ∙ details_told (item_of (jobs_of c.now.board.past) claim.job) (details_of c.now.board.past claim.job) claim.details claims.4,
       )
 
-  -- a turn to end a job
-  pub turned_last : (owner : List ℕ) (claim : Claim) (r : Ran) (b : Bool) → EndsJob state number owner claim.id r c k b → (number_of c.now.board.past claim.id ≡ claim.job) → HasDoneLast number owner claim r (seen_calls old) (seen_calls new) b
-  turned_last owner claim r true ends names =
+  -- a turn to end a job, whose end was made
+  pub turned_end : (owner : List ℕ) (claim : Claim) (r : Ran) → EndsJob state number owner claim.id r c k true → number_of c.now.board.past claim.id ≡ claim.job
+      → HasTurned number (seen_calls old) (seen_calls new) (end_of_round number owner (round_so claim r) ∷ [])
+  turned_end owner claim r ends names =
       let e = ends.ended refl in
       let job : e.0 ≡ claim.job = e.1.job_is ∙ ended_names r ∙ names in
       turned_one (end_of_round number owner (round_so claim r)) (subst (λ (n : ℕ). IsMade state (record { number = number; job = n; call = end_call r claim.id owner }) c.now k.now) job e.1)
@@ -177,7 +179,6 @@ module _ {K : Type 0} (state : K → DeskState) (turnstile : TurnstileValue (Con
       ended_names : (r : Ran) → job_of c.now.board.past (end_call r claim.id owner) ≡ number_of c.now.board.past claim.id
       ended_names ran.Done = refl
       ended_names ran.Left = refl
-  turned_last owner claim r false ends names = turned_none (ends.none refl)
 
   -- the job that the conductor has claimed is still named by its id
   pub held_names : (owner : List ℕ) (job : ℕ) (id : List ℕ) → slice_get turnstile.start.owners number ≡ Some owner → AreDifferent turnstile.start.owners → HasClaim (start_past turnstile) number owner (seen_calls old) job id
@@ -188,3 +189,22 @@ module _ {K : Type 0} (state : K → DeskState) (turnstile : TurnstileValue (Con
       subst (λ (l : List Made). AllByRecursion (IsConductors turnstile.start.owners) l) r.1 (subst (λ (o : List (List ℕ)). AllByRecursion (IsConductors o) before) owners_c kept_c.by) in
       claim_names turnstile.start.owners number owner place different (start_past turnstile) c.now.board.past (seen_calls old) r.0 job id held
       (past_c ∙ ap (λ (l : List Made). followed_by (start_past turnstile) l) r.1) legal.legal by r.2
+
+-- a turn to end a job and to claim the next one: as if the pass had given the board home between
+module _ {K : Type 0} (state : K → DeskState) (turnstile : TurnstileValue (ConductingValue K)) (number : ℕ) (old : PassValue (ConductingValue K) Made) (mid : List (ℕ × Made)) (new : PassValue (ConductingValue K) Made) (c k : ConductingValue K)
+    (fresh : turnstile.start.now ≡ turnstile.start.begun) (later : IsLater number old.seen mid) (from : conducting_origin c ≡ conducting_origin turnstile.start)
+    (had : numbered c.now.made ≡ numbered turnstile.start.now.made ++ mid) (has : numbered k.now.made ≡ numbered turnstile.start.now.made ++ new.seen) (kept_c : IsConducting state c) (kept_k : IsConducting state k) where
+  pub turned_after : (owner skip : List ℕ) (claim : Claim) (r : Ran) (n : Option Next) → AreOfBoard k.now.board.past → number_of c.now.board.past claim.id ≡ claim.job → EndsAndClaims state number owner claim.id r skip c k n
+      → KnowsAfter (start_past turnstile) turnstile.start.owners number owner claim r skip (seen_calls old) (seen_calls new) n
+  turned_after owner skip claim r None legal names ends = turned_none state turnstile number old mid new c k fresh later from ends.same had has kept_c kept_k (ends.none refl)
+  turned_after owner skip claim r (Some n) legal names ends =
+      let b : ConductingValue K = ends.0 in
+      let e = ends.2.ended refl in
+      let m : Made = record { number = number; job = e.0; call = end_call r claim.id owner } in
+      let between : PassValue (ConductingValue K) Made = record old { seen = mid ++ carried m ∷ [] } in
+      let made : numbered b.now.made ≡ numbered turnstile.start.now.made ++ (mid ++ carried m ∷ [])
+      = ap (λ (s : SharedValue K). numbered s.made) e.1.now ∙ map-append carried c.now.made (m ∷ []) ∙ ap (λ (l : List (ℕ × Made)). l ++ carried m ∷ []) had ∙ append_assoc (numbered turnstile.start.now.made) mid (carried m ∷ []) in (
+        seen_calls between,
+        turned_end state turnstile number old mid between c b fresh later from ends.2.same had made kept_c ends.1 owner claim r ends.2 names,
+        turned_next state turnstile number between between.seen new b k fresh (later_same number between.seen) (ends.2.same ∙ from) ends.3.same made has ends.1 kept_k owner skip n legal ends.3.claims,
+      )

@@ -8,11 +8,13 @@ use Rattle.tf_values.specs.declared.value.Val.{Val}
 use Rattle.tf_board.specs.declared.commands.Command.{Command}
 use Rattle.tf_shared_board.specs.declared.calls.Made.{Made}
 use Rattle.tf_conductor.specs.Rounds.{Begun, HasConducted, claim_by, claims, details_of, is_claimed, nothing, GiveSame}
-use Rattle.tf_conductor.specs.Working.{AreLeft, HasMoved, HasTurned, LeavesNoJob, RunsClaimed, StepsFrom, StopsWorking}
+use Rattle.tf_conductor.specs.Working.{AreLeft, EndsClaimed, HasMoved, HasTurned, IsSkipping, KnowsNext, StandsWith, StepsFrom}
 use Rattle.tf_conductor.specs.declared.runners.Ran.{Ran}
 use Rattle.tf_conductor.specs.declared.turns.Claim.{Claim}
+use Rattle.tf_conductor.specs.declared.turns.Next.{Next}
+use Rattle.tf_conductor.specs.declared.turns.Next.TheVariants as next
 use Rattle.tf_conductor.proofs.ClaimedLemmas.{all_claimed}
-use Rattle.tf_conductor.proofs.RoundLemmas.{conducted_on, moved_begun, moved_none, moved_round}
+use Rattle.tf_conductor.proofs.RoundLemmas.{conducted_on, conducted_turned, moved_begun, moved_round}
 
 -- ---- truth
 
@@ -58,39 +60,21 @@ claim_there number owner old mid claim turned =
 
 -- ---- one job
 
-module _ (gives : Val → Ran → Type 0) (past : List Command) (number : ℕ) (owner : List ℕ) (before after : Option (List (Val × Ran))) (left : List ℕ) (old mid new : List Made) where
-  -- it stops at a halt with nothing called
-  pub stops_halted : HasTurned number old new [] → StopsWorking gives past number owner before before left old new true
-  stops_halted turned = record { begun = nothing; moved = moved_none gives past number owner before before old old new turned; whole = λ is. absurd (cc); all = λ is. absurd (cc) }
-
-  -- it stops since there is no job
-  pub stops_over : (owners : List (List ℕ)) → HasTurned number old new [] → LeavesNoJob past owners left new → StopsWorking gives past number owner before before left old new false
-  stops_over owners turned over = record {
-    begun = nothing;
-    moved = moved_none gives past number owner before before old old new turned;
-    whole = λ is. refl;
-    all = λ is are. all_claimed past owners left new over (left_on left old new (turned.others ++ []) turned.is are);
-  }
-
-  module _ (claim : Claim) (details_is : details_of past claim.job ≡ Some claim.details) (turned : HasTurned number old mid (claim_by number owner claim.job claim.id ∷ [])) where
-    -- it stops at a halt with the job begun
-    pub stops_begun : RunsClaimed gives number owner claim before after mid new None → StopsWorking gives past number owner before after left old new true
-    stops_begun runs =
-        let m = moved_begun gives past number owner before after old mid new claim details_is turned runs in
-        record { begun = m.0; moved = m.1; whole = λ is. absurd (cc); all = λ is. absurd (cc) }
-
-    -- it goes on, with the job left or not
-    pub goes_on : (r : Ran) (left_now : List ℕ) → RunsClaimed gives number owner claim before after mid new (Some r) → (left_now ≡ left) ⊎ (left_now ≡ left ++ claim.job ∷ []) → StepsFrom gives past number owner before after left left_now old new None
-    goes_on r left_now runs pushed =
-        let m = moved_round gives past number owner before after old mid new claim details_is turned r runs in (
-          m,
-          λ are. (let on : AreLeft left new = left_on left old new m.more m.is are in
-              let there : is_claimed new claim.job ≡ true = ap (λ (l : List Made). is_claimed l claim.job) runs.0.is ∙ claimed_on mid (runs.0.others ++ _) claim.job (claim_there number owner old mid claim turned) in
-              elim pushed [
-                | inl same ↦ subst (λ (l : List ℕ). AreLeft l new) (sym same) on
-                | inr one ↦ subst (λ (l : List ℕ). AreLeft l new) (sym one) (left_more left new claim.job there on)
-              ]),
-        )
+module _ (gives : Val → Ran → Type 0) (past : List Command) (number : ℕ) (owner : List ℕ) (before after : Option (List (Val × Ran))) (left : List ℕ) (old mid new : List Made)
+    (claim : Claim) (details_is : details_of past claim.job ≡ Some claim.details) (turned : HasTurned number old mid (claim_by number owner claim.job claim.id ∷ [])) where
+  -- the job was ended: the conductor has moved by a whole round, and each job to skip has a claim
+  pub round_on : (r : Ran) (left_now : List ℕ) → EndsClaimed gives number owner claim before after mid new r → IsSkipping claim.job left left_now
+      → HasMoved gives past number owner before after old new nothing × (AreLeft left old → AreLeft left_now new)
+  round_on r left_now runs pushed =
+      let m = moved_round gives past number owner before after old mid new claim details_is turned r runs in (
+        m,
+        λ are. (let on : AreLeft left new = left_on left old new m.more m.is are in
+            let there : is_claimed new claim.job ≡ true = ap (λ (l : List Made). is_claimed l claim.job) runs.0.is ∙ claimed_on mid (runs.0.others ++ _) claim.job (claim_there number owner old mid claim turned) in
+            elim pushed [
+              | inl same ↦ subst (λ (l : List ℕ). AreLeft l new) (sym same) on
+              | inr one ↦ subst (λ (l : List ℕ). AreLeft l new) (sym one) (left_more left new claim.job there on)
+            ]),
+      )
 
 -- ---- all jobs
 
@@ -104,3 +88,27 @@ pub moved_on : (old_gives new_gives : Val → Ran → Type 0) (told : Option (Li
     → GiveSame old_gives new_gives → HasConducted old_gives told past number owner before old nothing → HasMoved new_gives past number owner before after old new b → HasConducted old_gives told past number owner after new b
 moved_on old_gives new_gives told past number owner before after old new b same had m =
     subst (λ (l : List Made). HasConducted old_gives told past number owner after l b) (sym m.is) (conducted_on old_gives new_gives told past number owner before after old m.more b same had m.conducted)
+
+-- ---- what is known at the end of a turn
+
+module _ (gives : Val → Ran → Type 0) (told : Option (List (Val × Ran))) (past : List Command) (owners : List (List ℕ)) (number : ℕ) (owner : List ℕ) where
+  -- after a turn to claim, before which all was ended
+  pub stands_next : (did : Option (List (Val × Ran))) (left : List ℕ) (old new : List Made) (n : Next) → HasConducted gives told past number owner did old nothing → AreLeft left old
+      → KnowsNext past owners number owner left old new n → StandsWith gives told past owners number owner did left new n
+  stands_next did left old new next.Stop had are knows =
+      let turned : HasTurned number old new [] = knows.0 in
+      (conducted_turned gives told past number owner did old new nothing had turned, all_claimed past owners left new knows.1 (left_on left old new (turned.others ++ []) turned.is are))
+  stands_next did left old new next.Halt had are knows = (nothing, conducted_turned gives told past number owner did old new nothing had knows)
+  stands_next did left old new (next.Run claim) had are knows = (old, had, are, knows.0, knows.1, knows.2)
+
+  -- after the run of a claimed job
+  pub stands_on : (now : Val → Ran → Type 0) (before after : Option (List (Val × Ran))) (left left_now : List ℕ) (old new : List Made) (claim : Claim) (n : Next) → GiveSame gives now
+      → StandsWith gives told past owners number owner before left old (next.Run claim) → StepsFrom now past owners number owner claim before after left left_now old new n
+      → StandsWith gives told past owners number owner after left_now new n
+  stands_on now before after left left_now old new claim n same had (inl on) =
+      let m = round_on now past number owner before after left had.0 old on.mid claim had.5 had.3 on.r left_now on.ends on.skips in
+      stands_next after left_now on.mid new n (moved_on gives now told past number owner before after had.0 on.mid nothing same had.1 m.0) (m.1 had.2) on.knows
+  stands_on now before after left left_now old new claim n same had (inr stop) =
+      let m = moved_begun now past number owner before after had.0 old new claim had.5 had.3 stop.1 in
+      let halts : StandsWith gives told past owners number owner after left_now new next.Halt = (m.0, moved_on gives now told past number owner before after had.0 new m.0 same had.1 m.1) in
+      subst (λ (r : Next). StandsWith gives told past owners number owner after left_now new r) (sym stop.0) halts

@@ -1,5 +1,5 @@
 -- A shared board that conductors hand round, and what its type keeps. Lists of commands have the newest first, lists of calls the oldest.
-use Rattle.std.specs.Prelude.{◌≡◌, ℕ, Bool, false, IsTrue, List, [], ◌++◌, length, drop, Some, None, IfSome, IsSome}
+use Rattle.std.specs.Prelude.{◌≡◌, ℕ, Bool, true, false, IsTrue, List, [], ◌++◌, length, drop, Option, Some, None, IfSome, IsSome}
 use Rattle.std.specs.List.{AllByRecursion}
 use Rattle.tf_desk.specs.State.{DeskState, GoesOn, MayLeave}
 use Rattle.tf_board.specs.Board.{LeavesHeld, board_in}
@@ -87,3 +87,9 @@ module _ {K : Type 0} (state : K → DeskState) where
     pub same : conducting_origin new ≡ conducting_origin old
     pub ended : IsTrue made → (job : ℕ) × IsMade state (record { number = number; job = job; call = end_call r id owner }) old.now new.now
     pub none : made ≡ false → MakesNoCall (IsBy number owner) old.now new.now
+
+  -- a turn to end a job for its owner and to claim the next one: the end was made, and then what is done to claim; or no call
+  abbrev pub EndsAndClaims : ℕ → List ℕ → List ℕ → Ran → List ℕ → ConductingValue K → ConductingValue K → Option Next → Type 0
+  EndsAndClaims number owner id r skip old new None = EndsJob number owner id r old new false
+  EndsAndClaims number owner id r skip old new (Some result) =
+      (mid : ConductingValue K) × IsConducting mid × EndsJob number owner id r old mid true × HasClaimed number owner skip mid new result

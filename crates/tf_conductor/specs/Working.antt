@@ -66,23 +66,27 @@ KnowsNext past owners number owner skip old new (next.Run claim) =
 abbrev pub round_so : Claim → Ran → Round
 round_so claim r = record { job = claim.job; id = claim.id; details = claim.details; ran = r }
 
--- after a turn to end a job whose run ended so: it was ended, or no call was made
-abbrev pub HasDoneLast : ℕ → List ℕ → Claim → Ran → List Made → List Made → Bool → Type 0
-HasDoneLast number owner claim r old new true =
-    HasTurned number old new (end_of_round number owner (round_so claim r) ∷ [])
-HasDoneLast number owner claim r old new false = HasTurned number old new []
+-- after a turn to end a job whose run ended so and to claim the next one: it was ended, and then that is known which is known after a turn to
+-- claim; or no call was made
+abbrev pub KnowsAfter : List Command → List (List ℕ) → ℕ → List ℕ → Claim → Ran → List ℕ → List Made → List Made → Option Next → Type 0
+KnowsAfter past owners number owner claim r skip old new None = HasTurned number old new []
+KnowsAfter past owners number owner claim r skip old new (Some result) =
+    (mid : List Made) × HasTurned number old mid (end_of_round number owner (round_so claim r) ∷ []) × KnowsNext past owners number owner skip mid new result
 
 -- the runner was asked for the run of the claimed job, which ended so
 pub record HasRunJob (gives : Val → Ran → Type 0) (claim : Claim) (before after : Option (List (Val × Ran))) (r : Ran) : Type 0 where
   pub given : gives claim.details r
   pub told : after ≡ told_run before (claim.details, r)
 
--- the claimed job was run and ended, or no call was made and it was perhaps run
-abbrev pub RunsClaimed : (Val → Ran → Type 0) → ℕ → List ℕ → Claim → Option (List (Val × Ran)) → Option (List (Val × Ran)) → List Made → List Made → Option Ran → Type 0
-RunsClaimed gives number owner claim before after old new None =
-    HasTurned number old new [] × ((after ≡ before) ⊎ ((r : Ran) × HasRunJob gives claim before after r))
-RunsClaimed gives number owner claim before after old new (Some r) =
+-- the claimed job was run and ended
+abbrev pub EndsClaimed : (Val → Ran → Type 0) → ℕ → List ℕ → Claim → Option (List (Val × Ran)) → Option (List (Val × Ran)) → List Made → List Made → Ran → Type 0
+EndsClaimed gives number owner claim before after old new r =
     HasTurned number old new (end_of_round number owner (round_so claim r) ∷ []) × HasRunJob gives claim before after r
+
+-- no call was made, and the claimed job was perhaps run
+abbrev pub StopsClaimed : (Val → Ran → Type 0) → ℕ → Claim → Option (List (Val × Ran)) → Option (List (Val × Ran)) → List Made → List Made → Type 0
+StopsClaimed gives number claim before after old new =
+    HasTurned number old new [] × ((after ≡ before) ⊎ ((r : Ran) × HasRunJob gives claim before after r))
 
 -- ---- all turns
 
@@ -97,21 +101,37 @@ pub record HasMoved (gives : Val → Ran → Type 0) (past : List Command) (numb
   pub is : new ≡ old ++ more
   pub conducted : HasConducted gives before past number owner after more begun
 
--- the conductor stopped: where that wasn't at a halt, nothing is begun, and each job that was open at the start has a claim
-pub record StopsWorking (gives : Val → Ran → Type 0) (past : List Command) (number : ℕ) (owner : List ℕ)
-    (before after : Option (List (Val × Ran))) (left : List ℕ) (old new : List Made) (halted : Bool) : Type 0 where
-  pub begun : Begun
-  pub moved : HasMoved gives past number owner before after old new begun
-  pub whole : halted ≡ false → begun ≡ nothing
-  pub all : halted ≡ false → AreLeft left old → AllClaimed past new
+-- the jobs to skip, and perhaps this one
+abbrev pub IsSkipping : ℕ → List ℕ → List ℕ → Type 0
+IsSkipping job old new = (new ≡ old) ⊎ (new ≡ old ++ job ∷ [])
 
--- after one job: it goes on, or it stopped
-abbrev pub StepsFrom : (Val → Ran → Type 0) → List Command → ℕ → List ℕ → Option (List (Val × Ran)) → Option (List (Val × Ran))
-    → List ℕ → List ℕ → List Made → List Made → Option Bool → Type 0
-StepsFrom gives past number owner before after left_old left_new old new None =
-    HasMoved gives past number owner before after old new nothing × (AreLeft left_old old → AreLeft left_new new)
-StepsFrom gives past number owner before after left_old left_new old new (Some halted) =
-    StopsWorking gives past number owner before after left_old old new halted
+-- the claimed job was run and ended, and then that is known which is known after a turn to claim; the job may be skipped from then on
+pub record GoesOnFrom (gives : Val → Ran → Type 0) (past : List Command) (owners : List (List ℕ)) (number : ℕ) (owner : List ℕ) (claim : Claim)
+    (before after : Option (List (Val × Ran))) (left_old left_new : List ℕ) (old new : List Made) (result : Next) : Type 0 where
+  pub mid : List Made
+  pub r : Ran
+  pub ends : EndsClaimed gives number owner claim before after old mid r
+  pub skips : IsSkipping claim.job left_old left_new
+  pub knows : KnowsNext past owners number owner left_new mid new result
+
+-- after the run of a claimed job: it goes on, or it stops at a halt
+abbrev pub StepsFrom : (Val → Ran → Type 0) → List Command → List (List ℕ) → ℕ → List ℕ → Claim → Option (List (Val × Ran)) → Option (List (Val × Ran))
+    → List ℕ → List ℕ → List Made → List Made → Next → Type 0
+StepsFrom gives past owners number owner claim before after left_old left_new old new result =
+    GoesOnFrom gives past owners number owner claim before after left_old left_new old new result
+    ⊎ ((result ≡ next.Halt) × StopsClaimed gives number claim before after old new)
+
+-- what is known of a conductor at the end of a turn: it has ended all that it claimed before, and in this turn it found no job, so that each that was
+-- open has a claim; or it stops at a halt; or it has claimed a job
+abbrev pub StandsWith : (Val → Ran → Type 0) → Option (List (Val × Ran)) → List Command → List (List ℕ) → ℕ → List ℕ → Option (List (Val × Ran))
+    → List ℕ → List Made → Next → Type 0
+StandsWith gives told past owners number owner did left calls next.Stop = HasConducted gives told past number owner did calls nothing × AllClaimed past calls
+StandsWith gives told past owners number owner did left calls next.Halt = (begun : Begun) × HasConducted gives told past number owner did calls begun
+StandsWith gives told past owners number owner did left calls (next.Run claim) =
+    (old : List Made) × HasConducted gives told past number owner did old nothing × AreLeft left old
+    × HasTurned number old calls (claim_by number owner claim.job claim.id ∷ [])
+    × HasClaim past number owner calls claim.job claim.id
+    × (details_of past claim.job ≡ Some claim.details)
 
 -- after all jobs
 pub record HasWorkedOn {K : Type 0} (turnstile : TurnstileValue (ConductingValue K)) (number : ℕ) (owner : List ℕ) (gives : Val → Ran → Type 0)

@@ -1,8 +1,8 @@
 // What one conductor does: it takes the board for a turn, and runs its jobs without it.
-ghost use Rattle.std.specs.Prelude.{◌≡◌, []};
+ghost use Rattle.std.specs.Prelude.{◌≡◌, ◌<◌, [], vec_capacity, vec_len};
 ghost use Rattle.tf_turnstile.specs.Passes.{IsIdle, new_pass};
 ghost use Rattle.tf_conductor.specs.Rounds.{GiveSame};
-ghost use Rattle.tf_conductor.specs.Working.{HasClaim, HasDoneLast, HasTurned, HasWorkedOn, IsConductorOf, KnowsNext, RunsClaimed, StepsFrom, seen_calls, start_past};
+ghost use Rattle.tf_conductor.specs.Working.{HasClaim, HasTurned, HasWorkedOn, IsConductorOf, IsSkipping, KnowsAfter, KnowsNext, StepsFrom, seen_calls, start_past};
 
 use crate::runners::{Ran, Runner};
 use crate::turns::{Claim, Conducting, Next};
@@ -44,29 +44,32 @@ fn begin_turn<K: Desk, T: Wait>(
     next
 }
 
-/// Takes the board to end a job that was run, and gives it home. Whether the end was made.
+/// Takes the board to end a job that was run and to claim the next one, and gives it home. `None` where the end wasn't made.
 fn end_turn<K: Desk, T: Wait>(
     rt: &T,
+    alloc: Global,
     turnstile: &Turnstile<Conducting<K>>,
     pass: &mut Pass<Conducting<K>>,
     number: u8,
     owner: &Name,
     claim: &Claim,
     ran: Ran,
-) -> bool
+    skip: &[u64],
+) -> Option<Next>
     requires opened { IsConductorOf turnstile.now number owner.now }
     requires idle { IsIdle turnstile.now number pass.old }
     requires has { HasClaim (start_past turnstile.now) number owner.now (seen_calls pass.old)
         claim.now.job claim.now.id }
     ensures idle { IsIdle turnstile.now number pass.new }
-    ensures done { HasDoneLast number owner.now claim.now ran (seen_calls pass.old) (seen_calls pass.new) result }
+    ensures next { KnowsAfter (start_past turnstile.now) turnstile.now.start.owners number owner.now claim.now ran
+        skip.now (seen_calls pass.old) (seen_calls pass.new) result }
 {
     let mut board = turnstile.take(rt, pass);
     board.known();
-    let made = board.end(number, owner, claim.id, ran);
+    let next = board.end_and_claim(alloc, number, owner, claim.id, ran, skip);
     board.known();
     turnstile.give(board, pass);
-    made
+    next
 }
 
 /// Takes the board to halt it for want of memory, and gives it home.
@@ -89,47 +92,18 @@ fn halt_board<K: Desk, T: Wait>(
     turnstile.give(board, pass);
 }
 
-/// Runs a job that the conductor has claimed, without the board, and ends it. How the run ended, or none where the
-/// conductor stops at a halt.
-fn run_claimed<K: Desk, P: Runner, T: Wait>(
-    rt: &T,
-    alloc: Global,
-    turnstile: &Turnstile<Conducting<K>>,
-    conductor: &mut Conductor<K, P>,
-    number: u8,
-    owner: &Name,
-    claim: &Claim,
-) -> Option<Ran>
-    requires opened { IsConductorOf turnstile.now number owner.now }
-    requires idle { IsIdle turnstile.now number conductor.old.pass }
-    requires has { HasClaim (start_past turnstile.now) number owner.now (seen_calls conductor.old.pass)
-        claim.now.job claim.now.id }
-    ensures idle { IsIdle turnstile.now number conductor.new.pass }
-    ensures gives { GiveSame (P.gives conductor.old.runner) (P.gives conductor.new.runner) }
-    ensures runs { RunsClaimed (P.gives conductor.old.runner) number owner.now claim.now
-        (P.did conductor.old.runner) (P.did conductor.new.runner)
-        (seen_calls conductor.old.pass) (seen_calls conductor.new.pass) result }
+/// Keeps a job that is left, for which there is room, among those to skip.
+fn skip_left(left: &mut Vec<u64>, job: u64, ran: Ran)
+    requires { vec_len left.old < vec_capacity left.old }
+    ensures { IsSkipping job left.old.items left.new.items }
 {
-    let Ok(ran) = conductor.runner.run(alloc, &claim.details) else {
-        halt_board(rt, turnstile, &mut conductor.pass, number, owner);
-        return None;
-    };
-    if !end_turn(
-        rt,
-        turnstile,
-        &mut conductor.pass,
-        number,
-        owner,
-        claim,
-        ran,
-    ) {
-        return None;
+    if ran == Ran::Left {
+        left.push_reserved(job);
     }
-    Some(ran)
 }
 
-/// One job of a conductor, which skips those that it has left. `None` where it goes on, and else whether it stopped at
-/// a halt.
+/// Runs a job that the conductor has claimed, without the board, ends it, and claims the next one, but none of those that
+/// it has left.
 fn step<K: Desk, P: Runner, T: Wait>(
     rt: &T,
     alloc: Global,
@@ -138,40 +112,40 @@ fn step<K: Desk, P: Runner, T: Wait>(
     left: &mut Vec<u64>,
     number: u8,
     owner: &Name,
-) -> Option<bool>
+    claim: &Claim,
+) -> Next
     requires opened { IsConductorOf turnstile.now number owner.now }
     requires idle { IsIdle turnstile.now number conductor.old.pass }
+    requires has { HasClaim (start_past turnstile.now) number owner.now (seen_calls conductor.old.pass)
+        claim.now.job claim.now.id }
     ensures idle { IsIdle turnstile.now number conductor.new.pass }
     ensures gives { GiveSame (P.gives conductor.old.runner) (P.gives conductor.new.runner) }
-    ensures steps { StepsFrom (P.gives conductor.old.runner) (start_past turnstile.now) number owner.now
-        (P.did conductor.old.runner) (P.did conductor.new.runner) left.old.items left.new.items
-        (seen_calls conductor.old.pass) (seen_calls conductor.new.pass) result }
+    ensures steps { StepsFrom (P.gives conductor.old.runner) (start_past turnstile.now) turnstile.now.start.owners
+        number owner.now claim.now (P.did conductor.old.runner) (P.did conductor.new.runner)
+        left.old.items left.new.items (seen_calls conductor.old.pass) (seen_calls conductor.new.pass) result }
 {
     let Ok(()) = left.reserve(1) else {
         halt_board(rt, turnstile, &mut conductor.pass, number, owner);
-        return Some(true);
+        return Next::Halt;
     };
-    match begin_turn(
+    let Ok(ran) = conductor.runner.run(alloc, &claim.details) else {
+        halt_board(rt, turnstile, &mut conductor.pass, number, owner);
+        return Next::Halt;
+    };
+    skip_left(left, claim.job, ran);
+    match end_turn(
         rt,
         alloc,
         turnstile,
         &mut conductor.pass,
         number,
         owner,
+        claim,
+        ran,
         left,
     ) {
-        Next::Stop => Some(false),
-        Next::Halt => Some(true),
-        Next::Run(claim) => {
-            let Some(ran) = run_claimed(rt, alloc, turnstile, conductor, number, owner, &claim)
-            else {
-                return Some(true);
-            };
-            if ran == Ran::Left {
-                left.push_reserved(claim.job);
-            }
-            None
-        }
+        Some(next) => next,
+        None => Next::Halt,
     }
 }
 
@@ -191,10 +165,30 @@ pub(crate) fn work<K: Desk, P: Runner, T: Wait>(
         (P.did conductor.old.runner) (P.did conductor.new.runner) conductor.new.pass conductor.new.halted }
 {
     let mut left = Vec::new(alloc);
+    let mut next = begin_turn(
+        rt,
+        alloc,
+        turnstile,
+        &mut conductor.pass,
+        number,
+        owner,
+        &left,
+    );
     'jobs: for _ in rt.forever() {
-        if let Some(halted) = step(rt, alloc, turnstile, conductor, &mut left, number, owner) {
-            conductor.halted = halted;
-            return;
+        match next {
+            Next::Stop => {
+                conductor.halted = false;
+                return;
+            }
+            Next::Halt => {
+                conductor.halted = true;
+                return;
+            }
+            Next::Run(claim) => {
+                next = step(
+                    rt, alloc, turnstile, conductor, &mut left, number, owner, &claim,
+                );
+            }
         }
     }
     unreachable!()

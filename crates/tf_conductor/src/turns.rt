@@ -2,7 +2,7 @@
 ghost use Rattle.std.specs.Prelude.{◌≡◌, ◌<◌, ◌^◌, Some, IsSome, is_some, length, slice_get};
 ghost use Rattle.tf_board.specs.Board.{AreOfBoard};
 ghost use Rattle.tf_shared_board.specs.Shared.{numbered, IsShared};
-ghost use Rattle.tf_conductor.specs.Conducting.{IsConducting, MakesNone, HasClaimed, EndsJob, Claims, conducting_origin};
+ghost use Rattle.tf_conductor.specs.Conducting.{IsConducting, MakesNone, HasClaimed, EndsAndClaims, EndsJob, Claims, conducting_origin};
 ghost use Rattle.tf_conductor.specs.Rounds.{end_call};
 
 use crate::runners::Ran;
@@ -135,6 +135,27 @@ impl<K: Desk> Conducting<K> {
             return false;
         }
         self.shared.call(number, ending(id, *owner, ran)).is_ok()
+    }
+
+    /// Ends a job that an owner has, and then claims for it the first free job that isn't among those to skip. `None` where
+    /// the end wasn't made.
+    pub(crate) fn end_and_claim(
+        &mut self,
+        alloc: Global,
+        number: u8,
+        owner: &Name,
+        id: Uuid,
+        ran: Ran,
+        skip: &[u64],
+    ) -> Option<Next>
+        requires { slice_get self.old.owners number ≡ Some owner.now }
+        ensures { EndsAndClaims K.state number owner.now id ran skip.now self.old self.new result }
+    {
+        if !self.end(number, owner, id, ran) {
+            return None;
+        }
+        self.known();
+        Some(self.claim(alloc, number, owner, skip))
     }
 
     /// Halts it for want of memory, if it isn't halted.
