@@ -56,6 +56,33 @@ fn a_gate_that_cannot_be_opened_halts(rt: HostRuntime) -> Result<(), Fail> {
 }
 
 #[test]
+fn a_draft_is_unborn(rt: HostRuntime) -> Result<(), Fail> {
+    let alloc = rt.alloc();
+    let Ok(mut journal) = Journal::draft(alloc, desk(alloc, &[])?, Title::Book2) else {
+        return Err(Fail::from("not drafted"));
+    };
+    assert_eq!(rt; journal.append(&[1, 2]), Ok(()));
+    let mut desk = journal.into_desk();
+    assert_eq!(rt; scan(&mut desk, Title::Book2), Ok(Scanned::Unborn));
+    assert_file(&rt, desk, b"\0TASKFLOW BOOK 2\n\xa5\0\0\0\x02\x01\x02\0");
+    Ok(())
+}
+
+#[test]
+fn a_draft_is_a_journal_once_it_is_published(rt: HostRuntime) -> Result<(), Fail> {
+    let alloc = rt.alloc();
+    let Ok(mut journal) = Journal::draft(alloc, desk(alloc, &[])?, Title::Book2) else {
+        return Err(Fail::from("not drafted"));
+    };
+    assert_eq!(rt; journal.publish(), Ok(()));
+    let mut desk = journal.into_desk();
+    let empty = Scanned::Records { count: 0, end: 18 };
+    assert_eq!(rt; scan(&mut desk, Title::Book2), Ok(empty));
+    assert_file(&rt, desk, b"\xa5TASKFLOW BOOK 2\n\0");
+    Ok(())
+}
+
+#[test]
 fn a_full_journal_refuses_by_its_two_numbers(rt: HostRuntime) -> Result<(), Fail> {
     let alloc = rt.alloc();
     let body = sevens(alloc, 1_048_576)?;
@@ -107,6 +134,15 @@ fn what_is_no_journal_is_scanned(rt: HostRuntime) -> Result<(), Fail> {
     assert_eq!(rt; scan(&mut desk, Title::Book), Err(fault));
     let empty = Scanned::Records { count: 0, end: 18 };
     assert_eq!(rt; scan(&mut desk, Title::Jobs), Ok(empty));
+    Ok(())
+}
+
+#[test]
+fn a_book_of_one_flow_is_no_book_of_several(rt: HostRuntime) -> Result<(), Fail> {
+    let alloc = rt.alloc();
+    let mut desk = wide_desk(alloc, 64)?;
+    add(&mut desk, b"\xa5TASKFLOW BOOK 1\n\0")?;
+    assert_eq!(rt; scan(&mut desk, Title::Book2), Err(ScanFault::Old));
     Ok(())
 }
 

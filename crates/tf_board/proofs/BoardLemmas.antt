@@ -4,7 +4,7 @@ use Rattle.std.specs.Prelude.{slice_get}
 use Rattle.std.proofs.lemmas.Option.{slice_get-get_or}
 use Rattle.tf_desk.specs.State.{DeskState, bytes_now, MayLeave, GoesOn}
 use Rattle.tf_desk.proofs.StateLemmas.{goes_none}
-use Rattle.tf_journal.specs.Format.{Held, IsAtRest, title_of, recovered, bodies}
+use Rattle.tf_journal.specs.Format.{Held, IsAtRest, recovered, bodies}
 use Rattle.tf_journal.specs.declared.title.Title.{Title}
 use Rattle.tf_journal.specs.declared.title.Title.TheVariants.{Jobs as jobs_title}
 use Rattle.tf_journal.proofs.HeaderLemmas.{sixteen}
@@ -71,8 +71,8 @@ applied_there past items id place action owner same there =
 pub rest_holds : {K : Type 0} (state : K → DeskState) (journal : Held K) (past : List Command) → journal.title ≡ jobs_title → IsAtRest state journal (bodies_of past)
     → Holds past (board_in (bytes_now (state journal.desk)))
 rest_holds state journal past titled rest =
-    subst (λ (t : Title). recovered (title_of t) (bytes_now (state journal.desk)) ≡ bodies (bodies_of past)) titled
-    (recovered_lies (title_of journal.title) (bodies_of past) journal.size (bytes_now (state journal.desk)) (sixteen journal.title) rest.lies)
+    subst (λ (t : Title). recovered t (bytes_now (state journal.desk)) ≡ bodies (bodies_of past)) titled
+    (recovered_lies journal.title (bodies_of past) journal.size (bytes_now (state journal.desk)) (sixteen journal.title) rest.lies)
 
 -- and of what a crash leaves of it
 pub rest_leaves_held : {K : Type 0} (state : K → DeskState) (journal : Held K) (past : List Command) → journal.title ≡ jobs_title → IsAtRest state journal (bodies_of past)

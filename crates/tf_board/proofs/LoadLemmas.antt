@@ -4,7 +4,7 @@ use Rattle.std.specs.Prelude.{IsTrue, IfOk, IfErr}
 use Rattle.tf_desk.specs.State.{DeskState, bytes_now, Rests, GoesOn}
 use Rattle.tf_desk.proofs.CountLemmas.{rises_later}
 use Rattle.tf_desk.proofs.StateLemmas.{on_disk_told, goes_within, rests_then_goes}
-use Rattle.tf_journal.specs.Format.{bodies, unborn, title_of, Held, IsAtRest, LeavesBirth}
+use Rattle.tf_journal.specs.Format.{bodies, unborn, Held, IsAtRest, LeavesBirth}
 use Rattle.tf_journal.specs.declared.faults.LoadFault.{LoadFault}
 use Rattle.tf_journal.specs.declared.faults.LoadFault.TheVariants as load_fault
 use Rattle.tf_journal.specs.declared.title.Title.TheVariants.{Jobs as jobs_title}
@@ -44,7 +44,7 @@ module _ {K : Type 0} (state : K → DeskState) where
   unread_unloaded desk journal (Ok board) titled rests lies fails = tt
   unread_unloaded desk journal (Err back) titled rests lies fails =
       let is = unread state IsRefusedCommand jobs_title (board_in (bytes_now (state desk))) desk journal back.1 back.0 titled rests lies fails in
-      record { refused = is.0; cause = is.1 }
+      record { refused = is.0; cause = is.1; new_format = fails.new_format }
 
   -- ---- an unborn file
 
@@ -64,9 +64,10 @@ module _ {K : Type 0} (state : K → DeskState) where
         }
 
     unmade_fault : (back : K) (fault : LoadFault) → FailsToMake fault (state before) (state back) → FailsToLoad fault (state desk) (state back)
-    unmade_fault back load_fault.Disk fails = record { refused = λ told. tt; cause = λ is. rises_later (state desk).disk_faults (state before).disk_faults (state back).disk_faults rests.on_disk.disk_faults fails }
-    unmade_fault back load_fault.Memory fails = record { refused = λ told. tt; cause = λ is. absurd (cc) }
+    unmade_fault back load_fault.Disk fails = record { refused = λ told. tt; cause = λ is. rises_later (state desk).disk_faults (state before).disk_faults (state back).disk_faults rests.on_disk.disk_faults fails; new_format = λ is. cc }
+    unmade_fault back load_fault.Memory fails = record { refused = λ told. tt; cause = λ is. absurd (cc); new_format = λ is. cc }
     unmade_fault back (load_fault.NotABook offset byte) fails = absurd fails
+    unmade_fault back load_fault.Old fails = absurd fails
 
     -- it couldn't be made
     pub unmade_unloaded : (r : Result (BoardValue K) (K × LoadFault)) → IfErr r (λ back. FailsToMake back.1 (state before) (state back.0))
@@ -75,6 +76,6 @@ module _ {K : Type 0} (state : K → DeskState) where
     unmade_unloaded (Err back) fails = unmade_fault back.0 back.1 fails
 
     -- in either case a crash leaves it unborn or a board without a command
-    pub made_goes : (now : K) → GoesOn (LeavesBirth (title_of jobs_title) (state before).shown) (state before) (state now) → GoesOn (LeavesLoad (state desk)) (state desk) (state now)
+    pub made_goes : (now : K) → GoesOn (LeavesBirth jobs_title (state before).shown) (state before) (state now) → GoesOn (LeavesLoad (state desk)) (state desk) (state now)
     made_goes now goes =
         goes_within (rests_then_goes rests goes) (λ told image text left. (unborn_then told, (left.0, sym rests.on_disk.shown ∙ left.1)))

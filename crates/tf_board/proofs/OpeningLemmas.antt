@@ -1,5 +1,5 @@
 -- What is known of a board's desk where its file was picked and read, or made.
-use Rattle.std.proofs.Common.{◌≡◌, ℕ, List, [], Option, Some, Result, Ok, Err, refl, sym, ap, ◌∙◌, subst, inl, inr, ⊎_elim}
+use Rattle.std.proofs.Common.{◌≡◌, ◌≢◌, ℕ, List, [], Option, Some, Result, Ok, Err, refl, sym, ap, ◌∙◌, subst, inl, inr, ⊎_elim}
 use Rattle.std.specs.Prelude.{IsTrue, IfOk, IfErr}
 use Rattle.tf_desk.specs.ActLaws.{bytes_of-picked}
 use Rattle.tf_numbers.specs.Numbers.{Rises}
@@ -7,7 +7,7 @@ use Rattle.tf_desk.specs.Crash.{Pairs}
 use Rattle.tf_desk.specs.State.{DeskState, anything, bytes_now, MayLeave, OnDisk, Rests, GoesOn}
 use Rattle.tf_desk.proofs.CountLemmas.{rises_later}
 use Rattle.tf_desk.proofs.StateLemmas.{on_disk_told, on_disk_on, rests_on}
-use Rattle.tf_journal.specs.Format.{unborn, title_of, LeavesBirth, HasSynced, IsSynced}
+use Rattle.tf_journal.specs.Format.{unborn, LeavesBirth, HasSynced, IsSynced}
 use Rattle.tf_journal.specs.Start.{IsSet, Untouched, Open, file_of}
 use Rattle.tf_journal.specs.declared.faults.LoadFault.{LoadFault}
 use Rattle.tf_journal.specs.declared.title.Title.TheVariants.{Jobs as jobs_title}
@@ -20,7 +20,7 @@ use Rattle.tf_board.specs.declared.commands.Command.{Command}
 use Rattle.tf_board.proofs.DeskLaws.{KeepsLaws}
 
 -- a crash inside a birth leaves no command
-birth_finds : (shown : Option (List ℕ)) (image text : List ℕ) → LeavesBirth (title_of jobs_title) shown image text → Finds [] (board_in image) × (shown ≡ Some text)
+birth_finds : (shown : Option (List ℕ)) (image text : List ℕ) → LeavesBirth jobs_title shown image text → Finds [] (board_in image) × (shown ≡ Some text)
 birth_finds shown image text l = (⊎_elim (λ still. inr (refl, still)) (λ born. inl born) l.0, l.1)
 
 -- ---- a file that was picked, and read or not
@@ -28,13 +28,14 @@ birth_finds shown image text l = (⊎_elim (λ still. inr (refl, still)) (λ bor
 -- a file that is as it was couldn't be opened
 pub untouched_unopened : {name : List ℕ} {entry now : DeskState} (fault : LoadFault) → Untouched name entry now → OnDisk anything entry now
     → (IsTrue entry.tells → RefusesBoard fault (board_in (file_of entry name))) → (fault ≡ load_fault.Disk → Rises entry.disk_faults now.disk_faults)
-    → IsUnopened name fault entry now
-untouched_unopened fault u on_disk refused cause = record {
+    → fault ≢ load_fault.Old → IsUnopened name fault entry now
+untouched_unopened fault u on_disk refused cause fresh = record {
   on_disk = on_disk;
   file = λ told. inl (u.file told);
   path = λ told. path_widens (u.path told) (λ image text same. (inl same.0, same.1)) (λ image same. inl same);
   refused = refused;
   cause = cause;
+  new_format = fresh;
 }
 
 -- ---- what a load says of the file of a name that was picked
@@ -63,7 +64,7 @@ module _ {K : Type 0} (state : K → DeskState) (laws : KeepsLaws state) (name :
   pub unread_opens : (now : K) (fault : LoadFault) → Rests (state desk) (state now) → (IsTrue (state desk).tells → IsSynced (state desk) (state now))
       → FailsToLoad fault (state desk) (state now) → IsUnopened name fault (state entry) (state now)
   unread_opens now fault rests synced fails =
-      untouched_unopened fault (read_untouched now rests synced) (since_entry (state now) rests.on_disk) (refused_file (state now) fault fails) (cause_since (state now) fault fails)
+      untouched_unopened fault (read_untouched now rests synced) (since_entry (state now) rests.on_disk) (refused_file (state now) fault fails) (cause_since (state now) fault fails) fails.new_format
 
   -- ---- a journal was read behind its first sync
 
@@ -118,7 +119,7 @@ module _ {K : Type 0} (state : K → DeskState) (laws : KeepsLaws state) (name :
       on_disk_now now goes = since_entry (state now) (on_disk_on {during = anything} rests_mid.on_disk goes.on_disk (λ told image text left. tt) (λ told image text left. tt))
 
       abbrev Births : K → Type 0
-      Births now = GoesOn (LeavesBirth (title_of jobs_title) (state mid).shown) (state mid) (state now)
+      Births now = GoesOn (LeavesBirth jobs_title (state mid).shown) (state mid) (state now)
 
       made_opened : (board : BoardValue K) → Births board.journal.desk → IsLoadedBoard state (state desk) board → board.past ≡ [] → IsOpened state name (state entry) board
       made_opened board goes loaded none =
@@ -160,6 +161,7 @@ module _ {K : Type 0} (state : K → DeskState) (laws : KeepsLaws state) (name :
                 (left_now told);
             refused = refused_file now fault fails;
             cause = cause_since now fault fails;
+            new_format = fails.new_format;
           }
 
       pub made_opens : (r : Result (BoardValue K) (K × LoadFault)) → Births (desk_loaded r)

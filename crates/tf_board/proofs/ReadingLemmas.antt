@@ -13,7 +13,7 @@ use Rattle.tf_board.specs.declared.commands.Command.{Command}
 use Rattle.tf_board.specs.declared.kept.Kept.{Kept}
 
 -- the next gate of a journal with these bodies stands before its size
-pub prefix_long : (past : List Command) → length (prefix_of (title_of jobs_title) (bodies_of past)) + 1 ≡ size_of past
+pub prefix_long : (past : List Command) → length (prefix_of jobs_title (bodies_of past)) + 1 ≡ size_of past
 prefix_long past = omega (arith, long past, length-append (OPEN ∷ title_of jobs_title) (flat_map record_of (bodies_of past)))
   where
     long : (past : List Command) → length (flat_map record_of (bodies_of past)) + 18 ≡ size_of past
@@ -32,8 +32,8 @@ read_none kept none = record {
 pub read_all : {K : Type 0} (state : K → DeskState) (j : Held K) (kept : Kept) → j.title ≡ jobs_title → HasReadAll state HasReadCommands j kept → HasReadBoard state j kept
 read_all state j kept titled read =
     let are : read.bodies ≡ bodies_of (past_in kept) = read.is_replayed.bodies_are in
-    let same : length (prefix_of (title_of j.title) read.bodies) ≡ length (prefix_of (title_of jobs_title) (bodies_of (past_in kept))) =
-    ap (λ (t : Title). length (prefix_of (title_of t) read.bodies)) titled ∙ ap (λ (b : List (List ℕ)). length (prefix_of (title_of jobs_title) b)) are in
+    let same : length (prefix_of j.title read.bodies) ≡ length (prefix_of jobs_title (bodies_of (past_in kept))) =
+    ap (λ (t : Title). length (prefix_of t read.bodies)) titled ∙ ap (λ (b : List (List ℕ)). length (prefix_of jobs_title b)) are in
     record {
       true_to = read.is_replayed.true_to;
       size = omega (arith, read.size, same, prefix_long (past_in kept));

@@ -26,7 +26,7 @@ use Rattle.std.specs.declared.snapshot.Snapshot.{Snapshot}
 use Rattle.tf_board.specs.declared.kept.Change.{Change}
 use Rattle.tf_board.specs.declared.kept.Kept.{Kept}
 use Rattle.tf_desk.specs.State.{DeskState, MayLeave, bytes_now, anything, OnDisk, Picks, LeavesMade}
-use Rattle.tf_journal.specs.Format.{SIZE_LIMIT, Recovered, bodies, unborn, recovered, title_of, Held, IsAtRest, IsOpen, LeavesBirth}
+use Rattle.tf_journal.specs.Format.{SIZE_LIMIT, Recovered, bodies, unborn, recovered, Held, IsAtRest, IsOpen, LeavesBirth}
 use Rattle.tf_journal.specs.declared.faults.LoadFault.{LoadFault}
 use Rattle.tf_journal.specs.declared.title.Title.TheVariants.{Jobs as jobs_title}
 use Rattle.tf_records.specs.Refusing.{IsMalformed, RefusesMalformed}
@@ -332,7 +332,7 @@ size_of (last ∷ past) = size_of past + 5 + length (command_bytes last)
 
 -- what recovery makes of the bytes of a board's file
 abbrev pub board_in : List ℕ → Recovered
-board_in bytes = recovered (title_of jobs_title) bytes
+board_in bytes = recovered jobs_title bytes
 
 -- it holds these commands
 abbrev pub Holds : List Command → Recovered → Type 0
@@ -369,11 +369,11 @@ pub record IsRefusedCommand (before : List (List ℕ)) (body : List ℕ) : Type 
 
 -- the file is no board: it is no journal of that title, or one of its bodies can't come
 abbrev pub IsNoBoard : Recovered → ℕ → Option ℕ → Type 0
-IsNoBoard file offset byte = IsMalformed (title_of jobs_title) IsRefusedCommand file offset byte
+IsNoBoard file offset byte = IsMalformed jobs_title IsRefusedCommand file offset byte
 
 -- a file was refused for what it is; a fault of the disk and want of memory say nothing of it
 abbrev pub RefusesBoard : LoadFault → Recovered → Type 0
-RefusesBoard fault file = RefusesMalformed (title_of jobs_title) IsRefusedCommand fault file
+RefusesBoard fault file = RefusesMalformed jobs_title IsRefusedCommand fault file
 
 -- ---- what reading a board's file, or making one, leaves
 -- Lists of commands have the newest first.
@@ -386,7 +386,7 @@ desk_loaded (Err back) = back.0
 -- a crash inside a load: where the file is unborn, one in which a journal is made may leave it so or a board without a command; the shown
 -- text stays
 abbrev pub LeavesLoad : DeskState → Pairs
-LeavesLoad old image text = (board_in (bytes_now old) ≡ unborn) × LeavesBirth (title_of jobs_title) old.shown image text
+LeavesLoad old image text = (board_in (bytes_now old) ≡ unborn) × LeavesBirth jobs_title old.shown image text
 
 -- a board that nothing stands against: no append found a disk fault, it is kept in a file with its title, its commands are those that a board may hold, and its size
 -- is theirs
@@ -409,11 +409,13 @@ abbrev pub FailsToMake : LoadFault → DeskState → DeskState → Type 0
 FailsToMake load_fault.Disk old new = Rises old.disk_faults new.disk_faults
 FailsToMake load_fault.Memory old new = Unit {0}
 FailsToMake (load_fault.NotABook offset byte) old new = ⊥
+FailsToMake load_fault.Old old new = ⊥
 
--- why a board wasn't loaded: what the fault says of the file is so, and the disk's comes only where the count of them rose
+-- why a board wasn't loaded: what the fault says of the file is so, the disk's comes only where the count of them rose, and none is of the format
 pub record FailsToLoad (fault : LoadFault) (old new : DeskState) : Type 0 where
   pub refused : IsTrue old.tells → RefusesBoard fault (board_in (bytes_now old))
   pub cause : fault ≡ load_fault.Disk → Rises old.disk_faults new.disk_faults
+  pub new_format : fault ≢ load_fault.Old
 
 -- ---- what is known of a board's desk on the way through a command
 -- Lists of commands have the newest first.
@@ -449,7 +451,7 @@ pub record IsOpened {K : Type 0} (state : K → DeskState) (name : List ℕ) (en
       (λ image. Holds board.past (board_in image))
 
 -- it couldn't be opened for this fault: it is as it was, or it was unborn and no command is in it; what the fault says of the file is so, and
--- the disk's comes only where the count of them rose
+-- the disk's comes only where the count of them rose, and none is of the format
 pub record IsUnopened (name : List ℕ) (fault : LoadFault) (entry now : DeskState) : Type 0 where
   pub on_disk : OnDisk anything entry now
   pub file : IsTrue entry.tells → IsAsBeforeOrMade (file_of entry name) (file_of now name)
@@ -457,6 +459,7 @@ pub record IsUnopened (name : List ℕ) (fault : LoadFault) (entry now : DeskSta
       → Path name entry now (LeavesUnmade name entry) (λ image. IsAsBeforeOrMade (file_of entry name) image)
   pub refused : IsTrue entry.tells → RefusesBoard fault (board_in (file_of entry name))
   pub cause : fault ≡ load_fault.Disk → Rises entry.disk_faults now.disk_faults
+  pub new_format : fault ≢ load_fault.Old
 
 -- the one or the other, as the answer says
 abbrev pub Opens : {K : Type 0} → (K → DeskState) → List ℕ → DeskState → Result (BoardValue K) (K × LoadFault) → Type 0

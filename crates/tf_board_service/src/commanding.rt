@@ -75,6 +75,7 @@ fn say_text<K: Desk>(desk: K, text: Result<Vec<u8>, Memory>, status: u8) -> (K, 
 
 /// Says why a board couldn't be opened, unless memory ran out.
 fn refuse<K: Desk>(alloc: Global, desk: K, fault: LoadFault) -> (K, u8)
+    requires new_format { fault ≢ LoadFault.Old }
     ensures serves { (name : List ℕ) (address : AnAddress) (count : ℕ) (door : DoorTold) (entry : K)
         → IsUnopened name fault (K.state entry) (K.state desk)
         → ServesBoard name address count door door (K.state entry) (K.state result.0) result.1 }
@@ -89,6 +90,7 @@ fn refuse<K: Desk>(alloc: Global, desk: K, fault: LoadFault) -> (K, u8)
             say_text(desk, text, NO_BOOK)
         }
         LoadFault::Memory => (desk, OUT_OF_MEMORY),
+        LoadFault::Old => unreachable!(),
     }
 }
 

@@ -9,7 +9,7 @@ use Rattle.tf_desk.proofs.StateLemmas.{files_none, bytes_stay, left_stays, exten
 use Rattle.tf_flow.specs.Plan.{PlanValue}
 use Rattle.tf_states.specs.declared.record.AtomView.{AtomView}
 use Rattle.tf_states.specs.declared.record.Entry.{Entry}
-use Rattle.tf_journal.specs.Format.{SIZE_LIMIT, bodies, recovered, title_of, Held, IsAtRest, IsOpen}
+use Rattle.tf_journal.specs.Format.{SIZE_LIMIT, bodies, recovered, Held, IsAtRest, IsOpen}
 use Rattle.tf_journal.specs.declared.title.Title.{Title}
 use Rattle.tf_journal.specs.declared.title.Title.TheVariants.{Book as book_title}
 use Rattle.tf_journal.proofs.AppendLemmas.{rest_leaves}
@@ -66,7 +66,7 @@ module _ {K : Type 0} (state : K → DeskState) where
       → IsAtRest state j (bodies_of plan past) → Passes (SaysPrefix (state j.desk) closing) (state j.desk) now
       → Passes (LeavesClosing plan past (state j.desk).shown closing) (state j.desk) now
   leaves_closing j plan past closing titled rest passes = passes_within passes (λ image text says. (
-    ap (λ (t : Title). recovered (title_of t) image) (sym titled) ∙ rest_leaves state j (bodies_of plan past) rest image says.0,
+    ap (λ (t : Title). recovered t image) (sym titled) ∙ rest_leaves state j (bodies_of plan past) rest image says.0,
     says.1,
   ))
 

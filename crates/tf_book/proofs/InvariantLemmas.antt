@@ -9,7 +9,7 @@ use Rattle.tf_flow.specs.Plan.{PlanValue}
 use Rattle.tf_states.specs.declared.record.Entry.{Entry}
 use Rattle.tf_states.specs.declared.record.What.TheVariants as event
 use Rattle.tf_entries.specs.Entries.{entry_bytes}
-use Rattle.tf_journal.specs.Format.{SIZE_LIMIT, bodies, journal_bytes, recovered, title_of, Held, IsAtRest, IsOpen, LeavesBodies, LeavesEither}
+use Rattle.tf_journal.specs.Format.{SIZE_LIMIT, bodies, journal_bytes, recovered, Held, IsAtRest, IsOpen, LeavesBodies, LeavesEither}
 use Rattle.tf_journal.proofs.AppendLemmas.{rest_leaves}
 use Rattle.tf_journal.specs.declared.title.Title.{Title}
 use Rattle.tf_journal.specs.declared.title.Title.TheVariants.{Book as book_title}
@@ -74,8 +74,8 @@ module _ {K : Type 0} (state : K → DeskState) where
         let opened = opened_then r w told kept in
         passes_on d.passes (w.logged.at_most opened (bodies_of old.plan old.past) (w.ready opened)).crash
         (left_before start.plan start.quiet start.past k.entries d.pending (state start.journal.desk).shown e (none_pending _ _ old.halt old.failed d.pending sound d.few))
-        (left_now start.plan start.quiet start.past k.entries (state start.journal.desk).shown (state old.journal.desk).shown e (title_of old.journal.title) (next_line old e)
-        (bodies_of old.plan old.past) (ap title_of w.title) bodies_then the_line shown_then)
+        (left_now start.plan start.quiet start.past k.entries (state start.journal.desk).shown (state old.journal.desk).shown e old.journal.title (next_line old e)
+        (bodies_of old.plan old.past) w.title bodies_then the_line shown_then)
 
     full_then : (r : Result (Unit {0}) Halt) → Wrote state old j e r → (size need : ℕ) → (size ≡ old.journal.size) × (need ≡ 5 + length (entry_bytes e)) × (SIZE_LIMIT < size + need)
         → IsFullFor (HasFailed (Some e)) start.plan old.past size need
@@ -91,19 +91,19 @@ module _ {K : Type 0} (state : K → DeskState) where
 
     -- what a crash leaves now, after the append
     leaves_recorded : (r : Result (Unit {0}) Halt) → Wrote state old j e r → is_logged r ≡ true → j.title ≡ old.journal.title → IsTrue (state start.journal.desk).tells → start.journal.volatile ≡ false
-        → LeavesBodies (title_of book_title) (state j.desk) (bodies_of start.plan ((e ∷ k.entries) ++ start.past))
+        → LeavesBodies book_title (state j.desk) (bodies_of start.plan ((e ∷ k.entries) ++ start.past))
     leaves_recorded r w recorded titled told kept image left_now =
         let opened = opened_then r w told kept in
-        ap (λ (t : Title). recovered (title_of t) image) (sym (titled ∙ w.title))
+        ap (λ (t : Title). recovered t image) (sym (titled ∙ w.title))
         ∙ rest_leaves state j (bodies_of old.plan old.past ++ entry_bytes e ∷ []) (w.logged.records recorded opened (bodies_of old.plan old.past) (w.ready opened)).rest image left_now
         ∙ ap (λ (h : List (List ℕ)). bodies (h ++ entry_bytes e ∷ [])) bodies_then
 
     -- the same where the append found a disk fault
     leaves_pending : (r : Result (Unit {0}) Halt) → Wrote state old j e r → IsTrue (state start.journal.desk).tells → start.journal.volatile ≡ false
-        → LeavesEither (title_of book_title) (state j.desk) (bodies_of start.plan (k.entries ++ start.past)) (bodies_of start.plan ((e ∷ k.entries) ++ start.past))
+        → LeavesEither book_title (state j.desk) (bodies_of start.plan (k.entries ++ start.past)) (bodies_of start.plan ((e ∷ k.entries) ++ start.past))
     leaves_pending r w told kept image left_now =
         let opened = opened_then r w told kept in
-        let titled = ap (λ (t : Title). recovered (title_of t) image) (sym w.title) in
+        let titled = ap (λ (t : Title). recovered t image) (sym w.title) in
         ⊎_elim
         (λ was. inl (titled ∙ was ∙ ap bodies bodies_then))
         (λ is. inr (titled ∙ is ∙ ap (λ (h : List (List ℕ)). bodies (h ++ entry_bytes e ∷ [])) bodies_then))
@@ -124,10 +124,10 @@ module _ {K : Type 0} (state : K → DeskState) where
         → IsExact (state start.journal.desk) start.plan start.past → IsExact (state j.desk) old.plan (e ∷ old.past)
     exact_recorded r w recorded told kept just =
         let opened = opened_then r w told kept in
-        let was : bytes_now (state old.journal.desk) ≡ journal_bytes (title_of old.journal.title) (bodies_of old.plan old.past) =
-        k.exact told kept w.sound just ∙ ap (λ (t : Title). journal_bytes (title_of t) (bodies_of old.plan old.past)) (sym w.title) in
+        let was : bytes_now (state old.journal.desk) ≡ journal_bytes old.journal.title (bodies_of old.plan old.past) =
+        k.exact told kept w.sound just ∙ ap (λ (t : Title). journal_bytes t (bodies_of old.plan old.past)) (sym w.title) in
         (w.logged.records recorded opened (bodies_of old.plan old.past) (w.ready opened)).exact was
-        ∙ ap (λ (t : Title). journal_bytes (title_of t) (bodies_of old.plan old.past ++ entry_bytes e ∷ [])) w.title
+        ∙ ap (λ (t : Title). journal_bytes t (bodies_of old.plan old.past ++ entry_bytes e ∷ [])) w.title
 
     recorded_kept : (halted : Option Halt) (r : Result (Unit {0}) Halt) → Wrote state old j e r → is_logged r ≡ true → j.title ≡ old.journal.title → j.volatile ≡ old.journal.volatile
         → IsPending start.plan ((e ∷ k.entries) ++ start.past) halted old.failed [] → IsSpoken start.quiet (outline_of start.plan) start.past (state start.journal.desk).shown (e ∷ k.entries) halted (state j.desk).shown
@@ -273,16 +273,16 @@ proceeds_on a b = record {
 -- what a crash leaves of a book that the disk didn't halt
 pub sound_leaves : {K : Type 0} (state : K → DeskState) (machine : MachineValue) (kept : List ℕ) (b old : BookValue K) → b ≡ old → IsSoundBook state machine kept b
     → IsTrue (state old.journal.desk).tells → old.journal.volatile ≡ false → old.halt ≢ Some halt.Disk
-    → LeavesBodies (title_of book_title) (state old.journal.desk) (bodies_of old.plan old.past)
+    → LeavesBodies book_title (state old.journal.desk) (bodies_of old.plan old.past)
 sound_leaves {K} state machine kept b old same is told saved apart =
-    subst (λ (x : BookValue K). LeavesBodies (title_of book_title) (state x.journal.desk) (bodies_of x.plan x.past)) same here
+    subst (λ (x : BookValue K). LeavesBodies book_title (state x.journal.desk) (bodies_of x.plan x.past)) same here
   where
     opened : IsOpen state b.journal
     opened = subst (λ (x : BookValue K). IsOpen state x.journal) (sym same)
         (record { told = told; sound = subst (λ (x : BookValue K). x.journal.halted ≡ false) same (is.sound (λ disk. apart (sym (ap (λ (x : BookValue K). x.halt) same) ∙ disk))); kept = saved })
 
-    here : LeavesBodies (title_of book_title) (state b.journal.desk) (bodies_of b.plan b.past)
-    here image left_now = ap (λ (t : Title). recovered (title_of t) image) (sym is.title) ∙ rest_leaves state b.journal (bodies_of b.plan b.past) (is.ready opened) image left_now
+    here : LeavesBodies book_title (state b.journal.desk) (bodies_of b.plan b.past)
+    here image left_now = ap (λ (t : Title). recovered t image) (sym is.title) ∙ rest_leaves state b.journal (bodies_of b.plan b.past) (is.ready opened) image left_now
 
 -- what came before is a history too
 pub history_before : {plan : PlanValue} (newer older : List Entry) → IsHistoryOf plan (newer ++ older) → IsHistoryOf plan older

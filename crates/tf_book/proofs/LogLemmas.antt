@@ -3,10 +3,11 @@ use Rattle.std.proofs.Common.{◌≡◌, inl, inr, ⊎_elim, ℕ, ◌+◌, ◌�
 use Rattle.std.specs.Prelude.{IsTrue, true, Result, Ok, Err, IfErr}
 use Rattle.tf_numbers.specs.Numbers.{Rises}
 use Rattle.tf_desk.specs.Crash.{shown_with, ShowsPrefix}
-use Rattle.tf_desk.specs.State.{DeskState, anything, FilesStay, GoesOn, Says, Asks, passes_none, passes_on}
+use Rattle.tf_desk.specs.State.{DeskState, anything, FilesStay, GoesOn, Says, Asks, passes_none, passes_on, passes_within}
 use Rattle.tf_desk.proofs.StateLemmas.{files_none, bytes_stay, left_stays, on_disk_told, continues_on, goes_continues, says_continues}
-use Rattle.tf_journal.specs.Adding.{Adds, AddsAtMost, Grows}
-use Rattle.tf_journal.specs.Format.{SIZE_LIMIT, prefix_of, recovered, title_of, Held, IsAtRest, AtRest, LeavesBeforeOrAfter}
+use Rattle.tf_journal.specs.Adding.{Adds, AddsAtMost, Grows, Halts}
+use Rattle.tf_journal.specs.declared.title.Title.{Title}
+use Rattle.tf_journal.specs.Format.{SIZE_LIMIT, prefix_of, recovered, Held, IsAtRest, AtRest, LeavesBeforeOrAfter}
 use Rattle.tf_journal.proofs.CrashLemmas.{at_rest_on}
 use Rattle.tf_book.specs.SessionInvariant.{said_of, journal_after, IsSaid, IsCaused, FailsToSay, LeavesLogged, StaysOffDisk, Logged}
 use Rattle.tf_book.specs.declared.faults.Halt.{Halt}
@@ -56,7 +57,7 @@ pub off_asks : {old new : DeskState} → Asks old new → StaysOffDisk old new
 off_asks asks = record { files = λ told. ((asks.files told).files, asks.marks told); disk_faults = asks.disk_faults }
 
 -- what an append may leave is what an append and its line may leave
-appended_logged : (title : List ℕ) (held : List (List ℕ)) (new line : List ℕ) (shown : Option (List ℕ)) (image text : List ℕ)
+appended_logged : (title : Title) (held : List (List ℕ)) (new line : List ℕ) (shown : Option (List ℕ)) (image text : List ℕ)
     → LeavesBeforeOrAfter title held new shown image text → LeavesLogged title held new line shown image text
 appended_logged title held new line shown image text left =
     ⊎_elim (λ old. inl (old, left.1)) (λ both. inr (both, shows_none shown line text left.1)) left.0
@@ -105,20 +106,38 @@ module _ {K : Type 0} (state : K → DeskState) where
     records = λ on opened held rest. (let added = adds opened held rest in let stay = says.files (on_disk_told goes.on_disk opened.told) in record {
       rest = said_at_rest same stay added.rest;
       exact = λ just. bytes_stay stay
-          ∙ added.exact (ap length just ∙ length-append (prefix_of (title_of old.title) held) (0 ∷ []) ∙ sym rest.lies.place);
+          ∙ added.exact (ap length just ∙ length-append (prefix_of old.title held) (0 ∷ []) ∙ sym rest.lies.place);
     });
     at_most = λ opened held rest. (let added = adds opened held rest in let told = on_disk_told goes.on_disk opened.told in record {
-      crash = passes_on (at_most opened held rest).crash (says.crash told) (appended_logged (title_of old.title) held body line (state old.desk).shown)
+      crash = passes_on (at_most opened held rest).crash (says.crash told) (appended_logged old.title held body line (state old.desk).shown)
           (λ image text left. inr (
-            ap (recovered (title_of old.title)) (added.rest.durable image left.0) ∙ added.recovers,
+            ap (recovered old.title) (added.rest.durable image left.0) ∙ added.recovers,
             subst (λ (s : Option (List ℕ)). ShowsPrefix s line (Some text)) goes.on_disk.shown left.1,
           ));
-      leaves = λ image left. inr (ap (recovered (title_of old.title)) (added.rest.durable image (left_stays (says.files told) image left)) ∙ added.recovers);
+      leaves = λ image left. inr (ap (recovered old.title) (added.rest.durable image (left_stays (says.files told) image left)) ∙ added.recovers);
     });
   }
     where
       grown : new ≡ record old { desk = new.desk; size = old.size + 5 + length body }
       grown = same ∙ ap (λ (h : Held K). record h { desk = new.desk }) grows.same
+
+  -- the append found a disk fault, and nothing was said
+  pub failed_logged : {body line : List ℕ} {old new : Held K} → Halts state body old new → AtRest state old (AddsAtMost state body old new)
+      → GoesOn anything (state old.desk) (state new.desk) → (old.volatile ≡ true → new.desk ≡ old.desk) → Logged state body line old new (Err halt.Disk)
+  failed_logged {body} {line} {old} {new} halts at_most goes still = record {
+    journal = halts.same;
+    text = goes.on_disk.shown;
+    cause = halts.rose;
+    limit = λ on. absurd (cc);
+    continues = goes_continues goes;
+    unasked = record { asks = goes.on_disk.asks; turns = goes.on_disk.turns };
+    off_disk = λ volatile. off_same state old.desk new.desk (still volatile);
+    records = λ on. absurd (cc);
+    at_most = λ opened held rest. (let most = at_most opened held rest in record {
+      crash = passes_within most.crash (appended_logged old.title held body line (state old.desk).shown);
+      leaves = most.leaves;
+    });
+  }
 
   -- the same body and line under other names, and the same answer
   pub logged_same : (quiet : Bool) {body line new_body new_line : List ℕ} {old new : Held K} {r s : Result (Unit {0}) Halt} → body ≡ new_body → line ≡ new_line → r ≡ s

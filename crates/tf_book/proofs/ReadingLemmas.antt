@@ -22,7 +22,7 @@ use Rattle.tf_book.specs.declared.recovering.ReadBack.{ReadBack}
 use Rattle.tf_book.specs.declared.recovering.Replayed.TheVariants as replayed
 
 -- the next gate of a journal with these bodies stands before its size
-pub prefix_long : (plan : PlanValue) (past : List Entry) → length (prefix_of (title_of book_title) (bodies_of plan past)) + 1 ≡ book_size plan past
+pub prefix_long : (plan : PlanValue) (past : List Entry) → length (prefix_of book_title (bodies_of plan past)) + 1 ≡ book_size plan past
 prefix_long plan past = omega (arith, records plan past, length-append (OPEN ∷ title_of book_title) (flat_map record_of (bodies_of plan past)))
   where
     records : (plan : PlanValue) (past : List Entry) → length (flat_map record_of (bodies_of plan past)) + 18 ≡ book_size plan past
@@ -50,8 +50,8 @@ pub read_all : {K : Type 0} (state : K → DeskState) (j : Held K) (back : ReadB
 read_all state j back titled read =
     let past = past_shown back.history.entries.items in
     let are : read.bodies ≡ bodies_of back.machine.plan past = read.is_replayed.bodies_are in
-    let same : length (prefix_of (title_of j.title) read.bodies) ≡ length (prefix_of (title_of book_title) (bodies_of back.machine.plan past)) =
-    ap (λ (t : Title). length (prefix_of (title_of t) read.bodies)) titled ∙ ap (λ (b : List (List ℕ)). length (prefix_of (title_of book_title) b)) are in
+    let same : length (prefix_of j.title read.bodies) ≡ length (prefix_of book_title (bodies_of back.machine.plan past)) =
+    ap (λ (t : Title). length (prefix_of t read.bodies)) titled ∙ ap (λ (b : List (List ℕ)). length (prefix_of book_title b)) are in
     record {
       run = read.is_replayed.run;
       room = read.is_replayed.room;
@@ -69,11 +69,11 @@ if_err_on (Err e) is on = on e is
 pub found_none : {K : Type 0} (state : K → DeskState) (j : Held K) (held : List (List ℕ)) → j.title ≡ book_title → j.size ≡ 18 → HasBodies state j held → held ≡ []
 found_none state j held titled empty lies = by held (omega (arith, records_long held, length-append (OPEN ∷ title_of book_title) (flat_map record_of held), size, same, empty))
   where
-    size : j.size ≡ length (prefix_of (title_of j.title) held) + 1
+    size : j.size ≡ length (prefix_of j.title held) + 1
     size = lies.place
 
-    same : length (prefix_of (title_of j.title) held) ≡ length (prefix_of (title_of book_title) held)
-    same = ap (λ (t : Title). length (prefix_of (title_of t) held)) titled
+    same : length (prefix_of j.title held) ≡ length (prefix_of book_title held)
+    same = ap (λ (t : Title). length (prefix_of t held)) titled
 
     by : (l : List (List ℕ)) → length l ≡ 0 → l ≡ []
     by [] none = refl

@@ -118,7 +118,7 @@ begins_length bytes body at begins =
     spelled (get_or bytes at 0) (get_or bytes (at + 1) 0) (get_or bytes (at + 2) 0) (get_or bytes (at + 3) 0) (length body) first second third fourth begins.is_body.1
   where
     spelled : (w x y z n : ℕ) → w ≡ n / 256 / 256 / 256 → x ≡ n / 256 / 256 % 256 → y ≡ n / 256 % 256 → z ≡ n % 256 → n ≤ 1048576 → 256 * (256 * (256 * w + x) + y) + z ≡ n
-    spelled w x y z n e f g h short = omega (arith, e, f, g, h, length_read n short)
+    spelled w x y z n e f g h short = omega (arith, e, f, g, h, length_read n (omega (arith, short)))
 
 -- there are so many bytes
 pub begins_within : (bytes body : List ℕ) (at : ℕ) → BeginsWithBody (drop at bytes) body → at + 4 + length body ≤ length bytes

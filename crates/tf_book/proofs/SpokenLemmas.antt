@@ -5,7 +5,8 @@ use Rattle.tf_desk.specs.Crash.{shown_with, ShowsPrefix}
 use Rattle.tf_flow.specs.Plan.{PlanValue}
 use Rattle.tf_states.specs.declared.record.Entry.{Entry}
 use Rattle.tf_entries.specs.Entries.{entry_bytes}
-use Rattle.tf_journal.specs.Format.{bodies, recovered, title_of}
+use Rattle.tf_journal.specs.Format.{bodies, recovered}
+use Rattle.tf_journal.specs.declared.title.Title.{Title}
 use Rattle.tf_journal.specs.declared.title.Title.TheVariants.{Book as book_title}
 use Rattle.tf_model.specs.Plan.{Outline, outline_of}
 use Rattle.tf_report.specs.Lines.{line}
@@ -74,8 +75,8 @@ left_before plan q before entries pending s0 e none image text left = record {
 }
 
 -- what the append and the line leave
-pub left_now : (plan : PlanValue) (q : Bool) (before entries : List Entry) (s0 old : Option (List ℕ)) (e : Entry) (title bytes : List ℕ) (held : List (List ℕ))
-    → title ≡ title_of book_title → held ≡ bodies_of plan (entries ++ before) → bytes ≡ said_of q (line (outline_of plan) (length (entries ++ before) + 1) e)
+pub left_now : (plan : PlanValue) (q : Bool) (before entries : List Entry) (s0 old : Option (List ℕ)) (e : Entry) (title : Title) (bytes : List ℕ) (held : List (List ℕ))
+    → title ≡ book_title → held ≡ bodies_of plan (entries ++ before) → bytes ≡ said_of q (line (outline_of plan) (length (entries ++ before) + 1) e)
     → old ≡ shown_with s0 (said q (outline_of plan) before entries) → (image text : List ℕ)
     → LeavesLogged title held (entry_bytes e) bytes old image text → LeavesEntries plan q before (e ∷ entries) s0 image text
 left_now plan q before entries s0 old e title bytes held titled lies same was image text left = ⊎_elim without with_it left
@@ -85,7 +86,7 @@ left_now plan q before entries s0 old e title bytes held titled lies same was im
       lost = e ∷ [];
       kept = entries;
       splits = refl;
-      recovers = ap (λ (t : List ℕ). recovered t image) (sym titled) ∙ is.0 ∙ ap bodies lies;
+      recovers = ap (λ (t : Title). recovered t image) (sym titled) ∙ is.0 ∙ ap bodies lies;
       spoken = prefix_whole s0 (said q (outline_of plan) before entries) text (sym is.1 ∙ was);
     }
 
@@ -94,7 +95,7 @@ left_now plan q before entries s0 old e title bytes held titled lies same was im
       lost = [];
       kept = e ∷ entries;
       splits = refl;
-      recovers = ap (λ (t : List ℕ). recovered t image) (sym titled) ∙ is.0 ∙ ap (λ (h : List (List ℕ)). bodies (h ++ entry_bytes e ∷ [])) lies;
+      recovers = ap (λ (t : Title). recovered t image) (sym titled) ∙ is.0 ∙ ap (λ (h : List (List ℕ)). bodies (h ++ entry_bytes e ∷ [])) lies;
       spoken = subst (λ (b : List ℕ). ShowsPrefix s0 (said q (outline_of plan) before entries ++ b) (Some text)) same
           (prefix_further s0 old (said q (outline_of plan) before entries) bytes text was is.1);
     }

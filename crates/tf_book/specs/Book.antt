@@ -6,7 +6,7 @@ use Rattle.tf_entries.specs.Entries.{HasItsPayload, entry_bytes, IsEntry}
 use Rattle.tf_flow.specs.Plan.{PlanValue}
 use Rattle.tf_states.specs.declared.state.FlowState.{FlowState}
 use Rattle.tf_entries.specs.Plans.{plan_bytes, IsPlan, KeepsLimits}
-use Rattle.tf_journal.specs.Format.{Held, Recovered, title_of}
+use Rattle.tf_journal.specs.Format.{Held, Recovered}
 use Rattle.tf_model.specs.History.{flow_of, snapshot, Snapshot}
 use Rattle.tf_model.specs.Plan.{Outline, outline_of, compile_refusal}
 use Rattle.tf_book.specs.declared.faults.Halt.{Halt}
@@ -107,8 +107,8 @@ pub data CannotFollow (before : List (List ℕ)) (body : List ℕ) : Type 0 wher
 
 -- the file is no book: it is no journal of that title, or one of its bodies can't come
 abbrev pub IsNoBook : Recovered → ℕ → Option ℕ → Type 0
-IsNoBook file offset byte = IsMalformed (title_of book_title) CannotFollow file offset byte
+IsNoBook file offset byte = IsMalformed book_title CannotFollow file offset byte
 
 -- a file was refused for what it is; a fault of the disk and want of memory say nothing of it
 abbrev pub RefusesBook : LoadFault → Recovered → Type 0
-RefusesBook fault file = RefusesMalformed (title_of book_title) CannotFollow fault file
+RefusesBook fault file = RefusesMalformed book_title CannotFollow fault file

@@ -4,7 +4,7 @@ use Rattle.tf_desk.specs.Crash.{Pairs, shown_with, ShowsPrefix}
 use Rattle.tf_desk.specs.State.{DeskState, Passes, Continues}
 use Rattle.tf_flow.specs.Plan.{PlanValue}
 use Rattle.tf_states.specs.declared.record.Entry.{Entry}
-use Rattle.tf_journal.specs.Format.{bodies, recovered, title_of, LeavesBodies}
+use Rattle.tf_journal.specs.Format.{bodies, recovered, LeavesBodies}
 use Rattle.tf_journal.specs.declared.title.Title.TheVariants.{Book as book_title}
 use Rattle.tf_model.specs.Plan.{outline_of}
 use Rattle.tf_book.specs.Book.{BookValue, bodies_of}
@@ -23,7 +23,7 @@ IsClosing before closing (Some (halt.Full size need)) now = ⊥
 -- a crash while the closing was said: recovery gives the whole history, and a prefix of the closing was shown
 abbrev pub LeavesClosing : PlanValue → List Entry → Option (List ℕ) → List ℕ → Pairs
 LeavesClosing plan past shown closing image text =
-    (recovered (title_of book_title) image ≡ bodies (bodies_of plan past)) × ShowsPrefix shown closing (Some text)
+    (recovered book_title image ≡ bodies (bodies_of plan past)) × ShowsPrefix shown closing (Some text)
 
 -- a crash since the start left some of the entries with a prefix of their lines; or the whole history with all lines and a prefix of
 -- the closing
@@ -48,8 +48,8 @@ module _ {K : Type 0} (state : K → DeskState) where
         → Passes (LeavesClosed start.plan start.quiet start.past entries (state start.journal.desk).shown closing) (state start.journal.desk)
         (state now.journal.desk)
     pub left_now : IsTrue (state start.journal.desk).tells → start.journal.volatile ≡ false
-        → LeavesBodies (title_of book_title) (state start.journal.desk) (bodies_of start.plan start.past)
-        → LeavesBodies (title_of book_title) (state now.journal.desk) (bodies_of start.plan (entries ++ start.past))
+        → LeavesBodies book_title (state start.journal.desk) (bodies_of start.plan start.past)
+        → LeavesBodies book_title (state now.journal.desk) (bodies_of start.plan (entries ++ start.past))
     pub exact : IsTrue (state start.journal.desk).tells → start.journal.volatile ≡ false
         → IsExact (state start.journal.desk) start.plan start.past → IsExact (state now.journal.desk) now.plan now.past
     pub cause : HasCause start.plan now.past (state start.journal.desk) (state now.journal.desk) now.failed now.halt

@@ -3,13 +3,14 @@ use Rattle.std.specs.Prelude.{IsTrue, ◌≡◌, ◌⊎◌, ◌<◌, ◌≤◌, 
 use Rattle.tf_numbers.specs.Numbers.{Rises}
 use Rattle.tf_desk.specs.Crash.{Pairs, shown_with, ShowsPrefix}
 use Rattle.tf_desk.specs.State.{DeskState, bytes_now, Passes, Continues, IsUnasked}
-use Rattle.tf_journal.specs.Format.{SIZE_LIMIT, bodies, journal_bytes, recovered, title_of, Held, IsAtRest, AtRest, LeavesEither, LeavesBodies, length_bytes, IsBody}
+use Rattle.tf_journal.specs.Format.{SIZE_LIMIT, bodies, journal_bytes, recovered, Held, IsAtRest, AtRest, LeavesEither, LeavesBodies, length_bytes, IsBody}
 use Rattle.tf_book.specs.declared.faults.Halt.{Halt}
 use Rattle.tf_book.specs.declared.faults.Halt.TheVariants as halt
 use Rattle.tf_flow.specs.Plan.{PlanValue}
 use Rattle.tf_states.specs.declared.record.Entry.{Entry}
 use Rattle.tf_states.specs.declared.state.FlowState.TheVariants as flow
 use Rattle.tf_entries.specs.Entries.{entry_bytes}
+use Rattle.tf_journal.specs.declared.title.Title.{Title}
 use Rattle.tf_journal.specs.declared.title.Title.TheVariants.{Book as book_title}
 use Rattle.tf_model.specs.History.{snapshot}
 use Rattle.tf_model.specs.Plan.{Outline, outline_of}
@@ -60,7 +61,7 @@ abbrev pub FailsToSay : Halt → DeskState → DeskState → Type 0
 FailsToSay why old new = (why ≡ halt.Out) × Rises old.out_faults new.out_faults
 
 -- a crash inside leaves the bodies from before and nothing more shown, or the new one too and a prefix of its line shown
-abbrev pub LeavesLogged : List ℕ → List (List ℕ) → List ℕ → List ℕ → Option (List ℕ) → Pairs
+abbrev pub LeavesLogged : Title → List (List ℕ) → List ℕ → List ℕ → Option (List ℕ) → Pairs
 LeavesLogged title held new line shown image text =
     ((recovered title image ≡ bodies held) × (shown ≡ Some text))
     ⊎ ((recovered title image ≡ bodies (held ++ new ∷ [])) × ShowsPrefix shown line (Some text))
@@ -68,13 +69,13 @@ LeavesLogged title held new line shown image text =
 -- the file has the body, and is at rest; a file of just the bodies before has just it more
 pub record Logs {K : Type 0} (state : K → DeskState) (body : List ℕ) (old new : Held K) (held : List (List ℕ)) : Type 0 where
   pub rest : IsAtRest state new (held ++ body ∷ [])
-  pub exact : bytes_now (state old.desk) ≡ journal_bytes (title_of old.title) held
-      → bytes_now (state new.desk) ≡ journal_bytes (title_of old.title) (held ++ body ∷ [])
+  pub exact : bytes_now (state old.desk) ≡ journal_bytes old.title held
+      → bytes_now (state new.desk) ≡ journal_bytes old.title (held ++ body ∷ [])
 
 -- a crash inside or after it leaves the bodies from before, with the new one or without, and shows the line only with the new one
 pub record LogsAtMost {K : Type 0} (state : K → DeskState) (body line : List ℕ) (old new : Held K) (held : List (List ℕ)) : Type 0 where
-  pub crash : Passes (LeavesLogged (title_of old.title) held body line (state old.desk).shown) (state old.desk) (state new.desk)
-  pub leaves : LeavesEither (title_of old.title) (state new.desk) held (held ++ body ∷ [])
+  pub crash : Passes (LeavesLogged old.title held body line (state old.desk).shown) (state old.desk) (state new.desk)
+  pub leaves : LeavesEither old.title (state new.desk) held (held ++ body ∷ [])
 
 -- no file changed, none was picked or synced, and the disk had no fault
 pub record StaysOffDisk (old new : DeskState) : Type 0 where
@@ -117,7 +118,7 @@ pub record LeavesEntries (plan : PlanValue) (quiet : Bool) (before entries : Lis
   pub lost : List Entry
   pub kept : List Entry
   pub splits : entries ≡ lost ++ kept
-  pub recovers : recovered (title_of book_title) image ≡ bodies (bodies_of plan (kept ++ before))
+  pub recovers : recovered book_title image ≡ bodies (bodies_of plan (kept ++ before))
   pub spoken : ShowsPrefix shown (said quiet (outline_of plan) before kept) (Some text)
 
 -- nothing, or one entry of this kind that may follow the history and has a form that a book can read again
@@ -140,12 +141,12 @@ pub record OutlastsCrash (plan : PlanValue) (quiet : Bool) (before entries : Lis
   pub pending : List Entry
   pub few : IsPending plan (entries ++ before) halted failed pending
   pub passes : Passes (LeavesEntries plan quiet before (pending ++ entries) old.shown) old now
-  pub left : LeavesBodies (title_of book_title) old (bodies_of plan before)
-      → LeavesEither (title_of book_title) now (bodies_of plan (entries ++ before)) (bodies_of plan ((pending ++ entries) ++ before))
+  pub left : LeavesBodies book_title old (bodies_of plan before)
+      → LeavesEither book_title now (bodies_of plan (entries ++ before)) (bodies_of plan ((pending ++ entries) ++ before))
 
 -- the picked file has just the journal of a plan and a history
 abbrev pub IsExact : DeskState → PlanValue → List Entry → Type 0
-IsExact now plan past = bytes_now now ≡ journal_bytes (title_of book_title) (bodies_of plan past)
+IsExact now plan past = bytes_now now ≡ journal_bytes book_title (bodies_of plan past)
 
 -- the record of an entry of this kind that may follow, with a form that a book can read again, would have made the journal longer than its limit
 pub record IsFullFor (is_so : Entry → Type 0) (plan : PlanValue) (past : List Entry) (size need : ℕ) : Type 0 where
@@ -248,7 +249,7 @@ history_text plan past = said false plan [] past ++ table plan (snapshot plan pa
 pub record BeginsWithBody (bytes body : List ℕ) : Type 0 where
   pub rest : List ℕ
   pub is : bytes ≡ length_bytes (length body) ++ (body ++ rest)
-  pub is_body : IsBody body
+  pub is_body : IsBody book_title body
 
 -- the lines of the oldest entries were made, and the bodies of the others are still to come
 pub record HasLines (plan : PlanValue) (past : List Entry) (before made : List ℕ) (at number : ℕ) : Type 0 where

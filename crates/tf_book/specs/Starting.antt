@@ -3,7 +3,7 @@ use Rattle.std.specs.Prelude.{◌≡◌, List, [], ℕ, Option, Result, Ok, Err,
 use Rattle.tf_numbers.specs.Numbers.{Rises}
 use Rattle.tf_desk.specs.Crash.{Pairs}
 use Rattle.tf_desk.specs.State.{DeskState}
-use Rattle.tf_journal.specs.Format.{title_of, Held, IsAtRest, IsOpen, LeavesBeforeOrAfter}
+use Rattle.tf_journal.specs.Format.{Held, IsAtRest, IsOpen, LeavesBeforeOrAfter}
 use Rattle.tf_journal.specs.declared.title.Title.TheVariants.{Book as book_title}
 use Rattle.tf_flow.specs.Plan.{PlanValue}
 use Rattle.tf_entries.specs.Plans.{IsPlan, plan_bytes}
@@ -29,7 +29,7 @@ pub record HasNoRecord {K : Type 0} (state : K → DeskState) (journal : Held K)
 
 -- a crash inside a start leaves no record, or the plan alone; the shown text stays
 abbrev pub LeavesPlan : PlanValue → Option (List ℕ) → Pairs
-LeavesPlan plan shown image text = LeavesBeforeOrAfter (title_of book_title) [] (plan_bytes plan) shown image text
+LeavesPlan plan shown image text = LeavesBeforeOrAfter book_title [] (plan_bytes plan) shown image text
 
 -- why a plan's body wasn't appended: the disk failed, so that its count rose, and the plan has a form; or want of memory, and nothing
 -- was done

@@ -1,5 +1,6 @@
 ghost use Rattle.std.specs.Prelude.{◌≡◌, ◌≤◌, ◌<◌, ◌+◌, ◌++◌, ◌∷◌, [], List, ℕ, length, vec_len, vec_capacity, OnOk, IfOk};
 ghost use Rattle.tf_journal.specs.Format.{length_bytes, IsBody};
+ghost use Rattle.tf_journal.specs.declared.title.Title.TheVariants.{Book as book_title};
 ghost use Rattle.tf_book.specs.SessionInvariant.{past_shown, HasEntryRoom, HasAllRoom};
 
 use std::alloc::{AllocError, Global};
@@ -44,7 +45,7 @@ impl History {
 
     /// Keeps an entry and its body, for which there is room.
     pub fn keep(&mut self, entry: &Entry, body: &[u8])
-        requires body { IsBody body.now }
+        requires body { IsBody book_title body.now }
         requires room { HasEntryRoom self.old (length body.now) }
         ensures entries { past_shown self.new.entries.items ≡ entry.now ∷ past_shown self.old.entries.items }
         ensures bodies { self.new.bodies.items ≡ self.old.bodies.items ++ (length_bytes (length body.now) ++ body.now) }

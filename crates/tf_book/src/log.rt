@@ -1,6 +1,7 @@
 ghost use Rattle.std.specs.Prelude.{◌≡◌, false, IfErr};
 ghost use Rattle.tf_desk.specs.State.{Says, Asks};
 ghost use Rattle.tf_journal.specs.Format.{IsBody, IsReady};
+ghost use Rattle.tf_journal.specs.declared.title.Title.TheVariants.{Book as book_title};
 ghost use Rattle.tf_book.specs.Turns.{IsAnswered};
 ghost use Rattle.tf_book.specs.SessionInvariant.{said_of, IsSaid, FailsToSay, Logged};
 
@@ -45,7 +46,7 @@ pub fn log<K: Desk>(
 ) -> Result<(), Halt>
     requires ready { IsReady K.state journal.old }
     requires sound { journal.old.halted ≡ false }
-    requires body { IsBody body.now }
+    requires body { IsBody book_title body.now }
     ensures logged { Logged K.state body.now (said_of quiet line.now) journal.old journal.new result }
 {
     match journal.append(body) {

@@ -1,5 +1,6 @@
 ghost use Rattle.std.specs.Prelude.{◌≡◌, ◌<◌, ◌+◌, ◌++◌, ◌∷◌, List, true, false, length, IfOk};
 ghost use Rattle.tf_journal.specs.Format.{length_bytes, IsBody, IsReady};
+ghost use Rattle.tf_journal.specs.declared.title.Title.TheVariants.{Book as book_title};
 ghost use Rattle.tf_states.specs.declared.record.Entry.{Entry as Record};
 ghost use Rattle.tf_bound.specs.Short.{IsShortEvent};
 ghost use Rattle.tf_entries.specs.Entries.{entry_bytes, has_its_payload, HasItsPayload};
@@ -55,7 +56,7 @@ fn prepare(plan: &Plan, number: u64, entry: &Entry, draft: &mut Draft)
     requires room { HasDraftRoom draft.old }
     ensures body { draft.new.body.items ≡ entry_bytes entry.now }
     ensures line { draft.new.line.items ≡ line_of (outline_of plan.now) number entry.now }
-    ensures is_body { IsBody draft.new.body.items }
+    ensures is_body { IsBody book_title draft.new.body.items }
     ensures form { HasItsPayload entry.now.what }
     ensures room { HasDraftRoom draft.new }
 {
@@ -73,7 +74,7 @@ fn prepare(plan: &Plan, number: u64, entry: &Entry, draft: &mut Draft)
 fn keep(machine: &mut Machine, history: &mut History, entry: Entry, body: &[u8])
     requires allowed { Step (outline machine.old) (shown machine.old) entry }
     requires body { body.now ≡ entry_bytes entry }
-    requires is_body { IsBody body.now }
+    requires is_body { IsBody book_title body.now }
     requires room { HasEntryRoom history.old (length body.now) }
     ensures plan { machine.new.plan ≡ machine.old.plan }
     ensures stands { (past : List Record) → StandsFor machine.old past → StandsFor machine.new (entry ∷ past) }

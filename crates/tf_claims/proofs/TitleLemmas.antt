@@ -2,7 +2,8 @@
 use Rattle.std.proofs.Common.{◌≡◌, ℕ, ◌+◌, List, [], ◌∷◌, ◌++◌, Bool, true, false, Option, Some, None, refl, sym, ◌∙◌, ap, eqb-true, ⊎_elim, arith}
 use Rattle.std.proofs.lemmas.Bool.Decides.{Decides-eqb, not_from_Decides, eqb_tells}
 use Rattle.std.specs.Prelude.{◌==◌, ◌&&◌, ◌||◌, nat_eq, length}
-use Rattle.tf_journal.specs.Format.{OPEN, Recovered, unborn, bodies, not_a_book, title_of, title_fault, titled, is_unborn, recovered, records_from}
+use Rattle.tf_journal.specs.Format.{OPEN, Recovered, unborn, bodies, not_a_book, title_of, title_fault, titled, is_old, is_unborn, recovered, records_from}
+use Rattle.tf_journal.specs.declared.title.Title.{Title}
 use Rattle.tf_journal.specs.declared.title.Title.TheVariants.{Book as book_title, Jobs as jobs_title}
 
 -- a letter that agrees, and one that doesn't
@@ -55,52 +56,53 @@ neither false true false is = refl
 neither false true true is = refl
 neither true b c is = absurd (cc)
 
--- what a file is that has an open gate first, and isn't unborn
-titled_so : (title : List ℕ) (gate : ℕ) (rest : List ℕ) → is_unborn title (gate ∷ rest) ≡ false → (gate == OPEN) ≡ true
-    → recovered title (gate ∷ rest) ≡ titled (title_fault title rest 1) (records_from (length (gate ∷ rest)) (gate ∷ rest) 17)
-titled_so title gate rest born opened = rw (born, opened) refl
+-- what a file is that has an open gate first, and is neither unborn nor of another format
+titled_so : (title : Title) (gate : ℕ) (rest : List ℕ) → is_unborn title (gate ∷ rest) ≡ false → is_old title rest ≡ false → (gate == OPEN) ≡ true
+    → recovered title (gate ∷ rest) ≡ titled (title_fault (title_of title) rest 1) (records_from title (length (gate ∷ rest)) (gate ∷ rest) 17)
+titled_so title gate rest born young opened = rw (born, young, opened) refl
 
 -- a file that is a journal of one title is none of a title that disagrees with it
-no_other : (one other : List ℕ) → ((rest : List ℕ) → title_fault one rest 1 ≡ None → (fault : ℕ × Option ℕ) × (title_fault other rest 1 ≡ Some fault))
-    → (title_fault one [] 1 ≡ None → ⊥) → (bytes : List ℕ) (held : List (List ℕ)) → recovered one bytes ≡ bodies held
+no_other : (one other : Title) → ((rest : List ℕ) → (is_old one rest ≡ false) × (is_old other rest ≡ false))
+    → ((rest : List ℕ) → title_fault (title_of one) rest 1 ≡ None → (fault : ℕ × Option ℕ) × (title_fault (title_of other) rest 1 ≡ Some fault))
+    → (title_fault (title_of one) [] 1 ≡ None → ⊥) → (bytes : List ℕ) (held : List (List ℕ)) → recovered one bytes ≡ bodies held
     → (offset : ℕ) × (byte : Option ℕ) × (recovered other bytes ≡ not_a_book offset byte)
-no_other one other apart long [] held is = absurd (cc)
-no_other one other apart long (gate ∷ rest) held is = by (is_unborn one (gate ∷ rest)) (gate == OPEN) refl refl
+no_other one other young apart long [] held is = absurd (cc)
+no_other one other young apart long (gate ∷ rest) held is = by (is_unborn one (gate ∷ rest)) (gate == OPEN) refl refl
   where
     all : List ℕ
     all = gate ∷ rest
 
-    here : Recovered
-    here = records_from (length all) all 17
+    found : (records : Recovered) (fault : Option (ℕ × Option ℕ)) → title_fault (title_of one) rest 1 ≡ fault → titled fault records ≡ bodies held → fault ≡ None
+    found records None told is_so = refl
+    found records (Some fault) told is_so = absurd (cc)
 
-    found : (fault : Option (ℕ × Option ℕ)) → title_fault one rest 1 ≡ fault → titled fault here ≡ bodies held → fault ≡ None
-    found None told is_so = refl
-    found (Some fault) told is_so = absurd (cc)
-
-    never_unborn : (gate == OPEN) ≡ true → title_fault one rest 1 ≡ None → is_unborn other all ≡ false
+    never_unborn : (gate == OPEN) ≡ true → title_fault (title_of one) rest 1 ≡ None → is_unborn other all ≡ false
     never_unborn opened none = some rest none
       where
         gate_is : gate ≡ OPEN
         gate_is = eqb-true gate OPEN opened
 
-        some : (r : List ℕ) → title_fault one r 1 ≡ None → is_unborn other (gate ∷ r) ≡ false
+        some : (r : List ℕ) → title_fault (title_of one) r 1 ≡ None → is_unborn other (gate ∷ r) ≡ false
         some [] told = absurd (long told)
         some (byte ∷ r) told = rw gate_is (neither (nat_eq (length (byte ∷ r)) 0) _ _ (never_none byte r))
 
     by : (u o : Bool) → is_unborn one all ≡ u → (gate == OPEN) ≡ o → (offset : ℕ) × (byte : Option ℕ) × (recovered other all ≡ not_a_book offset byte)
     by true o unborn_is opened = let none : recovered one all ≡ unborn = rw unborn_is refl in absurd (cc)
     by false false unborn_is opened =
-        let none : recovered one all ≡ not_a_book 0 (Some gate) = rw (unborn_is, opened) refl in absurd (cc)
+        let none : recovered one all ≡ not_a_book 0 (Some gate) = rw (unborn_is, (young rest).0, opened) refl in absurd (cc)
     by false true unborn_is opened =
-        let told = found (title_fault one rest 1) refl (sym (titled_so one gate rest unborn_is opened) ∙ is) in
-        let other_is = apart rest told in
-        (other_is.0.0, other_is.0.1, titled_so other gate rest (never_unborn opened told) opened ∙ ap (λ (f : Option (ℕ × Option ℕ)). titled f here) other_is.1)
+        let told = found (records_from one (length all) all 17) (title_fault (title_of one) rest 1) refl (sym (titled_so one gate rest unborn_is (young rest).0 opened) ∙ is) in
+        let other_is = apart rest told in (
+          other_is.0.0,
+          other_is.0.1,
+          titled_so other gate rest (never_unborn opened told) (young rest).1 opened ∙ ap (λ (f : Option (ℕ × Option ℕ)). titled f (records_from other (length all) all 17)) other_is.1,
+        )
 
 -- a file that is a book's journal is no board's, and the other way round
-pub no_board_too : (bytes : List ℕ) (held : List (List ℕ)) → recovered (title_of book_title) bytes ≡ bodies held
-    → (offset : ℕ) × (byte : Option ℕ) × (recovered (title_of jobs_title) bytes ≡ not_a_book offset byte)
-no_board_too bytes held is = no_other (title_of book_title) (title_of jobs_title) jobs_apart (λ none. absurd (cc)) bytes held is
+pub no_board_too : (bytes : List ℕ) (held : List (List ℕ)) → recovered book_title bytes ≡ bodies held
+    → (offset : ℕ) × (byte : Option ℕ) × (recovered jobs_title bytes ≡ not_a_book offset byte)
+no_board_too bytes held is = no_other book_title jobs_title (λ rest. (refl, refl)) jobs_apart (λ none. absurd (cc)) bytes held is
 
-pub no_book_too : (bytes : List ℕ) (held : List (List ℕ)) → recovered (title_of jobs_title) bytes ≡ bodies held
-    → (offset : ℕ) × (byte : Option ℕ) × (recovered (title_of book_title) bytes ≡ not_a_book offset byte)
-no_book_too bytes held is = no_other (title_of jobs_title) (title_of book_title) book_apart (λ none. absurd (cc)) bytes held is
+pub no_book_too : (bytes : List ℕ) (held : List (List ℕ)) → recovered jobs_title bytes ≡ bodies held
+    → (offset : ℕ) × (byte : Option ℕ) × (recovered book_title bytes ≡ not_a_book offset byte)
+no_book_too bytes held is = no_other jobs_title book_title (λ rest. (refl, refl)) book_apart (λ none. absurd (cc)) bytes held is

@@ -9,7 +9,7 @@ use Rattle.tf_flow.specs.Plan.{PlanValue}
 use Rattle.tf_states.specs.declared.record.Entry.{Entry}
 use Rattle.tf_journal.proofs.AppendLemmas.{rest_leaves}
 use Rattle.tf_journal.proofs.PathLemmas.{set_start, path_widens, left_then}
-use Rattle.tf_journal.specs.Format.{Recovered, unborn, bodies, recovered, journal_bytes, title_of, Held, IsAtRest, LeavesBirth, LeavesBodies}
+use Rattle.tf_journal.specs.Format.{Recovered, unborn, bodies, recovered, journal_bytes, Held, IsAtRest, LeavesBirth, LeavesBodies}
 use Rattle.tf_journal.specs.Start.{Open, file_of}
 use Rattle.tf_journal.specs.declared.title.Title.{Title}
 use Rattle.tf_journal.specs.declared.title.Title.TheVariants.{Book as book_title}
@@ -32,7 +32,7 @@ use Rattle.tf_commands.proofs.PathLemmas.{ReadsPicked, reads_as, set_continues, 
 no_flow_finds : {first : Recovered} (plan : PlanValue) (found : Recovered) → HoldsNoFlow first → HoldsNoFlow found → FindsHistory first plan [] found
 no_flow_finds plan found at_first none = inr (refl, at_first, none)
 
-birth_finds : {first : Recovered} (plan : PlanValue) (shown : Option (List ℕ)) (image text : List ℕ) → HoldsNoFlow first → LeavesBirth (title_of book_title) shown image text
+birth_finds : {first : Recovered} (plan : PlanValue) (shown : Option (List ℕ)) (image text : List ℕ) → HoldsNoFlow first → LeavesBirth book_title shown image text
     → MayBegin first plan shown image text
 birth_finds plan shown image text at_first l = (no_flow_finds plan (book_in image) at_first l.0, l.1)
 
@@ -128,14 +128,14 @@ left_by call passes laws told image leaves =
     left_then (passes told_mid) (laws.shows told) (laws.reaches told) (laws.only told_mid) image leaves
 
 -- a crash after a creation leaves no flow, where one before it left none
-pub no_flow_left : {mid now : DeskState} {wide : Pairs} → GoesOn wide mid now → (IsTrue mid.tells → Passes (LeavesBirth (title_of book_title) mid.shown) mid now) → FollowsLaws mid now
+pub no_flow_left : {mid now : DeskState} {wide : Pairs} → GoesOn wide mid now → (IsTrue mid.tells → Passes (LeavesBirth book_title mid.shown) mid now) → FollowsLaws mid now
     → LeavesNoFlow mid → LeavesNoFlow now
 no_flow_left call passes laws none told image is =
     ⊎_elim (λ before. none (subst IsTrue call.on_disk.tells told) image before) (λ inside. inside.1.0) (left_by call passes laws told image is)
 
 -- a creation, after which a crash leaves no flow
 pub created_unbegun : {name : List ℕ} {entry mid now : DeskState} {wide : Pairs} (plan : PlanValue) → Unbegun name entry plan mid
-    → GoesOn wide mid now → (IsTrue mid.tells → Passes (LeavesBirth (title_of book_title) mid.shown) mid now) → ReadsPicked name now
+    → GoesOn wide mid now → (IsTrue mid.tells → Passes (LeavesBirth book_title mid.shown) mid now) → ReadsPicked name now
     → LeavesNoFlow now → Unbegun name entry plan now
 created_unbegun {name} {entry} {mid} {now} plan u call passes laws none =
     unbegun_on plan u call passes
@@ -181,8 +181,8 @@ module _ {K : Type 0} (state : K → DeskState) where
   pub begins_on : {name : List ℕ} {entry mid : DeskState} {wide : Pairs} (plan : PlanValue) (book : BookValue K) → Unbegun name entry plan mid
       → book.plan ≡ plan → book.past ≡ [] → book.halt ≡ None → book.journal.volatile ≡ false
       → GoesOn wide mid (book_desk state book) → (IsTrue mid.tells → Passes (LeavesPlan plan mid.shown) mid (book_desk state book))
-      → (IsTrue (book_desk state book).tells → LeavesBodies (title_of book_title) (book_desk state book) (bodies_of book.plan book.past))
-      → (IsTrue mid.tells → HoldsNoFlow (book_at entry name) → length (file_of entry name) ≤ 18 → bytes_now (book_desk state book) ≡ journal_bytes (title_of book_title) (bodies_of plan []))
+      → (IsTrue (book_desk state book).tells → LeavesBodies book_title (book_desk state book) (bodies_of book.plan book.past))
+      → (IsTrue mid.tells → HoldsNoFlow (book_at entry name) → length (file_of entry name) ≤ 18 → bytes_now (book_desk state book) ≡ journal_bytes book_title (bodies_of plan []))
       → IsHistoryOf book.plan book.past
       → Begins state name entry plan book
   begins_on {name} {entry} {mid} plan book u plan_is past_is sound kept call passes rest exact history = record {
@@ -220,7 +220,7 @@ module _ {K : Type 0} (state : K → DeskState) where
   -- a journal without a record leaves no flow
   pub no_record_left : (journal : Held K) → IsRecordless state journal → LeavesNoFlow (state journal.desk)
   no_record_left journal made told image is =
-      inr (ap (λ (t : Title). recovered (title_of t) image) (sym made.new.title)
+      inr (ap (λ (t : Title). recovered t image) (sym made.new.title)
       ∙ rest_leaves state journal [] (made.new.ready (record { told = told; sound = made.new.sound; kept = made.kept })) image is)
 
   -- a journal without a record that was found

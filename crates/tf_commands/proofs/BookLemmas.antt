@@ -4,7 +4,7 @@ use Rattle.std.specs.Prelude.{IsTrue}
 use Rattle.tf_desk.specs.ActLaws.{bytes_of-picked}
 use Rattle.tf_desk.specs.State.{DeskState, bytes_now}
 use Rattle.tf_flow.specs.Plan.{PlanValue, PlanTree, plan_tree}
-use Rattle.tf_journal.specs.Format.{unborn, title_of}
+use Rattle.tf_journal.specs.Format.{unborn}
 use Rattle.tf_journal.specs.Start.{Untouched, Open, file_of}
 use Rattle.tf_journal.specs.declared.title.Title.TheVariants.{Book as book_title}
 use Rattle.tf_journal.proofs.UnbornLemmas.{unborn_found}
@@ -39,7 +39,7 @@ opened_bytes {name} {entry} {now} opened told =
 pub opened_unborn : {name : List ℕ} {entry now : DeskState} → Open name entry now → IsFile name entry (λ found. found ≡ unborn) → MayBeBorn now
 opened_unborn {name} {entry} {now} opened found told =
     let told_entry : IsTrue entry.tells = subst IsTrue opened.untouched.told told in
-    unborn_found (title_of book_title) (bytes_now now) (ap book_in (opened_bytes opened told) ∙ found told_entry)
+    unborn_found book_title (bytes_now now) (ap book_in (opened_bytes opened told) ∙ found told_entry)
 
 -- the flow that a book holds forbids a run, or memory ran out
 pub forbidden_over : {gives : Order → Outcome → Type 0} {request : Request} {asked : Type 0} {name : List ℕ} {crew crew_after : CrewTold} {entry now : DeskState} {tree : PlanTree} {status : ℕ}

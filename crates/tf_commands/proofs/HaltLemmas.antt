@@ -8,7 +8,7 @@ use Rattle.tf_desk.specs.State.{DeskState, Passes, Says, SaysPrefix, nothing_lef
 use Rattle.tf_flow.specs.Plan.{PlanValue}
 use Rattle.tf_states.specs.declared.record.Entry.{Entry}
 use Rattle.tf_model.specs.Plan.{outline_of}
-use Rattle.tf_journal.specs.Format.{Recovered, bodies, title_of, LeavesEither}
+use Rattle.tf_journal.specs.Format.{Recovered, bodies, LeavesEither}
 use Rattle.tf_journal.specs.declared.title.Title.TheVariants.{Book as book_title}
 use Rattle.tf_book.specs.Book.{BookValue, outline, bodies_of, IsHistoryOf}
 use Rattle.tf_book.specs.SessionInvariant.{SessionInvariant, said, IsSpoken, IsCut, HasCause, LeavesEntries, MayFollow, nothing_more, IsPending, IsExact, IsFullFor}
@@ -184,7 +184,7 @@ module _ {K : Type 0} (state : K → DeskState) where
 
       loud_leaves : (entries pending : List Entry) → IsHistoryOf start.plan (entries ++ start.past) → IsHistoryOf start.plan ((pending ++ entries) ++ start.past)
           → (book_desk state book).shown ≡ shown_with (book_desk state start).shown (said start.quiet (outline start) start.past entries)
-          → LeavesEither (title_of book_title) (book_desk state book) (bodies_of start.plan (entries ++ start.past)) (bodies_of start.plan ((pending ++ entries) ++ start.past))
+          → LeavesEither book_title (book_desk state book) (bodies_of start.plan (entries ++ start.past)) (bodies_of start.plan ((pending ++ entries) ++ start.past))
           → (image text : List ℕ) → SaysPrefix (book_desk state book) closing image text
           → MayLeave first start.plan start.quiet start.past entries pending (book_desk state start).shown closing image text
       loud_leaves entries pending so_far whole loud leaves image text inside =

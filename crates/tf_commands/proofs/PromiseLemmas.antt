@@ -8,7 +8,7 @@ use Rattle.tf_desk.proofs.StateLemmas.{extends_told}
 use Rattle.tf_desk.specs.Crash.{Pairs, ShowsPrefix}
 use Rattle.tf_desk.specs.State.{DeskState, Continues, Says}
 use Rattle.tf_flow.specs.Plan.{PlanValue}
-use Rattle.tf_journal.specs.Format.{Recovered, bodies, journal_bytes, title_of, LeavesBodies}
+use Rattle.tf_journal.specs.Format.{Recovered, bodies, journal_bytes, LeavesBodies}
 use Rattle.tf_journal.specs.Start.{Path, IsSet, Open, file_of, IsStart}
 use Rattle.tf_journal.specs.declared.title.Title.TheVariants.{Book as book_title}
 use Rattle.tf_actions.specs.declared.orders.Order.{Order}
@@ -144,7 +144,7 @@ module _ {K : Type 0} (state : K → DeskState) where
     lasts = λ told.
         let told_book : IsTrue (book_desk state book).tells = subst IsTrue (sym b.quiet.told) told in
         let start = set_start (b.quiet.set told) in
-        let at_rest : LeavesBodies (title_of book_title) (book_desk state book) (bodies_of book.plan book.past) =
+        let at_rest : LeavesBodies book_title (book_desk state book) (bodies_of book.plan book.past) =
         (λ image is. ((b.path told).still start.0 start.1 image is).is ∙ ap (λ (p : PlanValue). bodies (bodies_of p [])) (sym b.plan_is) ∙ ap (λ (past : List Entry). bodies (bodies_of book.plan past)) (sym b.past_is)) in
         let l = r.lasts told_book b.kept at_rest (book_at entry name) in
         subst (λ (q : Bool). Lasts (MayRun gives request plan) name plan q [] r.entries entry now r.closing) speaks
@@ -153,8 +153,8 @@ module _ {K : Type 0} (state : K → DeskState) where
         (run_lasts (MayRun gives request book.plan) name entry book now r.entries r.closing (b.path told) (b.quiet.set told) b.quiet.shown b.quiet.disk r.continues told_book l
         (λ image text may. found_leaves (book_at entry name) book.plan book.quiet book.past r.entries l.pending entry.shown r.closing image text
         (subst (λ (p : PlanValue). FindsHistory (book_at entry name) p book.past (book_in image)) (sym b.plan_is) (subst (λ (past : List Entry). FindsHistory (book_at entry name) plan past (book_in image)) (sym b.past_is) may.0)) may.1)
-        (λ none short. b.exact told none short ∙ ap (λ (p : PlanValue). journal_bytes (title_of book_title) (bodies_of p [])) (sym b.plan_is)
-        ∙ ap (λ (past : List Entry). journal_bytes (title_of book_title) (bodies_of book.plan past)) (sym b.past_is))
+        (λ none short. b.exact told none short ∙ ap (λ (p : PlanValue). journal_bytes book_title (bodies_of p [])) (sym b.plan_is)
+        ∙ ap (λ (past : List Entry). journal_bytes book_title (bodies_of book.plan past)) (sym b.past_is))
         laws)));
   }
 
@@ -168,7 +168,7 @@ module _ {K : Type 0} (state : K → DeskState) where
       let told_book : IsTrue (book_desk state book).tells = subst IsTrue (sym o.untouched.told) told in
       let start = set_start (o.set told) in
       let path = o.untouched.path told in
-      let at_rest : LeavesBodies (title_of book_title) (book_desk state book) (bodies_of book.plan book.past) =
+      let at_rest : LeavesBodies book_title (book_desk state book) (bodies_of book.plan book.past) =
       (λ image is. ap book_in (path.still start.0 start.1 image is) ∙ (holds told).is) in
       let l = lasts told_book kept at_rest (book_at entry name) in
       run_lasts may_be name entry book now entries closing path (o.set told) o.untouched.quiet o.untouched.disk call told_book l

@@ -4,7 +4,7 @@ use Rattle.tf_numbers.specs.Numbers.{Rises}
 use Rattle.tf_desk.specs.Crash.{Pairs}
 use Rattle.tf_desk.specs.State.{DeskState, bytes_now, MayLeave as MayLeaveNow}
 use Rattle.tf_flow.specs.Plan.{PlanValue}
-use Rattle.tf_journal.specs.Format.{Recovered, unborn, bodies, journal_bytes, title_of, is_unborn, Held}
+use Rattle.tf_journal.specs.Format.{Recovered, unborn, bodies, journal_bytes, is_unborn, Held}
 use Rattle.tf_journal.specs.Start.{Path, IsSet, file_of}
 use Rattle.tf_journal.specs.declared.title.Title.TheVariants.{Book as book_title}
 use Rattle.tf_book.specs.Book.{BookValue, bodies_of}
@@ -26,7 +26,7 @@ desk_in (blank.Unborn desk) = desk
 
 -- the picked file may be made a book
 abbrev pub MayBeBorn : DeskState → Type 0
-MayBeBorn desk = IsTrue desk.tells → is_unborn (title_of book_title) (bytes_now desk) ≡ true
+MayBeBorn desk = IsTrue desk.tells → is_unborn book_title (bytes_now desk) ≡ true
 
 -- a book's journal without a record, which is kept in its file: a book may start in it
 pub record IsRecordless {K : Type 0} (state : K → DeskState) (journal : Held K) : Type 0 where
@@ -88,7 +88,7 @@ pub record Begins {K : Type 0} (state : K → DeskState) (name : List ℕ) (entr
   pub path : IsTrue entry.tells → Path name entry (state book.journal.desk) (MayBegin (book_at entry name) plan entry.shown)
       (λ image. HoldsHistory plan [] (book_in image))
   pub exact : IsTrue entry.tells → HoldsNoFlow (book_at entry name) → length (file_of entry name) ≤ 18
-      → bytes_now (state book.journal.desk) ≡ journal_bytes (title_of book_title) (bodies_of plan [])
+      → bytes_now (state book.journal.desk) ≡ journal_bytes book_title (bodies_of plan [])
 
 -- it couldn't begin
 pub record Unbegun (name : List ℕ) (entry : DeskState) (plan : PlanValue) (now : DeskState) : Type 0 where

@@ -6,7 +6,7 @@ use Rattle.tf_desk.specs.State.{DeskState}
 use Rattle.tf_flow.specs.Plan.{PlanValue, PlanTree, plan_tree}
 use Rattle.tf_states.specs.declared.record.Entry.{Entry}
 use Rattle.tf_journal.specs.Start.{file_of, IsStart}
-use Rattle.tf_journal.specs.Format.{Recovered, unborn, bodies, recovered, journal_bytes, title_of}
+use Rattle.tf_journal.specs.Format.{Recovered, unborn, bodies, recovered, journal_bytes}
 use Rattle.tf_journal.specs.declared.title.Title.TheVariants.{Book as book_title}
 use Rattle.tf_model.specs.Plan.{outline_of, entry_bound, Outline, count}
 use Rattle.tf_book.specs.Book.{bodies_of, IsHistoryOf, IsNoBook, CanRun}
@@ -50,7 +50,7 @@ TouchesNoFile entry now = NoFileChanges entry now × (now.disk_faults ≡ entry.
 
 -- what recovery makes of the bytes of a book's file
 abbrev pub book_in : List ℕ → Recovered
-book_in bytes = recovered (title_of book_title) bytes
+book_in bytes = recovered book_title bytes
 
 -- what it makes of the file of that name
 abbrev pub book_at : DeskState → List ℕ → Recovered
@@ -117,7 +117,7 @@ pub record Lasts (may : List Entry → Entry → Type 0) (name : List ℕ) (plan
   pub file : HasFile (book_at entry name) plan before entries pending (file_of now name)
   pub exact : HoldsNoFlow (book_at entry name) → length (file_of entry name) ≤ 18 → ¬ (Rises entry.disk_faults now.disk_faults)
       → HoldsHistory plan (entries ++ before) (book_at now name)
-      → file_of now name ≡ journal_bytes (title_of book_title) (bodies_of plan (entries ++ before))
+      → file_of now name ≡ journal_bytes book_title (bodies_of plan (entries ++ before))
   pub others : (other : List ℕ) → other ≢ name → now.content.files other ≡ entry.content.files other
   pub crash : (moment : ℕ) → IsStart name entry now moment → (image text : List ℕ) → now.crashes moment image text
       → MayLeave (book_at entry name) plan quiet before entries pending entry.shown closing image text

@@ -6,7 +6,7 @@ use Rattle.tf_actions.specs.declared.orders.Order.{Order}
 use Rattle.tf_actions.specs.declared.outcomes.Outcome.{Outcome}
 use Rattle.tf_states.specs.declared.record.Entry.{Entry}
 use Rattle.tf_states.specs.declared.state.FlowState.{FlowState}
-use Rattle.tf_journal.specs.Format.{Recovered, title_of, LeavesBodies, LeavesEither}
+use Rattle.tf_journal.specs.Format.{Recovered, LeavesBodies, LeavesEither}
 use Rattle.tf_journal.specs.declared.title.Title.TheVariants.{Book as book_title}
 use Rattle.tf_book.specs.Book.{BookValue, outline, bodies_of, flow_state, IsHistoryOf}
 use Rattle.tf_book.specs.SessionInvariant.{SessionInvariant, IsExact, StaysOffDisk}
@@ -81,7 +81,7 @@ module _ {K : Type 0} (state : K → DeskState) where
     pub few : IsPendingSo may start.plan (entries ++ start.past) pending (book_desk start) now
     pub history : IsHistoryOf start.plan (entries ++ start.past)
     pub passes : Passes (MayLeave first start.plan start.quiet start.past entries pending (book_desk start).shown closing) (book_desk start) now
-    pub leaves : LeavesEither (title_of book_title) now (bodies_of start.plan (entries ++ start.past)) (bodies_of start.plan (pending ++ (entries ++ start.past)))
+    pub leaves : LeavesEither book_title now (bodies_of start.plan (entries ++ start.past)) (bodies_of start.plan (pending ++ (entries ++ start.past)))
     pub exact : ¬ (Rises (book_desk start).disk_faults now.disk_faults) → IsExact (book_desk start) start.plan start.past
         → IsExact now start.plan (entries ++ start.past)
 
@@ -89,7 +89,7 @@ module _ {K : Type 0} (state : K → DeskState) where
   abbrev pub LastsFrom : (List Entry → Entry → Type 0) → BookValue K → DeskState → List Entry → List ℕ → Type 0
   LastsFrom may start now entries closing =
       IsTrue (book_desk start).tells → start.journal.volatile ≡ false
-      → LeavesBodies (title_of book_title) (book_desk start) (bodies_of start.plan start.past)
+      → LeavesBodies book_title (book_desk start) (bodies_of start.plan start.past)
       → (first : Recovered) → RunLasts may first start now entries closing
 
   -- from the book on which a run began to the desk that it left, by hands that were given these orders

@@ -7,7 +7,7 @@ ghost use Rattle.tf_ports.specs.Ports.{IsFresh};
 ghost use Rattle.tf_numbers.specs.Numbers.{Rises};
 ghost use Rattle.tf_desk.specs.State.{bytes_now, anything, GoesOn};
 ghost use Rattle.tf_flow.specs.Plan.{PlanValue};
-ghost use Rattle.tf_journal.specs.Format.{journal_bytes, title_of, desk_after};
+ghost use Rattle.tf_journal.specs.Format.{journal_bytes, desk_after};
 ghost use Rattle.tf_journal.specs.Start.{Untouched, Open};
 ghost use Rattle.tf_journal.specs.declared.title.Title.TheVariants.{Book as book_title};
 ghost use Rattle.tf_machine.specs.Machine.{StandsFor};
@@ -46,6 +46,7 @@ pub fn open<K: Desk>(alloc: Global, mut desk: K, name: &Text) -> Result<Loaded<K
         → RefusesBook back.1 (book_at (K.state desk) name.now)) }
     ensures cause { IfErr result (λ back. back.1 ≡ LoadFault.Disk
         → Rises (K.state desk).disk_faults (K.state back.0).disk_faults) }
+    ensures new_format { IfErr result (λ back. back.1 ≢ LoadFault.Old) }
     ensures asks { (K.state desk).asks ≤ (K.state (desk_after_load result)).asks }
 {
     match desk.pick(alloc, name) {
@@ -58,6 +59,7 @@ pub fn open<K: Desk>(alloc: Global, mut desk: K, name: &Text) -> Result<Loaded<K
 
 /// Says why a book couldn't be opened, unless memory ran out.
 pub fn refuse_book<K: Desk>(alloc: Global, mut desk: K, fault: LoadFault) -> Over<K>
+    requires new_format { fault ≢ LoadFault.Old }
     ensures unopened { (name : List ℕ) (entry : K)
         → Untouched name (K.state entry) (K.state desk)
         → (IsTrue (K.state entry).tells → RefusesBook fault (book_at (K.state entry) name))
@@ -69,6 +71,7 @@ pub fn refuse_book<K: Desk>(alloc: Global, mut desk: K, fault: LoadFault) -> Ove
         LoadFault::Disk => close(DISK_FAULT, DISK_FAILED, &mut desk),
         LoadFault::NotABook { offset, byte } => return say_no_book(alloc, offset, byte, desk),
         LoadFault::Memory => OUT_OF_MEMORY,
+        LoadFault::Old => unreachable!(),
     };
     Over { desk, status }
 }
@@ -159,7 +162,7 @@ fn create<K: Desk>(alloc: Global, desk: K) -> Result<Journal<K>, (K, BookFault)>
     requires unborn { MayBeBorn (K.state desk) }
     ensures made { IfOk result (IsRecordless K.state) }
     ensures born { IfOk result (λ journal. IsTrue (K.state desk).tells
-        → bytes_now (K.state journal.desk) ≡ journal_bytes (title_of book_title) []) }
+        → bytes_now (K.state journal.desk) ≡ journal_bytes book_title []) }
     ensures begins { IfOk result (λ journal. (name : List ℕ) (entry : K) (plan : PlanValue)
         → Unbegun name (K.state entry) plan (K.state desk)
         → Unbegun name (K.state entry) plan (K.state journal.desk)) }

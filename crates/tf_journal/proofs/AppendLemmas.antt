@@ -1,5 +1,5 @@
 -- What an append leaves, by the bytes that it writes.
-use Rattle.std.proofs.Common.{◌≡◌, inl, ⊎_elim, ℕ, ◌+◌, ◌-◌, ◌≤◌, List, [], ◌∷◌, ◌++◌, length, take, drop, Option, Some, None, refl, sym, ◌∙◌, ap, subst, arith, append-nil, append_assoc, length-append}
+use Rattle.std.proofs.Common.{◌≡◌, inl, ⊎_elim, ℕ, ◌+◌, ◌-◌, ◌≤◌, List, [], ◌∷◌, ◌++◌, length, take, drop, Option, Some, None, refl, sym, ◌∙◌, ap, subst, arith, append-nil, append_assoc}
 use Rattle.std.specs.List.{flat_map}
 use Rattle.std.proofs.lemmas.List.{take_all, drop_all, drop_at, take-append-le}
 use Rattle.std.specs.Prelude.{IsTrue, is_some}
@@ -7,13 +7,14 @@ use Rattle.tf_desk.specs.Crash.{written, Torn}
 use Rattle.tf_desk.specs.State.{DeskState, bytes_now, LeftNow, IsDurable, Passes, passes_within}
 use Rattle.tf_journal.specs.Adding.{Adds, AddsAtMost}
 use Rattle.tf_journal.specs.Format.{OPEN, SIZE_LIMIT, length_bytes, record_of, prefix_of, journal_bytes, bodies, recovered, title_of, Held, IsBody, LiesAs, IsAtRest, LeavesBodies, LeavesEither, LeavesBeforeOrAfter}
+use Rattle.tf_journal.specs.declared.title.Title.{Title}
 use Rattle.tf_journal.specs.Gates.{LeavesGated}
 use Rattle.tf_journal.proofs.HeaderLemmas.{sixteen}
 use Rattle.tf_journal.proofs.LieLemmas.{recovered_lies}
 use Rattle.tf_journal.proofs.ReachLemmas.{flat_map-push}
 use Rattle.tf_journal.proofs.TornLemmas.{tail_of, torn_behind, torn_gate, gate_open}
 
-module _ (title : List ℕ) (held : List (List ℕ)) (size : ℕ) (old body buffer : List ℕ) (sixteen : length title ≡ 16) (lies : LiesAs title held size old) (is : IsBody body) (fits : size + (5 + length body) ≤ SIZE_LIMIT)
+module _ (title : Title) (held : List (List ℕ)) (size : ℕ) (old body buffer : List ℕ) (sixteen : length (title_of title) ≡ 16) (lies : LiesAs title held size old) (is : IsBody title body) (fits : size + (5 + length body) ≤ SIZE_LIMIT)
     (filled : buffer ≡ tail_of body) where
   at_gate : size - 1 + 1 ≡ size
   at_gate = omega (arith, lies.place)
@@ -54,7 +55,7 @@ module _ (title : List ℕ) (held : List (List ℕ)) (size : ℕ) (old body buff
       ∙ ap (λ (l : List ℕ). prefix ++ (OPEN ∷ l)) last in
       opened ∙ ap (λ (l : List ℕ). prefix ++ (OPEN ∷ l)) (sym (append_assoc (length_bytes (length body)) body (0 ∷ [])))
       ∙ sym (append_assoc prefix (record_of body) (0 ∷ []))
-      ∙ ap (λ (l : List ℕ). l ++ 0 ∷ []) (append_assoc (OPEN ∷ title) (flat_map record_of held) (record_of body) ∙ ap (λ (l : List ℕ). (OPEN ∷ title) ++ l) (sym (flat_map-push held body)))
+      ∙ ap (λ (l : List ℕ). l ++ 0 ∷ []) (append_assoc (OPEN ∷ title_of title) (flat_map record_of held) (record_of body) ∙ ap (λ (l : List ℕ). (OPEN ∷ title_of title) ++ l) (sym (flat_map-push held body)))
 
 -- what a desk shows that tells it
 some_text : (shown : Option (List ℕ)) → IsTrue (is_some shown) → (text : List ℕ) × (shown ≡ Some text)
@@ -62,7 +63,7 @@ some_text None told = absurd (cc)
 some_text (Some text) told = (text, refl)
 
 -- what a crash after an append leaves, whatever the append answered: each image is one of those that a crash inside may leave
-appended_leaves : (title : List ℕ) (held : List (List ℕ)) (body : List ℕ) {old new : DeskState} → IsTrue (is_some new.shown)
+appended_leaves : (title : Title) (held : List (List ℕ)) (body : List ℕ) {old new : DeskState} → IsTrue (is_some new.shown)
     → Passes (LeavesBeforeOrAfter title held body old.shown) old new → ((image text : List ℕ) → LeftNow new image text → new.crashes old.content.clock image text)
     → ((image text : List ℕ) → old.crashes old.content.clock image text → recovered title image ≡ bodies held) → LeavesEither title new held (held ++ body ∷ [])
 appended_leaves title held body {old} {new} told passes counts before image left_now =
@@ -71,20 +72,20 @@ appended_leaves title held body {old} {new} told passes counts before image left
 
 -- what a crash leaves of a journal at rest
 pub rest_leaves : {K : Type 0} (state : K → DeskState) (journal : Held K) (held : List (List ℕ)) → IsAtRest state journal held
-    → LeavesBodies (title_of journal.title) (state journal.desk) held
+    → LeavesBodies journal.title (state journal.desk) held
 rest_leaves state journal held rest image left_now =
-    ap (recovered (title_of journal.title)) (rest.durable image left_now) ∙ recovered_lies (title_of journal.title) held journal.size (bytes_now (state journal.desk)) (sixteen journal.title) rest.lies
+    ap (recovered journal.title) (rest.durable image left_now) ∙ recovered_lies journal.title held journal.size (bytes_now (state journal.desk)) (sixteen journal.title) rest.lies
 
 -- what an append leaves that wrote, whatever it answered
 pub appended_at_most : {K : Type 0} (state : K → DeskState) (journal next : Held K) (held : List (List ℕ)) (body buffer : List ℕ) → IsAtRest state journal held
-    → IsBody body → journal.size + (5 + length body) ≤ SIZE_LIMIT → buffer ≡ tail_of body
+    → IsBody journal.title body → journal.size + (5 + length body) ≤ SIZE_LIMIT → buffer ≡ tail_of body
     → Passes (LeavesGated (bytes_now (state journal.desk)) (journal.size - 1) buffer (state journal.desk).shown) (state journal.desk) (state next.desk)
     → IsTrue (is_some (state next.desk).shown)
     → ((start : ℕ) (image text : List ℕ) → start ≤ (state next.desk).content.clock → LeftNow (state next.desk) image text → (state next.desk).crashes start image text)
     → ((image text : List ℕ) → (state journal.desk).crashes (state journal.desk).content.clock image text → LeftNow (state journal.desk) image text)
     → AddsAtMost state body journal next held
 appended_at_most state journal next held body buffer rest is fits filled gated shows counts only =
-    let title = title_of journal.title in
+    let title = journal.title in
     let old = state journal.desk in
     let passes : Passes (LeavesBeforeOrAfter title held body old.shown) old (state next.desk) =
     passes_within gated (λ image text left. appended_crash title held journal.size (bytes_now old) body buffer (sixteen journal.title) rest.lies is fits filled old.shown image text left) in
@@ -96,12 +97,12 @@ appended_at_most state journal next held body buffer rest is fits filled gated s
 
 -- what an append does that answered Ok
 pub appended_adds : {K : Type 0} (state : K → DeskState) (journal : Held K) (next : K) (held : List (List ℕ)) (body buffer : List ℕ) → IsAtRest state journal held
-    → IsBody body → journal.size + (5 + length body) ≤ SIZE_LIMIT → buffer ≡ tail_of body
+    → IsBody journal.title body → journal.size + (5 + length body) ≤ SIZE_LIMIT → buffer ≡ tail_of body
     → bytes_now (state next) ≡ written (written (bytes_now (state journal.desk)) (journal.size - 1 + 1) buffer) (journal.size - 1) (OPEN ∷ []) → IsDurable (state next)
     → ((image text : List ℕ) → (state next).crashes (state next).content.clock image text → LeftNow (state next) image text)
     → Adds state body journal (record journal { desk = next; size = journal.size + (5 + length body) }) held
 appended_adds state journal next held body buffer rest is fits filled wrote durable only =
-    let title = title_of journal.title in
+    let title = journal.title in
     let old = bytes_now (state journal.desk) in
     let new = bytes_now (state next) in
     let size = journal.size + (5 + length body) in

@@ -5,7 +5,7 @@ use Rattle.std.specs.Prelude.{IsTrue}
 use Rattle.tf_desk.specs.Crash.{Mark, at_sync, Torn, IsLeft}
 use Rattle.tf_desk.specs.State.{DeskState, LeftNow, IsDurable, bytes_now, FilesStay, Rests, Tears, Syncs}
 use Rattle.tf_desk.proofs.StateLemmas.{bytes_stay, durable_on}
-use Rattle.tf_journal.specs.Format.{LiesAs, IsAtRest, HasSynced, title_of, Held}
+use Rattle.tf_journal.specs.Format.{LiesAs, IsAtRest, HasSynced, Held}
 use Rattle.tf_journal.specs.Gates.{LeavesTornAt}
 
 torn_empty : (at n : ℕ) → Torn at n [] []
@@ -30,7 +30,7 @@ now_torn {at} {n} {old} {new} picked shown durable torn image text now =
 pub at_rest_on : {K : Type 0} (state : K → DeskState) (journal : Held K) (desk : K) (held : List (List ℕ)) → IsAtRest state journal held
     → FilesStay (state journal.desk) (state desk) → IsAtRest state (record journal { desk = desk }) held
 at_rest_on state journal desk held rest stay = record {
-  lies = subst (LiesAs (title_of journal.title) held journal.size) (sym (bytes_stay stay)) rest.lies;
+  lies = subst (LiesAs journal.title held journal.size) (sym (bytes_stay stay)) rest.lies;
   durable = durable_on stay rest.durable;
 }
 

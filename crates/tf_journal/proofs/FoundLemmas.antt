@@ -5,27 +5,29 @@ use Rattle.std.proofs.Math.Seq.{take-add}
 use Rattle.std.specs.Prelude.{nat_eq, nat_lt, ◌||◌, if◌then◌else◌}
 use Rattle.std.proofs.lemmas.Bool.{cases_lt}
 use Rattle.std.proofs.lemmas.Bool.Decides.{nat_tests}
-use Rattle.tf_journal.specs.Format.{OPEN, BODY_LIMIT, SIZE_LIMIT, length_bytes, length_at, record_of, closed, body, bad, record_within, record_at}
+use Rattle.tf_journal.specs.Format.{OPEN, body_limit, SIZE_LIMIT, length_bytes, length_at, IsBody, record_of, closed, body, bad, record_within, record_at}
 use Rattle.tf_journal.specs.Reach.{HasRecord}
+use Rattle.tf_journal.specs.declared.title.Title.{Title}
+use Rattle.tf_journal.specs.declared.title.Title.TheVariants.{Book, Jobs, Book2}
 
 -- a gate that isn't open, or isn't there
-pub found_closed : (bytes : List ℕ) (place : ℕ) → (length bytes ≤ place) ⊎ (get_or bytes place 0 ≢ OPEN) → record_at bytes place ≡ closed
-found_closed bytes place (inl past) = grind (arith, nat_tests)
-found_closed bytes place (inr shut) = grind (arith, nat_tests)
+pub found_closed : (title : Title) (bytes : List ℕ) (place : ℕ) → (length bytes ≤ place) ⊎ (get_or bytes place 0 ≢ OPEN) → record_at title bytes place ≡ closed
+found_closed title bytes place (inl past) = grind (arith, nat_tests)
+found_closed title bytes place (inr shut) = grind (arith, nat_tests)
 
 -- an open gate
-pub found_open : (bytes : List ℕ) (place : ℕ) → place + 5 ≤ length bytes → get_or bytes place 0 ≡ OPEN → record_at bytes place ≡ record_within bytes place (length_at bytes (place + 1))
-found_open bytes place whole gate = grind (arith, nat_tests)
+pub found_open : (title : Title) (bytes : List ℕ) (place : ℕ) → place + 5 ≤ length bytes → get_or bytes place 0 ≡ OPEN → record_at title bytes place ≡ record_within title bytes place (length_at bytes (place + 1))
+found_open title bytes place whole gate = grind (arith, nat_tests)
 
 -- an open gate without a whole length
-pub found_short : (bytes : List ℕ) (place : ℕ) → place < length bytes → length bytes < place + 5 → get_or bytes place 0 ≡ OPEN → record_at bytes place ≡ bad (length bytes) None
-found_short bytes place there short gate = grind (arith, nat_tests)
+pub found_short : (title : Title) (bytes : List ℕ) (place : ℕ) → place < length bytes → length bytes < place + 5 → get_or bytes place 0 ≡ OPEN → record_at title bytes place ≡ bad (length bytes) None
+found_short title bytes place there short gate = grind (arith, nat_tests)
 
 -- behind an open gate something is found
-pub found_some : (bytes : List ℕ) (place : ℕ) → place < length bytes → get_or bytes place 0 ≡ OPEN → record_at bytes place ≡ closed → ⊥
-found_some bytes place there gate is = elim (cases_lt (length bytes) (place + 5)) [
-  | inl short ↦ let e = found_short bytes place there short gate in cc
-  | inr whole ↦ within_some (length_at bytes (place + 1)) (found_open bytes place whole gate)
+pub found_some : (title : Title) (bytes : List ℕ) (place : ℕ) → place < length bytes → get_or bytes place 0 ≡ OPEN → record_at title bytes place ≡ closed → ⊥
+found_some title bytes place there gate is = elim (cases_lt (length bytes) (place + 5)) [
+  | inl short ↦ let e = found_short title bytes place there short gate in cc
+  | inr whole ↦ within_some (length_at bytes (place + 1)) (found_open title bytes place whole gate)
 ]
   where
     either : (b d : Bool) (o : ℕ) (v : Option ℕ) (s : ℕ) (l : List ℕ) (m : ℕ) → (if b then bad o v else (if d then bad s None else body l m)) ≡ closed → ⊥
@@ -33,23 +35,35 @@ found_some bytes place there gate is = elim (cases_lt (length bytes) (place + 5)
     either false true o v s l m e = cc
     either false false o v s l m e = cc
 
-    within_some : (n : ℕ) → record_at bytes place ≡ record_within bytes place n → ⊥
+    within_some : (n : ℕ) → record_at title bytes place ≡ record_within title bytes place n → ⊥
     within_some n e =
-        either (nat_eq n 0 || nat_lt BODY_LIMIT n || nat_lt SIZE_LIMIT (place + 6 + n)) (nat_lt (length bytes) (place + 6 + n)) (place + 1) (Some (get_or bytes (place + 1) 0)) (length bytes) (take n (drop (place + 5) bytes)) (place + 5 + n) (sym e ∙ is)
+        either (nat_eq n 0 || nat_lt (body_limit title) n || nat_lt SIZE_LIMIT (place + 6 + n)) (nat_lt (length bytes) (place + 6 + n)) (place + 1) (Some (get_or bytes (place + 1) 0)) (length bytes) (take n (drop (place + 5) bytes)) (place + 5 + n) (sym e ∙ is)
 
 -- a length that no record has
-pub within_bad : (bytes : List ℕ) (place n : ℕ) → (n ≡ 0) ⊎ ((BODY_LIMIT < n) ⊎ (SIZE_LIMIT < place + 6 + n)) → record_within bytes place n ≡ bad (place + 1) (Some (get_or bytes (place + 1) 0))
-within_bad bytes place n (inl none) = grind (arith, nat_tests)
-within_bad bytes place n (inr (inl long)) = grind (arith, nat_tests)
-within_bad bytes place n (inr (inr far)) = grind (arith, nat_tests)
+pub within_bad : (title : Title) (bytes : List ℕ) (place n : ℕ) → (n ≡ 0) ⊎ ((body_limit title < n) ⊎ (SIZE_LIMIT < place + 6 + n)) → record_within title bytes place n ≡ bad (place + 1) (Some (get_or bytes (place + 1) 0))
+within_bad title bytes place n (inl none) = grind (arith, nat_tests)
+within_bad title bytes place n (inr (inl long)) = grind (arith, nat_tests)
+within_bad title bytes place n (inr (inr far)) = grind (arith, nat_tests)
 
 -- a body or a gate that isn't whole
-pub within_cut : (bytes : List ℕ) (place n : ℕ) → 0 < n → n ≤ BODY_LIMIT → place + 6 + n ≤ SIZE_LIMIT → length bytes < place + 6 + n → record_within bytes place n ≡ bad (length bytes) None
-within_cut bytes place n some short near cut = grind (arith, nat_tests)
+pub within_cut : (title : Title) (bytes : List ℕ) (place n : ℕ) → 0 < n → n ≤ body_limit title → place + 6 + n ≤ SIZE_LIMIT → length bytes < place + 6 + n → record_within title bytes place n ≡ bad (length bytes) None
+within_cut title bytes place n some short near cut = grind (arith, nat_tests)
 
 -- a whole record
-pub within_body : (bytes : List ℕ) (place n : ℕ) → 0 < n → n ≤ BODY_LIMIT → place + 6 + n ≤ SIZE_LIMIT → place + 6 + n ≤ length bytes → record_within bytes place n ≡ body (take n (drop (place + 5) bytes)) (place + 5 + n)
-within_body bytes place n some short near whole = grind (arith, nat_tests)
+pub within_body : (title : Title) (bytes : List ℕ) (place n : ℕ) → 0 < n → n ≤ body_limit title → place + 6 + n ≤ SIZE_LIMIT → place + 6 + n ≤ length bytes → record_within title bytes place n ≡ body (take n (drop (place + 5) bytes)) (place + 5 + n)
+within_body title bytes place n some short near whole = grind (arith, nat_tests)
+
+-- the greatest length of a body, of any title
+pub small_limit : (title : Title) → body_limit title ≤ 1048577
+small_limit Book = omega arith
+small_limit Jobs = omega arith
+small_limit Book2 = omega arith
+
+-- a body of a book of one flow is one of every journal
+pub body_fits : (title : Title) (b : List ℕ) → IsBody Book b → IsBody title b
+body_fits Book b is = is
+body_fits Jobs b is = is
+body_fits Book2 b is = (is.0, omega (arith, is.1))
 
 -- a length of four bytes is spelled by these
 pub length_spelled : (a b c d : ℕ) → a < 256 → b < 256 → c < 256 → d < 256 → length_bytes (256 * (256 * (256 * a + b) + c) + d) ≡ a ∷ b ∷ c ∷ d ∷ []
@@ -69,7 +83,7 @@ length_spelled a b c d wa wb wc wd =
     four p p' q q' r r' s s' e f g h = cc
 
 -- a length that was written reads as it was
-pub length_read : (n : ℕ) → n ≤ BODY_LIMIT → 256 * (256 * (256 * (n / 256 / 256 / 256) + n / 256 / 256 % 256) + n / 256 % 256) + n % 256 ≡ n
+pub length_read : (n : ℕ) → n ≤ SIZE_LIMIT → 256 * (256 * (256 * (n / 256 / 256 / 256) + n / 256 / 256 % 256) + n / 256 % 256) + n % 256 ≡ n
 length_read n short = omega (arith, short)
 
 five_of : (l : List ℕ) → length l ≡ 5 → l ≡ get_or l 0 0 ∷ get_or l 1 0 ∷ get_or l 2 0 ∷ get_or l 3 0 ∷ get_or l 4 0 ∷ []
@@ -82,7 +96,7 @@ five_of (a ∷ b ∷ c ∷ d ∷ e ∷ []) is = refl
 five_of (a ∷ b ∷ c ∷ d ∷ e ∷ f ∷ l) is = absurd (omega (arith, is))
 
 -- what the first five bytes from a place on tell, where they are there
-module _ (head bytes : List ℕ) (place : ℕ) (are : head ≡ take 5 (drop place bytes)) (whole : 5 ≤ length head) where
+module _ (title : Title) (head bytes : List ℕ) (place : ℕ) (are : head ≡ take 5 (drop place bytes)) (whole : 5 ≤ length head) where
   pub head_within : place + 5 ≤ length bytes
   head_within = omega (arith, whole, ap length are, length-take 5 (drop place bytes), length-drop place bytes)
 
@@ -104,22 +118,22 @@ module _ (head bytes : List ℕ) (place : ℕ) (are : head ≡ take 5 (drop plac
   gate_is is = let at : place + 0 ≡ place = omega arith in ap (λ (k : ℕ). get_or bytes k 0) (sym at) ∙ sym (head_at 0 (omega arith)) ∙ is
 
   pub shows_bad : (n : ℕ) → n ≡ 256 * (256 * (256 * get_or head 1 0 + get_or head 2 0) + get_or head 3 0) + get_or head 4 0 → get_or head 0 0 ≡ OPEN
-      → (n ≡ 0) ⊎ ((BODY_LIMIT < n) ⊎ (SIZE_LIMIT < place + 6 + n)) → record_at bytes place ≡ bad (place + 1) (Some (get_or head 1 0))
+      → (n ≡ 0) ⊎ ((body_limit title < n) ⊎ (SIZE_LIMIT < place + 6 + n)) → record_at title bytes place ≡ bad (place + 1) (Some (get_or head 1 0))
   shows_bad n is gate cause =
-      found_open bytes place head_within (gate_is gate)
-      ∙ ap (record_within bytes place) (length_is n is)
-      ∙ within_bad bytes place n cause
+      found_open title bytes place head_within (gate_is gate)
+      ∙ ap (record_within title bytes place) (length_is n is)
+      ∙ within_bad title bytes place n cause
       ∙ ap (λ (b : ℕ). bad (place + 1) (Some b)) (sym (head_at 1 (omega arith)))
 
   pub shows_body : (n : ℕ) → n ≡ 256 * (256 * (256 * get_or head 1 0 + get_or head 2 0) + get_or head 3 0) + get_or head 4 0 → get_or head 0 0 ≡ OPEN
       → get_or head 1 0 < 256 → get_or head 2 0 < 256 → get_or head 3 0 < 256 → get_or head 4 0 < 256
-      → 0 < n → n ≤ BODY_LIMIT → place + 6 + n ≤ SIZE_LIMIT → place + 6 + n ≤ length bytes
-      → (record_body : List ℕ) × (length record_body ≡ n) × HasRecord bytes place record_body
+      → 0 < n → n ≤ body_limit title → place + 6 + n ≤ SIZE_LIMIT → place + 6 + n ≤ length bytes
+      → (record_body : List ℕ) × (length record_body ≡ n) × HasRecord title bytes place record_body
   shows_body n is gate b1 b2 b3 b4 some short near there =
       let record_body : List ℕ = take n (drop (place + 5) bytes) in
       let long : length record_body ≡ n = omega (arith, length-take n (drop (place + 5) bytes), length-drop (place + 5) bytes, there) in
-      let found : record_at bytes place ≡ body record_body (place + 5 + length record_body) =
-      found_open bytes place head_within (gate_is gate) ∙ ap (record_within bytes place) (length_is n is) ∙ within_body bytes place n some short near there ∙ ap (λ (k : ℕ). body record_body (place + 5 + k)) (sym long) in
+      let found : record_at title bytes place ≡ body record_body (place + 5 + length record_body) =
+      found_open title bytes place head_within (gate_is gate) ∙ ap (record_within title bytes place) (length_is n is) ∙ within_body title bytes place n some short near there ∙ ap (λ (k : ℕ). body record_body (place + 5 + k)) (sym long) in
       let spelled : head ≡ OPEN ∷ length_bytes n =
       five_of head (omega (arith, whole, ap length are, length-take 5 (drop place bytes))) ∙ heads (get_or head 0 0) OPEN gate
       ∙ ap (λ (l : List ℕ). OPEN ∷ l) (sym (length_spelled (get_or head 1 0) (get_or head 2 0) (get_or head 3 0) (get_or head 4 0) b1 b2 b3 b4))

@@ -6,6 +6,7 @@ pub mod LieLemmas
 pub mod TornLemmas
 pub mod BirthLemmas
 pub mod AppendLemmas
+pub mod DraftLemmas
 pub mod PlaceLemmas
 pub mod PathLemmas
 pub mod OpenLemmas

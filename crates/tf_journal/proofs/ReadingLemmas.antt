@@ -3,7 +3,8 @@ use Rattle.std.proofs.Common.{◌≡◌, ℕ, List, [], ◌∷◌, ◌++◌, len
 use Rattle.std.specs.Prelude.{IsTrue}
 use Rattle.tf_desk.specs.State.{DeskState, bytes_now, Rests}
 use Rattle.tf_desk.proofs.StateLemmas.{on_disk_told, rests_none, rests_on, bytes_stay}
-use Rattle.tf_journal.specs.Format.{Found, closed, body, bad, prefix_of, title_of, record_at, Held, LiesAs}
+use Rattle.tf_journal.specs.Format.{Found, closed, body, bad, prefix_of, record_at, Held, LiesAs}
+use Rattle.tf_journal.specs.declared.title.Title.{Title}
 use Rattle.tf_journal.specs.Reading.{HasBodies, OnlyReads}
 use Rattle.tf_journal.proofs.CrashLemmas.{at_rest_on}
 use Rattle.tf_journal.proofs.PlaceLemmas.{found_next, found_end}
@@ -14,13 +15,13 @@ NextBy closed rest = rest ≡ []
 NextBy (body found next) rest = (others : List (List ℕ)) × (rest ≡ found ∷ others)
 NextBy (bad offset byte) rest = ⊥
 
-pub next_by : (title : List ℕ) (before rest : List (List ℕ)) (size : ℕ) (bytes : List ℕ) (place : ℕ) (found : Found) → LiesAs title (before ++ rest) size bytes
-    → place ≡ length (prefix_of title before) → record_at bytes place ≡ found → NextBy found rest
+pub next_by : (title : Title) (before rest : List (List ℕ)) (size : ℕ) (bytes : List ℕ) (place : ℕ) (found : Found) → LiesAs title (before ++ rest) size bytes
+    → place ≡ length (prefix_of title before) → record_at title bytes place ≡ found → NextBy found rest
 next_by title before [] size bytes place found lies at is =
-    let here : found ≡ closed = sym is ∙ ap (record_at bytes) at ∙ found_end title before size bytes (subst (λ (h : List (List ℕ)). LiesAs title h size bytes) (append-nil before) lies) in
+    let here : found ≡ closed = sym is ∙ ap (record_at title bytes) at ∙ found_end title before size bytes (subst (λ (h : List (List ℕ)). LiesAs title h size bytes) (append-nil before) lies) in
     subst (λ (f : Found). NextBy f []) (sym here) refl
 next_by title before (first ∷ others) size bytes place found lies at is =
-    let here : found ≡ body first (length (prefix_of title (before ++ first ∷ []))) = sym is ∙ ap (record_at bytes) at ∙ found_next title before others first size bytes lies in
+    let here : found ≡ body first (length (prefix_of title (before ++ first ∷ []))) = sym is ∙ ap (record_at title bytes) at ∙ found_next title before others first size bytes lies in
     subst (λ (f : Found). NextBy f (first ∷ others)) (sym here) (others, refl)
 
 module _ {K : Type 0} (state : K → DeskState) where
@@ -50,13 +51,13 @@ module _ {K : Type 0} (state : K → DeskState) where
 
   pub bodies_stay : (a b : Held K) → OnlyReads state a b → IsTrue (state a.desk).tells → (held : List (List ℕ)) → HasBodies state a held → HasBodies state b held
   bodies_stay a b reads told held lies =
-      subst (λ (j : Held K). LiesAs (title_of j.title) held j.size (bytes_now (state b.desk))) (sym reads.journal)
-      (subst (λ (bytes : List ℕ). LiesAs (title_of a.title) held a.size bytes) (sym (same_file a b reads told)) lies)
+      subst (λ (j : Held K). LiesAs j.title held j.size (bytes_now (state b.desk))) (sym reads.journal)
+      (subst (λ (bytes : List ℕ). LiesAs a.title held a.size bytes) (sym (same_file a b reads told)) lies)
 
   pub bodies_were : (a b : Held K) → OnlyReads state a b → IsTrue (state a.desk).tells → (held : List (List ℕ)) → HasBodies state b held → HasBodies state a held
   bodies_were a b reads told held lies =
-      subst (λ (bytes : List ℕ). LiesAs (title_of a.title) held a.size bytes) (same_file a b reads told)
-      (subst (λ (j : Held K). LiesAs (title_of j.title) held j.size (bytes_now (state b.desk))) reads.journal lies)
+      subst (λ (bytes : List ℕ). LiesAs a.title held a.size bytes) (same_file a b reads told)
+      (subst (λ (j : Held K). LiesAs j.title held j.size (bytes_now (state b.desk))) reads.journal lies)
 
   -- what was told stays told, and was told before
   pub told_was : (a b : Held K) → OnlyReads state a b → IsTrue (state b.desk).tells → IsTrue (state a.desk).tells

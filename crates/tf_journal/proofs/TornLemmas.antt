@@ -4,7 +4,8 @@ use Rattle.std.specs.List.{flat_map}
 use Rattle.std.proofs.lemmas.List.{drop_more, take_at, drop_at, take_all, take-take, get_or_at, get_or-take}
 use Rattle.std.proofs.lemmas.Bool.{cases_eq}
 use Rattle.tf_desk.specs.Crash.{written, Torn}
-use Rattle.tf_journal.specs.Format.{OPEN, SIZE_LIMIT, length_bytes, record_of, prefix_of, bodies, recovered, IsBody, AreBodies, LiesAs}
+use Rattle.tf_journal.specs.Format.{OPEN, title_of, SIZE_LIMIT, length_bytes, record_of, prefix_of, bodies, recovered, IsBody, AreBodies, LiesAs}
+use Rattle.tf_journal.specs.declared.title.Title.{Title}
 use Rattle.tf_journal.proofs.ReachLemmas.{flat_map-push, length-record_of, bodies_push}
 use Rattle.tf_journal.proofs.LieLemmas.{recovered_lies}
 
@@ -16,7 +17,7 @@ pub length-tail_of : (b : List ℕ) → length (tail_of b) ≡ 5 + length b
 length-tail_of b = omega (arith, length-append (length_bytes (length b)) (b ++ 0 ∷ []), length-append b (0 ∷ []))
 
 -- bodies lie in bytes that begin as others in which they lie, their gate included
-pub lies_same : (title : List ℕ) (held : List (List ℕ)) (size : ℕ) (old new : List ℕ) → LiesAs title held size old → take size new ≡ take size old → size ≤ length new → LiesAs title held size new
+pub lies_same : (title : Title) (held : List (List ℕ)) (size : ℕ) (old new : List ℕ) → LiesAs title held size old → take size new ≡ take size old → size ≤ length new → LiesAs title held size new
 lies_same title held size old new lies same whole =
     let n = length (prefix_of title held) in
     let before : take n new ≡ take n old = sym (take-take n size new (omega (arith, lies.place))) ∙ ap (take n) same ∙ take-take n size old (omega (arith, lies.place)) in
@@ -35,17 +36,17 @@ pub torn_prefix : (at n : ℕ) (old image : List ℕ) → Torn at n old image �
 torn_prefix at n old image torn within = sym (take-take at (length old) image within) ∙ torn.before
 
 -- torn behind the gate, the bodies still lie there
-pub torn_behind : (title : List ℕ) (held : List (List ℕ)) (size n : ℕ) (old image : List ℕ) → LiesAs title held size old → Torn size n old image → LiesAs title held size image
+pub torn_behind : (title : Title) (held : List (List ℕ)) (size n : ℕ) (old image : List ℕ) → LiesAs title held size old → Torn size n old image → LiesAs title held size image
 torn_behind title held size n old image lies torn = lies_same title held size old image lies (torn_prefix size n old image torn lies.whole) (omega (arith, torn.no_shorter, lies.whole))
 
 -- behind an open gate a body's record lies
-pub lies_more : (title : List ℕ) (held : List (List ℕ)) (new rest bytes : List ℕ) → AreBodies held → IsBody new → length (prefix_of title held) + 6 + length new ≤ SIZE_LIMIT
+pub lies_more : (title : Title) (held : List (List ℕ)) (new rest bytes : List ℕ) → AreBodies title held → IsBody title new → length (prefix_of title held) + 6 + length new ≤ SIZE_LIMIT
     → take (length (prefix_of title held)) bytes ≡ prefix_of title held → length (prefix_of title held) < length bytes → get_or bytes (length (prefix_of title held)) 0 ≡ OPEN
     → drop (length (prefix_of title held) + 1) bytes ≡ tail_of new ++ rest
     → LiesAs title (held ++ new ∷ []) (length (prefix_of title held) + 6 + length new) bytes
 lies_more title held new rest bytes are is fits prefix there gate behind =
     let n = length (prefix_of title held) in
-    let prefix_new : prefix_of title (held ++ new ∷ []) ≡ prefix_of title held ++ record_of new = ap (λ (l : List ℕ). (OPEN ∷ title) ++ l) (flat_map-push held new) ∙ sym (append_assoc (OPEN ∷ title) (flat_map record_of held) (record_of new)) in
+    let prefix_new : prefix_of title (held ++ new ∷ []) ≡ prefix_of title held ++ record_of new = ap (λ (l : List ℕ). (OPEN ∷ title_of title) ++ l) (flat_map-push held new) ∙ sym (append_assoc (OPEN ∷ title_of title) (flat_map record_of held) (record_of new)) in
     let long : length (prefix_of title held ++ record_of new) ≡ n + 5 + length new = omega (arith, length-append (prefix_of title held) (record_of new), length-record_of new) in
     let tail_is : tail_of new ++ rest ≡ (length_bytes (length new) ++ new) ++ (0 ∷ rest) =
     ap (λ (l : List ℕ). l ++ rest) (sym (append_assoc (length_bytes (length new)) new (0 ∷ []))) ∙ append_assoc (length_bytes (length new) ++ new) (0 ∷ []) rest in
@@ -61,7 +62,7 @@ lies_more title held new rest bytes are is fits prefix there gate behind =
       gate = λ open_gate. shut (sym open_gate ∙ ap (λ (l : List ℕ). get_or bytes (length l) 0) prefix_new ∙ ap (λ (l : List ℕ). get_or l (length (prefix_of title held ++ record_of new)) 0) split
           ∙ get_or_at (prefix_of title held ++ record_of new) 0 rest 0 (length (prefix_of title held ++ record_of new)) refl);
       limit = fits;
-      fit = bodies_push held new are is;
+      fit = bodies_push title held new are is;
     }
   where
     shut : OPEN ≡ 0 → ⊥
@@ -69,7 +70,7 @@ lies_more title held new rest bytes are is fits prefix there gate behind =
 
 -- ---- a record that was written behind its gate
 
-module _ (title : List ℕ) (held : List (List ℕ)) (size gate_place : ℕ) (old new : List ℕ) (sixteen : length title ≡ 16) (lies : LiesAs title held size old) (is : IsBody new)
+module _ (title : Title) (held : List (List ℕ)) (size gate_place : ℕ) (old new : List ℕ) (sixteen : length (title_of title) ≡ 16) (lies : LiesAs title held size old) (is : IsBody title new)
     (at : gate_place + 1 ≡ size) (fits : size + 5 + length new ≤ SIZE_LIMIT) where
   at_prefix : gate_place ≡ length (prefix_of title held)
   at_prefix = omega (arith, at, lies.place)

@@ -1,9 +1,11 @@
 -- What recovery takes as unborn is unborn.
 use Rattle.std.proofs.Common.{◌≡◌, ◌≢◌, zero, suc, ◌∷◌, ◌==◌, length, if◌then◌else◌, ℕ, List, [], Bool, true, false, Option, Some, None, refl}
-use Rattle.tf_journal.specs.Format.{OPEN, Found, closed, body, bad, record_at, Recovered, unborn, bodies, not_a_book, with_body, then_from, records_from, title_fault, titled, recovered_born, recovered, is_unborn}
+use Rattle.tf_journal.specs.Format.{OPEN, title_of, Found, closed, body, bad, record_at, Recovered, unborn, old_format, bodies, not_a_book, with_body, then_from, records_from, title_fault, titled, recovered_born, recovered, is_old, is_unborn}
+use Rattle.tf_journal.specs.declared.title.Title.{Title}
 
 with_born : (first : List ℕ) (found : Recovered) → found ≢ unborn → with_body first found ≢ unborn
 with_born first unborn born = λ is. born refl
+with_born first old_format born = λ is. let same : old_format ≡ unborn = is in cc
 with_born first (bodies others) born = λ is. let same : bodies (first ∷ others) ≡ unborn = is in cc
 with_born first (not_a_book offset byte) born = λ is. let same : not_a_book offset byte ≡ unborn = is in cc
 
@@ -12,9 +14,9 @@ then_born closed next born = λ is. let same : bodies [] ≡ unborn = is in cc
 then_born (body first place) next born = with_born first (next place) (born place)
 then_born (bad offset byte) next born = λ is. let same : not_a_book offset byte ≡ unborn = is in cc
 
-records_born : (most : ℕ) (bytes : List ℕ) (place : ℕ) → records_from most bytes place ≢ unborn
-records_born zero bytes place = λ is. let same : bodies [] ≡ unborn = is in cc
-records_born (suc most) bytes place = then_born (record_at bytes place) (records_from most bytes) (records_born most bytes)
+records_born : (title : Title) (most : ℕ) (bytes : List ℕ) (place : ℕ) → records_from title most bytes place ≢ unborn
+records_born title zero bytes place = λ is. let same : bodies [] ≡ unborn = is in cc
+records_born title (suc most) bytes place = then_born (record_at title bytes place) (records_from title most bytes) (records_born title most bytes)
 
 titled_born : (fault : Option (ℕ × Option ℕ)) (found : Recovered) → found ≢ unborn → titled fault found ≢ unborn
 titled_born None found born = born
@@ -31,10 +33,14 @@ unborn_if : (test : Bool) (found : Recovered) → found ≢ unborn → (if test 
 unborn_if true found born is = refl
 unborn_if false found born is = absurd (born is)
 
-pub unborn_found : (title bytes : List ℕ) → recovered title bytes ≡ unborn → is_unborn title bytes ≡ true
+old_born : old_format ≢ unborn
+old_born is = cc
+
+pub unborn_found : (title : Title) (bytes : List ℕ) → recovered title bytes ≡ unborn → is_unborn title bytes ≡ true
 unborn_found title [] is = refl
 unborn_found title (gate ∷ rest) is =
-    unborn_if (is_unborn title (gate ∷ rest)) (recovered_born title (gate ∷ rest))
-    (either_born (gate == OPEN) (titled (title_fault title rest 1) (records_from (length (gate ∷ rest)) (gate ∷ rest) 17)) (not_a_book 0 (Some gate))
-    (titled_born (title_fault title rest 1) (records_from (length (gate ∷ rest)) (gate ∷ rest) 17) (records_born (length (gate ∷ rest)) (gate ∷ rest) 17)) (bad_born 0 (Some gate)))
+    unborn_if (is_unborn title (gate ∷ rest)) (if is_old title rest then old_format else recovered_born title (gate ∷ rest))
+    (either_born (is_old title rest) old_format (recovered_born title (gate ∷ rest)) old_born
+    (either_born (gate == OPEN) (titled (title_fault (title_of title) rest 1) (records_from title (length (gate ∷ rest)) (gate ∷ rest) 17)) (not_a_book 0 (Some gate))
+    (titled_born (title_fault (title_of title) rest 1) (records_from title (length (gate ∷ rest)) (gate ∷ rest) 17) (records_born title (length (gate ∷ rest)) (gate ∷ rest) 17)) (bad_born 0 (Some gate))))
     is

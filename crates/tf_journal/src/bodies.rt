@@ -1,8 +1,8 @@
 //! How bodies are read through a journal, one after another.
-ghost use Rattle.std.specs.Prelude.{◌≡◌, ◌<◌, ◌≤◌, ◌++◌, ℕ, List, false, IsTrue, length, OnOk, IfOk, IfErr, IsErrOf};
+ghost use Rattle.std.specs.Prelude.{◌≡◌, ◌≢◌, ◌<◌, ◌≤◌, ◌++◌, ℕ, List, false, IsTrue, length, OnOk, IfOk, IfErr, IsErrOf};
 ghost use Rattle.tf_numbers.specs.Numbers.{Rises};
 ghost use Rattle.tf_desk.specs.State.{bytes_now};
-ghost use Rattle.tf_journal.specs.Format.{prefix_of, title_of};
+ghost use Rattle.tf_journal.specs.Format.{prefix_of};
 ghost use Rattle.tf_journal.specs.Reading.{IsNext, IsNoRefusal, HasBodies, OnlyReads, RefusesPlace};
 
 use crate::faults::{JournalFault, LoadFault};
@@ -13,8 +13,8 @@ use tf_desk::Desk;
 /// Reads the body whose gate is at that place into the vector, in place of what it has, and answers whether there
 /// is one before the journal's last gate. `NotABook` comes where the place is past 67,108,863, with that place and no
 /// byte, or where the file has no record behind the open gate there, with the offset and the byte that show it, or
-/// the file's end; `Disk` only where the count of disk faults rose; `Memory` where the vector didn't grow. After
-/// each the journal and its file are as before, and the vector has any bytes.
+/// the file's end; `Disk` only where the count of disk faults rose; `Memory` where the vector didn't grow; `Old`
+/// never. After each the journal and its file are as before, and the vector has any bytes.
 pub fn next_body<K: Desk>(
     journal: &mut Journal<K>,
     place: u64,
@@ -24,14 +24,15 @@ pub fn next_body<K: Desk>(
     requires in_file { journal.old.volatile ≡ false }
     ensures found { (before rest : List (List ℕ)) → IsTrue (K.state journal.old.desk).tells
         → HasBodies K.state journal.old (before ++ rest)
-        → place ≡ length (prefix_of (title_of journal.old.title) before)
+        → place ≡ length (prefix_of journal.old.title before)
         → IfOk result (λ found. IsNext found rest body.new.items) }
     ensures whole { (before rest : List (List ℕ)) → IsTrue (K.state journal.old.desk).tells
         → HasBodies K.state journal.old (before ++ rest)
-        → place ≡ length (prefix_of (title_of journal.old.title) before)
+        → place ≡ length (prefix_of journal.old.title before)
         → IfErr result IsNoRefusal }
     ensures refuses { IsTrue (K.state journal.old.desk).tells
-        → IfErr result (λ fault. RefusesPlace fault (bytes_now (K.state journal.old.desk)) place) }
+        → IfErr result (λ fault. RefusesPlace fault journal.old.title (bytes_now (K.state journal.old.desk)) place) }
+    ensures never_old { IfErr result (λ fault. fault ≢ LoadFault.Old) }
     ensures within { OnOk result (place < 67108864) }
     ensures cause { IsErrOf result LoadFault.Disk
         → Rises (K.state journal.old.desk).disk_faults (K.state journal.new.desk).disk_faults }
@@ -53,6 +54,6 @@ pub fn next_body<K: Desk>(
         Err(JournalFault::Disk) => Err(LoadFault::Disk),
         Err(JournalFault::Memory) => Err(LoadFault::Memory),
         Err(JournalFault::NotABook { offset, byte }) => Err(LoadFault::NotABook { offset, byte }),
-        Err(JournalFault::Unborn) => unreachable!(),
+        Err(JournalFault::Unborn | JournalFault::Old) => unreachable!(),
     }
 }

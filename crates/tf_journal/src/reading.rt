@@ -6,6 +6,7 @@ ghost use Rattle.tf_journal.specs.Format.{record_at};
 
 use crate::faults::JournalFault;
 use crate::scanning::{Look, look_at};
+use crate::title::Title;
 use tf_desk::Desk;
 
 /// Reads that many bytes from that place on into the vector, in place of what it has. They were seen to be
@@ -38,22 +39,25 @@ fn read_body<K: Desk>(
     }
 }
 
-/// Reads the record whose gate is at that place into the vector, and answers the next gate's place.
+/// Reads the record of a journal of that title whose gate is at that place into the vector, and answers the next
+/// gate's place.
 pub fn read_record<K: Desk>(
     desk: &mut K,
+    title: Title,
     place: u64,
     into: &mut Vec<u8>,
 ) -> Result<Option<u64>, JournalFault>
     requires { place < 67108864 }
     ensures gives { IsTrue (K.state desk.old).tells
         → IfOk result
-        (λ next. GivesRecord next into.old.items into.new.items (record_at (bytes_now (K.state desk.old)) place)) }
+        (λ next. GivesRecord next into.old.items into.new.items
+        (record_at title (bytes_now (K.state desk.old)) place)) }
     ensures refuses { IsTrue (K.state desk.old).tells
-        → IfErr result (λ fault. RefusesRecord fault (record_at (bytes_now (K.state desk.old)) place)) }
+        → IfErr result (λ fault. RefusesRecord fault (record_at title (bytes_now (K.state desk.old)) place)) }
     ensures rests { Rests (K.state desk.old) (K.state desk.new) }
     ensures fails { IfErr result (λ fault. FailsToRead fault (K.state desk.old) (K.state desk.new)) }
 {
-    match look_at(desk, place) {
+    match look_at(desk, place, title) {
         Ok(Look::Closed) => Ok(None),
         Ok(Look::Bad { offset, byte }) => Err(JournalFault::NotABook { offset, byte }),
         Ok(Look::Body { length }) => {

@@ -2,7 +2,7 @@
 ghost use Rattle.std.specs.Prelude.{◌≡◌, ◌≢◌, ◌<◌, ◌+◌, ◌*◌, ◌≤◌, List, ℕ, IsTrue, length, take, drop, IfOk, IfErr, OnOk, MatchResult, Err};
 ghost use Rattle.tf_desk.specs.State.{bytes_now, IsDurable, Rests, FailsOnDisk};
 ghost use Rattle.tf_journal.specs.Answers.{RefusesFile, FailsToScan, IsScanned, EndsWithin, RefusesScan, RisesAtDisk};
-ghost use Rattle.tf_journal.specs.Format.{bodies, records_from, recovered, title_of, LiesAs, HasSynced, IsSynced};
+ghost use Rattle.tf_journal.specs.Format.{bodies, body_limit, records_from, recovered, LiesAs, HasSynced, IsSynced};
 ghost use Rattle.tf_journal.specs.Reach.{IsNear, Shows, EndsScanned, IsWindow};
 
 use crate::faults::{JournalFault, ScanFault};
@@ -11,9 +11,6 @@ use crate::header::{Header, read_header};
 use crate::title::Title;
 use crate::window::Window;
 use tf_desk::{Desk, DeskFault};
-
-/// The greatest length of a body.
-pub const BODY_LIMIT: u64 = 1_048_576;
 
 /// The greatest size of a journal.
 pub const SIZE_LIMIT: u64 = 67_108_864;
@@ -41,12 +38,12 @@ fn length_of(first: u8, second: u8, third: u8, fourth: u8) -> u64
         + u64::from(fourth)
 }
 
-/// What the bytes from a place on show, of which five are enough, in a file of that size.
-fn read_head(head: &[u8], size: u64, place: u64) -> Look
+/// What the bytes from a place on show, of which five are enough, in a journal of that title and size.
+fn read_head(head: &[u8], size: u64, place: u64, title: Title) -> Look
     requires { place < SIZE_LIMIT }
     ensures near { IsNear result place }
     ensures shows { (bytes : List ℕ) → head.now ≡ take 5 (drop place bytes) → length bytes ≡ size
-        → Shows result bytes place }
+        → Shows title result bytes place }
 {
     if head.is_empty() || head[0] != OPEN {
         return Look::Closed;
@@ -58,7 +55,8 @@ fn read_head(head: &[u8], size: u64, place: u64) -> Look
         };
     }
     let length = length_of(head[1], head[2], head[3], head[4]);
-    if length == 0 || length > BODY_LIMIT || place + 6 + length > SIZE_LIMIT {
+    let limit = title.body_limit();
+    if length == 0 || length > limit || place + 6 + length > SIZE_LIMIT {
         return Look::Bad {
             offset: place + 1,
             byte: Some(head[1]),
@@ -75,18 +73,18 @@ fn read_head(head: &[u8], size: u64, place: u64) -> Look
 
 /// Looks at the record whose gate is at that place. The file's size is asked for after the record's first bytes
 /// are read, so that a record which another program adds at the time is in the file where its gate is open.
-pub fn look_at<K: Desk>(desk: &mut K, place: u64) -> Result<Look, DeskFault>
+pub fn look_at<K: Desk>(desk: &mut K, place: u64, title: Title) -> Result<Look, DeskFault>
     requires { place < SIZE_LIMIT }
     ensures near { IfOk result (λ look. IsNear look place) }
     ensures shows { IfOk result (λ look. IsTrue (K.state desk.old).tells
-        → Shows look (bytes_now (K.state desk.old)) place) }
+        → Shows title look (bytes_now (K.state desk.old)) place) }
     ensures rests { Rests (K.state desk.old) (K.state desk.new) }
     ensures fails { IfErr result (λ fault. FailsOnDisk fault (K.state desk.old) (K.state desk.new)) }
 {
     let mut head = [0; 5];
     let count = desk.read(place, &mut head)?;
     let size = desk.size()?;
-    Ok(read_head(&head[..count], size, place))
+    Ok(read_head(&head[..count], size, place, title))
 }
 
 /// Whether a record isn't one only because the file ends too early.
@@ -96,11 +94,17 @@ fn is_cut(look: &Look) -> bool {
 
 /// Looks at the record whose gate is at that place through the window, whose file has that size as asked for last.
 /// Where the file ends too early the size is asked for again: another program may have added the record meanwhile.
-fn look_through<K: Desk>(desk: &mut K, window: &mut Window, place: u64) -> Result<Look, DeskFault>
+fn look_through<K: Desk>(
+    desk: &mut K,
+    window: &mut Window,
+    place: u64,
+    title: Title,
+) -> Result<Look, DeskFault>
     requires { place < SIZE_LIMIT }
     ensures near { IfOk result (λ look. IsNear look place) }
     ensures shows { IfOk result (λ look. IsTrue (K.state desk.old).tells
-        → IsWindow (bytes_now (K.state desk.old)) window.old → Shows look (bytes_now (K.state desk.old)) place) }
+        → IsWindow (bytes_now (K.state desk.old)) window.old
+        → Shows title look (bytes_now (K.state desk.old)) place) }
     ensures window { OnOk result (IsTrue (K.state desk.old).tells
         → IsWindow (bytes_now (K.state desk.old)) window.old → IsWindow (bytes_now (K.state desk.old)) window.new) }
     ensures rests { Rests (K.state desk.old) (K.state desk.new) }
@@ -108,21 +112,22 @@ fn look_through<K: Desk>(desk: &mut K, window: &mut Window, place: u64) -> Resul
 {
     let mut head = [0; 5];
     let count = window.read(desk, place, &mut head)?;
-    let look = read_head(&head[..count], window.size, place);
+    let look = read_head(&head[..count], window.size, place, title);
     if !is_cut(&look) {
         return Ok(look);
     }
     window.size = desk.size()?;
-    Ok(read_head(&head[..count], window.size, place))
+    Ok(read_head(&head[..count], window.size, place, title))
 }
 
-/// Reads the records from place 17 on of a file of that size.
-fn scan_records<K: Desk>(desk: &mut K, size: u64) -> Result<Scanned, ScanFault>
+/// Reads the records from place 17 on of a journal of that title and size.
+fn scan_records<K: Desk>(desk: &mut K, size: u64, title: Title) -> Result<Scanned, ScanFault>
     requires { IsTrue (K.state desk.old).tells → length (bytes_now (K.state desk.old)) ≡ size }
     ensures scanned { IsTrue (K.state desk.old).tells → 18 ≤ length (bytes_now (K.state desk.old))
-        → MatchResult result (λ scanned. EndsScanned scanned (bytes_now (K.state desk.old)))
+        → MatchResult result (λ scanned. EndsScanned title scanned (bytes_now (K.state desk.old)))
         (λ fault. RefusesScan fault
-        (records_from (length (bytes_now (K.state desk.old))) (bytes_now (K.state desk.old)) 17)) }
+        (records_from title (length (bytes_now (K.state desk.old))) (bytes_now (K.state desk.old)) 17)) }
+    ensures never_old { result ≢ Err ScanFault.Old }
     ensures bounds { IfOk result EndsWithin }
     ensures rests { Rests (K.state desk.old) (K.state desk.new) }
     ensures fails { IfErr result (λ fault. RisesAtDisk fault (K.state desk.old) (K.state desk.new)) }
@@ -131,7 +136,7 @@ fn scan_records<K: Desk>(desk: &mut K, size: u64) -> Result<Scanned, ScanFault>
     let mut place = 17;
     let mut count = 0;
     loop {
-        match look_through(desk, &mut window, place) {
+        match look_through(desk, &mut window, place, title) {
             Ok(Look::Closed) => {
                 return Ok(Scanned::Records {
                     count,
@@ -169,13 +174,15 @@ pub fn read_start<K: Desk>(desk: &mut K, head: &mut [u8; 18]) -> Result<(u64, us
     Ok((size, count))
 }
 
-/// What the picked file is, by all its bytes: unborn, or a journal of that title with so many records. `NotABook`
-/// comes exactly where the file is so, and `Disk` only where the count of disk faults rose. The file is synced first,
-/// and none changes. It takes no memory: records are read through a window, whose one read serves all that lie in it.
+/// What the picked file is, by all its bytes: unborn, or a journal of that title with so many records. `NotABook` and
+/// `Old` come exactly where the file is so, `Old` for a book of several flows alone, and `Disk` only where the count of
+/// disk faults rose. The file is synced first, and none changes. It takes no memory: records are read through a window,
+/// whose one read serves all that lie in it.
 pub fn scan<K: Desk>(desk: &mut K, title: Title) -> Result<Scanned, ScanFault>
     ensures scanned { IsTrue (K.state desk.old).tells → MatchResult result
-        (λ scanned. IsScanned scanned (title_of title) (bytes_now (K.state desk.old)))
-        (λ fault. RefusesScan fault (recovered (title_of title) (bytes_now (K.state desk.old)))) }
+        (λ scanned. IsScanned scanned title (bytes_now (K.state desk.old)))
+        (λ fault. RefusesScan fault (recovered title (bytes_now (K.state desk.old)))) }
+    ensures old_format { result ≡ Err ScanFault.Old → title ≡ Title.Book2 }
     ensures durable { OnOk result (IsTrue (K.state desk.old).tells → IsDurable (K.state desk.new)) }
     ensures bounds { IfOk result EndsWithin }
     ensures rests { Rests (K.state desk.old) (K.state desk.new) }
@@ -191,18 +198,20 @@ pub fn scan<K: Desk>(desk: &mut K, title: Title) -> Result<Scanned, ScanFault>
     };
     match read_header(&head[..count], size, title) {
         Header::Unborn => Ok(Scanned::Unborn),
+        Header::Old => Err(ScanFault::Old),
         Header::Bad { offset, byte } => Err(ScanFault::NotABook { offset, byte }),
-        Header::Titled => scan_records(desk, size),
+        Header::Titled => scan_records(desk, size, title),
     }
 }
 
-/// The place after the gate that ends the picked file's records. `Unborn` and `NotABook` come exactly where the file is
-/// so, and `Disk` only where the count of disk faults rose. The file is synced first.
+/// The place after the gate that ends the picked file's records. `Unborn`, `Old` and `NotABook` come exactly where the
+/// file is so, and `Disk` only where the count of disk faults rose. The file is synced first.
 pub fn find_end<K: Desk>(desk: &mut K, title: Title) -> Result<u64, JournalFault>
     ensures scanned { IsTrue (K.state desk.old).tells → MatchResult result
-        (λ end. (held : List (List ℕ)) × (recovered (title_of title) (bytes_now (K.state desk.old)) ≡ bodies held)
-        × LiesAs (title_of title) held end (bytes_now (K.state desk.new)))
-        (λ fault. RefusesFile fault (recovered (title_of title) (bytes_now (K.state desk.old)))) }
+        (λ end. (held : List (List ℕ)) × (recovered title (bytes_now (K.state desk.old)) ≡ bodies held)
+        × LiesAs title held end (bytes_now (K.state desk.new)))
+        (λ fault. RefusesFile fault (recovered title (bytes_now (K.state desk.old)))) }
+    ensures old_format { result ≡ Err JournalFault.Old → title ≡ Title.Book2 }
     ensures durable { OnOk result (IsTrue (K.state desk.old).tells → IsDurable (K.state desk.new)) }
     ensures bounds { IfOk result (λ end. (18 ≤ end) × (end ≤ 67108864)) }
     ensures rests { Rests (K.state desk.old) (K.state desk.new) }
@@ -217,5 +226,6 @@ pub fn find_end<K: Desk>(desk: &mut K, title: Title) -> Result<u64, JournalFault
         Ok(Scanned::Unborn) => Err(JournalFault::Unborn),
         Err(ScanFault::NotABook { offset, byte }) => Err(JournalFault::NotABook { offset, byte }),
         Err(ScanFault::Disk) => Err(JournalFault::Disk),
+        Err(ScanFault::Old) => Err(JournalFault::Old),
     }
 }

@@ -6,7 +6,7 @@ use Rattle.tf_numbers.specs.Numbers.{Rises}
 use Rattle.tf_desk.specs.State.{DeskState, Rests}
 use Rattle.tf_desk.proofs.CountLemmas.{rises_later}
 use Rattle.tf_desk.proofs.StateLemmas.{on_disk_told}
-use Rattle.tf_journal.specs.Format.{SIZE_LIMIT, OPEN, Recovered, bodies, record_of, prefix_of, title_of, Held, IsAtRest}
+use Rattle.tf_journal.specs.Format.{SIZE_LIMIT, OPEN, Recovered, bodies, record_of, title_of, prefix_of, Held, IsAtRest}
 use Rattle.tf_journal.specs.Reading.{IsNext, IsNoRefusal, HasBodies, OnlyReads}
 use Rattle.tf_journal.specs.declared.faults.LoadFault.{LoadFault}
 use Rattle.tf_journal.specs.declared.faults.LoadFault.TheVariants as load_fault
@@ -23,31 +23,33 @@ use Rattle.tf_records.specs.Replaying.{HasReadTo, HasReadAll, FailsToReadBack}
 -- ---- faults
 
 -- a fault that says nothing of the file refuses nothing
-pub refuses_nothing : (title : List ℕ) (refuses : List (List ℕ) → List ℕ → Type 0) (fault : LoadFault) (held : List (List ℕ)) → IsNoRefusal fault → RefusesBodies title refuses fault held
+pub refuses_nothing : (title : Title) (refuses : List (List ℕ) → List ℕ → Type 0) (fault : LoadFault) (held : List (List ℕ)) → IsNoRefusal fault → RefusesBodies title refuses fault held
 refuses_nothing title refuses load_fault.Disk held is = tt
 refuses_nothing title refuses load_fault.Memory held is = tt
 refuses_nothing title refuses (load_fault.NotABook offset byte) held is = absurd is
+refuses_nothing title refuses load_fault.Old held is = absurd is
 
 -- why a body is refused
-pub refuses_so : (title : List ℕ) (refuses : List (List ℕ) → List ℕ → Type 0) (fault : MakeFault) (answer : LoadFault) (held : List (List ℕ)) (offset : ℕ) (byte : Option ℕ)
+pub refuses_so : (title : Title) (refuses : List (List ℕ) → List ℕ → Type 0) (fault : MakeFault) (answer : LoadFault) (held : List (List ℕ)) (offset : ℕ) (byte : Option ℕ)
     → (fault ≡ make_fault.No → answer ≡ load_fault.NotABook offset byte) → (fault ≡ make_fault.Memory → answer ≡ load_fault.Memory)
     → (fault ≡ make_fault.No → HasRefusedBody title refuses held offset byte) → RefusesBodies title refuses answer held
 refuses_so title refuses make_fault.No answer held offset byte bad memory refused = subst (λ (f : LoadFault). RefusesBodies title refuses f held) (sym (bad refl)) (refused refl)
 refuses_so title refuses make_fault.Memory answer held offset byte bad memory refused = subst (λ (f : LoadFault). RefusesBodies title refuses f held) (sym (memory refl)) tt
 
 -- a file whose bodies are refused is malformed
-pub refuses_malformed : (title : List ℕ) (refuses : List (List ℕ) → List ℕ → Type 0) (fault : LoadFault) (held : List (List ℕ)) (file : Recovered) → file ≡ bodies held
+pub refuses_malformed : (title : Title) (refuses : List (List ℕ) → List ℕ → Type 0) (fault : LoadFault) (held : List (List ℕ)) (file : Recovered) → file ≡ bodies held
     → RefusesBodies title refuses fault held → RefusesMalformed title refuses fault file
 refuses_malformed title refuses load_fault.Disk held file is refused = tt
 refuses_malformed title refuses load_fault.Memory held file is refused = tt
 refuses_malformed title refuses (load_fault.NotABook offset byte) held file is refused = bad_body held is refused
+refuses_malformed title refuses load_fault.Old held file is refused = absurd refused
 
 -- ---- places
 
 -- the place behind one body more
-pub place_on : (title : List ℕ) (before : List (List ℕ)) (body : List ℕ) → length (prefix_of title (before ++ body ∷ [])) ≡ length (prefix_of title before) + (5 + length body)
+pub place_on : (title : Title) (before : List (List ℕ)) (body : List ℕ) → length (prefix_of title (before ++ body ∷ [])) ≡ length (prefix_of title before) + (5 + length body)
 place_on title before body =
-    omega (arith, ap length (flat_map-push before body), length-append (OPEN ∷ title) (flat_map record_of (before ++ body ∷ [])), length-append (OPEN ∷ title) (flat_map record_of before), length-append (flat_map record_of before) (record_of body), length-record_of body)
+    omega (arith, ap length (flat_map-push before body), length-append (OPEN ∷ title_of title) (flat_map record_of (before ++ body ∷ [])), length-append (OPEN ∷ title_of title) (flat_map record_of before), length-append (flat_map record_of before) (record_of body), length-record_of body)
 
 module _ {K R : Type 0} (state : K → DeskState) (replayed : R → List (List ℕ) → Type 0) where
   abbrev Reads : Held K → Held K → Type 0
@@ -58,14 +60,14 @@ module _ {K R : Type 0} (state : K → DeskState) (replayed : R → List (List �
 
   -- what a look at that place says of the bodies behind those before it
   abbrev FindsSo : Held K → ℕ → (List (List ℕ) → Type 0) → Type 0
-  FindsSo j place Says = (before rest : List (List ℕ)) → IsTrue (state j.desk).tells → HasBodies state j (before ++ rest) → place ≡ length (prefix_of (title_of j.title) before) → Says rest
+  FindsSo j place Says = (before rest : List (List ℕ)) → IsTrue (state j.desk).tells → HasBodies state j (before ++ rest) → place ≡ length (prefix_of j.title before) → Says rest
 
   -- no body was read yet
   pub read_none : (j : Held K) (made : R) → replayed made [] → Read j made 17
   read_none j made none = record {
     before = [];
     is_replayed = none;
-    place_is = sym (first_place (title_of j.title) (sixteen j.title));
+    place_is = sym (first_place j.title (sixteen j.title));
     begins = λ told held lies. (held, refl);
   }
 
@@ -79,7 +81,7 @@ module _ {K R : Type 0} (state : K → DeskState) (replayed : R → List (List �
         first.1,
         found read.before first.0 (told_is state a b reads told)
             (subst (λ (h : List (List ℕ)). HasBodies state b h) first.1 (bodies_stay state a b reads told held lies))
-            (read.place_is ∙ ap (λ (t : Title). length (prefix_of (title_of t) read.before)) (sym title)),
+            (read.place_is ∙ ap (λ (t : Title). length (prefix_of t read.before)) (sym title)),
       )
 
   -- one body more was replayed
@@ -88,7 +90,7 @@ module _ {K R : Type 0} (state : K → DeskState) (replayed : R → List (List �
   read_on a b old new place next body read reads found one moved = record {
     before = read.before ++ body ∷ [];
     is_replayed = one read.before read.is_replayed;
-    place_is = omega (arith, moved, read.place_is, place_on (title_of a.title) read.before body);
+    place_is = omega (arith, moved, read.place_is, place_on a.title read.before body);
     begins = λ told held lies.
         let n = found_behind a b old place (λ rest. IsNext true rest body) read reads found told held lies in
         (n.2.0, n.1 ∙ ap (λ (r : List (List ℕ)). read.before ++ r) n.2.1 ∙ sym (append_assoc read.before (body ∷ []) n.2.0));
@@ -97,7 +99,7 @@ module _ {K R : Type 0} (state : K → DeskState) (replayed : R → List (List �
   -- a body was refused
   pub read_refused : (refuses : List (List ℕ) → List ℕ → Type 0) (a b : Held K) (made : R) (place offset : ℕ) (body : List ℕ) (byte : Option ℕ) (read : Read a made place) → Reads a b
       → FindsSo b place (λ rest. IsNext true rest body) → ((before : List (List ℕ)) → replayed made before → refuses before body) → offset ≡ place + 5 → byte ≡ slice_get body 0
-      → IsTrue (state a.desk).tells → (held : List (List ℕ)) → HasBodies state a held → HasRefusedBody (title_of a.title) refuses held offset byte
+      → IsTrue (state a.desk).tells → (held : List (List ℕ)) → HasBodies state a held → HasRefusedBody a.title refuses held offset byte
   read_refused refuses a b made place offset body byte read reads found cannot at its told held lies =
       let n = found_behind a b made place (λ rest. IsNext true rest body) read reads found told held lies in
       record {
@@ -129,7 +131,7 @@ module _ {K R : Type 0} (state : K → DeskState) (replayed : R → List (List �
   read_ends a b made place read reads found apart told held lies =
       let n = found_behind a b made place (λ rest. rest ≡ []) read reads found told held lies in
       let whole : held ≡ read.before = n.1 ∙ ap (λ (r : List (List ℕ)). read.before ++ r) n.2 ∙ append-nil read.before in
-      let same : length (prefix_of (title_of a.title) held) ≡ length (prefix_of (title_of a.title) read.before) = ap (λ (h : List (List ℕ)). length (prefix_of (title_of a.title) h)) whole in
+      let same : length (prefix_of a.title held) ≡ length (prefix_of a.title read.before) = ap (λ (h : List (List ℕ)). length (prefix_of a.title h)) whole in
       apart (omega (arith, lies.place, same, read.place_is))
 
 -- ---- a journal that wasn't read back
@@ -138,11 +140,11 @@ module _ {K R : Type 0} (state : K → DeskState) (replayed : R → List (List �
 pub unread : {K : Type 0} (state : K → DeskState) (refuses : List (List ℕ) → List ℕ → Type 0) (title : Title) (file : Recovered) (desk : K) (journal : Held K) (fault : LoadFault) (back : K)
     → journal.title ≡ title → Rests (state desk) (state journal.desk) → (IsTrue (state desk).tells → (held : List (List ℕ)) × (file ≡ bodies held) × IsAtRest state journal held)
     → FailsToReadBack state refuses fault journal back
-    → (IsTrue (state desk).tells → RefusesMalformed (title_of title) refuses fault file) × (fault ≡ load_fault.Disk → Rises (state desk).disk_faults (state back).disk_faults)
+    → (IsTrue (state desk).tells → RefusesMalformed title refuses fault file) × (fault ≡ load_fault.Disk → Rises (state desk).disk_faults (state back).disk_faults)
 unread state refuses title file desk journal fault back titled rests lies fails = (
   λ told.
       let held = lies told in
-      refuses_malformed (title_of title) refuses fault held.0 file held.1
-      (subst (λ (t : Title). RefusesBodies (title_of t) refuses fault held.0) titled (fails.refused (on_disk_told rests.on_disk told) held.0 held.2.lies)),
+      refuses_malformed title refuses fault held.0 file held.1
+      (subst (λ (t : Title). RefusesBodies t refuses fault held.0) titled (fails.refused (on_disk_told rests.on_disk told) held.0 held.2.lies)),
   λ is. rises_later (state desk).disk_faults (state journal.desk).disk_faults (state back).disk_faults rests.on_disk.disk_faults (fails.cause is),
 )

@@ -1,8 +1,8 @@
 -- How a journal is read back. `replayed made bodies` says that just these bodies were replayed into the value.
-use Rattle.std.specs.Prelude.{◌≡◌, ◌≤◌, ℕ, ◌+◌, IsTrue, List, ◌++◌, length}
+use Rattle.std.specs.Prelude.{◌≡◌, ◌≢◌, ◌≤◌, ℕ, ◌+◌, IsTrue, List, ◌++◌, length}
 use Rattle.tf_numbers.specs.Numbers.{Rises}
 use Rattle.tf_desk.specs.State.{DeskState}
-use Rattle.tf_journal.specs.Format.{SIZE_LIMIT, prefix_of, title_of, Held}
+use Rattle.tf_journal.specs.Format.{SIZE_LIMIT, prefix_of, Held}
 use Rattle.tf_journal.specs.Reading.{HasBodies}
 use Rattle.tf_journal.specs.declared.faults.LoadFault.{LoadFault}
 use Rattle.tf_journal.specs.declared.faults.LoadFault.TheVariants as load_fault
@@ -13,7 +13,7 @@ module _ {K R : Type 0} (state : K → DeskState) (replayed : R → List (List �
   pub record HasReadTo (journal : Held K) (made : R) (place : ℕ) : Type 0 where
     pub before : List (List ℕ)
     pub is_replayed : replayed made before
-    pub place_is : place ≡ length (prefix_of (title_of journal.title) before)
+    pub place_is : place ≡ length (prefix_of journal.title before)
     pub begins : IsTrue (state journal.desk).tells → (held : List (List ℕ)) → HasBodies state journal held
         → (rest : List (List ℕ)) × (held ≡ before ++ rest)
 
@@ -21,12 +21,13 @@ module _ {K R : Type 0} (state : K → DeskState) (replayed : R → List (List �
   pub record HasReadAll (journal : Held K) (made : R) : Type 0 where
     pub bodies : List (List ℕ)
     pub is_replayed : replayed made bodies
-    pub size : journal.size ≡ length (prefix_of (title_of journal.title) bodies) + 1
+    pub size : journal.size ≡ length (prefix_of journal.title bodies) + 1
     pub limit : journal.size ≤ SIZE_LIMIT
     pub whole : IsTrue (state journal.desk).tells → (held : List (List ℕ)) → HasBodies state journal held → held ≡ bodies
 
--- why a journal wasn't read back: what the fault says of its bodies is so, and the disk's comes only where the count of them rose
+-- why a journal wasn't read back: what the fault says of its bodies is so, the disk's comes only where the count of them rose, and none is of the format
 pub record FailsToReadBack {K : Type 0} (state : K → DeskState) (refuses : List (List ℕ) → List ℕ → Type 0) (fault : LoadFault) (journal : Held K) (desk : K) : Type 0 where
   pub refused : IsTrue (state journal.desk).tells → (held : List (List ℕ)) → HasBodies state journal held
-      → RefusesBodies (title_of journal.title) refuses fault held
+      → RefusesBodies journal.title refuses fault held
   pub cause : fault ≡ load_fault.Disk → Rises (state journal.desk).disk_faults (state desk).disk_faults
+  pub new_format : fault ≢ load_fault.Old

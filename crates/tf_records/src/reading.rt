@@ -1,5 +1,5 @@
 //! How a journal is read back.
-ghost use Rattle.std.specs.Prelude.{◌≡◌, ◌<◌, ◌+◌, [], false, OnOk, IfErr, slice_get};
+ghost use Rattle.std.specs.Prelude.{◌≡◌, ◌≢◌, ◌<◌, ◌+◌, [], false, OnOk, IfErr, slice_get};
 ghost use Rattle.tf_journal.specs.Reading.{OnlyReads};
 ghost use Rattle.tf_records.specs.Replaying.{HasReadAll, FailsToReadBack};
 
@@ -18,6 +18,7 @@ fn refusal(fault: MakeFault, place: u64, body: &[u8]) -> LoadFault
     ensures no { fault ≡ MakeFault.No → result ≡ LoadFault.NotABook (place + 5) (slice_get body.now 0) }
     ensures memory { fault ≡ MakeFault.Memory → result ≡ LoadFault.Memory }
     ensures no_disk { result ≡ LoadFault.Disk → ⊥ }
+    ensures new_format { result ≢ LoadFault.Old }
 {
     match fault {
         MakeFault::No => LoadFault::NotABook {
@@ -32,7 +33,7 @@ fn refusal(fault: MakeFault, place: u64, body: &[u8]) -> LoadFault
 /// replayed before. Where the desk tells its content and the file lies as bodies, `NotABook` comes only where one of
 /// them is refused after those before it, with the offset and the value of its first byte; where it tells nothing,
 /// also where a record is missing or spoilt, and at the place where the bodies end before the journal's last gate.
-/// `Disk` comes only where the count of disk faults rose, and `Memory` for want of memory. After each the journal and
+/// `Disk` comes only where the count of disk faults rose, `Memory` for want of memory, and `Old` never. After each the journal and
 /// its file are as before, and nothing is said of the value.
 pub fn read_back<K: Desk, R: Replay>(
     alloc: Global,

@@ -36,6 +36,10 @@ cannot_listen = codes "taskflow: cannot listen\n"
 abbrev pub disk_fault_text : List ℕ
 disk_fault_text = codes "taskflow: disk fault\n"
 
+-- the message for a book of the older format
+abbrev pub old_format : List ℕ
+old_format = codes "taskflow: old format\n"
+
 -- the byte that shows that a file is no book, or the file's end
 abbrev pub byte_or_end : Option ℕ → List ℕ
 byte_or_end None = codes "end"

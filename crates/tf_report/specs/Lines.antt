@@ -1,4 +1,4 @@
--- What is printed: the lines of a history, the report of a run, the table of its atoms, and the lines of jobs.
+-- What is printed: the lines of a history, the report of a run, the table of its atoms, the lines of jobs, and the lines of a book's flows.
 use Rattle.std.specs.Prelude.{ℕ, ◌+◌, List, [], ◌∷◌, ◌++◌, codes, length, slice_get, Bool, true, false, Option, Some, None, if◌then◌else◌}
 use Rattle.std.specs.Fmt.{decimal, signed_decimal}
 use Rattle.tf_values.specs.Value.{text_form, quoted}
@@ -195,3 +195,9 @@ owner_text (Some name) = name
 abbrev pub job_line : JobLine → List ℕ
 job_line line =
     priority_word line.priority ++ 32 ∷ decimal line.number ++ 32 ∷ line.id ++ 32 ∷ line.name ++ 32 ∷ job_word line.state ++ 32 ∷ owner_text line.owner ++ 10 ∷ []
+
+-- ---- the flows of a book
+
+-- the line of a flow of a book: its number, counted from 0, the name of its root, and how it stands
+unfoldable pub detail_line : ℕ → List ℕ → FlowState → List ℕ
+detail_line number name state = decimal number ++ 32 ∷ name ++ 32 ∷ flow_word state ++ 10 ∷ []

@@ -12,6 +12,9 @@ pub const DISK_FAULT: &[u8] = b"taskflow: disk fault\n";
 /// The message for a file that can't be read.
 pub const CANNOT_READ: &[u8] = b"taskflow: cannot read\n";
 
+/// The message for a book of the older format.
+pub const OLD_FORMAT: &[u8] = b"taskflow: old format\n";
+
 /// The message where no hand could be hired.
 pub const CANNOT_HIRE: &[u8] = b"taskflow: cannot hire\n";
 

@@ -44,3 +44,6 @@ pub const FORBIDDEN: u8 = 14;
 
 /// The board refuses.
 pub const BOARD_REFUSED: u8 = 15;
+
+/// The book is of the older format; no command answers it yet.
+pub const OLD_BOOK: u8 = 16;

@@ -102,6 +102,7 @@ fn say_text<K: Desk>(desk: K, text: Result<Vec<u8>, Memory>, status: u8) -> (K, 
 
 /// Says why a board couldn't be opened, unless memory ran out.
 fn refuse<K: Desk>(alloc: Global, desk: K, fault: LoadFault) -> (K, u8)
+    requires new_format { fault ≢ LoadFault.Old }
     ensures ends { (name : List ℕ) (entry : K) → IsUnopened name fault (K.state entry) (K.state desk)
         → EndsUnopened name (K.state entry) (K.state result.0) result.1 }
     ensures concludes { Concludes (K.state desk) (K.state result.0) result.1 }
@@ -115,6 +116,7 @@ fn refuse<K: Desk>(alloc: Global, desk: K, fault: LoadFault) -> (K, u8)
             say_text(desk, text, NO_BOOK)
         }
         LoadFault::Memory => (desk, OUT_OF_MEMORY),
+        LoadFault::Old => unreachable!(),
     }
 }
 

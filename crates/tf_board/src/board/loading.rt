@@ -1,6 +1,6 @@
 ghost use Rattle.std.specs.Prelude.{◌≡◌, ◌≢◌, ℕ, List, [], true, false, IsTrue, IfOk, IfErr};
 ghost use Rattle.tf_desk.specs.State.{bytes_now, Rests, GoesOn};
-ghost use Rattle.tf_journal.specs.Format.{is_unborn, title_of, unborn, journal_bytes, IsAtRest, IsReady, LeavesBirth};
+ghost use Rattle.tf_journal.specs.Format.{is_unborn, unborn, journal_bytes, IsAtRest, IsReady, LeavesBirth};
 ghost use Rattle.tf_journal.specs.declared.title.Title.TheVariants.{Jobs as jobs_title};
 ghost use Rattle.tf_records.specs.Replaying.{FailsToReadBack};
 ghost use Rattle.tf_board.specs.Board.{board_in, bodies_of, IsRefusedCommand, desk_loaded, IsReadyBoard, IsLoadedBoard, FailsToMake, FailsToLoad, LeavesLoad, IsPicked, Opens};
@@ -39,14 +39,14 @@ impl<K: Desk> Board<K> {
 
     /// Makes a board without a command in the picked file, which has to be unborn.
     fn create(alloc: Global, desk: K) -> Result<Board<K>, (K, LoadFault)>
-        requires { IsTrue (K.state desk).tells → is_unborn (title_of jobs_title) (bytes_now (K.state desk)) ≡ true }
+        requires { IsTrue (K.state desk).tells → is_unborn jobs_title (bytes_now (K.state desk)) ≡ true }
         ensures fresh { IfOk result IsReadyBoard }
         ensures none { IfOk result (λ board. board.past ≡ []) }
         ensures born { IfOk result (λ board. IsTrue (K.state desk).tells
-            → bytes_now (K.state board.journal.desk) ≡ journal_bytes (title_of jobs_title) []) }
+            → bytes_now (K.state board.journal.desk) ≡ journal_bytes jobs_title []) }
         ensures at_rest { IfOk result (λ board. IsTrue (K.state desk).tells → IsAtRest K.state board.journal []) }
         ensures fails { IfErr result (λ back. FailsToMake back.1 (K.state desk) (K.state back.0)) }
-        ensures goes { GoesOn (LeavesBirth (title_of jobs_title) (K.state desk).shown)
+        ensures goes { GoesOn (LeavesBirth jobs_title (K.state desk).shown)
             (K.state desk) (K.state (desk_loaded result)) }
     {
         match Journal::create(alloc, desk, Title::Jobs) {
@@ -84,6 +84,7 @@ impl<K: Desk> Board<K> {
                 JournalFault::NotABook { offset, byte } => {
                     Err((desk, LoadFault::NotABook { offset, byte }))
                 }
+                JournalFault::Old => unreachable!(),
             },
         }
     }

@@ -1,7 +1,7 @@
 ghost use Rattle.std.specs.Prelude.{◌≡◌, ◌≢◌, ◌≤◌, ℕ, List, [], None, false, IsTrue, IfOk, IfErr};
 ghost use Rattle.tf_numbers.specs.Numbers.{Rises};
 ghost use Rattle.tf_desk.specs.State.{bytes_now, Rests};
-ghost use Rattle.tf_journal.specs.Format.{title_of, recovered, IsAtRest, HasSynced, IsSynced};
+ghost use Rattle.tf_journal.specs.Format.{recovered, IsAtRest, HasSynced, IsSynced};
 ghost use Rattle.tf_journal.specs.declared.title.Title.TheVariants.{Book as book_title};
 ghost use Rattle.tf_records.specs.Replaying.{FailsToReadBack};
 ghost use Rattle.tf_book.specs.Book.{CannotFollow, RefusesBook};
@@ -63,17 +63,18 @@ impl<K: Desk> Book<K> {
     /// Reads the picked file as a book, body by body. `NotABook` comes only where the file is no journal of a
     /// book, or where one of its bodies can't come: the first is no plan that can run, or a later one is no entry
     /// that may follow; the offset and the byte are those of the body's first byte. `Disk` comes only where the
-    /// count of disk faults rose. No file changes. The file is synced first: unless the answer is `Disk`, there is a
-    /// moment in it since which a crash leaves just what a read gives.
+    /// count of disk faults rose, and `Old` never. No file changes. The file is synced first: unless the answer is
+    /// `Disk`, there is a moment in it since which a crash leaves just what a read gives.
     #[tactic(auto, using(tf_journal::proofs::CrashLemmas::synced_on))]
     pub fn load(alloc: Global, desk: K) -> Result<Loaded<K>, (K, LoadFault)>
         ensures made { IfOk result (IsMade K.state) }
         ensures loads { IfOk result (λ loaded. IsTrue (K.state desk).tells
-            → IsLoaded loaded (recovered (title_of book_title) (bytes_now (K.state desk)))) }
+            → IsLoaded loaded (recovered book_title (bytes_now (K.state desk)))) }
         ensures refused { IfErr result (λ back. IsTrue (K.state desk).tells
-            → RefusesBook back.1 (recovered (title_of book_title) (bytes_now (K.state desk)))) }
+            → RefusesBook back.1 (recovered book_title (bytes_now (K.state desk)))) }
         ensures cause { IfErr result (λ back. back.1 ≡ LoadFault.Disk
             → Rises (K.state desk).disk_faults (K.state back.0).disk_faults) }
+        ensures new_format { IfErr result (λ back. back.1 ≢ LoadFault.Old) }
         ensures rests { Rests (K.state desk) (K.state (desk_after_load result)) }
         ensures synced { IsTrue (K.state desk).tells → IsSynced (K.state desk) (K.state (desk_after_load result)) }
         ensures at_sync { IsTrue (K.state desk).tells → IfErr result (λ back. back.1 ≢ LoadFault.Disk)
@@ -88,6 +89,7 @@ impl<K: Desk> Book<K> {
                 JournalFault::NotABook { offset, byte } => {
                     Err((desk, LoadFault::NotABook { offset, byte }))
                 }
+                JournalFault::Old => unreachable!(),
             },
         }
     }

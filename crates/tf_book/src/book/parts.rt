@@ -1,6 +1,6 @@
 ghost use Rattle.std.specs.Prelude.{◌≡◌, None, false, IsTrue, length};
 ghost use Rattle.tf_desk.specs.State.{bytes_now, IsDurable};
-ghost use Rattle.tf_journal.specs.Format.{title_of, LiesAs};
+ghost use Rattle.tf_journal.specs.Format.{LiesAs};
 ghost use Rattle.tf_journal.specs.declared.title.Title.TheVariants.{Book as book_title};
 ghost use Rattle.tf_machine.specs.Machine.{StandsFor};
 ghost use Rattle.tf_book.specs.Book.{bodies_of, book_size};
@@ -39,7 +39,7 @@ impl<K: Desk> Book<K> {
     pub fn close(self) -> K
         ensures desk { result ≡ self.journal.desk }
         ensures file { self.halt ≡ None → IsTrue (K.state self.journal.desk).tells → self.journal.volatile ≡ false
-            → LiesAs (title_of book_title) (bodies_of self.plan self.past) (book_size self.plan self.past)
+            → LiesAs book_title (bodies_of self.plan self.past) (book_size self.plan self.past)
             (bytes_now (K.state result)) }
         ensures durable { self.halt ≡ None → IsTrue (K.state self.journal.desk).tells → self.journal.volatile ≡ false
             → IsDurable (K.state result) }

@@ -7,7 +7,7 @@ ghost use Rattle.tf_model.specs.Plan.{is_task, compile_refusal};
 ghost use Rattle.tf_model.specs.Steps.{Step, LegalPast, is_still};
 ghost use Rattle.tf_actions.specs.Gives.{IsWhole};
 ghost use Rattle.tf_bound.specs.Short.{AreShort, IsWithinLimits};
-ghost use Rattle.tf_journal.specs.Format.{title_of, LeavesBodies};
+ghost use Rattle.tf_journal.specs.Format.{LeavesBodies};
 ghost use Rattle.tf_journal.specs.declared.title.Title.TheVariants.{Book as book_title};
 ghost use Rattle.tf_book.specs.Book.{outline, moment, flow_state, bodies_of, IsHistoryOf};
 ghost use Rattle.tf_book.specs.declared.faults.Halt.{Halt as Cause};
@@ -41,7 +41,7 @@ impl<K: Desk> Book<K> {
         ensures open { self.now.halt ≢ Some Cause.Disk → self.now.journal.halted ≡ false }
         ensures leaves { IsTrue (K.state self.now.journal.desk).tells → self.now.journal.volatile ≡ false
             → self.now.halt ≢ Some Cause.Disk
-            → LeavesBodies (title_of book_title) (K.state self.now.journal.desk)
+            → LeavesBodies book_title (K.state self.now.journal.desk)
             (bodies_of self.now.plan self.now.past) }
     {
         let plan = self.machine.plan();

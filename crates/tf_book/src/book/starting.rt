@@ -1,7 +1,7 @@
 ghost use Rattle.std.specs.Prelude.{◌≡◌, ◌≤◌, [], length, true, OnOk, IfOk, IfErr};
 ghost use Rattle.tf_desk.specs.State.{bytes_now, anything, Passes, GoesOn};
 ghost use Rattle.tf_entries.specs.Plans.{IsPlan};
-ghost use Rattle.tf_journal.specs.Format.{title_of, bodies, recovered, IsAtRest, IsOpen};
+ghost use Rattle.tf_journal.specs.Format.{bodies, recovered, IsAtRest, IsOpen};
 ghost use Rattle.tf_journal.specs.declared.title.Title.TheVariants.{Book as book_title};
 ghost use Rattle.tf_machine.specs.Machine.{StandsFor};
 ghost use Rattle.tf_book.specs.Book.{bodies_of, book_size};
@@ -42,7 +42,7 @@ fn append_plan<K: Desk>(
         (journal.new ≡ record journal.old { desk = journal.new.desk; size = book_size plan.now [] }) }
     ensures rests { OnOk result (IsOpen K.state journal.old → IsAtRest K.state journal.new (bodies_of plan.now [])) }
     ensures recovers { OnOk result (IsOpen K.state journal.old
-        → recovered (title_of book_title) (bytes_now (K.state journal.new.desk)) ≡ bodies (bodies_of plan.now [])) }
+        → recovered book_title (bytes_now (K.state journal.new.desk)) ≡ bodies (bodies_of plan.now [])) }
     ensures exact { OnOk result (IsOpen K.state journal.old
         → length (bytes_now (K.state journal.old.desk)) ≡ journal.old.size
         → IsExact (K.state journal.new.desk) plan.now []) }
@@ -80,7 +80,7 @@ impl<K: Desk> Book<K> {
         requires fresh { StandsFor machine [] }
         ensures made { IfOk result (λ book. book ≡ begun_book machine.plan journal book.journal.desk quiet) }
         ensures recovers { IfOk result (λ book. IsOpen K.state journal
-            → recovered (title_of book_title) (bytes_now (K.state book.journal.desk))
+            → recovered book_title (bytes_now (K.state book.journal.desk))
             ≡ bodies (bodies_of machine.plan [])) }
         ensures exact { IfOk result (λ book. IsOpen K.state journal
             → length (bytes_now (K.state journal.desk)) ≡ journal.size

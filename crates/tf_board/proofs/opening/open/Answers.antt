@@ -18,9 +18,11 @@ returns-in-Err-Disk g c =
     let p = c.pick.ensures in
     untouched_unopened load_fault.Disk (unpicked p.on_disk c.in-Err-Disk.ensures.unpicked) (on_disk_within p.on_disk (λ told image text left. tt)) (λ told. tt)
     (λ is. subst (λ (f : DeskFault). FailsToPick f (g.K.Desk.state c.args.desk) (g.K.Desk.state c.pick.new.self)) c.in-Err-Disk.field-0-is c.in-Err-Disk.ensures.fails)
+    (λ is. cc)
 
 pub returns-in-Err-Memory : goal.returns-in-Err-Memory
 returns-in-Err-Memory g c =
     let p = c.pick.ensures in
     untouched_unopened load_fault.Memory (unpicked p.on_disk c.in-Err-Memory.ensures.unpicked) (on_disk_within p.on_disk (λ told image text left. tt)) (λ told. tt)
     (λ is. absurd (cc))
+    (λ is. cc)

@@ -5,6 +5,7 @@ use Rattle.tf_desk.proofs.StateLemmas.{on_disk_told, bytes_stay, durable_on}
 use Rattle.tf_journal.specs.declared.faults.ScanFault.{ScanFault}
 use Rattle.tf_journal.specs.declared.scanning.Scanned.{Scanned}
 use Rattle.tf_journal.specs.declared.scanning.Scanned.TheVariants as scanned
+use Rattle.tf_journal.specs.declared.title.Title.{Title}
 use Rattle.tf_journal.specs.Format.{OPEN, recovered, records_from, title_of, LiesAs}
 use Rattle.tf_journal.specs.Answers.{IsScanned, RefusesScan}
 use Rattle.tf_journal.specs.Reach.{EndsRecords, EndsScanned}
@@ -18,28 +19,28 @@ returns-in-Titled-clause-scanned g c =
     let old = c.args.desk.now in
     let mid = c.read_start.new.desk in
     let new = c.scan_records.new.desk in
-    let title = title_of c.args.title in
+    let title = c.args.title in
     let bytes = bytes_now (S old) in
     λ told.
     let still : IsTrue (S mid).tells = on_disk_told c.read_start.ensures.rests.on_disk told in
     let same : bytes_now (S mid) ≡ bytes = bytes_stay (c.read_start.ensures.rests.files told) in
     let size : length bytes ≡ c.in-Ok.size = c.in-Ok.ensures.size told in
-    let titled = c.in-Titled.ensures bytes (c.in-Ok.ensures.bytes told) size in
+    let titled = c.in-Titled.ensures.shows bytes (c.in-Ok.ensures.bytes told) size in
     let ends = c.scan_records.ensures.scanned still (omega (arith, titled.1, ap length same)) in
-    MatchResult-weaker c.scan_records.result {P = λ found. EndsScanned found (bytes_now (S mid))} {P' = λ found. IsScanned found title bytes}
-    {Q = λ fault. RefusesScan fault (records_from (length (bytes_now (S mid))) (bytes_now (S mid)) 17)} {Q' = λ fault. RefusesScan fault (recovered title bytes)}
+    MatchResult-weaker c.scan_records.result {P = λ found. EndsScanned title found (bytes_now (S mid))} {P' = λ found. IsScanned found title bytes}
+    {Q = λ fault. RefusesScan fault (records_from title (length (bytes_now (S mid))) (bytes_now (S mid)) 17)} {Q' = λ fault. RefusesScan fault (recovered title bytes)}
     ends
-    (λ found its. lies_in title bytes (bytes_now (S mid)) found same (sixteen c.args.title) titled.0 titled.2 its)
-    (λ fault refuses. subst (RefusesScan fault) (ap (λ (b : List ℕ). records_from (length b) b 17) same ∙ sym titled.2) refuses)
+    (λ found its. lies_in title bytes (bytes_now (S mid)) found same titled.0 titled.2 its)
+    (λ fault refuses. subst (RefusesScan fault) (ap (λ (b : List ℕ). records_from title (length b) b 17) same ∙ sym titled.2) refuses)
   where
-    lies_in : (title bytes mid : List ℕ) (found : Scanned) → mid ≡ bytes → length title ≡ 16 → take 17 bytes ≡ OPEN ∷ title → recovered title bytes ≡ records_from (length bytes) bytes 17 → EndsScanned found mid → IsScanned found title bytes
-    lies_in title bytes mid scanned.Unborn same long prefix whole ends = absurd ends
-    lies_in title bytes mid (scanned.Records count end) same long prefix whole ends =
-        let e : EndsRecords bytes count end = subst (λ (b : List ℕ). EndsRecords b count end) same ends in (
+    lies_in : (title : Title) (bytes mid : List ℕ) (found : Scanned) → mid ≡ bytes → take 17 bytes ≡ OPEN ∷ title_of title → recovered title bytes ≡ records_from title (length bytes) bytes 17 → EndsScanned title found mid → IsScanned found title bytes
+    lies_in title bytes mid scanned.Unborn same prefix whole ends = absurd ends
+    lies_in title bytes mid (scanned.Records count end) same prefix whole ends =
+        let e : EndsRecords title bytes count end = subst (λ (b : List ℕ). EndsRecords title b count end) same ends in (
           e.held,
-          whole ∙ reach_closed bytes e.held e.place e.reaches e.ends,
+          whole ∙ reach_closed title bytes e.held e.place e.reaches e.ends,
           e.many,
-          subst (λ (n : ℕ). LiesAs title e.held n bytes) (sym e.behind) (reach_lies title bytes e.held e.place prefix long e.reaches e.ends),
+          subst (λ (n : ℕ). LiesAs title e.held n bytes) (sym e.behind) (reach_lies title bytes e.held e.place prefix (sixteen title) e.reaches e.ends),
         )
 
 pub returns-in-Titled-clause-durable : goal.returns-in-Titled-clause-durable

@@ -13,7 +13,7 @@ loop-length-init g c = record {
   few = omega arith;
   window = λ told. c.make-window.ensures.shows (bytes_now (g.K.Desk.state c.args.desk.now)) (c.requires told);
   rests = rests_none;
-  reaches = λ told whole. ([], refl, reach_start (bytes_now (g.K.Desk.state c.args.desk.now)) (omega (arith, whole)));
+  reaches = λ told whole. ([], refl, reach_start c.args.title (bytes_now (g.K.Desk.state c.args.desk.now)) (omega (arith, whole)));
 }
 
 pub returns-in-Ok-Closed-clause-rests : goal.returns-in-Ok-Closed-clause-rests
@@ -38,12 +38,12 @@ loop-length-preserved g c =
           let r = had.reaches told whole in
           let same : mid ≡ old = bytes_stay (had.rests.files told) in
           let before = subst (λ (b : List ℕ). IsWindow b c.loop-length.window) (sym same) (had.window told) in
-          let shown : Shows (Body c.in-Ok-Body.length) mid c.loop-length.place = subst (λ (l : Look). Shows l mid c.loop-length.place) c.in-Ok-Body.field-0-is (c.in-Ok-Body.ensures.shows (on_disk_told had.rests.on_disk told) before) in
-          let here : Shows (Body c.in-Ok-Body.length) old c.loop-length.place = subst (λ (b : List ℕ). Shows (Body c.in-Ok-Body.length) b c.loop-length.place) same shown in
+          let shown : Shows c.args.title (Body c.in-Ok-Body.length) mid c.loop-length.place = subst (λ (l : Look). Shows c.args.title l mid c.loop-length.place) c.in-Ok-Body.field-0-is (c.in-Ok-Body.ensures.shows (on_disk_told had.rests.on_disk told) before) in
+          let here : Shows c.args.title (Body c.in-Ok-Body.length) old c.loop-length.place = subst (λ (b : List ℕ). Shows c.args.title (Body c.in-Ok-Body.length) b c.loop-length.place) same shown in
           let next : c.loop-length.place + 5 + length here.0 ≡ c.loop-length.place + (5 + c.in-Ok-Body.length) = omega (arith, here.1) in (
             r.0 ++ here.0 ∷ [],
             omega (arith, r.1, length-append r.0 (here.0 ∷ [])),
-            subst (Reaches old (r.0 ++ here.0 ∷ [])) next (reach_on old r.0 c.loop-length.place here.0 r.2 here.2),
+            subst (Reaches c.args.title old (r.0 ++ here.0 ∷ [])) next (reach_on c.args.title old r.0 c.loop-length.place here.0 r.2 here.2),
           );
     }
 
@@ -57,13 +57,13 @@ returns-in-Ok-Closed-clause-scanned g c =
     let r = had.reaches told whole in
     let same : mid ≡ old = bytes_stay (had.rests.files told) in
     let before = subst (λ (b : List ℕ). IsWindow b c.loop-length.window) (sym same) (had.window told) in
-    let shown : Shows Closed mid c.loop-length.place = subst (λ (l : Look). Shows l mid c.loop-length.place) c.in-Ok-Closed.field-0-is (c.in-Ok-Closed.ensures.shows (on_disk_told had.rests.on_disk told) before) in
+    let shown : Shows c.args.title Closed mid c.loop-length.place = subst (λ (l : Look). Shows c.args.title l mid c.loop-length.place) c.in-Ok-Closed.field-0-is (c.in-Ok-Closed.ensures.shows (on_disk_told had.rests.on_disk told) before) in
     record {
       held = r.0;
       many = r.1;
       place = c.loop-length.place;
       reaches = r.2;
-      ends = subst (λ (b : List ℕ). Shows Closed b c.loop-length.place) same shown;
+      ends = subst (λ (b : List ℕ). Shows c.args.title Closed b c.loop-length.place) same shown;
       behind = omega arith;
     }
 
@@ -77,9 +77,9 @@ returns-in-Ok-Bad-clause-scanned g c =
     let r = had.reaches told whole in
     let same : mid ≡ old = bytes_stay (had.rests.files told) in
     let before = subst (λ (b : List ℕ). IsWindow b c.loop-length.window) (sym same) (had.window told) in
-    let shown : Shows (Bad c.in-Ok-Bad.offset c.in-Ok-Bad.byte) mid c.loop-length.place = subst (λ (l : Look). Shows l mid c.loop-length.place) c.in-Ok-Bad.field-0-is (c.in-Ok-Bad.ensures.shows (on_disk_told had.rests.on_disk told) before) in
-    let here : Shows (Bad c.in-Ok-Bad.offset c.in-Ok-Bad.byte) old c.loop-length.place = subst (λ (b : List ℕ). Shows (Bad c.in-Ok-Bad.offset c.in-Ok-Bad.byte) b c.loop-length.place) same shown in
-    reach_bad old r.0 c.loop-length.place c.in-Ok-Bad.offset c.in-Ok-Bad.byte r.2 here
+    let shown : Shows c.args.title (Bad c.in-Ok-Bad.offset c.in-Ok-Bad.byte) mid c.loop-length.place = subst (λ (l : Look). Shows c.args.title l mid c.loop-length.place) c.in-Ok-Bad.field-0-is (c.in-Ok-Bad.ensures.shows (on_disk_told had.rests.on_disk told) before) in
+    let here : Shows c.args.title (Bad c.in-Ok-Bad.offset c.in-Ok-Bad.byte) old c.loop-length.place = subst (λ (b : List ℕ). Shows c.args.title (Bad c.in-Ok-Bad.offset c.in-Ok-Bad.byte) b c.loop-length.place) same shown in
+    reach_bad c.args.title old r.0 c.loop-length.place c.in-Ok-Bad.offset c.in-Ok-Bad.byte r.2 here
 
 pub returns-in-Ok-Bad-clause-rests : goal.returns-in-Ok-Bad-clause-rests
 returns-in-Ok-Bad-clause-rests g c = rests_on c.loop-length.invariant.rests c.look_through.ensures.rests

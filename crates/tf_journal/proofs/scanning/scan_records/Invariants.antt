@@ -15,5 +15,5 @@ invariant-loop-length g l = record {
   rests : Rests (g.K.Desk.state l.fn.desk) (g.K.Desk.state l.desk);
   reaches : IsTrue (g.K.Desk.state l.fn.desk).tells
       → 18 ≤ length (bytes_now (g.K.Desk.state l.fn.desk))
-      → (held : List (List ℕ)) × (l.count ≡ length held) × Reaches (bytes_now (g.K.Desk.state l.fn.desk)) held l.place;
+      → (held : List (List ℕ)) × (l.count ≡ length held) × Reaches l.title (bytes_now (g.K.Desk.state l.fn.desk)) held l.place;
 }

@@ -3,7 +3,7 @@ use Rattle.std.specs.Prelude.{slice_get}
 use Rattle.std.proofs.lemmas.Result.{err_from_is_err_and}
 use Rattle.tf_numbers.specs.Numbers.{Rises}
 use Rattle.tf_desk.proofs.CountLemmas.{rises_later}
-use Rattle.tf_journal.specs.Format.{title_of, Held}
+use Rattle.tf_journal.specs.Format.{Held}
 use Rattle.tf_journal.specs.Reading.{IsNext, IsNoRefusal}
 use Rattle.tf_journal.proofs.ReadingLemmas.{reads_none, reads_on}
 use Rattle.tf_records.specs.Refusing.{HasRefusedBody}
@@ -30,6 +30,7 @@ returns-in_err-next_body-clause-fails g c =
       refused = λ told held lies. refuses_nothing _ _ _ held (found_behind D.state g.R.Replay.replayed _ _ _ _ (λ rest. IsNoRefusal c.in_err-next_body.field-0.0) l.read l.reads c.in_err-next_body.ensures.whole told held lies).2;
       cause = λ is. rises_later (D.state c.args.journal.now.desk).disk_faults (D.state c.reading.journal.desk).disk_faults (D.state c.next_body.new.journal.desk).disk_faults
           l.reads.rests.on_disk.disk_faults (c.in_err-next_body.ensures.cause (ap (λ f. Err f) is));
+      new_format = c.in_err-next_body.ensures.never_old;
     })
 
 pub returns-in-Err-clause-fails : goal.returns-in-Err-clause-fails
@@ -45,6 +46,7 @@ returns-in-Err-clause-fails g c =
           (λ before kept. subst (λ (b : List ℕ). R.refuses before b) c.deref.ensures.value (c.in-Err.ensures.refused (ap (λ f. Err f) is) before kept))
           (search rules) (ap (λ (b : List ℕ). slice_get b 0) c.deref-in-Err.ensures.value) told held lies);
       cause = λ is. absurd {A = Rises (g.K.Desk.state c.args.journal.now.desk).disk_faults (g.K.Desk.state c.next_body.new.journal.desk).disk_faults} (c.refusal.ensures.no_disk is);
+      new_format = c.refusal.ensures.new_format;
     }
 
 pub reading-preserved : goal.reading-preserved
@@ -67,10 +69,11 @@ returns-then-place-size-clause-fails g c =
     let size : c.size.result ≡ c.args.journal.now.size = c.size.ensures ∙ ap (λ (h : Held _). h.size) reads.journal in
     record {
       refused = λ told held lies.
-          absurd {A = HasRefusedBody (title_of c.args.journal.now.title) g.R.Replay.refuses held c.reading.place None} (read_ends g.K.Desk.state g.R.Replay.replayed _ _ _ _ l.read l.reads
+          absurd {A = HasRefusedBody c.args.journal.now.title g.R.Replay.refuses held c.reading.place None} (read_ends g.K.Desk.state g.R.Replay.replayed _ _ _ _ l.read l.reads
           (λ before rest told_now rest_now at. subst (λ (v : Bool). IsNext v rest c.next_body.new.body.items) c.if-not-branch.true (c.in_ok-next_body.ensures.found before rest told_now rest_now at))
           (λ same. c.if-place-size.true (same ∙ sym size)) told held lies);
       cause = λ is. absurd {A = Rises (g.K.Desk.state c.args.journal.now.desk).disk_faults (g.K.Desk.state c.next_body.new.journal.desk).disk_faults} (cc);
+      new_format = λ is. cc;
     }
 
 pub returns-clause-read : goal.returns-clause-read

@@ -2,7 +2,7 @@ use Rattle.std.proofs.Common.{◌≡◌, ◌∙◌, ap, subst, sym}
 use Rattle.std.specs.Prelude.{IsTrue}
 use Rattle.tf_desk.specs.State.{bytes_now}
 use Rattle.tf_desk.proofs.StateLemmas.{bytes_stay, rests_on, rests_goes}
-use Rattle.tf_journal.specs.Format.{title_of, is_unborn, unborn, recovered}
+use Rattle.tf_journal.specs.Format.{is_unborn, unborn, recovered}
 use Rattle.tf_journal.specs.Answers.{RefusesFile}
 use Rattle.tf_journal.specs.declared.faults.JournalFault.{JournalFault}
 use Rattle.tf_journal.specs.declared.faults.LoadFault.TheVariants as load_fault
@@ -24,8 +24,8 @@ create-requires g c = λ told.
     let D = g.K.Desk in
     let e = c.in-Err.ensures in
     let was : IsTrue (D.state c.args.desk).tells = subst IsTrue e.rests.on_disk.tells told in
-    let found = subst (λ (f : JournalFault). RefusesFile f (recovered (title_of jobs_title) (bytes_now (D.state c.args.desk)))) c.in-Unborn.is (e.recovers was) in
-    ap (is_unborn (title_of jobs_title)) (bytes_stay (e.rests.files was)) ∙ unborn_found (title_of jobs_title) (bytes_now (D.state c.args.desk)) found
+    let found = subst (λ (f : JournalFault). RefusesFile f (recovered jobs_title (bytes_now (D.state c.args.desk)))) c.in-Unborn.is (e.recovers was) in
+    ap (is_unborn jobs_title) (bytes_stay (e.rests.files was)) ∙ unborn_found jobs_title (bytes_now (D.state c.args.desk)) found
 
 -- ---- a journal was read
 
@@ -108,7 +108,7 @@ pub returns-in-Disk-clause-fails : goal.returns-in-Disk-clause-fails
 returns-in-Disk-clause-fails g c =
     let D = g.K.Desk in
     let e = c.in-Err.ensures in
-    record { refused = λ told. tt; cause = λ is. e.cause c.in-Disk.is }
+    record { refused = λ told. tt; cause = λ is. e.cause c.in-Disk.is; new_format = λ is. cc }
 
 pub returns-in-Disk-clause-goes : goal.returns-in-Disk-clause-goes
 returns-in-Disk-clause-goes g c = rests_goes c.in-Err.ensures.rests
@@ -120,13 +120,13 @@ returns-in-Disk-clause-opens g c = λ name entry p.
     let laws : KeepsLaws D.state =
     record { tells_shown = g.met.K.Desk.tells_shown; picked_is_there = g.met.K.Desk.picked_is_there; reads_left = g.met.K.Desk.reads_left; counts_now = g.met.K.Desk.counts_now; only_now = g.met.K.Desk.only_now } in
     unread_opens D.state laws name entry c.args.desk p c.in-Err.desk load_fault.Disk e.rests e.synced
-    (record { refused = λ told. tt; cause = λ is. e.cause c.in-Disk.is })
+    (record { refused = λ told. tt; cause = λ is. e.cause c.in-Disk.is; new_format = λ is. cc })
 
 pub returns-in-Memory-clause-fails : goal.returns-in-Memory-clause-fails
 returns-in-Memory-clause-fails g c =
     let D = g.K.Desk in
     let e = c.in-Err.ensures in
-    record { refused = λ told. tt; cause = λ is. absurd (cc) }
+    record { refused = λ told. tt; cause = λ is. absurd (cc); new_format = λ is. cc }
 
 pub returns-in-Memory-clause-goes : goal.returns-in-Memory-clause-goes
 returns-in-Memory-clause-goes g c = rests_goes c.in-Err.ensures.rests
@@ -138,13 +138,13 @@ returns-in-Memory-clause-opens g c = λ name entry p.
     let laws : KeepsLaws D.state =
     record { tells_shown = g.met.K.Desk.tells_shown; picked_is_there = g.met.K.Desk.picked_is_there; reads_left = g.met.K.Desk.reads_left; counts_now = g.met.K.Desk.counts_now; only_now = g.met.K.Desk.only_now } in
     unread_opens D.state laws name entry c.args.desk p c.in-Err.desk load_fault.Memory e.rests e.synced
-    (record { refused = λ told. tt; cause = λ is. absurd (cc) })
+    (record { refused = λ told. tt; cause = λ is. absurd (cc); new_format = λ is. cc })
 
 pub returns-in-NotABook-clause-fails : goal.returns-in-NotABook-clause-fails
 returns-in-NotABook-clause-fails g c =
     let D = g.K.Desk in
     let e = c.in-Err.ensures in
-    record { refused = λ told. no_journal (subst (λ (f : JournalFault). RefusesFile f (board_in (bytes_now (D.state c.args.desk)))) c.in-NotABook.is (e.recovers told)); cause = λ is. absurd (cc) }
+    record { refused = λ told. no_journal (subst (λ (f : JournalFault). RefusesFile f (board_in (bytes_now (D.state c.args.desk)))) c.in-NotABook.is (e.recovers told)); cause = λ is. absurd (cc); new_format = λ is. cc }
 
 pub returns-in-NotABook-clause-goes : goal.returns-in-NotABook-clause-goes
 returns-in-NotABook-clause-goes g c = rests_goes c.in-Err.ensures.rests
@@ -156,4 +156,4 @@ returns-in-NotABook-clause-opens g c = λ name entry p.
     let laws : KeepsLaws D.state =
     record { tells_shown = g.met.K.Desk.tells_shown; picked_is_there = g.met.K.Desk.picked_is_there; reads_left = g.met.K.Desk.reads_left; counts_now = g.met.K.Desk.counts_now; only_now = g.met.K.Desk.only_now } in
     unread_opens D.state laws name entry c.args.desk p c.in-Err.desk (load_fault.NotABook c.in-NotABook.offset c.in-NotABook.byte) e.rests e.synced
-    (record { refused = λ told. no_journal (subst (λ (f : JournalFault). RefusesFile f (board_in (bytes_now (D.state c.args.desk)))) c.in-NotABook.is (e.recovers told)); cause = λ is. absurd (cc) })
+    (record { refused = λ told. no_journal (subst (λ (f : JournalFault). RefusesFile f (board_in (bytes_now (D.state c.args.desk)))) c.in-NotABook.is (e.recovers told)); cause = λ is. absurd (cc); new_format = λ is. cc })

@@ -1,6 +1,7 @@
-use Rattle.std.proofs.Common.{◌≡◌, ◌∙◌, ◌++◌, List, ℕ, length, subst, ap, refl, arith}
+use Rattle.std.proofs.Common.{rules, inl, ◌≡◌, ◌∙◌, ◌++◌, List, ℕ, length, subst, ap, refl, arith}
 use Rattle.tf_board.specs.Board.{past_of, BoardValue, IsSound, command_bytes}
 use Rattle.tf_board.specs.declared.faults.BoardFault.TheVariants as fault
+use Rattle.tf_journal.proofs.FoundLemmas.{body_fits}
 use Rattle.tf_board.proofs.FormLemmas.{command_long}
 use Rattle.tf_board.proofs.BoardLemmas.{records_same}
 use Rattle.tf_board.proofs.board.Board.record.Goals as goal
@@ -18,9 +19,12 @@ returns-in_default-reserve g c =
     let same = ap (λ items. record { past = past_of items; journal = c.self.inside.journal }) c.reserve.ensures.commands ∙ c.self.view_is in
     records_same D.state c.self.inside.kept c.args.self.now _ c.args.command fault.Memory s same same
 
+pub append-requires-clause-ready : goal.append-requires-clause-ready
+append-requires-clause-ready g c = inl (search rules)
+
 pub append-requires-clause-body : goal.append-requires-clause-body
 append-requires-clause-body g c =
     let long = command_long c.args.command c.in-Ok.ensures.is in
     let same : c.deref.result.now ≡ command_bytes c.args.command =
     c.deref.ensures.value ∙ c.in-Ok.ensures.ok ∙ ap (λ (t : List ℕ). t ++ command_bytes c.args.command) c.new-body.ensures.items in
-    (omega (arith, long.0, ap length same), omega (arith, long.1, ap length same))
+    body_fits _ _ (omega (arith, long.0, ap length same), omega (arith, long.1, ap length same))

@@ -1,0 +1,12 @@
+pub mod AmongLemmas
+pub mod EntryLemmas
+pub mod FormLemmas
+pub mod PlanLemmas
+pub mod ElementLemmas
+pub mod BookLemmas
+pub mod OnceLemmas
+pub mod WholeLemmas
+pub mod MachineLemmas
+pub mod ReadingLemmas
+pub mod RowsOfBooks
+pub mod ContentsLemmas

@@ -1,0 +1,5 @@
+pub mod Elements
+pub mod Whole
+pub mod Marks
+pub mod Contents
+pub mod Reading
