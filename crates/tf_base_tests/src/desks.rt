@@ -158,3 +158,39 @@ fn a_crash_in_a_say_shows_all_of_it_or_nothing(rt: HostRuntime) -> Result<(), Fa
     assert_crashed(&rt, alloc, 7, Torn::Old, b"XYZd", b"one")?;
     assert_crashed(&rt, alloc, 7, Torn::Mixed(2), b"XYZd", b"onetwo")
 }
+
+/// A desk with two files: four bytes of `book` aren't synced, and then two of `other` are written. Its calls: pick,
+/// write, pick, write.
+fn desk_of_two(alloc: Global) -> Result<MemoryDesk, Fail> {
+    let mut desk = picked(alloc, &[], &[])?;
+    write(&mut desk, b"abcd")?;
+    let other = text(alloc, b"other")?;
+    desk.pick(alloc, &other)?;
+    write(&mut desk, b"xy")?;
+    Ok(desk)
+}
+
+/// A crash in the last call leaves these bytes of the picked file, and those that were written to `book`.
+fn assert_leaves_both(
+    rt: &impl Abort,
+    alloc: Global,
+    torn: Torn,
+    bytes: &[u8],
+) -> Result<(), Fail> {
+    let desk = desk_of_two(alloc)?;
+    if desk.made() != 4 {
+        return Err(Fail::from("no such call"));
+    }
+    let mut crashed = desk.crashed(alloc, 4, torn)?;
+    assert_bytes(rt, &mut crashed, bytes);
+    pick_book(alloc, &mut crashed)?;
+    assert_bytes(rt, &mut crashed, b"abcd");
+    Ok(())
+}
+
+#[test]
+fn a_crash_hands_the_other_files_on_as_they_read(rt: HostRuntime) -> Result<(), Fail> {
+    let alloc = rt.alloc();
+    assert_leaves_both(&rt, alloc, Torn::Old, b"")?;
+    assert_leaves_both(&rt, alloc, Torn::New, b"xy")
+}

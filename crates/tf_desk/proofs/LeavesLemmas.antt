@@ -1,22 +1,23 @@
 -- The desk that a crash leaves.
-use Rattle.std.proofs.Common.{◌≡◌, ℕ, ◌+◌, ◌-◌, ◌≤◌, ◌<◌, min, Bool, true, false, List, [], ◌∷◌, ◌++◌, length, get_or, take, drop, Option, Some, None, unwrap_or, if◌then◌else◌, MatchBool, ◌==◌, reverse, Result, Ok, Err, inl, inr, refl, sym, ◌∙◌, ap, subst, arith, length-drop, length-take, append-nil}
+use Rattle.std.proofs.Common.{◌≡◌, ℕ, ◌+◌, ◌-◌, ◌≤◌, ◌<◌, min, Bool, true, false, List, [], ◌∷◌, ◌++◌, length, get_or, take, drop, Option, Some, None, unwrap_or, if◌then◌else◌, ◌==◌, reverse, Result, Ok, Err, inl, inr, refl, sym, ◌∙◌, ap, subst, arith, length-drop, length-take}
 use Rattle.std.specs.Prelude.{is_some, nat_lt, ◌&&◌, IfOk}
-use Rattle.std.specs.List.{sum_by}
+use Rattle.std.specs.List.{All, list_any, sum_by}
 use Rattle.std.specs.Cmp.Lexicographic.{pointwise, bytes_decides}
-use Rattle.std.proofs.lemmas.List.{drop_all, drop-drop, take-append-drop}
+use Rattle.std.proofs.lemmas.List.{drop-drop, take-append-drop}
 use Rattle.std.proofs.lemmas.Bool.{cases_lt}
 use Rattle.std.proofs.lemmas.List.Sums.{sum_by-take-le}
+use Rattle.tf_desk.specs.declared.past.MemoryFile.{MemoryFile}
 use Rattle.tf_desk.specs.declared.past.Noted.{Noted}
 use Rattle.tf_desk.specs.declared.crashing.Torn.{Torn}
 use Rattle.tf_desk.specs.declared.crashing.Torn.TheVariants.{Old, New, Mixed}
-use Rattle.tf_desk.specs.Crash.{written, bytes_of, IsLeft}
-use Rattle.tf_desk.specs.Acts.{Act, picked, wrote, synced, said, picked_after, files_after, shown_after, content_after, left_after, crashes_after}
+use Rattle.tf_desk.specs.Crash.{bytes_of, IsLeft}
+use Rattle.tf_desk.specs.Acts.{Act, said, picked_after, files_after, shown_after, content_after, left_after, crashes_after}
 use Rattle.tf_desk.specs.ActLaws.{has_file, left_reads, crashes_now}
-use Rattle.tf_desk.specs.MemoryDesk.{Held, acts_of, written_count, said_count}
-use Rattle.tf_desk.specs.Crashed.{IsTornAfter, acts_at, acts_left, ended_at, began_at, unsynced_at, struck_at, struck, ends_in_sync, IsTornDesk, IsCrashed, picked_in_log}
-use Rattle.tf_desk.proofs.FileLemmas.{chosen}
+use Rattle.tf_desk.specs.MemoryDesk.{Held, acts_of, written_count, said_count, has_name, file_at}
+use Rattle.tf_desk.specs.Crashed.{IsTornAfter, other_file, AreOthers, acts_at, acts_keeping, acts_left, ended_at, began_at, unsynced_at, struck_at, struck, ends_in_sync, IsTornDesk, IsCrashed, picked_in_log}
 use Rattle.tf_desk.proofs.LogLemmas.{unsynced_none, acts_up_to, shown_of, picked_of, sum_by-reverse}
 use Rattle.tf_desk.proofs.CrashedLemmas.{mixed_left, crashes_on}
+use Rattle.tf_desk.proofs.OtherLemmas.{none_there, anew_itself, anew_apart, anew_left, keeping_none, keeping_others, keeping_left, keeping_shows, all_others}
 
 -- ---- what is left
 
@@ -25,9 +26,11 @@ pub leaves_none : (torn : Torn) (past : List Act) (text : List ℕ) → picked_a
 leaves_none torn past text is shows = record {
   picked = sym is;
   image = subst (λ (p : Option (List ℕ)). IsTornAfter torn past p []) (sym is) refl;
+  others = λ name apart. sym (none_there past name is);
   text = sym shows;
   left = subst (λ (p : Option (List ℕ)). IsLeft p (left_after past) []) (sym is) refl;
   durable = λ image left. left;
+  on_disk = λ name image left. absurd left;
 }
 
 -- a file that is torn so may be left
@@ -45,36 +48,39 @@ torn_left New past name image is torn = left_reads past name image (whole (files
     whole (Some bytes) some same = ap Some (sym same)
 torn_left (Mixed seed) past name image is torn = mixed_left past name image (has_file past name is) torn
 
-module _ (name image text : List ℕ) where
-  itself : pointwise ◌==◌ name name ≡ true
-  itself = (bytes_decides name name).1 refl
-
+module _ (past : List Act) (name image text : List ℕ) (others : List MemoryFile) (each : All (λ file. other_file past name file.name ≡ Some file.bytes.items) others) where
   -- the file as it reads then
-  kept_file : files_after (wrote 0 image ∷ picked name ∷ said text ∷ []) name ≡ Some image
+  kept_file : files_after (acts_left others name image text) name ≡ Some image
   kept_file =
-      chosen (pointwise ◌==◌ name name) (Some (written (unwrap_or (files_after (picked name ∷ said text ∷ []) name) []) 0 image)) (files_after (picked name ∷ said text ∷ []) name) itself
-      ∙ ap (λ (f : Option (List ℕ)). Some (written (unwrap_or f []) 0 image)) (chosen (pointwise ◌==◌ name name) (Some []) None itself)
-      ∙ ap (λ (l : List ℕ). Some ([] ++ (image ++ l))) (drop_all (0 + length image) [] (omega arith))
-      ∙ ap Some (append-nil image)
+      anew_itself (acts_keeping (reverse others) text) name image name ((bytes_decides name name).1 refl)
+      (subst (λ (f : Option (List ℕ)). length (unwrap_or f []) ≤ length image) (sym (keeping_none past name text others each)) (omega arith))
 
-  kept_bytes : bytes_of (content_after (acts_left name image text)) ≡ image
+  kept_bytes : bytes_of (content_after (acts_left others name image text)) ≡ image
   kept_bytes = ap (λ (f : Option (List ℕ)). unwrap_or f []) kept_file
 
+  -- a crash leaves of each file what reads
+  kept_left : (other now : List ℕ) → left_after (acts_left others name image text) other now → files_after (acts_left others name image text) other ≡ Some now
+  kept_left other now left = anew_left (acts_keeping (reverse others) text) name image other now (keeping_left (reverse others) text other now) left
+
   -- a file is picked
-  pub leaves_some : (torn : Torn) (past : List Act) → picked_after past ≡ Some name → shown_after past ≡ text → IsTornAfter torn past (Some name) image
-      → IsTornDesk torn past (acts_left name image text)
-  leaves_some torn past is shows torn_so = record {
+  pub leaves_some : (torn : Torn) → picked_after past ≡ Some name → shown_after past ≡ text → IsTornAfter torn past (Some name) image
+      → ((other : List ℕ) → is_some (other_file past name other) ≡ true → list_any (has_name other) others ≡ true) → IsTornDesk torn past (acts_left others name image text)
+  leaves_some torn is shows torn_so all = record {
     picked = sym is;
     image = subst (λ (l : List ℕ). IsTornAfter torn past (picked_after past) l) (sym kept_bytes) (subst (λ (p : Option (List ℕ)). IsTornAfter torn past p image) (sym is) torn_so);
-    text = sym shows;
+    others = λ other apart.
+        let unlike : pointwise ◌==◌ name other ≡ false = unequal (pointwise ◌==◌ name other) (λ same. apart (is ∙ ap Some ((bytes_decides name other).0 same))) in
+        anew_apart (acts_keeping (reverse others) text) name image other unlike ∙ keeping_others past name text others each all other unlike;
+    text = keeping_shows (reverse others) text ∙ sym shows;
     left = subst (λ (l : List ℕ). IsLeft (picked_after past) (left_after past) l) (sym kept_bytes)
         (subst (λ (p : Option (List ℕ)). IsLeft p (left_after past) image) (sym is) (torn_left torn past name image is torn_so));
-    durable = λ other left. only (pointwise ◌==◌ name name) (left_after (wrote 0 image ∷ picked name ∷ said text ∷ []) name other) other itself left ∙ sym kept_bytes;
+    durable = λ other left. (let same : Some other ≡ Some image = sym (kept_left name other left) ∙ kept_file in let its : other ≡ image = cc in its ∙ sym kept_bytes);
+    on_disk = kept_left;
   }
     where
-      only : (b : Bool) (Q : Type 0) (other : List ℕ) → b ≡ true → MatchBool b (files_after (wrote 0 image ∷ picked name ∷ said text ∷ []) name ≡ Some other) Q → other ≡ image
-      only true Q other told reads = (let same : Some other ≡ Some image = sym reads ∙ kept_file in cc)
-      only false Q other told left = cc
+      unequal : (b : Bool) → ¬ (b ≡ true) → b ≡ false
+      unequal true not = absurd (not refl)
+      unequal false not = refl
 
 pub if_ok : {A E : Type 0} (r : Result A E) (P Q : A → Type 0) → ((x : A) → P x → Q x) → IfOk r P → IfOk r Q
 if_ok (Ok x) P Q further p = further x p
@@ -99,13 +105,19 @@ module _ (past : List Act) (log : List Noted) (w s : List ℕ) (moment : ℕ) (v
       → new ≡ said text ∷ [] → IsTornDesk torn (acts_at past moment) new
   crashed_none torn text new none shows is = subst (IsTornDesk torn (acts_at past moment)) (sym is) (leaves_none torn (acts_at past moment) text (name_then ∙ none) (text_then ∙ sym shows))
 
-  pub crashed_some : (torn : Torn) (name image text : List ℕ) (new : List Act) → picked_in_log (reverse (take moment log)) ≡ Some name → text ≡ take (sum_by said_count (take moment log)) s
+  pub crashed_some : (torn : Torn) (name image text : List ℕ) (files others : List MemoryFile) (new : List Act) → picked_in_log (reverse (take moment log)) ≡ Some name
+      → text ≡ take (sum_by said_count (take moment log)) s
       → ((shown : List ℕ) → IsTornAfter torn (acts_of (reverse (take moment log)) (take (sum_by written_count (take moment log)) w) shown) (Some name) image)
-      → new ≡ acts_left name image text → IsTornDesk torn (acts_at past moment) new
-  crashed_some torn name image text new some shows torn_so is =
+      → ((other : List ℕ) → file_at files other ≡ files_after past other)
+      → ((shown : List ℕ) → AreOthers files (acts_of (reverse (take moment log)) (take (sum_by written_count (take moment log)) w) shown) name others)
+      → new ≡ acts_left others name image text → IsTornDesk torn (acts_at past moment) new
+  crashed_some torn name image text files others new some shows torn_so named are_others is =
+      let are : AreOthers files (acts_at past moment) name others =
+      subst (λ (p : List Act). AreOthers files p name others) (sym by_then) (are_others (take (sum_by said_count (take moment log)) s)) in
       subst (IsTornDesk torn (acts_at past moment)) (sym is)
-      (leaves_some name image text torn (acts_at past moment) (name_then ∙ some) (text_then ∙ sym shows)
-      (subst (λ (p : List Act). IsTornAfter torn p (Some name) image) (sym by_then) (torn_so (take (sum_by said_count (take moment log)) s))))
+      (leaves_some (acts_at past moment) name image text others are.each torn (name_then ∙ some) (text_then ∙ sym shows)
+      (subst (λ (p : List Act). IsTornAfter torn p (Some name) image) (sym by_then) (torn_so (take (sum_by said_count (take moment log)) s)))
+      (all_others files past moment name others named are))
 
 -- ---- the moments of a call
 

@@ -6,4 +6,5 @@ pub mod CountLemmas
 pub mod StateLemmas
 pub mod LogLemmas
 pub mod CrashedLemmas
+pub mod OtherLemmas
 pub mod LeavesLemmas

@@ -1,15 +1,17 @@
 -- What a crash inside a call of a desk in memory leaves.
-use Rattle.std.specs.Prelude.{◌≡◌, ℕ, ◌+◌, ◌-◌, ◌≤◌, ◌<◌, max, min, Bool, true, false, ◌&&◌, if◌then◌else◌, List, [], ◌∷◌, ◌++◌, length, drop, Option, Some, None, slice_index, unwrap_or, nat_lt, nat_le}
-use Rattle.std.specs.List.{list_any}
+use Rattle.std.specs.Prelude.{◌≡◌, ℕ, ◌+◌, ◌-◌, ◌≤◌, ◌<◌, max, min, Bool, true, false, ◌&&◌, ◌==◌, if◌then◌else◌, List, [], ◌∷◌, ◌++◌, length, drop, reverse, Option, Some, None, is_some, slice_index, unwrap_or, nat_lt, nat_le}
+use Rattle.std.specs.List.{All, list_any}
+use Rattle.std.specs.Cmp.Lexicographic.{pointwise}
 use Rattle.tf_desk.specs.declared.crashing.Span.{Span}
 use Rattle.tf_desk.specs.declared.crashing.Traced.{Traced}
+use Rattle.tf_desk.specs.declared.past.MemoryFile.{MemoryFile}
 use Rattle.tf_desk.specs.declared.past.Noted.{Noted}
 use Rattle.tf_desk.specs.declared.past.Noted.TheVariants.{Picked, Wrote, Synced, Said}
 use Rattle.tf_desk.specs.declared.crashing.Torn.{Torn}
 use Rattle.tf_desk.specs.declared.crashing.Torn.TheVariants.{Old, New, Mixed}
 use Rattle.tf_desk.specs.Acts.{Act, picked, wrote, synced, said, names, picked_after, files_after, shown_after, content_after, left_after, crashes_after}
 use Rattle.tf_desk.specs.Crash.{bytes_of, IsLeft}
-use Rattle.tf_desk.specs.MemoryDesk.{Held}
+use Rattle.tf_desk.specs.MemoryDesk.{Held, has_name}
 
 -- ---- a file that a crash tears
 
@@ -88,20 +90,37 @@ struck torn held call = acts_at held.past (struck_at torn held call)
 
 -- ---- the desk that is left
 
--- what was done, newest first, by a desk on whose disk this file alone is, and that has shown this text
-abbrev pub acts_left : (name image text : List ℕ) → List Act
-acts_left name image text = synced ∷ wrote 0 image ∷ picked name ∷ said text ∷ []
+-- the bytes of a file beside that one, as they read after what was done
+abbrev pub other_file : List Act → List ℕ → List ℕ → Option (List ℕ)
+other_file past name other = if pointwise ◌==◌ name other then None else files_after past other
 
--- after what was done, a desk that has the picked file torn so, and the text; a crash then may leave this file, and all of it is on the disk now
+-- these are the files beside that one, as they read after what was done: no others, and of those names that the files have all that were there
+pub record AreOthers (files : List MemoryFile) (past : List Act) (name : List ℕ) (others : List MemoryFile) : Type 0 where
+  pub each : All (λ file. other_file past name file.name ≡ Some file.bytes.items) others
+  pub all : (other : List ℕ) → list_any (has_name other) files ≡ true → is_some (other_file past name other) ≡ true → list_any (has_name other) others ≡ true
+
+-- what was done, newest first, by a desk that has shown this text, and on whose disk these files were put, the last of them first
+abbrev pub acts_keeping : List MemoryFile → List ℕ → List Act
+acts_keeping [] text = said text ∷ []
+acts_keeping (file ∷ files) text = synced ∷ wrote 0 file.bytes.items ∷ picked file.name ∷ acts_keeping files text
+
+-- what was done, newest first, by a desk on whose disk are these files and that one, which it has picked, and that has shown this text
+abbrev pub acts_left : List MemoryFile → (name image text : List ℕ) → List Act
+acts_left others name image text = synced ∷ wrote 0 image ∷ picked name ∷ acts_keeping (reverse others) text
+
+-- after what was done, a desk that has the picked file torn so, the other files as they read, and the text; a crash then may leave this file, and all of every
+-- file is on the disk now
 pub record IsTornDesk (torn : Torn) (past new : List Act) : Type 0 where
   pub picked : picked_after new ≡ picked_after past
   pub image : IsTornAfter torn past (picked_after past) (bytes_of (content_after new))
+  pub others : (name : List ℕ) → ¬ (picked_after past ≡ Some name) → files_after new name ≡ files_after past name
   pub text : shown_after new ≡ shown_after past
   pub left : IsLeft (picked_after past) (left_after past) (bytes_of (content_after new))
   pub durable : (image : List ℕ) → IsLeft (picked_after new) (left_after new) image → image ≡ bytes_of (content_after new)
+  pub on_disk : (name image : List ℕ) → left_after new name image → files_after new name ≡ Some image
 
--- The desk that a crash in the call leaves: its picked file and its text are those of the moment that the crash strikes, the file torn so. A crash
--- at a moment of the call may leave this pair. The calls are numbered anew, and no count rose.
+-- The desk that a crash in the call leaves: its files and its text are those of the moment that the crash strikes, the picked file torn so and the others as they
+-- read. A crash at a moment of the call may leave the pair of that file and the text. The calls are numbered anew, and no count rose.
 pub record IsCrashed (torn : Torn) (call : ℕ) (old new : Held) : Type 0 where
   pub leaves : IsTornDesk torn (struck torn old call) new.past
   pub allowed : crashes_after (acts_at old.past (ended_at old call)) (began_at old call) (bytes_of (content_after new.past)) (shown_after new.past)
@@ -115,6 +134,13 @@ pub record IsTraced (past : List Act) (name : List ℕ) (traced : Traced) : Type
   pub bytes : traced.bytes.items ≡ unwrap_or (files_after past name) []
   pub synced : traced.synced.items ≡ synced_after past name
   pub spans : traced.spans.items ≡ spans_after past name
+
+-- the entry notes a pick of that name
+abbrev pub notes_pick : List ℕ → Noted → Bool
+notes_pick name (Picked other) = pointwise ◌==◌ other name
+notes_pick name (Wrote at count) = false
+notes_pick name Synced = false
+notes_pick name (Said count) = false
 
 -- the name that the newest pick of a log picked
 abbrev pub picked_in_log : List Noted → Option (List ℕ)

@@ -1,13 +1,13 @@
 //! What a crash leaves of a file, of a log in which it was written.
-ghost use Rattle.std.specs.Prelude.{◌≡◌, ◌≤◌, ◌<◌, ◌+◌, ◌*◌, ◌%◌, ◌^◌, max, ℕ, List, [], ◌∷◌, ◌++◌, length, take, reverse, option_map, slice_index, true, false, IfOk, OnOk, Some};
+ghost use Rattle.std.specs.Prelude.{◌≡◌, ◌≤◌, ◌<◌, ◌+◌, ◌*◌, ◌%◌, ◌^◌, max, ℕ, List, [], ◌∷◌, ◌++◌, length, take, reverse, option_map, slice_index, true, false, IfOk, IfSome, OnOk, Some};
 ghost use Rattle.std.specs.List.{sum_by, list_any};
 ghost use Rattle.tf_desk.specs.Crash.{written};
 ghost use Rattle.tf_desk.specs.Acts.{Act};
-ghost use Rattle.tf_desk.specs.Crashed.{is_in_span, IsMixed, IsTorn, IsTornAfter, IsTraced, IsActOf, picked_in_log, notes_sync};
+ghost use Rattle.tf_desk.specs.Crashed.{is_in_span, IsMixed, IsTorn, IsTornAfter, IsTraced, IsActOf, AreOthers, other_file, picked_in_log, notes_pick, notes_sync};
 ghost use Rattle.tf_desk.specs.MemoryDesk.{acts_of, written_count, said_count};
 ghost use Rattle.tf_desk.specs.declared.past.Noted.{Noted};
 
-use crate::past::Noted;
+use crate::past::{MemoryFile, Noted};
 use std::alloc::Global;
 use tf_values::{Memory, Text};
 
@@ -246,6 +246,72 @@ pub fn image_of(
 {
     let traced = trace(alloc, log, tape, name)?;
     traced.image(alloc, torn)
+}
+
+/// Whether the entry notes a pick of that name.
+fn is_pick(entry: &Noted, name: &Text) -> bool
+    ensures { result ≡ notes_pick name.now entry.now }
+{
+    match entry {
+        Noted::Picked(other) => other.bytes() == name.bytes(),
+        Noted::Wrote { .. } | Noted::Synced | Noted::Said { .. } => false,
+    }
+}
+
+/// Whether the file of that name was there after these entries.
+fn was_picked(log: &[Noted], name: &Text) -> bool
+    ensures { result ≡ list_any (notes_pick name.now) log.now }
+{
+    log.iter().any(|entry| is_pick(entry, name))
+}
+
+/// The file of the other name as it reads after these entries, or none where it wasn't there or has that name.
+fn other_of(
+    alloc: Global,
+    log: &[Noted],
+    tape: &[u8],
+    name: &Text,
+    other: &Text,
+) -> Result<Option<MemoryFile>, Memory>
+    requires { sum_by written_count log.now ≤ length tape.now }
+    ensures bytes { IfOk result (λ file. (shown : List ℕ) → option_map (λ file. file.bytes.items) file
+        ≡ other_file (acts_of (reverse log.now) (take (sum_by written_count log.now) tape.now) shown) name.now
+        other.now) }
+    ensures named { IfOk result (λ file. IfSome file (λ file. file.name ≡ other.now)) }
+{
+    if other.bytes() == name.bytes() {
+        return Ok(None);
+    }
+    if !was_picked(log, other) {
+        return Ok(None);
+    }
+    let traced = trace(alloc, log, tape, other)?;
+    Ok(Some(MemoryFile {
+        name: other.copy(alloc)?,
+        bytes: traced.bytes,
+    }))
+}
+
+/// Those of the files that were there after these entries beside the one of that name, as they read then.
+pub fn others_of(
+    alloc: Global,
+    files: &[MemoryFile],
+    log: &[Noted],
+    tape: &[u8],
+    name: &Text,
+) -> Result<Vec<MemoryFile>, Memory>
+    requires { sum_by written_count log.now ≤ length tape.now }
+    ensures { IfOk result (λ others. (shown : List ℕ)
+        → AreOthers files.now (acts_of (reverse log.now) (take (sum_by written_count log.now) tape.now) shown)
+        name.now others.items) }
+{
+    let mut others = Vec::new(alloc);
+    for file in files {
+        if let Some(other) = other_of(alloc, log, tape, name, &file.name)? {
+            others.push(other)?;
+        }
+    }
+    Ok(others)
 }
 
 /// The text that was shown after these entries.

@@ -156,10 +156,11 @@ impl MemoryDesk {
         }
     }
 
-    /// The desk that a crash in the call of that number leaves: the picked file, torn so, and the text, all of it
-    /// on the disk. What the call itself said was shown, but for `Old`, which tears what was there before the
-    /// call; a sync of its own wasn't done. Calls are numbered anew, none fails, and no stop is asked for. As many
-    /// calls, and bytes, can be made, written and shown as when this desk was made. `Err`: memory ran out.
+    /// The desk that a crash in the call of that number leaves: the picked file, torn so, the other files as they
+    /// read, all of them on the disk, and the text. What the call itself said was shown, but for `Old`, which tears
+    /// what was there before the call; a sync of its own wasn't done. Calls are numbered anew, none fails, and no stop
+    /// is asked for. As many calls, and bytes, can be made, written and shown as when this desk was made. `Err`: memory
+    /// ran out.
     pub fn crashed(&self, alloc: Global, call: u64, torn: Torn) -> Result<MemoryDesk, Memory>
         requires low { 1 ≤ call }
         requires high { call ≤ length self.now.began }

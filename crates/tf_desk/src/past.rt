@@ -4,7 +4,7 @@ ghost use Rattle.tf_desk.specs.Acts.{picked, wrote, synced, said, content_after,
 ghost use Rattle.tf_desk.specs.Crashed.{acts_at, acts_left, unsynced_at, IsTornDesk};
 ghost use Rattle.tf_desk.specs.MemoryDesk.{file_at, IsFirst};
 
-use crate::crashing::{Torn, image_of, is_sync, picked_in, text_of};
+use crate::crashing::{Torn, image_of, is_sync, others_of, picked_in, text_of};
 use std::alloc::Global;
 use std::marker::Model;
 use tf_values::{Memory, Text};
@@ -143,6 +143,15 @@ fn add(
     }
 }
 
+/// How many bytes the files have together, or the greatest number where there are more.
+fn bytes_in(files: &[MemoryFile]) -> usize {
+    let mut bytes: usize = 0;
+    for file in files {
+        bytes = bytes.saturating_add(file.bytes.len());
+    }
+    bytes
+}
+
 impl Past {
     /// Nothing done so far. All memory but that of a file's name and bytes is reserved: the calls write
     /// and show at most `capacity` bytes together, and at most `calls` of them are noted.
@@ -266,8 +275,8 @@ impl Past {
         ended
     }
 
-    /// What a crash at that moment leaves, torn so: the picked file alone, with all of it on the disk, and the text.
-    /// As much can be written and shown as after `make`. `Err`: memory ran out.
+    /// What a crash at that moment leaves: the picked file, torn so, the other files as they read, all of them on the
+    /// disk, and the text. As much can be written and shown as after `make`. `Err`: memory ran out.
     pub fn crashed(
         &self,
         alloc: Global,
@@ -283,8 +292,9 @@ impl Past {
         let Some(name) = picked_in(log) else {
             return Past::shows(alloc, self.capacity, calls, text);
         };
+        let others = others_of(alloc, &self.files, log, &self.written, name)?;
         let image = image_of(alloc, log, &self.written, name, torn)?;
-        Past::keeps(alloc, self.capacity, calls, name, &image, text)
+        Past::keeps(alloc, self.capacity, calls, &others, name, &image, text)
     }
 
     /// Nothing but a text that was said.
@@ -299,23 +309,37 @@ impl Past {
         Ok(past)
     }
 
-    /// A text that was said, and a file that is on the disk.
+    /// A text that was said, and files that are on the disk: the others, and the picked one.
     fn keeps(
         alloc: Global,
         capacity: usize,
         calls: usize,
+        others: &[MemoryFile],
         name: &Text,
         image: &[u8],
         text: &[u8],
     ) -> Result<Past, Memory>
-        ensures { IfOk result (λ past. past ≡ acts_left name.now image.now text.now) }
+        ensures { IfOk result (λ past. past ≡ acts_left others.now name.now image.now text.now) }
     {
-        let capacity = capacity.saturating_add(image.len());
-        let mut past = Past::shows(alloc, capacity, calls.saturating_add(3), text)?;
-        past.pick(alloc, name)?;
-        if !past.write(0, image) || !past.sync() {
+        let bytes = bytes_in(others).saturating_add(image.len());
+        let acts = others.len().saturating_add(1).saturating_mul(3);
+        let capacity = capacity.saturating_add(bytes);
+        let mut past = Past::shows(alloc, capacity, calls.saturating_add(acts), text)?;
+        for file in others {
+            past.keep(alloc, &file.name, &file.bytes)?;
+        }
+        past.keep(alloc, name, image)?;
+        Ok(past)
+    }
+
+    /// Puts the bytes at the beginning of the file of that name, and onto the disk. `Err`: there was no room.
+    fn keep(&mut self, alloc: Global, name: &Text, bytes: &[u8]) -> Result<(), Memory>
+        ensures { OnOk result (self.new ≡ synced ∷ wrote 0 bytes.now ∷ picked name.now ∷ self.old) }
+    {
+        self.pick(alloc, name)?;
+        if !self.write(0, bytes) || !self.sync() {
             return Err(Memory);
         }
-        Ok(past)
+        Ok(())
     }
 }
