@@ -36,7 +36,8 @@ use Rattle.tf_model.proofs.PathLemmas.{IsPath, numbers_of, paths_of}
 use Rattle.tf_bound.specs.Kept.{IsMarkedWithin}
 use Rattle.tf_bound.specs.Short.{AreShort}
 use Rattle.tf_entries.specs.Entries.{IsAmong}
-use Rattle.tf_book.specs.Book.{IsForm, AreForms, IsEntryOf, AreEntriesOf}
+use Rattle.tf_details.specs.Elements.{IsForm, AreForms, IsEntryOf}
+use Rattle.tf_details.specs.Elements.{AreEntriesOf}
 
 -- ---- the flows of a plan
 

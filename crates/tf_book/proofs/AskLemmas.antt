@@ -9,6 +9,7 @@ use Rattle.tf_machine.specs.Machine.{MachineValue}
 use Rattle.tf_model.specs.Plan.{Outline, outline_of}
 use Rattle.tf_states.specs.declared.record.Entry.{Entry}
 use Rattle.tf_states.specs.declared.state.FlowState.TheVariants as flow
+use Rattle.tf_details.specs.Contents.{Contents}
 use Rattle.tf_book.specs.Book.{BookValue, flow_state, outline}
 use Rattle.tf_book.specs.SessionInvariant.{IsSpoken, HasCause, SessionInvariant, Proceeds, TakesTurn}
 use Rattle.tf_book.specs.Sound.{IsSoundBook}
@@ -21,19 +22,20 @@ use Rattle.tf_book.proofs.ForceLemmas.{forced_none}
 use Rattle.tf_book.proofs.ClosingLemmas.{sound_on}
 
 -- a cause stays one where no count of faults changed
-cause_stays : (start mid now : DeskState) (plan : PlanValue) (past : List Entry) (failed : Option Entry) (h : Option Halt) → now.disk_faults ≡ mid.disk_faults → now.out_faults ≡ mid.out_faults
-    → HasCause plan past start mid failed h → HasCause plan past start now failed h
-cause_stays start mid now plan past failed None disk out cause = tt
-cause_stays start mid now plan past failed (Some halt.Disk) disk out cause = subst (λ (n : ℕ). Rises start.disk_faults n) (sym disk) cause
-cause_stays start mid now plan past failed (Some halt.Out) disk out cause = subst (λ (n : ℕ). Rises start.out_faults n) (sym out) cause
-cause_stays start mid now plan past failed (Some (halt.Full size need)) disk out cause = cause
-cause_stays start mid now plan past failed (Some halt.Memory) disk out cause = tt
+cause_stays : (start mid now : DeskState) (contents : Contents) (plan : PlanValue) (past : List Entry) (failed : Option Entry) (h : Option Halt) → now.disk_faults ≡ mid.disk_faults → now.out_faults ≡ mid.out_faults
+    → HasCause contents plan past start mid failed h → HasCause contents plan past start now failed h
+cause_stays start mid now contents plan past failed None disk out cause = tt
+cause_stays start mid now contents plan past failed (Some halt.Disk) disk out cause = subst (λ (n : ℕ). Rises start.disk_faults n) (sym disk) cause
+cause_stays start mid now contents plan past failed (Some halt.Out) disk out cause = subst (λ (n : ℕ). Rises start.out_faults n) (sym out) cause
+cause_stays start mid now contents plan past failed (Some (halt.Full size need)) disk out cause = cause
+cause_stays start mid now contents plan past failed (Some halt.Memory) disk out cause = tt
 
 module _ {K : Type 0} (state : K → DeskState) where
   limit_keeps : (start b : BookValue K) (l : Option ℕ) → SessionInvariant state start b → SessionInvariant state start (record b { limit = l })
   limit_keeps start b l k = record {
     entries = k.entries;
     recorded = k.recorded;
+    held = k.held;
     plan = k.plan;
     quiet = k.quiet;
     volatile = k.volatile;
@@ -58,6 +60,8 @@ module _ {K : Type 0} (state : K → DeskState) where
     kept_is = is.kept_is;
     short = is.short;
     forms = is.forms;
+    held = is.held;
+    told = is.told;
     title = is.title;
     sound = is.sound;
     ready = is.ready;
@@ -71,6 +75,7 @@ module _ {K : Type 0} (state : K → DeskState) where
   asked_keeps start b j same asks k = record {
     entries = k.entries;
     recorded = k.recorded;
+    held = k.held;
     plan = k.plan;
     quiet = k.quiet;
     volatile = ap (λ (h : Held K). h.volatile) same ∙ k.volatile;
@@ -84,7 +89,7 @@ module _ {K : Type 0} (state : K → DeskState) where
       left = λ before image now. d.left before image (left_stays (asks.files told) image now);
     });
     exact = λ was kept unhalted just. bytes_stay (asks.files (extends_told k.continues.extends was)) ∙ k.exact was kept (sym (ap (λ (h : Held K). h.halted) same) ∙ unhalted) just;
-    cause = cause_stays (state start.journal.desk) (state b.journal.desk) (state j.desk) start.plan b.past b.failed b.halt asks.disk_faults asks.out_faults k.cause;
+    cause = cause_stays (state start.journal.desk) (state b.journal.desk) (state j.desk) b.contents start.plan b.past b.failed b.halt asks.disk_faults asks.out_faults k.cause;
   }
 
   -- and a book stays sound

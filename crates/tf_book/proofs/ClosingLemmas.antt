@@ -11,12 +11,13 @@ use Rattle.tf_states.specs.declared.record.AtomView.{AtomView}
 use Rattle.tf_states.specs.declared.record.Entry.{Entry}
 use Rattle.tf_journal.specs.Format.{SIZE_LIMIT, bodies, recovered, Held, IsAtRest, IsOpen}
 use Rattle.tf_journal.specs.declared.title.Title.{Title}
-use Rattle.tf_journal.specs.declared.title.Title.TheVariants.{Book as book_title}
+use Rattle.tf_journal.specs.declared.title.Title.TheVariants.{Book2 as book_title}
 use Rattle.tf_journal.proofs.AppendLemmas.{rest_leaves}
 use Rattle.tf_machine.specs.Machine.{MachineValue, shown as machine_shows, outline as machine_outline, StandsFor}
 use Rattle.tf_model.specs.History.{snapshot, Snapshot, Shows}
 use Rattle.tf_model.specs.Plan.{Outline, outline_of}
-use Rattle.tf_book.specs.Book.{BookValue, outline, bodies_of}
+use Rattle.tf_details.specs.Contents.{Contents}
+use Rattle.tf_book.specs.Book.{BookValue, outline, bodies_with}
 use Rattle.tf_book.specs.SessionInvariant.{said, LeavesEntries, IsSpoken, HasCause, SessionInvariant, IsSaid, StaysOffDisk}
 use Rattle.tf_book.specs.Closed.{IsClosing, LeavesClosing, LeavesClosed, Closed}
 use Rattle.tf_book.specs.Recording.{halt_after}
@@ -51,28 +52,28 @@ line_caused old new (Ok u) alone is = absurd (cc)
 line_caused old new (Err why) alone is = alone.1
 
 -- how a closing was said through a journal, which changes nothing else of it
-pub record SaidClosing {K : Type 0} (state : K → DeskState) (plan : PlanValue) (past : List Entry) (old now : Held K) (closing : List ℕ) (halted : Option Halt) : Type 0 where
+pub record SaidClosing {K : Type 0} (state : K → DeskState) (contents : Contents) (old now : Held K) (closing : List ℕ) (halted : Option Halt) : Type 0 where
   pub text : IsClosing (state old.desk).shown closing halted (state now.desk).shown
   pub cause : halted ≡ Some halt.Out → Rises (state old.desk).out_faults (state now.desk).out_faults
   pub journal : now ≡ record old { desk = now.desk }
   pub continues : Continues (state old.desk) (state now.desk)
   pub files : IsTrue (state old.desk).tells → FilesStay (state old.desk) (state now.desk)
   pub off_disk : StaysOffDisk (state old.desk) (state now.desk)
-  pub crash : IsOpen state old → Passes (LeavesClosing plan past (state old.desk).shown closing) (state old.desk) (state now.desk)
+  pub crash : IsOpen state old → Passes (LeavesClosing contents (state old.desk).shown closing) (state old.desk) (state now.desk)
 
 module _ {K : Type 0} (state : K → DeskState) where
   -- what a crash leaves while a closing is said through a journal at rest
-  leaves_closing : (j : Held K) (plan : PlanValue) (past : List Entry) (closing : List ℕ) {now : DeskState} → j.title ≡ book_title
-      → IsAtRest state j (bodies_of plan past) → Passes (SaysPrefix (state j.desk) closing) (state j.desk) now
-      → Passes (LeavesClosing plan past (state j.desk).shown closing) (state j.desk) now
-  leaves_closing j plan past closing titled rest passes = passes_within passes (λ image text says. (
-    ap (λ (t : Title). recovered t image) (sym titled) ∙ rest_leaves state j (bodies_of plan past) rest image says.0,
+  leaves_closing : (j : Held K) (contents : Contents) (closing : List ℕ) {now : DeskState} → j.title ≡ book_title
+      → IsAtRest state j (bodies_with contents []) → Passes (SaysPrefix (state j.desk) closing) (state j.desk) now
+      → Passes (LeavesClosing contents (state j.desk).shown closing) (state j.desk) now
+  leaves_closing j contents closing titled rest passes = passes_within passes (λ image text says. (
+    ap (λ (t : Title). recovered t image) (sym titled) ∙ rest_leaves state j (bodies_with contents []) rest image says.0,
     says.1,
   ))
 
   -- want of memory: nothing was said
-  pub says_nothing : (plan : PlanValue) (past : List Entry) (j : Held K) (closing : List ℕ) → SaidClosing state plan past j j closing (Some halt.Memory)
-  says_nothing plan past j closing = record {
+  pub says_nothing : (contents : Contents) (j : Held K) (closing : List ℕ) → SaidClosing state contents j j closing (Some halt.Memory)
+  says_nothing contents j closing = record {
     text = refl;
     cause = λ is. absurd (cc);
     journal = refl;
@@ -84,11 +85,12 @@ module _ {K : Type 0} (state : K → DeskState) where
 
   -- a closing after what was kept
   pub closes_on : (start old : BookValue K) (j : Held K) (halted : Option Halt) (closing : List ℕ) → old.halt ≡ None → old.journal.halted ≡ false
-      → SaidClosing state old.plan old.past old.journal j closing halted → SessionInvariant state start old
+      → SaidClosing state old.contents old.journal j closing halted → SessionInvariant state start old
       → Closed state start (record old { journal = j; halt = halted }) closing
   closes_on start old j halted closing sound unhalted s k = record {
     entries = k.entries;
     recorded = k.recorded;
+    held = k.held;
     plan = k.plan;
     quiet = k.quiet;
     volatile = ap (λ (h : Held K). h.volatile) s.journal ∙ k.volatile;
@@ -98,7 +100,7 @@ module _ {K : Type 0} (state : K → DeskState) where
     crash = λ told kept. crash_then told kept;
     left_now = λ told kept before image is_left.
         (let d = k.crash told kept in
-        ⊎_elim (λ whole. whole) (λ more. more ∙ ap (λ (p : List Entry). bodies (bodies_of start.plan ((p ++ k.entries) ++ start.past))) (none_pending _ _ old.halt old.failed d.pending sound d.few))
+        ⊎_elim (λ whole. whole) (λ more. more ∙ ap (λ (p : List Entry). bodies (bodies_with start.contents (p ++ k.entries))) (none_pending _ _ old.halt old.failed d.pending sound d.few))
         (d.left before image (left_stays (s.files (told_then told)) image is_left)));
     exact = λ told kept just. bytes_stay (s.files (told_then told)) ∙ k.exact told kept unhalted just;
     cause = cause_then halted s.text s.cause;
@@ -112,7 +114,7 @@ module _ {K : Type 0} (state : K → DeskState) where
 
       cause_then : (h : Option Halt) → IsClosing (state old.journal.desk).shown closing h (state j.desk).shown
           → (h ≡ Some halt.Out → Rises (state old.journal.desk).out_faults (state j.desk).out_faults)
-          → HasCause start.plan old.past (state start.journal.desk) (state j.desk) old.failed h
+          → HasCause old.contents start.plan old.past (state start.journal.desk) (state j.desk) old.failed h
       cause_then None text cause = tt
       cause_then (Some halt.Out) text cause =
           rises_later (state start.journal.desk).out_faults (state old.journal.desk).out_faults (state j.desk).out_faults k.continues.extends.out_faults (cause refl)
@@ -121,13 +123,13 @@ module _ {K : Type 0} (state : K → DeskState) where
       cause_then (Some (halt.Full size need)) text cause = absurd text
 
       crash_then : IsTrue (state start.journal.desk).tells → start.journal.volatile ≡ false
-          → Passes (LeavesClosed start.plan start.quiet start.past k.entries (state start.journal.desk).shown closing) (state start.journal.desk) (state j.desk)
+          → Passes (LeavesClosed start.contents start.plan start.quiet start.past k.entries (state start.journal.desk).shown closing) (state start.journal.desk) (state j.desk)
       crash_then told kept =
           let d = k.crash told kept in
           passes_on d.passes (s.crash (record { told = told_then told; sound = unhalted; kept = k.volatile ∙ kept }))
-          (λ image text was. inl (subst (λ (p : List Entry). LeavesEntries start.plan start.quiet start.past (p ++ k.entries) (state start.journal.desk).shown image text) (none_pending _ _ old.halt old.failed d.pending sound d.few) was))
+          (λ image text was. inl (subst (λ (p : List Entry). LeavesEntries start.contents start.plan start.quiet start.past (p ++ k.entries) (state start.journal.desk).shown image text) (none_pending _ _ old.halt old.failed d.pending sound d.few) was))
           (λ image text was. inr (
-            was.0 ∙ ap (λ (p : PlanValue). bodies (bodies_of p old.past)) k.plan ∙ ap (λ (p : List Entry). bodies (bodies_of start.plan p)) k.recorded,
+            was.0 ∙ ap (λ (c : Contents). bodies (bodies_with c [])) k.held,
             subst (λ (b : Option (List ℕ)). ShowsPrefix b closing (Some text)) shown_then was.1,
           ))
 
@@ -143,6 +145,8 @@ module _ {K : Type 0} (state : K → DeskState) where
     kept_is = is.kept_is;
     short = is.short;
     forms = is.forms;
+    held = is.held;
+    told = is.told;
     title = ap (λ (h : Held K). h.title) same ∙ is.title;
     sound = λ apart. ap (λ (h : Held K). h.halted) same ∙ is.sound (not_disk b.halt sound);
     ready = λ opened. let before : IsTrue (state b.journal.desk).tells = subst IsTrue told opened.told in
@@ -162,13 +166,13 @@ module _ {K : Type 0} (state : K → DeskState) where
   book_closes start old b machine kept j h closing r is_old unhalted is halts same text says alone k =
       let sound : b.halt ≡ None = ap (λ (x : BookValue K). x.halt) is_old ∙ unhalted in
       closes_on start b j h closing sound (is.sound (not_disk b.halt sound))
-      (subst (λ (x : Option Halt). SaidClosing state b.plan b.past b.journal j closing x) (sym halts) (record {
+      (subst (λ (x : Option Halt). SaidClosing state b.contents b.journal j closing x) (sym halts) (record {
         text = line_closes (state b.journal.desk).shown (state j.desk).shown closing (state b.journal.desk) (state j.desk) r text alone;
         cause = line_caused (state b.journal.desk) (state j.desk) r alone;
         journal = same;
         continues = says_continues says;
         files = says.files;
         off_disk = off_says says;
-        crash = λ opened. leaves_closing b.journal b.plan b.past closing is.title (is.ready opened) (says.crash opened.told);
+        crash = λ opened. leaves_closing b.journal b.contents closing is.title (is.ready opened) (says.crash opened.told);
       }))
       (subst (λ (x : BookValue K). SessionInvariant state start x) (sym is_old) k)

@@ -8,19 +8,20 @@ use Rattle.tf_desk.proofs.StateLemmas.{extends_told, continues_none, continues_o
 use Rattle.tf_flow.specs.Plan.{PlanValue}
 use Rattle.tf_states.specs.declared.record.Entry.{Entry}
 use Rattle.tf_states.specs.declared.record.What.TheVariants as event
-use Rattle.tf_entries.specs.Entries.{entry_bytes}
 use Rattle.tf_journal.specs.Format.{SIZE_LIMIT, bodies, journal_bytes, recovered, Held, IsAtRest, IsOpen, LeavesBodies, LeavesEither}
 use Rattle.tf_journal.proofs.AppendLemmas.{rest_leaves}
 use Rattle.tf_journal.specs.declared.title.Title.{Title}
-use Rattle.tf_journal.specs.declared.title.Title.TheVariants.{Book as book_title}
+use Rattle.tf_journal.specs.declared.title.Title.TheVariants.{Book2 as book_title}
 use Rattle.tf_machine.specs.Machine.{MachineValue}
 use Rattle.tf_model.specs.History.{snapshot}
 use Rattle.tf_model.specs.Plan.{outline_of}
 use Rattle.tf_model.specs.Steps.{Step, LegalPast}
 use Rattle.tf_report.specs.Lines.{line}
-use Rattle.tf_book.specs.Book.{BookValue, outline, moment, bodies_of, book_size, IsForm, IsAcceptedPlan, CanRun, IsHistoryOf}
-use Rattle.tf_book.specs.SessionInvariant.{said_of, is_logged, StaysOffDisk, Logged, said, IsSpoken, LeavesEntries, MayFollow, nothing_more, one_more, HasFailed, IsPending, IsExact, IsFullFor, HasCause, SessionInvariant, Proceeds}
-use Rattle.tf_book.specs.Recording.{halt_after, failed_after, past_after}
+use Rattle.tf_details.specs.Elements.{IsForm, IsAcceptedPlan, CanRun, IsHistoryOf}
+use Rattle.tf_details.specs.Contents.{Contents, with_entries}
+use Rattle.tf_book.specs.Book.{BookValue, outline, moment, entry_body, bodies_with, size_of}
+use Rattle.tf_book.specs.SessionInvariant.{said_of, is_logged, LeavesLogged, StaysOffDisk, Logged, said, IsSpoken, LeavesEntries, MayFollow, nothing_more, one_more, HasFailed, IsPending, IsExact, IsFullFor, HasCause, SessionInvariant, Proceeds}
+use Rattle.tf_book.specs.Recording.{halt_after, failed_after, past_after, contents_after}
 use Rattle.tf_book.specs.Sound.{IsSoundBook}
 use Rattle.tf_book.specs.declared.faults.Halt.{Halt}
 use Rattle.tf_book.specs.declared.faults.Halt.TheVariants as halt
@@ -48,10 +49,10 @@ pub record Wrote {K : Type 0} (state : K → DeskState) (old : BookValue K) (j :
   pub step : Step (outline old) (moment old) e
   pub form : IsForm e
   pub title : old.journal.title ≡ book_title
-  pub size : old.journal.size ≡ book_size old.plan old.past
+  pub size : old.journal.size ≡ size_of old.contents
   pub sound : old.journal.halted ≡ false
-  pub ready : IsOpen state old.journal → IsAtRest state old.journal (bodies_of old.plan old.past)
-  pub logged : Logged state (entry_bytes e) (next_line old e) old.journal j r
+  pub ready : IsOpen state old.journal → IsAtRest state old.journal (bodies_with old.contents [])
+  pub logged : Logged state (entry_body old.contents.number e) (next_line old e) old.journal j r
 
 module _ {K : Type 0} (state : K → DeskState) where
   module _ (start old : BookValue K) (j : Held K) (e : Entry) (sound : old.halt ≡ None) (k : SessionInvariant state start old) where
@@ -61,53 +62,63 @@ module _ {K : Type 0} (state : K → DeskState) where
     shown_then : (state old.journal.desk).shown ≡ shown_with (state start.journal.desk).shown (said start.quiet (outline start) start.past k.entries)
     shown_then = subst (λ (h : Option Halt). IsSpoken start.quiet (outline_of start.plan) start.past (state start.journal.desk).shown k.entries h (state old.journal.desk).shown) sound k.text
 
-    bodies_then : bodies_of old.plan old.past ≡ bodies_of start.plan (k.entries ++ start.past)
-    bodies_then = ap (λ (p : PlanValue). bodies_of p old.past) k.plan ∙ ap (bodies_of start.plan) k.recorded
+    bodies_then : bodies_with old.contents [] ≡ bodies_with start.contents k.entries
+    bodies_then = ap (λ (c : Contents). bodies_with c []) k.held
+
+    number_then : old.contents.number ≡ start.contents.number
+    number_then = ap (λ (c : Contents). c.number) k.held
 
     opened_then : (r : Result (Unit {0}) Halt) → Wrote state old j e r → IsTrue (state start.journal.desk).tells → start.journal.volatile ≡ false → IsOpen state old.journal
     opened_then r w told kept = record { told = extends_told k.continues.extends told; sound = w.sound; kept = k.volatile ∙ kept }
 
     passes_then : (r : Result (Unit {0}) Halt) → Wrote state old j e r → IsTrue (state start.journal.desk).tells → start.journal.volatile ≡ false
-        → Passes (LeavesEntries start.plan start.quiet start.past (e ∷ k.entries) (state start.journal.desk).shown) (state start.journal.desk) (state j.desk)
+        → Passes (LeavesEntries start.contents start.plan start.quiet start.past (e ∷ k.entries) (state start.journal.desk).shown) (state start.journal.desk) (state j.desk)
     passes_then r w told kept =
         let d = k.crash told kept in
         let opened = opened_then r w told kept in
-        passes_on d.passes (w.logged.at_most opened (bodies_of old.plan old.past) (w.ready opened)).crash
-        (left_before start.plan start.quiet start.past k.entries d.pending (state start.journal.desk).shown e (none_pending _ _ old.halt old.failed d.pending sound d.few))
-        (left_now start.plan start.quiet start.past k.entries (state start.journal.desk).shown (state old.journal.desk).shown e old.journal.title (next_line old e)
-        (bodies_of old.plan old.past) w.title bodies_then the_line shown_then)
+        passes_on d.passes (w.logged.at_most opened (bodies_with old.contents []) (w.ready opened)).crash
+        (left_before start.contents start.plan start.quiet start.past k.entries d.pending (state start.journal.desk).shown e (none_pending _ _ old.halt old.failed d.pending sound d.few))
+        (λ image text left. left_now start.contents start.plan start.quiet start.past k.entries (state start.journal.desk).shown (state old.journal.desk).shown e old.journal.title (next_line old e)
+        (bodies_with old.contents []) w.title bodies_then the_line shown_then image text
+        (subst (λ (n : ℕ). LeavesLogged old.journal.title (bodies_with old.contents []) (entry_body n e) (next_line old e) (state old.journal.desk).shown image text) number_then left))
 
-    full_then : (r : Result (Unit {0}) Halt) → Wrote state old j e r → (size need : ℕ) → (size ≡ old.journal.size) × (need ≡ 5 + length (entry_bytes e)) × (SIZE_LIMIT < size + need)
-        → IsFullFor (HasFailed (Some e)) start.plan old.past size need
+    full_then : (r : Result (Unit {0}) Halt) → Wrote state old j e r → (size need : ℕ) → (size ≡ old.journal.size) × (need ≡ 5 + length (entry_body old.contents.number e)) × (SIZE_LIMIT < size + need)
+        → IsFullFor (HasFailed (Some e)) old.contents start.plan old.past size need
     full_then r w size need is = record {
       entry = e;
       so = refl;
       step = subst (λ (p : PlanValue). Step (outline_of p) (snapshot (outline_of p) old.past) e) k.plan w.step;
       form = w.form;
-      size_is = is.0 ∙ w.size ∙ ap (λ (p : PlanValue). book_size p old.past) k.plan;
+      size_is = is.0 ∙ w.size;
       need_is = is.1;
       over = is.2;
     }
 
+    -- with the entry behind them
+    more_then : bodies (bodies_with old.contents [] ++ entry_body old.contents.number e ∷ []) ≡ bodies (bodies_with start.contents (e ∷ k.entries))
+    more_then =
+        ap (λ (h : List (List ℕ)). bodies (h ++ entry_body old.contents.number e ∷ [])) bodies_then
+        ∙ ap (λ (n : ℕ). bodies (bodies_with start.contents k.entries ++ entry_body n e ∷ [])) number_then
+
     -- what a crash leaves now, after the append
     leaves_recorded : (r : Result (Unit {0}) Halt) → Wrote state old j e r → is_logged r ≡ true → j.title ≡ old.journal.title → IsTrue (state start.journal.desk).tells → start.journal.volatile ≡ false
-        → LeavesBodies book_title (state j.desk) (bodies_of start.plan ((e ∷ k.entries) ++ start.past))
+        → LeavesBodies book_title (state j.desk) (bodies_with start.contents (e ∷ k.entries))
     leaves_recorded r w recorded titled told kept image left_now =
         let opened = opened_then r w told kept in
         ap (λ (t : Title). recovered t image) (sym (titled ∙ w.title))
-        ∙ rest_leaves state j (bodies_of old.plan old.past ++ entry_bytes e ∷ []) (w.logged.records recorded opened (bodies_of old.plan old.past) (w.ready opened)).rest image left_now
-        ∙ ap (λ (h : List (List ℕ)). bodies (h ++ entry_bytes e ∷ [])) bodies_then
+        ∙ rest_leaves state j (bodies_with old.contents [] ++ entry_body old.contents.number e ∷ []) (w.logged.records recorded opened (bodies_with old.contents []) (w.ready opened)).rest image left_now
+        ∙ more_then
 
     -- the same where the append found a disk fault
     leaves_pending : (r : Result (Unit {0}) Halt) → Wrote state old j e r → IsTrue (state start.journal.desk).tells → start.journal.volatile ≡ false
-        → LeavesEither book_title (state j.desk) (bodies_of start.plan (k.entries ++ start.past)) (bodies_of start.plan ((e ∷ k.entries) ++ start.past))
+        → LeavesEither book_title (state j.desk) (bodies_with start.contents k.entries) (bodies_with start.contents (e ∷ k.entries))
     leaves_pending r w told kept image left_now =
         let opened = opened_then r w told kept in
         let titled = ap (λ (t : Title). recovered t image) (sym w.title) in
         ⊎_elim
         (λ was. inl (titled ∙ was ∙ ap bodies bodies_then))
-        (λ is. inr (titled ∙ is ∙ ap (λ (h : List (List ℕ)). bodies (h ++ entry_bytes e ∷ [])) bodies_then))
-        ((w.logged.at_most opened (bodies_of old.plan old.past) (w.ready opened)).leaves image left_now)
+        (λ is. inr (titled ∙ is ∙ more_then))
+        ((w.logged.at_most opened (bodies_with old.contents []) (w.ready opened)).leaves image left_now)
 
     -- where nothing is kept in a file the disk isn't touched
     off_then : (r : Result (Unit {0}) Halt) → Wrote state old j e r → start.journal.volatile ≡ true → StaysOffDisk (state start.journal.desk) (state j.desk)
@@ -121,21 +132,22 @@ module _ {K : Type 0} (state : K → DeskState) where
 
     -- an exact file stays exact
     exact_recorded : (r : Result (Unit {0}) Halt) → Wrote state old j e r → is_logged r ≡ true → IsTrue (state start.journal.desk).tells → start.journal.volatile ≡ false
-        → IsExact (state start.journal.desk) start.plan start.past → IsExact (state j.desk) old.plan (e ∷ old.past)
+        → IsExact (state start.journal.desk) start.contents → IsExact (state j.desk) (with_entries old.contents (e ∷ []))
     exact_recorded r w recorded told kept just =
         let opened = opened_then r w told kept in
-        let was : bytes_now (state old.journal.desk) ≡ journal_bytes old.journal.title (bodies_of old.plan old.past) =
-        k.exact told kept w.sound just ∙ ap (λ (t : Title). journal_bytes t (bodies_of old.plan old.past)) (sym w.title) in
-        (w.logged.records recorded opened (bodies_of old.plan old.past) (w.ready opened)).exact was
-        ∙ ap (λ (t : Title). journal_bytes t (bodies_of old.plan old.past ++ entry_bytes e ∷ [])) w.title
+        let was : bytes_now (state old.journal.desk) ≡ journal_bytes old.journal.title (bodies_with old.contents []) =
+        k.exact told kept w.sound just ∙ ap (λ (t : Title). journal_bytes t (bodies_with old.contents [])) (sym w.title) in
+        (w.logged.records recorded opened (bodies_with old.contents []) (w.ready opened)).exact was
+        ∙ ap (λ (t : Title). journal_bytes t (bodies_with old.contents [] ++ entry_body old.contents.number e ∷ [])) w.title
 
     recorded_kept : (halted : Option Halt) (r : Result (Unit {0}) Halt) → Wrote state old j e r → is_logged r ≡ true → j.title ≡ old.journal.title → j.volatile ≡ old.journal.volatile
         → IsPending start.plan ((e ∷ k.entries) ++ start.past) halted old.failed [] → IsSpoken start.quiet (outline_of start.plan) start.past (state start.journal.desk).shown (e ∷ k.entries) halted (state j.desk).shown
-        → HasCause start.plan (e ∷ old.past) (state start.journal.desk) (state j.desk) old.failed halted
-        → SessionInvariant state start (record old { past = e ∷ old.past; journal = j; halt = halted })
+        → HasCause (with_entries old.contents (e ∷ [])) start.plan (e ∷ old.past) (state start.journal.desk) (state j.desk) old.failed halted
+        → SessionInvariant state start (record old { past = e ∷ old.past; contents = with_entries old.contents (e ∷ []); journal = j; halt = halted })
     recorded_kept halted r w recorded titled volatile none text cause = record {
       entries = e ∷ k.entries;
       recorded = ap (λ (l : List Entry). e ∷ l) k.recorded;
+      held = ap (λ (c : Contents). with_entries c (e ∷ [])) k.held;
       plan = k.plan;
       quiet = k.quiet;
       volatile = volatile ∙ k.volatile;
@@ -151,11 +163,12 @@ module _ {K : Type 0} (state : K → DeskState) where
     halted_here : (halted : Option Halt) (failed : Option Entry)
         → ((pending : List Entry) → pending ≡ [] → IsPending start.plan (k.entries ++ start.past) halted failed pending)
         → IsSpoken start.quiet (outline_of start.plan) start.past (state start.journal.desk).shown k.entries halted (state old.journal.desk).shown
-        → HasCause start.plan old.past (state start.journal.desk) (state old.journal.desk) failed halted
+        → HasCause old.contents start.plan old.past (state start.journal.desk) (state old.journal.desk) failed halted
         → SessionInvariant state start (record old { halt = halted; failed = failed })
     halted_here halted failed few text cause = record {
       entries = k.entries;
       recorded = k.recorded;
+      held = k.held;
       plan = k.plan;
       quiet = k.quiet;
       volatile = k.volatile;
@@ -167,7 +180,7 @@ module _ {K : Type 0} (state : K → DeskState) where
       cause = cause;
     }
 
-    by_result : (r : Result (Unit {0}) Halt) → Wrote state old j e r → SessionInvariant state start (record old { past = past_after e old.past r; journal = j; halt = halt_after r; failed = failed_after e old.failed r })
+    by_result : (r : Result (Unit {0}) Halt) → Wrote state old j e r → SessionInvariant state start (record old { past = past_after e old.past r; contents = contents_after e old.contents r; journal = j; halt = halt_after r; failed = failed_after e old.failed r })
     by_result (Ok u) w =
         recorded_kept None (Ok u) w refl (ap (λ (h : Held K). h.title) w.logged.journal) (ap (λ (h : Held K). h.volatile) w.logged.journal) refl
         (said_more start.quiet (outline start) start.past k.entries (state start.journal.desk).shown (state old.journal.desk).shown (state j.desk).shown e (next_line old e) the_line shown_then w.logged.text) tt
@@ -178,6 +191,7 @@ module _ {K : Type 0} (state : K → DeskState) where
     by_result (Err halt.Disk) w = record {
       entries = k.entries;
       recorded = k.recorded;
+      held = k.held;
       plan = k.plan;
       quiet = k.quiet;
       volatile = ap (λ (h : Held K). h.volatile) w.logged.journal ∙ k.volatile;
@@ -195,7 +209,7 @@ module _ {K : Type 0} (state : K → DeskState) where
 
   -- one entry that was to be recorded
   pub keeps_on : (start old new : BookValue K) (e : Entry) (r : Result (Unit {0}) Halt) → old.halt ≡ None → Wrote state old new.journal e r
-      → new ≡ record old { past = past_after e old.past r; journal = new.journal; halt = halt_after r; failed = failed_after e old.failed r } → SessionInvariant state start old → SessionInvariant state start new
+      → new ≡ record old { past = past_after e old.past r; contents = contents_after e old.contents r; journal = new.journal; halt = halt_after r; failed = failed_after e old.failed r } → SessionInvariant state start old → SessionInvariant state start new
   keeps_on start old new e r sound w same k = subst (λ (b : BookValue K). SessionInvariant state start b) (sym same) (by_result start old new.journal e sound k r w)
 
   -- want of memory halts
@@ -207,6 +221,7 @@ module _ {K : Type 0} (state : K → DeskState) where
   keeps_none start sound = record {
     entries = [];
     recorded = refl;
+    held = refl;
     plan = refl;
     quiet = refl;
     volatile = refl;
@@ -216,7 +231,7 @@ module _ {K : Type 0} (state : K → DeskState) where
         (sym (shown_none (state start.journal.desk).shown));
     crash = λ told kept. record { pending = []; few = none_few start.halt start.failed sound; passes = passes_none; left = λ before image left_now. inl (before image left_now) };
     exact = λ told kept unhalted just. just;
-    cause = subst (λ (h : Option Halt). HasCause start.plan start.past (state start.journal.desk) (state start.journal.desk) start.failed h) (sym sound) tt;
+    cause = subst (λ (h : Option Halt). HasCause start.contents start.plan start.past (state start.journal.desk) (state start.journal.desk) start.failed h) (sym sound) tt;
   }
     where
       none_few : (halted : Option Halt) (failed : Option Entry) → halted ≡ None → IsPending start.plan start.past halted failed []
@@ -224,12 +239,12 @@ module _ {K : Type 0} (state : K → DeskState) where
       none_few (Some h) failed is = absurd (cc)
 
   -- the same of a book that is open, whose parts are as these
-  pub book_proceeds : (old o : BookValue K) (p : PlanValue) (past : List Entry) (j : Held K) (h : Option Halt) (f : Option Entry) (n : ℕ) (machine : MachineValue) (kept : List ℕ) (e : Entry) (r : Result (Unit {0}) Halt)
+  pub book_proceeds : (old o : BookValue K) (p : PlanValue) (past : List Entry) (c : Contents) (j : Held K) (h : Option Halt) (f : Option Entry) (n : ℕ) (machine : MachineValue) (kept : List ℕ) (e : Entry) (r : Result (Unit {0}) Halt)
       → o ≡ old → n ≡ length o.past → old.halt ≡ None → Step (outline old) (moment old) e → IsForm e → IsSoundBook state machine kept o
-      → Logged state (entry_bytes e) (said_of o.quiet (line (outline o) (n + 1) e)) o.journal j r
-      → p ≡ o.plan → past ≡ past_after e o.past r → h ≡ halt_after r → f ≡ failed_after e o.failed r
-      → Proceeds state old (record { plan = p; past = past; journal = j; quiet = o.quiet; halt = h; failed = f; limit = o.limit })
-  book_proceeds old o p past j h f n machine kept e r same number sound step form is logged plan_is past_is halt_is failed_is =
+      → Logged state (entry_body o.contents.number e) (said_of o.quiet (line (outline o) (n + 1) e)) o.journal j r
+      → p ≡ o.plan → past ≡ past_after e o.past r → c ≡ contents_after e o.contents r → h ≡ halt_after r → f ≡ failed_after e o.failed r
+      → Proceeds state old (record { plan = p; past = past; contents = c; journal = j; quiet = o.quiet; halt = h; failed = f; limit = o.limit })
+  book_proceeds old o p past c j h f n machine kept e r same number sound step form is logged plan_is past_is contents_is halt_is failed_is =
       subst (λ (x : BookValue K). Proceeds state x next) same (record {
         plan = plan_is;
         limit = refl;
@@ -241,7 +256,7 @@ module _ {K : Type 0} (state : K → DeskState) where
       sound_here = ap (λ (b : BookValue K). b.halt) same ∙ sound
 
       next : BookValue K
-      next = record { plan = p; past = past; journal = j; quiet = o.quiet; halt = h; failed = f; limit = o.limit }
+      next = record { plan = p; past = past; contents = c; journal = j; quiet = o.quiet; halt = h; failed = f; limit = o.limit }
 
       wrote : Wrote state o j e r
       wrote = record {
@@ -251,15 +266,16 @@ module _ {K : Type 0} (state : K → DeskState) where
         size = is.size (is.sound (not_disk o.halt sound_here));
         sound = is.sound (not_disk o.halt sound_here);
         ready = is.ready;
-        logged = subst (λ (m : ℕ). Logged state (entry_bytes e) (said_of o.quiet (line (outline o) (m + 1) e)) o.journal j r) number logged;
+        logged = subst (λ (m : ℕ). Logged state (entry_body o.contents.number e) (said_of o.quiet (line (outline o) (m + 1) e)) o.journal j r) number logged;
       }
 
-      turned : next ≡ record o { past = past_after e o.past r; journal = j; halt = halt_after r; failed = failed_after e o.failed r }
+      turned : next ≡ record o { past = past_after e o.past r; contents = contents_after e o.contents r; journal = j; halt = halt_after r; failed = failed_after e o.failed r }
       turned =
-          ap (λ (x : Option Halt). record o { plan = p; past = past; journal = j; halt = x; failed = f }) halt_is
-          ∙ ap (λ (x : Option Entry). record o { plan = p; past = past; journal = j; halt = halt_after r; failed = x }) failed_is
-          ∙ ap (λ (x : PlanValue). record o { plan = x; past = past; journal = j; halt = halt_after r; failed = failed_after e o.failed r }) plan_is
-          ∙ ap (λ (x : List Entry). record o { past = x; journal = j; halt = halt_after r; failed = failed_after e o.failed r }) past_is
+          ap (λ (x : Option Halt). record o { plan = p; past = past; contents = c; journal = j; halt = x; failed = f }) halt_is
+          ∙ ap (λ (x : Option Entry). record o { plan = p; past = past; contents = c; journal = j; halt = halt_after r; failed = x }) failed_is
+          ∙ ap (λ (x : PlanValue). record o { plan = x; past = past; contents = c; journal = j; halt = halt_after r; failed = failed_after e o.failed r }) plan_is
+          ∙ ap (λ (x : List Entry). record o { past = x; contents = c; journal = j; halt = halt_after r; failed = failed_after e o.failed r }) past_is
+          ∙ ap (λ (x : Contents). record o { past = past_after e o.past r; contents = x; journal = j; halt = halt_after r; failed = failed_after e o.failed r }) contents_is
 
 -- one call that records after another
 pub proceeds_on : {K : Type 0} {state : K → DeskState} {old mid new : BookValue K} → Proceeds state old mid → Proceeds state mid new → Proceeds state old new
@@ -273,16 +289,16 @@ proceeds_on a b = record {
 -- what a crash leaves of a book that the disk didn't halt
 pub sound_leaves : {K : Type 0} (state : K → DeskState) (machine : MachineValue) (kept : List ℕ) (b old : BookValue K) → b ≡ old → IsSoundBook state machine kept b
     → IsTrue (state old.journal.desk).tells → old.journal.volatile ≡ false → old.halt ≢ Some halt.Disk
-    → LeavesBodies book_title (state old.journal.desk) (bodies_of old.plan old.past)
+    → LeavesBodies book_title (state old.journal.desk) (bodies_with old.contents [])
 sound_leaves {K} state machine kept b old same is told saved apart =
-    subst (λ (x : BookValue K). LeavesBodies book_title (state x.journal.desk) (bodies_of x.plan x.past)) same here
+    subst (λ (x : BookValue K). LeavesBodies book_title (state x.journal.desk) (bodies_with x.contents [])) same here
   where
     opened : IsOpen state b.journal
     opened = subst (λ (x : BookValue K). IsOpen state x.journal) (sym same)
         (record { told = told; sound = subst (λ (x : BookValue K). x.journal.halted ≡ false) same (is.sound (λ disk. apart (sym (ap (λ (x : BookValue K). x.halt) same) ∙ disk))); kept = saved })
 
-    here : LeavesBodies book_title (state b.journal.desk) (bodies_of b.plan b.past)
-    here image left_now = ap (λ (t : Title). recovered t image) (sym is.title) ∙ rest_leaves state b.journal (bodies_of b.plan b.past) (is.ready opened) image left_now
+    here : LeavesBodies book_title (state b.journal.desk) (bodies_with b.contents [])
+    here image left_now = ap (λ (t : Title). recovered t image) (sym is.title) ∙ rest_leaves state b.journal (bodies_with b.contents []) (is.ready opened) image left_now
 
 -- what came before is a history too
 pub history_before : {plan : PlanValue} (newer older : List Entry) → IsHistoryOf plan (newer ++ older) → IsHistoryOf plan older

@@ -6,11 +6,10 @@ pub mod HistoryLemmas
 pub mod TurnLemmas
 pub mod TriedLemmas
 pub mod ForceLemmas
-pub mod StartLemmas
+pub mod HoldingLemmas
 pub mod ClosingLemmas
-pub mod PlanLemmas
-pub mod ReadingLemmas
 pub mod AmongLemmas
 pub mod ShowLemmas
 pub mod ResetLemmas
 pub mod AskLemmas
+pub mod ShelfLemmas

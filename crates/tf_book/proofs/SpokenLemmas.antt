@@ -4,13 +4,13 @@ use Rattle.std.proofs.Math.Seq.{take-append-add, take-length}
 use Rattle.tf_desk.specs.Crash.{shown_with, ShowsPrefix}
 use Rattle.tf_flow.specs.Plan.{PlanValue}
 use Rattle.tf_states.specs.declared.record.Entry.{Entry}
-use Rattle.tf_entries.specs.Entries.{entry_bytes}
 use Rattle.tf_journal.specs.Format.{bodies, recovered}
 use Rattle.tf_journal.specs.declared.title.Title.{Title}
-use Rattle.tf_journal.specs.declared.title.Title.TheVariants.{Book as book_title}
+use Rattle.tf_journal.specs.declared.title.Title.TheVariants.{Book2 as book_title}
 use Rattle.tf_model.specs.Plan.{Outline, outline_of}
 use Rattle.tf_report.specs.Lines.{line}
-use Rattle.tf_book.specs.Book.{bodies_of}
+use Rattle.tf_details.specs.Contents.{Contents}
+use Rattle.tf_book.specs.Book.{entry_body, bodies_with}
 use Rattle.tf_book.specs.SessionInvariant.{said_of, LeavesLogged, said, IsCut, LeavesEntries, IsPending}
 use Rattle.tf_book.specs.declared.faults.Halt.{Halt}
 
@@ -64,9 +64,9 @@ one_more : (e : Entry) (entries pending lost kept : List Entry) → pending ≡ 
 one_more e entries pending lost kept none splits = ap (λ (l : List Entry). e ∷ l) (ap (λ (p : List Entry). p ++ entries) (sym none) ∙ splits)
 
 -- what was left before is left with one entry more
-pub left_before : (plan : PlanValue) (q : Bool) (before entries pending : List Entry) (s0 : Option (List ℕ)) (e : Entry) → pending ≡ [] → (image text : List ℕ)
-    → LeavesEntries plan q before (pending ++ entries) s0 image text → LeavesEntries plan q before (e ∷ entries) s0 image text
-left_before plan q before entries pending s0 e none image text left = record {
+pub left_before : (contents : Contents) (plan : PlanValue) (q : Bool) (before entries pending : List Entry) (s0 : Option (List ℕ)) (e : Entry) → pending ≡ [] → (image text : List ℕ)
+    → LeavesEntries contents plan q before (pending ++ entries) s0 image text → LeavesEntries contents plan q before (e ∷ entries) s0 image text
+left_before contents plan q before entries pending s0 e none image text left = record {
   lost = e ∷ left.lost;
   kept = left.kept;
   splits = one_more e entries pending left.lost left.kept none left.splits;
@@ -75,13 +75,13 @@ left_before plan q before entries pending s0 e none image text left = record {
 }
 
 -- what the append and the line leave
-pub left_now : (plan : PlanValue) (q : Bool) (before entries : List Entry) (s0 old : Option (List ℕ)) (e : Entry) (title : Title) (bytes : List ℕ) (held : List (List ℕ))
-    → title ≡ book_title → held ≡ bodies_of plan (entries ++ before) → bytes ≡ said_of q (line (outline_of plan) (length (entries ++ before) + 1) e)
+pub left_now : (contents : Contents) (plan : PlanValue) (q : Bool) (before entries : List Entry) (s0 old : Option (List ℕ)) (e : Entry) (title : Title) (bytes : List ℕ) (held : List (List ℕ))
+    → title ≡ book_title → held ≡ bodies_with contents entries → bytes ≡ said_of q (line (outline_of plan) (length (entries ++ before) + 1) e)
     → old ≡ shown_with s0 (said q (outline_of plan) before entries) → (image text : List ℕ)
-    → LeavesLogged title held (entry_bytes e) bytes old image text → LeavesEntries plan q before (e ∷ entries) s0 image text
-left_now plan q before entries s0 old e title bytes held titled lies same was image text left = ⊎_elim without with_it left
+    → LeavesLogged title held (entry_body contents.number e) bytes old image text → LeavesEntries contents plan q before (e ∷ entries) s0 image text
+left_now contents plan q before entries s0 old e title bytes held titled lies same was image text left = ⊎_elim without with_it left
   where
-    without : (recovered title image ≡ bodies held) × (old ≡ Some text) → LeavesEntries plan q before (e ∷ entries) s0 image text
+    without : (recovered title image ≡ bodies held) × (old ≡ Some text) → LeavesEntries contents plan q before (e ∷ entries) s0 image text
     without is = record {
       lost = e ∷ [];
       kept = entries;
@@ -90,12 +90,12 @@ left_now plan q before entries s0 old e title bytes held titled lies same was im
       spoken = prefix_whole s0 (said q (outline_of plan) before entries) text (sym is.1 ∙ was);
     }
 
-    with_it : (recovered title image ≡ bodies (held ++ entry_bytes e ∷ [])) × ShowsPrefix old bytes (Some text) → LeavesEntries plan q before (e ∷ entries) s0 image text
+    with_it : (recovered title image ≡ bodies (held ++ entry_body contents.number e ∷ [])) × ShowsPrefix old bytes (Some text) → LeavesEntries contents plan q before (e ∷ entries) s0 image text
     with_it is = record {
       lost = [];
       kept = e ∷ entries;
       splits = refl;
-      recovers = ap (λ (t : Title). recovered t image) (sym titled) ∙ is.0 ∙ ap (λ (h : List (List ℕ)). bodies (h ++ entry_bytes e ∷ [])) lies;
+      recovers = ap (λ (t : Title). recovered t image) (sym titled) ∙ is.0 ∙ ap (λ (h : List (List ℕ)). bodies (h ++ entry_body contents.number e ∷ [])) lies;
       spoken = subst (λ (b : List ℕ). ShowsPrefix s0 (said q (outline_of plan) before entries ++ b) (Some text)) same
           (prefix_further s0 old (said q (outline_of plan) before entries) bytes text was is.1);
     }

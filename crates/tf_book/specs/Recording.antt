@@ -1,11 +1,13 @@
 -- What becomes of a book where an entry is to be recorded.
-use Rattle.std.specs.Prelude.{◌≡◌, ◌≤◌, List, ◌∷◌, ◌++◌, length, Option, Some, None, Result, Ok, Err, if◌then◌else◌}
+use Rattle.std.specs.Prelude.{◌≡◌, ◌≤◌, List, [], ◌∷◌, ◌++◌, length, Option, Some, None, Result, Ok, Err, if◌then◌else◌}
 use Rattle.tf_states.specs.declared.record.Entry.{Entry}
 use Rattle.tf_entries.specs.Entries.{entry_bytes}
 use Rattle.tf_journal.specs.Format.{length_bytes}
 use Rattle.tf_machine.specs.Machine.{MachineValue, StandsFor}
-use Rattle.tf_book.specs.Book.{IsForm}
-use Rattle.tf_book.specs.SessionInvariant.{past_shown, is_logged}
+use Rattle.tf_details.specs.Elements.{IsForm}
+use Rattle.tf_details.specs.Contents.{Contents, with_entries}
+use Rattle.tf_book.specs.Histories.{past_shown}
+use Rattle.tf_book.specs.SessionInvariant.{is_logged}
 use Rattle.tf_book.specs.declared.faults.Halt.{Halt}
 use Rattle.tf_book.specs.declared.faults.Halt.TheVariants as halt
 use Rattle.tf_book.specs.declared.history.History.{History}
@@ -18,6 +20,10 @@ halt_after (Err halt) = Some halt
 -- the history has the entry, where it was recorded
 abbrev pub past_after : Entry → List Entry → Result (Unit {0}) Halt → List Entry
 past_after e past result = if is_logged result then e ∷ past else past
+
+-- the file holds the entry behind what it held, where it was recorded
+abbrev pub contents_after : Entry → Contents → Result (Unit {0}) Halt → Contents
+contents_after e contents result = if is_logged result then with_entries contents (e ∷ []) else contents
 
 -- the entry that couldn't be recorded last: this one, where the disk failed or the journal is full
 abbrev pub failed_after : Entry → Option Entry → Result (Unit {0}) Halt → Option Entry

@@ -11,13 +11,17 @@ use Rattle.tf_states.specs.declared.record.Entry.{Entry}
 use Rattle.tf_states.specs.declared.state.FlowState.TheVariants as flow
 use Rattle.tf_entries.specs.Entries.{entry_bytes}
 use Rattle.tf_journal.specs.declared.title.Title.{Title}
-use Rattle.tf_journal.specs.declared.title.Title.TheVariants.{Book as book_title}
+use Rattle.tf_journal.specs.declared.title.Title.TheVariants.{Book2 as book_title}
 use Rattle.tf_model.specs.History.{snapshot}
 use Rattle.tf_model.specs.Plan.{Outline, outline_of}
 use Rattle.tf_model.specs.Steps.{Step}
 use Rattle.tf_report.specs.Lines.{line, table}
-use Rattle.tf_book.specs.Book.{BookValue, flow_state, bodies_of, book_size, IsForm}
-use Rattle.std.specs.declared.snapshot.Snapshot.{Snapshot}
+use Rattle.tf_details.specs.Elements.{IsForm}
+use Rattle.tf_details.specs.Contents.{Contents, with_entries}
+use Rattle.tf_book.specs.Book.{BookValue, flow_state, entry_body, bodies_with, size_of}
+use Rattle.tf_book.specs.Holding.{HasHoldingRoom}
+use Rattle.tf_book.specs.declared.holding.Holding.{Holding}
+use Rattle.tf_book.specs.Histories.{framed_bodies, HasAllRoom}
 use Rattle.tf_book.specs.declared.history.History.{History}
 use Rattle.tf_book.specs.declared.writing.Draft.{Draft}
 
@@ -112,13 +116,13 @@ abbrev pub IsSpoken : Bool → Outline → List Entry → Option (List ℕ) → 
 IsSpoken quiet plan before shown entries (Some halt.Out) now = IsCut quiet plan before shown entries now
 IsSpoken quiet plan before shown entries other now = now ≡ shown_with shown (said quiet plan before entries)
 
--- a crash left this image and this text: recovery gives the plan and the history at the start with some of the entries after it, the
+-- a crash left this image and this text: recovery gives what the file held at the start with some of the entries after it, the
 -- oldest, the pending one the last; and what is shown is the text at the start and a prefix of what is said of these
-pub record LeavesEntries (plan : PlanValue) (quiet : Bool) (before entries : List Entry) (shown : Option (List ℕ)) (image text : List ℕ) : Type 0 where
+pub record LeavesEntries (contents : Contents) (plan : PlanValue) (quiet : Bool) (before entries : List Entry) (shown : Option (List ℕ)) (image text : List ℕ) : Type 0 where
   pub lost : List Entry
   pub kept : List Entry
   pub splits : entries ≡ lost ++ kept
-  pub recovers : recovered book_title image ≡ bodies (bodies_of plan (kept ++ before))
+  pub recovers : recovered book_title image ≡ bodies (bodies_with contents kept)
   pub spoken : ShowsPrefix shown (said quiet (outline_of plan) before kept) (Some text)
 
 -- nothing, or one entry of this kind that may follow the history and has a form that a book can read again
@@ -135,43 +139,44 @@ abbrev pub IsPending : PlanValue → List Entry → Option Halt → Option Entry
 IsPending plan past (Some halt.Disk) failed pending = MayFollow (HasFailed failed) plan past pending
 IsPending plan past other failed pending = pending ≡ []
 
--- since the start a crash left no more than that; and where one at the start left just the bodies of the history then, one now leaves
--- those of all entries, or the pending one with them
-pub record OutlastsCrash (plan : PlanValue) (quiet : Bool) (before entries : List Entry) (halted : Option Halt) (failed : Option Entry) (old now : DeskState) : Type 0 where
+-- since the start a crash left no more than that; and where one at the start left just the bodies that the file held then, one now leaves
+-- those with all entries behind them, or the pending one too
+pub record OutlastsCrash (contents : Contents) (plan : PlanValue) (quiet : Bool) (before entries : List Entry) (halted : Option Halt) (failed : Option Entry) (old now : DeskState) : Type 0 where
   pub pending : List Entry
   pub few : IsPending plan (entries ++ before) halted failed pending
-  pub passes : Passes (LeavesEntries plan quiet before (pending ++ entries) old.shown) old now
-  pub left : LeavesBodies book_title old (bodies_of plan before)
-      → LeavesEither book_title now (bodies_of plan (entries ++ before)) (bodies_of plan ((pending ++ entries) ++ before))
+  pub passes : Passes (LeavesEntries contents plan quiet before (pending ++ entries) old.shown) old now
+  pub left : LeavesBodies book_title old (bodies_with contents [])
+      → LeavesEither book_title now (bodies_with contents entries) (bodies_with contents (pending ++ entries))
 
--- the picked file has just the journal of a plan and a history
-abbrev pub IsExact : DeskState → PlanValue → List Entry → Type 0
-IsExact now plan past = bytes_now now ≡ journal_bytes book_title (bodies_of plan past)
+-- the picked file has just the journal of these contents
+abbrev pub IsExact : DeskState → Contents → Type 0
+IsExact now contents = bytes_now now ≡ journal_bytes book_title (bodies_with contents [])
 
 -- the record of an entry of this kind that may follow, with a form that a book can read again, would have made the journal longer than its limit
-pub record IsFullFor (is_so : Entry → Type 0) (plan : PlanValue) (past : List Entry) (size need : ℕ) : Type 0 where
+pub record IsFullFor (is_so : Entry → Type 0) (contents : Contents) (plan : PlanValue) (past : List Entry) (size need : ℕ) : Type 0 where
   pub entry : Entry
   pub so : is_so entry
   pub step : Step (outline_of plan) (snapshot (outline_of plan) past) entry
   pub form : IsForm entry
-  pub size_is : size ≡ book_size plan past
-  pub need_is : need ≡ 5 + length (entry_bytes entry)
+  pub size_is : size ≡ size_of contents
+  pub need_is : need ≡ 5 + length (entry_body contents.number entry)
   pub over : SIZE_LIMIT < size + need
 
 -- why it was halted: the disk or the output failed, so that its count rose, or the journal is full for the entry that couldn't be recorded;
 -- want of memory has no cause that is told
-abbrev pub HasCause : PlanValue → List Entry → DeskState → DeskState → Option Entry → Option Halt → Type 0
-HasCause plan past old now failed None = Unit {0}
-HasCause plan past old now failed (Some halt.Disk) = Rises old.disk_faults now.disk_faults
-HasCause plan past old now failed (Some halt.Out) = Rises old.out_faults now.out_faults
-HasCause plan past old now failed (Some (halt.Full size need)) = IsFullFor (HasFailed failed) plan past size need
-HasCause plan past old now failed (Some halt.Memory) = Unit {0}
+abbrev pub HasCause : Contents → PlanValue → List Entry → DeskState → DeskState → Option Entry → Option Halt → Type 0
+HasCause contents plan past old now failed None = Unit {0}
+HasCause contents plan past old now failed (Some halt.Disk) = Rises old.disk_faults now.disk_faults
+HasCause contents plan past old now failed (Some halt.Out) = Rises old.out_faults now.out_faults
+HasCause contents plan past old now failed (Some (halt.Full size need)) = IsFullFor (HasFailed failed) contents plan past size need
+HasCause contents plan past old now failed (Some halt.Memory) = Unit {0}
 
 module _ {K : Type 0} (state : K → DeskState) where
-  -- from the start until now: the entries recorded since; the plan and the kind of book stay; and the facts
+  -- from the start until now: the entries recorded since, which the file holds behind what it held; the plan and the kind of book stay; and the facts
   pub record SessionInvariant (start now : BookValue K) : Type 0 where
     pub entries : List Entry
     pub recorded : now.past ≡ entries ++ start.past
+    pub held : now.contents ≡ with_entries start.contents entries
     pub plan : now.plan ≡ start.plan
     pub quiet : now.quiet ≡ start.quiet
     pub volatile : now.journal.volatile ≡ start.journal.volatile
@@ -179,10 +184,10 @@ module _ {K : Type 0} (state : K → DeskState) where
     pub off_disk : start.journal.volatile ≡ true → StaysOffDisk (state start.journal.desk) (state now.journal.desk)
     pub text : IsSpoken start.quiet (outline_of start.plan) start.past (state start.journal.desk).shown entries now.halt (state now.journal.desk).shown
     pub crash : IsTrue (state start.journal.desk).tells → start.journal.volatile ≡ false
-        → OutlastsCrash start.plan start.quiet start.past entries now.halt now.failed (state start.journal.desk) (state now.journal.desk)
+        → OutlastsCrash start.contents start.plan start.quiet start.past entries now.halt now.failed (state start.journal.desk) (state now.journal.desk)
     pub exact : IsTrue (state start.journal.desk).tells → start.journal.volatile ≡ false → now.journal.halted ≡ false
-        → IsExact (state start.journal.desk) start.plan start.past → IsExact (state now.journal.desk) now.plan now.past
-    pub cause : HasCause start.plan now.past (state start.journal.desk) (state now.journal.desk) now.failed now.halt
+        → IsExact (state start.journal.desk) start.contents → IsExact (state now.journal.desk) now.contents
+    pub cause : HasCause now.contents start.plan now.past (state start.journal.desk) (state now.journal.desk) now.failed now.halt
 
   -- a call that records: the plan and the limit stay, nobody was asked, and for every start what was kept stays kept
   pub record Proceeds (old new : BookValue K) : Type 0 where
@@ -201,42 +206,21 @@ module _ {K : Type 0} (state : K → DeskState) where
     pub unasked : flow_state old ≢ flow.Running → IsUnasked (state old.journal.desk) (state new.journal.desk)
     pub keeps : (start : BookValue K) → SessionInvariant start old → SessionInvariant start new
 
--- ---- how a book keeps its history in memory
-
--- the entry that a snapshot shows
-abbrev pub entry_shown : Snapshot Entry → Entry
-entry_shown s = s.value
-
--- the history that snapshots show, the newest entry first
-abbrev pub past_shown : List (Snapshot Entry) → List Entry
-past_shown snapshots = reverse (map entry_shown snapshots)
-
--- the bodies of a history, each behind its length
-abbrev pub framed_bodies : List Entry → List ℕ
-framed_bodies [] = []
-framed_bodies (e ∷ past) = framed_bodies past ++ (length_bytes (length (entry_bytes e)) ++ entry_bytes e)
-
--- there is room for an entry with a body of that length
-pub record HasEntryRoom (history : History) (len : ℕ) : Type 0 where
-  pub entry : vec_len history.entries < vec_capacity history.entries
-  pub body : vec_len history.bodies + 4 + len ≤ vec_capacity history.bodies
-
--- there is room for every history that a journal can hold
-pub record HasAllRoom (history : History) : Type 0 where
-  pub entries : 67108864 ≤ vec_capacity history.entries
-  pub bodies : 67108864 ≤ vec_capacity history.bodies
+-- ---- what a book has room for
 
 -- there is room for the body and the line of every entry
 pub record HasDraftRoom (draft : Draft) : Type 0 where
-  pub body : 131200 ≤ vec_capacity draft.body
+  pub body : 131203 ≤ vec_capacity draft.body
   pub line : 1048576 ≤ vec_capacity draft.line
 
 -- there is room for one more entry of a journal of that size, whatever it is: in the history, and for its body and its line
-pub record HasWriteRoom (size : ℕ) (history : History) (draft : Draft) : Type 0 where
+pub record HasWriteRoom (size : ℕ) (history : History) (holding : Holding) (draft : Draft) : Type 0 where
   pub few : length history.entries.items ≤ 67108864
   pub fewer : length history.entries.items ≤ size
   pub fits : length history.bodies.items ≤ size
+  pub marks : length holding.marks.items ≤ size
   pub all_room : HasAllRoom history
+  pub holding_room : HasHoldingRoom holding
   pub draft_room : HasDraftRoom draft
 
 -- ---- how the lines of a history are made from its bodies in memory

@@ -1,45 +1,110 @@
--- What a book's start answers, and what a crash leaves of it.
-use Rattle.std.specs.Prelude.{◌≡◌, List, [], ℕ, Option, Result, Ok, Err, Bool, false, None}
+-- What a shelf's start answers, and what a crash leaves of it.
+use Rattle.std.specs.Prelude.{◌≡◌, ◌≤◌, ◌<◌, ◌⊎◌, List, ◌∷◌, ◌++◌, [], ℕ, ◌+◌, false, length, Option, Some, Result, Ok, Err, Bool, IsTrue, None}
 use Rattle.tf_numbers.specs.Numbers.{Rises}
 use Rattle.tf_desk.specs.Crash.{Pairs}
-use Rattle.tf_desk.specs.State.{DeskState}
-use Rattle.tf_journal.specs.Format.{Held, IsAtRest, IsOpen, LeavesBeforeOrAfter}
-use Rattle.tf_journal.specs.declared.title.Title.TheVariants.{Book as book_title}
+use Rattle.tf_desk.specs.State.{DeskState, bytes_now}
+use Rattle.tf_journal.specs.Format.{SIZE_LIMIT, Recovered, bodies, journal_bytes, recovered, Held, IsAtRest, IsOpen}
+use Rattle.tf_journal.specs.declared.title.Title.TheVariants.{Book2 as book_title}
 use Rattle.tf_flow.specs.Plan.{PlanValue}
-use Rattle.tf_entries.specs.Plans.{IsPlan, plan_bytes}
-use Rattle.tf_book.specs.Book.{BookValue, book_size, IsHistoryOf}
+use Rattle.tf_details.specs.Elements.{Element, detail, IsHistoryOf, details, detail_name, number_among, bodies_of, book_size, element_bytes}
+use Rattle.tf_details.specs.Contents.{Contents}
+use Rattle.tf_book.specs.Book.{BookValue}
+use Rattle.tf_book.specs.Shelf.{ShelfValue, is_volatile, IsFoundAs}
 use Rattle.tf_book.specs.declared.faults.BookFault.{BookFault}
 use Rattle.tf_book.specs.declared.faults.BookFault.TheVariants as fault
+use Rattle.tf_book.specs.declared.shelf.Place.{Place}
+use Rattle.tf_book.specs.declared.shelf.Place.TheVariants as place
 
 -- the desk that an answer has: the book's, or the one that came back with a fault
 abbrev pub desk_started : {K F : Type 0} → Result (BookValue K) (K × F) → K
 desk_started (Ok book) = book.journal.desk
 desk_started (Err back) = back.0
 
--- the book of a plan before its first entry, in this journal with this desk
-abbrev pub begun_book : {K : Type 0} → PlanValue → Held K → K → Bool → BookValue K
-begun_book plan journal desk quiet = record { plan = plan; past = []; journal = record journal { desk = desk; size = book_size plan [] }; quiet = quiet; halt = None; failed = None; limit = None }
+-- the elements with a detail of the plan behind them
+abbrev pub with_detail : List Element → PlanValue → List Element
+with_detail elements plan = detail plan ∷ elements
 
--- a journal of a book without a record, in which a book may start
-pub record HasNoRecord {K : Type 0} (state : K → DeskState) (journal : Held K) : Type 0 where
+-- what the file holds then, of which the new detail is meant
+abbrev pub begun_contents : List Element → PlanValue → Contents
+begun_contents elements plan = record { number = length (details elements); elements = with_detail elements plan }
+
+-- the body of a new detail
+abbrev pub detail_body : PlanValue → List ℕ
+detail_body plan = element_bytes (detail plan)
+
+-- a detail of the plan may begin behind the elements: there are fewer than 64, and none has its name
+pub record HasPlaceFor (elements : List Element) (plan : PlanValue) : Type 0 where
+  pub few : length (details elements) < 64
+  pub unnamed : number_among (details elements) (detail_name plan) ≡ None
+
+-- the book of the plan before its first entry, a new detail behind the elements
+pub record IsBegun {K : Type 0} (shelf : ShelfValue K) (plan : PlanValue) (quiet : Bool) (book : BookValue K) : Type 0 where
+  pub plan_is : book.plan ≡ plan
+  pub past : book.past ≡ []
+  pub contents : book.contents ≡ begun_contents shelf.elements plan
+  pub volatile : book.journal.volatile ≡ is_volatile shelf.place
+  pub quiet_is : book.quiet ≡ quiet
+  pub halt : book.halt ≡ None
+  pub failed : book.failed ≡ None
+  pub limit : book.limit ≡ None
+
+-- what recovery finds of the file while a body is added to the elements: what it found before; the elements alone, where the file was unborn; or the
+-- body behind them
+abbrev pub FindsAdded : {K : Type 0} → Place K → List Element → List ℕ → Recovered → Type 0
+FindsAdded at elements body found =
+    IsFoundAs at elements found ⊎ ((found ≡ bodies (bodies_of elements)) ⊎ (found ≡ bodies (bodies_of elements ++ body ∷ [])))
+
+-- a crash then leaves that; the shown text stays
+abbrev pub LeavesAdded : {K : Type 0} → Place K → List Element → List ℕ → Option (List ℕ) → Pairs
+LeavesAdded at elements body shown image text = FindsAdded at elements body (recovered book_title image) × (shown ≡ Some text)
+
+-- the same of a new detail
+abbrev pub FindsBegun : {K : Type 0} → ShelfValue K → PlanValue → Recovered → Type 0
+FindsBegun shelf plan = FindsAdded shelf.place shelf.elements (detail_body plan)
+
+abbrev pub LeavesBegun : {K : Type 0} → ShelfValue K → PlanValue → Option (List ℕ) → Pairs
+LeavesBegun shelf plan = LeavesAdded shelf.place shelf.elements (detail_body plan)
+
+-- nothing stands in the file behind the last gate of the elements, and where it is unborn behind byte 18
+abbrev pub EndsThere : {K : Type 0} → (K → DeskState) → Place K → Type 0
+EndsThere state (place.Kept journal) = IsOpen state journal × (length (bytes_now (state journal.desk)) ≡ journal.size)
+EndsThere state (place.Unborn desk) = IsTrue (state desk).tells × (length (bytes_now (state desk)) ≤ 18)
+
+-- the record of the new detail would have made the journal longer than its limit
+pub record IsFullToBegin (elements : List Element) (plan : PlanValue) (size need : ℕ) : Type 0 where
+  pub history : IsHistoryOf plan []
+  pub size_is : size ≡ book_size elements
+  pub need_is : need ≡ 5 + length (detail_body plan)
+  pub over : SIZE_LIMIT < size + need
+
+-- why no book started: the disk failed, where a crash may have left the new detail, which a book may hold; the journal is full for it; or want of
+-- memory, and nothing was done
+abbrev pub FailsToStart : {K : Type 0} → (K → DeskState) → ShelfValue K → PlanValue → BookFault → K → K → Type 0
+FailsToStart state shelf plan fault.Disk old new = IsHistoryOf plan [] × Rises (state old).disk_faults (state new).disk_faults
+FailsToStart state shelf plan fault.Memory old new = new ≡ old
+FailsToStart state shelf plan (fault.Full size need) old new = IsFullToBegin shelf.elements plan size need × (new ≡ old)
+FailsToStart state shelf plan other old new = ⊥
+
+-- ---- its parts
+
+-- why a body wasn't added to the elements: the disk failed, so that its count rose; the journal is full for it, or memory ran out, and nothing was done
+abbrev pub FailsToAdd : {K : Type 0} → (K → DeskState) → List Element → List ℕ → BookFault → K → K → Type 0
+FailsToAdd state elements body fault.Disk old new = Rises (state old).disk_faults (state new).disk_faults
+FailsToAdd state elements body fault.Memory old new = new ≡ old
+FailsToAdd state elements body (fault.Full size need) old new =
+    (size ≡ book_size elements) × (need ≡ 5 + length body) × (SIZE_LIMIT < size + need) × (new ≡ old)
+FailsToAdd state elements body other old new = ⊥
+
+-- the journal has the elements and the body behind them
+pub record HasAdded {K : Type 0} (state : K → DeskState) (elements : List Element) (body : List ℕ) (journal : Held K) : Type 0 where
   pub title : journal.title ≡ book_title
-  pub size : journal.size ≡ 18
   pub sound : journal.halted ≡ false
-  pub ready : IsOpen state journal → IsAtRest state journal []
+  pub size : journal.size ≡ book_size elements + 5 + length body
+  pub limit : journal.size ≤ SIZE_LIMIT
+  pub rest : IsOpen state journal → IsAtRest state journal (bodies_of elements ++ body ∷ [])
 
--- a crash inside a start leaves no record, or the plan alone; the shown text stays
-abbrev pub LeavesPlan : PlanValue → Option (List ℕ) → Pairs
-LeavesPlan plan shown image text = LeavesBeforeOrAfter book_title [] (plan_bytes plan) shown image text
-
--- why a plan's body wasn't appended: the disk failed, so that its count rose, and the plan has a form; or want of memory, and nothing
--- was done
-abbrev pub FailsToAppendPlan : {K : Type 0} → (K → DeskState) → PlanValue → BookFault → Held K → Held K → Type 0
-FailsToAppendPlan state plan fault.Disk old new = IsPlan plan × Rises (state old.desk).disk_faults (state new.desk).disk_faults
-FailsToAppendPlan state plan fault.Memory old new = new ≡ old
-FailsToAppendPlan state plan other old new = ⊥
-
--- why no book started: the disk failed, where a crash may have left the plan, which a book may hold; or want of memory
-abbrev pub FailsToStart : {K : Type 0} → (K → DeskState) → PlanValue → BookFault → K → K → Type 0
-FailsToStart state plan fault.Disk old new = IsHistoryOf plan [] × Rises (state old).disk_faults (state new).disk_faults
-FailsToStart state plan fault.Memory old new = new ≡ old
-FailsToStart state plan other old new = ⊥
+-- and nothing else, where nothing stood behind the elements
+pub record AddsTo {K : Type 0} (state : K → DeskState) (at : Place K) (elements : List Element) (body : List ℕ) (journal : Held K) : Type 0 where
+  pub has : HasAdded state elements body journal
+  pub volatile : journal.volatile ≡ is_volatile at
+  pub exact : EndsThere state at → bytes_now (state journal.desk) ≡ journal_bytes book_title (bodies_of elements ++ body ∷ [])

@@ -1,11 +1,13 @@
 ghost use Rattle.std.specs.Prelude.{◌≡◌, ◌≤◌, ◌<◌, ◌+◌, ◌++◌, ◌∷◌, [], List, ℕ, length, vec_len, vec_capacity, OnOk, IfOk};
 ghost use Rattle.tf_journal.specs.Format.{length_bytes, IsBody};
-ghost use Rattle.tf_journal.specs.declared.title.Title.TheVariants.{Book as book_title};
-ghost use Rattle.tf_book.specs.SessionInvariant.{past_shown, HasEntryRoom, HasAllRoom};
+ghost use Rattle.tf_journal.specs.declared.title.Title.TheVariants.{Book2 as book_title};
+ghost use Rattle.tf_book.specs.Histories.{past_shown, framed_bodies, HasEntryRoom, HasAllRoom, KeepsHistory};
 
 use std::alloc::{AllocError, Global};
 use std::snapshot::Snapshot;
+use tf_details::Keeps;
 use tf_states::Entry;
+use tf_values::Memory;
 
 /// The greatest size of a journal: a history has fewer entries and fewer bytes.
 const SIZE_LIMIT: usize = 67_108_864;
@@ -60,5 +62,17 @@ impl History {
             (n % 256) as u8,
         ]);
         let _ = self.bodies.extend_from_slice(body);
+    }
+}
+
+impl Keeps for History {
+    ghost use Rattle.tf_book.specs.Histories.{KeepsHistory};
+
+    ghost keeps = { KeepsHistory };
+
+    fn keep(&mut self, entry: &Entry, form: &[u8]) -> Result<(), Memory> {
+        self.reserve(form.len())?;
+        History::keep(self, entry, form);
+        Ok(())
     }
 }

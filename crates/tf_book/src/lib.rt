@@ -1,16 +1,19 @@
-//! The book: a run that is recorded in a journal entry by entry, each line shown once its record can't be lost.
+//! The book: a file of several details, each the plan of a flow with its history, one of which is a run that is recorded entry by
+//! entry, each line shown once its record can't be lost.
 #![tactic(auto)]
 
 mod book;
 mod faults;
 mod history;
+mod holding;
 mod log;
 mod putting_back;
-mod recovering;
+mod shelf;
 mod showing;
 mod turn;
 mod writing;
 
-pub use book::{Book, Loaded};
+pub use book::Book;
 pub use faults::{BookFault, Halt, ResetFault};
+pub use shelf::{Detail, Shelf};
 pub use turn::{Entered, Turn};

@@ -1,7 +1,7 @@
 ghost use Rattle.std.specs.Prelude.{◌≡◌, false, IfErr};
 ghost use Rattle.tf_desk.specs.State.{Says, Asks};
 ghost use Rattle.tf_journal.specs.Format.{IsBody, IsReady};
-ghost use Rattle.tf_journal.specs.declared.title.Title.TheVariants.{Book as book_title};
+ghost use Rattle.tf_journal.specs.declared.title.Title.TheVariants.{Book2 as book_title};
 ghost use Rattle.tf_book.specs.Turns.{IsAnswered};
 ghost use Rattle.tf_book.specs.SessionInvariant.{said_of, IsSaid, FailsToSay, Logged};
 

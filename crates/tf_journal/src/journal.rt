@@ -172,13 +172,13 @@ impl<K: Desk> Journal<K> {
     pub fn volatile(alloc: Global, desk: K) -> Result<Journal<K>, (K, Memory)>
         ensures made { IfOk result (λ journal. (journal.desk ≡ desk) × (journal.size ≡ 18) × (journal.halted ≡ false)
             × (journal.volatile ≡ true)) }
-        ensures title { IfOk result (λ journal. journal.title ≡ Title.Book) }
+        ensures title { IfOk result (λ journal. journal.title ≡ Title.Book2) }
         ensures back { IfErr result (λ back. back.0 ≡ desk) }
     {
         match Vec::with_capacity(alloc, TAIL_LIMIT) {
             Ok(buffer) => Ok(Journal {
                 desk,
-                title: Title::Book,
+                title: Title::Book2,
                 size: EMPTY_SIZE,
                 halted: false,
                 volatile: true,

@@ -1,9 +1,9 @@
-ghost use Rattle.std.specs.Prelude.{◌≡◌, None, false, IsTrue, length};
+ghost use Rattle.std.specs.Prelude.{◌≡◌, [], None, false, IsTrue, length};
 ghost use Rattle.tf_desk.specs.State.{bytes_now, IsDurable};
 ghost use Rattle.tf_journal.specs.Format.{LiesAs};
-ghost use Rattle.tf_journal.specs.declared.title.Title.TheVariants.{Book as book_title};
+ghost use Rattle.tf_journal.specs.declared.title.Title.TheVariants.{Book2 as book_title};
 ghost use Rattle.tf_machine.specs.Machine.{StandsFor};
-ghost use Rattle.tf_book.specs.Book.{bodies_of, book_size};
+ghost use Rattle.tf_book.specs.Book.{bodies_with, size_of};
 
 use super::Book;
 use crate::faults::Halt;
@@ -34,12 +34,12 @@ impl<K: Desk> Book<K> {
         &self.machine
     }
 
-    /// The desk back. Where the book wasn't halted and the desk tells its content, the file has the plan and the
-    /// history, and a crash now leaves nothing else.
+    /// The desk back. Where the book wasn't halted and the desk tells its content, the file has what the book says, and a
+    /// crash now leaves nothing else.
     pub fn close(self) -> K
         ensures desk { result ≡ self.journal.desk }
         ensures file { self.halt ≡ None → IsTrue (K.state self.journal.desk).tells → self.journal.volatile ≡ false
-            → LiesAs book_title (bodies_of self.plan self.past) (book_size self.plan self.past)
+            → LiesAs book_title (bodies_with self.contents []) (size_of self.contents)
             (bytes_now (K.state result)) }
         ensures durable { self.halt ≡ None → IsTrue (K.state self.journal.desk).tells → self.journal.volatile ≡ false
             → IsDurable (K.state result) }
@@ -49,6 +49,7 @@ impl<K: Desk> Book<K> {
             journal,
             machine: _,
             history: _,
+            holding: _,
             draft: _,
             quiet: _,
             halt: _,

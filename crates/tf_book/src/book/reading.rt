@@ -1,4 +1,4 @@
-ghost use Rattle.std.specs.Prelude.{◌≡◌, ◌≢◌, ◌<◌, ◌^◌, None, Some, true, false, ℕ, length, IsSome, IsTrue, IfOk, IfSome, option_map, is_some};
+ghost use Rattle.std.specs.Prelude.{◌≡◌, ◌≢◌, ◌<◌, ◌^◌, [], None, Some, true, false, ℕ, length, IsSome, IsTrue, IfOk, IfSome, option_map, is_some};
 ghost use Rattle.tf_states.specs.declared.state.FlowState.TheVariants as flow;
 ghost use Rattle.tf_hands.specs.Hands.{start_entry, action_in, task_of, end_by};
 ghost use Rattle.tf_model.specs.Forced.{choice, end_of, forced as forced_entry};
@@ -8,8 +8,10 @@ ghost use Rattle.tf_model.specs.Steps.{Step, LegalPast, is_still};
 ghost use Rattle.tf_actions.specs.Gives.{IsWhole};
 ghost use Rattle.tf_bound.specs.Short.{AreShort, IsWithinLimits};
 ghost use Rattle.tf_journal.specs.Format.{LeavesBodies};
-ghost use Rattle.tf_journal.specs.declared.title.Title.TheVariants.{Book as book_title};
-ghost use Rattle.tf_book.specs.Book.{outline, moment, flow_state, bodies_of, IsHistoryOf};
+ghost use Rattle.tf_journal.specs.declared.title.Title.TheVariants.{Book2 as book_title};
+ghost use Rattle.tf_details.specs.Elements.{IsHistoryOf};
+ghost use Rattle.tf_details.specs.Contents.{IsContents, past_of};
+ghost use Rattle.tf_book.specs.Book.{outline, moment, flow_state, bodies_with, size_of};
 ghost use Rattle.tf_book.specs.declared.faults.Halt.{Halt as Cause};
 
 use super::Book;
@@ -28,7 +30,7 @@ impl<K: Desk> Book<K> {
     }
 
     /// The state of the flow. The history is legal and not too long to be counted, and its plan compiles. Unless the
-    /// book was halted by the disk, a crash now leaves just its plan and its history, where the desk tells its content.
+    /// book was halted by the disk, a crash now leaves just what its file holds, where the desk tells its content.
     #[tactic(auto, using(crate::proofs::HistoryLemmas::past_long))]
     pub fn state(&self) -> FlowState
         ensures is { result ≡ flow_state self.now }
@@ -42,7 +44,9 @@ impl<K: Desk> Book<K> {
         ensures leaves { IsTrue (K.state self.now.journal.desk).tells → self.now.journal.volatile ≡ false
             → self.now.halt ≢ Some Cause.Disk
             → LeavesBodies book_title (K.state self.now.journal.desk)
-            (bodies_of self.now.plan self.now.past) }
+            (bodies_with self.now.contents []) }
+        ensures held { IsContents self.now.plan self.now.contents }
+        ensures told { past_of self.now.contents ≡ self.now.past }
     {
         let plan = self.machine.plan();
         let _root = plan.root();

@@ -4,7 +4,7 @@ use Rattle.tf_states.specs.declared.record.Entry.{Entry}
 use Rattle.tf_entries.specs.Entries.{entry_bytes}
 use Rattle.tf_model.specs.Plan.{outline_of}
 use Rattle.tf_report.specs.Lines.{line}
-use Rattle.tf_book.specs.Book.{IsEntryOf}
+use Rattle.tf_details.specs.Elements.{IsEntryOf}
 use Rattle.tf_book.proofs.showing.append_line.Goals as goal
 
 ok_so : {A B : Type 0} (r : Result A B) (P Q : Type 0) → (P → Q) → OnOk r P → OnOk r Q

@@ -1,6 +1,6 @@
 use Rattle.std.proofs.Common.{◌≡◌, ◌<◌, ◌≤◌, length, sym, ◌∙◌, ap, arith, List, ℕ}
 use Rattle.tf_entries.specs.Entries.{entry_bytes}
-use Rattle.tf_book.specs.SessionInvariant.{past_shown}
+use Rattle.tf_book.specs.Histories.{past_shown}
 use Rattle.tf_book.proofs.ShowLemmas.{next_entry, begins_within, lines_none, lines_more, lines_all}
 use Rattle.tf_book.proofs.showing.append_lines.Goals as goal
 
