@@ -31,9 +31,11 @@ owner_status (owned.Of name) id = is_done refl
 answer_status : (asked : Asked) (past : List Command) → IsBoardStatus (answer_of asked past).status
 answer_status (words.Try file sets defer want target) past = is_done refl
 answer_status (words.Run file book sets defer want stop target) past = is_done refl
-answer_status (words.Resume book want stop) past = is_done refl
-answer_status (words.Show book) past = is_done refl
-answer_status (words.Reset book) past = is_done refl
+answer_status (words.Resume book name want stop) past = is_done refl
+answer_status (words.Show book name) past = is_done refl
+answer_status (words.Reset book name) past = is_done refl
+answer_status (words.Details book) past = is_done refl
+answer_status (words.Migrate old new) past = is_done refl
 answer_status (words.Check file sets target) past = is_done refl
 answer_status (words.Audit file log sets defer) past = is_done refl
 answer_status (words.Demo seed size book hands) past = is_done refl

@@ -1,7 +1,7 @@
 -- What each command asks for is of its own kind.
 use Rattle.std.proofs.Common.{◌≡◌, ℕ, List, [], ◌∷◌, Bool, true, false, Option, Some, None, refl, sym, ap, subst, ◌∙◌}
 use Rattle.std.specs.Prelude.{option_map, option_and_then, if◌then◌else◌}
-use Rattle.tf_words.specs.Words.{worker_of, address_of, sessions_in, seats_in, serve_of, id_in, Applied, post_of, owner_of, list_of, applied_in, priority_in, details_in, hands_in, want_in, deferral_in, stop_in, target_in, try_of, run_of, resume_of, show_of, reset_of, check_of, audit_of, demo_of, owner_word, conduct_of, asked_by, asked_of, command_of}
+use Rattle.tf_words.specs.Words.{worker_of, address_of, sessions_in, seats_in, serve_of, id_in, Applied, book_flow_in, post_of, owner_of, list_of, applied_in, priority_in, details_in, hands_in, want_in, deferral_in, stop_in, target_in, try_of, run_of, resume_of, show_of, reset_of, details_of, migrate_of, check_of, audit_of, demo_of, owner_word, conduct_of, asked_by, asked_of, command_of}
 use Rattle.tf_words.specs.Verbs.{Said, are_filled, said_by, choice_of, forms_of, number_between, sets_behind}
 use Rattle.tf_values.specs.Text.{is_name}
 use Rattle.tf_words.specs.declared.asked.Asked.{Asked}
@@ -13,9 +13,11 @@ use Rattle.tf_words.specs.declared.verbs.Verb.TheVariants as verb
 abbrev pub verb_of : Asked → Verb
 verb_of (asked.Try file sets defer hands target) = verb.Try
 verb_of (asked.Run file book sets defer hands stop target) = verb.Run
-verb_of (asked.Resume book hands stop) = verb.Resume
-verb_of (asked.Show book) = verb.Show
-verb_of (asked.Reset book) = verb.Reset
+verb_of (asked.Resume book name hands stop) = verb.Resume
+verb_of (asked.Show book name) = verb.Show
+verb_of (asked.Reset book name) = verb.Reset
+verb_of (asked.Details book) = verb.Details
+verb_of (asked.Migrate old new) = verb.Migrate
 verb_of (asked.Check file sets target) = verb.Check
 verb_of (asked.Audit file log sets defer) = verb.Audit
 verb_of (asked.Demo seed size book hands) = verb.Demo
@@ -61,12 +63,11 @@ run_kind said (file ∷ book ∷ pairs) a is =
     sym (ap verb_of t.2)
 
 resume_kind : (said : Said) (words : List (List ℕ)) (a : Asked) → resume_of said words ≡ Some a → verb_of a ≡ verb.Resume
-resume_kind said [] a is = absurd (cc)
-resume_kind said (book ∷ []) a is =
-    let p = then_some _ (want_in said) a is in
-    let q = map_some _ (stop_in said) a p.2 in
-    sym (ap verb_of q.2)
-resume_kind said (book ∷ more ∷ others) a is = absurd (cc)
+resume_kind said words a is =
+    let p = then_some _ (book_flow_in words) a is in
+    let q = then_some _ (want_in said) a p.2 in
+    let r = map_some _ (stop_in said) a q.2 in
+    sym (ap verb_of r.2)
 
 check_kind : (said : Said) (words : List (List ℕ)) (a : Asked) → check_of said words ≡ Some a → verb_of a ≡ verb.Check
 check_kind said [] a is = absurd (cc)
@@ -84,14 +85,25 @@ audit_kind said (file ∷ log ∷ pairs) a is =
     sym (ap verb_of q.2)
 
 show_kind : (words : List (List ℕ)) (a : Asked) → show_of words ≡ Some a → verb_of a ≡ verb.Show
-show_kind [] a is = absurd (cc)
-show_kind (book ∷ []) a is = let same : asked.Show book ≡ a = cc in sym (ap verb_of same)
-show_kind (book ∷ more ∷ others) a is = absurd (cc)
+show_kind words a is =
+    let p = map_some _ (book_flow_in words) a is in
+    sym (ap verb_of p.2)
 
 reset_kind : (words : List (List ℕ)) (a : Asked) → reset_of words ≡ Some a → verb_of a ≡ verb.Reset
-reset_kind [] a is = absurd (cc)
-reset_kind (book ∷ []) a is = let same : asked.Reset book ≡ a = cc in sym (ap verb_of same)
-reset_kind (book ∷ more ∷ others) a is = absurd (cc)
+reset_kind words a is =
+    let p = map_some _ (book_flow_in words) a is in
+    sym (ap verb_of p.2)
+
+details_kind : (words : List (List ℕ)) (a : Asked) → details_of words ≡ Some a → verb_of a ≡ verb.Details
+details_kind [] a is = absurd (cc)
+details_kind (book ∷ []) a is = let same : asked.Details book ≡ a = cc in sym (ap verb_of same)
+details_kind (book ∷ more ∷ others) a is = absurd (cc)
+
+migrate_kind : (words : List (List ℕ)) (a : Asked) → migrate_of words ≡ Some a → verb_of a ≡ verb.Migrate
+migrate_kind [] a is = absurd (cc)
+migrate_kind (old ∷ []) a is = absurd (cc)
+migrate_kind (old ∷ new ∷ []) a is = let same : asked.Migrate old new ≡ a = cc in sym (ap verb_of same)
+migrate_kind (old ∷ new ∷ more ∷ others) a is = absurd (cc)
 
 worker_kind : (said : Said) (words : List (List ℕ)) (a : Asked) → worker_of said words ≡ Some a → verb_of a ≡ verb.Worker
 worker_kind said [] a is = absurd (cc)
@@ -168,6 +180,8 @@ asked_kind verb.Run said a is = run_kind said (said []) a is
 asked_kind verb.Resume said a is = resume_kind said (said []) a is
 asked_kind verb.Show said a is = show_kind (said []) a is
 asked_kind verb.Reset said a is = reset_kind (said []) a is
+asked_kind verb.Details said a is = details_kind (said []) a is
+asked_kind verb.Migrate said a is = migrate_kind (said []) a is
 asked_kind verb.Check said a is = check_kind said (said []) a is
 asked_kind verb.Audit said a is = audit_kind said (said []) a is
 asked_kind verb.Demo said a is = demo_kind said (said []) a is

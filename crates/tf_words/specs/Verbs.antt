@@ -383,6 +383,8 @@ forms_of verb.Run = deferral ∷ hands ∷ workers ∷ stop_after ∷ target ∷
 forms_of verb.Resume = hands ∷ workers ∷ stop_after ∷ []
 forms_of verb.Show = []
 forms_of verb.Reset = []
+forms_of verb.Details = []
+forms_of verb.Migrate = []
 forms_of verb.Check = target ∷ []
 forms_of verb.Audit = deferral ∷ []
 forms_of verb.Demo = hands ∷ []
@@ -405,6 +407,8 @@ verb_named word =
     else if same_word word (codes "resume") then Some verb.Resume
     else if same_word word (codes "show") then Some verb.Show
     else if same_word word (codes "reset") then Some verb.Reset
+    else if same_word word (codes "details") then Some verb.Details
+    else if same_word word (codes "migrate") then Some verb.Migrate
     else if same_word word (codes "check") then Some verb.Check
     else if same_word word (codes "audit") then Some verb.Audit
     else if same_word word (codes "demo") then Some verb.Demo

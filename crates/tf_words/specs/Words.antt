@@ -214,23 +214,42 @@ run_of said (file ∷ book ∷ pairs) =
     (sets_behind [] pairs)) (target_in said)) (stop_in said)) (want_in said)) (deferral_in said)
 run_of said _ = None
 
--- `resume BOOK`
+-- a book, and the name of one of its flows where one is named
+pub record BookFlow : Type 0 where
+  pub book : List ℕ
+  pub name : Option (List ℕ)
+
+-- `BOOK [NAME]`, where what stands behind the book is a name
+abbrev pub book_flow_in : List (List ℕ) → Option BookFlow
+book_flow_in (book ∷ []) = Some (record { book = book; name = None })
+book_flow_in (book ∷ name ∷ []) = if is_name name then Some (record { book = book; name = Some name }) else None
+book_flow_in _ = None
+
+-- `resume BOOK [NAME]`
 abbrev pub resume_of : Said → List (List ℕ) → Option Asked
-resume_of said (book ∷ []) =
+resume_of said words =
+    option_and_then (λ found.
     option_and_then (λ hands.
-    option_map (λ stop. asked.Resume book hands stop)
-    (stop_in said)) (want_in said)
-resume_of said _ = None
+    option_map (λ stop. asked.Resume found.book found.name hands stop)
+    (stop_in said)) (want_in said)) (book_flow_in words)
 
--- `show BOOK`
+-- `show BOOK [NAME]`
 abbrev pub show_of : List (List ℕ) → Option Asked
-show_of (book ∷ []) = Some (asked.Show book)
-show_of _ = None
+show_of words = option_map (λ found. asked.Show found.book found.name) (book_flow_in words)
 
--- `reset BOOK`
+-- `reset BOOK [NAME]`
 abbrev pub reset_of : List (List ℕ) → Option Asked
-reset_of (book ∷ []) = Some (asked.Reset book)
-reset_of _ = None
+reset_of words = option_map (λ found. asked.Reset found.book found.name) (book_flow_in words)
+
+-- `details BOOK`
+abbrev pub details_of : List (List ℕ) → Option Asked
+details_of (book ∷ []) = Some (asked.Details book)
+details_of _ = None
+
+-- `migrate OLD NEW`
+abbrev pub migrate_of : List (List ℕ) → Option Asked
+migrate_of (old ∷ new ∷ []) = Some (asked.Migrate old new)
+migrate_of _ = None
 
 -- `check FILE [NAME=VALUE]...`
 abbrev pub check_of : Said → List (List ℕ) → Option Asked
@@ -276,6 +295,8 @@ asked_by verb.Run said = run_of said (said [])
 asked_by verb.Resume said = resume_of said (said [])
 asked_by verb.Show said = show_of (said [])
 asked_by verb.Reset said = reset_of (said [])
+asked_by verb.Details said = details_of (said [])
+asked_by verb.Migrate said = migrate_of (said [])
 asked_by verb.Check said = check_of said (said [])
 asked_by verb.Audit said = audit_of said (said [])
 asked_by verb.Demo said = demo_of said (said [])

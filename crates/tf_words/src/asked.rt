@@ -33,19 +33,31 @@ pub enum Asked {
         stop_after: Option<u32>,
         target: Option<Name>,
     },
-    /// Run the flow of a book on.
+    /// Run a flow of a book on: the one of this name, or else the last.
     Resume {
         book: Text,
+        name: Option<Name>,
         want: Want,
         stop_after: Option<u32>,
     },
-    /// Say the history of a book's flow, and how it stands.
+    /// Say the history of a book's flow, and how it stands: of the flow of this name, or else of the last.
     Show {
         book: Text,
+        name: Option<Name>,
     },
-    /// Make a book's flow ready to run anew.
+    /// Make a book's flow ready to run anew: the one of this name, or else the last.
     Reset {
         book: Text,
+        name: Option<Name>,
+    },
+    /// Say which flows a book has, and how each stands.
+    Details {
+        book: Text,
+    },
+    /// Write what a book of the older format has into a new book.
+    Migrate {
+        old: Text,
+        new: Text,
     },
     /// Read the flow of a file with these values, and say what it has, up to a target if there is one.
     Check {

@@ -2,7 +2,7 @@ ghost use Rattle.std.specs.Prelude.{◌≡◌, ◌≤◌, ℕ, List, [], IfOk, I
 ghost use Rattle.std.specs.List.{All};
 ghost use Rattle.tf_values.specs.Text.{is_text};
 ghost use Rattle.tf_words.specs.Held.{held_by, texts_in};
-ghost use Rattle.tf_words.specs.Words.{asked_by as asked_in, deferral_in as deferral_said, hands_in as hands_said, want_in as want_said, stop_in as stop_said, target_in as target_said, try_of as try_said, run_of as run_said, resume_of as resume_said, show_of as show_said, reset_of as reset_said, check_of as check_said, audit_of as audit_said, demo_of as demo_said, owner_word as owner_said, conduct_of as conduct_said};
+ghost use Rattle.tf_words.specs.Words.{asked_by as asked_in, deferral_in as deferral_said, hands_in as hands_said, want_in as want_said, stop_in as stop_said, target_in as target_said, try_of as try_said, run_of as run_said, book_flow_in as book_flow_said, resume_of as resume_said, show_of as show_said, reset_of as reset_said, details_of as details_said, migrate_of as migrate_said, check_of as check_said, audit_of as audit_said, demo_of as demo_said, owner_word as owner_said, conduct_of as conduct_said};
 
 use crate::addresses::{serve_of, worker_of};
 use crate::asked::Asked;
@@ -32,6 +32,8 @@ pub fn asked_by(alloc: Global, verb: Verb, given: &Given<'_>) -> Result<Option<A
         Verb::Resume => resume_of(alloc, given, words),
         Verb::Show => show_of(alloc, words),
         Verb::Reset => reset_of(alloc, words),
+        Verb::Details => details_of(alloc, words),
+        Verb::Migrate => migrate_of(alloc, words),
         Verb::Check => check_of(alloc, given, words),
         Verb::Audit => audit_of(alloc, given, words),
         Verb::Demo => demo_of(alloc, given, words),
@@ -114,12 +116,12 @@ fn run_of(alloc: Global, given: &Given<'_>, words: &[&str]) -> Result<Option<Ask
     }))
 }
 
-/// `resume BOOK`
+/// `resume BOOK [NAME]`
 fn resume_of(alloc: Global, given: &Given<'_>, words: &[&str]) -> Result<Option<Asked>, Memory>
     requires { All (λ word. is_text word.now ≡ true) words.now }
     ensures { IfOk result (λ asked. asked ≡ resume_said (held_by given.now.matches) (texts_in words.now)) }
 {
-    let [book] = words else {
+    let Some((book, name)) = book_flow_in(alloc, words)? else {
         return Ok(None);
     };
     let Some(want) = want_in(alloc, given)? else {
@@ -128,36 +130,81 @@ fn resume_of(alloc: Global, given: &Given<'_>, words: &[&str]) -> Result<Option<
     let Some(stop_after) = stop_in(given) else {
         return Ok(None);
     };
-    let book = text_of(alloc, book)?;
     Ok(Some(Asked::Resume {
         book,
+        name,
         want,
         stop_after,
     }))
 }
 
-/// `show BOOK`
+/// `show BOOK [NAME]`
 fn show_of(alloc: Global, words: &[&str]) -> Result<Option<Asked>, Memory>
     requires { All (λ word. is_text word.now ≡ true) words.now }
     ensures { IfOk result (λ asked. asked ≡ show_said (texts_in words.now)) }
 {
-    let [book] = words else {
-        return Ok(None);
-    };
-    let book = text_of(alloc, book)?;
-    Ok(Some(Asked::Show { book }))
+    match book_flow_in(alloc, words)? {
+        Some((book, name)) => Ok(Some(Asked::Show { book, name })),
+        None => Ok(None),
+    }
 }
 
-/// `reset BOOK`
+/// `reset BOOK [NAME]`
 fn reset_of(alloc: Global, words: &[&str]) -> Result<Option<Asked>, Memory>
     requires { All (λ word. is_text word.now ≡ true) words.now }
     ensures { IfOk result (λ asked. asked ≡ reset_said (texts_in words.now)) }
+{
+    match book_flow_in(alloc, words)? {
+        Some((book, name)) => Ok(Some(Asked::Reset { book, name })),
+        None => Ok(None),
+    }
+}
+
+/// The book, and the name of one of its flows where one stands behind it, or none where the words are no such two.
+fn book_flow_in(alloc: Global, words: &[&str]) -> Result<Option<(Text, Option<Name>)>, Memory>
+    requires { All (λ word. is_text word.now ≡ true) words.now }
+    ensures { IfOk result (λ found. option_map (λ found. record { book = found.0; name = found.1 }) found
+        ≡ book_flow_said (texts_in words.now)) }
+{
+    match words {
+        [book] => {
+            let book = text_of(alloc, book)?;
+            Ok(Some((book, None)))
+        }
+        [book, name] => {
+            let Some(name) = Name::make(name.as_bytes()) else {
+                return Ok(None);
+            };
+            let book = text_of(alloc, book)?;
+            Ok(Some((book, Some(name))))
+        }
+        _ => Ok(None),
+    }
+}
+
+/// `details BOOK`
+fn details_of(alloc: Global, words: &[&str]) -> Result<Option<Asked>, Memory>
+    requires { All (λ word. is_text word.now ≡ true) words.now }
+    ensures { IfOk result (λ asked. asked ≡ details_said (texts_in words.now)) }
 {
     let [book] = words else {
         return Ok(None);
     };
     let book = text_of(alloc, book)?;
-    Ok(Some(Asked::Reset { book }))
+    Ok(Some(Asked::Details { book }))
+}
+
+/// `migrate OLD NEW`
+fn migrate_of(alloc: Global, words: &[&str]) -> Result<Option<Asked>, Memory>
+    requires { All (λ word. is_text word.now ≡ true) words.now }
+    ensures { IfOk result (λ asked. asked ≡ migrate_said (texts_in words.now)) }
+{
+    let [old, new] = words else {
+        return Ok(None);
+    };
+    let old = text_of(alloc, old)?;
+    let new = text_of(alloc, new)?;
+    Ok(Some(Asked::Migrate { old, new }))
 }
 
 /// `check FILE [NAME=VALUE]...`

@@ -11,6 +11,8 @@ pub enum Verb {
     Resume,
     Show,
     Reset,
+    Details,
+    Migrate,
     Check,
     Audit,
     Demo,
@@ -117,6 +119,7 @@ pub fn keys_of(verb: Verb) -> &'static [Key]
         Verb::Conduct => &CONDUCT,
         Verb::Post => &POST,
         Verb::Show | Verb::Reset => &NONE,
+        Verb::Details | Verb::Migrate => &NONE,
         Verb::Claim | Verb::Abandon | Verb::Consume | Verb::Trash => &NONE,
         Verb::Owner | Verb::List => &NONE,
     }
@@ -196,6 +199,12 @@ fn verb_named(word: &[u8]) -> Option<Verb>
     }
     if word == b"reset".as_slice() {
         return Some(Verb::Reset);
+    }
+    if word == b"details".as_slice() {
+        return Some(Verb::Details);
+    }
+    if word == b"migrate".as_slice() {
+        return Some(Verb::Migrate);
     }
     if word == b"check".as_slice() {
         return Some(Verb::Check);
