@@ -108,9 +108,9 @@ module _ {K : Type 0} (state : K → DeskState) where
   shelf_quiet so = record { told = so.opened.untouched.told; shown = so.opened.untouched.quiet; disk = so.opened.untouched.disk; out = so.opened.untouched.out; set = so.opened.set }
 
   -- it stays as it was found
-  found_still : {name : List ℕ} {entry : DeskState} (elements : List Element) (plan : PlanValue) (image : List ℕ) → image ≡ file_of entry name
+  found_still : (name : List ℕ) (entry : DeskState) (elements : List Element) (plan : PlanValue) (image : List ℕ) → image ≡ file_of entry name
       → FindsSince (book_at entry name) (begun_contents elements plan) [] (book_in image)
-  found_still elements plan image same = inr (refl, inl (ap book_in same))
+  found_still name entry elements plan image same = inr (refl, inl (ap book_in same))
 
   -- it couldn't begin, and the desk is as it was
   pub stays_unbegun : {name : List ℕ} {entry : DeskState} {shelf : ShelfValue K} (plan : PlanValue) (now : K) → IsShelfOf state name entry shelf → now ≡ desk_of shelf → Unbegun name entry shelf.elements plan (state now)
@@ -118,8 +118,8 @@ module _ {K : Type 0} (state : K → DeskState) where
     quiet = shelf_quiet so;
     same = λ unrisen told. so.opened.untouched.file told;
     path = λ told. path_widens (so.opened.untouched.path told)
-        (λ image text as_before. (found_still shelf.elements plan image as_before.0, as_before.1))
-        (λ image is. found_still shelf.elements plan image is);
+        (λ image text as_before. (found_still name entry shelf.elements plan image as_before.0, as_before.1))
+        (λ image is. found_still name entry shelf.elements plan image is);
   })
 
   -- it met a fault of the disk
@@ -138,11 +138,11 @@ module _ {K : Type 0} (state : K → DeskState) where
             (λ image text l. begun_may state shelf plan (book_at entry name) mid.shown image text s (so.found told) has history l) in
             let start = set_start (q.set told) in
             path_continues (so.opened.untouched.path told) (q.set told) (goes_continues call) told_mid (passes (shelf_told state shelf s told_mid))
-            (λ image text as_before. (found_still shelf.elements plan image as_before.0, as_before.1))
+            (λ image text as_before. (found_still name entry shelf.elements plan image as_before.0, as_before.1))
             (λ image text l. subst (λ (o : Option (List ℕ)). MayBegin (book_at entry name) shelf.elements plan o image text) q.shown (inside image text l))
             (λ image leaves.
             ⊎_elim
-            (λ before. found_still shelf.elements plan image ((so.opened.untouched.path told).still start.0 start.1 image before))
+            (λ before. found_still name entry shelf.elements plan image ((so.opened.untouched.path told).still start.0 start.1 image before))
             (λ within. (inside image within.0 within.1).0)
             (left_by call (λ told_here. passes (shelf_told state shelf s told_here)) laws (on_disk_told call.on_disk told_mid) image leaves));
       }
@@ -170,7 +170,7 @@ module _ {K : Type 0} (state : K → DeskState) where
         path = λ told.
             let told_mid : IsTrue mid.tells = subst IsTrue (sym q.told) told in
             path_continues (so.opened.untouched.path told) (q.set told) (goes_continues call) told_mid (passes (shelf_told state shelf s told_mid))
-            (λ image text as_before. (found_still shelf.elements plan image as_before.0, as_before.1))
+            (λ image text as_before. (found_still name entry shelf.elements plan image as_before.0, as_before.1))
             (λ image text l. subst (λ (o : Option (List ℕ)). MayBegin (book_at entry name) shelf.elements plan o image text) q.shown
             (begun_may state shelf plan (book_at entry name) mid.shown image text s (so.found told) has good l))
             (λ image is. record {

@@ -1,5 +1,5 @@
 -- What becomes of a command on a book, put together from how the book was opened and what came then.
-use Rattle.std.proofs.Common.{◌≡◌, ◌⊎◌, ℕ, List, [], Option, refl, ◌∙◌, subst, inl, inr}
+use Rattle.std.proofs.Common.{◌≡◌, ◌⊎◌, ℕ, List, [], Option, Some, refl, ◌∙◌, subst, inl, inr}
 use Rattle.std.specs.Prelude.{IsTrue}
 use Rattle.tf_desk.specs.ActLaws.{bytes_of-picked}
 use Rattle.tf_desk.specs.State.{DeskState, bytes_now}
@@ -7,14 +7,18 @@ use Rattle.tf_flow.specs.Plan.{PlanValue, plan_tree}
 use Rattle.tf_journal.specs.Start.{Untouched, Open, file_of}
 use Rattle.tf_actions.specs.declared.orders.Order.{Order}
 use Rattle.tf_actions.specs.declared.outcomes.Outcome.{Outcome}
-use Rattle.tf_details.specs.Elements.{Element, CanRun}
+use Rattle.tf_details.specs.Elements.{Element, details, history, detail_name, number_among, CanRun}
 use Rattle.tf_book.specs.Book.{BookValue}
 use Rattle.tf_book.specs.Starting.{HasPlaceFor}
-use Rattle.tf_commands.specs.Books.{Hires, IsFile, IsBookOf, RefusesOrStops, Unhired, exhausted_hire, unhired, RunsAnew, Runs, unhired_run, hired_run, Resumes, unhired_again, resumed}
+use Rattle.tf_states.specs.declared.state.FlowState.{FlowState}
+use Rattle.tf_model.specs.History.{flow_of}
+use Rattle.tf_commands.specs.Begun.{IsNamedState}
+use Rattle.tf_commands.specs.Messages.{state_forbids}
+use Rattle.tf_commands.specs.Books.{Hires, IsFile, IsBookOf, Refuses, RefusesOrStops, exhausted, Unhired, exhausted_hire, unhired, RunsAnew, Runs, unopened, forbidden, unhired_run, hired_run, Resumes, unhired_again, resumed}
 use Rattle.tf_report.specs.Closing.{cannot_hire}
 use Rattle.tf_commands.specs.declared.running.Request.{Request}
 use Rattle.tf_commands.specs.Runs.{HoldsBook, GoesFurther, nobody, went_on}
-use Rattle.tf_report.specs.declared.statuses.TheConstants.{UNHIRED}
+use Rattle.tf_report.specs.declared.statuses.TheConstants.{FORBIDDEN, UNHIRED}
 use Rattle.tf_ports.specs.Ports.{CrewTold}
 
 -- an equal desk is untouched too
@@ -34,6 +38,17 @@ pub begun_over : {gives : Order → Outcome → Type 0} {request : Request} {ask
     → Runs gives request asked name crew crew_after entry now (plan_tree plan) status
 begun_over elements plan is has (inl none) = unhired_run elements plan refl is has none
 begun_over elements plan is has (inr begun) = hired_run elements plan refl is has begun.0 begun.1
+
+-- a detail of that name forbids a run, or memory ran out
+pub named_over : {gives : Order → Outcome → Type 0} {request : Request} {asked : Type 0} {name : List ℕ} {crew : CrewTold} {entry now : DeskState} {status : ℕ} (elements : List Element) (plan : PlanValue) (named : List ℕ) (at : FlowState)
+    → named ≡ detail_name plan → IsNamedState elements named (Some at) → IsFile name entry (IsBookOf elements)
+    → RefusesOrStops name entry now (state_forbids named at) FORBIDDEN status
+    → Runs gives request asked name crew crew entry now (plan_tree plan) status
+named_over elements plan named at named_is has is (inl stops) = unopened refl (exhausted stops)
+named_over {name = name} {entry = entry} {now} {status} elements plan named at named_is has is (inr refuses) =
+    forbidden elements plan has.0 refl refl is (subst (λ (n : List ℕ). number_among (details elements) n ≡ Some has.0) named_is has.1)
+    (subst (λ (n : List ℕ). Refuses name entry now (state_forbids n (flow_of (history has.0 elements))) FORBIDDEN status) named_is
+    (subst (λ (f : FlowState). Refuses name entry now (state_forbids named f) FORBIDDEN status) has.2 refuses))
 
 -- nobody was hired: it was said, or memory ran out
 pub unhired_so : {name : List ℕ} {entry now : DeskState} {crew crew_after : CrewTold} {status : ℕ} → crew_after ≡ crew

@@ -2,7 +2,7 @@
 use Rattle.std.proofs.Common.{◌≡◌, ◌≢◌, ◌⊎◌, ℕ, ◌≤◌, List, Option, sym, ◌∙◌, inl, inr, ⊎_elim, refl, arith}
 use Rattle.tf_numbers.specs.Numbers.{Rises}
 use Rattle.tf_desk.specs.Crash.{Pairs}
-use Rattle.tf_desk.specs.State.{DeskState, GoesOn, Continues}
+use Rattle.tf_desk.specs.State.{DeskState, Rests, GoesOn, Continues}
 use Rattle.tf_journal.specs.Start.{Untouched}
 use Rattle.tf_flow.specs.Plan.{PlanValue}
 use Rattle.tf_details.specs.Elements.{Element}
@@ -10,7 +10,7 @@ use Rattle.tf_book.specs.declared.faults.BookFault.{BookFault}
 use Rattle.tf_book.specs.declared.faults.BookFault.TheVariants as fault
 use Rattle.tf_book.specs.declared.faults.Halt.TheVariants as halt
 use Rattle.tf_commands.specs.Begun.{cause_in, FailsToBegin}
-use Rattle.tf_commands.specs.Books.{Unopened, exhausted, disk_failed_opening, old_book, no_book, HasSaid}
+use Rattle.tf_commands.specs.Books.{Unopened, exhausted, disk_failed_opening, old_book, no_book, Unfound, unopened_book, empty, not_there, HasSaid}
 use Rattle.tf_commands.specs.Asking.{HasEachCause, counts_of}
 use Rattle.tf_commands.specs.Runs.{HasEnded, HasSaidHalt}
 use Rattle.tf_report.specs.Closing.{ClosesWith}
@@ -35,6 +35,9 @@ untouched_reaches untouched = record { disk = untouched.disk; out = untouched.ou
 
 pub goes_reaches : {during : Pairs} {old mid : DeskState} → GoesOn during old mid → Reaches old mid
 goes_reaches call = record { disk = call.on_disk.disk_faults; out = call.on_disk.out_faults }
+
+pub rests_reaches : {old mid : DeskState} → Rests old mid → Reaches old mid
+rests_reaches rests = record { disk = rests.on_disk.disk_faults; out = rests.on_disk.out_faults }
 
 -- a run went on from the desk that was reached
 pub ran_causes : {status : ℕ} {old mid now : DeskState} {crew crew_now : ℕ} → Reaches old mid → Continues mid now → HasEnded mid now status → crew ≤ crew_now
@@ -80,13 +83,13 @@ unopened_hired name entry now status (old_book found r) is = closes_hired entry.
 unopened_hired name entry now status (no_book offset byte found r) is = closes_hired entry.shown now.shown _ NO_BOOK status (λ same. omega (arith, same)) r.closes is
 
 -- a book that couldn't be opened
-pub refused_causes : {name : List ℕ} {entry mid now : DeskState} {status : ℕ} → Reaches entry mid → HasSaid mid now status → (status ≡ DISK_FAILED → Rises entry.disk_faults mid.disk_faults)
-    → Unopened name entry now status → HasEachCause status (counts_of entry 0 0) (counts_of now 0 0)
-refused_causes {name} {entry} {mid} {now} {status} r s failed u = said_causes r s (omega arith) failed (λ is. absurd (unopened_hired name entry now status u is))
+pub refused_causes : {name : List ℕ} {entry other mid now : DeskState} {status : ℕ} → Reaches entry mid → HasSaid mid now status → (status ≡ DISK_FAILED → Rises entry.disk_faults mid.disk_faults)
+    → Unopened name other now status → HasEachCause status (counts_of entry 0 0) (counts_of now 0 0)
+refused_causes {name} {entry} {other} {mid} {now} {status} r s failed u = said_causes r s (omega arith) failed (λ is. absurd (unopened_hired name other now status u is))
 
 -- the same causes, where the crew wasn't used
-pub causes_beside : {status : ℕ} {entry now : DeskState} (crew : ℕ) → HasEachCause status (counts_of entry 0 0) (counts_of now 0 0) → status ≢ UNHIRED → HasEachCause status (counts_of entry 0 crew) (counts_of now 0 crew)
-causes_beside crew c hired = record {
+pub causes_beside : {status : ℕ} (entry now : DeskState) (crew : ℕ) → HasEachCause status (counts_of entry 0 0) (counts_of now 0 0) → status ≢ UNHIRED → HasEachCause status (counts_of entry 0 crew) (counts_of now 0 crew)
+causes_beside entry now crew c hired = record {
   none_falls = record { disk = c.none_falls.disk; out = c.none_falls.out; sources = c.none_falls.sources; crew = omega arith };
   unread = c.unread;
   failed = c.failed;
@@ -118,3 +121,19 @@ unbegun_causes state elements plan why old mid now status call fails s = record 
     never_out (fault.Full size need) failed is = cc
     never_out fault.Out failed is = failed
     never_out (fault.Halted cause) failed is = failed
+
+-- the causes of what came after the desk that was reached
+pub causes_from : {status : ℕ} {old mid : DeskState} (now : DeskState) {crew crew_now : ℕ} → Reaches old mid → HasEachCause status (counts_of mid 0 crew) (counts_of now 0 crew_now) → HasEachCause status (counts_of old 0 crew) (counts_of now 0 crew_now)
+causes_from {status} {old} {mid} now r c = record {
+  none_falls = record { disk = omega (arith, r.disk, c.none_falls.disk); out = omega (arith, r.out, c.none_falls.out); sources = c.none_falls.sources; crew = c.none_falls.crew };
+  unread = c.unread;
+  failed = λ is. rises_later old.disk_faults mid.disk_faults now.disk_faults r.disk (c.failed is);
+  unsaid = λ is. rises_later old.out_faults mid.out_faults now.out_faults (omega (arith, r.out)) (c.unsaid is);
+  unhired = c.unhired;
+}
+
+-- a flow that can't be had isn't one that hired nobody
+pub unfound_hired : (name : List ℕ) (wanted : Option (List ℕ)) (entry now : DeskState) (status : ℕ) → Unfound name wanted entry now status → status ≢ UNHIRED
+unfound_hired name wanted entry now status (unopened_book u) is = unopened_hired name entry now status u is
+unfound_hired name wanted entry now status (empty found r) is = closes_hired entry.shown now.shown _ FORBIDDEN status (λ same. omega (arith, same)) r.closes is
+unfound_hired name wanted entry now status (not_there elements sought asked found some none r) is = closes_hired entry.shown now.shown _ FORBIDDEN status (λ same. omega (arith, same)) r.closes is

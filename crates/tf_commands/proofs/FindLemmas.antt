@@ -1,6 +1,6 @@
 -- How a detail of a book is looked up and opened.
 use Rattle.std.proofs.Common.{◌≡◌, ◌≢◌, ◌<◌, ◌≤◌, ℕ, zero, suc, ◌+◌, List, [], ◌∷◌, length, Bool, true, false, cond, Option, Some, None, refl, sym, ap, ◌∙◌, subst, inl, inr, ◌⊎◌, arith, position}
-use Rattle.std.specs.Prelude.{IsTrue, nat_lt, not, slice_index_or, unwrap_or}
+use Rattle.std.specs.Prelude.{IsTrue, nat_lt, not, ◌==◌, slice_index_or, unwrap_or, Result, Ok, Err, IfOk, IfErr, IfSome}
 use Rattle.std.proofs.lemmas.Bool.Decides.{nat_tests}
 use Rattle.std.specs.List.{position_or_len}
 use Rattle.tf_desk.proofs.StateLemmas.{rests_continues, left_stays}
@@ -11,9 +11,9 @@ use Rattle.tf_model.specs.History.{flow_of}
 use Rattle.tf_journal.proofs.PathLemmas.{set_start}
 use Rattle.tf_journal.specs.Format.{Recovered, bodies}
 use Rattle.tf_journal.specs.Start.{Untouched, Open}
-use Rattle.tf_details.specs.Elements.{Element, detail, entry, details, history, detail_name, has_name, number_among, bodies_of, IsLegalBook}
+use Rattle.tf_details.specs.Elements.{Element, detail, entry as entry_of, details, history, detail_name, has_name, number_among, bodies_of, IsLegalBook}
 use Rattle.tf_details.specs.Whole.{AreAlike}
-use Rattle.tf_details.proofs.ElementLemmas.{number_below}
+use Rattle.tf_details.proofs.ElementLemmas.{number_below, few_details}
 use Rattle.tf_details.proofs.OnceLemmas.{as_many, named_alike, read_once}
 use Rattle.std.proofs.lemmas.List.{length-append}
 use Rattle.tf_journal.specs.declared.faults.LoadFault.{LoadFault}
@@ -24,7 +24,7 @@ use Rattle.tf_book.proofs.ShelfLemmas.{listed_long}
 use Rattle.tf_book.specs.declared.shelf.Detail.{Detail}
 use Rattle.tf_book.specs.declared.shelf.Place.{Place}
 use Rattle.tf_book.specs.declared.shelf.Place.TheVariants as place
-use Rattle.tf_commands.specs.Begun.{IsShelfOf, is_listed}
+use Rattle.tf_commands.specs.Begun.{IsShelfOf, is_listed, IsNumberAsked}
 use Rattle.tf_commands.specs.Books.{book_at, IsBookOf, IsAskedFor, HoldsNoFlow}
 use Rattle.tf_commands.specs.Runs.{IsHeld, HoldsBook}
 use Rattle.tf_commands.proofs.PathLemmas.{set_continues, path_continues}
@@ -52,7 +52,9 @@ listed_state elements number (plan ∷ plans) (suc n) d below =
 
 -- the state at a place of the list
 pub state_at : (elements : List Element) (n : ℕ) (d : Detail) → n < length (details elements) → (slice_index_or (listed elements) n d).state ≡ flow_of (history n elements)
-state_at elements n d below = listed_state elements 0 (details elements) n d below
+state_at elements n d below =
+    let same : 0 + n ≡ n = omega arith in
+    listed_state elements 0 (details elements) n d below ∙ ap (λ (k : ℕ). flow_of (history k elements)) same
 
 -- ---- which elements a file has
 
@@ -71,7 +73,7 @@ some_found state (place.Unborn desk) elements found placed some is = absurd (som
 pub none_legal : (elements : List Element) → IsLegalBook elements → details elements ≡ [] → elements ≡ []
 none_legal [] legal none = refl
 none_legal (detail plan ∷ before) legal none = absurd (omega (arith, ap length none, length-append (details before) (plan ∷ [])))
-none_legal (entry number e ∷ before) legal none = absurd (omega (arith, ap length none, number_below before number legal.0.plan legal.0.of_detail))
+none_legal (entry_of number e ∷ before) legal none = absurd (omega (arith, ap length none, number_below before number legal.0.plan legal.0.of_detail))
 
 -- so a file holds no flow then
 pub no_flow_found : {K : Type 0} (state : K → DeskState) (at : Place K) (elements : List Element) (found : Recovered) → IsPlaced state at elements → IsLegalBook elements → details elements ≡ [] → IsFoundAs at elements found
@@ -147,3 +149,39 @@ rests_open {name} {entry} {mid} {now} o r = record {
 pub unread_so : (fault : LoadFault) (found : Recovered) → (fault ≡ load_fault.Disk) ⊎ (fault ≡ load_fault.Memory) → RefusesBook fault found
 unread_so fault found (inl is) = subst (λ (f : LoadFault). RefusesBook f found) (sym is) tt
 unread_so fault found (inr is) = subst (λ (f : LoadFault). RefusesBook f found) (sym is) tt
+
+-- what holds of an answer that is Ok, and of one that is Err
+pub ok_on : {A B : Type 0} (r : Result A B) (has gives : A → Type 0) → IfOk r has → ((a : A) → has a → gives a) → IfOk r gives
+ok_on (Ok a) has gives is on = on a is
+ok_on (Err b) has gives is on = tt
+
+pub err_on : {A B : Type 0} (r : Result A B) (has gives : B → Type 0) → IfErr r has → ((b : B) → has b → gives b) → IfErr r gives
+err_on (Ok a) has gives is on = tt
+err_on (Err b) has gives is on = on b is
+
+-- ---- the last detail
+
+empty_so : (plans : List PlanValue) → length plans ≡ 0 → plans ≡ []
+empty_so [] is = refl
+empty_so (plan ∷ plans) is = absurd (omega (arith, is))
+
+-- without a detail there is none to ask for
+pub no_details : (elements : List Element) (count : ℕ) → count ≡ length (details elements) → true ≡ (count == 0) → details elements ≡ []
+no_details elements zero same is = empty_so (details elements) (sym same)
+no_details elements (suc count) same is = let clash : true ≡ false = is in absurd (cc)
+
+pub some_details : (elements : List Element) (count : ℕ) → count ≡ length (details elements) → false ≡ (count == 0) → details elements ≢ []
+some_details elements zero same is none = let clash : false ≡ true = is in cc
+some_details elements (suc count) same is none = omega (arith, same, ap length none)
+
+pub last_asked : (elements : List Element) (found : Option ℕ) → (found ≡ None → length (listed elements) ≡ 0) → IfSome found (λ number. number + 1 ≡ length (listed elements)) → IsNumberAsked None elements found
+last_asked elements None none last = empty_so (details elements) (sym (listed_long elements) ∙ none refl)
+last_asked elements (Some number) none last = last ∙ listed_long elements
+
+-- as many details as there may be
+pub many_details : (elements : List Element) (count : ℕ) → IsLegalBook elements → count ≡ length (details elements) → 64 ≤ count → length (details elements) ≡ 64
+many_details elements count legal same many = omega (arith, same, many, few_details elements legal)
+
+-- what wasn't there is not there
+pub not_there_so : (wanted : Option (List ℕ)) (elements : List Element) (sought : List ℕ) → wanted ≡ Some sought → IsNumberAsked wanted elements None → number_among (details elements) sought ≡ None
+not_there_so wanted elements sought is none = subst (λ (o : Option (List ℕ)). IsNumberAsked o elements None) is none

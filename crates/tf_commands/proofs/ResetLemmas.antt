@@ -24,7 +24,7 @@ use Rattle.tf_book.proofs.SpokenLemmas.{shown_none}
 use Rattle.tf_journal.specs.Start.{Open}
 use Rattle.tf_commands.specs.Books.{Refuses, RefusesOrStops, exhausted, unopened_book, ResetsBook, unfound_reset, reset_forbidden, was_reset, Lasts, PutBack, IsResetSaid, all_back, disk_failed_back, filled_back, ShowsLines, closed}
 use Rattle.tf_commands.specs.Messages.{state_forbids}
-use Rattle.tf_commands.specs.Runs.{HoldsBook, HasSaidHalt, book_desk, IsPutBackTo, GoesBack}
+use Rattle.tf_commands.specs.Runs.{IsHeld, HoldsBook, HasSaidHalt, book_desk, IsPutBackTo, GoesBack}
 use Rattle.tf_report.specs.Closing.{said as was_said}
 use Rattle.tf_report.specs.declared.statuses.TheConstants.{SUCCEEDED, FORBIDDEN}
 use Rattle.tf_commands.proofs.HaltLemmas.{says_nothing, halt_lasts, halt_ended, halt_shows, said_lasts, sound_text}
@@ -55,14 +55,14 @@ module _ {K : Type 0} (state : K → DeskState) where
   -- why the book was halted was said, or cut, or it says nothing
   pub halts_back : (start book : BookValue K) (why : Halt) (now : DeskState) (status : ℕ) → IsPutBackTo state start book → book.halt ≡ Some why
       → (book.halt ≢ Some halt.Disk → book.journal.halted ≡ false)
-      → HasSaidHalt why (book_desk state book) now status
+      → HasSaidHalt why (book_desk state book) now status → IsHeld book.plan book
       → GoesBack state start now status
-  halts_back start book why now status to halted unhalted s =
+  halts_back start book why now status to halted unhalted s held =
       let k = to.kept in
       record {
         entries = k.entries;
         closing = s.closing;
-        lasts = halt_lasts state (IsNextReset (outline start)) start book why now status halted unhalted s k to.held to.failed;
+        lasts = halt_lasts state (IsNextReset (outline start)) start book why now status halted unhalted s k (subst (λ (p : PlanValue). IsHeld p book) k.plan held) to.failed;
         put_back = record {
           steps = put_entries start.plan start.past book.past k.entries to.put k.recorded;
           text = subst (λ (b : Bool). ShowsLines start.plan b start.past k.entries (book_desk state start).shown now.shown (IsResetSaid (with_entries start.contents k.entries) start.plan (k.entries ++ start.past)) s.closing status) to.speaks
@@ -74,14 +74,14 @@ module _ {K : Type 0} (state : K → DeskState) where
 
   -- all of it was recorded
   pub all_goes_back : (start book : BookValue K) → IsPutBackTo state start book → book.halt ≡ None → book.journal.halted ≡ false
-      → flow_state book ≡ flow.Pending → GoesBack state start (book_desk state book) SUCCEEDED
-  all_goes_back start book to sound unhalted pending =
+      → flow_state book ≡ flow.Pending → IsHeld book.plan book → GoesBack state start (book_desk state book) SUCCEEDED
+  all_goes_back start book to sound unhalted pending held =
       let k = to.kept in
       let spoken = sound_text state start book sound k in
       record {
         entries = k.entries;
         closing = [];
-        lasts = said_lasts state (IsNextReset (outline start)) start book [] (book_desk state book) says_nothing (λ unrisen. unhalted) k to.held to.failed (inl spoken);
+        lasts = said_lasts state (IsNextReset (outline start)) start book [] (book_desk state book) says_nothing (λ unrisen. unhalted) k (subst (λ (p : PlanValue). IsHeld p book) k.plan held) to.failed (inl spoken);
         put_back = record {
           steps = put_entries start.plan start.past book.past k.entries to.put k.recorded;
           text = subst (λ (b : Bool). ShowsLines start.plan b start.past k.entries (book_desk state start).shown (book_desk state book).shown (IsResetSaid (with_entries start.contents k.entries) start.plan (k.entries ++ start.past)) [] SUCCEEDED) to.speaks

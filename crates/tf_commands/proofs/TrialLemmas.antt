@@ -16,7 +16,7 @@ use Rattle.tf_details.specs.Elements.{Element}
 use Rattle.tf_details.specs.Contents.{Contents}
 use Rattle.tf_book.specs.Book.{BookValue}
 use Rattle.tf_book.specs.Shelf.{ShelfValue}
-use Rattle.tf_book.specs.Starting.{begun_contents, IsFullToBegin, FailsToStart}
+use Rattle.tf_book.specs.Starting.{begun_contents, HasPlaceFor, IsFullToBegin, FailsToStart}
 use Rattle.tf_book.specs.declared.faults.BookFault.{BookFault}
 use Rattle.tf_book.specs.declared.faults.BookFault.TheVariants as fault
 use Rattle.tf_book.specs.declared.faults.Halt.{Halt}
@@ -43,6 +43,10 @@ pub none_full : (plan : PlanValue) (size need : ℕ) → IsFullToBegin [] plan s
 none_full plan size need full =
     omega (arith, full.size_is, full.need_is, full.over, length-append (head_bytes head.Detail) (plan_bytes plan), (plan_bounds plan full.history.accepted).1)
 
+-- it has place for every plan
+pub place_in_none : (elements : List Element) (plan : PlanValue) → elements ≡ [] → HasPlaceFor elements plan
+place_in_none elements plan none = subst (λ (l : List Element). HasPlaceFor l plan) (sym none) (record { few = omega arith; unnamed = refl })
+
 -- it couldn't begin
 tried_ends : (gives : Order → Outcome → Type 0) (hands : Want) (asked : Type 0) (did : List (Option (List Order))) (plan : PlanValue) (before after : Option (List ℕ)) (closing : List ℕ) (status : ℕ)
     → RunShows gives (spoken_run hands None) (begun_contents [] plan) plan [] [] before after None closing status → AllByRecursion IsFresh did
@@ -63,7 +67,7 @@ tried_exhausted gives hands asked did plan before after status out quiet fresh =
     tried_ends gives hands asked did plan before after [] status
     (subst (λ (n : ℕ). RunShows gives (spoken_run hands None) (begun_contents [] plan) plan [] [] before after None [] n) (sym out) (stopped (quiet ∙ sym (shown_none before)))) fresh
 
-pub tried_unbegun : {K : Type 0} (state : K → DeskState) (gives : Order → Outcome → Type 0) (hands : Want) (asked : Type 0) (did : List (Option (List Order))) (shelf : ShelfValue K) (plan : PlanValue) (why : BookFault) (old mid : K) (now : DeskState) (status : ℕ)
+tried_unbegun : {K : Type 0} (state : K → DeskState) (gives : Order → Outcome → Type 0) (hands : Want) (asked : Type 0) (did : List (Option (List Order))) (shelf : ShelfValue K) (plan : PlanValue) (why : BookFault) (old mid : K) (now : DeskState) (status : ℕ)
     → shelf.elements ≡ [] → FailsToStart state shelf plan why old mid → HasSaidHalt (cause_in why) (state mid) now status → AllByRecursion IsFresh did
     → Tried gives hands asked (Some did) (plan_tree plan) (state mid).shown now.shown status
 tried_unbegun state gives hands asked did shelf plan fault.Disk old mid now status none fails s fresh =
@@ -139,3 +143,11 @@ module _ {K : Type 0} (state : K → DeskState) where
     unsaid = λ is. (let rose : Rises (state mid).out_faults now.out_faults = told.0 is in omega (arith, rose, ap (λ (d : K). (state d).out_faults) same));
     unhired = λ is. absurd (s.apart.1 is);
   }
+
+  -- it couldn't begin on a desk that is the one at entry
+  pub tried_unbegun_on : (gives : Order → Outcome → Type 0) (hands : Want) (asked : Type 0) (did : List (Option (List Order))) (shelf : ShelfValue K) (plan : PlanValue) (why : BookFault) (entry old mid : K) (now : DeskState) (status : ℕ)
+      → shelf.elements ≡ [] → mid ≡ entry → FailsToStart state shelf plan why old mid → HasSaidHalt (cause_in why) (state mid) now status → AllByRecursion IsFresh did
+      → Tried gives hands asked (Some did) (plan_tree plan) (state entry).shown now.shown status
+  tried_unbegun_on gives hands asked did shelf plan why entry old mid now status none same fails s fresh =
+      subst (λ (d : K). Tried gives hands asked (Some did) (plan_tree plan) (state d).shown now.shown status) same
+      (tried_unbegun state gives hands asked did shelf plan why old mid now status none fails s fresh)

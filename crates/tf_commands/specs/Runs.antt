@@ -116,7 +116,6 @@ module _ {K : Type 0} (state : K → DeskState) where
   -- the flow of a book is put back: some of what that records was recorded
   pub record IsPutBackTo (start now : BookValue K) : Type 0 where
     pub kept : SessionInvariant state start now
-    pub held : IsHeld start.plan now
     pub put : IsPutBackOn (outline start) start.past now.past
     pub speaks : start.quiet ≡ false
     pub failed : IsTried (IsNextReset (outline start) now.past) now.halt now.failed

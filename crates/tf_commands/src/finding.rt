@@ -4,7 +4,7 @@ ghost use Rattle.std.specs.Prelude.{◌≡◌, ◌≤◌, ◌<◌, ◌+◌, ℕ,
 ghost use Rattle.tf_details.specs.Elements.{Element, details};
 ghost use Rattle.tf_book.specs.Shelf.{desk_of, is_volatile, listed};
 ghost use Rattle.tf_commands.specs.Asking.{HasEachCause, counts_of};
-ghost use Rattle.tf_commands.specs.Begun.{IsShelfOf, is_listed, IsNamedState, IsNumberAsked, IsReadyBook, desk_found};
+ghost use Rattle.tf_commands.specs.Begun.{IsShelf, IsShelfOf, is_listed, IsNamedState, IsNumberAsked, IsReadyBook, desk_found};
 ghost use Rattle.tf_commands.specs.Books.{IsAskedFor, Unfound};
 ghost use Rattle.tf_commands.specs.Runs.{HoldsBook};
 ghost use Rattle.tf_journal.specs.Start.{Open};
@@ -113,7 +113,7 @@ fn open_asked<K: Desk>(
 
 /// Opens the flow of a book that has this number.
 fn open_number<K: Desk>(alloc: Global, shelf: Shelf<K>, number: u16) -> Result<Book<K>, Over<K>>
-    requires kept { is_volatile shelf.place ≡ false }
+    requires shelf { IsShelf K.state shelf }
     requires within { number < length (details shelf.elements) }
     ensures opened { IfOk result (λ book. (name : List ℕ) (entry : K)
         → Open name (K.state entry) (K.state (desk_of shelf))

@@ -1,21 +1,23 @@
-use Rattle.std.proofs.Common.{rules, ◌≡◌, ◌≤◌, ◌<◌, ◌+◌, ℕ, List, Option, false, length, position, None, Some, IfOk, IfErr, IfSome, ◌-◌, ◌*◌, ◌/◌, ◌%◌, Bool, true, nat_eq, nat_lt, [], ◌∷◌, ◌++◌, slice_index_or, slice_set, bit_and, bit_or, Fits, w8, w32, w64, Bor, MutBor}
-use Rattle.tf_details.specs.Elements.{Element, details}
-use Rattle.tf_book.specs.Shelf.{desk_of, is_volatile, listed}
-use Rattle.tf_commands.specs.Asking.{HasEachCause, counts_of}
-use Rattle.tf_commands.specs.Begun.{IsShelfOf, is_listed, IsNamedState, IsNumberAsked, IsReadyBook, desk_found}
-use Rattle.tf_commands.specs.Books.{IsAskedFor, Unfound}
-use Rattle.tf_commands.specs.Runs.{HoldsBook}
-use Rattle.tf_journal.specs.Start.{Open}
+use Rattle.std.proofs.Common.{ap, sym, subst, ◌∙◌, position, Option, List, ℕ, None}
+use Rattle.tf_book.specs.declared.shelf.Detail.{Detail}
+use Rattle.tf_commands.specs.Begun.{is_listed, IsNumberAsked}
+use Rattle.tf_commands.specs.Books.{IsAskedFor}
+use Rattle.tf_commands.proofs.FindLemmas.{named_place, last_asked}
 use Rattle.tf_commands.proofs.finding.number_asked.Goals as goal
 
--- src/finding.rt:52:1
 pub returns-in-Some-place_of : goal.returns-in-Some-place_of
-returns-in-Some-place_of c = ?
+returns-in-Some-place_of c = λ elements same.
+    let name = c.in-Some.name in
+    subst (λ (o : Option (List ℕ)). IsAskedFor o elements c.in-Some-place_of.place) (sym c.in-Some.is)
+    (sym (c.in-Some-place_of.ensures.is ∙ ap (λ (list : List Detail). position (is_listed name) list) same ∙ named_place name elements))
 
--- src/finding.rt:52:1
 pub returns-in-None-place_of : goal.returns-in-None-place_of
-returns-in-None-place_of c = ?
+returns-in-None-place_of c = λ elements same.
+    let name = c.in-Some.name in
+    subst (λ (o : Option (List ℕ)). IsNumberAsked o elements None) (sym c.in-Some.is)
+    (sym (c.in-None-place_of.ensures.is ∙ ap (λ (list : List Detail). position (is_listed name) list) same ∙ named_place name elements))
 
--- src/finding.rt:52:1
 pub returns-in-None : goal.returns-in-None
-returns-in-None c = ?
+returns-in-None c = λ elements same.
+    let e = rw same at c.last_number.ensures in
+    subst (λ (o : Option (List ℕ)). IsNumberAsked o elements c.last_number.result) (sym c.in-None.is) (last_asked elements c.last_number.result e.none e.last)

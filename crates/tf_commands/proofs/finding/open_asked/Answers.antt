@@ -1,17 +1,14 @@
-use Rattle.std.proofs.Common.{rules, ◌≡◌, ◌≤◌, ◌<◌, ◌+◌, ℕ, List, Option, false, length, position, None, Some, IfOk, IfErr, IfSome, ◌-◌, ◌*◌, ◌/◌, ◌%◌, Bool, true, nat_eq, nat_lt, [], ◌∷◌, ◌++◌, slice_index_or, slice_set, bit_and, bit_or, Fits, w8, w32, w64, Bor, MutBor}
-use Rattle.tf_details.specs.Elements.{Element, details}
-use Rattle.tf_book.specs.Shelf.{desk_of, is_volatile, listed}
-use Rattle.tf_commands.specs.Asking.{HasEachCause, counts_of}
-use Rattle.tf_commands.specs.Begun.{IsShelfOf, is_listed, IsNamedState, IsNumberAsked, IsReadyBook, desk_found}
-use Rattle.tf_commands.specs.Books.{IsAskedFor, Unfound}
-use Rattle.tf_commands.specs.Runs.{HoldsBook}
-use Rattle.tf_journal.specs.Start.{Open}
+use Rattle.tf_commands.proofs.FindLemmas.{asked_below, ok_on, err_on}
 use Rattle.tf_commands.proofs.finding.open_asked.Goals as goal
 
--- src/finding.rt:88:1
-pub returns-in-Some-clause-holds : goal.returns-in-Some-clause-holds
-returns-in-Some-clause-holds g c = ?
+pub open_number-requires-clause-within : goal.open_number-requires-clause-within
+open_number-requires-clause-within g c = asked_below c.args.wanted.now c.args.shelf.elements c.in-Some.number (c.in-Some.ensures c.args.shelf.elements c.details.ensures.list)
 
--- src/finding.rt:88:1
+pub returns-in-Some-clause-holds : goal.returns-in-Some-clause-holds
+returns-in-Some-clause-holds g c =
+    ok_on c.open_number.result _ _ c.open_number.ensures.holds
+    (λ book holds name entry so. holds name c.args.wanted.now entry so (c.in-Some.ensures c.args.shelf.elements c.details.ensures.list))
+
 pub returns-in-Some-clause-unfound : goal.returns-in-Some-clause-unfound
-returns-in-Some-clause-unfound g c = ?
+returns-in-Some-clause-unfound g c =
+    err_on c.open_number.result _ _ c.open_number.ensures.unfound (λ over unfound name entry so. unfound name c.args.wanted.now entry so)

@@ -1,21 +1,20 @@
-use Rattle.std.proofs.Common.{rules, ◌≡◌, ◌≤◌, ◌<◌, ◌+◌, ℕ, List, Option, false, length, position, None, Some, IfOk, IfErr, IfSome, ◌-◌, ◌*◌, ◌/◌, ◌%◌, Bool, true, nat_eq, nat_lt, [], ◌∷◌, ◌++◌, slice_index_or, slice_set, bit_and, bit_or, Fits, w8, w32, w64, Bor, MutBor}
-use Rattle.tf_details.specs.Elements.{Element, details}
-use Rattle.tf_book.specs.Shelf.{desk_of, is_volatile, listed}
-use Rattle.tf_commands.specs.Asking.{HasEachCause, counts_of}
-use Rattle.tf_commands.specs.Begun.{IsShelfOf, is_listed, IsNamedState, IsNumberAsked, IsReadyBook, desk_found}
-use Rattle.tf_commands.specs.Books.{IsAskedFor, Unfound}
-use Rattle.tf_commands.specs.Runs.{HoldsBook}
-use Rattle.tf_journal.specs.Start.{Open}
+use Rattle.tf_commands.specs.Books.{unopened_book}
+use Rattle.tf_commands.proofs.CountLemmas.{untouched_reaches, refused_causes}
+use Rattle.tf_commands.proofs.FindLemmas.{err_on}
 use Rattle.tf_commands.proofs.finding.open_flow.Goals as goal
 
--- src/finding.rt:67:1
 pub returns-in-Ok-clause-unfound : goal.returns-in-Ok-clause-unfound
-returns-in-Ok-clause-unfound g c = ?
+returns-in-Ok-clause-unfound g c =
+    err_on c.open_asked.result _ _ c.open_asked.ensures.unfound
+    (λ over unfound. unfound c.args.name.now c.args.desk (record { opened = c.in-Ok.ensures.opened; found = c.in-Ok.ensures.loads }))
 
--- src/finding.rt:67:1
 pub returns-in-Err-clause-unfound : goal.returns-in-Err-clause-unfound
-returns-in-Err-clause-unfound g c = ?
+returns-in-Err-clause-unfound g c =
+    unopened_book (c.refuse_book.ensures.unopened c.args.name.now c.args.desk c.in-Err.ensures.unopened c.in-Err.ensures.refused)
 
--- src/finding.rt:67:1
 pub returns-in-Err-clause-causes : goal.returns-in-Err-clause-causes
-returns-in-Err-clause-causes g c = ?
+returns-in-Err-clause-causes g c =
+    let e = c.in-Err.ensures in
+    let r = c.refuse_book in
+    refused_causes (untouched_reaches e.unopened) r.ensures.said (λ is. e.cause (r.ensures.failed is))
+    (r.ensures.unopened c.args.name.now c.args.desk e.unopened e.refused)
