@@ -1,5 +1,5 @@
 -- How a detail of a book is looked up and opened.
-use Rattle.std.proofs.Common.{◌≡◌, ◌≢◌, ◌<◌, ◌≤◌, ℕ, zero, suc, ◌+◌, List, [], ◌∷◌, length, Bool, true, false, cond, Option, Some, None, refl, sym, ap, ◌∙◌, subst, inl, inr, ◌⊎◌, arith, position}
+use Rattle.std.proofs.Common.{◌≡◌, ◌≢◌, ◌<◌, ◌≤◌, ℕ, zero, suc, ◌+◌, List, [], ◌∷◌, length, Bool, true, false, cond, Option, Some, None, refl, sym, ap, ◌∙◌, subst, inl, inr, ◌⊎◌, arith, position, eqb-true}
 use Rattle.std.specs.Prelude.{IsTrue, nat_lt, not, ◌==◌, slice_index_or, unwrap_or, Result, Ok, Err, IfOk, IfErr, IfSome}
 use Rattle.std.proofs.lemmas.Bool.Decides.{nat_tests}
 use Rattle.std.specs.List.{position_or_len}
@@ -167,8 +167,9 @@ empty_so (plan ∷ plans) is = absurd (omega (arith, is))
 
 -- without a detail there is none to ask for
 pub no_details : (elements : List Element) (count : ℕ) → count ≡ length (details elements) → true ≡ (count == 0) → details elements ≡ []
-no_details elements zero same is = empty_so (details elements) (sym same)
-no_details elements (suc count) same is = let clash : true ≡ false = is in absurd (cc)
+no_details elements count same is =
+    let none : count ≡ 0 = eqb-true count 0 (sym is) in
+    empty_so (details elements) (omega (arith, same, none))
 
 pub some_details : (elements : List Element) (count : ℕ) → count ≡ length (details elements) → false ≡ (count == 0) → details elements ≢ []
 some_details elements zero same is none = let clash : false ≡ true = is in cc
