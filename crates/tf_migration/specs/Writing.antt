@@ -74,16 +74,23 @@ abbrev pub desk_written : {K F : Type 0} → Result K (K × F) → K
 desk_written (Ok desk) = desk
 desk_written (Err back) = back.0
 
+-- how much is there after it was to be written and wasn't
+abbrev pub left_by : NewFault → Left
+left_by fault.Disk = either
+left_by (fault.Full size need) = still
+left_by fault.Memory = still
+left_by fault.Exists = either
+
 -- how much is there after it was to be written
 abbrev pub left_written : {K : Type 0} → Result K (K × NewFault) → Left
 left_written (Ok desk) = whole
 left_written (Err back) = left_by back.1
-  where
-    left_by : NewFault → Left
-    left_by fault.Disk = either
-    left_by (fault.Full size need) = still
-    left_by fault.Memory = still
-    left_by fault.Exists = either
+
+-- what it is called that bodies weren't added or published
+abbrev pub unmade_by : AppendFault → NewFault
+unmade_by append.Disk = fault.Disk
+unmade_by (append.Full size need) = fault.Full size need
+unmade_by append.Halted = fault.Disk
 
 -- why it wasn't: a disk fault, where the count of them rose; a body that doesn't fit; or want of memory
 abbrev pub FailsToWrite : List (List ℕ) → NewFault → DeskState → DeskState → Type 0
