@@ -1,0 +1,129 @@
+-- What is known of the file of a name that was picked, where a book was to be made in it.
+use Rattle.std.proofs.Common.{◌≡◌, ◌≢◌, ◌⊎◌, ℕ, List, Option, Some, None, Result, Ok, Err, true, refl, sym, ap, ◌∙◌, subst, inl, inr}
+use Rattle.std.specs.Prelude.{IsTrue, IfErr, is_some}
+use Rattle.tf_numbers.specs.Numbers.{Rises}
+use Rattle.tf_desk.specs.Crash.{Pairs}
+use Rattle.tf_desk.specs.State.{DeskState, anything, bytes_now, MayLeave, OnDisk, Rests, GoesOn, PicksNone}
+use Rattle.tf_desk.proofs.CountLemmas.{rises_later}
+use Rattle.tf_desk.proofs.StateLemmas.{on_disk_told, on_disk_on, on_disk_within}
+use Rattle.tf_journal.specs.Answers.{RefusesFile}
+use Rattle.tf_journal.specs.Format.{Recovered, unborn, old_format, not_a_book, HasSynced, IsSynced, StaysUnborn}
+use Rattle.tf_journal.specs.Start.{file_of, IsSet, Open}
+use Rattle.tf_journal.specs.declared.faults.JournalFault.{JournalFault}
+use Rattle.tf_journal.specs.declared.faults.JournalFault.TheVariants as journal
+use Rattle.tf_journal.specs.declared.title.Title.TheVariants.{Book2 as new_title}
+use Rattle.tf_journal.proofs.OpenLemmas.{picked_bytes, unpicked, opened, open_set}
+use Rattle.tf_journal.proofs.PathLemmas.{set_on, path_on, as_read}
+use Rattle.tf_migration.specs.Flows.{new_in, new_at}
+use Rattle.tf_migration.specs.Writing.{Left, whole, still, either, Finds, LeavesOnce, IsLeftSo, desk_written, left_written, FailsToWrite, IsMade, IsKept, FailsToMake, Makes, IsPicked}
+use Rattle.tf_migration.specs.declared.writing.NewFault.{NewFault}
+use Rattle.tf_migration.specs.declared.writing.NewFault.TheVariants as fault
+use Rattle.tf_migration.proofs.DeskLaws.{KeepsLaws}
+
+-- nothing was picked
+pub unpicked_kept : {name : List ℕ} {entry now : DeskState} {during : Pairs} → OnDisk during entry now → (IsTrue entry.tells → PicksNone name entry now) → IsKept name entry now
+unpicked_kept call none = record { on_disk = on_disk_within call (λ told image text left. tt); untouched = unpicked call none }
+
+-- what a read gave is all that a crash leaves now
+pub synced_unborn : {K : Type 0} (state : K → DeskState) (desk now : K) → KeepsLaws state → HasSynced (state desk) (state now) → IsTrue (state now).tells
+    → new_in (bytes_now (state desk)) ≡ unborn → StaysUnborn new_title (state now)
+synced_unborn state desk now laws synced told is image left = by (state now).shown refl (laws.tells_shown now told)
+  where
+    by : (shown : Option (List ℕ)) → (state now).shown ≡ shown → is_some shown ≡ true → new_in image ≡ unborn
+    by None same shows = absurd (cc)
+    by (Some text) same shows = ap new_in (synced.since image text (laws.counts_now now synced.moment image text told synced.within (left, same))).0 ∙ is
+
+-- a file that was refused for what it is isn't unborn
+pub refused_born : (why : JournalFault) (found : Recovered) → ((offset : ℕ) × (byte : Option ℕ) × (why ≡ journal.NotABook offset byte)) ⊎ (why ≡ journal.Old) → RefusesFile why found
+    → found ≢ unborn
+refused_born why found (inl bad) refuses = λ is.
+    let there : found ≡ not_a_book bad.0 bad.1 = subst (λ (f : JournalFault). RefusesFile f found) bad.2 refuses in
+    let no = sym there ∙ is in cc
+refused_born why found (inr old) refuses = λ is.
+    let there : found ≡ old_format = subst (λ (f : JournalFault). RefusesFile f found) old refuses in
+    let no = sym there ∙ is in cc
+
+-- ---- a file that was picked
+
+module _ {K : Type 0} (state : K → DeskState) (laws : KeepsLaws state) (name : List ℕ) (entry desk : K) (picked : IsPicked name (state entry) (state desk)) where
+  told_then : IsTrue (state entry).tells → IsTrue (state desk).tells
+  told_then told = on_disk_told picked.on_disk told
+
+  since_entry : {during : Pairs} (now : K) → OnDisk during (state desk) (state now) → OnDisk anything (state entry) (state now)
+  since_entry now on_disk = on_disk_on picked.on_disk on_disk (λ told image text left. tt) (λ told image text left. tt)
+
+  was_in : IsTrue (state entry).tells → new_in (bytes_now (state desk)) ≡ new_at (state entry) name
+  was_in told = ap new_in (picked_bytes (picked.picks told))
+
+  rose_since : (now : K) → Rises (state desk).disk_faults (state now).disk_faults → Rises (state entry).disk_faults (state now).disk_faults
+  rose_since now rose = rises_later (state entry).disk_faults (state desk).disk_faults (state now).disk_faults picked.on_disk.disk_faults rose
+
+  -- it was only read
+  pub read_kept : (now : K) → Rests (state desk) (state now) → (IsTrue (state desk).tells → IsSynced (state desk) (state now)) → IsKept name (state entry) (state now)
+  read_kept now rests synced = record {
+    on_disk = since_entry now rests.on_disk;
+    untouched = opened picked.on_disk picked.picks picked.made rests synced (λ told image text was. laws.only_now desk image text told was) (laws.tells_shown now)
+        (λ told start image text le left. laws.counts_now now start image text told le left);
+  }
+
+  -- and isn't unborn
+  pub read_exists : (held : List (List ℕ)) (now : K) → Rests (state desk) (state now) → (IsTrue (state desk).tells → IsSynced (state desk) (state now))
+      → (IsTrue (state desk).tells → new_in (bytes_now (state desk)) ≢ unborn) → FailsToMake name held fault.Exists (state entry) (state now)
+  read_exists held now rests synced born = (read_kept now rests synced, λ told is. born (told_then told) (was_in told ∙ is))
+
+  -- or the disk failed
+  pub read_failed : (held : List (List ℕ)) (now : K) → Rests (state desk) (state now) → (IsTrue (state desk).tells → IsSynced (state desk) (state now))
+      → Rises (state desk).disk_faults (state now).disk_faults → FailsToMake name held fault.Disk (state entry) (state now)
+  read_failed held now rests synced rose = (rose_since now rose, inl (read_kept now rests synced))
+
+  -- ---- it is unborn
+
+  module _ (mid : K) (rests : Rests (state desk) (state mid)) (synced : IsTrue (state desk).tells → HasSynced (state desk) (state mid))
+      (unborn_desk : IsTrue (state desk).tells → new_in (bytes_now (state desk)) ≡ unborn) (held : List (List ℕ)) where
+    kept_mid : IsKept name (state entry) (state mid)
+    kept_mid = read_kept mid rests (λ told. inr (synced told))
+
+    open_mid : Open name (state entry) (state mid)
+    open_mid = open_set picked.on_disk picked.picks rests synced kept_mid.untouched
+
+    told_mid : IsTrue (state entry).tells → IsTrue (state mid).tells
+    told_mid told = on_disk_told rests.on_disk (told_then told)
+
+    unborn_then : IsTrue (state entry).tells → new_at (state entry) name ≡ unborn
+    unborn_then told = sym (was_in told) ∙ unborn_desk (told_then told)
+
+    -- a book was written, or a part of it
+    made_so : (left : Left) (now : K) → GoesOn (LeavesOnce left held (state mid).shown) (state mid) (state now) → (IsTrue (state mid).tells → IsLeftSo left held (state now))
+        → IsMade name held left (state entry) (state now)
+    made_so left now goes leaves =
+        let set_now : IsTrue (state entry).tells → IsSet name (state entry) (state now) =
+        λ told. set_on (open_mid.set told) (goes.files (told_mid told)).picked (goes.on_disk.marks (told_mid told)) in
+        let told_now : IsTrue (state entry).tells → IsTrue (state now).tells = λ told. on_disk_told goes.on_disk (told_mid told) in
+        record {
+          on_disk = on_disk_on kept_mid.on_disk goes.on_disk (λ told image text went. tt) (λ told image text went. tt);
+          was_unborn = unborn_then;
+          set = set_now;
+          path = λ told. path_on (open_mid.untouched.path told) (open_mid.set told) (goes.files (told_mid told)) (goes.on_disk.marks (told_mid told)) (goes.on_disk.crash (told_mid told))
+              (λ image text same. (inl (ap new_in same.0 ∙ unborn_then told), same.1))
+              (λ image text went. (went.0, sym open_mid.untouched.quiet ∙ went.1))
+              (leaves (told_mid told));
+          file = λ told. leaves (told_mid told) (file_of (state now) name)
+              (as_read (state now) (set_now told).picked (λ there. laws.picked_is_there now name (told_now told) there) (λ bytes has. laws.reads_left now name bytes (told_now told) has)).0;
+        }
+
+    rose_mid : (now : K) → Rises (state mid).disk_faults (state now).disk_faults → Rises (state entry).disk_faults (state now).disk_faults
+    rose_mid now rose = rises_later (state entry).disk_faults (state mid).disk_faults (state now).disk_faults kept_mid.on_disk.disk_faults rose
+
+    made_by : (why : NewFault) (now : K) → GoesOn (LeavesOnce (left_written {K = K} (Err (now, why))) held (state mid).shown) (state mid) (state now)
+        → (IsTrue (state mid).tells → IsLeftSo (left_written {K = K} (Err (now, why))) held (state now)) → FailsToWrite held why (state mid) (state now)
+        → (why ≡ fault.Memory → now ≡ mid) → FailsToMake name held why (state entry) (state now)
+    made_by fault.Disk now goes leaves fails same = (rose_mid now fails, inr (made_so either now goes leaves))
+    made_by (fault.Full size need) now goes leaves fails same = (made_so still now goes leaves, fails)
+    made_by fault.Memory now goes leaves fails same = subst (λ (k : K). IsKept name (state entry) (state k)) (sym (same refl)) kept_mid
+    made_by fault.Exists now goes leaves fails same = absurd fails
+
+    pub written_makes : (r : Result K (K × NewFault)) → GoesOn (LeavesOnce (left_written r) held (state mid).shown) (state mid) (state (desk_written r))
+        → (IsTrue (state mid).tells → IsLeftSo (left_written r) held (state (desk_written r))) → IfErr r (λ back. FailsToWrite held back.1 (state mid) (state back.0))
+        → IfErr r (λ back. back.1 ≡ fault.Memory → back.0 ≡ mid) → Makes state name held (state entry) r
+    written_makes (Ok now) goes leaves fails same = made_so whole now goes leaves
+    written_makes (Err back) goes leaves fails same = made_by back.1 back.0 goes leaves fails same
