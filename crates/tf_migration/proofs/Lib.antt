@@ -1,3 +1,5 @@
 pub mod DraftLemmas
 pub mod DeskLaws
 pub mod MakeLemmas
+pub mod FlowLemmas
+pub mod ReadLemmas
