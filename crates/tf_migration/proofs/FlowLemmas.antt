@@ -1,5 +1,5 @@
 -- How the flow of a book of one flow is read body by body, and what it is in a book of several flows.
-use Rattle.std.proofs.Common.{◌≡◌, ◌≢◌, ◌⊎◌, ◌≤◌, ℕ, List, [], ◌∷◌, ◌++◌, length, Some, None, inl, inr, refl, sym, ap, ◌∙◌, subst, arith}
+use Rattle.std.proofs.Common.{◌≡◌, ◌≢◌, ◌⊎◌, ◌≤◌, ◌+◌, ℕ, List, [], ◌∷◌, ◌++◌, length, Some, None, inl, inr, refl, sym, ap, ◌∙◌, subst, arith, length-append}
 use Rattle.tf_flow.specs.Plan.{PlanValue}
 use Rattle.tf_states.specs.declared.record.Entry.{Entry}
 use Rattle.tf_model.specs.History.{snapshot}
@@ -9,7 +9,7 @@ use Rattle.tf_entries.specs.Heads.{head_bytes}
 use Rattle.tf_entries.specs.Plans.{plan_bytes}
 use Rattle.tf_entries.specs.declared.heads.Head.TheVariants as head
 use Rattle.tf_machine.specs.Machine.{MachineValue, StandsFor}
-use Rattle.tf_details.specs.Elements.{Element, detail, plan_of, history, number_among, element_bytes, IsHistoryOf, IsLegalBook, IsNoStep, IsNoEntry, no_detail, no_step}
+use Rattle.tf_details.specs.Elements.{Element, detail, entry as an_entry, plan_of, history, number_among, element_bytes, IsHistoryOf, IsLegalBook, IsNoStep, IsNoEntry, no_detail, no_step}
 use Rattle.tf_details.specs.Reading.{plans_in, AreMachinesOf}
 use Rattle.tf_details.proofs.BookLemmas.{history_legal}
 use Rattle.tf_details.proofs.MachineLemmas.{began, took, none_yet}
@@ -45,6 +45,11 @@ carried_legal plan (e ∷ past) h = (
 -- and such a book only a history that a book may hold
 pub legal_history : (plan : PlanValue) (past : List Entry) → IsLegalBook (carried plan past) → IsHistoryOf plan past
 legal_history plan past legal = subst (IsHistoryOf plan) (carried_past plan past) (history_legal (carried plan past) 0 plan legal (carried_plan plan past))
+
+-- it has one body more than its history has entries
+pub bodies_long : (plan : PlanValue) (past : List Entry) → length (new_bodies plan past) ≡ length past + 1
+bodies_long plan [] = refl
+bodies_long plan (e ∷ past) = omega (arith, bodies_long plan past, length-append (new_bodies plan past) (element_bytes (an_entry 0 e) ∷ []))
 
 -- ---- how it is read
 

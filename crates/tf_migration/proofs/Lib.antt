@@ -3,3 +3,6 @@ pub mod DeskLaws
 pub mod MakeLemmas
 pub mod FlowLemmas
 pub mod ReadLemmas
+pub mod SayLemmas
+pub mod EndLemmas
+pub mod CompleteLemmas

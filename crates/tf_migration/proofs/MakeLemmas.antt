@@ -1,8 +1,8 @@
 -- What is known of the file of a name that was picked, where a book was to be made in it.
-use Rattle.std.proofs.Common.{◌≡◌, ◌≢◌, ◌⊎◌, ℕ, List, Option, Some, None, Result, Ok, Err, true, refl, sym, ap, ◌∙◌, subst, inl, inr}
+use Rattle.std.proofs.Common.{◌≡◌, ◌≢◌, ◌⊎◌, ℕ, List, [], ◌∷◌, ◌++◌, append_assoc, Option, Some, None, Result, Ok, Err, true, refl, sym, ap, ◌∙◌, subst, inl, inr}
 use Rattle.std.specs.Prelude.{IsTrue, IfErr, is_some}
 use Rattle.tf_numbers.specs.Numbers.{Rises}
-use Rattle.tf_desk.specs.Crash.{Pairs}
+use Rattle.tf_desk.specs.Crash.{Mark, at_pick, at_sync, Pairs}
 use Rattle.tf_desk.specs.State.{DeskState, anything, bytes_now, MayLeave, OnDisk, Rests, GoesOn, PicksNone}
 use Rattle.tf_desk.proofs.CountLemmas.{rises_later}
 use Rattle.tf_desk.proofs.StateLemmas.{on_disk_told, on_disk_on, on_disk_within}
@@ -15,7 +15,7 @@ use Rattle.tf_journal.specs.declared.title.Title.TheVariants.{Book2 as new_title
 use Rattle.tf_journal.proofs.OpenLemmas.{picked_bytes, unpicked, opened, open_set}
 use Rattle.tf_journal.proofs.PathLemmas.{set_on, path_on, as_read}
 use Rattle.tf_migration.specs.Flows.{new_in, new_at}
-use Rattle.tf_migration.specs.Writing.{Left, whole, still, either, Finds, LeavesOnce, IsLeftSo, desk_written, left_written, FailsToWrite, IsMade, IsKept, FailsToMake, Makes, IsPicked}
+use Rattle.tf_migration.specs.Writing.{Left, whole, still, either, Finds, LeavesOnce, IsLeftSo, desk_written, left_written, FailsToWrite, IsMade, IsFirstSync, IsKept, FailsToMake, Makes, IsPicked}
 use Rattle.tf_migration.specs.declared.writing.NewFault.{NewFault}
 use Rattle.tf_migration.specs.declared.writing.NewFault.TheVariants as fault
 use Rattle.tf_migration.proofs.DeskLaws.{KeepsLaws}
@@ -92,6 +92,24 @@ module _ {K : Type 0} (state : K → DeskState) (laws : KeepsLaws state) (name :
     unborn_then : IsTrue (state entry).tells → new_at (state entry) name ≡ unborn
     unborn_then told = sym (was_in told) ∙ unborn_desk (told_then told)
 
+    -- the sync that read it is the first behind the pick
+    first_synced : IsTrue (state entry).tells → (now : DeskState) → (more : List Mark) × (now.content.marks ≡ (state mid).content.marks ++ more) → (moment : ℕ) × IsFirstSync name [] (state entry) now moment
+    first_synced told now marks =
+        let h = synced (told_then told) in
+        let began : List Mark = (state entry).content.marks in
+        let pick : Mark = at_pick name (state desk).content.clock in
+        (
+          h.moment,
+          record {
+            picked = (state desk).content.clock;
+            more = at_sync h.moment ∷ (h.others ++ marks.0);
+            added = marks.1
+                ∙ ap (λ (m : List Mark). m ++ marks.0) (h.marks ∙ ap (λ (m : List Mark). m ++ at_sync h.moment ∷ h.others) (picked.picks told).marks ∙ append_assoc began (pick ∷ []) (at_sync h.moment ∷ h.others))
+                ∙ append_assoc began (pick ∷ at_sync h.moment ∷ h.others) marks.0;
+            first = refl;
+          },
+        )
+
     -- a book was written, or a part of it
     made_so : (left : Left) (now : K) → GoesOn (LeavesOnce left held (state mid).shown) (state mid) (state now) → (IsTrue (state mid).tells → IsLeftSo left held (state now))
         → IsMade name held left (state entry) (state now)
@@ -103,6 +121,7 @@ module _ {K : Type 0} (state : K → DeskState) (laws : KeepsLaws state) (name :
           on_disk = on_disk_on kept_mid.on_disk goes.on_disk (λ told image text went. tt) (λ told image text went. tt);
           was_unborn = unborn_then;
           set = set_now;
+          synced = λ told. first_synced told (state now) (goes.on_disk.marks (told_mid told));
           path = λ told. path_on (open_mid.untouched.path told) (open_mid.set told) (goes.files (told_mid told)) (goes.on_disk.marks (told_mid told)) (goes.on_disk.crash (told_mid told))
               (λ image text same. (inl (ap new_in same.0 ∙ unborn_then told), same.1))
               (λ image text went. (went.0, sym open_mid.untouched.quiet ∙ went.1))

@@ -2,16 +2,16 @@
 use Rattle.std.specs.Prelude.{◌≡◌, ◌≢◌, ◌⊎◌, ◌≤◌, ℕ, IsTrue, List, ◌∷◌, [], ◌++◌, length, codes, Option, Some}
 use Rattle.std.specs.Fmt.{decimal}
 use Rattle.tf_numbers.specs.Numbers.{Rises}
-use Rattle.tf_desk.specs.Crash.{Mark, at_pick, ShowsPrefix}
+use Rattle.tf_desk.specs.Crash.{Mark, ShowsPrefix}
 use Rattle.tf_desk.specs.State.{DeskState, MayLeave, Extends, IsUnasked, Says, anything}
 use Rattle.tf_states.specs.declared.record.Entry.{Entry}
 use Rattle.tf_flow.specs.Plan.{PlanValue}
 use Rattle.tf_journal.specs.Format.{Recovered, unborn}
-use Rattle.tf_journal.specs.Start.{file_of, first_sync, IsStart}
+use Rattle.tf_journal.specs.Start.{file_of, IsStart}
 use Rattle.tf_report.specs.Closing.{disk_fault_text, book_full, ClosesWithOrStops, not_a_book}
 use Rattle.tf_report.specs.declared.statuses.TheConstants.{SUCCEEDED, DISK_FAILED, NO_BOOK, UNSAID, OUT_OF_MEMORY, FULL, FORBIDDEN}
 use Rattle.tf_migration.specs.Flows.{new_bodies, old_at, new_in, new_at, HoldsFlow, HoldsNoFlow, IsNoBook}
-use Rattle.tf_migration.specs.Writing.{Left, still, whole, either, Finds, IsFullFor}
+use Rattle.tf_migration.specs.Writing.{Left, still, whole, either, Finds, IsFullFor, IsFirstSync}
 
 -- ---- texts
 
@@ -31,22 +31,22 @@ migrated_text entries = codes "migrated " ++ decimal entries ++ codes " entries\
 
 -- the old book gave no flow: memory ran out, the disk failed, it is no book, or it holds no flow
 pub data IsUnreadFor (told : Type 0) (old : Recovered) : List ℕ → ℕ → Type 0 where
-  no_memory : IsUnreadFor told old [] OUT_OF_MEMORY
-  disk_failed : IsUnreadFor told old disk_fault_text DISK_FAILED
+  unread_no_memory : IsUnreadFor told old [] OUT_OF_MEMORY
+  unread_failed : IsUnreadFor told old disk_fault_text DISK_FAILED
   no_book : (offset : ℕ) (byte : Option ℕ) → (told → IsNoBook old offset byte) → IsUnreadFor told old (not_a_book offset byte) NO_BOOK
   no_flow : (told → HoldsNoFlow old) → IsUnreadFor told old no_flow_text FORBIDDEN
 
 -- the new book wasn't begun: memory ran out, the disk failed, or its file isn't unborn
 pub data IsUnbegunFor (told : Type 0) (new : Recovered) : List ℕ → ℕ → Type 0 where
-  no_memory : IsUnbegunFor told new [] OUT_OF_MEMORY
-  disk_failed : IsUnbegunFor told new disk_fault_text DISK_FAILED
+  unbegun_no_memory : IsUnbegunFor told new [] OUT_OF_MEMORY
+  unbegun_failed : IsUnbegunFor told new disk_fault_text DISK_FAILED
   exists : (told → new ≢ unborn) → IsUnbegunFor told new exists_text FORBIDDEN
 
 -- the new book was begun: it is whole, a body of it didn't fit and its file is still unborn, or the disk failed and it is one or the other
 pub data IsBegunFor (plan : PlanValue) (past : List Entry) : Left → List ℕ → ℕ → Type 0 where
   migrated : IsBegunFor plan past whole (migrated_text (length past)) SUCCEEDED
   filled : (size need : ℕ) → IsFullFor (new_bodies plan past) size need → IsBegunFor plan past still (book_full size need) FULL
-  disk_failed : IsBegunFor plan past either disk_fault_text DISK_FAILED
+  write_failed : IsBegunFor plan past either disk_fault_text DISK_FAILED
 
 -- ---- what becomes of the files
 
@@ -56,13 +56,6 @@ pub record StaysAlone (name : List ℕ) (entry now : DeskState) (message : List 
   pub others : (other : List ℕ) → other ≢ name → now.content.files other ≡ entry.content.files other
   pub crash : (moment : ℕ) → IsStart name entry now moment → (image text : List ℕ) → now.crashes moment image text
       → (image ≡ file_of entry name) × ShowsPrefix entry.shown message (Some text)
-
--- the file of that name was picked in this call behind these marks, and at that moment a sync was the first that answered Ok since
-pub record IsFirstSync (name : List ℕ) (before : List Mark) (entry now : DeskState) (moment : ℕ) : Type 0 where
-  pub picked : ℕ
-  pub more : List Mark
-  pub added : now.content.marks ≡ entry.content.marks ++ (before ++ at_pick name picked ∷ more)
-  pub first : first_sync more ≡ Some moment
 
 -- no file but the new book's changed
 pub record OthersStay (old new : List ℕ) (entry now : DeskState) : Type 0 where

@@ -1,10 +1,10 @@
 -- How a book of several flows is made whole: it is drafted, its bodies are added, and it is published.
-use Rattle.std.specs.Prelude.{◌≡◌, ◌≢◌, ◌⊎◌, ◌<◌, ◌+◌, ℕ, false, IsTrue, List, ◌∷◌, ◌++◌, length, Option, Some, Result, Ok, Err}
+use Rattle.std.specs.Prelude.{◌≡◌, ◌≢◌, ◌⊎◌, ◌<◌, ◌+◌, ℕ, false, IsTrue, List, [], ◌∷◌, ◌++◌, length, Option, Some, Result, Ok, Err}
 use Rattle.tf_numbers.specs.Numbers.{Rises}
-use Rattle.tf_desk.specs.Crash.{Pairs}
+use Rattle.tf_desk.specs.Crash.{Mark, at_pick, Pairs}
 use Rattle.tf_desk.specs.State.{DeskState, OnDisk, MayLeave, Picks, LeavesMade, anything}
 use Rattle.tf_journal.specs.Format.{SIZE_LIMIT, Recovered, unborn, bodies, journal_bytes, Held, IsDrafted}
-use Rattle.tf_journal.specs.Start.{IsSet, Path, Untouched}
+use Rattle.tf_journal.specs.Start.{first_sync, IsSet, Path, Untouched}
 use Rattle.tf_journal.specs.declared.faults.AppendFault.{AppendFault}
 use Rattle.tf_journal.specs.declared.faults.AppendFault.TheVariants as append
 use Rattle.tf_journal.specs.declared.title.Title.TheVariants.{Book2 as new_title}
@@ -101,11 +101,19 @@ FailsToWrite held fault.Exists old new = ⊥
 
 -- ---- the file of a name
 
+-- the file of that name was picked in this call behind these marks, and at that moment a sync was the first that answered Ok since
+pub record IsFirstSync (name : List ℕ) (before : List Mark) (entry now : DeskState) (moment : ℕ) : Type 0 where
+  pub picked : ℕ
+  pub more : List Mark
+  pub added : now.content.marks ≡ entry.content.marks ++ (before ++ at_pick name picked ∷ more)
+  pub first : first_sync more ≡ Some moment
+
 -- the file was unborn, and a book with these bodies is there as that says; since the call's start a crash leaves the file unborn, or so
 pub record IsMade (name : List ℕ) (held : List (List ℕ)) (left : Left) (entry now : DeskState) : Type 0 where
   pub on_disk : OnDisk anything entry now
   pub was_unborn : IsTrue entry.tells → new_at entry name ≡ unborn
   pub set : IsTrue entry.tells → IsSet name entry now
+  pub synced : IsTrue entry.tells → (moment : ℕ) × IsFirstSync name [] entry now moment
   pub path : IsTrue entry.tells → Path name entry now (LeavesOnce left held entry.shown) (λ image. Finds left held (new_in image))
   pub file : IsTrue entry.tells → Finds left held (new_at now name)
 
