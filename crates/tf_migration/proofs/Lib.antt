@@ -6,3 +6,4 @@ pub mod ReadLemmas
 pub mod SayLemmas
 pub mod EndLemmas
 pub mod CompleteLemmas
+pub mod HeadedLemmas
