@@ -5,20 +5,20 @@ use Rattle.std.specs.Prelude.{IsTrue, unwrap_or, nat_eq, nat_le, if◌then◌els
 use Rattle.tf_states.specs.declared.record.Entry.{Entry}
 use Rattle.tf_flow.specs.Plan.{PlanValue}
 use Rattle.tf_desk.specs.Crash.{Mark, at_pick, ShowsPrefix}
-use Rattle.tf_desk.specs.State.{DeskState, anything, OnDisk, Says}
+use Rattle.tf_desk.specs.State.{DeskState, MayLeave, anything, OnDisk, Passes, Says, passes_none, passes_on, passes_within, passes_since}
 use Rattle.tf_desk.proofs.StateLemmas.{on_disk_told, on_disk_none, on_disk_on, left_stays}
 use Rattle.tf_journal.specs.Format.{OPEN, title_of, Recovered, unborn, bodies, not_a_book, records_from, title_fault, titled, has_title, is_unborn}
 use Rattle.tf_journal.specs.declared.title.Title.TheVariants.{Book as old_title, Book2 as new_title}
 use Rattle.tf_journal.proofs.UnbornLemmas.{unborn_found}
 use Rattle.tf_journal.specs.Start.{file_of, first_sync, IsStart, Path, IsSame, IsAsBefore, Untouched}
 use Rattle.tf_journal.proofs.OpenLemmas.{untouched_now}
-use Rattle.tf_journal.proofs.PathLemmas.{path_said}
+use Rattle.tf_journal.proofs.PathLemmas.{path_said, start_before}
 use Rattle.tf_report.specs.Closing.{disk_fault_text}
 use Rattle.tf_report.specs.declared.statuses.TheConstants.{DISK_FAILED}
 use Rattle.tf_migration.specs.Flows.{old_bodies, new_bodies, old_in, old_at, new_in, new_at, HoldsFlow}
-use Rattle.tf_migration.specs.Migrates.{Migrates, unread, unbegun, begun, IsUnreadFor, IsUnbegunFor, unbegun_no_memory, unbegun_failed, exists, IsBegunFor, write_failed, StaysAlone, OthersStay, StaysUnbegun, Lasts, Concludes}
+use Rattle.tf_migration.specs.Migrates.{Migrates, unread, unbegun, begun, IsUnreadFor, IsUnbegunFor, unbegun_no_memory, unbegun_failed, exists, IsBegunFor, write_failed, StaysAlone, OthersStay, IsOneOf, LeavesOneOf, StaysUnbegun, Lasts, Concludes}
 use Rattle.tf_migration.specs.Reading.{IsUnread, IsRead}
-use Rattle.tf_migration.specs.Writing.{Left, either, Finds, LeavesOnce, IsFirstSync, IsMade, IsKept}
+use Rattle.tf_migration.specs.Writing.{Left, either, Finds, LeavesOnce, IsLeftByPick, IsFirstSync, IsMade, IsKept}
 use Rattle.tf_migration.specs.declared.reading.OldFault.{OldFault}
 use Rattle.tf_migration.proofs.SayLemmas.{nothing_prefix, closes_since, file_stays}
 
@@ -135,6 +135,43 @@ others_so u told same others = record {
   others = λ other not_old not_new. others other not_new ∙ (u.path told).others other not_old;
 }
 
+-- a crash since the call's start: while the old book was read, while the new one's file was picked and made, or while a message is said
+module _ {old new : List ℕ} {kept : List (List ℕ)} {entry mid late now : DeskState} {message : List ℕ} (holds : List ℕ → Type 0) (r : IsRead old kept entry mid)
+    (told : IsTrue entry.tells) (on_disk : OnDisk anything mid late) (says : Says message late now)
+    (passes : Passes (λ image text. (IsLeftByPick new mid image ⊎ holds image) × (mid.shown ≡ Some text)) mid late)
+    (left : (image : List ℕ) → MayLeave late image → IsLeftByPick new mid image ⊎ holds image) where
+  told_mid : IsTrue mid.tells
+  told_mid = on_disk_told r.on_disk told
+
+  told_late : IsTrue late.tells
+  told_late = on_disk_told on_disk told_mid
+
+  -- the start is that of the reading
+  read_start : {moment : ℕ} → IsStart old entry now moment → IsStart old entry mid moment
+  read_start start =
+      let more = on_disk.marks told_mid in
+      start_before (r.set told) (more.0, says.marks told_late ∙ more.1) start
+
+  one_of : {moment : ℕ} (image : List ℕ) → IsStart old entry mid moment → IsLeftByPick new mid image ⊎ holds image → IsOneOf old new entry holds image
+  one_of {moment} image start was =
+      ⊎_elim
+      (λ by_pick. ⊎_elim (λ picked. inl ((r.untouched.path told).still moment start image picked))
+      (λ others. ⊎_elim (λ before. ⊎_elim (λ first. inr (inl first)) (λ none. inr (inr (inl none))) (r.left told new image before)) (λ none. inr (inr (inl none))) others) by_pick)
+      (λ held. inr (inr (inr held)))
+      was
+
+  meanwhile_so : LeavesOneOf old new entry now holds message
+  meanwhile_so moment start image text leaves =
+      let before : IsStart old entry mid moment = read_start start in
+      let path = r.untouched.path told in
+      let whole : Passes (λ i t. (IsLeftByPick new mid i ⊎ holds i) × ShowsPrefix mid.shown message (Some t)) mid now =
+      passes_on passes (says.crash told_late) (λ i t went. (went.0, nothing_prefix mid.shown message t went.1))
+      (λ i t went. (left i went.0, subst (λ (s : Option (List ℕ)). ShowsPrefix s message (Some t)) on_disk.shown went.1)) in
+      passes_since {property = λ i t. IsOneOf old new entry holds i × ShowsPrefix entry.shown message (Some t)} whole (path.within moment before)
+      (λ i t read. (inl (path.crash moment before i t read).0, nothing_prefix entry.shown message t (path.crash moment before i t read).1))
+      (λ i t went. (one_of i before went.0, subst (λ (s : Option (List ℕ)). ShowsPrefix s message (Some t)) r.untouched.quiet went.1))
+      image text leaves
+
 -- it stays, and a message is said
 unbegun_stays : {old new : List ℕ} {kept : List (List ℕ)} {entry mid late now : DeskState} {message : List ℕ} → IsRead old kept entry mid → IsKept new mid late → IsTrue entry.tells
     → Says message late now → StaysUnbegun old new entry now message
@@ -149,6 +186,7 @@ unbegun_stays {old} {new} {kept} {entry} {mid} {late} {now} {message} r k told s
       crash = λ moment first image text leaves.
           let was = alone.crash moment (start_of marks.1 first) image text leaves in
           (was.0 ∙ file_kept r.untouched told new, subst (λ (s : Option (List ℕ)). ShowsPrefix s message (Some text)) r.untouched.quiet was.1);
+      meanwhile = meanwhile_so (λ image. ⊥) r told k.on_disk says (passes_within (k.passes told_mid) (λ image text went. (inl went.0, went.1))) (λ image went. inl (k.left told_mid image went));
     }
 
 -- why it wasn't begun is as well said of it as it was at entry
@@ -197,6 +235,8 @@ lasts_so {old} {new} {kept} {left} {entry} {mid} {late} {now} {message} r m told
       read = marks.0;
       synced = (first.0, sync_stays (says.marks told_late) (sync_of marks.1 first.1));
       crash = λ moment sync image text leaves. path.crash moment (start_of marks.1 sync) image text leaves;
+      meanwhile = meanwhile_so (λ image. (new_in image ≡ unborn) ⊎ Finds left kept (new_in image)) r told m.on_disk says (m.passes told_mid)
+          (λ image went. inr (inr ((m.path told_mid).still first.0 (start_of (sym (append-nil mid.content.marks)) first.1) image went)));
     }
 
 pub begun_so : {old new : List ℕ} {kept : List (List ℕ)} {left : Left} {entry mid late now : DeskState} {message : List ℕ} {wanted status : ℕ} (r : IsRead old kept entry mid)
@@ -210,7 +250,7 @@ begun_so {old} {new} {kept} {left} {entry} {mid} {late} {now} {message} {wanted}
 
 -- the new book's file wasn't picked
 pub kept_now : (name : List ℕ) (now : DeskState) → IsKept name now now
-kept_now name now = record { on_disk = on_disk_none; untouched = untouched_now }
+kept_now name now = record { on_disk = on_disk_none; untouched = untouched_now; passes = λ told. passes_none; left = λ told image left. inl left }
 
 -- all that was called was on the disk
 pub read_then : {old : List ℕ} {kept : List (List ℕ)} {entry mid late : DeskState} → IsRead old kept entry mid → OnDisk anything mid late → OnDisk anything entry late

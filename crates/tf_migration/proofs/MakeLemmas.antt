@@ -1,11 +1,11 @@
 -- What is known of the file of a name that was picked, where a book was to be made in it.
-use Rattle.std.proofs.Common.{◌≡◌, ◌≢◌, ◌⊎◌, ℕ, List, [], ◌∷◌, ◌++◌, append_assoc, Option, Some, None, Result, Ok, Err, true, refl, sym, ap, ◌∙◌, subst, inl, inr}
+use Rattle.std.proofs.Common.{◌≡◌, ◌≢◌, ◌⊎◌, ℕ, List, [], ◌∷◌, ◌++◌, append_assoc, Option, Some, None, Result, Ok, Err, true, refl, sym, ap, ◌∙◌, subst, inl, inr, ⊎_elim}
 use Rattle.std.specs.Prelude.{IsTrue, IfErr, is_some}
 use Rattle.tf_numbers.specs.Numbers.{Rises}
-use Rattle.tf_desk.specs.Crash.{Mark, at_pick, at_sync, Pairs}
-use Rattle.tf_desk.specs.State.{DeskState, anything, bytes_now, MayLeave, OnDisk, Rests, GoesOn, PicksNone}
+use Rattle.tf_desk.specs.Crash.{Mark, at_pick, at_sync, Pairs, Images, IsLeft}
+use Rattle.tf_desk.specs.State.{DeskState, anything, bytes_now, MayLeave, LeftNow, OnDisk, Passes, Rests, GoesOn, PicksNone, LeavesMade, passes_on, passes_within}
 use Rattle.tf_desk.proofs.CountLemmas.{rises_later}
-use Rattle.tf_desk.proofs.StateLemmas.{on_disk_told, on_disk_on, on_disk_within}
+use Rattle.tf_desk.proofs.StateLemmas.{on_disk_told, on_disk_on, on_disk_within, left_stays, passes_then}
 use Rattle.tf_journal.specs.Answers.{RefusesFile}
 use Rattle.tf_journal.specs.Format.{Recovered, unborn, old_format, not_a_book, HasSynced, IsSynced, StaysUnborn}
 use Rattle.tf_journal.specs.Start.{file_of, IsSet, Open}
@@ -15,14 +15,32 @@ use Rattle.tf_journal.specs.declared.title.Title.TheVariants.{Book2 as new_title
 use Rattle.tf_journal.proofs.OpenLemmas.{picked_bytes, unpicked, opened, open_set}
 use Rattle.tf_journal.proofs.PathLemmas.{set_on, path_on, as_read}
 use Rattle.tf_migration.specs.Flows.{new_in, new_at}
-use Rattle.tf_migration.specs.Writing.{Left, whole, still, either, Finds, LeavesOnce, IsLeftSo, desk_written, left_written, FailsToWrite, IsMade, IsFirstSync, IsKept, FailsToMake, Makes, IsPicked}
+use Rattle.tf_migration.specs.Writing.{Left, whole, still, either, Finds, LeavesOnce, IsLeftByPick, LeavesByPick, IsLeftSo, desk_written, left_written, FailsToWrite, IsMade, IsFirstSync, IsKept, FailsToMake, Makes, IsPicked}
 use Rattle.tf_migration.specs.declared.writing.NewFault.{NewFault}
 use Rattle.tf_migration.specs.declared.writing.NewFault.TheVariants as fault
 use Rattle.tf_migration.proofs.DeskLaws.{KeepsLaws}
 
+-- what is left once a file was to be picked, by what was left before
+left_by_pick : (name : List ℕ) (before : Option (List ℕ)) (old new : Images) (missing : List ℕ → Type 0) (image : List ℕ)
+    → ((other : List ℕ) → new other image → old other image ⊎ ((other ≡ name) × missing other × (image ≡ []))) → IsLeft before new image
+    → IsLeft before old image ⊎ (old name image ⊎ (image ≡ []))
+left_by_pick name None old new missing image leaves left = inl left
+left_by_pick name (Some other) old new missing image leaves left = ⊎_elim (λ was. inl was) (λ none. inr (inr none.2)) (leaves other left)
+
 -- nothing was picked
-pub unpicked_kept : {name : List ℕ} {entry now : DeskState} {during : Pairs} → OnDisk during entry now → (IsTrue entry.tells → PicksNone name entry now) → IsKept name entry now
-unpicked_kept call none = record { on_disk = on_disk_within call (λ told image text left. tt); untouched = unpicked call none }
+pub unpicked_kept : {name : List ℕ} {entry now : DeskState} → OnDisk (LeftNow now) entry now → (IsTrue entry.tells → PicksNone name entry now)
+    → (IsTrue entry.tells → LeavesMade name entry now) → IsKept name entry now
+unpicked_kept {name} {entry} {now} call none leaves = record {
+  on_disk = on_disk_within call (λ told image text left. tt);
+  untouched = unpicked call none;
+  passes = λ told. passes_within (call.crash told) (λ image text left. (left_now told image left.0, sym call.shown ∙ left.1));
+  left = left_now;
+}
+  where
+    left_now : IsTrue entry.tells → (image : List ℕ) → MayLeave now image → IsLeftByPick name entry image
+    left_now told image left =
+        left_by_pick name entry.content.picked entry.left now.left (λ other. entry.content.files other ≡ None) image (λ other was. leaves told other image was)
+        (subst (λ (p : Option (List ℕ)). IsLeft p now.left image) (none told).picked left)
 
 -- what a read gave is all that a crash leaves now
 pub synced_unborn : {K : Type 0} (state : K → DeskState) (desk now : K) → KeepsLaws state → HasSynced (state desk) (state now) → IsTrue (state now).tells
@@ -55,6 +73,14 @@ module _ {K : Type 0} (state : K → DeskState) (laws : KeepsLaws state) (name :
   was_in : IsTrue (state entry).tells → new_in (bytes_now (state desk)) ≡ new_at (state entry) name
   was_in told = ap new_in (picked_bytes (picked.picks told))
 
+  left_desk : IsTrue (state entry).tells → (image : List ℕ) → MayLeave (state desk) image → IsLeftByPick name (state entry) image
+  left_desk told image left =
+      ⊎_elim (λ was. inr (inl was)) (λ none. inr (inr none.2))
+      (picked.made told name image (subst (λ (p : Option (List ℕ)). IsLeft p (state desk).left image) (picked.picks told).picked left))
+
+  passes_desk : IsTrue (state entry).tells → Passes (LeavesByPick name (state entry)) (state entry) (state desk)
+  passes_desk told = passes_within (picked.on_disk.crash told) (λ image text left. (left_desk told image left.0, sym picked.on_disk.shown ∙ left.1))
+
   rose_since : (now : K) → Rises (state desk).disk_faults (state now).disk_faults → Rises (state entry).disk_faults (state now).disk_faults
   rose_since now rose = rises_later (state entry).disk_faults (state desk).disk_faults (state now).disk_faults picked.on_disk.disk_faults rose
 
@@ -64,6 +90,8 @@ module _ {K : Type 0} (state : K → DeskState) (laws : KeepsLaws state) (name :
     on_disk = since_entry now rests.on_disk;
     untouched = opened picked.on_disk picked.picks picked.made rests synced (λ told image text was. laws.only_now desk image text told was) (laws.tells_shown now)
         (λ told start image text le left. laws.counts_now now start image text told le left);
+    passes = λ told. passes_then (passes_desk told) (rests.on_disk.crash (told_then told));
+    left = λ told image left. left_desk told image (left_stays (rests.files (told_then told)) image left);
   }
 
   -- and isn't unborn
@@ -128,6 +156,8 @@ module _ {K : Type 0} (state : K → DeskState) (laws : KeepsLaws state) (name :
               (leaves (told_mid told));
           file = λ told. leaves (told_mid told) (file_of (state now) name)
               (as_read (state now) (set_now told).picked (λ there. laws.picked_is_there now name (told_now told) there) (λ bytes has. laws.reads_left now name bytes (told_now told) has)).0;
+          passes = λ told. passes_on (kept_mid.passes told) (goes.on_disk.crash (told_mid told)) (λ image text went. (inl went.0, went.1))
+              (λ image text went. (inr went.0, sym kept_mid.untouched.quiet ∙ went.1));
         }
 
     rose_mid : (now : K) → Rises (state mid).disk_faults (state now).disk_faults → Rises (state entry).disk_faults (state now).disk_faults

@@ -1,14 +1,15 @@
 -- What is known of the file of a name that was picked and read to be carried over.
-use Rattle.std.proofs.Common.{◌≡◌, ℕ, List, Result, Ok, Err, sym, ap, ◌∙◌, subst}
+use Rattle.std.proofs.Common.{◌≡◌, ℕ, List, Result, Ok, Err, inl, inr, ⊎_elim, ap, ◌∙◌, subst}
 use Rattle.std.specs.Prelude.{IsTrue, IfOk, IfErr}
 use Rattle.tf_numbers.specs.Numbers.{Rises}
 use Rattle.tf_desk.specs.Crash.{Pairs}
 use Rattle.tf_desk.specs.State.{DeskState, anything, bytes_now, OnDisk, Rests, Picks, PicksNone, LeavesMade}
 use Rattle.tf_desk.proofs.CountLemmas.{rises_later}
 use Rattle.tf_desk.proofs.StateLemmas.{on_disk_told, on_disk_on, on_disk_within}
-use Rattle.tf_journal.specs.Format.{Recovered, bodies, Held, IsAtRest, IsSynced}
+use Rattle.tf_journal.specs.Format.{Recovered, bodies, Held, IsAtRest, HasSynced, IsSynced}
 use Rattle.tf_journal.specs.Start.{Untouched}
-use Rattle.tf_journal.proofs.OpenLemmas.{picked_bytes, unpicked, opened}
+use Rattle.tf_journal.proofs.CrashLemmas.{synced_on}
+use Rattle.tf_journal.proofs.OpenLemmas.{picked_bytes, unpicked, opened, open_set}
 use Rattle.tf_records.specs.Replaying.{HasReadAll}
 use Rattle.tf_migration.specs.Flows.{old_in, old_at, HoldsFlow}
 use Rattle.tf_migration.specs.Reading.{HasReadBook, desk_read, HasReadAllOf, HasFlow, RefusesOld, IsUnread, IsRead}
@@ -44,6 +45,13 @@ flow_loaded state kept_of journal told bytes (Ok found) tells recovers read = re
   legal = read.legal;
 }
 
+-- and synced when it was loaded
+pub synced_read : {K A F : Type 0} (state : K → DeskState) (desk mid : K) (r : Result (K × A) (K × F)) → Rests (state desk) (state mid)
+    → (IsTrue (state desk).tells → HasSynced (state desk) (state mid)) → Rests (state mid) (state (desk_read r))
+    → IfOk r (λ found. IsTrue (state desk).tells → HasSynced (state desk) (state found.0))
+synced_read state desk mid (Err back) loaded synced rests = tt
+synced_read state desk mid (Ok found) loaded synced rests = λ told. synced_on (synced told) (on_disk_told loaded.on_disk told) rests
+
 -- ---- the file of a name
 
 module _ {K : Type 0} (state : K → DeskState) (laws : KeepsLaws state) (name : List ℕ) (entry mid : K) {during : Pairs} (call : OnDisk during (state entry) (state mid))
@@ -59,12 +67,16 @@ module _ {K : Type 0} (state : K → DeskState) (laws : KeepsLaws state) (name :
   -- a flow was read of it
   pub flow_read : {A F : Type 0} (kept_of : A → List (List ℕ)) (r : Result (K × A) (K × F)) → Rests (state mid) (state (desk_read r))
       → (IsTrue (state mid).tells → IsSynced (state mid) (state (desk_read r)))
+      → IfOk r (λ found. IsTrue (state mid).tells → HasSynced (state mid) (state found.0))
       → IfOk r (λ found. HasFlow (IsTrue (state mid).tells) (old_in (bytes_now (state mid))) (kept_of found.1))
       → IfOk r (λ found. IsRead name (kept_of found.1) (state entry) (state found.0))
-  flow_read kept_of (Err back) rests synced flow = tt
-  flow_read kept_of (Ok found) rests synced flow = record {
+  flow_read kept_of (Err back) rests synced at_sync flow = tt
+  flow_read kept_of (Ok found) rests synced at_sync flow = record {
     on_disk = read_on_disk found.0 rests;
     untouched = read_untouched found.0 rests synced;
+    set = (open_set call picks rests at_sync (read_untouched found.0 rests synced)).set;
+    left = λ told other image leaves.
+        ⊎_elim (λ was. inl was) (λ missing. inr missing.2) (made told other image ((rests.files (on_disk_told call told)).leaves other image leaves));
     flow = record {
       plan = flow.plan;
       past = flow.past;

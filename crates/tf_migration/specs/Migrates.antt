@@ -62,6 +62,16 @@ pub record OthersStay (old new : List ℕ) (entry now : DeskState) : Type 0 wher
   pub old_file : file_of now old ≡ file_of entry old
   pub others : (other : List ℕ) → other ≢ old → other ≢ new → now.content.files other ≡ entry.content.files other
 
+-- an image that a crash leaves: the old book's file as it was; or the new one's: as a crash at entry might leave it, empty where it was missing, or as that says
+abbrev pub IsOneOf : (old new : List ℕ) → DeskState → (List ℕ → Type 0) → List ℕ → Type 0
+IsOneOf old new entry holds image = (image ≡ file_of entry old) ⊎ (entry.left new image ⊎ ((image ≡ []) ⊎ holds image))
+
+-- a crash since the call's start leaves one of these, and a prefix of the message shown
+abbrev pub LeavesOneOf : (old new : List ℕ) → DeskState → DeskState → (List ℕ → Type 0) → List ℕ → Type 0
+LeavesOneOf old new entry now holds message =
+    (moment : ℕ) → IsStart old entry now moment → (image text : List ℕ) → now.crashes moment image text
+    → IsOneOf old new entry holds image × ShowsPrefix entry.shown message (Some text)
+
 -- and nor did that; a crash since its first sync leaves it as it was, and a prefix of the message shown
 pub record StaysUnbegun (old new : List ℕ) (entry now : DeskState) (message : List ℕ) : Type 0 where
   pub stay : OthersStay old new entry now
@@ -69,6 +79,7 @@ pub record StaysUnbegun (old new : List ℕ) (entry now : DeskState) (message : 
   pub read : List Mark
   pub crash : (moment : ℕ) → IsFirstSync new read entry now moment → (image text : List ℕ) → now.crashes moment image text
       → (image ≡ file_of entry new) × ShowsPrefix entry.shown message (Some text)
+  pub meanwhile : LeavesOneOf old new entry now (λ image. ⊥) message
 
 -- and of that so much is there now, and after each later crash; a crash since its first sync leaves it unborn and nothing said, or so much of it and a
 -- prefix of the message shown
@@ -81,6 +92,7 @@ pub record Lasts (old new : List ℕ) (held : List (List ℕ)) (left : Left) (en
   pub synced : (moment : ℕ) × IsFirstSync new read entry now moment
   pub crash : (moment : ℕ) → IsFirstSync new read entry now moment → (image text : List ℕ) → now.crashes moment image text
       → ((new_in image ≡ unborn) × (entry.shown ≡ Some text)) ⊎ (Finds left held (new_in image) × ShowsPrefix entry.shown message (Some text))
+  pub meanwhile : LeavesOneOf old new entry now (λ image. (new_in image ≡ unborn) ⊎ Finds left held (new_in image)) message
 
 -- ---- how a migration goes
 

@@ -2,7 +2,7 @@
 use Rattle.std.specs.Prelude.{◌≡◌, ◌≢◌, ◌⊎◌, ◌<◌, ◌+◌, ℕ, false, IsTrue, List, [], ◌∷◌, ◌++◌, length, Option, Some, Result, Ok, Err}
 use Rattle.tf_numbers.specs.Numbers.{Rises}
 use Rattle.tf_desk.specs.Crash.{Mark, at_pick, Pairs}
-use Rattle.tf_desk.specs.State.{DeskState, OnDisk, MayLeave, Picks, LeavesMade, anything}
+use Rattle.tf_desk.specs.State.{DeskState, OnDisk, MayLeave, LeftNow, Passes, Picks, LeavesMade, anything}
 use Rattle.tf_journal.specs.Format.{SIZE_LIMIT, Recovered, unborn, bodies, journal_bytes, Held, IsDrafted}
 use Rattle.tf_journal.specs.Start.{first_sync, IsSet, Path, Untouched}
 use Rattle.tf_journal.specs.declared.faults.AppendFault.{AppendFault}
@@ -101,6 +101,19 @@ FailsToWrite held fault.Exists old new = ⊥
 
 -- ---- the file of a name
 
+-- a crash while the file of that name is picked leaves the file that was picked before, or that one: as a crash might leave it before, or empty where it was missing
+abbrev pub IsLeftByPick : List ℕ → DeskState → List ℕ → Type 0
+IsLeftByPick name entry image = MayLeave entry image ⊎ (entry.left name image ⊎ (image ≡ []))
+
+-- the shown text stays
+abbrev pub LeavesByPick : List ℕ → DeskState → Pairs
+LeavesByPick name entry image text = IsLeftByPick name entry image × (entry.shown ≡ Some text)
+
+-- the same while a book is made in it: also unborn, or as it is left
+abbrev pub LeavesByMaking : List ℕ → List (List ℕ) → Left → DeskState → Pairs
+LeavesByMaking name held left entry image text =
+    (IsLeftByPick name entry image ⊎ ((new_in image ≡ unborn) ⊎ Finds left held (new_in image))) × (entry.shown ≡ Some text)
+
 -- the file of that name was picked in this call behind these marks, and at that moment a sync was the first that answered Ok since
 pub record IsFirstSync (name : List ℕ) (before : List Mark) (entry now : DeskState) (moment : ℕ) : Type 0 where
   pub picked : ℕ
@@ -116,11 +129,14 @@ pub record IsMade (name : List ℕ) (held : List (List ℕ)) (left : Left) (entr
   pub synced : IsTrue entry.tells → (moment : ℕ) × IsFirstSync name [] entry now moment
   pub path : IsTrue entry.tells → Path name entry now (LeavesOnce left held entry.shown) (λ image. Finds left held (new_in image))
   pub file : IsTrue entry.tells → Finds left held (new_at now name)
+  pub passes : IsTrue entry.tells → Passes (LeavesByMaking name held left entry) entry now
 
 -- the file is as it was
 pub record IsKept (name : List ℕ) (entry now : DeskState) : Type 0 where
   pub on_disk : OnDisk anything entry now
   pub untouched : Untouched name entry now
+  pub passes : IsTrue entry.tells → Passes (LeavesByPick name entry) entry now
+  pub left : IsTrue entry.tells → (image : List ℕ) → MayLeave now image → IsLeftByPick name entry image
 
 -- why it isn't there whole: the disk failed, before anything was written or after that; the file isn't unborn; a body doesn't fit; or memory ran out
 abbrev pub FailsToMake : List ℕ → List (List ℕ) → NewFault → DeskState → DeskState → Type 0
@@ -136,6 +152,6 @@ Makes state name held entry (Err back) = FailsToMake name held back.1 entry (sta
 
 -- the file of that name was picked
 pub record IsPicked (name : List ℕ) (entry now : DeskState) : Type 0 where
-  pub on_disk : OnDisk anything entry now
+  pub on_disk : OnDisk (LeftNow now) entry now
   pub picks : IsTrue entry.tells → Picks name entry now
   pub made : IsTrue entry.tells → LeavesMade name entry now

@@ -13,7 +13,7 @@ returns-in-Ok-clause-read g c =
     record { tells_shown = g.met.K.Desk.tells_shown; picked_is_there = g.met.K.Desk.picked_is_there; reads_left = g.met.K.Desk.reads_left; counts_now = g.met.K.Desk.counts_now; only_now = g.met.K.Desk.only_now } in
     let p = c.in-Ok.ensures in
     let l = c.load.ensures in
-    flow_read D.state laws c.args.name.now c.args.desk c.pick.new.self p.on_disk p.picked p.leaves (λ kept. kept.items) c.load.result l.rests l.synced l.flow
+    flow_read D.state laws c.args.name.now c.args.desk c.pick.new.self p.on_disk p.picked p.leaves (λ kept. kept.items) c.load.result l.rests l.synced l.at_sync l.flow
 
 pub returns-in-Ok-clause-unread : goal.returns-in-Ok-clause-unread
 returns-in-Ok-clause-unread g c =
