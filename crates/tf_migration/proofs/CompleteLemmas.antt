@@ -47,4 +47,4 @@ module _ (old new : List ℕ) (first now : DeskState) (status : ℕ) (told : IsT
   pub complete_so : Migrates old new first now status → IsComplete status
   complete_so (unread message wanted is closes stays) = ends message wanted closes (of_unread message wanted is)
   complete_so (unbegun plan past message wanted holds is closes stays) = ends message wanted closes (of_unbegun message wanted is)
-  complete_so (begun plan past left message wanted holds was is closes lasts) = ends message wanted closes (of_begun plan past left message wanted is)
+  complete_so (begun plan past left message wanted holds was is out closes lasts) = ends message wanted closes (of_begun plan past left message wanted is)

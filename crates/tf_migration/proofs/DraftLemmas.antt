@@ -21,9 +21,16 @@ use Rattle.tf_migration.proofs.DeskLaws.{KeepsLaws}
 -- the size of a journal with a body more
 size_on : (added : List (List ℕ)) (body : List ℕ) → length (journal_bytes new_title (added ++ body ∷ [])) ≡ length (journal_bytes new_title added) + 5 + length body
 size_on added body =
-    omega (arith, ap length (flat_map-push added body), length-append (flat_map record_of added) (record_of body), length-record_of body,
-    length-append (OPEN ∷ title_of new_title) (flat_map record_of added), length-append (OPEN ∷ title_of new_title) (flat_map record_of (added ++ body ∷ [])),
-    length-append (prefix_of new_title added) (0 ∷ []), length-append (prefix_of new_title (added ++ body ∷ [])) (0 ∷ []))
+    omega (
+      arith,
+      ap length (flat_map-push added body),
+      length-append (flat_map record_of added) (record_of body),
+      length-record_of body,
+      length-append (OPEN ∷ title_of new_title) (flat_map record_of added),
+      length-append (OPEN ∷ title_of new_title) (flat_map record_of (added ++ body ∷ [])),
+      length-append (prefix_of new_title added) (0 ∷ []),
+      length-append (prefix_of new_title (added ++ body ∷ [])) (0 ∷ []),
+    )
 
 -- a draft that the desk tells may be written
 pub draft_open : {K : Type 0} (state : K → DeskState) (journal : Held K) (added : List (List ℕ)) → IsDraftOf state added journal → IsTrue (state journal.desk).tells

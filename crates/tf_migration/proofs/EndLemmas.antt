@@ -14,11 +14,11 @@ use Rattle.tf_journal.specs.Start.{file_of, first_sync, IsStart, Path, IsSame, I
 use Rattle.tf_journal.proofs.OpenLemmas.{untouched_now}
 use Rattle.tf_journal.proofs.PathLemmas.{path_said, start_before}
 use Rattle.tf_report.specs.Closing.{disk_fault_text}
-use Rattle.tf_report.specs.declared.statuses.TheConstants.{DISK_FAILED}
+use Rattle.tf_report.specs.declared.statuses.TheConstants.{DISK_FAILED, UNSAID, OUT_OF_MEMORY}
 use Rattle.tf_migration.specs.Flows.{old_bodies, new_bodies, old_in, old_at, new_in, new_at, HoldsFlow}
 use Rattle.tf_migration.specs.Migrates.{Migrates, unread, unbegun, begun, IsUnreadFor, IsUnbegunFor, unbegun_no_memory, unbegun_failed, exists, IsBegunFor, write_failed, StaysAlone, OthersStay, IsOneOf, LeavesOneOf, StaysUnbegun, Lasts, Concludes}
 use Rattle.tf_migration.specs.Reading.{IsUnread, IsRead}
-use Rattle.tf_migration.specs.Writing.{Left, either, Finds, LeavesOnce, IsLeftByPick, IsFirstSync, IsMade, IsKept}
+use Rattle.tf_migration.specs.Writing.{Left, not_yet, either, Finds, LeavesOnce, IsLeftByPick, IsFirstSync, IsMade, IsKept}
 use Rattle.tf_migration.specs.declared.reading.OldFault.{OldFault}
 use Rattle.tf_migration.proofs.SayLemmas.{nothing_prefix, closes_since, file_stays}
 
@@ -240,9 +240,10 @@ lasts_so {old} {new} {kept} {left} {entry} {mid} {late} {now} {message} r m told
     }
 
 pub begun_so : {old new : List ℕ} {kept : List (List ℕ)} {left : Left} {entry mid late now : DeskState} {message : List ℕ} {wanted status : ℕ} (r : IsRead old kept entry mid)
-    → IsMade new kept left mid late → IsBegunFor r.flow.plan r.flow.past left message wanted → Concludes message wanted late now status → Migrates old new entry now status
-begun_so {old} {new} {kept} {left} {entry} {mid} {late} {now} {message} {wanted} r m is c =
-    begun r.flow.plan r.flow.past left message wanted r.flow.holds (λ told. ap new_in (sym (file_kept r.untouched told new)) ∙ m.was_unborn (on_disk_told r.on_disk told)) is
+    → IsMade new kept left mid late → IsBegunFor r.flow.plan r.flow.past left message wanted → (status ≡ OUT_OF_MEMORY → left ≡ not_yet) → Concludes message wanted late now status
+    → Migrates old new entry now status
+begun_so {old} {new} {kept} {left} {entry} {mid} {late} {now} {message} {wanted} r m is out c =
+    begun r.flow.plan r.flow.past left message wanted r.flow.holds (λ told. ap new_in (sym (file_kept r.untouched told new)) ∙ m.was_unborn (on_disk_told r.on_disk told)) is out
     (closes_since (m.on_disk.shown ∙ r.untouched.quiet) c.closes)
     (λ told. subst (λ (held : List (List ℕ)). Lasts old new held left entry now message) r.flow.kept_are (lasts_so r m told c.says))
 
@@ -256,12 +257,17 @@ kept_now name now = record { on_disk = on_disk_none; untouched = untouched_now; 
 pub read_then : {old : List ℕ} {kept : List (List ℕ)} {entry mid late : DeskState} → IsRead old kept entry mid → OnDisk anything mid late → OnDisk anything entry late
 read_then r late = on_disk_on r.on_disk late (λ told image text left. tt) (λ told image text left. tt)
 
+-- a message was said, so that memory didn't run out for it
+pub never_out : {status wanted : ℕ} → (status ≡ wanted) ⊎ (status ≡ UNSAID) → status ≡ OUT_OF_MEMORY → wanted ≢ OUT_OF_MEMORY → ⊥
+never_out (inl same) out apart = apart (sym same ∙ out)
+never_out (inr unsaid) out apart = let no = sym unsaid ∙ out in cc
+
 -- the disk failed, before the new book was begun or after that
 pub failed_disk : {new : List ℕ} {kept : List (List ℕ)} {mid late : DeskState} → IsKept new mid late ⊎ IsMade new kept either mid late → OnDisk anything mid late
 failed_disk (inl k) = k.on_disk
 failed_disk (inr m) = m.on_disk
 
 pub failed_so : {old new : List ℕ} {kept : List (List ℕ)} {entry mid late now : DeskState} {status : ℕ} → IsRead old kept entry mid → IsKept new mid late ⊎ IsMade new kept either mid late
-    → Concludes disk_fault_text DISK_FAILED late now status → Migrates old new entry now status
-failed_so r (inl k) c = unbegun_so r k unbegun_failed c
-failed_so r (inr m) c = begun_so r m write_failed c
+    → (status ≡ DISK_FAILED) ⊎ (status ≡ UNSAID) → Concludes disk_fault_text DISK_FAILED late now status → Migrates old new entry now status
+failed_so r (inl k) is c = unbegun_so r k unbegun_failed c
+failed_so r (inr m) is c = begun_so r m write_failed (λ out. absurd (never_out is out (λ no. cc))) c

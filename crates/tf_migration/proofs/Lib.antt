@@ -7,3 +7,5 @@ pub mod SayLemmas
 pub mod EndLemmas
 pub mod CompleteLemmas
 pub mod HeadedLemmas
+pub mod SizeLemmas
+pub mod RowsOfMigrations

@@ -15,7 +15,7 @@ use Rattle.tf_journal.specs.declared.title.Title.TheVariants.{Book2 as new_title
 use Rattle.tf_journal.proofs.OpenLemmas.{picked_bytes, unpicked, opened, open_set}
 use Rattle.tf_journal.proofs.PathLemmas.{set_on, path_on, as_read}
 use Rattle.tf_migration.specs.Flows.{new_in, new_at}
-use Rattle.tf_migration.specs.Writing.{Left, whole, still, either, Finds, LeavesOnce, IsLeftByPick, LeavesByPick, IsLeftSo, desk_written, left_written, FailsToWrite, IsMade, IsFirstSync, IsKept, FailsToMake, Makes, IsPicked}
+use Rattle.tf_migration.specs.Writing.{Left, whole, not_yet, either, Finds, LeavesOnce, IsLeftByPick, LeavesByPick, IsLeftSo, desk_written, left_written, FailsToWrite, IsMade, IsFirstSync, IsKept, FailsToMake, Makes, IsPicked}
 use Rattle.tf_migration.specs.declared.writing.NewFault.{NewFault}
 use Rattle.tf_migration.specs.declared.writing.NewFault.TheVariants as fault
 use Rattle.tf_migration.proofs.DeskLaws.{KeepsLaws}
@@ -125,8 +125,7 @@ module _ {K : Type 0} (state : K → DeskState) (laws : KeepsLaws state) (name :
     first_synced told now marks =
         let h = synced (told_then told) in
         let began : List Mark = (state entry).content.marks in
-        let pick : Mark = at_pick name (state desk).content.clock in
-        (
+        let pick : Mark = at_pick name (state desk).content.clock in (
           h.moment,
           record {
             picked = (state desk).content.clock;
@@ -167,7 +166,7 @@ module _ {K : Type 0} (state : K → DeskState) (laws : KeepsLaws state) (name :
         → (IsTrue (state mid).tells → IsLeftSo (left_written {K = K} (Err (now, why))) held (state now)) → FailsToWrite held why (state mid) (state now)
         → (why ≡ fault.Memory → now ≡ mid) → FailsToMake name held why (state entry) (state now)
     made_by fault.Disk now goes leaves fails same = (rose_mid now fails, inr (made_so either now goes leaves))
-    made_by (fault.Full size need) now goes leaves fails same = (made_so still now goes leaves, fails)
+    made_by (fault.Full size need) now goes leaves fails same = (made_so not_yet now goes leaves, fails)
     made_by fault.Memory now goes leaves fails same = subst (λ (k : K). IsKept name (state entry) (state k)) (sym (same refl)) kept_mid
     made_by fault.Exists now goes leaves fails same = absurd fails
 

@@ -11,7 +11,7 @@ use Rattle.tf_journal.specs.Start.{file_of, IsStart}
 use Rattle.tf_report.specs.Closing.{disk_fault_text, book_full, ClosesWithOrStops, not_a_book}
 use Rattle.tf_report.specs.declared.statuses.TheConstants.{SUCCEEDED, DISK_FAILED, NO_BOOK, UNSAID, OUT_OF_MEMORY, FULL, FORBIDDEN}
 use Rattle.tf_migration.specs.Flows.{new_bodies, old_at, new_in, new_at, HoldsFlow, HoldsNoFlow, IsNoBook}
-use Rattle.tf_migration.specs.Writing.{Left, still, whole, either, Finds, IsFullFor, IsFirstSync}
+use Rattle.tf_migration.specs.Writing.{Left, not_yet, whole, either, Finds, IsFullFor, IsFirstSync}
 
 -- ---- texts
 
@@ -45,7 +45,7 @@ pub data IsUnbegunFor (told : Type 0) (new : Recovered) : List ℕ → ℕ → T
 -- the new book was begun: it is whole, a body of it didn't fit and its file is still unborn, or the disk failed and it is one or the other
 pub data IsBegunFor (plan : PlanValue) (past : List Entry) : Left → List ℕ → ℕ → Type 0 where
   migrated : IsBegunFor plan past whole (migrated_text (length past)) SUCCEEDED
-  filled : (size need : ℕ) → IsFullFor (new_bodies plan past) size need → IsBegunFor plan past still (book_full size need) FULL
+  filled : (size need : ℕ) → IsFullFor (new_bodies plan past) size need → IsBegunFor plan past not_yet (book_full size need) FULL
   write_failed : IsBegunFor plan past either disk_fault_text DISK_FAILED
 
 -- ---- what becomes of the files
@@ -109,10 +109,11 @@ pub data Migrates (old new : List ℕ) (entry now : DeskState) (status : ℕ) : 
       → ClosesWithOrStops entry.shown message wanted now.shown status
       → (IsTrue entry.tells → StaysUnbegun old new entry now message)
       → Migrates old new entry now status
-  -- it gave its flow; the new book's file was unborn, and the book was begun
+  -- it gave its flow; the new book's file was unborn, and the book was begun; where memory ran out it is unborn still
   begun : (plan : PlanValue) (past : List Entry) (left : Left) (message : List ℕ) (wanted : ℕ) → (IsTrue entry.tells → HoldsFlow plan past (old_at entry old))
       → (IsTrue entry.tells → new_at entry new ≡ unborn)
       → IsBegunFor plan past left message wanted
+      → (status ≡ OUT_OF_MEMORY → left ≡ not_yet)
       → ClosesWithOrStops entry.shown message wanted now.shown status
       → (IsTrue entry.tells → Lasts old new (new_bodies plan past) left entry now message)
       → Migrates old new entry now status

@@ -16,13 +16,13 @@ use Rattle.tf_migration.specs.declared.writing.NewFault.TheVariants as fault
 
 -- the file is still unborn; the book is whole; or one or the other, where the disk failed
 pub data Left : Type 0 where
-  still : Left
+  not_yet : Left
   whole : Left
   either : Left
 
 -- what recovery finds then of a book with these bodies
 abbrev pub Finds : Left → List (List ℕ) → Recovered → Type 0
-Finds still held found = found ≡ unborn
+Finds not_yet held found = found ≡ unborn
 Finds whole held found = found ≡ bodies held
 Finds either held found = (found ≡ unborn) ⊎ (found ≡ bodies held)
 
@@ -64,7 +64,7 @@ FailsToAdd held append.Halted old new = ⊥
 abbrev pub left_added : {A : Type 0} → Result A AppendFault → Left
 left_added (Ok done) = whole
 left_added (Err append.Disk) = either
-left_added (Err (append.Full size need)) = still
+left_added (Err (append.Full size need)) = not_yet
 left_added (Err append.Halted) = either
 
 -- ---- a book is written into an unborn file
@@ -77,8 +77,8 @@ desk_written (Err back) = back.0
 -- how much is there after it was to be written and wasn't
 abbrev pub left_by : NewFault → Left
 left_by fault.Disk = either
-left_by (fault.Full size need) = still
-left_by fault.Memory = still
+left_by (fault.Full size need) = not_yet
+left_by fault.Memory = not_yet
 left_by fault.Exists = either
 
 -- how much is there after it was to be written
@@ -142,7 +142,7 @@ pub record IsKept (name : List ℕ) (entry now : DeskState) : Type 0 where
 abbrev pub FailsToMake : List ℕ → List (List ℕ) → NewFault → DeskState → DeskState → Type 0
 FailsToMake name held fault.Disk entry now = Rises entry.disk_faults now.disk_faults × (IsKept name entry now ⊎ IsMade name held either entry now)
 FailsToMake name held fault.Exists entry now = IsKept name entry now × (IsTrue entry.tells → new_at entry name ≢ unborn)
-FailsToMake name held (fault.Full size need) entry now = IsMade name held still entry now × IsFullFor held size need
+FailsToMake name held (fault.Full size need) entry now = IsMade name held not_yet entry now × IsFullFor held size need
 FailsToMake name held fault.Memory entry now = IsKept name entry now
 
 -- it is there whole, or it isn't

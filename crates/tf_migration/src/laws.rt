@@ -1,10 +1,13 @@
 //! What holds of every flow that is carried over. The functions do nothing; their contracts are the laws.
-ghost use Rattle.std.specs.Prelude.{◌≡◌, ◌++◌, ◌∷◌, ℕ, List, Some};
+ghost use Rattle.std.specs.Prelude.{◌≡◌, ◌+◌, ◌*◌, ◌++◌, ◌∷◌, ℕ, List, Some, length};
 ghost use Rattle.tf_states.specs.declared.record.Entry.{Entry};
 ghost use Rattle.tf_flow.specs.Plan.{PlanValue};
 ghost use Rattle.tf_details.specs.Elements.{IsHistoryOf, IsLegalBook, plan_of, history};
 ghost use Rattle.tf_details.specs.Whole.{plan_written};
-ghost use Rattle.tf_migration.specs.Flows.{old_bodies, carried, CannotFollow};
+ghost use Rattle.tf_journal.specs.Format.{Recovered, journal_bytes};
+ghost use Rattle.tf_journal.specs.declared.title.Title.TheVariants.{Book, Book2};
+ghost use Rattle.tf_migration.specs.Flows.{old_bodies, carried, new_bodies, HoldsFlow, CannotFollow};
+ghost use Rattle.tf_migration.specs.Migrates.{IsBookOfFlow};
 
 use tf_details::{books_are_never_refused, books_are_read_once};
 
@@ -30,3 +33,17 @@ pub fn old_books_are_read_once()
 {
     books_are_read_once();
 }
+
+/// A file that holds a flow is a book of one flow.
+pub fn flows_are_in_books()
+    ensures { (plan : PlanValue) (past : List Entry) (found : Recovered) → HoldsFlow plan past found
+        → IsBookOfFlow found }
+{
+    old_books_are_never_refused();
+}
+
+/// The new book is longer than the old one, by a byte for the plan and by three for each entry.
+pub fn a_new_book_is_longer()
+    ensures { (plan : PlanValue) (past : List Entry) → length (journal_bytes Book2 (new_bodies plan past))
+        ≡ length (journal_bytes Book (old_bodies plan past)) + 1 + 3 * length past }
+{}

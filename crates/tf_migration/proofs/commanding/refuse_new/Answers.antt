@@ -1,4 +1,4 @@
-use Rattle.std.proofs.Common.{[], ℕ, List, subst}
+use Rattle.std.proofs.Common.{[], ℕ, List, refl, subst}
 use Rattle.tf_desk.proofs.CountLemmas.{rises_later}
 use Rattle.tf_report.specs.Closing.{book_full}
 use Rattle.tf_migration.specs.Migrates.{unbegun_no_memory, exists, filled}
@@ -12,26 +12,26 @@ pub returns-in-Disk-clause-migrates : goal.returns-in-Disk-clause-migrates
 returns-in-Disk-clause-migrates g c = λ old new kept entry mid r fails.
     let D = g.K.Desk in
     let f = subst (λ (f : NewFault). FailsToMake new kept f (D.state mid) (D.state c.args.desk)) c.in-Disk.is fails in
-    failed_so r f.1 c.say.ensures
+    failed_so r f.1 c.say.ensures.status c.say.ensures.concludes
 
 pub returns-in-Disk-clause-causes : goal.returns-in-Disk-clause-causes
 returns-in-Disk-clause-causes g c = λ old new kept entry mid r fails.
     let D = g.K.Desk in
     let f = subst (λ (f : NewFault). FailsToMake new kept f (D.state mid) (D.state c.args.desk)) c.in-Disk.is fails in
-    causes_so (read_then r (failed_disk f.1)) c.say.ensures
+    causes_so (read_then r (failed_disk f.1)) c.say.ensures.concludes
     (λ is. rises_later (D.state entry).disk_faults (D.state mid).disk_faults (D.state c.args.desk).disk_faults r.on_disk.disk_faults f.0)
 
 pub returns-in-Exists-clause-migrates : goal.returns-in-Exists-clause-migrates
 returns-in-Exists-clause-migrates g c = λ old new kept entry mid r fails.
     let D = g.K.Desk in
     let f = subst (λ (f : NewFault). FailsToMake new kept f (D.state mid) (D.state c.args.desk)) c.in-Exists.is fails in
-    unbegun_so r f.0 (exists f.1) c.say-in-Exists.ensures
+    unbegun_so r f.0 (exists f.1) c.say-in-Exists.ensures.concludes
 
 pub returns-in-Exists-clause-causes : goal.returns-in-Exists-clause-causes
 returns-in-Exists-clause-causes g c = λ old new kept entry mid r fails.
     let D = g.K.Desk in
     let f = subst (λ (f : NewFault). FailsToMake new kept f (D.state mid) (D.state c.args.desk)) c.in-Exists.is fails in
-    causes_so (read_then r f.0.on_disk) c.say-in-Exists.ensures (λ is. cc)
+    causes_so (read_then r f.0.on_disk) c.say-in-Exists.ensures.concludes (λ is. cc)
 
 pub returns-in-Full-clause-migrates : goal.returns-in-Full-clause-migrates
 returns-in-Full-clause-migrates g c = λ old new kept entry mid r fails.
@@ -39,7 +39,7 @@ returns-in-Full-clause-migrates g c = λ old new kept entry mid r fails.
     let size = c.in-Full.size in
     let need = c.in-Full.need in
     let f = subst (λ (f : NewFault). FailsToMake new kept f (D.state mid) (D.state c.args.desk)) c.in-Full.is fails in
-    begun_so r f.0 (filled size need (subst (λ (held : List (List ℕ)). IsFullFor held size need) r.flow.kept_are f.1))
+    begun_so r f.0 (filled size need (subst (λ (held : List (List ℕ)). IsFullFor held size need) r.flow.kept_are f.1)) (λ out. refl)
     (c.say_text.ensures (book_full size need) c.book_full_text-text.ensures)
 
 pub returns-in-Full-clause-causes : goal.returns-in-Full-clause-causes

@@ -9,7 +9,7 @@ use Rattle.tf_migration.proofs.EndLemmas.{unread_so}
 use Rattle.tf_migration.proofs.commanding.refuse_old.Goals as goal
 
 pub returns-in-Disk-clause-migrates : goal.returns-in-Disk-clause-migrates
-returns-in-Disk-clause-migrates g c = λ old new entry u. unread_so new u unread_failed c.say.ensures
+returns-in-Disk-clause-migrates g c = λ old new entry u. unread_so new u unread_failed c.say.ensures.concludes
 
 pub returns-in-NotABook-clause-migrates : goal.returns-in-NotABook-clause-migrates
 returns-in-NotABook-clause-migrates g c = λ old new entry u.
@@ -26,7 +26,7 @@ returns-in-NotABook-clause-causes g c = λ old entry u.
 pub returns-in-NoFlow-clause-migrates : goal.returns-in-NoFlow-clause-migrates
 returns-in-NoFlow-clause-migrates g c = λ old new entry u.
     let D = g.K.Desk in
-    unread_so new u (no_flow (λ told. subst (λ (f : OldFault). RefusesOld f (old_at (D.state entry) old)) c.in-NoFlow.is (u.refused told))) c.say-in-NoFlow.ensures
+    unread_so new u (no_flow (λ told. subst (λ (f : OldFault). RefusesOld f (old_at (D.state entry) old)) c.in-NoFlow.is (u.refused told))) c.say-in-NoFlow.ensures.concludes
 
 pub returns-in-Memory-clause-migrates : goal.returns-in-Memory-clause-migrates
 returns-in-Memory-clause-migrates g c = λ old new entry u.

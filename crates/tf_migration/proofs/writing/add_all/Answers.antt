@@ -18,9 +18,8 @@ loop-body-preserved g c =
     let body = c.bytes.result.now in
     let held = c.args.bodies.now in
     let d = c.loop-body.invariant.0 in
-    let e = c.append.ensures in
-    (
+    let e = c.append.ensures in (
       more_added D.state c.append.new.self held place body c.body-item.result (omega arith) (c.bytes.ensures.is ∙ c.body-item.is)
-      (draft_on D.state c.loop-body.journal c.append.new.self (take place held) body d c.in_ok-append.ensures.grows c.in_ok-append.ensures.drafts e.goes.on_disk.tells),
+          (draft_on D.state c.loop-body.journal c.append.new.self (take place held) body d c.in_ok-append.ensures.grows c.in_ok-append.ensures.drafts e.goes.on_disk.tells),
       unborn_on D.state (D.state c.args.journal.now.desk) c.loop-body.journal c.append.new.self (take place held) d c.loop-body.invariant.1 e.goes e.unborn,
     )
