@@ -46,6 +46,7 @@ pub draft_on : {K : Type 0} (state : K → DeskState) (old new : Held K) (added 
 draft_on {K} state old new added body d grows adds tells = record {
   title = ap (λ (j : Held K). j.title) grows.same ∙ d.title;
   size = ap (λ (j : Held K). j.size) grows.same ∙ (ap (λ (n : ℕ). n + 5 + length body) d.size ∙ sym (size_on added body));
+  limit = omega (arith, ap (λ (j : Held K). j.size) grows.same, grows.fits);
   sound = ap (λ (j : Held K). j.halted) grows.same ∙ d.sound;
   in_file = ap (λ (j : Held K). j.volatile) grows.same ∙ d.in_file;
   drafted = λ told. let was : IsTrue (state old.desk).tells = subst IsTrue tells told in
@@ -119,6 +120,7 @@ not_added state start old new held place body item (append.Full size need) withi
   splits = split_at held place body item within is;
   size_is = full.has ∙ d.size;
   need_is = full.needs;
+  fits = omega (arith, full.has, d.limit);
   over = omega (arith, full.has, full.needs, full.over);
 }
 not_added state start old new held place body item append.Halted within is d later halted = let no : false ≡ true = sym d.sound ∙ halted.0 in absurd (cc)

@@ -62,7 +62,7 @@ pub record OthersStay (old new : List ℕ) (entry now : DeskState) : Type 0 wher
   pub old_file : file_of now old ≡ file_of entry old
   pub others : (other : List ℕ) → other ≢ old → other ≢ new → now.content.files other ≡ entry.content.files other
 
--- an image that a crash leaves: the old book's file as it was; or the new one's: as a crash at entry might leave it, empty where it was missing, or as that says
+-- the old book's file as it was; or the new one's, as a crash at entry might leave it, empty where it was missing, or an image that holds so
 abbrev pub IsOneOf : (old new : List ℕ) → DeskState → (List ℕ → Type 0) → List ℕ → Type 0
 IsOneOf old new entry holds image = (image ≡ file_of entry old) ⊎ (entry.left new image ⊎ ((image ≡ []) ⊎ holds image))
 
@@ -72,7 +72,8 @@ LeavesOneOf old new entry now holds message =
     (moment : ℕ) → IsStart old entry now moment → (image text : List ℕ) → now.crashes moment image text
     → IsOneOf old new entry holds image × ShowsPrefix entry.shown message (Some text)
 
--- and nor did that; a crash since its first sync leaves it as it was, and a prefix of the message shown
+-- no file changed; a crash since the first sync of the new book's file leaves that as it was, and a prefix of the message shown; the marks are those of the
+-- reading of the old book
 pub record StaysUnbegun (old new : List ℕ) (entry now : DeskState) (message : List ℕ) : Type 0 where
   pub stay : OthersStay old new entry now
   pub file : file_of now new ≡ file_of entry new
@@ -81,8 +82,8 @@ pub record StaysUnbegun (old new : List ℕ) (entry now : DeskState) (message : 
       → (image ≡ file_of entry new) × ShowsPrefix entry.shown message (Some text)
   pub meanwhile : LeavesOneOf old new entry now (λ image. ⊥) message
 
--- and of that so much is there now, and after each later crash; a crash since its first sync leaves it unborn and nothing said, or so much of it and a
--- prefix of the message shown
+-- so much of the new book is there, now and after each later crash; a crash since the first sync of its file leaves that unborn and nothing said, or so much
+-- of the book and a prefix of the message shown; no other file changed; the marks are those of the reading of the old book
 pub record Lasts (old new : List ℕ) (held : List (List ℕ)) (left : Left) (entry now : DeskState) (message : List ℕ) : Type 0 where
   pub stay : OthersStay old new entry now
   pub file : Finds left held (new_at now new)

@@ -1,5 +1,5 @@
 -- How a book of several flows is made whole: it is drafted, its bodies are added, and it is published.
-use Rattle.std.specs.Prelude.{◌≡◌, ◌≢◌, ◌⊎◌, ◌<◌, ◌+◌, ℕ, false, IsTrue, List, [], ◌∷◌, ◌++◌, length, Option, Some, Result, Ok, Err}
+use Rattle.std.specs.Prelude.{◌≡◌, ◌≢◌, ◌⊎◌, ◌<◌, ◌≤◌, ◌+◌, ℕ, false, IsTrue, List, [], ◌∷◌, ◌++◌, length, Option, Some, Result, Ok, Err}
 use Rattle.tf_numbers.specs.Numbers.{Rises}
 use Rattle.tf_desk.specs.Crash.{Mark, at_pick, Pairs}
 use Rattle.tf_desk.specs.State.{DeskState, OnDisk, MayLeave, LeftNow, Passes, Picks, LeavesMade, anything}
@@ -36,15 +36,16 @@ IsLeftSo left held state = (image : List ℕ) → MayLeave state image → Finds
 
 -- ---- bodies are added
 
--- a draft with these bodies, which no append found a disk fault in, kept in a file
+-- a draft with these bodies, kept in a file; no append found a disk fault
 pub record IsDraftOf {K : Type 0} (state : K → DeskState) (added : List (List ℕ)) (journal : Held K) : Type 0 where
   pub title : journal.title ≡ new_title
   pub size : journal.size ≡ length (journal_bytes new_title added)
+  pub limit : journal.size ≤ SIZE_LIMIT
   pub sound : journal.halted ≡ false
   pub in_file : journal.volatile ≡ false
   pub drafted : IsTrue (state journal.desk).tells → IsDrafted state journal added
 
--- one of the bodies doesn't fit: the journal of those before it has that size, and needs so much more, which passes the greatest size
+-- one of the bodies is the first that doesn't fit: the journal of those before it has that size, and so much more is needed, which passes the greatest size
 pub record IsFullFor (held : List (List ℕ)) (size need : ℕ) : Type 0 where
   pub before : List (List ℕ)
   pub body : List ℕ
@@ -52,6 +53,7 @@ pub record IsFullFor (held : List (List ℕ)) (size need : ℕ) : Type 0 where
   pub splits : held ≡ before ++ body ∷ after
   pub size_is : size ≡ length (journal_bytes new_title before)
   pub need_is : need ≡ 5 + length body
+  pub fits : size ≤ SIZE_LIMIT
   pub over : SIZE_LIMIT < size + need
 
 -- why a body wasn't added: a disk fault, where the count of them rose, or it doesn't fit
@@ -114,14 +116,14 @@ abbrev pub LeavesByMaking : List ℕ → List (List ℕ) → Left → DeskState 
 LeavesByMaking name held left entry image text =
     (IsLeftByPick name entry image ⊎ ((new_in image ≡ unborn) ⊎ Finds left held (new_in image))) × (entry.shown ≡ Some text)
 
--- the file of that name was picked in this call behind these marks, and at that moment a sync was the first that answered Ok since
+-- a sync answered Ok at that moment, the first since the file of that name was picked; these marks are those of the call from before the pick
 pub record IsFirstSync (name : List ℕ) (before : List Mark) (entry now : DeskState) (moment : ℕ) : Type 0 where
   pub picked : ℕ
   pub more : List Mark
   pub added : now.content.marks ≡ entry.content.marks ++ (before ++ at_pick name picked ∷ more)
   pub first : first_sync more ≡ Some moment
 
--- the file was unborn, and a book with these bodies is there as that says; since the call's start a crash leaves the file unborn, or so
+-- the file was unborn, and so much is there of a book with these bodies; since the call's start a crash leaves the file unborn, or with so much
 pub record IsMade (name : List ℕ) (held : List (List ℕ)) (left : Left) (entry now : DeskState) : Type 0 where
   pub on_disk : OnDisk anything entry now
   pub was_unborn : IsTrue entry.tells → new_at entry name ≡ unborn

@@ -1,4 +1,3 @@
-use Rattle.std.proofs.Common.{◌≡◌, List, ℕ}
 use Rattle.tf_desk.specs.State.{bytes_now}
 use Rattle.std.specs.Prelude.{IsTrue}
 use Rattle.tf_desk.proofs.StateLemmas.{on_disk_told}

@@ -1,4 +1,4 @@
-use Rattle.std.proofs.Common.{◌≡◌, ◌∙◌, get_or, take, arith}
+use Rattle.std.proofs.Common.{◌∙◌, take, arith}
 use Rattle.std.proofs.lemmas.Result.{err_from_is_err_and}
 use Rattle.tf_migration.proofs.DraftLemmas.{draft_on, unborn_on, more_added, not_added}
 use Rattle.tf_migration.proofs.writing.add_all.Goals as goal

@@ -1,4 +1,4 @@
-use Rattle.std.proofs.Common.{◌≡◌, take}
+use Rattle.std.proofs.Common.{take}
 use Rattle.tf_desk.specs.State.{GoesOn}
 use Rattle.tf_journal.specs.Format.{LeavesUnborn}
 use Rattle.tf_journal.specs.declared.title.Title.TheVariants.{Book2 as new_title}

@@ -1,7 +1,7 @@
-use Rattle.std.proofs.Common.{◌≡◌, ◌≢◌, ◌∙◌, inl, inr, refl, sym, ap, subst}
+use Rattle.std.proofs.Common.{◌≡◌, ◌∙◌, sym, ap, subst}
 use Rattle.std.specs.Prelude.{IsTrue}
 use Rattle.tf_desk.specs.State.{bytes_now}
-use Rattle.tf_desk.proofs.StateLemmas.{bytes_stay, rests_on}
+use Rattle.tf_desk.proofs.StateLemmas.{bytes_stay}
 use Rattle.tf_journal.specs.Answers.{RefusesFile}
 use Rattle.tf_journal.specs.Format.{is_unborn, unborn}
 use Rattle.tf_journal.specs.declared.faults.JournalFault.{JournalFault}
