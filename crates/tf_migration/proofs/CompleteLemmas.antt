@@ -6,7 +6,7 @@ use Rattle.tf_flow.specs.Plan.{PlanValue}
 use Rattle.tf_states.specs.declared.record.Entry.{Entry}
 use Rattle.tf_journal.specs.Format.{unborn}
 use Rattle.tf_report.specs.Closing.{ClosesWithOrStops}
-use Rattle.tf_report.specs.declared.statuses.TheConstants.{SUCCEEDED, DISK_FAILED, OUT_OF_MEMORY, FULL, UNSAID}
+use Rattle.tf_report.specs.declared.statuses.TheConstants.{DISK_FAILED, UNSAID}
 use Rattle.tf_report.proofs.ClosingLemmas.{ends_status}
 use Rattle.tf_migration.specs.Flows.{old_at, new_at}
 use Rattle.tf_migration.specs.Migrates.{Migrates, unread, unbegun, begun, IsUnreadFor, unread_no_memory, unread_failed, no_book, no_flow, IsUnbegunFor, unbegun_no_memory, unbegun_failed, exists, IsBegunFor, migrated, filled, write_failed, IsBookOfFlow, IsComplete}

@@ -1,14 +1,14 @@
 -- How bodies are added to a draft.
-use Rattle.std.proofs.Common.{◌≡◌, ◌⊎◌, ◌≤◌, ◌<◌, ◌+◌, ◌∷◌, ◌++◌, [], ℕ, List, length, take, drop, get_or, Option, Result, Ok, Err, true, false, refl, sym, ap, ◌∙◌, subst, inl, inr, ⊎_elim, arith, length-append, append_assoc}
+use Rattle.std.proofs.Common.{◌≡◌, ◌≤◌, ◌<◌, ◌+◌, ◌∷◌, ◌++◌, [], ℕ, List, length, take, drop, get_or, Option, Err, true, false, refl, sym, ap, ◌∙◌, subst, inl, ⊎_elim, arith, length-append, append_assoc}
 use Rattle.std.proofs.lemmas.List.{take_more, take-append-drop}
-use Rattle.std.specs.Prelude.{IsTrue, OnOk, IfErr}
+use Rattle.std.specs.Prelude.{IsTrue}
 use Rattle.std.specs.List.{flat_map}
 use Rattle.tf_desk.specs.Crash.{Pairs}
-use Rattle.tf_desk.specs.State.{DeskState, bytes_now, GoesOn, Passes, anything}
+use Rattle.tf_desk.specs.State.{DeskState, GoesOn, Passes, anything}
 use Rattle.tf_desk.proofs.CountLemmas.{rises_later}
-use Rattle.tf_desk.proofs.StateLemmas.{on_disk_told, goes_on, goes_within}
-use Rattle.tf_journal.specs.Adding.{Grows, AddsToDraft, StaysDraft, Publishes, PublishesAtMost, FailsToAppend, FailsToPublish}
-use Rattle.tf_journal.specs.Format.{OPEN, title_of, record_of, prefix_of, journal_bytes, Recovered, unborn, bodies, recovered, Held, IsOpen, IsDraft, AsDraft, LeavesUnborn, StaysUnborn}
+use Rattle.tf_desk.proofs.StateLemmas.{on_disk_told, goes_on}
+use Rattle.tf_journal.specs.Adding.{Grows, AddsToDraft, StaysDraft, FailsToAppend}
+use Rattle.tf_journal.specs.Format.{OPEN, title_of, record_of, prefix_of, journal_bytes, recovered, Held, IsOpen, IsDraft, AsDraft, LeavesUnborn, StaysUnborn}
 use Rattle.tf_journal.specs.declared.faults.AppendFault.{AppendFault}
 use Rattle.tf_journal.specs.declared.faults.AppendFault.TheVariants as append
 use Rattle.tf_journal.specs.declared.title.Title.{Title}

@@ -1,24 +1,22 @@
 -- How a migration ends: what becomes of the files, from what was read and what was written.
-use Rattle.std.proofs.Common.{◌≡◌, ◌≢◌, ◌⊎◌, ◌==◌, ◌||◌, ◌&&◌, ℕ, Bool, true, false, eqb-true, List, [], ◌∷◌, ◌++◌, length, Option, Some, None, refl, sym, ap, ◌∙◌, subst, inl, inr, ⊎_elim, append_assoc, append-nil, arith}
+use Rattle.std.proofs.Common.{◌≡◌, ◌≢◌, ◌⊎◌, ◌==◌, ◌||◌, ◌&&◌, ℕ, Bool, true, false, eqb-true, List, [], ◌∷◌, ◌++◌, length, Option, Some, refl, sym, ap, ◌∙◌, subst, inl, inr, ⊎_elim, append_assoc, append-nil, arith}
 use Rattle.std.proofs.lemmas.Bool.{eqb-false}
 use Rattle.std.specs.Prelude.{IsTrue, unwrap_or, nat_eq, nat_le, if◌then◌else◌}
-use Rattle.tf_states.specs.declared.record.Entry.{Entry}
-use Rattle.tf_flow.specs.Plan.{PlanValue}
 use Rattle.tf_desk.specs.Crash.{Mark, at_pick, ShowsPrefix}
 use Rattle.tf_desk.specs.State.{DeskState, MayLeave, anything, OnDisk, Passes, Says, passes_none, passes_on, passes_within, passes_since}
 use Rattle.tf_desk.proofs.StateLemmas.{on_disk_told, on_disk_none, on_disk_on, left_stays}
 use Rattle.tf_journal.specs.Format.{OPEN, title_of, Recovered, unborn, bodies, not_a_book, records_from, title_fault, titled, has_title, is_unborn}
 use Rattle.tf_journal.specs.declared.title.Title.TheVariants.{Book as old_title, Book2 as new_title}
 use Rattle.tf_journal.proofs.UnbornLemmas.{unborn_found}
-use Rattle.tf_journal.specs.Start.{file_of, first_sync, IsStart, Path, IsSame, IsAsBefore, Untouched}
+use Rattle.tf_journal.specs.Start.{file_of, IsStart, Path, IsSame, Untouched}
 use Rattle.tf_journal.proofs.OpenLemmas.{untouched_now}
 use Rattle.tf_journal.proofs.PathLemmas.{path_said, start_before}
 use Rattle.tf_report.specs.Closing.{disk_fault_text}
 use Rattle.tf_report.specs.declared.statuses.TheConstants.{DISK_FAILED, UNSAID, OUT_OF_MEMORY}
-use Rattle.tf_migration.specs.Flows.{old_bodies, new_bodies, old_in, old_at, new_in, new_at, HoldsFlow}
+use Rattle.tf_migration.specs.Flows.{old_bodies, old_in, old_at, new_in, new_at}
 use Rattle.tf_migration.specs.Migrates.{Migrates, unread, unbegun, begun, IsUnreadFor, IsUnbegunFor, unbegun_no_memory, unbegun_failed, exists, IsBegunFor, write_failed, StaysAlone, OthersStay, IsOneOf, LeavesOneOf, StaysUnbegun, Lasts, Concludes}
 use Rattle.tf_migration.specs.Reading.{IsUnread, IsRead}
-use Rattle.tf_migration.specs.Writing.{Left, not_yet, either, Finds, LeavesOnce, IsLeftByPick, IsFirstSync, IsMade, IsKept}
+use Rattle.tf_migration.specs.Writing.{Left, not_yet, either, Finds, IsLeftByPick, IsFirstSync, IsMade, IsKept}
 use Rattle.tf_migration.specs.declared.reading.OldFault.{OldFault}
 use Rattle.tf_migration.proofs.SayLemmas.{nothing_prefix, closes_since, file_stays}
 

@@ -1,5 +1,5 @@
 -- The bodies of a book of one flow with heads before them are those of a book of several, so that the laws of these hold of it too.
-use Rattle.std.proofs.Common.{◌≡◌, ◌<◌, ◌^◌, ◌∷◌, [], ◌++◌, ℕ, List, map, slice_get, Option, Some, inl, inr, refl, sym, ap, ◌∙◌, subst, arith}
+use Rattle.std.proofs.Common.{◌≡◌, ◌∷◌, [], ◌++◌, ℕ, List, map, slice_get, Option, Some, inl, inr, refl, sym, ap, ◌∙◌, subst, arith}
 use Rattle.std.proofs.lemmas.List.{map-append}
 use Rattle.tf_flow.specs.Plan.{PlanValue, WrittenPlan}
 use Rattle.tf_states.specs.declared.record.Entry.{Entry}

@@ -4,7 +4,7 @@ use Rattle.tf_flow.specs.Plan.{PlanValue}
 use Rattle.tf_states.specs.declared.record.Entry.{Entry}
 use Rattle.tf_entries.specs.Entries.{entry_bytes}
 use Rattle.tf_entries.specs.Plans.{plan_bytes}
-use Rattle.tf_journal.specs.Format.{OPEN, title_of, journal_bytes, unborn, not_a_book}
+use Rattle.tf_journal.specs.Format.{title_of, journal_bytes, unborn, bodies, not_a_book}
 use Rattle.tf_journal.specs.declared.title.Title.TheVariants.{Book as old_title, Book2 as new_title}
 use Rattle.tf_migration.specs.Flows.{new_bodies, old_in, new_in, HoldsNoFlow}
 
@@ -24,6 +24,12 @@ newer_refused = refl
 no_flow : HoldsNoFlow (old_in (journal_bytes old_title []))
 no_flow = inr refl
 
--- what a draft leaves before it is published is unborn, whatever bodies stand in it
-draft_unborn : (bodies : List ℕ) → new_in (0 ∷ (title_of new_title ++ bodies)) ≡ unborn
-draft_unborn bodies = refl
+-- a title with a body behind it, whose gate isn't open yet: it is unborn; and all of it is there once the gate is open
+abbrev one_body : List ℕ
+one_body = title_of new_title ++ 165 ∷ 0 ∷ 0 ∷ 0 ∷ 1 ∷ 7 ∷ 0 ∷ []
+
+draft_unborn : new_in (0 ∷ one_body) ≡ unborn
+draft_unborn = refl
+
+published_whole : new_in (165 ∷ one_body) ≡ bodies ((7 ∷ []) ∷ [])
+published_whole = refl

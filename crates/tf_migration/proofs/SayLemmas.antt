@@ -1,13 +1,13 @@
 -- How a migration says what it says last, and when its status comes.
-use Rattle.std.proofs.Common.{◌≡◌, ◌≢◌, ◌⊎◌, ℕ, List, [], ◌++◌, Option, Some, None, refl, sym, ap, ◌∙◌, subst, inl, inr, ⊎_elim, append-nil, arith}
-use Rattle.std.specs.Prelude.{IsTrue, unwrap_or, option_map}
+use Rattle.std.proofs.Common.{◌≡◌, ℕ, List, [], Option, Some, None, refl, sym, ap, ◌∙◌, subst, inl, inr, ⊎_elim, append-nil, arith}
+use Rattle.std.specs.Prelude.{unwrap_or}
 use Rattle.tf_numbers.specs.Numbers.{Rises}
 use Rattle.tf_desk.specs.Crash.{shown_with, ShowsPrefix}
 use Rattle.tf_desk.specs.State.{DeskState, anything, OnDisk, Extends, Says, passes_none}
 use Rattle.tf_desk.proofs.StateLemmas.{files_none, extends_on, extends_within, on_disk_extends, says_extends}
 use Rattle.tf_journal.specs.Start.{file_of}
 use Rattle.tf_report.specs.Closing.{ClosesWith, ClosesWithOrStops}
-use Rattle.tf_report.specs.declared.statuses.TheConstants.{SUCCEEDED, DISK_FAILED, UNSAID, OUT_OF_MEMORY, FULL}
+use Rattle.tf_report.specs.declared.statuses.TheConstants.{DISK_FAILED, UNSAID, OUT_OF_MEMORY}
 use Rattle.tf_report.proofs.ClosingLemmas.{closes_from, ends_status}
 use Rattle.tf_migration.specs.Migrates.{HasCauses, Concludes}
 
