@@ -91,8 +91,8 @@ abbrev pub IsOldOf : Asked → DeskState → Type 0
 IsOldOf command entry = (name : List ℕ) × (book_asked_for command ≡ Some name) × IsOldFile name entry
 
 -- the book of a command
-older : {command : Asked} {entry : DeskState} {status : ℕ} (name : List ℕ) → book_asked_for command ≡ Some name → Ended (IsOldFile name entry) status → Ended (IsOldOf command entry) status
-older name about ended = ended_wider (λ old. (name, about, old)) ended
+older : (command : Asked) (entry : DeskState) {status : ℕ} (name : List ℕ) → book_asked_for command ≡ Some name → Ended (IsOldFile name entry) status → Ended (IsOldOf command entry) status
+older command entry name about ended = ended_wider (λ old. (name, about, old)) ended
 
 module _ {K : Type 0} (state : K → DeskState) where
   asked_status : (gives : Want → Order → Outcome → Type 0) (asked_so : Type 0) (command : Asked) (files : Contents) (ports later : PortsTold) (entry now : K) (status : ℕ)
@@ -107,19 +107,19 @@ module _ {K : Type 0} (state : K → DeskState) where
       by_log (source_so file sets defer None) log refl refl (audit_status files (source_so file sets defer None) log (state entry).shown (state now).shown status _ obeys.0)
   asked_status gives asked_so (asked.Run file book sets defer hands stop target) files ports later entry now status obeys =
       by_file (source_so file sets defer target) refl (file_status files (source_so file sets defer target) _ _ (state entry).shown (state now).shown status
-      (λ plan did. older book refl (runs_ended book ports.crew later.crew (state entry) (state now) plan status did)) obeys)
+      (λ plan did. older (asked.Run file book sets defer hands stop target) (state entry) book refl (runs_ended book ports.crew later.crew (state entry) (state now) plan status did)) obeys)
   asked_status gives asked_so (asked.Resume book name hands stop) files ports later entry now status obeys =
-      by_book (older book refl (resumes_ended book name ports.crew later.crew (state entry) (state now) status obeys))
+      by_book (older (asked.Resume book name hands stop) (state entry) book refl (resumes_ended book name ports.crew later.crew (state entry) (state now) status obeys))
   asked_status gives asked_so (asked.Show book name) files ports later entry now status obeys =
-      by_book (older book refl (shows_ended book name (state entry) (state now) status obeys.0))
+      by_book (older (asked.Show book name) (state entry) book refl (shows_ended book name (state entry) (state now) status obeys.0))
   asked_status gives asked_so (asked.Reset book name) files ports later entry now status obeys =
-      by_book (older book refl (resets_ended book name (state entry) (state now) status obeys.0))
+      by_book (older (asked.Reset book name) (state entry) book refl (resets_ended book name (state entry) (state now) status obeys.0))
   asked_status gives asked_so (asked.Details book) files ports later entry now status obeys =
-      by_book (older book refl (lists_ended book (state entry) (state now) status obeys.0))
+      by_book (older (asked.Details book) (state entry) book refl (lists_ended book (state entry) (state now) status obeys.0))
   asked_status gives asked_so (asked.Migrate old new) files ports later entry now status obeys =
       by_book (ended_wider (λ never. absurd never) (migrates_ended old new (state entry) (state now) status obeys.0))
   asked_status gives asked_so (asked.Demo seed size book hands) files ports later entry now status obeys =
-      by_book (older book refl (demonstrates_ended book ports.crew later.crew entry now seed size status obeys))
+      by_book (older (asked.Demo seed size book hands) (state entry) book refl (demonstrates_ended book ports.crew later.crew entry now seed size status obeys))
   asked_status gives asked_so (asked.Worker address sessions) files ports later entry now status obeys =
       by_book (works_ended status (works_one (gives (want.Local 1)) ports.crew later.crew ports.door later.door (state entry).shown (state now).shown address sessions status obeys.0))
   asked_status gives asked_so (asked.Conduct board owner hands) files ports later entry now status obeys =
@@ -265,7 +265,7 @@ pub served_causes : (status : ℕ) {old now : DeskState} (sources crew door door
     → HasCausesOr (Unit {0} × Rises door door_now) status (counts_of old sources crew) (counts_of now sources crew)
 served_causes status sources crew door door_now causes one = record {
   none_falls = record { disk = causes.desk.extends.disk_faults; out = causes.desk.extends.out_faults; sources = omega arith; crew = omega arith };
-  unread = λ is. absurd (ended_apart status 3 (service_ended status one) is (inr (inl refl)));
+  unread = λ is. absurd (ended_apart {old = ⊥} status 3 (service_ended status one) is (inr (inl refl)));
   failed = causes.desk.failed;
   unsaid = causes.desk.unsaid;
   unhired = λ is. inr (tt, causes.unlistened is);

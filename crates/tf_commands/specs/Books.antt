@@ -1,4 +1,4 @@
--- What is promised of a run, of a flow that is put back, and of a book that is kept. Histories have the newest entry first, and elements the newest first. What becomes of the commands on a book.
+-- What is promised of a run, of a flow that is put back, and of a book that is kept; what becomes of the commands on a book. Histories and elements have the newest first.
 use Rattle.std.specs.Prelude.{◌≡◌, ◌≢◌, ◌⊎◌, ℕ, ◌≤◌, ◌+◌, Bool, IsTrue, List, [], ◌++◌, length, Option, Some, ◌<◌, ◌∷◌, not, is_none, None, true, false, if◌then◌else◌, slice_index_or}
 use Rattle.tf_numbers.specs.Numbers.{Rises}
 use Rattle.tf_desk.specs.Crash.{shown_with, ShowsPrefix}
