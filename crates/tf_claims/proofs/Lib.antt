@@ -1,4 +1,6 @@
 pub mod OnceLemmas
+pub mod EntryLemmas
+pub mod GrowthLemmas
 pub mod BookLemmas
 pub mod TitleLemmas
 pub mod NameLemmas

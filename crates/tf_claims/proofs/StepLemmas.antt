@@ -1,8 +1,8 @@
--- What one call leaves of a file that holds a history: that history, with what was recorded behind it; and of a board, its commands with those
--- that were added.
+-- What one call leaves of a file that is a book: what it held, with what was recorded behind it; and of a board, its commands with those that
+-- were added.
 use Rattle.std.proofs.Common.{◌≡◌, ◌≢◌, ◌⊎◌, ℕ, List, [], ◌∷◌, ◌++◌, Option, Some, sym, ap, ◌∙◌, subst, inl, inr, ⊎_elim, append-nil, append_assoc}
 use Rattle.std.proofs.lemmas.List.{append_cancel_left}
-use Rattle.std.specs.Prelude.{unwrap_or}
+use Rattle.std.specs.Prelude.{Bool, unwrap_or}
 use Rattle.std.specs.Option.{option_and_then}
 use Rattle.tf_desk.specs.Crash.{Mark}
 use Rattle.tf_desk.specs.State.{DeskState}
@@ -17,33 +17,30 @@ use Rattle.tf_board.specs.Board.{bodies_of as commands_bodies, board_in, Holds, 
 use Rattle.tf_board.specs.Does.{HoldsEither}
 use Rattle.tf_board.specs.declared.commands.Command.{Command}
 use Rattle.tf_journal.specs.Format.{bodies, Recovered}
-use Rattle.tf_book.specs.Book.{bodies_of}
+use Rattle.tf_details.specs.Elements.{Element, bodies_of}
+use Rattle.tf_details.specs.Contents.{Contents}
 use Rattle.tf_commands.specs.Asking.{want_of, WasAsked}
 use Rattle.tf_words.specs.Words.{command_of}
 use Rattle.tf_commands.specs.Course as course
 use Rattle.tf_commands.specs.Course.{Course, Obeys, FileRead, IsUntouched}
-use Rattle.tf_commands.specs.Books.{NoFileChanges, book_in, book_at, HoldsNoFlow, HoldsHistory}
-use Rattle.tf_commands.proofs.FlowLemmas.{flow_held}
+use Rattle.tf_commands.specs.Books.{NoFileChanges, book_in, book_at, HoldsElements, IsBookOf, Lasts}
 use Rattle.tf_claims.specs.Life.{file_of_command, IsAbout, Call, Leaves, returned, crashed, elsewhere, IsHired, AreRecorded}
 use Rattle.tf_claims.proofs.NameLemmas.{name_same}
 use Rattle.tf_model.specs.Plan.{Outline, outline_of}
-use Rattle.tf_claims.proofs.GivenLemmas.{pending_given, given_older}
-use Rattle.tf_claims.proofs.OnceLemmas.{once, grows_so}
+use Rattle.tf_claims.proofs.GivenLemmas.{GivesAll, pending_given, given_older}
+use Rattle.tf_claims.proofs.GrowthLemmas.{Grown, Behind, behind_held, behind_begun, held_elements, book_elements, grown_by, grown_since}
 use Rattle.tf_claims.proofs.WayLemmas.{Way, alone, recorded, began, unmade, jobs, served_jobs, way_others, Goes, untouched, about, itself, obeys_goes}
 use Rattle.tf_board.proofs.StayLemmas.{some_body}
-use Rattle.tf_claims.proofs.TitleLemmas.{no_board_too, no_book_too}
-
--- the file holds the plan with the history, and perhaps more behind it, which such hands recorded
-abbrev pub Grown : (Want → Order → Outcome → Type 0) → (ℕ → Want → Type 0) → PlanValue → List Entry → List ℕ → Type 0
-Grown gives able plan past file = (entries : List Entry) × HoldsHistory plan (entries ++ past) (book_in file) × AreRecorded gives able (outline_of plan) past entries
+use Rattle.tf_claims.proofs.TitleLemmas.{no_board_too, no_book_too, neither_bodies, neither_unborn}
 
 -- the board has the commands, and perhaps more behind them
 abbrev pub GrownBoard : List Command → List ℕ → Type 0
 GrownBoard past file = (added : List Command) × Holds (added ++ past) (board_in file)
 
 -- the same file
-stays : (gives : Want → Order → Outcome → Type 0) (able : ℕ → Want → Type 0) {plan : PlanValue} {past : List Entry} (before now : List ℕ) → HoldsHistory plan past (book_in before) → now ≡ before → Grown gives able plan past now
-stays gives able {plan} {past} before now holds same = ([], subst (λ (f : List ℕ). HoldsHistory plan past (book_in f)) (sym same) holds, tt)
+stays : (gives : Want → Order → Outcome → Type 0) (able : ℕ → Want → Type 0) {elements : List Element} (before now : List ℕ) → HoldsElements elements (book_in before) → now ≡ before
+    → Grown gives able elements (book_in now)
+stays gives able {elements} before now holds same = ([], subst (λ (f : List ℕ). HoldsElements elements (book_in f)) (sym same) holds, λ number plan is. tt)
 
 -- a call that picks and syncs nothing has no start
 no_start : {name : List ℕ} {entry now : DeskState} {moment : ℕ} → now.content.marks ≡ entry.content.marks → IsStart name entry now moment → ⊥
@@ -62,51 +59,47 @@ pub record Effect (has : List ℕ → Type 0) (name : List ℕ) (entry now : Des
   pub file : has (file_of now name)
   pub crash : (moment : ℕ) → IsStart name entry now moment → (image text : List ℕ) → now.crashes moment image text → has image
 
--- a file that holds a flow is no board
-pub no_jobs : {plan : PlanValue} {past : List Entry} (file : List ℕ) (before : List Command) → HoldsHistory plan past (book_in file) → Finds before (board_in file) → ⊥
-no_jobs {plan} {past} file before holds (inl held) = let none = no_board_too file (bodies_of plan past) holds.is in let clash = sym none.2 ∙ held in cc
-no_jobs {plan} {past} file before holds (inr empty) = let none = no_board_too file (bodies_of plan past) holds.is in let clash = sym none.2 ∙ empty.1 in cc
+-- a file that is a book is no board
+pub no_jobs : {elements : List Element} (file : List ℕ) (before : List Command) → HoldsElements elements (book_in file) → Finds before (board_in file) → ⊥
+no_jobs {elements} file before holds (inl held) = neither_bodies (no_board_too file (bodies_of elements) holds.is) held
+no_jobs {elements} file before holds (inr empty) = neither_unborn (no_board_too file (bodies_of elements) holds.is) empty.1
 
-not_made : (gives : Want → Order → Outcome → Type 0) (able : ℕ → Want → Type 0) {plan : PlanValue} {past : List Entry} (before now : List ℕ) → HoldsHistory plan past (book_in before) → IsAsBeforeOrMade before now → Grown gives able plan past now
+not_made : (gives : Want → Order → Outcome → Type 0) (able : ℕ → Want → Type 0) {elements : List Element} (before now : List ℕ) → HoldsElements elements (book_in before) → IsAsBeforeOrMade before now
+    → Grown gives able elements (book_in now)
 not_made gives able before now holds (inl same) = stays gives able before now holds same
-not_made gives able {plan} {past} before now holds (inr made) = let none = no_board_too before (bodies_of plan past) holds.is in let clash = sym none.2 ∙ made.0 in absurd (cc)
+not_made gives able {elements} before now holds (inr made) = absurd (neither_unborn (no_board_too before (bodies_of elements) holds.is) made.0)
 
--- entries behind the history that a call found are given behind the one that the file held
-given_once : (gives : Want → Order → Outcome → Type 0) (able : ℕ → Want → Type 0) (entries : List Entry) {p q : PlanValue} {h k : List Entry} {found : Recovered} → HoldsHistory p h found → HoldsHistory q k found
-    → AreRecorded gives able (outline_of q) k entries → AreRecorded gives able (outline_of p) h entries
-given_once gives able entries {p} {q} {h} {k} first second given =
-    let one = once first second in
-    subst (λ (l : List Entry). AreRecorded gives able (outline_of p) l entries) one.2 (subst (λ (o : Outline). AreRecorded gives able o k entries) one.1 given)
+-- entries of a detail were recorded behind what the file held
+record_effect : {gives : Want → Order → Outcome → Type 0} {able : ℕ → Want → Type 0} {elements below : List Element} {name : List ℕ} {entry now : DeskState} (may : List Entry → Entry → Type 0)
+    (contents : Contents) (plan : PlanValue) (quiet : Bool) (before entries : List Entry) (closing : List ℕ) → HoldsElements elements (book_at entry name) → HoldsElements below (book_at entry name)
+    → Behind below contents plan before → GivesAll gives able may plan before entries → Lasts may name contents plan quiet before entries entry now closing
+    → Effect (λ file. Grown gives able elements (book_in file)) name entry now
+record_effect {gives} {able} may contents plan quiet before entries closing holds held behind given l =
+    let whole = pending_given gives able may plan before entries l.pending given l.few.few in
+    record {
+      file = ⊎_elim (λ finds. grown_since gives able holds held behind entries finds given.recorded) (λ on. grown_by gives able holds held behind (l.pending ++ entries) on whole) l.file;
+      crash = λ moment start image text is.
+          (let m = l.crash moment start image text is in
+          grown_since gives able holds held behind m.kept m.finds
+          (given_older gives able (outline_of plan) before m.lost m.kept (subst (AreRecorded gives able (outline_of plan) before) m.oldest whole)));
+    }
 
-way_effect : {gives : Want → Order → Outcome → Type 0} {able : ℕ → Want → Type 0} {plan : PlanValue} {past : List Entry} {name : List ℕ} {entry now : DeskState} → HoldsHistory plan past (book_at entry name)
-    → Way gives able name entry now → Effect (Grown gives able plan past) name entry now
-way_effect {gives} {able} {plan} {past} {name} {entry} {now} holds (alone closing a) = record {
+way_effect : {gives : Want → Order → Outcome → Type 0} {able : ℕ → Want → Type 0} {elements : List Element} {name : List ℕ} {entry now : DeskState} → HoldsElements elements (book_at entry name)
+    → Way gives able name entry now → Effect (λ file. Grown gives able elements (book_in file)) name entry now
+way_effect {gives} {able} {name = name} {entry} {now} holds (alone closing a) = record {
   file = stays gives able (file_of entry name) (file_of now name) holds a.file;
   crash = λ moment start image text is. stays gives able (file_of entry name) image holds (a.crash moment start image text is).0;
 }
-way_effect {gives} {able} {plan} {past} {name} {entry} {now} holds (recorded may other quiet before entries closing found given l) =
-    let whole = pending_given gives able may other before entries l.pending given l.few.few in
-    record {
-      file = ⊎_elim
-          (λ finds. ⊎_elim (λ on. (entries, grows_so entries holds found on, given_once gives able entries holds found given.recorded)) (λ none. absurd (flow_held (book_at entry name) plan past none.1 holds)) finds)
-          (λ on. (
-            l.pending ++ entries,
-            grows_so (l.pending ++ entries) holds found (subst (λ (p : List Entry). HoldsHistory other p (book_at now name)) (sym (append_assoc l.pending entries before)) on),
-            given_once gives able (l.pending ++ entries) holds found whole,
-          ))
-          l.file;
-      crash = λ moment start image text is.
-          (let m = l.crash moment start image text is in
-          let kept = given_older gives able (outline_of other) before m.lost m.kept (subst (AreRecorded gives able (outline_of other) before) m.oldest whole) in
-          ⊎_elim (λ on. (m.kept, grows_so m.kept holds found on, given_once gives able m.kept holds found kept)) (λ none. absurd (flow_held (book_at entry name) plan past none.1 holds)) m.finds);
-    }
-way_effect {gives} {able} {plan} {past} {name} {entry} {now} holds (began may other quiet entries closing none given l) = absurd (flow_held (book_at entry name) plan past none holds)
-way_effect {gives} {able} {plan} {past} {name} {entry} {now} holds (unmade message s) = record {
+way_effect holds (recorded may contents plan quiet before entries closing found given l) =
+    record_effect may contents plan quiet before entries closing holds (held_elements found) (behind_held found) given l
+way_effect holds (began may below plan quiet entries closing found given l) =
+    let held = book_elements holds found in record_effect may _ plan quiet [] entries closing holds held (behind_begun below plan held) given l
+way_effect {gives} {able} {name = name} {entry} {now} holds (unmade message s) = record {
   file = not_made gives able (file_of entry name) (file_of now name) holds s.file;
   crash = λ moment start image text is. not_made gives able (file_of entry name) image holds (s.crash moment start image text is).0;
 }
-way_effect {gives} {able} {plan} {past} {name} {entry} {now} holds (jobs before added pending message finds may l) = absurd (no_jobs (file_of entry name) before holds finds)
-way_effect {gives} {able} {plan} {past} {name} {entry} {now} holds (served_jobs before finds file others crash) = absurd (no_jobs (file_of entry name) before holds finds)
+way_effect {name = name} {entry} holds (jobs before added pending message finds may l) = absurd (no_jobs (file_of entry name) before holds finds)
+way_effect {name = name} {entry} holds (served_jobs before finds file others crash) = absurd (no_jobs (file_of entry name) before holds finds)
 
 -- the bodies of a board's commands, and of more behind them, are those of every list of commands with the same bodies
 same_board : (past before : List Command) → commands_bodies past ≡ commands_bodies before → (added : List Command)
@@ -146,10 +139,10 @@ module _ (first : Command) (rest : List Command) where
   not_made_board before now holds (inl same) = stays_board before now holds same
   not_made_board before now holds (inr made) = (let clash = sym holds ∙ made.0 in absurd (cc))
 
-  -- a board holds no flow, and isn't a file that a book may be made of
-  pub no_flow : (file : List ℕ) → Holds past (board_in file) → HoldsNoFlow (book_in file) → ⊥
-  no_flow file holds (inl empty) = (let none = no_book_too file (commands_bodies past) holds in let clash = sym none.2 ∙ empty in cc)
-  no_flow file holds (inr empty) = (let none = no_book_too file (commands_bodies past) holds in let clash = sym none.2 ∙ empty in cc)
+  -- a board is no book, and isn't a file that a book may be made of
+  no_book : {elements : List Element} (file : List ℕ) → Holds past (board_in file) → IsBookOf elements (book_in file) → ⊥
+  no_book file holds (inl book) = neither_bodies (no_book_too file (commands_bodies past) holds) book.is
+  no_book file holds (inr young) = neither_unborn (no_book_too file (commands_bodies past) holds) young.1
 
   -- what is left of a board
   board_effect : {gives : Want → Order → Outcome → Type 0} {able : ℕ → Want → Type 0} {name : List ℕ} {entry now : DeskState} → Holds past (board_in (file_of entry name)) → Way gives able name entry now → Effect (GrownBoard past) name entry now
@@ -157,8 +150,8 @@ module _ (first : Command) (rest : List Command) where
     file = stays_board (file_of entry name) (file_of now name) holds a.file;
     crash = λ moment start image text is. stays_board (file_of entry name) image holds (a.crash moment start image text is).0;
   }
-  board_effect {gives} {able} {name} {entry} {now} holds (recorded may other quiet before entries closing found given l) = absurd (no_jobs (file_of entry name) past found (inl holds))
-  board_effect {gives} {able} {name} {entry} {now} holds (began may other quiet entries closing none given l) = absurd (no_flow (file_of entry name) holds none)
+  board_effect {gives} {able} {name} {entry} {now} holds (recorded may contents plan quiet before entries closing found given l) = absurd (no_jobs (file_of entry name) past (held_elements found) (inl holds))
+  board_effect {gives} {able} {name} {entry} {now} holds (began may elements plan quiet entries closing found given l) = absurd (no_book (file_of entry name) holds found)
   board_effect {gives} {able} {name} {entry} {now} holds (unmade message s) = record {
     file = not_made_board (file_of entry name) (file_of now name) holds s.file;
     crash = λ moment start image text is. not_made_board (file_of entry name) image holds (s.crash moment start image text is).0;
@@ -248,11 +241,11 @@ module _ {K : Type 0} (state : K → DeskState) (gives : Want → Order → Outc
           (obeys_goes state gives (WasAsked (state call.entry) (state call.now)) command call.files call.ports call.later call.entry call.now call.status
           (λ want is hires n among. record { wanted = ap (option_and_then want_of) asks ∙ is; hires = hires; among = among }) call.tells obeys) had effect last leaves
 
--- what a call leaves of a file that holds a history is that history, with what was recorded behind it
-pub call_grows : {K : Type 0} (state : K → DeskState) (gives : Want → Order → Outcome → Type 0) {plan : PlanValue} {past : List Entry} (name : List ℕ) (call : Call state gives)
-    → HoldsHistory plan past (book_at (state call.entry) name) → (last : List ℕ) → Leaves state gives name call last → Grown gives (IsHired state gives call) plan past last
-call_grows state gives {plan} {past} name call holds last leaves =
-    call_keeps state gives (Grown gives (IsHired state gives call) plan past) name call ([], holds, tt) (λ way. way_effect holds way) last leaves
+-- what a call leaves of a file that is a book is what it held, with what was recorded behind it
+pub call_grows : {K : Type 0} (state : K → DeskState) (gives : Want → Order → Outcome → Type 0) {elements : List Element} (name : List ℕ) (call : Call state gives)
+    → HoldsElements elements (book_at (state call.entry) name) → (last : List ℕ) → Leaves state gives name call last → Grown gives (IsHired state gives call) elements (book_in last)
+call_grows state gives {elements} name call holds last leaves =
+    call_keeps state gives (λ file. Grown gives (IsHired state gives call) elements (book_in file)) name call ([], holds, λ number plan is. tt) (λ way. way_effect holds way) last leaves
 
 -- and of a board that has a command, its commands with those that were added
 pub call_adds : {K : Type 0} (state : K → DeskState) (gives : Want → Order → Outcome → Type 0) {first : Command} {rest : List Command} (name : List ℕ) (call : Call state gives)
