@@ -5,6 +5,7 @@ pub mod PlanLemmas
 pub mod ElementLemmas
 pub mod BookLemmas
 pub mod OnceLemmas
+pub mod GrowLemmas
 pub mod WholeLemmas
 pub mod MachineLemmas
 pub mod ReadingLemmas

@@ -57,11 +57,11 @@ mapped_from f (Some x) y is = (x, refl, (let same : f x ≡ y = cc in same))
 
 -- ---- books alike
 
-as_many : (a b : List Element) → AreAlike a b → length (details a) ≡ length (details b)
+pub as_many : (a b : List Element) → AreAlike a b → length (details a) ≡ length (details b)
 as_many a b alike = sym (length-map (details a) plan_written) ∙ (ap length alike.plans ∙ length-map (details b) plan_written)
 
 -- the plan of the same number is written alike
-plan_alike : (a b : List Element) (n : ℕ) (p : PlanValue) → AreAlike a b → plan_of b n ≡ Some p → (q : PlanValue) × (plan_of a n ≡ Some q) × (plan_written q ≡ plan_written p)
+pub plan_alike : (a b : List Element) (n : ℕ) (p : PlanValue) → AreAlike a b → plan_of b n ≡ Some p → (q : PlanValue) × (plan_of a n ≡ Some q) × (plan_written q ≡ plan_written p)
 plan_alike a b n p alike is =
     mapped_from plan_written (plan_of a n) (plan_written p)
     (sym (slice_get-map plan_written (details a) n) ∙ (ap (λ (l : List WrittenPlan). slice_get l n) alike.plans ∙ (slice_get-map plan_written (details b) n ∙ ap (option_map plan_written) is)))
@@ -83,7 +83,7 @@ named_written name plans =
     ap (λ (n : ℕ). found_within n (length plans)) (first_written name plans)
     ∙ ap (λ (len : ℕ). found_within (position_or_len (writes_name name) (map plan_written plans)) len) (sym (length-map plans plan_written))
 
-named_alike : (a b : List Element) (name : List ℕ) → AreAlike a b → number_among (details a) name ≡ number_among (details b) name
+pub named_alike : (a b : List Element) (name : List ℕ) → AreAlike a b → number_among (details a) name ≡ number_among (details b) name
 named_alike a b name alike =
     named_written name (details a) ∙ (ap (λ (l : List WrittenPlan). position (writes_name name) l) alike.plans ∙ sym (named_written name (details b)))
 

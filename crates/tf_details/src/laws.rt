@@ -33,6 +33,12 @@ pub fn books_are_read_once()
     ensures { (a b : List Element) → IsLegalBook a → IsLegalBook b → bodies_of a ≡ bodies_of b → AreAlike a b }
 {}
 
+/// What makes a legal book of one of two that have the same bodies makes one of the other, with the same bodies again.
+pub fn books_grow_alike()
+    ensures { (a b newer : List Element) → IsLegalBook a → IsLegalBook b → bodies_of a ≡ bodies_of b
+        → IsLegalBook (newer ++ b) → IsLegalBook (newer ++ a) × (bodies_of (newer ++ a) ≡ bodies_of (newer ++ b)) }
+{}
+
 /// The size of a book is that of a journal with its bodies.
 #[tactic(auto, using(crate::proofs::BookLemmas::size_is))]
 pub fn books_have_their_size()

@@ -10,7 +10,7 @@ mod reading;
 pub use details::Details;
 pub use gathering::{Gathering, Keeps, Nothing};
 pub use laws::{
-    books_are_legal_as_a_whole, books_are_never_refused, books_are_read_once,
+    books_are_legal_as_a_whole, books_are_never_refused, books_are_read_once, books_grow_alike,
     books_have_their_size, details_have_histories,
 };
 pub use marks::Mark;
