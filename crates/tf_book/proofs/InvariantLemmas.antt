@@ -37,7 +37,7 @@ any_entry : Entry
 any_entry = record { hand = 0; what = event.Restart 0 }
 
 -- a journal isn't both
-halted_apart : (halted : Bool) → halted ≡ true → halted ≡ false → ⊥
+pub halted_apart : (halted : Bool) → halted ≡ true → halted ≡ false → ⊥
 halted_apart halted is apart = cc
 
 -- what is said of an entry recorded next

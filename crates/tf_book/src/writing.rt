@@ -125,6 +125,7 @@ pub fn write<K: Desk>(
 ) -> Result<(), Halt>
     requires ready { IsReady K.state journal.old }
     requires sound { journal.old.halted ≡ false }
+    requires title { journal.old.title ≡ book_title }
     requires allowed { Step (outline machine.old) (shown machine.old) entry }
     requires room { HasWriteRoom journal.old.size history.old holding.old draft.old }
     ensures room { HasAllRoom history.new }

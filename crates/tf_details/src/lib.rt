@@ -14,3 +14,4 @@ pub use laws::{
     books_have_their_size, details_have_histories,
 };
 pub use marks::Mark;
+pub use reading::read_plan;

@@ -1,4 +1,4 @@
-ghost use Rattle.std.specs.Prelude.{◌≡◌, ◌⊎◌, [], List, length, true, false, IfOk, IfErr, IsTrue};
+ghost use Rattle.std.specs.Prelude.{◌≡◌, ◌≢◌, ◌⊎◌, [], List, length, true, false, IfOk, IfErr, IsTrue};
 ghost use Rattle.tf_desk.specs.State.{bytes_now, anything, Passes, GoesOn};
 ghost use Rattle.tf_details.specs.Elements.{Element};
 ghost use Rattle.tf_details.specs.Marks.{elements_shown};
@@ -64,6 +64,7 @@ fn append<K: Desk>(mut journal: Journal<K>, body: &[u8]) -> Result<Journal<K>, (
     ensures goes { GoesOn anything (K.state journal.desk) (K.state (desk_after result)) }
     ensures fails { IfErr result (λ back. (elements : List Element) → HoldsElements K.state journal elements
         → FailsToAdd K.state elements body.now back.1 journal.desk back.0) }
+    ensures no_memory { IfErr result (λ back. back.1 ≢ BookFault.Memory) }
     ensures volatile { journal.volatile ≡ true → desk_after result ≡ journal.desk }
 {
     match journal.append(body) {

@@ -2,7 +2,7 @@ use Rattle.std.proofs.Common.{sym, subst}
 use Rattle.tf_flow.specs.Plan.{PlanValue}
 use Rattle.tf_book.specs.Histories.{past_shown}
 use Rattle.tf_details.specs.Elements.{AreEntriesOf}
-use Rattle.tf_book.proofs.AmongLemmas.{past_entries}
+use Rattle.tf_details.proofs.AmongLemmas.{past_entries}
 use Rattle.tf_book.proofs.book.Book.history_text.Goals as goal
 
 pub append_lines-requires-clause-entries : goal.append_lines-requires-clause-entries

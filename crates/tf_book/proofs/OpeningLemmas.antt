@@ -1,0 +1,105 @@
+-- How a detail is opened: what was read again is what the shelf has, and the book of it is sound.
+use Rattle.std.proofs.Common.{◌≡◌, ◌≢◌, ◌<◌, ◌≤◌, ◌⊎◌, inl, inr, ℕ, ◌+◌, false, List, length, Some, None, refl, sym, ap, ◌∙◌, subst, arith}
+use Rattle.std.specs.Prelude.{IsTrue}
+use Rattle.tf_bound.specs.Short.{AreShort}
+use Rattle.tf_desk.specs.State.{DeskState}
+use Rattle.tf_states.specs.declared.record.Entry.{Entry}
+use Rattle.tf_journal.specs.Format.{SIZE_LIMIT, prefix_of, Held, IsAtRest, IsOpen}
+use Rattle.tf_journal.specs.Reading.{OnlyReads}
+use Rattle.tf_journal.specs.declared.faults.LoadFault.{LoadFault}
+use Rattle.tf_journal.specs.declared.faults.LoadFault.TheVariants as load_fault
+use Rattle.tf_journal.specs.declared.title.Title.{Title}
+use Rattle.tf_journal.specs.declared.title.Title.TheVariants.{Book2 as book_title}
+use Rattle.tf_machine.specs.Machine.{MachineValue, StandsFor}
+use Rattle.tf_records.specs.Replaying.{HasReadAll, FailsToReadBack}
+use Rattle.tf_details.specs.Elements.{Element, details, plan_of, history, bodies_of, book_size, AreForms, IsHistoryOf, IsLegalBook, CannotFollow}
+use Rattle.tf_details.specs.Reading.{elements_in, HasGathered}
+use Rattle.tf_details.specs.declared.gathering.Gathering.{Gathering}
+use Rattle.tf_details.proofs.BookLemmas.{history_legal, size_is}
+use Rattle.tf_details.proofs.EntryLemmas.{short_past}
+use Rattle.tf_details.proofs.MachineLemmas.{as_many as machines_many}
+use Rattle.tf_details.proofs.OnceLemmas.{as_many, read_once, never_refused}
+use Rattle.tf_book.specs.Histories.{past_shown, framed_bodies, KeepsHistory}
+use Rattle.tf_book.specs.Shelf.{HoldsElements}
+use Rattle.tf_book.specs.Sound.{IsSoundBook}
+use Rattle.tf_book.specs.declared.history.History.{History}
+
+module _ {K : Type 0} (state : K → DeskState) where
+  module _ (old : Held K) (elements : List Element) (holds : HoldsElements state old elements) (kept : old.volatile ≡ false) where
+    opened_then : IsTrue (state old.desk).tells → IsOpen state old
+    opened_then told = record { told = told; sound = holds.sound; kept = kept }
+
+    -- where the desk tells its content, a journal that couldn't be read back failed for the disk or for want of memory
+    pub opening_fails : (fault : LoadFault) (desk : K) → IsLegalBook elements → FailsToReadBack state CannotFollow fault old desk → IsTrue (state old.desk).tells
+        → (fault ≡ load_fault.Disk) ⊎ (fault ≡ load_fault.Memory)
+    opening_fails load_fault.Disk desk legal fails told = inl refl
+    opening_fails load_fault.Memory desk legal fails told = inr refl
+    opening_fails (load_fault.NotABook offset byte) desk legal fails told =
+        let refused = fails.refused told (bodies_of elements) (holds.ready (opened_then told)).lies in
+        absurd (never_refused elements refused.before refused.after refused.body legal refused.splits refused.cannot)
+    opening_fails load_fault.Old desk legal fails told = absurd (fails.new_format refl)
+
+    module _ (g : Gathering History) (read : HasReadAll state (HasGathered KeepsHistory) old g) where
+      -- where the desk tells its content, just the bodies of the shelf were read again
+      pub same_bodies : IsTrue (state old.desk).tells → bodies_of (elements_in g) ≡ bodies_of elements
+      same_bodies told = sym (read.whole told (bodies_of elements) (holds.ready (opened_then told)).lies ∙ read.is_replayed.bodies_are)
+
+      -- the history of the detail is the same
+      pub same_past : (number : ℕ) → IsLegalBook elements → g.number ≡ number → IsTrue (state old.desk).tells → past_shown g.kept.entries.items ≡ history number elements
+      same_past number legal numbered told =
+          let r = read.is_replayed in
+          r.kept.entries ∙ ap (λ (n : ℕ). history n (elements_in g)) numbered ∙ (read_once (elements_in g) elements r.legal legal (same_bodies told)).histories number
+
+      -- so the detail is there again
+      pub still_there : (number : ℕ) → IsLegalBook elements → number < length (details elements) → length g.details ≤ number → IsTrue (state old.desk).tells → ⊥
+      still_there number legal within missing told =
+          let r = read.is_replayed in
+          let alike = read_once (elements_in g) elements r.legal legal (same_bodies told) in
+          omega (arith, within, missing, machines_many g.details (elements_in g) r.machines_are, as_many (elements_in g) elements alike)
+
+      -- the book of a detail that was read again is sound
+      pub opened_sound : (now : Held K) (number : ℕ) (machine : MachineValue) → OnlyReads state old now → g.number ≡ number
+          → plan_of (elements_in g) number ≡ Some machine.plan → StandsFor machine (history number (elements_in g))
+          → IsSoundBook state machine g.kept.bodies.items (record {
+            plan = machine.plan;
+            past = past_shown g.kept.entries.items;
+            contents = record { number = number; elements = elements_in g };
+            journal = now;
+            quiet = false;
+            halt = None;
+            failed = None;
+            limit = None;
+          })
+      opened_sound now number machine reads numbered found stands = record {
+        stands = subst (StandsFor machine) (sym past_is) stands;
+        plan = refl;
+        limits = legal_past.limits;
+        kept_is = r.kept.bodies ∙ ap framed_bodies (sym r.kept.entries);
+        short = subst AreShort (sym past_is) (short_past (history number (elements_in g)) legal_past.forms);
+        forms = subst AreForms (sym past_is) legal_past.forms;
+        held = record { legal = r.legal; of_detail = found };
+        told = sym past_is;
+        title = ap (λ (h : Held K). h.title) reads.journal ∙ holds.title;
+        sound = λ apart. ap (λ (h : Held K). h.halted) reads.journal ∙ holds.sound;
+        ready = λ opened.
+            let told : IsTrue (state old.desk).tells = subst IsTrue reads.rests.on_disk.tells opened.told in
+            subst (IsAtRest state now) (sym (same_bodies told)) (reads.stays told (bodies_of elements) (holds.ready (opened_then told)));
+        size = λ unhalted. size_now;
+        limit = subst (λ (n : ℕ). n ≤ SIZE_LIMIT) (sym (ap (λ (h : Held K). h.size) reads.journal)) read.limit;
+      }
+        where
+          r : HasGathered KeepsHistory g read.bodies
+          r = read.is_replayed
+
+          past_is : past_shown g.kept.entries.items ≡ history number (elements_in g)
+          past_is = r.kept.entries ∙ ap (λ (n : ℕ). history n (elements_in g)) numbered
+
+          legal_past : IsHistoryOf machine.plan (history number (elements_in g))
+          legal_past = history_legal (elements_in g) number machine.plan r.legal found
+
+          size_now : now.size ≡ book_size (elements_in g)
+          size_now =
+              ap (λ (h : Held K). h.size) reads.journal ∙ read.size
+              ∙ ap (λ (t : Title). length (prefix_of t read.bodies) + 1) holds.title
+              ∙ ap (λ (b : List (List ℕ)). length (prefix_of book_title b) + 1) r.bodies_are
+              ∙ size_is (elements_in g)

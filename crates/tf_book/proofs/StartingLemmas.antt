@@ -1,0 +1,106 @@
+-- How a new detail begins: where its body is added, why it isn't, and that the book of it is sound.
+use Rattle.std.proofs.Common.{◌≡◌, ◌≢◌, ◌<◌, ◌≤◌, ℕ, Bool, false, List, [], ◌∷◌, ◌++◌, length, Some, None, refl, sym, ap, ◌∙◌, subst, arith}
+use Rattle.std.specs.Prelude.{IsTrue}
+use Rattle.std.proofs.lemmas.List.{length-map, length-reverse}
+use Rattle.tf_numbers.specs.Numbers.{Rises}
+use Rattle.tf_bound.specs.Short.{AreShort}
+use Rattle.tf_desk.specs.State.{DeskState, bytes_now}
+use Rattle.tf_desk.proofs.CountLemmas.{rises_later}
+use Rattle.tf_states.specs.declared.record.Entry.{Entry}
+use Rattle.tf_flow.specs.Plan.{PlanValue}
+use Rattle.tf_entries.specs.Plans.{IsPlan}
+use Rattle.tf_journal.specs.Format.{SIZE_LIMIT, journal_bytes, Held, IsBody, IsAtRest}
+use Rattle.tf_journal.specs.declared.title.Title.TheVariants.{Book2 as book_title}
+use Rattle.tf_machine.specs.Machine.{MachineValue, StandsFor}
+use Rattle.tf_details.specs.Contents.{Contents, IsContents, past_of}
+use Rattle.tf_details.specs.Elements.{Element, detail, details, book_size, bodies_of, AreForms, IsAcceptedPlan, CanRun, IsHistoryOf, MayBegin, IsLegalBook}
+use Rattle.tf_details.proofs.BookLemmas.{at_last}
+use Rattle.tf_details.proofs.ElementLemmas.{none_past}
+use Rattle.tf_book.specs.Book.{bodies_with, size_of}
+use Rattle.tf_book.specs.Histories.{framed_bodies}
+use Rattle.tf_book.specs.SessionInvariant.{IsExact}
+use Rattle.tf_book.specs.Shelf.{ShelfValue, HoldsElements}
+use Rattle.tf_book.specs.Sound.{IsSoundBook}
+use Rattle.tf_book.specs.Starting.{detail_body, begun_contents, HasPlaceFor, HasAdded, AddsTo, EndsThere, FailsToAdd, FailsToStart}
+use Rattle.tf_book.specs.declared.faults.BookFault.{BookFault}
+use Rattle.tf_book.specs.declared.faults.BookFault.TheVariants as fault
+use Rattle.tf_book.specs.declared.shelf.Place.TheVariants as place
+
+-- a plan that may begin
+pub may_begin : (elements : List Element) (plan : PlanValue) → HasPlaceFor elements plan → IsAcceptedPlan plan → IsPlan plan → CanRun plan → MayBegin elements plan
+may_begin elements plan room accepted limits runs = record { accepted = accepted; limits = limits; runs = runs; few = room.few; unnamed = room.unnamed }
+
+-- before its first entry it has a history that a book may hold
+pub new_history : (plan : PlanValue) → IsAcceptedPlan plan → IsPlan plan → CanRun plan → IsHistoryOf plan []
+new_history plan accepted limits runs = record { accepted = accepted; limits = limits; runs = runs; legal = tt; forms = tt }
+
+module _ {K : Type 0} (state : K → DeskState) where
+  -- ---- a body that is added to an unborn file is its first one
+
+  pub first_adds : (desk : K) (made after : Held K) (elements : List Element) (body : List ℕ) → elements ≡ [] → HoldsElements state made [] → made.volatile ≡ false
+      → (EndsThere state (place.Unborn desk) → length (bytes_now (state made.desk)) ≡ 18) → (state made.desk).tells ≡ (state desk).tells
+      → AddsTo state (place.Kept made) [] body after → AddsTo state (place.Unborn desk) elements body after
+  first_adds desk made after elements body none holds kept short tells adds = record {
+    has = subst (λ (l : List Element). HasAdded state l body after) (sym none) adds.has;
+    volatile = adds.volatile ∙ kept;
+    exact = λ ends.
+        adds.exact (record { told = subst IsTrue (sym tells) ends.0; sound = holds.sound; kept = kept }, short ends ∙ sym holds.size)
+        ∙ ap (λ (l : List Element). journal_bytes book_title (bodies_of l ++ body ∷ [])) (sym none);
+  }
+
+  -- it always fits there, and a fault of the disk is one since the file was made a journal
+  pub first_fails : (desk back : K) (made : Held K) (elements : List Element) (body : List ℕ) (why : BookFault) → (state desk).disk_faults ≤ (state made.desk).disk_faults
+      → IsBody book_title body → why ≢ fault.Memory → FailsToAdd state [] body why made.desk back → FailsToAdd state elements body why desk back
+  first_fails desk back made elements body fault.Disk later short apart fails =
+      rises_later (state desk).disk_faults (state made.desk).disk_faults (state back).disk_faults later fails
+  first_fails desk back made elements body fault.Memory later short apart fails = absurd (apart refl)
+  first_fails desk back made elements body (fault.Full size need) later short apart fails = absurd (omega (arith, fails.0, fails.1, fails.2, short.1))
+  first_fails desk back made elements body fault.Out later short apart fails = absurd fails
+  first_fails desk back made elements body (fault.Halted cause) later short apart fails = absurd fails
+
+  -- ---- the book of the new detail
+
+  pub begun_sound : (elements : List Element) (machine : MachineValue) (kept : List ℕ) (past : List Entry) (contents : Contents) (journal : Held K) (quiet : Bool)
+      → kept ≡ [] → past ≡ [] → contents ≡ begun_contents elements machine.plan → IsLegalBook elements → MayBegin elements machine.plan → StandsFor machine []
+      → HasAdded state elements (detail_body machine.plan) journal
+      → IsSoundBook state machine kept (record {
+        plan = machine.plan;
+        past = past;
+        contents = contents;
+        journal = journal;
+        quiet = quiet;
+        halt = None;
+        failed = None;
+        limit = None;
+      })
+  begun_sound elements machine kept past contents journal quiet unkept none contents_are legal may fresh added = record {
+    stands = subst (StandsFor machine) (sym none) fresh;
+    plan = refl;
+    limits = may.limits;
+    kept_is = unkept ∙ ap framed_bodies (sym none);
+    short = subst AreShort (sym none) tt;
+    forms = subst AreForms (sym none) tt;
+    held = subst (IsContents machine.plan) (sym contents_are) (record { legal = (may, legal); of_detail = at_last (details elements) machine.plan });
+    told = ap past_of contents_are ∙ none_past elements (length (details elements)) legal (omega arith) ∙ sym none;
+    title = added.title;
+    sound = λ apart. added.sound;
+    ready = λ opened. subst (λ (c : Contents). IsAtRest state journal (bodies_with c [])) (sym contents_are) (added.rest opened);
+    size = λ unhalted. added.size ∙ ap size_of (sym contents_are);
+    limit = added.limit;
+  }
+
+  -- in a file where nothing stood behind the elements each byte is told
+  pub begun_exact : (shelf : ShelfValue K) (plan : PlanValue) (contents : Contents) (journal : Held K) → contents ≡ begun_contents shelf.elements plan
+      → AddsTo state shelf.place shelf.elements (detail_body plan) journal → EndsThere state shelf.place → IsExact (state journal.desk) contents
+  begun_exact shelf plan contents journal contents_are adds ends =
+      adds.exact ends ∙ ap (λ (c : Contents). journal_bytes book_title (bodies_with c [])) (sym contents_are)
+
+  -- why no book started
+  pub start_fails : (shelf : ShelfValue K) (plan : PlanValue) (why : BookFault) (old new : K) → IsHistoryOf plan []
+      → FailsToAdd state shelf.elements (detail_body plan) why old new → FailsToStart state shelf plan why old new
+  start_fails shelf plan fault.Disk old new history fails = (history, fails)
+  start_fails shelf plan fault.Memory old new history fails = fails
+  start_fails shelf plan (fault.Full size need) old new history fails =
+      (record { history = history; size_is = fails.0; need_is = fails.1; over = fails.2 }, fails.3)
+  start_fails shelf plan fault.Out old new history fails = absurd fails
+  start_fails shelf plan (fault.Halted cause) old new history fails = absurd fails
