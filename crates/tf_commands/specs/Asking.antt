@@ -25,7 +25,7 @@ pub record AreHands (hands : Want) : Type 0 where
 abbrev pub IsWithin : Asked → Type 0
 IsWithin (asked.Try file sets defer hands target) = AreHands hands
 IsWithin (asked.Run file book sets defer hands stop target) = AreHands hands
-IsWithin (asked.Resume book hands stop) = AreHands hands
+IsWithin (asked.Resume book name hands stop) = AreHands hands
 IsWithin (asked.Demo seed size book hands) = IsDemo seed size × AreHands (want.Local hands)
 IsWithin (asked.Conduct board owner hands) = IsConduct owner hands
 IsWithin (asked.Serve board address sessions) = (1 ≤ sessions) × (sessions ≤ 64)
@@ -35,7 +35,7 @@ IsWithin command = Unit {0}
 abbrev pub want_of : Asked → Option Want
 want_of (asked.Try file sets defer hands target) = Some hands
 want_of (asked.Run file book sets defer hands stop target) = Some hands
-want_of (asked.Resume book hands stop) = Some hands
+want_of (asked.Resume book name hands stop) = Some hands
 want_of (asked.Demo seed size book hands) = Some (want.Local hands)
 want_of (asked.Worker address sessions) = Some (want.Local 1)
 want_of (asked.Conduct board owner hands) = Some (want.Local hands)
@@ -63,6 +63,16 @@ file_asked_for (asked.Run file book sets defer hands stop target) = Some (record
 file_asked_for (asked.Check file sets target) = Some (record { file = file; sets = sets; defer = false; target = target })
 file_asked_for (asked.Audit file log sets defer) = Some (record { file = file; sets = sets; defer = defer; target = None })
 file_asked_for command = None
+
+-- the book that a command is about
+abbrev pub book_asked_for : Asked → Option (List ℕ)
+book_asked_for (asked.Run file book sets defer hands stop target) = Some book
+book_asked_for (asked.Resume book name hands stop) = Some book
+book_asked_for (asked.Show book name) = Some book
+book_asked_for (asked.Reset book name) = Some book
+book_asked_for (asked.Details book) = Some book
+book_asked_for (asked.Demo seed size book hands) = Some book
+book_asked_for command = None
 
 -- ---- the flow that is generated
 

@@ -1,69 +1,76 @@
--- How a run begins in a file that holds no flow; no clause of the top call cites it.
-use Rattle.std.specs.Prelude.{◌≡◌, ◌⊎◌, ◌≤◌, ℕ, true, false, IsTrue, List, [], length, Option, Some, None}
+-- How the details of a book are looked up, and how a run begins as a new one; no clause of the top call cites it.
+use Rattle.std.specs.Prelude.{◌≡◌, ◌≤◌, ℕ, Bool, false, IsTrue, List, [], length, Option, Some, None, Result, Ok, Err}
 use Rattle.tf_numbers.specs.Numbers.{Rises}
 use Rattle.tf_desk.specs.Crash.{Pairs}
-use Rattle.tf_desk.specs.State.{DeskState, bytes_now, MayLeave as MayLeaveNow}
+use Rattle.tf_desk.specs.State.{DeskState, bytes_now}
 use Rattle.tf_flow.specs.Plan.{PlanValue}
-use Rattle.tf_journal.specs.Format.{Recovered, unborn, bodies, journal_bytes, is_unborn, Held}
-use Rattle.tf_journal.specs.Start.{Path, IsSet, file_of}
-use Rattle.tf_journal.specs.declared.title.Title.TheVariants.{Book as book_title}
-use Rattle.tf_book.specs.Book.{BookValue, bodies_of}
-use Rattle.tf_book.specs.Starting.{HasNoRecord}
+use Rattle.tf_journal.specs.Format.{Recovered}
+use Rattle.tf_journal.specs.Start.{Path, IsSet, Open, file_of}
+use Rattle.tf_flow.specs.Tree.{same_name}
+use Rattle.tf_model.specs.History.{flow_of}
+use Rattle.tf_details.specs.Elements.{Element, details, history, number_among, CanRun, IsLegalBook}
+use Rattle.tf_book.specs.Book.{BookValue}
+use Rattle.tf_book.specs.SessionInvariant.{IsExact}
+use Rattle.tf_book.specs.Shelf.{ShelfValue, desk_of, is_volatile, IsPlaced, IsFoundAs}
+use Rattle.tf_book.specs.Starting.{begun_contents, IsFullToBegin}
 use Rattle.tf_book.specs.declared.faults.BookFault.{BookFault}
 use Rattle.tf_book.specs.declared.faults.BookFault.TheVariants as book_fault
-use Rattle.tf_commands.specs.Books.{book_in, book_at, HoldsNoFlow, HoldsHistory, FindsHistory}
-use Rattle.tf_report.specs.Closing.{disk_fault_text, ClosesWith}
-use Rattle.tf_report.specs.declared.statuses.TheConstants.{DISK_FAILED, OUT_OF_MEMORY}
-use Rattle.tf_commands.specs.declared.books.Blank.{Blank}
-use Rattle.tf_commands.specs.declared.books.Blank.TheVariants as blank
+use Rattle.tf_book.specs.declared.faults.Halt.{Halt}
+use Rattle.tf_book.specs.declared.faults.Halt.TheVariants as halt
+use Rattle.tf_book.specs.declared.shelf.Detail.{Detail}
+use Rattle.tf_states.specs.declared.state.FlowState.{FlowState}
+use Rattle.tf_commands.specs.declared.running.Over.{Over}
+use Rattle.tf_commands.specs.Books.{book_in, book_at, HoldsNoFlow, HoldsWith, FindsSince, IsAskedFor, IsFile}
 
--- ---- a file that holds no flow
+-- ---- a shelf that was loaded
 
--- its desk
-abbrev pub desk_in : {K : Type 0} → Blank K → K
-desk_in (blank.Titled journal) = journal.desk
-desk_in (blank.Unborn desk) = desk
+module _ {K : Type 0} (state : K → DeskState) where
+  -- it is kept in a file, its elements are a legal book, and stand where they are placed
+  pub record IsShelf (shelf : ShelfValue K) : Type 0 where
+    pub kept : is_volatile shelf.place ≡ false
+    pub legal : IsLegalBook shelf.elements
+    pub placed : IsPlaced state shelf.place shelf.elements
 
--- the picked file may be made a book
-abbrev pub MayBeBorn : DeskState → Type 0
-MayBeBorn desk = IsTrue desk.tells → is_unborn book_title (bytes_now desk) ≡ true
+  -- the file of that name was opened, and has its elements
+  pub record IsShelfOf (name : List ℕ) (entry : DeskState) (shelf : ShelfValue K) : Type 0 where
+    pub opened : Open name entry (state (desk_of shelf))
+    pub found : IsFile name entry (IsFoundAs shelf.place shelf.elements)
 
--- a book's journal without a record, which is kept in its file: a book may start in it
-pub record IsRecordless {K : Type 0} (state : K → DeskState) (journal : Held K) : Type 0 where
-  pub new : HasNoRecord state journal
-  pub kept : journal.volatile ≡ false
+-- ---- how a detail is looked up
 
--- a journal without a record in which a book may start, or a file that a creation may make one of
-abbrev pub IsBlank : {K : Type 0} → (K → DeskState) → Blank K → Type 0
-IsBlank state (blank.Titled journal) = IsRecordless state journal
-IsBlank state (blank.Unborn desk) = MayBeBorn (state desk)
+-- a detail that is listed has that name
+abbrev pub is_listed : List ℕ → Detail → Bool
+is_listed name found = same_name found.name name
 
--- what was found in the file of a blank: a book without a record, or an unborn file
-abbrev pub IsFoundAs : {K : Type 0} → Blank K → Recovered → Type 0
-IsFoundAs (blank.Titled journal) found = found ≡ bodies []
-IsFoundAs (blank.Unborn desk) found = found ≡ unborn
+-- the state of the detail of that name; or there is none of that name
+abbrev pub IsNamedState : List Element → List ℕ → Option FlowState → Type 0
+IsNamedState elements name None = number_among (details elements) name ≡ None
+IsNamedState elements name (Some state) =
+    (number : ℕ) × (number_among (details elements) name ≡ Some number) × (state ≡ flow_of (history number elements))
 
-abbrev pub IsFoundBlank : {K : Type 0} → List ℕ → DeskState → Blank K → Type 0
-IsFoundBlank name entry found = IsTrue entry.tells → IsFoundAs found (book_at entry name)
+-- the number of the detail that is asked for; or there is none of that name, and without a name none at all
+abbrev pub IsNumberAsked : Option (List ℕ) → List Element → Option ℕ → Type 0
+IsNumberAsked wanted elements (Some number) = IsAskedFor wanted elements number
+IsNumberAsked None elements None = details elements ≡ []
+IsNumberAsked (Some name) elements None = number_among (details elements) name ≡ None
 
--- ---- how it begins
+-- a book that was opened to go on: it is kept in its file, isn't halted, says its lines, and its plan can run
+pub record IsReadyBook {K : Type 0} (book : BookValue K) : Type 0 where
+  pub sound : book.halt ≡ None
+  pub speaks : book.quiet ≡ false
+  pub kept : book.journal.volatile ≡ false
+  pub runs : CanRun book.plan
 
--- a crash left no flow or the plan alone, and nothing more was shown
-abbrev pub MayBegin : Recovered → PlanValue → Option (List ℕ) → Pairs
-MayBegin first plan shown image text = FindsHistory first plan [] (book_in image) × (shown ≡ Some text)
+-- the desk that an answer has: the book's, or that of a command which is over
+abbrev pub desk_found : {K : Type 0} → Result (BookValue K) (Over K) → K
+desk_found (Ok book) = book.journal.desk
+desk_found (Err over) = over.desk
 
--- where the file held no flow and had at most 18 bytes, nothing stands behind the last gate of the book without a record
-abbrev pub IsExactSoFar : List ℕ → DeskState → DeskState → Type 0
-IsExactSoFar name entry now =
-    IsTrue now.tells → HoldsNoFlow (book_at entry name) → length (file_of entry name) ≤ 18 → length (bytes_now now) ≡ 18
+-- ---- how one begins
 
--- a crash now leaves no flow
-abbrev pub LeavesNoFlow : DeskState → Type 0
-LeavesNoFlow now = IsTrue now.tells → (image : List ℕ) → MayLeaveNow now image → HoldsNoFlow (book_in image)
-
--- a disk fault was said, or memory ran out and nothing was
-abbrev pub SaysUnbegun : Option (List ℕ) → Option (List ℕ) → ℕ → Type 0
-SaysUnbegun before now status = ClosesWith before disk_fault_text DISK_FAILED now status ⊎ ((status ≡ OUT_OF_MEMORY) × (now ≡ before))
+-- a crash left what was found at first, or the new detail behind the elements, and nothing more was shown
+abbrev pub MayBegin : Recovered → List Element → PlanValue → Option (List ℕ) → Pairs
+MayBegin first elements plan shown image text = FindsSince first (begun_contents elements plan) [] (book_in image) × (shown ≡ Some text)
 
 -- since a call's entry nothing was said, the output had no fault, and no count fell; and the file of that name is picked and synced
 pub record IsQuiet (name : List ℕ) (entry now : DeskState) : Type 0 where
@@ -73,27 +80,38 @@ pub record IsQuiet (name : List ℕ) (entry now : DeskState) : Type 0 where
   pub out : now.out_faults ≡ entry.out_faults
   pub set : IsTrue entry.tells → IsSet name entry now
 
--- why it couldn't begin: a disk fault, where their count rose, or want of memory
-pub record FailsToBegin (fault : BookFault) (old new : DeskState) : Type 0 where
-  pub one : (fault ≡ book_fault.Disk) ⊎ (fault ≡ book_fault.Memory)
-  pub cause : fault ≡ book_fault.Disk → Rises old.disk_faults new.disk_faults
-
--- the book of the plan began, with the empty history; where the file held no flow and had at most 18 bytes, each byte of it is known
-pub record Begins {K : Type 0} (state : K → DeskState) (name : List ℕ) (entry : DeskState) (plan : PlanValue) (book : BookValue K) : Type 0 where
+-- the book of the plan began with the empty history, as a new detail behind the elements; where the file held no flow and had at most 18 bytes, each
+-- byte of it is known
+pub record Begins {K : Type 0} (state : K → DeskState) (name : List ℕ) (entry : DeskState) (elements : List Element) (plan : PlanValue) (book : BookValue K) : Type 0 where
   pub plan_is : book.plan ≡ plan
   pub past_is : book.past ≡ []
+  pub contents_is : book.contents ≡ begun_contents elements plan
   pub sound : book.halt ≡ None
   pub kept : book.journal.volatile ≡ false
   pub quiet : IsQuiet name entry (state book.journal.desk)
-  pub path : IsTrue entry.tells → Path name entry (state book.journal.desk) (MayBegin (book_at entry name) plan entry.shown)
-      (λ image. HoldsHistory plan [] (book_in image))
+  pub path : IsTrue entry.tells → Path name entry (state book.journal.desk) (MayBegin (book_at entry name) elements plan entry.shown)
+      (λ image. HoldsWith (begun_contents elements plan) [] (book_in image))
   pub exact : IsTrue entry.tells → HoldsNoFlow (book_at entry name) → length (file_of entry name) ≤ 18
-      → bytes_now (state book.journal.desk) ≡ journal_bytes book_title (bodies_of plan [])
+      → IsExact (state book.journal.desk) (begun_contents elements plan)
 
--- it couldn't begin
-pub record Unbegun (name : List ℕ) (entry : DeskState) (plan : PlanValue) (now : DeskState) : Type 0 where
+-- it couldn't begin: the disk failed, or memory ran out, and the file is as it was
+pub record Unbegun (name : List ℕ) (entry : DeskState) (elements : List Element) (plan : PlanValue) (now : DeskState) : Type 0 where
   pub quiet : IsQuiet name entry now
-  pub blank : ¬ (Rises entry.disk_faults now.disk_faults) → IsTrue entry.tells → HoldsNoFlow (book_at now name)
-  pub first : IsTrue entry.tells → HoldsNoFlow (book_at entry name)
-  pub path : IsTrue entry.tells → Path name entry now (MayBegin (book_at entry name) plan entry.shown)
-      (λ image. FindsHistory (book_at entry name) plan [] (book_in image))
+  pub same : ¬ (Rises entry.disk_faults now.disk_faults) → IsTrue entry.tells → file_of now name ≡ file_of entry name
+  pub path : IsTrue entry.tells → Path name entry now (MayBegin (book_at entry name) elements plan entry.shown)
+      (λ image. FindsSince (book_at entry name) (begun_contents elements plan) [] (book_in image))
+
+-- the cause of a fault
+abbrev pub cause_in : BookFault → Halt
+cause_in book_fault.Disk = halt.Disk
+cause_in book_fault.Out = halt.Out
+cause_in (book_fault.Full size need) = halt.Full size need
+cause_in book_fault.Memory = halt.Memory
+cause_in (book_fault.Halted cause) = cause
+
+-- why it couldn't: the disk failed, and its count rose; memory ran out; or the journal is full for the new detail, and the desk stayed
+abbrev pub FailsToBegin : {K : Type 0} → (K → DeskState) → List Element → PlanValue → BookFault → K → K → Type 0
+FailsToBegin state elements plan book_fault.Disk old new = Rises (state old).disk_faults (state new).disk_faults
+FailsToBegin state elements plan book_fault.Memory old new = Unit {0}
+FailsToBegin state elements plan (book_fault.Full size need) old new = IsFullToBegin elements plan size need × (new ≡ old)
+FailsToBegin state elements plan other old new = ⊥

@@ -1,5 +1,5 @@
 -- The ways that a command can go.
-use Rattle.std.specs.Prelude.{◌≡◌, ◌≤◌, ◌⊎◌, ℕ, List, [], ◌++◌, length, codes, true, false, IsTrue, Bool, Option, Some, None}
+use Rattle.std.specs.Prelude.{◌≡◌, ◌≢◌, ◌≤◌, ◌⊎◌, ℕ, List, [], ◌++◌, length, codes, true, false, IsTrue, Bool, Option, Some, None}
 use Rattle.tf_desk.specs.State.{DeskState}
 use Rattle.tf_flow.specs.declared.atoms.Bind.{Bind}
 use Rattle.tf_ports.specs.Ports.{GivenBack, Contents, GivesBytes, PassesLimit, DoorTold, CrewTold}
@@ -9,8 +9,13 @@ use Rattle.tf_actions.specs.declared.orders.Order.{Order}
 use Rattle.tf_actions.specs.declared.outcomes.Outcome.{Outcome}
 use Rattle.tf_ports.specs.declared.reading.TheConstants.{SOURCE_LIMIT}
 use Rattle.tf_flow.specs.Plan.{PlanValue, PlanTree, plan_tree}
-use Rattle.tf_journal.specs.Format.{Recovered}
+use Rattle.tf_journal.specs.Format.{Recovered, unborn, old_format}
+use Rattle.tf_details.specs.Elements.{Element}
+use Rattle.tf_details.specs.Contents as held
+use Rattle.tf_migration.specs.Flows.{old_at, new_at}
+use Rattle.tf_migration.specs.Migrates.{Migrates, IsBookOfFlow, IsComplete as IsMigrationComplete}
 use Rattle.tf_book.specs.Book.{IsNoBook}
+use Rattle.tf_book.specs.Starting.{begun_contents, HasPlaceFor}
 use Rattle.tf_book.specs.Turns.{may_reset}
 use Rattle.tf_model.specs.History.{snapshot}
 use Rattle.tf_model.specs.Plan.{outline_of}
@@ -27,10 +32,10 @@ use Rattle.tf_report.specs.declared.statuses.TheConstants.{BOARD_REFUSED, SUCCEE
 use Rattle.tf_report.specs.Closing.{ClosesWith, ClosesWithOrStops, cannot_read, cannot_hire}
 use Rattle.tf_target.specs.Target.{outline_in}
 use Rattle.tf_accept.specs.Accepted.{GivesPlan, GivesWhole, GivesNone, MayTarget}
-use Rattle.tf_commands.specs.Asking.{file_asked_for, wanted_by}
+use Rattle.tf_commands.specs.Asking.{file_asked_for, book_asked_for, demo_tree, wanted_by}
 use Rattle.tf_commands.specs.Messages.{Audits, RefusesLog, checked, usage, refusal, reason_text, Works}
 use Rattle.tf_words.specs.Words.{command_of}
-use Rattle.tf_commands.specs.Books.{Hires, Runs, WereGivenBack, HasStopped, Demonstrates, Resumes, ShowsBook, ResetsBook, NoFileChanges, TouchesNoFile, book_at, HoldsNoFlow, HoldsHistory, spoken_run, Ran}
+use Rattle.tf_commands.specs.Books.{Hires, Runs, WereGivenBack, HasStopped, Demonstrates, Resumes, ShowsBook, ResetsBook, ListsDetails, NoFileChanges, TouchesNoFile, IsFile, book_at, IsBookOf, IsAskedFor, HoldsAsked, spoken_run, Ran}
 use Rattle.tf_journal.specs.Start.{file_of}
 use Rattle.tf_accept.specs.declared.accepting.Refusal.{Refusal}
 use Rattle.tf_commands.specs.declared.reading.Source.{Source}
@@ -74,7 +79,7 @@ pub record Tried (gives : Order → Outcome → Type 0) (hands : Want) (stopped 
   pub entries : List Entry
   pub stop : Option FlowState
   pub closing : List ℕ
-  pub ran : Ran gives (spoken_run hands None) stopped plan [] entries stop shown now closing status
+  pub ran : Ran gives (spoken_run hands None) stopped (begun_contents [] plan) plan [] entries stop shown now closing status
   pub orders_given : WereGivenBack (HasStopped status) (outline_of plan) [] (entries ++ []) back
 
 -- to try a plan is to hire the hands that are wanted and to run the plan with them
@@ -138,12 +143,16 @@ module _ {K : Type 0} (state : K → DeskState) where
   Obeys gives stopped (asked.Run file book sets defer hands stop target) files ports later entry now status =
       FileRead files (source_so file sets defer target) (IsUntouched ports.crew later.crew (state entry) (state now))
       (Runs (gives hands) (spoken_run hands stop) stopped book ports.crew later.crew (state entry) (state now)) (state entry).shown (state now).shown status
-  Obeys gives stopped (asked.Resume book hands stop) files ports later entry now status =
-      Resumes (gives hands) (spoken_run hands stop) stopped book ports.crew later.crew (state entry) (state now) status
-  Obeys gives stopped (asked.Show book) files ports later entry now status =
-      ShowsBook book (state entry) (state now) status × (later ≡ ports)
-  Obeys gives stopped (asked.Reset book) files ports later entry now status =
-      ResetsBook book (state entry) (state now) status × (later ≡ ports)
+  Obeys gives stopped (asked.Resume book name hands stop) files ports later entry now status =
+      Resumes (gives hands) (spoken_run hands stop) stopped book name ports.crew later.crew (state entry) (state now) status
+  Obeys gives stopped (asked.Show book name) files ports later entry now status =
+      ShowsBook book name (state entry) (state now) status × (later ≡ ports)
+  Obeys gives stopped (asked.Reset book name) files ports later entry now status =
+      ResetsBook book name (state entry) (state now) status × (later ≡ ports)
+  Obeys gives stopped (asked.Details book) files ports later entry now status =
+      ListsDetails book (state entry) (state now) status × (later ≡ ports)
+  Obeys gives stopped (asked.Migrate old new) files ports later entry now status =
+      Migrates old new (state entry) (state now) status × (later ≡ ports)
   Obeys gives stopped (asked.Demo seed size book hands) files ports later entry now status =
       Demonstrates state (gives (want.Local hands)) (want.Local hands) stopped book ports.crew later.crew entry now seed size status
   Obeys gives stopped (asked.Worker address sessions) files ports later entry now status =
@@ -203,6 +212,14 @@ pub record IsBoardRefused (words : List (List ℕ)) (entry : DeskState) : Type 0
   pub found : IsTrue entry.tells → Finds past (board_in (file_of entry name))
   pub refuses : (answer_of command past).status ≡ BOARD_REFUSED
 
+-- the words are a command on a book, whose file is one of the older format
+pub record IsOldBook (words : List (List ℕ)) (entry : DeskState) : Type 0 where
+  pub command : Asked
+  pub name : List ℕ
+  pub asks : command_of words ≡ Some command
+  pub about : book_asked_for command ≡ Some name
+  pub old : IsFile name entry (λ found. found ≡ old_format)
+
 -- the sources tell bytes under the name of a flow file that give a plan, against whose target nothing stands, and that aren't too long
 pub record IsAccepted (source : Source) (files : Contents) : Type 0 where
   pub told : List ℕ → Option (List ℕ)
@@ -214,13 +231,24 @@ pub record IsAccepted (source : Source) (files : Contents) : Type 0 where
   pub given : GivesWhole source.sets source.defer bytes plan
   pub target : MayTarget source.target plan
 
--- a file is a book
+-- a file is a book, or may be made one
 abbrev pub IsBook : Recovered → Type 0
-IsBook found = (offset : ℕ) (byte : Option ℕ) → ¬ (IsNoBook found offset byte)
+IsBook found = (found ≢ old_format) × ((offset : ℕ) (byte : Option ℕ) → ¬ (IsNoBook found offset byte))
 
--- a book that holds a flow
-abbrev pub HoldsFlow : Recovered → Type 0
-HoldsFlow found = IsBook found × ¬ (HoldsNoFlow found)
+-- a book behind whose elements a plan of this tree may begin as a new detail
+abbrev pub HasPlace : PlanTree → Recovered → Type 0
+HasPlace tree found = IsBook found
+    × ((elements : List Element) (plan : PlanValue) → IsBookOf elements found → plan_tree plan ≡ tree → HasPlaceFor elements plan)
+
+-- the same of each plan that a flow file gives
+abbrev pub HasPlaceForFile : Source → Contents → Recovered → Type 0
+HasPlaceForFile source files found = (bytes : List ℕ) (tree : PlanTree) → GivesBytes files source.file bytes
+    → GivesPlan source.sets source.defer source.target bytes tree → HasPlace tree found
+
+-- a book that holds the flow which is asked for
+abbrev pub HoldsFlow : Option (List ℕ) → Recovered → Type 0
+HoldsFlow wanted found = IsBook found
+    × ((elements : List Element) → IsBookOf elements found → (number : ℕ) × IsAskedFor wanted elements number)
 
 -- a run that met no fault ends with SUCCESS, in completed reversion or in FAILURE, or memory runs out; or its next record would make the
 -- book longer than its limit
@@ -240,10 +268,11 @@ IsDoneComplete status = (status ≡ SUCCEEDED) ⊎ (status ≡ OUT_OF_MEMORY)
 abbrev pub IsResetComplete : ℕ → Type 0
 IsResetComplete status = (status ≡ SUCCEEDED) ⊎ (status ≡ OUT_OF_MEMORY) ⊎ (status ≡ FULL)
 
--- a book that holds a flow which may be put back: it is REVERTED, and every atom is settled
-abbrev pub HoldsReverted : Recovered → Type 0
-HoldsReverted found = HoldsFlow found
-    × ((plan : PlanValue) (past : List Entry) → HoldsHistory plan past found → may_reset (outline_of plan) (snapshot (outline_of plan) past) ≡ true)
+-- and that flow may be put back: it is REVERTED, and every atom is settled
+abbrev pub HoldsReverted : Option (List ℕ) → Recovered → Type 0
+HoldsReverted wanted found = HoldsFlow wanted found
+    × ((contents : held.Contents) (plan : PlanValue) (past : List Entry) → HoldsAsked wanted contents plan past found
+    → may_reset (outline_of plan) (snapshot (outline_of plan) past) ≡ true)
 
 -- what the desk has under a name is this, and it tells so
 abbrev pub HasBook : List ℕ → DeskState → (Recovered → Type 0) → Type 0
@@ -261,14 +290,17 @@ HasSomeBoard name entry = IsTrue entry.tells × IsBoard (board_in (file_of entry
 -- can't be
 abbrev pub MayBeDone : Asked → Contents → DeskState → Type 0
 MayBeDone (asked.Try file sets defer hands target) files entry = IsAccepted (source_so file sets defer target) files
-MayBeDone (asked.Run file book sets defer hands stop target) files entry = IsAccepted (source_so file sets defer target) files × HasBook book entry HoldsNoFlow
-MayBeDone (asked.Resume book hands stop) files entry = HasBook book entry HoldsFlow
-MayBeDone (asked.Show book) files entry = HasBook book entry HoldsFlow
-MayBeDone (asked.Reset book) files entry = HasBook book entry HoldsReverted
+MayBeDone (asked.Run file book sets defer hands stop target) files entry =
+    IsAccepted (source_so file sets defer target) files × HasBook book entry (HasPlaceForFile (source_so file sets defer target) files)
+MayBeDone (asked.Resume book name hands stop) files entry = HasBook book entry (HoldsFlow name)
+MayBeDone (asked.Show book name) files entry = HasBook book entry (HoldsFlow name)
+MayBeDone (asked.Reset book name) files entry = HasBook book entry (HoldsReverted name)
+MayBeDone (asked.Details book) files entry = HasBook book entry IsBook
+MayBeDone (asked.Migrate old new) files entry = IsTrue entry.tells × IsBookOfFlow (old_at entry old) × (new_at entry new ≡ unborn)
 MayBeDone (asked.Check file sets target) files entry = IsAccepted (source_so file sets false target) files
 MayBeDone (asked.Audit file log sets defer) files entry =
     IsAccepted (source_so file sets defer None) files × ¬ (RefusesLog files (source_so file sets defer None) log)
-MayBeDone (asked.Demo seed size book hands) files entry = HasBook book entry HoldsNoFlow
+MayBeDone (asked.Demo seed size book hands) files entry = HasBook book entry (HasPlace (demo_tree seed size))
 MayBeDone (asked.Worker address sessions) files entry = Unit {0}
 MayBeDone (asked.Post board name priority details) files entry = HasBoard board entry (asked.Post board name priority details)
 MayBeDone (asked.Claim board id owner) files entry = HasBoard board entry (asked.Claim board id owner)
@@ -284,9 +316,11 @@ MayBeDone (asked.Serve board address sessions) files entry = HasSomeBoard board 
 abbrev pub IsComplete : Asked → ℕ → Type 0
 IsComplete (asked.Try file sets defer hands target) status = IsRunComplete status
 IsComplete (asked.Run file book sets defer hands stop target) status = IsRunCompleteBy stop status
-IsComplete (asked.Resume book hands stop) status = IsRunCompleteBy stop status
-IsComplete (asked.Show book) status = IsDoneComplete status
-IsComplete (asked.Reset book) status = IsResetComplete status
+IsComplete (asked.Resume book name hands stop) status = IsRunCompleteBy stop status
+IsComplete (asked.Show book name) status = IsDoneComplete status
+IsComplete (asked.Reset book name) status = IsResetComplete status
+IsComplete (asked.Details book) status = IsDoneComplete status
+IsComplete (asked.Migrate old new) status = IsMigrationComplete status
 IsComplete (asked.Check file sets target) status = IsDoneComplete status
 IsComplete (asked.Audit file log sets defer) status = IsDoneComplete status
 IsComplete (asked.Demo seed size book hands) status = IsRunComplete status

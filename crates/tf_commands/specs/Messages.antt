@@ -12,7 +12,8 @@ use Rattle.tf_order.specs.declared.faults.CompileFault.{CompileFault}
 use Rattle.tf_order.specs.declared.faults.CompileFault.TheVariants as compile_fault
 use Rattle.tf_numbers.specs.Numbers.{which_below, Rises}
 use Rattle.tf_model.specs.Plan.{Outline, count, is_task}
-use Rattle.tf_report.specs.Lines.{flow_name, flow_word}
+use Rattle.tf_report.specs.Lines.{flow_name, flow_word, detail_line}
+use Rattle.tf_book.specs.declared.shelf.Detail.{Detail}
 use Rattle.tf_states.specs.declared.state.FlowState.{FlowState}
 use Rattle.tf_scopes.specs.declared.faults.ScopeFault.{ScopeFault}
 use Rattle.tf_scopes.specs.declared.faults.ScopeFault.TheVariants as scope_fault
@@ -135,9 +136,22 @@ log_too_long = codes "taskflow: audit: too long\n"
 abbrev pub no_flow_text : List ℕ
 no_flow_text = codes "taskflow: no flow in the book\n"
 
--- the message for a flow whose state forbids a command: the name of its root and the state
-unfoldable pub state_forbids : Outline → FlowState → List ℕ
-state_forbids plan state = codes "taskflow: state forbids: " ++ flow_name plan 0 ++ 32 ∷ flow_word state ++ 10 ∷ []
+-- the message for a book that holds no flow of that name
+unfoldable pub no_flow_named : List ℕ → List ℕ
+no_flow_named name = codes "taskflow: no flow: " ++ name ++ 10 ∷ []
+
+-- the message for a book that holds as many flows as it may
+abbrev pub too_many_flows : List ℕ
+too_many_flows = codes "taskflow: too many flows: 64\n"
+
+-- the message for a flow whose state forbids a command: its name and the state
+unfoldable pub state_forbids : List ℕ → FlowState → List ℕ
+state_forbids name state = codes "taskflow: state forbids: " ++ name ++ 32 ∷ flow_word state ++ 10 ∷ []
+
+-- the lines of the details of a book, the first of which has that number
+abbrev pub detail_lines : ℕ → List Detail → List ℕ
+detail_lines number [] = []
+detail_lines number (first ∷ others) = detail_line number first.name first.state ++ detail_lines (number + 1) others
 
 -- how many of the atoms below n are tasks
 abbrev pub tasks_below : Outline → ℕ → ℕ

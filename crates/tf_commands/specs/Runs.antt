@@ -7,8 +7,10 @@ use Rattle.tf_actions.specs.declared.outcomes.Outcome.{Outcome}
 use Rattle.tf_states.specs.declared.record.Entry.{Entry}
 use Rattle.tf_states.specs.declared.state.FlowState.{FlowState}
 use Rattle.tf_journal.specs.Format.{Recovered, LeavesBodies, LeavesEither}
-use Rattle.tf_journal.specs.declared.title.Title.TheVariants.{Book as book_title}
-use Rattle.tf_book.specs.Book.{BookValue, outline, bodies_of, flow_state, IsHistoryOf}
+use Rattle.tf_journal.specs.declared.title.Title.TheVariants.{Book2 as book_title}
+use Rattle.tf_details.specs.Elements.{IsHistoryOf, IsLegalBook}
+use Rattle.tf_details.specs.Contents.{IsContents, with_entries}
+use Rattle.tf_book.specs.Book.{BookValue, outline, bodies_with, flow_state}
 use Rattle.tf_book.specs.SessionInvariant.{SessionInvariant, IsExact, StaysOffDisk}
 use Rattle.tf_book.specs.Turns.{IsPutBackOn, IsTried, IsNextReset}
 use Rattle.tf_bound.specs.Short.{AreShort, IsWithinLimits}
@@ -18,7 +20,7 @@ use Rattle.tf_engines.specs.Runs.{IsSession}
 use Rattle.tf_model.specs.Steps.{has_ended}
 use Rattle.tf_ports.specs.Ports.{GivenBack, wanted as number_of, CrewTold}
 use Rattle.tf_ports.specs.declared.crews.Want.{Want}
-use Rattle.tf_commands.specs.Books.{GoesOnBy, WereGiven, HasStopped, Unhired, Promised, book_at, HoldsHistory, IsPendingSo, MayLeave, PutBack, MayRun, Ran}
+use Rattle.tf_commands.specs.Books.{GoesOnBy, WereGiven, HasStopped, Unhired, Promised, IsFile, HoldsAsked, IsPendingSo, MayLeave, PutBack, MayRun, Ran}
 use Rattle.tf_report.specs.Closing.{disk_fault_text, book_full, ClosesWith}
 use Rattle.tf_report.specs.declared.statuses.TheConstants.{UNREAD, DISK_FAILED, UNSAID, UNHIRED, OUT_OF_MEMORY, FULL}
 use Rattle.tf_commands.specs.declared.running.Request.{Request}
@@ -49,9 +51,9 @@ pub record HasSaidHalt (why : Halt) (old new : DeskState) (status : ℕ) : Type 
   pub failed : status ≡ DISK_FAILED → why ≡ halt.Disk
   pub apart : (status ≢ UNREAD) × (status ≢ UNHIRED)
 
--- the file held the plan and the history of the book at entry
-abbrev pub HoldsBook : {K : Type 0} → List ℕ → DeskState → BookValue K → Type 0
-HoldsBook name entry book = IsTrue entry.tells → HoldsHistory book.plan book.past (book_at entry name)
+-- the file held the contents, the plan and the history of the book at entry, of the detail that is asked for
+abbrev pub HoldsBook : {K : Type 0} → List ℕ → Option (List ℕ) → DeskState → BookValue K → Type 0
+HoldsBook name wanted entry book = IsFile name entry (HoldsAsked wanted book.contents book.plan book.past)
 
 -- what a status tells of a run or a reset: the output or the disk failed only where its count rose
 pub record HasEnded (old new : DeskState) (status : ℕ) : Type 0 where
@@ -68,6 +70,7 @@ module _ {K : Type 0} (state : K → DeskState) where
     pub kept : SessionInvariant state start now
     pub session : IsSession gives asked (number_of request.want) request.limit (outline start) start.past now.past stop
     pub history : IsHistoryOf start.plan now.past
+    pub held : IsContents start.plan now.contents
     pub limits : IsWithinLimits (outline start)
     pub short_before : AreShort start.past
     pub short : AreShort now.past
@@ -79,17 +82,17 @@ module _ {K : Type 0} (state : K → DeskState) where
   pub record RunLasts (may : List Entry → Entry → Type 0) (first : Recovered) (start : BookValue K) (now : DeskState) (entries : List Entry) (closing : List ℕ) : Type 0 where
     pub pending : List Entry
     pub few : IsPendingSo may start.plan (entries ++ start.past) pending (book_desk start) now
-    pub history : IsHistoryOf start.plan (entries ++ start.past)
-    pub passes : Passes (MayLeave first start.plan start.quiet start.past entries pending (book_desk start).shown closing) (book_desk start) now
-    pub leaves : LeavesEither book_title now (bodies_of start.plan (entries ++ start.past)) (bodies_of start.plan (pending ++ (entries ++ start.past)))
-    pub exact : ¬ (Rises (book_desk start).disk_faults now.disk_faults) → IsExact (book_desk start) start.plan start.past
-        → IsExact now start.plan (entries ++ start.past)
+    pub legal : IsLegalBook (with_entries start.contents (pending ++ entries)).elements
+    pub passes : Passes (MayLeave first start.contents start.plan start.quiet start.past entries pending (book_desk start).shown closing) (book_desk start) now
+    pub leaves : LeavesEither book_title now (bodies_with start.contents entries) (bodies_with start.contents (pending ++ entries))
+    pub exact : ¬ (Rises (book_desk start).disk_faults now.disk_faults) → IsExact (book_desk start) start.contents
+        → IsExact now (with_entries start.contents entries)
 
   -- so it is where the desk tells, the book is kept in a file, and a crash at the start left just its bodies
   abbrev pub LastsFrom : (List Entry → Entry → Type 0) → BookValue K → DeskState → List Entry → List ℕ → Type 0
   LastsFrom may start now entries closing =
       IsTrue (book_desk start).tells → start.journal.volatile ≡ false
-      → LeavesBodies book_title (book_desk start) (bodies_of start.plan start.past)
+      → LeavesBodies book_title (book_desk start) (bodies_with start.contents [])
       → (first : Recovered) → RunLasts may first start now entries closing
 
   -- from the book on which a run began to the desk that it left, by hands that were given these orders
@@ -98,7 +101,7 @@ module _ {K : Type 0} (state : K → DeskState) where
     pub stop : Option FlowState
     pub closing : List ℕ
     pub lasts : LastsFrom (MayRun gives request start.plan) start now entries closing
-    pub ran : Ran gives request asked start.plan start.past entries stop (book_desk start).shown now.shown closing status
+    pub ran : Ran gives request asked start.contents start.plan start.past entries stop (book_desk start).shown now.shown closing status
     pub orders_given : WereGiven (HasStopped status) (outline start) start.past (entries ++ start.past) did
     pub continues : Continues (book_desk start) now
     pub off_disk : start.journal.volatile ≡ true → StaysOffDisk (book_desk start) now
@@ -107,6 +110,7 @@ module _ {K : Type 0} (state : K → DeskState) where
   -- the flow of a book is put back: some of what that records was recorded
   pub record IsPutBackTo (start now : BookValue K) : Type 0 where
     pub kept : SessionInvariant state start now
+    pub held : IsContents start.plan now.contents
     pub put : IsPutBackOn (outline start) start.past now.past
     pub speaks : start.quiet ≡ false
     pub failed : IsTried (IsNextReset (outline start) now.past) now.halt now.failed
@@ -116,7 +120,7 @@ module _ {K : Type 0} (state : K → DeskState) where
     pub entries : List Entry
     pub closing : List ℕ
     pub lasts : LastsFrom (IsNextReset (outline start)) start now entries closing
-    pub put_back : PutBack start.plan start.past entries (book_desk start).shown now.shown closing status
+    pub put_back : PutBack start.contents start.plan start.past entries (book_desk start).shown now.shown closing status
     pub continues : Continues (book_desk start) now
     pub ended : HasEnded (book_desk start) now status
 
@@ -126,5 +130,5 @@ pub data GoesFurther {K : Type 0} (gives : Order → Outcome → Type 0) (reques
   nobody : has_ended (flow_state book) ≡ false → Unhired name entry now crew crew_after status
       → GoesFurther gives request asked name entry book crew crew_after now status
   went_on : (back : GivenBack) → GoesOnBy (flow_state book) request.want crew crew_after back
-      → Promised gives request asked back name book.plan book.past entry now status
+      → Promised gives request asked back name book.contents book.plan book.past entry now status
       → GoesFurther gives request asked name entry book crew crew_after now status

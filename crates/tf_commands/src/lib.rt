@@ -8,6 +8,8 @@ mod books;
 mod checking;
 mod crew;
 mod demoing;
+mod detailing;
+mod finding;
 mod messages;
 mod reading;
 mod recording;

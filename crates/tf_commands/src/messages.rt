@@ -2,14 +2,15 @@ ghost use Rattle.std.specs.Prelude.{◌≡◌, ◌≤◌, [], ◌∷◌, ◌++�
 ghost use Rattle.std.specs.List.{flat_map};
 ghost use Rattle.tf_numbers.specs.Numbers.{which_below};
 ghost use Rattle.tf_model.specs.Plan.{outline_of, count, is_task};
-ghost use Rattle.tf_commands.specs.Messages.{limit_word as word_of_limit, checked, summary, tasks_below, spaced, plan_fault_text, file_fault_text, compile_fault_text, scope_fault_text, target_fault_text, reason_text, refusal, state_forbids};
+ghost use Rattle.tf_commands.specs.Messages.{limit_word as word_of_limit, checked, summary, tasks_below, spaced, plan_fault_text, file_fault_text, compile_fault_text, scope_fault_text, target_fault_text, reason_text, refusal, no_flow_named, state_forbids, detail_lines};
 
 use tf_accept::Refusal;
+use tf_book::Detail;
 use tf_files::{FileFault, Path};
 use tf_flow::{Limit, Plan, PlanFault};
 use tf_order::CompileFault;
 use tf_report::{
-    append, append_counted, append_named, append_number, append_pair, flow_name, flow_word,
+    append, append_counted, append_named, append_number, append_pair, detail, flow_name, flow_word,
 };
 use tf_scopes::ScopeFault;
 use tf_states::FlowState;
@@ -28,18 +29,43 @@ pub const LOG_TOO_LONG: &[u8] = b"taskflow: audit: too long\n";
 /// The message for a book that holds no flow.
 pub const NO_FLOW: &[u8] = b"taskflow: no flow in the book\n";
 
-/// Appends the message for a flow whose state forbids a command.
+/// The message for a book that holds as many flows as it may.
+pub const TOO_MANY_FLOWS: &[u8] = b"taskflow: too many flows: 64\n";
+
+/// Appends the message for a book that holds no flow of this name.
+#[tactic(auto, unfolding(crate::specs::Messages::no_flow_named))]
+pub fn append_no_flow_named(name: &Name, out: &mut Vec<u8>) -> Result<(), Memory>
+    ensures { OnOk result (out.new.items ≡ out.old.items ++ no_flow_named name.now) }
+{
+    append_pair(b"taskflow: no flow: ", name.bytes(), out)?;
+    append(b"\n", out)
+}
+
+/// Appends the message for a flow of this name whose state forbids a command.
 #[tactic(auto, unfolding(crate::specs::Messages::state_forbids))]
-pub fn append_state_forbids(plan: &Plan, state: FlowState, out: &mut Vec<u8>) -> Result<(), Memory>
-    ensures { OnOk result (out.new.items ≡ out.old.items ++ state_forbids (outline_of plan.now) state) }
+pub fn append_state_forbids(name: &Name, state: FlowState, out: &mut Vec<u8>) -> Result<(), Memory>
+    ensures { OnOk result (out.new.items ≡ out.old.items ++ state_forbids name.now state) }
 {
     append_named(
         b"taskflow: state forbids: ",
-        flow_name(plan, 0),
+        name.bytes(),
         flow_word(state),
         out,
     )?;
     append(b"\n", out)
+}
+
+/// Appends the lines of the details of a book, in the order of their numbers.
+pub fn append_details(list: &[Detail], out: &mut Vec<u8>) -> Result<(), Memory>
+    requires few { length list.now ≤ 64 }
+    ensures { OnOk result (out.new.items ≡ out.old.items ++ detail_lines 0 list.now) }
+{
+    let mut number = 0;
+    'listing: for found in list {
+        detail(number, &found.name, found.state, out)?;
+        number += 1;
+    }
+    Ok(())
 }
 
 /// Appends what a check says of a plan.

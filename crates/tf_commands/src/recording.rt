@@ -1,32 +1,35 @@
-//! A run that is recorded in a book: it begins in a file that holds no flow.
+//! A run that is recorded in a book: it begins as a new detail.
 
-ghost use Rattle.std.specs.Prelude.{◌≡◌, ◌≤◌, ◌⊎◌, ℕ, List, [], map, Some, vec_len};
+ghost use Rattle.std.specs.Prelude.{◌≡◌, ◌≤◌, ◌⊎◌, ℕ, List, [], map, Some, false, vec_len};
 ghost use Rattle.std.specs.List.{AllByRecursion};
 ghost use Rattle.tf_flow.specs.Plan.{plan_tree};
 ghost use Rattle.tf_ports.specs.Ports.{gives_by, IsFresh, wanted as number_of};
 ghost use Rattle.tf_machine.specs.Machine.{StandsFor};
-ghost use Rattle.tf_book.specs.Book.{outline, flow_state};
+ghost use Rattle.tf_book.specs.Shelf.{desk_of, is_volatile};
+ghost use Rattle.tf_book.specs.Starting.{HasPlaceFor};
 ghost use Rattle.tf_commands.specs.Asking.{AreHands, HasEachCause, WasAsked, counts_of};
-ghost use Rattle.tf_commands.specs.Begun.{desk_in, IsBlank, IsFoundBlank};
-ghost use Rattle.tf_commands.specs.Books.{Hires, RefusesOrStops, Unhired, Promised, Runs, HasSaid};
+ghost use Rattle.tf_commands.specs.Begun.{IsShelf, IsShelfOf};
+ghost use Rattle.tf_commands.specs.Books.{Hires, Unhired, RunsAnew, Runs};
 ghost use Rattle.tf_commands.specs.Course.{FileRead, IsUntouched, HiresAtMost};
-ghost use Rattle.tf_commands.specs.Messages.{state_forbids};
-ghost use Rattle.tf_journal.specs.Start.{Untouched, Open};
 
-use crate::books::{Blank, begin, open, refuse_book, say_over, say_unbegun, say_unhired};
-use crate::messages::append_state_forbids;
+use crate::books::{begin, forbid, open, refuse_book, say_over, say_unbegun, say_unhired};
+use crate::finding::state_named;
+use crate::messages::TOO_MANY_FLOWS;
 use crate::reading::{Source, open_file};
 use crate::running::{Over, Request, run_book};
 use std::alloc::Global;
 use std::sync::Wait;
 use std::thread::Threads;
 use tf_actions::Performer;
-use tf_book::{Book, Loaded};
+use tf_book::Shelf;
 use tf_desk::Desk;
 use tf_machine::Machine;
 use tf_ports::{Crew, Hands, Sources};
-use tf_report::{FORBIDDEN, OUT_OF_MEMORY, UNSAID};
+use tf_report::FORBIDDEN;
 use tf_values::Text;
+
+/// The most details of a book.
+const DETAIL_LIMIT: usize = 64;
 
 /// Reads the file, opens the book, hires the hands that are wanted and runs the file's flow with them.
 pub fn run_file<K: Desk + Send, S: Sources, W: Crew, R: Threads + Wait + Sync>(
@@ -79,119 +82,122 @@ pub fn run_plan<K: Desk + Send, W: Crew, R: Threads + Wait + Sync>(
         (counts_of (K.state result.desk) 0 (W.faults crew.new)) }
 {
     match open(alloc, desk, name) {
-        Ok(Loaded::Book(book)) => forbid(alloc, book),
-        Ok(Loaded::NoFlow(journal)) => hire_and_run(
-            rt,
-            alloc,
-            machine,
-            Blank::Titled(journal),
-            request,
-            crew,
-        ),
-        Ok(Loaded::Unborn(desk)) => hire_and_run(
-            rt,
-            alloc,
-            machine,
-            Blank::Unborn(desk),
-            request,
-            crew,
-        ),
+        Ok(shelf) => run_anew(rt, alloc, machine, shelf, request, crew),
         Err((desk, fault)) => refuse_book(alloc, desk, fault),
     }
 }
 
-/// Says that the flow which a book holds forbids what is asked for.
-pub fn forbid<K: Desk>(alloc: Global, book: Book<K>) -> Over<K>
-    ensures refuses { (name : List ℕ) (entry : K)
-        → Untouched name (K.state entry) (K.state book.journal.desk)
-        → RefusesOrStops name (K.state entry) (K.state result.desk)
-        (state_forbids (outline book) (flow_state book)) FORBIDDEN result.status }
-    ensures said { HasSaid (K.state book.journal.desk) (K.state result.desk) result.status }
-    ensures status { (result.status ≡ FORBIDDEN) ⊎ (result.status ≡ UNSAID) ⊎ (result.status ≡ OUT_OF_MEMORY) }
+/// Runs the plan of a machine as a new detail of a book, unless one has its name, or there are as many as there may be.
+fn run_anew<K: Desk + Send, W: Crew, R: Threads + Wait + Sync>(
+    rt: &R,
+    alloc: Global,
+    machine: Machine,
+    shelf: Shelf<K>,
+    request: &Request,
+    crew: &mut W,
+) -> Over<K>
+    requires fresh { StandsFor machine [] }
+    requires kept { is_volatile shelf.place ≡ false }
+    requires few { AreHands request.now.want }
+    ensures runs { (name : List ℕ) (entry : K)
+        → IsShelfOf K.state name (K.state entry) shelf
+        → Runs (gives_by W.Hand.gives W.Far.gives request.now.want) request.now
+        (WasAsked (K.state (desk_of shelf)) (K.state result.desk)) name
+        (W.told crew.old) (W.told crew.new) (K.state entry) (K.state result.desk)
+        (plan_tree machine.plan) result.status }
+    ensures hires { HiresAtMost request.now.want (W.told crew.old) (W.told crew.new) }
+    ensures asks { (K.state (desk_of shelf)).asks ≤ (K.state result.desk).asks }
+    ensures causes { HasEachCause result.status (counts_of (K.state (desk_of shelf)) 0 (W.faults crew.old))
+        (counts_of (K.state result.desk) 0 (W.faults crew.new)) }
 {
-    let mut text = Vec::new(alloc);
-    let state = book.state();
-    let made = append_state_forbids(book.machine().plan(), state, &mut text);
-    let desk = book.close();
-    match made {
-        Ok(()) => say_over(&text, FORBIDDEN, desk),
-        Err(_) => Over {
-            desk,
-            status: OUT_OF_MEMORY,
-        },
+    let named = machine.plan().root().name;
+    let list = shelf.details();
+    match state_named(list, &named) {
+        Some(state) => {
+            drop(machine);
+            forbid(alloc, &named, state, shelf.close())
+        }
+        None => {
+            if list.len() >= DETAIL_LIMIT {
+                drop(machine);
+                return say_over(TOO_MANY_FLOWS, FORBIDDEN, shelf.close());
+            }
+            hire_and_run(rt, alloc, machine, shelf, request, crew)
+        }
     }
 }
 
-/// Hires the hands that are wanted, and runs the plan of a machine with them in a file that holds no flow.
+/// Hires the hands that are wanted, and runs the plan of a machine with them as a new detail of a book.
 #[tactic(auto, using(crate::proofs::WantLemmas::near_count, crate::proofs::WantLemmas::far_count, crate::proofs::WantLemmas::near_fresh, crate::proofs::WantLemmas::far_fresh))]
 fn hire_and_run<K: Desk + Send, W: Crew, R: Threads + Wait + Sync>(
     rt: &R,
     alloc: Global,
     machine: Machine,
-    blank: Blank<K>,
+    shelf: Shelf<K>,
     request: &Request,
     crew: &mut W,
 ) -> Over<K>
     requires fresh { StandsFor machine [] }
-    requires blank { IsBlank K.state blank }
+    requires shelf { IsShelf K.state shelf }
+    requires place { HasPlaceFor shelf.elements machine.plan }
     requires few { AreHands request.now.want }
     ensures runs { (name : List ℕ) (entry : K)
-        → Open name (K.state entry) (K.state (desk_in blank))
-        → IsFoundBlank name (K.state entry) blank
+        → IsShelfOf K.state name (K.state entry) shelf
         → (Unhired name (K.state entry) (K.state result.desk) (W.told crew.old) (W.told crew.new) result.status
         ⊎ (Hires request.now.want (W.told crew.old) (W.told crew.new)
-        × Promised (gives_by W.Hand.gives W.Far.gives request.now.want) request.now
-        (WasAsked (K.state (desk_in blank)) (K.state result.desk)) (W.told crew.new).back
-        name machine.plan [] (K.state entry) (K.state result.desk) result.status)) }
+        × RunsAnew (gives_by W.Hand.gives W.Far.gives request.now.want) request.now
+        (WasAsked (K.state (desk_of shelf)) (K.state result.desk)) (W.told crew.new).back
+        name shelf.elements machine.plan (K.state entry) (K.state result.desk) result.status)) }
     ensures hires { HiresAtMost request.now.want (W.told crew.old) (W.told crew.new) }
-    ensures asks { (K.state (desk_in blank)).asks ≤ (K.state result.desk).asks }
-    ensures causes { HasEachCause result.status (counts_of (K.state (desk_in blank)) 0 (W.faults crew.old))
+    ensures asks { (K.state (desk_of shelf)).asks ≤ (K.state result.desk).asks }
+    ensures causes { HasEachCause result.status (counts_of (K.state (desk_of shelf)) 0 (W.faults crew.old))
         (counts_of (K.state result.desk) 0 (W.faults crew.new)) }
 {
     match crew.hire(alloc, &request.want) {
         Ok(Hands::Local(mut hands)) => {
-            let over = run_in(rt, alloc, machine, blank, request, &mut hands);
+            let over = run_in(rt, alloc, machine, shelf, request, &mut hands);
             crew.dismiss(Hands::Local(hands));
             over
         }
         Ok(Hands::Remote(mut hands)) => {
-            let over = run_in(rt, alloc, machine, blank, request, &mut hands);
+            let over = run_in(rt, alloc, machine, shelf, request, &mut hands);
             crew.dismiss(Hands::Remote(hands));
             over
         }
         Err(fault) => {
             drop(machine);
-            say_unhired(blank.into_desk(), fault)
+            say_unhired(shelf.close(), fault)
         }
     }
 }
 
-/// Runs the plan of a machine with the hands that were hired for it in a file that holds no flow.
+/// Runs the plan of a machine with the hands that were hired for it as a new detail of a book.
 fn run_in<K: Desk + Send, P: Performer + Send, R: Threads + Wait + Sync>(
     rt: &R,
     alloc: Global,
     machine: Machine,
-    blank: Blank<K>,
+    shelf: Shelf<K>,
     request: &Request,
     hands: &mut Vec<P>,
 ) -> Over<K>
     requires fresh { StandsFor machine [] }
-    requires blank { IsBlank K.state blank }
+    requires shelf { IsShelf K.state shelf }
+    requires place { HasPlaceFor shelf.elements machine.plan }
     requires all { vec_len hands.old ≡ number_of request.now.want }
     requires few { AreHands request.now.want }
     requires idle { AllByRecursion IsFresh (map P.did hands.old.items) }
     ensures runs { (name : List ℕ) (entry : K)
-        → Open name (K.state entry) (K.state (desk_in blank))
-        → IsFoundBlank name (K.state entry) blank
-        → Promised P.gives request.now (WasAsked (K.state (desk_in blank)) (K.state result.desk))
-        (Some (map P.did hands.new.items)) name machine.plan [] (K.state entry) (K.state result.desk) result.status }
-    ensures asks { (K.state (desk_in blank)).asks ≤ (K.state result.desk).asks }
-    ensures causes { HasEachCause result.status (counts_of (K.state (desk_in blank)) 0 0)
+        → IsShelfOf K.state name (K.state entry) shelf
+        → RunsAnew P.gives request.now (WasAsked (K.state (desk_of shelf)) (K.state result.desk))
+        (Some (map P.did hands.new.items)) name shelf.elements machine.plan
+        (K.state entry) (K.state result.desk) result.status }
+    ensures asks { (K.state (desk_of shelf)).asks ≤ (K.state result.desk).asks }
+    ensures causes { HasEachCause result.status (counts_of (K.state (desk_of shelf)) 0 0)
         (counts_of (K.state result.desk) 0 0) }
     ensures back { vec_len hands.new ≡ vec_len hands.old }
 {
-    match begin(alloc, blank, machine, request.quiet) {
+    match begin(shelf, machine, request.quiet) {
         Ok(book) => run_book(rt, alloc, book, hands, request),
-        Err((desk, fault)) => say_unbegun::<K, P>(desk, fault),
+        Err((desk, fault)) => say_unbegun::<K, P>(alloc, desk, fault),
     }
 }

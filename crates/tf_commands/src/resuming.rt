@@ -1,6 +1,6 @@
 //! A run that goes on from the history which a book holds.
 
-ghost use Rattle.std.specs.Prelude.{◌≡◌, ◌≢◌, ◌≤◌, ℕ, List, [], false, None, Some};
+ghost use Rattle.std.specs.Prelude.{◌≡◌, ◌≢◌, ◌≤◌, ℕ, List, [], Option, false, None, Some};
 ghost use Rattle.tf_book.specs.Book.{BookValue, flow_state};
 ghost use Rattle.tf_model.specs.Steps.{has_ended};
 ghost use Rattle.tf_commands.specs.Asking.{AreHands, HasEachCause, WasAsked, counts_of};
@@ -10,24 +10,26 @@ ghost use Rattle.tf_commands.specs.Course.{HiresAtMost};
 ghost use Rattle.tf_commands.specs.Runs.{HoldsBook, GoesFurther, IsRunTo, RunsOn};
 ghost use Rattle.tf_journal.specs.Start.{Open};
 
-use crate::books::{open, refuse_book, say_empty, say_unhired};
+use crate::books::say_unhired;
+use crate::finding::open_flow;
 use crate::running::{Over, Request, report_end, run_book};
 use std::alloc::Global;
 use std::sync::Wait;
 use std::thread::Threads;
-use tf_book::{Book, Loaded};
+use tf_book::Book;
 use tf_desk::Desk;
 use tf_ports::{Crew, Hands, Want};
 use tf_report::{UNHIRED, UNREAD};
 use tf_states::FlowState;
-use tf_values::Text;
+use tf_values::{Name, Text};
 
-/// Opens the book, and runs its flow on with hands that are hired then, as it is requested; of a flow that has ended it
+/// Opens the flow of a book that is asked for, and runs it on with hands that are hired then, as it is requested; of a flow that has ended it
 /// says the report.
 pub fn resume_book<K: Desk + Send, W: Crew, R: Threads + Wait + Sync>(
     rt: &R,
     alloc: Global,
     name: &Text,
+    wanted: &Option<Name>,
     request: &Request,
     desk: K,
     crew: &mut W,
@@ -35,21 +37,16 @@ pub fn resume_book<K: Desk + Send, W: Crew, R: Threads + Wait + Sync>(
     requires speaks { request.now.quiet ≡ false }
     requires few { AreHands request.now.want }
     ensures resumes { Resumes (gives_by W.Hand.gives W.Far.gives request.now.want) request.now
-        (WasAsked (K.state desk) (K.state result.desk)) name.now
+        (WasAsked (K.state desk) (K.state result.desk)) name.now wanted.now
         (W.told crew.old) (W.told crew.new) (K.state desk) (K.state result.desk) result.status }
     ensures hires { HiresAtMost request.now.want (W.told crew.old) (W.told crew.new) }
     ensures asks { (K.state desk).asks ≤ (K.state result.desk).asks }
     ensures causes { HasEachCause result.status (counts_of (K.state desk) 0 (W.faults crew.old))
         (counts_of (K.state result.desk) 0 (W.faults crew.new)) }
 {
-    match open(alloc, desk, name) {
-        Ok(Loaded::Book(book)) => {
-            let _plan = book.machine().plan();
-            go_on(rt, alloc, book, request, crew)
-        }
-        Ok(Loaded::NoFlow(journal)) => say_empty(journal.into_desk()),
-        Ok(Loaded::Unborn(desk)) => say_empty(desk),
-        Err((desk, fault)) => refuse_book(alloc, desk, fault),
+    match open_flow(alloc, desk, name, wanted) {
+        Ok(book) => go_on(rt, alloc, book, request, crew),
+        Err(over) => over,
     }
 }
 
@@ -66,9 +63,9 @@ fn go_on<K: Desk + Send, W: Crew, R: Threads + Wait + Sync>(
     requires spoken { request.now.quiet ≡ false }
     requires few { AreHands request.now.want }
     requires kept { book.journal.volatile ≡ false }
-    ensures goes { (name : List ℕ) (entry : K)
+    ensures goes { (name : List ℕ) (wanted : Option (List ℕ)) (entry : K)
         → Open name (K.state entry) (K.state book.journal.desk)
-        → HoldsBook name (K.state entry) book
+        → HoldsBook name wanted (K.state entry) book
         → GoesFurther (gives_by W.Hand.gives W.Far.gives request.now.want) request.now
         (WasAsked (K.state book.journal.desk) (K.state result.desk))
         name (K.state entry) book (W.told crew.old) (W.told crew.new) (K.state result.desk) result.status }
@@ -119,9 +116,9 @@ fn hire_and_go_on<K: Desk + Send, W: Crew, R: Threads + Wait + Sync>(
     requires few { AreHands request.now.want }
     requires kept { book.journal.volatile ≡ false }
     requires going { has_ended (flow_state book) ≡ false }
-    ensures goes { (name : List ℕ) (entry : K)
+    ensures goes { (name : List ℕ) (wanted : Option (List ℕ)) (entry : K)
         → Open name (K.state entry) (K.state book.journal.desk)
-        → HoldsBook name (K.state entry) book
+        → HoldsBook name wanted (K.state entry) book
         → GoesFurther (gives_by W.Hand.gives W.Far.gives request.now.want) request.now
         (WasAsked (K.state book.journal.desk) (K.state result.desk))
         name (K.state entry) book (W.told crew.old) (W.told crew.new) (K.state result.desk) result.status }

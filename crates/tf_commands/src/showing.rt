@@ -1,4 +1,4 @@
-//! How a book is shown: the lines of its whole history, and the table.
+//! How a flow of a book is shown: the lines of its whole history, and the table.
 
 ghost use Rattle.std.specs.Prelude.{◌≡◌, ◌≤◌, ◌⊎◌, ℕ, List};
 ghost use Rattle.tf_book.specs.Book.{outline};
@@ -7,26 +7,26 @@ ghost use Rattle.tf_commands.specs.Books.{RefusesOrStops, ShowsBook, HasSaid};
 ghost use Rattle.tf_commands.specs.Asking.{HasEachCause, counts_of};
 ghost use Rattle.tf_journal.specs.Start.{Untouched};
 
-use crate::books::{open, refuse_book, say_empty, say_over};
+use crate::books::say_over;
+use crate::finding::open_flow;
 use crate::running::Over;
 use std::alloc::Global;
-use tf_book::{Book, Loaded};
+use tf_book::Book;
 use tf_desk::Desk;
 use tf_report::{OUT_OF_MEMORY, SUCCEEDED, UNSAID};
-use tf_values::Text;
+use tf_values::{Name, Text};
 
-/// Opens the book, and says the lines of its whole history and the table. Nothing is recorded.
-pub fn show_book<K: Desk>(alloc: Global, name: &Text, desk: K) -> Over<K>
-    ensures shows { ShowsBook name.now (K.state desk) (K.state result.desk) result.status }
+/// Opens the flow of a book that is asked for, and says the lines of its whole history and the table. Nothing is
+/// recorded.
+pub fn show_book<K: Desk>(alloc: Global, name: &Text, wanted: &Option<Name>, desk: K) -> Over<K>
+    ensures shows { ShowsBook name.now wanted.now (K.state desk) (K.state result.desk) result.status }
     ensures causes { HasEachCause result.status (counts_of (K.state desk) 0 0)
         (counts_of (K.state result.desk) 0 0) }
     ensures asks { (K.state desk).asks ≤ (K.state result.desk).asks }
 {
-    match open(alloc, desk, name) {
-        Ok(Loaded::Book(book)) => say_whole(book),
-        Ok(Loaded::NoFlow(journal)) => say_empty(journal.into_desk()),
-        Ok(Loaded::Unborn(desk)) => say_empty(desk),
-        Err((desk, fault)) => refuse_book(alloc, desk, fault),
+    match open_flow(alloc, desk, name, wanted) {
+        Ok(book) => say_whole(book),
+        Err(over) => over,
     }
 }
 

@@ -4,16 +4,17 @@ ghost use Rattle.tf_numbers.specs.Numbers.{Rises};
 ghost use Rattle.tf_commands.specs.Asking.{IsWithin, want_of, IsWork, AsksForWork, HasCausesOr, HasNoFault, WasAsked, counts_of};
 ghost use Rattle.tf_commands.specs.Messages.{IsLogRefused};
 ghost use Rattle.tf_words.specs.Words.{command_of};
-ghost use Rattle.tf_commands.specs.Course.{Course, ports_told, HiresAsAsked, HiresAsWanted, Obeys, IsRefused, IsBoardRefused, MayBeDone, IsComplete};
+ghost use Rattle.tf_commands.specs.Course.{Course, ports_told, HiresAsAsked, HiresAsWanted, Obeys, IsRefused, IsBoardRefused, IsOldBook, MayBeDone, IsComplete};
 ghost use Rattle.tf_commands.specs.declared.auditing.TheConstants.{LOG_REFUSED};
 ghost use Rattle.tf_ports.specs.Ports.{gives_by};
-ghost use Rattle.tf_report.specs.declared.statuses.TheConstants.{BOARD_REFUSED};
+ghost use Rattle.tf_report.specs.declared.statuses.TheConstants.{BOARD_REFUSED, OLD_BOOK};
 ghost use Rattle.tf_words.specs.declared.asked.Asked.{Asked as AnAsked};
 
 use crate::auditing::audit_file;
 use crate::boards::{is_of_board, on_board};
 use crate::checking::check_file;
 use crate::demoing::demo_book;
+use crate::detailing::list_details;
 use crate::messages::USAGE;
 use crate::reading::Source;
 use crate::recording::run_file;
@@ -28,6 +29,7 @@ use std::sync::Wait;
 use std::thread::Threads;
 use tf_board_service::serve_command;
 use tf_desk::Desk;
+use tf_migration::migrate_command;
 use tf_ports::{Crew, Door, Sources};
 use tf_report::{NO_COMMAND, OUT_OF_MEMORY, REFUSED, close};
 use tf_runner::conduct_command;
@@ -76,6 +78,9 @@ pub fn taskflow<K: Desk + Send, S: Sources, W: Crew, L: Door, R: Threads + Wait 
 
     // Status 15 comes only where the words are a command on a board which refuses it, by the commands that its file has.
     ensures board_refused { result.status ≡ BOARD_REFUSED → IsBoardRefused words.now (K.state outside.desk) }
+
+    // Status 16 comes only where the words are a command on a book whose file is one of the older format.
+    ensures old_book { result.status ≡ OLD_BOOK → IsOldBook words.now (K.state outside.desk) }
 
     // Status 17 comes only where the words are an audit, whose flow file gives a plan, and whose log is too long or has a
     // line that can't be in a run of that plan.
@@ -266,6 +271,7 @@ fn obey_flow<K: Desk + Send, S: Sources, W: Crew, L: Door, R: Threads + Wait + S
         }
         Asked::Resume {
             book,
+            name,
             want,
             stop_after,
         } => {
@@ -274,10 +280,15 @@ fn obey_flow<K: Desk + Send, S: Sources, W: Crew, L: Door, R: Threads + Wait + S
                 quiet: false,
                 limit: stop_after,
             };
-            resume_book(rt, alloc, &book, &request, desk, crew)
+            resume_book(rt, alloc, &book, &name, &request, desk, crew)
         }
-        Asked::Show { book } => show_book(alloc, &book, desk),
-        Asked::Reset { book } => reset_book(alloc, &book, desk),
+        Asked::Show { book, name } => show_book(alloc, &book, &name, desk),
+        Asked::Reset { book, name } => reset_book(alloc, &book, &name, desk),
+        Asked::Details { book } => list_details(alloc, &book, desk),
+        Asked::Migrate { old, new } => {
+            let (desk, status) = migrate_command(alloc, &old, &new, desk);
+            Over { desk, status }
+        }
         Asked::Check { file, sets, target } => {
             let source = Source {
                 file,

@@ -16,9 +16,8 @@ use std::alloc::Global;
 use std::sync::Wait;
 use std::thread::Threads;
 use tf_actions::Performer;
-use tf_book::Book;
+use tf_book::Shelf;
 use tf_desk::Desk;
-use tf_journal::Journal;
 use tf_machine::Machine;
 use tf_ports::{Crew, Hands, Sources};
 use tf_report::OUT_OF_MEMORY;
@@ -95,7 +94,7 @@ fn try_plan<K: Desk + Send, W: Crew, R: Threads + Wait + Sync>(
     }
 }
 
-/// Runs the plan of a machine with the hands that were hired for it, in a journal that keeps nothing.
+/// Runs the plan of a machine with the hands that were hired for it, in a book that keeps nothing.
 fn try_with<K: Desk + Send, P: Performer + Send, R: Threads + Wait + Sync>(
     rt: &R,
     alloc: Global,
@@ -118,10 +117,10 @@ fn try_with<K: Desk + Send, P: Performer + Send, R: Threads + Wait + Sync>(
         (counts_of (K.state result.desk) 0 0) }
     ensures back { vec_len hands.new ≡ vec_len hands.old }
 {
-    match Journal::volatile(alloc, desk) {
-        Ok(journal) => match Book::start(alloc, journal, machine, false) {
+    match Shelf::volatile(alloc, desk) {
+        Ok(shelf) => match shelf.start(machine, false) {
             Ok(book) => run_book(rt, alloc, book, hands, request),
-            Err((desk, fault)) => say_unbegun::<K, P>(desk, fault),
+            Err((desk, fault)) => say_unbegun::<K, P>(alloc, desk, fault),
         },
         Err((desk, _)) => Over {
             desk,

@@ -1,0 +1,4 @@
+pub mod Flows
+pub mod Migrates
+pub mod Reading
+pub mod Writing

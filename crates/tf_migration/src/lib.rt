@@ -1,0 +1,13 @@
+//! A book of one flow is carried over into a book of several flows, which is there whole or not at all.
+#![tactic(auto)]
+
+mod bodies;
+mod commanding;
+mod flows;
+mod laws;
+mod messages;
+mod reading;
+mod writing;
+
+pub use commanding::migrate_command;
+pub use laws::{a_flow_carried_over_is_a_book, old_books_are_never_refused};
