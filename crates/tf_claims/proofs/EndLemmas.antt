@@ -25,7 +25,7 @@ use Rattle.tf_details.specs.Contents.{Contents, with_entries}
 use Rattle.tf_details.specs.Whole.{AreAlike}
 use Rattle.tf_details.proofs.FormLemmas.{same_outline}
 use Rattle.tf_details.proofs.OnceLemmas.{as_many, plan_alike, named_alike}
-use Rattle.tf_commands.specs.Books.{Promised, Resumes, Unfound, Unopened, Refuses, book_at, HoldsElements, HoldsAsked, HoldsWith, FindsSince, IsAskedFor, spoken_run, MayRun, HasReached, stop_status, IsLastSaid, ShowsLines}
+use Rattle.tf_commands.specs.Books.{Promised, Resumes, Unfound, Unopened, book_at, HoldsElements, HoldsAsked, HoldsWith, FindsSince, IsAskedFor, spoken_run, MayRun, HasReached, stop_status, IsLastSaid, ShowsLines}
 use Rattle.tf_commands.specs.Course as course
 use Rattle.tf_commands.specs.Course.{Course, Obeys, IsRunComplete, HoldsFlow}
 use Rattle.tf_report.specs.Closing.{ClosesWith}
@@ -112,15 +112,30 @@ same_detail {wanted} {contents} {other} {plan} {its} {past} {before} first secon
       past_is = sym second.holds.past_is ∙ sym (alike.histories other.number) ∙ ap (λ (n : ℕ). history n contents.elements) (sym number) ∙ first.holds.past_is;
     }
 
+-- the contents of one reading with entries, where the other has them
+held_with : {wanted : Option (List ℕ)} {contents other : Contents} {plan its : PlanValue} {past before : List Entry} {first later : Recovered} → HoldsAsked wanted contents plan past first
+    → HoldsAsked wanted other its before first → (entries : List Entry) → HoldsWith other entries later → HoldsWith contents entries later
+held_with {wanted} {contents} {other} {plan} {its} {past} {before} {first} {later} holds held entries on =
+    subst (λ (n : ℕ). HoldsElements (map (an_entry n) entries ++ contents.elements) later) (sym (same_detail holds held).number)
+    (grows_so (map (an_entry other.number) entries) (held_elements holds.holds) (held_elements held.holds) on)
+
+-- how a call ends that couldn't have the flow which the file holds
+module _ {name : List ℕ} {wanted : Option (List ℕ)} {entry now : DeskState} {status : ℕ} (told : IsTrue entry.tells) (complete : IsRunComplete status) {contents : Contents} {plan : PlanValue} {past : List Entry}
+    (holds : HoldsAsked wanted contents plan past (book_at entry name)) where
+  unopened_ends : Unopened name entry now status → EndsAsStated contents plan past (file_of now name) status
+  unopened_ends (books.exhausted s) = subst (EndsAsStated contents plan past (file_of now name)) (sym s.status_is) exhausted
+  unopened_ends (books.disk_failed_opening r) = never_closes complete r.closes (λ n. omega arith) (λ n. omega arith) (λ n. omega arith) (λ n. omega arith) (λ n. omega arith)
+  unopened_ends (books.old_book old r) = never_closes complete r.closes (λ n. omega arith) (λ n. omega arith) (λ n. omega arith) (λ n. omega arith) (λ n. omega arith)
+  unopened_ends (books.no_book offset byte none r) = absurd (is_book (book_at entry name) (held_elements holds.holds) offset byte (none told))
+
+  unfound_ends : Unfound name wanted entry now status → EndsAsStated contents plan past (file_of now name) status
+  unfound_ends (books.unopened_book u) = unopened_ends u
+  unfound_ends (books.empty none r) = never_closes complete r.closes (λ n. omega arith) (λ n. omega arith) (λ n. omega arith) (λ n. omega arith) (λ n. omega arith)
+  unfound_ends (books.not_there elements sought is held some none r) =
+      never_closes complete r.closes (λ n. omega arith) (λ n. omega arith) (λ n. omega arith) (λ n. omega arith) (λ n. omega arith)
+
 module _ {gives : Order → Outcome → Type 0} {hands : Want} {stopped : Type 0} {name : List ℕ} {entry now : DeskState} {status : ℕ} {wanted : Option (List ℕ)} (told : IsTrue entry.tells)
     (undamaged : ¬ (Rises entry.disk_faults now.disk_faults)) (complete : IsRunComplete status) where
-  -- the contents of one reading with entries, where the other has them
-  held_with : {contents other : Contents} {plan its : PlanValue} {past before : List Entry} → HoldsAsked wanted contents plan past (book_at entry name)
-      → HoldsAsked wanted other its before (book_at entry name) → (entries : List Entry) → HoldsWith other entries (book_at now name) → HoldsWith contents entries (book_at now name)
-  held_with {contents} {other} holds held entries on =
-      subst (λ (n : ℕ). HoldsElements (map (an_entry n) entries ++ contents.elements) (book_at now name)) (sym (same_detail holds held).number)
-      (grows_so (map (an_entry other.number) entries) (held_elements holds.holds) (held_elements held.holds) on)
-
   -- the file after a run that met no fault of the disk
   file_then : {contents other : Contents} {plan its : PlanValue} {past before : List Entry} {back : GivenBack} → HoldsAsked wanted contents plan past (book_at entry name)
       → HoldsAsked wanted other its before (book_at entry name) → (p : Promised gives (spoken_run hands None) stopped back name other its before entry now status)
@@ -174,30 +189,13 @@ module _ {gives : Order → Outcome → Type 0} {hands : Want} {stopped : Type 0
       by _ _ good (books.line_cut prefix) = never good 7 refl (λ n. omega arith) (λ n. omega arith) (λ n. omega arith) (λ n. omega arith) (λ n. omega arith)
       by _ _ good (books.stopped same) = exhausted
 
-  -- a message whose status is none of them wasn't said
-  never_said : {message : List ℕ} {its_status : ℕ} {X : Type 0} → Refuses name entry now message its_status status → its_status ≢ 0 → its_status ≢ 10 → its_status ≢ 11 → its_status ≢ 9 → its_status ≢ 13 → X
-  never_said r a b c d e = never_closes complete r.closes a b c d e
-
-  unopened_ends : {contents : Contents} {plan : PlanValue} {past : List Entry} → HoldsAsked wanted contents plan past (book_at entry name) → Unopened name entry now status
-      → EndsAsStated contents plan past (file_of now name) status
-  unopened_ends {contents} {plan} {past} holds (books.exhausted s) = subst (EndsAsStated contents plan past (file_of now name)) (sym s.status_is) exhausted
-  unopened_ends holds (books.disk_failed_opening r) = never_said r (λ n. omega arith) (λ n. omega arith) (λ n. omega arith) (λ n. omega arith) (λ n. omega arith)
-  unopened_ends holds (books.old_book old r) = never_said r (λ n. omega arith) (λ n. omega arith) (λ n. omega arith) (λ n. omega arith) (λ n. omega arith)
-  unopened_ends holds (books.no_book offset byte none r) = absurd (is_book (book_at entry name) (held_elements holds.holds) offset byte (none told))
-
-  unfound_ends : {contents : Contents} {plan : PlanValue} {past : List Entry} → HoldsAsked wanted contents plan past (book_at entry name) → Unfound name wanted entry now status
-      → EndsAsStated contents plan past (file_of now name) status
-  unfound_ends holds (books.unopened_book u) = unopened_ends holds u
-  unfound_ends holds (books.empty none r) = never_said r (λ n. omega arith) (λ n. omega arith) (λ n. omega arith) (λ n. omega arith) (λ n. omega arith)
-  unfound_ends holds (books.not_there elements sought is held some none r) = never_said r (λ n. omega arith) (λ n. omega arith) (λ n. omega arith) (λ n. omega arith) (λ n. omega arith)
-
   resume_ends : {contents : Contents} {plan : PlanValue} {past : List Entry} {crew crew_after : CrewTold} → HoldsAsked wanted contents plan past (book_at entry name)
       → Resumes gives (spoken_run hands None) stopped name wanted crew crew_after entry now status → EndsAsStated contents plan past (file_of now name) status
-  resume_ends holds (books.unfound_again same u) = unfound_ends holds u
+  resume_ends holds (books.unfound_again same u) = unfound_ends told complete holds u
   resume_ends {contents} {plan} {past} holds (books.unhired_again other its before held going (books.exhausted_hire same s)) =
       subst (EndsAsStated contents plan past (file_of now name)) (sym s.status_is) exhausted
   resume_ends holds (books.unhired_again other its before held going (books.unhired same r)) =
-      never_said r (λ n. omega arith) (λ n. omega arith) (λ n. omega arith) (λ n. omega arith) (λ n. omega arith)
+      never_closes complete r.closes (λ n. omega arith) (λ n. omega arith) (λ n. omega arith) (λ n. omega arith) (λ n. omega arith)
   resume_ends holds (books.resumed other its before can held back how p) = run_ends holds (held told) p
 
 -- a file that holds the flow which is asked for is a book of it

@@ -16,7 +16,7 @@ use Rattle.tf_words.specs.declared.asked.Asked.{Asked}
 use Rattle.tf_board.specs.Board.{bodies_of as commands_bodies, board_in, Holds, Finds, IsAsBeforeOrMade, command_bytes}
 use Rattle.tf_board.specs.Does.{HoldsEither}
 use Rattle.tf_board.specs.declared.commands.Command.{Command}
-use Rattle.tf_journal.specs.Format.{bodies, Recovered}
+use Rattle.tf_journal.specs.Format.{bodies, unborn}
 use Rattle.tf_details.specs.Elements.{Element, bodies_of}
 use Rattle.tf_details.specs.Contents.{Contents}
 use Rattle.tf_commands.specs.Asking.{want_of, WasAsked}
@@ -24,12 +24,13 @@ use Rattle.tf_words.specs.Words.{command_of}
 use Rattle.tf_commands.specs.Course as course
 use Rattle.tf_commands.specs.Course.{Course, Obeys, FileRead, IsUntouched}
 use Rattle.tf_commands.specs.Books.{NoFileChanges, book_in, book_at, HoldsElements, IsBookOf, Lasts}
-use Rattle.tf_claims.specs.Life.{file_of_command, IsAbout, Call, Leaves, returned, crashed, elsewhere, IsHired, AreRecorded}
+use Rattle.tf_migration.specs.Migrates.{IsFirstSync, first_sync_of}
+use Rattle.tf_claims.specs.Life.{file_of_command, IsMigration, CountsFrom, of_start, of_first_sync, Call, Leaves, returned, crashed, elsewhere, IsHired, AreRecorded}
 use Rattle.tf_claims.proofs.NameLemmas.{name_same}
 use Rattle.tf_model.specs.Plan.{Outline, outline_of}
 use Rattle.tf_claims.proofs.GivenLemmas.{GivesAll, pending_given, given_older}
 use Rattle.tf_claims.proofs.GrowthLemmas.{Grown, Behind, behind_held, behind_begun, held_elements, book_elements, grown_by, grown_since}
-use Rattle.tf_claims.proofs.WayLemmas.{Way, alone, recorded, began, unmade, jobs, served_jobs, way_others, Goes, untouched, about, itself, obeys_goes}
+use Rattle.tf_claims.proofs.WayLemmas.{Way, alone, recorded, began, unmade, jobs, served_jobs, way_others, Carried, Goes, untouched, about, carried, itself, obeys_goes}
 use Rattle.tf_board.proofs.StayLemmas.{some_body}
 use Rattle.tf_claims.proofs.TitleLemmas.{no_board_too, no_book_too, neither_bodies, neither_unborn}
 
@@ -140,9 +141,12 @@ module _ (first : Command) (rest : List Command) where
   not_made_board before now holds (inr made) = (let clash = sym holds ∙ made.0 in absurd (cc))
 
   -- a board is no book, and isn't a file that a book may be made of
-  no_book : {elements : List Element} (file : List ℕ) → Holds past (board_in file) → IsBookOf elements (book_in file) → ⊥
+  pub no_book : {elements : List Element} (file : List ℕ) → Holds past (board_in file) → IsBookOf elements (book_in file) → ⊥
   no_book file holds (inl book) = neither_bodies (no_book_too file (commands_bodies past) holds) book.is
   no_book file holds (inr young) = neither_unborn (no_book_too file (commands_bodies past) holds) young.1
+
+  pub born : (file : List ℕ) → Holds past (board_in file) → ¬ (book_in file ≡ unborn)
+  born file holds young = neither_unborn (no_book_too file (commands_bodies past) holds) young
 
   -- what is left of a board
   board_effect : {gives : Want → Order → Outcome → Type 0} {able : ℕ → Want → Type 0} {name : List ℕ} {entry now : DeskState} → Holds past (board_in (file_of entry name)) → Way gives able name entry now → Effect (GrownBoard past) name entry now
@@ -179,13 +183,25 @@ quiet_file name entry now same = ap (λ (f : List ℕ → Option (List ℕ)). un
 other_file : (name : List ℕ) (entry now : DeskState) → now.content.files name ≡ entry.content.files name → file_of now name ≡ file_of entry name
 other_file name entry now same = ap (λ (f : Option (List ℕ)). unwrap_or f []) same
 
--- the file that the words are about
-about_one : (words : List (List ℕ)) (name : List ℕ) (command : Asked) (file : List ℕ) → command_of words ≡ Some command → file_of_command command ≡ Some file
-    → IsAbout words name → name ≡ file
-about_one words name command file asks is one =
-    let same : one.0 ≡ command = (let both : Some one.0 ≡ Some command = sym one.1 ∙ asks in cc) in
-    let both : Some name ≡ Some file = sym one.2 ∙ ap file_of_command same ∙ is in
-    cc
+-- words are one command
+one_command : (words : List (List ℕ)) (one command : Asked) → command_of words ≡ Some one → command_of words ≡ Some command → one ≡ command
+one_command words one command first second = let both : Some one ≡ Some command = sym first ∙ second in cc
+
+-- about one file
+one_name : (one command : Asked) (name file : List ℕ) → one ≡ command → file_of_command one ≡ Some name → file_of_command command ≡ Some file → name ≡ file
+one_name one command name file same first second = let both : Some name ≡ Some file = sym first ∙ ap file_of_command same ∙ second in cc
+
+-- no crash counts of a call that picks and syncs nothing
+never_counts : {command : Asked} {name : List ℕ} {entry now : DeskState} {moment : ℕ} → now.content.marks ≡ entry.content.marks → CountsFrom command name entry now moment → ⊥
+never_counts same (of_start other start) = no_start same start
+never_counts {name = name} {entry} {moment = moment} same (of_first_sync migrates first) = never first.more none first.first
+  where
+    none : first.more ≡ []
+    none = append_cancel_left entry.content.marks first.more [] (sym first.added ∙ same ∙ sym (append-nil entry.content.marks))
+
+    never : (more : List Mark) → more ≡ [] → first_sync_of name more ≡ Some moment → ⊥
+    never [] is synced = cc
+    never (m ∷ more) is synced = absurd (cc)
 
 module _ {K : Type 0} (state : K → DeskState) (gives : Want → Order → Outcome → Type 0) (has : List ℕ → Type 0) where
   -- a file that stays has what it had
@@ -197,40 +213,70 @@ module _ {K : Type 0} (state : K → DeskState) (gives : Want → Order → Outc
       → (last : List ℕ) → Leaves state gives name call last → has last
   quiet_keeps name call same had _ returned =
       same_file (file_of (state call.entry) name) (file_of (state call.now) name) had (quiet_file name (state call.entry) (state call.now) (same call.tells).0)
-  quiet_keeps name call same had _ (crashed one moment start image text is) = absurd (no_start (same call.tells).1 start)
+  quiet_keeps name call same had _ (crashed one asks is moment counts image text left) = absurd (never_counts (same call.tells).1 counts)
   quiet_keeps name call same had _ (elsewhere other) = had
 
   -- a call about a file
-  way_keeps : (name file : List ℕ) (call : Call state gives) (command : Asked) → command_of call.words ≡ Some command → file_of_command command ≡ Some file
+  way_keeps : (name file : List ℕ) (call : Call state gives) (command : Asked) → command_of call.words ≡ Some command → file_of_command command ≡ Some file → ¬ (IsMigration command)
       → Way gives (IsHired state gives call) file (state call.entry) (state call.now) → has (file_of (state call.entry) name)
       → (Way gives (IsHired state gives call) name (state call.entry) (state call.now) → Effect has name (state call.entry) (state call.now))
       → (last : List ℕ) → Leaves state gives name call last → has last
-  way_keeps name file call command asks is way had effect last leaves = by (name_same name file) last leaves
+  way_keeps name file call command asks is other way had effect last leaves = by (name_same name file) last leaves
     where
       on : name ≡ file → Effect has name (state call.entry) (state call.now)
       on same = effect (subst (λ (f : List ℕ). Way gives (IsHired state gives call) f (state call.entry) (state call.now)) (sym same) way)
 
+      since : (one : Asked) → command_of call.words ≡ Some one → (moment : ℕ) → CountsFrom one name (state call.entry) (state call.now) moment → IsStart name (state call.entry) (state call.now) moment
+      since one asks_so moment (of_start apart start) = start
+      since one asks_so moment (of_first_sync migrates first) = absurd (other (subst IsMigration (one_command call.words one command asks_so asks) migrates))
+
       by : (name ≡ file) ⊎ (name ≢ file) → (left : List ℕ) → Leaves state gives name call left → has left
       by (inl same) _ returned = (on same).file
-      by (inl same) _ (crashed one moment start image text left) = (on same).crash moment start image text left
-      by (inl same) _ (elsewhere other) = had
+      by (inl same) _ (crashed one asks_so is_so moment counts image text left) = (on same).crash moment (since one asks_so moment counts) image text left
+      by (inl same) _ (elsewhere aside) = had
       by (inr apart) _ returned =
           same_file (file_of (state call.entry) name) (file_of (state call.now) name) had (other_file name (state call.entry) (state call.now) (way_others way name apart))
-      by (inr apart) _ (crashed one moment start image text left) = absurd (apart (about_one call.words name command file asks is one))
-      by (inr apart) _ (elsewhere other) = had
+      by (inr apart) _ (crashed one asks_so is_so moment counts image text left) = absurd (apart (one_name one command name file (one_command call.words one command asks_so asks) is_so is))
+      by (inr apart) _ (elsewhere aside) = had
+
+  -- a migration
+  carried_keeps : (name new : List ℕ) (call : Call state gives) (command : Asked) → command_of call.words ≡ Some command → file_of_command command ≡ Some new → IsMigration command
+      → Carried new (state call.entry) (state call.now) → has (file_of (state call.entry) name) → ¬ (book_at (state call.entry) name ≡ unborn)
+      → (last : List ℕ) → Leaves state gives name call last → has last
+  carried_keeps name new call command asks is migration c had some last leaves = by (name_same name new) last leaves
+    where
+      held : name ≡ new → ¬ (book_at (state call.entry) new ≡ unborn)
+      held same = subst (λ (f : List ℕ). ¬ (book_at (state call.entry) f ≡ unborn)) same some
+
+      had_there : name ≡ new → (bytes : List ℕ) → bytes ≡ file_of (state call.entry) new → has bytes
+      had_there same bytes is_so = same_file (file_of (state call.entry) name) bytes had (is_so ∙ ap (file_of (state call.entry)) (sym same))
+
+      since : (one : Asked) → command_of call.words ≡ Some one → (moment : ℕ) → CountsFrom one name (state call.entry) (state call.now) moment → IsFirstSync name (state call.entry) (state call.now) moment
+      since one asks_so moment (of_start apart start) = absurd (apart (subst IsMigration (sym (one_command call.words one command asks_so asks)) migration))
+      since one asks_so moment (of_first_sync migrates first) = first
+
+      by : (name ≡ new) ⊎ (name ≢ new) → (left : List ℕ) → Leaves state gives name call left → has left
+      by (inl same) _ returned = had_there same (file_of (state call.now) name) (ap (file_of (state call.now)) same ∙ c.kept (held same))
+      by (inl same) _ (crashed one asks_so is_so moment counts image text left) =
+          had_there same image (c.crash (held same) moment (subst (λ (f : List ℕ). IsFirstSync f (state call.entry) (state call.now) moment) same (since one asks_so moment counts)) image text left)
+      by (inl same) _ (elsewhere aside) = had
+      by (inr apart) _ returned = same_file (file_of (state call.entry) name) (file_of (state call.now) name) had (c.others name apart)
+      by (inr apart) _ (crashed one asks_so is_so moment counts image text left) = absurd (apart (one_name one command name new (one_command call.words one command asks_so asks) is_so is))
+      by (inr apart) _ (elsewhere aside) = had
 
   goes_keeps : (name : List ℕ) (call : Call state gives) (command : Asked) → command_of call.words ≡ Some command
-      → Goes gives (IsHired state gives call) (file_of_command command) (state call.entry) (state call.now) → has (file_of (state call.entry) name)
+      → Goes gives (IsHired state gives call) command (state call.entry) (state call.now) → has (file_of (state call.entry) name) → ¬ (book_at (state call.entry) name ≡ unborn)
       → (Way gives (IsHired state gives call) name (state call.entry) (state call.now) → Effect has name (state call.entry) (state call.now))
       → (last : List ℕ) → Leaves state gives name call last → has last
-  goes_keeps name call command asks (untouched same) had effect last leaves = quiet_keeps name call same had last leaves
-  goes_keeps name call command asks (about file is way) had effect last leaves = way_keeps name file call command asks is way had effect last leaves
+  goes_keeps name call command asks (untouched same) had some effect last leaves = quiet_keeps name call same had last leaves
+  goes_keeps name call command asks (about file is other way) had some effect last leaves = way_keeps name file call command asks is other way had effect last leaves
+  goes_keeps name call command asks (carried new is migration c) had some effect last leaves = carried_keeps name new call command asks is migration c had some last leaves
 
   -- what a call leaves of a file has what the file had, where each way of a call leaves that
-  pub call_keeps : (name : List ℕ) (call : Call state gives) → has (file_of (state call.entry) name)
+  pub call_keeps : (name : List ℕ) (call : Call state gives) → has (file_of (state call.entry) name) → ¬ (book_at (state call.entry) name ≡ unborn)
       → (Way gives (IsHired state gives call) name (state call.entry) (state call.now) → Effect has name (state call.entry) (state call.now))
       → (last : List ℕ) → Leaves state gives name call last → has last
-  call_keeps name call had effect last leaves = by call.course
+  call_keeps name call had some effect last leaves = by call.course
     where
       by : Course state gives (WasAsked (state call.entry) (state call.now)) call.words call.files call.ports call.later call.entry call.now call.status → has last
       by (course.unheard is same still) =
@@ -239,16 +285,17 @@ module _ {K : Type 0} (state : K → DeskState) (gives : Want → Order → Outc
       by (course.obeyed command asks obeys) =
           goes_keeps name call command asks
           (obeys_goes state gives (WasAsked (state call.entry) (state call.now)) command call.files call.ports call.later call.entry call.now call.status
-          (λ want is hires n among. record { wanted = ap (option_and_then want_of) asks ∙ is; hires = hires; among = among }) call.tells obeys) had effect last leaves
+          (λ want is hires n among. record { wanted = ap (option_and_then want_of) asks ∙ is; hires = hires; among = among }) call.tells obeys) had some effect last leaves
 
 -- what a call leaves of a file that is a book is what it held, with what was recorded behind it
 pub call_grows : {K : Type 0} (state : K → DeskState) (gives : Want → Order → Outcome → Type 0) {elements : List Element} (name : List ℕ) (call : Call state gives)
     → HoldsElements elements (book_at (state call.entry) name) → (last : List ℕ) → Leaves state gives name call last → Grown gives (IsHired state gives call) elements (book_in last)
 call_grows state gives {elements} name call holds last leaves =
-    call_keeps state gives (λ file. Grown gives (IsHired state gives call) elements (book_in file)) name call ([], holds, λ number plan is. tt) (λ way. way_effect holds way) last leaves
+    call_keeps state gives (λ file. Grown gives (IsHired state gives call) elements (book_in file)) name call ([], holds, λ number plan is. tt)
+    (λ young. (let clash = sym holds.is ∙ young in cc)) (λ way. way_effect holds way) last leaves
 
 -- and of a board that has a command, its commands with those that were added
 pub call_adds : {K : Type 0} (state : K → DeskState) (gives : Want → Order → Outcome → Type 0) {first : Command} {rest : List Command} (name : List ℕ) (call : Call state gives)
     → Holds (first ∷ rest) (board_in (file_of (state call.entry) name)) → (last : List ℕ) → Leaves state gives name call last → GrownBoard (first ∷ rest) last
 call_adds state gives {first} {rest} name call holds last leaves =
-    call_keeps state gives (GrownBoard (first ∷ rest)) name call ([], holds) (λ way. board_effect first rest holds way) last leaves
+    call_keeps state gives (GrownBoard (first ∷ rest)) name call ([], holds) (born first rest (file_of (state call.entry) name) holds) (λ way. board_effect first rest holds way) last leaves

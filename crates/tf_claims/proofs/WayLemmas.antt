@@ -9,6 +9,7 @@ use Rattle.tf_ports.specs.declared.crews.Address.{Address}
 use Rattle.tf_ports.specs.declared.crews.Want.{Want}
 use Rattle.tf_actions.specs.declared.orders.Order.{Order}
 use Rattle.tf_actions.specs.declared.outcomes.Outcome.{Outcome}
+use Rattle.tf_journal.specs.Format.{unborn}
 use Rattle.tf_journal.specs.Start.{IsStart, file_of}
 use Rattle.tf_words.specs.declared.asked.Asked.{Asked}
 use Rattle.tf_words.specs.declared.asked.Asked.TheVariants as asked
@@ -30,7 +31,9 @@ use Rattle.tf_commands.specs.Course as course
 use Rattle.tf_commands.specs.Course.{PortsTold, Course, Obeys, FileRead, IsUntouched}
 use Rattle.tf_commands.specs.declared.reading.Source.{Source}
 use Rattle.tf_commands.specs.declared.running.Request.{Request}
-use Rattle.tf_claims.specs.Life.{file_of_command}
+use Rattle.tf_migration.specs.Migrates as migrate
+use Rattle.tf_migration.specs.Migrates.{Migrates, IsFirstSync}
+use Rattle.tf_claims.specs.Life.{file_of_command, IsMigration}
 use Rattle.tf_claims.proofs.GivenLemmas.{GivesAll, run_gives, ended_gives, reset_gives}
 use Rattle.tf_claims.proofs.ServiceLemmas.{GrownBy, all_grown, crash_grown, conducted_grown, conducted_crash}
 
@@ -159,21 +162,39 @@ lists_way : {gives : Want → Order → Outcome → Type 0} {able : ℕ → Want
 lists_way name entry now status told (books.unopened_list u) = unopened_way name entry now status told u
 lists_way name entry now status told (books.were_listed elements found r) = alone _ (r.alone told)
 
--- a command that is about a file goes a way of that file, or touched none
-pub data Goes (gives : Want → Order → Outcome → Type 0) (able : ℕ → Want → Type 0) (file : Option (List ℕ)) (entry now : DeskState) : Type 1 where
-  untouched : NoFileChanges entry now → Goes gives able file entry now
-  about : (name : List ℕ) → file ≡ Some name → Way gives able name entry now → Goes gives able file entry now
+-- a migration left the other files, and the new book's where there was something; a crash since its first sync leaves that too
+pub record Carried (new : List ℕ) (entry now : DeskState) : Type 0 where
+  pub others : (name : List ℕ) → name ≢ new → file_of now name ≡ file_of entry name
+  pub kept : ¬ (book_at entry new ≡ unborn) → file_of now new ≡ file_of entry new
+  pub crash : ¬ (book_at entry new ≡ unborn) → (moment : ℕ) → IsFirstSync new entry now moment → (image text : List ℕ) → now.crashes moment image text → image ≡ file_of entry new
+
+migrates_so : (old new : List ℕ) (entry now : DeskState) (status : ℕ) → IsTrue entry.tells → Migrates old new entry now status → Carried new entry now
+migrates_so old new entry now status told (migrate.unread message wanted why ends stays) =
+    let s = stays told in record { others = s.stay; kept = λ some. s.file; crash = λ some moment first image text is. (s.crash moment first image text is).0 }
+migrates_so old new entry now status told (migrate.unbegun plan past message wanted held why ends stays) =
+    let s = stays told in record { others = s.stay; kept = λ some. s.file; crash = λ some moment first image text is. (s.crash moment first image text is).0 }
+migrates_so old new entry now status told (migrate.begun plan past left message wanted held young why ends lasts) = record {
+  others = (lasts told).stay;
+  kept = λ some. absurd (some (young told));
+  crash = λ some moment first image text is. absurd (some (young told));
+}
+
+-- a command that is about a file goes a way of that file, or touched none; a migration goes a way of its own
+pub data Goes (gives : Want → Order → Outcome → Type 0) (able : ℕ → Want → Type 0) (command : Asked) (entry now : DeskState) : Type 1 where
+  untouched : NoFileChanges entry now → Goes gives able command entry now
+  about : (name : List ℕ) → file_of_command command ≡ Some name → ¬ (IsMigration command) → Way gives able name entry now → Goes gives able command entry now
+  carried : (new : List ℕ) → file_of_command command ≡ Some new → IsMigration command → Carried new entry now → Goes gives able command entry now
 
 -- a run of what a flow file gives
-file_goes : {gives : Want → Order → Outcome → Type 0} {able : ℕ → Want → Type 0} {files : Contents} {source : Source} {crew crew_after : CrewTold} {does : PlanTree → ℕ → Type 0} {before after : Option (List ℕ)} (name : List ℕ) (entry now : DeskState)
-    (status : ℕ) → ((tree : PlanTree) → does tree status → Way gives able name entry now) → FileRead files source (IsUntouched crew crew_after entry now) does before after status
-    → Goes gives able (Some name) entry now
-file_goes name entry now status way (course.unfinished still is same) = untouched still.1
-file_goes name entry now status way (course.unread still closes) = untouched still.1
-file_goes name entry now status way (course.too_long still passes closes) = untouched still.1
-file_goes name entry now status way (course.read bytes given short (course.exhausted still is same)) = untouched still.1
-file_goes name entry now status way (course.read bytes given short (course.refused still why none closes)) = untouched still.1
-file_goes name entry now status way (course.read bytes given short (course.done tree gives did)) = about name refl (way tree did)
+file_goes : {gives : Want → Order → Outcome → Type 0} {able : ℕ → Want → Type 0} {command : Asked} {files : Contents} {source : Source} {crew crew_after : CrewTold} {does : PlanTree → ℕ → Type 0} {before after : Option (List ℕ)} (name : List ℕ) (entry now : DeskState)
+    (status : ℕ) → file_of_command command ≡ Some name → ¬ (IsMigration command) → ((tree : PlanTree) → does tree status → Way gives able name entry now)
+    → FileRead files source (IsUntouched crew crew_after entry now) does before after status → Goes gives able command entry now
+file_goes name entry now status is other way (course.unfinished still ends same) = untouched still.1
+file_goes name entry now status is other way (course.unread still closes) = untouched still.1
+file_goes name entry now status is other way (course.too_long still passes closes) = untouched still.1
+file_goes name entry now status is other way (course.read bytes given short (course.exhausted still ends same)) = untouched still.1
+file_goes name entry now status is other way (course.read bytes given short (course.refused still why none closes)) = untouched still.1
+file_goes name entry now status is other way (course.read bytes given short (course.done tree gives did)) = about name is other (way tree did)
 
 -- nothing happened
 pub itself : (entry : DeskState) → NoFileChanges entry entry
@@ -181,34 +202,37 @@ itself entry told = (refl, refl)
 
 module _ {K : Type 0} (state : K → DeskState) (gives : Want → Order → Outcome → Type 0) where
   demo_goes : {able : ℕ → Want → Type 0} {hands : Want} {stopped : Type 0} (name : List ℕ) (crew crew_after : CrewTold) (entry now : K) (seed size status : ℕ) → Allows able hands crew crew_after → IsTrue (state entry).tells
-      → Demonstrates state (gives hands) hands stopped name crew crew_after entry now seed size status → Goes gives able (Some name) (state entry) (state now)
-  demo_goes name crew crew_after entry now seed size status allow told (books.ungenerated is same still) =
+      → Demonstrates state (gives hands) hands stopped name crew crew_after entry now seed size status → (command : Asked) → file_of_command command ≡ Some name → ¬ (IsMigration command)
+      → Goes gives able command (state entry) (state now)
+  demo_goes name crew crew_after entry now seed size status allow told (books.ungenerated is same still) command its other =
       untouched (subst (λ (k : K). NoFileChanges (state entry) (state k)) (sym still) (itself (state entry)))
-  demo_goes name crew crew_after entry now seed size status allow told (books.demonstrated r) =
-      about name refl (runs_way name crew crew_after (state entry) (state now) _ status allow told r)
+  demo_goes name crew crew_after entry now seed size status allow told (books.demonstrated r) command its other =
+      about name its other (runs_way name crew crew_after (state entry) (state now) _ status allow told r)
 
   pub obeys_goes : {able : ℕ → Want → Type 0} (stopped : Type 0) (command : Asked) (files : Contents) (ports later : PortsTold) (entry now : K) (status : ℕ)
       → ((want : Want) → want_of command ≡ Some want → Allows able want ports.crew later.crew) → IsTrue (state entry).tells
-      → Obeys state gives stopped command files ports later entry now status → Goes gives able (file_of_command command) (state entry) (state now)
+      → Obeys state gives stopped command files ports later entry now status → Goes gives able command (state entry) (state now)
   obeys_goes stopped (asked.Try file sets defer hands target) files ports later entry now status allow told obeys = untouched obeys.1.0
   obeys_goes stopped (asked.Check file sets target) files ports later entry now status allow told obeys = untouched obeys.1.1
   obeys_goes stopped (asked.Audit file log sets defer) files ports later entry now status allow told obeys = untouched obeys.1.1
   obeys_goes stopped (asked.Run file book sets defer hands stop target) files ports later entry now status allow told obeys =
-      file_goes book (state entry) (state now) status (λ tree did. runs_way book ports.crew later.crew (state entry) (state now) tree status (allow hands refl) told did) obeys
-  obeys_goes stopped (asked.Resume book wanted hands stop) files ports later entry now status allow told obeys = about book refl (resumes_way book wanted ports.crew later.crew (state entry) (state now) status (allow hands refl) told obeys)
-  obeys_goes stopped (asked.Show book wanted) files ports later entry now status allow told obeys = about book refl (shows_way book wanted (state entry) (state now) status told obeys.0)
-  obeys_goes stopped (asked.Reset book wanted) files ports later entry now status allow told obeys = about book refl (resets_way book wanted (state entry) (state now) status told obeys.0)
-  obeys_goes stopped (asked.Details book) files ports later entry now status allow told obeys = about book refl (lists_way book (state entry) (state now) status told obeys.0)
-  obeys_goes stopped (asked.Demo seed size book hands) files ports later entry now status allow told obeys = demo_goes book ports.crew later.crew entry now seed size status (allow _ refl) told obeys
+      file_goes book (state entry) (state now) status refl (λ is. is) (λ tree did. runs_way book ports.crew later.crew (state entry) (state now) tree status (allow hands refl) told did) obeys
+  obeys_goes stopped (asked.Resume book wanted hands stop) files ports later entry now status allow told obeys = about book refl (λ is. is) (resumes_way book wanted ports.crew later.crew (state entry) (state now) status (allow hands refl) told obeys)
+  obeys_goes stopped (asked.Show book wanted) files ports later entry now status allow told obeys = about book refl (λ is. is) (shows_way book wanted (state entry) (state now) status told obeys.0)
+  obeys_goes stopped (asked.Reset book wanted) files ports later entry now status allow told obeys = about book refl (λ is. is) (resets_way book wanted (state entry) (state now) status told obeys.0)
+  obeys_goes stopped (asked.Details book) files ports later entry now status allow told obeys = about book refl (λ is. is) (lists_way book (state entry) (state now) status told obeys.0)
+  obeys_goes stopped (asked.Demo seed size book hands) files ports later entry now status allow told obeys = demo_goes book ports.crew later.crew entry now seed size status (allow _ refl) told obeys _ refl (λ is. is)
+  obeys_goes stopped (asked.Migrate old new) files ports later entry now status allow told obeys =
+      carried new refl tt (migrates_so old new (state entry) (state now) status told obeys.0)
   obeys_goes stopped (asked.Worker address sessions) files ports later entry now status allow told obeys = untouched obeys.1
-  obeys_goes stopped (asked.Post file name priority details) files ports later entry now status allow told obeys = about file refl (does_way _ file (state entry) (state now) status told obeys.0)
-  obeys_goes stopped (asked.Claim file id owner) files ports later entry now status allow told obeys = about file refl (does_way _ file (state entry) (state now) status told obeys.0)
-  obeys_goes stopped (asked.Abandon file id owner) files ports later entry now status allow told obeys = about file refl (does_way _ file (state entry) (state now) status told obeys.0)
-  obeys_goes stopped (asked.Consume file id owner) files ports later entry now status allow told obeys = about file refl (does_way _ file (state entry) (state now) status told obeys.0)
-  obeys_goes stopped (asked.Trash file id owner) files ports later entry now status allow told obeys = about file refl (does_way _ file (state entry) (state now) status told obeys.0)
-  obeys_goes stopped (asked.Owner file id) files ports later entry now status allow told obeys = about file refl (does_way _ file (state entry) (state now) status told obeys.0)
-  obeys_goes stopped (asked.List file) files ports later entry now status allow told obeys = about file refl (does_way _ file (state entry) (state now) status told obeys.0)
+  obeys_goes stopped (asked.Post file name priority details) files ports later entry now status allow told obeys = about file refl (λ is. is) (does_way _ file (state entry) (state now) status told obeys.0)
+  obeys_goes stopped (asked.Claim file id owner) files ports later entry now status allow told obeys = about file refl (λ is. is) (does_way _ file (state entry) (state now) status told obeys.0)
+  obeys_goes stopped (asked.Abandon file id owner) files ports later entry now status allow told obeys = about file refl (λ is. is) (does_way _ file (state entry) (state now) status told obeys.0)
+  obeys_goes stopped (asked.Consume file id owner) files ports later entry now status allow told obeys = about file refl (λ is. is) (does_way _ file (state entry) (state now) status told obeys.0)
+  obeys_goes stopped (asked.Trash file id owner) files ports later entry now status allow told obeys = about file refl (λ is. is) (does_way _ file (state entry) (state now) status told obeys.0)
+  obeys_goes stopped (asked.Owner file id) files ports later entry now status allow told obeys = about file refl (λ is. is) (does_way _ file (state entry) (state now) status told obeys.0)
+  obeys_goes stopped (asked.List file) files ports later entry now status allow told obeys = about file refl (λ is. is) (does_way _ file (state entry) (state now) status told obeys.0)
   obeys_goes stopped (asked.Conduct file owner hands) files ports later entry now status allow told obeys =
-      about file refl (conducts_way files ports.crew later.crew file owner hands (state entry) (state now) status told obeys.0)
+      about file refl (λ is. is) (conducts_way files ports.crew later.crew file owner hands (state entry) (state now) status told obeys.0)
   obeys_goes stopped (asked.Serve file address sessions) files ports later entry now status allow told obeys =
-      about file refl (serves_way file address sessions ports.door later.door (state entry) (state now) status told obeys.0)
+      about file refl (λ is. is) (serves_way file address sessions ports.door later.door (state entry) (state now) status told obeys.0)

@@ -1,13 +1,14 @@
 -- What a migration comes to: what becomes of the files, what is said, and the status. Histories have the newest entry first.
-use Rattle.std.specs.Prelude.{◌≡◌, ◌≢◌, ◌⊎◌, ◌≤◌, ℕ, IsTrue, List, ◌∷◌, [], ◌++◌, length, codes, Option, Some}
+use Rattle.std.specs.Prelude.{◌≡◌, ◌≢◌, ◌⊎◌, ℕ, IsTrue, List, ◌∷◌, [], ◌++◌, length, codes, Option, None, Some, ◌==◌, if◌then◌else◌}
+use Rattle.std.specs.Cmp.Lexicographic.{pointwise}
 use Rattle.std.specs.Fmt.{decimal}
 use Rattle.tf_numbers.specs.Numbers.{Rises}
-use Rattle.tf_desk.specs.Crash.{Mark, at_pick, ShowsPrefix}
+use Rattle.tf_desk.specs.Crash.{Mark, at_pick, at_sync, ShowsPrefix}
 use Rattle.tf_desk.specs.State.{DeskState, MayLeave, Extends, IsUnasked, Says, anything}
 use Rattle.tf_states.specs.declared.record.Entry.{Entry}
 use Rattle.tf_flow.specs.Plan.{PlanValue}
 use Rattle.tf_journal.specs.Format.{Recovered, unborn}
-use Rattle.tf_journal.specs.Start.{file_of, first_sync, IsStart}
+use Rattle.tf_journal.specs.Start.{file_of, first_sync}
 use Rattle.tf_report.specs.Closing.{disk_fault_text, book_full, ClosesWithOrStops, not_a_book}
 use Rattle.tf_report.specs.declared.statuses.TheConstants.{SUCCEEDED, DISK_FAILED, NO_BOOK, UNSAID, OUT_OF_MEMORY, FULL, FORBIDDEN}
 use Rattle.tf_migration.specs.Flows.{new_bodies, old_at, new_in, new_at, HoldsFlow, HoldsNoFlow, IsNoBook}
@@ -50,43 +51,38 @@ pub data IsBegunFor (plan : PlanValue) (past : List Entry) : Left → List ℕ �
 
 -- ---- what becomes of the files
 
--- no file changed; a crash since the call's start leaves the file of that name as it was, and a prefix of the message shown
-pub record StaysAlone (name : List ℕ) (entry now : DeskState) (message : List ℕ) : Type 0 where
-  pub file : file_of now name ≡ file_of entry name
-  pub others : (other : List ℕ) → other ≢ name → now.content.files other ≡ entry.content.files other
-  pub crash : (moment : ℕ) → IsStart name entry now moment → (image text : List ℕ) → now.crashes moment image text
-      → (image ≡ file_of entry name) × ShowsPrefix entry.shown message (Some text)
+-- the moment of the first sync that answered Ok behind the first pick of that name
+abbrev pub first_sync_of : List ℕ → List Mark → Option ℕ
+first_sync_of name [] = None
+first_sync_of name (at_pick other moment ∷ marks) = if pointwise ◌==◌ other name then first_sync marks else first_sync_of name marks
+first_sync_of name (at_sync moment ∷ marks) = first_sync_of name marks
 
--- the file of that name was picked in this call behind these marks, and at that moment a sync was the first that answered Ok since
-pub record IsFirstSync (name : List ℕ) (before : List Mark) (entry now : DeskState) (moment : ℕ) : Type 0 where
-  pub picked : ℕ
+-- the file of that name was picked in this call, and its first sync came at that moment
+pub record IsFirstSync (name : List ℕ) (entry now : DeskState) (moment : ℕ) : Type 0 where
   pub more : List Mark
-  pub added : now.content.marks ≡ entry.content.marks ++ (before ++ at_pick name picked ∷ more)
-  pub first : first_sync more ≡ Some moment
+  pub added : now.content.marks ≡ entry.content.marks ++ more
+  pub first : first_sync_of name more ≡ Some moment
 
--- no file but the new book's changed
-pub record OthersStay (old new : List ℕ) (entry now : DeskState) : Type 0 where
-  pub old_file : file_of now old ≡ file_of entry old
-  pub others : (other : List ℕ) → other ≢ old → other ≢ new → now.content.files other ≡ entry.content.files other
+-- no file changed but the new book's, where it did
+abbrev pub OthersStay : List ℕ → DeskState → DeskState → Type 0
+OthersStay new entry now = (name : List ℕ) → name ≢ new → file_of now name ≡ file_of entry name
 
 -- and nor did that; a crash since its first sync leaves it as it was, and a prefix of the message shown
-pub record StaysUnbegun (old new : List ℕ) (entry now : DeskState) (message : List ℕ) : Type 0 where
-  pub stay : OthersStay old new entry now
+pub record StaysUnbegun (new : List ℕ) (entry now : DeskState) (message : List ℕ) : Type 0 where
+  pub stay : OthersStay new entry now
   pub file : file_of now new ≡ file_of entry new
-  pub read : List Mark
-  pub crash : (moment : ℕ) → IsFirstSync new read entry now moment → (image text : List ℕ) → now.crashes moment image text
+  pub crash : (moment : ℕ) → IsFirstSync new entry now moment → (image text : List ℕ) → now.crashes moment image text
       → (image ≡ file_of entry new) × ShowsPrefix entry.shown message (Some text)
 
 -- and of that so much is there now, and after each later crash; a crash since its first sync leaves it unborn and nothing said, or so much of it and a
 -- prefix of the message shown
-pub record Lasts (old new : List ℕ) (held : List (List ℕ)) (left : Left) (entry now : DeskState) (message : List ℕ) : Type 0 where
-  pub stay : OthersStay old new entry now
+pub record Lasts (new : List ℕ) (held : List (List ℕ)) (left : Left) (entry now : DeskState) (message : List ℕ) : Type 0 where
+  pub stay : OthersStay new entry now
   pub file : Finds left held (new_at now new)
   pub picked : now.content.picked ≡ Some new
   pub later : (image : List ℕ) → MayLeave now image → Finds left held (new_in image)
-  pub read : List Mark
-  pub synced : (moment : ℕ) × IsFirstSync new read entry now moment
-  pub crash : (moment : ℕ) → IsFirstSync new read entry now moment → (image text : List ℕ) → now.crashes moment image text
+  pub synced : (moment : ℕ) × IsFirstSync new entry now moment
+  pub crash : (moment : ℕ) → IsFirstSync new entry now moment → (image text : List ℕ) → now.crashes moment image text
       → ((new_in image ≡ unborn) × (entry.shown ≡ Some text)) ⊎ (Finds left held (new_in image) × ShowsPrefix entry.shown message (Some text))
 
 -- ---- how a migration goes
@@ -96,20 +92,20 @@ pub data Migrates (old new : List ℕ) (entry now : DeskState) (status : ℕ) : 
   -- the old book gave no flow, and no file was written
   unread : (message : List ℕ) (wanted : ℕ) → IsUnreadFor (IsTrue entry.tells) (old_at entry old) message wanted
       → ClosesWithOrStops entry.shown message wanted now.shown status
-      → (IsTrue entry.tells → StaysAlone old entry now message)
+      → (IsTrue entry.tells → StaysUnbegun new entry now message)
       → Migrates old new entry now status
   -- it gave its flow; the new book wasn't begun, and no file was written
   unbegun : (plan : PlanValue) (past : List Entry) (message : List ℕ) (wanted : ℕ) → (IsTrue entry.tells → HoldsFlow plan past (old_at entry old))
       → IsUnbegunFor (IsTrue entry.tells) (new_at entry new) message wanted
       → ClosesWithOrStops entry.shown message wanted now.shown status
-      → (IsTrue entry.tells → StaysUnbegun old new entry now message)
+      → (IsTrue entry.tells → StaysUnbegun new entry now message)
       → Migrates old new entry now status
   -- it gave its flow; the new book's file was unborn, and the book was begun
   begun : (plan : PlanValue) (past : List Entry) (left : Left) (message : List ℕ) (wanted : ℕ) → (IsTrue entry.tells → HoldsFlow plan past (old_at entry old))
       → (IsTrue entry.tells → new_at entry new ≡ unborn)
       → IsBegunFor plan past left message wanted
       → ClosesWithOrStops entry.shown message wanted now.shown status
-      → (IsTrue entry.tells → Lasts old new (new_bodies plan past) left entry now message)
+      → (IsTrue entry.tells → Lasts new (new_bodies plan past) left entry now message)
       → Migrates old new entry now status
 
 -- ---- when a status comes
