@@ -1,5 +1,5 @@
 -- How a detail is opened: what was read again is what the shelf has, and the book of it is sound.
-use Rattle.std.proofs.Common.{◌≡◌, ◌≢◌, ◌<◌, ◌≤◌, ◌⊎◌, inl, inr, ℕ, ◌+◌, Bool, true, false, List, length, Some, None, refl, sym, ap, ◌∙◌, subst, arith}
+use Rattle.std.proofs.Common.{◌≡◌, ◌<◌, ◌≤◌, ◌⊎◌, inl, inr, ℕ, ◌+◌, Bool, true, false, List, length, Some, None, refl, sym, ap, ◌∙◌, subst, arith}
 use Rattle.std.specs.Prelude.{IsTrue}
 use Rattle.tf_bound.specs.Short.{AreShort}
 use Rattle.tf_desk.specs.State.{DeskState}
@@ -12,7 +12,7 @@ use Rattle.tf_journal.specs.declared.title.Title.{Title}
 use Rattle.tf_journal.specs.declared.title.Title.TheVariants.{Book2 as book_title}
 use Rattle.tf_machine.specs.Machine.{MachineValue, StandsFor}
 use Rattle.tf_records.specs.Replaying.{HasReadAll, FailsToReadBack}
-use Rattle.tf_details.specs.Elements.{Element, details, plan_of, history, bodies_of, book_size, AreForms, IsHistoryOf, IsLegalBook, CannotFollow}
+use Rattle.tf_details.specs.Elements.{Element, details, plan_of, history, bodies_of, AreForms, IsHistoryOf, IsLegalBook, CannotFollow}
 use Rattle.tf_details.specs.Reading.{elements_in, HasGathered}
 use Rattle.tf_details.specs.declared.gathering.Gathering.{Gathering}
 use Rattle.tf_details.proofs.BookLemmas.{history_legal, size_is}

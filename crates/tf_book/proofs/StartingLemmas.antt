@@ -1,7 +1,6 @@
 -- How a new detail begins: where its body is added, why it isn't, and that the book of it is sound.
-use Rattle.std.proofs.Common.{◌≡◌, ◌≢◌, ◌<◌, ◌≤◌, ℕ, Bool, false, List, [], ◌∷◌, ◌++◌, length, Some, None, refl, sym, ap, ◌∙◌, subst, arith}
+use Rattle.std.proofs.Common.{◌≡◌, ◌≢◌, ◌<◌, ◌≤◌, ℕ, Bool, false, List, [], ◌∷◌, ◌++◌, length, None, refl, sym, ap, ◌∙◌, subst, arith}
 use Rattle.std.specs.Prelude.{IsTrue, Result, Ok, Err, IfOk, IfErr, vec_len, vec_capacity}
-use Rattle.tf_numbers.specs.Numbers.{Rises}
 use Rattle.tf_bound.specs.Short.{AreShort}
 use Rattle.tf_desk.specs.Crash.{Pairs}
 use Rattle.tf_desk.specs.State.{DeskState, bytes_now, anything, GoesOn, Passes, passes_none}
@@ -10,11 +9,11 @@ use Rattle.tf_desk.proofs.StateLemmas.{goes_none}
 use Rattle.tf_states.specs.declared.record.Entry.{Entry}
 use Rattle.tf_flow.specs.Plan.{PlanValue}
 use Rattle.tf_entries.specs.Plans.{IsPlan}
-use Rattle.tf_journal.specs.Format.{SIZE_LIMIT, journal_bytes, Held, IsBody, IsAtRest}
+use Rattle.tf_journal.specs.Format.{journal_bytes, Held, IsBody, IsAtRest}
 use Rattle.tf_journal.specs.declared.title.Title.TheVariants.{Book2 as book_title}
 use Rattle.tf_machine.specs.Machine.{MachineValue, StandsFor}
 use Rattle.tf_details.specs.Contents.{Contents, IsContents, past_of}
-use Rattle.tf_details.specs.Elements.{Element, detail, details, book_size, bodies_of, AreForms, IsAcceptedPlan, CanRun, IsHistoryOf, MayBegin, IsLegalBook}
+use Rattle.tf_details.specs.Elements.{Element, details, bodies_of, AreForms, IsAcceptedPlan, CanRun, IsHistoryOf, MayBegin, IsLegalBook}
 use Rattle.tf_details.proofs.BookLemmas.{at_last}
 use Rattle.tf_details.proofs.ContentsLemmas.{elements_long, elements_many}
 use Rattle.tf_details.proofs.ElementLemmas.{none_past}
