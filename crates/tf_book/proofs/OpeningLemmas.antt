@@ -1,5 +1,5 @@
 -- How a detail is opened: what was read again is what the shelf has, and the book of it is sound.
-use Rattle.std.proofs.Common.{◌≡◌, ◌≢◌, ◌<◌, ◌≤◌, ◌⊎◌, inl, inr, ℕ, ◌+◌, false, List, length, Some, None, refl, sym, ap, ◌∙◌, subst, arith}
+use Rattle.std.proofs.Common.{◌≡◌, ◌<◌, ◌≤◌, ◌⊎◌, inl, inr, ℕ, ◌+◌, Bool, true, false, List, length, Some, None, refl, sym, ap, ◌∙◌, subst, arith}
 use Rattle.std.specs.Prelude.{IsTrue}
 use Rattle.tf_bound.specs.Short.{AreShort}
 use Rattle.tf_desk.specs.State.{DeskState}
@@ -12,7 +12,7 @@ use Rattle.tf_journal.specs.declared.title.Title.{Title}
 use Rattle.tf_journal.specs.declared.title.Title.TheVariants.{Book2 as book_title}
 use Rattle.tf_machine.specs.Machine.{MachineValue, StandsFor}
 use Rattle.tf_records.specs.Replaying.{HasReadAll, FailsToReadBack}
-use Rattle.tf_details.specs.Elements.{Element, details, plan_of, history, bodies_of, book_size, AreForms, IsHistoryOf, IsLegalBook, CannotFollow}
+use Rattle.tf_details.specs.Elements.{Element, details, plan_of, history, bodies_of, AreForms, IsHistoryOf, IsLegalBook, CannotFollow}
 use Rattle.tf_details.specs.Reading.{elements_in, HasGathered}
 use Rattle.tf_details.specs.declared.gathering.Gathering.{Gathering}
 use Rattle.tf_details.proofs.BookLemmas.{history_legal, size_is}
@@ -20,9 +20,60 @@ use Rattle.tf_details.proofs.EntryLemmas.{short_past}
 use Rattle.tf_details.proofs.MachineLemmas.{as_many as machines_many}
 use Rattle.tf_details.proofs.OnceLemmas.{as_many, read_once, never_refused}
 use Rattle.tf_book.specs.Histories.{past_shown, framed_bodies, KeepsHistory}
-use Rattle.tf_book.specs.Shelf.{HoldsElements}
+use Rattle.tf_book.specs.Shelf.{ShelfValue, desk_at, desk_of, HoldsElements, IsPlaced}
+use Rattle.tf_book.specs.declared.shelf.Place.{Place}
+use Rattle.tf_book.specs.declared.shelf.Place.TheVariants as place
 use Rattle.tf_book.specs.Sound.{IsSoundBook}
 use Rattle.tf_book.specs.declared.history.History.{History}
+use Rattle.tf_book.proofs.ShelfLemmas.{kept_apart}
+
+-- a journal that was read back whole has the elements that were read
+pub read_holds : {K H : Type 0} (state : K → DeskState) (keeps : H → List Entry → Type 0) (old now : Held K) (g : Gathering H) → old.title ≡ book_title → old.halted ≡ false → old.volatile ≡ false
+    → (IsTrue (state old.desk).tells → (held : List (List ℕ)) × IsAtRest state old held) → HasReadAll state (HasGathered keeps) old g → OnlyReads state old now
+    → HoldsElements state now (elements_in g)
+read_holds {K} state keeps old now g titled sound kept rest read reads = record {
+  title = ap (λ (h : Held K). h.title) reads.journal ∙ titled;
+  sound = ap (λ (h : Held K). h.halted) reads.journal ∙ sound;
+  size = ap (λ (h : Held K). h.size) reads.journal ∙ read.size
+      ∙ ap (λ (t : Title). length (prefix_of t read.bodies) + 1) titled
+      ∙ ap (λ (b : List (List ℕ)). length (prefix_of book_title b) + 1) read.is_replayed.bodies_are
+      ∙ size_is (elements_in g);
+  limit = subst (λ (n : ℕ). n ≤ SIZE_LIMIT) (sym (ap (λ (h : Held K). h.size) reads.journal)) read.limit;
+  none_kept = λ volatile. absurd (kept_apart now.volatile volatile (ap (λ (h : Held K). h.volatile) reads.journal ∙ kept));
+  ready = λ opened.
+      let told : IsTrue (state old.desk).tells = subst IsTrue reads.rests.on_disk.tells opened.told in
+      let lies = rest told in
+      subst (IsAtRest state now) (read.whole told lies.0 lies.1.lies ∙ read.is_replayed.bodies_are) (reads.stays told lies.0 lies.1);
+}
+
+-- what is known of a shelf of which that detail is opened: its elements stand in a journal that is kept in a file
+pub record StandsIn {K : Type 0} (state : K → DeskState) (shelf : ShelfValue K) (number : ℕ) (journal : Held K) : Type 0 where
+  pub holds : HoldsElements state journal shelf.elements
+  pub legal : IsLegalBook shelf.elements
+  pub within : number < length (details shelf.elements)
+  pub kept : journal.volatile ≡ false
+  pub desk : desk_of shelf ≡ journal.desk
+
+-- a journal with a detail is kept in a file
+in_file : {K : Type 0} (state : K → DeskState) (journal : Held K) (elements : List Element) (number : ℕ) → HoldsElements state journal elements → number < length (details elements) → journal.volatile ≡ false
+in_file state journal elements number holds within = by journal.volatile refl
+  where
+    by : (volatile : Bool) → journal.volatile ≡ volatile → journal.volatile ≡ false
+    by false is = is
+    by true is = absurd (omega (arith, within, ap (λ (l : List Element). length (details l)) (holds.none_kept is)))
+
+pub stands_in : {K : Type 0} (state : K → DeskState) (o shelf : ShelfValue K) (number : ℕ) (journal : Held K) → o ≡ shelf → o.place ≡ place.Kept journal → IsPlaced state o.place o.elements
+    → IsLegalBook o.elements → number < length (details shelf.elements) → StandsIn state shelf number journal
+stands_in {K} state o shelf number journal same is placed legal within =
+    let holds : HoldsElements state journal shelf.elements =
+    subst (λ (s : ShelfValue K). HoldsElements state journal s.elements) same (subst (λ (p : Place K). IsPlaced state p o.elements) is placed) in
+    record {
+      holds = holds;
+      legal = subst (λ (s : ShelfValue K). IsLegalBook s.elements) same legal;
+      within = within;
+      kept = in_file state journal shelf.elements number holds within;
+      desk = sym (ap (λ (s : ShelfValue K). desk_of s) same) ∙ ap (λ (p : Place K). desk_at p) is;
+    }
 
 module _ {K : Type 0} (state : K → DeskState) where
   module _ (old : Held K) (elements : List Element) (holds : HoldsElements state old elements) (kept : old.volatile ≡ false) where
@@ -79,13 +130,11 @@ module _ {K : Type 0} (state : K → DeskState) where
         forms = subst AreForms (sym past_is) legal_past.forms;
         held = record { legal = r.legal; of_detail = found };
         told = sym past_is;
-        title = ap (λ (h : Held K). h.title) reads.journal ∙ holds.title;
-        sound = λ apart. ap (λ (h : Held K). h.halted) reads.journal ∙ holds.sound;
-        ready = λ opened.
-            let told : IsTrue (state old.desk).tells = subst IsTrue reads.rests.on_disk.tells opened.told in
-            subst (IsAtRest state now) (sym (same_bodies told)) (reads.stays told (bodies_of elements) (holds.ready (opened_then told)));
-        size = λ unhalted. size_now;
-        limit = subst (λ (n : ℕ). n ≤ SIZE_LIMIT) (sym (ap (λ (h : Held K). h.size) reads.journal)) read.limit;
+        title = now_holds.title;
+        sound = λ apart. now_holds.sound;
+        ready = now_holds.ready;
+        size = λ unhalted. now_holds.size;
+        limit = now_holds.limit;
       }
         where
           r : HasGathered KeepsHistory g read.bodies
@@ -97,9 +146,6 @@ module _ {K : Type 0} (state : K → DeskState) where
           legal_past : IsHistoryOf machine.plan (history number (elements_in g))
           legal_past = history_legal (elements_in g) number machine.plan r.legal found
 
-          size_now : now.size ≡ book_size (elements_in g)
-          size_now =
-              ap (λ (h : Held K). h.size) reads.journal ∙ read.size
-              ∙ ap (λ (t : Title). length (prefix_of t read.bodies) + 1) holds.title
-              ∙ ap (λ (b : List (List ℕ)). length (prefix_of book_title b) + 1) r.bodies_are
-              ∙ size_is (elements_in g)
+          now_holds : HoldsElements state now (elements_in g)
+          now_holds =
+              read_holds state KeepsHistory old now g holds.title holds.sound kept (λ told. (bodies_of elements, holds.ready (opened_then told))) read reads

@@ -23,7 +23,7 @@ no_elements [] are = refl
 no_elements (element ∷ before) are = absurd (not_empty (bodies_of before) [] (element_bytes element) (sym are))
 
 -- a journal isn't both
-kept_apart : (volatile : Bool) → volatile ≡ true → volatile ≡ false → ⊥
+pub kept_apart : (volatile : Bool) → volatile ≡ true → volatile ≡ false → ⊥
 kept_apart volatile is apart = cc
 
 -- a journal without a body that keeps nothing has no element
@@ -44,7 +44,9 @@ holds_none state journal elements none titled size sound volatile = record {
 first_at : (plans : List PlanValue) (n : ℕ) (plan : PlanValue) → slice_get plans n ≡ Some plan → drop n plans ≡ plan ∷ drop (n + 1) plans
 first_at [] n plan is = absurd (cc)
 first_at (first ∷ plans) zero plan is = ap (λ (p : PlanValue). p ∷ plans) (let same : first ≡ plan = cc in same)
-first_at (first ∷ plans) (suc n) plan is = first_at plans n plan is
+first_at (first ∷ plans) (suc n) plan is =
+    let on : suc (n + 1) ≡ suc n + 1 = omega arith in
+    first_at plans n plan is ∙ ap (λ (k : ℕ). plan ∷ drop k (first ∷ plans)) on
 
 -- it has as many as there are plans
 listed_many : (elements : List Element) (n : ℕ) (plans : List PlanValue) → length (listed_from elements n plans) ≡ length plans

@@ -1,5 +1,5 @@
 -- A book stays sound where an entry was to be recorded.
-use Rattle.std.proofs.Common.{◌≡◌, ◌≢◌, ◌≤◌, ℕ, ◌+◌, Bool, true, false, List, [], ◌∷◌, ◌++◌, length, Option, Some, None, refl, sym, ap, ◌∙◌, subst}
+use Rattle.std.proofs.Common.{◌≡◌, ◌≢◌, ◌≤◌, ℕ, ◌+◌, true, false, List, [], ◌∷◌, length, Option, Some, None, refl, sym, ap, ◌∙◌, subst}
 use Rattle.std.specs.Prelude.{IsTrue, Result, Ok, Err}
 use Rattle.tf_bound.specs.Short.{IsShortEvent}
 use Rattle.tf_desk.specs.State.{DeskState}
@@ -9,12 +9,11 @@ use Rattle.tf_entries.specs.Plans.{IsPlan}
 use Rattle.tf_journal.specs.Format.{SIZE_LIMIT, Held, IsAtRest, IsOpen}
 use Rattle.tf_machine.specs.Machine.{MachineValue, StandsFor}
 use Rattle.tf_model.specs.History.{snapshot}
-use Rattle.tf_model.specs.Plan.{outline_of}
 use Rattle.tf_model.specs.Steps.{Step}
 use Rattle.tf_details.specs.Elements.{IsForm}
 use Rattle.tf_details.specs.Contents.{Contents, with_entries, IsContents}
 use Rattle.tf_details.proofs.ContentsLemmas.{past_on, contents_on}
-use Rattle.tf_book.specs.Book.{BookValue, outline, moment, entry_body, bodies_with, size_of}
+use Rattle.tf_book.specs.Book.{BookValue, outline, moment, entry_body, bodies_with}
 use Rattle.tf_book.specs.Histories.{framed_bodies}
 use Rattle.tf_book.specs.Recording.{halt_after, past_after, contents_after}
 use Rattle.tf_book.specs.SessionInvariant.{is_logged, Logged}

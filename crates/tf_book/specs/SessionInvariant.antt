@@ -1,5 +1,5 @@
 -- What stays true of a book from the start of a session on, and how an entry is logged.
-use Rattle.std.specs.Prelude.{IsTrue, ◌≡◌, ◌⊎◌, ◌<◌, ◌≤◌, ℕ, ◌+◌, Bool, true, false, List, [], ◌∷◌, ◌++◌, Option, Some, Result, Ok, Err, if◌then◌else◌, length, ◌≢◌, None, reverse, map, vec_len, vec_capacity}
+use Rattle.std.specs.Prelude.{IsTrue, ◌≡◌, ◌⊎◌, ◌<◌, ◌≤◌, ℕ, ◌+◌, Bool, true, false, List, [], ◌∷◌, ◌++◌, Option, Some, Result, Ok, Err, if◌then◌else◌, length, ◌≢◌, None, vec_capacity}
 use Rattle.tf_numbers.specs.Numbers.{Rises}
 use Rattle.tf_desk.specs.Crash.{Pairs, shown_with, ShowsPrefix}
 use Rattle.tf_desk.specs.State.{DeskState, bytes_now, Passes, Continues, IsUnasked}
@@ -9,7 +9,6 @@ use Rattle.tf_book.specs.declared.faults.Halt.TheVariants as halt
 use Rattle.tf_flow.specs.Plan.{PlanValue}
 use Rattle.tf_states.specs.declared.record.Entry.{Entry}
 use Rattle.tf_states.specs.declared.state.FlowState.TheVariants as flow
-use Rattle.tf_entries.specs.Entries.{entry_bytes}
 use Rattle.tf_journal.specs.declared.title.Title.{Title}
 use Rattle.tf_journal.specs.declared.title.Title.TheVariants.{Book2 as book_title}
 use Rattle.tf_model.specs.History.{snapshot}

@@ -76,10 +76,10 @@ history_send : IsSend (history.the_field).row
 history_send = search (sendable, crosses, entry.the_send) depth 14
 
 mark_send : IsSend (mark.the_field).row
-mark_send = search (sendable, crosses, plan_send, entry.the_send) depth 14
+mark_send = search (sendable, crosses) depth 14
 
 holding_send : IsSend (holding.the_field).row
-holding_send = search (sendable, crosses, mark_send) depth 14
+holding_send = search (sendable, crosses) depth 14
 
 pub book_send : (K : RattleType) (g : Ghosts K.Denot) → IsSend K → IsSend (book.the_row K g)
 book_send K g k = search (sendable, crosses, heap.the_send, heap.the_field_send, journal.the_send, machine_send, history_send, holding_send, draft.the_send, draft.the_field_send, halt.the_send, entry.the_send) depth 24

@@ -40,8 +40,11 @@ invariant_of-self g c =
       w.holding_room,
       sound_after g.K.Desk.state _ _ _ i (ap (λ (b : BookValue _). b.halt) c.self.view_is ∙ c.requires.sound) _ _ c.write.new.journal _ _ c.args.entry _ _ _ c.write.result w.logged
           (subst (λ (b : BookValue _). Step (outline b) (moment b) c.args.entry) (sym c.self.view_is) c.requires.allowed) w.form.0 w.form.1
-          (λ on. (w.plan, (w.recorded on).stands _ i.stands,
-          (w.recorded on).bodies ∙ ap (λ (l : List ℕ). l ++ (length_bytes (length (entry_bytes c.args.entry)) ++ entry_bytes c.args.entry)) i.kept_is))
+          (λ on. (
+            w.plan,
+            (w.recorded on).stands _ i.stands,
+            (w.recorded on).bodies ∙ ap (λ (l : List ℕ). l ++ (length_bytes (length (entry_bytes c.args.entry)) ++ entry_bytes c.args.entry)) i.kept_is,
+          ))
           (λ off. ((w.unrecorded off).same, (w.unrecorded off).bodies))
           (past_turned _ _ _ _ (λ on. (w.recorded on).entries) (λ off. (w.unrecorded off).entries)) w.held
           (ap (λ (b : BookValue _). b.halt) c.self.view_is ∙ c.requires.sound ∙ sym (ap halt_after c.in-Ok.is)),
@@ -56,8 +59,11 @@ invariant_of-self-in-Err g c =
       w.holding_room,
       sound_after g.K.Desk.state _ _ _ i (ap (λ (b : BookValue _). b.halt) c.self.view_is ∙ c.requires.sound) _ _ c.write.new.journal _ _ c.args.entry _ _ _ c.write.result w.logged
           (subst (λ (b : BookValue _). Step (outline b) (moment b) c.args.entry) (sym c.self.view_is) c.requires.allowed) w.form.0 w.form.1
-          (λ on. (w.plan, (w.recorded on).stands _ i.stands,
-          (w.recorded on).bodies ∙ ap (λ (l : List ℕ). l ++ (length_bytes (length (entry_bytes c.args.entry)) ++ entry_bytes c.args.entry)) i.kept_is))
+          (λ on. (
+            w.plan,
+            (w.recorded on).stands _ i.stands,
+            (w.recorded on).bodies ∙ ap (λ (l : List ℕ). l ++ (length_bytes (length (entry_bytes c.args.entry)) ++ entry_bytes c.args.entry)) i.kept_is,
+          ))
           (λ off. ((w.unrecorded off).same, (w.unrecorded off).bodies))
           (past_turned _ _ _ _ (λ on. (w.recorded on).entries) (λ off. (w.unrecorded off).entries)) w.held
           (sym (ap halt_after c.in-Err.is)),

@@ -15,5 +15,5 @@ invariant_of-result g c =
       c.new.ensures.items ∙ sym (ap listed none),
     )
 
-pub returns-in-Ok-clause-none : goal.returns-in-Ok-clause-none
-returns-in-Ok-clause-none g c = no_elements _ c.in-Ok.ensures.gathered.bodies_are
+pub returns-in-Ok-volatile-clause-none : goal.returns-in-Ok-volatile-clause-none
+returns-in-Ok-volatile-clause-none g c = no_elements _ c.in-Ok.ensures.gathered.bodies_are
