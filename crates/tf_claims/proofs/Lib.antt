@@ -15,3 +15,4 @@ pub mod ClosingLemmas
 pub mod OwnerLemmas
 pub mod DoneLemmas
 pub mod OrderLemmas
+pub mod CarriedLemmas

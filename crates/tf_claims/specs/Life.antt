@@ -9,6 +9,7 @@ use Rattle.tf_ports.specs.Ports.{Contents, wanted as number_of}
 use Rattle.tf_ports.specs.declared.crews.Want.{Want}
 use Rattle.tf_actions.specs.declared.orders.Order.{Order}
 use Rattle.tf_actions.specs.declared.outcomes.Outcome.{Outcome}
+use Rattle.tf_journal.specs.Format.{Recovered}
 use Rattle.tf_journal.specs.Start.{file_of, IsStart}
 use Rattle.tf_hands.specs.Hands.{orders}
 use Rattle.tf_model.specs.Scope.{IsGiven}
@@ -28,6 +29,7 @@ use Rattle.tf_details.specs.Elements.{Element, plan_of, history}
 use Rattle.tf_details.specs.Contents.{Contents as BookContents, with_entries}
 use Rattle.tf_commands.specs.Books.{Hires, book_in, HoldsElements, IsShownThen, HasReached, stop_status}
 use Rattle.tf_commands.specs.Course.{PortsTold, Course, MayBeDone, IsComplete}
+use Rattle.tf_migration.specs.Flows.{HoldsFlow, carried}
 use Rattle.tf_migration.specs.Migrates.{IsFirstSync}
 use Rattle.tf_report.specs.declared.statuses.TheConstants.{OUT_OF_MEMORY, FULL}
 
@@ -139,6 +141,13 @@ pub record IsToldBy (contents : BookContents) (plan : PlanValue) (quiet : Bool) 
   pub kept : List Entry
   pub spoken : IsShownThen plan quiet before entries kept shown closing text
   pub holds : (kept ≡ []) ⊎ HoldsBeneath (with_entries contents kept).elements file
+
+-- a book of one flow held a plan and a history, and the file holds the flow with them as its detail 0, and perhaps more behind it
+pub record IsCarriedOver (old : Recovered) (file : List ℕ) : Type 0 where
+  pub plan : PlanValue
+  pub past : List Entry
+  pub had : HoldsFlow plan past old
+  pub stands : HoldsBeneath (carried plan past) file
 
 -- a run that goes on from what the file held ended as stated: memory ran out; or the next record would make the book longer than its limit; or the
 -- file holds that with what was recorded, whose end is that of the flow, and the status tells it: 0 for SUCCESS, 10 for REVERTED, which is

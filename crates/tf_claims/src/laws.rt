@@ -21,8 +21,10 @@ ghost use Rattle.tf_words.specs.Words.{command_of};
 ghost use Rattle.tf_commands.specs.Books.{Promised, PutsBack, book_in, book_at, HoldsElements, HoldsAsked, HoldsWith};
 ghost use Rattle.tf_details.specs.Elements.{Element, history};
 ghost use Rattle.tf_details.specs.Contents.{Contents, with_entries};
+ghost use Rattle.tf_migration.specs.Flows.{old_at};
+ghost use Rattle.tf_migration.specs.Migrates.{Migrates};
 ghost use Rattle.tf_commands.specs.declared.running.Request.{Request};
-ghost use Rattle.tf_claims.specs.Life.{Call, IsUnfailing, Shown, Life, IsToldBy, EndsAsStated, HoldsBeneath, IsBoardOf, IsDone, HiredIn, AreAllRecorded, WasClaimed, IsHandedOn, AreFirstIfTold};
+ghost use Rattle.tf_claims.specs.Life.{Call, IsUnfailing, Shown, Life, IsToldBy, EndsAsStated, HoldsBeneath, IsCarriedOver, IsBoardOf, IsDone, HiredIn, AreAllRecorded, WasClaimed, IsHandedOn, AreFirstIfTold};
 
 use tf_desk::Desk;
 use tf_ports::Crew;
@@ -46,6 +48,15 @@ pub fn every_entry_is_a_step<K: Desk, W: Crew>()
         → (newer : List Element) × HoldsElements (newer ++ elements) (book_in last)
         × AreAllRecorded (gives_by W.Hand.gives W.Far.gives)
         (HiredIn K.state (gives_by W.Hand.gives W.Far.gives) life) elements newer }
+{}
+
+/// What was carried over stands. A migration that ended with status 0 read a flow from the old book; and the file of its
+/// new book holds that flow, with its whole history, at any later point of its life.
+pub fn what_was_carried_over_stands<K: Desk, W: Crew>()
+    ensures { (old new last : List ℕ) (call : Call K.state (gives_by W.Hand.gives W.Far.gives)) → call.status ≡ 0
+        → Migrates old new (K.state call.entry) (K.state call.now) call.status
+        → Life K.state (gives_by W.Hand.gives W.Far.gives) new (file_of (K.state call.now) new) last
+        → IsCarriedOver (old_at (K.state call.entry) old) last }
 {}
 
 /// What a board's file holds at any later point of its life begins with what it held before: the same commands, with those
