@@ -8,6 +8,8 @@ mod crashes;
 #[cfg(test)]
 mod faults;
 #[cfg(test)]
+mod migrations;
+#[cfg(test)]
 mod orders;
 #[cfg(test)]
 mod remote;
