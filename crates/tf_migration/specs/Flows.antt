@@ -1,5 +1,5 @@
 -- A book of one flow: what its file holds, what of it stands in a book of several flows, and where it is refused. Histories and books have the newest first.
-use Rattle.std.specs.Prelude.{◌≡◌, ◌≢◌, ◌⊎◌, ℕ, List, [], ◌∷◌, ◌++◌, Option}
+use Rattle.std.specs.Prelude.{◌≡◌, ◌⊎◌, ℕ, List, [], ◌∷◌, ◌++◌, Option}
 use Rattle.tf_states.specs.declared.record.Entry.{Entry}
 use Rattle.tf_flow.specs.Plan.{PlanValue}
 use Rattle.tf_entries.specs.Entries.{entry_bytes}

@@ -1,18 +1,17 @@
 -- What a migration comes to: what becomes of the files, what is said, and the status. Histories have the newest entry first.
-use Rattle.std.specs.Prelude.{◌≡◌, ◌≢◌, ◌⊎◌, ℕ, IsTrue, List, ◌∷◌, [], ◌++◌, length, codes, Option, None, Some, ◌==◌, if◌then◌else◌}
-use Rattle.std.specs.Cmp.Lexicographic.{pointwise}
+use Rattle.std.specs.Prelude.{◌≡◌, ◌≢◌, ◌⊎◌, ℕ, IsTrue, List, [], ◌++◌, length, codes, Option, Some}
 use Rattle.std.specs.Fmt.{decimal}
 use Rattle.tf_numbers.specs.Numbers.{Rises}
-use Rattle.tf_desk.specs.Crash.{Mark, at_pick, at_sync, ShowsPrefix}
+use Rattle.tf_desk.specs.Crash.{Mark, ShowsPrefix}
 use Rattle.tf_desk.specs.State.{DeskState, MayLeave, Extends, IsUnasked, Says, anything}
 use Rattle.tf_states.specs.declared.record.Entry.{Entry}
 use Rattle.tf_flow.specs.Plan.{PlanValue}
 use Rattle.tf_journal.specs.Format.{Recovered, unborn}
-use Rattle.tf_journal.specs.Start.{file_of, first_sync}
+use Rattle.tf_journal.specs.Start.{file_of, IsStart}
 use Rattle.tf_report.specs.Closing.{disk_fault_text, book_full, ClosesWithOrStops, not_a_book}
 use Rattle.tf_report.specs.declared.statuses.TheConstants.{SUCCEEDED, DISK_FAILED, NO_BOOK, UNSAID, OUT_OF_MEMORY, FULL, FORBIDDEN}
 use Rattle.tf_migration.specs.Flows.{new_bodies, old_at, new_in, new_at, HoldsFlow, HoldsNoFlow, IsNoBook}
-use Rattle.tf_migration.specs.Writing.{Left, still, whole, either, Finds, IsFullFor}
+use Rattle.tf_migration.specs.Writing.{Left, not_yet, whole, either, Finds, IsFullFor, IsFirstSync}
 
 -- ---- texts
 
@@ -32,58 +31,69 @@ migrated_text entries = codes "migrated " ++ decimal entries ++ codes " entries\
 
 -- the old book gave no flow: memory ran out, the disk failed, it is no book, or it holds no flow
 pub data IsUnreadFor (told : Type 0) (old : Recovered) : List ℕ → ℕ → Type 0 where
-  no_memory : IsUnreadFor told old [] OUT_OF_MEMORY
-  disk_failed : IsUnreadFor told old disk_fault_text DISK_FAILED
+  unread_no_memory : IsUnreadFor told old [] OUT_OF_MEMORY
+  unread_failed : IsUnreadFor told old disk_fault_text DISK_FAILED
   no_book : (offset : ℕ) (byte : Option ℕ) → (told → IsNoBook old offset byte) → IsUnreadFor told old (not_a_book offset byte) NO_BOOK
   no_flow : (told → HoldsNoFlow old) → IsUnreadFor told old no_flow_text FORBIDDEN
 
 -- the new book wasn't begun: memory ran out, the disk failed, or its file isn't unborn
 pub data IsUnbegunFor (told : Type 0) (new : Recovered) : List ℕ → ℕ → Type 0 where
-  no_memory : IsUnbegunFor told new [] OUT_OF_MEMORY
-  disk_failed : IsUnbegunFor told new disk_fault_text DISK_FAILED
+  unbegun_no_memory : IsUnbegunFor told new [] OUT_OF_MEMORY
+  unbegun_failed : IsUnbegunFor told new disk_fault_text DISK_FAILED
   exists : (told → new ≢ unborn) → IsUnbegunFor told new exists_text FORBIDDEN
 
 -- the new book was begun: it is whole, a body of it didn't fit and its file is still unborn, or the disk failed and it is one or the other
 pub data IsBegunFor (plan : PlanValue) (past : List Entry) : Left → List ℕ → ℕ → Type 0 where
   migrated : IsBegunFor plan past whole (migrated_text (length past)) SUCCEEDED
-  filled : (size need : ℕ) → IsFullFor (new_bodies plan past) size need → IsBegunFor plan past still (book_full size need) FULL
-  disk_failed : IsBegunFor plan past either disk_fault_text DISK_FAILED
+  filled : (size need : ℕ) → IsFullFor (new_bodies plan past) size need → IsBegunFor plan past not_yet (book_full size need) FULL
+  write_failed : IsBegunFor plan past either disk_fault_text DISK_FAILED
 
 -- ---- what becomes of the files
 
--- the moment of the first sync that answered Ok behind the first pick of that name
-abbrev pub first_sync_of : List ℕ → List Mark → Option ℕ
-first_sync_of name [] = None
-first_sync_of name (at_pick other moment ∷ marks) = if pointwise ◌==◌ other name then first_sync marks else first_sync_of name marks
-first_sync_of name (at_sync moment ∷ marks) = first_sync_of name marks
+-- no file changed; a crash since the call's start leaves the file of that name as it was, and a prefix of the message shown
+pub record StaysAlone (name : List ℕ) (entry now : DeskState) (message : List ℕ) : Type 0 where
+  pub file : file_of now name ≡ file_of entry name
+  pub others : (other : List ℕ) → other ≢ name → now.content.files other ≡ entry.content.files other
+  pub crash : (moment : ℕ) → IsStart name entry now moment → (image text : List ℕ) → now.crashes moment image text
+      → (image ≡ file_of entry name) × ShowsPrefix entry.shown message (Some text)
 
--- the file of that name was picked in this call, and its first sync came at that moment
-pub record IsFirstSync (name : List ℕ) (entry now : DeskState) (moment : ℕ) : Type 0 where
-  pub more : List Mark
-  pub added : now.content.marks ≡ entry.content.marks ++ more
-  pub first : first_sync_of name more ≡ Some moment
+-- no file but the new book's changed
+pub record OthersStay (old new : List ℕ) (entry now : DeskState) : Type 0 where
+  pub old_file : file_of now old ≡ file_of entry old
+  pub others : (other : List ℕ) → other ≢ old → other ≢ new → now.content.files other ≡ entry.content.files other
 
--- no file changed but the new book's, where it did
-abbrev pub OthersStay : List ℕ → DeskState → DeskState → Type 0
-OthersStay new entry now = (name : List ℕ) → name ≢ new → file_of now name ≡ file_of entry name
+-- the old book's file as it was; or the new one's, as a crash at entry might leave it, empty where it was missing, or an image that holds so
+abbrev pub IsOneOf : (old new : List ℕ) → DeskState → (List ℕ → Type 0) → List ℕ → Type 0
+IsOneOf old new entry holds image = (image ≡ file_of entry old) ⊎ (entry.left new image ⊎ ((image ≡ []) ⊎ holds image))
 
--- and nor did that; a crash since its first sync leaves it as it was, and a prefix of the message shown
-pub record StaysUnbegun (new : List ℕ) (entry now : DeskState) (message : List ℕ) : Type 0 where
-  pub stay : OthersStay new entry now
+-- a crash since the call's start leaves one of these, and a prefix of the message shown
+abbrev pub LeavesOneOf : (old new : List ℕ) → DeskState → DeskState → (List ℕ → Type 0) → List ℕ → Type 0
+LeavesOneOf old new entry now holds message =
+    (moment : ℕ) → IsStart old entry now moment → (image text : List ℕ) → now.crashes moment image text
+    → IsOneOf old new entry holds image × ShowsPrefix entry.shown message (Some text)
+
+-- no file changed; a crash since the first sync of the new book's file leaves that as it was, and a prefix of the message shown; the marks are those of the
+-- reading of the old book
+pub record StaysUnbegun (old new : List ℕ) (entry now : DeskState) (message : List ℕ) : Type 0 where
+  pub stay : OthersStay old new entry now
   pub file : file_of now new ≡ file_of entry new
-  pub crash : (moment : ℕ) → IsFirstSync new entry now moment → (image text : List ℕ) → now.crashes moment image text
+  pub read : List Mark
+  pub crash : (moment : ℕ) → IsFirstSync new read entry now moment → (image text : List ℕ) → now.crashes moment image text
       → (image ≡ file_of entry new) × ShowsPrefix entry.shown message (Some text)
+  pub meanwhile : LeavesOneOf old new entry now (λ image. ⊥) message
 
--- and of that so much is there now, and after each later crash; a crash since its first sync leaves it unborn and nothing said, or so much of it and a
--- prefix of the message shown
-pub record Lasts (new : List ℕ) (held : List (List ℕ)) (left : Left) (entry now : DeskState) (message : List ℕ) : Type 0 where
-  pub stay : OthersStay new entry now
+-- so much of the new book is there, now and after each later crash; a crash since the first sync of its file leaves that unborn and nothing said, or so much
+-- of the book and a prefix of the message shown; no other file changed; the marks are those of the reading of the old book
+pub record Lasts (old new : List ℕ) (held : List (List ℕ)) (left : Left) (entry now : DeskState) (message : List ℕ) : Type 0 where
+  pub stay : OthersStay old new entry now
   pub file : Finds left held (new_at now new)
   pub picked : now.content.picked ≡ Some new
   pub later : (image : List ℕ) → MayLeave now image → Finds left held (new_in image)
-  pub synced : (moment : ℕ) × IsFirstSync new entry now moment
-  pub crash : (moment : ℕ) → IsFirstSync new entry now moment → (image text : List ℕ) → now.crashes moment image text
+  pub read : List Mark
+  pub synced : (moment : ℕ) × IsFirstSync new read entry now moment
+  pub crash : (moment : ℕ) → IsFirstSync new read entry now moment → (image text : List ℕ) → now.crashes moment image text
       → ((new_in image ≡ unborn) × (entry.shown ≡ Some text)) ⊎ (Finds left held (new_in image) × ShowsPrefix entry.shown message (Some text))
+  pub meanwhile : LeavesOneOf old new entry now (λ image. (new_in image ≡ unborn) ⊎ Finds left held (new_in image)) message
 
 -- ---- how a migration goes
 
@@ -92,20 +102,21 @@ pub data Migrates (old new : List ℕ) (entry now : DeskState) (status : ℕ) : 
   -- the old book gave no flow, and no file was written
   unread : (message : List ℕ) (wanted : ℕ) → IsUnreadFor (IsTrue entry.tells) (old_at entry old) message wanted
       → ClosesWithOrStops entry.shown message wanted now.shown status
-      → (IsTrue entry.tells → StaysUnbegun new entry now message)
+      → (IsTrue entry.tells → StaysAlone old entry now message)
       → Migrates old new entry now status
   -- it gave its flow; the new book wasn't begun, and no file was written
   unbegun : (plan : PlanValue) (past : List Entry) (message : List ℕ) (wanted : ℕ) → (IsTrue entry.tells → HoldsFlow plan past (old_at entry old))
       → IsUnbegunFor (IsTrue entry.tells) (new_at entry new) message wanted
       → ClosesWithOrStops entry.shown message wanted now.shown status
-      → (IsTrue entry.tells → StaysUnbegun new entry now message)
+      → (IsTrue entry.tells → StaysUnbegun old new entry now message)
       → Migrates old new entry now status
-  -- it gave its flow; the new book's file was unborn, and the book was begun
+  -- it gave its flow; the new book's file was unborn, and the book was begun; where memory ran out it is unborn still
   begun : (plan : PlanValue) (past : List Entry) (left : Left) (message : List ℕ) (wanted : ℕ) → (IsTrue entry.tells → HoldsFlow plan past (old_at entry old))
       → (IsTrue entry.tells → new_at entry new ≡ unborn)
       → IsBegunFor plan past left message wanted
+      → (status ≡ OUT_OF_MEMORY → left ≡ not_yet)
       → ClosesWithOrStops entry.shown message wanted now.shown status
-      → (IsTrue entry.tells → Lasts new (new_bodies plan past) left entry now message)
+      → (IsTrue entry.tells → Lasts old new (new_bodies plan past) left entry now message)
       → Migrates old new entry now status
 
 -- ---- when a status comes

@@ -1,5 +1,5 @@
 -- How the flow of a book of one flow is read.
-use Rattle.std.specs.Prelude.{◌≡◌, ℕ, IsTrue, List, [], ◌∷◌, ◌++◌, Result, Ok, Err}
+use Rattle.std.specs.Prelude.{◌≡◌, ◌⊎◌, ℕ, IsTrue, List, [], ◌∷◌, ◌++◌, Result, Ok, Err}
 use Rattle.tf_numbers.specs.Numbers.{Rises}
 use Rattle.tf_states.specs.declared.record.Entry.{Entry}
 use Rattle.tf_flow.specs.Plan.{PlanValue}
@@ -8,7 +8,7 @@ use Rattle.tf_entries.specs.declared.heads.Head.TheVariants as head
 use Rattle.tf_desk.specs.State.{DeskState, OnDisk, anything}
 use Rattle.tf_journal.specs.Format.{Recovered, Held}
 use Rattle.tf_journal.specs.Reading.{HasBodies}
-use Rattle.tf_journal.specs.Start.{Untouched}
+use Rattle.tf_journal.specs.Start.{IsSet, Untouched}
 use Rattle.tf_details.specs.Elements.{IsLegalBook}
 use Rattle.tf_details.specs.Reading.{AreMachinesOf, IsReadEntry, HasTaken}
 use Rattle.tf_migration.specs.Flows.{old_bodies, carried, new_bodies, old_at, HoldsFlow, HoldsNoFlow, IsNoBook}
@@ -78,8 +78,10 @@ pub record IsUnread (name : List ℕ) (why : OldFault) (entry now : DeskState) :
   pub refused : IsTrue entry.tells → RefusesOld why (old_at entry name)
   pub cause : why ≡ fault.Disk → Rises entry.disk_faults now.disk_faults
 
--- a flow was read, and the file of that name is as it was
+-- a flow was read, and the file of that name is as it was; of each file a crash now leaves nothing that it couldn't leave before, but for no bytes where it was missing
 pub record IsRead (name : List ℕ) (kept : List (List ℕ)) (entry now : DeskState) : Type 0 where
   pub on_disk : OnDisk anything entry now
   pub untouched : Untouched name entry now
+  pub set : IsTrue entry.tells → IsSet name entry now
+  pub left : IsTrue entry.tells → (other image : List ℕ) → now.left other image → entry.left other image ⊎ (image ≡ [])
   pub flow : HasFlow (IsTrue entry.tells) (old_at entry name) kept

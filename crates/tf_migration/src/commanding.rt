@@ -1,5 +1,5 @@
 //! A whole migration.
-ghost use Rattle.std.specs.Prelude.{◌≡◌, ◌≢◌, ℕ, List, IsTrue, IfOk};
+ghost use Rattle.std.specs.Prelude.{◌≡◌, ◌≢◌, ◌⊎◌, ℕ, List, IsTrue, IfOk};
 ghost use Rattle.tf_numbers.specs.Numbers.{Rises};
 ghost use Rattle.tf_journal.specs.Format.{unborn};
 ghost use Rattle.tf_migration.specs.Flows.{old_at, new_at};
@@ -21,7 +21,8 @@ use tf_values::{Memory, Text};
 /// Says a message, with which the command is over.
 fn say<K: Desk>(mut desk: K, message: &[u8], status: u8) -> (K, u8)
     requires apart { status ≢ UNSAID }
-    ensures { Concludes message.now status (K.state desk) (K.state result.0) result.1 }
+    ensures concludes { Concludes message.now status (K.state desk) (K.state result.0) result.1 }
+    ensures status { (result.1 ≡ status) ⊎ (result.1 ≡ UNSAID) }
 {
     let status = close(message, status, &mut desk);
     (desk, status)

@@ -3,7 +3,7 @@ ghost use Rattle.std.specs.Prelude.{◌≡◌, ◌≢◌, ℕ, List, false, IsTr
 ghost use Rattle.tf_numbers.specs.Numbers.{Rises};
 ghost use Rattle.tf_desk.specs.State.{bytes_now, Rests};
 ghost use Rattle.tf_journal.specs.Answers.{RefusesFile};
-ghost use Rattle.tf_journal.specs.Format.{IsSynced, Recovered, bodies as held_bodies};
+ghost use Rattle.tf_journal.specs.Format.{HasSynced, IsSynced, Recovered, bodies as held_bodies};
 ghost use Rattle.tf_journal.specs.Reading.{HasBodies};
 ghost use Rattle.tf_journal.specs.declared.faults.JournalFault.{JournalFault as AJournalFault};
 ghost use Rattle.tf_journal.specs.declared.faults.LoadFault.{LoadFault as ALoadFault};
@@ -97,6 +97,8 @@ fn load<K: Desk>(alloc: Global, desk: K) -> Result<(K, Vec<Body>), (K, OldFault)
         → Rises (K.state desk).disk_faults (K.state back.0).disk_faults) }
     ensures rests { Rests (K.state desk) (K.state (desk_read result)) }
     ensures synced { IsTrue (K.state desk).tells → IsSynced (K.state desk) (K.state (desk_read result)) }
+    ensures at_sync { IfOk result (λ found. IsTrue (K.state desk).tells
+        → HasSynced (K.state desk) (K.state found.0)) }
 {
     match Journal::load(alloc, desk, Title::Book) {
         Ok(journal) => read(alloc, journal),

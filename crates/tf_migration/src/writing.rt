@@ -1,9 +1,9 @@
 //! How a book of several flows is made of bodies, whole or not at all.
 ghost use Rattle.std.specs.Prelude.{◌≡◌, ℕ, List, [], true, IsTrue, IfErr, OnOk};
-ghost use Rattle.tf_desk.specs.State.{DeskState, bytes_now, GoesOn};
+ghost use Rattle.tf_desk.specs.State.{bytes_now, GoesOn};
 ghost use Rattle.tf_journal.specs.Format.{is_unborn, LeavesUnborn, StaysUnborn};
 ghost use Rattle.tf_journal.specs.declared.title.Title.TheVariants.{Book2 as new_title};
-ghost use Rattle.tf_migration.specs.Writing.{LeavesOnce, IsLeftSo, IsDraftOf, FailsToAdd, left_added, desk_written, left_written, FailsToWrite, Makes, IsPicked};
+ghost use Rattle.tf_migration.specs.Writing.{LeavesOnce, IsLeftSo, IsDraftOf, FailsToAdd, left_added, desk_written, left_written, unmade_by, FailsToWrite, Makes, IsPicked};
 
 use crate::bodies::Body;
 use std::alloc::Global;
@@ -54,8 +54,7 @@ fn fill<K: Desk>(journal: &mut Journal<K>, bodies: &[Body]) -> Result<(), Append
 
 /// Why a book wasn't made whose bodies weren't added or published.
 fn unmade(fault: AppendFault) -> NewFault
-    ensures { (held : List (List ℕ)) (old new : DeskState) → FailsToAdd held fault old new
-        → FailsToWrite held result old new }
+    ensures { result ≡ unmade_by fault }
 {
     match fault {
         AppendFault::Disk | AppendFault::Halted => NewFault::Disk,
