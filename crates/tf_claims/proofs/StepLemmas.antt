@@ -1,6 +1,6 @@
 -- What one call leaves of a file that is a book: what it held, with what was recorded behind it; and of a board, its commands with those that
 -- were added.
-use Rattle.std.proofs.Common.{◌≡◌, ◌≢◌, ◌⊎◌, ℕ, List, [], ◌∷◌, ◌++◌, Option, Some, sym, ap, ◌∙◌, subst, inl, inr, ⊎_elim, append-nil, append_assoc}
+use Rattle.std.proofs.Common.{◌≡◌, ◌≢◌, ◌⊎◌, ℕ, List, [], ◌∷◌, ◌++◌, Option, Some, None, sym, ap, ◌∙◌, subst, inl, inr, ⊎_elim, append-nil, append_assoc}
 use Rattle.std.proofs.lemmas.List.{append_cancel_left}
 use Rattle.std.specs.Prelude.{Bool, unwrap_or}
 use Rattle.std.specs.Option.{option_and_then}
@@ -24,8 +24,8 @@ use Rattle.tf_words.specs.Words.{command_of}
 use Rattle.tf_commands.specs.Course as course
 use Rattle.tf_commands.specs.Course.{Course, Obeys, FileRead, IsUntouched}
 use Rattle.tf_commands.specs.Books.{NoFileChanges, book_in, book_at, HoldsElements, IsBookOf, Lasts}
-use Rattle.tf_migration.specs.Migrates.{IsFirstSync, first_sync_of}
-use Rattle.tf_claims.specs.Life.{file_of_command, IsMigration, CountsFrom, of_start, of_first_sync, Call, Leaves, returned, crashed, elsewhere, IsHired, AreRecorded}
+use Rattle.tf_words.specs.declared.asked.Asked.TheVariants as asked
+use Rattle.tf_claims.specs.Life.{file_of_command, IsAbout, Call, Leaves, returned, crashed, migrating, elsewhere, IsHired, AreRecorded}
 use Rattle.tf_claims.proofs.NameLemmas.{name_same}
 use Rattle.tf_model.specs.Plan.{Outline, outline_of}
 use Rattle.tf_claims.proofs.GivenLemmas.{GivesAll, pending_given, given_older}
@@ -187,21 +187,11 @@ other_file name entry now same = ap (λ (f : Option (List ℕ)). unwrap_or f [])
 one_command : (words : List (List ℕ)) (one command : Asked) → command_of words ≡ Some one → command_of words ≡ Some command → one ≡ command
 one_command words one command first second = let both : Some one ≡ Some command = sym first ∙ second in cc
 
--- about one file
-one_name : (one command : Asked) (name file : List ℕ) → one ≡ command → file_of_command one ≡ Some name → file_of_command command ≡ Some file → name ≡ file
-one_name one command name file same first second = let both : Some name ≡ Some file = sym first ∙ ap file_of_command same ∙ second in cc
-
--- no crash counts of a call that picks and syncs nothing
-never_counts : {command : Asked} {name : List ℕ} {entry now : DeskState} {moment : ℕ} → now.content.marks ≡ entry.content.marks → CountsFrom command name entry now moment → ⊥
-never_counts same (of_start other start) = no_start same start
-never_counts {name = name} {entry} {moment = moment} same (of_first_sync migrates first) = never first.more none first.first
-  where
-    none : first.more ≡ []
-    none = append_cancel_left entry.content.marks first.more [] (sym first.added ∙ same ∙ sym (append-nil entry.content.marks))
-
-    never : (more : List Mark) → more ≡ [] → first_sync_of name more ≡ Some moment → ⊥
-    never [] is synced = cc
-    never (m ∷ more) is synced = absurd (cc)
+-- the file that the words are about
+about_one : (words : List (List ℕ)) (name : List ℕ) (command : Asked) (file : List ℕ) → command_of words ≡ Some command → file_of_command command ≡ Some file
+    → IsAbout words name → name ≡ file
+about_one words name command file asks is one =
+    let both : Some name ≡ Some file = sym one.2 ∙ ap file_of_command (one_command words one.0 command one.1 asks) ∙ is in cc
 
 module _ {K : Type 0} (state : K → DeskState) (gives : Want → Order → Outcome → Type 0) (has : List ℕ → Type 0) where
   -- a file that stays has what it had
@@ -209,68 +199,60 @@ module _ {K : Type 0} (state : K → DeskState) (gives : Want → Order → Outc
   same_file before now had same = subst has (sym same) had
 
   -- a call that changes no file
-  quiet_keeps : (name : List ℕ) (call : Call state gives) → NoFileChanges (state call.entry) (state call.now) → has (file_of (state call.entry) name)
+  quiet_keeps : (name : List ℕ) (call : Call state gives) → NoFileChanges (state call.entry) (state call.now) → has (file_of (state call.entry) name) → ¬ (book_at (state call.entry) name ≡ unborn)
       → (last : List ℕ) → Leaves state gives name call last → has last
-  quiet_keeps name call same had _ returned =
+  quiet_keeps name call same had some _ returned =
       same_file (file_of (state call.entry) name) (file_of (state call.now) name) had (quiet_file name (state call.entry) (state call.now) (same call.tells).0)
-  quiet_keeps name call same had _ (crashed one asks is moment counts image text left) = absurd (never_counts (same call.tells).1 counts)
-  quiet_keeps name call same had _ (elsewhere other) = had
+  quiet_keeps name call same had some _ (crashed one moment start image text is) = absurd (no_start (same call.tells).1 start)
+  quiet_keeps name call same had some _ (migrating old asks young before moment first image text is) = absurd (some young)
+  quiet_keeps name call same had some _ (elsewhere aside) = had
 
   -- a call about a file
-  way_keeps : (name file : List ℕ) (call : Call state gives) (command : Asked) → command_of call.words ≡ Some command → file_of_command command ≡ Some file → ¬ (IsMigration command)
-      → Way gives (IsHired state gives call) file (state call.entry) (state call.now) → has (file_of (state call.entry) name)
+  way_keeps : (name file : List ℕ) (call : Call state gives) (command : Asked) → command_of call.words ≡ Some command → file_of_command command ≡ Some file
+      → Way gives (IsHired state gives call) file (state call.entry) (state call.now) → has (file_of (state call.entry) name) → ¬ (book_at (state call.entry) name ≡ unborn)
       → (Way gives (IsHired state gives call) name (state call.entry) (state call.now) → Effect has name (state call.entry) (state call.now))
       → (last : List ℕ) → Leaves state gives name call last → has last
-  way_keeps name file call command asks is other way had effect last leaves = by (name_same name file) last leaves
+  way_keeps name file call command asks is way had some effect last leaves = by (name_same name file) last leaves
     where
       on : name ≡ file → Effect has name (state call.entry) (state call.now)
       on same = effect (subst (λ (f : List ℕ). Way gives (IsHired state gives call) f (state call.entry) (state call.now)) (sym same) way)
 
-      since : (one : Asked) → command_of call.words ≡ Some one → (moment : ℕ) → CountsFrom one name (state call.entry) (state call.now) moment → IsStart name (state call.entry) (state call.now) moment
-      since one asks_so moment (of_start apart start) = start
-      since one asks_so moment (of_first_sync migrates first) = absurd (other (subst IsMigration (one_command call.words one command asks_so asks) migrates))
-
       by : (name ≡ file) ⊎ (name ≢ file) → (left : List ℕ) → Leaves state gives name call left → has left
       by (inl same) _ returned = (on same).file
-      by (inl same) _ (crashed one asks_so is_so moment counts image text left) = (on same).crash moment (since one asks_so moment counts) image text left
+      by (inl same) _ (crashed one moment start image text left) = (on same).crash moment start image text left
+      by (inl same) _ (migrating old asks_so young before moment first image text left) = absurd (some young)
       by (inl same) _ (elsewhere aside) = had
       by (inr apart) _ returned =
           same_file (file_of (state call.entry) name) (file_of (state call.now) name) had (other_file name (state call.entry) (state call.now) (way_others way name apart))
-      by (inr apart) _ (crashed one asks_so is_so moment counts image text left) = absurd (apart (one_name one command name file (one_command call.words one command asks_so asks) is_so is))
+      by (inr apart) _ (crashed one moment start image text left) = absurd (apart (about_one call.words name command file asks is one))
+      by (inr apart) _ (migrating old asks_so young before moment first image text left) = absurd (some young)
       by (inr apart) _ (elsewhere aside) = had
 
-  -- a migration
-  carried_keeps : (name new : List ℕ) (call : Call state gives) (command : Asked) → command_of call.words ≡ Some command → file_of_command command ≡ Some new → IsMigration command
+  -- a migration, which is about no file that isn't unborn
+  carried_keeps : (name old new : List ℕ) (call : Call state gives) (command : Asked) → command_of call.words ≡ Some command → command ≡ asked.Migrate old new
       → Carried new (state call.entry) (state call.now) → has (file_of (state call.entry) name) → ¬ (book_at (state call.entry) name ≡ unborn)
       → (last : List ℕ) → Leaves state gives name call last → has last
-  carried_keeps name new call command asks is migration c had some last leaves = by (name_same name new) last leaves
+  carried_keeps name old new call command asks is c had some last leaves = by last leaves
     where
-      held : name ≡ new → ¬ (book_at (state call.entry) new ≡ unborn)
-      held same = subst (λ (f : List ℕ). ¬ (book_at (state call.entry) f ≡ unborn)) same some
+      stays_so : (name ≡ new) ⊎ (name ≢ new) → file_of (state call.now) name ≡ file_of (state call.entry) name
+      stays_so (inl same) =
+          ap (file_of (state call.now)) same ∙ c.kept (subst (λ (f : List ℕ). ¬ (book_at (state call.entry) f ≡ unborn)) same some) ∙ ap (file_of (state call.entry)) (sym same)
+      stays_so (inr apart) = c.others name apart
 
-      had_there : name ≡ new → (bytes : List ℕ) → bytes ≡ file_of (state call.entry) new → has bytes
-      had_there same bytes is_so = same_file (file_of (state call.entry) name) bytes had (is_so ∙ ap (file_of (state call.entry)) (sym same))
-
-      since : (one : Asked) → command_of call.words ≡ Some one → (moment : ℕ) → CountsFrom one name (state call.entry) (state call.now) moment → IsFirstSync name (state call.entry) (state call.now) moment
-      since one asks_so moment (of_start apart start) = absurd (apart (subst IsMigration (sym (one_command call.words one command asks_so asks)) migration))
-      since one asks_so moment (of_first_sync migrates first) = first
-
-      by : (name ≡ new) ⊎ (name ≢ new) → (left : List ℕ) → Leaves state gives name call left → has left
-      by (inl same) _ returned = had_there same (file_of (state call.now) name) (ap (file_of (state call.now)) same ∙ c.kept (held same))
-      by (inl same) _ (crashed one asks_so is_so moment counts image text left) =
-          had_there same image (c.crash (held same) moment (subst (λ (f : List ℕ). IsFirstSync f (state call.entry) (state call.now) moment) same (since one asks_so moment counts)) image text left)
-      by (inl same) _ (elsewhere aside) = had
-      by (inr apart) _ returned = same_file (file_of (state call.entry) name) (file_of (state call.now) name) had (c.others name apart)
-      by (inr apart) _ (crashed one asks_so is_so moment counts image text left) = absurd (apart (one_name one command name new (one_command call.words one command asks_so asks) is_so is))
-      by (inr apart) _ (elsewhere aside) = had
+      by : (left : List ℕ) → Leaves state gives name call left → has left
+      by _ returned = same_file (file_of (state call.entry) name) (file_of (state call.now) name) had (stays_so (name_same name new))
+      by _ (crashed one moment start image text left) =
+          (let none : None ≡ Some name = sym (ap file_of_command (one_command call.words one.0 command one.1 asks ∙ is)) ∙ one.2 in absurd (cc))
+      by _ (migrating again asks_so young before moment first image text left) = absurd (some young)
+      by _ (elsewhere aside) = had
 
   goes_keeps : (name : List ℕ) (call : Call state gives) (command : Asked) → command_of call.words ≡ Some command
       → Goes gives (IsHired state gives call) command (state call.entry) (state call.now) → has (file_of (state call.entry) name) → ¬ (book_at (state call.entry) name ≡ unborn)
       → (Way gives (IsHired state gives call) name (state call.entry) (state call.now) → Effect has name (state call.entry) (state call.now))
       → (last : List ℕ) → Leaves state gives name call last → has last
-  goes_keeps name call command asks (untouched same) had some effect last leaves = quiet_keeps name call same had last leaves
-  goes_keeps name call command asks (about file is other way) had some effect last leaves = way_keeps name file call command asks is other way had effect last leaves
-  goes_keeps name call command asks (carried new is migration c) had some effect last leaves = carried_keeps name new call command asks is migration c had some last leaves
+  goes_keeps name call command asks (untouched same) had some effect last leaves = quiet_keeps name call same had some last leaves
+  goes_keeps name call command asks (about file is way) had some effect last leaves = way_keeps name file call command asks is way had some effect last leaves
+  goes_keeps name call command asks (carried old new is c) had some effect last leaves = carried_keeps name old new call command asks is c had some last leaves
 
   -- what a call leaves of a file has what the file had, where each way of a call leaves that
   pub call_keeps : (name : List ℕ) (call : Call state gives) → has (file_of (state call.entry) name) → ¬ (book_at (state call.entry) name ≡ unborn)
@@ -280,8 +262,8 @@ module _ {K : Type 0} (state : K → DeskState) (gives : Want → Order → Outc
     where
       by : Course state gives (WasAsked (state call.entry) (state call.now)) call.words call.files call.ports call.later call.entry call.now call.status → has last
       by (course.unheard is same still) =
-          quiet_keeps name call (subst (λ (k : K). NoFileChanges (state call.entry) (state k)) (sym same) (itself (state call.entry))) had last leaves
-      by (course.no_command none closes still) = quiet_keeps name call still.1 had last leaves
+          quiet_keeps name call (subst (λ (k : K). NoFileChanges (state call.entry) (state k)) (sym same) (itself (state call.entry))) had some last leaves
+      by (course.no_command none closes still) = quiet_keeps name call still.1 had some last leaves
       by (course.obeyed command asks obeys) =
           goes_keeps name call command asks
           (obeys_goes state gives (WasAsked (state call.entry) (state call.now)) command call.files call.ports call.later call.entry call.now call.status

@@ -1,6 +1,6 @@
 -- Which way a call goes: what it leaves of the file that it is about.
-use Rattle.std.proofs.Common.{◌≡◌, ◌≢◌, ◌⊎◌, ◌<◌, ℕ, List, [], ◌++◌, Option, Some, refl, sym, subst, ⊎_elim}
-use Rattle.std.specs.Prelude.{Bool, IsTrue}
+use Rattle.std.proofs.Common.{◌≡◌, ◌≢◌, ◌⊎◌, ◌<◌, ℕ, List, [], ◌++◌, Option, Some, refl, sym, ap, subst, ⊎_elim}
+use Rattle.std.specs.Prelude.{Bool, IsTrue, unwrap_or}
 use Rattle.tf_desk.specs.State.{DeskState}
 use Rattle.tf_flow.specs.Plan.{PlanValue, PlanTree}
 use Rattle.tf_states.specs.declared.record.Entry.{Entry}
@@ -32,8 +32,9 @@ use Rattle.tf_commands.specs.Course.{PortsTold, Course, Obeys, FileRead, IsUntou
 use Rattle.tf_commands.specs.declared.reading.Source.{Source}
 use Rattle.tf_commands.specs.declared.running.Request.{Request}
 use Rattle.tf_migration.specs.Migrates as migrate
-use Rattle.tf_migration.specs.Migrates.{Migrates, IsFirstSync}
-use Rattle.tf_claims.specs.Life.{file_of_command, IsMigration}
+use Rattle.tf_migration.specs.Migrates.{Migrates}
+use Rattle.tf_claims.specs.Life.{file_of_command}
+use Rattle.tf_claims.proofs.NameLemmas.{name_same}
 use Rattle.tf_claims.proofs.GivenLemmas.{GivesAll, run_gives, ended_gives, reset_gives}
 use Rattle.tf_claims.proofs.ServiceLemmas.{GrownBy, all_grown, crash_grown, conducted_grown, conducted_crash}
 
@@ -162,39 +163,48 @@ lists_way : {gives : Want → Order → Outcome → Type 0} {able : ℕ → Want
 lists_way name entry now status told (books.unopened_list u) = unopened_way name entry now status told u
 lists_way name entry now status told (books.were_listed elements found r) = alone _ (r.alone told)
 
--- a migration left the other files, and the new book's where there was something; a crash since its first sync leaves that too
+-- a migration left all files but the new book's, and that where it wasn't unborn
 pub record Carried (new : List ℕ) (entry now : DeskState) : Type 0 where
   pub others : (name : List ℕ) → name ≢ new → file_of now name ≡ file_of entry name
   pub kept : ¬ (book_at entry new ≡ unborn) → file_of now new ≡ file_of entry new
-  pub crash : ¬ (book_at entry new ≡ unborn) → (moment : ℕ) → IsFirstSync new entry now moment → (image text : List ℕ) → now.crashes moment image text → image ≡ file_of entry new
+
+same_file_of : (name : List ℕ) (entry now : DeskState) → now.content.files name ≡ entry.content.files name → file_of now name ≡ file_of entry name
+same_file_of name entry now same = ap (λ (f : Option (List ℕ)). unwrap_or f []) same
+
+-- a file that is neither of the two, or the old one
+beside : (old new : List ℕ) (entry now : DeskState) → migrate.OthersStay old new entry now → (name : List ℕ) → name ≢ new → file_of now name ≡ file_of entry name
+beside old new entry now stay name apart =
+    ⊎_elim (λ same. subst (λ (f : List ℕ). file_of now f ≡ file_of entry f) (sym same) stay.old_file) (λ other. same_file_of name entry now (stay.others name other apart)) (name_same name old)
+
+-- where the old book alone was picked all stay
+all_alone : (old : List ℕ) (entry now : DeskState) (message : List ℕ) → migrate.StaysAlone old entry now message → (name : List ℕ) → file_of now name ≡ file_of entry name
+all_alone old entry now message a name =
+    ⊎_elim (λ same. subst (λ (f : List ℕ). file_of now f ≡ file_of entry f) (sym same) a.file) (λ other. same_file_of name entry now (a.others name other)) (name_same name old)
 
 migrates_so : (old new : List ℕ) (entry now : DeskState) (status : ℕ) → IsTrue entry.tells → Migrates old new entry now status → Carried new entry now
 migrates_so old new entry now status told (migrate.unread message wanted why ends stays) =
-    let s = stays told in record { others = s.stay; kept = λ some. s.file; crash = λ some moment first image text is. (s.crash moment first image text is).0 }
+    record { others = λ name apart. all_alone old entry now message (stays told) name; kept = λ some. all_alone old entry now message (stays told) new }
 migrates_so old new entry now status told (migrate.unbegun plan past message wanted held why ends stays) =
-    let s = stays told in record { others = s.stay; kept = λ some. s.file; crash = λ some moment first image text is. (s.crash moment first image text is).0 }
-migrates_so old new entry now status told (migrate.begun plan past left message wanted held young why ends lasts) = record {
-  others = (lasts told).stay;
-  kept = λ some. absurd (some (young told));
-  crash = λ some moment first image text is. absurd (some (young told));
-}
+    record { others = beside old new entry now (stays told).stay; kept = λ some. (stays told).file }
+migrates_so old new entry now status told (migrate.begun plan past left message wanted held young why out ends lasts) =
+    record { others = beside old new entry now (lasts told).stay; kept = λ some. absurd (some (young told)) }
 
 -- a command that is about a file goes a way of that file, or touched none; a migration goes a way of its own
 pub data Goes (gives : Want → Order → Outcome → Type 0) (able : ℕ → Want → Type 0) (command : Asked) (entry now : DeskState) : Type 1 where
   untouched : NoFileChanges entry now → Goes gives able command entry now
-  about : (name : List ℕ) → file_of_command command ≡ Some name → ¬ (IsMigration command) → Way gives able name entry now → Goes gives able command entry now
-  carried : (new : List ℕ) → file_of_command command ≡ Some new → IsMigration command → Carried new entry now → Goes gives able command entry now
+  about : (name : List ℕ) → file_of_command command ≡ Some name → Way gives able name entry now → Goes gives able command entry now
+  carried : (old new : List ℕ) → command ≡ asked.Migrate old new → Carried new entry now → Goes gives able command entry now
 
 -- a run of what a flow file gives
 file_goes : {gives : Want → Order → Outcome → Type 0} {able : ℕ → Want → Type 0} {command : Asked} {files : Contents} {source : Source} {crew crew_after : CrewTold} {does : PlanTree → ℕ → Type 0} {before after : Option (List ℕ)} (name : List ℕ) (entry now : DeskState)
-    (status : ℕ) → file_of_command command ≡ Some name → ¬ (IsMigration command) → ((tree : PlanTree) → does tree status → Way gives able name entry now)
+    (status : ℕ) → file_of_command command ≡ Some name → ((tree : PlanTree) → does tree status → Way gives able name entry now)
     → FileRead files source (IsUntouched crew crew_after entry now) does before after status → Goes gives able command entry now
-file_goes name entry now status is other way (course.unfinished still ends same) = untouched still.1
-file_goes name entry now status is other way (course.unread still closes) = untouched still.1
-file_goes name entry now status is other way (course.too_long still passes closes) = untouched still.1
-file_goes name entry now status is other way (course.read bytes given short (course.exhausted still ends same)) = untouched still.1
-file_goes name entry now status is other way (course.read bytes given short (course.refused still why none closes)) = untouched still.1
-file_goes name entry now status is other way (course.read bytes given short (course.done tree gives did)) = about name is other (way tree did)
+file_goes name entry now status is way (course.unfinished still ends same) = untouched still.1
+file_goes name entry now status is way (course.unread still closes) = untouched still.1
+file_goes name entry now status is way (course.too_long still passes closes) = untouched still.1
+file_goes name entry now status is way (course.read bytes given short (course.exhausted still ends same)) = untouched still.1
+file_goes name entry now status is way (course.read bytes given short (course.refused still why none closes)) = untouched still.1
+file_goes name entry now status is way (course.read bytes given short (course.done tree gives did)) = about name is (way tree did)
 
 -- nothing happened
 pub itself : (entry : DeskState) → NoFileChanges entry entry
@@ -202,12 +212,12 @@ itself entry told = (refl, refl)
 
 module _ {K : Type 0} (state : K → DeskState) (gives : Want → Order → Outcome → Type 0) where
   demo_goes : {able : ℕ → Want → Type 0} {hands : Want} {stopped : Type 0} (name : List ℕ) (crew crew_after : CrewTold) (entry now : K) (seed size status : ℕ) → Allows able hands crew crew_after → IsTrue (state entry).tells
-      → Demonstrates state (gives hands) hands stopped name crew crew_after entry now seed size status → (command : Asked) → file_of_command command ≡ Some name → ¬ (IsMigration command)
+      → Demonstrates state (gives hands) hands stopped name crew crew_after entry now seed size status → (command : Asked) → file_of_command command ≡ Some name
       → Goes gives able command (state entry) (state now)
-  demo_goes name crew crew_after entry now seed size status allow told (books.ungenerated is same still) command its other =
+  demo_goes name crew crew_after entry now seed size status allow told (books.ungenerated is same still) command its =
       untouched (subst (λ (k : K). NoFileChanges (state entry) (state k)) (sym still) (itself (state entry)))
-  demo_goes name crew crew_after entry now seed size status allow told (books.demonstrated r) command its other =
-      about name its other (runs_way name crew crew_after (state entry) (state now) _ status allow told r)
+  demo_goes name crew crew_after entry now seed size status allow told (books.demonstrated r) command its =
+      about name its (runs_way name crew crew_after (state entry) (state now) _ status allow told r)
 
   pub obeys_goes : {able : ℕ → Want → Type 0} (stopped : Type 0) (command : Asked) (files : Contents) (ports later : PortsTold) (entry now : K) (status : ℕ)
       → ((want : Want) → want_of command ≡ Some want → Allows able want ports.crew later.crew) → IsTrue (state entry).tells
@@ -216,23 +226,23 @@ module _ {K : Type 0} (state : K → DeskState) (gives : Want → Order → Outc
   obeys_goes stopped (asked.Check file sets target) files ports later entry now status allow told obeys = untouched obeys.1.1
   obeys_goes stopped (asked.Audit file log sets defer) files ports later entry now status allow told obeys = untouched obeys.1.1
   obeys_goes stopped (asked.Run file book sets defer hands stop target) files ports later entry now status allow told obeys =
-      file_goes book (state entry) (state now) status refl (λ is. is) (λ tree did. runs_way book ports.crew later.crew (state entry) (state now) tree status (allow hands refl) told did) obeys
-  obeys_goes stopped (asked.Resume book wanted hands stop) files ports later entry now status allow told obeys = about book refl (λ is. is) (resumes_way book wanted ports.crew later.crew (state entry) (state now) status (allow hands refl) told obeys)
-  obeys_goes stopped (asked.Show book wanted) files ports later entry now status allow told obeys = about book refl (λ is. is) (shows_way book wanted (state entry) (state now) status told obeys.0)
-  obeys_goes stopped (asked.Reset book wanted) files ports later entry now status allow told obeys = about book refl (λ is. is) (resets_way book wanted (state entry) (state now) status told obeys.0)
-  obeys_goes stopped (asked.Details book) files ports later entry now status allow told obeys = about book refl (λ is. is) (lists_way book (state entry) (state now) status told obeys.0)
-  obeys_goes stopped (asked.Demo seed size book hands) files ports later entry now status allow told obeys = demo_goes book ports.crew later.crew entry now seed size status (allow _ refl) told obeys _ refl (λ is. is)
+      file_goes book (state entry) (state now) status refl (λ tree did. runs_way book ports.crew later.crew (state entry) (state now) tree status (allow hands refl) told did) obeys
+  obeys_goes stopped (asked.Resume book wanted hands stop) files ports later entry now status allow told obeys = about book refl (resumes_way book wanted ports.crew later.crew (state entry) (state now) status (allow hands refl) told obeys)
+  obeys_goes stopped (asked.Show book wanted) files ports later entry now status allow told obeys = about book refl (shows_way book wanted (state entry) (state now) status told obeys.0)
+  obeys_goes stopped (asked.Reset book wanted) files ports later entry now status allow told obeys = about book refl (resets_way book wanted (state entry) (state now) status told obeys.0)
+  obeys_goes stopped (asked.Details book) files ports later entry now status allow told obeys = about book refl (lists_way book (state entry) (state now) status told obeys.0)
+  obeys_goes stopped (asked.Demo seed size book hands) files ports later entry now status allow told obeys = demo_goes book ports.crew later.crew entry now seed size status (allow _ refl) told obeys _ refl
   obeys_goes stopped (asked.Migrate old new) files ports later entry now status allow told obeys =
-      carried new refl tt (migrates_so old new (state entry) (state now) status told obeys.0)
+      carried old new refl (migrates_so old new (state entry) (state now) status told obeys.0)
   obeys_goes stopped (asked.Worker address sessions) files ports later entry now status allow told obeys = untouched obeys.1
-  obeys_goes stopped (asked.Post file name priority details) files ports later entry now status allow told obeys = about file refl (λ is. is) (does_way _ file (state entry) (state now) status told obeys.0)
-  obeys_goes stopped (asked.Claim file id owner) files ports later entry now status allow told obeys = about file refl (λ is. is) (does_way _ file (state entry) (state now) status told obeys.0)
-  obeys_goes stopped (asked.Abandon file id owner) files ports later entry now status allow told obeys = about file refl (λ is. is) (does_way _ file (state entry) (state now) status told obeys.0)
-  obeys_goes stopped (asked.Consume file id owner) files ports later entry now status allow told obeys = about file refl (λ is. is) (does_way _ file (state entry) (state now) status told obeys.0)
-  obeys_goes stopped (asked.Trash file id owner) files ports later entry now status allow told obeys = about file refl (λ is. is) (does_way _ file (state entry) (state now) status told obeys.0)
-  obeys_goes stopped (asked.Owner file id) files ports later entry now status allow told obeys = about file refl (λ is. is) (does_way _ file (state entry) (state now) status told obeys.0)
-  obeys_goes stopped (asked.List file) files ports later entry now status allow told obeys = about file refl (λ is. is) (does_way _ file (state entry) (state now) status told obeys.0)
+  obeys_goes stopped (asked.Post file name priority details) files ports later entry now status allow told obeys = about file refl (does_way _ file (state entry) (state now) status told obeys.0)
+  obeys_goes stopped (asked.Claim file id owner) files ports later entry now status allow told obeys = about file refl (does_way _ file (state entry) (state now) status told obeys.0)
+  obeys_goes stopped (asked.Abandon file id owner) files ports later entry now status allow told obeys = about file refl (does_way _ file (state entry) (state now) status told obeys.0)
+  obeys_goes stopped (asked.Consume file id owner) files ports later entry now status allow told obeys = about file refl (does_way _ file (state entry) (state now) status told obeys.0)
+  obeys_goes stopped (asked.Trash file id owner) files ports later entry now status allow told obeys = about file refl (does_way _ file (state entry) (state now) status told obeys.0)
+  obeys_goes stopped (asked.Owner file id) files ports later entry now status allow told obeys = about file refl (does_way _ file (state entry) (state now) status told obeys.0)
+  obeys_goes stopped (asked.List file) files ports later entry now status allow told obeys = about file refl (does_way _ file (state entry) (state now) status told obeys.0)
   obeys_goes stopped (asked.Conduct file owner hands) files ports later entry now status allow told obeys =
-      about file refl (λ is. is) (conducts_way files ports.crew later.crew file owner hands (state entry) (state now) status told obeys.0)
+      about file refl (conducts_way files ports.crew later.crew file owner hands (state entry) (state now) status told obeys.0)
   obeys_goes stopped (asked.Serve file address sessions) files ports later entry now status allow told obeys =
-      about file refl (λ is. is) (serves_way file address sessions ports.door later.door (state entry) (state now) status told obeys.0)
+      about file refl (serves_way file address sessions ports.door later.door (state entry) (state now) status told obeys.0)

@@ -1,6 +1,6 @@
 -- A life of a file: calls of the program, one after another, each from what the one before it left.
 use Rattle.std.specs.Prelude.{◌≡◌, ◌⊎◌, ◌<◌, ℕ, Bool, true, IsTrue, List, [], ◌∷◌, ◌++◌, Option, Some, None}
-use Rattle.tf_desk.specs.Crash.{shown_with}
+use Rattle.tf_desk.specs.Crash.{shown_with, Mark}
 use Rattle.tf_desk.specs.State.{DeskState}
 use Rattle.tf_flow.specs.Plan.{PlanValue}
 use Rattle.tf_states.specs.declared.record.Entry.{Entry}
@@ -9,7 +9,7 @@ use Rattle.tf_ports.specs.Ports.{Contents, wanted as number_of}
 use Rattle.tf_ports.specs.declared.crews.Want.{Want}
 use Rattle.tf_actions.specs.declared.orders.Order.{Order}
 use Rattle.tf_actions.specs.declared.outcomes.Outcome.{Outcome}
-use Rattle.tf_journal.specs.Format.{Recovered}
+use Rattle.tf_journal.specs.Format.{Recovered, unborn}
 use Rattle.tf_journal.specs.Start.{file_of, IsStart}
 use Rattle.tf_hands.specs.Hands.{orders}
 use Rattle.tf_model.specs.Scope.{IsGiven}
@@ -27,10 +27,10 @@ use Rattle.tf_commands.specs.Asking.{wanted_by, WasAsked}
 use Rattle.tf_words.specs.Words.{command_of}
 use Rattle.tf_details.specs.Elements.{Element, plan_of, history}
 use Rattle.tf_details.specs.Contents.{Contents as BookContents, with_entries}
-use Rattle.tf_commands.specs.Books.{Hires, book_in, HoldsElements, IsShownThen, HasReached, stop_status}
+use Rattle.tf_commands.specs.Books.{Hires, book_in, book_at, HoldsElements, IsShownThen, HasReached, stop_status}
 use Rattle.tf_commands.specs.Course.{PortsTold, Course, MayBeDone, IsComplete}
 use Rattle.tf_migration.specs.Flows.{HoldsFlow, carried}
-use Rattle.tf_migration.specs.Migrates.{IsFirstSync}
+use Rattle.tf_migration.specs.Writing.{IsFirstSync}
 use Rattle.tf_report.specs.declared.statuses.TheConstants.{OUT_OF_MEMORY, FULL}
 
 -- the book or the board that a command is about
@@ -40,7 +40,6 @@ file_of_command (asked.Resume book name hands stop) = Some book
 file_of_command (asked.Show book name) = Some book
 file_of_command (asked.Reset book name) = Some book
 file_of_command (asked.Details book) = Some book
-file_of_command (asked.Migrate old new) = Some new
 file_of_command (asked.Demo seed size book hands) = Some book
 file_of_command (asked.Conduct board owner hands) = Some board
 file_of_command (asked.Serve board address sessions) = Some board
@@ -49,16 +48,6 @@ file_of_command command = board_of command
 -- the words are a command about the file of that name
 abbrev pub IsAbout : List (List ℕ) → List ℕ → Type 0
 IsAbout words name = (command : Asked) × (command_of words ≡ Some command) × (file_of_command command ≡ Some name)
-
--- it is a migration
-abbrev pub IsMigration : Asked → Type 0
-IsMigration (asked.Migrate old new) = Unit {0}
-IsMigration command = ⊥
-
--- since that moment a crash counts for the file that a command is about: since the call's start; of a migration since the first sync of its new book
-pub data CountsFrom (command : Asked) (name : List ℕ) (entry now : DeskState) (moment : ℕ) : Type 0 where
-  of_start : ¬ (IsMigration command) → IsStart name entry now moment → CountsFrom command name entry now moment
-  of_first_sync : IsMigration command → IsFirstSync name entry now moment → CountsFrom command name entry now moment
 
 module _ {K : Type 0} (state : K → DeskState) (gives : Want → Order → Outcome → Type 0) where
   -- a call of the program, of which the top call's clause on its course holds: by any words, with any sources, hired hands and faults, on
@@ -74,12 +63,15 @@ module _ {K : Type 0} (state : K → DeskState) (gives : Want → Order → Outc
     pub tells : IsTrue (state entry).tells
     pub course : Course state gives (WasAsked (state entry) (state now)) words files ports later entry now status
 
-  -- what a call leaves of the file: what it has when the call returns; or, where the words are about it, what a crash inside the call left; or,
-  -- where they aren't, what it had before the call, since a crash leaves other files as they are
+  -- what a call leaves of the file: what it has when the call returns; or, where the words are about it, what a crash inside the call left; or of a migration's
+  -- new book, which was unborn, what a crash since its first sync left; or, where the words aren't about it, what it had before the call, since a crash leaves
+  -- other files as they are
   pub data Leaves (name : List ℕ) (call : Call) : List ℕ → Type 0 where
     returned : Leaves name call (file_of (state call.now) name)
-    crashed : (command : Asked) → command_of call.words ≡ Some command → file_of_command command ≡ Some name → (moment : ℕ)
-        → CountsFrom command name (state call.entry) (state call.now) moment → (image text : List ℕ) → (state call.now).crashes moment image text → Leaves name call image
+    crashed : IsAbout call.words name → (moment : ℕ) → IsStart name (state call.entry) (state call.now) moment
+        → (image text : List ℕ) → (state call.now).crashes moment image text → Leaves name call image
+    migrating : (old : List ℕ) → command_of call.words ≡ Some (asked.Migrate old name) → book_at (state call.entry) name ≡ unborn → (before : List Mark) (moment : ℕ)
+        → IsFirstSync name before (state call.entry) (state call.now) moment → (image text : List ℕ) → (state call.now).crashes moment image text → Leaves name call image
     elsewhere : ¬ (IsAbout call.words name) → Leaves name call (file_of (state call.entry) name)
 
   -- the top call's clause on completeness, where no count of faults rose and no stop was asked for
