@@ -1,4 +1,4 @@
-ghost use Rattle.std.specs.Prelude.{◌≡◌, ◌<◌, ◌≤◌, ◌-◌, ◌∷◌, List, None, Some, OnOk, IsErrOf};
+ghost use Rattle.std.specs.Prelude.{◌≡◌, ◌<◌, ◌≤◌, ◌-◌, None, Some, OnOk, IsErrOf};
 ghost use Rattle.tf_model.specs.Steps.{Step};
 ghost use Rattle.tf_book.specs.Book.{outline, moment};
 ghost use Rattle.tf_book.specs.SessionInvariant.{Proceeds};

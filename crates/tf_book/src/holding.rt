@@ -1,4 +1,4 @@
-ghost use Rattle.std.specs.Prelude.{◌≡◌, ◌≤◌, ◌<◌, ◌∷◌, [], suc, length, vec_len, vec_capacity};
+ghost use Rattle.std.specs.Prelude.{◌≡◌, ◌<◌, ◌∷◌, [], vec_len, vec_capacity};
 ghost use Rattle.tf_details.specs.Contents.{with_entries};
 ghost use Rattle.tf_details.specs.Marks.{elements_shown};
 ghost use Rattle.tf_book.specs.Holding.{contents_of, HasHoldingRoom};

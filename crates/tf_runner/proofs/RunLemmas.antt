@@ -1,5 +1,5 @@
 -- How the run of a plan of which nothing is kept may end.
-use Rattle.std.proofs.Common.{◌≡◌, ◌≢◌, ◌⊎◌, ◌≤◌, ℕ, Bool, true, false, List, [], ◌∷◌, ◌++◌, Option, Some, None, Result, Ok, Err, refl, sym, ap, ◌∙◌, subst, inl, inr, ⊎_elim, append-nil, arith}
+use Rattle.std.proofs.Common.{◌≡◌, ◌≢◌, ℕ, Bool, true, false, List, [], ◌∷◌, ◌++◌, Option, Some, None, Result, Ok, Err, refl, sym, ap, ◌∙◌, subst, ⊎_elim, append-nil, arith}
 use Rattle.std.specs.Prelude.{◌&&◌, not, IfOk}
 use Rattle.std.specs.List.{list_all}
 use Rattle.tf_accept.specs.Accepted.{GivesNone, GivesPlan, IsReason, is_want_of_memory}
@@ -12,7 +12,7 @@ use Rattle.tf_desk.specs.State.{DeskState}
 use Rattle.tf_book.specs.Book.{BookValue, outline}
 use Rattle.tf_book.specs.SessionInvariant.{HasCause, HasFailed, IsFullFor, SessionInvariant}
 use Rattle.tf_book.specs.Starting.{begun_contents}
-use Rattle.tf_book.specs.Turns.{HasOne, IsTried, is_reached}
+use Rattle.tf_book.specs.Turns.{HasOne, IsTried}
 use Rattle.tf_book.specs.declared.faults.Halt.{Halt}
 use Rattle.tf_book.specs.declared.faults.Halt.TheVariants as book_halt
 use Rattle.tf_details.specs.Contents.{Contents, with_entries}

@@ -24,7 +24,6 @@ use Rattle.tf_journal.specs.Start.{IsStart, file_of}
 use Rattle.tf_model.specs.Plan.{outline_of}
 use Rattle.tf_model.specs.Steps.{Session}
 use Rattle.tf_ports.specs.Ports.{CrewTold, GivenBack, Contents, GivesBytes, PassesLimit}
-use Rattle.tf_ports.specs.declared.crews.Want.{Want}
 use Rattle.tf_ports.specs.declared.crews.Want.TheVariants as want
 use Rattle.tf_ports.specs.declared.reading.TheConstants.{SOURCE_LIMIT}
 use Rattle.tf_report.specs.Closing.{ClosesWithOrStops, disk_fault_text, not_a_book, cannot_read, cannot_hire}

@@ -4,7 +4,6 @@ ghost use Rattle.tf_desk.specs.State.{Rests};
 ghost use Rattle.tf_details.specs.Elements.{details, CannotFollow};
 ghost use Rattle.tf_details.specs.Reading.{HasGathered};
 ghost use Rattle.tf_journal.specs.Reading.{OnlyReads};
-ghost use Rattle.tf_journal.specs.declared.title.Title.TheVariants.{Book2 as book_title};
 ghost use Rattle.tf_records.specs.Replaying.{HasReadAll, FailsToReadBack};
 ghost use Rattle.tf_book.specs.Histories.{KeepsHistory};
 ghost use Rattle.tf_book.specs.Shelf.{desk_of, desk_after_open, IsOpened};
