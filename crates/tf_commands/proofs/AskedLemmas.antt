@@ -1,14 +1,17 @@
 -- A run that may be suspended for one reason may be so for a wider one.
 use Rattle.std.proofs.Common.{ℕ, List, [], ◌∷◌, Option, inl, inr, ⊎_elim}
 use Rattle.tf_desk.specs.State.{DeskState}
-use Rattle.tf_flow.specs.Plan.{PlanValue}
+use Rattle.tf_flow.specs.Plan.{PlanTree, PlanValue}
 use Rattle.tf_ports.specs.declared.crews.Want.{Want}
 use Rattle.tf_actions.specs.declared.orders.Order.{Order}
 use Rattle.tf_actions.specs.declared.outcomes.Outcome.{Outcome}
 use Rattle.tf_states.specs.declared.record.Entry.{Entry}
 use Rattle.tf_states.specs.declared.state.FlowState.{FlowState}
 use Rattle.tf_engines.specs.Runs.{AreDue, IsSuspended, IsSession}
-use Rattle.tf_commands.specs.Books.{Promised, Resumes, unopened_again, empty, unhired_again, resumed, Ran}
+use Rattle.tf_details.specs.Elements.{Element}
+use Rattle.tf_details.specs.Contents.{Contents}
+use Rattle.tf_book.specs.Starting.{begun_contents}
+use Rattle.tf_commands.specs.Books.{Promised, RunsAnew, overfull, ran, Runs, unopened, forbidden, too_many, unhired_run, hired_run, Resumes, unfound_again, unhired_again, resumed, Ran}
 use Rattle.tf_commands.specs.declared.running.Request.{Request}
 use Rattle.tf_model.specs.Plan.{Outline}
 use Rattle.tf_ports.specs.Ports.{GivenBack, CrewTold}
@@ -38,10 +41,10 @@ session_more gives few more number limit plan before after stop widens s = recor
   suspended = λ is. suspended_more few more limit widens s.entries (s.suspended is);
 }
 
-pub ran_more : (gives : Order → Outcome → Type 0) (request : Request) (few more : Type 0) (plan : PlanValue) (before entries : List Entry) (stop : Option FlowState)
+pub ran_more : (gives : Order → Outcome → Type 0) (request : Request) (few more : Type 0) (contents : Contents) (plan : PlanValue) (before entries : List Entry) (stop : Option FlowState)
     (shown now : Option (List ℕ)) (closing : List ℕ) (status : ℕ) → (few → more)
-    → Ran gives request few plan before entries stop shown now closing status → Ran gives request more plan before entries stop shown now closing status
-ran_more gives request few more plan before entries stop shown now closing status widens r = record {
+    → Ran gives request few contents plan before entries stop shown now closing status → Ran gives request more contents plan before entries stop shown now closing status
+ran_more gives request few more contents plan before entries stop shown now closing status widens r = record {
   steps = record {
     session = r.steps.session;
     hands = r.steps.hands;
@@ -55,23 +58,39 @@ ran_more gives request few more plan before entries stop shown now closing statu
   end = r.end;
 }
 
-pub promised_more : (gives : Order → Outcome → Type 0) (request : Request) (few more : Type 0) (back : GivenBack) (name : List ℕ) (plan : PlanValue) (before : List Entry) (entry now : DeskState) (status : ℕ) → (few → more)
-    → Promised gives request few back name plan before entry now status
-    → Promised gives request more back name plan before entry now status
-promised_more gives request few more back name plan before entry now status widens p = record {
+pub promised_more : (gives : Order → Outcome → Type 0) (request : Request) (few more : Type 0) (back : GivenBack) (name : List ℕ) (contents : Contents) (plan : PlanValue) (before : List Entry) (entry now : DeskState) (status : ℕ) → (few → more)
+    → Promised gives request few back name contents plan before entry now status
+    → Promised gives request more back name contents plan before entry now status
+promised_more gives request few more back name contents plan before entry now status widens p = record {
   entries = p.entries;
   stop = p.stop;
   closing = p.closing;
-  ran = ran_more gives request few more plan before p.entries p.stop entry.shown now.shown p.closing status widens p.ran;
+  ran = ran_more gives request few more contents plan before p.entries p.stop entry.shown now.shown p.closing status widens p.ran;
   orders_given = p.orders_given;
   lasts = p.lasts;
 }
 
-pub resumes_more : (gives : Order → Outcome → Type 0) (request : Request) (few more : Type 0) (name : List ℕ) (crew crew_after : CrewTold) (entry now : DeskState) (status : ℕ) → (few → more)
-    → Resumes gives request few name crew crew_after entry now status
-    → Resumes gives request more name crew crew_after entry now status
-resumes_more gives request few more name crew crew_after entry now status widens (unopened_again same is) = unopened_again same is
-resumes_more gives request few more name crew crew_after entry now status widens (empty same none r) = empty same none r
-resumes_more gives request few more name crew crew_after entry now status widens (unhired_again plan past held going is) = unhired_again plan past held going is
-resumes_more gives request few more name crew crew_after entry now status widens (resumed plan past can held back hires p) =
-    resumed plan past can held back hires (promised_more gives request few more back name plan past entry now status widens p)
+pub anew_more : (gives : Order → Outcome → Type 0) (request : Request) (few more : Type 0) (back : GivenBack) (name : List ℕ) (elements : List Element) (plan : PlanValue) (entry now : DeskState) (status : ℕ) → (few → more)
+    → RunsAnew gives request few back name elements plan entry now status
+    → RunsAnew gives request more back name elements plan entry now status
+anew_more gives request few more back name elements plan entry now status widens (overfull size need fresh full r) = overfull size need fresh full r
+anew_more gives request few more back name elements plan entry now status widens (ran p) =
+    ran (promised_more gives request few more back name (begun_contents elements plan) plan [] entry now status widens p)
+
+pub runs_more : (gives : Order → Outcome → Type 0) (request : Request) (few more : Type 0) (name : List ℕ) (crew crew_after : CrewTold) (entry now : DeskState) (tree : PlanTree) (status : ℕ) → (few → more)
+    → Runs gives request few name crew crew_after entry now tree status
+    → Runs gives request more name crew crew_after entry now tree status
+runs_more gives request few more name crew crew_after entry now tree status widens (unopened same u) = unopened same u
+runs_more gives request few more name crew crew_after entry now tree status widens (forbidden elements plan number same stays found is r) = forbidden elements plan number same stays found is r
+runs_more gives request few more name crew crew_after entry now tree status widens (too_many elements plan same stays found none many r) = too_many elements plan same stays found none many r
+runs_more gives request few more name crew crew_after entry now tree status widens (unhired_run elements plan same found place u) = unhired_run elements plan same found place u
+runs_more gives request few more name crew crew_after entry now tree status widens (hired_run elements plan same found place hires a) =
+    hired_run elements plan same found place hires (anew_more gives request few more crew_after.back name elements plan entry now status widens a)
+
+pub resumes_more : (gives : Order → Outcome → Type 0) (request : Request) (few more : Type 0) (name : List ℕ) (wanted : Option (List ℕ)) (crew crew_after : CrewTold) (entry now : DeskState) (status : ℕ) → (few → more)
+    → Resumes gives request few name wanted crew crew_after entry now status
+    → Resumes gives request more name wanted crew crew_after entry now status
+resumes_more gives request few more name wanted crew crew_after entry now status widens (unfound_again same is) = unfound_again same is
+resumes_more gives request few more name wanted crew crew_after entry now status widens (unhired_again contents plan past held going is) = unhired_again contents plan past held going is
+resumes_more gives request few more name wanted crew crew_after entry now status widens (resumed contents plan past can held back hires p) =
+    resumed contents plan past can held back hires (promised_more gives request few more back name contents plan past entry now status widens p)

@@ -131,6 +131,12 @@ audit_unrefused files source log status (file_long four passes) is = omega (arit
 audit_unrefused files source log status (file_refused four bytes why given none) is = omega (arith, four, is)
 audit_unrefused files source log status (log_refused last refuses) is = omega (arith, last, is)
 
+pub audit_new : (files : Contents) (source : Source) (log : List ℕ) (status : ℕ) → AuditStatus files source log status → status ≡ 16 → ⊥
+audit_new files source log status (audit_done one) is = one_of status 16 (λ e. omega arith) (λ e. omega arith) (λ e. omega arith) (λ e. omega arith) one is
+audit_new files source log status (file_long four passes) is = omega (arith, four, is)
+audit_new files source log status (file_refused four bytes why given none) is = omega (arith, four, is)
+audit_new files source log status (log_refused last refuses) is = omega (arith, last, is)
+
 -- status 4 comes where the flow file is refused
 pub audit_refused : (words : List (List ℕ)) (files : Contents) (command : Asked) (source : Source) (log : List ℕ) (status : ℕ) → command_of words ≡ Some command → file_asked_for command ≡ Some source
     → AuditStatus files source log status → status ≡ 4 → IsRefused words files

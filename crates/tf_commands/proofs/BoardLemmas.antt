@@ -36,6 +36,16 @@ board_no_log status (is_out a) = λ is. omega (arith, a, is)
 board_no_log status (is_full a) = λ is. omega (arith, a, is)
 board_no_log status (is_refused a) = λ is. omega (arith, a, is)
 
+-- nor a book of the older format
+pub board_new : (status : ℕ) → IsBoardStatus status → status ≢ 16
+board_new status (is_done a) = λ is. omega (arith, a, is)
+board_new status (is_failed a) = λ is. omega (arith, a, is)
+board_new status (is_no_board a) = λ is. omega (arith, a, is)
+board_new status (is_unsaid a) = λ is. omega (arith, a, is)
+board_new status (is_out a) = λ is. omega (arith, a, is)
+board_new status (is_full a) = λ is. omega (arith, a, is)
+board_new status (is_refused a) = λ is. omega (arith, a, is)
+
 -- the causes of a command on a board
 pub board_causes : {old now : DeskState} {status : ℕ} → board.HasCauses old now status → IsBoardStatus status → HasEachCause status (counts_of old 0 0) (counts_of now 0 0)
 board_causes {old} {now} {status} causes ended =
@@ -70,9 +80,11 @@ hires_none (asked.Owner board id) is = refl
 hires_none (asked.List board) is = refl
 hires_none (asked.Try file sets defer hands target) is = absurd (cc)
 hires_none (asked.Run file book sets defer hands stop target) is = absurd (cc)
-hires_none (asked.Resume book hands stop) is = absurd (cc)
-hires_none (asked.Show book) is = absurd (cc)
-hires_none (asked.Reset book) is = absurd (cc)
+hires_none (asked.Resume book name hands stop) is = absurd (cc)
+hires_none (asked.Show book name) is = absurd (cc)
+hires_none (asked.Reset book name) is = absurd (cc)
+hires_none (asked.Details book) is = absurd (cc)
+hires_none (asked.Migrate old new) is = absurd (cc)
 hires_none (asked.Check file sets target) is = absurd (cc)
 hires_none (asked.Audit file log sets defer) is = absurd (cc)
 hires_none (asked.Demo seed size book hands) is = absurd (cc)
@@ -133,9 +145,11 @@ module _ {K : Type 0} (state : K → DeskState) where
   obeys_board gives stopped (asked.List board) files ports later entry now status is does same = (does board refl, same)
   obeys_board gives stopped (asked.Try file sets defer hands target) files ports later entry now status is does same = absurd (cc)
   obeys_board gives stopped (asked.Run file book sets defer hands stop target) files ports later entry now status is does same = absurd (cc)
-  obeys_board gives stopped (asked.Resume book hands stop) files ports later entry now status is does same = absurd (cc)
-  obeys_board gives stopped (asked.Show book) files ports later entry now status is does same = absurd (cc)
-  obeys_board gives stopped (asked.Reset book) files ports later entry now status is does same = absurd (cc)
+  obeys_board gives stopped (asked.Resume book name hands stop) files ports later entry now status is does same = absurd (cc)
+  obeys_board gives stopped (asked.Show book name) files ports later entry now status is does same = absurd (cc)
+  obeys_board gives stopped (asked.Reset book name) files ports later entry now status is does same = absurd (cc)
+  obeys_board gives stopped (asked.Details book) files ports later entry now status is does same = absurd (cc)
+  obeys_board gives stopped (asked.Migrate old new) files ports later entry now status is does same = absurd (cc)
   obeys_board gives stopped (asked.Check file sets target) files ports later entry now status is does same = absurd (cc)
   obeys_board gives stopped (asked.Audit file log sets defer) files ports later entry now status is does same = absurd (cc)
   obeys_board gives stopped (asked.Demo seed size book hands) files ports later entry now status is does same = absurd (cc)

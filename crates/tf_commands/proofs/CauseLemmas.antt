@@ -14,61 +14,89 @@ use Rattle.tf_board.specs.Does.{board_of, IsBoardStatus}
 use Rattle.tf_board.proofs.DoesLemmas.{does_status}
 use Rattle.tf_board_service.specs.Sessions.{HasServiceCauses, IsServiceStatus}
 use Rattle.tf_board_service.proofs.CommandLemmas.{service_status}
-use Rattle.tf_commands.specs.Asking.{file_asked_for, IsWork, Counts, HasEachCause, HasCausesOr, counts_of}
+use Rattle.tf_commands.specs.Asking.{file_asked_for, book_asked_for, IsWork, Counts, HasEachCause, HasCausesOr, counts_of}
 use Rattle.tf_words.specs.Words.{command_of}
 use Rattle.tf_commands.specs.Course as course
-use Rattle.tf_commands.specs.Course.{PortsTold, Course, Obeys, source_so, IsRefused, IsBoardRefused}
+use Rattle.tf_commands.specs.Course.{PortsTold, Course, Obeys, source_so, IsRefused, IsBoardRefused, IsOldBook}
 use Rattle.tf_commands.specs.Books.{OnlySays}
 use Rattle.tf_commands.specs.declared.reading.Source.{Source}
 use Rattle.tf_commands.specs.Messages.{IsLogRefused, log_asked_for}
-use Rattle.tf_commands.proofs.AuditLemmas.{AuditStatus, audit_status, audit_usage, audit_refused, audit_unrefused, audit_log_refused}
+use Rattle.tf_commands.proofs.AuditLemmas.{audit_new, AuditStatus, audit_status, audit_usage, audit_refused, audit_unrefused, audit_log_refused}
 use Rattle.tf_commands.proofs.ConductLemmas.{IsConductStatus, conduct_status, conduct_apart}
-use Rattle.tf_commands.proofs.BoardLemmas.{board_apart, board_no_log, board_refuses}
-use Rattle.tf_commands.proofs.EndLemmas.{Ended, service_ended, works_ended, ended_apart, tries_ended, checks_ended, runs_ended, demonstrates_ended, resumes_ended, shows_ended, resets_ended, ended_unrefused, ended_no_log}
+use Rattle.tf_commands.proofs.BoardLemmas.{board_apart, board_new, board_no_log, board_refuses}
+use Rattle.tf_commands.proofs.EndLemmas.{Ended, is_complete, is_failed, is_no_book, is_unsaid, is_unhired, is_forbidden, is_suspended, is_old, IsOldFile, service_ended, works_ended, ended_apart, tries_ended, checks_ended, runs_ended, demonstrates_ended, resumes_ended, shows_ended, lists_ended, resets_ended, ended_unrefused, ended_no_log, ended_old}
+use Rattle.tf_commands.proofs.MigrateLemmas.{migrates_ended}
 use Rattle.tf_report.proofs.ClosingLemmas.{closes_status}
-use Rattle.tf_commands.proofs.FileLemmas.{FileStatus, file_status, file_unrefused, file_usage, file_refused, file_no_log}
+use Rattle.tf_commands.proofs.FileLemmas.{FileStatus, file_status, file_old, file_unrefused, file_usage, file_refused, file_no_log}
 use Rattle.tf_commands.proofs.WorkLemmas.{works_one}
 
 -- ---- what the words ask for
 
-data AskedStatus (command : Asked) (files : Contents) (status : ℕ) : Type 0 where
-  by_file : (source : Source) → file_asked_for command ≡ Some source → FileStatus files source status → AskedStatus command files status
-  by_log : (source : Source) (log : List ℕ) → file_asked_for command ≡ Some source → log_asked_for command ≡ Some log → AuditStatus files source log status → AskedStatus command files status
-  by_book : Ended status → AskedStatus command files status
-  by_board : is_some (board_of command) ≡ true → IsBoardStatus status → AskedStatus command files status
-  by_jobs : IsConductStatus status → AskedStatus command files status
+-- old tells where status 16 comes from
+data AskedStatus (old : Type 0) (command : Asked) (files : Contents) (status : ℕ) : Type 0 where
+  by_file : (source : Source) → file_asked_for command ≡ Some source → FileStatus old files source status → AskedStatus old command files status
+  by_log : (source : Source) (log : List ℕ) → file_asked_for command ≡ Some source → log_asked_for command ≡ Some log → AuditStatus files source log status → AskedStatus old command files status
+  by_book : Ended old status → AskedStatus old command files status
+  by_board : is_some (board_of command) ≡ true → IsBoardStatus status → AskedStatus old command files status
+  by_jobs : IsConductStatus status → AskedStatus old command files status
 
-status_usage : (command : Asked) (files : Contents) (status : ℕ) → AskedStatus command files status → status ≡ 2 → ⊥
+status_usage : {old : Type 0} (command : Asked) (files : Contents) (status : ℕ) → AskedStatus old command files status → status ≡ 2 → ⊥
 status_usage command files status (by_file source about is) two = file_usage files source status is two
 status_usage command files status (by_log source log file about is) two = audit_usage files source log status is two
 status_usage command files status (by_book ended) two = ended_apart status 2 ended two (inl refl)
 status_usage command files status (by_board about ended) two = (board_apart status ended).0 two
 status_usage command files status (by_jobs ended) two = conduct_apart status 2 ended two refl
 
-status_refused : (words : List (List ℕ)) (files : Contents) (command : Asked) (status : ℕ) → command_of words ≡ Some command → AskedStatus command files status → status ≡ 4 → IsRefused words files
+status_refused : {old : Type 0} (words : List (List ℕ)) (files : Contents) (command : Asked) (status : ℕ) → command_of words ≡ Some command → AskedStatus old command files status → status ≡ 4 → IsRefused words files
 status_refused words files command status asks (by_file source about is) four = file_refused words files command source status asks about is four
 status_refused words files command status asks (by_log source log file about is) four = audit_refused words files command source log status asks file is four
 status_refused words files command status asks (by_book ended) four = absurd (ended_apart status 4 ended four (inr (inr refl)))
 status_refused words files command status asks (by_board about ended) four = absurd ((board_apart status ended).2 four)
 status_refused words files command status asks (by_jobs ended) four = absurd (conduct_apart status 4 ended four refl)
 
-status_of_board : (command : Asked) (files : Contents) (status : ℕ) → AskedStatus command files status → status ≡ 15 → is_some (board_of command) ≡ true
+status_of_board : {old : Type 0} (command : Asked) (files : Contents) (status : ℕ) → AskedStatus old command files status → status ≡ 15 → is_some (board_of command) ≡ true
 status_of_board command files status (by_file source about is) fifteen = absurd (file_unrefused files source status is fifteen)
 status_of_board command files status (by_log source log file about is) fifteen = absurd (audit_unrefused files source log status is fifteen)
 status_of_board command files status (by_book ended) fifteen = absurd (ended_unrefused status ended fifteen)
 status_of_board command files status (by_board about ended) fifteen = about
 status_of_board command files status (by_jobs ended) fifteen = absurd (conduct_apart status 15 ended fifteen refl)
 
-status_log_refused : (words : List (List ℕ)) (files : Contents) (command : Asked) (status : ℕ) → command_of words ≡ Some command → AskedStatus command files status → status ≡ 17 → IsLogRefused words files
+status_log_refused : {old : Type 0} (words : List (List ℕ)) (files : Contents) (command : Asked) (status : ℕ) → command_of words ≡ Some command → AskedStatus old command files status → status ≡ 17 → IsLogRefused words files
 status_log_refused words files command status asks (by_file source about is) last = absurd (file_no_log files source status is last)
 status_log_refused words files command status asks (by_log source log file about is) last = audit_log_refused words files command source log status asks file about is last
 status_log_refused words files command status asks (by_book ended) last = absurd (ended_no_log status ended last)
 status_log_refused words files command status asks (by_board about ended) last = absurd (board_no_log status ended last)
 status_log_refused words files command status asks (by_jobs ended) last = absurd (conduct_apart status 17 ended last refl)
 
+status_old : {old : Type 0} (command : Asked) (files : Contents) (status : ℕ) → AskedStatus old command files status → status ≡ 16 → old
+status_old command files status (by_file source about is) sixteen = file_old files source status is sixteen
+status_old command files status (by_log source log file about is) sixteen = absurd (audit_new files source log status is sixteen)
+status_old command files status (by_book ended) sixteen = ended_old status ended sixteen
+status_old command files status (by_board about ended) sixteen = absurd (board_new status ended sixteen)
+status_old command files status (by_jobs ended) sixteen = absurd (conduct_apart status 16 ended sixteen refl)
+
+-- status 16 comes from a wider cause too
+ended_wider : {few more : Type 0} {status : ℕ} → (few → more) → Ended few status → Ended more status
+ended_wider widens (is_complete is) = is_complete is
+ended_wider widens (is_failed is) = is_failed is
+ended_wider widens (is_no_book is) = is_no_book is
+ended_wider widens (is_unsaid is) = is_unsaid is
+ended_wider widens (is_unhired is) = is_unhired is
+ended_wider widens (is_forbidden is) = is_forbidden is
+ended_wider widens (is_suspended is) = is_suspended is
+ended_wider widens (is_old is old) = is_old is (widens old)
+
+-- the command is about a book, whose file is one of the older format
+abbrev pub IsOldOf : Asked → DeskState → Type 0
+IsOldOf command entry = (name : List ℕ) × (book_asked_for command ≡ Some name) × IsOldFile name entry
+
+-- the book of a command
+older : {command : Asked} {entry : DeskState} {status : ℕ} (name : List ℕ) → book_asked_for command ≡ Some name → Ended (IsOldFile name entry) status → Ended (IsOldOf command entry) status
+older name about ended = ended_wider (λ old. (name, about, old)) ended
+
 module _ {K : Type 0} (state : K → DeskState) where
   asked_status : (gives : Want → Order → Outcome → Type 0) (asked_so : Type 0) (command : Asked) (files : Contents) (ports later : PortsTold) (entry now : K) (status : ℕ)
-      → Obeys state gives asked_so command files ports later entry now status → AskedStatus command files status
+      → Obeys state gives asked_so command files ports later entry now status → AskedStatus (IsOldOf command (state entry)) command files status
   asked_status gives asked_so (asked.Try file sets defer hands target) files ports later entry now status obeys =
       by_file (source_so file sets defer target) refl (file_status files (source_so file sets defer target) _ _ (state entry).shown (state now).shown status
       (λ plan did. tries_ended ports.crew later.crew (state entry).shown (state now).shown plan status did) obeys.0)
@@ -79,15 +107,19 @@ module _ {K : Type 0} (state : K → DeskState) where
       by_log (source_so file sets defer None) log refl refl (audit_status files (source_so file sets defer None) log (state entry).shown (state now).shown status _ obeys.0)
   asked_status gives asked_so (asked.Run file book sets defer hands stop target) files ports later entry now status obeys =
       by_file (source_so file sets defer target) refl (file_status files (source_so file sets defer target) _ _ (state entry).shown (state now).shown status
-      (λ plan did. runs_ended book ports.crew later.crew (state entry) (state now) plan status did) obeys)
-  asked_status gives asked_so (asked.Resume book hands stop) files ports later entry now status obeys =
-      by_book (resumes_ended book ports.crew later.crew (state entry) (state now) status obeys)
-  asked_status gives asked_so (asked.Show book) files ports later entry now status obeys =
-      by_book (shows_ended book (state entry) (state now) status obeys.0)
-  asked_status gives asked_so (asked.Reset book) files ports later entry now status obeys =
-      by_book (resets_ended book (state entry) (state now) status obeys.0)
+      (λ plan did. older book refl (runs_ended book ports.crew later.crew (state entry) (state now) plan status did)) obeys)
+  asked_status gives asked_so (asked.Resume book name hands stop) files ports later entry now status obeys =
+      by_book (older book refl (resumes_ended book name ports.crew later.crew (state entry) (state now) status obeys))
+  asked_status gives asked_so (asked.Show book name) files ports later entry now status obeys =
+      by_book (older book refl (shows_ended book name (state entry) (state now) status obeys.0))
+  asked_status gives asked_so (asked.Reset book name) files ports later entry now status obeys =
+      by_book (older book refl (resets_ended book name (state entry) (state now) status obeys.0))
+  asked_status gives asked_so (asked.Details book) files ports later entry now status obeys =
+      by_book (older book refl (lists_ended book (state entry) (state now) status obeys.0))
+  asked_status gives asked_so (asked.Migrate old new) files ports later entry now status obeys =
+      by_book (ended_wider (λ never. absurd never) (migrates_ended old new (state entry) (state now) status obeys.0))
   asked_status gives asked_so (asked.Demo seed size book hands) files ports later entry now status obeys =
-      by_book (demonstrates_ended book ports.crew later.crew entry now seed size status obeys)
+      by_book (older book refl (demonstrates_ended book ports.crew later.crew entry now seed size status obeys))
   asked_status gives asked_so (asked.Worker address sessions) files ports later entry now status obeys =
       by_book (works_ended status (works_one (gives (want.Local 1)) ports.crew later.crew ports.door later.door (state entry).shown (state now).shown address sessions status obeys.0))
   asked_status gives asked_so (asked.Conduct board owner hands) files ports later entry now status obeys =
@@ -145,9 +177,11 @@ module _ {K : Type 0} (state : K → DeskState) where
       board_refuses words (asked.List board) board (state entry) (state now) status asks refl obeys.0 is
   on_board gives asked_so words (asked.Try file sets defer hands target) files ports later entry now status asks about obeys is = absurd (cc)
   on_board gives asked_so words (asked.Run file book sets defer hands stop target) files ports later entry now status asks about obeys is = absurd (cc)
-  on_board gives asked_so words (asked.Resume book hands stop) files ports later entry now status asks about obeys is = absurd (cc)
-  on_board gives asked_so words (asked.Show book) files ports later entry now status asks about obeys is = absurd (cc)
-  on_board gives asked_so words (asked.Reset book) files ports later entry now status asks about obeys is = absurd (cc)
+  on_board gives asked_so words (asked.Resume book name hands stop) files ports later entry now status asks about obeys is = absurd (cc)
+  on_board gives asked_so words (asked.Show book name) files ports later entry now status asks about obeys is = absurd (cc)
+  on_board gives asked_so words (asked.Reset book name) files ports later entry now status asks about obeys is = absurd (cc)
+  on_board gives asked_so words (asked.Details book) files ports later entry now status asks about obeys is = absurd (cc)
+  on_board gives asked_so words (asked.Migrate old new) files ports later entry now status asks about obeys is = absurd (cc)
   on_board gives asked_so words (asked.Check file sets target) files ports later entry now status asks about obeys is = absurd (cc)
   on_board gives asked_so words (asked.Audit file log sets defer) files ports later entry now status asks about obeys is = absurd (cc)
   on_board gives asked_so words (asked.Demo seed size book hands) files ports later entry now status asks about obeys is = absurd (cc)
@@ -163,6 +197,19 @@ module _ {K : Type 0} (state : K → DeskState) where
       absurd (⊎_elim (λ is. omega (arith, is, fifteen)) (λ is. omega (arith, is, fifteen)) (closes_status (state entry).shown (state now).shown _ 2 status closes))
   board_tells {gives} {asked_so} words files ports later entry now status (course.obeyed command asks obeys) fifteen =
       on_board gives asked_so words command files ports later entry now status asks (status_of_board command files status (asked_status gives asked_so command files ports later entry now status obeys) fifteen) obeys fifteen
+
+-- ---- status 16
+
+module _ {K : Type 0} (state : K → DeskState) where
+  -- status 16 comes only where a book is one of the older format
+  pub old_tells : {gives : Want → Order → Outcome → Type 0} {asked_so : Type 0} (words : List (List ℕ)) (files : Contents) (ports later : PortsTold) (entry now : K) (status : ℕ)
+      → Course state gives asked_so words files ports later entry now status → status ≡ 16 → IsOldBook words (state entry)
+  old_tells words files ports later entry now status (course.unheard is same still) sixteen = absurd (omega (arith, is, sixteen))
+  old_tells words files ports later entry now status (course.no_command none closes still) sixteen =
+      absurd (⊎_elim (λ is. omega (arith, is, sixteen)) (λ is. omega (arith, is, sixteen)) (closes_status (state entry).shown (state now).shown _ 2 status closes))
+  old_tells {gives} {asked_so} words files ports later entry now status (course.obeyed command asks obeys) sixteen =
+      let old = status_old command files status (asked_status state gives asked_so command files ports later entry now status obeys) sixteen in
+      record { command = command; name = old.0; asks = asks; about = old.1; old = old.2 }
 
 -- ---- status 17
 

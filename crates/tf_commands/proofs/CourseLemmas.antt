@@ -123,9 +123,11 @@ pub within_so : (found : Option Asked) (command : Asked) → ((seed size : ℕ) 
 within_so found (asked.Demo seed size book hands) bounds named few is = (bounds seed size book hands is, few (asked.Demo seed size book hands) is)
 within_so found (asked.Try file sets defer hands target) bounds named few is = few (asked.Try file sets defer hands target) is
 within_so found (asked.Run file book sets defer hands stop target) bounds named few is = few (asked.Run file book sets defer hands stop target) is
-within_so found (asked.Resume book hands stop) bounds named few is = few (asked.Resume book hands stop) is
-within_so found (asked.Show book) bounds named few is = tt
-within_so found (asked.Reset book) bounds named few is = tt
+within_so found (asked.Resume book name hands stop) bounds named few is = few (asked.Resume book name hands stop) is
+within_so found (asked.Show book name) bounds named few is = tt
+within_so found (asked.Reset book name) bounds named few is = tt
+within_so found (asked.Details book) bounds named few is = tt
+within_so found (asked.Migrate old new) bounds named few is = tt
 within_so found (asked.Check file sets target) bounds named few is = tt
 within_so found (asked.Audit file log sets defer) bounds named few is = tt
 within_so found (asked.Worker address sessions) bounds named few is = tt

@@ -5,7 +5,7 @@ use Rattle.tf_ports.specs.declared.crews.Address.{Address}
 use Rattle.tf_ports.specs.declared.crews.Want.{Want}
 use Rattle.tf_ports.specs.declared.crews.Want.TheVariants as want
 use Rattle.tf_values.specs.Text.{is_name}
-use Rattle.tf_words.specs.Words.{worker_of, address_of, addresses_in, addresses_of, pieces_behind, sessions_in, seats_in, serve_of, Applied, id_in, post_of, owner_of, list_of, applied_in, priority_in, details_in, hands_in, remote_of, want_by, want_in, deferral_in, stop_in, target_in, try_of, run_of, resume_of, show_of, reset_of, check_of, audit_of, demo_of, conduct_of, owner_word, asked_by, asked_of, command_of}
+use Rattle.tf_words.specs.Words.{worker_of, address_of, addresses_in, addresses_of, pieces_behind, sessions_in, seats_in, serve_of, Applied, id_in, post_of, owner_of, list_of, applied_in, priority_in, details_in, hands_in, remote_of, want_by, want_in, deferral_in, stop_in, target_in, try_of, run_of, resume_of, show_of, reset_of, check_of, audit_of, demo_of, conduct_of, owner_word, asked_by, asked_of, command_of, book_flow_in, details_of, migrate_of}
 use Rattle.tf_words.specs.Verbs.{number_between, sets_behind, Said, once, are_filled, said_by, Choice, choice_of, forms_of}
 use Rattle.tf_words.specs.declared.asked.Asked.{Asked}
 use Rattle.tf_words.specs.declared.asked.Asked.TheVariants as asked
@@ -21,7 +21,7 @@ use Rattle.tf_words.proofs.KindLemmas.{then_some, map_some}
 abbrev pub HasHands : Asked → Type 0
 HasHands (asked.Try file sets defer hands target) = AreHands hands
 HasHands (asked.Run file book sets defer hands stop target) = AreHands hands
-HasHands (asked.Resume book hands stop) = AreHands hands
+HasHands (asked.Resume book name hands stop) = AreHands hands
 HasHands (asked.Demo seed size book hands) = AreHands (want.Local hands)
 HasHands (asked.Serve board address sessions) = (1 ≤ sessions) × (sessions ≤ 64)
 HasHands command = Unit {0}
@@ -129,19 +129,26 @@ run_hands said (file ∷ book ∷ pairs) =
     all_then HasHands _ (target_in said) (λ target is_target. all_map HasHands _ (sets_behind [] pairs) (λ sets. want_within said n is_hands)))))
 
 resume_hands : (said : Said) (words : List (List ℕ)) → IfSome (resume_of said words) HasHands
-resume_hands said [] = tt
-resume_hands said (book ∷ []) = all_then HasHands _ (want_in said) (λ n is_hands. all_map HasHands _ (stop_in said) (λ stop. want_within said n is_hands))
-resume_hands said (book ∷ more ∷ others) = tt
+resume_hands said words =
+    all_then HasHands _ (book_flow_in words) (λ found is_found.
+    all_then HasHands _ (want_in said) (λ n is_hands. all_map HasHands _ (stop_in said) (λ stop. want_within said n is_hands)))
 
 show_hands : (words : List (List ℕ)) → IfSome (show_of words) HasHands
-show_hands [] = tt
-show_hands (book ∷ []) = tt
-show_hands (book ∷ more ∷ others) = tt
+show_hands words = all_map HasHands _ (book_flow_in words) (λ found. tt)
 
 reset_hands : (words : List (List ℕ)) → IfSome (reset_of words) HasHands
-reset_hands [] = tt
-reset_hands (book ∷ []) = tt
-reset_hands (book ∷ more ∷ others) = tt
+reset_hands words = all_map HasHands _ (book_flow_in words) (λ found. tt)
+
+details_hands : (words : List (List ℕ)) → IfSome (details_of words) HasHands
+details_hands [] = tt
+details_hands (book ∷ []) = tt
+details_hands (book ∷ more ∷ others) = tt
+
+migrate_hands : (words : List (List ℕ)) → IfSome (migrate_of words) HasHands
+migrate_hands [] = tt
+migrate_hands (old ∷ []) = tt
+migrate_hands (old ∷ new ∷ []) = tt
+migrate_hands (old ∷ new ∷ more ∷ others) = tt
 
 check_hands : (said : Said) (words : List (List ℕ)) → IfSome (check_of said words) HasHands
 check_hands said [] = tt
@@ -212,6 +219,8 @@ asked_hands verb.Run said = run_hands said (said [])
 asked_hands verb.Resume said = resume_hands said (said [])
 asked_hands verb.Show said = show_hands (said [])
 asked_hands verb.Reset said = reset_hands (said [])
+asked_hands verb.Details said = details_hands (said [])
+asked_hands verb.Migrate said = migrate_hands (said [])
 asked_hands verb.Check said = check_hands said (said [])
 asked_hands verb.Audit said = audit_hands said (said [])
 asked_hands verb.Demo said = demo_hands said (said [])

@@ -7,6 +7,7 @@ pub mod PathLemmas
 pub mod AloneLemmas
 pub mod FlowLemmas
 pub mod AskedLemmas
+pub mod HeldLemmas
 pub mod HaltLemmas
 pub mod HandLemmas
 pub mod ResetLemmas
@@ -18,6 +19,8 @@ pub mod AuditLemmas
 pub mod CompleteLemmas
 pub mod CauseLemmas
 pub mod OpenLemmas
+pub mod FindLemmas
+pub mod MigrateLemmas
 pub mod PromiseLemmas
 pub mod BeginLemmas
 pub mod CountLemmas

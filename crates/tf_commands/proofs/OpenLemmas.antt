@@ -1,5 +1,5 @@
 -- What is known of the desk where a book's file was picked and read.
-use Rattle.std.proofs.Common.{◌≡◌, ◌≢◌, ◌⊎◌, ℕ, List, subst, sym, inl, inr, ⊎_elim, arith}
+use Rattle.std.proofs.Common.{◌≡◌, ◌≢◌, ◌⊎◌, ℕ, List, Option, inl, inr, ⊎_elim, arith}
 use Rattle.std.specs.Prelude.{IsTrue, Result, Ok, Err, IfOk, IfErr}
 use Rattle.tf_desk.specs.Crash.{Pairs}
 use Rattle.tf_desk.specs.State.{DeskState, OnDisk, Picks, Rests}
@@ -9,10 +9,9 @@ use Rattle.tf_journal.specs.Format.{HasSynced}
 use Rattle.tf_journal.specs.declared.faults.LoadFault.{LoadFault}
 use Rattle.tf_journal.specs.declared.faults.LoadFault.TheVariants as load_fault
 use Rattle.tf_book.specs.Book.{BookValue, outline}
-use Rattle.tf_book.specs.Loaded.{desk_of, desk_after_load}
+use Rattle.tf_book.specs.Shelf.{ShelfValue, desk_of, desk_after_load}
 use Rattle.tf_book.specs.SessionInvariant.{history_text}
-use Rattle.tf_book.specs.declared.book.loading.Loaded.{Loaded}
-use Rattle.tf_commands.specs.Books.{RefusesOrStops, exhausted, ShowsBook, unopened_show, shown_whole}
+use Rattle.tf_commands.specs.Books.{RefusesOrStops, exhausted, unopened_book, ShowsBook, unfound_show, shown_whole}
 use Rattle.tf_commands.specs.Runs.{book_desk, HoldsBook}
 use Rattle.tf_report.specs.declared.statuses.TheConstants.{SUCCEEDED, DISK_FAILED, UNSAID, UNHIRED, OUT_OF_MEMORY}
 
@@ -25,28 +24,28 @@ whole_apart status (inr (inr a)) = (λ is. omega (arith, a, is), λ is. omega (a
 module _ {K : Type 0} (state : K → DeskState) where
   -- ---- what a load answered
 
-  pub unopened_so : (name : List ℕ) (entry : DeskState) (found : Result (Loaded K) (K × LoadFault)) → Untouched name entry (state (desk_after_load found))
+  pub unopened_so : (name : List ℕ) (entry : DeskState) (found : Result (ShelfValue K) (K × LoadFault)) → Untouched name entry (state (desk_after_load found))
       → IfErr found (λ back. Untouched name entry (state back.0))
-  unopened_so name entry (Ok loaded) untouched = tt
+  unopened_so name entry (Ok shelf) untouched = tt
   unopened_so name entry (Err back) untouched = untouched
 
   -- without a fault of the disk the file is open
-  pub opened_so : (name : List ℕ) (entry mid : DeskState) {during : Pairs} (found : Result (Loaded K) (K × LoadFault)) → OnDisk during entry mid → (IsTrue entry.tells → Picks name entry mid)
+  pub opened_so : (name : List ℕ) (entry mid : DeskState) {during : Pairs} (found : Result (ShelfValue K) (K × LoadFault)) → OnDisk during entry mid → (IsTrue entry.tells → Picks name entry mid)
       → Rests mid (state (desk_after_load found))
       → (IsTrue mid.tells → IfErr found (λ back. back.1 ≢ load_fault.Disk) → HasSynced mid (state (desk_after_load found)))
       → Untouched name entry (state (desk_after_load found))
-      → IfOk found (λ loaded. Open name entry (state (desk_of loaded)))
-  opened_so name entry mid (Ok loaded) call picks rests synced untouched = open_set call picks rests (λ telling. synced telling tt) untouched
+      → IfOk found (λ shelf. Open name entry (state (desk_of shelf)))
+  opened_so name entry mid (Ok shelf) call picks rests synced untouched = open_set call picks rests (λ telling. synced telling tt) untouched
   opened_so name entry mid (Err back) call picks rests synced untouched = tt
 
   -- ---- a book that was opened is shown
 
-  pub shows_whole : (name : List ℕ) (entry now : K) (status : ℕ) (spoken book : BookValue K) → spoken ≡ book
-      → ((n : List ℕ) (e : K) → Untouched n (state e) (book_desk state spoken)
-      → RefusesOrStops n (state e) (state now) (history_text (outline spoken) spoken.past) SUCCEEDED status)
-      → Untouched name (state entry) (book_desk state book) → HoldsBook name (state entry) book
-      → ShowsBook name (state entry) (state now) status
-  shows_whole name entry now status spoken book same shows untouched holds =
-      ⊎_elim (λ stops. unopened_show (exhausted stops))
-      (λ refuses. shown_whole spoken.plan spoken.past (subst (λ (b : BookValue K). HoldsBook name (state entry) b) (sym same) holds) refuses)
-      (shows name entry (subst (λ (b : BookValue K). Untouched name (state entry) (book_desk state b)) (sym same) untouched))
+  pub shows_whole : (name : List ℕ) (wanted : Option (List ℕ)) (entry now : K) (status : ℕ) (book : BookValue K)
+      → ((n : List ℕ) (e : K) → Untouched n (state e) (book_desk state book)
+      → RefusesOrStops n (state e) (state now) (history_text (outline book) book.past) SUCCEEDED status)
+      → Untouched name (state entry) (book_desk state book) → HoldsBook name wanted (state entry) book
+      → ShowsBook name wanted (state entry) (state now) status
+  shows_whole name wanted entry now status book shows untouched holds =
+      ⊎_elim (λ stops. unfound_show (unopened_book (exhausted stops)))
+      (λ refuses. shown_whole book.contents book.plan book.past holds refuses)
+      (shows name entry untouched)

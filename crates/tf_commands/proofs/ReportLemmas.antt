@@ -12,6 +12,7 @@ use Rattle.tf_states.specs.declared.state.FlowState.TheVariants as flow
 use Rattle.tf_model.specs.History.{snapshot}
 use Rattle.tf_model.specs.Plan.{outline_of}
 use Rattle.tf_report.specs.Lines.{report}
+use Rattle.tf_details.specs.Contents.{Contents}
 use Rattle.tf_book.specs.Closed.{IsClosing}
 use Rattle.tf_book.specs.SessionInvariant.{said, HasCause}
 use Rattle.tf_book.specs.Faults.{IsHaltedBy, IsFault}
@@ -42,36 +43,36 @@ ClosingFor report (Some halt.Disk) closing = ⊥
 ClosingFor report (Some (halt.Full size need)) closing = ⊥
 
 -- a report without a heading closed a run
-report_closed : (gives : Order → Outcome → Type 0) (request : Request) (plan : PlanValue) (before entries : List Entry) (shown now : Option (List ℕ)) (last : FlowState) (status : ℕ) → heading_of request (outline_of plan) (entries ++ before) ≡ []
+report_closed : (gives : Order → Outcome → Type 0) (request : Request) (contents : Contents) (plan : PlanValue) (before entries : List Entry) (shown now : Option (List ℕ)) (last : FlowState) (status : ℕ) → heading_of request (outline_of plan) (entries ++ before) ≡ []
     → ClosesWith (shown_with shown (said request.quiet (outline_of plan) before entries)) (report (outline_of plan) (snapshot (outline_of plan) (entries ++ before))) (stop_status last) now status
-    → RunShows gives request plan before entries shown now (Some last) (report (outline_of plan) (snapshot (outline_of plan) (entries ++ before))) status
-report_closed gives request plan before entries shown now last status plain closes =
+    → RunShows gives request contents plan before entries shown now (Some last) (report (outline_of plan) (snapshot (outline_of plan) (entries ++ before))) status
+report_closed gives request contents plan before entries shown now last status plain closes =
     let text = report (outline_of plan) (snapshot (outline_of plan) (entries ++ before)) in
     let same : heading_of request (outline_of plan) (entries ++ before) ++ text ≡ text = ap (λ (h : List ℕ). h ++ text) plain in
-    subst (λ (c : List ℕ). RunShows gives request plan before entries shown now (Some last) c status) same
+    subst (λ (c : List ℕ). RunShows gives request contents plan before entries shown now (Some last) c status) same
     (closed (heading_of request (outline_of plan) (entries ++ before) ++ text) (stop_status last) status (reported last)
     (subst (λ (m : List ℕ). ClosesWith (shown_with shown (said request.quiet (outline_of plan) before entries)) m (stop_status last) now status) (sym same) closes))
 
-pub report_said : (gives : Order → Outcome → Type 0) (request : Request) (plan : PlanValue) (before entries : List Entry) (shown now : Option (List ℕ)) (closing : List ℕ) (last : FlowState) (status : ℕ) (halted : Option Halt)
+pub report_said : (gives : Order → Outcome → Type 0) (request : Request) (contents : Contents) (plan : PlanValue) (before entries : List Entry) (shown now : Option (List ℕ)) (closing : List ℕ) (last : FlowState) (status : ℕ) (halted : Option Halt)
     → heading_of request (outline_of plan) (entries ++ before) ≡ []
     → ClosingFor (report (outline_of plan) (snapshot (outline_of plan) (entries ++ before))) halted closing
     → IsClosing (shown_with shown (said request.quiet (outline_of plan) before entries)) closing halted now
-    → StatusAfter last halted status → RunShows gives request plan before entries shown now (Some last) closing status
-report_said gives request plan before entries shown now closing last status None plain closes text is =
-    subst (λ (c : List ℕ). RunShows gives request plan before entries shown now (Some last) c status) (sym closes)
-    (report_closed gives request plan before entries shown now last status plain
+    → StatusAfter last halted status → RunShows gives request contents plan before entries shown now (Some last) closing status
+report_said gives request contents plan before entries shown now closing last status None plain closes text is =
+    subst (λ (c : List ℕ). RunShows gives request contents plan before entries shown now (Some last) c status) (sym closes)
+    (report_closed gives request contents plan before entries shown now last status plain
     (subst (λ (n : ℕ). ClosesWith (shown_with shown (said request.quiet (outline_of plan) before entries)) (report (outline_of plan) (snapshot (outline_of plan) (entries ++ before))) (stop_status last) now n) (sym is)
     (was_said (text ∙ ap (shown_with (shown_with shown (said request.quiet (outline_of plan) before entries))) closes))))
-report_said gives request plan before entries shown now closing last status (Some halt.Out) plain closes text is =
-    subst (λ (c : List ℕ). RunShows gives request plan before entries shown now (Some last) c status) (sym closes)
-    (report_closed gives request plan before entries shown now last status plain
+report_said gives request contents plan before entries shown now closing last status (Some halt.Out) plain closes text is =
+    subst (λ (c : List ℕ). RunShows gives request contents plan before entries shown now (Some last) c status) (sym closes)
+    (report_closed gives request contents plan before entries shown now last status plain
     (subst (λ (n : ℕ). ClosesWith (shown_with shown (said request.quiet (outline_of plan) before entries)) (report (outline_of plan) (snapshot (outline_of plan) (entries ++ before))) (stop_status last) now n) (sym is)
     (cut (subst (λ (c : List ℕ). ShowsPrefix (shown_with shown (said request.quiet (outline_of plan) before entries)) c now) closes text))))
-report_said gives request plan before entries shown now closing last status (Some halt.Memory) plain closes text is =
-    subst (λ (c : List ℕ). RunShows gives request plan before entries shown now (Some last) c status) (sym closes)
-    (subst (λ (n : ℕ). RunShows gives request plan before entries shown now (Some last) [] n) (sym is) (stopped text))
-report_said gives request plan before entries shown now closing last status (Some halt.Disk) plain closes text is = absurd text
-report_said gives request plan before entries shown now closing last status (Some (halt.Full size need)) plain closes text is = absurd text
+report_said gives request contents plan before entries shown now closing last status (Some halt.Memory) plain closes text is =
+    subst (λ (c : List ℕ). RunShows gives request contents plan before entries shown now (Some last) c status) (sym closes)
+    (subst (λ (n : ℕ). RunShows gives request contents plan before entries shown now (Some last) [] n) (sym is) (stopped text))
+report_said gives request contents plan before entries shown now closing last status (Some halt.Disk) plain closes text is = absurd text
+report_said gives request contents plan before entries shown now closing last status (Some (halt.Full size need)) plain closes text is = absurd text
 
 -- no state has the status of a fault
 state_status : (last : FlowState) → (stop_status last ≢ UNSAID) × (stop_status last ≢ DISK_FAILED)
@@ -89,13 +90,13 @@ pub closed_sound : (last : FlowState) (wanted status : ℕ) → wanted ≡ stop_
 closed_sound last wanted status same by is = (state_status last).1 (sym same ∙ sym (by (λ seven. omega (arith, is, seven))) ∙ is)
 
 -- a report's status tells a fault only where there was one
-reported_unsaid : (last : FlowState) (halted : Option Halt) (status : ℕ) (old now : DeskState) (plan : PlanValue) (past : List Entry) (failed : Option Entry) → StatusAfter last halted status
-    → HasCause plan past old now failed halted → status ≡ UNSAID → Rises old.out_faults now.out_faults
-reported_unsaid last None status old now plan past failed is cause unsaid = absurd ((state_status last).0 (sym is ∙ unsaid))
-reported_unsaid last (Some halt.Out) status old now plan past failed is cause unsaid = cause
-reported_unsaid last (Some halt.Memory) status old now plan past failed is cause unsaid = absurd (cc)
-reported_unsaid last (Some halt.Disk) status old now plan past failed is cause unsaid = absurd is
-reported_unsaid last (Some (halt.Full size need)) status old now plan past failed is cause unsaid = absurd is
+reported_unsaid : (last : FlowState) (halted : Option Halt) (status : ℕ) (old now : DeskState) (held : Contents) (plan : PlanValue) (past : List Entry) (failed : Option Entry) → StatusAfter last halted status
+    → HasCause held plan past old now failed halted → status ≡ UNSAID → Rises old.out_faults now.out_faults
+reported_unsaid last None status old now held plan past failed is cause unsaid = absurd ((state_status last).0 (sym is ∙ unsaid))
+reported_unsaid last (Some halt.Out) status old now held plan past failed is cause unsaid = cause
+reported_unsaid last (Some halt.Memory) status old now held plan past failed is cause unsaid = absurd (cc)
+reported_unsaid last (Some halt.Disk) status old now held plan past failed is cause unsaid = absurd is
+reported_unsaid last (Some (halt.Full size need)) status old now held plan past failed is cause unsaid = absurd is
 
 reported_sound : (last : FlowState) (halted : Option Halt) (status : ℕ) → StatusAfter last halted status → status ≢ DISK_FAILED
 reported_sound last None status is failed = (state_status last).1 (sym is ∙ failed)
@@ -105,10 +106,10 @@ reported_sound last (Some halt.Disk) status is failed = is
 reported_sound last (Some (halt.Full size need)) status is failed = is
 
 -- so what it tells of a fault has its cause
-pub report_ended : (last : FlowState) (halted : Option Halt) (status : ℕ) (old now : DeskState) (plan : PlanValue) (past : List Entry) (failed : Option Entry) → StatusAfter last halted status
-    → HasCause plan past old now failed halted → HasEnded old now status
-report_ended last halted status old now plan past failed is cause = record {
-  unsaid = λ unsaid. reported_unsaid last halted status old now plan past failed is cause unsaid;
+pub report_ended : (last : FlowState) (halted : Option Halt) (status : ℕ) (old now : DeskState) (held : Contents) (plan : PlanValue) (past : List Entry) (failed : Option Entry) → StatusAfter last halted status
+    → HasCause held plan past old now failed halted → HasEnded old now status
+report_ended last halted status old now held plan past failed is cause = record {
+  unsaid = λ unsaid. reported_unsaid last halted status old now held plan past failed is cause unsaid;
   failed = λ damaged. absurd (reported_sound last halted status is damaged);
 }
 

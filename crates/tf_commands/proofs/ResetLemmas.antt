@@ -7,10 +7,13 @@ use Rattle.tf_desk.specs.Crash.{shown_with}
 use Rattle.tf_desk.specs.State.{DeskState}
 use Rattle.tf_flow.specs.Plan.{PlanValue}
 use Rattle.tf_states.specs.declared.record.Entry.{Entry}
+use Rattle.tf_states.specs.declared.state.FlowState.{FlowState}
 use Rattle.tf_states.specs.declared.state.FlowState.TheVariants as flow
 use Rattle.tf_model.specs.History.{flow_of}
 use Rattle.tf_model.specs.Plan.{outline_of}
-use Rattle.tf_book.specs.Book.{BookValue, outline, moment, flow_state, IsHistoryOf}
+use Rattle.tf_details.specs.Elements.{detail_name}
+use Rattle.tf_details.specs.Contents.{with_entries}
+use Rattle.tf_book.specs.Book.{BookValue, outline, moment, flow_state}
 use Rattle.tf_book.specs.SessionInvariant.{said}
 use Rattle.tf_book.specs.Turns.{may_reset, AreReset, IsPutBackOn, IsTried, IsNextReset, HasTriedToReset}
 use Rattle.tf_book.specs.Faults.{IsFault}
@@ -19,9 +22,9 @@ use Rattle.tf_book.specs.declared.faults.Halt.{Halt}
 use Rattle.tf_book.specs.declared.faults.Halt.TheVariants as halt
 use Rattle.tf_book.proofs.SpokenLemmas.{shown_none}
 use Rattle.tf_journal.specs.Start.{Open}
-use Rattle.tf_commands.specs.Books.{Refuses, RefusesOrStops, exhausted, ResetsBook, unopened_reset, reset_forbidden, was_reset, Lasts, PutBack, IsResetSaid, all_back, disk_failed_back, filled_back, ShowsLines, closed}
+use Rattle.tf_commands.specs.Books.{Refuses, RefusesOrStops, exhausted, unopened_book, ResetsBook, unfound_reset, reset_forbidden, was_reset, Lasts, PutBack, IsResetSaid, all_back, disk_failed_back, filled_back, ShowsLines, closed}
 use Rattle.tf_commands.specs.Messages.{state_forbids}
-use Rattle.tf_commands.specs.Runs.{HoldsBook, HasSaidHalt, book_desk, IsPutBackTo, GoesBack}
+use Rattle.tf_commands.specs.Runs.{IsHeld, HoldsBook, HasSaidHalt, book_desk, IsPutBackTo, GoesBack}
 use Rattle.tf_report.specs.Closing.{said as was_said}
 use Rattle.tf_report.specs.declared.statuses.TheConstants.{SUCCEEDED, FORBIDDEN}
 use Rattle.tf_commands.proofs.HaltLemmas.{says_nothing, halt_lasts, halt_ended, halt_shows, said_lasts, sound_text}
@@ -52,18 +55,18 @@ module _ {K : Type 0} (state : K → DeskState) where
   -- why the book was halted was said, or cut, or it says nothing
   pub halts_back : (start book : BookValue K) (why : Halt) (now : DeskState) (status : ℕ) → IsPutBackTo state start book → book.halt ≡ Some why
       → (book.halt ≢ Some halt.Disk → book.journal.halted ≡ false)
-      → HasSaidHalt why (book_desk state book) now status → IsHistoryOf book.plan book.past
+      → HasSaidHalt why (book_desk state book) now status → IsHeld book.plan book
       → GoesBack state start now status
-  halts_back start book why now status to halted unhalted s history =
+  halts_back start book why now status to halted unhalted s held =
       let k = to.kept in
       record {
         entries = k.entries;
         closing = s.closing;
-        lasts = halt_lasts state (IsNextReset (outline start)) start book why now status halted unhalted s k (subst (λ (p : PlanValue). IsHistoryOf p book.past) k.plan history) to.failed;
+        lasts = halt_lasts state (IsNextReset (outline start)) start book why now status halted unhalted s k (subst (λ (p : PlanValue). IsHeld p book) k.plan held) to.failed;
         put_back = record {
           steps = put_entries start.plan start.past book.past k.entries to.put k.recorded;
-          text = subst (λ (b : Bool). ShowsLines start.plan b start.past k.entries (book_desk state start).shown now.shown (IsResetSaid start.plan (k.entries ++ start.past)) s.closing status) to.speaks
-              (halt_shows state start book why now status (IsResetSaid start.plan (k.entries ++ start.past)) (IsNextReset (outline start)) halted s k disk_failed_back filled_back to.failed);
+          text = subst (λ (b : Bool). ShowsLines start.plan b start.past k.entries (book_desk state start).shown now.shown (IsResetSaid (with_entries start.contents k.entries) start.plan (k.entries ++ start.past)) s.closing status) to.speaks
+              (halt_shows state start book why now status (IsResetSaid (with_entries start.contents k.entries) start.plan (k.entries ++ start.past)) (IsNextReset (outline start)) halted s k disk_failed_back filled_back to.failed);
         };
         continues = continues_on k.continues (says_continues s.says);
         ended = halt_ended state start book why now status halted s k;
@@ -71,17 +74,17 @@ module _ {K : Type 0} (state : K → DeskState) where
 
   -- all of it was recorded
   pub all_goes_back : (start book : BookValue K) → IsPutBackTo state start book → book.halt ≡ None → book.journal.halted ≡ false
-      → flow_state book ≡ flow.Pending → IsHistoryOf book.plan book.past → GoesBack state start (book_desk state book) SUCCEEDED
-  all_goes_back start book to sound unhalted pending history =
+      → flow_state book ≡ flow.Pending → IsHeld book.plan book → GoesBack state start (book_desk state book) SUCCEEDED
+  all_goes_back start book to sound unhalted pending held =
       let k = to.kept in
       let spoken = sound_text state start book sound k in
       record {
         entries = k.entries;
         closing = [];
-        lasts = said_lasts state (IsNextReset (outline start)) start book [] (book_desk state book) says_nothing (λ unrisen. unhalted) k (subst (λ (p : PlanValue). IsHistoryOf p book.past) k.plan history) to.failed (inl spoken);
+        lasts = said_lasts state (IsNextReset (outline start)) start book [] (book_desk state book) says_nothing (λ unrisen. unhalted) k (subst (λ (p : PlanValue). IsHeld p book) k.plan held) to.failed (inl spoken);
         put_back = record {
           steps = put_entries start.plan start.past book.past k.entries to.put k.recorded;
-          text = subst (λ (b : Bool). ShowsLines start.plan b start.past k.entries (book_desk state start).shown (book_desk state book).shown (IsResetSaid start.plan (k.entries ++ start.past)) [] SUCCEEDED) to.speaks
+          text = subst (λ (b : Bool). ShowsLines start.plan b start.past k.entries (book_desk state start).shown (book_desk state book).shown (IsResetSaid (with_entries start.contents k.entries) start.plan (k.entries ++ start.past)) [] SUCCEEDED) to.speaks
               (closed [] SUCCEEDED SUCCEEDED (all_back (ap flow_of (sym k.recorded) ∙ pending)) (was_said (spoken ∙ sym (shown_none (shown_with (book_desk state start).shown (said start.quiet (outline start) start.past k.entries))))));
         };
         continues = k.continues;
@@ -89,27 +92,28 @@ module _ {K : Type 0} (state : K → DeskState) where
       }
 
   -- the flow of a book that was opened was put back
-  pub resets_over : (name : List ℕ) (entry : DeskState) (book : BookValue K) (now : DeskState) (status : ℕ)
-      → Open name entry (book_desk state book) → HoldsBook name entry book
+  pub resets_over : (name : List ℕ) (wanted : Option (List ℕ)) (entry : DeskState) (book : BookValue K) (now : DeskState) (status : ℕ)
+      → Open name entry (book_desk state book) → HoldsBook name wanted entry book
       → book.journal.volatile ≡ false → book.quiet ≡ false → may_reset (outline book) (moment book) ≡ true
       → GoesBack state book now status → ReadsPicked name now
-      → ResetsBook name entry now status
-  resets_over name entry book now status o holds kept speaks may b laws =
-      was_reset book.plan book.past holds may (record {
+      → ResetsBook name wanted entry now status
+  resets_over name wanted entry book now status o holds kept speaks may b laws =
+      was_reset book.contents book.plan book.past holds may (record {
         entries = b.entries;
         closing = b.closing;
-        put_back = subst (λ (t : Option (List ℕ)). PutBack book.plan book.past b.entries t now.shown b.closing status) o.untouched.quiet b.put_back;
+        put_back = subst (λ (t : Option (List ℕ)). PutBack book.contents book.plan book.past b.entries t now.shown b.closing status) o.untouched.quiet b.put_back;
         lasts = λ told.
-            subst (λ (q : Bool). Lasts (IsNextReset (outline book)) name book.plan q book.past b.entries entry now b.closing) speaks
-            (opened_lasts state (IsNextReset (outline book)) name entry book now b.entries b.closing o kept holds b.lasts b.continues laws told);
+            subst (λ (q : Bool). Lasts (IsNextReset (outline book)) name book.contents book.plan q book.past b.entries entry now b.closing) speaks
+            (opened_lasts state (IsNextReset (outline book)) name wanted entry book now b.entries b.closing o kept holds b.lasts b.continues laws told);
       })
 
-  -- the flow that a book holds can't be put back, or memory ran out
-  pub forbidden_back : (name : List ℕ) (entry : DeskState) (book same : BookValue K) (now : DeskState) (status : ℕ) → same ≡ book → HoldsBook name entry book
-      → may_reset (outline book) (moment book) ≡ false
-      → RefusesOrStops name entry now (state_forbids (outline same) (flow_state same)) FORBIDDEN status
-      → ResetsBook name entry now status
-  forbidden_back name entry book same now status is holds never (inl stops) = unopened_reset (exhausted stops)
-  forbidden_back name entry book same now status is holds never (inr refuses) =
-      reset_forbidden book.plan book.past holds never
-      (subst (λ (b : BookValue K). Refuses name entry now (state_forbids (outline b) (flow_state b)) FORBIDDEN status) is refuses)
+  -- the flow of a book can't be put back, or memory ran out
+  pub forbidden_back : (name : List ℕ) (wanted : Option (List ℕ)) (entry : DeskState) (book : BookValue K) (named : List ℕ) (at : FlowState) (now : DeskState) (status : ℕ) → named ≡ detail_name book.plan → at ≡ flow_state book
+      → HoldsBook name wanted entry book → may_reset (outline book) (moment book) ≡ false
+      → RefusesOrStops name entry now (state_forbids named at) FORBIDDEN status
+      → ResetsBook name wanted entry now status
+  forbidden_back name wanted entry book named at now status named_is at_is holds never (inl stops) = unfound_reset (unopened_book (exhausted stops))
+  forbidden_back name wanted entry book named at now status named_is at_is holds never (inr refuses) =
+      reset_forbidden book.contents book.plan book.past holds never
+      (subst (λ (n : List ℕ). Refuses name entry now (state_forbids n (flow_state book)) FORBIDDEN status) named_is
+      (subst (λ (f : FlowState). Refuses name entry now (state_forbids named f) FORBIDDEN status) at_is refuses))

@@ -20,7 +20,9 @@ use Rattle.tf_journal.specs.Format.{Recovered}
 use Rattle.tf_bound.specs.Short.{AreShort, IsWithinLimits}
 use Rattle.tf_bound.proofs.SessionLemmas.{session_at_most}
 use Rattle.tf_report.specs.Lines.{report}
-use Rattle.tf_book.specs.Book.{BookValue, outline, moment, IsHistoryOf}
+use Rattle.tf_details.specs.Elements.{IsLegalBook}
+use Rattle.tf_details.specs.Contents.{Contents, with_entries}
+use Rattle.tf_book.specs.Book.{BookValue, outline, moment}
 use Rattle.tf_book.specs.Closed.{Closed, IsClosing, LeavesClosed}
 use Rattle.tf_book.specs.SessionInvariant.{said, IsExact}
 use Rattle.tf_book.proofs.LogLemmas.{off_on, off_says}
@@ -34,6 +36,7 @@ use Rattle.tf_commands.specs.Runs.{HasSaidHalt, IsRunTo, book_desk, RunsOn}
 use Rattle.tf_report.specs.Closing.{ClosesWith}
 use Rattle.tf_report.specs.declared.statuses.TheConstants.{UNSAID, OUT_OF_MEMORY, DISK_FAILED}
 use Rattle.tf_commands.proofs.HaltLemmas.{says_nothing, left_runs, closing_runs, none_so, halt_lasts, halt_ended, halt_shows, said_lasts, sound_text}
+use Rattle.tf_commands.proofs.HeldLemmas.{held_with, held_same}
 use Rattle.tf_commands.proofs.OrderLemmas.{given_so, halt_unstopped}
 use Rattle.tf_commands.proofs.ReachLemmas.{reached_by}
 use Rattle.tf_commands.proofs.ReportLemmas.{StatusAfter, ClosingFor, report_said, report_ended}
@@ -59,10 +62,10 @@ stop_reached plan before entries stop compiles session last is =
     reached_by plan (entries ++ before) last compiles (session_legal (outline_of plan) before entries (Some last) so) (session_state (outline_of plan) before entries last so)
 
 -- a run of these entries, by what was shown
-pub ran_so : (gives : Order → Outcome → Type 0) (request : Request) (asked : Type 0) (plan : PlanValue) (before after entries : List Entry) (stop : Option FlowState) (shown now : Option (List ℕ)) (closing : List ℕ) (status : ℕ)
+pub ran_so : (gives : Order → Outcome → Type 0) (request : Request) (asked : Type 0) (contents : Contents) (plan : PlanValue) (before after entries : List Entry) (stop : Option FlowState) (shown now : Option (List ℕ)) (closing : List ℕ) (status : ℕ)
     → IsSession gives asked (number_of request.want) request.limit (outline_of plan) before after stop → after ≡ entries ++ before → compile_refusal plan ≡ None → IsWithinLimits (outline_of plan) → AreShort before → AreShort after
-    → RunShows gives request plan before entries shown now stop closing status → Ran gives request asked plan before entries stop shown now closing status
-ran_so gives request asked plan before after entries stop shown now closing status session recorded compiles limits short_before short text =
+    → RunShows gives request contents plan before entries shown now stop closing status → Ran gives request asked contents plan before entries stop shown now closing status
+ran_so gives request asked contents plan before after entries stop shown now closing status session recorded compiles limits short_before short text =
     let parts = same_session gives asked (number_of request.want) request.limit (outline_of plan) before after entries stop session recorded in
     record {
       steps = parts.0;
@@ -73,9 +76,9 @@ ran_so gives request asked plan before after entries stop shown now closing stat
     }
 
 -- nothing was recorded, since memory ran out or the disk failed before
-pub unbegun : (gives : Order → Outcome → Type 0) (request : Request) (asked : Type 0) (plan : PlanValue) (shown now : Option (List ℕ)) (closing : List ℕ) (status : ℕ) → RunShows gives request plan [] [] shown now None closing status
-    → Ran gives request asked plan [] [] None shown now closing status
-unbegun gives request asked plan shown now closing status text = record {
+pub unbegun : (gives : Order → Outcome → Type 0) (request : Request) (asked : Type 0) (contents : Contents) (plan : PlanValue) (shown now : Option (List ℕ)) (closing : List ℕ) (status : ℕ) → RunShows gives request contents plan [] [] shown now None closing status
+    → Ran gives request asked contents plan [] [] None shown now closing status
+unbegun gives request asked contents plan shown now closing status text = record {
   steps = record { session = entered [] (flow_entry flow.Running ∷ []) refl tt; hands = refl; due = tt; within = tt; suspended = λ is. absurd (cc) };
   bound = omega arith;
   outcomes = tt;
@@ -96,17 +99,17 @@ module _ {K : Type 0} (state : K → DeskState) where
   -- the report was said, or cut, or memory ran out
   pub closes_run : (gives : Order → Outcome → Type 0) (request : Request) (asked : Type 0) (did : List (Option (List Order))) (start book new : BookValue K) (last : FlowState) (closing : List ℕ) (status : ℕ)
       → ((plan : Outline) (past : List Entry) → heading_of request plan past ≡ [])
-      → IsRunTo state gives request asked did start book (Some last) → book.halt ≡ None → new.past ≡ book.past → new.plan ≡ book.plan
+      → IsRunTo state gives request asked did start book (Some last) → book.halt ≡ None → new.past ≡ book.past → new.plan ≡ book.plan → new.contents ≡ book.contents
       → Closed state start new closing → ClosingFor (report (outline book) (moment book)) new.halt closing → StatusAfter last new.halt status
       → RunsOn state gives request asked did start (book_desk state new) status
-  closes_run gives request asked did start book new last closing status plain to sound same plan c closes is =
-      let so_far : IsHistoryOf start.plan (c.entries ++ start.past) = subst (IsHistoryOf start.plan) (sym same ∙ c.recorded) to.history in
+  closes_run gives request asked did start book new last closing status plain to sound same plan contents c closes is =
+      let held = held_with start.plan start new c.entries c.held (held_same contents same to.held) in
       let report_is : report (outline book) (moment book) ≡ report (outline start) (snapshot (outline start) (c.entries ++ start.past)) =
       ap (λ (p : PlanValue). report (outline_of p) (snapshot (outline_of p) book.past)) to.kept.plan
       ∙ ap (λ (p : List Entry). report (outline start) (snapshot (outline start) p)) (sym same ∙ c.recorded) in
       let spoken : IsClosing (shown_with (book_desk state start).shown (said request.quiet (outline start) start.past c.entries)) closing new.halt (book_desk state new).shown =
       subst (λ (b : Bool). IsClosing (shown_with (book_desk state start).shown (said b (outline start) start.past c.entries)) closing new.halt (book_desk state new).shown) to.speaks c.text in
-      let told = report_said gives request start.plan start.past c.entries (book_desk state start).shown (book_desk state new).shown closing last status new.halt (plain (outline start) (c.entries ++ start.past))
+      let told = report_said gives request start.contents start.plan start.past c.entries (book_desk state start).shown (book_desk state new).shown closing last status new.halt (plain (outline start) (c.entries ++ start.past))
       (subst (λ (t : List ℕ). ClosingFor t new.halt closing) report_is closes) spoken is in
       record {
         entries = c.entries;
@@ -115,28 +118,27 @@ module _ {K : Type 0} (state : K → DeskState) where
         lasts = λ telling kept at_rest first. record {
           pending = [];
           few = none_so (MayRun gives request start.plan) start.plan (c.entries ++ start.past) [] (book_desk state start) (book_desk state new) refl;
-          history = so_far;
-          passes = passes_within (c.crash telling kept) (λ image text is_left. closed_leaves first c.entries so_far image text is_left);
+          legal = held.legal;
+          passes = passes_within (c.crash telling kept) (λ image text is_left. closed_leaves first c.entries held.legal image text is_left);
           leaves = λ image now_left. inl (c.left_now telling kept at_rest image now_left);
-          exact = λ unrisen known. subst (λ (p : PlanValue). IsExact (book_desk state new) p (c.entries ++ start.past)) (plan ∙ to.kept.plan)
-              (subst (λ (p : List Entry). IsExact (book_desk state new) new.plan p) c.recorded (c.exact telling kept known));
+          exact = λ unrisen known. subst (λ (h : Contents). IsExact (book_desk state new) h) c.held (c.exact telling kept known);
         };
-        ran = ran_so gives request asked start.plan start.past book.past c.entries (Some last) (book_desk state start).shown (book_desk state new).shown closing status to.session (sym same ∙ c.recorded)
+        ran = ran_so gives request asked start.contents start.plan start.past book.past c.entries (Some last) (book_desk state start).shown (book_desk state new).shown closing status to.session (sym same ∙ c.recorded)
             to.history.runs.0 to.limits to.short_before to.short told;
         orders_given = given_so (HasStopped status) (outline start) start.past (c.entries ++ start.past) did (sym same ∙ c.recorded) (λ stopped. sound) to.orders_given;
         continues = c.continues;
         off_disk = c.off_disk;
-        ended = report_ended last new.halt status (book_desk state start) (book_desk state new) start.plan new.past new.failed is c.cause;
+        ended = report_ended last new.halt status (book_desk state start) (book_desk state new) new.contents start.plan new.past new.failed is c.cause;
       }
     where
-      closed_leaves : (first : Recovered) (entries : List Entry) → IsHistoryOf start.plan (entries ++ start.past) → (image text : List ℕ)
-          → LeavesClosed start.plan start.quiet start.past entries (book_desk state start).shown closing image text
-          → MayLeave first start.plan start.quiet start.past entries [] (book_desk state start).shown closing image text
-      closed_leaves first entries so_far image text (inl l) =
-          left_runs first start.plan start.quiet start.past entries [] (book_desk state start).shown closing image text so_far l
-      closed_leaves first entries so_far image text (inr l) =
-          closing_runs first start.plan start.quiet start.past entries [] [] (book_desk state start).shown closing image text (inr refl)
-          (record { is = l.0; history = so_far }) l.1
+      closed_leaves : (first : Recovered) (entries : List Entry) → IsLegalBook (with_entries start.contents entries).elements → (image text : List ℕ)
+          → LeavesClosed start.contents start.plan start.quiet start.past entries (book_desk state start).shown closing image text
+          → MayLeave first start.contents start.plan start.quiet start.past entries [] (book_desk state start).shown closing image text
+      closed_leaves first entries legal image text (inl l) =
+          left_runs first start.contents start.plan start.quiet start.past entries [] (book_desk state start).shown closing image text legal l
+      closed_leaves first entries legal image text (inr l) =
+          closing_runs first start.contents start.plan start.quiet start.past entries [] [] (book_desk state start).shown closing image text (inr refl)
+          (record { is = l.0; legal = legal }) l.1
 
   -- the report behind its heading was said, or cut
   pub sums_run : (gives : Order → Outcome → Type 0) (request : Request) (asked : Type 0) (did : List (Option (List Order))) (start book : BookValue K) (last : FlowState) (closing : List ℕ) (now : DeskState) (status : ℕ)
@@ -155,13 +157,13 @@ module _ {K : Type 0} (state : K → DeskState) where
         entries = k.entries;
         stop = Some last;
         closing = closing;
-        lasts = said_lasts state (MayRun gives request start.plan) start book closing now says (λ unrisen. unhalted) k to.history to.failed (inl spoken);
-        ran = ran_so gives request asked start.plan start.past book.past k.entries (Some last) (book_desk state start).shown now.shown closing status to.session k.recorded
+        lasts = said_lasts state (MayRun gives request start.plan) start book closing now says (λ unrisen. unhalted) k to.held to.failed (inl spoken);
+        ran = ran_so gives request asked start.contents start.plan start.past book.past k.entries (Some last) (book_desk state start).shown now.shown closing status to.session k.recorded
             to.history.runs.0 to.limits to.short_before to.short
             (subst (λ (b : Bool). ShowsLines start.plan b start.past k.entries (book_desk state start).shown now.shown
-            (IsLastSaid (MayRun gives request start.plan) start.plan (heading_of request (outline start) (k.entries ++ start.past)) (k.entries ++ start.past) (Some last)) closing status) to.speaks
+            (IsLastSaid (MayRun gives request start.plan) (with_entries start.contents k.entries) start.plan (heading_of request (outline start) (k.entries ++ start.past)) (k.entries ++ start.past) (Some last)) closing status) to.speaks
             (closed closing (stop_status last) status
-            (subst (λ (c : List ℕ). IsLastSaid (MayRun gives request start.plan) start.plan (heading_of request (outline start) (k.entries ++ start.past)) (k.entries ++ start.past) (Some last) c (stop_status last)) (sym same) (reported last))
+            (subst (λ (c : List ℕ). IsLastSaid (MayRun gives request start.plan) (with_entries start.contents k.entries) start.plan (heading_of request (outline start) (k.entries ++ start.past)) (k.entries ++ start.past) (Some last) c (stop_status last)) (sym same) (reported last))
             (subst (λ (t : Option (List ℕ)). ClosesWith t closing (stop_status last) now.shown status) spoken closes)));
         orders_given = given_so (HasStopped status) (outline start) start.past (k.entries ++ start.past) did k.recorded (λ stopped. sound) to.orders_given;
         continues = continues_on k.continues (says_continues says);
@@ -183,11 +185,11 @@ module _ {K : Type 0} (state : K → DeskState) where
         entries = k.entries;
         stop = Some last;
         closing = [];
-        lasts = said_lasts state (MayRun gives request start.plan) start book [] (book_desk state book) says_nothing (λ unrisen. unhalted) k to.history to.failed (inl spoken);
-        ran = ran_so gives request asked start.plan start.past book.past k.entries (Some last) (book_desk state start).shown (book_desk state book).shown [] OUT_OF_MEMORY to.session k.recorded
+        lasts = said_lasts state (MayRun gives request start.plan) start book [] (book_desk state book) says_nothing (λ unrisen. unhalted) k to.held to.failed (inl spoken);
+        ran = ran_so gives request asked start.contents start.plan start.past book.past k.entries (Some last) (book_desk state start).shown (book_desk state book).shown [] OUT_OF_MEMORY to.session k.recorded
             to.history.runs.0 to.limits to.short_before to.short
             (subst (λ (b : Bool). ShowsLines start.plan b start.past k.entries (book_desk state start).shown (book_desk state book).shown
-            (IsLastSaid (MayRun gives request start.plan) start.plan (heading_of request (outline start) (k.entries ++ start.past)) (k.entries ++ start.past) (Some last)) [] OUT_OF_MEMORY) to.speaks (stopped spoken));
+            (IsLastSaid (MayRun gives request start.plan) (with_entries start.contents k.entries) start.plan (heading_of request (outline start) (k.entries ++ start.past)) (k.entries ++ start.past) (Some last)) [] OUT_OF_MEMORY) to.speaks (stopped spoken));
         orders_given = given_so (HasStopped OUT_OF_MEMORY) (outline start) start.past (k.entries ++ start.past) did k.recorded (λ stopped. sound) to.orders_given;
         continues = k.continues;
         off_disk = k.off_disk;
@@ -206,13 +208,13 @@ module _ {K : Type 0} (state : K → DeskState) where
         entries = k.entries;
         stop = stop;
         closing = s.closing;
-        lasts = halt_lasts state (MayRun gives request start.plan) start book why now status halted unhalted s k to.history to.failed;
-        ran = ran_so gives request asked start.plan start.past book.past k.entries stop (book_desk state start).shown now.shown s.closing status to.session k.recorded
+        lasts = halt_lasts state (MayRun gives request start.plan) start book why now status halted unhalted s k to.held to.failed;
+        ran = ran_so gives request asked start.contents start.plan start.past book.past k.entries stop (book_desk state start).shown now.shown s.closing status to.session k.recorded
             to.history.runs.0 to.limits to.short_before to.short
             (subst (λ (b : Bool). ShowsLines start.plan b start.past k.entries (book_desk state start).shown now.shown
-            (IsLastSaid (MayRun gives request start.plan) start.plan (heading_of request (outline start) (k.entries ++ start.past)) (k.entries ++ start.past) stop) s.closing status) to.speaks
+            (IsLastSaid (MayRun gives request start.plan) (with_entries start.contents k.entries) start.plan (heading_of request (outline start) (k.entries ++ start.past)) (k.entries ++ start.past) stop) s.closing status) to.speaks
             (halt_shows state start book why now status
-            (IsLastSaid (MayRun gives request start.plan) start.plan (heading_of request (outline start) (k.entries ++ start.past)) (k.entries ++ start.past) stop)
+            (IsLastSaid (MayRun gives request start.plan) (with_entries start.contents k.entries) start.plan (heading_of request (outline start) (k.entries ++ start.past)) (k.entries ++ start.past) stop)
             (MayRun gives request start.plan) halted s k (λ e may. disk_failed stop may.unended) (filled stop) to.failed));
         orders_given = given_so (HasStopped status) (outline start) start.past (k.entries ++ start.past) did k.recorded (λ stopped. absurd (halt_unstopped s stopped)) to.orders_given;
         continues = continues_on k.continues (says_continues s.says);

@@ -15,7 +15,9 @@ use Rattle.tf_ports.specs.declared.crews.Hands.{Hands}
 use Rattle.tf_ports.specs.declared.crews.Hands.TheVariants as hands
 use Rattle.tf_ports.specs.declared.crews.Want.{Want}
 use Rattle.tf_ports.specs.declared.crews.Want.TheVariants as want
-use Rattle.tf_commands.specs.Books.{Promised, Hires, AreAllBack, HasStopped}
+use Rattle.tf_details.specs.Elements.{Element}
+use Rattle.tf_details.specs.Contents.{Contents}
+use Rattle.tf_commands.specs.Books.{Promised, RunsAnew, overfull, ran, Hires, AreAllBack, AreFreshBack, HasStopped}
 use Rattle.tf_commands.proofs.OrderLemmas.{given_back}
 use Rattle.tf_commands.specs.Course.{Tried}
 use Rattle.tf_commands.specs.declared.running.Request.{Request}
@@ -85,8 +87,8 @@ long_back did hands count number long all = let mapped = length-map hands.items 
 
 -- those that are told
 promised_back : {gives : Order → Outcome → Type 0} {request : Request} {asked : Type 0} {did : List (Option (List Order))} (told : GivenBack)
-    {name : List ℕ} {plan : PlanValue} {before : List Entry} {entry now : DeskState} {status : ℕ}
-    → Promised gives request asked (Some did) name plan before entry now status → Promised gives request asked (told_back told did) name plan before entry now status
+    {name : List ℕ} {contents : Contents} {plan : PlanValue} {before : List Entry} {entry now : DeskState} {status : ℕ}
+    → Promised gives request asked (Some did) name contents plan before entry now status → Promised gives request asked (told_back told did) name contents plan before entry now status
 promised_back {did = did} told {plan = plan} {before} {status = status} p = record {
   entries = p.entries;
   stop = p.stop;
@@ -110,22 +112,51 @@ tried_back {did = did} told {status = status} t = record {
 
 -- what is promised of a run by hands that were hired is promised of one by the hands that were wanted, which were given back
 pub promised_near : {H F : Type 0} {by : Order → Outcome → Type 0} (far : Order → Outcome → Type 0) (request : Request) {asked : Type 0} {did : List (Option (List Order))} (mid last : CrewTold)
-    {name : List ℕ} {plan : PlanValue} {before : List Entry} {entry now : DeskState} {status : ℕ}
+    {name : List ℕ} {contents : Contents} {plan : PlanValue} {before : List Entry} {entry now : DeskState} {status : ℕ}
     (h : Hands H F) (near : Vec H Global) → h ≡ hands.Local near → AreWanted request.want h → last ≡ gave_back mid did
-    → Promised by request asked (Some did) name plan before entry now status
-    → Promised (gives_by by far request.want) request asked last.back name plan before entry now status
-promised_near {H} {F} {by} far request {asked} {did} mid last {name} {plan} {before} {entry} {now} {status} h near is are gave p =
-    subst (λ (r : Order → Outcome → Type 0). Promised r request asked last.back name plan before entry now status) (near_gives request.want h near by far is are)
-    (subst (λ (b : GivenBack). Promised by request asked b name plan before entry now status) (sym (ap (λ (told : CrewTold). told.back) gave)) (promised_back mid.back p))
+    → Promised by request asked (Some did) name contents plan before entry now status
+    → Promised (gives_by by far request.want) request asked last.back name contents plan before entry now status
+promised_near {H} {F} {by} far request {asked} {did} mid last {name} {contents} {plan} {before} {entry} {now} {status} h near is are gave p =
+    subst (λ (r : Order → Outcome → Type 0). Promised r request asked last.back name contents plan before entry now status) (near_gives request.want h near by far is are)
+    (subst (λ (b : GivenBack). Promised by request asked b name contents plan before entry now status) (sym (ap (λ (told : CrewTold). told.back) gave)) (promised_back mid.back p))
 
 pub promised_far : {H F : Type 0} {far : Order → Outcome → Type 0} (by : Order → Outcome → Type 0) (request : Request) {asked : Type 0} {did : List (Option (List Order))} (mid last : CrewTold)
-    {name : List ℕ} {plan : PlanValue} {before : List Entry} {entry now : DeskState} {status : ℕ}
+    {name : List ℕ} {contents : Contents} {plan : PlanValue} {before : List Entry} {entry now : DeskState} {status : ℕ}
     (h : Hands H F) (away : Vec F Global) → h ≡ hands.Remote away → AreWanted request.want h → last ≡ gave_back mid did
-    → Promised far request asked (Some did) name plan before entry now status
-    → Promised (gives_by by far request.want) request asked last.back name plan before entry now status
-promised_far {H} {F} {far} by request {asked} {did} mid last {name} {plan} {before} {entry} {now} {status} h away is are gave p =
-    subst (λ (r : Order → Outcome → Type 0). Promised r request asked last.back name plan before entry now status) (far_gives request.want h away by far is are)
-    (subst (λ (b : GivenBack). Promised far request asked b name plan before entry now status) (sym (ap (λ (told : CrewTold). told.back) gave)) (promised_back mid.back p))
+    → Promised far request asked (Some did) name contents plan before entry now status
+    → Promised (gives_by by far request.want) request asked last.back name contents plan before entry now status
+promised_far {H} {F} {far} by request {asked} {did} mid last {name} {contents} {plan} {before} {entry} {now} {status} h away is are gave p =
+    subst (λ (r : Order → Outcome → Type 0). Promised r request asked last.back name contents plan before entry now status) (far_gives request.want h away by far is are)
+    (subst (λ (b : GivenBack). Promised far request asked b name contents plan before entry now status) (sym (ap (λ (told : CrewTold). told.back) gave)) (promised_back mid.back p))
+
+-- and so it is of a run as a new detail
+fresh_told : (told : GivenBack) (did : List (Option (List Order))) → AllByRecursion IsFresh did → AreFreshBack (told_back told did)
+fresh_told None did fresh = tt
+fresh_told (Some earlier) did fresh = fresh
+
+anew_back : {gives : Order → Outcome → Type 0} {request : Request} {asked : Type 0} {did : List (Option (List Order))} (told : GivenBack)
+    {name : List ℕ} {elements : List Element} {plan : PlanValue} {entry now : DeskState} {status : ℕ}
+    → RunsAnew gives request asked (Some did) name elements plan entry now status → RunsAnew gives request asked (told_back told did) name elements plan entry now status
+anew_back {did = did} told (overfull size need fresh full refuses) = overfull size need (fresh_told told did fresh) full refuses
+anew_back told (ran promised) = ran (promised_back told promised)
+
+pub anew_near : {H F : Type 0} {by : Order → Outcome → Type 0} (far : Order → Outcome → Type 0) (request : Request) {asked : Type 0} {did : List (Option (List Order))} (mid last : CrewTold)
+    {name : List ℕ} {elements : List Element} {plan : PlanValue} {entry now : DeskState} {status : ℕ}
+    (h : Hands H F) (near : Vec H Global) → h ≡ hands.Local near → AreWanted request.want h → last ≡ gave_back mid did
+    → RunsAnew by request asked (Some did) name elements plan entry now status
+    → RunsAnew (gives_by by far request.want) request asked last.back name elements plan entry now status
+anew_near {H} {F} {by} far request {asked} {did} mid last {name} {elements} {plan} {entry} {now} {status} h near is are gave a =
+    subst (λ (r : Order → Outcome → Type 0). RunsAnew r request asked last.back name elements plan entry now status) (near_gives request.want h near by far is are)
+    (subst (λ (b : GivenBack). RunsAnew by request asked b name elements plan entry now status) (sym (ap (λ (told : CrewTold). told.back) gave)) (anew_back mid.back a))
+
+pub anew_far : {H F : Type 0} {far : Order → Outcome → Type 0} (by : Order → Outcome → Type 0) (request : Request) {asked : Type 0} {did : List (Option (List Order))} (mid last : CrewTold)
+    {name : List ℕ} {elements : List Element} {plan : PlanValue} {entry now : DeskState} {status : ℕ}
+    (h : Hands H F) (away : Vec F Global) → h ≡ hands.Remote away → AreWanted request.want h → last ≡ gave_back mid did
+    → RunsAnew far request asked (Some did) name elements plan entry now status
+    → RunsAnew (gives_by by far request.want) request asked last.back name elements plan entry now status
+anew_far {H} {F} {far} by request {asked} {did} mid last {name} {elements} {plan} {entry} {now} {status} h away is are gave a =
+    subst (λ (r : Order → Outcome → Type 0). RunsAnew r request asked last.back name elements plan entry now status) (far_gives request.want h away by far is are)
+    (subst (λ (b : GivenBack). RunsAnew far request asked b name elements plan entry now status) (sym (ap (λ (told : CrewTold). told.back) gave)) (anew_back mid.back a))
 
 -- and so it is of a trial
 pub tried_near : {H F : Type 0} {by : Order → Outcome → Type 0} (far : Order → Outcome → Type 0) (w : Want) {asked : Type 0} {did : List (Option (List Order))} (mid last : CrewTold)

@@ -8,8 +8,9 @@ use Rattle.tf_states.specs.declared.record.Entry.{Entry}
 use Rattle.tf_states.specs.declared.state.FlowState.{FlowState}
 use Rattle.tf_journal.specs.Format.{Recovered, LeavesBodies, LeavesEither}
 use Rattle.tf_journal.specs.declared.title.Title.TheVariants.{Book2 as book_title}
+use Rattle.tf_flow.specs.Plan.{PlanValue}
 use Rattle.tf_details.specs.Elements.{IsHistoryOf, IsLegalBook}
-use Rattle.tf_details.specs.Contents.{IsContents, with_entries}
+use Rattle.tf_details.specs.Contents.{IsContents, with_entries, past_of}
 use Rattle.tf_book.specs.Book.{BookValue, outline, bodies_with, flow_state}
 use Rattle.tf_book.specs.SessionInvariant.{SessionInvariant, IsExact, StaysOffDisk}
 use Rattle.tf_book.specs.Turns.{IsPutBackOn, IsTried, IsNextReset}
@@ -55,6 +56,11 @@ pub record HasSaidHalt (why : Halt) (old new : DeskState) (status : ℕ) : Type 
 abbrev pub HoldsBook : {K : Type 0} → List ℕ → Option (List ℕ) → DeskState → BookValue K → Type 0
 HoldsBook name wanted entry book = IsFile name entry (HoldsAsked wanted book.contents book.plan book.past)
 
+-- the contents of a book are a legal book, in which its detail has the plan and the history
+pub record IsHeld {K : Type 0} (plan : PlanValue) (book : BookValue K) : Type 0 where
+  pub held : IsContents plan book.contents
+  pub told : past_of book.contents ≡ book.past
+
 -- what a status tells of a run or a reset: the output or the disk failed only where its count rose
 pub record HasEnded (old new : DeskState) (status : ℕ) : Type 0 where
   pub unsaid : status ≡ UNSAID → Rises old.out_faults new.out_faults
@@ -70,7 +76,7 @@ module _ {K : Type 0} (state : K → DeskState) where
     pub kept : SessionInvariant state start now
     pub session : IsSession gives asked (number_of request.want) request.limit (outline start) start.past now.past stop
     pub history : IsHistoryOf start.plan now.past
-    pub held : IsContents start.plan now.contents
+    pub held : IsHeld start.plan now
     pub limits : IsWithinLimits (outline start)
     pub short_before : AreShort start.past
     pub short : AreShort now.past
@@ -110,7 +116,6 @@ module _ {K : Type 0} (state : K → DeskState) where
   -- the flow of a book is put back: some of what that records was recorded
   pub record IsPutBackTo (start now : BookValue K) : Type 0 where
     pub kept : SessionInvariant state start now
-    pub held : IsContents start.plan now.contents
     pub put : IsPutBackOn (outline start) start.past now.past
     pub speaks : start.quiet ≡ false
     pub failed : IsTried (IsNextReset (outline start) now.past) now.halt now.failed

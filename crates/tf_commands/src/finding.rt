@@ -1,10 +1,10 @@
 //! The details of a book: which one has a name, and which one a command asks for.
 
-ghost use Rattle.std.specs.Prelude.{◌≡◌, ◌≤◌, ◌<◌, ℕ, List, Option, false, length, position, None, Some, IfOk, IfErr, IfSome};
+ghost use Rattle.std.specs.Prelude.{◌≡◌, ◌≤◌, ◌<◌, ◌+◌, ℕ, List, Option, false, length, position, None, Some, IfOk, IfErr, IfSome};
 ghost use Rattle.tf_details.specs.Elements.{Element, details};
 ghost use Rattle.tf_book.specs.Shelf.{desk_of, is_volatile, listed};
 ghost use Rattle.tf_commands.specs.Asking.{HasEachCause, counts_of};
-ghost use Rattle.tf_commands.specs.Begun.{IsShelfOf, is_listed, IsNamedState, IsNumberAsked, IsReadyBook, desk_found};
+ghost use Rattle.tf_commands.specs.Begun.{IsShelf, IsShelfOf, is_listed, IsNamedState, IsNumberAsked, IsReadyBook, desk_found};
 ghost use Rattle.tf_commands.specs.Books.{IsAskedFor, Unfound};
 ghost use Rattle.tf_commands.specs.Runs.{HoldsBook};
 ghost use Rattle.tf_journal.specs.Start.{Open};
@@ -36,18 +36,29 @@ pub fn state_named(list: &[Detail], name: &Name) -> Option<FlowState>
     }
 }
 
+/// The number of the last detail.
+fn last_number(list: &[Detail]) -> Option<u16>
+    requires few { length list.now ≤ 64 }
+    ensures none { result ≡ None → length list.now ≡ 0 }
+    ensures last { IfSome result (λ number. number + 1 ≡ length list.now) }
+{
+    if list.is_empty() {
+        return None;
+    }
+    Some(list.len() as u16 - 1)
+}
+
 /// The number of the detail that is asked for: the one of this name, and without a name the last.
 fn number_asked(list: &[Detail], wanted: &Option<Name>) -> Option<u16>
     requires few { length list.now ≤ 64 }
     ensures { (elements : List Element) → list.now ≡ listed elements → IsNumberAsked wanted.now elements result }
 {
-    let place = match wanted {
-        Some(name) => place_of(list, name),
-        None => list.len().checked_sub(1),
-    };
-    match place {
-        Some(place) => Some(place as u16),
-        None => None,
+    match wanted {
+        Some(name) => match place_of(list, name) {
+            Some(place) => Some(place as u16),
+            None => None,
+        },
+        None => last_number(list),
     }
 }
 
@@ -102,7 +113,7 @@ fn open_asked<K: Desk>(
 
 /// Opens the flow of a book that has this number.
 fn open_number<K: Desk>(alloc: Global, shelf: Shelf<K>, number: u16) -> Result<Book<K>, Over<K>>
-    requires kept { is_volatile shelf.place ≡ false }
+    requires shelf { IsShelf K.state shelf }
     requires within { number < length (details shelf.elements) }
     ensures opened { IfOk result (λ book. (name : List ℕ) (entry : K)
         → Open name (K.state entry) (K.state (desk_of shelf))

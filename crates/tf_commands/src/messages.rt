@@ -56,6 +56,7 @@ pub fn append_state_forbids(name: &Name, state: FlowState, out: &mut Vec<u8>) ->
 }
 
 /// Appends the lines of the details of a book, in the order of their numbers.
+#[tactic(auto, using(crate::proofs::MessageLemmas::lines_on))]
 pub fn append_details(list: &[Detail], out: &mut Vec<u8>) -> Result<(), Memory>
     requires few { length list.now ≤ 64 }
     ensures { OnOk result (out.new.items ≡ out.old.items ++ detail_lines 0 list.now) }

@@ -86,9 +86,11 @@ pub fn taskflow<K: Desk + Send, S: Sources, W: Crew, L: Door, R: Threads + Wait 
     // line that can't be in a run of that plan.
     ensures log_refused { result.status ≡ LOG_REFUSED → IsLogRefused words.now (S.contents outside.sources) }
 
-    // A file that gives a plan is run to its end, or said to be in order, a book that holds a flow is resumed to its
-    // end, or shown, or put back, a log none of whose lines can't be is said to be legal, and a command is done on a board that doesn't refuse it, unless a count of faults
-    // rose (that of the door for a worker and a board's service alone), a stop was asked for or memory ran out; 13 comes only as the course says, and 12 only where there is a
+    // A file that gives a plan is run to its end, or said to be in order, a flow that a book holds is resumed to its
+    // end, or shown, or put back, the details of a book are listed, a book of the older format that holds a flow is
+    // carried over into an unborn file, a log none of whose lines can't be is said to be legal, and a command is done on
+    // a board that doesn't refuse it, unless a count of faults rose (that of the door for a worker and a board's service
+    // alone), a stop was asked for or memory ran out; 13 comes only as the course says, and 12 only where there is a
     // limit of entries.
     ensures complete { (command : AnAsked) → command_of words.now ≡ Some command
         → MayBeDone command (S.contents outside.sources) (K.state outside.desk)

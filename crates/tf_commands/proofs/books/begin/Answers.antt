@@ -1,53 +1,33 @@
-use Rattle.std.proofs.Common.{length, ap, subst}
+use Rattle.std.proofs.Common.{◌≡◌, false, ◌∙◌, ap, sym, subst, ⊎_elim}
 use Rattle.std.specs.Prelude.{IsTrue}
-use Rattle.tf_desk.proofs.StateLemmas.{goes_on}
-use Rattle.tf_commands.proofs.BeginLemmas.{ok_on, err_on, titled_unbegun, titled_exact, unborn_unbegun, unborn_leaves, unborn_goes}
-use Rattle.tf_commands.specs.Begun.{IsBlank}
+use Rattle.tf_book.specs.Book.{BookValue}
+use Rattle.tf_commands.proofs.BeginLemmas.{begins_on, failed_unbegun, stays_unbegun, not_halted, start_fails, start_failed}
 use Rattle.tf_commands.proofs.books.begin.Goals as goal
 
-pub returns-in-Titled-clause-begins : goal.returns-in-Titled-clause-begins
-returns-in-Titled-clause-begins g c =
-    let D = g.K.Desk in
-    let journal = c.in-Titled.journal in
-    ok_on c.start.result _ _ c.start.ensures.begins
-    (λ book begins name entry opened found.
-    begins name entry
-    (titled_unbegun D.state c.args.blank journal c.args.machine.plan c.in-Titled.is opened found)
-    (titled_exact D.state c.args.blank journal c.in-Titled.is opened (subst (IsBlank D.state) c.in-Titled.is c.requires.blank)
-    (record { there = g.met.K.Desk.picked_is_there journal.desk name; reads = λ told bytes has. g.met.K.Desk.reads_left journal.desk name bytes told has })))
-
-pub returns-in-Titled-clause-unbegun : goal.returns-in-Titled-clause-unbegun
-returns-in-Titled-clause-unbegun g c =
-    err_on c.start.result _ _ c.start.ensures.unbegun
-    (λ back unbegun name entry opened found.
-    unbegun name entry (titled_unbegun g.K.Desk.state c.args.blank c.in-Titled.journal c.args.machine.plan c.in-Titled.is opened found))
-
 pub returns-in-Ok-clause-begins : goal.returns-in-Ok-clause-begins
-returns-in-Ok-clause-begins g c =
+returns-in-Ok-clause-begins g c = λ name entry so.
+    let D = g.K.Desk in
+    let book = c.in-Ok.book in
     let e = c.in-Ok.ensures in
-    let plan = c.args.machine.plan in
-    ok_on c.start-in-Ok.result _ _ c.start-in-Ok.ensures.begins
-    (λ book begins name entry opened found.
-    begins name entry
-    (e.begins name entry plan (unborn_unbegun g.K.Desk.state c.args.blank c.in-Unborn.desk plan c.in-Unborn.is opened found))
-    (λ told none short. ap length (e.born (subst IsTrue e.goes.on_disk.tells told))))
-
-pub returns-in-Ok-clause-goes : goal.returns-in-Ok-clause-goes
-returns-in-Ok-clause-goes g c =
-    unborn_goes g.K.Desk.state c.args.blank c.in-Unborn.desk c.in-Unborn.is
-    (goes_on c.in-Ok.ensures.goes c.start-in-Ok.ensures.goes (λ told image text here. tt) (λ told image text here. tt))
-
-pub returns-in-Ok-clause-unbegun : goal.returns-in-Ok-clause-unbegun
-returns-in-Ok-clause-unbegun g c =
-    let plan = c.args.machine.plan in
-    err_on c.start-in-Ok.result _ _ c.start-in-Ok.ensures.unbegun
-    (λ back unbegun name entry opened found.
-    unbegun name entry
-    (c.in-Ok.ensures.begins name entry plan (unborn_unbegun g.K.Desk.state c.args.blank c.in-Unborn.desk plan c.in-Unborn.is opened found)))
+    let b = e.begun in
+    let kept : book.journal.volatile ≡ false = b.volatile ∙ c.requires.shelf.kept in
+    begins_on D.state c.args.machine.plan book c.requires.shelf so c.requires.place b.plan_is b.past b.contents b.halt kept
+    e.goes e.crash
+    (λ told. c.state-pending.ensures.leaves told kept (not_halted book.halt b.halt))
+    e.exact c.state-pending.ensures.history
 
 pub returns-in-Err-clause-unbegun : goal.returns-in-Err-clause-unbegun
-returns-in-Err-clause-unbegun g c = λ name entry opened found.
+returns-in-Err-clause-unbegun g c = λ name entry so.
+    let D = g.K.Desk in
+    let now = c.in-Err.back.0 in
     let plan = c.args.machine.plan in
-    c.in-Err.ensures.unbegun name entry plan
-    (unborn_unbegun g.K.Desk.state c.args.blank c.in-Unborn.desk plan c.in-Unborn.is opened found)
-    (unborn_leaves g.K.Desk.state c.args.blank c.in-Unborn.desk c.in-Unborn.is opened found)
+    let e = c.in-Err.ensures in
+    ⊎_elim
+    (λ why. failed_unbegun D.state plan (D.state now) c.requires.shelf so c.requires.place e.goes e.crash
+    (record { shows = g.met.K.Desk.tells_shown now; reaches = λ told start i t le leaves. g.met.K.Desk.counts_now now start i t told le leaves; only = λ told i t was. g.met.K.Desk.only_now _ i t told was })
+    why.0 why.1)
+    (λ same. stays_unbegun D.state plan now so same)
+    (start_failed D.state c.args.shelf plan c.in-Err.back.1 _ now e.fails)
+
+pub returns-in-Err-clause-fails : goal.returns-in-Err-clause-fails
+returns-in-Err-clause-fails g c = start_fails g.K.Desk.state c.args.shelf c.args.machine.plan c.in-Err.back.1 _ c.in-Err.back.0 c.in-Err.ensures.fails

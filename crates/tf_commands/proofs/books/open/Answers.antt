@@ -1,4 +1,4 @@
-use Rattle.tf_book.specs.Loaded.{desk_after_load}
+use Rattle.tf_book.specs.Shelf.{desk_after_load}
 use Rattle.tf_journal.proofs.OpenLemmas.{unpicked, opened}
 use Rattle.tf_commands.proofs.OpenLemmas.{opened_so, unopened_so}
 use Rattle.tf_commands.proofs.books.open.Goals as goal

@@ -1,5 +1,6 @@
 use Rattle.std.proofs.Common.{arith}
-use Rattle.tf_commands.proofs.CountLemmas.{goes_reaches, ran_causes}
+use Rattle.tf_commands.specs.Books.{ran}
+use Rattle.tf_commands.proofs.CountLemmas.{goes_reaches, ran_causes, unbegun_causes}
 use Rattle.tf_commands.proofs.PromiseLemmas.{begun_promised}
 use Rattle.tf_commands.proofs.recording.run_in.Goals as goal
 use Rattle.tf_desk.proofs.CountLemmas.{rises_later}
@@ -9,11 +10,11 @@ returns-in-Ok-clause-runs g c =
     let D = g.K.Desk in
     let here = g.met.K.Desk g.world.𝓛 g.world.𝓜 g.world.𝓡 ((λ s x. x), (λ x. x), (λ x. x), λ x. x) in
     let now = c.run_book.result.desk in
-    λ name entry opened found.
-    begun_promised D.state g.P.Performer.gives c.args.request.now _ _ _ name c.args.machine.plan (D.state entry) c.in-Ok.book (D.state now) c.run_book.result.status
-    (c.in-Ok.ensures.begins name entry opened found) c.run_book.ensures.runs
+    λ name entry so.
+    ran (begun_promised D.state g.P.Performer.gives c.args.request.now _ _ _ name c.args.shelf.elements c.args.machine.plan (D.state entry) c.in-Ok.book (D.state now) c.run_book.result.status
+    (c.in-Ok.ensures.begins name entry so) c.run_book.ensures.runs
     (record { there = λ told picked. here.picked_is_there now name told picked; reads = λ told bytes is. here.reads_left now name bytes told is })
-    c.in-Ok.ensures.ready.1 (λ rose. rises_later _ (D.state c.in-Ok.book.journal.desk).asks _ (omega (arith, c.in-Ok.ensures.goes.on_disk.asks)) rose)
+    c.in-Ok.ensures.ready.1 (λ rose. rises_later _ (D.state c.in-Ok.book.journal.desk).asks _ (omega (arith, c.in-Ok.ensures.goes.on_disk.asks)) rose))
 
 pub returns-in-Ok-clause-causes : goal.returns-in-Ok-clause-causes
 returns-in-Ok-clause-causes g c =
@@ -21,4 +22,12 @@ returns-in-Ok-clause-causes g c =
     ran_causes (goes_reaches c.in-Ok.ensures.goes) r.continues r.ended (omega arith) c.run_book.ensures.apart
 
 pub returns-in-Err-clause-runs : goal.returns-in-Err-clause-runs
-returns-in-Err-clause-runs g c = λ name entry opened found. c.say_unbegun.ensures.promised c.args.request.now _ _ name entry c.args.machine.plan (c.in-Err.ensures.unbegun name entry opened found) c.requires.idle
+returns-in-Err-clause-runs g c = λ name entry so.
+    c.say_unbegun.ensures.anew c.args.request.now _ _ name entry _ c.args.shelf.elements c.args.machine.plan so.opened (c.in-Err.ensures.unbegun name entry so) c.in-Err.ensures.fails c.requires.idle
+
+pub returns-in-Err-clause-causes : goal.returns-in-Err-clause-causes
+returns-in-Err-clause-causes g c =
+    unbegun_causes g.K.Desk.state c.args.shelf.elements c.args.machine.plan c.in-Err.fault _ c.in-Err.desk c.say_unbegun.result.desk c.say_unbegun.result.status c.in-Err.ensures.goes c.in-Err.ensures.fails c.say_unbegun.ensures.says
+
+pub returns-in-Err-clause-asks : goal.returns-in-Err-clause-asks
+returns-in-Err-clause-asks g c = omega (arith, c.in-Err.ensures.goes.on_disk.asks, c.say_unbegun.ensures.says.says.asks)

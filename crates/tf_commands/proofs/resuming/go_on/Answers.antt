@@ -12,11 +12,11 @@ returns-in-Success-clause-goes g c =
     let now = c.report_ended.result.desk in
     let status = c.report_ended.result.status in
     let at = c.state-state.ensures in
-    λ name entry opened holds.
-    ended_goes D.state (gives_by g.W.Hand.Performer.gives g.W.Far.Performer.gives c.args.request.now.want) c.args.request.now _ name (D.state entry) c.args.book (D.state now) status _ c.state-state.result
+    λ name wanted entry opened holds.
+    ended_goes D.state (gives_by g.W.Hand.Performer.gives g.W.Far.Performer.gives c.args.request.now.want) c.args.request.now _ name wanted (D.state entry) c.args.book (D.state now) status _ c.state-state.result
     opened holds c.requires.kept at.is (ended_so c.state-state.result c.in-Success.is)
     (ended_on D.state (gives_by g.W.Hand.Performer.gives g.W.Far.Performer.gives c.args.request.now.want) c.args.request.now (WasAsked (D.state c.args.book.journal.desk) (D.state now)) c.args.book (D.state now) status c.state-state.result
-    c.requires.sound c.requires.speaks at.is (ended_so c.state-state.result c.in-Success.is) at.history at.limits at.short (c.report_ended.ensures.runs c.args.book c.requires.spoken))
+    c.requires.sound c.requires.speaks at.is (ended_so c.state-state.result c.in-Success.is) at.history (record { held = at.held; told = at.told }) at.limits at.short (c.report_ended.ensures.runs c.args.book c.requires.spoken))
     (record { there = λ told picked. here.picked_is_there now name told picked; reads = λ told bytes is. here.reads_left now name bytes told is }) c.requires.speaks
 
 pub returns-in-Success-clause-causes : goal.returns-in-Success-clause-causes
@@ -25,5 +25,5 @@ returns-in-Success-clause-causes g c =
     let now = D.state c.report_ended.result.desk in
     let at = c.state-state.ensures in
     let runs = ended_on D.state (gives_by g.W.Hand.Performer.gives g.W.Far.Performer.gives c.args.request.now.want) c.args.request.now (WasAsked (D.state c.args.book.journal.desk) now) c.args.book now c.report_ended.result.status c.state-state.result
-    c.requires.sound c.requires.speaks at.is (ended_so c.state-state.result c.in-Success.is) at.history at.limits at.short (c.report_ended.ensures.runs c.args.book c.requires.spoken) in
+    c.requires.sound c.requires.speaks at.is (ended_so c.state-state.result c.in-Success.is) at.history (record { held = at.held; told = at.told }) at.limits at.short (c.report_ended.ensures.runs c.args.book c.requires.spoken) in
     ran_causes reaches_itself runs.continues runs.ended (omega arith) c.report_ended.ensures.apart

@@ -1,6 +1,7 @@
 use Rattle.std.proofs.Common.{◌≡◌, vec_len, subst, arith}
 use Rattle.tf_flow.specs.Plan.{PlanValue}
-use Rattle.tf_book.specs.Book.{IsHistoryOf}
+use Rattle.tf_details.specs.Elements.{IsHistoryOf}
+use Rattle.tf_commands.specs.Runs.{IsHeld}
 use Rattle.tf_book.proofs.InvariantLemmas.{keeps_none}
 use Rattle.tf_commands.proofs.AskedLemmas.{session_more}
 use Rattle.tf_commands.proofs.CountLemmas.{rises_until}
@@ -14,6 +15,7 @@ returns-in-Ended-clause-runs g c =
       kept = c.go_through-book.ensures.keeps c.args.book (keeps_none g.K.Desk.state c.args.book c.requires.sound);
       session = session_more _ _ _ _ _ _ _ _ _ (λ rose. rises_until (g.K.Desk.state c.args.book.journal.desk).asks (g.K.Desk.state c.go_through-book.result.book.journal.desk).asks _ rose c.end_run.ensures.asks) (rw c.requires.all at (rw c.in-Ended.is at c.go_through-book.ensures.ran));
       history = subst (λ (p : PlanValue). IsHistoryOf p c.go_through-book.result.book.past) c.go_through-book.ensures.plan c.state-after.ensures.history;
+      held = subst (λ (p : PlanValue). IsHeld p c.go_through-book.result.book) c.go_through-book.ensures.plan (record { held = c.state-after.ensures.held; told = c.state-after.ensures.told });
       limits = c.state-before.ensures.limits;
       short_before = c.state-before.ensures.short;
       short = c.state-after.ensures.short;
@@ -31,6 +33,7 @@ returns-in-Suspended-clause-runs g c =
       kept = c.go_through-book.ensures.keeps c.args.book (keeps_none g.K.Desk.state c.args.book c.requires.sound);
       session = session_more _ _ _ _ _ _ _ _ _ (λ rose. rises_until (g.K.Desk.state c.args.book.journal.desk).asks (g.K.Desk.state c.go_through-book.result.book.journal.desk).asks _ rose c.end_run-in-Suspended.ensures.asks) (rw c.requires.all at (rw c.in-Suspended.is at c.go_through-book.ensures.ran));
       history = subst (λ (p : PlanValue). IsHistoryOf p c.go_through-book.result.book.past) c.go_through-book.ensures.plan c.state-after.ensures.history;
+      held = subst (λ (p : PlanValue). IsHeld p c.go_through-book.result.book) c.go_through-book.ensures.plan (record { held = c.state-after.ensures.held; told = c.state-after.ensures.told });
       limits = c.state-before.ensures.limits;
       short_before = c.state-before.ensures.short;
       short = c.state-after.ensures.short;
@@ -49,6 +52,7 @@ returns-in-Halted-clause-runs g c =
       kept = c.go_through-book.ensures.keeps c.args.book (keeps_none g.K.Desk.state c.args.book c.requires.sound);
       session = session_more _ _ _ _ _ _ _ _ _ (λ rose. rises_until (g.K.Desk.state c.args.book.journal.desk).asks (g.K.Desk.state c.go_through-book.result.book.journal.desk).asks _ rose c.say_halt.ensures.asks) (ran.1);
       history = subst (λ (p : PlanValue). IsHistoryOf p c.go_through-book.result.book.past) c.go_through-book.ensures.plan c.state-after.ensures.history;
+      held = subst (λ (p : PlanValue). IsHeld p c.go_through-book.result.book) c.go_through-book.ensures.plan (record { held = c.state-after.ensures.held; told = c.state-after.ensures.told });
       limits = c.state-before.ensures.limits;
       short_before = c.state-before.ensures.short;
       short = c.state-after.ensures.short;

@@ -2,7 +2,8 @@ use Rattle.std.proofs.Common.{refl, subst, sym}
 use Rattle.tf_commands.specs.Asking.{IsWork}
 use Rattle.tf_board_service.proofs.CommandLemmas.{service_status}
 use Rattle.tf_commands.proofs.ConductLemmas.{conducted_causes, conducts_hires}
-use Rattle.tf_commands.proofs.CauseLemmas.{served_causes, worked_causes, listened_so}
+use Rattle.tf_commands.proofs.CauseLemmas.{widened, served_causes, worked_causes, listened_so}
+use Rattle.tf_commands.proofs.MigrateLemmas.{migrated_causes}
 use Rattle.tf_commands.proofs.CourseLemmas.{obeys_so, hires_so, few_so, quiet_file}
 use Rattle.tf_commands.proofs.top.obey_flow.Goals as goal
 
@@ -32,6 +33,25 @@ returns-in-Show-clause-obeys g c = obeys_so g.K.Desk.state _ _ c.args.asked _ _ 
 
 pub returns-in-Reset-clause-obeys : goal.returns-in-Reset-clause-obeys
 returns-in-Reset-clause-obeys g c = obeys_so g.K.Desk.state _ _ c.args.asked _ _ _ _ _ _ _ c.in-Reset.is (c.reset_book.ensures.resets, refl)
+
+pub returns-in-Details-clause-obeys : goal.returns-in-Details-clause-obeys
+returns-in-Details-clause-obeys g c = obeys_so g.K.Desk.state _ _ c.args.asked _ _ _ _ _ _ _ c.in-Details.is (c.list_details.ensures.lists, refl)
+
+pub returns-in-Details-clause-hires : goal.returns-in-Details-clause-hires
+returns-in-Details-clause-hires g c = hires_so c.args.asked _ _ _ c.in-Details.is refl
+
+pub returns-in-Migrate-clause-obeys : goal.returns-in-Migrate-clause-obeys
+returns-in-Migrate-clause-obeys g c = obeys_so g.K.Desk.state _ _ c.args.asked _ _ _ _ _ _ _ c.in-Migrate.is (c.migrate_command-desk.ensures.migrates, refl)
+
+pub returns-in-Migrate-clause-hires : goal.returns-in-Migrate-clause-hires
+returns-in-Migrate-clause-hires g c = hires_so c.args.asked _ _ _ c.in-Migrate.is refl
+
+pub returns-in-Migrate-clause-asks : goal.returns-in-Migrate-clause-asks
+returns-in-Migrate-clause-asks g c = c.migrate_command-desk.ensures.causes.extends.asks
+
+pub returns-in-Migrate-clause-causes : goal.returns-in-Migrate-clause-causes
+returns-in-Migrate-clause-causes g c =
+    widened _ _ _ _ (migrated_causes c.migrate_command-desk.result.1 (g.S.Sources.faults c.args.sources.now) (g.W.Crew.faults c.args.crew.now) c.migrate_command-desk.ensures.migrates c.migrate_command-desk.ensures.causes)
 
 pub returns-in-Check-clause-obeys : goal.returns-in-Check-clause-obeys
 returns-in-Check-clause-obeys g c = obeys_so g.K.Desk.state _ _ c.args.asked _ _ _ _ _ _ _ c.in-Check.is

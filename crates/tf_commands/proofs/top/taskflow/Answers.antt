@@ -1,4 +1,4 @@
-use Rattle.tf_commands.proofs.CauseLemmas.{usage_tells, refused_tells, board_tells, log_tells, alone, works_so}
+use Rattle.tf_commands.proofs.CauseLemmas.{usage_tells, refused_tells, board_tells, old_tells, log_tells, alone, works_so}
 use Rattle.tf_commands.proofs.CompleteLemmas.{completes}
 use Rattle.tf_commands.proofs.top.taskflow.Goals as goal
 
@@ -10,6 +10,9 @@ returns-clause-refused g c = refused_tells g.K.Desk.state _ _ _ _ _ _ _ c.answer
 
 pub returns-clause-board_refused : goal.returns-clause-board_refused
 returns-clause-board_refused g c = board_tells g.K.Desk.state _ _ _ _ _ _ _ c.answer-desk.ensures.course
+
+pub returns-clause-old_book : goal.returns-clause-old_book
+returns-clause-old_book g c = old_tells g.K.Desk.state _ _ _ _ _ _ _ c.answer-desk.ensures.course
 
 pub returns-clause-log_refused : goal.returns-clause-log_refused
 returns-clause-log_refused g c = log_tells g.K.Desk.state _ _ _ _ _ _ _ c.answer-desk.ensures.course

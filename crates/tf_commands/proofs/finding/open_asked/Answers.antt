@@ -1,0 +1,14 @@
+use Rattle.tf_commands.proofs.FindLemmas.{asked_below, ok_on, err_on}
+use Rattle.tf_commands.proofs.finding.open_asked.Goals as goal
+
+pub open_number-requires-clause-within : goal.open_number-requires-clause-within
+open_number-requires-clause-within g c = asked_below c.args.wanted.now c.args.shelf.elements c.in-Some.number (c.in-Some.ensures c.args.shelf.elements c.details.ensures.list)
+
+pub returns-in-Some-clause-holds : goal.returns-in-Some-clause-holds
+returns-in-Some-clause-holds g c =
+    ok_on c.open_number.result _ _ c.open_number.ensures.holds
+    (λ book holds name entry so. holds name c.args.wanted.now entry so (c.in-Some.ensures c.args.shelf.elements c.details.ensures.list))
+
+pub returns-in-Some-clause-unfound : goal.returns-in-Some-clause-unfound
+returns-in-Some-clause-unfound g c =
+    err_on c.open_number.result _ _ c.open_number.ensures.unfound (λ over unfound name entry so. unfound name c.args.wanted.now entry so)

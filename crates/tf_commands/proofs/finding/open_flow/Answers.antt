@@ -1,0 +1,20 @@
+use Rattle.tf_commands.specs.Books.{unopened_book}
+use Rattle.tf_commands.proofs.CountLemmas.{untouched_reaches, refused_causes}
+use Rattle.tf_commands.proofs.FindLemmas.{err_on}
+use Rattle.tf_commands.proofs.finding.open_flow.Goals as goal
+
+pub returns-in-Ok-clause-unfound : goal.returns-in-Ok-clause-unfound
+returns-in-Ok-clause-unfound g c =
+    err_on c.open_asked.result _ _ c.open_asked.ensures.unfound
+    (λ over unfound. unfound c.args.name.now c.args.desk (record { opened = c.in-Ok.ensures.opened; found = c.in-Ok.ensures.loads }))
+
+pub returns-in-Err-clause-unfound : goal.returns-in-Err-clause-unfound
+returns-in-Err-clause-unfound g c =
+    unopened_book (c.refuse_book.ensures.unopened c.args.name.now c.args.desk c.in-Err.ensures.unopened c.in-Err.ensures.refused)
+
+pub returns-in-Err-clause-causes : goal.returns-in-Err-clause-causes
+returns-in-Err-clause-causes g c =
+    let e = c.in-Err.ensures in
+    let r = c.refuse_book in
+    refused_causes (untouched_reaches e.unopened) r.ensures.said (λ is. e.cause (r.ensures.failed is))
+    (r.ensures.unopened c.args.name.now c.args.desk e.unopened e.refused)
