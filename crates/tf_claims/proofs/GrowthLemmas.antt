@@ -1,5 +1,5 @@
 -- What a file holds after a call recorded entries of a detail: what it held, with these entries, and perhaps the detail, behind it.
-use Rattle.std.proofs.Common.{◌≡◌, ◌≤◌, ℕ, List, [], ◌∷◌, ◌++◌, map, length, Bool, true, false, Option, Some, inl, inr, refl, sym, ap, ◌∙◌, subst, ⊎_elim, append-nil, append_assoc, arith}
+use Rattle.std.proofs.Common.{◌≡◌, ℕ, List, [], ◌∷◌, ◌++◌, map, length, Bool, true, false, Some, inl, inr, refl, sym, ap, ◌∙◌, subst, append-nil, append_assoc, arith}
 use Rattle.std.specs.Prelude.{nat_eq, slice_get}
 use Rattle.std.proofs.lemmas.Bool.{eqb-true}
 use Rattle.tf_flow.specs.Plan.{PlanValue}
@@ -7,10 +7,10 @@ use Rattle.tf_states.specs.declared.record.Entry.{Entry}
 use Rattle.tf_ports.specs.declared.crews.Want.{Want}
 use Rattle.tf_actions.specs.declared.orders.Order.{Order}
 use Rattle.tf_actions.specs.declared.outcomes.Outcome.{Outcome}
-use Rattle.tf_journal.specs.Format.{Recovered, unborn, bodies}
+use Rattle.tf_journal.specs.Format.{Recovered}
 use Rattle.tf_model.specs.Plan.{Outline, outline_of}
 use Rattle.tf_details.specs.Elements.{Element, detail, entry, details, plan_of, history}
-use Rattle.tf_details.specs.Contents.{Contents, past_of}
+use Rattle.tf_details.specs.Contents.{Contents}
 use Rattle.tf_details.specs.Whole.{AreAlike}
 use Rattle.tf_details.proofs.BookLemmas.{at_last}
 use Rattle.tf_details.proofs.ElementLemmas.{none_past}

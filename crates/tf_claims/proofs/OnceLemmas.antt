@@ -1,5 +1,5 @@
 -- A file holds one book, as far as a book tells something.
-use Rattle.std.proofs.Common.{◌≡◌, ℕ, List, ◌++◌, sym, ap, ◌∙◌}
+use Rattle.std.proofs.Common.{◌≡◌, List, ◌++◌, sym, ap, ◌∙◌}
 use Rattle.tf_journal.specs.Format.{Recovered, bodies}
 use Rattle.tf_details.specs.Elements.{Element, bodies_of}
 use Rattle.tf_details.specs.Whole.{AreAlike}

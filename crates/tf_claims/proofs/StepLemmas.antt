@@ -27,7 +27,7 @@ use Rattle.tf_commands.specs.Books.{NoFileChanges, book_in, book_at, HoldsElemen
 use Rattle.tf_words.specs.declared.asked.Asked.TheVariants as asked
 use Rattle.tf_claims.specs.Life.{file_of_command, IsAbout, Call, Leaves, returned, crashed, migrating, elsewhere, IsHired, AreRecorded}
 use Rattle.tf_claims.proofs.NameLemmas.{name_same}
-use Rattle.tf_model.specs.Plan.{Outline, outline_of}
+use Rattle.tf_model.specs.Plan.{outline_of}
 use Rattle.tf_claims.proofs.GivenLemmas.{GivesAll, pending_given, given_older}
 use Rattle.tf_claims.proofs.GrowthLemmas.{Grown, Behind, behind_held, behind_begun, held_elements, book_elements, grown_by, grown_since}
 use Rattle.tf_claims.proofs.WayLemmas.{Way, alone, recorded, began, unmade, jobs, served_jobs, way_others, Carried, Goes, untouched, about, carried, itself, obeys_goes}
