@@ -1,6 +1,7 @@
 -- What stays true of a book when one more entry was to be recorded.
 use Rattle.std.proofs.Common.{◌≡◌, ◌≢◌, ◌<◌, inl, inr, ⊎_elim, ℕ, ◌+◌, Bool, true, false, List, [], ◌∷◌, ◌++◌, length, Option, Some, None, refl, sym, ◌∙◌, ap, subst}
 use Rattle.std.specs.Prelude.{IsTrue, Result, Ok, Err}
+use Rattle.tf_numbers.proofs.TruthLemmas.{clash}
 use Rattle.tf_desk.specs.Crash.{shown_with}
 use Rattle.tf_desk.specs.State.{DeskState, bytes_now, Passes, passes_none, passes_on}
 use Rattle.tf_desk.proofs.CountLemmas.{rises_later}
@@ -35,10 +36,6 @@ not_disk halted is disk = cc
 -- some entry, where it doesn't matter which
 any_entry : Entry
 any_entry = record { hand = 0; what = event.Restart 0 }
-
--- a journal isn't both
-pub halted_apart : (halted : Bool) → halted ≡ true → halted ≡ false → ⊥
-halted_apart halted is apart = cc
 
 -- what is said of an entry recorded next
 abbrev pub next_line : {K : Type 0} → BookValue K → Entry → List ℕ
@@ -199,7 +196,7 @@ module _ {K : Type 0} (state : K → DeskState) where
       off_disk = off_then (Err halt.Disk) w;
       text = w.logged.text ∙ shown_then;
       crash = λ told kept. record { pending = e ∷ []; few = follows_then (Err halt.Disk) w; passes = passes_then (Err halt.Disk) w told kept; left = λ before. leaves_pending (Err halt.Disk) w told kept };
-      exact = λ told kept unhalted just. absurd (halted_apart j.halted (ap (λ (h : Held K). h.halted) w.logged.journal) unhalted);
+      exact = λ told kept unhalted just. absurd (clash j.halted (ap (λ (h : Held K). h.halted) w.logged.journal) unhalted);
       cause = rises_later (state start.journal.desk).disk_faults (state old.journal.desk).disk_faults (state j.desk).disk_faults k.continues.extends.disk_faults w.logged.cause;
     }
     by_result (Err (halt.Full size need)) w =

@@ -1,10 +1,11 @@
 -- How a detail is opened: what was read again is what the shelf has, and the book of it is sound.
 use Rattle.std.proofs.Common.{◌≡◌, ◌<◌, ◌≤◌, ◌⊎◌, inl, inr, ℕ, ◌+◌, Bool, true, false, List, length, Some, None, refl, sym, ap, ◌∙◌, subst, arith}
 use Rattle.std.specs.Prelude.{IsTrue}
+use Rattle.tf_numbers.proofs.TruthLemmas.{clash, never_true}
 use Rattle.tf_bound.specs.Short.{AreShort}
 use Rattle.tf_desk.specs.State.{DeskState}
 use Rattle.tf_states.specs.declared.record.Entry.{Entry}
-use Rattle.tf_journal.specs.Format.{SIZE_LIMIT, prefix_of, Held, IsAtRest, IsOpen}
+use Rattle.tf_journal.specs.Format.{SIZE_LIMIT, prefix_of, Held, IsAtRest}
 use Rattle.tf_journal.specs.Reading.{OnlyReads}
 use Rattle.tf_journal.specs.declared.faults.LoadFault.{LoadFault}
 use Rattle.tf_journal.specs.declared.faults.LoadFault.TheVariants as load_fault
@@ -13,6 +14,7 @@ use Rattle.tf_journal.specs.declared.title.Title.TheVariants.{Book2 as book_titl
 use Rattle.tf_machine.specs.Machine.{MachineValue, StandsFor}
 use Rattle.tf_records.specs.Replaying.{HasReadAll, FailsToReadBack}
 use Rattle.tf_details.specs.Elements.{Element, details, plan_of, history, bodies_of, AreForms, IsHistoryOf, IsLegalBook, CannotFollow}
+use Rattle.tf_details.specs.Whole.{AreAlike}
 use Rattle.tf_details.specs.Reading.{elements_in, HasGathered}
 use Rattle.tf_details.specs.declared.gathering.Gathering.{Gathering}
 use Rattle.tf_details.proofs.BookLemmas.{history_legal, size_is}
@@ -25,7 +27,6 @@ use Rattle.tf_book.specs.declared.shelf.Place.{Place}
 use Rattle.tf_book.specs.declared.shelf.Place.TheVariants as place
 use Rattle.tf_book.specs.Sound.{IsSoundBook}
 use Rattle.tf_book.specs.declared.history.History.{History}
-use Rattle.tf_book.proofs.ShelfLemmas.{kept_apart}
 
 -- a journal that was read back whole has the elements that were read
 pub read_holds : {K H : Type 0} (state : K → DeskState) (keeps : H → List Entry → Type 0) (old now : Held K) (g : Gathering H) → old.title ≡ book_title → old.halted ≡ false → old.volatile ≡ false
@@ -39,7 +40,7 @@ read_holds {K} state keeps old now g titled sound kept rest read reads = record 
       ∙ ap (λ (b : List (List ℕ)). length (prefix_of book_title b) + 1) read.is_replayed.bodies_are
       ∙ size_is (elements_in g);
   limit = subst (λ (n : ℕ). n ≤ SIZE_LIMIT) (sym (ap (λ (h : Held K). h.size) reads.journal)) read.limit;
-  none_kept = λ volatile. absurd (kept_apart now.volatile volatile (ap (λ (h : Held K). h.volatile) reads.journal ∙ kept));
+  none_kept = λ volatile. absurd (clash now.volatile volatile (ap (λ (h : Held K). h.volatile) reads.journal ∙ kept));
   ready = λ opened.
       let told : IsTrue (state old.desk).tells = subst IsTrue reads.rests.on_disk.tells opened.told in
       let lies = rest told in
@@ -56,11 +57,8 @@ pub record StandsIn {K : Type 0} (state : K → DeskState) (shelf : ShelfValue K
 
 -- a journal with a detail is kept in a file
 in_file : {K : Type 0} (state : K → DeskState) (journal : Held K) (elements : List Element) (number : ℕ) → HoldsElements state journal elements → number < length (details elements) → journal.volatile ≡ false
-in_file state journal elements number holds within = by journal.volatile refl
-  where
-    by : (volatile : Bool) → journal.volatile ≡ volatile → journal.volatile ≡ false
-    by false is = is
-    by true is = absurd (omega (arith, within, ap (λ (l : List Element). length (details l)) (holds.none_kept is)))
+in_file state journal elements number holds within =
+    never_true journal.volatile (λ is. omega (arith, within, ap (λ (l : List Element). length (details l)) (holds.none_kept is)))
 
 pub stands_in : {K : Type 0} (state : K → DeskState) (o shelf : ShelfValue K) (number : ℕ) (journal : Held K) → o ≡ shelf → o.place ≡ place.Kept journal → IsPlaced state o.place o.elements
     → IsLegalBook o.elements → number < length (details shelf.elements) → StandsIn state shelf number journal
@@ -75,43 +73,55 @@ stands_in {K} state o shelf number journal same is placed legal within =
       desk = sym (ap (λ (s : ShelfValue K). desk_of s) same) ∙ ap (λ (p : Place K). desk_at p) is;
     }
 
-module _ {K : Type 0} (state : K → DeskState) where
-  module _ (old : Held K) (elements : List Element) (holds : HoldsElements state old elements) (kept : old.volatile ≡ false) where
-    opened_then : IsTrue (state old.desk).tells → IsOpen state old
-    opened_then told = record { told = told; sound = holds.sound; kept = kept }
+module _ {K : Type 0} (state : K → DeskState) (shelf : ShelfValue K) (number : ℕ) (old : Held K) (s : StandsIn state shelf number old) where
+  -- where the desk tells its content, the bodies of the elements lie in the journal
+  rests_then : IsTrue (state old.desk).tells → IsAtRest state old (bodies_of shelf.elements)
+  rests_then told = s.holds.ready (record { told = told; sound = s.holds.sound; kept = s.kept })
 
-    -- where the desk tells its content, a journal that couldn't be read back failed for the disk or for want of memory
-    pub opening_fails : (fault : LoadFault) (desk : K) → IsLegalBook elements → FailsToReadBack state CannotFollow fault old desk → IsTrue (state old.desk).tells
-        → (fault ≡ load_fault.Disk) ⊎ (fault ≡ load_fault.Memory)
-    opening_fails load_fault.Disk desk legal fails told = inl refl
-    opening_fails load_fault.Memory desk legal fails told = inr refl
-    opening_fails (load_fault.NotABook offset byte) desk legal fails told =
-        let refused = fails.refused told (bodies_of elements) (holds.ready (opened_then told)).lies in
-        absurd (never_refused elements refused.before refused.after refused.body legal refused.splits refused.cannot)
-    opening_fails load_fault.Old desk legal fails told = absurd (fails.new_format refl)
+  told_then : IsTrue (state (desk_of shelf)).tells → IsTrue (state old.desk).tells
+  told_then told = subst (λ (d : K). IsTrue (state d).tells) s.desk told
 
-    module _ (g : Gathering History) (read : HasReadAll state (HasGathered KeepsHistory) old g) where
-      -- where the desk tells its content, just the bodies of the shelf were read again
-      pub same_bodies : IsTrue (state old.desk).tells → bodies_of (elements_in g) ≡ bodies_of elements
-      same_bodies told = sym (read.whole told (bodies_of elements) (holds.ready (opened_then told)).lies ∙ read.is_replayed.bodies_are)
+  -- so one that couldn't be read back failed for the disk or for want of memory
+  pub opening_fails : (fault : LoadFault) (desk : K) → FailsToReadBack state CannotFollow fault old desk → IsTrue (state (desk_of shelf)).tells
+      → (fault ≡ load_fault.Disk) ⊎ (fault ≡ load_fault.Memory)
+  opening_fails load_fault.Disk desk fails told = inl refl
+  opening_fails load_fault.Memory desk fails told = inr refl
+  opening_fails (load_fault.NotABook offset byte) desk fails told =
+      let now = told_then told in
+      let refused = fails.refused now (bodies_of shelf.elements) (rests_then now).lies in
+      absurd (never_refused shelf.elements refused.before refused.after refused.body s.legal refused.splits refused.cannot)
+  opening_fails load_fault.Old desk fails told = absurd (fails.new_format refl)
 
-      -- the history of the detail is the same
-      pub same_past : (number : ℕ) → IsLegalBook elements → g.number ≡ number → IsTrue (state old.desk).tells → past_shown g.kept.entries.items ≡ history number elements
-      same_past number legal numbered told =
-          let r = read.is_replayed in
-          r.kept.entries ∙ ap (λ (n : ℕ). history n (elements_in g)) numbered ∙ (read_once (elements_in g) elements r.legal legal (same_bodies told)).histories number
+  module _ (g : Gathering History) (read : HasReadAll state (HasGathered KeepsHistory) old g) where
+    r : HasGathered KeepsHistory g read.bodies
+    r = read.is_replayed
 
-      -- so the detail is there again
-      pub still_there : (number : ℕ) → IsLegalBook elements → number < length (details elements) → length g.details ≤ number → IsTrue (state old.desk).tells → ⊥
-      still_there number legal within missing told =
-          let r = read.is_replayed in
-          let alike = read_once (elements_in g) elements r.legal legal (same_bodies told) in
-          omega (arith, within, missing, machines_many g.details (elements_in g) r.machines_are, as_many (elements_in g) elements alike)
+    -- just the bodies of the shelf were read again, and a book with these tells the same
+    pub same_bodies : IsTrue (state (desk_of shelf)).tells → bodies_of (elements_in g) ≡ bodies_of shelf.elements
+    same_bodies told =
+        let now = told_then told in
+        sym (read.whole now (bodies_of shelf.elements) (rests_then now).lies ∙ r.bodies_are)
+
+    alike : IsTrue (state (desk_of shelf)).tells → AreAlike (elements_in g) shelf.elements
+    alike told = read_once (elements_in g) shelf.elements r.legal s.legal (same_bodies told)
+
+    -- so the detail is there again
+    pub still_there : length g.details ≤ number → IsTrue (state (desk_of shelf)).tells → ⊥
+    still_there missing told =
+        omega (arith, s.within, missing, machines_many g.details (elements_in g) r.machines_are, as_many (elements_in g) shelf.elements (alike told))
+
+    module _ (numbered : g.number ≡ number) where
+      -- its history was gathered
+      past_is : past_shown g.kept.entries.items ≡ history number (elements_in g)
+      past_is = r.kept.entries ∙ ap (λ (n : ℕ). history n (elements_in g)) numbered
+
+      -- and is the same
+      pub same_past : IsTrue (state (desk_of shelf)).tells → past_shown g.kept.entries.items ≡ history number shelf.elements
+      same_past told = past_is ∙ (alike told).histories number
 
       -- the book of a detail that was read again is sound
-      pub opened_sound : (now : Held K) (number : ℕ) (machine : MachineValue) → OnlyReads state old now → g.number ≡ number
-          → plan_of (elements_in g) number ≡ Some machine.plan → StandsFor machine (history number (elements_in g))
-          → IsSoundBook state machine g.kept.bodies.items (record {
+      pub opened_sound : (now : Held K) (machine : MachineValue) → OnlyReads state old now → plan_of (elements_in g) number ≡ Some machine.plan
+          → StandsFor machine (history number (elements_in g)) → IsSoundBook state machine g.kept.bodies.items (record {
             plan = machine.plan;
             past = past_shown g.kept.entries.items;
             contents = record { number = number; elements = elements_in g };
@@ -121,7 +131,7 @@ module _ {K : Type 0} (state : K → DeskState) where
             failed = None;
             limit = None;
           })
-      opened_sound now number machine reads numbered found stands = record {
+      opened_sound now machine reads found stands = record {
         stands = subst (StandsFor machine) (sym past_is) stands;
         plan = refl;
         limits = legal_past.limits;
@@ -137,15 +147,9 @@ module _ {K : Type 0} (state : K → DeskState) where
         limit = now_holds.limit;
       }
         where
-          r : HasGathered KeepsHistory g read.bodies
-          r = read.is_replayed
-
-          past_is : past_shown g.kept.entries.items ≡ history number (elements_in g)
-          past_is = r.kept.entries ∙ ap (λ (n : ℕ). history n (elements_in g)) numbered
-
           legal_past : IsHistoryOf machine.plan (history number (elements_in g))
           legal_past = history_legal (elements_in g) number machine.plan r.legal found
 
           now_holds : HoldsElements state now (elements_in g)
           now_holds =
-              read_holds state KeepsHistory old now g holds.title holds.sound kept (λ told. (bodies_of elements, holds.ready (opened_then told))) read reads
+              read_holds state KeepsHistory old now g s.holds.title s.holds.sound s.kept (λ told. (bodies_of shelf.elements, rests_then told)) read reads

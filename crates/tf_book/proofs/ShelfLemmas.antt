@@ -1,6 +1,9 @@
 -- What a shelf has: no detail yet, or the list of its details.
 use Rattle.std.proofs.Common.{◌≡◌, ℕ, zero, suc, ◌+◌, Bool, true, false, List, [], ◌∷◌, ◌++◌, length, drop, Option, Some, None, refl, sym, ap, ◌∙◌, arith, append_assoc}
 use Rattle.std.specs.Prelude.{slice_get, option_map}
+use Rattle.std.proofs.lemmas.List.{drop_more}
+use Rattle.std.proofs.lemmas.Option.{slice_get_within, get_or_from_slice_get}
+use Rattle.tf_numbers.proofs.TruthLemmas.{clash}
 use Rattle.tf_desk.specs.State.{DeskState}
 use Rattle.tf_flow.specs.Plan.{PlanValue}
 use Rattle.tf_states.specs.declared.state.FlowState.{FlowState}
@@ -22,10 +25,6 @@ pub no_elements : (elements : List Element) → [] ≡ bodies_of elements → el
 no_elements [] are = refl
 no_elements (element ∷ before) are = absurd (not_empty (bodies_of before) [] (element_bytes element) (sym are))
 
--- a journal isn't both
-pub kept_apart : (volatile : Bool) → volatile ≡ true → volatile ≡ false → ⊥
-kept_apart volatile is apart = cc
-
 -- a journal without a body that keeps nothing has no element
 pub holds_none : {K : Type 0} (state : K → DeskState) (journal : Held K) (elements : List Element) → elements ≡ [] → journal.title ≡ book_title → journal.size ≡ 18
     → journal.halted ≡ false → journal.volatile ≡ true → HoldsElements state journal elements
@@ -35,18 +34,15 @@ holds_none state journal elements none titled size sound volatile = record {
   size = size ∙ ap book_size (sym none);
   limit = omega (arith, size);
   none_kept = λ keeps_nothing. none;
-  ready = λ opened. absurd (kept_apart journal.volatile volatile opened.kept);
+  ready = λ opened. absurd (clash journal.volatile volatile opened.kept);
 }
 
 -- ---- the list of the details
 
 -- a plan at a place stands before those behind it
 first_at : (plans : List PlanValue) (n : ℕ) (plan : PlanValue) → slice_get plans n ≡ Some plan → drop n plans ≡ plan ∷ drop (n + 1) plans
-first_at [] n plan is = absurd (cc)
-first_at (first ∷ plans) zero plan is = ap (λ (p : PlanValue). p ∷ plans) (let same : first ≡ plan = cc in same)
-first_at (first ∷ plans) (suc n) plan is =
-    let on : suc (n + 1) ≡ suc n + 1 = omega arith in
-    first_at plans n plan is ∙ ap (λ (k : ℕ). plan ∷ drop k (first ∷ plans)) on
+first_at plans n plan is =
+    drop_more plans n plan (slice_get_within plans n plan is) ∙ ap (λ (p : PlanValue). p ∷ drop (n + 1) plans) (get_or_from_slice_get plans n plan plan is)
 
 -- it has as many as there are plans
 listed_many : (elements : List Element) (n : ℕ) (plans : List PlanValue) → length (listed_from elements n plans) ≡ length plans

@@ -1,6 +1,7 @@
 -- A book stays sound where an entry was to be recorded.
 use Rattle.std.proofs.Common.{◌≡◌, ◌≢◌, ◌≤◌, ℕ, ◌+◌, true, false, List, [], ◌∷◌, length, Option, Some, None, refl, sym, ap, ◌∙◌, subst}
 use Rattle.std.specs.Prelude.{IsTrue, Result, Ok, Err}
+use Rattle.tf_numbers.proofs.TruthLemmas.{clash}
 use Rattle.tf_bound.specs.Short.{IsShortEvent}
 use Rattle.tf_desk.specs.State.{DeskState}
 use Rattle.tf_flow.specs.Plan.{PlanValue}
@@ -20,7 +21,7 @@ use Rattle.tf_book.specs.SessionInvariant.{is_logged, Logged}
 use Rattle.tf_book.specs.Sound.{IsSoundBook}
 use Rattle.tf_book.specs.declared.faults.Halt.{Halt}
 use Rattle.tf_book.specs.declared.faults.Halt.TheVariants as halt
-use Rattle.tf_book.proofs.InvariantLemmas.{not_disk, halted_apart}
+use Rattle.tf_book.proofs.InvariantLemmas.{not_disk}
 
 module _ {K : Type 0} (state : K → DeskState) (machine : MachineValue) (kept : List ℕ) (o : BookValue K) (is : IsSoundBook state machine kept o) (sound : o.halt ≡ None)
     (next : MachineValue) (kept_now : List ℕ) (j : Held K) (f : Option Entry) (line : List ℕ) (e : Entry) where
@@ -96,7 +97,7 @@ module _ {K : Type 0} (state : K → DeskState) (machine : MachineValue) (kept :
   by_result (Err halt.Disk) logged step short form on off =
       let now = off refl in
       unrecorded_sound (Some halt.Disk) (λ apart. absurd (apart refl)) (ap (λ (i : Held K). i.title) logged.journal) (ap (λ (i : Held K). i.size) logged.journal)
-      (λ unhalted. absurd (halted_apart j.halted (ap (λ (i : Held K). i.halted) logged.journal) unhalted)) now.0 now.1
+      (λ unhalted. absurd (clash j.halted (ap (λ (i : Held K). i.halted) logged.journal) unhalted)) now.0 now.1
   by_result (Err (halt.Full size need)) logged step short form on off =
       let now = off refl in
       unrecorded_sound (Some (halt.Full size need)) (λ apart. ap (λ (i : Held K). i.halted) logged.journal ∙ unhalted_then) (ap (λ (i : Held K). i.title) logged.journal)
