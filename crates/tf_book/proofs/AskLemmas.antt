@@ -56,10 +56,7 @@ module _ {K : Type 0} (state : K → DeskState) where
   sound_limit machine kept b l is = record {
     stands = is.stands;
     plan = is.plan;
-    limits = is.limits;
     kept_is = is.kept_is;
-    short = is.short;
-    forms = is.forms;
     held = is.held;
     told = is.told;
     title = is.title;

@@ -141,10 +141,7 @@ module _ {K : Type 0} (state : K → DeskState) where
   sound_on machine kept b j halted is sound same told files = record {
     stands = is.stands;
     plan = is.plan;
-    limits = is.limits;
     kept_is = is.kept_is;
-    short = is.short;
-    forms = is.forms;
     held = is.held;
     told = is.told;
     title = ap (λ (h : Held K). h.title) same ∙ is.title;

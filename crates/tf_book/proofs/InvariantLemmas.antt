@@ -1,5 +1,5 @@
 -- What stays true of a book when one more entry was to be recorded.
-use Rattle.std.proofs.Common.{◌≡◌, ◌≢◌, ◌<◌, inl, inr, ⊎_elim, ℕ, ◌+◌, Bool, true, false, List, [], ◌∷◌, ◌++◌, length, Option, Some, None, refl, sym, ◌∙◌, ap, subst}
+use Rattle.std.proofs.Common.{◌≡◌, ◌≢◌, ◌<◌, inl, inr, ⊎_elim, ℕ, ◌+◌, true, false, List, [], ◌∷◌, ◌++◌, length, Option, Some, None, refl, sym, ◌∙◌, ap, subst}
 use Rattle.std.specs.Prelude.{IsTrue, Result, Ok, Err}
 use Rattle.tf_numbers.proofs.TruthLemmas.{clash}
 use Rattle.tf_desk.specs.Crash.{shown_with}
@@ -16,10 +16,11 @@ use Rattle.tf_journal.specs.declared.title.Title.TheVariants.{Book2 as book_titl
 use Rattle.tf_machine.specs.Machine.{MachineValue}
 use Rattle.tf_model.specs.History.{snapshot}
 use Rattle.tf_model.specs.Plan.{outline_of}
-use Rattle.tf_model.specs.Steps.{Step, LegalPast}
+use Rattle.tf_model.specs.Steps.{Step}
 use Rattle.tf_report.specs.Lines.{line}
-use Rattle.tf_details.specs.Elements.{IsForm, IsAcceptedPlan, CanRun, IsHistoryOf}
+use Rattle.tf_details.specs.Elements.{IsForm, IsHistoryOf}
 use Rattle.tf_details.specs.Contents.{Contents, with_entries}
+use Rattle.tf_details.proofs.BookLemmas.{history_legal}
 use Rattle.tf_book.specs.Book.{BookValue, outline, moment, entry_body, bodies_with, size_of}
 use Rattle.tf_book.specs.SessionInvariant.{said_of, is_logged, LeavesLogged, StaysOffDisk, Logged, said, IsSpoken, LeavesEntries, MayFollow, nothing_more, one_more, HasFailed, IsPending, IsExact, IsFullFor, HasCause, SessionInvariant, Proceeds}
 use Rattle.tf_book.specs.Recording.{halt_after, failed_after, past_after, contents_after}
@@ -309,14 +310,7 @@ history_on nothing_more h = h
 history_on (one_more e step form so) h = record { accepted = h.accepted; limits = h.limits; runs = h.runs; legal = (step, h.legal); forms = (form, h.forms) }
 
 -- a book holds a history that a book may hold
-pub sound_history : {K : Type 0} (state : K → DeskState) (machine : MachineValue) (kept : List ℕ) (b old : BookValue K) → b ≡ old → IsSoundBook state machine kept b
-    → IsAcceptedPlan machine.plan → CanRun machine.plan → IsHistoryOf old.plan old.past
-sound_history {K} state machine kept b old same is accepted runs =
+pub sound_history : {K : Type 0} (state : K → DeskState) (machine : MachineValue) (kept : List ℕ) (b old : BookValue K) → b ≡ old → IsSoundBook state machine kept b → IsHistoryOf old.plan old.past
+sound_history {K} state machine kept b old same is =
     subst (λ (x : BookValue K). IsHistoryOf x.plan x.past) same
-    (record {
-      accepted = subst IsAcceptedPlan is.plan accepted;
-      limits = is.limits;
-      runs = subst CanRun is.plan runs;
-      legal = subst (λ (p : PlanValue). LegalPast (outline_of p) b.past) is.plan is.stands.legal;
-      forms = is.forms;
-    })
+    (subst (IsHistoryOf b.plan) is.told (history_legal b.contents.elements b.contents.number b.plan is.held.legal is.held.of_detail))

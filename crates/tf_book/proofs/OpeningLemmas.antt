@@ -1,8 +1,7 @@
 -- How a detail is opened: what was read again is what the shelf has, and the book of it is sound.
-use Rattle.std.proofs.Common.{◌≡◌, ◌<◌, ◌≤◌, ◌⊎◌, inl, inr, ℕ, ◌+◌, Bool, true, false, List, length, Some, None, refl, sym, ap, ◌∙◌, subst, arith}
+use Rattle.std.proofs.Common.{◌≡◌, ◌<◌, ◌≤◌, ◌⊎◌, inl, inr, ℕ, ◌+◌, false, List, length, Some, None, refl, sym, ap, ◌∙◌, subst, arith}
 use Rattle.std.specs.Prelude.{IsTrue}
 use Rattle.tf_numbers.proofs.TruthLemmas.{clash, never_true}
-use Rattle.tf_bound.specs.Short.{AreShort}
 use Rattle.tf_desk.specs.State.{DeskState}
 use Rattle.tf_states.specs.declared.record.Entry.{Entry}
 use Rattle.tf_journal.specs.Format.{SIZE_LIMIT, prefix_of, Held, IsAtRest}
@@ -13,12 +12,11 @@ use Rattle.tf_journal.specs.declared.title.Title.{Title}
 use Rattle.tf_journal.specs.declared.title.Title.TheVariants.{Book2 as book_title}
 use Rattle.tf_machine.specs.Machine.{MachineValue, StandsFor}
 use Rattle.tf_records.specs.Replaying.{HasReadAll, FailsToReadBack}
-use Rattle.tf_details.specs.Elements.{Element, details, plan_of, history, bodies_of, AreForms, IsHistoryOf, IsLegalBook, CannotFollow}
+use Rattle.tf_details.specs.Elements.{Element, details, plan_of, history, bodies_of, IsLegalBook, CannotFollow}
 use Rattle.tf_details.specs.Whole.{AreAlike}
 use Rattle.tf_details.specs.Reading.{elements_in, HasGathered}
 use Rattle.tf_details.specs.declared.gathering.Gathering.{Gathering}
-use Rattle.tf_details.proofs.BookLemmas.{history_legal, size_is}
-use Rattle.tf_details.proofs.EntryLemmas.{short_past}
+use Rattle.tf_details.proofs.BookLemmas.{size_is}
 use Rattle.tf_details.proofs.MachineLemmas.{as_many as machines_many}
 use Rattle.tf_details.proofs.OnceLemmas.{as_many, read_once, never_refused}
 use Rattle.tf_book.specs.Histories.{past_shown, framed_bodies, KeepsHistory}
@@ -134,10 +132,7 @@ module _ {K : Type 0} (state : K → DeskState) (shelf : ShelfValue K) (number :
       opened_sound now machine reads found stands = record {
         stands = subst (StandsFor machine) (sym past_is) stands;
         plan = refl;
-        limits = legal_past.limits;
         kept_is = r.kept.bodies ∙ ap framed_bodies (sym r.kept.entries);
-        short = subst AreShort (sym past_is) (short_past (history number (elements_in g)) legal_past.forms);
-        forms = subst AreForms (sym past_is) legal_past.forms;
         held = record { legal = r.legal; of_detail = found };
         told = sym past_is;
         title = now_holds.title;
@@ -147,9 +142,6 @@ module _ {K : Type 0} (state : K → DeskState) (shelf : ShelfValue K) (number :
         limit = now_holds.limit;
       }
         where
-          legal_past : IsHistoryOf machine.plan (history number (elements_in g))
-          legal_past = history_legal (elements_in g) number machine.plan r.legal found
-
           now_holds : HoldsElements state now (elements_in g)
           now_holds =
               read_holds state KeepsHistory old now g s.holds.title s.holds.sound s.kept (λ told. (bodies_of shelf.elements, rests_then told)) read reads

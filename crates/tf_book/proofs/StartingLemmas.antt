@@ -1,7 +1,6 @@
 -- How a new detail begins: where its body is added, why it isn't, and that the book of it is sound.
 use Rattle.std.proofs.Common.{◌≡◌, ◌≢◌, ◌<◌, ◌≤◌, ℕ, Bool, false, List, [], ◌∷◌, ◌++◌, length, None, refl, sym, ap, ◌∙◌, subst, arith}
 use Rattle.std.specs.Prelude.{IsTrue, Result, Ok, Err, IfOk, IfErr, vec_len, vec_capacity}
-use Rattle.tf_bound.specs.Short.{AreShort}
 use Rattle.tf_desk.specs.Crash.{Pairs}
 use Rattle.tf_desk.specs.State.{DeskState, bytes_now, anything, GoesOn, Passes, passes_none}
 use Rattle.tf_desk.proofs.CountLemmas.{rises_later}
@@ -13,7 +12,7 @@ use Rattle.tf_journal.specs.Format.{journal_bytes, Held, IsBody, IsAtRest}
 use Rattle.tf_journal.specs.declared.title.Title.TheVariants.{Book2 as book_title}
 use Rattle.tf_machine.specs.Machine.{MachineValue, StandsFor}
 use Rattle.tf_details.specs.Contents.{Contents, IsContents, past_of}
-use Rattle.tf_details.specs.Elements.{Element, details, bodies_of, AreForms, IsAcceptedPlan, CanRun, IsHistoryOf, MayBegin, IsLegalBook}
+use Rattle.tf_details.specs.Elements.{Element, details, bodies_of, IsAcceptedPlan, CanRun, IsHistoryOf, MayBegin, IsLegalBook}
 use Rattle.tf_details.proofs.BookLemmas.{at_last}
 use Rattle.tf_details.proofs.ContentsLemmas.{elements_long, elements_many}
 use Rattle.tf_details.proofs.ElementLemmas.{none_past}
@@ -121,10 +120,7 @@ module _ {K : Type 0} (state : K → DeskState) where
   begun_sound elements machine kept past contents journal quiet unkept none contents_are legal may fresh added = record {
     stands = subst (StandsFor machine) (sym none) fresh;
     plan = refl;
-    limits = may.limits;
     kept_is = unkept ∙ ap framed_bodies (sym none);
-    short = subst AreShort (sym none) tt;
-    forms = subst AreForms (sym none) tt;
     held = subst (IsContents machine.plan) (sym contents_are) (record { legal = (may, legal); of_detail = at_last (details elements) machine.plan });
     told = ap past_of contents_are ∙ none_past elements (length (details elements)) legal (omega arith) ∙ sym none;
     title = added.title;

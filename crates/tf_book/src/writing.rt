@@ -2,7 +2,6 @@ ghost use Rattle.std.specs.Prelude.{◌≡◌, ◌<◌, ◌+◌, ◌++◌, ◌�
 ghost use Rattle.tf_journal.specs.Format.{length_bytes, IsBody, IsReady};
 ghost use Rattle.tf_journal.specs.declared.title.Title.TheVariants.{Book2 as book_title};
 ghost use Rattle.tf_states.specs.declared.record.Entry.{Entry as Record};
-ghost use Rattle.tf_bound.specs.Short.{IsShortEvent};
 ghost use Rattle.tf_entries.specs.Entries.{entry_bytes, has_its_payload, HasItsPayload};
 ghost use Rattle.tf_machine.specs.Machine.{outline, shown, StandsFor};
 ghost use Rattle.tf_model.specs.Steps.{Step};
@@ -21,7 +20,6 @@ use crate::history::History;
 use crate::holding::Holding;
 use crate::log::log;
 use std::alloc::{AllocError, Global};
-use tf_bound::event_is_short;
 use tf_desk::Desk;
 use tf_entries::{Head, encode_entry, put_head};
 use tf_flow::Plan;
@@ -142,9 +140,8 @@ pub fn write<K: Desk>(
     ensures unrecorded { is_logged result ≡ false
         → KeepsNothing machine.old machine.new history.old history.new }
     ensures failed { failed.new ≡ failed_after entry failed.old result }
-    ensures form { IsShortEvent entry.what × IsForm entry }
+    ensures form { IsForm entry }
 {
-    event_is_short(&entry.what);
     let number = history.entries.len() as u64 + 1;
     prepare(holding.number, machine.plan(), number, &entry, draft);
     match log(journal, &draft.body, &draft.line, quiet) {

@@ -48,8 +48,8 @@ impl<K: Desk> Book<K> {
         ensures held { IsContents self.now.plan self.now.contents }
         ensures told { past_of self.now.contents ≡ self.now.past }
     {
-        let plan = self.machine.plan();
-        let _root = plan.root();
+        // What the machine's type keeps is read here: its plan compiles, and keeps its limits.
+        let _plan = self.machine.plan();
         self.flow()
     }
 

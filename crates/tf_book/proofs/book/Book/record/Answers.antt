@@ -39,7 +39,7 @@ invariant_of-self g c =
       w.draft_room,
       w.holding_room,
       sound_after g.K.Desk.state _ _ _ i (ap (λ (b : BookValue _). b.halt) c.self.view_is ∙ c.requires.sound) _ _ c.write.new.journal _ _ c.args.entry _ _ _ c.write.result w.logged
-          (subst (λ (b : BookValue _). Step (outline b) (moment b) c.args.entry) (sym c.self.view_is) c.requires.allowed) w.form.0 w.form.1
+          (subst (λ (b : BookValue _). Step (outline b) (moment b) c.args.entry) (sym c.self.view_is) c.requires.allowed) w.form
           (λ on. (
             w.plan,
             (w.recorded on).stands _ i.stands,
@@ -58,7 +58,7 @@ invariant_of-self-in-Err g c =
       w.draft_room,
       w.holding_room,
       sound_after g.K.Desk.state _ _ _ i (ap (λ (b : BookValue _). b.halt) c.self.view_is ∙ c.requires.sound) _ _ c.write.new.journal _ _ c.args.entry _ _ _ c.write.result w.logged
-          (subst (λ (b : BookValue _). Step (outline b) (moment b) c.args.entry) (sym c.self.view_is) c.requires.allowed) w.form.0 w.form.1
+          (subst (λ (b : BookValue _). Step (outline b) (moment b) c.args.entry) (sym c.self.view_is) c.requires.allowed) w.form
           (λ on. (
             w.plan,
             (w.recorded on).stands _ i.stands,
@@ -72,12 +72,12 @@ invariant_of-self-in-Err g c =
 pub returns-in-Ok-clause-proceeds : goal.returns-in-Ok-clause-proceeds
 returns-in-Ok-clause-proceeds g c =
     let w = c.write.ensures in
-    book_proceeds _ _ _ _ _ _ _ _ _ _ _ _ _ _ c.self.view_is (sym (past_long c.self.inside.history.entries.items)) c.requires.sound c.requires.allowed w.form.1 c.self.invariant.3
+    book_proceeds _ _ _ _ _ _ _ _ _ _ _ _ _ _ c.self.view_is (sym (past_long c.self.inside.history.entries.items)) c.requires.sound c.requires.allowed w.form c.self.invariant.3
     w.logged w.plan (past_turned _ _ _ _ (λ on. (w.recorded on).entries) (λ off. (w.unrecorded off).entries)) w.held
     (ap (λ (b : BookValue _). b.halt) c.self.view_is ∙ c.requires.sound ∙ sym (ap halt_after c.in-Ok.is)) w.failed
 
 pub returns-in-Err-clause-proceeds : goal.returns-in-Err-clause-proceeds
 returns-in-Err-clause-proceeds g c =
     let w = c.write.ensures in
-    book_proceeds _ _ _ _ _ _ _ _ _ _ _ _ _ _ c.self.view_is (sym (past_long c.self.inside.history.entries.items)) c.requires.sound c.requires.allowed w.form.1 c.self.invariant.3
+    book_proceeds _ _ _ _ _ _ _ _ _ _ _ _ _ _ c.self.view_is (sym (past_long c.self.inside.history.entries.items)) c.requires.sound c.requires.allowed w.form c.self.invariant.3
     w.logged w.plan (past_turned _ _ _ _ (λ on. (w.recorded on).entries) (λ off. (w.unrecorded off).entries)) w.held (sym (ap halt_after c.in-Err.is)) w.failed
