@@ -6,6 +6,8 @@ mod calls;
 #[cfg(test)]
 mod crashes;
 #[cfg(test)]
+mod details;
+#[cfg(test)]
 mod faults;
 #[cfg(test)]
 mod migrations;
