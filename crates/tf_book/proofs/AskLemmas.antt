@@ -9,7 +9,7 @@ use Rattle.tf_machine.specs.Machine.{MachineValue}
 use Rattle.tf_model.specs.Plan.{Outline, outline_of}
 use Rattle.tf_states.specs.declared.record.Entry.{Entry}
 use Rattle.tf_states.specs.declared.state.FlowState.TheVariants as flow
-use Rattle.tf_details.specs.Contents.{Contents}
+use Rattle.tf_details.specs.Elements.{Contents}
 use Rattle.tf_book.specs.Book.{BookValue, flow_state, outline}
 use Rattle.tf_book.specs.SessionInvariant.{IsSpoken, HasCause, SessionInvariant, Proceeds, TakesTurn}
 use Rattle.tf_book.specs.Sound.{IsSoundBook}

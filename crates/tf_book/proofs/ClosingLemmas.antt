@@ -16,7 +16,7 @@ use Rattle.tf_journal.proofs.AppendLemmas.{rest_leaves}
 use Rattle.tf_machine.specs.Machine.{MachineValue, shown as machine_shows, outline as machine_outline, StandsFor}
 use Rattle.tf_model.specs.History.{snapshot, Snapshot, Shows}
 use Rattle.tf_model.specs.Plan.{Outline, outline_of}
-use Rattle.tf_details.specs.Contents.{Contents}
+use Rattle.tf_details.specs.Elements.{Contents}
 use Rattle.tf_book.specs.Book.{BookValue, outline, bodies_with}
 use Rattle.tf_book.specs.SessionInvariant.{said, LeavesEntries, IsSpoken, HasCause, SessionInvariant, IsSaid, StaysOffDisk}
 use Rattle.tf_book.specs.Closed.{IsClosing, LeavesClosing, LeavesClosed, Closed}

@@ -18,8 +18,7 @@ use Rattle.tf_model.specs.History.{snapshot}
 use Rattle.tf_model.specs.Plan.{outline_of}
 use Rattle.tf_model.specs.Steps.{Step}
 use Rattle.tf_report.specs.Lines.{line}
-use Rattle.tf_details.specs.Elements.{IsForm, IsHistoryOf}
-use Rattle.tf_details.specs.Contents.{Contents, with_entries}
+use Rattle.tf_details.specs.Elements.{IsForm, IsHistoryOf, Contents, with_entries}
 use Rattle.tf_details.proofs.BookLemmas.{history_legal}
 use Rattle.tf_book.specs.Book.{BookValue, outline, moment, entry_body, bodies_with, size_of}
 use Rattle.tf_book.specs.SessionInvariant.{said_of, is_logged, LeavesLogged, StaysOffDisk, Logged, said, IsSpoken, LeavesEntries, MayFollow, nothing_more, one_more, HasFailed, IsPending, IsExact, IsFullFor, HasCause, SessionInvariant, Proceeds}

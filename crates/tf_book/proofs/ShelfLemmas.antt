@@ -11,7 +11,8 @@ use Rattle.tf_journal.specs.Format.{Held}
 use Rattle.tf_journal.specs.declared.title.Title.TheVariants.{Book2 as book_title}
 use Rattle.tf_model.specs.History.{flow_of}
 use Rattle.tf_details.specs.Elements.{Element, details, plan_of, history, detail_name, element_bytes, bodies_of, book_size}
-use Rattle.tf_book.specs.Shelf.{listed_from, listed, HoldsElements}
+use Rattle.tf_book.specs.Shelf.{HoldsElements}
+use Rattle.tf_book.specs.Book.{listed_from, listed}
 use Rattle.tf_book.specs.declared.shelf.Detail.{Detail}
 
 -- ---- no detail yet

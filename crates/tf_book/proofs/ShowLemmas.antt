@@ -10,8 +10,8 @@ use Rattle.tf_journal.proofs.FoundLemmas.{length_read}
 use Rattle.tf_model.specs.Plan.{outline_of}
 use Rattle.tf_report.specs.Lines.{line}
 use Rattle.tf_details.specs.Elements.{IsEntryOf, AreEntriesOf}
-use Rattle.tf_book.specs.Histories.{framed_bodies}
-use Rattle.tf_book.specs.SessionInvariant.{said, BeginsWithBody, HasLines}
+use Rattle.tf_book.specs.Histories.{framed_bodies, BeginsWithBody, HasLines}
+use Rattle.tf_book.specs.SessionInvariant.{said}
 
 -- an entry's body behind its length
 abbrev frame : Entry → List ℕ

@@ -9,8 +9,7 @@ use Rattle.tf_journal.specs.Format.{SIZE_LIMIT, Held, IsAtRest, IsOpen}
 use Rattle.tf_machine.specs.Machine.{MachineValue, StandsFor}
 use Rattle.tf_model.specs.History.{snapshot}
 use Rattle.tf_model.specs.Steps.{Step}
-use Rattle.tf_details.specs.Elements.{IsForm}
-use Rattle.tf_details.specs.Contents.{Contents, with_entries, IsContents}
+use Rattle.tf_details.specs.Elements.{IsForm, Contents, with_entries, IsContents}
 use Rattle.tf_details.proofs.ContentsLemmas.{past_on, contents_on}
 use Rattle.tf_book.specs.Book.{BookValue, outline, moment, entry_body, bodies_with}
 use Rattle.tf_book.specs.Histories.{framed_bodies}

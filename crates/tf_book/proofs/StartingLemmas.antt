@@ -11,22 +11,21 @@ use Rattle.tf_entries.specs.Plans.{IsPlan}
 use Rattle.tf_journal.specs.Format.{journal_bytes, Held, IsBody, IsAtRest}
 use Rattle.tf_journal.specs.declared.title.Title.TheVariants.{Book2 as book_title}
 use Rattle.tf_machine.specs.Machine.{MachineValue, StandsFor}
-use Rattle.tf_details.specs.Contents.{Contents, IsContents, past_of}
-use Rattle.tf_details.specs.Elements.{Element, details, bodies_of, IsAcceptedPlan, CanRun, IsHistoryOf, MayBegin, IsLegalBook}
+use Rattle.tf_details.specs.Elements.{Element, details, bodies_of, IsAcceptedPlan, CanRun, IsHistoryOf, MayBegin, IsLegalBook, Contents, IsContents, past_of}
 use Rattle.tf_details.proofs.BookLemmas.{at_last}
 use Rattle.tf_details.proofs.ContentsLemmas.{elements_long, elements_many}
 use Rattle.tf_details.proofs.ElementLemmas.{none_past}
 use Rattle.tf_details.specs.Marks.{elements_shown}
 use Rattle.tf_details.specs.Reading.{elements_in}
 use Rattle.tf_details.specs.declared.gathering.Gathering.{Gathering}
-use Rattle.tf_book.specs.Book.{bodies_with, size_of}
+use Rattle.tf_book.specs.Book.{bodies_with, size_of, detail_body, with_detail, begun_contents, HasPlaceFor}
 use Rattle.tf_book.specs.Histories.{framed_bodies}
 use Rattle.tf_book.specs.Holding.{contents_of}
 use Rattle.tf_book.specs.declared.holding.Holding.{Holding}
 use Rattle.tf_book.specs.SessionInvariant.{IsExact}
 use Rattle.tf_book.specs.Shelf.{ShelfValue, desk_at, HoldsElements, IsPlaced}
 use Rattle.tf_book.specs.Sound.{IsSoundBook}
-use Rattle.tf_book.specs.Starting.{detail_body, with_detail, begun_contents, HasPlaceFor, HasAdded, AddsTo, EndsThere, FailsToAdd, FailsToStart}
+use Rattle.tf_book.specs.Starting.{HasAdded, AddsTo, EndsThere, FailsToAdd, FailsToStart}
 use Rattle.tf_book.specs.declared.faults.BookFault.{BookFault}
 use Rattle.tf_book.specs.declared.faults.BookFault.TheVariants as fault
 use Rattle.tf_book.specs.declared.shelf.Place.{Place}

@@ -18,7 +18,7 @@ use Rattle.tf_model.specs.Forced.{choice, candidate_if_running, end_of, forced, 
 use Rattle.tf_model.specs.History.{flow_of, snapshot, Snapshot, flow_runs, flow_suspends}
 use Rattle.tf_model.specs.Plan.{Outline}
 use Rattle.tf_model.specs.Steps.{has_ended}
-use Rattle.tf_details.specs.Contents.{Contents}
+use Rattle.tf_details.specs.Elements.{Contents}
 use Rattle.tf_book.specs.Book.{BookValue, outline}
 use Rattle.tf_book.specs.Recording.{halt_after, failed_after, past_after, contents_after}
 use Rattle.tf_book.specs.Turns.{HasOne, IsTried, IsNoEndBy}

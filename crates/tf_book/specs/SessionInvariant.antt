@@ -15,14 +15,8 @@ use Rattle.tf_model.specs.History.{snapshot}
 use Rattle.tf_model.specs.Plan.{Outline, outline_of}
 use Rattle.tf_model.specs.Steps.{Step}
 use Rattle.tf_report.specs.Lines.{line, table}
-use Rattle.tf_details.specs.Elements.{IsForm}
-use Rattle.tf_details.specs.Contents.{Contents, with_entries}
+use Rattle.tf_details.specs.Elements.{IsForm, Contents, with_entries}
 use Rattle.tf_book.specs.Book.{BookValue, flow_state, entry_body, bodies_with, size_of}
-use Rattle.tf_book.specs.Holding.{HasHoldingRoom}
-use Rattle.tf_book.specs.declared.holding.Holding.{Holding}
-use Rattle.tf_book.specs.Histories.{framed_bodies, HasAllRoom}
-use Rattle.tf_book.specs.declared.history.History.{History}
-use Rattle.tf_book.specs.declared.writing.Draft.{Draft}
 
 -- ---- how one body is appended, and its line is said once no crash can take the body away
 
@@ -205,40 +199,8 @@ module _ {K : Type 0} (state : K → DeskState) where
     pub unasked : flow_state old ≢ flow.Running → IsUnasked (state old.journal.desk) (state new.journal.desk)
     pub keeps : (start : BookValue K) → SessionInvariant start old → SessionInvariant start new
 
--- ---- what a book has room for
-
--- there is room for the body and the line of every entry
-pub record HasDraftRoom (draft : Draft) : Type 0 where
-  pub body : 131203 ≤ vec_capacity draft.body
-  pub line : 1048576 ≤ vec_capacity draft.line
-
--- there is room for one more entry of a journal of that size, whatever it is: in the history, and for its body and its line
-pub record HasWriteRoom (size : ℕ) (history : History) (holding : Holding) (draft : Draft) : Type 0 where
-  pub few : length history.entries.items ≤ 67108864
-  pub fewer : length history.entries.items ≤ size
-  pub fits : length history.bodies.items ≤ size
-  pub marks : length holding.marks.items ≤ size
-  pub all_room : HasAllRoom history
-  pub holding_room : HasHoldingRoom holding
-  pub draft_room : HasDraftRoom draft
-
--- ---- how the lines of a history are made from its bodies in memory
+-- ---- what is said of a whole history
 
 -- the lines of a whole history, numbered from 1, and the table of this moment
 abbrev pub history_text : Outline → List Entry → List ℕ
 history_text plan past = said false plan [] past ++ table plan (snapshot plan past)
-
--- these bytes begin with a body behind its length
-pub record BeginsWithBody (bytes body : List ℕ) : Type 0 where
-  pub rest : List ℕ
-  pub is : bytes ≡ length_bytes (length body) ++ (body ++ rest)
-  pub is_body : IsBody book_title body
-
--- the lines of the oldest entries were made, and the bodies of the others are still to come
-pub record HasLines (plan : PlanValue) (past : List Entry) (before made : List ℕ) (at number : ℕ) : Type 0 where
-  pub newer : List Entry
-  pub older : List Entry
-  pub splits : past ≡ newer ++ older
-  pub place : at ≡ length (framed_bodies older)
-  pub counted : number ≡ length older
-  pub lines : made ≡ before ++ said false (outline_of plan) [] older

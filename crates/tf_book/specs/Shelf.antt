@@ -31,15 +31,6 @@ abbrev pub is_volatile : {K : Type 0} → Place K → Bool
 is_volatile (place.Kept journal) = journal.volatile
 is_volatile (place.Unborn desk) = false
 
--- the details of a book, by the names and the states of their flows
-abbrev pub listed_from : List Element → ℕ → List PlanValue → List Detail
-listed_from elements number [] = []
-listed_from elements number (plan ∷ plans) =
-    record { name = detail_name plan; state = flow_of (history number elements) } ∷ listed_from elements (number + 1) plans
-
-abbrev pub listed : List Element → List Detail
-listed elements = listed_from elements 0 (details elements)
-
 -- ---- what is known of it
 
 -- the journal has just these elements, and none where it keeps nothing

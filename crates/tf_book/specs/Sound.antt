@@ -4,7 +4,7 @@ use Rattle.tf_desk.specs.State.{DeskState}
 use Rattle.tf_journal.specs.Format.{SIZE_LIMIT, IsAtRest, IsOpen}
 use Rattle.tf_journal.specs.declared.title.Title.TheVariants.{Book2 as book_title}
 use Rattle.tf_machine.specs.Machine.{MachineValue, StandsFor}
-use Rattle.tf_details.specs.Contents.{IsContents, past_of}
+use Rattle.tf_details.specs.Elements.{IsContents, past_of}
 use Rattle.tf_book.specs.Histories.{framed_bodies}
 use Rattle.tf_book.specs.Book.{BookValue, bodies_with, size_of}
 use Rattle.tf_book.specs.declared.faults.Halt.TheVariants as halt

@@ -43,10 +43,9 @@ pub struct Book<K: Desk> {
 impl<K: Desk> Model for Book<K> {
     ghost use Rattle.std.specs.Coded.{codes};
     ghost use Rattle.tf_flow.specs.contracts.nested.Flow as flow;
-    ghost use Rattle.tf_book.specs.Histories.{past_shown, HasAllRoom};
+    ghost use Rattle.tf_book.specs.Histories.{past_shown, HasAllRoom, HasDraftRoom};
     ghost use Rattle.tf_book.specs.Book.{BookValue};
     ghost use Rattle.tf_book.specs.Holding.{contents_of, HasHoldingRoom};
-    ghost use Rattle.tf_book.specs.SessionInvariant.{HasDraftRoom};
     ghost use Rattle.tf_book.specs.Sound.{IsSoundBook};
 
     ghost Value = { BookValue K };

@@ -1,7 +1,8 @@
 //! A shelf: a book's file before one of its details is opened or a new one begins.
 ghost use Rattle.std.specs.Prelude.{◌≡◌, [], length, true, IfOk, IfErr};
 ghost use Rattle.tf_details.specs.Elements.{details, IsLegalBook};
-ghost use Rattle.tf_book.specs.Shelf.{desk_at, desk_of, is_volatile, listed, IsPlaced};
+ghost use Rattle.tf_book.specs.Shelf.{desk_at, desk_of, is_volatile, IsPlaced};
+ghost use Rattle.tf_book.specs.Book.{listed};
 
 mod loading;
 mod opening;
@@ -57,7 +58,8 @@ impl<K: Desk> Model for Shelf<K> {
     ghost use Rattle.tf_flow.specs.contracts.nested.Flow as flow;
     ghost use Rattle.tf_details.specs.Elements.{details, IsLegalBook};
     ghost use Rattle.tf_details.specs.Reading.{elements_in, AreMachinesOf};
-    ghost use Rattle.tf_book.specs.Shelf.{ShelfValue, IsPlaced, listed};
+    ghost use Rattle.tf_book.specs.Shelf.{ShelfValue, IsPlaced};
+    ghost use Rattle.tf_book.specs.Book.{listed};
 
     ghost Value = { ShelfValue K };
 

@@ -7,12 +7,11 @@ ghost use Rattle.tf_machine.specs.Machine.{outline, shown, StandsFor};
 ghost use Rattle.tf_model.specs.Steps.{Step};
 ghost use Rattle.tf_report.specs.Lines.{line as line_of};
 ghost use Rattle.tf_model.specs.Plan.{outline_of};
-ghost use Rattle.tf_details.specs.Elements.{IsForm};
-ghost use Rattle.tf_details.specs.Contents.{with_entries};
-ghost use Rattle.tf_book.specs.Histories.{past_shown, HasEntryRoom, HasAllRoom};
+ghost use Rattle.tf_details.specs.Elements.{IsForm, with_entries};
+ghost use Rattle.tf_book.specs.Histories.{past_shown, HasEntryRoom, HasAllRoom, HasDraftRoom, HasWriteRoom};
 ghost use Rattle.tf_book.specs.Book.{entry_body};
 ghost use Rattle.tf_book.specs.Holding.{contents_of, HasHoldingRoom};
-ghost use Rattle.tf_book.specs.SessionInvariant.{HasDraftRoom, HasWriteRoom, said_of, is_logged, Logged};
+ghost use Rattle.tf_book.specs.SessionInvariant.{said_of, is_logged, Logged};
 ghost use Rattle.tf_book.specs.Recording.{KeepsEntry, KeepsNothing, failed_after, contents_after};
 
 use crate::faults::Halt;

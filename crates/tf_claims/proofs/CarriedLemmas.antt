@@ -5,9 +5,8 @@ use Rattle.tf_ports.specs.declared.crews.Want.{Want}
 use Rattle.tf_actions.specs.declared.orders.Order.{Order}
 use Rattle.tf_actions.specs.declared.outcomes.Outcome.{Outcome}
 use Rattle.tf_journal.specs.Start.{file_of}
-use Rattle.tf_migration.specs.Flows.{old_at, carried}
 use Rattle.tf_migration.specs.Migrates as migrate
-use Rattle.tf_migration.specs.Migrates.{Migrates}
+use Rattle.tf_migration.specs.Migrates.{Migrates, old_at, carried}
 use Rattle.tf_migration.proofs.FlowLemmas.{carried_legal}
 use Rattle.tf_commands.specs.Books.{book_at, HoldsElements}
 use Rattle.tf_claims.specs.Life.{Call, Life, IsCarriedOver}

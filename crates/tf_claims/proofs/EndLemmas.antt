@@ -20,8 +20,7 @@ use Rattle.tf_words.specs.declared.asked.Asked.TheVariants as asked
 use Rattle.tf_commands.specs.Asking.{WasAsked}
 use Rattle.tf_words.specs.Words.{command_of}
 use Rattle.tf_commands.specs.Books as books
-use Rattle.tf_details.specs.Elements.{Element, entry as an_entry, plan_of, history}
-use Rattle.tf_details.specs.Contents.{Contents, with_entries}
+use Rattle.tf_details.specs.Elements.{Element, entry as an_entry, plan_of, history, Contents, with_entries}
 use Rattle.tf_details.specs.Whole.{AreAlike}
 use Rattle.tf_details.proofs.FormLemmas.{same_outline}
 use Rattle.tf_details.proofs.OnceLemmas.{as_many, plan_alike, named_alike}

@@ -15,7 +15,7 @@ use Rattle.tf_model.specs.Steps.{Session, already_ended, entered, halted, whole,
 use Rattle.tf_book.specs.Turns.{AreReset, IsNextReset}
 use Rattle.tf_book.specs.SessionInvariant.{MayFollow, nothing_more, one_more}
 use Rattle.tf_engines.specs.Runs.{AreGiven, is_of}
-use Rattle.tf_details.specs.Contents.{Contents}
+use Rattle.tf_details.specs.Elements.{Contents}
 use Rattle.tf_commands.specs.Books.{PutBack, MayRun, Ran}
 use Rattle.tf_commands.specs.declared.running.Request.{Request}
 use Rattle.tf_ports.specs.Ports.{wanted as number_of}

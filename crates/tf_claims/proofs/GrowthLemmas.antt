@@ -9,15 +9,14 @@ use Rattle.tf_actions.specs.declared.orders.Order.{Order}
 use Rattle.tf_actions.specs.declared.outcomes.Outcome.{Outcome}
 use Rattle.tf_journal.specs.Format.{Recovered}
 use Rattle.tf_model.specs.Plan.{Outline, outline_of}
-use Rattle.tf_details.specs.Elements.{Element, detail, entry, details, plan_of, history}
-use Rattle.tf_details.specs.Contents.{Contents}
+use Rattle.tf_details.specs.Elements.{Element, detail, entry, details, plan_of, history, Contents}
 use Rattle.tf_details.specs.Whole.{AreAlike}
 use Rattle.tf_details.proofs.BookLemmas.{at_last}
 use Rattle.tf_details.proofs.ElementLemmas.{none_past}
 use Rattle.tf_details.proofs.FormLemmas.{same_outline}
 use Rattle.tf_details.proofs.GrowLemmas.{grow_alike}
 use Rattle.tf_details.proofs.OnceLemmas.{plan_alike}
-use Rattle.tf_book.specs.Starting.{begun_contents}
+use Rattle.tf_book.specs.Book.{begun_contents}
 use Rattle.tf_commands.specs.Books.{HoldsElements, HoldsHistory, HoldsWith, IsBookOf, FindsSince}
 use Rattle.tf_claims.specs.Life.{AreRecorded, AreAllRecorded}
 use Rattle.tf_claims.proofs.EntryLemmas.{details_stay, history_on, history_aside}

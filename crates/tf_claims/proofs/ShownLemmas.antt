@@ -10,8 +10,7 @@ use Rattle.tf_actions.specs.declared.orders.Order.{Order}
 use Rattle.tf_actions.specs.declared.outcomes.Outcome.{Outcome}
 use Rattle.tf_model.specs.Plan.{outline_of}
 use Rattle.tf_journal.specs.Start.{file_of}
-use Rattle.tf_details.specs.Elements.{Element, entry}
-use Rattle.tf_details.specs.Contents.{Contents, with_entries}
+use Rattle.tf_details.specs.Elements.{Element, entry, Contents, with_entries}
 use Rattle.tf_book.specs.SessionInvariant.{said}
 use Rattle.tf_book.proofs.SpokenLemmas.{shown_none, prefix_whole, prefix_further}
 use Rattle.tf_commands.specs.Books.{book_in, HoldsElements, IsShownThen, Lasts, ShowsLines, closed, line_cut, stopped}

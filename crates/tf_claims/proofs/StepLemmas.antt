@@ -17,8 +17,7 @@ use Rattle.tf_board.specs.Board.{bodies_of as commands_bodies, board_in, Holds, 
 use Rattle.tf_board.specs.Does.{HoldsEither}
 use Rattle.tf_board.specs.declared.commands.Command.{Command}
 use Rattle.tf_journal.specs.Format.{bodies, unborn}
-use Rattle.tf_details.specs.Elements.{Element, bodies_of}
-use Rattle.tf_details.specs.Contents.{Contents}
+use Rattle.tf_details.specs.Elements.{Element, bodies_of, Contents}
 use Rattle.tf_commands.specs.Asking.{want_of, WasAsked}
 use Rattle.tf_words.specs.Words.{command_of}
 use Rattle.tf_commands.specs.Course as course

@@ -107,7 +107,7 @@ no_other one other apart long (gate ∷ rest) held is = by (is_unborn one (gate 
     other_is false young opened told =
         let fault = apart rest told in
         let whole : recovered other all ≡ not_a_book fault.0.0 fault.0.1 = titled_so other gate rest (never_unborn opened told) young opened
-            ∙ ap (λ (f : Option (ℕ × Option ℕ)). titled f (records_from other (length all) all 17)) fault.1 in
+        ∙ ap (λ (f : Option (ℕ × Option ℕ)). titled f (records_from other (length all) all 17)) fault.1 in
         subst IsNeither (sym whole) (no_journal fault.0.0 fault.0.1)
 
     by : (u y o : Bool) → is_unborn one all ≡ u → is_old one rest ≡ y → (gate == OPEN) ≡ o → IsNeither (recovered other all)

@@ -24,8 +24,8 @@ use Rattle.tf_board.specs.declared.commands.Command.{Command}
 use Rattle.tf_commands.specs.Asking.{want_of}
 use Rattle.tf_commands.specs.Books as books
 use Rattle.tf_details.specs.Elements.{Element}
-use Rattle.tf_details.specs.Contents as held
-use Rattle.tf_book.specs.Starting.{begun_contents}
+use Rattle.tf_details.specs.Elements as held
+use Rattle.tf_book.specs.Book.{begun_contents}
 use Rattle.tf_commands.specs.Books.{Hires, Unopened, Unfound, Unhired, Runs, RunsAnew, Demonstrates, Resumes, ShowsBook, ResetsBook, ListsDetails, NoFileChanges, book_at, IsBookOf, HoldsHistory, StaysAlone, Lasts}
 use Rattle.tf_commands.specs.Course as course
 use Rattle.tf_commands.specs.Course.{PortsTold, Course, Obeys, FileRead, IsUntouched}

@@ -25,12 +25,10 @@ use Rattle.tf_board.specs.declared.commands.JobAction.TheVariants as action
 use Rattle.tf_book.specs.Turns.{IsNextReset}
 use Rattle.tf_commands.specs.Asking.{wanted_by, WasAsked}
 use Rattle.tf_words.specs.Words.{command_of}
-use Rattle.tf_details.specs.Elements.{Element, plan_of, history}
-use Rattle.tf_details.specs.Contents.{Contents as BookContents, with_entries}
+use Rattle.tf_details.specs.Elements.{Element, plan_of, history, Contents as BookContents, with_entries}
 use Rattle.tf_commands.specs.Books.{Hires, book_in, book_at, HoldsElements, IsShownThen, HasReached, stop_status}
 use Rattle.tf_commands.specs.Course.{PortsTold, Course, MayBeDone, IsComplete}
-use Rattle.tf_migration.specs.Flows.{HoldsFlow, carried}
-use Rattle.tf_migration.specs.Writing.{IsFirstSync}
+use Rattle.tf_migration.specs.Migrates.{HoldsFlow, carried, IsFirstSync}
 use Rattle.tf_report.specs.declared.statuses.TheConstants.{OUT_OF_MEMORY, FULL}
 
 -- the book or the board that a command is about

@@ -19,10 +19,8 @@ ghost use Rattle.tf_model.specs.Plan.{outline_of};
 ghost use Rattle.tf_commands.specs.Asking.{WasAsked};
 ghost use Rattle.tf_words.specs.Words.{command_of};
 ghost use Rattle.tf_commands.specs.Books.{Promised, PutsBack, book_in, book_at, HoldsElements, HoldsAsked, HoldsWith};
-ghost use Rattle.tf_details.specs.Elements.{Element, history};
-ghost use Rattle.tf_details.specs.Contents.{Contents, with_entries};
-ghost use Rattle.tf_migration.specs.Flows.{old_at};
-ghost use Rattle.tf_migration.specs.Migrates.{Migrates};
+ghost use Rattle.tf_details.specs.Elements.{Element, history, Contents, with_entries};
+ghost use Rattle.tf_migration.specs.Migrates.{Migrates, old_at};
 ghost use Rattle.tf_commands.specs.declared.running.Request.{Request};
 ghost use Rattle.tf_claims.specs.Life.{Call, IsUnfailing, Shown, Life, IsToldBy, EndsAsStated, HoldsBeneath, IsCarriedOver, IsBoardOf, IsDone, HiredIn, AreAllRecorded, WasClaimed, IsHandedOn, AreFirstIfTold};
 

@@ -9,13 +9,12 @@ use Rattle.tf_actions.specs.declared.orders.Order.{Order}
 use Rattle.tf_actions.specs.declared.outcomes.Outcome.{Outcome}
 use Rattle.tf_numbers.specs.Numbers.{Rises}
 use Rattle.tf_desk.specs.State.{DeskState}
-use Rattle.tf_book.specs.Book.{BookValue, outline}
+use Rattle.tf_book.specs.Book.{BookValue, outline, begun_contents}
 use Rattle.tf_book.specs.SessionInvariant.{HasCause, HasFailed, IsFullFor, SessionInvariant}
-use Rattle.tf_book.specs.Starting.{begun_contents}
 use Rattle.tf_book.specs.Turns.{HasOne, IsTried}
 use Rattle.tf_book.specs.declared.faults.Halt.{Halt}
 use Rattle.tf_book.specs.declared.faults.Halt.TheVariants as book_halt
-use Rattle.tf_details.specs.Contents.{Contents, with_entries}
+use Rattle.tf_details.specs.Elements.{Contents, with_entries}
 use Rattle.tf_engines.specs.Runs.{AreDue, HasRun, IsSession, MayRecord, MightRecord, is_unsuspended, suspends}
 use Rattle.tf_engines.specs.declared.engine.How.TheVariants as how
 use Rattle.tf_flow.specs.Plan.{PlanTree, PlanValue, plan_tree}

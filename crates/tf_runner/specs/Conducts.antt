@@ -11,13 +11,13 @@ use Rattle.tf_board.specs.Board.{AreOfBoard, IsNoBoard, LeavesBoard, board_in}
 use Rattle.tf_board.specs.declared.commands.Command.{Command}
 use Rattle.tf_board.specs.declared.commands.JobAction.TheVariants as action
 use Rattle.tf_book.specs.SessionInvariant.{IsFullFor}
-use Rattle.tf_book.specs.Starting.{begun_contents}
+use Rattle.tf_book.specs.Book.{begun_contents}
 use Rattle.tf_conductor.specs.Rounds.{AllClaimed, EndsConducting, HoldsKept, HoldsSome, IsCallBy, owner_name}
 use Rattle.tf_conductor.specs.declared.runners.Ran.{Ran}
 use Rattle.tf_conductor.specs.declared.runners.Ran.TheVariants as ran
 use Rattle.tf_desk.specs.Crash.{Pairs, ShowsPrefix}
 use Rattle.tf_desk.specs.State.{DeskState}
-use Rattle.tf_details.specs.Contents.{Contents as BookContents, with_entries}
+use Rattle.tf_details.specs.Elements.{Contents as BookContents, with_entries}
 use Rattle.tf_engines.specs.Runs.{AreGiven, MayRecord, is_of, is_unsuspended}
 use Rattle.tf_flow.specs.Plan.{PlanTree, PlanValue, plan_tree}
 use Rattle.tf_journal.specs.Start.{IsStart, file_of}

@@ -1,5 +1,5 @@
 ghost use Rattle.std.specs.Prelude.{◌≡◌, [], None, true, IfOk};
-ghost use Rattle.tf_book.specs.Starting.{begun_contents};
+ghost use Rattle.tf_book.specs.Book.{begun_contents};
 ghost use Rattle.tf_flow.specs.Plan.{plan_tree};
 ghost use Rattle.tf_machine.specs.Machine.{StandsFor};
 ghost use Rattle.tf_runner.specs.Conducts.{BytesRunTo, PlanRunsTo};

@@ -9,8 +9,7 @@ ghost use Rattle.tf_actions.specs.Gives.{IsWhole};
 ghost use Rattle.tf_bound.specs.Short.{AreShort, IsWithinLimits};
 ghost use Rattle.tf_journal.specs.Format.{LeavesBodies};
 ghost use Rattle.tf_journal.specs.declared.title.Title.TheVariants.{Book2 as book_title};
-ghost use Rattle.tf_details.specs.Elements.{IsHistoryOf};
-ghost use Rattle.tf_details.specs.Contents.{IsContents, past_of};
+ghost use Rattle.tf_details.specs.Elements.{IsHistoryOf, IsContents, past_of};
 ghost use Rattle.tf_book.specs.Book.{outline, moment, flow_state, bodies_with};
 ghost use Rattle.tf_book.specs.declared.faults.Halt.{Halt as Cause};
 

@@ -1,7 +1,6 @@
 use Rattle.std.proofs.Common.{◌++◌, None, get_or}
 use Rattle.tf_model.specs.Plan.{outline_of}
-use Rattle.tf_details.specs.Contents.{with_entries}
-use Rattle.tf_details.specs.Elements.{history}
+use Rattle.tf_details.specs.Elements.{history, with_entries}
 use Rattle.tf_ports.specs.Ports.{gives_by}
 use Rattle.tf_commands.specs.Books.{HasStopped}
 use Rattle.tf_claims.proofs.LifeLemmas.{life_grows}

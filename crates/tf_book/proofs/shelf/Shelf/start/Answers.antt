@@ -4,7 +4,8 @@ use Rattle.tf_entries.specs.Plans.{IsPlan}
 use Rattle.tf_details.specs.Elements.{IsAcceptedPlan}
 use Rattle.tf_details.specs.Reading.{elements_in}
 use Rattle.tf_book.specs.Shelf.{ShelfValue, desk_at, desk_of, is_volatile, IsTold}
-use Rattle.tf_book.specs.Starting.{detail_body, with_detail, HasPlaceFor, AddsTo, LeavesAdded, LeavesBegun, FailsToAdd, FailsToStart}
+use Rattle.tf_book.specs.Starting.{AddsTo, LeavesAdded, LeavesBegun, FailsToAdd, FailsToStart}
+use Rattle.tf_book.specs.Book.{detail_body, with_detail, HasPlaceFor}
 use Rattle.tf_book.proofs.StartingLemmas.{may_begin, new_history, begun_held, room_begun, goes_nowhere, passes_nowhere, begun_sound, start_fails}
 use Rattle.tf_book.proofs.shelf.Shelf.start.Goals as goal
 

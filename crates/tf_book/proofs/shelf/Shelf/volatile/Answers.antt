@@ -1,5 +1,5 @@
 use Rattle.std.proofs.Common.{sym, ap, ◌∙◌}
-use Rattle.tf_book.specs.Shelf.{listed}
+use Rattle.tf_book.specs.Book.{listed}
 use Rattle.tf_book.proofs.ShelfLemmas.{no_elements, holds_none}
 use Rattle.tf_book.proofs.shelf.Shelf.volatile.Goals as goal
 

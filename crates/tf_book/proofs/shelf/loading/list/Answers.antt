@@ -1,6 +1,6 @@
 use Rattle.std.proofs.Common.{◌+◌, List, ◌++◌, drop, ap, ◌∙◌}
 use Rattle.tf_details.specs.Elements.{details}
-use Rattle.tf_book.specs.Shelf.{listed_from}
+use Rattle.tf_book.specs.Book.{listed_from}
 use Rattle.tf_book.specs.declared.shelf.Detail.{Detail}
 use Rattle.tf_book.proofs.ShelfLemmas.{listed_on}
 use Rattle.tf_book.proofs.shelf.loading.list.Goals as goal

@@ -1,7 +1,7 @@
 use Rattle.std.proofs.Common.{◌≡◌, List, ◌++◌, drop}
 use Rattle.tf_details.specs.Elements.{Element, details}
 use Rattle.tf_details.specs.Reading.{AreMachinesOf}
-use Rattle.tf_book.specs.Shelf.{listed_from, listed}
+use Rattle.tf_book.specs.Book.{listed_from, listed}
 use Rattle.tf_book.proofs.shelf.loading.list.Given as goal
 
 abbrev pub invariant-listing : goal.invariant-listing
