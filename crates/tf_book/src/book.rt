@@ -24,8 +24,8 @@ use tf_machine::Machine;
 use tf_states::Entry;
 
 /// A run of a plan, recorded in a journal entry by entry, which is a detail of what the journal holds. Contracts see
-/// its plan, its history, what its file holds, its journal with the desk, whether it says no lines, why it was halted, if it was, the entry that couldn't be recorded then, and
-/// where its session is to be suspended, if it has a limit.
+/// its plan, its history, what its file holds, its journal with the desk, whether it says no lines, why it was halted,
+/// if it was, the entry that couldn't be recorded then, and where its session is to be suspended, if it has a limit.
 #[derive(Drop)]
 pub struct Book<K: Desk> {
     pub(crate) alloc: Global,
