@@ -14,7 +14,7 @@ use Rattle.tf_entries.specs.Entries.{entry_bytes}
 use Rattle.tf_entries.specs.Plans.{plan_bytes}
 use Rattle.tf_journal.specs.declared.title.Title.TheVariants.{Book as old_title, Book2 as new_title}
 use Rattle.tf_records.specs.Refusing.{IsMalformed}
-use Rattle.tf_details.specs.Elements.{Element, detail, entry, bodies_of, IsHistoryOf, IsNoPlan, IsNoStep}
+use Rattle.tf_details.specs.Elements.{Element, detail, entry as entry_of, bodies_of, IsHistoryOf, IsNoPlan, IsNoStep}
 
 -- ---- a flow in a book of its own, and in a book of several
 
@@ -26,7 +26,7 @@ old_bodies plan (e ∷ past) = old_bodies plan past ++ entry_bytes e ∷ []
 -- the elements of a book of several flows that holds it alone: a detail of its plan, and each entry of its history, which is of detail 0
 abbrev pub carried : PlanValue → List Entry → List Element
 carried plan [] = detail plan ∷ []
-carried plan (e ∷ past) = entry 0 e ∷ carried plan past
+carried plan (e ∷ past) = entry_of 0 e ∷ carried plan past
 
 -- the bodies of that book
 abbrev pub new_bodies : PlanValue → List Entry → List (List ℕ)

@@ -1,10 +1,10 @@
 -- How a book of several flows is made whole: it is drafted, its bodies are added, and it is published.
-use Rattle.std.specs.Prelude.{◌≡◌, ◌≢◌, ◌⊎◌, ◌<◌, ◌≤◌, ◌+◌, ℕ, false, IsTrue, List, [], ◌∷◌, ◌++◌, length, Option, Some, Result, Ok, Err}
+use Rattle.std.specs.Prelude.{◌≡◌, ◌≢◌, ◌⊎◌, ◌≤◌, ℕ, false, IsTrue, List, [], length, Option, Some, Result, Ok, Err}
 use Rattle.tf_numbers.specs.Numbers.{Rises}
-use Rattle.tf_desk.specs.Crash.{Mark, at_pick, Pairs}
+use Rattle.tf_desk.specs.Crash.{Pairs}
 use Rattle.tf_desk.specs.State.{DeskState, OnDisk, MayLeave, LeftNow, Passes, Picks, LeavesMade, anything}
-use Rattle.tf_journal.specs.Format.{SIZE_LIMIT, Recovered, unborn, bodies, journal_bytes, Held, IsDrafted}
-use Rattle.tf_journal.specs.Start.{first_sync, IsSet, Path, Untouched}
+use Rattle.tf_journal.specs.Format.{SIZE_LIMIT, unborn, journal_bytes, Held, IsDrafted}
+use Rattle.tf_journal.specs.Start.{IsSet, Path, Untouched}
 use Rattle.tf_journal.specs.declared.faults.AppendFault.{AppendFault}
 use Rattle.tf_journal.specs.declared.faults.AppendFault.TheVariants as append
 use Rattle.tf_journal.specs.declared.title.Title.TheVariants.{Book2 as new_title}
