@@ -9,7 +9,7 @@ use Rattle.tf_machine.specs.Machine.{MachineValue}
 use Rattle.tf_model.specs.Plan.{Outline, outline_of}
 use Rattle.tf_states.specs.declared.record.Entry.{Entry}
 use Rattle.tf_states.specs.declared.state.FlowState.TheVariants as flow
-use Rattle.tf_details.specs.Contents.{Contents}
+use Rattle.tf_details.specs.Elements.{Contents}
 use Rattle.tf_book.specs.Book.{BookValue, flow_state, outline}
 use Rattle.tf_book.specs.SessionInvariant.{IsSpoken, HasCause, SessionInvariant, Proceeds, TakesTurn}
 use Rattle.tf_book.specs.Sound.{IsSoundBook}
@@ -56,10 +56,7 @@ module _ {K : Type 0} (state : K → DeskState) where
   sound_limit machine kept b l is = record {
     stands = is.stands;
     plan = is.plan;
-    limits = is.limits;
     kept_is = is.kept_is;
-    short = is.short;
-    forms = is.forms;
     held = is.held;
     told = is.told;
     title = is.title;

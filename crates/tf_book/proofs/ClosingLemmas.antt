@@ -1,5 +1,5 @@
 -- How what closes a run is said.
-use Rattle.std.proofs.Common.{◌≡◌, inl, inr, ⊎_elim, ℕ, ◌≤◌, false, List, ◌++◌, Option, Some, None, refl, sym, ◌∙◌, ap, subst}
+use Rattle.std.proofs.Common.{◌≡◌, inl, inr, ⊎_elim, ℕ, ◌≤◌, false, List, [], ◌++◌, Option, Some, None, refl, sym, ◌∙◌, ap, subst}
 use Rattle.std.specs.Prelude.{IsTrue, Result, Ok, Err}
 use Rattle.tf_numbers.specs.Numbers.{Rises}
 use Rattle.tf_desk.specs.Crash.{shown_with, ShowsPrefix}
@@ -16,7 +16,7 @@ use Rattle.tf_journal.proofs.AppendLemmas.{rest_leaves}
 use Rattle.tf_machine.specs.Machine.{MachineValue, shown as machine_shows, outline as machine_outline, StandsFor}
 use Rattle.tf_model.specs.History.{snapshot, Snapshot, Shows}
 use Rattle.tf_model.specs.Plan.{Outline, outline_of}
-use Rattle.tf_details.specs.Contents.{Contents}
+use Rattle.tf_details.specs.Elements.{Contents}
 use Rattle.tf_book.specs.Book.{BookValue, outline, bodies_with}
 use Rattle.tf_book.specs.SessionInvariant.{said, LeavesEntries, IsSpoken, HasCause, SessionInvariant, IsSaid, StaysOffDisk}
 use Rattle.tf_book.specs.Closed.{IsClosing, LeavesClosing, LeavesClosed, Closed}
@@ -141,10 +141,7 @@ module _ {K : Type 0} (state : K → DeskState) where
   sound_on machine kept b j halted is sound same told files = record {
     stands = is.stands;
     plan = is.plan;
-    limits = is.limits;
     kept_is = is.kept_is;
-    short = is.short;
-    forms = is.forms;
     held = is.held;
     told = is.told;
     title = ap (λ (h : Held K). h.title) same ∙ is.title;

@@ -4,7 +4,6 @@ use Rattle.std.specs.Prelude.{map, nat_eq, vec_len, vec_capacity, Result, if◌t
 use Rattle.std.specs.declared.snapshot.Snapshot.{Snapshot}
 use Rattle.tf_states.specs.declared.record.Entry.{Entry}
 use Rattle.std.proofs.lemmas.List.{length-map, length-reverse}
-use Rattle.std.specs.declared.snapshot.Snapshot.{Snapshot}
 use Rattle.tf_entries.specs.Entries.{entry_bytes}
 use Rattle.tf_entries.specs.Heads.{head_bytes}
 use Rattle.tf_entries.specs.declared.heads.Head.TheVariants as head
@@ -22,19 +21,18 @@ use Rattle.tf_book.specs.declared.faults.Halt.{Halt}
 pub past_long : (snapshots : List (Snapshot Entry)) → length (past_shown snapshots) ≡ length snapshots
 past_long snapshots = length-reverse (map entry_shown snapshots) ∙ length-map snapshots entry_shown
 
+-- an entry more takes its length and its bytes, if it is one of the detail
+framed_more : (b : Bool) (e : Entry) (past : List Entry) → length (framed_bodies (if b then e ∷ past else past)) ≤ length (framed_bodies past) + 4 + length (entry_bytes e)
+framed_more true e past =
+    omega (arith, length-append (framed_bodies past) (length_bytes (length (entry_bytes e)) ++ entry_bytes e), length-append (length_bytes (length (entry_bytes e))) (entry_bytes e))
+framed_more false e past = omega arith
+
 -- the bodies in memory of the history of a detail have fewer bytes than the journal
 pub framed_short : (number : ℕ) (elements : List Element) → length (framed_bodies (history number elements)) ≤ book_size elements
 framed_short number [] = omega arith
 framed_short number (detail plan ∷ before) = omega (arith, framed_short number before)
-framed_short number (entry its e ∷ before) = by (nat_eq its number)
-  where
-    less : (b : Bool) → length (framed_bodies (if b then e ∷ history number before else history number before)) ≤ length (framed_bodies (history number before)) + 4 + length (entry_bytes e)
-    less true =
-        omega (arith, length-append (framed_bodies (history number before)) (length_bytes (length (entry_bytes e)) ++ entry_bytes e), length-append (length_bytes (length (entry_bytes e))) (entry_bytes e))
-    less false = omega arith
-
-    by : (b : Bool) → length (framed_bodies (if b then e ∷ history number before else history number before)) ≤ book_size (entry its e ∷ before)
-    by b = omega (arith, less b, framed_short number before, length-append (head_bytes (head.Entry its)) (entry_bytes e))
+framed_short number (entry its e ∷ before) =
+    omega (arith, framed_short number before, framed_more (nat_eq its number) e (history number before), length-append (head_bytes (head.Entry its)) (entry_bytes e))
 
 -- the history after an entry that was to be recorded
 pub past_turned : (r : Result (Unit {0}) Halt) (e : Entry) (old new : List (Snapshot Entry)) → (is_logged r ≡ true → past_shown new ≡ e ∷ past_shown old) → (is_logged r ≡ false → new ≡ old)

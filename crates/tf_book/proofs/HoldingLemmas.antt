@@ -1,8 +1,6 @@
 -- How many elements a book's file holds, and what it holds after one more.
-use Rattle.std.proofs.Common.{◌≡◌, ◌≤◌, ℕ, List, length, ◌∙◌, arith}
-use Rattle.std.proofs.lemmas.List.{length-map, length-reverse}
+use Rattle.std.proofs.Common.{◌≤◌, length, arith}
 use Rattle.tf_details.specs.Elements.{book_size}
-use Rattle.tf_details.specs.Marks.{elements_shown}
 use Rattle.tf_details.proofs.ContentsLemmas.{elements_long, elements_many}
 use Rattle.tf_book.specs.Holding.{contents_of}
 use Rattle.tf_book.specs.declared.holding.Holding.{Holding}

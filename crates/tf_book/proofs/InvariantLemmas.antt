@@ -1,6 +1,7 @@
 -- What stays true of a book when one more entry was to be recorded.
-use Rattle.std.proofs.Common.{◌≡◌, ◌≢◌, ◌<◌, inl, inr, ⊎_elim, ℕ, ◌+◌, Bool, true, false, List, [], ◌∷◌, ◌++◌, length, Option, Some, None, refl, sym, ◌∙◌, ap, subst}
+use Rattle.std.proofs.Common.{◌≡◌, ◌≢◌, ◌<◌, inl, inr, ⊎_elim, ℕ, ◌+◌, true, false, List, [], ◌∷◌, ◌++◌, length, Option, Some, None, refl, sym, ◌∙◌, ap, subst}
 use Rattle.std.specs.Prelude.{IsTrue, Result, Ok, Err}
+use Rattle.tf_numbers.proofs.TruthLemmas.{clash}
 use Rattle.tf_desk.specs.Crash.{shown_with}
 use Rattle.tf_desk.specs.State.{DeskState, bytes_now, Passes, passes_none, passes_on}
 use Rattle.tf_desk.proofs.CountLemmas.{rises_later}
@@ -15,10 +16,10 @@ use Rattle.tf_journal.specs.declared.title.Title.TheVariants.{Book2 as book_titl
 use Rattle.tf_machine.specs.Machine.{MachineValue}
 use Rattle.tf_model.specs.History.{snapshot}
 use Rattle.tf_model.specs.Plan.{outline_of}
-use Rattle.tf_model.specs.Steps.{Step, LegalPast}
+use Rattle.tf_model.specs.Steps.{Step}
 use Rattle.tf_report.specs.Lines.{line}
-use Rattle.tf_details.specs.Elements.{IsForm, IsAcceptedPlan, CanRun, IsHistoryOf}
-use Rattle.tf_details.specs.Contents.{Contents, with_entries}
+use Rattle.tf_details.specs.Elements.{IsForm, IsHistoryOf, Contents, with_entries}
+use Rattle.tf_details.proofs.BookLemmas.{history_legal}
 use Rattle.tf_book.specs.Book.{BookValue, outline, moment, entry_body, bodies_with, size_of}
 use Rattle.tf_book.specs.SessionInvariant.{said_of, is_logged, LeavesLogged, StaysOffDisk, Logged, said, IsSpoken, LeavesEntries, MayFollow, nothing_more, one_more, HasFailed, IsPending, IsExact, IsFullFor, HasCause, SessionInvariant, Proceeds}
 use Rattle.tf_book.specs.Recording.{halt_after, failed_after, past_after, contents_after}
@@ -35,10 +36,6 @@ not_disk halted is disk = cc
 -- some entry, where it doesn't matter which
 any_entry : Entry
 any_entry = record { hand = 0; what = event.Restart 0 }
-
--- a journal isn't both
-halted_apart : (halted : Bool) → halted ≡ true → halted ≡ false → ⊥
-halted_apart halted is apart = cc
 
 -- what is said of an entry recorded next
 abbrev pub next_line : {K : Type 0} → BookValue K → Entry → List ℕ
@@ -199,7 +196,7 @@ module _ {K : Type 0} (state : K → DeskState) where
       off_disk = off_then (Err halt.Disk) w;
       text = w.logged.text ∙ shown_then;
       crash = λ told kept. record { pending = e ∷ []; few = follows_then (Err halt.Disk) w; passes = passes_then (Err halt.Disk) w told kept; left = λ before. leaves_pending (Err halt.Disk) w told kept };
-      exact = λ told kept unhalted just. absurd (halted_apart j.halted (ap (λ (h : Held K). h.halted) w.logged.journal) unhalted);
+      exact = λ told kept unhalted just. absurd (clash j.halted (ap (λ (h : Held K). h.halted) w.logged.journal) unhalted);
       cause = rises_later (state start.journal.desk).disk_faults (state old.journal.desk).disk_faults (state j.desk).disk_faults k.continues.extends.disk_faults w.logged.cause;
     }
     by_result (Err (halt.Full size need)) w =
@@ -312,14 +309,7 @@ history_on nothing_more h = h
 history_on (one_more e step form so) h = record { accepted = h.accepted; limits = h.limits; runs = h.runs; legal = (step, h.legal); forms = (form, h.forms) }
 
 -- a book holds a history that a book may hold
-pub sound_history : {K : Type 0} (state : K → DeskState) (machine : MachineValue) (kept : List ℕ) (b old : BookValue K) → b ≡ old → IsSoundBook state machine kept b
-    → IsAcceptedPlan machine.plan → CanRun machine.plan → IsHistoryOf old.plan old.past
-sound_history {K} state machine kept b old same is accepted runs =
+pub sound_history : {K : Type 0} (state : K → DeskState) (machine : MachineValue) (kept : List ℕ) (b old : BookValue K) → b ≡ old → IsSoundBook state machine kept b → IsHistoryOf old.plan old.past
+sound_history {K} state machine kept b old same is =
     subst (λ (x : BookValue K). IsHistoryOf x.plan x.past) same
-    (record {
-      accepted = subst IsAcceptedPlan is.plan accepted;
-      limits = is.limits;
-      runs = subst CanRun is.plan runs;
-      legal = subst (λ (p : PlanValue). LegalPast (outline_of p) b.past) is.plan is.stands.legal;
-      forms = is.forms;
-    })
+    (subst (IsHistoryOf b.plan) is.told (history_legal b.contents.elements b.contents.number b.plan is.held.legal is.held.of_detail))

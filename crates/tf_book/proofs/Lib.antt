@@ -2,14 +2,16 @@ pub mod LogLemmas
 pub mod PayloadLemmas
 pub mod SpokenLemmas
 pub mod InvariantLemmas
+pub mod SoundLemmas
 pub mod HistoryLemmas
 pub mod TurnLemmas
 pub mod TriedLemmas
 pub mod ForceLemmas
 pub mod HoldingLemmas
 pub mod ClosingLemmas
-pub mod AmongLemmas
 pub mod ShowLemmas
 pub mod ResetLemmas
 pub mod AskLemmas
 pub mod ShelfLemmas
+pub mod OpeningLemmas
+pub mod StartingLemmas

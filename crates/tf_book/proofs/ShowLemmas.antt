@@ -9,10 +9,9 @@ use Rattle.tf_journal.specs.Format.{length_bytes, length_at}
 use Rattle.tf_journal.proofs.FoundLemmas.{length_read}
 use Rattle.tf_model.specs.Plan.{outline_of}
 use Rattle.tf_report.specs.Lines.{line}
-use Rattle.tf_book.specs.Histories.{framed_bodies}
-use Rattle.tf_book.specs.SessionInvariant.{said, BeginsWithBody, HasLines}
-use Rattle.tf_details.specs.Elements.{IsEntryOf}
-use Rattle.tf_details.specs.Elements.{AreEntriesOf}
+use Rattle.tf_details.specs.Elements.{IsEntryOf, AreEntriesOf}
+use Rattle.tf_book.specs.Histories.{framed_bodies, BeginsWithBody, HasLines}
+use Rattle.tf_book.specs.SessionInvariant.{said}
 
 -- an entry's body behind its length
 abbrev frame : Entry → List ℕ
@@ -119,7 +118,7 @@ begins_length bytes body at begins =
     let fourth : get_or bytes (at + 3) 0 ≡ length body % 256 = sym (get_or-drop at bytes 3 0) ∙ ap (λ (l : List ℕ). get_or l 3 0) begins.is in
     spelled (get_or bytes at 0) (get_or bytes (at + 1) 0) (get_or bytes (at + 2) 0) (get_or bytes (at + 3) 0) (length body) first second third fourth begins.is_body.1
   where
-    spelled : (w x y z n : ℕ) → w ≡ n / 256 / 256 / 256 → x ≡ n / 256 / 256 % 256 → y ≡ n / 256 % 256 → z ≡ n % 256 → n ≤ 1048576 → 256 * (256 * (256 * w + x) + y) + z ≡ n
+    spelled : (w x y z n : ℕ) → w ≡ n / 256 / 256 / 256 → x ≡ n / 256 / 256 % 256 → y ≡ n / 256 % 256 → z ≡ n % 256 → n ≤ 1048577 → 256 * (256 * (256 * w + x) + y) + z ≡ n
     spelled w x y z n e f g h short = omega (arith, e, f, g, h, length_read n (omega (arith, short)))
 
 -- there are so many bytes

@@ -9,7 +9,7 @@ use Rattle.tf_journal.specs.declared.title.Title.{Title}
 use Rattle.tf_journal.specs.declared.title.Title.TheVariants.{Book2 as book_title}
 use Rattle.tf_model.specs.Plan.{Outline, outline_of}
 use Rattle.tf_report.specs.Lines.{line}
-use Rattle.tf_details.specs.Contents.{Contents}
+use Rattle.tf_details.specs.Elements.{Contents}
 use Rattle.tf_book.specs.Book.{entry_body, bodies_with}
 use Rattle.tf_book.specs.SessionInvariant.{said_of, LeavesLogged, said, IsCut, LeavesEntries, IsPending}
 use Rattle.tf_book.specs.declared.faults.Halt.{Halt}

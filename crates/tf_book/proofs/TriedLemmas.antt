@@ -1,5 +1,5 @@
 -- Which entry was tried where a call was halted.
-use Rattle.std.proofs.Common.{◌≡◌, ℕ, Bool, true, false, List, ◌∷◌, Option, Some, None, refl, ap, ◌∙◌, sym, subst, ◌⊎◌, ⊎_elim}
+use Rattle.std.proofs.Common.{◌≡◌, ℕ, true, false, List, Option, Some, None, refl, ap, sym, subst, ◌⊎◌, ⊎_elim}
 use Rattle.std.specs.Prelude.{Result, Ok, Err, is_none, ◌||◌, ◌&&◌}
 use Rattle.tf_flow.specs.Plan.{PlanValue}
 use Rattle.tf_states.specs.declared.record.Entry.{Entry}
@@ -18,8 +18,9 @@ use Rattle.tf_model.specs.Forced.{choice, candidate_if_running, end_of, forced, 
 use Rattle.tf_model.specs.History.{flow_of, snapshot, Snapshot, flow_runs, flow_suspends}
 use Rattle.tf_model.specs.Plan.{Outline}
 use Rattle.tf_model.specs.Steps.{has_ended}
+use Rattle.tf_details.specs.Elements.{Contents}
 use Rattle.tf_book.specs.Book.{BookValue, outline}
-use Rattle.tf_book.specs.Recording.{halt_after, failed_after, past_after}
+use Rattle.tf_book.specs.Recording.{halt_after, failed_after, past_after, contents_after}
 use Rattle.tf_book.specs.Turns.{HasOne, IsTried, IsNoEndBy}
 use Rattle.tf_book.specs.SessionInvariant.{MayFollow, nothing_more, one_more, HasFailed, IsFullFor}
 use Rattle.tf_book.specs.declared.faults.Halt.{Halt}
@@ -29,7 +30,7 @@ use Rattle.tf_book.specs.declared.faults.Halt.TheVariants as halt
 
 -- an entry that may be tried was to be recorded
 pub tried_by : {K : Type 0} (so : Outline → List Entry → Entry → Type 0) (old new : BookValue K) (e : Entry) (r : Result (Unit {0}) Halt)
-    → new ≡ record old { past = past_after e old.past r; journal = new.journal; halt = halt_after r; failed = failed_after e old.failed r }
+    → new ≡ record old { past = past_after e old.past r; contents = contents_after e old.contents r; journal = new.journal; halt = halt_after r; failed = failed_after e old.failed r }
     → so (outline old) old.past e → IsTried (so (outline new) new.past) new.halt new.failed
 tried_by {K} so old new e r same is = subst (λ (b : BookValue K). IsTried (so (outline b) b.past) b.halt b.failed) (sym same) (by r)
   where
@@ -121,8 +122,8 @@ follows_so is_so failed one nothing_more = nothing_more
 follows_so is_so failed one (one_more e step form same) = one_more e step form (one_is is_so failed e same one)
 
 -- and one for which the journal is full
-pub full_so : (is_so : Entry → Type 0) (failed : Option Entry) {plan : PlanValue} {past : List Entry} {size need : ℕ} → HasOne is_so failed → IsFullFor (HasFailed failed) plan past size need
-    → IsFullFor is_so plan past size need
+pub full_so : (is_so : Entry → Type 0) (failed : Option Entry) {contents : Contents} {plan : PlanValue} {past : List Entry} {size need : ℕ} → HasOne is_so failed
+    → IsFullFor (HasFailed failed) contents plan past size need → IsFullFor is_so contents plan past size need
 full_so is_so failed one f = record {
   entry = f.entry;
   so = one_is is_so failed f.entry f.so one;

@@ -7,7 +7,7 @@ use Rattle.tf_states.specs.declared.record.Entry.{Entry}
 use Rattle.tf_journal.specs.Format.{bodies, recovered, LeavesBodies}
 use Rattle.tf_journal.specs.declared.title.Title.TheVariants.{Book2 as book_title}
 use Rattle.tf_model.specs.Plan.{outline_of}
-use Rattle.tf_details.specs.Contents.{Contents, with_entries}
+use Rattle.tf_details.specs.Elements.{Contents, with_entries}
 use Rattle.tf_book.specs.Book.{BookValue, bodies_with}
 use Rattle.tf_book.specs.SessionInvariant.{StaysOffDisk, said, LeavesEntries, IsExact, HasCause}
 use Rattle.tf_book.specs.declared.faults.Halt.{Halt}

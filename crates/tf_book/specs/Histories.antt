@@ -1,10 +1,17 @@
 -- How a book keeps its history in memory.
-use Rattle.std.specs.Prelude.{◌≡◌, ◌<◌, ◌≤◌, ℕ, ◌+◌, List, [], ◌∷◌, ◌++◌, length, reverse, map, vec_len, vec_capacity}
+use Rattle.std.specs.Prelude.{◌≡◌, ◌<◌, ◌≤◌, ℕ, ◌+◌, List, [], ◌∷◌, ◌++◌, length, reverse, map, vec_len, vec_capacity, false}
 use Rattle.std.specs.declared.snapshot.Snapshot.{Snapshot}
 use Rattle.tf_states.specs.declared.record.Entry.{Entry}
 use Rattle.tf_entries.specs.Entries.{entry_bytes}
-use Rattle.tf_journal.specs.Format.{length_bytes}
+use Rattle.tf_journal.specs.Format.{length_bytes, IsBody}
 use Rattle.tf_book.specs.declared.history.History.{History}
+use Rattle.tf_book.specs.declared.holding.Holding.{Holding}
+use Rattle.tf_book.specs.declared.writing.Draft.{Draft}
+use Rattle.tf_book.specs.Holding.{HasHoldingRoom}
+use Rattle.tf_book.specs.SessionInvariant.{said}
+use Rattle.tf_journal.specs.declared.title.Title.TheVariants.{Book2 as book_title}
+use Rattle.tf_flow.specs.Plan.{PlanValue}
+use Rattle.tf_model.specs.Plan.{outline_of}
 
 -- the entry that a snapshot shows
 abbrev pub entry_shown : Snapshot Entry → Entry
@@ -34,3 +41,37 @@ pub record KeepsHistory (history : History) (past : List Entry) : Type 0 where
   pub entries : past_shown history.entries.items ≡ past
   pub bodies : history.bodies.items ≡ framed_bodies past
   pub room : HasAllRoom history
+
+-- ---- what a book has room for
+
+-- there is room for the body and the line of every entry
+pub record HasDraftRoom (draft : Draft) : Type 0 where
+  pub body : 131203 ≤ vec_capacity draft.body
+  pub line : 1048576 ≤ vec_capacity draft.line
+
+-- there is room for one more entry of a journal of that size, whatever it is: in the history, and for its body and its line
+pub record HasWriteRoom (size : ℕ) (history : History) (holding : Holding) (draft : Draft) : Type 0 where
+  pub few : length history.entries.items ≤ 67108864
+  pub fewer : length history.entries.items ≤ size
+  pub fits : length history.bodies.items ≤ size
+  pub marks : length holding.marks.items ≤ size
+  pub all_room : HasAllRoom history
+  pub holding_room : HasHoldingRoom holding
+  pub draft_room : HasDraftRoom draft
+
+-- ---- how the lines of a history are made from its bodies in memory
+
+-- these bytes begin with a body behind its length
+pub record BeginsWithBody (bytes body : List ℕ) : Type 0 where
+  pub rest : List ℕ
+  pub is : bytes ≡ length_bytes (length body) ++ (body ++ rest)
+  pub is_body : IsBody book_title body
+
+-- the lines of the oldest entries were made, and the bodies of the others are still to come
+pub record HasLines (plan : PlanValue) (past : List Entry) (before made : List ℕ) (at number : ℕ) : Type 0 where
+  pub newer : List Entry
+  pub older : List Entry
+  pub splits : past ≡ newer ++ older
+  pub place : at ≡ length (framed_bodies older)
+  pub counted : number ≡ length older
+  pub lines : made ≡ before ++ said false (outline_of plan) [] older

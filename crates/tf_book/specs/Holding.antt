@@ -1,6 +1,6 @@
 -- What a book's file holds.
 use Rattle.std.specs.Prelude.{◌≤◌, vec_capacity}
-use Rattle.tf_details.specs.Contents.{Contents}
+use Rattle.tf_details.specs.Elements.{Contents}
 use Rattle.tf_details.specs.Marks.{elements_shown}
 use Rattle.tf_book.specs.declared.holding.Holding.{Holding}
 

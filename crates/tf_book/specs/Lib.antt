@@ -9,4 +9,3 @@ pub mod Holding
 pub mod Shelf
 pub mod Starting
 pub mod Closed
-

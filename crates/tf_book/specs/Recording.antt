@@ -4,8 +4,7 @@ use Rattle.tf_states.specs.declared.record.Entry.{Entry}
 use Rattle.tf_entries.specs.Entries.{entry_bytes}
 use Rattle.tf_journal.specs.Format.{length_bytes}
 use Rattle.tf_machine.specs.Machine.{MachineValue, StandsFor}
-use Rattle.tf_details.specs.Elements.{IsForm}
-use Rattle.tf_details.specs.Contents.{Contents, with_entries}
+use Rattle.tf_details.specs.Elements.{IsForm, Contents, with_entries}
 use Rattle.tf_book.specs.Histories.{past_shown}
 use Rattle.tf_book.specs.SessionInvariant.{is_logged}
 use Rattle.tf_book.specs.declared.faults.Halt.{Halt}

@@ -1,5 +1,5 @@
 -- What stays true of a book from the start of a session on, and how an entry is logged.
-use Rattle.std.specs.Prelude.{IsTrue, ◌≡◌, ◌⊎◌, ◌<◌, ◌≤◌, ℕ, ◌+◌, Bool, true, false, List, [], ◌∷◌, ◌++◌, Option, Some, Result, Ok, Err, if◌then◌else◌, length, ◌≢◌, None, reverse, map, vec_len, vec_capacity}
+use Rattle.std.specs.Prelude.{IsTrue, ◌≡◌, ◌⊎◌, ◌<◌, ◌≤◌, ℕ, ◌+◌, Bool, true, false, List, [], ◌∷◌, ◌++◌, Option, Some, Result, Ok, Err, if◌then◌else◌, length, ◌≢◌, None, vec_capacity}
 use Rattle.tf_numbers.specs.Numbers.{Rises}
 use Rattle.tf_desk.specs.Crash.{Pairs, shown_with, ShowsPrefix}
 use Rattle.tf_desk.specs.State.{DeskState, bytes_now, Passes, Continues, IsUnasked}
@@ -9,21 +9,14 @@ use Rattle.tf_book.specs.declared.faults.Halt.TheVariants as halt
 use Rattle.tf_flow.specs.Plan.{PlanValue}
 use Rattle.tf_states.specs.declared.record.Entry.{Entry}
 use Rattle.tf_states.specs.declared.state.FlowState.TheVariants as flow
-use Rattle.tf_entries.specs.Entries.{entry_bytes}
 use Rattle.tf_journal.specs.declared.title.Title.{Title}
 use Rattle.tf_journal.specs.declared.title.Title.TheVariants.{Book2 as book_title}
 use Rattle.tf_model.specs.History.{snapshot}
 use Rattle.tf_model.specs.Plan.{Outline, outline_of}
 use Rattle.tf_model.specs.Steps.{Step}
 use Rattle.tf_report.specs.Lines.{line, table}
-use Rattle.tf_details.specs.Elements.{IsForm}
-use Rattle.tf_details.specs.Contents.{Contents, with_entries}
+use Rattle.tf_details.specs.Elements.{IsForm, Contents, with_entries}
 use Rattle.tf_book.specs.Book.{BookValue, flow_state, entry_body, bodies_with, size_of}
-use Rattle.tf_book.specs.Holding.{HasHoldingRoom}
-use Rattle.tf_book.specs.declared.holding.Holding.{Holding}
-use Rattle.tf_book.specs.Histories.{framed_bodies, HasAllRoom}
-use Rattle.tf_book.specs.declared.history.History.{History}
-use Rattle.tf_book.specs.declared.writing.Draft.{Draft}
 
 -- ---- how one body is appended, and its line is said once no crash can take the body away
 
@@ -206,40 +199,8 @@ module _ {K : Type 0} (state : K → DeskState) where
     pub unasked : flow_state old ≢ flow.Running → IsUnasked (state old.journal.desk) (state new.journal.desk)
     pub keeps : (start : BookValue K) → SessionInvariant start old → SessionInvariant start new
 
--- ---- what a book has room for
-
--- there is room for the body and the line of every entry
-pub record HasDraftRoom (draft : Draft) : Type 0 where
-  pub body : 131203 ≤ vec_capacity draft.body
-  pub line : 1048576 ≤ vec_capacity draft.line
-
--- there is room for one more entry of a journal of that size, whatever it is: in the history, and for its body and its line
-pub record HasWriteRoom (size : ℕ) (history : History) (holding : Holding) (draft : Draft) : Type 0 where
-  pub few : length history.entries.items ≤ 67108864
-  pub fewer : length history.entries.items ≤ size
-  pub fits : length history.bodies.items ≤ size
-  pub marks : length holding.marks.items ≤ size
-  pub all_room : HasAllRoom history
-  pub holding_room : HasHoldingRoom holding
-  pub draft_room : HasDraftRoom draft
-
--- ---- how the lines of a history are made from its bodies in memory
+-- ---- what is said of a whole history
 
 -- the lines of a whole history, numbered from 1, and the table of this moment
 abbrev pub history_text : Outline → List Entry → List ℕ
 history_text plan past = said false plan [] past ++ table plan (snapshot plan past)
-
--- these bytes begin with a body behind its length
-pub record BeginsWithBody (bytes body : List ℕ) : Type 0 where
-  pub rest : List ℕ
-  pub is : bytes ≡ length_bytes (length body) ++ (body ++ rest)
-  pub is_body : IsBody book_title body
-
--- the lines of the oldest entries were made, and the bodies of the others are still to come
-pub record HasLines (plan : PlanValue) (past : List Entry) (before made : List ℕ) (at number : ℕ) : Type 0 where
-  pub newer : List Entry
-  pub older : List Entry
-  pub splits : past ≡ newer ++ older
-  pub place : at ≡ length (framed_bodies older)
-  pub counted : number ≡ length older
-  pub lines : made ≡ before ++ said false (outline_of plan) [] older

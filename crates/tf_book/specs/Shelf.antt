@@ -1,12 +1,11 @@
 -- A shelf: what the file of a book holds, before one of its details is opened or a new one begins.
-use Rattle.std.specs.Prelude.{◌≡◌, ◌≤◌, ℕ, ◌+◌, true, false, IsTrue, List, [], ◌∷◌, Bool, Option, Some, None, Result, Ok, Err}
+use Rattle.std.specs.Prelude.{◌≡◌, ◌≤◌, ℕ, ◌+◌, true, false, IsTrue, List, [], ◌∷◌, Bool, None, Result, Ok, Err}
 use Rattle.tf_desk.specs.State.{DeskState, bytes_now}
 use Rattle.tf_flow.specs.Plan.{PlanValue}
 use Rattle.tf_journal.specs.Format.{SIZE_LIMIT, Recovered, unborn, bodies, is_unborn, Held, IsAtRest, IsOpen}
 use Rattle.tf_journal.specs.declared.title.Title.TheVariants.{Book2 as book_title}
 use Rattle.tf_model.specs.History.{flow_of}
-use Rattle.tf_details.specs.Elements.{Element, details, history, detail_name, bodies_of, book_size, plan_of}
-use Rattle.tf_details.specs.Contents.{Contents}
+use Rattle.tf_details.specs.Elements.{Element, details, history, detail_name, bodies_of, book_size}
 use Rattle.tf_book.specs.Book.{BookValue}
 use Rattle.tf_book.specs.declared.shelf.Detail.{Detail}
 use Rattle.tf_book.specs.declared.shelf.Place.{Place}
@@ -32,23 +31,15 @@ abbrev pub is_volatile : {K : Type 0} → Place K → Bool
 is_volatile (place.Kept journal) = journal.volatile
 is_volatile (place.Unborn desk) = false
 
--- the details of a book, by the names and the states of their flows
-abbrev pub listed_from : List Element → ℕ → List PlanValue → List Detail
-listed_from elements number [] = []
-listed_from elements number (plan ∷ plans) =
-    record { name = detail_name plan; state = flow_of (history number elements) } ∷ listed_from elements (number + 1) plans
-
-abbrev pub listed : List Element → List Detail
-listed elements = listed_from elements 0 (details elements)
-
 -- ---- what is known of it
 
--- the journal has just these elements
+-- the journal has just these elements, and none where it keeps nothing
 pub record HoldsElements {K : Type 0} (state : K → DeskState) (journal : Held K) (elements : List Element) : Type 0 where
   pub title : journal.title ≡ book_title
   pub sound : journal.halted ≡ false
   pub size : journal.size ≡ book_size elements
   pub limit : journal.size ≤ SIZE_LIMIT
+  pub none_kept : journal.volatile ≡ true → elements ≡ []
   pub ready : IsOpen state journal → IsAtRest state journal (bodies_of elements)
 
 -- the elements stand in a journal; or there are none, and the file may be made a journal
@@ -79,15 +70,15 @@ desk_after_load (Err back) = back.0
 
 -- ---- what becomes of it when a detail is opened
 
--- the elements, of which the detail of that number is meant
-abbrev pub read_contents : ℕ → List Element → Contents
-read_contents number elements = record { number = number; elements = elements }
-
--- the book is the detail of that number, as the file has it where the desk tells its content; it is kept in its file, isn't halted, says its lines and has no limit
+-- the book is the detail of that number; where the desk tells its content, the book's file has just the bodies of the shelf's elements, and the book has
+-- the detail's history; it is kept in its file, isn't halted, says its lines and has no limit
 pub record IsOpened {K : Type 0} (state : K → DeskState) (shelf : ShelfValue K) (number : ℕ) (book : BookValue K) : Type 0 where
-  pub contents : IsTrue (state (desk_of shelf)).tells → book.contents ≡ read_contents number shelf.elements
+  pub number_is : book.contents.number ≡ number
+  pub bodies : IsTrue (state (desk_of shelf)).tells → bodies_of book.contents.elements ≡ bodies_of shelf.elements
+  pub past : IsTrue (state (desk_of shelf)).tells → book.past ≡ history number shelf.elements
   pub volatile : book.journal.volatile ≡ false
   pub halt : book.halt ≡ None
+  pub failed : book.failed ≡ None
   pub quiet : book.quiet ≡ false
   pub limit : book.limit ≡ None
 

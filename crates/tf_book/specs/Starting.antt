@@ -6,8 +6,7 @@ use Rattle.tf_desk.specs.State.{DeskState, bytes_now}
 use Rattle.tf_journal.specs.Format.{SIZE_LIMIT, Recovered, bodies, journal_bytes, recovered, Held, IsAtRest, IsOpen}
 use Rattle.tf_journal.specs.declared.title.Title.TheVariants.{Book2 as book_title}
 use Rattle.tf_flow.specs.Plan.{PlanValue}
-use Rattle.tf_details.specs.Elements.{Element, detail, IsHistoryOf, details, detail_name, number_among, bodies_of, book_size, element_bytes}
-use Rattle.tf_details.specs.Contents.{Contents}
+use Rattle.tf_details.specs.Elements.{Element, detail, IsHistoryOf, details, detail_name, number_among, bodies_of, book_size, element_bytes, Contents}
 use Rattle.tf_book.specs.Book.{BookValue}
 use Rattle.tf_book.specs.Shelf.{ShelfValue, is_volatile, IsFoundAs}
 use Rattle.tf_book.specs.declared.faults.BookFault.{BookFault}
@@ -19,23 +18,6 @@ use Rattle.tf_book.specs.declared.shelf.Place.TheVariants as place
 abbrev pub desk_started : {K F : Type 0} → Result (BookValue K) (K × F) → K
 desk_started (Ok book) = book.journal.desk
 desk_started (Err back) = back.0
-
--- the elements with a detail of the plan behind them
-abbrev pub with_detail : List Element → PlanValue → List Element
-with_detail elements plan = detail plan ∷ elements
-
--- what the file holds then, of which the new detail is meant
-abbrev pub begun_contents : List Element → PlanValue → Contents
-begun_contents elements plan = record { number = length (details elements); elements = with_detail elements plan }
-
--- the body of a new detail
-abbrev pub detail_body : PlanValue → List ℕ
-detail_body plan = element_bytes (detail plan)
-
--- a detail of the plan may begin behind the elements: there are fewer than 64, and none has its name
-pub record HasPlaceFor (elements : List Element) (plan : PlanValue) : Type 0 where
-  pub few : length (details elements) < 64
-  pub unnamed : number_among (details elements) (detail_name plan) ≡ None
 
 -- the book of the plan before its first entry, a new detail behind the elements
 pub record IsBegun {K : Type 0} (shelf : ShelfValue K) (plan : PlanValue) (quiet : Bool) (book : BookValue K) : Type 0 where
@@ -69,13 +51,6 @@ LeavesBegun shelf plan = LeavesAdded shelf.place shelf.elements (detail_body pla
 abbrev pub EndsThere : {K : Type 0} → (K → DeskState) → Place K → Type 0
 EndsThere state (place.Kept journal) = IsOpen state journal × (length (bytes_now (state journal.desk)) ≡ journal.size)
 EndsThere state (place.Unborn desk) = IsTrue (state desk).tells × (length (bytes_now (state desk)) ≤ 18)
-
--- the record of the new detail would have made the journal longer than its limit
-pub record IsFullToBegin (elements : List Element) (plan : PlanValue) (size need : ℕ) : Type 0 where
-  pub history : IsHistoryOf plan []
-  pub size_is : size ≡ book_size elements
-  pub need_is : need ≡ 5 + length (detail_body plan)
-  pub over : SIZE_LIMIT < size + need
 
 -- why no book started: the disk failed, where a crash may have left the new detail, which a book may hold; the journal is full for it; or want of
 -- memory, and nothing was done

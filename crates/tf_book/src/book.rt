@@ -1,4 +1,4 @@
-ghost use Rattle.std.specs.Prelude.{◌≡◌, ◌<◌, ◌≤◌, ◌-◌, ◌∷◌, List, None, Some, OnOk, IsErrOf};
+ghost use Rattle.std.specs.Prelude.{◌≡◌, ◌<◌, ◌≤◌, ◌-◌, None, Some, OnOk, IsErrOf};
 ghost use Rattle.tf_model.specs.Steps.{Step};
 ghost use Rattle.tf_book.specs.Book.{outline, moment};
 ghost use Rattle.tf_book.specs.SessionInvariant.{Proceeds};
@@ -24,8 +24,8 @@ use tf_machine::Machine;
 use tf_states::Entry;
 
 /// A run of a plan, recorded in a journal entry by entry, which is a detail of what the journal holds. Contracts see
-/// its plan, its history, what its file holds, its journal with the desk, whether it says no lines, why it was halted, if it was, the entry that couldn't be recorded then, and
-/// where its session is to be suspended, if it has a limit.
+/// its plan, its history, what its file holds, its journal with the desk, whether it says no lines, why it was halted,
+/// if it was, the entry that couldn't be recorded then, and where its session is to be suspended, if it has a limit.
 #[derive(Drop)]
 pub struct Book<K: Desk> {
     pub(crate) alloc: Global,
@@ -43,10 +43,9 @@ pub struct Book<K: Desk> {
 impl<K: Desk> Model for Book<K> {
     ghost use Rattle.std.specs.Coded.{codes};
     ghost use Rattle.tf_flow.specs.contracts.nested.Flow as flow;
-    ghost use Rattle.tf_book.specs.Histories.{past_shown, HasAllRoom};
+    ghost use Rattle.tf_book.specs.Histories.{past_shown, HasAllRoom, HasDraftRoom};
     ghost use Rattle.tf_book.specs.Book.{BookValue};
     ghost use Rattle.tf_book.specs.Holding.{contents_of, HasHoldingRoom};
-    ghost use Rattle.tf_book.specs.SessionInvariant.{HasDraftRoom};
     ghost use Rattle.tf_book.specs.Sound.{IsSoundBook};
 
     ghost Value = { BookValue K };

@@ -1,7 +1,7 @@
-ghost use Rattle.std.specs.Prelude.{◌≡◌, ◌≤◌, ◌<◌, ◌+◌, ◌++◌, ◌∷◌, [], List, ℕ, length, vec_len, vec_capacity, OnOk, IfOk};
+ghost use Rattle.std.specs.Prelude.{◌≡◌, ◌≤◌, ◌<◌, ◌+◌, ◌++◌, ◌∷◌, [], length, OnOk, IfOk};
 ghost use Rattle.tf_journal.specs.Format.{length_bytes, IsBody};
 ghost use Rattle.tf_journal.specs.declared.title.Title.TheVariants.{Book2 as book_title};
-ghost use Rattle.tf_book.specs.Histories.{past_shown, framed_bodies, HasEntryRoom, HasAllRoom, KeepsHistory};
+ghost use Rattle.tf_book.specs.Histories.{past_shown, HasEntryRoom, HasAllRoom, KeepsHistory};
 
 use std::alloc::{AllocError, Global};
 use std::snapshot::Snapshot;

@@ -1,8 +1,8 @@
-ghost use Rattle.std.specs.Prelude.{◌≡◌, ◌≤◌, ◌<◌, ◌∷◌, [], suc, length, vec_len, vec_capacity};
-ghost use Rattle.tf_details.specs.Contents.{with_entries};
+ghost use Rattle.std.specs.Prelude.{◌≡◌, ◌<◌, ◌∷◌, [], vec_len, vec_capacity};
+ghost use Rattle.tf_details.specs.Elements.{with_entries};
 ghost use Rattle.tf_details.specs.Marks.{elements_shown};
 ghost use Rattle.tf_book.specs.Holding.{contents_of, HasHoldingRoom};
-ghost use Rattle.tf_book.specs.Starting.{with_detail};
+ghost use Rattle.tf_book.specs.Book.{with_detail};
 
 use std::snapshot::Snapshot;
 use tf_details::Mark;

@@ -1,5 +1,5 @@
-//! The book: a file of several details, each the plan of a flow with its history, one of which is a run that is recorded entry by
-//! entry, each line shown once its record can't be lost.
+//! The book: a file of several details, each the plan of a flow with its history. One of them is a run that is recorded
+//! entry by entry, each line shown once its record can't be lost.
 #![tactic(auto)]
 
 mod book;

@@ -46,6 +46,7 @@ pub fn log<K: Desk>(
 ) -> Result<(), Halt>
     requires ready { IsReady K.state journal.old }
     requires sound { journal.old.halted ≡ false }
+    requires title { journal.old.title ≡ book_title }
     requires body { IsBody book_title body.now }
     ensures logged { Logged K.state body.now (said_of quiet line.now) journal.old journal.new result }
 {

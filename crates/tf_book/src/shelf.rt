@@ -1,6 +1,8 @@
 //! A shelf: a book's file before one of its details is opened or a new one begins.
-ghost use Rattle.std.specs.Prelude.{◌≡◌, ◌≢◌, [], false, true, IsTrue, IfOk, IfErr};
-ghost use Rattle.tf_book.specs.Shelf.{ShelfValue, desk_at, desk_of, is_volatile, listed};
+ghost use Rattle.std.specs.Prelude.{◌≡◌, [], length, true, IfOk, IfErr};
+ghost use Rattle.tf_details.specs.Elements.{details, IsLegalBook};
+ghost use Rattle.tf_book.specs.Shelf.{desk_at, desk_of, is_volatile, IsPlaced};
+ghost use Rattle.tf_book.specs.Book.{listed};
 
 mod loading;
 mod opening;
@@ -54,9 +56,10 @@ impl<K: Desk> Model for Shelf<K> {
     ghost use Rattle.std.specs.Coded.{codes};
     ghost use Rattle.std.specs.Prelude.{◌≡◌, ◌≤◌, vec_capacity};
     ghost use Rattle.tf_flow.specs.contracts.nested.Flow as flow;
-    ghost use Rattle.tf_details.specs.Elements.{IsLegalBook};
+    ghost use Rattle.tf_details.specs.Elements.{details, IsLegalBook};
     ghost use Rattle.tf_details.specs.Reading.{elements_in, AreMachinesOf};
-    ghost use Rattle.tf_book.specs.Shelf.{ShelfValue, IsPlaced, listed};
+    ghost use Rattle.tf_book.specs.Shelf.{ShelfValue, IsPlaced};
+    ghost use Rattle.tf_book.specs.Book.{listed};
 
     ghost Value = { ShelfValue K };
 
@@ -92,9 +95,13 @@ impl<K: Desk> Shelf<K> {
     }
 
     /// The details, in the order of their numbers, which count from 0: the names of their root flows, no two of which
-    /// are equal, and the states of these.
+    /// are equal, and the states of these. The elements are a legal book, which stands where the shelf says.
+    #[tactic(auto, using(crate::proofs::ShelfLemmas::listed_long))]
     pub fn details(&self) -> &[Detail]
-        ensures { result.now ≡ listed self.now.elements }
+        ensures list { result.now ≡ listed self.now.elements }
+        ensures count { length result.now ≡ length (details self.now.elements) }
+        ensures legal { IsLegalBook self.now.elements }
+        ensures placed { IsPlaced K.state self.now.place self.now.elements }
     {
         &self.list
     }

@@ -4,13 +4,12 @@ ghost use Rattle.tf_states.specs.declared.record.Entry.{Entry as Record};
 ghost use Rattle.tf_entries.specs.Entries.{entry_bytes};
 ghost use Rattle.tf_model.specs.Plan.{outline_of};
 ghost use Rattle.tf_report.specs.Lines.{line as line_of};
-ghost use Rattle.tf_details.specs.Elements.{IsEntryOf};
-ghost use Rattle.tf_details.specs.Elements.{AreEntriesOf};
-ghost use Rattle.tf_book.specs.Histories.{past_shown, framed_bodies};
-ghost use Rattle.tf_book.specs.SessionInvariant.{said, BeginsWithBody};
+ghost use Rattle.tf_details.specs.Elements.{IsEntryOf, AreEntriesOf};
+ghost use Rattle.tf_book.specs.Histories.{past_shown, framed_bodies, BeginsWithBody};
+ghost use Rattle.tf_book.specs.SessionInvariant.{said};
 
-use std::alloc::Global;
 use crate::history::History;
+use std::alloc::Global;
 use tf_entries::{decode_entry, entry_has_one_form};
 use tf_flow::Plan;
 use tf_report::line;

@@ -2,18 +2,16 @@ ghost use Rattle.std.specs.Prelude.{◌≡◌, ◌<◌, ◌+◌, ◌++◌, ◌�
 ghost use Rattle.tf_journal.specs.Format.{length_bytes, IsBody, IsReady};
 ghost use Rattle.tf_journal.specs.declared.title.Title.TheVariants.{Book2 as book_title};
 ghost use Rattle.tf_states.specs.declared.record.Entry.{Entry as Record};
-ghost use Rattle.tf_bound.specs.Short.{IsShortEvent};
 ghost use Rattle.tf_entries.specs.Entries.{entry_bytes, has_its_payload, HasItsPayload};
 ghost use Rattle.tf_machine.specs.Machine.{outline, shown, StandsFor};
 ghost use Rattle.tf_model.specs.Steps.{Step};
 ghost use Rattle.tf_report.specs.Lines.{line as line_of};
 ghost use Rattle.tf_model.specs.Plan.{outline_of};
-ghost use Rattle.tf_details.specs.Elements.{IsForm};
-ghost use Rattle.tf_details.specs.Contents.{with_entries};
-ghost use Rattle.tf_book.specs.Histories.{past_shown, HasEntryRoom, HasAllRoom};
+ghost use Rattle.tf_details.specs.Elements.{IsForm, with_entries};
+ghost use Rattle.tf_book.specs.Histories.{past_shown, HasEntryRoom, HasAllRoom, HasDraftRoom, HasWriteRoom};
 ghost use Rattle.tf_book.specs.Book.{entry_body};
 ghost use Rattle.tf_book.specs.Holding.{contents_of, HasHoldingRoom};
-ghost use Rattle.tf_book.specs.SessionInvariant.{HasDraftRoom, HasWriteRoom, said_of, is_logged, Logged};
+ghost use Rattle.tf_book.specs.SessionInvariant.{said_of, is_logged, Logged};
 ghost use Rattle.tf_book.specs.Recording.{KeepsEntry, KeepsNothing, failed_after, contents_after};
 
 use crate::faults::Halt;
@@ -21,7 +19,6 @@ use crate::history::History;
 use crate::holding::Holding;
 use crate::log::log;
 use std::alloc::{AllocError, Global};
-use tf_bound::event_is_short;
 use tf_desk::Desk;
 use tf_entries::{Head, encode_entry, put_head};
 use tf_flow::Plan;
@@ -125,6 +122,7 @@ pub fn write<K: Desk>(
 ) -> Result<(), Halt>
     requires ready { IsReady K.state journal.old }
     requires sound { journal.old.halted ≡ false }
+    requires title { journal.old.title ≡ book_title }
     requires allowed { Step (outline machine.old) (shown machine.old) entry }
     requires room { HasWriteRoom journal.old.size history.old holding.old draft.old }
     ensures room { HasAllRoom history.new }
@@ -141,9 +139,8 @@ pub fn write<K: Desk>(
     ensures unrecorded { is_logged result ≡ false
         → KeepsNothing machine.old machine.new history.old history.new }
     ensures failed { failed.new ≡ failed_after entry failed.old result }
-    ensures form { IsShortEvent entry.what × IsForm entry }
+    ensures form { IsForm entry }
 {
-    event_is_short(&entry.what);
     let number = history.entries.len() as u64 + 1;
     prepare(holding.number, machine.plan(), number, &entry, draft);
     match log(journal, &draft.body, &draft.line, quiet) {

@@ -15,6 +15,7 @@ use Rattle.tf_model.specs.Steps.{Session, already_ended, entered, halted, whole,
 use Rattle.tf_book.specs.Turns.{AreReset, IsNextReset}
 use Rattle.tf_book.specs.SessionInvariant.{MayFollow, nothing_more, one_more}
 use Rattle.tf_engines.specs.Runs.{AreGiven, is_of}
+use Rattle.tf_details.specs.Elements.{Contents}
 use Rattle.tf_commands.specs.Books.{PutBack, MayRun, Ran}
 use Rattle.tf_commands.specs.declared.running.Request.{Request}
 use Rattle.tf_ports.specs.Ports.{wanted as number_of}
@@ -61,9 +62,9 @@ module _ (gives : Want → Order → Outcome → Type 0) (hired : ℕ → Want �
       (inl (record { hands = hands; hires = allow e.hand (ltb-true e.hand (number_of hands) both.0); given = given.0 }), runs_given hands allow plan before entries given.1 both.1)
 
 -- a run, for which its hands were hired
-pub run_gives : {gives : Want → Order → Outcome → Type 0} {hired : ℕ → Want → Type 0} {request : Request} {asked : Type 0} {plan : PlanValue} {before entries : List Entry} {stop : Option FlowState}
+pub run_gives : {gives : Want → Order → Outcome → Type 0} {hired : ℕ → Want → Type 0} {request : Request} {asked : Type 0} {contents : Contents} {plan : PlanValue} {before entries : List Entry} {stop : Option FlowState}
     {shown now : Option (List ℕ)} {closing : List ℕ} {status : ℕ} → ((n : ℕ) → n < number_of request.want → hired n request.want)
-    → Ran (gives request.want) request asked plan before entries stop shown now closing status → GivesAll gives hired (MayRun (gives request.want) request plan) plan before entries
+    → Ran (gives request.want) request asked contents plan before entries stop shown now closing status → GivesAll gives hired (MayRun (gives request.want) request plan) plan before entries
 run_gives {gives} {hired} {request} {plan = plan} {before} {entries} allow r = record {
   recorded = runs_given gives hired request.want allow (outline_of plan) before entries r.outcomes r.steps.hands;
   next = λ e may. inl (record { hands = request.want; hires = allow e.hand (ltb-true e.hand (number_of request.want) may.hand); given = may.given });
@@ -89,9 +90,9 @@ nothing_recorded {before = before} ended (entered some others is legal) = ap (λ
 nothing_recorded ended (halted inner going all legal) = absurd (let clash = sym going ∙ ended in cc)
 nothing_recorded ended (whole hand last inner is all going legal) = absurd (let clash = sym going ∙ ended in cc)
 
-pub ended_gives : {gives : Want → Order → Outcome → Type 0} {hired : ℕ → Want → Type 0} {request : Request} {asked : Type 0} {plan : PlanValue} {before entries : List Entry} {stop : Option FlowState}
+pub ended_gives : {gives : Want → Order → Outcome → Type 0} {hired : ℕ → Want → Type 0} {request : Request} {asked : Type 0} {contents : Contents} {plan : PlanValue} {before entries : List Entry} {stop : Option FlowState}
     {shown now : Option (List ℕ)} {closing : List ℕ} {status : ℕ} → has_ended (flow_of before) ≡ true
-    → Ran (gives request.want) request asked plan before entries stop shown now closing status → GivesAll gives hired (MayRun (gives request.want) request plan) plan before entries
+    → Ran (gives request.want) request asked contents plan before entries stop shown now closing status → GivesAll gives hired (MayRun (gives request.want) request plan) plan before entries
 ended_gives {gives} {hired} {request} {plan = plan} {before} {entries} ended r =
     let none : entries ≡ [] = nothing_recorded ended r.steps.session in
     record {
@@ -102,9 +103,9 @@ ended_gives {gives} {hired} {request} {plan = plan} {before} {entries} ended r =
     }
 
 -- a flow that is put back
-pub reset_gives : {gives : Want → Order → Outcome → Type 0} {hired : ℕ → Want → Type 0} {plan : PlanValue} {before entries : List Entry} {shown now : Option (List ℕ)} {closing : List ℕ} {status : ℕ}
-    → PutBack plan before entries shown now closing status → GivesAll gives hired (IsNextReset (outline_of plan)) plan before entries
-reset_gives {gives} {hired} {plan} {before} {entries} p = record {
+pub reset_gives : {gives : Want → Order → Outcome → Type 0} {hired : ℕ → Want → Type 0} {contents : Contents} {plan : PlanValue} {before entries : List Entry} {shown now : Option (List ℕ)} {closing : List ℕ} {status : ℕ}
+    → PutBack contents plan before entries shown now closing status → GivesAll gives hired (IsNextReset (outline_of plan)) plan before entries
+reset_gives {gives} {hired} {plan = plan} {before} {entries} p = record {
   recorded = resets_given gives hired (outline_of plan) before entries p.steps;
   next = λ e next. put_back_given gives hired (outline_of plan) (entries ++ before) e next;
 }

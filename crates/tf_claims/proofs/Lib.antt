@@ -1,4 +1,6 @@
 pub mod OnceLemmas
+pub mod EntryLemmas
+pub mod GrowthLemmas
 pub mod BookLemmas
 pub mod TitleLemmas
 pub mod NameLemmas
@@ -13,3 +15,4 @@ pub mod ClosingLemmas
 pub mod OwnerLemmas
 pub mod DoneLemmas
 pub mod OrderLemmas
+pub mod CarriedLemmas

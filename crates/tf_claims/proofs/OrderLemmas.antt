@@ -1,5 +1,5 @@
 -- The orders that hands were given stand among those of a later history.
-use Rattle.std.proofs.Common.{◌≡◌, ℕ, List, [], ◌∷◌, ◌++◌, Option, Some, None, refl, sym, ap, ◌∙◌, append-nil, append_assoc}
+use Rattle.std.proofs.Common.{◌≡◌, ℕ, List, [], ◌∷◌, ◌++◌, Option, Some, None, sym, ap, ◌∙◌, append-nil, append_assoc}
 use Rattle.tf_actions.specs.declared.orders.Order.{Order}
 use Rattle.tf_states.specs.declared.record.Entry.{Entry}
 use Rattle.tf_model.specs.Plan.{Outline}

@@ -21,7 +21,8 @@ use Rattle.tf_board.proofs.OwnerLemmas.{given_up_between}
 use Rattle.tf_board.proofs.StayLemmas.{one_list, older_of_board, named_on}
 use Rattle.tf_claims.specs.Life.{Call, Leaves, Life, unlived, lived, IsBoardOf, WasClaimed, IsHandedOn}
 use Rattle.tf_claims.proofs.ClosingLemmas.{never_closes, either_one}
-use Rattle.tf_claims.proofs.StepLemmas.{Effect, call_keeps, no_flow, no_jobs}
+use Rattle.tf_claims.proofs.GrowthLemmas.{held_elements}
+use Rattle.tf_claims.proofs.StepLemmas.{Effect, call_keeps, born, no_book, no_jobs}
 use Rattle.tf_claims.proofs.ServiceLemmas.{GrownBy}
 use Rattle.tf_claims.proofs.WayLemmas.{Way, alone, recorded, began, unmade, jobs, served_jobs}
 
@@ -65,8 +66,8 @@ module _ (first : Command) (rest : List Command) (good : AreOfBoard (first ∷ r
     file = same_board (file_of entry name) (file_of now name) holds a.file;
     crash = λ moment start image text is. same_board (file_of entry name) image holds (a.crash moment start image text is).0;
   }
-  legal_effect {gives} {able} {name} {entry} {now} holds (recorded may other quiet before entries closing found given l) = absurd (no_jobs (file_of entry name) past found (inl holds))
-  legal_effect {gives} {able} {name} {entry} {now} holds (began may other quiet entries closing none given l) = absurd (no_flow first rest (file_of entry name) holds none)
+  legal_effect {gives} {able} {name} {entry} {now} holds (recorded may contents plan quiet before entries closing found given l) = absurd (no_jobs (file_of entry name) past (held_elements found) (inl holds))
+  legal_effect {gives} {able} {name} {entry} {now} holds (began may elements plan quiet entries closing found given l) = absurd (no_book first rest (file_of entry name) holds found)
   legal_effect {gives} {able} {name} {entry} {now} holds (unmade message s) = record {
     file = never_made (file_of entry name) (file_of now name) holds s.file;
     crash = λ moment start image text is. never_made (file_of entry name) image holds (s.crash moment start image text is).0;
@@ -95,9 +96,9 @@ module _ {K : Type 0} (state : K → DeskState) (gives : Want → Order → Outc
   call_adds_legally : (name : List ℕ) (call : Call state gives) (added past : List Command) (first : Command) → IsBoardOf (added ++ (first ∷ past)) (file_of (state call.entry) name)
       → (last : List ℕ) → Leaves state gives name call last → GrownLegally (added ++ (first ∷ past)) last
   call_adds_legally name call [] past first is last leaves =
-      call_keeps state gives (GrownLegally (first ∷ past)) name call ([], is) (λ way. legal_effect first past is.0 is.1 way) last leaves
+      call_keeps state gives (GrownLegally (first ∷ past)) name call ([], is) (born first past (file_of (state call.entry) name) is.1) (λ way. legal_effect first past is.0 is.1 way) last leaves
   call_adds_legally name call (c ∷ added) past first is last leaves =
-      call_keeps state gives (GrownLegally (c ∷ (added ++ (first ∷ past)))) name call ([], is) (λ way. legal_effect c (added ++ (first ∷ past)) is.0 is.1 way) last leaves
+      call_keeps state gives (GrownLegally (c ∷ (added ++ (first ∷ past)))) name call ([], is) (born c (added ++ (first ∷ past)) (file_of (state call.entry) name) is.1) (λ way. legal_effect c (added ++ (first ∷ past)) is.0 is.1 way) last leaves
 
   -- and a life
   pub life_adds_legally : (name first last : List ℕ) → Life state gives name first last → (one : Command) (past : List Command) → IsBoardOf (one ∷ past) first

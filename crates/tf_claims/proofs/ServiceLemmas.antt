@@ -1,5 +1,5 @@
 -- What the service of a board, and conductors who work on one, leave of its file: the commands from before, and some that were added behind them.
-use Rattle.std.proofs.Common.{◌≡◌, ℕ, List, [], ◌∷◌, ◌++◌, Option, refl, sym, ap, ◌∙◌, subst, inl, inr, ⊎_elim, ◌⊎◌, append_assoc}
+use Rattle.std.proofs.Common.{◌≡◌, ℕ, List, [], ◌∷◌, ◌++◌, Option, refl, sym, ap, ◌∙◌, subst, inl, inr, ◌⊎◌, append_assoc}
 use Rattle.tf_desk.specs.State.{DeskState}
 use Rattle.tf_board.specs.Board.{AreOfBoard, Finds, Holds, board_in}
 use Rattle.tf_board.specs.Does.{HoldsEither}
@@ -10,7 +10,7 @@ use Rattle.tf_shared_board.specs.declared.calls.BoardHalt.{BoardHalt}
 use Rattle.tf_shared_board.specs.declared.calls.Made.{Made}
 use Rattle.tf_board_service.specs.Sessions.{LeavesCalls}
 use Rattle.tf_conductor.specs.Rounds.{HoldsKept, HoldsSome as HoldsSomeTried, HoldsTried, all_held, one_more}
-use Rattle.tf_runner.specs.Conducts.{LeavesCalls as LeavesConducted, IsOwned}
+use Rattle.tf_runner.specs.Conducts.{LeavesCalls as LeavesConducted}
 
 -- a board's file has these commands and those that were added behind them, all of which a board may hold
 pub record GrownBy (before : List Command) (file : List ℕ) : Type 0 where

@@ -1,10 +1,10 @@
 -- A file isn't both a book and a board.
-use Rattle.std.proofs.Common.{◌≡◌, ℕ, ◌+◌, List, [], ◌∷◌, ◌++◌, Bool, true, false, Option, Some, None, refl, sym, ◌∙◌, ap, eqb-true, ⊎_elim, arith}
+use Rattle.std.proofs.Common.{◌≡◌, ℕ, ◌+◌, List, [], ◌∷◌, ◌++◌, Bool, true, false, Option, Some, None, refl, sym, ◌∙◌, ap, eqb-true, ⊎_elim, arith, subst}
 use Rattle.std.proofs.lemmas.Bool.Decides.{Decides-eqb, not_from_Decides, eqb_tells}
 use Rattle.std.specs.Prelude.{◌==◌, ◌&&◌, ◌||◌, nat_eq, length}
-use Rattle.tf_journal.specs.Format.{OPEN, Recovered, unborn, bodies, not_a_book, title_of, title_fault, titled, is_old, is_unborn, recovered, records_from}
+use Rattle.tf_journal.specs.Format.{OPEN, Recovered, unborn, old_format, bodies, not_a_book, title_of, title_fault, titled, is_old, is_unborn, recovered, records_from}
 use Rattle.tf_journal.specs.declared.title.Title.{Title}
-use Rattle.tf_journal.specs.declared.title.Title.TheVariants.{Book as book_title, Jobs as jobs_title}
+use Rattle.tf_journal.specs.declared.title.Title.TheVariants.{Book2 as book_title, Jobs as jobs_title}
 
 -- a letter that agrees, and one that doesn't
 letter_on : (z byte : ℕ) (letters rest : List ℕ) (offset : ℕ) → (z == byte) ≡ true → title_fault (z ∷ letters) (byte ∷ rest) offset ≡ title_fault letters rest (offset + 1)
@@ -37,12 +37,12 @@ other_title (z ∷ prefix) x y a b (byte ∷ rest) offset apart none = by (z == 
 -- the title of boards isn't that of a book
 jobs_apart : (rest : List ℕ) → title_fault (title_of book_title) rest 1 ≡ None → (fault : ℕ × Option ℕ) × (title_fault (title_of jobs_title) rest 1 ≡ Some fault)
 jobs_apart rest none =
-    other_title (84 ∷ 65 ∷ 83 ∷ 75 ∷ 70 ∷ 76 ∷ 79 ∷ 87 ∷ 32 ∷ []) 66 74 (79 ∷ 79 ∷ 75 ∷ 32 ∷ 49 ∷ 10 ∷ []) (79 ∷ 66 ∷ 83 ∷ 32 ∷ 49 ∷ 10 ∷ []) rest 1 refl none
+    other_title (84 ∷ 65 ∷ 83 ∷ 75 ∷ 70 ∷ 76 ∷ 79 ∷ 87 ∷ 32 ∷ []) 66 74 (79 ∷ 79 ∷ 75 ∷ 32 ∷ 50 ∷ 10 ∷ []) (79 ∷ 66 ∷ 83 ∷ 32 ∷ 49 ∷ 10 ∷ []) rest 1 refl none
 
 -- and the other way round
 book_apart : (rest : List ℕ) → title_fault (title_of jobs_title) rest 1 ≡ None → (fault : ℕ × Option ℕ) × (title_fault (title_of book_title) rest 1 ≡ Some fault)
 book_apart rest none =
-    other_title (84 ∷ 65 ∷ 83 ∷ 75 ∷ 70 ∷ 76 ∷ 79 ∷ 87 ∷ 32 ∷ []) 74 66 (79 ∷ 66 ∷ 83 ∷ 32 ∷ 49 ∷ 10 ∷ []) (79 ∷ 79 ∷ 75 ∷ 32 ∷ 49 ∷ 10 ∷ []) rest 1 refl none
+    other_title (84 ∷ 65 ∷ 83 ∷ 75 ∷ 70 ∷ 76 ∷ 79 ∷ 87 ∷ 32 ∷ []) 74 66 (79 ∷ 66 ∷ 83 ∷ 32 ∷ 49 ∷ 10 ∷ []) (79 ∷ 79 ∷ 75 ∷ 32 ∷ 50 ∷ 10 ∷ []) rest 1 refl none
 
 -- a list with a first has a length above 0
 never_none : (byte : ℕ) (rest : List ℕ) → nat_eq (length (byte ∷ rest)) 0 ≡ false
@@ -61,13 +61,28 @@ titled_so : (title : Title) (gate : ℕ) (rest : List ℕ) → is_unborn title (
     → recovered title (gate ∷ rest) ≡ titled (title_fault (title_of title) rest 1) (records_from title (length (gate ∷ rest)) (gate ∷ rest) 17)
 titled_so title gate rest born young opened = rw (born, young, opened) refl
 
+-- what a file is that is of another format, and not unborn
+old_so : (title : Title) (gate : ℕ) (rest : List ℕ) → is_unborn title (gate ∷ rest) ≡ false → is_old title rest ≡ true → recovered title (gate ∷ rest) ≡ old_format
+old_so title gate rest born old = rw (born, old) refl
+
+-- it is neither unborn nor a journal
+pub data IsNeither : Recovered → Type 0 where
+  other_format : IsNeither old_format
+  no_journal : (offset : ℕ) (byte : Option ℕ) → IsNeither (not_a_book offset byte)
+
+pub neither_bodies : {found : Recovered} {held : List (List ℕ)} → IsNeither found → found ≡ bodies held → ⊥
+neither_bodies other_format is = cc
+neither_bodies (no_journal offset byte) is = cc
+
+pub neither_unborn : {found : Recovered} → IsNeither found → found ≡ unborn → ⊥
+neither_unborn other_format is = cc
+neither_unborn (no_journal offset byte) is = cc
+
 -- a file that is a journal of one title is none of a title that disagrees with it
-no_other : (one other : Title) → ((rest : List ℕ) → (is_old one rest ≡ false) × (is_old other rest ≡ false))
-    → ((rest : List ℕ) → title_fault (title_of one) rest 1 ≡ None → (fault : ℕ × Option ℕ) × (title_fault (title_of other) rest 1 ≡ Some fault))
-    → (title_fault (title_of one) [] 1 ≡ None → ⊥) → (bytes : List ℕ) (held : List (List ℕ)) → recovered one bytes ≡ bodies held
-    → (offset : ℕ) × (byte : Option ℕ) × (recovered other bytes ≡ not_a_book offset byte)
-no_other one other young apart long [] held is = absurd (cc)
-no_other one other young apart long (gate ∷ rest) held is = by (is_unborn one (gate ∷ rest)) (gate == OPEN) refl refl
+no_other : (one other : Title) → ((rest : List ℕ) → title_fault (title_of one) rest 1 ≡ None → (fault : ℕ × Option ℕ) × (title_fault (title_of other) rest 1 ≡ Some fault))
+    → (title_fault (title_of one) [] 1 ≡ None → ⊥) → (bytes : List ℕ) (held : List (List ℕ)) → recovered one bytes ≡ bodies held → IsNeither (recovered other bytes)
+no_other one other apart long [] held is = absurd (cc)
+no_other one other apart long (gate ∷ rest) held is = by (is_unborn one (gate ∷ rest)) (is_old one rest) (gate == OPEN) refl refl refl
   where
     all : List ℕ
     all = gate ∷ rest
@@ -86,23 +101,27 @@ no_other one other young apart long (gate ∷ rest) held is = by (is_unborn one 
         some [] told = absurd (long told)
         some (byte ∷ r) told = rw gate_is (neither (nat_eq (length (byte ∷ r)) 0) _ _ (never_none byte r))
 
-    by : (u o : Bool) → is_unborn one all ≡ u → (gate == OPEN) ≡ o → (offset : ℕ) × (byte : Option ℕ) × (recovered other all ≡ not_a_book offset byte)
-    by true o unborn_is opened = let none : recovered one all ≡ unborn = rw unborn_is refl in absurd (cc)
-    by false false unborn_is opened =
-        let none : recovered one all ≡ not_a_book 0 (Some gate) = rw (unborn_is, (young rest).0, opened) refl in absurd (cc)
-    by false true unborn_is opened =
-        let told = found (records_from one (length all) all 17) (title_fault (title_of one) rest 1) refl (sym (titled_so one gate rest unborn_is (young rest).0 opened) ∙ is) in
-        let other_is = apart rest told in (
-          other_is.0.0,
-          other_is.0.1,
-          titled_so other gate rest (never_unborn opened told) (young rest).1 opened ∙ ap (λ (f : Option (ℕ × Option ℕ)). titled f (records_from other (length all) all 17)) other_is.1,
-        )
+    -- what the other title makes of it
+    other_is : (y : Bool) → is_old other rest ≡ y → (gate == OPEN) ≡ true → title_fault (title_of one) rest 1 ≡ None → IsNeither (recovered other all)
+    other_is true old opened told = subst IsNeither (sym (old_so other gate rest (never_unborn opened told) old)) other_format
+    other_is false young opened told =
+        let fault = apart rest told in
+        let whole : recovered other all ≡ not_a_book fault.0.0 fault.0.1 = titled_so other gate rest (never_unborn opened told) young opened
+        ∙ ap (λ (f : Option (ℕ × Option ℕ)). titled f (records_from other (length all) all 17)) fault.1 in
+        subst IsNeither (sym whole) (no_journal fault.0.0 fault.0.1)
+
+    by : (u y o : Bool) → is_unborn one all ≡ u → is_old one rest ≡ y → (gate == OPEN) ≡ o → IsNeither (recovered other all)
+    by true y o unborn_is old opened = let none : recovered one all ≡ unborn = rw unborn_is refl in absurd (cc)
+    by false true o unborn_is old opened = let none = old_so one gate rest unborn_is old in absurd (cc)
+    by false false false unborn_is young opened =
+        let none : recovered one all ≡ not_a_book 0 (Some gate) = rw (unborn_is, young, opened) refl in absurd (cc)
+    by false false true unborn_is young opened =
+        other_is (is_old other rest) refl opened
+        (found (records_from one (length all) all 17) (title_fault (title_of one) rest 1) refl (sym (titled_so one gate rest unborn_is young opened) ∙ is))
 
 -- a file that is a book's journal is no board's, and the other way round
-pub no_board_too : (bytes : List ℕ) (held : List (List ℕ)) → recovered book_title bytes ≡ bodies held
-    → (offset : ℕ) × (byte : Option ℕ) × (recovered jobs_title bytes ≡ not_a_book offset byte)
-no_board_too bytes held is = no_other book_title jobs_title (λ rest. (refl, refl)) jobs_apart (λ none. absurd (cc)) bytes held is
+pub no_board_too : (bytes : List ℕ) (held : List (List ℕ)) → recovered book_title bytes ≡ bodies held → IsNeither (recovered jobs_title bytes)
+no_board_too bytes held is = no_other book_title jobs_title jobs_apart (λ none. absurd (cc)) bytes held is
 
-pub no_book_too : (bytes : List ℕ) (held : List (List ℕ)) → recovered jobs_title bytes ≡ bodies held
-    → (offset : ℕ) × (byte : Option ℕ) × (recovered book_title bytes ≡ not_a_book offset byte)
-no_book_too bytes held is = no_other jobs_title book_title (λ rest. (refl, refl)) book_apart (λ none. absurd (cc)) bytes held is
+pub no_book_too : (bytes : List ℕ) (held : List (List ℕ)) → recovered jobs_title bytes ≡ bodies held → IsNeither (recovered book_title bytes)
+no_book_too bytes held is = no_other jobs_title book_title book_apart (λ none. absurd (cc)) bytes held is

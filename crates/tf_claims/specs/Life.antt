@@ -1,6 +1,6 @@
 -- A life of a file: calls of the program, one after another, each from what the one before it left.
 use Rattle.std.specs.Prelude.{◌≡◌, ◌⊎◌, ◌<◌, ℕ, Bool, true, IsTrue, List, [], ◌∷◌, ◌++◌, Option, Some, None}
-use Rattle.tf_desk.specs.Crash.{shown_with}
+use Rattle.tf_desk.specs.Crash.{shown_with, Mark}
 use Rattle.tf_desk.specs.State.{DeskState}
 use Rattle.tf_flow.specs.Plan.{PlanValue}
 use Rattle.tf_states.specs.declared.record.Entry.{Entry}
@@ -9,6 +9,7 @@ use Rattle.tf_ports.specs.Ports.{Contents, wanted as number_of}
 use Rattle.tf_ports.specs.declared.crews.Want.{Want}
 use Rattle.tf_actions.specs.declared.orders.Order.{Order}
 use Rattle.tf_actions.specs.declared.outcomes.Outcome.{Outcome}
+use Rattle.tf_journal.specs.Format.{Recovered, unborn}
 use Rattle.tf_journal.specs.Start.{file_of, IsStart}
 use Rattle.tf_hands.specs.Hands.{orders}
 use Rattle.tf_model.specs.Scope.{IsGiven}
@@ -24,16 +25,19 @@ use Rattle.tf_board.specs.declared.commands.JobAction.TheVariants as action
 use Rattle.tf_book.specs.Turns.{IsNextReset}
 use Rattle.tf_commands.specs.Asking.{wanted_by, WasAsked}
 use Rattle.tf_words.specs.Words.{command_of}
-use Rattle.tf_commands.specs.Books.{Hires, book_in, HoldsHistory, IsShownThen, HasReached, stop_status}
+use Rattle.tf_details.specs.Elements.{Element, plan_of, history, Contents as BookContents, with_entries}
+use Rattle.tf_commands.specs.Books.{Hires, book_in, book_at, HoldsElements, IsShownThen, HasReached, stop_status}
 use Rattle.tf_commands.specs.Course.{PortsTold, Course, MayBeDone, IsComplete}
+use Rattle.tf_migration.specs.Migrates.{HoldsFlow, carried, IsFirstSync}
 use Rattle.tf_report.specs.declared.statuses.TheConstants.{OUT_OF_MEMORY, FULL}
 
 -- the book or the board that a command is about
 abbrev pub file_of_command : Asked → Option (List ℕ)
 file_of_command (asked.Run file book sets defer hands stop target) = Some book
-file_of_command (asked.Resume book hands stop) = Some book
-file_of_command (asked.Show book) = Some book
-file_of_command (asked.Reset book) = Some book
+file_of_command (asked.Resume book name hands stop) = Some book
+file_of_command (asked.Show book name) = Some book
+file_of_command (asked.Reset book name) = Some book
+file_of_command (asked.Details book) = Some book
 file_of_command (asked.Demo seed size book hands) = Some book
 file_of_command (asked.Conduct board owner hands) = Some board
 file_of_command (asked.Serve board address sessions) = Some board
@@ -57,12 +61,15 @@ module _ {K : Type 0} (state : K → DeskState) (gives : Want → Order → Outc
     pub tells : IsTrue (state entry).tells
     pub course : Course state gives (WasAsked (state entry) (state now)) words files ports later entry now status
 
-  -- what a call leaves of the file: what it has when the call returns; or, where the words are about it, what a crash inside the call left; or,
-  -- where they aren't, what it had before the call, since a crash leaves other files as they are
+  -- what a call leaves of the file: what it has when the call returns; or, where the words are about it, what a crash inside the call left; or of a migration's
+  -- new book, which was unborn, what a crash since its first sync left; or, where the words aren't about it, what it had before the call, since a crash leaves
+  -- other files as they are
   pub data Leaves (name : List ℕ) (call : Call) : List ℕ → Type 0 where
     returned : Leaves name call (file_of (state call.now) name)
     crashed : IsAbout call.words name → (moment : ℕ) → IsStart name (state call.entry) (state call.now) moment
         → (image text : List ℕ) → (state call.now).crashes moment image text → Leaves name call image
+    migrating : (old : List ℕ) → command_of call.words ≡ Some (asked.Migrate old name) → book_at (state call.entry) name ≡ unborn → (before : List Mark) (moment : ℕ)
+        → IsFirstSync name before (state call.entry) (state call.now) moment → (image text : List ℕ) → (state call.now).crashes moment image text → Leaves name call image
     elsewhere : ¬ (IsAbout call.words name) → Leaves name call (file_of (state call.entry) name)
 
   -- the top call's clause on completeness, where no count of faults rose and no stop was asked for
@@ -108,21 +115,38 @@ abbrev pub AreRecorded : (Want → Order → Outcome → Type 0) → (ℕ → Wa
 AreRecorded gives hired plan past [] = Unit {0}
 AreRecorded gives hired plan past (e ∷ entries) = IsRecordedBy gives hired plan (entries ++ past) e × AreRecorded gives hired plan past entries
 
--- the text that a call showed is told by entries that a file holds behind the history before the call: by the lines of these, and, where
+-- what was recorded behind the elements of a book: of each detail that is there then, each entry was recorded after those before it
+abbrev pub AreAllRecorded : (Want → Order → Outcome → Type 0) → (ℕ → Want → Type 0) → (elements newer : List Element) → Type 0
+AreAllRecorded gives hired elements newer =
+    (number : ℕ) (plan : PlanValue) → plan_of (newer ++ elements) number ≡ Some plan
+    → AreRecorded gives hired (outline_of plan) (history number elements) (history number newer)
+
+-- the file holds these elements, and perhaps more behind them
+abbrev pub HoldsBeneath : List Element → List ℕ → Type 0
+HoldsBeneath elements file = (newer : List Element) × HoldsElements (newer ++ elements) (book_in file)
+
+-- the text that a call showed is told by entries that a file holds behind what it held before the call: by the lines of these, and, where
 -- they are all that the call recorded, by a prefix of its closing; where there are none the file may hold no flow
-pub record IsToldBy (plan : PlanValue) (quiet : Bool) (before entries : List Entry) (shown : Option (List ℕ)) (closing text file : List ℕ) : Type 0 where
+pub record IsToldBy (contents : BookContents) (plan : PlanValue) (quiet : Bool) (before entries : List Entry) (shown : Option (List ℕ)) (closing text file : List ℕ) : Type 0 where
   pub kept : List Entry
   pub spoken : IsShownThen plan quiet before entries kept shown closing text
-  pub holds : (kept ≡ []) ⊎ ((newer : List Entry) × HoldsHistory plan (newer ++ (kept ++ before)) (book_in file))
+  pub holds : (kept ≡ []) ⊎ HoldsBeneath (with_entries contents kept).elements file
 
--- a run that goes on from a history that the file held ended as stated: memory ran out; or the next record would make the book longer than
--- its limit; or the file holds that history with what was recorded, whose end is that of the flow, and the status tells it: 0 for SUCCESS,
--- 10 for REVERTED, which is completed reversion, and 11 for FAILURE
-pub data EndsAsStated (plan : PlanValue) (past : List Entry) (file : List ℕ) : ℕ → Type 0 where
-  exhausted : EndsAsStated plan past file OUT_OF_MEMORY
-  filled : EndsAsStated plan past file FULL
-  ended : (last : FlowState) (entries : List Entry) → HoldsHistory plan (entries ++ past) (book_in file) → has_ended last ≡ true
-      → HasReached (outline_of plan) (entries ++ past) last → EndsAsStated plan past file (stop_status last)
+-- a book of one flow held a plan and a history, and the file holds the flow with them as its detail 0, and perhaps more behind it
+pub record IsCarriedOver (old : Recovered) (file : List ℕ) : Type 0 where
+  pub plan : PlanValue
+  pub past : List Entry
+  pub had : HoldsFlow plan past old
+  pub stands : HoldsBeneath (carried plan past) file
+
+-- a run that goes on from what the file held ended as stated: memory ran out; or the next record would make the book longer than its limit; or the
+-- file holds that with what was recorded, whose end is that of the flow, and the status tells it: 0 for SUCCESS, 10 for REVERTED, which is
+-- completed reversion, and 11 for FAILURE
+pub data EndsAsStated (contents : BookContents) (plan : PlanValue) (past : List Entry) (file : List ℕ) : ℕ → Type 0 where
+  exhausted : EndsAsStated contents plan past file OUT_OF_MEMORY
+  filled : EndsAsStated contents plan past file FULL
+  ended : (last : FlowState) (entries : List Entry) → HoldsElements (with_entries contents entries).elements (book_in file) → has_ended last ≡ true
+      → HasReached (outline_of plan) (entries ++ past) last → EndsAsStated contents plan past file (stop_status last)
 
 -- the file is a board of these commands, which a board may hold: each is within its limits, and none was refused after those before it
 abbrev pub IsBoardOf : List Command → List ℕ → Type 0

@@ -18,33 +18,43 @@ ghost use Rattle.tf_words.specs.declared.asked.Asked.TheVariants.{Resume};
 ghost use Rattle.tf_model.specs.Plan.{outline_of};
 ghost use Rattle.tf_commands.specs.Asking.{WasAsked};
 ghost use Rattle.tf_words.specs.Words.{command_of};
-ghost use Rattle.tf_commands.specs.Books.{Promised, PutsBack, book_in, book_at, HoldsHistory};
+ghost use Rattle.tf_commands.specs.Books.{Promised, PutsBack, book_in, book_at, HoldsElements, HoldsAsked, HoldsWith};
+ghost use Rattle.tf_details.specs.Elements.{Element, history, Contents, with_entries};
+ghost use Rattle.tf_migration.specs.Migrates.{Migrates, old_at};
 ghost use Rattle.tf_commands.specs.declared.running.Request.{Request};
-ghost use Rattle.tf_claims.specs.Life.{Call, IsUnfailing, Shown, Life, IsToldBy, EndsAsStated, IsBoardOf, IsDone, HiredIn, AreRecorded, WasClaimed, IsHandedOn, AreFirstIfTold};
+ghost use Rattle.tf_claims.specs.Life.{Call, IsUnfailing, Shown, Life, IsToldBy, EndsAsStated, HoldsBeneath, IsCarriedOver, IsBoardOf, IsDone, HiredIn, AreAllRecorded, WasClaimed, IsHandedOn, AreFirstIfTold};
 
 use tf_desk::Desk;
 use tf_ports::Crew;
 
-/// What the file of a name holds at any later point of its life begins with what it held before: the same plan, and the
-/// history with what was recorded since.
+/// What the file of a name holds at any later point of its life begins with what it held before: the same flows, each with
+/// its plan and its history, and behind that what was recorded of them since, and the flows that were begun since.
 pub fn history_only_grows<K: Desk, W: Crew>()
     ensures { (name first last : List ℕ) → Life K.state (gives_by W.Hand.gives W.Far.gives) name first last
-        → (plan : PlanValue) (past : List Entry) → HoldsHistory plan past (book_in first)
-        → (entries : List Entry) × HoldsHistory plan (entries ++ past) (book_in last) }
+        → (elements : List Element) → HoldsElements elements (book_in first) → HoldsBeneath elements last }
 {}
 
-/// Whatever is recorded over a life is a step of the one history: a step that a rule allows after those before it, within
-/// its limits (`HoldsHistory`); by a hand that was hired for a call of the life, or by hand 0 where it puts the flow back;
-/// and where it ends a task, then with an outcome that the relation of the hands that the call wanted gives for the order
-/// of the task's last start, whose arguments are those that the definition of scopes gives at that moment: so what only a
-/// hand that asks a worker may give (`lost`, `bad-reply`) stands only where such hands were wanted. So it is also of an
-/// entry whose record a crash, or a fault of the disk, left pending.
+/// Whatever is recorded over a life is, of each flow of the book, a step of its one history: a step that a rule allows after
+/// those before it, within its limits (`HoldsElements`); by a hand that was hired for a call of the life, or by hand 0
+/// where it puts the flow back; and where it ends a task, then with an outcome that the relation of the hands that the call
+/// wanted gives for the order of the task's last start, whose arguments are those that the definition of scopes gives at
+/// that moment: so what only a hand that asks a worker may give (`lost`, `bad-reply`) stands only where such hands were
+/// wanted. So it is also of an entry whose record a crash, or a fault of the disk, left pending.
 pub fn every_entry_is_a_step<K: Desk, W: Crew>()
     ensures { (name first last : List ℕ) (life : Life K.state (gives_by W.Hand.gives W.Far.gives) name first last)
-        (plan : PlanValue) (past : List Entry) → HoldsHistory plan past (book_in first)
-        → (entries : List Entry) × HoldsHistory plan (entries ++ past) (book_in last)
-        × AreRecorded (gives_by W.Hand.gives W.Far.gives) (HiredIn K.state (gives_by W.Hand.gives W.Far.gives) life)
-        (outline_of plan) past entries }
+        (elements : List Element) → HoldsElements elements (book_in first)
+        → (newer : List Element) × HoldsElements (newer ++ elements) (book_in last)
+        × AreAllRecorded (gives_by W.Hand.gives W.Far.gives)
+        (HiredIn K.state (gives_by W.Hand.gives W.Far.gives) life) elements newer }
+{}
+
+/// What was carried over stands. A migration that ended with status 0 read a flow from the old book; and the file of its
+/// new book holds that flow, with its whole history, at any later point of its life.
+pub fn what_was_carried_over_stands<K: Desk, W: Crew>()
+    ensures { (old new last : List ℕ) (call : Call K.state (gives_by W.Hand.gives W.Far.gives)) → call.status ≡ 0
+        → Migrates old new (K.state call.entry) (K.state call.now) call.status
+        → Life K.state (gives_by W.Hand.gives W.Far.gives) new (file_of (K.state call.now) new) last
+        → IsCarriedOver (old_at (K.state call.entry) old) last }
 {}
 
 /// What a board's file holds at any later point of its life begins with what it held before: the same commands, with those
@@ -83,57 +93,62 @@ pub fn one_owner<K: Desk, W: Crew>()
 {}
 
 /// What a call showed of its entries is never lost: at any later point of the file's life it is told by the history that
-/// the file holds then. That is, behind the history before the call stand entries there whose lines the text is a prefix
-/// of; or all that the call recorded, whose lines the text has whole, with a prefix of the closing. So it is of a run
-/// (`run`, `resume`, `demo`), and of a flow that is put back (`reset`), whether the call returned or a crash came inside.
+/// the file holds then. That is, behind what the file held before the call stand entries of its flow whose lines the text
+/// is a prefix of; or all that the call recorded, whose lines the text has whole, with a prefix of the closing. So it is of
+/// a run (`run`, `resume`, `demo`), and of a flow that is put back (`reset`), whether the call returned or a crash came
+/// inside.
 pub fn nothing_shown_is_lost<K: Desk, W: Crew>()
     ensures run { (name mid last text : List ℕ) (call : Call K.state (gives_by W.Hand.gives W.Far.gives))
-        (request : Request) (back : GivenBack) (plan : PlanValue) (before : List Entry)
+        (request : Request) (back : GivenBack) (contents : Contents) (plan : PlanValue) (before : List Entry)
         → (p : Promised (gives_by W.Hand.gives W.Far.gives request.want) request
-        (WasAsked (K.state call.entry) (K.state call.now)) back name plan before
+        (WasAsked (K.state call.entry) (K.state call.now)) back name contents plan before
         (K.state call.entry) (K.state call.now) call.status)
         → Shown K.state (gives_by W.Hand.gives W.Far.gives) name call mid text
         → Life K.state (gives_by W.Hand.gives W.Far.gives) name mid last
-        → IsToldBy plan request.quiet before p.entries (K.state call.entry).shown p.closing text last }
+        → IsToldBy contents plan request.quiet before p.entries (K.state call.entry).shown p.closing text last }
     ensures reset { (name mid last text : List ℕ) (call : Call K.state (gives_by W.Hand.gives W.Far.gives))
-        (plan : PlanValue) (before : List Entry)
-        → (p : PutsBack name plan before (K.state call.entry) (K.state call.now) call.status)
+        (contents : Contents) (plan : PlanValue) (before : List Entry)
+        → (p : PutsBack name contents plan before (K.state call.entry) (K.state call.now) call.status)
         → Shown K.state (gives_by W.Hand.gives W.Far.gives) name call mid text
         → Life K.state (gives_by W.Hand.gives W.Far.gives) name mid last
-        → IsToldBy plan false before p.entries (K.state call.entry).shown p.closing text last }
+        → IsToldBy contents plan false before p.entries (K.state call.entry).shown p.closing text last }
 {}
 
 /// The orders that a hand was given in a call which recorded a run, where crew and hand tell them, are the first ones that
-/// the hand's starts and restarts ask for behind the history before the call, in the history that the file holds at any
-/// later point of its life. So nothing was performed whose start isn't in the book, whatever crash comes after the call.
+/// the hand's starts and restarts ask for behind the history before the call, in the history of the flow that the file
+/// holds at any later point of its life. So nothing was performed whose start isn't in the book, whatever crash comes after
+/// the call.
 pub fn orders_stand_in_the_book<K: Desk, W: Crew>()
     ensures { (name mid last : List ℕ) (call : Call K.state (gives_by W.Hand.gives W.Far.gives))
-        (request : Request) (back : List (Option (List AnOrder))) (plan : PlanValue) (before : List Entry)
+        (request : Request) (back : List (Option (List AnOrder))) (contents : Contents) (plan : PlanValue)
+        (before : List Entry)
         → (p : Promised (gives_by W.Hand.gives W.Far.gives request.want) request
-        (WasAsked (K.state call.entry) (K.state call.now)) (Some back) name plan before
+        (WasAsked (K.state call.entry) (K.state call.now)) (Some back) name contents plan before
         (K.state call.entry) (K.state call.now) call.status)
-        → HoldsHistory plan (p.entries ++ before) (book_in mid)
+        → HoldsWith contents p.entries (book_in mid)
         → Life K.state (gives_by W.Hand.gives W.Far.gives) name mid last
-        → (hand : ℕ) → (past : List Entry) × HoldsHistory plan past (book_in last)
-        × AreFirstIfTold (outline_of plan) before past hand (slice_index_or back hand None) }
+        → (hand : ℕ) → (newer : List Element)
+        × HoldsElements (newer ++ (with_entries contents p.entries).elements) (book_in last)
+        × AreFirstIfTold (outline_of plan) before (history contents.number newer ++ (p.entries ++ before)) hand
+        (slice_index_or back hand None) }
 {}
 
-/// A call that resumes a flow of which the file holds a history, on which no count of faults rises and for which no stop
-/// is asked, ends the flow: in success, in completed reversion, or in failure; unless memory runs out, or the next record
-/// would make the book longer than its limit. So it is at any point of a life, whatever came before.
+/// A call that resumes a flow which the file holds, on which no count of faults rises and for which no stop is asked, ends
+/// the flow: in success, in completed reversion, or in failure; unless memory runs out, or the next record would make the
+/// book longer than its limit. So it is at any point of a life, whatever came before.
 pub fn ends_as_stated<K: Desk, W: Crew>()
-    ensures { (name : List ℕ) (hands : AWant) (call : Call K.state (gives_by W.Hand.gives W.Far.gives))
-        (plan : PlanValue) (past : List Entry)
-        → command_of call.words ≡ Some (Resume name hands None)
-        → HoldsHistory plan past (book_at (K.state call.entry) name)
+    ensures { (name : List ℕ) (wanted : Option (List ℕ)) (hands : AWant)
+        (call : Call K.state (gives_by W.Hand.gives W.Far.gives)) (contents : Contents) (plan : PlanValue)
+        (past : List Entry)
+        → command_of call.words ≡ Some (Resume name wanted hands None)
+        → HoldsAsked wanted contents plan past (book_at (K.state call.entry) name)
         → IsUnfailing K.state (gives_by W.Hand.gives W.Far.gives) call
         → ¬ (Rises (K.state call.entry).disk_faults (K.state call.now).disk_faults)
-        → EndsAsStated plan past (file_of (K.state call.now) name) call.status }
+        → EndsAsStated contents plan past (file_of (K.state call.now) name) call.status }
 {}
 
-/// A file that holds a plan and a history is a book: it isn't refused at any of its bodies. So status 6 comes only where
-/// the file holds no history.
+/// A file that holds a legal book is refused at none of its bodies. So status 6 comes only where the file holds none.
 pub fn histories_are_not_refused()
-    ensures { (plan : PlanValue) (past : List Entry) (found : Recovered) → HoldsHistory plan past found
+    ensures { (elements : List Element) (found : Recovered) → HoldsElements elements found
         → (offset : ℕ) (byte : Option ℕ) → ¬ (IsNoBook found offset byte) }
 {}

@@ -10,6 +10,8 @@ mod details;
 #[cfg(test)]
 mod faults;
 #[cfg(test)]
+mod migrations;
+#[cfg(test)]
 mod orders;
 #[cfg(test)]
 mod remote;

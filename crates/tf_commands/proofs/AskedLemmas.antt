@@ -8,9 +8,8 @@ use Rattle.tf_actions.specs.declared.outcomes.Outcome.{Outcome}
 use Rattle.tf_states.specs.declared.record.Entry.{Entry}
 use Rattle.tf_states.specs.declared.state.FlowState.{FlowState}
 use Rattle.tf_engines.specs.Runs.{AreDue, IsSuspended, IsSession}
-use Rattle.tf_details.specs.Elements.{Element}
-use Rattle.tf_details.specs.Contents.{Contents}
-use Rattle.tf_book.specs.Starting.{begun_contents}
+use Rattle.tf_details.specs.Elements.{Element, Contents}
+use Rattle.tf_book.specs.Book.{begun_contents}
 use Rattle.tf_commands.specs.Books.{Promised, RunsAnew, overfull, ran, Runs, unopened, forbidden, too_many, unhired_run, hired_run, Resumes, unfound_again, unhired_again, resumed, Ran}
 use Rattle.tf_commands.specs.declared.running.Request.{Request}
 use Rattle.tf_model.specs.Plan.{Outline}

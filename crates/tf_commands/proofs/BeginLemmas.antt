@@ -10,12 +10,11 @@ use Rattle.tf_journal.proofs.PathLemmas.{set_start, path_widens, left_then}
 use Rattle.tf_journal.specs.Format.{Recovered, unborn, bodies, IsOpen, LeavesBodies}
 use Rattle.tf_journal.specs.Start.{file_of}
 use Rattle.tf_journal.specs.declared.title.Title.TheVariants.{Book2 as book_title}
-use Rattle.tf_details.specs.Elements.{Element, detail, bodies_of, book_size, IsHistoryOf, IsLegalBook}
-use Rattle.tf_details.specs.Contents.{Contents}
-use Rattle.tf_book.specs.Book.{BookValue, bodies_with}
+use Rattle.tf_details.specs.Elements.{Element, detail, bodies_of, book_size, IsHistoryOf, IsLegalBook, Contents}
+use Rattle.tf_book.specs.Book.{BookValue, bodies_with, begun_contents, HasPlaceFor, detail_body}
 use Rattle.tf_book.specs.SessionInvariant.{IsExact}
 use Rattle.tf_book.specs.Shelf.{ShelfValue, desk_at, desk_of, is_volatile, IsPlaced, IsTold, IsFoundAs}
-use Rattle.tf_book.specs.Starting.{begun_contents, HasPlaceFor, FindsAdded, LeavesBegun, detail_body, EndsThere, FailsToStart}
+use Rattle.tf_book.specs.Starting.{FindsAdded, LeavesBegun, EndsThere, FailsToStart}
 use Rattle.tf_book.proofs.ShelfLemmas.{no_elements}
 use Rattle.tf_book.specs.declared.faults.BookFault.{BookFault}
 use Rattle.tf_book.specs.declared.faults.BookFault.TheVariants as book_fault

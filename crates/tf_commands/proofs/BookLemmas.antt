@@ -8,8 +8,7 @@ use Rattle.tf_journal.specs.Start.{Untouched, Open, file_of}
 use Rattle.tf_actions.specs.declared.orders.Order.{Order}
 use Rattle.tf_actions.specs.declared.outcomes.Outcome.{Outcome}
 use Rattle.tf_details.specs.Elements.{Element, details, history, detail_name, number_among, CanRun}
-use Rattle.tf_book.specs.Book.{BookValue}
-use Rattle.tf_book.specs.Starting.{HasPlaceFor}
+use Rattle.tf_book.specs.Book.{BookValue, HasPlaceFor}
 use Rattle.tf_states.specs.declared.state.FlowState.{FlowState}
 use Rattle.tf_model.specs.History.{flow_of}
 use Rattle.tf_commands.specs.Begun.{IsNamedState}

@@ -14,9 +14,8 @@ use Rattle.tf_states.specs.declared.state.FlowState.TheVariants as flow
 use Rattle.tf_model.specs.History.{snapshot}
 use Rattle.tf_model.specs.Plan.{outline_of}
 use Rattle.tf_journal.specs.Format.{Recovered}
-use Rattle.tf_details.specs.Elements.{Element, details, detail_name, number_among}
-use Rattle.tf_details.specs.Contents.{Contents as Held, with_entries}
-use Rattle.tf_book.specs.Starting.{begun_contents, HasPlaceFor}
+use Rattle.tf_details.specs.Elements.{Element, details, detail_name, number_among, Contents as Held, with_entries}
+use Rattle.tf_book.specs.Book.{begun_contents, HasPlaceFor}
 use Rattle.tf_book.specs.Turns.{may_reset, is_reached}
 use Rattle.tf_words.specs.declared.asked.Asked.{Asked}
 use Rattle.tf_words.specs.declared.asked.Asked.TheVariants as asked

@@ -11,9 +11,8 @@ use Rattle.tf_states.specs.declared.state.FlowState.TheVariants as flow
 use Rattle.tf_model.specs.Plan.{outline_of}
 use Rattle.tf_book.specs.Turns.{is_reached}
 use Rattle.tf_journal.specs.Format.{Recovered, old_format}
-use Rattle.tf_details.specs.Elements.{Element}
-use Rattle.tf_details.specs.Contents.{Contents, with_entries}
-use Rattle.tf_book.specs.Starting.{begun_contents}
+use Rattle.tf_details.specs.Elements.{Element, Contents, with_entries}
+use Rattle.tf_book.specs.Book.{begun_contents}
 use Rattle.tf_board_service.specs.Sessions as service
 use Rattle.tf_board_service.specs.Sessions.{IsServiceStatus}
 use Rattle.tf_commands.specs.Asking.{demo_tree}

@@ -18,8 +18,8 @@ use Rattle.tf_details.proofs.OnceLemmas.{as_many, named_alike, read_once}
 use Rattle.std.proofs.lemmas.List.{length-append}
 use Rattle.tf_journal.specs.declared.faults.LoadFault.{LoadFault}
 use Rattle.tf_journal.specs.declared.faults.LoadFault.TheVariants as load_fault
-use Rattle.tf_book.specs.Book.{BookValue, RefusesBook}
-use Rattle.tf_book.specs.Shelf.{ShelfValue, desk_of, listed_from, listed, IsPlaced, IsFoundAs, IsOpened}
+use Rattle.tf_book.specs.Book.{BookValue, RefusesBook, listed_from, listed}
+use Rattle.tf_book.specs.Shelf.{ShelfValue, desk_of, IsPlaced, IsFoundAs, IsOpened}
 use Rattle.tf_book.proofs.ShelfLemmas.{listed_long}
 use Rattle.tf_book.specs.declared.shelf.Detail.{Detail}
 use Rattle.tf_book.specs.declared.shelf.Place.{Place}

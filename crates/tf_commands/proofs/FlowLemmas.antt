@@ -2,8 +2,7 @@
 use Rattle.std.proofs.Common.{◌≡◌, ℕ, List, [], ◌∷◌, ◌++◌, length, Some, inl, inr, ◌∙◌, sym, subst, arith}
 use Rattle.tf_flow.specs.Plan.{PlanValue}
 use Rattle.tf_journal.specs.Format.{Recovered, unborn, bodies}
-use Rattle.tf_details.specs.Elements.{Element, element_bytes, bodies_of, plan_of}
-use Rattle.tf_details.specs.Contents.{Contents, IsContents}
+use Rattle.tf_details.specs.Elements.{Element, element_bytes, bodies_of, plan_of, Contents, IsContents}
 use Rattle.tf_details.proofs.ElementLemmas.{number_below}
 use Rattle.tf_commands.specs.Books.{HoldsNoFlow}
 

@@ -10,8 +10,7 @@ use Rattle.tf_states.specs.declared.record.Entry.{Entry}
 use Rattle.tf_model.specs.Plan.{outline_of}
 use Rattle.tf_journal.specs.Format.{Recovered, bodies, LeavesEither}
 use Rattle.tf_journal.specs.declared.title.Title.TheVariants.{Book2 as book_title}
-use Rattle.tf_details.specs.Elements.{IsLegalBook}
-use Rattle.tf_details.specs.Contents.{Contents, with_entries}
+use Rattle.tf_details.specs.Elements.{IsLegalBook, Contents, with_entries}
 use Rattle.tf_book.specs.Book.{BookValue, outline, bodies_with}
 use Rattle.tf_book.specs.SessionInvariant.{SessionInvariant, said, IsSpoken, IsCut, HasCause, LeavesEntries, MayFollow, nothing_more, IsPending, IsExact, IsFullFor}
 use Rattle.tf_book.specs.Turns.{IsTried}

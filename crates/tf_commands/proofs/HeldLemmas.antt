@@ -5,8 +5,7 @@ use Rattle.tf_states.specs.declared.record.Entry.{Entry}
 use Rattle.tf_model.specs.History.{snapshot}
 use Rattle.tf_model.specs.Plan.{outline_of}
 use Rattle.tf_model.specs.Steps.{Step}
-use Rattle.tf_details.specs.Elements.{IsLegalBook}
-use Rattle.tf_details.specs.Contents.{Contents, with_entries, past_of, IsContents}
+use Rattle.tf_details.specs.Elements.{IsLegalBook, Contents, with_entries, past_of, IsContents}
 use Rattle.tf_details.proofs.ContentsLemmas.{contents_on}
 use Rattle.tf_book.specs.Book.{BookValue}
 use Rattle.tf_book.specs.SessionInvariant.{MayFollow, nothing_more, one_more}

@@ -5,10 +5,8 @@ use Rattle.tf_desk.specs.State.{DeskState}
 use Rattle.tf_flow.specs.Plan.{PlanValue}
 use Rattle.tf_states.specs.declared.record.Entry.{Entry}
 use Rattle.tf_journal.specs.Format.{Recovered, unborn}
-use Rattle.tf_migration.specs.Flows.{old_at, new_at}
 use Rattle.tf_migration.specs.Migrates as migration
-use Rattle.tf_migration.specs.Migrates.{Migrates, IsUnreadFor, IsUnbegunFor, IsBegunFor, IsBookOfFlow, HasCauses}
-use Rattle.tf_migration.specs.Writing.{Left}
+use Rattle.tf_migration.specs.Migrates.{Migrates, IsUnreadFor, IsUnbegunFor, IsBegunFor, IsBookOfFlow, HasCauses, old_at, new_at, Left}
 use Rattle.tf_numbers.specs.Numbers.{Rises}
 use Rattle.tf_report.specs.Closing.{ClosesWithOrStops}
 use Rattle.tf_report.proofs.ClosingLemmas.{ends_status}

@@ -14,10 +14,8 @@ use Rattle.tf_journal.specs.declared.title.Title.TheVariants.{Book2 as book_titl
 use Rattle.tf_actions.specs.declared.orders.Order.{Order}
 use Rattle.tf_actions.specs.declared.outcomes.Outcome.{Outcome}
 use Rattle.tf_states.specs.declared.record.Entry.{Entry}
-use Rattle.tf_details.specs.Elements.{Element, detail}
-use Rattle.tf_details.specs.Contents.{Contents}
-use Rattle.tf_book.specs.Book.{BookValue, bodies_with}
-use Rattle.tf_book.specs.Starting.{begun_contents}
+use Rattle.tf_details.specs.Elements.{Element, detail, Contents}
+use Rattle.tf_book.specs.Book.{BookValue, bodies_with, begun_contents}
 use Rattle.tf_book.specs.SessionInvariant.{IsExact}
 use Rattle.tf_book.proofs.SpokenLemmas.{shown_none}
 use Rattle.tf_journal.proofs.PathLemmas.{set_start, path_said}

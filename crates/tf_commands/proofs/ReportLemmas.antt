@@ -12,7 +12,7 @@ use Rattle.tf_states.specs.declared.state.FlowState.TheVariants as flow
 use Rattle.tf_model.specs.History.{snapshot}
 use Rattle.tf_model.specs.Plan.{outline_of}
 use Rattle.tf_report.specs.Lines.{report}
-use Rattle.tf_details.specs.Contents.{Contents}
+use Rattle.tf_details.specs.Elements.{Contents}
 use Rattle.tf_book.specs.Closed.{IsClosing}
 use Rattle.tf_book.specs.SessionInvariant.{said, HasCause}
 use Rattle.tf_book.specs.Faults.{IsHaltedBy, IsFault}

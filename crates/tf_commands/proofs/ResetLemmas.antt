@@ -11,8 +11,7 @@ use Rattle.tf_states.specs.declared.state.FlowState.{FlowState}
 use Rattle.tf_states.specs.declared.state.FlowState.TheVariants as flow
 use Rattle.tf_model.specs.History.{flow_of}
 use Rattle.tf_model.specs.Plan.{outline_of}
-use Rattle.tf_details.specs.Elements.{detail_name}
-use Rattle.tf_details.specs.Contents.{with_entries}
+use Rattle.tf_details.specs.Elements.{detail_name, with_entries}
 use Rattle.tf_book.specs.Book.{BookValue, outline, moment, flow_state}
 use Rattle.tf_book.specs.SessionInvariant.{said}
 use Rattle.tf_book.specs.Turns.{may_reset, AreReset, IsPutBackOn, IsTried, IsNextReset, HasTriedToReset}

@@ -8,8 +8,7 @@ use Rattle.tf_states.specs.declared.state.FlowState.{FlowState}
 use Rattle.tf_states.specs.declared.state.FlowState.TheVariants as flow
 use Rattle.tf_model.specs.Steps.{already_ended, has_ended}
 use Rattle.tf_bound.specs.Short.{AreShort, IsWithinLimits}
-use Rattle.tf_details.specs.Elements.{IsHistoryOf}
-use Rattle.tf_details.specs.Contents.{Contents}
+use Rattle.tf_details.specs.Elements.{IsHistoryOf, Contents}
 use Rattle.tf_book.specs.Book.{BookValue, outline, flow_state}
 use Rattle.tf_book.proofs.InvariantLemmas.{keeps_none}
 use Rattle.tf_commands.specs.declared.running.Request.{Request}

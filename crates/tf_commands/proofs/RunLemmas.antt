@@ -20,8 +20,7 @@ use Rattle.tf_journal.specs.Format.{Recovered}
 use Rattle.tf_bound.specs.Short.{AreShort, IsWithinLimits}
 use Rattle.tf_bound.proofs.SessionLemmas.{session_at_most}
 use Rattle.tf_report.specs.Lines.{report}
-use Rattle.tf_details.specs.Elements.{IsLegalBook}
-use Rattle.tf_details.specs.Contents.{Contents, with_entries}
+use Rattle.tf_details.specs.Elements.{IsLegalBook, Contents, with_entries}
 use Rattle.tf_book.specs.Book.{BookValue, outline, moment}
 use Rattle.tf_book.specs.Closed.{Closed, IsClosing, LeavesClosed}
 use Rattle.tf_book.specs.SessionInvariant.{said, IsExact}

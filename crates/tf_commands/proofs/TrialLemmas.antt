@@ -12,11 +12,10 @@ use Rattle.tf_entries.specs.declared.heads.Head.TheVariants as head
 use Rattle.tf_entries.specs.Plans.{plan_bytes}
 use Rattle.tf_entries.proofs.LengthLemmas.{plan_bounds}
 use Rattle.std.proofs.lemmas.List.{length-append}
-use Rattle.tf_details.specs.Elements.{Element}
-use Rattle.tf_details.specs.Contents.{Contents}
-use Rattle.tf_book.specs.Book.{BookValue}
+use Rattle.tf_details.specs.Elements.{Element, Contents}
+use Rattle.tf_book.specs.Book.{BookValue, begun_contents, HasPlaceFor, IsFullToBegin}
 use Rattle.tf_book.specs.Shelf.{ShelfValue}
-use Rattle.tf_book.specs.Starting.{begun_contents, HasPlaceFor, IsFullToBegin, FailsToStart}
+use Rattle.tf_book.specs.Starting.{FailsToStart}
 use Rattle.tf_book.specs.declared.faults.BookFault.{BookFault}
 use Rattle.tf_book.specs.declared.faults.BookFault.TheVariants as fault
 use Rattle.tf_book.specs.declared.faults.Halt.{Halt}

@@ -15,8 +15,7 @@ use Rattle.tf_ports.specs.declared.crews.Hands.{Hands}
 use Rattle.tf_ports.specs.declared.crews.Hands.TheVariants as hands
 use Rattle.tf_ports.specs.declared.crews.Want.{Want}
 use Rattle.tf_ports.specs.declared.crews.Want.TheVariants as want
-use Rattle.tf_details.specs.Elements.{Element}
-use Rattle.tf_details.specs.Contents.{Contents}
+use Rattle.tf_details.specs.Elements.{Element, Contents}
 use Rattle.tf_commands.specs.Books.{Promised, RunsAnew, overfull, ran, Hires, AreAllBack, AreFreshBack, HasStopped}
 use Rattle.tf_commands.proofs.OrderLemmas.{given_back}
 use Rattle.tf_commands.specs.Course.{Tried}

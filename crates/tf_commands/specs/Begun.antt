@@ -9,10 +9,9 @@ use Rattle.tf_journal.specs.Start.{Path, IsSet, Open, file_of}
 use Rattle.tf_flow.specs.Tree.{same_name}
 use Rattle.tf_model.specs.History.{flow_of}
 use Rattle.tf_details.specs.Elements.{Element, details, history, number_among, CanRun, IsLegalBook}
-use Rattle.tf_book.specs.Book.{BookValue}
+use Rattle.tf_book.specs.Book.{BookValue, begun_contents, IsFullToBegin}
 use Rattle.tf_book.specs.SessionInvariant.{IsExact}
 use Rattle.tf_book.specs.Shelf.{ShelfValue, desk_of, is_volatile, IsPlaced, IsFoundAs}
-use Rattle.tf_book.specs.Starting.{begun_contents, IsFullToBegin}
 use Rattle.tf_book.specs.declared.faults.BookFault.{BookFault}
 use Rattle.tf_book.specs.declared.faults.BookFault.TheVariants as book_fault
 use Rattle.tf_book.specs.declared.faults.Halt.{Halt}

@@ -8,12 +8,9 @@ use Rattle.tf_states.specs.declared.record.Entry.{Entry}
 use Rattle.tf_journal.specs.Start.{file_of, IsStart}
 use Rattle.tf_journal.specs.Format.{Recovered, unborn, old_format, bodies, recovered, journal_bytes}
 use Rattle.tf_journal.specs.declared.title.Title.TheVariants.{Book2 as book_title}
-use Rattle.tf_details.specs.Elements.{Element, details, history, detail_name, number_among, bodies_of, CanRun, IsLegalBook}
-use Rattle.tf_details.specs.Contents.{Contents, with_entries, past_of, IsContents}
+use Rattle.tf_details.specs.Elements.{Element, details, history, detail_name, number_among, bodies_of, CanRun, IsLegalBook, Contents, with_entries, past_of, IsContents}
 use Rattle.tf_model.specs.Plan.{outline_of, entry_bound, Outline, count}
-use Rattle.tf_book.specs.Book.{IsNoBook, bodies_with}
-use Rattle.tf_book.specs.Shelf.{listed}
-use Rattle.tf_book.specs.Starting.{begun_contents, HasPlaceFor, IsFullToBegin}
+use Rattle.tf_book.specs.Book.{IsNoBook, bodies_with, listed, begun_contents, HasPlaceFor, IsFullToBegin}
 use Rattle.tf_book.specs.SessionInvariant.{said, MayFollow, IsCut, IsFullFor, history_text}
 use Rattle.std.specs.List.{list_all, AllByRecursion}
 use Rattle.tf_states.specs.declared.state.FlowState.{FlowState}

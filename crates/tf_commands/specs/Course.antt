@@ -11,11 +11,9 @@ use Rattle.tf_ports.specs.declared.reading.TheConstants.{SOURCE_LIMIT}
 use Rattle.tf_flow.specs.Plan.{PlanValue, PlanTree, plan_tree}
 use Rattle.tf_journal.specs.Format.{Recovered, unborn, old_format}
 use Rattle.tf_details.specs.Elements.{Element}
-use Rattle.tf_details.specs.Contents as held
-use Rattle.tf_migration.specs.Flows.{old_at, new_at}
-use Rattle.tf_migration.specs.Migrates.{Migrates, IsBookOfFlow, IsComplete as IsMigrationComplete}
-use Rattle.tf_book.specs.Book.{IsNoBook}
-use Rattle.tf_book.specs.Starting.{begun_contents, HasPlaceFor}
+use Rattle.tf_details.specs.Elements as held
+use Rattle.tf_migration.specs.Migrates.{Migrates, IsBookOfFlow, IsComplete as IsMigrationComplete, old_at, new_at}
+use Rattle.tf_book.specs.Book.{IsNoBook, begun_contents, HasPlaceFor}
 use Rattle.tf_book.specs.Turns.{may_reset}
 use Rattle.tf_model.specs.History.{snapshot}
 use Rattle.tf_model.specs.Plan.{outline_of}

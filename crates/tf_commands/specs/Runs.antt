@@ -9,8 +9,7 @@ use Rattle.tf_states.specs.declared.state.FlowState.{FlowState}
 use Rattle.tf_journal.specs.Format.{Recovered, LeavesBodies, LeavesEither}
 use Rattle.tf_journal.specs.declared.title.Title.TheVariants.{Book2 as book_title}
 use Rattle.tf_flow.specs.Plan.{PlanValue}
-use Rattle.tf_details.specs.Elements.{IsHistoryOf, IsLegalBook}
-use Rattle.tf_details.specs.Contents.{IsContents, with_entries, past_of}
+use Rattle.tf_details.specs.Elements.{IsHistoryOf, IsLegalBook, IsContents, with_entries, past_of}
 use Rattle.tf_book.specs.Book.{BookValue, outline, bodies_with, flow_state}
 use Rattle.tf_book.specs.SessionInvariant.{SessionInvariant, IsExact, StaysOffDisk}
 use Rattle.tf_book.specs.Turns.{IsPutBackOn, IsTried, IsNextReset}

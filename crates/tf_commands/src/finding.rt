@@ -2,7 +2,8 @@
 
 ghost use Rattle.std.specs.Prelude.{◌≡◌, ◌≤◌, ◌<◌, ◌+◌, ℕ, List, Option, false, length, position, None, Some, IfOk, IfErr, IfSome};
 ghost use Rattle.tf_details.specs.Elements.{Element, details};
-ghost use Rattle.tf_book.specs.Shelf.{desk_of, is_volatile, listed};
+ghost use Rattle.tf_book.specs.Shelf.{desk_of, is_volatile};
+ghost use Rattle.tf_book.specs.Book.{listed};
 ghost use Rattle.tf_commands.specs.Asking.{HasEachCause, counts_of};
 ghost use Rattle.tf_commands.specs.Begun.{IsShelf, IsShelfOf, is_listed, IsNamedState, IsNumberAsked, IsReadyBook, desk_found};
 ghost use Rattle.tf_commands.specs.Books.{IsAskedFor, Unfound};

@@ -6,7 +6,7 @@ ghost use Rattle.tf_flow.specs.Plan.{plan_tree};
 ghost use Rattle.tf_ports.specs.Ports.{gives_by, IsFresh, wanted as number_of};
 ghost use Rattle.tf_machine.specs.Machine.{StandsFor};
 ghost use Rattle.tf_book.specs.Shelf.{desk_of, is_volatile};
-ghost use Rattle.tf_book.specs.Starting.{HasPlaceFor};
+ghost use Rattle.tf_book.specs.Book.{HasPlaceFor};
 ghost use Rattle.tf_commands.specs.Asking.{AreHands, HasEachCause, WasAsked, counts_of};
 ghost use Rattle.tf_commands.specs.Begun.{IsShelf, IsShelfOf};
 ghost use Rattle.tf_commands.specs.Books.{Hires, Unhired, RunsAnew, Runs};

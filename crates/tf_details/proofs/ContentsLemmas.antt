@@ -9,8 +9,7 @@ use Rattle.tf_flow.specs.Plan.{PlanValue}
 use Rattle.tf_model.specs.History.{snapshot}
 use Rattle.tf_model.specs.Plan.{outline_of}
 use Rattle.tf_model.specs.Steps.{Step}
-use Rattle.tf_details.specs.Elements.{Element, detail, entry, history, book_size, IsForm}
-use Rattle.tf_details.specs.Contents.{Contents, with_entries, past_of, IsContents}
+use Rattle.tf_details.specs.Elements.{Element, detail, entry, history, book_size, IsForm, Contents, with_entries, past_of, IsContents}
 use Rattle.tf_details.specs.Marks.{element_shown, elements_shown}
 use Rattle.tf_details.specs.declared.marks.Mark.{Mark}
 

@@ -46,7 +46,7 @@ short_event (what.Flow state) good = tt
 short_event (what.Resolve number kind) good = tt
 short_event (what.Restart number) good = tt
 
-short_past : (past : List Entry) → AreForms past → AreShort past
+pub short_past : (past : List Entry) → AreForms past → AreShort past
 short_past [] forms = tt
 short_past (e ∷ past) forms = (short_event e.what forms.0.1, short_past past forms.1)
 

@@ -1,5 +1,5 @@
 -- A book of several flows: which elements it may hold, the bodies that they have in its file, and which body can't come next.
-use Rattle.std.specs.Prelude.{◌≡◌, ◌≢◌, ◌<◌, ◌≤◌, ◌+◌, ◌^◌, ℕ, List, [], ◌∷◌, ◌++◌, length, Bool, Option, None, Some, nat_eq, if◌then◌else◌, position, slice_get}
+use Rattle.std.specs.Prelude.{◌≡◌, ◌≢◌, ◌<◌, ◌≤◌, ◌+◌, ◌^◌, ℕ, List, [], ◌∷◌, ◌++◌, length, Bool, Option, None, Some, nat_eq, if◌then◌else◌, position, slice_get, map}
 use Rattle.std.specs.List.{AllByRecursion}
 use Rattle.tf_states.specs.declared.record.Entry.{Entry}
 use Rattle.tf_flow.specs.Plan.{PlanValue}
@@ -165,3 +165,23 @@ pub record CannotFollow (before : List (List ℕ)) (body : List ℕ) : Type 0 wh
   pub legal : IsLegalBook book
   pub bodies_are : before ≡ bodies_of book
   pub cannot : IsNoElement book body
+
+-- ---- what a file holds, of which one detail is meant
+
+-- the elements, the newest first, and the number of the detail that is meant
+pub record Contents : Type 0 where
+  pub number : ℕ
+  pub elements : List Element
+
+-- the same with these entries of the detail behind them, the newest first
+abbrev pub with_entries : Contents → List Entry → Contents
+with_entries contents entries = record contents { elements = map (entry contents.number) entries ++ contents.elements }
+
+-- the history of the detail
+abbrev pub past_of : Contents → List Entry
+past_of contents = history contents.number contents.elements
+
+-- the elements are a legal book, in which the detail has this plan
+pub record IsContents (plan : PlanValue) (contents : Contents) : Type 0 where
+  pub legal : IsLegalBook contents.elements
+  pub of_detail : plan_of contents.elements contents.number ≡ Some plan

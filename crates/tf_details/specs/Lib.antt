@@ -1,5 +1,4 @@
 pub mod Elements
 pub mod Whole
 pub mod Marks
-pub mod Contents
 pub mod Reading

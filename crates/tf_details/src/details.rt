@@ -1,13 +1,12 @@
 //! The details of a book as they were read: a machine for each, in the order of their numbers.
 ghost use Rattle.std.specs.Prelude.{◌≡◌, ◌≢◌, ◌<◌, ◌≤◌, ◌∷◌, ◌++◌, ◌⊎◌, [], ℕ, List, length, None, Some, IfSome, OnOk, IsErrOf, option_map, position, slice_index_or};
-ghost use Rattle.tf_flow.specs.Plan.{PlanValue};
 ghost use Rattle.tf_states.specs.declared.record.Entry.{Entry as Record};
 ghost use Rattle.tf_machine.specs.Answers.{IsBack};
 ghost use Rattle.tf_machine.specs.Machine.{MachineValue, StandsFor};
 ghost use Rattle.tf_machine.specs.declared.faults.ApplyFault.TheVariants.{NotAStep as refuses};
 ghost use Rattle.tf_model.specs.History.{flow_of};
 ghost use Rattle.tf_details.specs.Elements.{Element, details as details_of, plan_of, history, detail_name, has_name, number_among, IsNoEntry};
-ghost use Rattle.tf_details.specs.Reading.{plans_in, is_named, AreMachinesOf, HasReplayed, IsReadEntry, HasTaken};
+ghost use Rattle.tf_details.specs.Reading.{plans_in, is_named, AreMachinesOf, IsReadEntry, HasTaken};
 
 use std::alloc::Global;
 use std::marker::Model;

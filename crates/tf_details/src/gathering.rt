@@ -162,6 +162,8 @@ impl<H: Keeps> Replay for Gathering<H> {
 
     ghost refuses = { CannotFollow };
 
+    ghost fixed = { λ gathering. gathering.number };
+
     /// Reads an element, which may stand after those that were read, and keeps it where it is an entry of the history
     /// that is gathered. `No` comes where the body is that of no such element.
     fn replay(&mut self, alloc: Global, body: &[u8]) -> Result<(), MakeFault> {

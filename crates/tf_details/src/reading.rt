@@ -1,13 +1,13 @@
 //! How the bodies of a book are read, one after another.
-ghost use Rattle.std.specs.Prelude.{◌≡◌, ◌≢◌, ◌<◌, ◌≤◌, ◌++◌, ◌∷◌, [], ℕ, List, length, OnOk, IfOk, IsErrOf, MatchOption, slice_index_or};
+ghost use Rattle.std.specs.Prelude.{◌≡◌, ◌<◌, ◌++◌, [], List, IfOk, IsErrOf, MatchOption};
 ghost use Rattle.tf_flow.specs.Plan.{PlanValue};
 ghost use Rattle.tf_entries.specs.Heads.{IsHead, BeginsWith, head_bytes};
 ghost use Rattle.tf_entries.specs.Plans.{plan_bytes};
 ghost use Rattle.tf_entries.specs.declared.heads.Head.{Head as AHead};
 ghost use Rattle.tf_machine.specs.Answers.{IsBuildRefusal};
-ghost use Rattle.tf_machine.specs.Machine.{MachineValue, outline, StandsFor};
-ghost use Rattle.tf_details.specs.Elements.{Element, IsHistoryOf, CanRun, IsNoPlan, IsNoDetail, IsNoEntry};
-ghost use Rattle.tf_details.specs.Reading.{AreMachinesOf, HasReadDetail, IsReadEntry};
+ghost use Rattle.tf_machine.specs.Machine.{StandsFor};
+ghost use Rattle.tf_details.specs.Elements.{Element, IsHistoryOf, CanRun, IsNoPlan, IsNoEntry};
+ghost use Rattle.tf_details.specs.Reading.{AreMachinesOf, IsReadEntry};
 
 use crate::details::Details;
 use std::alloc::Global;

@@ -1,21 +1,19 @@
 //! Books that tests run.
-ghost use Rattle.std.specs.Prelude.{[], IfOk};
-ghost use Rattle.tf_book.specs.Starting.{HasNoRecord};
+ghost use Rattle.std.specs.Prelude.{◌≡◌, [], IfOk};
 ghost use Rattle.tf_machine.specs.Machine.{StandsFor};
 
 use std::alloc::Global;
 use std::test::Fail;
-use tf_book::{Book, Loaded};
+use tf_book::{Book, Shelf};
 use tf_desk::{Desk, MemoryDesk};
 use tf_entries::decode_plan;
 use tf_flow::Plan;
-use tf_journal::Journal;
 use tf_machine::Machine;
 use tf_values::Text;
 
 /// The book of a linear flow `main` with one task `a` that gives 1, of which nothing was run.
 pub(crate) const ONE_TASK_BOOK: &[u8] =
-    b"\xa5TASKFLOW BOOK 1\x0a\xa5\x00\x00\x009\x04main\x00\x00\x00\x01\x00\x01a\x00\x00\x00\x00\x01\x05value\x05value\x00\x01\x05value\x03\x00\x00\x00\x00\x00\x00\x00\x01\x00\x00\x00\x00\x00\x00\x00\x00\x00\x00\x00\x00";
+    b"\xa5TASKFLOW BOOK 2\x0a\xa5\x00\x00\x00:\x01\x04main\x00\x00\x00\x01\x00\x01a\x00\x00\x00\x00\x01\x05value\x05value\x00\x01\x05value\x03\x00\x00\x00\x00\x00\x00\x00\x01\x00\x00\x00\x00\x00\x00\x00\x00\x00\x00\x00\x00";
 
 /// The plan in it.
 pub(crate) const ONE_TASK: &[u8] =
@@ -48,22 +46,22 @@ fn machine(alloc: Global, plan: Plan) -> Result<Machine, Fail>
     }
 }
 
-/// A journal of which nothing is kept, over this desk.
-fn journal<K: Desk>(alloc: Global, desk: K) -> Result<Journal<K>, Fail>
-    ensures { IfOk result (HasNoRecord K.state) }
+/// A shelf of which nothing is kept, over this desk.
+fn shelf<K: Desk>(alloc: Global, desk: K) -> Result<Shelf<K>, Fail>
+    ensures { IfOk result (λ shelf. shelf.elements ≡ []) }
 {
-    match Journal::volatile(alloc, desk) {
-        Ok(journal) => Ok(journal),
-        Err(_) => Err(Fail::from("there is no journal")),
+    match Shelf::volatile(alloc, desk) {
+        Ok(shelf) => Ok(shelf),
+        Err(_) => Err(Fail::from("there is no shelf")),
     }
 }
 
-/// The book of a machine that has run nothing, over a journal without a record.
-fn started<K: Desk>(alloc: Global, journal: Journal<K>, machine: Machine) -> Result<Book<K>, Fail>
-    requires new { HasNoRecord K.state journal }
+/// The book of a machine that has run nothing, in a shelf without a detail.
+fn started<K: Desk>(shelf: Shelf<K>, machine: Machine) -> Result<Book<K>, Fail>
+    requires none { shelf.elements ≡ [] }
     requires fresh { StandsFor machine [] }
 {
-    match Book::start(alloc, journal, machine, false) {
+    match shelf.start(machine, false) {
         Ok(book) => Ok(book),
         Err(_) => Err(Fail::from("the book doesn't begin")),
     }
@@ -72,8 +70,8 @@ fn started<K: Desk>(alloc: Global, journal: Journal<K>, machine: Machine) -> Res
 /// A run of a plan of which nothing is kept, over this desk.
 pub(crate) fn begun<K: Desk>(alloc: Global, plan: Plan, desk: K) -> Result<Book<K>, Fail> {
     let machine = machine(alloc, plan)?;
-    let journal = journal(alloc, desk)?;
-    started(alloc, journal, machine)
+    let shelf = shelf(alloc, desk)?;
+    started(shelf, machine)
 }
 
 /// These numbers, as those of the calls that fail.
@@ -112,11 +110,17 @@ fn write<K: Desk>(alloc: Global, desk: &mut K, bytes: &[u8]) -> Result<(), Fail>
     Ok(())
 }
 
-/// The book that the picked file of this desk is.
+/// The only detail of the book that the picked file of this desk is.
 fn loaded<K: Desk>(alloc: Global, desk: K) -> Result<Book<K>, Fail> {
-    match Book::load(alloc, desk) {
-        Ok(Loaded::Book(book)) => Ok(book),
-        _ => Err(Fail::from("the file is no book with a flow")),
+    let Ok(shelf) = Shelf::load(alloc, desk) else {
+        return Err(Fail::from("the file is no book"));
+    };
+    if shelf.details().len() != 1 {
+        return Err(Fail::from("the book hasn't one detail"));
+    }
+    match shelf.open(0) {
+        Ok(book) => Ok(book),
+        Err(_) => Err(Fail::from("the detail isn't opened")),
     }
 }
 

@@ -36,6 +36,8 @@ use Rattle.tf_states.proofs.record.Entry.TheSendSync as entry
 use Rattle.tf_book.proofs.faults.Halt.TheSendSync as halt
 use Rattle.tf_book.specs.contracts.book.Book as book
 use Rattle.tf_book.specs.contracts.history.History as history
+use Rattle.tf_book.specs.contracts.holding.Holding as holding
+use Rattle.tf_details.specs.contracts.marks.Mark as mark
 use Rattle.tf_book.proofs.writing.Draft.TheSendSync as draft
 use Rattle.tf_engines.specs.contracts.shared.Shared as shared
 use Rattle.tf_engines.specs.contracts.hand_loop.Worker as worker
@@ -73,8 +75,14 @@ machine_send = search (sendable, crosses, compiled_send, tables.the_send, tables
 history_send : IsSend (history.the_field).row
 history_send = search (sendable, crosses, entry.the_send) depth 14
 
+mark_send : IsSend (mark.the_field).row
+mark_send = search (sendable, crosses) depth 14
+
+holding_send : IsSend (holding.the_field).row
+holding_send = search (sendable, crosses) depth 14
+
 pub book_send : (K : RattleType) (g : Ghosts K.Denot) → IsSend K → IsSend (book.the_row K g)
-book_send K g k = search (sendable, crosses, heap.the_send, heap.the_field_send, journal.the_send, machine_send, history_send, draft.the_send, draft.the_field_send, halt.the_send, entry.the_send) depth 24
+book_send K g k = search (sendable, crosses, heap.the_send, heap.the_field_send, journal.the_send, machine_send, history_send, holding_send, draft.the_send, draft.the_field_send, halt.the_send, entry.the_send) depth 24
 
 pub shared_send : (K P : RattleType) (g : Ghosts K.Denot) (h : performers.Ghosts P.Denot) → IsSend K → IsSend P → IsSend (shared.the_row K P g h)
 shared_send K P g h k p = search (sendable, crosses, book_send) depth 14

@@ -1,6 +1,6 @@
 -- What the type of a shared book keeps, from its entering to the end of its run.
-use Rattle.std.proofs.Common.{◌≡◌, ◌<◌, ◌≤◌, ℕ, ◌⊎◌, inl, inr, Bool, true, false, not, List, [], ◌∷◌, ◌++◌, Option, Some, refl, ap, ◌∙◌, sym, subst, append_assoc, arith}
-use Rattle.std.specs.Prelude.{nat_eq}
+use Rattle.std.proofs.Common.{◌≡◌, ◌<◌, ◌≤◌, ℕ, ◌⊎◌, inl, inr, Bool, true, false, not, List, [], ◌∷◌, ◌++◌, Option, Some, None, refl, ap, ◌∙◌, sym, subst, append_assoc, arith}
+use Rattle.std.specs.Prelude.{nat_eq, IsSome}
 use Rattle.std.specs.List.{list_all}
 use Rattle.std.proofs.lemmas.Bool.{lt-ltb}
 use Rattle.std.proofs.lemmas.List.Folds.{list_all-append}
@@ -221,6 +221,13 @@ module _ {K : Type 0} (state : K → DeskState) (gives : Order → Outcome → T
     ran = has_run (Rises (state s.start.journal.desk).asks (state s.now.journal.desk).asks) s.number s.limit (outline s.start) s.start.past s.now.past s.now.limit s.now.halt answer legal stands had.stands;
     asks = had.asks;
   }
+
+  -- the flow has a last state, unless the book is halted, as it is where a hand couldn't go on
+  pub lasts_unhalted : (s : SharedValue K) (book now : BookValue K) (failed : Bool) → book ≡ s.now → now ≡ record book { halt = now.halt } → (failed ≡ true → IsSome now.halt)
+      → (failed ≡ false → is_last (flow_of s.now.past) ≡ true) → now.halt ≡ None → is_last (flow_of now.past) ≡ true
+  lasts_unhalted s book now true is same halted last none = (let wrong : IsSome {T = Halt} None = subst (λ (h : Option Halt). IsSome h) none (halted refl) in absurd (cc))
+  lasts_unhalted s book now false is same halted last none =
+      ap (λ (b : BookValue K). is_last (flow_of b.past)) same ∙ ap (λ (b : BookValue K). is_last (flow_of b.past)) is ∙ last refl
 
   -- a hand that failed may have halted the book before
   pub concluded : (s : SharedValue K) (book now : BookValue K) (answer : How) → IsShared state gives s → LegalPast (outline s.start) s.now.past → book ≡ s.now

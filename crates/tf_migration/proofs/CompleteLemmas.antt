@@ -8,9 +8,7 @@ use Rattle.tf_journal.specs.Format.{unborn}
 use Rattle.tf_report.specs.Closing.{ClosesWithOrStops}
 use Rattle.tf_report.specs.declared.statuses.TheConstants.{DISK_FAILED, UNSAID}
 use Rattle.tf_report.proofs.ClosingLemmas.{ends_status}
-use Rattle.tf_migration.specs.Flows.{old_at, new_at}
-use Rattle.tf_migration.specs.Migrates.{Migrates, unread, unbegun, begun, IsUnreadFor, unread_no_memory, unread_failed, no_book, no_flow, IsUnbegunFor, unbegun_no_memory, unbegun_failed, exists, IsBegunFor, migrated, filled, write_failed, IsBookOfFlow, IsComplete}
-use Rattle.tf_migration.specs.Writing.{Left}
+use Rattle.tf_migration.specs.Migrates.{Migrates, unread, unbegun, begun, IsUnreadFor, unread_no_memory, unread_failed, no_book, no_flow, IsUnbegunFor, unbegun_no_memory, unbegun_failed, exists, IsBegunFor, migrated, filled, write_failed, IsBookOfFlow, IsComplete, old_at, new_at, Left}
 
 module _ (old new : List ℕ) (first now : DeskState) (status : ℕ) (told : IsTrue first.tells) (book : IsBookOfFlow (old_at first old)) (still_unborn : new_at first new ≡ unborn)
     (sound : status ≢ DISK_FAILED) (said : status ≢ UNSAID) where

@@ -15,7 +15,8 @@ use Rattle.tf_journal.specs.declared.title.Title.{Title}
 use Rattle.tf_journal.specs.declared.title.Title.TheVariants.{Book2 as new_title}
 use Rattle.tf_journal.proofs.ReachLemmas.{flat_map-push, length-record_of}
 use Rattle.tf_journal.proofs.PathLemmas.{left_then}
-use Rattle.tf_migration.specs.Writing.{Left, LeavesOnce, IsLeftSo, IsDraftOf, FailsToAdd, left_added, unmade_by, left_by}
+use Rattle.tf_migration.specs.Writing.{LeavesOnce, IsLeftSo, IsDraftOf, FailsToAdd, left_added, unmade_by, left_by}
+use Rattle.tf_migration.specs.Migrates.{Left}
 use Rattle.tf_migration.proofs.DeskLaws.{KeepsLaws}
 
 -- the size of a journal with a body more

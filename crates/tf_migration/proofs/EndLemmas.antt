@@ -13,10 +13,9 @@ use Rattle.tf_journal.proofs.OpenLemmas.{untouched_now}
 use Rattle.tf_journal.proofs.PathLemmas.{path_said, start_before}
 use Rattle.tf_report.specs.Closing.{disk_fault_text}
 use Rattle.tf_report.specs.declared.statuses.TheConstants.{DISK_FAILED, UNSAID, OUT_OF_MEMORY}
-use Rattle.tf_migration.specs.Flows.{old_bodies, old_in, old_at, new_in, new_at}
-use Rattle.tf_migration.specs.Migrates.{Migrates, unread, unbegun, begun, IsUnreadFor, IsUnbegunFor, unbegun_no_memory, unbegun_failed, exists, IsBegunFor, write_failed, StaysAlone, OthersStay, IsOneOf, LeavesOneOf, StaysUnbegun, Lasts, Concludes}
+use Rattle.tf_migration.specs.Migrates.{Migrates, unread, unbegun, begun, IsUnreadFor, IsUnbegunFor, unbegun_no_memory, unbegun_failed, exists, IsBegunFor, write_failed, StaysAlone, OthersStay, IsOneOf, LeavesOneOf, StaysUnbegun, Lasts, Concludes, old_bodies, old_in, old_at, new_in, new_at, Left, not_yet, either, Finds, IsFirstSync}
 use Rattle.tf_migration.specs.Reading.{IsUnread, IsRead}
-use Rattle.tf_migration.specs.Writing.{Left, not_yet, either, Finds, IsLeftByPick, IsFirstSync, IsMade, IsKept}
+use Rattle.tf_migration.specs.Writing.{IsLeftByPick, IsMade, IsKept}
 use Rattle.tf_migration.specs.declared.reading.OldFault.{OldFault}
 use Rattle.tf_migration.proofs.SayLemmas.{nothing_prefix, closes_since, file_stays}
 

@@ -13,7 +13,7 @@ use Rattle.tf_details.specs.Elements.{Element, detail, entry as an_entry, plan_o
 use Rattle.tf_details.specs.Reading.{plans_in, AreMachinesOf}
 use Rattle.tf_details.proofs.BookLemmas.{history_legal}
 use Rattle.tf_details.proofs.MachineLemmas.{began, took, none_yet}
-use Rattle.tf_migration.specs.Flows.{old_bodies, carried, new_bodies, CannotFollow, later}
+use Rattle.tf_migration.specs.Migrates.{old_bodies, carried, new_bodies, CannotFollow, later}
 use Rattle.tf_migration.specs.Reading.{HasReadFlow, HasReadEntry}
 use Rattle.tf_migration.specs.declared.flows.Flow.{Flow}
 

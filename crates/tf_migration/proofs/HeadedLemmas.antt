@@ -11,8 +11,7 @@ use Rattle.tf_details.specs.Elements as details
 use Rattle.tf_details.specs.Whole.{plan_written, AreAlike}
 use Rattle.tf_journal.specs.Format.{Recovered, bodies}
 use Rattle.tf_records.specs.Refusing.{no_journal, bad_body}
-use Rattle.tf_migration.specs.Flows.{old_bodies, carried, new_bodies, HoldsFlow, HoldsNoFlow, CannotFollow, first, later, IsNoBook}
-use Rattle.tf_migration.specs.Migrates.{IsBookOfFlow}
+use Rattle.tf_migration.specs.Migrates.{IsBookOfFlow, old_bodies, carried, new_bodies, HoldsFlow, HoldsNoFlow, CannotFollow, first, later, IsNoBook}
 use Rattle.tf_migration.proofs.FlowLemmas.{carried_plan, carried_past, carried_legal}
 
 -- the head of a detail before a form, or that of an entry of detail 0

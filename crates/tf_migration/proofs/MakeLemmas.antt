@@ -14,8 +14,8 @@ use Rattle.tf_journal.specs.declared.faults.JournalFault.TheVariants as journal
 use Rattle.tf_journal.specs.declared.title.Title.TheVariants.{Book2 as new_title}
 use Rattle.tf_journal.proofs.OpenLemmas.{picked_bytes, unpicked, opened, open_set}
 use Rattle.tf_journal.proofs.PathLemmas.{set_on, path_on, as_read}
-use Rattle.tf_migration.specs.Flows.{new_in, new_at}
-use Rattle.tf_migration.specs.Writing.{Left, whole, not_yet, either, LeavesOnce, IsLeftByPick, LeavesByPick, IsLeftSo, desk_written, left_written, FailsToWrite, IsMade, IsFirstSync, IsKept, FailsToMake, Makes, IsPicked}
+use Rattle.tf_migration.specs.Migrates.{new_in, new_at, Left, whole, not_yet, either, IsFirstSync}
+use Rattle.tf_migration.specs.Writing.{LeavesOnce, IsLeftByPick, LeavesByPick, IsLeftSo, desk_written, left_written, FailsToWrite, IsMade, IsKept, FailsToMake, Makes, IsPicked}
 use Rattle.tf_migration.specs.declared.writing.NewFault.{NewFault}
 use Rattle.tf_migration.specs.declared.writing.NewFault.TheVariants as fault
 use Rattle.tf_migration.proofs.DeskLaws.{KeepsLaws}

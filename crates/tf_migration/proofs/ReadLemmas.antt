@@ -11,7 +11,7 @@ use Rattle.tf_journal.specs.Start.{Untouched}
 use Rattle.tf_journal.proofs.CrashLemmas.{synced_on}
 use Rattle.tf_journal.proofs.OpenLemmas.{picked_bytes, unpicked, opened, open_set}
 use Rattle.tf_records.specs.Replaying.{HasReadAll}
-use Rattle.tf_migration.specs.Flows.{old_in, old_at, HoldsFlow}
+use Rattle.tf_migration.specs.Migrates.{old_in, old_at, HoldsFlow}
 use Rattle.tf_migration.specs.Reading.{HasReadBook, desk_read, HasReadAllOf, HasFlow, RefusesOld, IsUnread, IsRead}
 use Rattle.tf_migration.specs.declared.flows.Flow.{Flow}
 use Rattle.tf_migration.specs.declared.flows.OldBook.{OldBook}

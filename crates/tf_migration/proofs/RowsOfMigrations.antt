@@ -6,7 +6,7 @@ use Rattle.tf_entries.specs.Entries.{entry_bytes}
 use Rattle.tf_entries.specs.Plans.{plan_bytes}
 use Rattle.tf_journal.specs.Format.{title_of, journal_bytes, unborn, bodies, not_a_book}
 use Rattle.tf_journal.specs.declared.title.Title.TheVariants.{Book as old_title, Book2 as new_title}
-use Rattle.tf_migration.specs.Flows.{new_bodies, old_in, new_in, HoldsNoFlow}
+use Rattle.tf_migration.specs.Migrates.{new_bodies, old_in, new_in, HoldsNoFlow}
 
 -- a flow with two entries: 1 stands before its plan, and 2 and the number 0 before each entry
 two_entries : (plan : PlanValue) (e f : Entry) → new_bodies plan (f ∷ e ∷ []) ≡ (1 ∷ plan_bytes plan) ∷ (2 ∷ 0 ∷ 0 ∷ entry_bytes e) ∷ (2 ∷ 0 ∷ 0 ∷ entry_bytes f) ∷ []

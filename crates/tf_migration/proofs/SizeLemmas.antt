@@ -10,7 +10,7 @@ use Rattle.tf_journal.specs.declared.title.Title.{Title}
 use Rattle.tf_journal.specs.declared.title.Title.TheVariants.{Book, Book2}
 use Rattle.tf_journal.proofs.ReachLemmas.{flat_map-push, length-record_of}
 use Rattle.tf_details.specs.Elements.{detail, entry, element_bytes}
-use Rattle.tf_migration.specs.Flows.{old_bodies, new_bodies}
+use Rattle.tf_migration.specs.Migrates.{old_bodies, new_bodies}
 
 records_longer : (plan : PlanValue) (past : List Entry)
     → length (flat_map record_of (new_bodies plan past)) ≡ length (flat_map record_of (old_bodies plan past)) + 1 + 3 * length past

@@ -1,4 +1,3 @@
-pub mod Flows
 pub mod Migrates
 pub mod Reading
 pub mod Writing

@@ -11,7 +11,7 @@ use Rattle.tf_journal.specs.Reading.{HasBodies}
 use Rattle.tf_journal.specs.Start.{IsSet, Untouched}
 use Rattle.tf_details.specs.Elements.{IsLegalBook}
 use Rattle.tf_details.specs.Reading.{AreMachinesOf, IsReadEntry, HasTaken}
-use Rattle.tf_migration.specs.Flows.{old_bodies, carried, new_bodies, old_at, HoldsFlow, HoldsNoFlow, IsNoBook}
+use Rattle.tf_migration.specs.Migrates.{old_bodies, carried, new_bodies, old_at, HoldsFlow, HoldsNoFlow, IsNoBook}
 use Rattle.tf_migration.specs.declared.flows.Flow.{Flow}
 use Rattle.tf_migration.specs.declared.flows.OldBook.{OldBook}
 use Rattle.tf_migration.specs.declared.flows.OldBook.TheVariants as old

@@ -1,30 +1,18 @@
 -- How a book of several flows is made whole: it is drafted, its bodies are added, and it is published.
-use Rattle.std.specs.Prelude.{◌≡◌, ◌≢◌, ◌⊎◌, ◌<◌, ◌≤◌, ◌+◌, ℕ, false, IsTrue, List, [], ◌∷◌, ◌++◌, length, Option, Some, Result, Ok, Err}
+use Rattle.std.specs.Prelude.{◌≡◌, ◌≢◌, ◌⊎◌, ◌≤◌, ℕ, false, IsTrue, List, [], length, Option, Some, Result, Ok, Err}
 use Rattle.tf_numbers.specs.Numbers.{Rises}
-use Rattle.tf_desk.specs.Crash.{Mark, at_pick, Pairs}
+use Rattle.tf_desk.specs.Crash.{Pairs}
 use Rattle.tf_desk.specs.State.{DeskState, OnDisk, MayLeave, LeftNow, Passes, Picks, LeavesMade, anything}
-use Rattle.tf_journal.specs.Format.{SIZE_LIMIT, Recovered, unborn, bodies, journal_bytes, Held, IsDrafted}
-use Rattle.tf_journal.specs.Start.{first_sync, IsSet, Path, Untouched}
+use Rattle.tf_journal.specs.Format.{SIZE_LIMIT, unborn, journal_bytes, Held, IsDrafted}
+use Rattle.tf_journal.specs.Start.{IsSet, Path, Untouched}
 use Rattle.tf_journal.specs.declared.faults.AppendFault.{AppendFault}
 use Rattle.tf_journal.specs.declared.faults.AppendFault.TheVariants as append
 use Rattle.tf_journal.specs.declared.title.Title.TheVariants.{Book2 as new_title}
-use Rattle.tf_migration.specs.Flows.{new_in, new_at}
+use Rattle.tf_migration.specs.Migrates.{new_in, new_at, Left, not_yet, whole, either, Finds, IsFullFor, IsFirstSync}
 use Rattle.tf_migration.specs.declared.writing.NewFault.{NewFault}
 use Rattle.tf_migration.specs.declared.writing.NewFault.TheVariants as fault
 
--- ---- how much of a book is there
-
--- the file is still unborn; the book is whole; or one or the other, where the disk failed
-pub data Left : Type 0 where
-  not_yet : Left
-  whole : Left
-  either : Left
-
--- what recovery finds then of a book with these bodies
-abbrev pub Finds : Left → List (List ℕ) → Recovered → Type 0
-Finds not_yet held found = found ≡ unborn
-Finds whole held found = found ≡ bodies held
-Finds either held found = (found ≡ unborn) ⊎ (found ≡ bodies held)
+-- ---- what a crash meanwhile leaves
 
 -- a crash meanwhile: the file is unborn, or as it is left; the shown text stays
 abbrev pub LeavesOnce : Left → List (List ℕ) → Option (List ℕ) → Pairs
@@ -44,17 +32,6 @@ pub record IsDraftOf {K : Type 0} (state : K → DeskState) (added : List (List 
   pub sound : journal.halted ≡ false
   pub in_file : journal.volatile ≡ false
   pub drafted : IsTrue (state journal.desk).tells → IsDrafted state journal added
-
--- one of the bodies is the first that doesn't fit: the journal of those before it has that size, and so much more is needed, which passes the greatest size
-pub record IsFullFor (held : List (List ℕ)) (size need : ℕ) : Type 0 where
-  pub before : List (List ℕ)
-  pub body : List ℕ
-  pub after : List (List ℕ)
-  pub splits : held ≡ before ++ body ∷ after
-  pub size_is : size ≡ length (journal_bytes new_title before)
-  pub need_is : need ≡ 5 + length body
-  pub fits : size ≤ SIZE_LIMIT
-  pub over : SIZE_LIMIT < size + need
 
 -- why a body wasn't added: a disk fault, where the count of them rose, or it doesn't fit
 abbrev pub FailsToAdd : List (List ℕ) → AppendFault → DeskState → DeskState → Type 0
@@ -115,13 +92,6 @@ LeavesByPick name entry image text = IsLeftByPick name entry image × (entry.sho
 abbrev pub LeavesByMaking : List ℕ → List (List ℕ) → Left → DeskState → Pairs
 LeavesByMaking name held left entry image text =
     (IsLeftByPick name entry image ⊎ ((new_in image ≡ unborn) ⊎ Finds left held (new_in image))) × (entry.shown ≡ Some text)
-
--- a sync answered Ok at that moment, the first since the file of that name was picked; these marks are those of the call from before the pick
-pub record IsFirstSync (name : List ℕ) (before : List Mark) (entry now : DeskState) (moment : ℕ) : Type 0 where
-  pub picked : ℕ
-  pub more : List Mark
-  pub added : now.content.marks ≡ entry.content.marks ++ (before ++ at_pick name picked ∷ more)
-  pub first : first_sync more ≡ Some moment
 
 -- the file was unborn, and so much is there of a book with these bodies; since the call's start a crash leaves the file unborn, or with so much
 pub record IsMade (name : List ℕ) (held : List (List ℕ)) (left : Left) (entry now : DeskState) : Type 0 where

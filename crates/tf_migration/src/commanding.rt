@@ -2,8 +2,7 @@
 ghost use Rattle.std.specs.Prelude.{◌≡◌, ◌≢◌, ◌⊎◌, ℕ, List, IsTrue, IfOk};
 ghost use Rattle.tf_numbers.specs.Numbers.{Rises};
 ghost use Rattle.tf_journal.specs.Format.{unborn};
-ghost use Rattle.tf_migration.specs.Flows.{old_at, new_at};
-ghost use Rattle.tf_migration.specs.Migrates.{Migrates, HasCauses, Concludes, IsBookOfFlow, IsComplete};
+ghost use Rattle.tf_migration.specs.Migrates.{Migrates, HasCauses, Concludes, IsBookOfFlow, IsComplete, old_at, new_at};
 ghost use Rattle.tf_migration.specs.Reading.{IsUnread, IsRead};
 ghost use Rattle.tf_migration.specs.Writing.{FailsToMake};
 

@@ -62,7 +62,7 @@ impl Flow {
 }
 
 impl Replay for OldBook {
-    ghost use Rattle.tf_migration.specs.Flows.{CannotFollow};
+    ghost use Rattle.tf_migration.specs.Migrates.{CannotFollow};
     ghost use Rattle.tf_migration.specs.Reading.{HasReadBook};
 
     ghost replayed = { HasReadBook };

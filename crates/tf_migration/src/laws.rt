@@ -6,8 +6,7 @@ ghost use Rattle.tf_details.specs.Elements.{IsHistoryOf, IsLegalBook, plan_of, h
 ghost use Rattle.tf_details.specs.Whole.{plan_written};
 ghost use Rattle.tf_journal.specs.Format.{Recovered, journal_bytes};
 ghost use Rattle.tf_journal.specs.declared.title.Title.TheVariants.{Book, Book2};
-ghost use Rattle.tf_migration.specs.Flows.{old_bodies, carried, new_bodies, HoldsFlow, CannotFollow};
-ghost use Rattle.tf_migration.specs.Migrates.{IsBookOfFlow};
+ghost use Rattle.tf_migration.specs.Migrates.{IsBookOfFlow, old_bodies, carried, new_bodies, HoldsFlow, CannotFollow};
 
 use tf_details::{books_are_never_refused, books_are_read_once};
 

@@ -9,7 +9,7 @@ ghost use Rattle.tf_journal.specs.declared.faults.JournalFault.{JournalFault as 
 ghost use Rattle.tf_journal.specs.declared.faults.LoadFault.{LoadFault as ALoadFault};
 ghost use Rattle.tf_journal.specs.declared.title.Title.TheVariants.{Book as old_title};
 ghost use Rattle.tf_records.specs.Refusing.{RefusesBodies};
-ghost use Rattle.tf_migration.specs.Flows.{old_in, CannotFollow};
+ghost use Rattle.tf_migration.specs.Migrates.{old_in, CannotFollow};
 ghost use Rattle.tf_migration.specs.Reading.{desk_read, HasReadAllOf, HasFlow, RefusesOld, IsUnread, IsRead};
 
 use crate::bodies::Body;

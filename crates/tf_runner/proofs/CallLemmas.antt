@@ -1,5 +1,5 @@
 -- What conductors leave of a board that was opened, and how their command ends.
-use Rattle.std.proofs.Common.{◌≡◌, ◌≢◌, ◌⊎◌, ◌<◌, ◌≤◌, ℕ, List, [], ◌∷◌, ◌++◌, length, Option, Some, None, refl, sym, ap, ◌∙◌, subst, inl, inr, ⊎_elim, append-nil, arith, map, slice_index_or, option_map}
+use Rattle.std.proofs.Common.{◌≡◌, ◌≢◌, ◌⊎◌, ◌<◌, ℕ, List, [], ◌∷◌, length, Option, Some, None, refl, sym, ap, ◌∙◌, subst, inl, inr, ⊎_elim, arith, map, slice_index_or, option_map}
 use Rattle.std.specs.Prelude.{◌==◌, IfSome, IsTrue, slice_get, true, unwrap_or}
 use Rattle.std.specs.List.{All, AllByRecursion}
 use Rattle.std.proofs.lemmas.Bool.{eqb-true}
@@ -18,8 +18,8 @@ use Rattle.tf_board.specs.declared.commands.Command.{Command}
 use Rattle.tf_board.proofs.DeskLaws.{KeepsLaws}
 use Rattle.tf_board.proofs.EndLemmas.{causes_so}
 use Rattle.tf_book.proofs.SpokenLemmas.{shown_none}
-use Rattle.tf_conductor.specs.Conducting.{IsConducting, made_since}
-use Rattle.tf_conductor.specs.Rounds.{AreNamedBy, HoldsKept, HoldsSome, IsCallBy, IsConductors, owner_name}
+use Rattle.tf_conductor.specs.Conducting.{IsConducting}
+use Rattle.tf_conductor.specs.Rounds.{AreNamedBy, HoldsKept, IsCallBy, IsConductors}
 use Rattle.tf_conductor.proofs.TurnLemmas.{kept_within, some_within}
 use Rattle.tf_actions.specs.declared.orders.Order.{Order}
 use Rattle.tf_ports.specs.Ports.{CrewTold, GivenBack, gave_back, hired_for}

@@ -1,11 +1,10 @@
 -- What conductors did on a board that was opened, with the files that were read.
-use Rattle.std.proofs.Common.{◌≡◌, ◌<◌, ℕ, List, [], length, Option, None, Some, refl, sym, subst, arith}
+use Rattle.std.proofs.Common.{◌≡◌, ◌<◌, ℕ, List, length, Option, None, Some, subst, arith}
 use Rattle.std.specs.Prelude.{slice_get}
 use Rattle.std.specs.List.{AllByRecursion}
 use Rattle.tf_actions.specs.declared.orders.Order.{Order}
 use Rattle.tf_actions.specs.declared.outcomes.Outcome.{Outcome}
 use Rattle.tf_board.specs.Board.{AreOfBoard, BoardValue}
-use Rattle.tf_board.specs.declared.commands.Command.{Command}
 use Rattle.tf_conductor.specs.Conducting.{IsConducting}
 use Rattle.tf_conductor.specs.Rounds.{AllClaimed, AreNamedBy, EndsConducting, HasConducted, IsConductors, owner_name}
 use Rattle.tf_desk.specs.State.{DeskState}

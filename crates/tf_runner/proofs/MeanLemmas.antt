@@ -1,6 +1,6 @@
 -- How a job's run may end by the files that were read, and by what the sources hold.
-use Rattle.std.proofs.Common.{◌≡◌, ◌⊎◌, ◌≤◌, ◌<◌, inl, inr, ℕ, zero, suc, ◌+◌, Bool, true, false, List, [], ◌∷◌, ◌++◌, length, cond, Option, Some, None, refl, sym, ap, subst, ◌∙◌, arith}
-use Rattle.std.specs.Prelude.{is_some, slice_get}
+use Rattle.std.proofs.Common.{◌≡◌, inl, inr, ℕ, zero, suc, ◌+◌, Bool, true, false, List, [], ◌∷◌, ◌++◌, cond, Option, Some, None, refl, sym, ap, subst, ◌∙◌, arith}
+use Rattle.std.specs.Prelude.{is_some}
 use Rattle.std.specs.Cmp.Lexicographic.{bytes_decides}
 use Rattle.std.specs.List.{AllByRecursion}
 use Rattle.std.proofs.lemmas.Option.{slice_get_cases}
@@ -9,11 +9,9 @@ use Rattle.tf_actions.specs.declared.outcomes.Outcome.{Outcome}
 use Rattle.tf_board.specs.Board.{details_in, is_free, jobs_of, numbered, standing_of}
 use Rattle.tf_board.specs.declared.commands.Command.{Command}
 use Rattle.tf_board.specs.declared.jobs.Job.{Job}
-use Rattle.tf_board.specs.declared.jobs.Standing.{Standing}
 use Rattle.tf_board.proofs.JobLemmas.{job_told, jobs_long}
-use Rattle.tf_conductor.specs.Rounds.{Begun, EndsConducting, HasConducted, IsBegunRound, IsRound, Round, begun_calls, calls_by, calls_of, claimed, nothing, run}
+use Rattle.tf_conductor.specs.Rounds.{Begun, EndsConducting, HasConducted, IsBegunRound, IsRound, Round, begun_calls, calls_of, claimed, nothing, run}
 use Rattle.tf_conductor.specs.declared.runners.Ran.{Ran}
-use Rattle.tf_conductor.specs.declared.runners.Ran.TheVariants as ran
 use Rattle.tf_conductor.proofs.HeldLemmas.{second_all}
 use Rattle.tf_ports.specs.Ports.{Contents}
 use Rattle.tf_shared_board.specs.declared.calls.BoardHalt.{BoardHalt}
@@ -21,7 +19,7 @@ use Rattle.tf_shared_board.specs.declared.calls.Made.{Made}
 use Rattle.tf_values.specs.declared.value.Val.{Val}
 use Rattle.tf_values.specs.declared.value.Val.TheVariants as value
 use Rattle.tf_runner.specs.Conducts.{JobRunsTo, by_file, no_text, too_long}
-use Rattle.tf_runner.specs.Reading.{AreReadFrom, ContentRunsTo, HaveFiles, IsContent, IsRead, MeansRunTo, FileRunsTo, Names, found_in, has_file_name}
+use Rattle.tf_runner.specs.Reading.{AreReadFrom, ContentRunsTo, HaveFiles, IsContent, MeansRunTo, FileRunsTo, Names, found_in, has_file_name}
 use Rattle.tf_runner.specs.declared.files.Content.{Content}
 use Rattle.tf_runner.specs.declared.files.Content.TheVariants as content
 use Rattle.tf_runner.specs.declared.files.JobFile.{JobFile}

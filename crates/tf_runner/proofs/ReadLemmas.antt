@@ -1,23 +1,21 @@
 -- The files of the jobs that nobody has are read, one after another.
-use Rattle.std.proofs.Common.{◌≡◌, ◌⊎◌, inl, inr, ℕ, zero, suc, ◌+◌, Bool, true, false, List, [], ◌∷◌, ◌++◌, cond, map, Option, Some, None, refl, sym, ap, subst, ◌∙◌, arith}
+use Rattle.std.proofs.Common.{◌≡◌, ℕ, zero, suc, Bool, true, false, List, [], ◌∷◌, ◌++◌, cond, map, Option, Some, None, refl, sym, ap, subst, ◌∙◌, arith}
 use Rattle.std.specs.Prelude.{◌&&◌, if◌then◌else◌, is_some, slice_get, take}
 use Rattle.std.specs.Cmp.Lexicographic.{bytes_decides}
 use Rattle.std.specs.List.{filter, flat_map, AllByRecursion}
-use Rattle.tf_board.specs.Board.{details_in, is_free, is_listed, is_there, jobs_of, line_of, listed, listed_at, numbered, priorities, state_of}
+use Rattle.tf_board.specs.Board.{details_in, is_listed, is_there, jobs_of, line_of, listed, listed_at, numbered, priorities, state_of}
 use Rattle.tf_board.specs.Seeking.{details_at, details_for}
 use Rattle.tf_board.specs.declared.commands.Command.{Command}
 use Rattle.tf_board.specs.declared.jobs.Job.{Job}
-use Rattle.tf_board.specs.declared.jobs.Standing.{Standing}
 use Rattle.tf_board.specs.declared.jobs.Standing.TheVariants as standing
 use Rattle.tf_board.proofs.JobLemmas.{job_told}
 use Rattle.tf_conductor.proofs.ClaimedLemmas.{free_of, place_in}
 use Rattle.tf_conductor.proofs.HeldLemmas.{second_all}
 use Rattle.tf_report.specs.declared.job_lines.JobLine.{JobLine}
-use Rattle.tf_states.specs.declared.priorities.Priority.{Priority}
 use Rattle.tf_values.specs.declared.value.Val.{Val}
 use Rattle.tf_values.specs.declared.value.Val.TheVariants as value
 use Rattle.tf_ports.specs.Ports.{Contents}
-use Rattle.tf_runner.specs.Reading.{AreKept, AreReadFrom, HasFileOf, HasLineFile, HaveFiles, IsContent, IsRead, Names, found_in, has_file_name}
+use Rattle.tf_runner.specs.Reading.{AreKept, AreReadFrom, HasFileOf, HasLineFile, HaveFiles, IsRead, found_in, has_file_name}
 use Rattle.tf_runner.specs.declared.files.JobFile.{JobFile}
 use Rattle.tf_runner.proofs.FreeLemmas.{first_all, more_all}
 

@@ -1,5 +1,5 @@
 -- How the run of a plan of which nothing is kept may end.
-use Rattle.std.proofs.Common.{◌≡◌, ◌≢◌, ◌⊎◌, ◌≤◌, ℕ, Bool, true, false, List, [], ◌∷◌, ◌++◌, Option, Some, None, Result, Ok, Err, refl, sym, ap, ◌∙◌, subst, inl, inr, ⊎_elim, append-nil, arith}
+use Rattle.std.proofs.Common.{◌≡◌, ◌≢◌, ℕ, Bool, true, false, List, [], ◌∷◌, ◌++◌, Option, Some, None, Result, Ok, Err, refl, sym, ap, ◌∙◌, subst, ⊎_elim, append-nil, arith}
 use Rattle.std.specs.Prelude.{◌&&◌, not, IfOk}
 use Rattle.std.specs.List.{list_all}
 use Rattle.tf_accept.specs.Accepted.{GivesNone, GivesPlan, IsReason, is_want_of_memory}
@@ -9,11 +9,12 @@ use Rattle.tf_actions.specs.declared.orders.Order.{Order}
 use Rattle.tf_actions.specs.declared.outcomes.Outcome.{Outcome}
 use Rattle.tf_numbers.specs.Numbers.{Rises}
 use Rattle.tf_desk.specs.State.{DeskState}
-use Rattle.tf_book.specs.Book.{BookValue, outline}
+use Rattle.tf_book.specs.Book.{BookValue, outline, begun_contents}
 use Rattle.tf_book.specs.SessionInvariant.{HasCause, HasFailed, IsFullFor, SessionInvariant}
-use Rattle.tf_book.specs.Turns.{HasOne, IsTried, is_reached}
+use Rattle.tf_book.specs.Turns.{HasOne, IsTried}
 use Rattle.tf_book.specs.declared.faults.Halt.{Halt}
 use Rattle.tf_book.specs.declared.faults.Halt.TheVariants as book_halt
+use Rattle.tf_details.specs.Elements.{Contents, with_entries}
 use Rattle.tf_engines.specs.Runs.{AreDue, HasRun, IsSession, MayRecord, MightRecord, is_unsuspended, suspends}
 use Rattle.tf_engines.specs.declared.engine.How.TheVariants as how
 use Rattle.tf_flow.specs.Plan.{PlanTree, PlanValue, plan_tree}
@@ -25,7 +26,7 @@ use Rattle.tf_states.specs.declared.state.FlowState.TheVariants as flow
 use Rattle.tf_values.specs.declared.faults.Memory.{Memory}
 use Rattle.tf_conductor.specs.declared.runners.Ran.{Ran}
 use Rattle.tf_conductor.specs.declared.runners.Ran.TheVariants as ran
-use Rattle.tf_runner.specs.Conducts.{BytesRunTo, PlanRunsTo, RunsAlone, ended, filled, planned, refused, succeeded}
+use Rattle.tf_runner.specs.Conducts.{BytesRunTo, PlanRunsTo, RunsAlone, ended, filled, planned, refused, run_contents, succeeded}
 use Rattle.tf_runner.specs.Working.{IsCalm, LeftBy, ran_by}
 
 -- where nobody is asked for a stop, and there is no limit, nobody suspends the flow
@@ -48,13 +49,13 @@ module _ (gives : Order → Outcome → Type 0) {asked : Type 0} (none : ¬ aske
 
   -- its next entry would have made the book too long
   pub filled_alone : {stop : Option FlowState} (s : IsSession gives asked 1 None (outline_of plan) [] after stop) (failed : Option Entry) (size need : ℕ)
-      → HasOne (MayRecord gives 1 (outline_of plan) after) failed → IsFullFor (HasFailed failed) plan after size need → PlanRunsTo gives (plan_tree plan) ran.Left
+      → HasOne (MayRecord gives 1 (outline_of plan) after) failed → IsFullFor (HasFailed failed) (run_contents plan after) plan after size need → PlanRunsTo gives (plan_tree plan) ran.Left
   filled_alone {stop} s failed size need one full =
       let same : after ≡ s.entries = s.recorded ∙ append-nil s.entries in
       let is : HasOne (MayRecord gives 1 (outline_of plan) after) (Some full.entry) = subst (HasOne (MayRecord gives 1 (outline_of plan) after)) full.so one in
-      let whole : IsFullFor (MayRecord gives 1 (outline_of plan) after) plan after size need
+      let whole : IsFullFor (MayRecord gives 1 (outline_of plan) after) (run_contents plan after) plan after size need
       = record { entry = full.entry; so = is; step = full.step; form = full.form; size_is = full.size_is; need_is = full.need_is; over = full.over } in
-      filled stop (runs_alone s) size need (subst (λ (l : List Entry). IsFullFor (MayRecord gives 1 (outline_of plan) l) plan l size need) same whole)
+      filled stop (runs_alone s) size need (subst (λ (l : List Entry). IsFullFor (MayRecord gives 1 (outline_of plan) l) (run_contents plan l) plan l size need) same whole)
 
 -- ---- how a run ends, by the answer
 
@@ -86,20 +87,20 @@ module _ (gives : Order → Outcome → Type 0) {asked : Type 0} (none : ¬ aske
 
   -- it was halted for this cause
   pub halted_so : (why : Halt) (failed : Option Entry) (result : Result Ran Memory) (old now : DeskState) → HasRun gives asked 1 None (outline_of plan) past after (how.Halted why)
-      → IsTried (MayRecord gives 1 (outline_of plan) after) (Some why) failed → HasCause plan after old now failed (Some why) → IfOk result (LeftBy why) → IfOk result (PlanRunsTo gives (plan_tree plan))
+      → IsTried (MayRecord gives 1 (outline_of plan) after) (Some why) failed → HasCause (run_contents plan after) plan after old now failed (Some why) → IfOk result (LeftBy why) → IfOk result (PlanRunsTo gives (plan_tree plan))
   halted_so why failed result old now run tried cause left = if_ok_so result left (λ r is. by why tried cause is)
     where
       session : IsSession gives asked 1 None (outline_of plan) [] after run.0
       session = subst (λ (p : List Entry). IsSession gives asked 1 None (outline_of plan) p after run.0) empty run.1
 
-      by : (w : Halt) → IsTried (MayRecord gives 1 (outline_of plan) after) (Some w) failed → HasCause plan after old now failed (Some w) → {r : Ran} → LeftBy w r → PlanRunsTo gives (plan_tree plan) r
+      by : (w : Halt) → IsTried (MayRecord gives 1 (outline_of plan) after) (Some w) failed → HasCause (run_contents plan after) plan after old now failed (Some w) → {r : Ran} → LeftBy w r → PlanRunsTo gives (plan_tree plan) r
       by (book_halt.Full size need) one full {r} is = subst (PlanRunsTo gives (plan_tree plan)) (sym is) (filled_alone gives none plan after session failed size need one full)
       by book_halt.Disk one full is = absurd is
       by book_halt.Out one full is = absurd is
       by book_halt.Memory one full is = absurd is
 
 -- where no count of faults rises, neither the disk nor the output failed
-pub calm_so : (why : Halt) (plan : PlanValue) (after : List Entry) (old now : DeskState) (failed : Option Entry) → HasCause plan after old now failed (Some why)
+pub calm_so : (why : Halt) (plan : PlanValue) (after : List Entry) (old now : DeskState) (failed : Option Entry) → HasCause (run_contents plan after) plan after old now failed (Some why)
     → ¬ (Rises old.disk_faults now.disk_faults) → ¬ (Rises old.out_faults now.out_faults) → IsCalm why
 calm_so book_halt.Disk plan after old now failed cause disk out = disk cause
 calm_so book_halt.Out plan after old now failed cause disk out = out cause
@@ -123,21 +124,30 @@ refused_so gives bytes sets (refusal.Target fault) none apart is = refused (refu
 
 -- ---- a book that was halted
 
-module _ {K : Type 0} (state : K → DeskState) (start now : BookValue K) (why : Halt) (s : SessionInvariant state start now) (is : now.halt ≡ Some why) where
-  cause_of : HasCause start.plan now.past (state start.journal.desk) (state now.journal.desk) now.failed (Some why)
-  cause_of = subst (λ (h : Option Halt). HasCause start.plan now.past (state start.journal.desk) (state now.journal.desk) now.failed h) is s.cause
+module _ {K : Type 0} (state : K → DeskState) (start now : BookValue K) (why : Halt) (s : SessionInvariant state start now) (is : now.halt ≡ Some why) (none : start.past ≡ [])
+    (begun : start.contents ≡ begun_contents [] start.plan) where
+  -- the book would hold just the run
+  holds_run : now.contents ≡ run_contents start.plan now.past
+  holds_run =
+      let recorded : now.past ≡ s.entries = s.recorded ∙ ap (λ (l : List Entry). s.entries ++ l) none ∙ append-nil s.entries in
+      s.held ∙ ap (λ (c : Contents). with_entries c s.entries) begun ∙ ap (run_contents start.plan) (sym recorded)
+
+  cause_of : HasCause (run_contents start.plan now.past) start.plan now.past (state start.journal.desk) (state now.journal.desk) now.failed (Some why)
+  cause_of =
+      subst (λ (c : Contents). HasCause c start.plan now.past (state start.journal.desk) (state now.journal.desk) now.failed (Some why)) holds_run
+      (subst (λ (h : Option Halt). HasCause now.contents start.plan now.past (state start.journal.desk) (state now.journal.desk) now.failed h) is s.cause)
 
   -- no count of faults rises
   pub halted_calm : ¬ (Rises (state start.journal.desk).disk_faults (state now.journal.desk).disk_faults) → ¬ (Rises (state start.journal.desk).out_faults (state now.journal.desk).out_faults) → IsCalm why
   halted_calm disk out = calm_so why start.plan now.past (state start.journal.desk) (state now.journal.desk) now.failed cause_of disk out
 
   -- the run ends so
-  pub halted_book : (gives : Order → Outcome → Type 0) {asked : Type 0} (result : Result Ran Memory) → ¬ asked → start.past ≡ [] → now.plan ≡ start.plan → MightRecord gives 1 now
+  pub halted_book : (gives : Order → Outcome → Type 0) {asked : Type 0} (result : Result Ran Memory) → ¬ asked → now.plan ≡ start.plan → MightRecord gives 1 now
       → HasRun gives asked 1 None (outline start) start.past now.past (how.Halted why) → IfOk result (LeftBy why) → IfOk result (PlanRunsTo gives (plan_tree start.plan))
-  halted_book gives result none empty same tried run left =
+  halted_book gives result unasked same tried run left =
       let so : IsTried (MayRecord gives 1 (outline_of start.plan) now.past) (Some why) now.failed
       = subst (λ (p : PlanValue). IsTried (MayRecord gives 1 (outline_of p) now.past) (Some why) now.failed) same (subst (λ (h : Option Halt). IsTried (MayRecord gives 1 (outline now) now.past) h now.failed) is tried) in
-      halted_so gives none start.plan start.past now.past empty why now.failed result (state start.journal.desk) (state now.journal.desk) run so cause_of left
+      halted_so gives unasked start.plan start.past now.past none why now.failed result (state start.journal.desk) (state now.journal.desk) run so cause_of left
 
 -- nothing doesn't rise
 pub never_rises : (old new : ℕ) → old ≡ 0 → new ≡ 0 → ¬ (Rises old new)

@@ -11,18 +11,19 @@ use Rattle.tf_board.specs.Board.{AreOfBoard, IsNoBoard, LeavesBoard, board_in}
 use Rattle.tf_board.specs.declared.commands.Command.{Command}
 use Rattle.tf_board.specs.declared.commands.JobAction.TheVariants as action
 use Rattle.tf_book.specs.SessionInvariant.{IsFullFor}
+use Rattle.tf_book.specs.Book.{begun_contents}
 use Rattle.tf_conductor.specs.Rounds.{AllClaimed, EndsConducting, HoldsKept, HoldsSome, IsCallBy, owner_name}
 use Rattle.tf_conductor.specs.declared.runners.Ran.{Ran}
 use Rattle.tf_conductor.specs.declared.runners.Ran.TheVariants as ran
 use Rattle.tf_desk.specs.Crash.{Pairs, ShowsPrefix}
 use Rattle.tf_desk.specs.State.{DeskState}
+use Rattle.tf_details.specs.Elements.{Contents as BookContents, with_entries}
 use Rattle.tf_engines.specs.Runs.{AreGiven, MayRecord, is_of, is_unsuspended}
 use Rattle.tf_flow.specs.Plan.{PlanTree, PlanValue, plan_tree}
 use Rattle.tf_journal.specs.Start.{IsStart, file_of}
 use Rattle.tf_model.specs.Plan.{outline_of}
 use Rattle.tf_model.specs.Steps.{Session}
 use Rattle.tf_ports.specs.Ports.{CrewTold, GivenBack, Contents, GivesBytes, PassesLimit}
-use Rattle.tf_ports.specs.declared.crews.Want.{Want}
 use Rattle.tf_ports.specs.declared.crews.Want.TheVariants as want
 use Rattle.tf_ports.specs.declared.reading.TheConstants.{SOURCE_LIMIT}
 use Rattle.tf_report.specs.Closing.{ClosesWithOrStops, disk_fault_text, not_a_book, cannot_read, cannot_hire}
@@ -39,6 +40,10 @@ use Rattle.tf_values.specs.declared.value.Val.{Val}
 use Rattle.tf_values.specs.declared.value.Val.TheVariants as value
 
 -- ---- how the run of a job may end
+
+-- what the book of a run would hold: the plan as its only detail, and these entries of it
+abbrev pub run_contents : PlanValue → List Entry → BookContents
+run_contents plan entries = with_entries (begun_contents [] plan) entries
 
 module _ (gives : Order → Outcome → Type 0) where
   -- a plan was run by one hand from no entry on: a session was recorded, with outcomes that the hand gives, in which nobody suspended the flow; it
@@ -58,7 +63,7 @@ module _ (gives : Order → Outcome → Type 0) where
     succeeded : RunsAlone plan (Some flow.Success) → PlanRunsTo plan ran.Done
     ended : (last : FlowState) → last ≢ flow.Success → RunsAlone plan (Some last) → PlanRunsTo plan ran.Left
     filled : (stop : Option FlowState) (run : RunsAlone plan stop) (size need : ℕ)
-        → IsFullFor (MayRecord gives 1 (outline_of run.value) run.entries) run.value run.entries size need → PlanRunsTo plan ran.Left
+        → IsFullFor (MayRecord gives 1 (outline_of run.value) run.entries) (run_contents run.value run.entries) run.value run.entries size need → PlanRunsTo plan ran.Left
 
   -- the same by the bytes of a flow file: their plan was run, or it is left for the first reason why they give none
   pub data BytesRunTo (bytes : List ℕ) : Ran → Type 0 where

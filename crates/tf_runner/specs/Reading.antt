@@ -1,5 +1,5 @@
 -- Which flow files were read for the jobs of a board, and how a job's run may end by them. Lists of commands have the newest first.
-use Rattle.std.specs.Prelude.{◌≡◌, ◌≤◌, ◌==◌, ℕ, Bool, true, List, Option, Some, None, is_some, length, take}
+use Rattle.std.specs.Prelude.{◌≡◌, ◌≤◌, ◌==◌, ℕ, Bool, true, List, Option, Some, None, is_some, length}
 use Rattle.std.specs.Cmp.Lexicographic.{pointwise}
 use Rattle.std.specs.List.{find, AllByRecursion}
 use Rattle.tf_actions.specs.declared.orders.Order.{Order}
@@ -13,7 +13,6 @@ use Rattle.tf_conductor.specs.declared.runners.Ran.TheVariants as ran
 use Rattle.tf_ports.specs.Ports.{Contents, GivesBytes, PassesLimit}
 use Rattle.tf_ports.specs.declared.reading.TheConstants.{SOURCE_LIMIT}
 use Rattle.tf_report.specs.declared.job_lines.JobLine.{JobLine}
-use Rattle.tf_states.specs.declared.state.JobState.{JobState}
 use Rattle.tf_states.specs.declared.state.JobState.TheVariants as state
 use Rattle.tf_values.specs.declared.value.Val.{Val}
 use Rattle.tf_values.specs.declared.value.Val.TheVariants as value

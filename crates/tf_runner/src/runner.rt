@@ -1,4 +1,5 @@
 ghost use Rattle.std.specs.Prelude.{◌≡◌, [], None, true, IfOk};
+ghost use Rattle.tf_book.specs.Book.{begun_contents};
 ghost use Rattle.tf_flow.specs.Plan.{plan_tree};
 ghost use Rattle.tf_machine.specs.Machine.{StandsFor};
 ghost use Rattle.tf_runner.specs.Conducts.{BytesRunTo, PlanRunsTo};
@@ -11,11 +12,10 @@ use std::alloc::Global;
 use std::sync::Arc;
 use tf_accept::accept;
 use tf_actions::Performer;
-use tf_book::{Book, Halt};
+use tf_book::{Book, Halt, Shelf};
 use tf_conductor::{Ran, Runner};
 use tf_engines::{How, RunEnd, serial};
 use tf_flow::Binds;
-use tf_journal::Journal;
 use tf_machine::Machine;
 use tf_states::FlowState;
 use tf_values::{Memory, Val};
@@ -99,10 +99,24 @@ fn run_plan<P: Performer>(alloc: Global, machine: Machine, hand: &mut P) -> Resu
     requires fresh { StandsFor machine [] }
     ensures { IfOk result (PlanRunsTo P.gives (plan_tree machine.plan)) }
 {
-    let Ok(journal) = Journal::volatile(alloc, Mute::make()) else {
-        return Err(Memory);
-    };
-    match Book::start(alloc, journal, machine, true) {
+    match Shelf::volatile(alloc, Mute::make()) {
+        Ok(shelf) => run_on(alloc, shelf, machine, hand),
+        Err(_) => Err(Memory),
+    }
+}
+
+/// Runs the plan of a machine in a shelf without a detail.
+fn run_on<P: Performer>(
+    alloc: Global,
+    shelf: Shelf<Mute>,
+    machine: Machine,
+    hand: &mut P,
+) -> Result<Ran, Memory>
+    requires none { shelf.elements ≡ [] }
+    requires fresh { StandsFor machine [] }
+    ensures { IfOk result (PlanRunsTo P.gives (plan_tree machine.plan)) }
+{
+    match shelf.start(machine, true) {
         Ok(book) => run_book(alloc, book, hand),
         Err(_) => Err(Memory),
     }
@@ -111,6 +125,7 @@ fn run_plan<P: Performer>(alloc: Global, machine: Machine, hand: &mut P) -> Resu
 /// Runs the flow of a book that keeps nothing.
 fn run_book<P: Performer>(alloc: Global, book: Book<Mute>, hand: &mut P) -> Result<Ran, Memory>
     requires none { book.past ≡ [] }
+    requires contents { book.contents ≡ begun_contents [] book.plan }
     requires sound { book.halt ≡ None }
     ensures { IfOk result (PlanRunsTo P.gives (plan_tree book.plan)) }
 {

@@ -8,7 +8,7 @@ ghost use Rattle.tf_desk.specs.State.{IsUnasked};
 ghost use Rattle.tf_book.specs.Book.{BookValue, flow_state};
 ghost use Rattle.tf_book.specs.Faults.{IsFault};
 ghost use Rattle.tf_book.specs.SessionInvariant.{SessionInvariant, Proceeds};
-ghost use Rattle.tf_book.specs.Recording.{halt_after, failed_after, past_after};
+ghost use Rattle.tf_book.specs.Recording.{halt_after, failed_after, past_after, contents_after};
 ghost use Rattle.tf_book.specs.Turns.{limit_from, HasTried, IsEntering, IsEntered};
 
 use super::Book;
@@ -27,6 +27,7 @@ impl<K: Desk> Book<K> {
         ensures proceeds { Proceeds K.state self.old self.new }
         ensures same { self.new ≡ record self.old {
           past = past_after (by_hand hand (flow_turns state)) self.old.past result;
+          contents = contents_after (by_hand hand (flow_turns state)) self.old.contents result;
           journal = self.new.journal;
           halt = halt_after result;
           failed = failed_after (by_hand hand (flow_turns state)) self.old.failed result;

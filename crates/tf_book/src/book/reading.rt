@@ -9,9 +9,8 @@ ghost use Rattle.tf_actions.specs.Gives.{IsWhole};
 ghost use Rattle.tf_bound.specs.Short.{AreShort, IsWithinLimits};
 ghost use Rattle.tf_journal.specs.Format.{LeavesBodies};
 ghost use Rattle.tf_journal.specs.declared.title.Title.TheVariants.{Book2 as book_title};
-ghost use Rattle.tf_details.specs.Elements.{IsHistoryOf};
-ghost use Rattle.tf_details.specs.Contents.{IsContents, past_of};
-ghost use Rattle.tf_book.specs.Book.{outline, moment, flow_state, bodies_with, size_of};
+ghost use Rattle.tf_details.specs.Elements.{IsHistoryOf, IsContents, past_of};
+ghost use Rattle.tf_book.specs.Book.{outline, moment, flow_state, bodies_with};
 ghost use Rattle.tf_book.specs.declared.faults.Halt.{Halt as Cause};
 
 use super::Book;
@@ -48,8 +47,8 @@ impl<K: Desk> Book<K> {
         ensures held { IsContents self.now.plan self.now.contents }
         ensures told { past_of self.now.contents ≡ self.now.past }
     {
-        let plan = self.machine.plan();
-        let _root = plan.root();
+        // What the machine's type keeps is read here: its plan compiles, and keeps its limits.
+        let _plan = self.machine.plan();
         self.flow()
     }
 

@@ -1,4 +1,4 @@
-ghost use Rattle.std.specs.Prelude.{◌≡◌, ◌⊎◌, ◌<◌, ◌≤◌, ◌-◌, None, Some, Ok, Err, true, false, OnOk, OnErr, IfErr};
+ghost use Rattle.std.specs.Prelude.{◌≡◌, ◌⊎◌, ◌<◌, ◌-◌, None, Some, Ok, Err, true, false, OnOk, OnErr, IfErr};
 ghost use Rattle.tf_states.specs.declared.state.FlowState.{FlowState as State};
 ghost use Rattle.tf_states.specs.declared.state.FlowState.TheVariants as flow;
 ghost use Rattle.tf_model.specs.Plan.{count};

@@ -3,17 +3,14 @@ ghost use Rattle.tf_states.specs.declared.state.FlowState.TheVariants as flow;
 ghost use Rattle.tf_hands.specs.Hands.{start_entry, action_in, task_of, by_hand};
 ghost use Rattle.tf_model.specs.Forced.{choice, end_of, forced as forced_entry};
 ghost use Rattle.tf_model.specs.Plan.{is_task};
-ghost use Rattle.tf_model.specs.Steps.{is_last, is_free, is_still};
-ghost use Rattle.tf_model.specs.History.{flow_runs, flow_suspends};
+ghost use Rattle.tf_model.specs.Steps.{is_free, is_still};
 ghost use Rattle.tf_states.specs.declared.record.What.TheVariants.{Flow as flow_turns};
-ghost use Rattle.tf_actions.specs.Gives.{IsWhole};
 ghost use Rattle.tf_book.specs.Book.{BookValue, outline, moment, flow_state};
 ghost use Rattle.tf_book.specs.Faults.{IsFault};
 ghost use Rattle.tf_book.specs.SessionInvariant.{SessionInvariant, Proceeds, TakesTurn};
 ghost use Rattle.tf_book.specs.Recording.{halt_for_memory, halt_after, past_after};
 ghost use Rattle.tf_book.specs.Turns.{is_to_stop, IsAnswered, HasTried, HasTriedToEnd, RanOn, RanUntilStop, IsForcedBy, IsForcedOn, IsStartedSo, IsStartOf, HasRested, IsClosedOr, HasStopped, IsStoppedOr, IsFinished, IsLessAfterStart, IsTurn, IsHaltedTurn, IsTurnAsked, IsHaltedTurnAsked, is_entered, end_now, suspending_after};
 ghost use Rattle.tf_book.specs.declared.faults.Halt.{Halt as Cause};
-ghost use Rattle.tf_states.specs.declared.record.Entry.{Entry as Record};
 
 use super::Book;
 use crate::faults::{BookFault, Halt};

@@ -1,14 +1,14 @@
-ghost use Rattle.std.specs.Prelude.{◌≡◌, ◌≢◌, ◌≤◌, ℕ, List, [], None, true, false, IsTrue, IfOk, IfErr};
+ghost use Rattle.std.specs.Prelude.{◌≡◌, ◌≢◌, ℕ, List, [], true, false, IsTrue, IfOk, IfErr};
 ghost use Rattle.tf_numbers.specs.Numbers.{Rises};
 ghost use Rattle.tf_desk.specs.State.{bytes_now, Rests};
 ghost use Rattle.tf_details.specs.Elements.{Element, CannotFollow};
 ghost use Rattle.tf_details.specs.Reading.{AreMachinesOf};
-ghost use Rattle.tf_journal.specs.Format.{recovered, is_unborn, Held, IsAtRest, HasSynced, IsSynced};
+ghost use Rattle.tf_journal.specs.Format.{recovered, is_unborn, IsAtRest, HasSynced, IsSynced};
 ghost use Rattle.tf_journal.specs.declared.title.Title.TheVariants.{Book2 as book_title};
 ghost use Rattle.tf_records.specs.Replaying.{FailsToReadBack};
-ghost use Rattle.tf_book.specs.Book.{RefusesBook};
+ghost use Rattle.tf_book.specs.Book.{RefusesBook, listed};
 ghost use Rattle.tf_book.specs.declared.shelf.Place.TheVariants as place;
-ghost use Rattle.tf_book.specs.Shelf.{desk_of, desk_after_load, is_volatile, listed, IsFoundAs, IsReadFrom};
+ghost use Rattle.tf_book.specs.Shelf.{desk_after_load, is_volatile, IsFoundAs, IsReadFrom};
 
 use super::{Detail, Place, Shelf};
 use std::alloc::Global;

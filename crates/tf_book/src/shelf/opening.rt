@@ -4,7 +4,6 @@ ghost use Rattle.tf_desk.specs.State.{Rests};
 ghost use Rattle.tf_details.specs.Elements.{details, CannotFollow};
 ghost use Rattle.tf_details.specs.Reading.{HasGathered};
 ghost use Rattle.tf_journal.specs.Reading.{OnlyReads};
-ghost use Rattle.tf_journal.specs.declared.title.Title.TheVariants.{Book2 as book_title};
 ghost use Rattle.tf_records.specs.Replaying.{HasReadAll, FailsToReadBack};
 ghost use Rattle.tf_book.specs.Histories.{KeepsHistory};
 ghost use Rattle.tf_book.specs.Shelf.{desk_of, desk_after_open, IsOpened};
@@ -21,7 +20,11 @@ use tf_journal::{Journal, LoadFault};
 use tf_records::read_back;
 
 /// Reads a journal again, and gathers the history of one detail.
-fn gather<K: Desk>(alloc: Global, journal: &mut Journal<K>, number: u16) -> Result<Gathering<History>, LoadFault>
+fn gather<K: Desk>(
+    alloc: Global,
+    journal: &mut Journal<K>,
+    number: u16,
+) -> Result<Gathering<History>, LoadFault>
     requires in_file { journal.old.volatile ≡ false }
     ensures read { IfOk result (λ gathering. HasReadAll K.state (HasGathered KeepsHistory) journal.old gathering) }
     ensures number { IfOk result (λ gathering. gathering.number ≡ number) }
@@ -79,7 +82,10 @@ impl<K: Desk> Shelf<K> {
         } = gathering;
         if number >= details.count() {
             let offset = journal.size();
-            return Err((journal.into_desk(), LoadFault::NotABook { offset, byte: None }));
+            return Err((
+                journal.into_desk(),
+                LoadFault::NotABook { offset, byte: None },
+            ));
         }
         let machine = details.into_machine(number);
         Ok(Book {

@@ -1,16 +1,15 @@
-ghost use Rattle.std.specs.Prelude.{◌≡◌, ◌⊎◌, [], List, length, true, false, IfOk, IfErr, IsTrue};
+ghost use Rattle.std.specs.Prelude.{◌≡◌, ◌≢◌, ◌⊎◌, [], List, length, true, false, IfOk, IfErr, IsTrue};
 ghost use Rattle.tf_desk.specs.State.{bytes_now, anything, Passes, GoesOn};
 ghost use Rattle.tf_details.specs.Elements.{Element};
-ghost use Rattle.tf_details.specs.Marks.{elements_shown};
-ghost use Rattle.tf_book.specs.Histories.{past_shown, HasAllRoom};
+ghost use Rattle.tf_book.specs.Histories.{past_shown, HasAllRoom, HasDraftRoom};
 ghost use Rattle.tf_entries.specs.Plans.{IsPlan};
 ghost use Rattle.tf_journal.specs.Format.{desk_after, IsOpen, IsBody, LeavesBirth, is_unborn};
 ghost use Rattle.tf_journal.specs.declared.title.Title.TheVariants.{Book2 as book_title};
 ghost use Rattle.tf_machine.specs.Machine.{StandsFor};
-ghost use Rattle.tf_book.specs.Holding.{HasHoldingRoom};
-ghost use Rattle.tf_book.specs.SessionInvariant.{HasDraftRoom, IsExact};
+ghost use Rattle.tf_book.specs.SessionInvariant.{IsExact};
 ghost use Rattle.tf_book.specs.Shelf.{desk_at, desk_of, is_volatile, IsPlaced, IsTold, HoldsElements};
-ghost use Rattle.tf_book.specs.Starting.{desk_started, detail_body, HasPlaceFor, IsBegun, LeavesAdded, LeavesBegun, EndsThere, AddsTo, FailsToAdd, FailsToStart};
+ghost use Rattle.tf_book.specs.Starting.{desk_started, IsBegun, LeavesAdded, LeavesBegun, EndsThere, AddsTo, FailsToAdd, FailsToStart};
+ghost use Rattle.tf_book.specs.Book.{detail_body, HasPlaceFor};
 ghost use Rattle.tf_book.specs.declared.shelf.Place.TheVariants as place;
 
 use super::{Place, Shelf};
@@ -64,6 +63,7 @@ fn append<K: Desk>(mut journal: Journal<K>, body: &[u8]) -> Result<Journal<K>, (
     ensures goes { GoesOn anything (K.state journal.desk) (K.state (desk_after result)) }
     ensures fails { IfErr result (λ back. (elements : List Element) → HoldsElements K.state journal elements
         → FailsToAdd K.state elements body.now back.1 journal.desk back.0) }
+    ensures no_memory { IfErr result (λ back. back.1 ≢ BookFault.Memory) }
     ensures volatile { journal.volatile ≡ true → desk_after result ≡ journal.desk }
 {
     match journal.append(body) {

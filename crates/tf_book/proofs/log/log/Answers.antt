@@ -1,7 +1,8 @@
-use Rattle.std.proofs.Common.{inl, subst}
+use Rattle.std.proofs.Common.{inl, sym, subst}
 use Rattle.tf_journal.specs.Adding.{FailsToAppend}
 use Rattle.tf_journal.specs.declared.faults.AppendFault.{AppendFault}
-use Rattle.tf_journal.proofs.FoundLemmas.{body_fits}
+use Rattle.tf_journal.specs.Format.{IsBody}
+use Rattle.tf_journal.specs.declared.title.Title.{Title}
 use Rattle.tf_book.proofs.LogLemmas.{said_logged, failed_logged}
 use Rattle.tf_book.proofs.log.log.Goals as goal
 
@@ -9,7 +10,7 @@ pub append-requires-clause-ready : goal.append-requires-clause-ready
 append-requires-clause-ready g c = inl c.requires.ready
 
 pub append-requires-clause-body : goal.append-requires-clause-body
-append-requires-clause-body g c = body_fits _ _ c.requires.body
+append-requires-clause-body g c = subst (λ (t : Title). IsBody t c.args.body.now) (sym c.requires.title) c.requires.body
 
 pub returns-in-Ok : goal.returns-in-Ok
 returns-in-Ok g c =

@@ -1,7 +1,7 @@
 use Rattle.std.proofs.Common.{◌∙◌, ap, sym, length}
 use Rattle.tf_flow.specs.Plan as numbering
 use Rattle.tf_flow.specs.Plan.{PlanValue}
-use Rattle.tf_book.proofs.AmongLemmas.{atoms_told}
+use Rattle.tf_details.proofs.AmongLemmas.{atoms_told}
 use Rattle.tf_book.proofs.putting_back.atoms.Goals as goal
 
 pub returns : goal.returns

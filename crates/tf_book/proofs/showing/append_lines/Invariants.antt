@@ -1,6 +1,5 @@
 use Rattle.std.proofs.Common.{◌-◌, length}
-use Rattle.tf_book.specs.Histories.{past_shown}
-use Rattle.tf_book.specs.SessionInvariant.{HasLines}
+use Rattle.tf_book.specs.Histories.{past_shown, HasLines}
 use Rattle.tf_book.proofs.showing.append_lines.Given as goal
 
 abbrev pub invariant-lines : goal.invariant-lines

@@ -1,5 +1,5 @@
 use Rattle.std.proofs.Common.{◌≡◌, ℕ, List, ◌++◌, ap, sym, subst, ◌∙◌, ⊎_elim}
-use Rattle.tf_book.specs.Shelf.{listed}
+use Rattle.tf_book.specs.Book.{listed}
 use Rattle.tf_commands.specs.Books.{Refuses, were_listed, book_at}
 use Rattle.tf_commands.specs.Messages.{detail_lines}
 use Rattle.tf_report.specs.declared.statuses.TheConstants.{SUCCEEDED}

@@ -10,8 +10,7 @@ pub returns-in-Some : goal.returns-in-Some
 returns-in-Some c = λ elements same.
     let name = c.args.name.now in
     let place = c.in-Some.place in
-    let d = c.index-list-place.result in
-    (
+    let d = c.index-list-place.result in (
       place,
       sym (c.in-Some.ensures.is ∙ ap (λ (list : List Detail). position (is_listed name) list) same ∙ named_place name elements),
       ap (λ (list : List Detail). (slice_index_or list place d).state) same ∙ state_at elements place d (omega (arith, c.in-Some.ensures.within, ap length same, listed_long elements)),

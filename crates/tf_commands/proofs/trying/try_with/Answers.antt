@@ -1,6 +1,6 @@
 use Rattle.std.proofs.Common.{ap, refl, List, ◌∙◌, arith}
 use Rattle.tf_details.specs.Elements.{Element}
-use Rattle.tf_book.specs.Starting.{begun_contents}
+use Rattle.tf_book.specs.Book.{begun_contents}
 use Rattle.tf_commands.proofs.TrialLemmas.{tried_run, tried_exhausted, tried_unbegun_on, start_said, unbegun_causes, causes_run, stays_run, stays_unbegun}
 use Rattle.tf_commands.proofs.trying.try_with.Goals as goal
 use Rattle.tf_desk.proofs.CountLemmas.{rises_later}

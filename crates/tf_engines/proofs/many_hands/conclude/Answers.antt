@@ -1,6 +1,10 @@
 use Rattle.tf_engines.proofs.OrderLemmas.{so_by}
-use Rattle.tf_engines.proofs.SharedLemmas.{concluded}
+use Rattle.tf_engines.proofs.SharedLemmas.{concluded, lasts_unhalted}
 use Rattle.tf_engines.proofs.many_hands.conclude.Goals as goal
+
+pub stopped-how-requires : goal.stopped-how-requires
+stopped-how-requires g c =
+    lasts_unhalted g.K.Desk.state g.P.Performer.gives c.args.shared c.into_book-book.result c.halt_for.new.book c.args.failed c.into_book-book.ensures.book c.halt_for.ensures.same c.halt_for.ensures.halted c.requires
 
 pub returns-clause-run : goal.returns-clause-run
 returns-clause-run g c =

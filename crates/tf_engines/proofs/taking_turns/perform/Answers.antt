@@ -1,5 +1,4 @@
-use Rattle.std.proofs.Common.{◌≡◌, sym, ap, ◌∙◌}
-use Rattle.tf_engines.proofs.OrderLemmas.{done_next, same_done, done_whole, done_but}
+use Rattle.tf_engines.proofs.OrderLemmas.{done_next, same_done, done_whole}
 use Rattle.tf_engines.proofs.taking_turns.perform.Goals as goal
 
 pub returns-then-finish-clause-orders : goal.returns-then-finish-clause-orders

@@ -1,10 +1,9 @@
-use Rattle.std.proofs.Common.{rules, ◌≡◌, ◌+◌, ℕ, List, Option, length, vec_len, refl, sym, ◌∙◌, ap, subst, arith}
-use Rattle.tf_actions.specs.declared.orders.Order.{Order}
+use Rattle.std.proofs.Common.{rules, ◌≡◌, ◌+◌, ℕ, vec_len, sym, subst, arith}
 use Rattle.tf_model.specs.Plan.{Outline}
 use Rattle.tf_book.specs.Book.{outline}
 use Rattle.tf_engines.specs.Taking.{AllDone, AllGiven, AreSeated, AreTurns, IsTurnBy}
-use Rattle.tf_engines.proofs.TakingLemmas.{HasGrownOrWaits, nobody_waits, round_grows, same_plan, waits_on}
-use Rattle.tf_engines.proofs.TurnsLemmas.{round_begun, round_last, round_more, round_over}
+use Rattle.tf_engines.proofs.TakingLemmas.{HasGrownOrWaits, round_grows, same_plan, waits_on}
+use Rattle.tf_engines.proofs.TurnsLemmas.{round_last, round_more, round_over}
 use Rattle.tf_engines.proofs.taking_turns.take_round.Goals as goal
 
 pub turn_of-requires-clause-seated : goal.turn_of-requires-clause-seated

@@ -1,5 +1,4 @@
-use Rattle.std.proofs.Common.{rules, ◌≡◌, ℕ, List, Option, length, vec_len, refl, sym, ◌∙◌, ap, subst, arith}
-use Rattle.tf_actions.specs.declared.orders.Order.{Order}
+use Rattle.std.proofs.Common.{◌≡◌, ℕ, vec_len, sym, subst}
 use Rattle.tf_model.specs.Plan.{Outline}
 use Rattle.tf_book.specs.Book.{outline}
 use Rattle.tf_engines.specs.Taking.{AllDone, AllGiven, AreSeated, IsRoundAt, TakesTurns}

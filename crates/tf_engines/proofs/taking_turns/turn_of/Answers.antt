@@ -1,5 +1,4 @@
-use Rattle.std.proofs.Common.{◌≡◌, ◌≢◌, ℕ, ◌<◌, List, Option, Some, None, length, slice_index_or, refl, sym, ◌∙◌, ap, subst, arith}
-use Rattle.tf_actions.specs.declared.orders.Order.{Order}
+use Rattle.std.proofs.Common.{ℕ, slice_index_or, sym, ◌∙◌, subst, arith}
 use Rattle.tf_hands.specs.Hands.{orders}
 use Rattle.tf_model.specs.Plan.{Outline}
 use Rattle.tf_model.specs.Steps.{LegalPast}

@@ -1,8 +1,8 @@
 use Rattle.std.proofs.Common.{[], ℕ, List, refl, subst}
 use Rattle.tf_desk.proofs.CountLemmas.{rises_later}
 use Rattle.tf_report.specs.Closing.{book_full}
-use Rattle.tf_migration.specs.Migrates.{unbegun_no_memory, exists, filled}
-use Rattle.tf_migration.specs.Writing.{IsFullFor, FailsToMake}
+use Rattle.tf_migration.specs.Migrates.{unbegun_no_memory, exists, filled, IsFullFor}
+use Rattle.tf_migration.specs.Writing.{FailsToMake}
 use Rattle.tf_migration.specs.declared.writing.NewFault.{NewFault}
 use Rattle.tf_migration.proofs.SayLemmas.{concludes_none, causes_so}
 use Rattle.tf_migration.proofs.EndLemmas.{unbegun_so, begun_so, read_then, failed_disk, failed_so}

@@ -1,7 +1,6 @@
 use Rattle.std.proofs.Common.{[], subst}
 use Rattle.tf_report.specs.Closing.{not_a_book}
-use Rattle.tf_migration.specs.Flows.{old_at}
-use Rattle.tf_migration.specs.Migrates.{unread_no_memory, unread_failed, no_book, no_flow}
+use Rattle.tf_migration.specs.Migrates.{unread_no_memory, unread_failed, no_book, no_flow, old_at}
 use Rattle.tf_migration.specs.Reading.{RefusesOld}
 use Rattle.tf_migration.specs.declared.reading.OldFault.{OldFault}
 use Rattle.tf_migration.proofs.SayLemmas.{concludes_none, causes_so}

@@ -1,5 +1,5 @@
 use Rattle.std.proofs.Common.{sym, ap, ◌∙◌}
-use Rattle.tf_migration.specs.Flows.{carried}
+use Rattle.tf_migration.specs.Migrates.{carried}
 use Rattle.tf_migration.proofs.FlowLemmas.{carried_legal}
 use Rattle.tf_migration.proofs.HeadedLemmas.{headed, headed_same, alike_flows}
 use Rattle.tf_migration.proofs.laws.old_books_are_read_once.Goals as goal

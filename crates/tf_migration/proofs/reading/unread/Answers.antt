@@ -2,7 +2,7 @@ use Rattle.std.proofs.Common.{refl, subst}
 use Rattle.tf_journal.specs.declared.faults.LoadFault.{LoadFault}
 use Rattle.tf_journal.specs.declared.title.Title.TheVariants.{Book as old_title}
 use Rattle.tf_records.specs.Refusing.{RefusesBodies, bad_body}
-use Rattle.tf_migration.specs.Flows.{CannotFollow}
+use Rattle.tf_migration.specs.Migrates.{CannotFollow}
 use Rattle.tf_migration.proofs.reading.unread.Goals as goal
 
 pub returns-in-NotABook-clause-refused : goal.returns-in-NotABook-clause-refused

@@ -7,7 +7,7 @@ use Rattle.tf_journal.specs.Format.{is_unborn, unborn}
 use Rattle.tf_journal.specs.declared.faults.JournalFault.{JournalFault}
 use Rattle.tf_journal.specs.declared.title.Title.TheVariants.{Book2 as new_title}
 use Rattle.tf_journal.proofs.UnbornLemmas.{unborn_found}
-use Rattle.tf_migration.specs.Flows.{new_in}
+use Rattle.tf_migration.specs.Migrates.{new_in}
 use Rattle.tf_migration.specs.Writing.{FailsToMake}
 use Rattle.tf_migration.specs.declared.writing.NewFault.TheVariants as fault
 use Rattle.tf_migration.proofs.DeskLaws.{KeepsLaws}

@@ -1,6 +1,7 @@
 use Rattle.std.proofs.Common.{◌∙◌, Err, inl, refl, ap}
 use Rattle.tf_desk.proofs.StateLemmas.{on_disk_told}
-use Rattle.tf_migration.specs.Writing.{whole, left_by, left_added}
+use Rattle.tf_migration.specs.Writing.{left_by, left_added}
+use Rattle.tf_migration.specs.Migrates.{whole}
 use Rattle.tf_migration.proofs.DeskLaws.{KeepsLaws}
 use Rattle.tf_migration.proofs.DraftLemmas.{write_goes, write_left, same_left, undrafted_left}
 use Rattle.tf_migration.proofs.writing.write.Goals as goal

@@ -1,4 +1,4 @@
-use Rattle.std.proofs.Common.{rules, ◌≡◌, ◌∙◌, Bool, ℕ, List, ◌++◌, ◌∷◌, [], None, ap, sym, subst, arith, Err}
+use Rattle.std.proofs.Common.{rules, ◌≡◌, ◌∙◌, Bool, ℕ, List, ◌++◌, ◌∷◌, [], None, refl, ap, sym, subst, arith, Err}
 use Rattle.std.specs.Prelude.{slice_get}
 use Rattle.std.proofs.lemmas.Result.{err_from_is_err_and}
 use Rattle.tf_numbers.specs.Numbers.{Rises}
@@ -14,6 +14,7 @@ pub reading-init : goal.reading-init
 reading-init g c = record {
   low = omega arith;
   read = read_none g.K.Desk.state g.R.Replay.replayed c.args.journal.now c.args.into.now c.requires.none;
+  fixed = refl;
   reads = reads_none g.K.Desk.state c.args.journal.now;
 }
 
@@ -59,6 +60,7 @@ reading-preserved g c =
       read = read_on g.K.Desk.state R.replayed _ _ _ _ _ _ items l.read l.reads
           (λ before rest told_now rest_now at. subst (λ (v : Bool). IsNext v rest items) c.if-not-branch.false (c.in_ok-next_body.ensures.found before rest told_now rest_now at))
           (λ before kept. subst (λ (b : List ℕ). R.replayed c.replay.new.self (before ++ b ∷ [])) c.deref.ensures.value (c.in-Ok.ensures.replayed before kept)) (search rules);
+      fixed = c.in-Ok.ensures.fixed ∙ l.fixed;
       reads = reads_on g.K.Desk.state _ _ _ l.reads c.in_ok-next_body.ensures.reads;
     }
 

@@ -1,4 +1,4 @@
-use Rattle.std.proofs.Common.{◌≤◌, ◌-◌}
+use Rattle.std.proofs.Common.{◌≡◌, ◌≤◌, ◌-◌}
 use Rattle.tf_journal.specs.Reading.{OnlyReads}
 use Rattle.tf_records.specs.Replaying.{HasReadTo}
 use Rattle.tf_records.proofs.reading.read_back.Given as goal
@@ -7,6 +7,7 @@ abbrev pub invariant-reading : goal.invariant-reading
 invariant-reading g l = record {
   low : 17 ≤ l.place;
   read : HasReadTo g.K.Desk.state g.R.Replay.replayed l.fn.journal l.into l.place;
+  fixed : g.R.Replay.fixed l.into ≡ g.R.Replay.fixed l.fn.into;
   reads : OnlyReads g.K.Desk.state l.fn.journal l.journal;
 }
 

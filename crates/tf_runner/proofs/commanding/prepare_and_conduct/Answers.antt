@@ -1,5 +1,4 @@
 use Rattle.std.proofs.Common.{refl, sym, subst}
-use Rattle.std.specs.Arc.{arc_value}
 use Rattle.tf_board.proofs.ActLemmas.{reached_back, said_causes}
 use Rattle.tf_board.proofs.EndLemmas.{concludes_none, opened_reached, reached_stops}
 use Rattle.tf_runner.specs.Conducts.{unready}

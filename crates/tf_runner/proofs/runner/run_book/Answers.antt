@@ -11,12 +11,12 @@ returns-in-Ended g c =
 
 pub returns-in-Halted : goal.returns-in-Halted
 returns-in-Halted g c =
-    halted_book _ c.args.book c.serial-how.result.book c.in-Halted.halt (c.serial-how.ensures.keeps c.args.book (keeps_none _ c.args.book c.requires.sound)) (rw c.in-Halted.is at c.serial-how.ensures.stops) g.P.Performer.gives
-    c.left_by.result (never_rises _ _ refl refl) c.requires.none c.serial-how.ensures.plan (c.serial-how.ensures.failed c.requires.sound) (rw c.in-Halted.is at c.serial-how.ensures.ran) c.left_by.ensures
+    halted_book _ c.args.book c.serial-how.result.book c.in-Halted.halt (c.serial-how.ensures.keeps c.args.book (keeps_none _ c.args.book c.requires.sound)) (rw c.in-Halted.is at c.serial-how.ensures.stops) c.requires.none c.requires.contents
+    g.P.Performer.gives c.left_by.result (never_rises _ _ refl refl) c.serial-how.ensures.plan (c.serial-how.ensures.failed c.requires.sound) (rw c.in-Halted.is at c.serial-how.ensures.ran) c.left_by.ensures
 
 pub left_by-requires : goal.left_by-requires
 left_by-requires g c =
-    halted_calm _ c.args.book c.serial-how.result.book c.in-Halted.halt (c.serial-how.ensures.keeps c.args.book (keeps_none _ c.args.book c.requires.sound)) (rw c.in-Halted.is at c.serial-how.ensures.stops)
+    halted_calm _ c.args.book c.serial-how.result.book c.in-Halted.halt (c.serial-how.ensures.keeps c.args.book (keeps_none _ c.args.book c.requires.sound)) (rw c.in-Halted.is at c.serial-how.ensures.stops) c.requires.none c.requires.contents
     (never_rises _ _ refl refl) (never_rises _ _ refl refl)
 
 pub unreachable-requires : goal.unreachable-requires

@@ -1,6 +1,5 @@
-use Rattle.std.proofs.Common.{◌≡◌, [], List, sym, ◌∙◌}
+use Rattle.std.proofs.Common.{◌≡◌, [], sym, ◌∙◌}
 use Rattle.tf_flow.specs.Plan.{plan_tree}
-use Rattle.tf_flow.specs.declared.atoms.Bind.{Bind}
 use Rattle.tf_runner.proofs.RunLemmas.{planned_so, refused_so}
 use Rattle.tf_runner.proofs.runner.run_bytes.Goals as goal
 

@@ -2,7 +2,7 @@ use Rattle.std.proofs.Common.{◌≡◌, ap, subst, Err}
 use Rattle.std.proofs.lemmas.Result.{err_from_is_err_and}
 use Rattle.tf_values.specs.declared.faults.MakeFault.{MakeFault}
 use Rattle.tf_values.specs.declared.faults.MakeFault.TheVariants as fault
-use Rattle.tf_migration.specs.Flows.{first}
+use Rattle.tf_migration.specs.Migrates.{first}
 use Rattle.tf_migration.specs.Reading.{HasReadBook}
 use Rattle.tf_migration.specs.declared.flows.OldBook.{OldBook}
 use Rattle.tf_details.proofs.ReadingLemmas.{ok_so}
