@@ -7,7 +7,7 @@ use Rattle.tf_journal.specs.Format.{SIZE_LIMIT, Recovered, bodies, journal_bytes
 use Rattle.tf_journal.specs.declared.title.Title.TheVariants.{Book2 as book_title}
 use Rattle.tf_flow.specs.Plan.{PlanValue}
 use Rattle.tf_details.specs.Elements.{Element, detail, IsHistoryOf, details, detail_name, number_among, bodies_of, book_size, element_bytes, Contents}
-use Rattle.tf_book.specs.Book.{BookValue}
+use Rattle.tf_book.specs.Book.{BookValue, begun_contents, detail_body, IsFullToBegin}
 use Rattle.tf_book.specs.Shelf.{ShelfValue, is_volatile, IsFoundAs}
 use Rattle.tf_book.specs.declared.faults.BookFault.{BookFault}
 use Rattle.tf_book.specs.declared.faults.BookFault.TheVariants as fault
