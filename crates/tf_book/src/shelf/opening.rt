@@ -61,9 +61,11 @@ impl<K: Desk> Shelf<K> {
         let Shelf {
             alloc,
             place,
-            read: _,
+            read,
             list: _,
         } = self;
+        // What was read first isn't kept beside what is read now.
+        drop(read);
         let Place::Kept(mut journal) = place else {
             unreachable!();
         };
