@@ -39,11 +39,9 @@ fn say_whole<K: Desk>(book: Book<K>) -> Over<K>
     ensures said { HasSaid (K.state book.journal.desk) (K.state result.desk) result.status }
     ensures status { (result.status ≡ SUCCEEDED) ⊎ (result.status ≡ UNSAID) ⊎ (result.status ≡ OUT_OF_MEMORY) }
 {
-    let made = book.history_text();
-    let desk = book.close();
-    match made {
-        Ok(text) => say_over(&text, SUCCEEDED, desk),
-        Err(_) => Over {
+    match book.into_history_text() {
+        Ok((text, desk)) => say_over(&text, SUCCEEDED, desk),
+        Err((desk, _)) => Over {
             desk,
             status: OUT_OF_MEMORY,
         },
