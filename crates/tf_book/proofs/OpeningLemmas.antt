@@ -45,6 +45,32 @@ read_holds {K} state keeps old now g titled sound kept rest read reads = record 
       subst (IsAtRest state now) (read.whole told lies.0 lies.1.lies ∙ read.is_replayed.bodies_are) (reads.stays told lies.0 lies.1);
 }
 
+-- the book of a detail whose history was gathered is sound
+pub gathered_sound : {K : Type 0} (state : K → DeskState) (journal : Held K) (g : Gathering History) (machine : MachineValue) → HoldsElements state journal (elements_in g) → IsLegalBook (elements_in g)
+    → KeepsHistory g.kept (history g.number (elements_in g)) → plan_of (elements_in g) g.number ≡ Some machine.plan → StandsFor machine (history g.number (elements_in g))
+    → IsSoundBook state machine g.kept.bodies.items (record {
+      plan = machine.plan;
+      past = past_shown g.kept.entries.items;
+      contents = record { number = g.number; elements = elements_in g };
+      journal = journal;
+      quiet = false;
+      halt = None;
+      failed = None;
+      limit = None;
+    })
+gathered_sound state journal g machine holds legal kept found stands = record {
+  stands = subst (StandsFor machine) (sym kept.entries) stands;
+  plan = refl;
+  kept_is = kept.bodies ∙ ap framed_bodies (sym kept.entries);
+  held = record { legal = legal; of_detail = found };
+  told = sym kept.entries;
+  title = holds.title;
+  sound = λ apart. holds.sound;
+  ready = holds.ready;
+  size = λ unhalted. holds.size;
+  limit = holds.limit;
+}
+
 -- what is known of a shelf of which that detail is opened: its elements stand in a journal that is kept in a file
 pub record StandsIn {K : Type 0} (state : K → DeskState) (shelf : ShelfValue K) (number : ℕ) (journal : Held K) : Type 0 where
   pub holds : HoldsElements state journal shelf.elements

@@ -1,17 +1,20 @@
 //! A shelf: a book's file before one of its details is opened or a new one begins.
 ghost use Rattle.std.specs.Prelude.{◌≡◌, [], length, true, IfOk, IfErr};
 ghost use Rattle.tf_details.specs.Elements.{details, IsLegalBook};
+ghost use Rattle.tf_details.specs.Reading.{HasGathered};
 ghost use Rattle.tf_book.specs.Shelf.{desk_at, desk_of, is_volatile, IsPlaced};
 ghost use Rattle.tf_book.specs.Book.{listed};
+ghost use Rattle.tf_book.specs.Histories.{KeepsHistory};
 
 mod loading;
 mod opening;
 mod starting;
 
-use std::alloc::Global;
+use crate::history::History;
+use std::alloc::{AllocError, Global};
 use std::marker::Model;
 use tf_desk::Desk;
-use tf_details::{Gathering, Nothing};
+use tf_details::Gathering;
 use tf_journal::Journal;
 use tf_states::FlowState;
 use tf_values::{Memory, Name};
@@ -42,13 +45,22 @@ impl<K: Desk> Place<K> {
     }
 }
 
+/// Nothing was read yet of a book, of which the history of the detail with that number is to be gathered.
+fn begin_gathering(alloc: Global, number: u16) -> Result<Gathering<History>, AllocError>
+    ensures number { IfOk result (λ gathering. gathering.number ≡ number) }
+    ensures gathered { IfOk result (λ gathering. HasGathered KeepsHistory gathering []) }
+{
+    let history = History::with_room(alloc)?;
+    Gathering::begin(alloc, number, history)
+}
+
 /// What a book's file holds, of which a detail is to be opened or begun. Contracts see the elements, and where they
 /// stand.
 #[derive(Drop)]
 pub struct Shelf<K: Desk> {
     alloc: Global,
     place: Place<K>,
-    read: Gathering<Nothing>,
+    read: Gathering<History>,
     list: Vec<Detail>,
 }
 
@@ -56,10 +68,11 @@ impl<K: Desk> Model for Shelf<K> {
     ghost use Rattle.std.specs.Coded.{codes};
     ghost use Rattle.std.specs.Prelude.{◌≡◌, ◌≤◌, vec_capacity};
     ghost use Rattle.tf_flow.specs.contracts.nested.Flow as flow;
-    ghost use Rattle.tf_details.specs.Elements.{details, IsLegalBook};
+    ghost use Rattle.tf_details.specs.Elements.{details, history, IsLegalBook};
     ghost use Rattle.tf_details.specs.Reading.{elements_in, AreMachinesOf};
     ghost use Rattle.tf_book.specs.Shelf.{ShelfValue, IsPlaced};
     ghost use Rattle.tf_book.specs.Book.{listed};
+    ghost use Rattle.tf_book.specs.Histories.{KeepsHistory};
 
     ghost Value = { ShelfValue K };
 
@@ -69,7 +82,8 @@ impl<K: Desk> Model for Shelf<K> {
 
     ghost invariant = { λ s. IsPlaced K.state s.place (elements_in s.read) × IsLegalBook (elements_in s.read)
         × AreMachinesOf s.read.details (elements_in s.read) × (67108864 ≤ vec_capacity s.read.marks)
-        × (s.list.items ≡ listed (elements_in s.read)) };
+        × (s.list.items ≡ listed (elements_in s.read))
+        × KeepsHistory s.read.kept (history s.read.number (elements_in s.read)) };
 }
 
 impl<K: Desk> Shelf<K> {
@@ -80,7 +94,7 @@ impl<K: Desk> Shelf<K> {
         ensures desk { IfOk result (λ shelf. desk_of shelf ≡ desk) }
         ensures back { IfErr result (λ back. back.0 ≡ desk) }
     {
-        let Ok(read) = Gathering::begin(alloc, 0, Nothing) else {
+        let Ok(read) = begin_gathering(alloc, 0) else {
             return Err((desk, Memory));
         };
         match Journal::volatile(alloc, desk) {

@@ -10,10 +10,10 @@ ghost use Rattle.tf_book.specs.Book.{RefusesBook, listed};
 ghost use Rattle.tf_book.specs.declared.shelf.Place.TheVariants as place;
 ghost use Rattle.tf_book.specs.Shelf.{desk_after_load, is_volatile, IsFoundAs, IsReadFrom};
 
-use super::{Detail, Place, Shelf};
+use super::{Detail, Place, Shelf, begin_gathering};
 use std::alloc::Global;
 use tf_desk::Desk;
-use tf_details::{Details, Gathering, Nothing};
+use tf_details::Details;
 use tf_journal::{Journal, JournalFault, LoadFault, Title};
 use tf_records::read_back;
 use tf_values::Memory;
@@ -40,7 +40,7 @@ impl<K: Desk> Shelf<K> {
         ensures made { IfOk result (λ shelf. (shelf.place ≡ place.Unborn desk) × (shelf.elements ≡ [])) }
         ensures back { IfErr result (λ back. (back.0 ≡ desk) × (back.1 ≡ LoadFault.Memory)) }
     {
-        match Gathering::begin(alloc, 0, Nothing) {
+        match begin_gathering(alloc, 0) {
             Ok(read) => Ok(Shelf {
                 alloc,
                 place: Place::Unborn(desk),
@@ -51,7 +51,7 @@ impl<K: Desk> Shelf<K> {
         }
     }
 
-    /// Reads the bodies of a journal that was loaded.
+    /// Reads the bodies of a journal that was loaded, and gathers the history of the first detail, which is opened most often.
     fn read(alloc: Global, mut journal: Journal<K>) -> Result<Shelf<K>, (K, LoadFault)>
         requires title { journal.title ≡ book_title }
         requires sound { journal.halted ≡ false }
@@ -64,7 +64,7 @@ impl<K: Desk> Shelf<K> {
         ensures fails { IfErr result (λ back. FailsToReadBack K.state CannotFollow back.1 journal back.0) }
         ensures rests { Rests (K.state journal.desk) (K.state (desk_after_load result)) }
     {
-        let Ok(mut read) = Gathering::begin(alloc, 0, Nothing) else {
+        let Ok(mut read) = begin_gathering(alloc, 0) else {
             return Err((journal.into_desk(), LoadFault::Memory));
         };
         match read_back(alloc, &mut journal, &mut read) {

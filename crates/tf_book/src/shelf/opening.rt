@@ -1,14 +1,15 @@
-ghost use Rattle.std.specs.Prelude.{◌≡◌, ◌≢◌, ◌<◌, ◌⊎◌, length, false, IsTrue, IfOk, IfErr};
+ghost use Rattle.std.specs.Prelude.{◌≡◌, ◌≢◌, ◌<◌, ◌≤◌, ◌⊎◌, length, false, vec_capacity, IsTrue, IfOk, IfErr};
 ghost use Rattle.tf_numbers.specs.Numbers.{Rises};
 ghost use Rattle.tf_desk.specs.State.{Rests};
-ghost use Rattle.tf_details.specs.Elements.{details, CannotFollow};
-ghost use Rattle.tf_details.specs.Reading.{HasGathered};
+ghost use Rattle.tf_details.specs.Elements.{details, history, CannotFollow, IsLegalBook};
+ghost use Rattle.tf_details.specs.Reading.{elements_in, AreMachinesOf, HasGathered};
 ghost use Rattle.tf_journal.specs.Reading.{OnlyReads};
 ghost use Rattle.tf_records.specs.Replaying.{HasReadAll, FailsToReadBack};
 ghost use Rattle.tf_book.specs.Histories.{KeepsHistory};
-ghost use Rattle.tf_book.specs.Shelf.{desk_of, desk_after_open, IsOpened};
+ghost use Rattle.tf_book.specs.Shelf.{desk_of, desk_after_open, HoldsElements, IsOpened};
+ghost use Rattle.tf_book.specs.declared.shelf.Place.TheVariants as place;
 
-use super::{Place, Shelf};
+use super::{Place, Shelf, begin_gathering};
 use crate::book::Book;
 use crate::history::History;
 use crate::holding::Holding;
@@ -32,10 +33,7 @@ fn gather<K: Desk>(
         fault journal.old journal.new.desk) }
     ensures reads { OnlyReads K.state journal.old journal.new }
 {
-    let Ok(history) = History::with_room(alloc) else {
-        return Err(LoadFault::Memory);
-    };
-    let Ok(mut gathering) = Gathering::begin(alloc, number, history) else {
+    let Ok(mut gathering) = begin_gathering(alloc, number) else {
         return Err(LoadFault::Memory);
     };
     match read_back(alloc, journal, &mut gathering) {
@@ -44,9 +42,53 @@ fn gather<K: Desk>(
     }
 }
 
+/// The book of the detail whose history was gathered as the journal was read.
+fn open_gathered<K: Desk>(
+    alloc: Global,
+    journal: Journal<K>,
+    gathering: Gathering<History>,
+) -> Result<Book<K>, (K, LoadFault)>
+    requires holds { HoldsElements K.state journal (elements_in gathering) }
+    requires in_file { journal.volatile ≡ false }
+    requires legal { IsLegalBook (elements_in gathering) }
+    requires machines { AreMachinesOf gathering.details (elements_in gathering) }
+    requires within { gathering.number < length gathering.details }
+    requires room { 67108864 ≤ vec_capacity gathering.marks }
+    requires kept { KeepsHistory gathering.kept (history gathering.number (elements_in gathering)) }
+    ensures opened { IfOk result (IsOpened K.state (record {
+      place = place.Kept journal;
+      elements = elements_in gathering;
+    }) gathering.number) }
+    ensures rests { Rests (K.state journal.desk) (K.state (desk_after_open result)) }
+    ensures memory { IfErr result (λ back. back.1 ≡ LoadFault.Memory) }
+{
+    let Ok(draft) = Draft::make(alloc) else {
+        return Err((journal.into_desk(), LoadFault::Memory));
+    };
+    let Gathering {
+        details,
+        marks,
+        number,
+        kept,
+    } = gathering;
+    let machine = details.into_machine(number);
+    Ok(Book {
+        alloc,
+        journal,
+        machine,
+        history: kept,
+        holding: Holding { number, marks },
+        draft,
+        quiet: false,
+        halt: None,
+        failed: None,
+        limit: None,
+    })
+}
+
 impl<K: Desk> Shelf<K> {
-    /// Opens the detail of that number, from 0 and below the count of the details, to go on with it: its history is read
-    /// again and kept in memory, and no other. `Disk` comes only where the count of disk faults rose; `Old` never, and
+    /// Opens the detail of that number, from 0 and below the count of the details, to go on with it: its history is kept
+    /// in memory, and no other. That of the first was gathered as the file was read; for another it is read again. `Disk` comes only where the count of disk faults rose; `Old` never, and
     /// `NotABook` never where the file is as it was when it was loaded. Each hands the desk back; no file changes.
     pub fn open(self, number: u16) -> Result<Book<K>, (K, LoadFault)>
         requires { number < length (details self.elements) }
@@ -64,11 +106,14 @@ impl<K: Desk> Shelf<K> {
             read,
             list: _,
         } = self;
-        // What was read first isn't kept beside what is read now.
-        drop(read);
         let Place::Kept(mut journal) = place else {
             unreachable!();
         };
+        if number == read.number {
+            return open_gathered(alloc, journal, read);
+        }
+        // What was read first isn't kept beside what is read now.
+        drop(read);
         let gathering = match gather(alloc, &mut journal, number) {
             Ok(gathering) => gathering,
             Err(fault) => return Err((journal.into_desk(), fault)),

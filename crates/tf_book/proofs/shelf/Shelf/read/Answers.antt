@@ -10,4 +10,5 @@ invariant_of-result g c =
       gathered.machines_are,
       gathered.room,
       c.in-Ok-list.ensures _ gathered.machines_are,
+      gathered.kept,
     )

@@ -13,6 +13,7 @@ invariant_of-result g c =
       gathered.machines_are,
       gathered.room,
       c.new.ensures.items ∙ sym (ap listed none),
+      gathered.kept,
     )
 
 pub returns-in-Ok-volatile-clause-none : goal.returns-in-Ok-volatile-clause-none
