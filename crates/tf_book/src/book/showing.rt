@@ -39,8 +39,8 @@ fn whole_text(alloc: Global, machine: &Machine, history: History) -> Result<Vec<
 }
 
 impl<K: Desk> Book<K> {
-    /// The lines of the whole history, numbered from 1, and the table of this moment, with which the book is over; and the
-    /// desk back, also where memory runs out.
+    /// The lines of the whole history, numbered from 1, and the table of this moment, with which the book is over; and
+    /// the desk back, also where memory runs out.
     pub fn into_history_text(self) -> Result<(Vec<u8>, K), (K, Memory)>
         ensures text { IfOk result (λ told. told.0.items ≡ history_text (outline self) self.past) }
         ensures desk { IfOk result (λ told. told.1 ≡ self.journal.desk) }

@@ -51,7 +51,8 @@ impl<K: Desk> Shelf<K> {
         }
     }
 
-    /// Reads the bodies of a journal that was loaded, and gathers the history of the first detail, which is opened most often.
+    /// Reads the bodies of a journal that was loaded, and gathers the history of the first detail, which is opened most
+    /// often.
     fn read(alloc: Global, mut journal: Journal<K>) -> Result<Shelf<K>, (K, LoadFault)>
         requires title { journal.title ≡ book_title }
         requires sound { journal.halted ≡ false }

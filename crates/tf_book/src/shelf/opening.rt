@@ -88,8 +88,9 @@ fn open_gathered<K: Desk>(
 
 impl<K: Desk> Shelf<K> {
     /// Opens the detail of that number, from 0 and below the count of the details, to go on with it: its history is kept
-    /// in memory, and no other. That of the first was gathered as the file was read; for another it is read again. `Disk` comes only where the count of disk faults rose; `Old` never, and
-    /// `NotABook` never where the file is as it was when it was loaded. Each hands the desk back; no file changes.
+    /// in memory, and no other. That of the first was gathered as the file was read; for another it is read again.
+    /// `Disk` comes only where the count of disk faults rose; `Old` never, and `NotABook` never where the file is as it
+    /// was when it was loaded. Each hands the desk back; no file changes.
     pub fn open(self, number: u16) -> Result<Book<K>, (K, LoadFault)>
         requires { number < length (details self.elements) }
         ensures opened { IfOk result (IsOpened K.state self number) }
