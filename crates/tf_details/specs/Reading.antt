@@ -9,7 +9,6 @@ use Rattle.tf_machine.specs.Machine.{MachineValue, StandsFor}
 use Rattle.tf_details.specs.Elements.{Element, detail, entry, details, history, detail_name, has_name, number_among, bodies_of, IsHistoryOf, IsEntryOf, IsLegalBook}
 use Rattle.tf_details.specs.Marks.{elements_shown}
 use Rattle.tf_details.specs.declared.gathering.Gathering.{Gathering}
-use Rattle.tf_details.specs.declared.gathering.Nothing.{Nothing}
 
 -- ---- what is made of a book
 
@@ -36,10 +35,6 @@ pub record HasReplayed (machines : List MachineValue) (bodies : List (List ℕ))
   pub legal : IsLegalBook book
   pub bodies_are : bodies ≡ bodies_of book
   pub machines_are : AreMachinesOf machines book
-
--- nothing keeps any history
-abbrev pub KeepsNothing : Nothing → List Entry → Type 0
-KeepsNothing nothing past = Unit {0}
 
 -- the elements that were read
 abbrev pub elements_in : {H : Type 0} → Gathering H → List Element

@@ -32,20 +32,6 @@ pub trait Keeps: Drop {
         ensures { OnOk result ((past : List Record) → keeps self.old past → keeps self.new (entry.now ∷ past)) };
 }
 
-/// It keeps no history.
-#[derive(Drop)]
-pub struct Nothing;
-
-impl Keeps for Nothing {
-    ghost use Rattle.tf_details.specs.Reading.{KeepsNothing};
-
-    ghost keeps = { KeepsNothing };
-
-    fn keep(&mut self, _entry: &Entry, _form: &[u8]) -> Result<(), Memory> {
-        Ok(())
-    }
-}
-
 /// A book as far as it was read: its details, its elements as clauses see them, and what keeps the history of the
 /// detail with that number.
 #[derive(Drop)]

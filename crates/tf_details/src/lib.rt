@@ -8,7 +8,7 @@ mod marks;
 mod reading;
 
 pub use details::Details;
-pub use gathering::{Gathering, Keeps, Nothing};
+pub use gathering::{Gathering, Keeps};
 pub use laws::{
     books_are_legal_as_a_whole, books_are_never_refused, books_are_read_once, books_grow_alike,
     books_have_their_size, details_have_histories,
