@@ -8,9 +8,9 @@ use Rattle.std.proofs.lemmas.Bool.{eqb-true}
 use Rattle.std.proofs.lemmas.List.Folds.{find-append}
 use Rattle.std.proofs.lemmas.Option.{slice_get_cases, slice_get_within}
 use Rattle.tf_values.specs.declared.value.Val.{Val}
-use Rattle.tf_board.specs.Board.{posted, details_in, standing_after, standing_of, jobs_of, numbered, place_of, named, refused_at, refused_of, refuses_id, LegalJobs, same, is_free, is_there, is_listed, priorities, is_numbered}
+use Rattle.tf_board.specs.Board.{id_in, posted, details_in, standing_after, standing_of, jobs_of, numbered, place_of, named, refused_at, refused_of, refuses_id, LegalJobs, same, is_free, is_there, is_listed, priorities, is_numbered}
 use Rattle.tf_board.specs.Does.{number_at, number_of, applied}
-use Rattle.tf_board.specs.Seeking.{number_in, is_takable, jobs_listed, free_job, id_in, id_at, details_for, details_at, by_other}
+use Rattle.tf_board.specs.Seeking.{number_in, is_takable, jobs_listed, free_job, id_at, details_for, details_at, by_other}
 use Rattle.tf_board.specs.declared.commands.Command.{Command}
 use Rattle.tf_board.specs.declared.commands.Command.TheVariants as command
 use Rattle.tf_board.specs.declared.commands.JobAction.{JobAction}

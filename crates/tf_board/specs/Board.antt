@@ -285,11 +285,25 @@ past_of snapshots = reverse (map command_in snapshots)
 abbrev pub past_in : Kept → List Command
 past_in kept = past_of kept.commands.items
 
+-- the id of a job
+abbrev pub id_in : Job → List ℕ
+id_in job = job.id
+
+-- the priority under which a job is free, unless somebody has it or it is gone
+abbrev pub free_as : Job → Option Priority
+free_as job = if is_free job.standing then Some job.priority else None
+
+-- what stands side by side is what the jobs have: their ids, and under which priority each is free
+pub record AreSideBySide (kept : Kept) : Type 0 where
+  pub ids : kept.ids.items ≡ map id_in kept.jobs.items
+  pub free : kept.free.items ≡ map free_as kept.jobs.items
+
 -- the commands are legal and have forms, and the jobs with their details are theirs
 pub record IsTrueTo (kept : Kept) (past : List Command) : Type 0 where
   pub commands : past_in kept ≡ past
   pub jobs : kept.jobs.items ≡ jobs_of past
   pub details : kept.details.items ≡ details_in past
+  pub side_by_side : AreSideBySide kept
   pub legal : LegalJobs past
   pub forms : AreCommands past
 
@@ -298,6 +312,8 @@ pub record HasRoom (kept : Kept) : Type 0 where
   pub command : vec_len kept.commands < vec_capacity kept.commands
   pub job : vec_len kept.jobs < vec_capacity kept.jobs
   pub details : vec_len kept.details < vec_capacity kept.details
+  pub id : vec_len kept.ids < vec_capacity kept.ids
+  pub free : vec_len kept.free < vec_capacity kept.free
 
 -- what a command changes of the jobs after these commands: a job is added, or the job at a place stands anew
 abbrev pub IsChange : List Command → Command → Change → Type 0

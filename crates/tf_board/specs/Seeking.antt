@@ -2,7 +2,8 @@
 use Rattle.std.specs.Prelude.{◌≢◌, ℕ, suc, List, Bool, false, ◌&&◌, ◌==◌, not, if◌then◌else◌, Option, Some, None, option_map}
 use Rattle.std.specs.List.{find, filter, flat_map, list_any}
 use Rattle.tf_values.specs.declared.value.Val.{Val}
-use Rattle.tf_board.specs.Board.{details_in, jobs_of, numbered, named, names_itself, place_of, is_free, is_there, is_listed, priorities}
+use Rattle.tf_states.specs.declared.priorities.Priority.{Priority}
+use Rattle.tf_board.specs.Board.{details_in, id_in, same_priority, jobs_of, numbered, names_itself, place_of, is_free, is_there, is_listed, priorities}
 use Rattle.tf_board.specs.declared.commands.Command.{Command}
 use Rattle.tf_board.specs.declared.commands.Command.TheVariants as command
 use Rattle.tf_board.specs.declared.jobs.Job.{Job}
@@ -10,6 +11,11 @@ use Rattle.tf_board.specs.declared.jobs.Job.{Job}
 -- the number of a job
 abbrev pub number_in : Job → ℕ
 number_in job = job.number
+
+-- a job is free under this priority
+abbrev pub is_free_under : Priority → Option Priority → Bool
+is_free_under priority None = false
+is_free_under priority (Some other) = same_priority other priority
 
 -- nobody has the job, its id names it, and its number isn't among those to skip
 abbrev pub is_takable : List Job → List ℕ → Job → Bool
@@ -30,10 +36,6 @@ free_job past skip = number_among (jobs_of past) skip
 -- the number of the job that an id names, if there is one
 abbrev pub number_named : List Command → List ℕ → Option ℕ
 number_named past id = option_map (λ place. suc place) (place_of (jobs_of past) id)
-
--- the id of a job
-abbrev pub id_in : Job → List ℕ
-id_in job = job.id
 
 -- the id of the job of a number, if there is one
 abbrev pub id_at : List Command → ℕ → Option (List ℕ)

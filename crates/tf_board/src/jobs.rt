@@ -1,5 +1,5 @@
 ghost use Rattle.std.specs.Prelude.{◌≡◌, IfOk, IsTrue};
-ghost use Rattle.tf_board.specs.Board.{standing_after, is_there as there, state_of as state_in, holder_of as holder_in, same_priority as priority_is, is_listed as listed, line_of as line_in};
+ghost use Rattle.tf_board.specs.Board.{standing_after, is_there as there, state_of as state_in, holder_of as holder_in, same_priority as priority_is, is_listed as listed, free_as as free_under, line_of as line_in};
 
 use crate::commands::JobAction;
 use crate::ids::id_text;
@@ -80,8 +80,19 @@ impl Standing {
     }
 }
 
+/// The priority under which a job is free, or none where somebody has it or it is gone.
+pub fn free_as(job: &Job) -> Option<Priority>
+    ensures { result ≡ free_under job.now }
+{
+    if job.standing.is_free() {
+        Some(job.priority)
+    } else {
+        None
+    }
+}
+
 /// Whether the two priorities are the same.
-fn is_priority(a: Priority, b: Priority) -> bool
+pub fn is_priority(a: Priority, b: Priority) -> bool
     ensures { result ≡ priority_is a b }
 {
     match a {

@@ -1,10 +1,11 @@
 ghost use Rattle.std.specs.Prelude.{◌≡◌, ◌≢◌, ◌<◌, ◌+◌, ◌∷◌, ◌++◌, [], List, length, None, OnOk, IfOk, IfSome, MatchOption, vec_len, vec_capacity};
-ghost use Rattle.tf_board.specs.Board.{IsCommand, same, posted as count_of, job_at, place_of as place_among, posted_with, refuses, past_of, past_in, IsTrueTo, HasRoom, IsChange};
+ghost use Rattle.std.specs.List.{position};
+ghost use Rattle.tf_board.specs.Board.{IsCommand, same, posted as count_of, job_at, place_of as place_among, posted_with, refuses, past_of, past_in, IsTrueTo, HasRoom, IsChange, AreSideBySide};
 ghost use Rattle.tf_board.specs.declared.commands.Command.{Command as ACommand};
 
 use crate::commands::Command;
 use crate::ids::job_id;
-use crate::jobs::{Job, Standing};
+use crate::jobs::{Job, Standing, free_as};
 use crate::rules::refusal_at;
 use std::alloc::{AllocError, Global};
 use std::snapshot::Snapshot;
@@ -13,12 +14,15 @@ use tf_values::{Memory, Name, Val};
 use uuid::Uuid;
 
 /// What a board keeps in memory: its commands as clauses see them, which take no bytes, and its jobs as they stand
-/// with the details that they were posted with, in the order of their numbers.
+/// with the details that they were posted with, in the order of their numbers. The ids of the jobs, and under which
+/// priority each of them is free, stand side by side too, since they are looked through for each command.
 #[derive(Drop)]
 pub struct Kept {
     pub commands: Vec<Snapshot<Command>>,
     pub jobs: Vec<Job>,
     pub details: Vec<Val>,
+    pub ids: Vec<Uuid>,
+    pub free: Vec<Option<Priority>>,
 }
 
 /// What a command changes of the jobs: one is added, or the one at a place stands anew.
@@ -60,6 +64,14 @@ pub fn is_id(a: &Uuid, b: &Uuid) -> bool
     a.as_bytes().as_slice() == b.as_bytes().as_slice()
 }
 
+/// The place of the first of these ids that is this one.
+fn place_in(ids: &[Uuid], id: &Uuid) -> Option<usize>
+    ensures is { result ≡ position (λ other. same other id.now) ids.now }
+    ensures within { IfSome result (λ place. place < length ids.now) }
+{
+    ids.iter().position(|other| is_id(other, id))
+}
+
 impl Kept {
     /// No command yet.
     pub fn none(alloc: Global) -> Kept
@@ -69,6 +81,8 @@ impl Kept {
             commands: Vec::new(alloc),
             jobs: Vec::new(alloc),
             details: Vec::new(alloc),
+            ids: Vec::new(alloc),
+            free: Vec::new(alloc),
         }
     }
 
@@ -81,10 +95,11 @@ impl Kept {
 
     /// The place of the first job that has the id.
     pub fn place_of(&self, id: &Uuid) -> Option<usize>
+        requires side_by_side { AreSideBySide self.now }
         ensures is { result ≡ place_among self.now.jobs.items id.now }
         ensures within { IfSome result (λ place. place < length self.now.jobs.items) }
     {
-        self.jobs.iter().position(|job| is_id(&job.id, id))
+        place_in(&self.ids, id)
     }
 
     /// The job that is posted next, with this name and this priority.
@@ -139,11 +154,15 @@ impl Kept {
         ensures commands { self.new.commands.items ≡ self.old.commands.items }
         ensures jobs { self.new.jobs.items ≡ self.old.jobs.items }
         ensures details { self.new.details.items ≡ self.old.details.items }
+        ensures ids { self.new.ids.items ≡ self.old.ids.items }
+        ensures free { self.new.free.items ≡ self.old.free.items }
         ensures room { OnOk result (HasRoom self.new) }
     {
         self.commands.reserve(1)?;
         self.jobs.reserve(1)?;
-        self.details.reserve(1)
+        self.details.reserve(1)?;
+        self.ids.reserve(1)?;
+        self.free.reserve(1)
     }
 
     /// Keeps a command that isn't refused, for which there is room.
@@ -159,11 +178,14 @@ impl Kept {
         keep_details(&mut self.details, command);
         match change {
             Change::Posted(job) => {
+                let _ = self.ids.push(job.id);
+                let _ = self.free.push(free_as(&job));
                 let _ = self.jobs.push(job);
             }
             Change::Stands { place, standing } => {
                 let job = &mut self.jobs[place];
                 job.standing = standing;
+                self.free[place] = free_as(job);
             }
         }
     }

@@ -1,13 +1,13 @@
-ghost use Rattle.std.specs.Prelude.{◌≡◌, ◌<◌, ◌^◌, ◌&&◌, length, option_copied, unwrap_or};
+ghost use Rattle.std.specs.Prelude.{◌≡◌, ◌<◌, ◌^◌, ◌&&◌, Some, length, option_copied, slice_get, unwrap_or};
 ghost use Rattle.std.specs.List.{find, filter};
-ghost use Rattle.tf_board.specs.Board.{AreOfBoard, is_listed as listed, named, numbered, names_itself as itself};
+ghost use Rattle.tf_board.specs.Board.{AreOfBoard, AreSideBySide, is_listed as listed, numbered, names_itself as itself};
 ghost use Rattle.tf_board.specs.Does.{number_of as number_in};
-ghost use Rattle.tf_board.specs.Seeking.{number_among, is_takable as takable, free_job as found_free, number_named, id_at, details_at};
+ghost use Rattle.tf_board.specs.Seeking.{number_among, is_takable as takable, is_free_under as under, free_job as found_free, number_named, id_at, details_at};
 
 use super::Board;
 use super::listing::PRIORITIES;
-use crate::jobs::{Job, is_listed};
-use crate::kept::is_id;
+use crate::jobs::{Job, is_priority};
+use crate::kept::Kept;
 use tf_desk::Desk;
 use tf_states::Priority;
 use tf_values::Val;
@@ -23,26 +23,21 @@ fn at_number<T>(items: &[T], number: u64) -> Option<&T>
     items.get(place as usize)
 }
 
-/// The job of least number that has the id.
-fn first_named<'a>(jobs: &'a [Job], id: &Uuid) -> Option<&'a Job>
-    ensures { option_copied result ≡ named jobs.now id.now }
-{
-    jobs.iter().find(|job| is_id(&job.id, id))
-}
-
 /// Whether the id of the job names it, and none of less number.
-fn names_itself(jobs: &[Job], job: &Job) -> bool
-    ensures { result ≡ itself jobs.now job.now }
+fn names_itself(kept: &Kept, job: &Job) -> bool
+    requires { AreSideBySide kept.now }
+    ensures { result ≡ itself kept.now.jobs.items job.now }
 {
-    match first_named(jobs, &job.id) {
-        Some(other) => other.number == job.number,
+    match kept.place_of(&job.id) {
+        Some(place) => kept.jobs[place].number == job.number,
         None => false,
     }
 }
 
 /// Whether nobody has the job, its id names it, and it isn't among those that are to be passed over.
-fn is_takable(jobs: &[Job], skip: &[u64], job: &Job) -> bool
-    ensures { result ≡ takable jobs.now skip.now job.now }
+fn is_takable(kept: &Kept, skip: &[u64], job: &Job) -> bool
+    requires { AreSideBySide kept.now }
+    ensures { result ≡ takable kept.now.jobs.items skip.now job.now }
 {
     if !job.standing.is_free() {
         return false;
@@ -50,40 +45,59 @@ fn is_takable(jobs: &[Job], skip: &[u64], job: &Job) -> bool
     if skip.contains(&job.number) {
         return false;
     }
-    names_itself(jobs, job)
+    names_itself(kept, job)
 }
 
-/// Whether the job has the priority, is there, and may be taken.
-fn is_free_at(jobs: &[Job], skip: &[u64], priority: Priority, job: &Job) -> bool
-    ensures { result ≡ (listed priority job.now && takable jobs.now skip.now job.now) }
+/// Whether a job is free under this priority.
+fn is_free_under(free: Option<Priority>, priority: Priority) -> bool
+    ensures { result ≡ under priority free }
 {
-    if !is_listed(priority, job) {
-        return false;
+    match free {
+        Some(other) => is_priority(other, priority),
+        None => false,
     }
-    is_takable(jobs, skip, job)
 }
 
-/// The first job of a priority that may be taken, of all jobs.
-fn first_free<'a>(jobs: &'a [Job], skip: &[u64], priority: Priority) -> Option<&'a Job>
-    ensures { option_copied result ≡ find (λ job. listed priority job && takable jobs.now skip.now job) jobs.now }
+/// Whether the job at a place is listed among those of the priority, and may be taken.
+fn is_free_at(kept: &Kept, skip: &[u64], priority: Priority, place: usize) -> bool
+    requires side_by_side { AreSideBySide kept.now }
+    requires within { place < length kept.now.jobs.items }
+    ensures { (job : Job) → slice_get kept.now.jobs.items place ≡ Some job
+        → result ≡ (listed priority job && takable kept.now.jobs.items skip.now job) }
 {
-    jobs.iter()
-        .find(|job| is_free_at(jobs, skip, priority, job))
+    is_free_under(kept.free[place], priority) && is_takable(kept, skip, &kept.jobs[place])
+}
+
+/// The first job that is free under the priority and may be taken.
+fn first_free<'a>(kept: &'a Kept, skip: &[u64], priority: Priority) -> Option<&'a Job>
+    requires { AreSideBySide kept.now }
+    ensures { option_copied result ≡ find (λ job. listed priority job && takable kept.now.jobs.items skip.now job)
+        kept.now.jobs.items }
+{
+    for place in 0..kept.jobs.len() {
+        if is_free_at(kept, skip, priority, place) {
+            return Some(&kept.jobs[place]);
+        }
+    }
+    None
 }
 
 /// The same, of the jobs that are listed.
-fn free_at<'a>(jobs: &'a [Job], skip: &[u64], priority: Priority) -> Option<&'a Job>
-    ensures { option_copied result ≡ find (takable jobs.now skip.now) (filter (listed priority) jobs.now) }
+fn free_at<'a>(kept: &'a Kept, skip: &[u64], priority: Priority) -> Option<&'a Job>
+    requires { AreSideBySide kept.now }
+    ensures { option_copied result ≡ find (takable kept.now.jobs.items skip.now)
+        (filter (listed priority) kept.now.jobs.items) }
 {
-    first_free(jobs, skip, priority)
+    first_free(kept, skip, priority)
 }
 
 /// The first job that may be taken: by priority from the most urgent down, and then by number.
-fn free_among(jobs: &[Job], skip: &[u64]) -> Option<u64>
-    ensures { result ≡ number_among jobs.now skip.now }
+fn free_among(kept: &Kept, skip: &[u64]) -> Option<u64>
+    requires { AreSideBySide kept.now }
+    ensures { result ≡ number_among kept.now.jobs.items skip.now }
 {
     for priority in &PRIORITIES {
-        if let Some(job) = free_at(jobs, skip, *priority) {
+        if let Some(job) = free_at(kept, skip, *priority) {
             return Some(job.number);
         }
     }
@@ -105,7 +119,7 @@ impl<K: Desk> Board<K> {
     pub fn free_job(&self, skip: &[u64]) -> Option<u64>
         ensures { result ≡ found_free self.now.past skip.now }
     {
-        free_among(&self.kept.jobs, skip)
+        free_among(&self.kept, skip)
     }
 
     /// The id of the job of that number, or none where no such job was posted.

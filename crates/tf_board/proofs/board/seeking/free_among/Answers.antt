@@ -17,7 +17,7 @@ at_priority jobs p = filter (is_listed p) jobs
 pub returns-in-Some : goal.returns-in-Some
 returns-in-Some c =
     let i = c.loop-priority.priority-index in
-    let jobs = c.args.jobs.now in
+    let jobs = c.args.kept.now.jobs.items in
     let p : Job → Bool = is_takable jobs c.args.skip.now in
     let x = get_or priorities i priority.VeryHigh in
     let at : slice_get priorities i ≡ Some x = slice_get-get_or priorities i priority.VeryHigh c.loop-priority-test.true in
@@ -26,7 +26,7 @@ returns-in-Some c =
 pub loop-priority-preserved : goal.loop-priority-preserved
 loop-priority-preserved c =
     let i = c.loop-priority.priority-index in
-    let jobs = c.args.jobs.now in
+    let jobs = c.args.kept.now.jobs.items in
     let p : Job → Bool = is_takable jobs c.args.skip.now in
     let x = get_or priorities i priority.VeryHigh in
     let at : slice_get priorities i ≡ Some x = slice_get-get_or priorities i priority.VeryHigh c.loop-priority-test.true in

@@ -5,4 +5,4 @@ use Rattle.tf_board.specs.Seeking.{is_takable}
 use Rattle.tf_board.proofs.board.seeking.free_among.Given as goal
 
 abbrev pub invariant-loop-priority : goal.invariant-loop-priority
-invariant-loop-priority l = find (is_takable l.jobs l.skip) (flat_map (λ p. filter (is_listed p) l.jobs) (take l.priority-index priorities)) ≡ None
+invariant-loop-priority l = find (is_takable l.kept.jobs.items l.skip) (flat_map (λ p. filter (is_listed p) l.kept.jobs.items) (take l.priority-index priorities)) ≡ None
