@@ -7,19 +7,21 @@ ghost use Rattle.tf_scopes.specs.Sources.{givers};
 ghost use Rattle.tf_scopes.specs.Standing.{is_other};
 
 use crate::sources::Givers;
+use crate::stored::Stored;
 use crate::symbols::Symbols;
 use std::alloc::Global;
 use tf_order::Graph;
 use tf_values::{Memory, Name};
 
-/// From where the scope of an atom is read: the graph, where those stand that list a symbol, and the atoms
-/// that stand before the atom. The atoms of an item stand together in the standing order of all atoms, so
+/// From where the scope of an atom is read: the graph, where those stand that list a symbol, where the
+/// store has a symbol's value, and the atoms that stand before the atom. The atoms of an item stand together in the standing order of all atoms, so
 /// this order, read backwards from the atom, goes through its own flow first and then through those around
 /// it.
 #[derive(Clone, Copy)]
 pub struct Scope<'a> {
     pub graph: &'a Graph,
     pub symbols: &'a Symbols,
+    pub stored: &'a Stored,
     pub front: &'a [u16],
     pub atom: u16,
 }
